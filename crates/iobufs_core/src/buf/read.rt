@@ -1,6 +1,6 @@
 // A text that is read and shared.
 ghost use Rattle.std.specs.Prelude.{◌≡◌, ◌≤◌, ◌-◌, ◌⊎◌, ◌==◌, if◌then◌else◌, length, IsTrue, IfOk, OnOk, OnErr, IsOk, IsOkUnless, MatchResult};
-ghost use Rattle.iobufs_core.specs.View.{HasRoom, default_view, view_advanced, view_cut, view_rest, view_slice, view_taken, start_place, end_place, range_fits, static_mark, bytes_mark, native_mark};
+ghost use Rattle.iobufs_core.specs.View.{HasRoom, default_view, view_advanced, view_front, view_rest, view_slice, view_split_front, start_place, end_place, range_fits, static_mark, bytes_mark, native_mark};
 ghost use Rattle.iobufs_core.specs.Recovery.{IsRecovery};
 
 use super::IoBufMut;
@@ -89,7 +89,7 @@ impl IoBuf {
     // The first bytes, in the same storage.
     fn front(&self, n: usize) -> Result<IoBuf, BufError>
         requires { n ≤ length self.now.bytes }
-        ensures ok { IfOk result (λ front. front ≡ view_cut self.now n) }
+        ensures ok { IfOk result (λ front. front ≡ view_front self.now n) }
         ensures err { IsOkUnless result BufError.Memory }
         ensures static_text { self.now.mark ≡ static_mark → IsOk result }
     {
@@ -104,7 +104,7 @@ impl IoBuf {
     /// Takes the first `at` bytes away.
     pub fn split_to(&mut self, at: usize) -> Result<IoBuf, BufError>
         requires { at ≤ length self.old.bytes }
-        ensures front { IfOk result (λ front. front ≡ view_taken self.old at) }
+        ensures front { IfOk result (λ front. front ≡ view_split_front self.old at) }
         ensures rest { OnOk result (self.new ≡ view_rest self.old at) }
         ensures err { OnErr result (self.new ≡ self.old) }
         ensures memory { IsOkUnless result BufError.Memory }

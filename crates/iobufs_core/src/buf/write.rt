@@ -1,6 +1,6 @@
 // A buffer of fixed capacity, to be written.
 ghost use Rattle.std.specs.Prelude.{◌≡◌, ◌+◌, ◌-◌, ◌<◌, ◌≤◌, ◌↔◌, length, take, drop, replicate, OnOk, OnErr, vec_len, vec_capacity, false, IfOk, IsOk, IsOkUnless, IsTrue};
-ghost use Rattle.iobufs_core.specs.Part.{empty_part, is_bad_layout as bad_layout, part_capacity, part_copied, part_drained, part_frozen, part_overwritten, part_put, part_resized, part_truncated};
+ghost use Rattle.iobufs_core.specs.Part.{empty_part, is_bad_layout as bad_layout, part_capacity, part_copied, part_drained, part_frozen, part_overwritten, part_put, part_with_len, part_truncated};
 ghost use Rattle.std.specs.Borrow.{Lends, Array, sem, u8 as byte};
 ghost use Rattle.iobufs_core.specs.contracts.buf.write.IoBufMut.{the_row};
 
@@ -157,7 +157,7 @@ impl IoBufMut {
 
     pub fn set_len(&mut self, n: usize)
         requires { n ≤ part_capacity self.old }
-        ensures { self.new ≡ part_resized self.old n }
+        ensures { self.new ≡ part_with_len self.old n }
     {
         self.storage.resize(self.start + n, 0).unwrap();
     }

@@ -1,0 +1,16 @@
+-- Texts in chunks: what a reader of a text sees piece by piece.
+use Rattle.std.specs.Prelude.{◌≡◌, ℕ, ◌≤◌, nat_lt, List, [], ◌∷◌, filter, length, take}
+
+-- the chunks that hold bytes, in order
+abbrev pub full_chunks : List (List ℕ) → List (List ℕ)
+full_chunks chunks = filter (λ chunk. nat_lt 0 (length chunk)) chunks
+
+-- the first of some chunks, empty where there is none
+abbrev pub first_chunk : List (List ℕ) → List ℕ
+first_chunk [] = []
+first_chunk (chunk ∷ chunks) = chunk
+
+-- a beginning of the text, empty only for the empty text
+pub record IsChunkOf (chunk text : List ℕ) : Type 0 where
+  pub front : chunk ≡ take (length chunk) text
+  pub some : length chunk ≡ 0 → length text ≡ 0
