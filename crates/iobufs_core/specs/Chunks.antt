@@ -1,9 +1,14 @@
 -- Texts in chunks: what a reader of a text sees piece by piece.
-use Rattle.std.specs.Prelude.{◌≡◌, ℕ, ◌≤◌, nat_lt, List, [], ◌∷◌, filter, length, take}
+use Rattle.std.specs.Prelude.{◌≡◌, ℕ, Bool, true, false, List, [], ◌∷◌, filter, length, take}
+
+-- whether a chunk holds bytes
+abbrev pub is_full : List ℕ → Bool
+is_full [] = false
+is_full (byte ∷ bytes) = true
 
 -- the chunks that hold bytes, in order
 abbrev pub full_chunks : List (List ℕ) → List (List ℕ)
-full_chunks chunks = filter (λ chunk. nat_lt 0 (length chunk)) chunks
+full_chunks chunks = filter is_full chunks
 
 -- the first of some chunks, empty where there is none
 abbrev pub first_chunk : List (List ℕ) → List ℕ

@@ -5,7 +5,7 @@
 --     text_advanced, taken_view               what `advance` leaves, and what is taken as one view
 --     text_join, joined, text_coalesced       one behind the other, several, and as one piece
 --     chunk_count, text_chunks                the chunks that a reader sees
-use Rattle.std.specs.Prelude.{◌≡◌, ℕ, ◌+◌, ◌-◌, ◌<◌, Bool, ◌==◌, ◌&&◌, nat_lt, nat_le, if◌then◌else◌, List, [], ◌∷◌, ◌++◌, length, take, drop, map, filter, fold}
+use Rattle.std.specs.Prelude.{ℕ, ◌+◌, ◌-◌, ◌<◌, Bool, ◌==◌, ◌&&◌, nat_lt, nat_le, if◌then◌else◌, List, [], ◌∷◌, ◌++◌, length, take, drop, map, filter, fold}
 use Rattle.std.specs.List.{list_any}
 use Rattle.iobufs_core.specs.Chunks.{full_chunks}
 use Rattle.iobufs_core.specs.View.{Mark, View, HasRoom, mark_after, native_mark, default_view}

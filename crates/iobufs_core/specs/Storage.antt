@@ -3,7 +3,6 @@ use Rattle.iobufs_core.specs.View.{View, static_mark, bytes_mark, native_mark}
 use Rattle.iobufs_core.specs.declared.buf.read.Storage.{Storage}
 use Rattle.iobufs_core.specs.declared.buf.read.Storage.TheVariants.{Static, Shared, Native}
 
-
 abbrev pub view_of : Storage → View
 view_of (Static text) = record { bytes = text.now; mark = static_mark }
 view_of (Shared bytes) = record { bytes = bytes; mark = bytes_mark }

@@ -1,18 +1,19 @@
-// A text that is read and shared.
-ghost use Rattle.std.specs.Prelude.{◌≡◌, ◌≤◌, ◌-◌, ◌⊎◌, ◌==◌, if◌then◌else◌, length, IsTrue, IfOk, OnOk, OnErr, IsOk, IsOkUnless, MatchResult};
-ghost use Rattle.iobufs_core.specs.View.{HasRoom, default_view, view_advanced, view_front, view_rest, view_slice, view_split_front, start_place, end_place, range_fits, static_mark, bytes_mark, native_mark};
-ghost use Rattle.iobufs_core.specs.Recovery.{IsRecovery};
+// A text of one piece that is read and shared.
+ghost use Rattle.std.specs.Prelude.{◌≡◌, ◌≤◌, ◌-◌, ◌⊎◌, ◌==◌, if◌then◌else◌, [], ◌∷◌, length, IsTrue, IfOk, IfErr, OnOk, OnErr, IsOk, IsOkUnless, MatchResult};
+ghost use Rattle.iobufs_core.specs.View.{HasRoom, IsView, default_view, view_advanced, view_front, view_rest, view_slice, view_split_front, start_place, end_place, range_fits, static_mark, bytes_mark, native_mark};
+ghost use Rattle.iobufs_core.specs.Recovery.{IsAdopted, IsRecovery};
 
 use super::IoBufMut;
 use super::native::Native;
-use crate::codec::BufError;
-use bytes::Bytes;
+use crate::codec::{Buf, BufError, OwnedBuf, OwnedBytes};
+use bytes::{Bytes, BytesMut};
 use std::alloc::{AllocError, Global};
 use std::marker::Model;
 use std::ops::Bound;
 use std::{fmt, mem};
 
-/// A read-only text, in a static slice, in a `Bytes`, or in storage that other texts may share.
+/// A read-only text of one piece (`IoBuf`): in a static slice, in a `Bytes`, or in native storage. Clones, slices
+/// and both sides of a split share their storage; none of these copies a byte.
 #[derive(Drop)]
 pub struct IoBuf {
     storage: Storage,
@@ -54,15 +55,55 @@ impl IoBuf {
         }
     }
 
+    /// A copy of these bytes in native storage (`IoBuf::copy_from_slice`).
+    pub fn copy_from_slice(alloc: Global, src: &[u8]) -> Result<IoBuf, BufError>
+        ensures ok { IfOk result (λ b. b ≡ (if length src.now == 0 then default_view else record { bytes = src.now; mark = native_mark (length src.now) })) }
+        ensures memory { IsOkUnless result BufError.Memory }
+        ensures empty { length src.now ≡ 0 → IsOk result }
+    {
+        if src.is_empty() {
+            return Ok(IoBuf::default());
+        }
+        IoBufMut::copy_from_slice(alloc, src)?.freeze()
+    }
+
+    /// The bytes of a `Vec`, with no copy (`From<Vec<u8>>`).
+    pub fn from_vec(bytes: Vec<u8>) -> Result<IoBuf, BufError>
+        ensures ok { IfOk result (IsAdopted bytes.items) }
+        ensures memory { IsOkUnless result BufError.Memory }
+        ensures empty { length bytes.items ≡ 0 → IsOk result }
+    {
+        IoBufMut::from(bytes).freeze()
+    }
+
+    /// The bytes of a `BytesMut` (`From<BytesMut>`).
+    pub fn from_bytes_mut(bytes: BytesMut) -> Result<IoBuf, BufError>
+        ensures ok { IfOk result (IsAdopted bytes.items) }
+        ensures memory { IsOkUnless result BufError.Memory }
+        ensures empty { length bytes.items ≡ 0 → IsOk result }
+    {
+        if bytes.is_empty() {
+            return Ok(IoBuf::default());
+        }
+        IoBuf::from_vec(bytes.into_vec()?)
+    }
+
+    /// The number of bytes (`IoBuf::len`).
     pub fn len(&self) -> usize
         ensures value { result ≡ length self.now.bytes }
-        ensures room { HasRoom self.now.mark result }
+        ensures room { IsView self.now }
     {
         match &self.storage {
             Storage::Static(text) => text.len(),
             Storage::Shared(bytes) => bytes.len(),
             Storage::Native(native) => native.len(),
         }
+    }
+
+    pub fn is_empty(&self) -> bool
+        ensures { result ≡ (length self.now.bytes == 0) }
+    {
+        self.len() == 0
     }
 
     pub fn as_ref(&self) -> &[u8]
@@ -75,22 +116,11 @@ impl IoBuf {
         }
     }
 
-    pub fn advance(&mut self, n: usize)
-        requires { n ≤ length self.old.bytes }
-        ensures { self.new ≡ view_advanced self.old n }
-    {
-        match &mut self.storage {
-            Storage::Static(text) => *text = &text[n..],
-            Storage::Shared(bytes) => bytes.advance(n),
-            Storage::Native(native) => native.advance(n),
-        }
-    }
-
     // The first bytes, in the same storage.
     fn front(&self, n: usize) -> Result<IoBuf, BufError>
         requires { n ≤ length self.now.bytes }
         ensures ok { IfOk result (λ front. front ≡ view_front self.now n) }
-        ensures err { IsOkUnless result BufError.Memory }
+        ensures memory { IsOkUnless result BufError.Memory }
         ensures static_text { self.now.mark ≡ static_mark → IsOk result }
     {
         let storage = match &self.storage {
@@ -101,7 +131,52 @@ impl IoBuf {
         Ok(IoBuf { storage })
     }
 
-    /// Takes the first `at` bytes away.
+    // Drops the first bytes, as a copy of them does.
+    fn forget(&mut self, n: usize)
+        requires { n ≤ length self.old.bytes }
+        ensures { self.new ≡ view_rest self.old n }
+    {
+        if n == 0 {
+            return;
+        }
+        if n == self.len() {
+            *self = IoBuf::default();
+            return;
+        }
+        self.advance(n);
+    }
+
+    /// Whether a range lies within the bytes: its start at most its end, this at most the length, and no bound
+    /// past `usize::MAX` (the original's `slice` panics where it doesn't).
+    pub fn fits_range(&self, lo: Bound<usize>, hi: Bound<usize>) -> bool
+        ensures { result ≡ range_fits lo hi (length self.now.bytes) }
+    {
+        match (start_of(lo), end_of(hi, self.len())) {
+            (Some(from), Some(to)) => from <= to && to <= self.len(),
+            _ => false,
+        }
+    }
+
+    /// The bytes of a range, in the same storage (`IoBuf::slice`). Test a range by `fits_range`.
+    pub fn slice(&self, lo: Bound<usize>, hi: Bound<usize>) -> Result<IoBuf, BufError>
+        requires { IsTrue (range_fits lo hi (length self.now.bytes)) }
+        ensures ok { IfOk result (λ slice. slice ≡ view_slice self.now lo hi) }
+        ensures memory { IsOkUnless result BufError.Memory }
+        ensures static_text { self.now.mark ≡ static_mark → IsOk result }
+        ensures empty { start_place lo ≡ end_place hi (length self.now.bytes) → IsOk result }
+    {
+        let (Some(from), Some(to)) = (start_of(lo), end_of(hi, self.len())) else {
+            unreachable!()
+        };
+        if from == to {
+            return Ok(IoBuf::default());
+        }
+        let mut slice = self.front(to)?;
+        slice.advance(from);
+        Ok(slice)
+    }
+
+    /// Takes the first `at` bytes away, in the same storage (`IoBuf::split_to`).
     pub fn split_to(&mut self, at: usize) -> Result<IoBuf, BufError>
         requires { at ≤ length self.old.bytes }
         ensures front { IfOk result (λ front. front ≡ view_split_front self.old at) }
@@ -123,36 +198,8 @@ impl IoBuf {
         Ok(front)
     }
 
-    /// Whether a range lies within the text.
-    pub fn fits_range(&self, lo: Bound<usize>, hi: Bound<usize>) -> bool
-        ensures { result ≡ range_fits lo hi (length self.now.bytes) }
-    {
-        match (start_of(lo), end_of(hi, self.len())) {
-            (Some(from), Some(to)) => from <= to && to <= self.len(),
-            _ => false,
-        }
-    }
-
-    /// The bytes of a range, in the same storage.
-    pub fn slice(&self, lo: Bound<usize>, hi: Bound<usize>) -> Result<IoBuf, BufError>
-        requires { IsTrue (range_fits lo hi (length self.now.bytes)) }
-        ensures ok { IfOk result (λ slice. slice ≡ view_slice self.now lo hi) }
-        ensures memory { IsOkUnless result BufError.Memory }
-        ensures static_text { self.now.mark ≡ static_mark → IsOk result }
-        ensures empty { start_place lo ≡ end_place hi (length self.now.bytes) → IsOk result }
-    {
-        let (Some(from), Some(to)) = (start_of(lo), end_of(hi, self.len())) else {
-            unreachable!()
-        };
-        if from == to {
-            return Ok(IoBuf::default());
-        }
-        let mut slice = self.front(to)?;
-        slice.advance(from);
-        Ok(slice)
-    }
-
-    /// The text as a buffer to write, if no other text is in its storage.
+    /// The same bytes as a buffer to write, with the room behind them, if no other view shares their storage
+    /// (`IoBuf::try_into_mut`).
     pub fn try_into_mut(self, alloc: Global) -> Result<IoBufMut, IoBuf>
         ensures { IsRecovery self result }
     {
@@ -161,16 +208,34 @@ impl IoBuf {
                 Ok(part) => Ok(part),
                 Err(native) => Err(IoBuf::from_native(native)),
             },
-            Storage::Static([]) => Ok(IoBufMut::from_storage(Vec::new(alloc), 0, 0)),
+            Storage::Static([]) => Ok(IoBufMut::default(alloc)),
             storage => Err(IoBuf { storage }),
         }
     }
 
+    /// A copy of the bytes (`Vec::from`).
     pub fn to_vec(&self, alloc: Global) -> Result<Vec<u8>, BufError>
         ensures ok { IfOk result (λ v. v.items ≡ self.now.bytes) }
         ensures memory { IsOkUnless result BufError.Memory }
     {
         Ok(Vec::from_slice(alloc, self.as_ref())?)
+    }
+
+    /// The bytes as a `Bytes` (`Bytes::from`): a copy of those in native storage, else the same. `Err` for want
+    /// of memory alone, with the view.
+    pub fn into_bytes(self, alloc: Global) -> Result<Bytes, IoBuf>
+        ensures same { MatchResult result (λ bytes. bytes ≡ self.bytes) (λ view. view ≡ self) }
+        ensures static_text { self.mark ≡ static_mark → IsOk result }
+        ensures shared_text { self.mark ≡ bytes_mark → IsOk result }
+    {
+        match self.storage {
+            Storage::Static(text) => Ok(Bytes::from_static(text)),
+            Storage::Shared(bytes) => Ok(bytes),
+            Storage::Native(native) => match Bytes::copy_from_slice(alloc, native.as_slice()) {
+                Ok(bytes) => Ok(bytes),
+                Err(_) => Err(IoBuf::from_native(native)),
+            },
+        }
     }
 }
 
@@ -258,4 +323,102 @@ impl fmt::Debug for IoBuf {
         let len = self.len();
         write!(f, "IoBuf {{ len: {len} }}")
     }
+}
+
+impl Buf for IoBuf {
+    ghost use Rattle.iobufs_core.specs.Chunks.{full_chunks};
+    ghost use Rattle.iobufs_core.specs.ChunkLaws.{joined-one, full-one};
+    ghost use Rattle.iobufs_core.specs.ViewLaws.{view_rest-bytes};
+    ghost use Rattle.std.proofs.Common.{rules};
+
+    ghost text = { λ v. v.bytes };
+
+    ghost advanced = { view_advanced };
+
+    ghost copied = { view_rest };
+
+    ghost pieces = { λ v. full_chunks (v.bytes ∷ []) };
+
+    fn remaining(&self) -> usize {
+        self.len()
+    }
+
+    #[tactic(auto, using(crate::specs::ChunkLaws::first_one, crate::specs::ChunkLaws::chunk_one))]
+    fn chunk(&self) -> &[u8] {
+        self.as_ref()
+    }
+
+    fn byte_at(&self, i: usize) -> Option<u8> {
+        self.as_ref().get(i).copied()
+    }
+
+    fn advance(&mut self, n: usize) {
+        match &mut self.storage {
+            Storage::Static(text) => *text = &text[n..],
+            Storage::Shared(bytes) => bytes.advance(n),
+            Storage::Native(native) => native.advance(n),
+        }
+    }
+
+    fn copy_to_slice(&mut self, dst: &mut [u8]) {
+        let n = dst.len();
+        dst.copy_from_slice(&self.as_ref()[..n]);
+        self.advance(n);
+    }
+
+    fn copy_to_bytes(&mut self, alloc: Global, n: usize) -> Result<Bytes, BufError> {
+        let bytes = match &self.storage {
+            Storage::Static(text) => Bytes::from_static(&text[..n]),
+            Storage::Shared(bytes) => bytes.slice(..n)?,
+            Storage::Native(native) => Bytes::copy_from_slice(alloc, &native.as_slice()[..n])?,
+        };
+        self.forget(n);
+        Ok(bytes)
+    }
+
+    fn chunks_vectored(&self, alloc: Global, max: usize) -> Result<Vec<&[u8]>, BufError> {
+        let mut chunks = Vec::new(alloc);
+        if max != 0 && !self.is_empty() {
+            chunks.push(self.as_ref())?;
+        }
+        Ok(chunks)
+    }
+
+    ghost drops = { Prim.search rules };
+
+    ghost copies = { view_rest-bytes };
+
+    ghost joins = { λ v. joined-one v.bytes };
+
+    ghost full = { λ v. full-one v.bytes };
+}
+
+impl OwnedBuf for IoBuf {
+    ghost use Rattle.iobufs_core.specs.MarkedText.{of_view};
+    ghost use Rattle.iobufs_core.specs.ViewLaws.{advanced-of_view, chunks-of_view, text_rest-of_view};
+    ghost use Rattle.std.proofs.Common.{rules};
+
+    ghost marked = { of_view };
+
+    #[tactic(auto, using(crate::specs::ViewLaws::taken_of_view))]
+    fn take_owned_after<T: OwnedBytes>(
+        &mut self,
+        alloc: Global,
+        skip: usize,
+        n: usize,
+    ) -> Result<T, BufError> {
+        let end = self.len() - (self.len() - skip - n);
+        let view = self.slice(Bound::Included(skip), Bound::Excluded(end))?;
+        let made = T::from_view(alloc, view)?;
+        self.forget(end);
+        Ok(made)
+    }
+
+    ghost same_text = { Prim.search rules };
+
+    ghost same_pieces = { chunks-of_view };
+
+    ghost advances_marked = { advanced-of_view };
+
+    ghost copies_marked = { text_rest-of_view };
 }

@@ -1,0 +1,33 @@
+-- Views as marked texts without cuts.
+use Rattle.std.specs.Prelude.{◌≡◌, ℕ, ◌+◌, ◌≤◌, length, drop, refl, [], ◌∷◌}
+use Rattle.std.specs.declared.ops.Bound.TheVariants.{Included, Excluded}
+use Rattle.std.proofs.Common.{arith}
+use Rattle.std.proofs.lemmas.Grind.{common_steps}
+use Rattle.std.proofs.lemmas.List.{drop-take}
+use Rattle.std.proofs.lemmas.Bool.Decides.{nat_tests}
+use Rattle.iobufs_core.specs.Chunks.{full_chunks}
+use Rattle.iobufs_core.specs.View.{View, view_rest, view_slice, view_advanced}
+use Rattle.iobufs_core.specs.MarkedText.{of_view, text_rest, text_right, text_advanced, text_chunks, taken_view}
+
+pub view_rest-bytes : (v : View) (n : ℕ) → n ≤ length v.bytes → (view_rest v n).bytes ≡ drop n v.bytes
+view_rest-bytes v n h = grind (arith, nat_tests, common_steps)
+
+pub right-of_view : (v : View) (n : ℕ) → text_right (of_view v) n ≡ of_view (view_advanced v n)
+unfolding text_right
+right-of_view v n = grind (arith, common_steps)
+
+pub text_rest-of_view : (v : View) (n : ℕ) → n ≤ length v.bytes → of_view (view_rest v n) ≡ text_rest (of_view v) n
+unfolding text_right
+text_rest-of_view v n h = grind (arith, nat_tests, common_steps)
+
+pub advanced-of_view : (v : View) (n : ℕ) → n ≤ length v.bytes → of_view (view_advanced v n) ≡ text_advanced (of_view v) n
+unfolding text_right
+advanced-of_view v n h = grind (arith, nat_tests, common_steps)
+
+pub chunks-of_view : (v : View) → text_chunks (of_view v) ≡ full_chunks (v.bytes ∷ [])
+unfolding text_chunks
+chunks-of_view v = refl
+
+pub taken_of_view : (v : View) (skip n : ℕ) → taken_view (of_view v) skip n ≡ view_slice v (Included skip) (Excluded (skip + n))
+unfolding taken_view
+taken_of_view v skip n = grind (arith, nat_tests, common_steps, drop-take)

@@ -1,0 +1,129 @@
+// The traits to take pieces of a text out and keep them.
+ghost use Rattle.std.specs.Prelude.{◌≡◌, ℕ, ◌+◌, ◌≤◌, ◌<◌, List, length, Err, IfOk, IsOk, OnOk, OnErr, IsOkUnless};
+ghost use Rattle.iobufs_core.specs.View.{View};
+ghost use Rattle.iobufs_core.specs.MarkedText.{MarkedText, taken_view, text_advanced, text_rest, text_chunks};
+
+use super::{Buf, BufError, Error};
+use crate::buf::IoBuf;
+use bytes::Bytes;
+use std::alloc::Global;
+
+/// What is made of bytes that were taken out (the codec's `OwnedBytes`; `from_view` stands for its `claim`).
+pub trait OwnedBytes: Sized {
+    ghost bytes_of: { Self → List ℕ };
+
+    // What `from_view` makes of a view.
+    ghost makes: { View → Self → Type 0 };
+
+    /// The same bytes.
+    fn from_bytes(bytes: Bytes) -> Result<Self, BufError>
+        ensures ok { IfOk result (λ made. bytes_of made ≡ bytes) }
+        ensures memory { IsOkUnless result BufError.Memory };
+
+    /// The same bytes, sharing the view's storage where the type can.
+    fn from_view(alloc: Global, view: IoBuf) -> Result<Self, BufError>
+        ensures ok { IfOk result (makes view) }
+        ensures memory { IsOkUnless result BufError.Memory };
+
+    ghost same_bytes: { (view : View) (made : Self) → makes view made → bytes_of made ≡ view.bytes };
+}
+
+/// A text in pieces that can be taken out and kept (the codec's `Buf`).
+pub trait OwnedBuf: Buf {
+    ghost marked: { Self → MarkedText };
+
+    /// Takes the `n` bytes behind the first `skip` out, and drops all of them.
+    fn take_owned_after<T: OwnedBytes>(
+        &mut self,
+        alloc: Global,
+        skip: usize,
+        n: usize,
+    ) -> Result<T, BufError>
+        requires { skip + n ≤ length (Self.text self.old) }
+        ensures ok { IfOk result (T.makes (taken_view (marked self.old) skip n)) }
+        ensures rest { OnOk result (self.new ≡ Self.copied self.old (skip + n)) }
+        ensures err { OnErr result (self.new ≡ self.old) }
+        ensures memory { IsOkUnless result BufError.Memory };
+
+    ghost same_text: { (s : Self) → (marked s).bytes ≡ Self.text s };
+
+    ghost same_pieces: { (s : Self) → text_chunks (marked s) ≡ Self.pieces s };
+
+    ghost advances_marked: { (s : Self) (n : ℕ) → n ≤ length (Self.text s) → marked (Self.advanced s n) ≡ text_advanced (marked s) n };
+
+    ghost copies_marked: { (s : Self) (n : ℕ) → n ≤ length (Self.text s) → marked (Self.copied s n) ≡ text_rest (marked s) n };
+
+    /// Takes the first `n` bytes out.
+    final fn take_owned<T: OwnedBytes>(&mut self, alloc: Global, n: usize) -> Result<T, BufError>
+    where
+        Self: Sized,
+        requires { n ≤ length (Self.text self.old) }
+        ensures ok { IfOk result (T.makes (taken_view (marked self.old) 0 n)) }
+        ensures rest { OnOk result (self.new ≡ Self.copied self.old n) }
+        ensures err { OnErr result (self.new ≡ self.old) }
+        ensures memory { IsOkUnless result BufError.Memory }
+    {
+        self.take_owned_after(alloc, 0, n)
+    }
+
+    /// As `take_owned`, where there are enough bytes; else `Error::EndOfBuffer`.
+    final fn try_take_owned<T: OwnedBytes>(&mut self, alloc: Global, n: usize) -> Result<T, Error>
+    where
+        Self: Sized,
+        ensures ok { IfOk result (T.makes (taken_view (marked self.old) 0 n)) }
+        ensures rest { OnOk result (self.new ≡ Self.copied self.old n) }
+        ensures err { OnErr result (self.new ≡ self.old) }
+        ensures short { length (Self.text self.old) < n → result ≡ Err Error.EndOfBuffer }
+        ensures memory { n ≤ length (Self.text self.old) → IsOkUnless result Error.Memory }
+    {
+        if n > self.remaining() {
+            return Err(Error::EndOfBuffer);
+        }
+        Ok(self.take_owned(alloc, n)?)
+    }
+}
+
+impl OwnedBytes for IoBuf {
+    ghost bytes_of = { λ view. view.bytes };
+
+    ghost makes = { λ view made. made ≡ view };
+
+    fn from_bytes(bytes: Bytes) -> Result<IoBuf, BufError>
+        ensures ok { IfOk result (λ made. made.bytes ≡ bytes) }
+        ensures never_refused { IsOk result }
+    {
+        Ok(IoBuf::from(bytes))
+    }
+
+    fn from_view(_alloc: Global, view: IoBuf) -> Result<IoBuf, BufError>
+        ensures ok { IfOk result (λ made. made ≡ view) }
+        ensures never_refused { IsOk result }
+    {
+        Ok(view)
+    }
+
+    ghost use Rattle.std.proofs.Common.{rules};
+
+    ghost same_bytes = { Prim.search rules };
+}
+
+impl OwnedBytes for Bytes {
+    ghost bytes_of = { λ bytes. bytes };
+
+    ghost makes = { λ view made. made ≡ view.bytes };
+
+    fn from_bytes(bytes: Bytes) -> Result<Bytes, BufError>
+        ensures ok { IfOk result (λ made. made ≡ bytes) }
+        ensures never_refused { IsOk result }
+    {
+        Ok(bytes)
+    }
+
+    fn from_view(alloc: Global, view: IoBuf) -> Result<Bytes, BufError> {
+        Ok(view.into_bytes(alloc).map_err(|_| BufError::Memory)?)
+    }
+
+    ghost use Rattle.std.proofs.Common.{rules};
+
+    ghost same_bytes = { Prim.search rules };
+}

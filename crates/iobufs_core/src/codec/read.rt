@@ -1,0 +1,99 @@
+// The trait to read bytes from the front.
+ghost use Rattle.std.specs.Prelude.{◌≡◌, ℕ, ◌≤◌, ◌<◌, ◌↔◌, List, [], ◌∷◌, map, length, take, drop, slice_get, IsTrue, IfOk, IfErr, OnOk, OnErr, IsErr, IsOkUnless};
+ghost use Rattle.std.specs.List.{flat_map};
+ghost use Rattle.iobufs_core.specs.Chunks.{IsChunkOf, first_chunk, full_chunks};
+
+use super::{BufError, TryGetError};
+use bytes::Bytes;
+use std::alloc::Global;
+
+/// Bytes that are read from the front, in chunks (`bytes::Buf`).
+pub trait Buf {
+    // The bytes that are left.
+    ghost text: { Self → List ℕ };
+
+    // What one `advance` leaves, and what `copy_to_bytes` leaves.
+    ghost advanced: { Self → ℕ → Self };
+
+    ghost copied: { Self → ℕ → Self };
+
+    // The pieces that hold bytes, in order.
+    ghost pieces: { Self → List (List ℕ) };
+
+    /// How many bytes are left.
+    fn remaining(&self) -> usize
+        ensures { result ≡ length (text self.now) };
+
+    /// The first piece that holds bytes.
+    fn chunk(&self) -> &[u8]
+        ensures first { result.now ≡ first_chunk (pieces self.now) }
+        ensures front { IsChunkOf result.now (text self.now) };
+
+    /// The byte at a place, if there is one (the original has no such call).
+    fn byte_at(&self, i: usize) -> Option<u8>
+        ensures { result ≡ slice_get (text self.now) i };
+
+    /// Drops the first `n` bytes.
+    fn advance(&mut self, n: usize)
+        requires { n ≤ length (text self.old) }
+        ensures { self.new ≡ advanced self.old n };
+
+    /// Fills `dst` with the first bytes, and drops these as one `advance` does.
+    fn copy_to_slice(&mut self, dst: &mut [u8])
+        requires { length dst.old ≤ length (text self.old) }
+        ensures bytes { dst.new ≡ take (length dst.old) (text self.old) }
+        ensures rest { self.new ≡ advanced self.old (length dst.old) };
+
+    /// Takes the first `n` bytes out. It shares them where the piece is a `Bytes`.
+    fn copy_to_bytes(&mut self, alloc: Global, n: usize) -> Result<Bytes, BufError>
+        requires { n ≤ length (text self.old) }
+        ensures ok { IfOk result (λ bytes. bytes ≡ take n (text self.old)) }
+        ensures rest { OnOk result (self.new ≡ copied self.old n) }
+        ensures err { OnErr result (self.new ≡ self.old) }
+        ensures memory { IsOkUnless result BufError.Memory };
+
+    /// The first pieces that hold bytes, at most `max` (the original fills `IoSlice`s).
+    fn chunks_vectored(&self, alloc: Global, max: usize) -> Result<Vec<&[u8]>, BufError>
+        ensures ok { IfOk result (λ chunks. map (λ chunk. chunk.now) chunks.items ≡ take max (pieces self.now)) }
+        ensures memory { IsOkUnless result BufError.Memory };
+
+    ghost drops: { (s : Self) (n : ℕ) → n ≤ length (text s) → text (advanced s n) ≡ drop n (text s) };
+
+    ghost copies: { (s : Self) (n : ℕ) → n ≤ length (text s) → text (copied s n) ≡ drop n (text s) };
+
+    // The pieces are the text, and none is empty.
+    ghost joins: { (s : Self) → flat_map (λ piece. piece) (pieces s) ≡ text s };
+
+    ghost full: { (s : Self) → full_chunks (pieces s) ≡ pieces s };
+
+    /// Whether bytes are left.
+    final fn has_remaining(&self) -> bool
+    where
+        Self: Sized,
+        ensures { IsTrue result ↔ (0 < length (text self.now)) }
+    {
+        self.remaining() != 0
+    }
+
+    /// As `copy_to_slice`, where there are enough bytes; else nothing changes, and both lengths are told.
+    final fn try_copy_to_slice(&mut self, dst: &mut [u8]) -> Result<(), TryGetError>
+    where
+        Self: Sized,
+        ensures short { IsErr result ↔ (length (text self.old) < length dst.old) }
+        ensures bytes { OnOk result (dst.new ≡ take (length dst.old) (text self.old)) }
+        ensures rest { OnOk result (self.new ≡ advanced self.old (length dst.old)) }
+        ensures lengths { IfErr result (λ error. error ≡ record { requested = length dst.old; available = length (text self.old) }) }
+        ensures same { OnErr result (self.new ≡ self.old) }
+        ensures untouched { OnErr result (dst.new ≡ dst.old) }
+    {
+        let available = self.remaining();
+        if dst.len() > available {
+            return Err(TryGetError {
+                requested: dst.len(),
+                available,
+            });
+        }
+        self.copy_to_slice(dst);
+        Ok(())
+    }
+}

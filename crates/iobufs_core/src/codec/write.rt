@@ -1,0 +1,85 @@
+// The trait to fill room with bytes, in order.
+ghost use Rattle.std.specs.Prelude.{◌≡◌, ℕ, ◌-◌, ◌≤◌, List, [], ◌∷◌, ◌++◌, length, replicate};
+ghost use Rattle.std.specs.Int.{w16, w32, w64, to_be_bytes};
+
+use super::Buf;
+
+/// Room that is filled in order (`bytes::BufMut`). No put takes memory.
+pub trait BufMut {
+    ghost room: { Self → ℕ };
+
+    // From one value to another by filling these bytes in.
+    ghost filled: { Self → List ℕ → Self → Type 0 };
+
+    /// How many bytes fit.
+    fn remaining_mut(&self) -> usize
+        ensures { result ≡ room self.now };
+
+    /// Fills these bytes in.
+    fn put_slice(&mut self, src: &[u8])
+        requires { length src.now ≤ room self.old }
+        ensures { filled self.old src.now self.new };
+
+    /// Fills `n` times the byte `value` in.
+    fn put_bytes(&mut self, value: u8, n: usize)
+        requires { n ≤ room self.old }
+        ensures { filled self.old (replicate n value) self.new };
+
+    ghost nothing: { (s : Self) → filled s [] s };
+
+    ghost composes: { (a b c : Self) (u v : List ℕ) → filled a u b → filled b v c → filled a (u ++ v) c };
+
+    ghost lessens: { (a b : Self) (w : List ℕ) → length w ≤ room a → filled a w b → room b ≡ room a - length w };
+
+    final fn put_u8(&mut self, n: u8)
+    where
+        Self: Sized,
+        requires { 1 ≤ room self.old }
+        ensures { filled self.old (n ∷ []) self.new }
+    {
+        self.put_slice(&[n]);
+    }
+
+    /// Fills a number in, its highest byte first; so do the wider ones.
+    final fn put_u16(&mut self, n: u16)
+    where
+        Self: Sized,
+        requires { 2 ≤ room self.old }
+        ensures { filled self.old (to_be_bytes w16 n) self.new }
+    {
+        self.put_slice(&n.to_be_bytes());
+    }
+
+    final fn put_u32(&mut self, n: u32)
+    where
+        Self: Sized,
+        requires { 4 ≤ room self.old }
+        ensures { filled self.old (to_be_bytes w32 n) self.new }
+    {
+        self.put_slice(&n.to_be_bytes());
+    }
+
+    final fn put_u64(&mut self, n: u64)
+    where
+        Self: Sized,
+        requires { 8 ≤ room self.old }
+        ensures { filled self.old (to_be_bytes w64 n) self.new }
+    {
+        self.put_slice(&n.to_be_bytes());
+    }
+
+    /// Fills all bytes of a reader in, one copy for each of its chunks.
+    final fn put<B: Buf + Drop>(&mut self, mut src: B)
+    where
+        Self: Sized,
+        requires { length (B.text src) ≤ room self.old }
+        ensures { filled self.old (B.text src) self.new }
+    {
+        while src.has_remaining() {
+            let chunk = src.chunk();
+            self.put_slice(chunk);
+            let n = chunk.len();
+            src.advance(n);
+        }
+    }
+}
