@@ -1,0 +1,10 @@
+-- How an error of a buffer is told by a command.
+use Rattle.iobufs_core.specs.declared.codec.base.BufError.{BufError}
+use Rattle.iobufs_core.specs.declared.codec.base.BufError.TheVariants as cause
+use Rattle.iobufs_run.specs.declared.command.Refusal.{Refusal}
+use Rattle.iobufs_run.specs.declared.command.Refusal.TheVariants as refusal
+
+abbrev pub refusal_of : BufError → Refusal
+refusal_of cause.Memory = refusal.Memory
+refusal_of cause.BadLayout = refusal.BadLayout
+refusal_of cause.TooLong = refusal.TooLong

@@ -1,0 +1,121 @@
+-- Runs of commands over named buffers. A state gives each name what it holds.
+--     causes, refusal_for        why a command is refused, and the first cause that stands
+--     may_want_memory            the commands that may be refused for want of memory
+--     consumed, MayFree          the names that such a refusal may cost
+--     after, Answers             what a command that is done leaves, and its reply
+--     Step, Run                  one command; any list of them
+use Rattle.std.specs.Prelude.{◌≡◌, ◌⊎◌, ℕ, ◌==◌, Bool, true, false, ◌&&◌, ◌||◌, not, nat_lt, nat_le, if◌then◌else◌, List, [], ◌∷◌, map, length, slice_set, Option, Some, None, IsTrue, Result, Ok, Err}
+use Rattle.iobufs_core.specs.Part.{empty_part, is_bad_layout}
+use Rattle.iobufs_run.specs.Slots.{held, is_free, is_part, is_view, is_static_view, readable, writable, slot_put, slot_frozen, slot_split_front, slot_rest, slot_advanced, shown_piece, Shows}
+use Rattle.iobufs_run.specs.declared.table.Slot.{Slot}
+use Rattle.iobufs_run.specs.declared.table.Slot.TheVariants.{Free, Part}
+use Rattle.iobufs_run.specs.declared.command.Cmd.{Cmd}
+use Rattle.iobufs_run.specs.declared.command.Cmd.TheVariants.{NewMut, Put, Freeze, Split, Advance, Show}
+use Rattle.iobufs_run.specs.declared.command.Reply.{Reply}
+use Rattle.iobufs_run.specs.declared.command.Reply.TheVariants.{Done, Shown, Refused}
+use Rattle.iobufs_run.specs.declared.command.Refusal.{Refusal}
+use Rattle.iobufs_run.specs.declared.command.Refusal.TheVariants.{NoName, WrongKind, InUse, OutOfRange, BadLayout, Memory}
+
+-- no such name
+abbrev pub is_no_name : List Slot → ℕ → Bool
+is_no_name names name = nat_le (length names) name
+
+-- a destination that is in use, and is not the source that the command consumes
+abbrev pub is_in_use_beside : List Slot → ℕ → ℕ → Bool
+is_in_use_beside names src dst = not (dst == src) && not (is_free (held names dst))
+
+-- the causes to refuse a command, in the order of their numbers, each with whether it stands
+abbrev pub causes : List Slot → Cmd → List (Bool × Refusal)
+causes names (NewMut dst capacity align) =
+    (is_no_name names dst, NoName)
+    ∷ (not (is_free (held names dst)), InUse)
+    ∷ (is_bad_layout capacity align, BadLayout) ∷ []
+causes names (Put target bytes) =
+    (is_no_name names target, NoName)
+    ∷ (not (is_part (held names target)), WrongKind)
+    ∷ (nat_lt (writable (held names target)) (length bytes.items), OutOfRange) ∷ []
+causes names (Freeze src dst) =
+    (is_no_name names src || is_no_name names dst, NoName)
+    ∷ (not (is_part (held names src)), WrongKind)
+    ∷ (is_in_use_beside names src dst, InUse) ∷ []
+causes names (Split src dst at) =
+    (is_no_name names src || is_no_name names dst, NoName)
+    ∷ (not (is_view (held names src)), WrongKind)
+    ∷ (not (is_free (held names dst)), InUse)
+    ∷ (nat_lt (readable (held names src)) at, OutOfRange) ∷ []
+causes names (Advance target n) =
+    (is_no_name names target, NoName)
+    ∷ (is_free (held names target), WrongKind)
+    ∷ (nat_lt (readable (held names target)) n, OutOfRange) ∷ []
+causes names (Show target) =
+    (is_no_name names target, NoName)
+    ∷ (is_free (held names target), WrongKind) ∷ []
+
+-- the first cause that stands
+abbrev pub first_cause : List (Bool × Refusal) → Option Refusal
+first_cause [] = None
+first_cause (cause ∷ others) = if cause.0 then Some cause.1 else first_cause others
+
+-- the command is refused for this, or for want of memory alone
+abbrev pub refusal_for : List Slot → Cmd → Option Refusal
+refusal_for names command = first_cause (causes names command)
+
+-- the command may be refused for want of memory
+abbrev pub may_want_memory : List Slot → Cmd → Bool
+may_want_memory names (NewMut dst capacity align) = not (capacity == 0)
+may_want_memory names (Put target bytes) = false
+may_want_memory names (Freeze src dst) = not (readable (held names src) == 0)
+may_want_memory names (Split src dst at) =
+    not (at == 0) && not (at == readable (held names src)) && not (is_static_view (held names src))
+may_want_memory names (Advance target n) = false
+may_want_memory names (Show target) = true
+
+-- the names whose buffers a command moves away
+abbrev pub consumed : Cmd → List ℕ
+consumed (Freeze src dst) = src ∷ []
+consumed _ = []
+
+-- new is old, but that some of these names may be free
+abbrev pub MayFree : List ℕ → List Slot → List Slot → Type 0
+MayFree [] old new = new ≡ old
+MayFree (name ∷ names) old new = MayFree names old new ⊎ MayFree names (slice_set old name Free) new
+
+-- the names after a command that is done
+abbrev pub after : List Slot → Cmd → List Slot
+after names (NewMut dst capacity align) = slice_set names dst (Part (empty_part capacity))
+after names (Put target bytes) = slice_set names target (slot_put (held names target) bytes.items)
+after names (Freeze src dst) = slice_set (slice_set names src Free) dst (slot_frozen (held names src))
+after names (Split src dst at) =
+    slice_set (slice_set names src (slot_rest (held names src) at)) dst (slot_split_front (held names src) at)
+after names (Advance target n) = slice_set names target (slot_advanced (held names target) n)
+after names (Show target) = names
+
+-- the reply to a command that is done
+abbrev pub Answers : List Slot → Cmd → Reply → Type 0
+Answers names (Show target) (Shown kind pieces) = Shows (held names target) kind (map shown_piece pieces.items)
+Answers names (Show target) _ = ⊥
+Answers names _ Done = Unit {0}
+Answers names _ _ = ⊥
+
+-- one command: refused for want of memory, refused for the first cause that stands, or done
+abbrev pub Step : List Slot → Cmd → Reply → List Slot → Type 0
+Step old command (Refused Memory) new =
+    (refusal_for old command ≡ None) × IsTrue (may_want_memory old command) × MayFree (consumed command) old new
+Step old command (Refused refusal) new = (refusal_for old command ≡ Some refusal) × (new ≡ old)
+Step old command reply new = (refusal_for old command ≡ None) × Answers old command reply × (new ≡ after old command)
+
+-- these commands are answered so, one step after another
+abbrev pub Run : List Slot → List Cmd → List Reply → List Slot → Type 0
+Run old [] [] new = new ≡ old
+Run old (command ∷ commands) (reply ∷ replies) new = (mid : List Slot) × Step old command reply mid × Run mid commands replies new
+Run old _ _ new = ⊥
+
+-- the reply of a command that only says whether it is done
+abbrev pub outcome : Result (Unit {0}) Refusal → Reply
+outcome (Ok done) = Done
+outcome (Err refusal) = Refused refusal
+
+-- the answer, or the refusal
+abbrev pub reply_of : Result Reply Refusal → Reply
+reply_of (Ok reply) = reply
+reply_of (Err refusal) = Refused refusal

@@ -1,0 +1,107 @@
+// The commands, and what is answered to them.
+use iobufs_core::codec::BufError;
+use std::alloc::AllocError;
+use std::fmt;
+
+/// A command on the named buffers of a table. `dst` is a name that becomes used, `src` a source, `target` a buffer
+/// that is changed or shown in place.
+#[derive(Drop)]
+pub enum Cmd {
+    /// An empty part of this capacity and alignment.
+    NewMut {
+        dst: usize,
+        capacity: usize,
+        align: usize,
+    },
+    /// Puts bytes into a part.
+    Put { target: usize, bytes: Vec<u8> },
+    /// A part becomes a view.
+    Freeze { src: usize, dst: usize },
+    /// The first `at` bytes of a view go to `dst`.
+    Split { src: usize, dst: usize, at: usize },
+    /// Drops the first `n` bytes.
+    Advance { target: usize, n: usize },
+    /// Shows what a name holds.
+    Show { target: usize },
+}
+
+/// The answer to a command.
+#[derive(Drop)]
+pub enum Reply {
+    Done,
+    Shown { kind: Kind, pieces: Vec<Piece> },
+    Refused(Refusal),
+}
+
+/// What a name holds.
+#[derive(Clone, Copy, Debug, PartialEq, Eq)]
+pub enum Kind {
+    Part,
+    View,
+}
+
+/// One piece of what is shown: its bytes, and the room behind them.
+#[derive(Drop)]
+pub struct Piece {
+    pub bytes: Vec<u8>,
+    pub spare: usize,
+}
+
+/// Why a command is refused. Of the causes that stand the first in this order is told.
+#[derive(Clone, Copy, Debug, PartialEq, Eq)]
+pub enum Refusal {
+    /// There is no such name.
+    NoName,
+    /// A source is free, or of another kind than the command takes.
+    WrongKind,
+    /// A destination is in use.
+    InUse,
+    /// A number or a length is more than the buffer allows.
+    OutOfRange,
+    /// As `BufError::BadLayout`.
+    BadLayout,
+    /// As `BufError::TooLong`.
+    TooLong,
+    /// A request for memory was refused.
+    Memory,
+}
+
+impl fmt::Display for Refusal {
+    fn fmt<W: fmt::Write>(&self, f: &mut fmt::Formatter<W>) -> fmt::Result {
+        f.write_str(match self {
+            Refusal::NoName => "N1 NoName",
+            Refusal::WrongKind => "N2 WrongKind",
+            Refusal::InUse => "N3 InUse",
+            Refusal::OutOfRange => "N4 OutOfRange",
+            Refusal::BadLayout => "N5 BadLayout",
+            Refusal::TooLong => "N6 TooLong",
+            Refusal::Memory => "N9 Memory",
+        })
+    }
+}
+
+impl From<AllocError> for Refusal {
+    ghost use Rattle.std.specs.Prelude.{◌≡◌};
+    ghost use Rattle.iobufs_run.specs.declared.command.Refusal.TheVariants.{Memory};
+
+    ghost from_gives = { λ _ refusal. refusal ≡ Memory };
+
+    fn from(_error: AllocError) -> Refusal {
+        Refusal::Memory
+    }
+}
+
+impl From<BufError> for Refusal {
+    ghost use Rattle.std.specs.Prelude.{◌≡◌};
+    ghost use Rattle.iobufs_run.specs.Refusals.{refusal_of};
+
+    ghost from_gives = { λ error refusal. refusal ≡ refusal_of error };
+
+    fn from(error: BufError) -> Refusal {
+        match error {
+            BufError::Memory => Refusal::Memory,
+            BufError::BadLayout => Refusal::BadLayout,
+            BufError::TooLong => Refusal::TooLong,
+        }
+    }
+}

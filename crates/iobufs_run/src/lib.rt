@@ -1,0 +1,5 @@
+// Commands over named buffers.
+#![tactic(auto)]
+
+pub mod command;
+pub mod table;

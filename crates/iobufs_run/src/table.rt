@@ -1,0 +1,96 @@
+// Named buffers, and the commands on them.
+ghost use Rattle.std.specs.Prelude.{◌≡◌, length, replicate, IfOk, IsOkUnless, OnErr};
+ghost use Rattle.iobufs_run.specs.Run.{Run, Step, outcome as outcome_of};
+
+mod steps;
+
+use crate::command::{Cmd, Refusal, Reply};
+use iobufs_core::buf::{IoBuf, IoBufMut};
+use iobufs_core::codec::BufError;
+use std::alloc::Global;
+use std::marker::Model;
+
+/// What a name holds.
+#[derive(Drop)]
+pub enum Slot {
+    Free,
+    Part(IoBufMut),
+    View(IoBuf),
+}
+
+/// Buffers under the names 0, 1, and so on.
+#[derive(Drop)]
+pub struct Table {
+    slots: Vec<Slot>,
+}
+
+impl Model for Table {
+    ghost use Rattle.std.specs.Prelude.{List};
+    ghost use Rattle.iobufs_run.specs.declared.table.Slot.{Slot};
+
+    ghost Value = { List Slot };
+
+    ghost view = { λ t. t.slots.items };
+}
+
+// A refusal as a reply, or that the command is done.
+fn reply(outcome: Result<(), Refusal>) -> Reply
+    ensures { result ≡ outcome_of outcome }
+{
+    match outcome {
+        Ok(()) => Reply::Done,
+        Err(refusal) => Reply::Refused(refusal),
+    }
+}
+
+impl Table {
+    /// The names 0 to `n - 1`, which hold nothing.
+    pub fn new(alloc: Global, n: usize) -> Result<Table, BufError>
+        ensures ok { IfOk result (λ table. table ≡ replicate n Slot.Free) }
+        ensures err { IsOkUnless result BufError.Memory }
+    {
+        let mut slots = Vec::with_capacity(alloc, n)?;
+        for _ in 0..n {
+            slots.push(Slot::Free)?;
+        }
+        Ok(Table { slots })
+    }
+
+    /// Does one command.
+    pub fn apply(&mut self, cmd: &Cmd) -> Reply
+        ensures { Step self.old cmd.now result self.new }
+    {
+        let alloc = *self.slots.allocator();
+        let slots = self.slots.as_mut_slice();
+        match cmd {
+            Cmd::NewMut {
+                dst,
+                capacity,
+                align,
+            } => reply(steps::new_mut(alloc, slots, *dst, *capacity, *align)),
+            Cmd::Put { target, bytes } => reply(steps::put(slots, *target, bytes)),
+            Cmd::Freeze { src, dst } => reply(steps::freeze(slots, *src, *dst)),
+            Cmd::Split { src, dst, at } => reply(steps::split(slots, *src, *dst, *at)),
+            Cmd::Advance { target, n } => reply(steps::advance(slots, *target, *n)),
+            Cmd::Show { target } => match steps::show(alloc, slots, *target) {
+                Ok(shown) => shown,
+                Err(refusal) => Reply::Refused(refusal),
+            },
+        }
+    }
+
+    /// Does commands in order, and gives a reply for each. `BufError::Memory` comes before the first.
+    pub fn run(&mut self, cmds: &[Cmd]) -> Result<Vec<Reply>, BufError>
+        ensures run { IfOk result (λ replies. Run self.old cmds.now replies.items self.new) }
+        ensures err { OnErr result (self.new ≡ self.old) }
+        ensures memory { IsOkUnless result BufError.Memory }
+    {
+        let alloc = *self.slots.allocator();
+        let mut replies = Vec::with_capacity(alloc, cmds.len())?;
+        for cmd in cmds {
+            let reply = self.apply(cmd);
+            replies.push(reply).unwrap();
+        }
+        Ok(replies)
+    }
+}
