@@ -8,7 +8,6 @@ mod serve;
 mod tests;
 
 pub use serve::serve;
-
 use std::io::{BufReader, BufWriter, Write};
 use std::process::ExitCode;
 use std::{env, io};
@@ -26,13 +25,7 @@ fn run(rt: &HostRuntime) -> io::Result<u8> {
     }
     let input = BufReader::new(alloc, rt.reader())?;
     let mut output = BufWriter::new(alloc, rt.stdout())?;
-    Ok(serve(
-        alloc,
-        args.as_slice(),
-        input,
-        &mut output,
-        &mut rt.stderr(),
-    ))
+    Ok(serve(alloc, args.as_slice(), input, &mut output, &mut rt.stderr()))
 }
 
 fn main(rt: HostRuntime) -> ExitCode {

@@ -1,5 +1,5 @@
 -- What names hold, and what a command makes of it.
-use Rattle.std.specs.Prelude.{◌≡◌, ℕ, Bool, true, false, ◌==◌, List, [], ◌∷◌, length, slice_index_or}
+use Rattle.std.specs.Prelude.{◌≡◌, ℕ, Bool, true, false, List, [], ◌∷◌, length, slice_index_or}
 use Rattle.iobufs_core.specs.Part.{part_drained, part_frozen, part_put}
 use Rattle.iobufs_core.specs.View.{view_advanced, view_rest, view_split_front, static_mark, Mark}
 use Rattle.iobufs_run.specs.declared.table.Slot.{Slot}

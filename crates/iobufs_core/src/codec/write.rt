@@ -47,7 +47,7 @@ pub trait BufMut {
         requires { 2 ≤ room self.old }
         ensures { filled self.old (to_be_bytes w16 n) self.new }
     {
-        self.put_slice(&n.to_be_bytes());
+        self.put_slice(&u16::to_be_bytes(n));
     }
 
     final fn put_u32(&mut self, n: u32)
@@ -56,7 +56,7 @@ pub trait BufMut {
         requires { 4 ≤ room self.old }
         ensures { filled self.old (to_be_bytes w32 n) self.new }
     {
-        self.put_slice(&n.to_be_bytes());
+        self.put_slice(&u32::to_be_bytes(n));
     }
 
     final fn put_u64(&mut self, n: u64)
@@ -65,7 +65,7 @@ pub trait BufMut {
         requires { 8 ≤ room self.old }
         ensures { filled self.old (to_be_bytes w64 n) self.new }
     {
-        self.put_slice(&n.to_be_bytes());
+        self.put_slice(&u64::to_be_bytes(n));
     }
 
     /// Fills all bytes of a reader in, one copy for each of its chunks.
