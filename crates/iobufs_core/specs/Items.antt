@@ -1,0 +1,36 @@
+-- What a value is written as, in order: bytes that are put inline, and views that are pushed.
+use Rattle.std.specs.Prelude.{◌≡◌, ℕ, ◌+◌, List, [], ◌∷◌, ◌++◌, length}
+use Rattle.iobufs_core.specs.View.{View}
+
+pub data Item : Type 0 where
+  put_item : List ℕ → Item
+  push_item : View → Item
+
+abbrev pub item_bytes : Item → List ℕ
+item_bytes (put_item bytes) = bytes
+item_bytes (push_item view) = view.bytes
+
+-- how many bytes are put, and how many pushed
+abbrev pub item_inline : Item → ℕ
+item_inline (put_item bytes) = length bytes
+item_inline (push_item view) = 0
+
+abbrev pub item_pushed : Item → ℕ
+item_pushed (put_item bytes) = 0
+item_pushed (push_item view) = length view.bytes
+
+abbrev pub items_bytes : List Item → List ℕ
+items_bytes [] = []
+items_bytes (item ∷ items) = item_bytes item ++ items_bytes items
+
+abbrev pub items_inline : List Item → ℕ
+items_inline [] = 0
+items_inline (item ∷ items) = item_inline item + items_inline items
+
+abbrev pub items_pushed : List Item → ℕ
+items_pushed [] = 0
+items_pushed (item ∷ items) = item_pushed item + items_pushed items
+
+-- a text behind which a beginning of some bytes was written
+abbrev pub IsBegun : List ℕ → List ℕ → List ℕ → Type 0
+IsBegun old bytes new = (front : List ℕ) × (back : List ℕ) × (front ++ back ≡ bytes) × (new ≡ old ++ front)

@@ -1,0 +1,35 @@
+-- Spelled lengths: seven bits a byte, lowest first, the top bit set on all bytes but the last.
+use Rattle.std.specs.Prelude.{◌≡◌, ℕ, zero, suc, ◌+◌, ◌/◌, ◌%◌, ◌*◌, ◌^◌, ◌<◌, ◌≤◌, nat_lt, if◌then◌else◌, List, [], ◌∷◌, length, take}
+
+-- the spelling of a number, with so many bytes in front of the last at most
+abbrev pub spell_within : ℕ → ℕ → List ℕ
+spell_within zero n = n ∷ []
+spell_within (suc more) n = if nat_lt n 128 then n ∷ [] else (128 + n % 128) ∷ spell_within more (n / 128)
+
+-- the spelling of a length: a number below 2 ^ 64 needs nine bytes in front of the last at most
+unfoldable pub spell : ℕ → List ℕ
+spell n = spell_within 9 n
+
+-- the bytes begin with the spelling of a length
+abbrev pub IsSpelledAt : List ℕ → ℕ → Type 0
+IsSpelledAt bytes n = (n < 2 ^ 64) × (take (length (spell n)) bytes ≡ spell n)
+
+-- the same by cases on the bytes: a byte below 128 is the last, and stands for itself; one from 128 on has the low seven
+-- bits, and the bytes behind it stand for the rest, which isn't 0
+abbrev pub IsSpelling : List ℕ → ℕ → Type 0
+IsSpelling [] n = ⊥
+IsSpelling (b ∷ []) n = (b < 128) × (n ≡ b)
+IsSpelling (b ∷ c ∷ bs) n = (128 ≤ b) × (b < 256) × (high : ℕ) × (0 < high) × (n + 128 ≡ b + 128 * high) × IsSpelling (c ∷ bs) high
+
+-- each byte has the top bit set
+abbrev pub AreHigh : List ℕ → Type 0
+AreHigh [] = Unit {0}
+AreHigh (b ∷ bs) = (128 ≤ b) × AreHigh bs
+
+-- no length is spelled at the front
+abbrev pub HasNoLength : List ℕ → Type 0
+HasNoLength bytes = (n : ℕ) → IsSpelledAt bytes n → ⊥
+
+-- a spelling may have begun, and has not ended
+abbrev pub IsOpen : List ℕ → Type 0
+IsOpen bytes = (length bytes < 10) × AreHigh bytes

@@ -1,0 +1,211 @@
+// The traits to write and read values, with bytes that are pushed and not copied.
+ghost use Rattle.std.specs.Prelude.{◌≡◌, ◌⊎◌, ℕ, ◌+◌, ◌-◌, ◌^◌, ◌<◌, ◌≤◌, List, [], ◌∷◌, ◌++◌, length, Result, SomeIff, OnOk, OnErr, IfOk, IfErr, IsErrAnd};
+ghost use Rattle.iobufs_core.specs.View.{View};
+ghost use Rattle.iobufs_core.specs.MarkedText.{MarkedText};
+ghost use Rattle.iobufs_core.specs.Items.{Item, put_item, push_item, items_bytes, items_inline, items_pushed, IsBegun};
+ghost use Rattle.iobufs_core.specs.View.{view_of_bytes};
+ghost use Rattle.iobufs_core.specs.declared.codec.base.Error.{Error as AnyError};
+
+use super::length::{is_in_range, length_at, put_length, spelled_len};
+use super::{Buf, BufError, BufMut, Error, OwnedBuf, RangeCfg, Refused};
+use crate::buf::IoBuf;
+use bytes::Bytes;
+use std::alloc::Global;
+
+/// Room that also takes whole views, with no copy (the codec's `BufsMut`).
+pub trait BufsMut: BufMut {
+    // All bytes, in order.
+    ghost joined: { Self → List ℕ };
+
+    // How many bytes pushes may still add.
+    ghost pushable: { Self → ℕ };
+
+    // From one value to another by these puts and pushes.
+    ghost done: { Self → List Item → Self → Type 0 };
+
+    /// Takes a view. `BufError::TooLong` exactly where it is longer than pushes may still add.
+    fn push(&mut self, view: IoBuf) -> Result<(), Refused<IoBuf>>
+        ensures ok { OnOk result (done self.old (push_item view ∷ []) self.new) }
+        ensures err { OnErr result (self.new ≡ self.old) }
+        ensures back { IfErr result (λ refused. refused.value ≡ view) }
+        ensures too_long { pushable self.old < length view.bytes → IsErrAnd result (λ refused. refused.cause ≡ BufError.TooLong) }
+        ensures memory { length view.bytes ≤ pushable self.old → IfErr result (λ refused. refused.cause ≡ BufError.Memory) };
+
+    /// The same with a `Bytes`.
+    fn push_bytes(&mut self, bytes: Bytes) -> Result<(), Refused<Bytes>>
+        ensures ok { OnOk result (done self.old (push_item (view_of_bytes bytes) ∷ []) self.new) }
+        ensures err { OnErr result (self.new ≡ self.old) }
+        ensures back { IfErr result (λ refused. refused.value ≡ bytes) }
+        ensures too_long { pushable self.old < length bytes → IsErrAnd result (λ refused. refused.cause ≡ BufError.TooLong) }
+        ensures memory { length bytes ≤ pushable self.old → IfErr result (λ refused. refused.cause ≡ BufError.Memory) };
+
+    ghost puts: { (a b : Self) (w : List ℕ) → Self.filled a w b → done a (put_item w ∷ []) b };
+
+    ghost follows: { (a b c : Self) (us vs : List Item) → done a us b → done b vs c → done a (us ++ vs) c };
+
+    ghost adds: { (a b : Self) (items : List Item) → done a items b → joined b ≡ joined a ++ items_bytes items };
+
+    ghost uses: { (a b : Self) (items : List Item) → done a items b → Self.room b ≡ Self.room a - items_inline items };
+
+    ghost spends: { (a b : Self) (items : List Item) → done a items b → pushable b ≡ pushable a - items_pushed items };
+}
+
+/// A value whose written size is known (the codec's `EncodeSize`).
+pub trait EncodeSize {
+    // The text that is written, and the puts and pushes that write it.
+    ghost written: { Self → List ℕ };
+
+    ghost items: { Self → List Item };
+
+    /// How many bytes are written; none where that passes `usize::MAX`.
+    fn encode_size(&self) -> Option<usize>
+        ensures { SomeIff result (length (written self.now) < 2 ^ 64) (length (written self.now)) };
+
+    /// How many of them are put inline by `write_bufs`.
+    fn encode_inline_size(&self) -> usize
+        requires { length (written self.now) < 2 ^ 64 }
+        ensures { result ≡ items_inline (items self.now) };
+
+    ghost joins_items: { (value : Self) → items_bytes (items value) ≡ written value };
+}
+
+/// A value that can be written (the codec's `Write`).
+pub trait Write: EncodeSize {
+    /// Puts the written text.
+    fn write<B: BufMut>(&self, buf: &mut B)
+        requires { length (Self.written self.now) ≤ B.room buf.old }
+        ensures { B.filled buf.old (Self.written self.now) buf.new };
+
+    /// Puts and pushes the written text. A refusal leaves what was written before it.
+    fn write_bufs<B: BufsMut>(&self, buf: &mut B) -> Result<(), Error>
+        requires { items_inline (Self.items self.now) ≤ B.room buf.old }
+        ensures ok { OnOk result (B.done buf.old (Self.items self.now) buf.new) }
+        ensures err { OnErr result (IsBegun (B.joined buf.old) (Self.written self.now) (B.joined buf.new)) }
+        ensures cause { IfErr result (λ error. (error ≡ Error.Memory) ⊎ ((error ≡ Error.TooLong) × (B.pushable buf.old < items_pushed (Self.items self.now)))) };
+}
+
+/// A value that can be read (the codec's `Read`).
+pub trait Read: Sized {
+    /// What is asked of the value.
+    type Cfg;
+
+    // What reading answers on a text, and what a value that was read leaves of it.
+    ghost is_read: { MarkedText → Self.Cfg → Result Self AnyError → Type 0 };
+
+    ghost left: { MarkedText → Self → MarkedText };
+
+    /// Reads a value from the front. A refusal leaves the reader as it was.
+    fn read_cfg<B: OwnedBuf>(alloc: Global, buf: &mut B, cfg: &Self::Cfg) -> Result<Self, Error>
+        ensures answer { is_read (B.marked buf.old) cfg.now result }
+        ensures rest { IfOk result (λ value. B.marked buf.new ≡ left (B.marked buf.old) value) }
+        ensures err { OnErr result (buf.new ≡ buf.old) };
+}
+
+impl EncodeSize for usize {
+    ghost use Rattle.iobufs_core.specs.Spelling.{spell};
+    ghost use Rattle.iobufs_core.specs.WireLaws.{joins-length};
+
+    ghost written = { spell };
+
+    ghost items = { λ n. put_item (spell n) ∷ [] };
+
+    fn encode_size(&self) -> Option<usize> {
+        Some(spelled_len(*self))
+    }
+
+    fn encode_inline_size(&self) -> usize {
+        spelled_len(*self)
+    }
+
+    ghost joins_items = { joins-length };
+}
+
+impl Write for usize {
+    fn write<B: BufMut>(&self, buf: &mut B) {
+        put_length(buf, *self);
+    }
+
+    fn write_bufs<B: BufsMut>(&self, buf: &mut B) -> Result<(), Error> {
+        put_length(buf, *self);
+        Ok(())
+    }
+}
+
+impl Read for usize {
+    type Cfg = RangeCfg;
+
+    ghost use Rattle.iobufs_core.specs.Wire.{IsLengthRead, length_left};
+
+    ghost is_read = { λ text range answer. IsLengthRead text.bytes range answer };
+
+    ghost left = { length_left };
+
+    fn read_cfg<B: OwnedBuf>(
+        _alloc: Global,
+        buf: &mut B,
+        range: &RangeCfg,
+    ) -> Result<usize, Error> {
+        let found = length_at(buf)?;
+        if !is_in_range(range, found.value) {
+            return Err(Error::InvalidLength(found.value));
+        }
+        buf.advance(found.len);
+        Ok(found.value)
+    }
+}
+
+impl EncodeSize for IoBuf {
+    ghost use Rattle.iobufs_core.specs.Wire.{view_items, view_written};
+    ghost use Rattle.iobufs_core.specs.WireLaws.{joins-view};
+
+    ghost written = { view_written };
+
+    ghost items = { view_items };
+
+    fn encode_size(&self) -> Option<usize> {
+        spelled_len(self.len()).checked_add(self.len())
+    }
+
+    fn encode_inline_size(&self) -> usize {
+        spelled_len(self.len())
+    }
+
+    ghost joins_items = { joins-view };
+}
+
+impl Write for IoBuf {
+    fn write<B: BufMut>(&self, buf: &mut B) {
+        put_length(buf, self.len());
+        buf.put_slice(self.as_ref());
+    }
+
+    fn write_bufs<B: BufsMut>(&self, buf: &mut B) -> Result<(), Error> {
+        put_length(buf, self.len());
+        let view = self.clone()?;
+        match buf.push(view) {
+            Ok(()) => Ok(()),
+            Err(refused) => Err(Error::from(refused.cause)),
+        }
+    }
+}
+
+impl Read for IoBuf {
+    type Cfg = RangeCfg;
+
+    ghost use Rattle.iobufs_core.specs.Wire.{IsViewRead, view_left};
+
+    ghost is_read = { IsViewRead };
+
+    ghost left = { view_left };
+
+    fn read_cfg<B: OwnedBuf>(alloc: Global, buf: &mut B, range: &RangeCfg) -> Result<IoBuf, Error> {
+        let found = length_at(buf)?;
+        if !is_in_range(range, found.value) {
+            return Err(Error::InvalidLength(found.value));
+        }
+        if buf.remaining() - found.len < found.value {
+            return Err(Error::EndOfBuffer);
+        }
+        Ok(buf.take_owned_after(alloc, found.len, found.value)?)
+    }
+}
