@@ -1,0 +1,10 @@
+pub mod Sides
+pub mod PieceLaws
+pub mod JoinLaws
+pub mod TakenLaws
+pub mod PlaceLaws
+pub mod KeptLaws
+pub mod ByteLaws
+pub mod ChunkLaws
+pub mod ShapeLaws
+pub mod Rows

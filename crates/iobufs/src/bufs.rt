@@ -1,0 +1,4 @@
+// Chunked text.
+mod place;
+mod row;
+mod shape;
