@@ -5,7 +5,6 @@ use Rattle.std.proofs.lemmas.Bool.{cases_lt}
 use Rattle.iobufs_core.specs.MarkedText.{MarkedText, text_len, text_split_front, text_rest, is_single, text_advanced}
 use Rattle.iobufs.proofs.PieceLaws.{rest-all, rest-inside, split_front-all, split_front-inside, bytes-text_left, bytes-text_right}
 
-
 pub picked : {A : Type 0} (P : A → Type 0) (b : Bool) (x y : A) → P x → P y → P (cond b x y)
 picked P true x y p q = p
 picked P false x y p q = q
@@ -35,5 +34,3 @@ bytes-split_front at t l =
 
 pub bytes-advanced : (at : ℕ) (t : MarkedText) → at ≤ text_len t → (text_advanced t at).bytes ≡ drop at t.bytes
 bytes-advanced at t l = picked (λ (x : MarkedText). x.bytes ≡ drop at t.bytes) (is_single t && nat_eq at (text_len t)) _ _ (bytes-text_right at t) (bytes-rest at t l)
-
-

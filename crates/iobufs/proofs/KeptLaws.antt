@@ -77,4 +77,3 @@ IsMarked-from_views (v ∷ vs) p h = IsMarked-of_pieces v vs p (at_each (v ∷ v
     at_each [] h k d l = absurd (omega arith)
     at_each (v ∷ vs) h zero d l = h.0
     at_each (v ∷ vs) h (suc k) d l = at_each vs h.1 k d (omega arith)
-

@@ -201,6 +201,7 @@ pub advanced-cut : (n : ℕ) (v w : View) (vs : List View) → text_advanced (of
 advanced-cut n v w vs =
     let e : is_single (of_pieces (v ∷ w ∷ vs)) ≡ false = is_single-of_pieces v (w ∷ vs) ∙ not_zero (length (w ∷ vs)) (omega arith) in
     rw e
+
 pub bytes-text_left : (at : ℕ) (t : MarkedText) → (text_left t at).bytes ≡ take at t.bytes
 unfolding text_left
 bytes-text_left at t = refl
@@ -229,4 +230,3 @@ advanced-fields text mark (e ∷ es) = let z : nat_eq (length (e ∷ es)) 0 ≡ 
 
 pub advanced-none : (t : MarkedText) → text_advanced t 0 ≡ t
 advanced-none t = advanced-fields t.bytes t.mark t.cuts
-

@@ -45,7 +45,6 @@ piece_start-next (suc i) (v ∷ vs) d l =
     let ih = piece_start-next i vs d (omega arith) in
     omega arith
 
-
 pub piece_start-all : (vs : List View) → piece_start vs (length vs) ≡ length (pieces_bytes vs)
 piece_start-all vs = ap (λ (ws : List View). length (pieces_bytes ws)) (take_all (length vs) vs (omega arith))
 

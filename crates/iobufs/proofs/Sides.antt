@@ -6,7 +6,6 @@ use Rattle.iobufs_core.specs.View.{View, Mark, mark_after, native_mark, static_m
 use Rattle.iobufs_core.specs.MarkedText.{MarkedText, of_view, key_upto, mark_past, mark_at, moved_up, moved_down, text_left, text_right, text_glue}
 use Rattle.iobufs.specs.Pieces.{view_len}
 
-
 pub up_up : (m n : ℕ) (es : List (ℕ × Mark)) → map (moved_up m) (map (moved_up n) es) ≡ map (moved_up (m + n)) es
 up_up m n [] = refl
 up_up m n (e ∷ es) = let h = up_up m n es in let k : m + (n + e.0) ≡ m + n + e.0 = omega arith in cc
@@ -177,14 +176,12 @@ mark_at-glue_within at v y l = sym (mark_at-right at (text_glue (of_view v) y)) 
 pub mark_at-glue_past : (at : ℕ) (v : View) (y : MarkedText) → view_len v ≤ at → mark_at (text_glue (of_view v) y) at ≡ mark_at y (at - view_len v)
 mark_at-glue_past at v y l = sym (mark_at-right at (text_glue (of_view v) y)) ∙ ap (λ t. t.mark) (right-glue_past at v y l) ∙ mark_at-right (at - view_len v) y
 
-
 -- the sides by place
 pub same_eq : (m n : ℕ) → m ≡ n → nat_eq m n ≡ true
 same_eq m n e = grind (arith, tests)
 
 pub not_eq : (m n : ℕ) → m < n → nat_eq m n ≡ false
 not_eq m n e = grind (arith, tests)
-
 
 pub same_view : (v w : View) → v.bytes ≡ w.bytes → v.mark ≡ w.mark → v ≡ w
 same_view v w p q = λ i. record { bytes = p i; mark = q i }
@@ -193,4 +190,3 @@ pub mark_after-zero : (m : Mark) → mark_after 0 m ≡ m
 mark_after-zero static_mark = refl
 mark_after-zero bytes_mark = refl
 mark_after-zero (native_mark r) = rw (no_sub r)
-

@@ -81,4 +81,3 @@ unfolding taken_view
 taken_view-across n v vs p l e =
     rw (not_zero n (omega arith))
     (same_view _ _ (ap (take n) (bytes-of_pieces (v ∷ vs))) (rw (cut-of_pieces v vs n p l e)))
-

@@ -236,7 +236,13 @@ impl Shape {
     }
 
     // Takes the first bytes of three pieces, and keeps the others.
-    fn split_three(&mut self, a: IoBuf, mut b: IoBuf, mut c: IoBuf, at: usize) -> Result<Shape, BufError>
+    fn split_three(
+        &mut self,
+        a: IoBuf,
+        mut b: IoBuf,
+        mut c: IoBuf,
+        at: usize,
+    ) -> Result<Shape, BufError>
         requires full { AreFull (a ∷ b ∷ c ∷ []) }
         requires some { 0 < at }
         requires inside { at < length (pieces_bytes (a ∷ b ∷ c ∷ [])) }
@@ -281,7 +287,13 @@ impl Shape {
     }
 
     // The same where the place is in the first piece, or at its end.
-    fn split_first_of_three(&mut self, mut a: IoBuf, b: IoBuf, c: IoBuf, at: usize) -> Result<Shape, BufError>
+    fn split_first_of_three(
+        &mut self,
+        mut a: IoBuf,
+        b: IoBuf,
+        c: IoBuf,
+        at: usize,
+    ) -> Result<Shape, BufError>
         requires full { AreFull (a ∷ b ∷ c ∷ []) }
         requires some { 0 < at }
         requires inside { at ≤ length a.bytes }
