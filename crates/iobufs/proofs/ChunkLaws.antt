@@ -1,9 +1,9 @@
 -- The chunks that a reader sees.
-use Rattle.std.proofs.Common.{◌≡◌, ℕ, ◌+◌, ◌-◌, List, [], ◌∷◌, ◌++◌, take, drop, map, refl, sym, ap, ◌∙◌, arith}
+use Rattle.std.proofs.Common.{◌≡◌, ◌<◌, length, true, zero, suc, ℕ, ◌+◌, ◌-◌, List, [], ◌∷◌, ◌++◌, take, drop, map, refl, sym, ap, ◌∙◌, arith}
 use Rattle.std.proofs.Math.Seq.{take-append_seam}
 use Rattle.iobufs_core.specs.View.{View, Mark}
-use Rattle.iobufs_core.specs.Chunks.{full_chunks}
-use Rattle.iobufs_core.specs.MarkedText.{moved_up, text_glue, cut_up, text_chunks}
+use Rattle.iobufs_core.specs.Chunks.{full_chunks, is_full}
+use Rattle.iobufs_core.specs.MarkedText.{MarkedText, text_len, moved_up, text_glue, cut_up, text_chunks}
 use Rattle.iobufs.specs.Pieces.{view_len, of_pieces, AreFull}
 use Rattle.iobufs.proofs.Sides.{no_sub, drop_past, is_lt, not_lt}
 
@@ -27,14 +27,32 @@ cut_up-of_pieces v (w ∷ vs) =
 
 full_chunks-full : (vs : List View) → AreFull vs → full_chunks (map (λ (v : View). v.bytes) vs) ≡ map (λ (v : View). v.bytes) vs
 full_chunks-full [] f = refl
-full_chunks-full (v ∷ vs) f = rw (is_lt 0 (view_len v) f.0) (ap (λ rest. v.bytes ∷ rest) (full_chunks-full vs f.1))
+full_chunks-full (v ∷ vs) f = rw (full_is v.bytes f.0) (ap (λ rest. v.bytes ∷ rest) (full_chunks-full vs f.1))
+  where
+    full_is : (bytes : List ℕ) → 0 < length bytes → is_full bytes ≡ true
+    full_is [] l = absurd (omega arith)
+    full_is (byte ∷ bytes) l = refl
 
 -- the chunks of pieces that hold bytes are the pieces' bytes
 pub chunks-of_pieces : (v : View) (vs : List View) → AreFull (v ∷ vs) → text_chunks (of_pieces (v ∷ vs)) ≡ map (λ (w : View). w.bytes) (v ∷ vs)
 unfolding text_chunks
 chunks-of_pieces v vs f = ap full_chunks (cut_up-of_pieces v vs) ∙ full_chunks-full (v ∷ vs) f
 
--- one piece without bytes shows no chunk
-pub chunks-of_empty : (v : View) → view_len v ≡ 0 → text_chunks (of_pieces (v ∷ [])) ≡ []
+take_none : (n : ℕ) → take {A = ℕ} n [] ≡ []
+take_none zero = refl
+take_none (suc n) = refl
+
+drop_none : (n : ℕ) → drop {A = ℕ} n [] ≡ []
+drop_none zero = refl
+drop_none (suc n) = refl
+
+-- an empty text shows no chunk
+pub chunks-of_empty : (t : MarkedText) → text_len t ≡ 0 → text_chunks t ≡ []
 unfolding text_chunks
-chunks-of_empty v e = ap full_chunks (cut_up-of_pieces v []) ∙ rw (not_lt 0 (view_len v) (omega arith))
+chunks-of_empty t e = none t.bytes 0 t.cuts e
+  where
+    none : (bytes : List ℕ) (key : ℕ) (cuts : List (ℕ × Mark)) → length bytes ≡ 0 → full_chunks (cut_up bytes key cuts) ≡ []
+    none [] key [] e = refl
+    none (byte ∷ bytes) key [] e = absurd (omega arith)
+    none [] key (cut ∷ cuts) e = rw (take_none (cut.0 - key), drop_none (cut.0 - key)) (none [] cut.0 cuts e)
+    none (byte ∷ bytes) key (cut ∷ cuts) e = absurd (omega arith)

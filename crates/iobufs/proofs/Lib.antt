@@ -7,4 +7,5 @@ pub mod KeptLaws
 pub mod ByteLaws
 pub mod ChunkLaws
 pub mod ShapeLaws
+pub mod CopyLaws
 pub mod Rows

@@ -1,4 +1,5 @@
 // Chunked text.
 mod place;
+mod reading;
 mod row;
 mod shape;

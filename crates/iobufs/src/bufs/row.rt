@@ -6,7 +6,7 @@ ghost use Rattle.iobufs_core.specs.View.{view_front, view_advanced};
 
 use super::place::Place;
 use iobufs_core::buf::IoBuf;
-use iobufs_core::codec::BufError;
+use iobufs_core::codec::{Buf, BufError};
 use std::alloc::Global;
 use std::collections::VecDeque;
 use std::ops::Bound;

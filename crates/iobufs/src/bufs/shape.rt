@@ -6,8 +6,8 @@ ghost use Rattle.iobufs.specs.Shapes.{pieces, IsShape};
 
 use super::row::{cut_row, drop_row_front, split_inside};
 use iobufs_core::buf::IoBuf;
-use iobufs_core::codec::BufError;
-use std::alloc::{AllocFailed, Global};
+use iobufs_core::codec::{Buf, BufError};
+use std::alloc::{AllocError, AllocFailed, Global};
 use std::collections::VecDeque;
 use std::mem;
 
@@ -354,6 +354,19 @@ impl Shape {
                 drop_row_front(&mut row, n);
                 self.put(Shape::of_row(row));
             }
+        }
+    }
+}
+
+impl Clone for Shape {
+    ghost is_clone = { λ a b. IsShape a → (pieces b ≡ pieces a) × IsShape b };
+
+    fn clone(&self) -> Result<Shape, AllocError> {
+        match self {
+            Shape::One(a) => Ok(Shape::One(a.clone()?)),
+            Shape::Two(a, b) => Ok(Shape::Two(a.clone()?, b.clone()?)),
+            Shape::Three(a, b, c) => Ok(Shape::Three(a.clone()?, b.clone()?, c.clone()?)),
+            Shape::Many(row) => Ok(Shape::Many(row.clone()?)),
         }
     }
 }
