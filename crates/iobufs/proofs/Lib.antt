@@ -8,4 +8,5 @@ pub mod ByteLaws
 pub mod ChunkLaws
 pub mod ShapeLaws
 pub mod CopyLaws
+pub mod TextLaws
 pub mod Rows

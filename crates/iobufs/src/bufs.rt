@@ -3,3 +3,6 @@ mod place;
 mod reading;
 mod row;
 mod shape;
+mod text;
+
+pub use text::IoBufs;

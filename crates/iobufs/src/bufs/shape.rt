@@ -1,6 +1,6 @@
 // One, two, three or many pieces.
 ghost use Rattle.std.specs.Option.{option_copied};
-ghost use Rattle.std.specs.Prelude.{◌≡◌, ◌<◌, ◌≤◌, ◌++◌, [], ◌∷◌, OnOk, OnErr, IfOk, IfErr, IsOkUnless, length, slice_get};
+ghost use Rattle.std.specs.Prelude.{◌≡◌, ◌<◌, ◌≤◌, ◌++◌, [], ◌∷◌, OnOk, OnErr, IfOk, IfErr, IsOkUnless, MatchResult, length, slice_get};
 ghost use Rattle.iobufs.specs.Pieces.{AreFull, left_pieces, right_pieces, piece_at, pieces_bytes};
 ghost use Rattle.iobufs.specs.Shapes.{pieces, IsShape};
 
@@ -74,6 +74,17 @@ impl Shape {
         ensures { result.now ≡ piece_at (pieces self.now) i }
     {
         self.get(i).unwrap()
+    }
+
+    /// The only piece; the shape itself where there are more.
+    pub fn into_single(self) -> Result<IoBuf, Shape>
+        requires { IsShape self }
+        ensures { MatchResult result (λ piece. pieces self ≡ piece ∷ []) (λ shape. (shape ≡ self) × (1 < length (pieces self))) }
+    {
+        match self {
+            Shape::One(piece) => Ok(piece),
+            shape => Err(shape),
+        }
     }
 
     pub fn push_back(&mut self, alloc: Global, piece: IoBuf) -> Result<(), AllocFailed<IoBuf>>
