@@ -4,9 +4,9 @@ pub mod JoinLaws
 pub mod TakenLaws
 pub mod PlaceLaws
 pub mod KeptLaws
-pub mod ByteLaws
 pub mod ChunkLaws
 pub mod ShapeLaws
 pub mod CopyLaws
 pub mod TextLaws
+pub mod ReadLaws
 pub mod Rows

@@ -1,5 +1,6 @@
 // Chunked text.
 mod place;
+mod reader;
 mod reading;
 mod row;
 mod shape;

@@ -1,6 +1,7 @@
 // One, two, three or many pieces.
 ghost use Rattle.std.specs.Option.{option_copied};
 ghost use Rattle.std.specs.Prelude.{◌≡◌, ◌<◌, ◌≤◌, ◌++◌, [], ◌∷◌, OnOk, OnErr, IfOk, IfErr, IsOkUnless, MatchResult, length, slice_get};
+ghost use Rattle.iobufs_core.specs.View.{view_advanced};
 ghost use Rattle.iobufs.specs.Pieces.{AreFull, left_pieces, right_pieces, piece_at, pieces_bytes};
 ghost use Rattle.iobufs.specs.Shapes.{pieces, IsShape};
 
@@ -84,6 +85,20 @@ impl Shape {
         match self {
             Shape::One(piece) => Ok(piece),
             shape => Err(shape),
+        }
+    }
+
+    /// Drops bytes of the only piece, which keeps its mark even where all go.
+    pub fn drop_single(&mut self, n: usize)
+        requires shaped { IsShape self.old }
+        requires single { length (pieces self.old) ≡ 1 }
+        requires inside { n ≤ length (piece_at (pieces self.old) 0).bytes }
+        ensures left { pieces self.new ≡ view_advanced (piece_at (pieces self.old) 0) n ∷ [] }
+        ensures shaped { IsShape self.new }
+    {
+        match self {
+            Shape::One(piece) => piece.advance(n),
+            _ => unreachable!(),
         }
     }
 

@@ -15,8 +15,8 @@ use std::mem;
 /// A read-only text in pieces (the original's `IoBufs`). Two or more pieces are never empty.
 #[derive(Drop)]
 pub struct IoBufs {
-    shape: Shape,
-    len: usize,
+    pub(super) shape: Shape,
+    pub(super) len: usize,
 }
 
 impl Model for IoBufs {
@@ -69,7 +69,7 @@ impl From<&'static [u8]> for IoBufs {
 
 impl IoBufs {
     // The old text goes here, and not in each place that puts a new one.
-    fn put(&mut self, text: IoBufs)
+    pub(super) fn put(&mut self, text: IoBufs)
         ensures { self.new ≡ text }
     {
         *self = text;

@@ -14,3 +14,6 @@ pub returns-in-None : goal.returns-in-None
 returns-in-None c =
     let n = len-kept _ _ c.self.view_is c.self.invariant in
     chunk-at _ _ c.args.i None c.self.view_is (some_pieces _ c.self.invariant.shaped) (full-kept c.self.inside c.self.invariant (omega arith)) c.in-None.ensures
+
+pub returns-then-len-eq0 : goal.returns-then-len-eq0
+returns-then-len-eq0 c = chunk-none _ _ (omega arith)
