@@ -1,0 +1,12 @@
+pub mod Sides
+pub mod PieceLaws
+pub mod JoinLaws
+pub mod TakenLaws
+pub mod PlaceLaws
+pub mod KeptLaws
+pub mod ChunkLaws
+pub mod ShapeLaws
+pub mod CopyLaws
+pub mod TextLaws
+pub mod ReadLaws
+pub mod Rows

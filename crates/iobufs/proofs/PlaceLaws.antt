@@ -1,0 +1,115 @@
+-- The piece that holds a place.
+use Rattle.std.proofs.Common.{take_all, ◌≡◌, ℕ, ◌+◌, ◌-◌, ◌<◌, ◌≤◌, List, [], ◌∷◌, ◌++◌, length, take, drop, refl, sym, ap, ◌∙◌, arith, append-nil, length-append, suc, zero, get_or}
+use Rattle.std.proofs.Common.{drop-cons, Option, Some, option_to_list}
+use Rattle.iobufs_core.specs.View.{View, default_view, view_front, view_advanced}
+use Rattle.iobufs.specs.Pieces.{view_len, pieces_bytes, piece_start, piece_at, IsPlace, AreFull, left_pieces, right_pieces}
+use Rattle.iobufs.proofs.Sides.{no_sub}
+use Rattle.iobufs.proofs.PieceLaws.{right_pieces-none, right_pieces-within, right_pieces-past, left_pieces-none, left_pieces-within, left_pieces-past, left_pieces-first, front-all, order3}
+
+-- By the index of the piece that holds a place. `piece_start i vs` is the number of bytes before the i-th piece.
+pub right_pieces-at : (i at : ℕ) (vs : List View) (d : View) → i < length vs → piece_start vs i ≤ at → at < piece_start vs i + view_len (get_or vs i d) → right_pieces vs at ≡ view_advanced (get_or vs i d) (at - piece_start vs i) ∷ drop (suc i) vs
+right_pieces-at i at [] d l p q = absurd (omega arith)
+right_pieces-at zero at (v ∷ vs) d l p q = rw (right_pieces-within at v vs (omega arith), no_sub at)
+right_pieces-at (suc i) at (v ∷ vs) d l p q =
+    let n : piece_start (v ∷ vs) (suc i) ≡ view_len v + piece_start vs i = length-append v.bytes (pieces_bytes (take i vs)) in
+    let k : at - piece_start (v ∷ vs) (suc i) ≡ at - view_len v - piece_start vs i = omega arith in
+    rw (right_pieces-past at v vs (omega arith), k) (right_pieces-at i (at - view_len v) vs d (omega arith) (omega arith) (omega arith))
+
+pub left_pieces-at : (i at : ℕ) (vs : List View) (d : View) → i < length vs → piece_start vs i < at → at ≤ piece_start vs i + view_len (get_or vs i d) → left_pieces vs at ≡ take i vs ++ view_front (get_or vs i d) (at - piece_start vs i) ∷ []
+left_pieces-at i at [] d l p q = absurd (omega arith)
+left_pieces-at zero at (v ∷ vs) d l p q =
+    order3 at (view_len v)
+    (λ h. rw (left_pieces-within at v vs (omega arith) h, no_sub at))
+    (λ h. rw (left_pieces-first at v vs (omega arith) h, no_sub at) (ap (λ x. x ∷ []) (sym (front-all at v (omega arith)))))
+    (λ h. absurd (omega arith))
+left_pieces-at (suc i) at (v ∷ vs) d l p q =
+    let n : piece_start (v ∷ vs) (suc i) ≡ view_len v + piece_start vs i = length-append v.bytes (pieces_bytes (take i vs)) in
+    let k : at - piece_start (v ∷ vs) (suc i) ≡ at - view_len v - piece_start vs i = omega arith in
+    rw (left_pieces-past at v vs (omega arith) (omega arith), k) (ap (λ ws. v ∷ ws) (left_pieces-at i (at - view_len v) vs d (omega arith) (omega arith) (omega arith)))
+
+-- a place between two pieces
+pub left_pieces-seam : (i : ℕ) (vs : List View) → AreFull vs → left_pieces vs (piece_start vs i) ≡ take i vs
+left_pieces-seam zero vs f = left_pieces-none vs
+left_pieces-seam (suc i) [] f = refl
+left_pieces-seam (suc i) (v ∷ vs) f =
+    let n : piece_start (v ∷ vs) (suc i) ≡ view_len v + piece_start vs i = length-append v.bytes (pieces_bytes (take i vs)) in
+    let k : piece_start (v ∷ vs) (suc i) - view_len v ≡ piece_start vs i = omega arith in
+    left_pieces-past (piece_start (v ∷ vs) (suc i)) v vs (omega (arith, f.0)) (omega arith) ∙ ap (λ m. v ∷ left_pieces vs m) k ∙ ap (λ ws. v ∷ ws) (left_pieces-seam i vs f.1)
+
+pub piece_start-next : (i : ℕ) (vs : List View) (d : View) → i < length vs → piece_start vs (suc i) ≡ piece_start vs i + view_len (get_or vs i d)
+piece_start-next i [] d l = absurd (omega arith)
+piece_start-next zero (v ∷ vs) d l = let k : length (v.bytes ++ []) ≡ view_len v = ap length (append-nil v.bytes) in omega arith
+piece_start-next (suc i) (v ∷ vs) d l =
+    let n : piece_start (v ∷ vs) (suc (suc i)) ≡ view_len v + piece_start vs (suc i) = length-append v.bytes (pieces_bytes (take (suc i) vs)) in
+    let m : piece_start (v ∷ vs) (suc i) ≡ view_len v + piece_start vs i = length-append v.bytes (pieces_bytes (take i vs)) in
+    let ih = piece_start-next i vs d (omega arith) in
+    omega arith
+
+pub piece_start-all : (vs : List View) → piece_start vs (length vs) ≡ length (pieces_bytes vs)
+piece_start-all vs = ap (λ (ws : List View). length (pieces_bytes ws)) (take_all (length vs) vs (omega arith))
+
+pub piece_start-none : (vs : List View) → piece_start vs 0 ≡ 0
+piece_start-none vs = refl
+
+pub right_pieces-seam : (i : ℕ) (vs : List View) → AreFull vs → right_pieces vs (piece_start vs i) ≡ drop i vs
+right_pieces-seam zero vs f = right_pieces-none vs f
+right_pieces-seam (suc i) [] f = refl
+right_pieces-seam (suc i) (v ∷ vs) f =
+    let n : piece_start (v ∷ vs) (suc i) ≡ view_len v + piece_start vs i = length-append v.bytes (pieces_bytes (take i vs)) in
+    let k : piece_start (v ∷ vs) (suc i) - view_len v ≡ piece_start vs i = omega arith in
+    right_pieces-past (piece_start (v ∷ vs) (suc i)) v vs (omega arith) ∙ ap (λ m. right_pieces vs m) k ∙ right_pieces-seam i vs f.1
+
+-- the piece of a place is one of the pieces
+pub index-of_place : (vs : List View) (at i o : ℕ) → IsPlace vs at i o → i < length vs
+index-of_place vs at i o h = within vs i h.inside
+  where
+    within : (vs : List View) (i : ℕ) → o < view_len (piece_at vs i) → i < length vs
+    within [] i l = absurd (omega arith)
+    within (v ∷ vs) zero l = omega arith
+    within (v ∷ vs) (suc i) l = let ih = within vs i l in omega arith
+
+pub left-at_place : (vs : List View) (at i o : ℕ) → IsPlace vs at i o → 0 < o → left_pieces vs at ≡ take i vs ++ view_front (piece_at vs i) o ∷ []
+left-at_place vs at i o h p =
+    let n = index-of_place vs at i o h in
+    let s = h.sum in
+    let l = h.inside in
+    let d : at - piece_start vs i ≡ o = omega arith in
+    left_pieces-at i at vs default_view n (omega arith) (omega arith) ∙ ap (λ m. take i vs ++ view_front (piece_at vs i) m ∷ []) d
+
+pub right-at_place : (vs : List View) (at i o : ℕ) → IsPlace vs at i o → right_pieces vs at ≡ view_advanced (piece_at vs i) o ∷ drop (suc i) vs
+right-at_place vs at i o h =
+    let n = index-of_place vs at i o h in
+    let s = h.sum in
+    let l = h.inside in
+    let d : at - piece_start vs i ≡ o = omega arith in
+    right_pieces-at i at vs default_view n (omega arith) (omega arith) ∙ ap (λ m. view_advanced (piece_at vs i) m ∷ drop (suc i) vs) d
+
+-- a place between two pieces
+pub left-at_edge : (vs : List View) (at i o : ℕ) → AreFull vs → IsPlace vs at i o → o ≡ 0 → left_pieces vs at ≡ take i vs
+left-at_edge vs at i o f h z =
+    let s = h.sum in
+    let e : at ≡ piece_start vs i = omega arith in
+    ap (λ m. left_pieces vs m) e ∙ left_pieces-seam i vs f
+
+pub right-at_edge : (vs : List View) (at i o : ℕ) → AreFull vs → IsPlace vs at i o → o ≡ 0 → right_pieces vs at ≡ drop i vs
+right-at_edge vs at i o f h z =
+    let s = h.sum in
+    let e : at ≡ piece_start vs i = omega arith in
+    ap (λ m. right_pieces vs m) e ∙ right_pieces-seam i vs f
+
+-- a row cut at a place: what has moved to the front, and what is left
+pub front-at_edge : (vs none front : List View) (at i o : ℕ) → AreFull vs → IsPlace vs at i o → o ≡ 0 → none ≡ [] → front ≡ none ++ take i vs → front ≡ left_pieces vs at
+front-at_edge vs none front at i o f h z e m = m ∙ ap (λ xs. xs ++ take i vs) e ∙ sym (left-at_edge vs at i o f h z)
+
+pub front-at_place : (vs none moved front : List View) (inside : View) (at i o : ℕ) → IsPlace vs at i o → 0 < o → inside ≡ view_front (piece_at vs i) o → none ≡ [] → moved ≡ none ++ take i vs → front ≡ moved ++ inside ∷ [] → front ≡ left_pieces vs at
+front-at_place vs none moved front inside at i o h p v e m f =
+    let all : moved ≡ take i vs = m ∙ ap (λ xs. xs ++ take i vs) e in
+    f ∙ (λ k. all k ++ v k ∷ []) ∙ sym (left-at_place vs at i o h p)
+
+pub row-at_place : (vs row rest left : List View) (popped : Option View) (head behind : View) (at i o : ℕ) → IsPlace vs at i o → row ≡ drop i vs → row ≡ option_to_list popped ++ rest → popped ≡ Some head → behind ≡ view_advanced head o → left ≡ behind ∷ rest → left ≡ right_pieces vs at
+row-at_place vs row rest left popped head behind at i o h d e p b l =
+    let n = index-of_place vs at i o h in
+    let f : head ∷ rest ≡ piece_at vs i ∷ drop (suc i) vs = sym (e ∙ ap (λ r. option_to_list r ++ rest) p) ∙ d ∙ drop-cons vs i default_view n in
+    let first : head ≡ piece_at vs i = cc in
+    let others : rest ≡ drop (suc i) vs = cc in
+    l ∙ (λ k. (b ∙ ap (λ v. view_advanced v o) first) k ∷ others k) ∙ sym (right-at_place vs at i o h)

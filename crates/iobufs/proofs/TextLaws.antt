@@ -1,0 +1,211 @@
+-- What a text in several pieces keeps, and what its marked text is.
+use Rattle.std.proofs.Common.{◌≡◌, refl, ℕ, ◌+◌, ◌-◌, ◌<◌, ◌≤◌, true, false, List, [], ◌∷◌, ◌++◌, length, map, take, drop, zero, suc, sym, ap, ◌∙◌, arith, tests, append-nil, length-append, subst, nat_eq}
+use Rattle.std.specs.List.{slice_get}
+use Rattle.std.specs.Option.{option_map}
+use Rattle.std.proofs.Common.{Option, None}
+use Rattle.std.proofs.lemmas.List.Concat.{flat_map-append}
+use Rattle.iobufs_core.specs.View.{View, IsView, view_advanced}
+use Rattle.iobufs_core.specs.MarkedText.{MarkedText, of_view, text_len, is_single, chunk_count, default_text, text_append, text_prepend, text_rest, text_split_front, text_advanced, text_chunks, IsMarked}
+use Rattle.iobufs.specs.Pieces.{view_len, pieces_bytes, of_pieces, AreFull, IsPieces, AreViews, left_pieces, right_pieces}
+use Rattle.iobufs.specs.Shapes.{pieces, IsShape}
+use Rattle.iobufs.specs.Kept.{text_of, IsKept}
+use Rattle.iobufs.specs.declared.bufs.shape.Shape.{Shape}
+use Rattle.iobufs.specs.declared.bufs.shape.Shape.TheVariants.{One, Two, Three, Many}
+use Rattle.iobufs.specs.declared.bufs.text.IoBufs.TheInside.{Inside}
+use Rattle.iobufs.proofs.Sides.{not_zero, same_eq}
+use Rattle.iobufs.proofs.PieceLaws.{bytes-of_pieces, len-of_pieces, of_pieces-one, cuts-of_pieces, is_single-of_pieces, AreFull-from_pieces, rest-of_pieces, split_front-of_pieces, length-left, length-right, advanced-of_view, advanced-cut, rest-all}
+use Rattle.iobufs.proofs.JoinLaws.{append-push, prepend-cons}
+use Rattle.iobufs.proofs.KeptLaws.{AreViews-right, AreViews-left, AreViews-append, IsMarked-from_views}
+use Rattle.iobufs.proofs.ChunkLaws.{chunks-of_pieces, chunks-of_empty}
+
+pub IsPieces-from_shape : (s : Shape) → IsShape s → IsPieces (pieces s)
+IsPieces-from_shape (One a) h = tt
+IsPieces-from_shape (Two a b) h = h
+IsPieces-from_shape (Three a b c) h = h
+IsPieces-from_shape (Many q) h = many q.items h.0 h.1
+  where
+    many : (vs : List View) → 3 < length vs → AreFull vs → IsPieces vs
+    many [] l f = absurd (omega arith)
+    many (v ∷ []) l f = absurd (omega arith)
+    many (v ∷ w ∷ vs) l f = f
+
+pub some_pieces : (s : Shape) → IsShape s → 0 < length (pieces s)
+some_pieces (One a) h = omega arith
+some_pieces (Two a b) h = omega arith
+some_pieces (Three a b c) h = omega arith
+some_pieces (Many q) h = omega (arith, h.0)
+
+pub len-kept : (s : Inside) (t : MarkedText) → text_of s ≡ t → IsKept s → s.len ≡ text_len t
+len-kept s t e k = k.counted ∙ sym (len-of_pieces (pieces s.shape)) ∙ ap text_len e
+
+pub bytes-kept : (s : Inside) (t : MarkedText) → text_of s ≡ t → pieces_bytes (pieces s.shape) ≡ t.bytes
+bytes-kept s t e = sym (bytes-of_pieces (pieces s.shape)) ∙ ap (λ (x : MarkedText). x.bytes) e
+
+-- the pieces of a kept text that has bytes
+pub full-kept : (s : Inside) → IsKept s → 0 < s.len → AreFull (pieces s.shape)
+full-kept s k p = let n = k.counted in AreFull-from_pieces (pieces s.shape) (IsPieces-from_shape s.shape k.shaped) (omega arith)
+
+pub IsMarked-kept : (s : Inside) (t : MarkedText) → text_of s ≡ t → IsKept s → IsMarked t
+IsMarked-kept s t e k = subst IsMarked e (IsMarked-from_views (pieces s.shape) (IsPieces-from_shape s.shape k.shaped) k.roomy)
+
+-- one piece, or several
+not_one : (n : ℕ) → 1 < n → nat_eq n 1 ≡ false
+not_one n l = grind (arith, tests)
+
+pub single-of : (vs : List View) (t : MarkedText) → of_pieces vs ≡ t → 0 < length vs → is_single t ≡ nat_eq (length vs) 1
+single-of [] t e l = absurd (omega arith)
+single-of (v ∷ []) t e l = sym (ap is_single e) ∙ is_single-of_pieces v []
+single-of (v ∷ w ∷ vs) t e l = sym (ap is_single e) ∙ is_single-of_pieces v (w ∷ vs) ∙ not_zero (length (w ∷ vs)) (omega arith) ∙ sym (not_one (length (v ∷ w ∷ vs)) (omega arith))
+
+pub single-kept : (s : Inside) (t : MarkedText) → text_of s ≡ t → IsKept s → is_single t ≡ nat_eq (length (pieces s.shape)) 1
+single-kept s t e k = single-of (pieces s.shape) t e (some_pieces s.shape k.shaped)
+
+pub single-more : (vs : List View) (t : MarkedText) → of_pieces vs ≡ t → 1 < length vs → is_single t ≡ false
+single-more [] t e l = absurd (omega arith)
+single-more (v ∷ []) t e l = absurd (omega arith)
+single-more (v ∷ w ∷ vs) t e l = sym (ap is_single e) ∙ is_single-of_pieces v (w ∷ vs) ∙ not_zero (length (w ∷ vs)) (omega arith)
+
+pub count-pieces : (vs : List View) (t : MarkedText) → of_pieces vs ≡ t → 0 < length (pieces_bytes vs) → length vs ≡ chunk_count t
+count-pieces [] t e l = absurd (omega arith)
+count-pieces (v ∷ vs) t e l =
+    let s : 0 < text_len t = rw (sym (ap text_len e) ∙ len-of_pieces (v ∷ vs)) l in
+    let n : length t.cuts ≡ length vs = ap (λ (x : MarkedText). length x.cuts) (sym e) ∙ cuts-of_pieces v vs in
+    rw (not_zero (text_len t) s) (omega arith)
+
+pub count-none : (t : MarkedText) → text_len t ≡ 0 → 0 ≡ chunk_count t
+count-none t e = rw (same_eq (text_len t) 0 e)
+
+pub chunks-kept : (vs : List View) (t : MarkedText) → of_pieces vs ≡ t → 0 < length vs → AreFull vs → text_chunks t ≡ map (λ (v : View). v.bytes) vs
+chunks-kept [] t e l f = absurd (omega arith)
+chunks-kept (v ∷ vs) t e l f = sym (ap text_chunks e) ∙ chunks-of_pieces v vs f
+
+-- behind and in front
+pub append-pieces : (vs : List View) (w : View) (t : MarkedText) → of_pieces vs ≡ t → 0 < text_len t → 0 < view_len w → of_pieces (vs ++ w ∷ []) ≡ text_append t w
+append-pieces [] w t e p q = let s = len-of_pieces [] in let z : text_len (of_pieces []) ≡ text_len t = ap text_len e in absurd (omega arith)
+append-pieces (v ∷ vs) w t e p q =
+    let s = len-of_pieces (v ∷ vs) in
+    let z : text_len (of_pieces (v ∷ vs)) ≡ text_len t = ap text_len e in
+    sym (append-push v vs w (omega arith) q) ∙ ap (λ (x : MarkedText). text_append x w) e
+
+pub prepend-pieces : (vs : List View) (w : View) (t : MarkedText) → of_pieces vs ≡ t → 0 < text_len t → 0 < view_len w → of_pieces (w ∷ vs) ≡ text_prepend t w
+prepend-pieces [] w t e p q = let s = len-of_pieces [] in let z : text_len (of_pieces []) ≡ text_len t = ap text_len e in absurd (omega arith)
+prepend-pieces (v ∷ vs) w t e p q =
+    let s = len-of_pieces (v ∷ vs) in
+    let z : text_len (of_pieces (v ∷ vs)) ≡ text_len t = ap text_len e in
+    sym (prepend-cons w v vs (omega arith) q) ∙ ap (λ (x : MarkedText). text_prepend x w) e
+
+pub length-push : (vs ws : List View) (w : View) → ws ≡ vs ++ w ∷ [] → length (pieces_bytes ws) ≡ length (pieces_bytes vs) + view_len w
+length-push vs ws w is =
+    let a : pieces_bytes (vs ++ w ∷ []) ≡ pieces_bytes vs ++ (w.bytes ++ []) = flat_map-append (λ (v : View). v.bytes) vs (w ∷ []) in
+    ap (λ (x : List View). length (pieces_bytes x)) is ∙ ap length a ∙ length-append (pieces_bytes vs) (w.bytes ++ []) ∙ ap (λ (x : List ℕ). length (pieces_bytes vs) + length x) (append-nil w.bytes)
+
+pub length-cons : (vs ws : List View) (w : View) → ws ≡ w ∷ vs → length (pieces_bytes ws) ≡ view_len w + length (pieces_bytes vs)
+length-cons vs ws w is = ap (λ (x : List View). length (pieces_bytes x)) is ∙ length-append w.bytes (pieces_bytes vs)
+
+pub views-push : (vs ws : List View) (w : View) → ws ≡ vs ++ w ∷ [] → AreViews vs → IsView w → AreViews ws
+views-push vs ws w is h v = subst AreViews (sym is) (AreViews-append vs (w ∷ []) h (v, tt))
+
+pub views-cons : (vs ws : List View) (w : View) → ws ≡ w ∷ vs → AreViews vs → IsView w → AreViews ws
+views-cons vs ws w is h v = subst AreViews (sym is) (v, h)
+
+-- the two sides of a place inside, as a split leaves them
+pub front-kept : (vs ws : List View) (t : MarkedText) (at : ℕ) → of_pieces vs ≡ t → 0 < at → at < length (pieces_bytes vs) → ws ≡ left_pieces vs at → of_pieces ws ≡ text_split_front t at
+front-kept vs ws t at e p l is = ap of_pieces is ∙ sym (split_front-of_pieces at vs p l) ∙ ap (λ (x : MarkedText). text_split_front x at) e
+
+pub rest-kept : (vs ws : List View) (t : MarkedText) (at : ℕ) → of_pieces vs ≡ t → 0 < at → at < length (pieces_bytes vs) → ws ≡ right_pieces vs at → of_pieces ws ≡ text_rest t at
+rest-kept vs ws t at e p l is = ap of_pieces is ∙ sym (rest-of_pieces at vs p l) ∙ ap (λ (x : MarkedText). text_rest x at) e
+
+pub length-front : (vs ws : List View) (at : ℕ) → 0 < at → at ≤ length (pieces_bytes vs) → ws ≡ left_pieces vs at → at ≡ length (pieces_bytes ws)
+length-front vs ws at p l is = sym (length-left at vs p l) ∙ ap (λ (x : List View). length (pieces_bytes x)) (sym is)
+
+pub length-rest : (vs ws : List View) (at n : ℕ) → n ≡ length (pieces_bytes vs) → at < length (pieces_bytes vs) → ws ≡ right_pieces vs at → n - at ≡ length (pieces_bytes ws)
+length-rest vs ws at n e l is = ap (λ m. m - at) e ∙ sym (length-right at vs l) ∙ ap (λ (x : List View). length (pieces_bytes x)) (sym is)
+
+pub views-right : (vs ws : List View) (at : ℕ) → ws ≡ right_pieces vs at → AreViews vs → AreViews ws
+views-right vs ws at is h = subst AreViews (sym is) (AreViews-right at vs h)
+
+pub views-left : (vs ws : List View) (at : ℕ) → ws ≡ left_pieces vs at → AreViews vs → AreViews ws
+views-left vs ws at is h = subst AreViews (sym is) (AreViews-left at vs h)
+
+-- what `advance` leaves
+pub advanced-one : (v : View) (t : MarkedText) (n : ℕ) → of_pieces (v ∷ []) ≡ t → n ≤ view_len v → of_pieces (view_advanced v n ∷ []) ≡ text_advanced t n
+advanced-one v t n e l = of_pieces-one (view_advanced v n) ∙ sym (advanced-of_view n v l) ∙ ap (λ (x : MarkedText). text_advanced x n) (sym (of_pieces-one v) ∙ e)
+
+pub advanced-all : (vs : List View) (t : MarkedText) (n : ℕ) → of_pieces vs ≡ t → 1 < length vs → 0 < n → n ≡ text_len t → default_text ≡ text_advanced t n
+advanced-all [] t n e l p q = absurd (omega arith)
+advanced-all (v ∷ []) t n e l p q = absurd (omega arith)
+advanced-all (v ∷ w ∷ vs) t n e l p q = sym (sym (ap (λ (x : MarkedText). text_advanced x n) e) ∙ advanced-cut n v w vs ∙ ap (λ (x : MarkedText). text_rest x n) e ∙ rest-all n t p q)
+
+pub advanced-kept : (vs ws : List View) (t : MarkedText) (n : ℕ) → of_pieces vs ≡ t → 1 < length vs → 0 < n → n < length (pieces_bytes vs) → ws ≡ right_pieces vs n → of_pieces ws ≡ text_advanced t n
+advanced-kept [] ws t n e l p q is = absurd (omega arith)
+advanced-kept (v ∷ []) ws t n e l p q is = absurd (omega arith)
+advanced-kept (v ∷ w ∷ vs) ws t n e l p q is = rest-kept (v ∷ w ∷ vs) ws t n e p q is ∙ sym (ap (λ (x : MarkedText). text_rest x n) e) ∙ sym (advanced-cut n v w vs) ∙ ap (λ (x : MarkedText). text_advanced x n) e
+
+pub more-shape : (s : Shape) → IsShape s → ((a : View) → s ≡ One a → ⊥) → 1 < length (pieces s)
+more-shape (One a) h n = absurd (n a refl)
+more-shape (Two a b) h n = omega arith
+more-shape (Three a b c) h n = omega arith
+more-shape (Many q) h n = omega (arith, h.0)
+
+-- in an arm on the shape: what is known, by that shape's pieces
+pub view-as : {a b : Shape} {t : MarkedText} → of_pieces (pieces a) ≡ t → a ≡ b → of_pieces (pieces b) ≡ t
+view-as e is = sym (ap (λ x. of_pieces (pieces x)) is) ∙ e
+
+pub len-as : {a b : Shape} {n : ℕ} → n ≡ length (pieces_bytes (pieces a)) → a ≡ b → n ≡ length (pieces_bytes (pieces b))
+len-as e is = e ∙ ap (λ x. length (pieces_bytes (pieces x))) is
+
+-- a text of one piece is that view
+pub one-view : (v : View) (t : MarkedText) → of_pieces (v ∷ []) ≡ t → t ≡ of_view v
+one-view v t e = sym e ∙ of_pieces-one v
+
+slice_get-map : {A B : Type 0} (f : A → B) (xs : List A) (i : ℕ) → slice_get (map f xs) i ≡ option_map f (slice_get xs i)
+slice_get-map f [] i = refl
+slice_get-map f (x ∷ xs) zero = refl
+slice_get-map f (x ∷ xs) (suc i) = slice_get-map f xs i
+
+-- the chunk of a piece
+pub chunk-at : (vs : List View) (t : MarkedText) (i : ℕ) (piece : Option View) → of_pieces vs ≡ t → 0 < length vs → AreFull vs → piece ≡ slice_get vs i → option_map (λ (v : View). v.bytes) piece ≡ slice_get (text_chunks t) i
+chunk-at vs t i piece e l f g =
+    ap (option_map (λ (v : View). v.bytes)) g ∙ sym (slice_get-map (λ (v : View). v.bytes) vs i) ∙ ap (λ (xs : List (List ℕ)). slice_get xs i) (sym (chunks-kept vs t e l f))
+
+pub chunk-none : (t : MarkedText) (i : ℕ) → text_len t ≡ 0 → None ≡ slice_get (text_chunks t) i
+chunk-none t i e = sym (ap (λ (xs : List (List ℕ)). slice_get xs i) (chunks-of_empty t e))
+
+-- what is kept after a change of the pieces
+pub kept-push : (s : Inside) (n : ℕ) (shape : Shape) (w : View) → IsKept s → IsShape shape → pieces shape ≡ pieces s.shape ++ w ∷ [] → IsView w → n ≡ s.len + view_len w → IsKept (record { shape = shape; len = n })
+kept-push s n shape w k h is v e =
+    let c = k.counted in
+    let l = length-push (pieces s.shape) (pieces shape) w is in
+    record {
+      shaped = h;
+      counted = omega arith;
+      roomy = views-push (pieces s.shape) (pieces shape) w is k.roomy v;
+    }
+
+pub kept-cons : (s : Inside) (n : ℕ) (shape : Shape) (w : View) → IsKept s → IsShape shape → pieces shape ≡ w ∷ pieces s.shape → IsView w → n ≡ s.len + view_len w → IsKept (record { shape = shape; len = n })
+kept-cons s n shape w k h is v e =
+    let c = k.counted in
+    let l = length-cons (pieces s.shape) (pieces shape) w is in
+    record {
+      shaped = h;
+      counted = omega arith;
+      roomy = views-cons (pieces s.shape) (pieces shape) w is k.roomy v;
+    }
+
+pub kept-front : (s : Inside) (at : ℕ) (shape : Shape) → IsKept s → IsShape shape → 0 < at → at < s.len → pieces shape ≡ left_pieces (pieces s.shape) at → IsKept (record { shape = shape; len = at })
+kept-front s at shape k h p l is =
+    let c = k.counted in
+    record {
+      shaped = h;
+      counted = length-front (pieces s.shape) (pieces shape) at p (omega arith) is;
+      roomy = views-left (pieces s.shape) (pieces shape) at is k.roomy;
+    }
+
+pub kept-rest : (s : Inside) (at : ℕ) (shape : Shape) → IsKept s → IsShape shape → at < s.len → pieces shape ≡ right_pieces (pieces s.shape) at → IsKept (record { shape = shape; len = s.len - at })
+kept-rest s at shape k h l is =
+    let c = k.counted in
+    record {
+      shaped = h;
+      counted = length-rest (pieces s.shape) (pieces shape) at s.len c (omega arith) is;
+      roomy = views-right (pieces s.shape) (pieces shape) at is k.roomy;
+    }

@@ -1,0 +1,17 @@
+use Rattle.std.proofs.Common.{sym, ap, ◌∙◌, arith}
+use Rattle.iobufs_core.specs.Part.{part_frozen}
+use Rattle.iobufs_core.specs.MarkedText.{of_view}
+use Rattle.iobufs.proofs.TextLaws.{len-kept}
+use Rattle.iobufs.proofs.ReadLaws.{coalesced-copy, length-kept, several-len, as_text}
+use Rattle.iobufs.proofs.bufs.text.IoBufs.gathered.Goals as goal
+
+pub copied-requires-clause-inside : goal.copied-requires-clause-inside
+copied-requires-clause-inside c = omega (arith, length-kept c.self.inside _ c.self.view_is)
+
+pub returns-clause-ok : goal.returns-clause-ok
+returns-clause-ok c =
+    let n = length-kept c.self.inside _ c.self.view_is in
+    let k = len-kept c.self.inside _ c.self.view_is c.self.invariant in
+    let some = several-len c.self.inside _ c.self.view_is c.self.invariant c.requires in
+    let whole = coalesced-copy _ c.args.self.now _ c.len-len.result c.self.view_is c.requires (omega arith) (omega arith) c.in_ok-copy.ensures in
+    as_text c.freeze.result _ _ (ap (λ part. of_view (part_frozen part)) c.from.ensures ∙ whole) c.freeze.ensures.ok

@@ -1,0 +1,35 @@
+use Rattle.std.proofs.Common.{◌+◌, sym, ap, ◌∙◌, arith, length}
+use Rattle.std.specs.declared.ops.Bound.TheVariants.{Included, Excluded}
+use Rattle.iobufs_core.specs.View.{view_slice}
+use Rattle.iobufs_core.specs.Part.{part_frozen}
+use Rattle.iobufs_core.specs.MarkedText.{taken_view}
+use Rattle.iobufs.specs.Shapes.{pieces}
+use Rattle.iobufs.proofs.TakenLaws.{taken_view-none}
+use Rattle.iobufs.proofs.ReadLaws.{taken-within, taken-across, rest-length, as_view, length-kept}
+use Rattle.iobufs.proofs.bufs.text.IoBufs.taken.Goals as goal
+
+pub returns-then-n-eq0-clause-ok : goal.returns-then-n-eq0-clause-ok
+returns-then-n-eq0-clause-ok c =
+    c.default.ensures ∙ sym (ap (λ n. taken_view c.args.self.now c.args.skip n) c.if-n-eq0.true ∙ taken_view-none c.args.skip c.args.self.now)
+
+pub place_of-place-requires : goal.place_of-place-requires
+place_of-place-requires c = omega (arith, c.requires, length-kept c.self.inside _ c.self.view_is)
+
+pub returns-then-n-len-clause-ok : goal.returns-then-n-len-clause-ok
+returns-then-n-len-clause-ok c =
+    let n = length-kept c.self.inside _ c.self.view_is in
+    let o = c.place_of-place.result.offset in
+    let within = taken-within _ c.args.self.now c.args.skip c.args.n _ o c.self.view_is c.place_of-place.ensures (omega (arith, c.requires)) (omega arith) (omega (arith, ap (λ v. length v.bytes) c.piece-piece.ensures)) in
+    as_view c.slice.result _ _ (ap (λ v. view_slice v (Included o) (Excluded (o + c.args.n))) c.piece-piece.ensures ∙ within) c.slice.ensures.ok
+
+pub copied-requires-clause-inside : goal.copied-requires-clause-inside
+copied-requires-clause-inside c =
+    let n = length-kept c.self.inside _ c.self.view_is in
+    let rest = rest-length (pieces c.self.inside.shape) c.place_of-place.result.index in
+    omega (arith, c.requires, c.place_of-place.ensures.sum)
+
+pub returns-clause-ok : goal.returns-clause-ok
+returns-clause-ok c =
+    let n = length-kept c.self.inside _ c.self.view_is in
+    let across = taken-across _ c.args.self.now c.args.skip c.args.n _ _ _ c.self.view_is c.place_of-place.ensures (omega (arith, c.requires)) (omega (arith, ap (λ v. length v.bytes) c.piece-piece.ensures)) c.in_ok-copy.ensures in
+    as_view c.freeze.result _ _ (ap part_frozen c.from.ensures ∙ across) c.freeze.ensures.ok

@@ -1,0 +1,4 @@
+pub mod Kept
+pub mod Pieces
+pub mod ReaderLaws
+pub mod Shapes

@@ -1,0 +1,57 @@
+-- How a list of views, as the code keeps them, is read as a marked text.
+--     of_pieces                  one view as it is; more, one behind the other
+--     IsPieces                   what the code keeps true: at least one piece, and where there are more, none is empty
+--     left_pieces, right_pieces  the pieces of the two sides of a place
+use Rattle.std.specs.Prelude.{◌≡◌, ℕ, ◌+◌, ◌-◌, ◌<◌, get_or, nat_lt, ◌==◌, if◌then◌else◌, List, [], ◌∷◌, length, take, flat_map}
+use Rattle.iobufs_core.specs.View.{View, IsView, default_view, view_front, view_advanced}
+use Rattle.iobufs_core.specs.MarkedText.{MarkedText, of_view, default_text, text_glue}
+
+abbrev pub view_len : View → ℕ
+view_len view = length view.bytes
+
+-- the bytes of all pieces
+abbrev pub pieces_bytes : List View → List ℕ
+pieces_bytes pieces = flat_map (λ v. v.bytes) pieces
+
+-- the number of bytes before the i-th piece
+abbrev pub piece_start : List View → ℕ → ℕ
+piece_start pieces i = length (pieces_bytes (take i pieces))
+
+unfoldable pub of_pieces : List View → MarkedText
+of_pieces [] = default_text
+of_pieces (v ∷ []) = of_view v
+of_pieces (v ∷ w ∷ vs) = text_glue (of_view v) (of_pieces (w ∷ vs))
+
+-- no piece is empty
+abbrev pub AreFull : List View → Type 0
+AreFull [] = Unit {0}
+AreFull (v ∷ vs) = (0 < view_len v) × AreFull vs
+
+abbrev pub IsPieces : List View → Type 0
+IsPieces [] = ⊥
+IsPieces (v ∷ []) = Unit {0}
+IsPieces (v ∷ w ∷ vs) = AreFull (v ∷ w ∷ vs)
+
+-- the room of each piece reaches its end
+abbrev pub AreViews : List View → Type 0
+AreViews [] = Unit {0}
+AreViews (v ∷ vs) = IsView v × AreViews vs
+
+-- the first bytes, up to a place
+abbrev pub left_pieces : List View → ℕ → List View
+left_pieces [] at = []
+left_pieces (v ∷ vs) at = if at == 0 then [] else if nat_lt at (view_len v) then view_front v at ∷ [] else v ∷ left_pieces vs (at - view_len v)
+
+-- the bytes from a place on
+abbrev pub right_pieces : List View → ℕ → List View
+right_pieces [] at = []
+right_pieces (v ∷ vs) at = if nat_lt at (view_len v) then view_advanced v at ∷ vs else right_pieces vs (at - view_len v)
+
+-- the i-th piece
+abbrev pub piece_at : List View → ℕ → View
+piece_at pieces i = get_or pieces i default_view
+
+-- a place, as a piece and the number of bytes before the place in it
+pub record IsPlace (pieces : List View) (at index offset : ℕ) : Type 0 where
+  pub sum : piece_start pieces index + offset ≡ at
+  pub inside : offset < view_len (piece_at pieces index)

@@ -1,0 +1,196 @@
+// A text in several pieces, read from the front.
+ghost use Rattle.std.specs.Prelude.{◌≡◌, ◌+◌, ◌<◌, ◌≤◌, ◌^◌, length, take, false, true, IsOk, IfOk, OnOk, OnErr, Err, IsOkUnless};
+ghost use Rattle.iobufs_core.specs.MarkedText.{is_single, of_view, taken_view, text_advanced, text_chunks, text_coalesced, text_len, text_rest};
+
+use super::IoBufs;
+use super::place::Place;
+use bytes::Bytes;
+use iobufs_core::buf::{IoBuf, IoBufMut};
+use iobufs_core::codec::{Buf, BufError, OwnedBuf, OwnedBytes};
+use std::alloc::Global;
+use std::ops::Bound;
+
+impl IoBufs {
+    // Drops the first bytes, and keeps no mark where none are left.
+    fn forget(&mut self, n: usize)
+        requires { n ≤ text_len self.old }
+        ensures { self.new ≡ text_rest self.old n }
+    {
+        if n == 0 {
+            return;
+        }
+        if n == self.len() {
+            self.put(IoBufs::default());
+            return;
+        }
+        self.shape.drop_front(n);
+        self.len -= n;
+    }
+
+    // Bytes from a place on as one buffer: of their piece, or a copy where they span pieces.
+    fn taken(&self, alloc: Global, skip: usize, n: usize) -> Result<IoBuf, BufError>
+        requires { skip + n ≤ text_len self.now }
+        ensures ok { IfOk result (λ view. view ≡ taken_view self.now skip n) }
+        ensures memory { IsOkUnless result BufError.Memory }
+    {
+        if n == 0 {
+            return Ok(IoBuf::default());
+        }
+        let place = self.shape.place_of(skip);
+        let piece = self.shape.piece(place.index);
+        if n <= piece.len() - place.offset {
+            return piece.slice(
+                Bound::Included(place.offset),
+                Bound::Excluded(place.offset + n),
+            );
+        }
+        let copy = self.shape.copied(alloc, place, n)?;
+        IoBufMut::from(copy).freeze()
+    }
+
+    // The first bytes, shared where they are in one piece that is a `Bytes`.
+    fn first_bytes(&self, alloc: Global, n: usize) -> Result<Bytes, BufError>
+        requires { n ≤ text_len self.now }
+        ensures ok { IfOk result (λ bytes. bytes ≡ take n self.now.bytes) }
+        ensures memory { IsOkUnless result BufError.Memory }
+    {
+        if n == 0 {
+            return Ok(Bytes::new());
+        }
+        let first = self.shape.piece(0);
+        if n <= first.len() {
+            let front = first.slice(Bound::Unbounded, Bound::Excluded(n))?;
+            return Bytes::from_view(alloc, front);
+        }
+        let start = Place {
+            index: 0,
+            offset: 0,
+        };
+        let copy = self.shape.copied(alloc, start, n)?;
+        Ok(Bytes::from_vec(copy)?)
+    }
+
+    /// The text as one piece, with a copy where there are several.
+    pub fn coalesce(self, alloc: Global) -> Result<IoBuf, BufError>
+        ensures ok { IfOk result (λ view. of_view view ≡ text_coalesced self) }
+        ensures single { is_single self ≡ true → IsOk result }
+        ensures bad_layout { is_single self ≡ false → 2 ^ 63 ≤ text_len self → result ≡ Err BufError.BadLayout }
+        ensures memory { text_len self < 2 ^ 63 → IsOkUnless result BufError.Memory }
+    {
+        match self.try_into_single() {
+            Ok(piece) => Ok(piece),
+            Err(text) => text.gathered(alloc),
+        }
+    }
+
+    // A copy of several pieces as one.
+    fn gathered(&self, alloc: Global) -> Result<IoBuf, BufError>
+        requires { is_single self.now ≡ false }
+        ensures ok { IfOk result (λ view. of_view view ≡ text_coalesced self.now) }
+        ensures bad_layout { 2 ^ 63 ≤ text_len self.now → result ≡ Err BufError.BadLayout }
+        ensures memory { text_len self.now < 2 ^ 63 → IsOkUnless result BufError.Memory }
+    {
+        let len = self.len();
+        if len > isize::MAX as usize {
+            return Err(BufError::BadLayout);
+        }
+        let start = Place {
+            index: 0,
+            offset: 0,
+        };
+        let copy = self.shape.copied(alloc, start, len)?;
+        IoBufMut::from(copy).freeze()
+    }
+}
+
+impl Buf for IoBufs {
+    ghost use Rattle.iobufs.specs.ReaderLaws.{bytes-advanced, bytes-rest, joined-chunks, full-chunks};
+
+    ghost text = { λ t. t.bytes };
+
+    ghost advanced = { text_advanced };
+
+    ghost copied = { text_rest };
+
+    ghost pieces = { text_chunks };
+
+    fn remaining(&self) -> usize {
+        self.len()
+    }
+
+    fn chunk(&self) -> &[u8] {
+        self.shape.piece(0).as_ref()
+    }
+
+    fn byte_at(&self, i: usize) -> Option<u8> {
+        if i >= self.len() {
+            return None;
+        }
+        let place = self.shape.place_of(i);
+        let bytes = self.shape.piece(place.index).as_ref();
+        Some(bytes[place.offset])
+    }
+
+    fn advance(&mut self, n: usize) {
+        if self.is_single() {
+            self.shape.drop_single(n);
+            self.len -= n;
+            return;
+        }
+        self.forget(n);
+    }
+
+    fn copy_to_slice(&mut self, dst: &mut [u8]) {
+        self.shape.fill(dst);
+        let n = dst.len();
+        self.advance(n);
+    }
+
+    fn copy_to_bytes(&mut self, alloc: Global, n: usize) -> Result<Bytes, BufError> {
+        let bytes = self.first_bytes(alloc, n)?;
+        self.forget(n);
+        Ok(bytes)
+    }
+
+    fn chunks_vectored(&self, alloc: Global, max: usize) -> Result<Vec<&[u8]>, BufError> {
+        if self.len() == 0 {
+            return Ok(Vec::new(alloc));
+        }
+        Ok(self.shape.chunks(alloc, max)?)
+    }
+
+    ghost drops = { bytes-advanced };
+
+    ghost copies = { bytes-rest };
+
+    ghost joins = { joined-chunks };
+
+    ghost full = { full-chunks };
+}
+
+impl OwnedBuf for IoBufs {
+    ghost use Rattle.std.proofs.Common.{rules};
+
+    ghost marked = { λ t. t };
+
+    fn take_owned_after<T: OwnedBytes>(
+        &mut self,
+        alloc: Global,
+        skip: usize,
+        n: usize,
+    ) -> Result<T, BufError> {
+        let end = self.len() - (self.len() - skip - n);
+        let view = self.taken(alloc, skip, n)?;
+        let made = T::from_view(alloc, view)?;
+        self.forget(end);
+        Ok(made)
+    }
+
+    ghost same_text = { Prim.search rules };
+
+    ghost same_pieces = { Prim.search rules };
+
+    ghost advances_marked = { Prim.search rules };
+
+    ghost copies_marked = { Prim.search rules };
+}

@@ -1,0 +1,60 @@
+// Copies of the bytes of several pieces, and their chunks.
+ghost use Rattle.std.specs.Prelude.{◌≡◌, ◌+◌, ◌≤◌, map, length, take, drop, IfOk};
+ghost use Rattle.iobufs.specs.Pieces.{piece_at, pieces_bytes, IsPlace};
+ghost use Rattle.iobufs.specs.Shapes.{pieces};
+
+use super::place::Place;
+use super::shape::Shape;
+use std::alloc::{AllocError, Global};
+
+impl Shape {
+    /// `n` bytes from a place on.
+    pub fn copied(&self, alloc: Global, place: Place, n: usize) -> Result<Vec<u8>, AllocError>
+        requires offset { place.offset ≤ length (piece_at (pieces self.now) place.index).bytes }
+        requires inside { n + place.offset ≤ length (pieces_bytes (drop place.index (pieces self.now))) }
+        ensures { IfOk result (λ copy. copy.items ≡ take n (drop place.offset (pieces_bytes (drop place.index (pieces self.now))))) }
+    {
+        let count = self.count();
+        let mut copy = Vec::with_capacity(alloc, n)?;
+        let Place {
+            mut index,
+            mut offset,
+        } = place;
+        while copy.len() < n && index < count {
+            let bytes = &self.piece(index).as_ref()[offset..];
+            let some = bytes.len().min(n - copy.len());
+            copy.extend_from_slice(&bytes[..some])?;
+            index += 1;
+            offset = 0;
+        }
+        Ok(copy)
+    }
+
+    /// Fills `dst` with the first bytes.
+    pub fn fill(&self, dst: &mut [u8])
+        requires { length dst.old ≤ length (pieces_bytes (pieces self.now)) }
+        ensures { dst.new ≡ take (length dst.old) (pieces_bytes (pieces self.now)) }
+    {
+        let count = self.count();
+        let mut filled = 0;
+        let mut index = 0;
+        while filled < dst.len() && index < count {
+            let bytes = self.piece(index).as_ref();
+            let some = bytes.len().min(dst.len() - filled);
+            dst[filled..filled + some].copy_from_slice(&bytes[..some]);
+            filled += some;
+            index += 1;
+        }
+    }
+
+    /// The bytes of the first pieces, at most `max` of these.
+    pub fn chunks(&self, alloc: Global, max: usize) -> Result<Vec<&[u8]>, AllocError>
+        ensures { IfOk result (λ chunks. map (λ chunk. chunk.now) chunks.items ≡ take max (map (λ piece. piece.bytes) (pieces self.now))) }
+    {
+        let mut chunks = Vec::new(alloc);
+        for index in 0..self.count().min(max) {
+            chunks.push(self.piece(index).as_ref())?;
+        }
+        Ok(chunks)
+    }
+}

@@ -1,0 +1,245 @@
+// A text in several pieces.
+ghost use Rattle.std.specs.Option.{option_copied};
+ghost use Rattle.std.specs.Prelude.{◌≡◌, ◌+◌, ◌<◌, ◌≤◌, ◌^◌, ◌==◌, [], length, if◌then◌else◌, false, slice_get, IsOk, IfOk, IfErr, OnOk, OnErr, IsOkUnless, IsErrAnd, MatchOption, MatchResult};
+ghost use Rattle.iobufs_core.specs.View.{default_view, bytes_mark, static_mark};
+ghost use Rattle.iobufs_core.specs.MarkedText.{IsMarked, chunk_count as count_of, default_text, is_single, of_view, text_append, text_chunks, text_len, text_prepend, text_rest, text_split_front};
+
+use super::shape::Shape;
+use bytes::Bytes;
+use iobufs_core::buf::IoBuf;
+use iobufs_core::codec::{BufError, Refused};
+use std::alloc::{AllocError, Global};
+use std::marker::Model;
+use std::mem;
+
+/// A read-only text in pieces (the original's `IoBufs`). Two or more pieces are never empty.
+#[derive(Drop)]
+pub struct IoBufs {
+    pub(super) shape: Shape,
+    pub(super) len: usize,
+}
+
+impl Model for IoBufs {
+    ghost use Rattle.iobufs_core.specs.MarkedText.{MarkedText};
+
+    ghost Value = { MarkedText };
+
+    ghost use Rattle.iobufs.specs.Kept.{text_of, IsKept};
+
+    ghost view = { text_of };
+
+    ghost invariant = { IsKept };
+}
+
+impl Default for IoBufs {
+    ghost is_default = { λ b. b ≡ default_text };
+
+    fn default() -> IoBufs {
+        IoBufs::from(IoBuf::default())
+    }
+}
+
+impl From<IoBuf> for IoBufs {
+    ghost from_gives = { λ piece b. b ≡ of_view piece };
+
+    fn from(piece: IoBuf) -> IoBufs {
+        let len = piece.len();
+        IoBufs {
+            shape: Shape::One(piece),
+            len,
+        }
+    }
+}
+
+impl From<Bytes> for IoBufs {
+    ghost from_gives = { λ bytes b. b ≡ of_view (if length bytes == 0 then default_view else record { bytes = bytes; mark = bytes_mark }) };
+
+    fn from(bytes: Bytes) -> IoBufs {
+        IoBufs::from(IoBuf::from(bytes))
+    }
+}
+
+impl From<&'static [u8]> for IoBufs {
+    ghost from_gives = { λ text b. b ≡ of_view (record { bytes = text.now; mark = static_mark }) };
+
+    fn from(text: &'static [u8]) -> IoBufs {
+        IoBufs::from(IoBuf::from(text))
+    }
+}
+
+impl IoBufs {
+    // The old text goes here, and not in each place that puts a new one.
+    pub(super) fn put(&mut self, text: IoBufs)
+        ensures { self.new ≡ text }
+    {
+        *self = text;
+    }
+
+    pub fn len(&self) -> usize
+        ensures value { result ≡ text_len self.now }
+        ensures marked { IsMarked self.now }
+    {
+        self.len
+    }
+
+    pub fn is_empty(&self) -> bool
+        ensures { result ≡ (text_len self.now == 0) }
+    {
+        self.len() == 0
+    }
+
+    /// Whether all bytes are in one piece.
+    pub fn is_single(&self) -> bool
+        ensures { result ≡ is_single self.now }
+    {
+        self.shape.count() == 1
+    }
+
+    /// The number of pieces that hold bytes.
+    pub fn chunk_count(&self) -> usize
+        ensures { result ≡ count_of self.now }
+    {
+        if self.len() == 0 {
+            return 0;
+        }
+        self.shape.count()
+    }
+
+    /// The bytes of a piece, counted from 0.
+    pub fn chunk_at(&self, i: usize) -> Option<&[u8]>
+        ensures { option_copied result ≡ slice_get (text_chunks self.now) i }
+    {
+        if self.len() == 0 {
+            return None;
+        }
+        match self.shape.get(i) {
+            Some(piece) => Some(piece.as_ref()),
+            None => None,
+        }
+    }
+
+    /// The only piece, if there are no more.
+    pub fn as_single(&self) -> Option<&IoBuf>
+        ensures { MatchOption result (is_single self.now ≡ false) (λ piece. self.now ≡ of_view piece.now) }
+    {
+        match &self.shape {
+            Shape::One(piece) => Some(piece),
+            _ => None,
+        }
+    }
+
+    /// The only piece; the text itself where there are more.
+    pub fn try_into_single(self) -> Result<IoBuf, IoBufs>
+        ensures { MatchResult result (λ piece. self ≡ of_view piece) (λ text. (text ≡ self) × (is_single self ≡ false)) }
+    {
+        let len = self.len;
+        match self.shape.into_single() {
+            Ok(piece) => Ok(piece),
+            Err(shape) => Err(IoBufs { shape, len }),
+        }
+    }
+
+    /// Puts a buffer behind the text. An empty one changes nothing, and an empty text is replaced.
+    pub fn append(&mut self, alloc: Global, piece: IoBuf) -> Result<(), Refused<IoBuf>>
+        ensures done { OnOk result (self.new ≡ text_append self.old piece) }
+        ensures refused { OnErr result (self.new ≡ self.old) }
+        ensures handed_back { IfErr result (λ refused. refused.value ≡ piece) }
+        ensures too_long { 2 ^ 64 ≤ text_len self.old + length piece.bytes → IsErrAnd result (λ refused. refused.cause ≡ BufError.TooLong) }
+        ensures memory { text_len self.old + length piece.bytes < 2 ^ 64 → IfErr result (λ refused. refused.cause ≡ BufError.Memory) }
+        ensures nothing { length piece.bytes ≡ 0 → IsOk result }
+        ensures onto_nothing { text_len self.old ≡ 0 → IsOk result }
+    {
+        let (len, more) = (self.len(), piece.len());
+        if more == 0 {
+            return Ok(());
+        }
+        if len == 0 {
+            self.put(IoBufs::from(piece));
+            return Ok(());
+        }
+        let Some(total) = len.checked_add(more) else {
+            return Err(Refused {
+                cause: BufError::TooLong,
+                value: piece,
+            });
+        };
+        if let Err(refused) = self.shape.push_back(alloc, piece) {
+            return Err(Refused {
+                cause: BufError::Memory,
+                value: refused.value,
+            });
+        }
+        self.len = total;
+        Ok(())
+    }
+
+    /// Puts a buffer in front of the text. An empty one changes nothing, and an empty text is replaced.
+    pub fn prepend(&mut self, alloc: Global, piece: IoBuf) -> Result<(), Refused<IoBuf>>
+        ensures done { OnOk result (self.new ≡ text_prepend self.old piece) }
+        ensures refused { OnErr result (self.new ≡ self.old) }
+        ensures handed_back { IfErr result (λ refused. refused.value ≡ piece) }
+        ensures too_long { 2 ^ 64 ≤ text_len self.old + length piece.bytes → IsErrAnd result (λ refused. refused.cause ≡ BufError.TooLong) }
+        ensures memory { text_len self.old + length piece.bytes < 2 ^ 64 → IfErr result (λ refused. refused.cause ≡ BufError.Memory) }
+        ensures nothing { length piece.bytes ≡ 0 → IsOk result }
+        ensures onto_nothing { text_len self.old ≡ 0 → IsOk result }
+    {
+        let (len, more) = (self.len(), piece.len());
+        if more == 0 {
+            return Ok(());
+        }
+        if len == 0 {
+            self.put(IoBufs::from(piece));
+            return Ok(());
+        }
+        let Some(total) = len.checked_add(more) else {
+            return Err(Refused {
+                cause: BufError::TooLong,
+                value: piece,
+            });
+        };
+        if let Err(refused) = self.shape.push_front(alloc, piece) {
+            return Err(Refused {
+                cause: BufError::Memory,
+                value: refused.value,
+            });
+        }
+        self.len = total;
+        Ok(())
+    }
+
+    /// Takes the first `at` bytes away. Whole pieces move, and a piece that holds the place is split.
+    pub fn split_to(&mut self, alloc: Global, at: usize) -> Result<IoBufs, BufError>
+        requires { at ≤ text_len self.old }
+        ensures front { IfOk result (λ front. front ≡ text_split_front self.old at) }
+        ensures rest { OnOk result (self.new ≡ text_rest self.old at) }
+        ensures err { OnErr result (self.new ≡ self.old) }
+        ensures memory { IsOkUnless result BufError.Memory }
+        ensures nothing { at ≡ 0 → IsOk result }
+        ensures whole { at ≡ text_len self.old → IsOk result }
+    {
+        if at == 0 {
+            return Ok(IoBufs::default());
+        }
+        if at == self.len() {
+            return Ok(mem::replace(self, IoBufs::default()));
+        }
+        let front = self.shape.split_front(alloc, at)?;
+        self.len -= at;
+        Ok(IoBufs {
+            shape: front,
+            len: at,
+        })
+    }
+}
+
+impl Clone for IoBufs {
+    ghost is_clone = { λ a b. b ≡ a };
+
+    fn clone(&self) -> Result<IoBufs, AllocError> {
+        let shape = self.shape.clone()?;
+        Ok(IoBufs {
+            shape,
+            len: self.len,
+        })
+    }
+}

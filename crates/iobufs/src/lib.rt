@@ -1,0 +1,4 @@
+// Buffers of several pieces.
+#![tactic(auto)]
+
+pub mod bufs;
