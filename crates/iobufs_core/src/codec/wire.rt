@@ -163,7 +163,8 @@ impl EncodeSize for IoBuf {
     ghost items = { view_items };
 
     fn encode_size(&self) -> Option<usize> {
-        spelled_len(self.len()).checked_add(self.len())
+        let len = self.len();
+        spelled_len(len).checked_add(len)
     }
 
     fn encode_inline_size(&self) -> usize {
