@@ -5,7 +5,7 @@ ghost use Rattle.iobufs_core.specs.MarkedText.{is_single, of_view, taken_view, t
 use super::IoBufs;
 use super::place::Place;
 use bytes::Bytes;
-use iobufs_core::buf::{IoBuf, IoBufMut};
+use iobufs_core::buf::IoBuf;
 use iobufs_core::codec::{Buf, BufError, OwnedBuf, OwnedBytes};
 use std::alloc::Global;
 use std::ops::Bound;
@@ -44,8 +44,10 @@ impl IoBufs {
                 Bound::Excluded(place.offset + n),
             );
         }
-        let copy = self.shape.copied(alloc, place, n)?;
-        IoBufMut::from(copy).freeze()
+        match self.shape.copied(alloc, place, n) {
+            Ok(copy) => Ok(copy),
+            Err(_) => Err(BufError::Memory),
+        }
     }
 
     // The first bytes, shared where they are in one piece that is a `Bytes`.
@@ -62,11 +64,8 @@ impl IoBufs {
             let front = first.slice(Bound::Unbounded, Bound::Excluded(n))?;
             return Bytes::from_view(alloc, front);
         }
-        let start = Place {
-            index: 0,
-            offset: 0,
-        };
-        let copy = self.shape.copied(alloc, start, n)?;
+        let mut copy = vec![in alloc; 0u8; n]?;
+        self.shape.fill(copy.as_mut_slice());
         Ok(Bytes::from_vec(copy)?)
     }
 
@@ -90,16 +89,11 @@ impl IoBufs {
         ensures bad_layout { 2 ^ 63 ≤ text_len self.now → result ≡ Err BufError.BadLayout }
         ensures memory { text_len self.now < 2 ^ 63 → IsOkUnless result BufError.Memory }
     {
-        let len = self.len();
-        if len > isize::MAX as usize {
-            return Err(BufError::BadLayout);
-        }
         let start = Place {
             index: 0,
             offset: 0,
         };
-        let copy = self.shape.copied(alloc, start, len)?;
-        IoBufMut::from(copy).freeze()
+        self.shape.copied(alloc, start, self.len())
     }
 }
 

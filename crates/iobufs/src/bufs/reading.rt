@@ -1,21 +1,26 @@
 // Copies of the bytes of several pieces, and their chunks.
-ghost use Rattle.std.specs.Prelude.{◌≡◌, ◌+◌, ◌≤◌, map, length, take, drop, IfOk};
+ghost use Rattle.std.specs.Prelude.{◌≡◌, ◌+◌, ◌<◌, ◌≤◌, ◌^◌, map, length, take, drop, Err, IfOk, IsOkUnless};
+ghost use Rattle.iobufs_core.specs.Part.{part_frozen};
 ghost use Rattle.iobufs.specs.Pieces.{piece_at, pieces_bytes, IsPlace};
 ghost use Rattle.iobufs.specs.Shapes.{pieces};
 
 use super::place::Place;
 use super::shape::Shape;
+use iobufs_core::buf::{IoBuf, IoBufMut};
+use iobufs_core::codec::{BufError, BufMut};
 use std::alloc::{AllocError, Global};
 
 impl Shape {
-    /// `n` bytes from a place on.
-    pub fn copied(&self, alloc: Global, place: Place, n: usize) -> Result<Vec<u8>, AllocError>
+    /// A copy of `n` bytes from a place on, in storage of just that capacity.
+    pub fn copied(&self, alloc: Global, place: Place, n: usize) -> Result<IoBuf, BufError>
         requires offset { place.offset ≤ length (piece_at (pieces self.now) place.index).bytes }
         requires inside { n + place.offset ≤ length (pieces_bytes (drop place.index (pieces self.now))) }
-        ensures { IfOk result (λ copy. copy.items ≡ take n (drop place.offset (pieces_bytes (drop place.index (pieces self.now))))) }
+        ensures ok { IfOk result (λ copy. copy ≡ part_frozen (record { filled = take n (drop place.offset (pieces_bytes (drop place.index (pieces self.now)))); spare = 0 })) }
+        ensures bad_layout { 2 ^ 63 ≤ n → result ≡ Err BufError.BadLayout }
+        ensures memory { n < 2 ^ 63 → IsOkUnless result BufError.Memory }
     {
         let count = self.count();
-        let mut copy = Vec::with_capacity(alloc, n)?;
+        let mut copy = IoBufMut::with_capacity(alloc, n)?;
         let Place {
             mut index,
             mut offset,
@@ -23,11 +28,11 @@ impl Shape {
         while copy.len() < n && index < count {
             let bytes = &self.piece(index).as_ref()[offset..];
             let some = bytes.len().min(n - copy.len());
-            copy.extend_from_slice(&bytes[..some])?;
+            copy.put_slice(&bytes[..some]);
             index += 1;
             offset = 0;
         }
-        Ok(copy)
+        copy.freeze()
     }
 
     /// Fills `dst` with the first bytes.

@@ -1,26 +1,33 @@
-use Rattle.std.proofs.Common.{◌≡◌, ◌++◌, ◌-◌, ◌+◌, sym, ap, ◌∙◌, arith, drop, take, length, vec_len, min}
+use Rattle.std.proofs.Common.{◌≡◌, ◌++◌, ◌-◌, ◌+◌, sym, ap, ◌∙◌, arith, drop, take, length, length-append, length-take-le, min, refl}
 use Rattle.iobufs_core.specs.View.{View}
+use Rattle.iobufs_core.specs.Part.{Part}
 use Rattle.iobufs.specs.Pieces.{pieces_bytes}
 use Rattle.iobufs.specs.Shapes.{pieces}
-use Rattle.iobufs.proofs.CopyLaws.{copied-step, slice_from}
+use Rattle.iobufs.proofs.CopyLaws.{only-cause, good_layout, copied-step, slice_from}
 use Rattle.iobufs.proofs.bufs.shape.Shape.copied.Goals as goal
 
-pub loop-bytes-preserved : goal.loop-bytes-preserved
-loop-bytes-preserved c =
-    let copy = c.loop-bytes.copy in
-    let more = c.extend_from_slice.new.self in
-    let was : vec_len copy ≡ length copy.items = omega arith in
-    let is : vec_len more ≡ length more.items = omega arith in
-    let bytes = c.as_ref.ensures ∙ ap (λ (v : View). v.bytes) c.piece.ensures in
-    let o = c.loop-bytes.offset in
+pub loop-offset-preserved : goal.loop-offset-preserved
+loop-offset-preserved c =
+    let copy = c.loop-offset.copy in
+    let more = c.put_slice.new.self in
+    let o = c.loop-offset.offset in
     let all = c.as_ref.result.now in
     let some = take (length all - o) (drop o all) in
-    let rest = pieces_bytes (drop (c.loop-bytes.index + 1) (pieces c.args.self.now)) in
+    let bytes = c.as_ref.ensures ∙ ap (λ (v : View). v.bytes) c.piece.ensures in
+    let put = ap (λ (p : Part). p.filled) c.put_slice.ensures in
+    let spare = ap (λ (p : Part). p.spare) c.put_slice.ensures in
+    let room = c.loop-offset.invariant.room in
+    let count = c.min-some.ensures ∙ ap (λ n. min (length some) (c.args.n - n)) c.len-in-loop-offset.ensures in
     let step =
-    copied-step (pieces c.args.self.now) c.loop-bytes.index o c.args.n (vec_len copy) c.min-some.result copy.items more.items some _ (omega arith) c.loop-bytes.invariant.offset (slice_from o all ∙ ap (drop o) bytes) c.loop-bytes.invariant.some was c.loop-bytes.invariant.left c.loop-bytes.invariant.so_far (c.min-some.ensures ∙ ap (λ n. min (length some) (c.args.n - n)) c.len-in-loop-bytes.ensures) c.in_ok-extend_from_slice.ensures.items in
+    copied-step (pieces c.args.self.now) c.loop-offset.index o c.args.n (length copy.filled) c.min-some.result copy.filled more.filled some _ (omega arith) c.loop-offset.invariant.offset (slice_from o all ∙ ap (drop o) bytes) (omega arith) refl c.loop-offset.invariant.left c.loop-offset.invariant.so_far count put in
+    let longer = ap length put ∙ length-append copy.filled (take c.min-some.result some) in
+    let short = length-take-le c.min-some.result some (omega (arith, count)) in
     record {
       offset = omega arith;
-      some = omega arith;
-      left = omega arith;
-      so_far = ap (λ j. more.items ++ take (c.args.n - j) rest) is ∙ step.2;
+      room = omega (arith, spare);
+      left = omega (arith, step.1);
+      so_far = step.2;
     }
+
+pub returns-in_err-copy-clause-memory : goal.returns-in_err-copy-clause-memory
+returns-in_err-copy-clause-memory c = λ l. only-cause c.from_residual.result _ _ c.from_residual.ensures.1 (c.in_err-copy.ensures.good_layout (good_layout c.args.n l))

@@ -1,6 +1,4 @@
-use Rattle.std.proofs.Common.{sym, ap, ◌∙◌, arith}
-use Rattle.iobufs_core.specs.Part.{part_frozen}
-use Rattle.iobufs_core.specs.MarkedText.{of_view}
+use Rattle.std.proofs.Common.{arith, refl}
 use Rattle.iobufs.proofs.TextLaws.{len-kept}
 use Rattle.iobufs.proofs.ReadLaws.{coalesced-copy, length-kept, several-len, as_text}
 use Rattle.iobufs.proofs.bufs.text.IoBufs.gathered.Goals as goal
@@ -13,5 +11,5 @@ returns-clause-ok c =
     let n = length-kept c.self.inside _ c.self.view_is in
     let k = len-kept c.self.inside _ c.self.view_is c.self.invariant in
     let some = several-len c.self.inside _ c.self.view_is c.self.invariant c.requires in
-    let whole = coalesced-copy _ c.args.self.now _ c.len-len.result c.self.view_is c.requires (omega arith) (omega arith) c.in_ok-copy.ensures in
-    as_text c.freeze.result _ _ (ap (λ part. of_view (part_frozen part)) c.from.ensures ∙ whole) c.freeze.ensures.ok
+    let whole = coalesced-copy _ c.args.self.now _ c.len.result c.self.view_is c.requires (omega arith) (omega arith) refl in
+    as_text c.copied.result _ _ whole c.copied.ensures.ok

@@ -1,7 +1,6 @@
-use Rattle.std.proofs.Common.{◌+◌, sym, ap, ◌∙◌, arith, length}
+use Rattle.std.proofs.Common.{◌+◌, sym, ap, ◌∙◌, arith, length, refl}
 use Rattle.std.specs.declared.ops.Bound.TheVariants.{Included, Excluded}
-use Rattle.iobufs_core.specs.View.{view_slice}
-use Rattle.iobufs_core.specs.Part.{part_frozen}
+use Rattle.iobufs_core.specs.View.{View, view_slice}
 use Rattle.iobufs_core.specs.MarkedText.{taken_view}
 use Rattle.iobufs.specs.Shapes.{pieces}
 use Rattle.iobufs.proofs.TakenLaws.{taken_view-none}
@@ -19,7 +18,7 @@ pub returns-then-n-len-clause-ok : goal.returns-then-n-len-clause-ok
 returns-then-n-len-clause-ok c =
     let n = length-kept c.self.inside _ c.self.view_is in
     let o = c.place_of-place.result.offset in
-    let within = taken-within _ c.args.self.now c.args.skip c.args.n _ o c.self.view_is c.place_of-place.ensures (omega (arith, c.requires)) (omega arith) (omega (arith, ap (λ v. length v.bytes) c.piece-piece.ensures)) in
+    let within = taken-within _ c.args.self.now c.args.skip c.args.n _ o c.self.view_is c.place_of-place.ensures (omega (arith, c.requires)) (omega arith) (omega (arith, ap (λ (v : View). length v.bytes) c.piece-piece.ensures)) in
     as_view c.slice.result _ _ (ap (λ v. view_slice v (Included o) (Excluded (o + c.args.n))) c.piece-piece.ensures ∙ within) c.slice.ensures.ok
 
 pub copied-requires-clause-inside : goal.copied-requires-clause-inside
@@ -28,8 +27,8 @@ copied-requires-clause-inside c =
     let rest = rest-length (pieces c.self.inside.shape) c.place_of-place.result.index in
     omega (arith, c.requires, c.place_of-place.ensures.sum)
 
-pub returns-clause-ok : goal.returns-clause-ok
-returns-clause-ok c =
+pub returns-in-Ok-clause-ok : goal.returns-in-Ok-clause-ok
+returns-in-Ok-clause-ok c =
     let n = length-kept c.self.inside _ c.self.view_is in
-    let across = taken-across _ c.args.self.now c.args.skip c.args.n _ _ _ c.self.view_is c.place_of-place.ensures (omega (arith, c.requires)) (omega (arith, ap (λ v. length v.bytes) c.piece-piece.ensures)) c.in_ok-copy.ensures in
-    as_view c.freeze.result _ _ (ap part_frozen c.from.ensures ∙ across) c.freeze.ensures.ok
+    let across = taken-across _ c.args.self.now c.args.skip c.args.n _ _ _ c.self.view_is c.place_of-place.ensures (omega (arith, c.requires)) (omega (arith, ap (λ (v : View). length v.bytes) c.piece-piece.ensures)) refl in
+    c.in-Ok.ensures.ok ∙ across
