@@ -46,9 +46,11 @@ copied-step ps i o n c k copy more bytes target l h b s e r t m x =
     let longer : length more ≡ c + k = ap length x ∙ length-append copy (take k bytes) ∙ (let q : length copy + length (take k bytes) ≡ c + k = omega arith in q) in
     let left : n - length more ≡ n - c - k = omega arith in
     let turn : take (n - c) (drop o (pieces_bytes (drop i ps))) ≡ take k bytes ++ take (n - c - k) rest =
-    copied-turn ps i o (n - c) bytes l h b ∙ ap (λ j. take j bytes ++ take (n - c - j) rest) (sym m) in
-    (omega arith, omega arith,
-    ap (λ j. more ++ take j rest) left ∙ ap (λ xs. xs ++ take (n - c - k) rest) x ∙ append_assoc copy (take k bytes) (take (n - c - k) rest) ∙ ap (λ xs. copy ++ xs) (sym turn) ∙ t)
+    copied-turn ps i o (n - c) bytes l h b ∙ ap (λ j. take j bytes ++ take (n - c - j) rest) (sym m) in (
+      omega arith,
+      omega arith,
+      ap (λ j. more ++ take j rest) left ∙ ap (λ xs. xs ++ take (n - c - k) rest) x ∙ append_assoc copy (take k bytes) (take (n - c - k) rest) ∙ ap (λ xs. copy ++ xs) (sym turn) ∙ t,
+    )
 
 -- a slice from a place on
 pub slice_from : (o : ℕ) (b : List ℕ) → take (length b - o) (drop o b) ≡ drop o b
@@ -63,9 +65,11 @@ filled-step ps i f k dst now bytes l b s r t m same x =
     let total : length (pieces_bytes (drop i ps)) ≡ length bytes + length rest = ap length whole ∙ length-append bytes rest in
     let left : length now - (f + k) ≡ length dst - f - k = omega arith in
     let turn : take (length dst - f) (pieces_bytes (drop i ps)) ≡ take k bytes ++ take (length dst - f - k) rest =
-    copied-turn ps i 0 (length dst - f) bytes l (omega arith) b ∙ ap (λ j. take j bytes ++ take (length dst - f - j) rest) (sym m) in
-    (omega arith, omega arith,
-    ap (λ j. take (f + k) now ++ take j rest) left ∙ ap (λ xs. xs ++ take (length dst - f - k) rest) x ∙ append_assoc (take f dst) (take k bytes) (take (length dst - f - k) rest) ∙ ap (λ xs. take f dst ++ xs) (sym turn) ∙ t ∙ ap (λ n. take n (pieces_bytes ps)) (sym same))
+    copied-turn ps i 0 (length dst - f) bytes l (omega arith) b ∙ ap (λ j. take j bytes ++ take (length dst - f - j) rest) (sym m) in (
+      omega arith,
+      omega arith,
+      ap (λ j. take (f + k) now ++ take j rest) left ∙ ap (λ xs. xs ++ take (length dst - f - k) rest) x ∙ append_assoc (take f dst) (take k bytes) (take (length dst - f - k) rest) ∙ ap (λ xs. take f dst ++ xs) (sym turn) ∙ t ∙ ap (λ n. take n (pieces_bytes ps)) (sym same),
+    )
 
 chunk-next : (ps : List View) (i : ℕ) → i < length ps → take (suc i) (map (λ (p : View). p.bytes) ps) ≡ take i (map (λ (p : View). p.bytes) ps) ++ (piece_at ps i).bytes ∷ []
 chunk-next [] i l = absurd (omega arith)

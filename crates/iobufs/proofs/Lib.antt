@@ -9,4 +9,5 @@ pub mod ShapeLaws
 pub mod CopyLaws
 pub mod TextLaws
 pub mod ReadLaws
+pub mod RunLaws
 pub mod Rows

@@ -51,9 +51,9 @@ front-of (v ∷ vs) l f =
     record {
       front = sym (take-append_seam v.bytes (pieces_bytes vs));
       some = λ z. ⊎_elim
-      (λ (h : 0 < length (pieces_bytes (v ∷ vs))). let g = (f h).0 in absurd (omega arith))
-      (λ (h : length (pieces_bytes (v ∷ vs)) ≤ 0). omega arith)
-      (cases_lt 0 (length (pieces_bytes (v ∷ vs))));
+          (λ (h : 0 < length (pieces_bytes (v ∷ vs))). let g = (f h).0 in absurd (omega arith))
+          (λ (h : length (pieces_bytes (v ∷ vs)) ≤ 0). omega arith)
+          (cases_lt 0 (length (pieces_bytes (v ∷ vs))));
     }
 
 pub front-chunk : (s : Shape) (t : MarkedText) (chunk : List ℕ) → of_pieces (pieces s) ≡ t → IsShape s → chunk ≡ (piece_at (pieces s) 0).bytes → IsChunkOf chunk t.bytes
@@ -207,6 +207,7 @@ several-len s t e k h = let n = k.counted in several (pieces s.shape) (IsPieces-
   where
     more : (n : ℕ) → nat_eq n 1 ≡ false → n ≢ 1
     more n h = grind (arith, tests)
+
     several : (vs : List View) → IsPieces vs → length vs ≢ 1 → length (pieces_bytes vs) ≤ s.len → 0 < s.len
     several [] p n l = absurd p
     several (v ∷ []) p n l = absurd (n refl)

@@ -1,4 +1,5 @@
 pub mod Kept
 pub mod Pieces
 pub mod ReaderLaws
+pub mod Refusals
 pub mod Shapes

@@ -1,12 +1,17 @@
 // A text in several pieces.
 ghost use Rattle.std.specs.Option.{option_copied};
 ghost use Rattle.std.specs.Prelude.{◌≡◌, ◌+◌, ◌<◌, ◌≤◌, ◌^◌, ◌==◌, [], length, if◌then◌else◌, false, slice_get, IsOk, IfOk, IfErr, OnOk, OnErr, IsOkUnless, IsErrAnd, MatchOption, MatchResult};
-ghost use Rattle.iobufs_core.specs.View.{default_view, bytes_mark, static_mark};
-ghost use Rattle.iobufs_core.specs.MarkedText.{IsMarked, chunk_count as count_of, default_text, is_single, of_view, text_append, text_chunks, text_len, text_prepend, text_rest, text_split_front};
+ghost use Rattle.std.specs.Iterator.{IsFinite};
+ghost use Rattle.std.specs.Iterator.Runs.{SomeRun, WholeRun};
+ghost use Rattle.iobufs.specs.Refusals.{IsRefusedAt};
+ghost use Rattle.iobufs_core.specs.Part.{part_frozen};
+ghost use Rattle.iobufs_core.specs.Recovery.{IsAdopted};
+ghost use Rattle.iobufs_core.specs.View.{View, default_view, bytes_mark, static_mark};
+ghost use Rattle.iobufs_core.specs.MarkedText.{IsMarked, chunk_count as count_of, default_text, is_single, joined, of_view, text_append, text_chunks, text_len, text_prepend, text_rest, text_split_front};
 
 use super::shape::Shape;
 use bytes::Bytes;
-use iobufs_core::buf::IoBuf;
+use iobufs_core::buf::{IoBuf, IoBufMut};
 use iobufs_core::codec::{BufError, Refused};
 use std::alloc::{AllocError, Global};
 use std::marker::Model;
@@ -229,6 +234,56 @@ impl IoBufs {
             shape: front,
             len: at,
         })
+    }
+}
+
+impl IoBufs {
+    /// The text of a writable buffer (`From<IoBufMut>` of the original).
+    pub fn from_mut(part: IoBufMut) -> Result<IoBufs, BufError>
+        ensures ok { IfOk result (λ text. text ≡ of_view (part_frozen part)) }
+        ensures memory { IsOkUnless result BufError.Memory }
+        ensures empty { length part.filled ≡ 0 → IsOk result }
+    {
+        Ok(IoBufs::from(part.freeze()?))
+    }
+
+    /// The bytes of a vector, in its storage (`From<Vec<u8>>` of the original).
+    pub fn from_vec(bytes: Vec<u8>) -> Result<IoBufs, BufError>
+        ensures ok { IfOk result (λ text. (view : View) × IsAdopted bytes.items view × (text ≡ of_view view)) }
+        ensures memory { IsOkUnless result BufError.Memory }
+        ensures empty { length bytes.items ≡ 0 → IsOk result }
+    {
+        Ok(IoBufs::from(IoBuf::from_vec(bytes)?))
+    }
+
+    /// Joins buffers in order, and leaves the empty ones out (`FromIterator` of the original).
+    pub fn from_chunks<I: Iterator<Item = IoBuf>>(
+        alloc: Global,
+        mut chunks: I,
+    ) -> Result<IoBufs, BufError>
+        requires can { I.can_next chunks }
+        requires finite { IsFinite (I.remaining chunks) }
+        ensures ok { IfOk result (λ text. WholeRun I.next_gives chunks (λ run. text ≡ joined run.items)) }
+        ensures err { IfErr result (λ cause. SomeRun I.next_gives chunks (λ run. IsRefusedAt run.items cause)) }
+    {
+        let mut text = IoBufs::default();
+        while let Some(chunk) = chunks.next() {
+            if let Err(refused) = text.append(alloc, chunk) {
+                return Err(refused.cause);
+            }
+        }
+        Ok(text)
+    }
+
+    /// Shows each piece that holds bytes, in order.
+    pub fn for_each_chunk<F: FnMut(&[u8])>(&self, mut visit: F)
+        requires { F.IsAlwaysCallable visit }
+    {
+        for i in 0..self.chunk_count() {
+            if let Some(chunk) = self.chunk_at(i) {
+                visit(chunk);
+            }
+        }
     }
 }
 
