@@ -212,3 +212,7 @@ several-len s t e k h = let n = k.counted in several (pieces s.shape) (IsPieces-
     several [] p n l = absurd p
     several (v ∷ []) p n l = absurd (n refl)
     several (v ∷ w ∷ vs) p n l = let k = length-bytes v (w ∷ vs) in let f = p.0 in omega arith
+
+-- a text of one piece is that view
+pub single-view : (vs : List View) (t : MarkedText) (v : View) → of_pieces vs ≡ t → length vs ≡ 1 → v ≡ piece_at vs 0 → t ≡ of_view v
+single-view vs t v e one is = sym e ∙ ap of_pieces (one-as vs one) ∙ of_pieces-one (piece_at vs 0) ∙ ap of_view (sym is)

@@ -7,13 +7,13 @@ use super::shape::Shape;
 
 /// A piece, and the number of bytes before the place in it.
 #[derive(Clone, Copy)]
-pub struct Place {
-    pub index: usize,
-    pub offset: usize,
+pub(super) struct Place {
+    pub(super) index: usize,
+    pub(super) offset: usize,
 }
 
 impl Shape {
-    pub fn place_of(&self, at: usize) -> Place
+    pub(super) fn place_of(&self, at: usize) -> Place
         requires { at < length (pieces_bytes (pieces self.now)) }
         ensures { IsPlace (pieces self.now) at result.index result.offset }
     {

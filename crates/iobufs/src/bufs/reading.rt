@@ -12,7 +12,7 @@ use std::alloc::{AllocError, Global};
 
 impl Shape {
     /// A copy of `n` bytes from a place on, in storage of just that capacity.
-    pub fn copied(&self, alloc: Global, place: Place, n: usize) -> Result<IoBuf, BufError>
+    pub(super) fn copied(&self, alloc: Global, place: Place, n: usize) -> Result<IoBuf, BufError>
         requires offset { place.offset ≤ length (piece_at (pieces self.now) place.index).bytes }
         requires inside { n + place.offset ≤ length (pieces_bytes (drop place.index (pieces self.now))) }
         ensures ok { IfOk result (λ copy. copy ≡ part_frozen (record { filled = take n (drop place.offset (pieces_bytes (drop place.index (pieces self.now)))); spare = 0 })) }
@@ -36,7 +36,7 @@ impl Shape {
     }
 
     /// Fills `dst` with the first bytes.
-    pub fn fill(&self, dst: &mut [u8])
+    pub(super) fn fill(&self, dst: &mut [u8])
         requires { length dst.old ≤ length (pieces_bytes (pieces self.now)) }
         ensures { dst.new ≡ take (length dst.old) (pieces_bytes (pieces self.now)) }
     {
@@ -53,7 +53,7 @@ impl Shape {
     }
 
     /// The bytes of the first pieces, at most `max` of these.
-    pub fn chunks(&self, alloc: Global, max: usize) -> Result<Vec<&[u8]>, AllocError>
+    pub(super) fn chunks(&self, alloc: Global, max: usize) -> Result<Vec<&[u8]>, AllocError>
         ensures { IfOk result (λ chunks. map (λ chunk. chunk.now) chunks.items ≡ take max (map (λ piece. piece.bytes) (pieces self.now))) }
     {
         let mut chunks = Vec::new(alloc);

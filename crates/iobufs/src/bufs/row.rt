@@ -12,7 +12,7 @@ use std::collections::VecDeque;
 use std::ops::Bound;
 
 /// Takes the first `at` bytes off, some but not all.
-pub fn split_inside(piece: &mut IoBuf, at: usize) -> Result<IoBuf, BufError>
+pub(super) fn split_inside(piece: &mut IoBuf, at: usize) -> Result<IoBuf, BufError>
     requires some { 0 < at }
     requires inside { at < length piece.old.bytes }
     ensures front { IfOk result (λ front. front ≡ view_front piece.old at) }
@@ -51,7 +51,7 @@ fn move_front(row: &mut VecDeque<IoBuf>, front: &mut VecDeque<IoBuf>, count: usi
 }
 
 /// Takes the pieces of the first `at` bytes, some but not all.
-pub fn cut_row(
+pub(super) fn cut_row(
     alloc: Global,
     row: &mut VecDeque<IoBuf>,
     at: usize,
@@ -79,7 +79,7 @@ pub fn cut_row(
 }
 
 /// Drops the first `at` bytes.
-pub fn drop_row_front(row: &mut VecDeque<IoBuf>, at: usize)
+pub(super) fn drop_row_front(row: &mut VecDeque<IoBuf>, at: usize)
     requires inside { at < length (pieces_bytes row.old.items) }
     ensures { row.new.items ≡ right_pieces row.old.items at }
 {

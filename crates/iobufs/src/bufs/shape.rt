@@ -14,7 +14,7 @@ use std::mem;
 
 /// The pieces of a text: one, two or three side by side, a deque from four on.
 #[derive(Drop)]
-pub enum Shape {
+pub(super) enum Shape {
     One(IoBuf),
     Two(IoBuf, IoBuf),
     Three(IoBuf, IoBuf, IoBuf),
@@ -36,7 +36,14 @@ impl Shape {
         mem::replace(self, Shape::One(IoBuf::default()))
     }
 
-    pub fn count(&self) -> usize
+    pub(super) fn of_one(piece: IoBuf) -> Shape
+        ensures pieces { pieces result ≡ piece ∷ [] }
+        ensures shaped { IsShape result }
+    {
+        Shape::One(piece)
+    }
+
+    pub(super) fn count(&self) -> usize
         ensures { result ≡ length (pieces self.now) }
     {
         match self {
@@ -47,7 +54,7 @@ impl Shape {
         }
     }
 
-    pub fn get(&self, i: usize) -> Option<&IoBuf>
+    pub(super) fn get(&self, i: usize) -> Option<&IoBuf>
         ensures { option_copied result ≡ slice_get (pieces self.now) i }
     {
         match self {
@@ -70,7 +77,7 @@ impl Shape {
         }
     }
 
-    pub fn piece(&self, i: usize) -> &IoBuf
+    pub(super) fn piece(&self, i: usize) -> &IoBuf
         requires { i < length (pieces self.now) }
         ensures { result.now ≡ piece_at (pieces self.now) i }
     {
@@ -78,7 +85,7 @@ impl Shape {
     }
 
     /// The only piece; the shape itself where there are more.
-    pub fn into_single(self) -> Result<IoBuf, Shape>
+    pub(super) fn into_single(self) -> Result<IoBuf, Shape>
         requires { IsShape self }
         ensures { MatchResult result (λ piece. pieces self ≡ piece ∷ []) (λ shape. (shape ≡ self) × (1 < length (pieces self))) }
     {
@@ -89,7 +96,7 @@ impl Shape {
     }
 
     /// Drops bytes of the only piece, which keeps its mark even where all go.
-    pub fn drop_single(&mut self, n: usize)
+    pub(super) fn drop_single(&mut self, n: usize)
         requires shaped { IsShape self.old }
         requires single { length (pieces self.old) ≡ 1 }
         requires inside { n ≤ length (piece_at (pieces self.old) 0).bytes }
@@ -102,7 +109,11 @@ impl Shape {
         }
     }
 
-    pub fn push_back(&mut self, alloc: Global, piece: IoBuf) -> Result<(), AllocFailed<IoBuf>>
+    pub(super) fn push_back(
+        &mut self,
+        alloc: Global,
+        piece: IoBuf,
+    ) -> Result<(), AllocFailed<IoBuf>>
         requires shaped { IsShape self.old }
         requires full { AreFull (pieces self.old) }
         requires some { 0 < length piece.bytes }
@@ -136,7 +147,11 @@ impl Shape {
         Ok(())
     }
 
-    pub fn push_front(&mut self, alloc: Global, piece: IoBuf) -> Result<(), AllocFailed<IoBuf>>
+    pub(super) fn push_front(
+        &mut self,
+        alloc: Global,
+        piece: IoBuf,
+    ) -> Result<(), AllocFailed<IoBuf>>
         requires shaped { IsShape self.old }
         requires full { AreFull (pieces self.old) }
         requires some { 0 < length piece.bytes }
@@ -193,7 +208,7 @@ impl Shape {
     }
 
     /// Takes the first `at` bytes, some but not all.
-    pub fn split_front(&mut self, alloc: Global, at: usize) -> Result<Shape, BufError>
+    pub(super) fn split_front(&mut self, alloc: Global, at: usize) -> Result<Shape, BufError>
         requires shaped { IsShape self.old }
         requires full { AreFull (pieces self.old) }
         requires some { 0 < at }
@@ -340,7 +355,7 @@ impl Shape {
     }
 
     /// Drops the first `n` bytes.
-    pub fn drop_front(&mut self, n: usize)
+    pub(super) fn drop_front(&mut self, n: usize)
         requires shaped { IsShape self.old }
         requires full { AreFull (pieces self.old) }
         requires inside { n < length (pieces_bytes (pieces self.old)) }

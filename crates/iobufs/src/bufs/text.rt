@@ -50,7 +50,7 @@ impl From<IoBuf> for IoBufs {
     fn from(piece: IoBuf) -> IoBufs {
         let len = piece.len();
         IoBufs {
-            shape: Shape::One(piece),
+            shape: Shape::of_one(piece),
             len,
         }
     }
@@ -127,9 +127,10 @@ impl IoBufs {
     pub fn as_single(&self) -> Option<&IoBuf>
         ensures { MatchOption result (is_single self.now ≡ false) (λ piece. self.now ≡ of_view piece.now) }
     {
-        match &self.shape {
-            Shape::One(piece) => Some(piece),
-            _ => None,
+        if self.is_single() {
+            Some(self.shape.piece(0))
+        } else {
+            None
         }
     }
 

@@ -1,8 +1,13 @@
-use Rattle.iobufs.proofs.TextLaws.{one-view, view-as, single-more, more-shape}
+use Rattle.std.proofs.Common.{sym, ap, ◌∙◌, arith}
+use Rattle.iobufs.proofs.ReadLaws.{one-piece, single-view}
 use Rattle.iobufs.proofs.bufs.text.IoBufs.as_single.Goals as goal
 
-pub returns-in-One : goal.returns-in-One
-returns-in-One c = one-view _ _ (view-as c.self.view_is c.in-One.is)
+pub piece-requires : goal.piece-requires
+piece-requires c =
+    let one = one-piece c.self.inside _ c.self.view_is c.self.invariant (sym c.is_single.ensures ∙ c.if-is_single.true) in
+    omega (arith, one)
 
-pub returns-in_default : goal.returns-in_default
-returns-in_default c = single-more _ _ c.self.view_is (more-shape _ c.self.invariant.shaped c.in_default.not-One)
+pub returns-then-is_single : goal.returns-then-is_single
+returns-then-is_single c =
+    let one = one-piece c.self.inside _ c.self.view_is c.self.invariant (sym c.is_single.ensures ∙ c.if-is_single.true) in
+    single-view _ _ _ c.self.view_is one c.piece.ensures
