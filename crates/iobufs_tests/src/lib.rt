@@ -8,4 +8,6 @@ mod lengths;
 #[cfg(test)]
 mod parts;
 #[cfg(test)]
+mod texts;
+#[cfg(test)]
 mod views;

@@ -1,0 +1,278 @@
+// Texts of several pieces.
+use bytes::Bytes;
+use iobufs::bufs::IoBufs;
+use iobufs_core::buf::{IoBuf, IoBufMut};
+use iobufs_core::codec::{Buf, BufMut, OwnedBuf, OwnedBytes};
+use std::alloc::Global;
+use std::process::Abort;
+use std::test::Fail;
+
+const PIECES: [&'static [u8]; 6] = [b"ab", b"cd", b"ef", b"gh", b"ij", b"kl"];
+
+// The first of these pieces.
+fn pieces(alloc: Global, count: usize) -> Result<IoBufs, Fail> {
+    let mut text = IoBufs::default();
+    for piece in PIECES.iter().take(count) {
+        joined(text.append(alloc, IoBuf::from(*piece)).is_ok())?;
+    }
+    Ok(text)
+}
+
+fn joined(done: bool) -> Result<(), Fail> {
+    if done {
+        Ok(())
+    } else {
+        Err(Fail::new("refused"))
+    }
+}
+
+// The pieces, with `|` between them.
+fn shown(alloc: Global, text: &IoBufs) -> Result<Vec<u8>, Fail> {
+    let mut shown = Vec::new(alloc);
+    for i in 0..text.chunk_count() {
+        if i > 0 {
+            shown.push(b'|')?;
+        }
+        if let Some(chunk) = text.chunk_at(i) {
+            shown.extend_from_slice(chunk)?;
+        }
+    }
+    Ok(shown)
+}
+
+// A part of this capacity, filled and frozen.
+fn native(alloc: Global, capacity: usize, bytes: &[u8]) -> Result<IoBuf, Fail> {
+    let mut part = IoBufMut::with_capacity(alloc, capacity)?;
+    if part.remaining_mut() < bytes.len() {
+        return Err(Fail::new("no room"));
+    }
+    part.put_slice(bytes);
+    Ok(part.freeze()?)
+}
+
+// The capacity that the view has as a part.
+fn recovered(rt: &(impl Abort + AllocGlobal), view: IoBuf) -> Result<usize, Fail> {
+    match view.try_into_mut(rt.alloc()) {
+        Ok(part) => Ok(part.capacity()),
+        Err(_) => Err(Fail::new("declined")),
+    }
+}
+
+fn split(alloc: Global, text: &mut IoBufs, at: usize) -> Result<IoBufs, Fail> {
+    if text.len() < at {
+        return Err(Fail::new("too short"));
+    }
+    Ok(text.split_to(alloc, at)?)
+}
+
+fn advanced(text: &mut IoBufs, n: usize) -> Result<(), Fail> {
+    if text.len() < n {
+        return Err(Fail::new("too short"));
+    }
+    text.advance(n);
+    Ok(())
+}
+
+fn taken<T: OwnedBytes>(
+    alloc: Global,
+    text: &mut IoBufs,
+    skip: usize,
+    n: usize,
+) -> Result<T, Fail> {
+    let len = text.len();
+    if len < skip || len - skip < n {
+        return Err(Fail::new("too short"));
+    }
+    Ok(text.take_owned_after::<T>(alloc, skip, n)?)
+}
+
+#[test]
+fn splits_inside_a_piece_and_at_its_edge(rt: HostRuntime) -> Result<(), Fail> {
+    let alloc = rt.alloc();
+    let mut text = pieces(alloc, 4)?;
+    let front = split(alloc, &mut text, 5)?;
+    assert_eq!(rt; shown(alloc, &front)?.as_slice(), b"ab|cd|e".as_slice());
+    assert_eq!(rt; shown(alloc, &text)?.as_slice(), b"f|gh".as_slice());
+    let mut text = pieces(alloc, 4)?;
+    let front = split(alloc, &mut text, 4)?;
+    assert_eq!(rt; shown(alloc, &front)?.as_slice(), b"ab|cd".as_slice());
+    assert_eq!(rt; shown(alloc, &text)?.as_slice(), b"ef|gh".as_slice());
+    Ok(())
+}
+
+#[test]
+fn emptied_pieces(rt: HostRuntime) -> Result<(), Fail> {
+    let alloc = rt.alloc();
+    let mut text = IoBufs::from(native(alloc, 8, b"abcd")?);
+    advanced(&mut text, 4)?;
+    assert_eq!(rt; (text.chunk_count(), text.is_single()), (0, true));
+    match text.try_into_single() {
+        Ok(view) => assert_eq!(rt; recovered(&rt, view)?, 4),
+        Err(_) => return Err(Fail::new("several pieces")),
+    }
+    let mut text = IoBufs::from(native(alloc, 8, b"ab")?);
+    joined(text.append(alloc, native(alloc, 8, b"cd")?).is_ok())?;
+    advanced(&mut text, 4)?;
+    match text.try_into_single() {
+        Ok(view) => assert_eq!(rt; recovered(&rt, view)?, 0),
+        Err(_) => return Err(Fail::new("several pieces")),
+    }
+    Ok(())
+}
+
+#[test]
+fn bytes_are_taken_within_a_piece_and_across(rt: HostRuntime) -> Result<(), Fail> {
+    let alloc = rt.alloc();
+    let mut text = pieces(alloc, 2)?;
+    let view: IoBuf = taken(alloc, &mut text, 0, 1)?;
+    assert_eq!(rt; view.as_ref(), b"a".as_slice());
+    let view: IoBuf = taken(alloc, &mut text, 0, 2)?;
+    assert_eq!(rt; view.as_ref(), b"bc".as_slice());
+    assert_eq!(rt; recovered(&rt, view)?, 2);
+    assert_eq!(rt; shown(alloc, &text)?.as_slice(), b"d".as_slice());
+    let mut text = pieces(alloc, 4)?;
+    let bytes: Bytes = taken(alloc, &mut text, 1, 2)?;
+    assert_eq!(rt; bytes.as_slice(), b"bc".as_slice());
+    assert_eq!(rt; shown(alloc, &text)?.as_slice(), b"d|ef|gh".as_slice());
+    let mut text = pieces(alloc, 4)?;
+    let view: IoBuf = taken(alloc, &mut text, 2, 2)?;
+    assert_eq!(rt; view.as_ref(), b"cd".as_slice());
+    assert_eq!(rt; shown(alloc, &text)?.as_slice(), b"ef|gh".as_slice());
+    assert!(rt; view.try_into_mut(alloc).is_err());
+    Ok(())
+}
+
+#[test]
+fn chunks_of_four_pieces(rt: HostRuntime) -> Result<(), Fail> {
+    let alloc = rt.alloc();
+    let text = pieces(alloc, 4)?;
+    assert_eq!(rt; text.chunk_count(), 4);
+    assert_eq!(rt; text.chunk_at(3), Some(b"gh".as_slice()));
+    assert_eq!(rt; text.chunk_at(4), None);
+    let two = text.chunks_vectored(alloc, 2)?;
+    assert_eq!(rt;
+        two.as_slice(),
+        [b"ab".as_slice(), b"cd".as_slice()].as_slice()
+    );
+    assert!(rt; text.chunks_vectored(alloc, 0)?.is_empty());
+    assert_eq!(rt; (text.byte_at(5), text.byte_at(8)), (Some(b'f'), None));
+    let mut seen = 0u64;
+    text.for_each_chunk(|chunk: &[u8]| {
+        for byte in chunk {
+            seen = seen.wrapping_mul(256).wrapping_add(u64::from(*byte));
+        }
+    });
+    assert_eq!(rt; seen, u64::from_be_bytes(*b"abcdefgh"));
+    Ok(())
+}
+
+#[test]
+fn pieces_in_front_behind_and_as_one(rt: HostRuntime) -> Result<(), Fail> {
+    let alloc = rt.alloc();
+    let mut text = pieces(alloc, 4)?;
+    joined(text.prepend(alloc, IoBuf::from(b"xy".as_slice())).is_ok())?;
+    assert_eq!(rt;
+        shown(alloc, &text)?.as_slice(),
+        b"xy|ab|cd|ef|gh".as_slice()
+    );
+    let mut text = pieces(alloc, 4)?;
+    joined(text.append(alloc, IoBuf::default()).is_ok())?;
+    assert_eq!(rt; text.chunk_count(), 4);
+    let view = text.coalesce(alloc)?;
+    assert_eq!(rt; view.as_ref(), b"abcdefgh".as_slice());
+    assert_eq!(rt; recovered(&rt, view)?, 8);
+    Ok(())
+}
+
+#[test]
+fn a_part_is_filled_from_two_pieces(rt: HostRuntime) -> Result<(), Fail> {
+    let alloc = rt.alloc();
+    let mut text = IoBufs::from(b"hel".as_slice());
+    joined(text.append(alloc, IoBuf::from(b"lo".as_slice())).is_ok())?;
+    let mut part = IoBufMut::with_capacity(alloc, 8)?;
+    if part.remaining_mut() < text.remaining() {
+        return Err(Fail::new("no room"));
+    }
+    part.put(text);
+    assert_eq!(rt; part.as_ref(), b"hello".as_slice());
+    assert_eq!(rt; part.remaining_mut(), 3);
+    Ok(())
+}
+
+// Each number of pieces, cut at each place, by a split and by an advance.
+#[test]
+fn every_shape_is_cut_at_every_place(rt: HostRuntime) -> Result<(), Fail> {
+    let alloc = rt.alloc();
+    for count in 0..7usize {
+        let whole = pieces(alloc, count)?;
+        for at in 0..13usize {
+            if at > whole.len() {
+                continue;
+            }
+            let mut rest = whole.clone()?;
+            let mut front = split(alloc, &mut rest, at)?;
+            let mut left = whole.clone()?;
+            advanced(&mut left, at)?;
+            assert_eq!(rt;
+                shown(alloc, &left)?.as_slice(),
+                shown(alloc, &rest)?.as_slice()
+            );
+            assert_eq!(rt;
+                (front.chunk_count(), rest.chunk_count()),
+                (at.div_ceil(2), count - at / 2)
+            );
+            for i in 0..rest.chunk_count() {
+                if let Some(chunk) = rest.chunk_at(i) {
+                    let piece = IoBuf::from_vec(Vec::from_slice(alloc, chunk)?)?;
+                    joined(front.append(alloc, piece).is_ok())?;
+                }
+            }
+            let (front, whole) = (front.coalesce(alloc)?, whole.clone()?.coalesce(alloc)?);
+            assert!(rt; front == whole);
+        }
+    }
+    Ok(())
+}
+
+#[test]
+fn texts_of_other_types(rt: HostRuntime) -> Result<(), Fail> {
+    let alloc = rt.alloc();
+    let mut part = IoBufMut::with_capacity(alloc, 4)?;
+    if part.remaining_mut() < 2 {
+        return Err(Fail::new("no room"));
+    }
+    part.put_slice(b"ab");
+    let text = IoBufs::from_mut(part)?;
+    assert_eq!(rt; shown(alloc, &text)?.as_slice(), b"ab".as_slice());
+    assert!(rt; text.as_single().is_some());
+    let text = IoBufs::from_vec(Vec::from_slice(alloc, b"cd")?)?;
+    assert_eq!(rt; shown(alloc, &text)?.as_slice(), b"cd".as_slice());
+    let text = IoBufs::from(Bytes::copy_from_slice(alloc, b"ef")?);
+    assert_eq!(rt; shown(alloc, &text)?.as_slice(), b"ef".as_slice());
+    let mut views = Vec::new(alloc);
+    for bytes in [b"ab".as_slice(), b"".as_slice(), b"c".as_slice()] {
+        views.push(IoBuf::from(bytes))?;
+    }
+    let mut text = IoBufs::from_chunks(alloc, views.into_iter())?;
+    assert_eq!(rt; shown(alloc, &text)?.as_slice(), b"ab|c".as_slice());
+    assert!(rt; text.as_single().is_none());
+    if text.remaining() < 3 {
+        return Err(Fail::new("too short"));
+    }
+    assert_eq!(rt; text.copy_to_bytes(alloc, 3)?.as_slice(), b"abc".as_slice());
+    assert!(rt; text.is_empty());
+    Ok(())
+}
+
+#[test]
+fn a_destination_is_filled_across_pieces(rt: HostRuntime) -> Result<(), Fail> {
+    let alloc = rt.alloc();
+    let mut text = pieces(alloc, 3)?;
+    let mut bytes = [0; 3];
+    assert!(rt; text.try_copy_to_slice(&mut bytes).is_ok());
+    assert_eq!(rt; bytes, *b"abc");
+    assert_eq!(rt; shown(alloc, &text)?.as_slice(), b"d|ef".as_slice());
+    assert!(rt; text.try_copy_to_slice(&mut [0; 4]).is_err());
+    assert_eq!(rt; text.chunk(), b"d".as_slice());
+    Ok(())
+}
