@@ -102,7 +102,8 @@ impl IoBufs {
 
     /// The number of pieces that hold bytes.
     pub fn chunk_count(&self) -> usize
-        ensures { result ≡ count_of self.now }
+        ensures keys { result ≡ count_of self.now }
+        ensures chunks { result ≡ length (text_chunks self.now) }
     {
         if self.len() == 0 {
             return 0;
