@@ -1,7 +1,7 @@
 // Lines of text as commands.
 use hex::FromHexError;
 use iobufs_run::command::Cmd;
-use std::alloc::{AllocError, Global};
+use std::alloc::{AllocError, AllocFailed, Global};
 
 /// Why a line gives no command.
 #[derive(Clone, Copy, Debug, PartialEq, Eq)]
@@ -14,6 +14,12 @@ pub enum LineError {
 
 impl From<AllocError> for LineError {
     fn from(_error: AllocError) -> LineError {
+        LineError::Memory
+    }
+}
+
+impl<T: Drop> From<AllocFailed<T>> for LineError {
+    fn from(_error: AllocFailed<T>) -> LineError {
         LineError::Memory
     }
 }
@@ -33,6 +39,15 @@ fn number(word: &str) -> Result<usize, LineError> {
         return Err(LineError::NoCommand);
     }
     word.parse::<usize>().map_err(|_| LineError::NoCommand)
+}
+
+// Any number of numbers.
+fn numbers(alloc: Global, words: &[&str]) -> Result<Vec<usize>, LineError> {
+    let mut all = Vec::with_capacity(alloc, words.len())?;
+    for word in words {
+        all.push(number(word)?)?;
+    }
+    Ok(all)
 }
 
 // An even number of hexadecimal digits, at least two, or a dash for no bytes.
@@ -69,6 +84,22 @@ pub fn command(alloc: Global, line: &str) -> Result<Cmd, LineError> {
         ["advance", target, n] => Ok(Cmd::Advance {
             target: number(target)?,
             n: number(n)?,
+        }),
+        ["gather", dst, sources @ ..] => Ok(Cmd::Gather {
+            dst: number(dst)?,
+            sources: numbers(alloc, sources)?,
+        }),
+        ["append", target, src] => Ok(Cmd::Append {
+            target: number(target)?,
+            src: number(src)?,
+        }),
+        ["prepend", target, src] => Ok(Cmd::Prepend {
+            target: number(target)?,
+            src: number(src)?,
+        }),
+        ["coalesce", src, dst] => Ok(Cmd::Coalesce {
+            src: number(src)?,
+            dst: number(dst)?,
         }),
         ["show", target] => Ok(Cmd::Show {
             target: number(target)?,

@@ -27,6 +27,7 @@ fn name(kind: Kind) -> &'static str {
     match kind {
         Kind::Part => "part",
         Kind::View => "view",
+        Kind::Text => "text",
     }
 }
 
@@ -41,7 +42,7 @@ impl fmt::Display for Line<'_> {
                     let digits = Hex(bytes.as_slice());
                     match kind {
                         Kind::Part => write!(f, " {digits}+{spare}")?,
-                        Kind::View => write!(f, " {digits}")?,
+                        Kind::View | Kind::Text => write!(f, " {digits}")?,
                     }
                 }
                 Ok(())

@@ -4,17 +4,19 @@
 --     consumed, MayFree          the names that such a refusal may cost
 --     after, Answers             what a command that is done leaves, and its reply
 --     Step, Run                  one command; any list of them
-use Rattle.std.specs.Prelude.{◌≡◌, ◌⊎◌, ℕ, ◌==◌, Bool, true, false, ◌&&◌, ◌||◌, not, nat_lt, nat_le, if◌then◌else◌, List, [], ◌∷◌, map, length, slice_set, Option, Some, None, IsTrue, Result, Ok, Err}
+use Rattle.std.specs.Prelude.{◌≡◌, ◌⊎◌, ℕ, ◌+◌, ◌^◌, ◌==◌, sum_by, Bool, true, false, ◌&&◌, ◌||◌, not, nat_lt, nat_le, if◌then◌else◌, List, [], ◌∷◌, map, length, slice_set, Option, Some, None, IsTrue, Result, Ok, Err}
+use Rattle.std.specs.List.{list_any, list_all}
 use Rattle.iobufs_core.specs.Part.{empty_part, is_bad_layout}
-use Rattle.iobufs_run.specs.Slots.{held, is_free, is_part, is_view, is_static_view, readable, writable, slot_put, slot_frozen, slot_split_front, slot_rest, slot_advanced, shown_piece, Shows}
+use Rattle.iobufs_core.specs.MarkedText.{joined}
+use Rattle.iobufs_run.specs.Slots.{held, is_free, is_part, is_view, is_text, is_static_view, is_in_pieces, is_too_large, readable, writable, view_held, slot_put, slot_frozen, slot_split_front, slot_rest, slot_advanced, slot_appended, slot_prepended, slot_coalesced, shown_piece, Shows}
 use Rattle.iobufs_run.specs.declared.table.Slot.{Slot}
-use Rattle.iobufs_run.specs.declared.table.Slot.TheVariants.{Free, Part}
+use Rattle.iobufs_run.specs.declared.table.Slot.TheVariants.{Free, Part, Text}
 use Rattle.iobufs_run.specs.declared.command.Cmd.{Cmd}
-use Rattle.iobufs_run.specs.declared.command.Cmd.TheVariants.{NewMut, Put, Freeze, Split, Advance, Show}
+use Rattle.iobufs_run.specs.declared.command.Cmd.TheVariants.{NewMut, Put, Freeze, Split, Advance, Gather, Append, Prepend, Coalesce, Show}
 use Rattle.iobufs_run.specs.declared.command.Reply.{Reply}
 use Rattle.iobufs_run.specs.declared.command.Reply.TheVariants.{Done, Shown, Refused}
 use Rattle.iobufs_run.specs.declared.command.Refusal.{Refusal}
-use Rattle.iobufs_run.specs.declared.command.Refusal.TheVariants.{NoName, WrongKind, InUse, OutOfRange, BadLayout, Memory}
+use Rattle.iobufs_run.specs.declared.command.Refusal.TheVariants.{NoName, WrongKind, InUse, OutOfRange, BadLayout, TooLong, Memory}
 
 -- no such name
 abbrev pub is_no_name : List Slot → ℕ → Bool
@@ -23,6 +25,33 @@ is_no_name names name = nat_le (length names) name
 -- a destination that is in use, and is not the source that the command consumes
 abbrev pub is_in_use_beside : List Slot → ℕ → ℕ → Bool
 is_in_use_beside names src dst = not (dst == src) && not (is_free (held names dst))
+
+-- a name stands in a list, and one stands there twice
+abbrev pub is_listed : List ℕ → ℕ → Bool
+is_listed names name = list_any (λ other. other == name) names
+
+abbrev pub has_twice : List ℕ → Bool
+has_twice [] = false
+has_twice (name ∷ names) = is_listed names name || has_twice names
+
+-- so many bytes in front of others are more than a length can say
+abbrev pub is_too_long : ℕ → Bool
+is_too_long n = nat_le (2 ^ 64) n
+
+-- the causes to refuse a gathering of views
+abbrev pub gather_causes : List Slot → ℕ → List ℕ → List (Bool × Refusal)
+gather_causes names dst sources =
+    (is_no_name names dst || list_any (is_no_name names) sources, NoName)
+    ∷ (not (list_all (λ src. is_view (held names src)) sources), WrongKind)
+    ∷ (not (is_free (held names dst)) && not (is_listed sources dst) || has_twice sources, InUse)
+    ∷ (is_too_long (sum_by (λ src. readable (held names src)) sources), TooLong) ∷ []
+
+-- the causes to refuse to put a view behind or in front of a text
+abbrev pub join_causes : List Slot → ℕ → ℕ → List (Bool × Refusal)
+join_causes names target src =
+    (is_no_name names target || is_no_name names src, NoName)
+    ∷ (not (is_text (held names target)) || not (is_view (held names src)), WrongKind)
+    ∷ (is_too_long (readable (held names target) + readable (held names src)), TooLong) ∷ []
 
 -- the causes to refuse a command, in the order of their numbers, each with whether it stands
 abbrev pub causes : List Slot → Cmd → List (Bool × Refusal)
@@ -40,13 +69,21 @@ causes names (Freeze src dst) =
     ∷ (is_in_use_beside names src dst, InUse) ∷ []
 causes names (Split src dst at) =
     (is_no_name names src || is_no_name names dst, NoName)
-    ∷ (not (is_view (held names src)), WrongKind)
+    ∷ (not (is_view (held names src)) && not (is_text (held names src)), WrongKind)
     ∷ (not (is_free (held names dst)), InUse)
     ∷ (nat_lt (readable (held names src)) at, OutOfRange) ∷ []
 causes names (Advance target n) =
     (is_no_name names target, NoName)
     ∷ (is_free (held names target), WrongKind)
     ∷ (nat_lt (readable (held names target)) n, OutOfRange) ∷ []
+causes names (Gather dst sources) = gather_causes names dst sources.items
+causes names (Append target src) = join_causes names target src
+causes names (Prepend target src) = join_causes names target src
+causes names (Coalesce src dst) =
+    (is_no_name names src || is_no_name names dst, NoName)
+    ∷ (not (is_text (held names src)), WrongKind)
+    ∷ (is_in_use_beside names src dst, InUse)
+    ∷ (is_too_large (held names src), BadLayout) ∷ []
 causes names (Show target) =
     (is_no_name names target, NoName)
     ∷ (is_free (held names target), WrongKind) ∷ []
@@ -68,17 +105,30 @@ may_want_memory names (Freeze src dst) = not (readable (held names src) == 0)
 may_want_memory names (Split src dst at) =
     not (at == 0) && not (at == readable (held names src)) && not (is_static_view (held names src))
 may_want_memory names (Advance target n) = false
+may_want_memory names (Gather dst sources) = true
+may_want_memory names (Append target src) = not (readable (held names src) == 0) && not (readable (held names target) == 0)
+may_want_memory names (Prepend target src) = not (readable (held names src) == 0) && not (readable (held names target) == 0)
+may_want_memory names (Coalesce src dst) = is_in_pieces (held names src)
 may_want_memory names (Show target) = true
 
 -- the names whose buffers a command moves away
 abbrev pub consumed : Cmd → List ℕ
 consumed (Freeze src dst) = src ∷ []
+consumed (Gather dst sources) = sources.items
+consumed (Append target src) = src ∷ []
+consumed (Prepend target src) = src ∷ []
+consumed (Coalesce src dst) = src ∷ []
 consumed _ = []
 
 -- new is old, but that some of these names may be free
 abbrev pub MayFree : List ℕ → List Slot → List Slot → Type 0
 MayFree [] old new = new ≡ old
 MayFree (name ∷ names) old new = MayFree names old new ⊎ MayFree names (slice_set old name Free) new
+
+-- these names are free
+abbrev pub all_freed : List Slot → List ℕ → List Slot
+all_freed names [] = names
+all_freed names (src ∷ sources) = all_freed (slice_set names src Free) sources
 
 -- the names after a command that is done
 abbrev pub after : List Slot → Cmd → List Slot
@@ -88,6 +138,13 @@ after names (Freeze src dst) = slice_set (slice_set names src Free) dst (slot_fr
 after names (Split src dst at) =
     slice_set (slice_set names src (slot_rest (held names src) at)) dst (slot_split_front (held names src) at)
 after names (Advance target n) = slice_set names target (slot_advanced (held names target) n)
+after names (Gather dst sources) =
+    slice_set (all_freed names sources.items) dst (Text (joined (map (λ src. view_held (held names src)) sources.items)))
+after names (Append target src) =
+    slice_set (slice_set names src Free) target (slot_appended (held names target) (held names src))
+after names (Prepend target src) =
+    slice_set (slice_set names src Free) target (slot_prepended (held names target) (held names src))
+after names (Coalesce src dst) = slice_set (slice_set names src Free) dst (slot_coalesced (held names src))
 after names (Show target) = names
 
 -- the reply to a command that is done

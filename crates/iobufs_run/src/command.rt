@@ -14,15 +14,50 @@ pub enum Cmd {
         align: usize,
     },
     /// Puts bytes into a part.
-    Put { target: usize, bytes: Vec<u8> },
+    Put {
+        target: usize,
+        bytes: Vec<u8>,
+    },
     /// A part becomes a view.
-    Freeze { src: usize, dst: usize },
-    /// The first `at` bytes of a view go to `dst`.
-    Split { src: usize, dst: usize, at: usize },
+    Freeze {
+        src: usize,
+        dst: usize,
+    },
+    /// The first `at` bytes of a view or a text go to `dst`.
+    Split {
+        src: usize,
+        dst: usize,
+        at: usize,
+    },
     /// Drops the first `n` bytes.
-    Advance { target: usize, n: usize },
+    Advance {
+        target: usize,
+        n: usize,
+    },
+    /// Views become a text, in this order.
+    Gather {
+        dst: usize,
+        sources: Vec<usize>,
+    },
+    /// Puts a view behind a text.
+    Append {
+        target: usize,
+        src: usize,
+    },
+    /// Puts a view in front of a text.
+    Prepend {
+        target: usize,
+        src: usize,
+    },
+    /// A text becomes a view.
+    Coalesce {
+        src: usize,
+        dst: usize,
+    },
     /// Shows what a name holds.
-    Show { target: usize },
+    Show {
+        target: usize,
+    },
 }
 
 /// The answer to a command.
@@ -38,6 +73,7 @@ pub enum Reply {
 pub enum Kind {
     Part,
     View,
+    Text,
 }
 
 /// One piece of what is shown: its bytes, and the room behind them.
@@ -54,7 +90,7 @@ pub enum Refusal {
     NoName,
     /// A source is free, or of another kind than the command takes.
     WrongKind,
-    /// A destination is in use.
+    /// A destination is in use, or a source is listed twice.
     InUse,
     /// A number or a length is more than the buffer allows.
     OutOfRange,

@@ -2,9 +2,14 @@
 ghost use Rattle.std.specs.Prelude.{◌≡◌, length, replicate, IfOk, IsOkUnless, OnErr};
 ghost use Rattle.iobufs_run.specs.Run.{Run, Step, outcome as outcome_of};
 
-mod steps;
+mod parts;
+mod shown;
+mod slots;
+mod texts;
+mod views;
 
 use crate::command::{Cmd, Refusal, Reply};
+use iobufs::bufs::IoBufs;
 use iobufs_core::buf::{IoBuf, IoBufMut};
 use iobufs_core::codec::BufError;
 use std::alloc::Global;
@@ -16,6 +21,7 @@ pub enum Slot {
     Free,
     Part(IoBufMut),
     View(IoBuf),
+    Text(IoBufs),
 }
 
 /// Buffers under the names 0, 1, and so on.
@@ -67,12 +73,16 @@ impl Table {
                 dst,
                 capacity,
                 align,
-            } => reply(steps::new_mut(alloc, slots, *dst, *capacity, *align)),
-            Cmd::Put { target, bytes } => reply(steps::put(slots, *target, bytes)),
-            Cmd::Freeze { src, dst } => reply(steps::freeze(slots, *src, *dst)),
-            Cmd::Split { src, dst, at } => reply(steps::split(slots, *src, *dst, *at)),
-            Cmd::Advance { target, n } => reply(steps::advance(slots, *target, *n)),
-            Cmd::Show { target } => match steps::show(alloc, slots, *target) {
+            } => reply(parts::new_mut(alloc, slots, *dst, *capacity, *align)),
+            Cmd::Put { target, bytes } => reply(parts::put(slots, *target, bytes)),
+            Cmd::Freeze { src, dst } => reply(parts::freeze(slots, *src, *dst)),
+            Cmd::Split { src, dst, at } => reply(views::split(alloc, slots, *src, *dst, *at)),
+            Cmd::Advance { target, n } => reply(views::advance(slots, *target, *n)),
+            Cmd::Gather { dst, sources } => reply(texts::gather(alloc, slots, *dst, sources)),
+            Cmd::Append { target, src } => reply(texts::append(alloc, slots, *target, *src)),
+            Cmd::Prepend { target, src } => reply(texts::prepend(alloc, slots, *target, *src)),
+            Cmd::Coalesce { src, dst } => reply(texts::coalesce(alloc, slots, *src, *dst)),
+            Cmd::Show { target } => match shown::show(alloc, slots, *target) {
                 Ok(shown) => shown,
                 Err(refusal) => Reply::Refused(refusal),
             },

@@ -1,0 +1,138 @@
+-- Names that are freed one after the other, and the text of what they held.
+use Rattle.std.proofs.Common.{◌≡◌, ◌≢◌, ℕ, zero, suc, ◌+◌, ◌<◌, ◌≤◌, ◌^◌, inl, inr, true, false, List, [], ◌∷◌, ◌++◌, length, take, map, get_or, arith, ap, sym, refl, ◌∙◌, get_or-set_other, length-append}
+use Rattle.std.specs.Prelude.{slice_set, slice_index_or, ◌==◌, sum_by}
+use Rattle.std.specs.List.{list_all}
+use Rattle.std.proofs.lemmas.List.{get_or_default, take_more, map-append}
+use Rattle.iobufs.proofs.RunLaws.{length-joined}
+use Rattle.iobufs.specs.Pieces.{pieces_bytes}
+use Rattle.std.proofs.lemmas.Bool.{or_parts, or_from, and_parts}
+use Rattle.std.proofs.lemmas.Bool.Decides.{nat_tests}
+use Rattle.std.proofs.lemmas.List.Sums.{fold-append, sum_by-cons, sum_by_more_le}
+use Rattle.iobufs_core.specs.View.{View}
+use Rattle.iobufs_core.specs.MarkedText.{MarkedText, text_append, text_len, joined, default_text}
+use Rattle.iobufs_run.specs.declared.table.Slot.{Slot}
+use Rattle.iobufs_run.specs.declared.table.Slot.TheVariants.{Free, Part, Text}
+use Rattle.iobufs_run.specs.declared.table.Slot.TheVariants.{View as SlotView}
+use Rattle.iobufs_run.specs.Slots.{held, is_view, view_held, readable}
+use Rattle.iobufs_run.specs.Run.{all_freed, MayFree, is_listed, has_twice}
+
+pub all_freed-append : (old : List Slot) (xs : List ℕ) (x : ℕ) → all_freed old (xs ++ x ∷ []) ≡ slice_set (all_freed old xs) x Free
+all_freed-append old [] x = refl
+all_freed-append old (y ∷ ys) x = all_freed-append (slice_set old y Free) ys x
+
+-- a name that isn't listed keeps what it holds
+pub held_kept : (old : List Slot) (xs : List ℕ) (x : ℕ) → is_listed xs x ≡ false → held (all_freed old xs) x ≡ held old x
+held_kept old [] x e = refl
+held_kept old (y ∷ ys) x e =
+    let parts = or_parts (y == x) (is_listed ys x) e in
+    let other : x ≢ y = (let e = parts.0 in grind (arith, nat_tests)) in
+    held_kept (slice_set old y Free) ys x parts.1 ∙ get_or-set_other old y x Free Free other
+
+pub MayFree-none : (xs : List ℕ) (old : List Slot) → MayFree xs old old
+MayFree-none [] old = refl
+MayFree-none (x ∷ xs) old = inl (MayFree-none xs old)
+
+-- some of the names were freed, in order
+pub MayFree-front : (xs : List ℕ) (k : ℕ) (old : List Slot) → MayFree xs old (all_freed old (take k xs))
+MayFree-front [] zero old = refl
+MayFree-front [] (suc k) old = refl
+MayFree-front (x ∷ xs) zero old = inl (MayFree-none xs old)
+MayFree-front (x ∷ xs) (suc k) old = inr (MayFree-front xs k (slice_set old x Free))
+
+-- a name that isn't listed is another than each that is
+differs : (xs : List ℕ) (i x y : ℕ) → is_listed xs y ≡ false → i < length xs → x ≡ get_or xs i x → (y == x) ≡ false
+differs [] i x y e inside at = absurd (omega arith)
+differs (z ∷ zs) zero x y e inside at =
+    let parts = or_parts (z == y) (is_listed zs y) e in
+    let first = parts.0 in
+    grind (arith, nat_tests)
+differs (z ∷ zs) (suc i) x y e inside at =
+    let parts = or_parts (z == y) (is_listed zs y) e in
+    differs zs i x y parts.1 (omega arith) at
+
+-- a list without repeats has none of its elements twice
+pub not_before : (xs : List ℕ) (i x : ℕ) → has_twice xs ≡ false → i < length xs → x ≡ get_or xs i x → is_listed (take i xs) x ≡ false
+not_before [] i x once inside e = absurd (omega arith)
+not_before (y ∷ ys) zero x once inside e = refl
+not_before (y ∷ ys) (suc i) x once inside e =
+    let parts = or_parts (is_listed ys y) (has_twice ys) once in
+    or_from (y == x) (is_listed (take i ys) x) (differs ys i x y parts.0 (omega arith) e) (not_before ys i x parts.1 (omega arith) e)
+
+pub joined-append : (views : List View) (view : View) → joined (views ++ view ∷ []) ≡ text_append (joined views) view
+joined-append views view = fold-append text_append default_text views (view ∷ [])
+
+-- what was taken is put back
+pub put_back : (names : List Slot) (src : ℕ) (slot : Slot) → src < length names → held names src ≡ slot → slice_set (slice_set names src Free) src slot ≡ names
+put_back [] src slot inside e = absurd (omega arith)
+put_back (first ∷ others) zero slot inside e = ap (λ s. s ∷ others) (sym e)
+put_back (first ∷ others) (suc src) slot inside e = ap (λ ss. first ∷ ss) (put_back others src slot (omega arith) e)
+
+-- ---- one source more
+
+view_inside : (names : List Slot) (x : ℕ) → is_view (held names x) ≡ true → x < length names
+view_inside [] x e = cc
+view_inside (s ∷ ss) zero e = omega arith
+view_inside (s ∷ ss) (suc x) e = let ih = view_inside ss x e in omega arith
+
+source_is_view : (old : List Slot) (xs : List ℕ) (i : ℕ) → list_all (λ x. is_view (held old x)) xs ≡ true → i < length xs → is_view (held old (get_or xs i 0)) ≡ true
+source_is_view old [] i all inside = absurd (omega arith)
+source_is_view old (y ∷ ys) zero all inside = (and_parts (is_view (held old y)) (list_all (λ x. is_view (held old x)) ys) all).0
+source_is_view old (y ∷ ys) (suc i) all inside =
+    source_is_view old ys i (and_parts (is_view (held old y)) (list_all (λ x. is_view (held old x)) ys) all).1 (omega arith)
+
+-- a source holds still what it held, when those before it are free
+pub source_kept : (old now : List Slot) (xs : List ℕ) (i : ℕ) → has_twice xs ≡ false → now ≡ all_freed old (take i xs) → i < length xs
+    → held now (get_or xs i 0) ≡ held old (get_or xs i 0)
+source_kept old now xs i once is inside =
+    let x = get_or xs i 0 in
+    ap (λ (ss : List Slot). held ss x) is ∙ held_kept old (take i xs) x (not_before xs i x once inside (get_or_default xs i 0 x inside))
+
+-- read at any default it is a view
+pub source_read : (old now : List Slot) (xs : List ℕ) (i : ℕ) (d : Slot) → has_twice xs ≡ false → list_all (λ x. is_view (held old x)) xs ≡ true → now ≡ all_freed old (take i xs) → i < length xs
+    → (slice_index_or now (get_or xs i 0) d ≡ held old (get_or xs i 0)) × (is_view (held old (get_or xs i 0)) ≡ true)
+source_read old now xs i d once all is inside =
+    let x = get_or xs i 0 in
+    let kept = source_kept old now xs i once is inside in
+    let view = source_is_view old xs i all inside in
+    let there = view_inside now x (ap is_view kept ∙ view) in
+    (get_or_default now x d Free there ∙ kept, view)
+
+-- what is free after one source more
+pub freed_more : (old now : List Slot) (xs : List ℕ) (i : ℕ) (emptied : Slot) → now ≡ all_freed old (take i xs) → i < length xs → emptied ≡ Free
+    → slice_set now (get_or xs i 0) emptied ≡ all_freed old (take (i + 1) xs)
+freed_more old now xs i emptied is inside e =
+    ap (λ (f : Slot). slice_set now (get_or xs i 0) f) e ∙ ap (λ (ss : List Slot). slice_set ss (get_or xs i 0) Free) is
+    ∙ sym (all_freed-append old (take i xs) (get_or xs i 0)) ∙ ap (all_freed old) (sym (take_more xs i 0 inside))
+
+-- and the text of one view more
+pub text_more : (f : ℕ → View) (xs : List ℕ) (i : ℕ) (text new : MarkedText) (view : View) → text ≡ joined (map f (take i xs)) → new ≡ text_append text view → view ≡ f (get_or xs i 0) → i < length xs
+    → new ≡ joined (map f (take (i + 1) xs))
+text_more f xs i text new view is e v inside =
+    e ∙ ap (λ (t : MarkedText). text_append t view) is ∙ ap (text_append (joined (map f (take i xs)))) v
+    ∙ sym (joined-append (map f (take i xs)) (f (get_or xs i 0))) ∙ ap joined (sym (map-append f (take i xs) (get_or xs i 0 ∷ []))) ∙ ap (λ (ys : List ℕ). joined (map f ys)) (sym (take_more xs i 0 inside))
+
+bytes_sum : (f : ℕ → View) (xs : List ℕ) → length (pieces_bytes (map f xs)) ≡ sum_by (λ x. length (f x).bytes) xs
+bytes_sum f [] = refl
+bytes_sum f (x ∷ xs) =
+    length-append (f x).bytes (pieces_bytes (map f xs)) ∙ ap (λ n. length (f x).bytes + n) (bytes_sum f xs) ∙ sym (sum_by-cons (λ (y : ℕ). length (f y).bytes) x xs)
+
+sum_by_le : (f g : ℕ → ℕ) (xs : List ℕ) → ((x : ℕ) → f x ≤ g x) → sum_by f xs ≤ sum_by g xs
+sum_by_le f g [] le = omega arith
+sum_by_le f g (x ∷ xs) le = let ih = sum_by_le f g xs le in omega (arith, le x, sum_by-cons f x xs, sum_by-cons g x xs)
+
+view_held_len : (s : Slot) → length (view_held s).bytes ≤ readable s
+view_held_len (SlotView view) = omega arith
+view_held_len Free = omega arith
+view_held_len (Part part) = omega arith
+view_held_len (Text text) = omega arith
+
+-- the text so far and one view more are no longer than all sources
+pub source_fits : (old : List Slot) (xs : List ℕ) (i : ℕ) (text : MarkedText) (view : View) → sum_by (λ x. readable (held old x)) xs < 2 ^ 64
+    → text ≡ joined (map (λ x. view_held (held old x)) (take i xs)) → held old (get_or xs i 0) ≡ SlotView view → i < length xs → text_len text + length view.bytes < 2 ^ 64
+source_fits old xs i text view fits is at inside =
+    let viewed = λ (x : ℕ). view_held (held old x) in
+    let len : text_len text ≡ sum_by (λ x. length (viewed x).bytes) (take i xs) = length-joined (map viewed (take i xs)) text is ∙ bytes_sum viewed (take i xs) in
+    let few = sum_by_le (λ x. length (viewed x).bytes) (λ x. readable (held old x)) (take i xs) (λ x. view_held_len (held old x)) in
+    let more = sum_by_more_le (λ x. readable (held old x)) xs i 0 inside in
+    let last : readable (held old (get_or xs i 0)) ≡ length view.bytes = ap readable at in
+    omega (arith, len, few, more, last, fits)

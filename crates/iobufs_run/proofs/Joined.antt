@@ -1,0 +1,62 @@
+-- A view that is taken from its name to be put behind or in front of a text, and comes back.
+use Rattle.std.proofs.Common.{◌≡◌, ◌≢◌, ℕ, ◌<◌, true, false, List, length, arith, ap, sym, subst, ◌∙◌, None, get_or-set_other}
+use Rattle.std.specs.Prelude.{slice_set, slice_index_or, IsTrue, not, ◌==◌, ◌&&◌}
+use Rattle.std.proofs.lemmas.Bool.Decides.{nat_tests}
+use Rattle.std.proofs.lemmas.List.{set-get_or, get_or_default, length-set}
+use Rattle.iobufs_core.specs.View.{View as ViewValue}
+use Rattle.iobufs_run.specs.declared.table.Slot.{Slot}
+use Rattle.iobufs_run.specs.declared.table.Slot.TheVariants.{Free, View}
+use Rattle.iobufs_run.specs.Slots.{held, is_text, readable}
+use Rattle.iobufs_run.specs.Run.{first_cause, join_causes}
+use Rattle.iobufs_run.proofs.Gathered.{put_back}
+
+-- the target of a joining is a text
+target_is_text : (names : List Slot) (target src : ℕ) → first_cause (join_causes names target src) ≡ None → is_text (held names target) ≡ true
+target_is_text names target src none = grind (arith, nat_tests)
+
+pub other_name : (names : List Slot) (target src : ℕ) (view : ViewValue) → first_cause (join_causes names target src) ≡ None → held names src ≡ View view → target ≢ src
+other_name names target src view none at = λ same.
+    let text = target_is_text names target src none in
+    let here : held names target ≡ View view = ap (held names) same ∙ at in
+    let not_text : is_text (held names target) ≡ false = ap is_text here in
+    cc
+
+-- taking the view changes nothing at the target
+pub target_kept : (names : List Slot) (target src : ℕ) (view : ViewValue) → first_cause (join_causes names target src) ≡ None → held names src ≡ View view
+    → (d : Slot) → held (slice_set names src d) target ≡ held names target
+target_kept names target src view none at d = get_or-set_other names src target d Free (other_name names target src view none at)
+
+-- all is as before when the view comes back
+pub restored : (names : List Slot) (target src : ℕ) (view : ViewValue) (d : Slot) → src < length names → held names src ≡ View view
+    → slice_set (slice_set (slice_set names src Free) target (slice_index_or (slice_set names src Free) target d)) src (View view) ≡ names
+restored names target src view d inside at =
+    ap (λ (ss : List Slot). slice_set ss src (View view)) (set-get_or (slice_set names src Free) target d) ∙ put_back names src (View view) inside at
+
+names_inside : (names : List Slot) (target src : ℕ) → first_cause (join_causes names target src) ≡ None → (target < length names) × (src < length names)
+names_inside names target src none = (grind (arith, nat_tests), grind (arith, nat_tests))
+
+both_some : (m n : ℕ) → 0 < m → 0 < n → IsTrue (not (m == 0) && not (n == 0))
+both_some m n p q = grind (arith, nat_tests)
+
+-- a refused joining leaves all as it was, and both were not empty
+pub back_again : (names : List Slot) (target src : ℕ) (view back : ViewValue) (free kept d e : Slot) (new : List Slot)
+    → first_cause (join_causes names target src) ≡ None
+    → (slice_index_or names src d ≡ View view) × (free ≡ Free)
+    → (back ≡ view) × (kept ≡ slice_index_or (slice_set names src free) target e) × (0 < length view.bytes) × (0 < readable (slice_index_or (slice_set names src free) target e))
+    → new ≡ slice_set (slice_set (slice_set names src free) target kept) src (View back)
+    → IsTrue (not (readable (held names src) == 0) && not (readable (held names target) == 0)) × (new ≡ names)
+back_again names target src view back free kept d e new none took refused is =
+    let inside = names_inside names target src none in
+    let at : held names src ≡ View view = get_or_default names src Free d inside.1 ∙ took.0 in
+    let free_is = took.1 in
+    let long : target < length (slice_set names src free) = omega (arith, length-set names src free, inside.0) in
+    let there : slice_index_or (slice_set names src free) target e ≡ held names target =
+    get_or_default (slice_set names src free) target e Free long ∙ target_kept names target src view none at free in
+    let some : 0 < readable (held names src) = subst (λ (s : Slot). 0 < readable s) (sym at) refused.2 in
+    let some' : 0 < readable (held names target) = subst (λ (s : Slot). 0 < readable s) there refused.3 in
+    let all : new ≡ names =
+    is ∙ ap (λ (f : Slot). slice_set (slice_set (slice_set names src f) target kept) src (View back)) free_is
+    ∙ ap (λ (k : Slot). slice_set (slice_set (slice_set names src Free) target k) src (View back)) (refused.1 ∙ ap (λ (f : Slot). slice_index_or (slice_set names src f) target e) free_is)
+    ∙ ap (λ (v : ViewValue). slice_set (slice_set (slice_set names src Free) target (slice_index_or (slice_set names src Free) target e)) src (View v)) refused.0
+    ∙ restored names target src view e inside.1 at in
+    (both_some (readable (held names src)) (readable (held names target)) some some', all)

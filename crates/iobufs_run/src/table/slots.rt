@@ -1,0 +1,95 @@
+// Tests of what names hold, and what is taken from a slot.
+ghost use Rattle.std.specs.Prelude.{◌≡◌, ◌<◌, slice_set, length, false, IfSome, IfNone};
+ghost use Rattle.iobufs_run.specs.Slots.{is_free as free, is_part as part, is_view as view, is_text as text, readable as readable_bytes};
+
+use super::Slot;
+use iobufs::bufs::IoBufs;
+use iobufs_core::buf::{IoBuf, IoBufMut};
+use std::mem;
+
+pub(super) fn is_free(slot: &Slot) -> bool
+    ensures { result ≡ free slot.now }
+{
+    matches!(slot, Slot::Free)
+}
+
+pub(super) fn is_part(slot: &Slot) -> bool
+    ensures { result ≡ part slot.now }
+{
+    matches!(slot, Slot::Part(_))
+}
+
+pub(super) fn is_view(slot: &Slot) -> bool
+    ensures { result ≡ view slot.now }
+{
+    matches!(slot, Slot::View(_))
+}
+
+pub(super) fn is_text(slot: &Slot) -> bool
+    ensures { result ≡ text slot.now }
+{
+    matches!(slot, Slot::Text(_))
+}
+
+/// How many bytes can be read from what a name holds.
+pub(super) fn readable(slot: &Slot) -> usize
+    ensures { result ≡ readable_bytes slot.now }
+{
+    match slot {
+        Slot::Free => 0,
+        Slot::Part(part) => part.len(),
+        Slot::View(view) => view.len(),
+        Slot::Text(text) => text.len(),
+    }
+}
+
+/// Puts a buffer under a name. What the name held is dropped here, so that no other function has the branches of a
+/// drop.
+pub(super) fn hold(slots: &mut [Slot], name: usize, slot: Slot)
+    requires { name < length slots.old }
+    ensures { slots.new ≡ slice_set slots.old name slot }
+{
+    slots[name] = slot;
+}
+
+/// Takes the part out of a slot.
+pub(super) fn take_part(slot: &mut Slot) -> Option<IoBufMut>
+    ensures some { IfSome result (λ part. (slot.old ≡ Slot.Part part) × (slot.new ≡ Slot.Free)) }
+    ensures none { IfNone result ((part slot.old ≡ false) × (slot.new ≡ slot.old)) }
+{
+    match mem::replace(slot, Slot::Free) {
+        Slot::Part(part) => Some(part),
+        other => {
+            *slot = other;
+            None
+        }
+    }
+}
+
+/// Takes the view out of a slot.
+pub(super) fn take_view(slot: &mut Slot) -> Option<IoBuf>
+    ensures some { IfSome result (λ view. (slot.old ≡ Slot.View view) × (slot.new ≡ Slot.Free)) }
+    ensures none { IfNone result ((view slot.old ≡ false) × (slot.new ≡ slot.old)) }
+{
+    match mem::replace(slot, Slot::Free) {
+        Slot::View(view) => Some(view),
+        other => {
+            *slot = other;
+            None
+        }
+    }
+}
+
+/// Takes the text out of a slot.
+pub(super) fn take_text(slot: &mut Slot) -> Option<IoBufs>
+    ensures some { IfSome result (λ text. (slot.old ≡ Slot.Text text) × (slot.new ≡ Slot.Free)) }
+    ensures none { IfNone result ((text slot.old ≡ false) × (slot.new ≡ slot.old)) }
+{
+    match mem::replace(slot, Slot::Free) {
+        Slot::Text(text) => Some(text),
+        other => {
+            *slot = other;
+            None
+        }
+    }
+}

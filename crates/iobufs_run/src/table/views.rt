@@ -1,0 +1,73 @@
+// The commands that take bytes from the front.
+ghost use Rattle.std.specs.Prelude.{◌≡◌, ◌≤◌, ◌⊎◌, false, IfOk, IfErr, IsTrue, OnErr, nat_eq};
+ghost use Rattle.iobufs_run.specs.declared.command.Cmd.{Cmd};
+ghost use Rattle.iobufs_run.specs.Run.{Step, outcome};
+ghost use Rattle.iobufs_run.specs.Slots.{is_view as view, is_text as text, is_static_view as static_view, readable as readable_bytes, slot_split_front, slot_rest};
+
+use super::Slot;
+use super::slots::{hold, is_free, is_text, is_view, readable};
+use crate::command::Refusal;
+use iobufs_core::codec::Buf;
+use std::alloc::Global;
+
+// Splits the view or the text that a slot holds.
+fn split_slot(alloc: Global, slot: &mut Slot, at: usize) -> Result<Slot, Refusal>
+    requires kind { IsTrue (view slot.old) ⊎ IsTrue (text slot.old) }
+    requires within { at ≤ readable_bytes slot.old }
+    ensures ok { IfOk result (λ front. (front ≡ slot_split_front slot.old at) × (slot.new ≡ slot_rest slot.old at)) }
+    ensures err { OnErr result (slot.new ≡ slot.old) }
+    ensures memory { IfErr result (λ refusal. (refusal ≡ Refusal.Memory) × (nat_eq at 0 ≡ false) × (nat_eq at (readable_bytes slot.old) ≡ false) × (static_view slot.old ≡ false)) }
+{
+    match slot {
+        Slot::View(view) => Ok(Slot::View(view.split_to(at)?)),
+        Slot::Text(text) => Ok(Slot::Text(text.split_to(alloc, at)?)),
+        _ => unreachable!(),
+    }
+}
+
+pub(super) fn split(
+    alloc: Global,
+    slots: &mut [Slot],
+    src: usize,
+    dst: usize,
+    at: usize,
+) -> Result<(), Refusal>
+    ensures { Step slots.old (Cmd.Split src dst at) (outcome result) slots.new }
+{
+    if src >= slots.len() || dst >= slots.len() {
+        return Err(Refusal::NoName);
+    }
+    if !is_view(&slots[src]) && !is_text(&slots[src]) {
+        return Err(Refusal::WrongKind);
+    }
+    if !is_free(&slots[dst]) {
+        return Err(Refusal::InUse);
+    }
+    if readable(&slots[src]) < at {
+        return Err(Refusal::OutOfRange);
+    }
+    let front = split_slot(alloc, &mut slots[src], at)?;
+    hold(slots, dst, front);
+    Ok(())
+}
+
+pub(super) fn advance(slots: &mut [Slot], target: usize, n: usize) -> Result<(), Refusal>
+    ensures { Step slots.old (Cmd.Advance target n) (outcome result) slots.new }
+{
+    if target >= slots.len() {
+        return Err(Refusal::NoName);
+    }
+    if is_free(&slots[target]) {
+        return Err(Refusal::WrongKind);
+    }
+    if readable(&slots[target]) < n {
+        return Err(Refusal::OutOfRange);
+    }
+    match &mut slots[target] {
+        Slot::Free => {}
+        Slot::Part(part) => part.advance(n),
+        Slot::View(view) => view.advance(n),
+        Slot::Text(text) => text.advance(n),
+    }
+    Ok(())
+}
