@@ -219,7 +219,7 @@ fn every_shape_is_cut_at_every_place(rt: HostRuntime) -> Result<(), Fail> {
             );
             assert_eq!(rt;
                 (front.chunk_count(), rest.chunk_count()),
-                (at.div_ceil(2), count - at / 2)
+                (at.div_ceil(2), count.saturating_sub(at / 2))
             );
             for i in 0..rest.chunk_count() {
                 if let Some(chunk) = rest.chunk_at(i) {

@@ -190,15 +190,15 @@ impl IoBufs {
         ensures nothing { length piece.bytes ≡ 0 → IsOk result }
         ensures onto_nothing { text_len self.old ≡ 0 → IsOk result }
     {
-        let (len, more) = (self.len(), piece.len());
-        if more == 0 {
+        let (len, ahead) = (self.len(), piece.len());
+        if ahead == 0 {
             return Ok(());
         }
         if len == 0 {
             self.put(IoBufs::from(piece));
             return Ok(());
         }
-        let Some(total) = len.checked_add(more) else {
+        let Some(total) = len.checked_add(ahead) else {
             return Err(Refused {
                 cause: BufError::TooLong,
                 value: piece,
