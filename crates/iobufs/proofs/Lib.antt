@@ -11,3 +11,4 @@ pub mod TextLaws
 pub mod ReadLaws
 pub mod RunLaws
 pub mod Rows
+pub mod PartRows
