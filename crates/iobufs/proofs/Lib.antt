@@ -11,4 +11,5 @@ pub mod TextLaws
 pub mod ReadLaws
 pub mod RunLaws
 pub mod Rows
+pub mod PartLaws
 pub mod PartRows

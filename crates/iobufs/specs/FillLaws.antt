@@ -4,6 +4,7 @@ use Rattle.std.proofs.Common.{sym, ap, ◌∙◌, arith, append_assoc, append-ni
 use Rattle.std.proofs.lemmas.Bool.{cases_lt}
 use Rattle.std.proofs.Math.Seq.{drop-append-add, take-append-add, take-nil, drop-nil}
 use Rattle.std.proofs.lemmas.List.{take-append-le, drop-append-le, drop_all}
+use Rattle.std.proofs.lemmas.List.Sums.{sum_by-cons}
 use Rattle.iobufs_core.specs.Part.{Part, part_put}
 use Rattle.iobufs.specs.Parts.{parts_fill, parts_spare}
 
@@ -74,6 +75,8 @@ spare-fill [] w l = omega arith
 spare-fill (p ∷ parts) w l =
     let d : length (drop p.spare w) ≡ length w - p.spare = length-drop p.spare w in
     let t = length-take p.spare w in
+    let a = sum_by-cons (λ (x : Part). x.spare) p parts in
+    let b = sum_by-cons (λ (x : Part). x.spare) (part_put p (take p.spare w)) (parts_fill parts (drop p.spare w)) in
     let ih = spare-fill parts (drop p.spare w) (omega arith) in
     omega arith
 

@@ -5,4 +5,6 @@ pub mod Refusals
 pub mod Shapes
 pub mod DrainLaws
 pub mod FillLaws
+pub mod PartShape
+pub mod PartSingle
 pub mod Parts

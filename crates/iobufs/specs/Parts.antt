@@ -7,7 +7,8 @@
 --     parts_with_len, parts_overwritten           so many bytes filled; other bytes written over them
 --     parts_chunks, parts_frozen                  the pieces that a reader sees, and the text that they freeze to
 --     parts_coalesced                             as one part
-use Rattle.std.specs.Prelude.{ℕ, Bool, ◌+◌, ◌-◌, ◌^◌, ◌<◌, min, ◌==◌, ◌&&◌, not, nat_lt, if◌then◌else◌, List, [], ◌∷◌, length, take, drop, map, filter, flat_map}
+use Rattle.std.specs.Prelude.{ℕ, Bool, ◌-◌, ◌^◌, ◌<◌, min, ◌==◌, ◌&&◌, not, nat_lt, if◌then◌else◌, List, [], ◌∷◌, length, take, drop, map, filter, flat_map}
+use Rattle.std.specs.List.{sum_by}
 use Rattle.iobufs_core.specs.Chunks.{full_chunks}
 use Rattle.iobufs_core.specs.MarkedText.{MarkedText, joined}
 use Rattle.iobufs_core.specs.Part.{Part, empty_part, part_capacity, part_copied, part_drained, part_frozen, part_overwritten, part_put, part_with_len}
@@ -18,12 +19,10 @@ parts_filled parts = flat_map (λ part. part.filled) parts
 
 -- how many more fit
 abbrev pub parts_spare : List Part → ℕ
-parts_spare [] = 0
-parts_spare (part ∷ parts) = part.spare + parts_spare parts
+parts_spare parts = sum_by (λ part. part.spare) parts
 
 abbrev pub parts_capacity : List Part → ℕ
-parts_capacity [] = 0
-parts_capacity (part ∷ parts) = part_capacity part + parts_capacity parts
+parts_capacity parts = sum_by part_capacity parts
 
 -- each part can hold a byte
 abbrev pub HaveCapacity : List Part → Type 0

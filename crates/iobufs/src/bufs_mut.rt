@@ -1,7 +1,155 @@
 // Writable parts strung together.
-use iobufs_core::buf::IoBufMut;
+ghost use Rattle.std.specs.Prelude.{◌≡◌, ◌==◌, ◌∷◌, [], length, slice_get, MatchResult, IsTrue, ◌↔◌};
+ghost use Rattle.std.specs.Option.{option_copied};
+ghost use Rattle.std.specs.Borrow.{LendsIf, sem};
+ghost use Rattle.iobufs_core.specs.Part.{empty_part};
+ghost use Rattle.iobufs_core.specs.contracts.buf.write.IoBufMut.{the_row as part_row};
+ghost use Rattle.iobufs.specs.Parts.{IsParts, parts_capacity, parts_filled};
+ghost use Rattle.iobufs.specs.PartSingle.{single_part};
 
-/// x
-pub fn same(part: IoBufMut) -> IoBufMut {
-    part
+mod row;
+
+use iobufs_core::buf::IoBufMut;
+use std::alloc::Global;
+use std::collections::VecDeque;
+use std::marker::Model;
+
+/// Writable buffers in a row, read from the front and filled in order (`IoBufsMut`). With two or more, each can hold
+/// a byte.
+#[derive(Drop)]
+pub struct IoBufsMut {
+    shape: Shape,
+}
+
+// One part, which needs no list, or a row of two or more.
+#[derive(Drop)]
+enum Shape {
+    One(IoBufMut),
+    Many(VecDeque<IoBufMut>),
+}
+
+impl Model for IoBufsMut {
+    ghost use Rattle.std.specs.Prelude.{List};
+    ghost use Rattle.iobufs_core.specs.Part.{Part};
+    ghost use Rattle.iobufs.specs.PartShape.{shape_parts, IsShape};
+
+    ghost Value = { List Part };
+
+    ghost view = { λ parts. shape_parts parts.shape };
+
+    ghost invariant = { λ parts. IsShape parts.shape };
+}
+
+impl IoBufsMut {
+    /// One part of capacity 0.
+    pub fn default(alloc: Global) -> IoBufsMut
+        ensures { result ≡ empty_part 0 ∷ [] }
+    {
+        IoBufsMut::from(IoBufMut::default(alloc))
+    }
+
+    /// The number of readable bytes.
+    #[tactic(auto, using(crate::proofs::PartLaws::sums))]
+    pub fn len(&self) -> usize
+        ensures { result ≡ length (parts_filled self.now) }
+    {
+        match &self.shape {
+            Shape::One(part) => part.len(),
+            Shape::Many(parts) => row::len(parts),
+        }
+    }
+
+    pub fn is_empty(&self) -> bool
+        ensures { result ≡ (length (parts_filled self.now) == 0) }
+    {
+        self.len() == 0
+    }
+
+    /// How many bytes fit, counted from the first readable one.
+    pub fn capacity(&self) -> usize
+        ensures sum { result ≡ parts_capacity self.now }
+        ensures parts { IsParts self.now }
+    {
+        match &self.shape {
+            Shape::One(part) => part.capacity(),
+            Shape::Many(parts) => row::capacity(parts),
+        }
+    }
+
+    /// The number of parts (the original has no such call).
+    pub fn part_count(&self) -> usize
+        ensures { result ≡ length self.now }
+    {
+        match &self.shape {
+            Shape::One(_) => 1,
+            Shape::Many(parts) => parts.len(),
+        }
+    }
+
+    /// The part at a place, if there is one (the original has no such call).
+    pub fn part_at(&self, i: usize) -> Option<&IoBufMut>
+        ensures { option_copied result ≡ slice_get self.now i }
+    {
+        match &self.shape {
+            Shape::One(part) => match i {
+                0 => Some(part),
+                _ => None,
+            },
+            Shape::Many(parts) => parts.get(i),
+        }
+    }
+
+    /// Whether there is just one part.
+    pub fn is_single(&self) -> bool
+        ensures { result ≡ (length self.now == 1) }
+    {
+        match &self.shape {
+            Shape::One(_) => true,
+            Shape::Many(_) => false,
+        }
+    }
+
+    /// The only part, if there is just one.
+    pub fn as_single(&self) -> Option<&IoBufMut>
+        ensures { option_copied result ≡ single_part self.now }
+    {
+        match &self.shape {
+            Shape::One(part) => Some(part),
+            Shape::Many(_) => None,
+        }
+    }
+
+    /// The only part, if there is just one; several parts come back (`IoBufsMut::try_into_single`).
+    pub fn try_into_single(self) -> Result<IoBufMut, IoBufsMut>
+        ensures { MatchResult result (λ part. self ≡ part ∷ []) (λ parts. (parts ≡ self) × (single_part self ≡ None)) }
+    {
+        match self.shape {
+            Shape::One(part) => Ok(part),
+            Shape::Many(parts) => Err(IoBufsMut {
+                shape: Shape::Many(parts),
+            }),
+        }
+    }
+}
+
+impl From<IoBufMut> for IoBufsMut {
+    ghost use Rattle.std.specs.Prelude.{◌≡◌, ◌∷◌, []};
+
+    ghost from_gives = { λ part parts. parts ≡ part ∷ [] };
+
+    fn from(part: IoBufMut) -> IoBufsMut {
+        IoBufsMut {
+            shape: Shape::One(part),
+        }
+    }
+}
+
+impl From<Vec<u8>> for IoBufsMut {
+    ghost use Rattle.std.specs.Prelude.{◌≡◌, ◌-◌, ◌∷◌, [], vec_capacity, vec_len};
+
+    ghost from_gives = { λ v parts. parts ≡ (record { filled = v.items; spare = vec_capacity v - vec_len v }) ∷ [] };
+
+    fn from(bytes: Vec<u8>) -> IoBufsMut {
+        IoBufsMut::from(IoBufMut::from(bytes))
+    }
 }
