@@ -1,6 +1,6 @@
 // Writable parts strung together.
 ghost use Rattle.std.specs.Prelude.{◌≡◌, ◌==◌, ◌∷◌, [], length, slice_get, MatchResult, IsTrue, ◌↔◌};
-ghost use Rattle.std.specs.Option.{option_copied};
+ghost use Rattle.std.specs.Option.{option_copied, option_map};
 ghost use Rattle.std.specs.Borrow.{LendsIf, sem};
 ghost use Rattle.iobufs_core.specs.Part.{empty_part};
 ghost use Rattle.iobufs_core.specs.contracts.buf.write.IoBufMut.{the_row as part_row};
@@ -28,6 +28,22 @@ enum Shape {
     Many(VecDeque<IoBufMut>),
 }
 
+impl Shape {
+    ghost use Rattle.iobufs.specs.contracts.bufs_mut.Shape.{the_row};
+    ghost use Rattle.iobufs.specs.declared.bufs_mut.Shape.TheVariants.{One};
+    ghost use Rattle.iobufs.specs.PartShape.{shape_single};
+
+    fn single_mut(&mut self) -> Option<&mut IoBufMut>
+        ensures* writes_back { sem 𝓛 (LendsIf the_row part_row self.entry result One self.old) }
+        ensures value { option_map (λ part. part.now) result ≡ shape_single self.old }
+    {
+        match self {
+            Shape::One(part) => Some(part),
+            Shape::Many(_) => None,
+        }
+    }
+}
+
 impl Model for IoBufsMut {
     ghost use Rattle.std.specs.Prelude.{List};
     ghost use Rattle.iobufs_core.specs.Part.{Part};
@@ -41,6 +57,8 @@ impl Model for IoBufsMut {
 }
 
 impl IoBufsMut {
+    ghost use Rattle.iobufs.specs.contracts.bufs_mut.IoBufsMut.{the_row};
+
     /// One part of capacity 0.
     pub fn default(alloc: Global) -> IoBufsMut
         ensures { result ≡ empty_part 0 ∷ [] }
@@ -117,6 +135,14 @@ impl IoBufsMut {
             Shape::One(part) => Some(part),
             Shape::Many(_) => None,
         }
+    }
+
+    /// The only part, to be written: what is written is the new part.
+    pub fn as_single_mut(&mut self) -> Option<&mut IoBufMut>
+        ensures* writes_back { sem 𝓛 (LendsIf the_row part_row self.entry result (λ part. part ∷ []) self.old) }
+        ensures value { option_map (λ part. part.now) result ≡ single_part self.old }
+    {
+        self.shape.single_mut()
     }
 
     /// The only part, if there is just one; several parts come back (`IoBufsMut::try_into_single`).
