@@ -13,3 +13,4 @@ pub mod RunLaws
 pub mod Rows
 pub mod PartLaws
 pub mod PartRows
+pub mod PartTurns

@@ -8,6 +8,7 @@ ghost use Rattle.iobufs.specs.Parts.{IsParts, parts_capacity, parts_filled};
 ghost use Rattle.iobufs.specs.PartSingle.{single_part};
 
 mod row;
+mod write;
 
 use iobufs_core::buf::IoBufMut;
 use std::alloc::Global;

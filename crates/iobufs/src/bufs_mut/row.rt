@@ -1,7 +1,7 @@
 // Several parts in a row: what the calls of `IoBufsMut` do to two or more.
-ghost use Rattle.std.specs.Prelude.{◌≡◌, ◌^◌, ◌<◌, length};
+ghost use Rattle.std.specs.Prelude.{◌≡◌, ◌^◌, ◌<◌, ◌≤◌, length, replicate};
 ghost use Rattle.std.specs.List.{sum_by};
-ghost use Rattle.iobufs.specs.Parts.{parts_capacity, parts_spare};
+ghost use Rattle.iobufs.specs.Parts.{parts_capacity, parts_fill, parts_spare};
 
 use iobufs_core::buf::IoBufMut;
 use iobufs_core::codec::BufMut;
@@ -26,4 +26,38 @@ pub(super) fn room(parts: &VecDeque<IoBufMut>) -> usize
     ensures { result ≡ parts_spare parts.now.items }
 {
     parts.iter().map(|part| part.remaining_mut()).sum()
+}
+
+// Fills the room of the parts in order.
+pub(super) fn put(parts: &mut VecDeque<IoBufMut>, src: &[u8])
+    requires { length src.now ≤ parts_spare parts.old.items }
+    ensures { parts.new.items ≡ parts_fill parts.old.items src.now }
+{
+    let mut rest = src;
+    for i in 0..parts.len() {
+        if rest.is_empty() {
+            return;
+        }
+        let part = &mut parts[i];
+        let n = rest.len().min(part.remaining_mut());
+        part.put_slice(&rest[..n]);
+        rest = &rest[n..];
+    }
+}
+
+// The same with `n` times one byte.
+pub(super) fn put_bytes(parts: &mut VecDeque<IoBufMut>, value: u8, n: usize)
+    requires { n ≤ parts_spare parts.old.items }
+    ensures { parts.new.items ≡ parts_fill parts.old.items (replicate n value) }
+{
+    let mut rest = n;
+    for i in 0..parts.len() {
+        if rest == 0 {
+            return;
+        }
+        let part = &mut parts[i];
+        let n = rest.min(part.remaining_mut());
+        part.put_bytes(value, n);
+        rest -= n;
+    }
 }
