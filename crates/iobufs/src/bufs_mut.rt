@@ -1,10 +1,10 @@
 // Writable parts strung together.
-ghost use Rattle.std.specs.Prelude.{◌≡◌, ◌==◌, ◌∷◌, [], length, slice_get, MatchResult, IsTrue, ◌↔◌};
+ghost use Rattle.std.specs.Prelude.{◌≡◌, ◌≤◌, ◌==◌, ◌∷◌, [], length, slice_get, MatchResult, IsTrue, ◌↔◌};
 ghost use Rattle.std.specs.Option.{option_copied, option_map};
 ghost use Rattle.std.specs.Borrow.{LendsIf, sem};
 ghost use Rattle.iobufs_core.specs.Part.{empty_part};
 ghost use Rattle.iobufs_core.specs.contracts.buf.write.IoBufMut.{the_row as part_row};
-ghost use Rattle.iobufs.specs.Parts.{IsParts, parts_capacity, parts_filled};
+ghost use Rattle.iobufs.specs.Parts.{IsParts, parts_capacity, parts_filled, parts_overwritten, parts_with_len};
 ghost use Rattle.iobufs.specs.PartSingle.{single_part};
 
 mod row;
@@ -92,6 +92,31 @@ impl IoBufsMut {
         match &self.shape {
             Shape::One(part) => part.capacity(),
             Shape::Many(parts) => row::capacity(parts),
+        }
+    }
+
+    /// Makes `n` bytes readable, the parts filled in order (`IoBufsMut::set_len`, which is unsafe there). Bytes that
+    /// were not are zero.
+    #[tactic(auto, using(crate::proofs::PartLaws::kept))]
+    pub fn set_len(&mut self, n: usize)
+        requires { n ≤ parts_capacity self.old }
+        ensures { self.new ≡ parts_with_len self.old n }
+    {
+        match &mut self.shape {
+            Shape::One(part) => part.set_len(n),
+            Shape::Many(parts) => row::set_len(parts, n),
+        }
+    }
+
+    /// Writes over the readable bytes.
+    #[tactic(auto, using(crate::proofs::PartLaws::kept))]
+    pub fn copy_from_slice(&mut self, src: &[u8])
+        requires { length src.now ≡ length (parts_filled self.old) }
+        ensures { self.new ≡ parts_overwritten self.old src.now }
+    {
+        match &mut self.shape {
+            Shape::One(part) => part.as_mut().copy_from_slice(src),
+            Shape::Many(parts) => row::copy_from_slice(parts, src),
         }
     }
 
