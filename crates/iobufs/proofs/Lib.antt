@@ -11,6 +11,7 @@ pub mod TextLaws
 pub mod ReadLaws
 pub mod RunLaws
 pub mod Rows
+pub mod DrainShapes
 pub mod PartLaws
 pub mod PartRows
 pub mod PartTurns

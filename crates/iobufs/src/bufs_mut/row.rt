@@ -1,10 +1,11 @@
 // Several parts in a row: what the calls of `IoBufsMut` do to two or more.
-ghost use Rattle.std.specs.Prelude.{◌≡◌, ◌^◌, ◌<◌, ◌≤◌, length, replicate};
+ghost use Rattle.std.specs.Prelude.{◌≡◌, ◌^◌, ◌<◌, ◌≤◌, [], ◌∷◌, length, nat_lt, replicate, IfNone, IfSome};
 ghost use Rattle.std.specs.List.{sum_by};
-ghost use Rattle.iobufs.specs.Parts.{parts_capacity, parts_fill, parts_filled, parts_overwritten, parts_spare, parts_with_len};
+ghost use Rattle.iobufs_core.specs.Part.{part_capacity};
+ghost use Rattle.iobufs.specs.Parts.{HaveCapacity, parts_capacity, parts_copied, parts_drained, parts_fill, parts_filled, parts_or_default, parts_overwritten, parts_shared_out, parts_spare, parts_used_up, parts_with_len, with_capacity};
 
 use iobufs_core::buf::IoBufMut;
-use iobufs_core::codec::BufMut;
+use iobufs_core::codec::{Buf, BufMut};
 use std::collections::VecDeque;
 
 pub(super) fn len(parts: &VecDeque<IoBufMut>) -> usize
@@ -87,4 +88,92 @@ pub(super) fn copy_from_slice(parts: &mut VecDeque<IoBufMut>, src: &[u8])
         part.as_mut().copy_from_slice(share);
         rest = behind;
     }
+}
+
+#[tactic(auto, using(crate::proofs::DrainShapes::draining))]
+// Drops the first `n` bytes. Two or three parts keep their room; of four or more, those that are used up go with it.
+pub(super) fn advance(parts: &mut VecDeque<IoBufMut>, n: usize)
+    requires { 1 < length parts.old.items }
+    ensures rest { parts_or_default parts.new.items ≡ parts_drained parts.old.items n }
+    ensures have_capacity { HaveCapacity parts.old.items → HaveCapacity parts.new.items }
+    ensures fits { parts_capacity parts.new.items ≤ parts_capacity parts.old.items }
+{
+    if n == 0 {
+        return;
+    }
+    if parts.len() > 3 {
+        use_up(parts, n);
+        return;
+    }
+    share_out(parts, n);
+    drop_spent(parts);
+}
+
+// What stays when the first `n` bytes were copied out: of two or three parts, a first one that held just these goes.
+pub(super) fn advance_copied(parts: &mut VecDeque<IoBufMut>, n: usize)
+    requires { 1 < length parts.old.items }
+    ensures rest { parts_or_default parts.new.items ≡ parts_copied parts.old.items n }
+    ensures have_capacity { HaveCapacity parts.old.items → HaveCapacity parts.new.items }
+    ensures fits { parts_capacity parts.new.items ≤ parts_capacity parts.old.items }
+{
+    if n != 0 && parts.len() <= 3 && n == parts[0].len() {
+        parts.pop_front();
+        return;
+    }
+    advance(parts, n);
+}
+
+// Drops the first `n` bytes, each part its share of them.
+fn share_out(parts: &mut VecDeque<IoBufMut>, n: usize)
+    ensures { parts.new.items ≡ parts_shared_out parts.old.items n }
+{
+    let mut rest = n;
+    for i in 0..parts.len() {
+        let part = &mut parts[i];
+        let share = rest.min(part.len());
+        part.advance(share);
+        rest -= share;
+    }
+}
+
+// Drops the parts that can't hold a byte any more.
+fn drop_spent(parts: &mut VecDeque<IoBufMut>)
+    ensures { parts.new.items ≡ with_capacity parts.old.items }
+{
+    parts.retain(
+        |part: &IoBufMut| -> bool
+            ensures { result ≡ nat_lt 0 (part_capacity part.now) }
+        { part.capacity() > 0 },
+    );
+}
+
+// Drops the first `n` bytes, and the parts that are used up on the way.
+fn use_up(parts: &mut VecDeque<IoBufMut>, n: usize)
+    ensures { parts.new.items ≡ parts_used_up parts.old.items n }
+{
+    let mut rest = n;
+    while rest > 0 {
+        let Some(part) = parts.front_mut() else {
+            return;
+        };
+        let len = part.len();
+        if rest < len {
+            part.advance(rest);
+            return;
+        }
+        parts.pop_front();
+        rest -= len;
+    }
+}
+
+// Where fewer than two parts are left: the one that is left, or one of capacity 0.
+pub(super) fn take_single(parts: &mut VecDeque<IoBufMut>) -> Option<IoBufMut>
+    ensures none { IfNone result ((1 < length parts.old.items) × (parts.new.items ≡ parts.old.items)) }
+    ensures some { IfSome result (λ part. parts_or_default parts.old.items ≡ part ∷ []) }
+{
+    if parts.len() > 1 {
+        return None;
+    }
+    let alloc = *parts.allocator();
+    Some(parts.pop_front().unwrap_or(IoBufMut::default(alloc)))
 }
