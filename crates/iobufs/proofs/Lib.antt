@@ -12,6 +12,7 @@ pub mod ReadLaws
 pub mod RunLaws
 pub mod Rows
 pub mod DrainShapes
+pub mod PartChunks
 pub mod PartLaws
 pub mod PartRows
 pub mod PartTurns

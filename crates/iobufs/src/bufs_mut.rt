@@ -7,6 +7,7 @@ ghost use Rattle.iobufs_core.specs.contracts.buf.write.IoBufMut.{the_row as part
 ghost use Rattle.iobufs.specs.Parts.{IsParts, parts_capacity, parts_filled, parts_overwritten, parts_with_len};
 ghost use Rattle.iobufs.specs.PartSingle.{single_part};
 
+mod read;
 mod row;
 mod write;
 

@@ -1,11 +1,13 @@
 // Several parts in a row: what the calls of `IoBufsMut` do to two or more.
-ghost use Rattle.std.specs.Prelude.{◌≡◌, ◌^◌, ◌<◌, ◌≤◌, [], ◌∷◌, length, nat_lt, replicate, IfNone, IfSome};
+ghost use Rattle.std.specs.Prelude.{◌≡◌, ◌^◌, ◌<◌, ◌≤◌, [], ◌∷◌, length, map, nat_lt, replicate, slice_get, take, IfNone, IfOk, IfSome};
 ghost use Rattle.std.specs.List.{sum_by};
+ghost use Rattle.iobufs_core.specs.Chunks.{first_chunk};
 ghost use Rattle.iobufs_core.specs.Part.{part_capacity};
-ghost use Rattle.iobufs.specs.Parts.{HaveCapacity, parts_capacity, parts_copied, parts_drained, parts_fill, parts_filled, parts_or_default, parts_overwritten, parts_shared_out, parts_spare, parts_used_up, parts_with_len, with_capacity};
+ghost use Rattle.iobufs.specs.Parts.{HaveCapacity, parts_capacity, parts_chunks, parts_copied, parts_drained, parts_fill, parts_filled, parts_or_default, parts_overwritten, parts_shared_out, parts_spare, parts_used_up, parts_with_len, with_capacity};
 
 use iobufs_core::buf::IoBufMut;
 use iobufs_core::codec::{Buf, BufMut};
+use std::alloc::{AllocError, Global};
 use std::collections::VecDeque;
 
 pub(super) fn len(parts: &VecDeque<IoBufMut>) -> usize
@@ -176,4 +178,83 @@ pub(super) fn take_single(parts: &mut VecDeque<IoBufMut>) -> Option<IoBufMut>
     }
     let alloc = *parts.allocator();
     Some(parts.pop_front().unwrap_or(IoBufMut::default(alloc)))
+}
+
+// The first part that holds bytes, or none of them.
+#[tactic(auto, using(crate::proofs::PartChunks::reading))]
+pub(super) fn chunk(parts: &VecDeque<IoBufMut>) -> &[u8]
+    ensures { result.now ≡ first_chunk (parts_chunks parts.now.items) }
+{
+    for part in parts {
+        if !part.is_empty() {
+            return part.as_ref();
+        }
+    }
+    &[]
+}
+
+#[tactic(auto, using(crate::proofs::PartChunks::reading))]
+pub(super) fn byte_at(parts: &VecDeque<IoBufMut>, i: usize) -> Option<u8>
+    ensures { result ≡ slice_get (parts_filled parts.now.items) i }
+{
+    let mut at = i;
+    for part in parts {
+        let len = part.len();
+        if at < len {
+            return part.byte_at(at);
+        }
+        at -= len;
+    }
+    None
+}
+
+// Fills `dst` with the first bytes.
+#[tactic(auto, using(crate::proofs::PartChunks::reading))]
+pub(super) fn read(parts: &VecDeque<IoBufMut>, dst: &mut [u8])
+    requires { length dst.old ≤ length (parts_filled parts.now.items) }
+    ensures { dst.new ≡ take (length dst.old) (parts_filled parts.now.items) }
+{
+    let mut at = 0;
+    for part in parts {
+        let n = part.len().min(dst.len() - at);
+        dst[at..at + n].copy_from_slice(&part.as_ref()[..n]);
+        at += n;
+    }
+}
+
+// A copy of the first `n` bytes.
+#[tactic(auto, using(crate::proofs::PartChunks::reading))]
+pub(super) fn front(
+    alloc: Global,
+    parts: &VecDeque<IoBufMut>,
+    n: usize,
+) -> Result<Vec<u8>, AllocError>
+    ensures { IfOk result (λ bytes. bytes.items ≡ take n (parts_filled parts.now.items)) }
+{
+    let mut bytes = Vec::with_capacity(alloc, n)?;
+    let mut rest = n;
+    for part in parts {
+        let share = rest.min(part.len());
+        bytes.extend_from_slice(&part.as_ref()[..share])?;
+        rest -= share;
+    }
+    Ok(bytes)
+}
+
+// The first parts that hold bytes, at most `max`.
+#[tactic(auto, using(crate::proofs::PartChunks::reading))]
+pub(super) fn chunks(
+    alloc: Global,
+    parts: &VecDeque<IoBufMut>,
+    max: usize,
+) -> Result<Vec<&[u8]>, AllocError>
+    ensures { IfOk result (λ chunks. map (λ chunk. chunk.now) chunks.items ≡ take max (parts_chunks parts.now.items)) }
+{
+    let mut chunks = Vec::new(alloc);
+    for part in parts {
+        if chunks.len() < max && !part.is_empty() {
+            chunks.push(part.as_ref())?;
+        }
+    }
+    Ok(chunks)
 }
