@@ -11,6 +11,7 @@ pub mod TextLaws
 pub mod ReadLaws
 pub mod RunLaws
 pub mod Rows
+pub mod Coalesced
 pub mod DrainShapes
 pub mod PartChunks
 pub mod PartLaws

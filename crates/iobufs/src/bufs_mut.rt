@@ -1,10 +1,12 @@
 // Writable parts strung together.
-ghost use Rattle.std.specs.Prelude.{◌≡◌, ◌≤◌, ◌==◌, ◌∷◌, [], length, slice_get, MatchResult, IsTrue, ◌↔◌};
+ghost use Rattle.std.specs.Prelude.{◌≡◌, ◌<◌, ◌≤◌, ◌==◌, ◌^◌, List, ◌∷◌, ◌++◌, [], length, slice_get, Err, IfErr, IfOk, IsOk, IsOkUnless, MatchResult};
+ghost use Rattle.std.specs.Iterator.{Drains, IsFinite, Yields};
 ghost use Rattle.std.specs.Option.{option_copied, option_map};
 ghost use Rattle.std.specs.Borrow.{LendsIf, sem};
-ghost use Rattle.iobufs_core.specs.Part.{empty_part};
+ghost use Rattle.iobufs_core.specs.Part.{Part, empty_part};
 ghost use Rattle.iobufs_core.specs.contracts.buf.write.IoBufMut.{the_row as part_row};
-ghost use Rattle.iobufs.specs.Parts.{IsParts, parts_capacity, parts_filled, parts_overwritten, parts_with_len};
+ghost use Rattle.iobufs.specs.Parts.{HaveCapacity, IsParts, kept_parts, parts_capacity, parts_coalesced, parts_filled, parts_or_default, parts_overwritten, parts_with_len};
+ghost use Rattle.iobufs.specs.PartLimits.{IsRefusedAt};
 ghost use Rattle.iobufs.specs.PartSingle.{single_part};
 
 mod read;
@@ -12,6 +14,7 @@ mod row;
 mod write;
 
 use iobufs_core::buf::IoBufMut;
+use iobufs_core::codec::{BufError, BufMut};
 use std::alloc::Global;
 use std::collections::VecDeque;
 use std::marker::Model;
@@ -33,7 +36,19 @@ enum Shape {
 impl Shape {
     ghost use Rattle.iobufs.specs.contracts.bufs_mut.Shape.{the_row};
     ghost use Rattle.iobufs.specs.declared.bufs_mut.Shape.TheVariants.{One};
-    ghost use Rattle.iobufs.specs.PartShape.{shape_single};
+    ghost use Rattle.iobufs.specs.PartShape.{IsShape, shape_parts, shape_single};
+
+    fn of_row(mut parts: VecDeque<IoBufMut>) -> Shape
+        requires have_capacity { HaveCapacity parts.items }
+        requires fits { parts_capacity parts.items < 2 ^ 64 }
+        ensures parts { shape_parts result ≡ parts_or_default parts.items }
+        ensures shape { IsShape result }
+    {
+        match row::take_single(&mut parts) {
+            Some(part) => Shape::One(part),
+            None => Shape::Many(parts),
+        }
+    }
 
     fn single_mut(&mut self) -> Option<&mut IoBufMut>
         ensures* writes_back { sem 𝓛 (LendsIf the_row part_row self.entry result One self.old) }
@@ -66,6 +81,34 @@ impl IoBufsMut {
         ensures { result ≡ empty_part 0 ∷ [] }
     {
         IoBufsMut::from(IoBufMut::default(alloc))
+    }
+
+    /// The parts of an iterator that can hold a byte; where there are none, one of capacity 0. `BufError::TooLong` where
+    /// a part's capacity and those before it together pass `usize::MAX`, tested before memory is asked for.
+    pub fn from_parts<I: Iterator<Item = IoBufMut> + Drop>(
+        alloc: Global,
+        items: I,
+    ) -> Result<IoBufsMut, BufError>
+        requires can { I.can_next items }
+        requires ends { IsFinite (I.remaining items) }
+        ensures ok { IfOk result (λ parts. (taken : List Part) × Drains I.next_gives items taken × (parts_capacity taken < 2 ^ 64) × (parts ≡ kept_parts taken)) }
+        ensures err { IfErr result (λ cause. (front : List Part) × (last : Part) × (rest : I) × Yields I.next_gives items (front ++ last ∷ []) rest × IsRefusedAt cause front last) }
+    {
+        let mut parts = VecDeque::new(alloc);
+        let mut left = usize::MAX;
+        for part in items {
+            let capacity = part.capacity();
+            if capacity > left {
+                return Err(BufError::TooLong);
+            }
+            left -= capacity;
+            if capacity > 0 {
+                parts.push_back(part)?;
+            }
+        }
+        Ok(IoBufsMut {
+            shape: Shape::of_row(parts),
+        })
     }
 
     /// The number of readable bytes.
@@ -170,6 +213,24 @@ impl IoBufsMut {
         ensures value { option_map (λ part. part.now) result ≡ single_part self.old }
     {
         self.shape.single_mut()
+    }
+
+    /// One part as it is; more as a copy of the readable bytes with no room behind them. `BufError::BadLayout` exactly
+    /// where two or more hold over `isize::MAX` bytes.
+    #[tactic(auto, using(crate::proofs::Coalesced::coalescing))]
+    pub fn coalesce(self, alloc: Global) -> Result<IoBufMut, BufError>
+        ensures ok { IfOk result (λ part. part ≡ parts_coalesced self) }
+        ensures single { length self ≡ 1 → IsOk result }
+        ensures bad_layout { 1 < length self → 2 ^ 63 ≤ length (parts_filled self) → result ≡ Err BufError.BadLayout }
+        ensures good_layout { length (parts_filled self) < 2 ^ 63 → IsOkUnless result BufError.Memory }
+    {
+        let parts = match self.try_into_single() {
+            Ok(part) => return Ok(part),
+            Err(parts) => parts,
+        };
+        let mut whole = IoBufMut::with_capacity(alloc, parts.len())?;
+        whole.put(parts);
+        Ok(whole)
     }
 
     /// The only part, if there is just one; several parts come back (`IoBufsMut::try_into_single`).
