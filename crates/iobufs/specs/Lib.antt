@@ -7,5 +7,4 @@ pub mod DrainLaws
 pub mod FillLaws
 pub mod PartLimits
 pub mod PartShape
-pub mod PartSingle
 pub mod Parts

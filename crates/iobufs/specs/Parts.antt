@@ -6,8 +6,8 @@
 --     parts_drained, parts_copied                 what stays when bytes are dropped, and when they are copied out
 --     parts_with_len, parts_overwritten           so many bytes filled; other bytes written over them
 --     parts_chunks, parts_frozen                  the pieces that a reader sees, and the text that they freeze to
---     parts_coalesced                             as one part
-use Rattle.std.specs.Prelude.{ℕ, Bool, ◌-◌, ◌^◌, ◌<◌, min, ◌==◌, ◌&&◌, not, nat_lt, if◌then◌else◌, List, [], ◌∷◌, length, take, drop, map, filter, flat_map}
+--     single_part, parts_coalesced                the only part, and all as one part
+use Rattle.std.specs.Prelude.{ℕ, Bool, Option, None, Some, ◌-◌, ◌^◌, ◌<◌, min, ◌==◌, ◌&&◌, not, nat_lt, if◌then◌else◌, List, [], ◌∷◌, length, take, drop, map, filter, flat_map}
 use Rattle.std.specs.List.{sum_by}
 use Rattle.iobufs_core.specs.Chunks.{full_chunks}
 use Rattle.iobufs_core.specs.MarkedText.{MarkedText, joined}
@@ -107,6 +107,11 @@ parts_chunks parts = full_chunks (map (λ part. part.filled) parts)
 -- the parts that hold bytes as native pieces, one behind the other
 abbrev pub parts_frozen : List Part → MarkedText
 parts_frozen parts = joined (map part_frozen parts)
+
+-- the only part, if there is just one
+abbrev pub single_part : List Part → Option Part
+single_part (part ∷ []) = Some part
+single_part parts = None
 
 -- one part as it is, more as a copy with no room behind it
 abbrev pub parts_coalesced : List Part → Part

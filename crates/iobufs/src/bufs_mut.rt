@@ -5,12 +5,13 @@ ghost use Rattle.std.specs.Option.{option_copied, option_map};
 ghost use Rattle.std.specs.Borrow.{LendsIf, sem};
 ghost use Rattle.iobufs_core.specs.Part.{Part, empty_part};
 ghost use Rattle.iobufs_core.specs.contracts.buf.write.IoBufMut.{the_row as part_row};
-ghost use Rattle.iobufs.specs.Parts.{HaveCapacity, IsParts, kept_parts, parts_capacity, parts_coalesced, parts_filled, parts_or_default, parts_overwritten, parts_with_len};
+ghost use Rattle.iobufs.specs.Parts.{HaveCapacity, IsParts, kept_parts, parts_capacity, parts_coalesced, parts_filled, parts_or_default, parts_overwritten, parts_with_len, single_part};
 ghost use Rattle.iobufs.specs.PartLimits.{IsRefusedAt};
-ghost use Rattle.iobufs.specs.PartSingle.{single_part};
 
 mod read;
 mod row;
+#[cfg(test)]
+mod tests;
 mod write;
 
 use iobufs_core::buf::IoBufMut;

@@ -216,6 +216,9 @@ pub(super) fn read(parts: &VecDeque<IoBufMut>, dst: &mut [u8])
 {
     let mut at = 0;
     for part in parts {
+        if at == dst.len() {
+            return;
+        }
         let n = part.len().min(dst.len() - at);
         dst[at..at + n].copy_from_slice(&part.as_ref()[..n]);
         at += n;
@@ -234,6 +237,9 @@ pub(super) fn front(
     let mut bytes = Vec::with_capacity(alloc, n)?;
     let mut rest = n;
     for part in parts {
+        if rest == 0 {
+            break;
+        }
         let share = rest.min(part.len());
         bytes.extend_from_slice(&part.as_ref()[..share])?;
         rest -= share;
@@ -252,9 +258,13 @@ pub(super) fn chunks(
 {
     let mut chunks = Vec::new(alloc);
     for part in parts {
-        if chunks.len() < max && !part.is_empty() {
-            chunks.push(part.as_ref())?;
+        if chunks.len() == max {
+            break;
         }
+        if part.is_empty() {
+            continue;
+        }
+        chunks.push(part.as_ref())?;
     }
     Ok(chunks)
 }

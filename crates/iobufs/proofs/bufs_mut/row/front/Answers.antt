@@ -1,10 +1,12 @@
-use Rattle.std.proofs.Common.{◌≡◌, ◌-◌, ◌++◌, [], length, take, min, ap, sym, ◌∙◌, append-nil, arith, rules}
+use Rattle.std.proofs.Common.{◌≡◌, ℕ, List, ◌-◌, ◌++◌, [], length, take, min, ap, sym, ◌∙◌, append-nil, arith, rules}
 use Rattle.std.proofs.Math.Seq.{take-nil}
 use Rattle.std.specs.VecDeque.Iter.{deque_iter_rest}
+use Rattle.iobufs_core.specs.Part.{Part}
 use Rattle.iobufs.specs.DrainLaws.{no_length}
 use Rattle.iobufs.specs.Parts.{parts_filled}
 use Rattle.iobufs.proofs.PartChunks.{share-turn}
 use Rattle.iobufs.proofs.bufs_mut.row.front.Goals as goal
+use Rattle.iobufs.proofs.bufs_mut.row.front.Goals.{in-None, in-Some+then-rest-eq0}
 
 pub loop-part-preserved : goal.loop-part-preserved
 loop-part-preserved c =
@@ -19,5 +21,12 @@ loop-part-preserved c =
 pub returns : goal.returns
 returns c =
     let l = c.loop-part in
-    let none : deque_iter_rest l.part-iterator ≡ [] = no_length _ c.in-None.ensures.steps.0 in
-    sym (l.invariant ∙ ap (λ ps. l.bytes.items ++ take l.rest (parts_filled ps)) none ∙ ap (λ w. l.bytes.items ++ w) (take-nil l.rest) ∙ append-nil l.bytes.items)
+    let left = λ (k : ℕ) (ps : List Part). l.bytes.items ++ take k (parts_filled ps) in
+    elim c.match-next.branch [
+      | in-None w ↦
+          let none : deque_iter_rest l.part-iterator ≡ [] = no_length _ w.in-None.ensures.steps.0 in
+          sym (l.invariant ∙ ap (left l.rest) none ∙ ap (λ bytes. l.bytes.items ++ bytes) (take-nil l.rest) ∙ append-nil l.bytes.items)
+      | in-Some+then-rest-eq0 w ↦
+          let done : l.rest ≡ 0 = omega (arith, w.if-rest-eq0.true) in
+          sym (l.invariant ∙ ap (λ k. left k (deque_iter_rest l.part-iterator)) done ∙ append-nil l.bytes.items)
+    ]
