@@ -1,5 +1,5 @@
 -- Several parts as one.
-use Rattle.std.proofs.Common.{◌≡◌, ℕ, ◌+◌, ◌-◌, ◌%◌, ◌^◌, ◌<◌, ◌≤◌, List, [], ◌∷◌, ◌++◌, length, refl, arith, ap, ◌∙◌, nat_lt}
+use Rattle.std.proofs.Common.{◌≡◌, ℕ, ◌-◌, ◌%◌, ◌^◌, ◌<◌, List, [], ◌∷◌, length, refl, arith, nat_lt}
 use Rattle.std.specs.Int.{next_multiple_of}
 use Rattle.std.specs.Int.Count.{ones}
 use Rattle.std.proofs.lemmas.Bool.Decides.{nat_tests}

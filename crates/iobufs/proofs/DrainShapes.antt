@@ -1,11 +1,10 @@
 -- Draining by the number of parts, and what it keeps.
-use Rattle.std.proofs.Common.{◌≡◌, ℕ, ◌+◌, ◌-◌, ◌<◌, ◌≤◌, List, [], ◌∷◌, ◌++◌, length, drop, map, filter, append-nil, refl, sym, ap, ◌∙◌, arith, length-drop, cond, nat_eq, nat_lt}
-use Rattle.std.proofs.lemmas.Bool.{cond_both, eqb-true, eqb-false, ltb-true, ltb-false, cond-true, cond-false, ne_eqb, lt-ltb, le-ltb}
-use Rattle.std.proofs.lemmas.Bool.Decides.{nat_tests}
+use Rattle.std.proofs.Common.{◌≡◌, ℕ, ◌-◌, ◌<◌, ◌≤◌, List, [], ◌∷◌, ◌++◌, length, append-nil, refl, ap, ◌∙◌, arith, length-drop, nat_eq, nat_lt}
+use Rattle.std.proofs.lemmas.Bool.{cond_both, ltb-true, ltb-false, cond-true, cond-false, ne_eqb, lt-ltb, le-ltb}
 use Rattle.std.proofs.lemmas.List.Elements.{filter-append}
 use Rattle.std.proofs.lemmas.List.Sums.{sum_by-cons}
 use Rattle.iobufs_core.specs.Part.{Part, part_capacity, part_drained}
-use Rattle.iobufs.specs.Parts.{HaveCapacity, is_all_of, kept_parts, parts_capacity, parts_copied, parts_drained, parts_or_default, parts_shared_out, parts_used_up, with_capacity}
+use Rattle.iobufs.specs.Parts.{HaveCapacity, kept_parts, parts_capacity, parts_drained, parts_or_default, parts_shared_out, parts_used_up, with_capacity}
 
 pub drained-none : (parts : List Part) → 1 < length parts → parts_drained parts 0 ≡ parts
 drained-none [] h = absurd (omega arith)

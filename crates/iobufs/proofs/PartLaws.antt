@@ -1,9 +1,9 @@
 -- What the calls on parts keep: capacities, lengths, and what is kept true of several parts.
-use Rattle.std.proofs.Common.{◌≡◌, ℕ, ◌+◌, ◌-◌, ◌<◌, ◌≤◌, ◌^◌, List, [], ◌∷◌, ◌++◌, length, take, drop, map, replicate, min, refl, sym, ap, ◌∙◌, arith, length-append, length-take, length-drop}
+use Rattle.std.proofs.Common.{◌≡◌, ℕ, ◌+◌, ◌-◌, List, [], ◌∷◌, ◌++◌, length, take, drop, replicate, min, refl, sym, ap, ◌∙◌, arith, length-append, length-take, length-drop}
 use Rattle.std.specs.List.{sum_by}
-use Rattle.std.proofs.lemmas.List.{length-replicate, length-map}
+use Rattle.std.proofs.lemmas.List.{length-replicate}
 use Rattle.std.proofs.lemmas.List.Sums.{sum_by-cons}
-use Rattle.iobufs_core.specs.Part.{Part, part_capacity, part_overwritten, part_put, part_with_len}
+use Rattle.iobufs_core.specs.Part.{Part, part_capacity}
 use Rattle.iobufs.specs.Parts.{HaveCapacity, parts_capacity, parts_fill, parts_filled, parts_overwritten, parts_spare, parts_with_len}
 use Rattle.iobufs.specs.PartShape.{AreSeveral}
 

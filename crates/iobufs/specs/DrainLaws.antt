@@ -1,15 +1,14 @@
 -- The laws of draining several parts, which hold for all parts.
-use Rattle.std.specs.Prelude.{◌≡◌, ℕ, ◌+◌, ◌-◌, ◌<◌, ◌≤◌, ◌==◌, List, [], ◌∷◌, ◌++◌, length, drop, map, refl, nat_lt, if◌then◌else◌}
+use Rattle.std.specs.Prelude.{◌≡◌, ℕ, ◌-◌, ◌≤◌, ◌==◌, List, [], ◌∷◌, ◌++◌, length, drop, map, refl, nat_lt, if◌then◌else◌}
 use Rattle.std.specs.List.{flat_map}
 use Rattle.std.proofs.Common.{sym, ap, ◌∙◌, arith, append-nil}
 use Rattle.std.proofs.lemmas.Bool.{cond_both, eqb-true, ltb-true, ltb-false}
 use Rattle.std.proofs.lemmas.Bool.Decides.{nat_tests}
-use Rattle.std.proofs.lemmas.Grind.{common_steps}
 use Rattle.std.proofs.Math.Seq.{drop-nil}
 use Rattle.std.proofs.lemmas.List.{drop-append-le}
 use Rattle.iobufs_core.specs.Chunks.{full_chunks}
 use Rattle.iobufs_core.specs.ChunkLaws.{joined-full_chunks, full_chunks-twice}
-use Rattle.iobufs_core.specs.Part.{Part, empty_part, part_capacity, part_drained, part_copied}
+use Rattle.iobufs_core.specs.Part.{Part, part_capacity, part_drained, part_copied}
 use Rattle.iobufs_core.specs.PartLaws.{part_copied-filled}
 use Rattle.iobufs.specs.FillLaws.{drop_both, drop_past}
 use Rattle.iobufs.specs.Parts.{is_all_of, parts_filled, with_capacity, parts_or_default, kept_parts, parts_shared_out, parts_used_up, parts_drained_evenly, parts_drained, parts_copied, parts_chunks}

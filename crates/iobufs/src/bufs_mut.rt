@@ -27,7 +27,7 @@ pub struct IoBufsMut {
     shape: Shape,
 }
 
-// One part, which needs no list, or a row of two or more.
+// One part, which asks for no memory of its own, or a row of two or more.
 #[derive(Drop)]
 enum Shape {
     One(IoBufMut),
@@ -55,10 +55,10 @@ impl Shape {
         ensures* writes_back { sem 𝓛 (LendsIf the_row part_row self.entry result One self.old) }
         ensures value { option_map (λ part. part.now) result ≡ shape_single self.old }
     {
-        match self {
-            Shape::One(part) => Some(part),
-            Shape::Many(_) => None,
-        }
+        let Shape::One(part) = self else {
+            return None;
+        };
+        Some(part)
     }
 }
 

@@ -1,10 +1,9 @@
-use Rattle.std.proofs.Common.{◌≡◌, arith, sym, ◌∙◌, ap, rules}
+use Rattle.std.proofs.Common.{◌≡◌, arith, sym, ◌∙◌}
 use Rattle.std.proofs.iter.Next.{Yields-more}
 use Rattle.std.proofs.lemmas.Result.{err_from_is_err_and}
 use Rattle.std.proofs.lemmas.List.Sums.{sum_by_push}
 use Rattle.iobufs_core.specs.Part.{part_capacity}
-use Rattle.iobufs.specs.Parts.{HaveCapacity}
-use Rattle.iobufs.proofs.DrainShapes.{able-with_capacity, capacity-with_capacity, with_capacity-push, with_capacity-skip}
+use Rattle.iobufs.proofs.DrainShapes.{able-with_capacity, capacity-with_capacity, with_capacity-skip}
 use Rattle.iobufs.proofs.bufs_mut.IoBufsMut.from_parts.Goals as goal
 
 pub returns-then-capacity-left-clause-err : goal.returns-then-capacity-left-clause-err

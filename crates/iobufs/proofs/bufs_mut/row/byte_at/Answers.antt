@@ -1,4 +1,4 @@
-use Rattle.std.proofs.Common.{◌≡◌, ◌<◌, ◌≤◌, ◌-◌, [], ◌∷◌, length, slice_get, arith, ap, sym, ◌∙◌}
+use Rattle.std.proofs.Common.{◌≡◌, ◌-◌, [], slice_get, arith, ap, sym, ◌∙◌}
 use Rattle.std.specs.VecDeque.Iter.{deque_iter_rest}
 use Rattle.iobufs.specs.DrainLaws.{no_length}
 use Rattle.iobufs.specs.Parts.{parts_filled}

@@ -1,4 +1,4 @@
-use Rattle.std.proofs.Common.{◌≡◌, ◌-◌, ◌++◌, ◌<◌, [], ◌∷◌, List, ℕ, Bor, length, map, take, ap, sym, ◌∙◌, append-nil, vec_len, arith, rules}
+use Rattle.std.proofs.Common.{◌≡◌, ◌-◌, ◌++◌, ◌<◌, [], ◌∷◌, List, ℕ, Bor, length, map, take, ap, sym, ◌∙◌, append-nil, vec_len, arith}
 use Rattle.std.proofs.Math.Seq.{take-nil}
 use Rattle.std.proofs.lemmas.List.{map-append}
 use Rattle.std.specs.VecDeque.Iter.{deque_iter_rest}

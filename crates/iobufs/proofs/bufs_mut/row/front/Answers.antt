@@ -1,4 +1,4 @@
-use Rattle.std.proofs.Common.{◌≡◌, ℕ, List, ◌-◌, ◌++◌, [], length, take, min, ap, sym, ◌∙◌, append-nil, arith, rules}
+use Rattle.std.proofs.Common.{◌≡◌, ℕ, List, ◌-◌, ◌++◌, [], length, take, min, ap, sym, ◌∙◌, append-nil, arith}
 use Rattle.std.proofs.Math.Seq.{take-nil}
 use Rattle.std.specs.VecDeque.Iter.{deque_iter_rest}
 use Rattle.iobufs_core.specs.Part.{Part}

@@ -1,4 +1,4 @@
-use Rattle.std.proofs.Common.{◌<◌, ◌≤◌, ◌≡◌, [], length, replicate, arith, ap, ◌∙◌, min, sym, rules}
+use Rattle.std.proofs.Common.{◌<◌, ◌≤◌, ◌≡◌, length, replicate, arith, ◌∙◌, min, sym, rules}
 use Rattle.std.proofs.lemmas.List.{take-replicate, drop-replicate, length-replicate}
 use Rattle.iobufs.proofs.PartTurns.{fill-turn, fill-done}
 use Rattle.iobufs.proofs.bufs_mut.row.put_bytes.Goals as goal
