@@ -36,15 +36,15 @@ pub(super) fn put(parts: &mut VecDeque<IoBufMut>, src: &[u8])
     requires { length src.now ≤ parts_spare parts.old.items }
     ensures { parts.new.items ≡ parts_fill parts.old.items src.now }
 {
-    let mut rest = src;
+    let mut left = src;
     for i in 0..parts.len() {
-        if rest.is_empty() {
+        if left.is_empty() {
             return;
         }
         let part = &mut parts[i];
-        let n = rest.len().min(part.remaining_mut());
-        part.put_slice(&rest[..n]);
-        rest = &rest[n..];
+        let n = left.len().min(part.remaining_mut());
+        part.put_slice(&left[..n]);
+        left = &left[n..];
     }
 }
 
@@ -92,8 +92,8 @@ pub(super) fn copy_from_slice(parts: &mut VecDeque<IoBufMut>, src: &[u8])
     }
 }
 
-#[tactic(auto, using(crate::proofs::DrainShapes::draining))]
 // Drops the first `n` bytes. Two or three parts keep their room; of four or more, those that are used up go with it.
+#[tactic(auto, using(crate::proofs::DrainShapes::draining))]
 pub(super) fn advance(parts: &mut VecDeque<IoBufMut>, n: usize)
     requires { 1 < length parts.old.items }
     ensures rest { parts_or_default parts.new.items ≡ parts_drained parts.old.items n }

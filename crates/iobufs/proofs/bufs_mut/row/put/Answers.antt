@@ -6,5 +6,5 @@ use Rattle.iobufs.proofs.bufs_mut.row.put.Goals as goal
 pub returns-then-is_empty : goal.returns-then-is_empty
 returns-then-is_empty c =
     let l = c.loop-i in
-    let none : l.rest.now ≡ [] = no_length l.rest.now (grind arith) in
+    let none : l.left.now ≡ [] = no_length l.left.now (grind arith) in
     fill-done _ l.parts.items l.i (rw none at l.invariant.so_far)
