@@ -13,6 +13,7 @@ pub mod RunLaws
 pub mod Rows
 pub mod Coalesced
 pub mod DrainShapes
+pub mod Frozen
 pub mod PartChunks
 pub mod PartLaws
 pub mod PartRows

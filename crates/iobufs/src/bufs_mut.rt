@@ -5,7 +5,7 @@ ghost use Rattle.std.specs.Option.{option_copied, option_map};
 ghost use Rattle.std.specs.Borrow.{LendsIf, sem};
 ghost use Rattle.iobufs_core.specs.Part.{Part, empty_part};
 ghost use Rattle.iobufs_core.specs.contracts.buf.write.IoBufMut.{the_row as part_row};
-ghost use Rattle.iobufs.specs.Parts.{HaveCapacity, IsParts, kept_parts, parts_capacity, parts_coalesced, parts_filled, parts_or_default, parts_overwritten, parts_with_len, single_part};
+ghost use Rattle.iobufs.specs.Parts.{HaveCapacity, IsParts, kept_parts, parts_capacity, parts_coalesced, parts_filled, parts_frozen, parts_or_default, parts_overwritten, parts_with_len, single_part};
 ghost use Rattle.iobufs.specs.PartLimits.{IsRefusedAt};
 
 mod read;
@@ -14,6 +14,7 @@ mod row;
 mod tests;
 mod write;
 
+use crate::bufs::IoBufs;
 use iobufs_core::buf::IoBufMut;
 use iobufs_core::codec::{BufError, BufMut};
 use std::alloc::Global;
@@ -214,6 +215,18 @@ impl IoBufsMut {
         ensures value { option_map (λ part. part.now) result ≡ single_part self.old }
     {
         self.shape.single_mut()
+    }
+
+    /// The parts that hold bytes, as the pieces of one text.
+    #[tactic(auto, using(crate::proofs::Frozen::freezing))]
+    pub fn freeze(self, alloc: Global) -> Result<IoBufs, BufError>
+        ensures ok { IfOk result (λ text. text ≡ parts_frozen self) }
+        ensures memory { IsOkUnless result BufError.Memory }
+    {
+        match self.shape {
+            Shape::One(part) => IoBufs::from_mut(part),
+            Shape::Many(parts) => row::freeze(alloc, parts),
+        }
     }
 
     /// One part as it is; more as a copy of the readable bytes with no room behind them. `BufError::BadLayout` exactly

@@ -1,12 +1,13 @@
 // Several parts in a row: what the calls of `IoBufsMut` do to two or more.
-ghost use Rattle.std.specs.Prelude.{◌≡◌, ◌^◌, ◌<◌, ◌≤◌, [], ◌∷◌, length, map, nat_lt, replicate, slice_get, take, IfNone, IfOk, IfSome};
+ghost use Rattle.std.specs.Prelude.{◌≡◌, ◌^◌, ◌<◌, ◌≤◌, [], ◌∷◌, length, map, nat_lt, replicate, slice_get, take, IfNone, IfOk, IfSome, IsOkUnless};
 ghost use Rattle.std.specs.List.{sum_by};
 ghost use Rattle.iobufs_core.specs.Chunks.{first_chunk};
 ghost use Rattle.iobufs_core.specs.Part.{part_capacity};
-ghost use Rattle.iobufs.specs.Parts.{HaveCapacity, parts_capacity, parts_chunks, parts_copied, parts_drained, parts_fill, parts_filled, parts_or_default, parts_overwritten, parts_shared_out, parts_spare, parts_used_up, parts_with_len, with_capacity};
+ghost use Rattle.iobufs.specs.Parts.{HaveCapacity, parts_capacity, parts_chunks, parts_copied, parts_drained, parts_fill, parts_filled, parts_frozen, parts_or_default, parts_overwritten, parts_shared_out, parts_spare, parts_used_up, parts_with_len, with_capacity};
 
+use crate::bufs::IoBufs;
 use iobufs_core::buf::IoBufMut;
-use iobufs_core::codec::{Buf, BufMut};
+use iobufs_core::codec::{Buf, BufError, BufMut};
 use std::alloc::{AllocError, Global};
 use std::collections::VecDeque;
 
@@ -267,4 +268,21 @@ pub(super) fn chunks(
         chunks.push(part.as_ref())?;
     }
     Ok(chunks)
+}
+
+// The parts that hold bytes, one piece behind the other.
+#[tactic(auto, using(crate::proofs::Frozen::freezing))]
+pub(super) fn freeze(alloc: Global, mut parts: VecDeque<IoBufMut>) -> Result<IoBufs, BufError>
+    requires { parts_capacity parts.items < 2 ^ 64 }
+    ensures ok { IfOk result (λ text. text ≡ parts_frozen parts.items) }
+    ensures memory { IsOkUnless result BufError.Memory }
+{
+    let mut text = IoBufs::default();
+    while let Some(part) = parts.pop_front() {
+        let piece = part.freeze()?;
+        if let Err(refused) = text.append(alloc, piece) {
+            return Err(refused.cause);
+        }
+    }
+    Ok(text)
 }
