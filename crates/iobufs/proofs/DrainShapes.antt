@@ -1,7 +1,6 @@
 -- Draining by the number of parts, and what it keeps.
-use Rattle.std.proofs.Common.{◌≡◌, ℕ, ◌-◌, ◌<◌, ◌≤◌, List, [], ◌∷◌, ◌++◌, length, append-nil, refl, ap, ◌∙◌, arith, length-drop, nat_eq, nat_lt}
-use Rattle.std.proofs.lemmas.Bool.{cond_both, ltb-true, ltb-false, cond-true, cond-false, ne_eqb, lt-ltb, le-ltb}
-use Rattle.std.proofs.lemmas.List.Elements.{filter-append}
+use Rattle.std.proofs.Common.{◌≡◌, ℕ, ◌-◌, ◌<◌, ◌≤◌, List, [], ◌∷◌, length, refl, arith, length-drop, nat_eq, nat_lt}
+use Rattle.std.proofs.lemmas.Bool.{cond_both, ltb-true, ltb-false, cond-false, ne_eqb}
 use Rattle.std.proofs.lemmas.List.Sums.{sum_by-cons}
 use Rattle.iobufs_core.specs.Part.{Part, part_capacity, part_drained}
 use Rattle.iobufs.specs.Parts.{HaveCapacity, kept_parts, parts_capacity, parts_drained, parts_or_default, parts_shared_out, parts_used_up, with_capacity}
@@ -68,18 +67,6 @@ capacity-used_up (p ∷ parts) n =
     (λ _. cond_both (nat_lt n (length p.filled)) (part_drained p n ∷ parts) (parts_used_up parts (n - length p.filled)) (λ ps. parts_capacity ps ≤ parts_capacity (p ∷ parts))
     (λ e. let d = length-drop n p.filled in omega (arith, sum_by-cons part_capacity (part_drained p n) parts))
     (λ _. omega arith))
-
--- one more part, which can or can't hold a byte
-pub with_capacity-push : (parts : List Part) (p : Part) → 0 < part_capacity p → with_capacity (parts ++ p ∷ []) ≡ with_capacity parts ++ p ∷ []
-with_capacity-push parts p h =
-    filter-append (λ q. nat_lt 0 (part_capacity q)) parts (p ∷ [])
-    ∙ ap (λ ps. with_capacity parts ++ ps) (cond-true (nat_lt 0 (part_capacity p)) (p ∷ []) [] (lt-ltb 0 (part_capacity p) h))
-
-pub with_capacity-skip : (parts : List Part) (p : Part) → part_capacity p ≡ 0 → with_capacity (parts ++ p ∷ []) ≡ with_capacity parts
-with_capacity-skip parts p h =
-    filter-append (λ q. nat_lt 0 (part_capacity q)) parts (p ∷ [])
-    ∙ ap (λ ps. with_capacity parts ++ ps) (cond-false (nat_lt 0 (part_capacity p)) (p ∷ []) [] (le-ltb 0 (part_capacity p) (omega arith)))
-    ∙ append-nil (with_capacity parts)
 
 pub used_up-none : (parts : List Part) → parts_used_up parts 0 ≡ parts
 used_up-none [] = refl

@@ -17,4 +17,5 @@ pub mod Frozen
 pub mod PartChunks
 pub mod PartLaws
 pub mod PartRows
+pub mod PartRuns
 pub mod PartTurns

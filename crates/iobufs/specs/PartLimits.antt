@@ -1,17 +1,14 @@
--- When a row of parts is refused, part by part.
-use Rattle.std.specs.Prelude.{ℕ, ◌<◌, ◌≤◌, ◌^◌, List, [], ◌∷◌, ◌++◌}
+-- Why a row of parts was not made.
+use Rattle.std.specs.Prelude.{◌≡◌, ◌<◌, ◌^◌, nat_lt, if◌then◌else◌, List, [], ◌∷◌, ◌++◌}
 use Rattle.iobufs_core.specs.Part.{Part}
 use Rattle.iobufs_core.specs.declared.codec.base.BufError.{BufError}
-use Rattle.iobufs_core.specs.declared.codec.base.BufError.TheVariants.{Memory, BadLayout, TooLong}
+use Rattle.iobufs_core.specs.declared.codec.base.BufError.TheVariants.{Memory, TooLong}
 use Rattle.iobufs.specs.Parts.{parts_capacity}
 
--- the causes to refuse a row of so much capacity: it is too long exactly where no number can hold that
-abbrev pub RefusesCapacity : BufError → ℕ → Type 0
-RefusesCapacity Memory capacity = capacity < 2 ^ 64
-RefusesCapacity BadLayout capacity = ⊥
-RefusesCapacity TooLong capacity = 2 ^ 64 ≤ capacity
-
--- parts that fit, and one more that is refused
-pub record IsRefusedAt (cause : BufError) (front : List Part) (last : Part) : Type 0 where
+-- the last part was refused: those before it have a capacity, and with it there is too much, or there was no memory
+pub record IsRowRefusedAt (parts : List Part) (cause : BufError) : Type 0 where
+  pub front : List Part
+  pub last : Part
+  pub parts_are : parts ≡ front ++ last ∷ []
   pub fits : parts_capacity front < 2 ^ 64
-  pub refused : RefusesCapacity cause (parts_capacity (front ++ last ∷ []))
+  pub told : cause ≡ (if nat_lt (parts_capacity parts) (2 ^ 64) then Memory else TooLong)

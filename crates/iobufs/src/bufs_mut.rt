@@ -1,12 +1,13 @@
 // Writable parts strung together.
-ghost use Rattle.std.specs.Prelude.{◌≡◌, ◌<◌, ◌≤◌, ◌==◌, ◌^◌, List, ◌∷◌, ◌++◌, [], length, slice_get, Err, IfErr, IfOk, IsOk, IsOkUnless, MatchResult};
-ghost use Rattle.std.specs.Iterator.{Drains, IsFinite, Yields};
+ghost use Rattle.std.specs.Prelude.{◌≡◌, ◌<◌, ◌≤◌, ◌==◌, ◌^◌, ◌∷◌, [], length, slice_get, Err, IfErr, IfOk, IsOk, IsOkUnless, MatchResult};
+ghost use Rattle.std.specs.Iterator.{IsFinite};
+ghost use Rattle.std.specs.Iterator.Runs.{SomeRun, WholeRun};
 ghost use Rattle.std.specs.Option.{option_copied, option_map};
 ghost use Rattle.std.specs.Borrow.{LendsIf, sem};
-ghost use Rattle.iobufs_core.specs.Part.{Part, empty_part};
+ghost use Rattle.iobufs_core.specs.Part.{empty_part};
 ghost use Rattle.iobufs_core.specs.contracts.buf.write.IoBufMut.{the_row as part_row};
 ghost use Rattle.iobufs.specs.Parts.{HaveCapacity, IsParts, kept_parts, parts_capacity, parts_coalesced, parts_filled, parts_frozen, parts_or_default, parts_overwritten, parts_with_len, single_part};
-ghost use Rattle.iobufs.specs.PartLimits.{IsRefusedAt};
+ghost use Rattle.iobufs.specs.PartLimits.{IsRowRefusedAt};
 
 mod read;
 mod row;
@@ -93,8 +94,8 @@ impl IoBufsMut {
     ) -> Result<IoBufsMut, BufError>
         requires can { I.can_next items }
         requires ends { IsFinite (I.remaining items) }
-        ensures ok { IfOk result (λ parts. (taken : List Part) × Drains I.next_gives items taken × (parts_capacity taken < 2 ^ 64) × (parts ≡ kept_parts taken)) }
-        ensures err { IfErr result (λ cause. (front : List Part) × (last : Part) × (rest : I) × Yields I.next_gives items (front ++ last ∷ []) rest × IsRefusedAt cause front last) }
+        ensures ok { IfOk result (λ parts. WholeRun I.next_gives items (λ run. (parts_capacity run.items < 2 ^ 64) × (parts ≡ kept_parts run.items))) }
+        ensures err { IfErr result (λ cause. SomeRun I.next_gives items (λ run. IsRowRefusedAt run.items cause)) }
     {
         let mut parts = VecDeque::new(alloc);
         let mut left = usize::MAX;

@@ -1,4 +1,4 @@
-use Rattle.std.proofs.Common.{◌≡◌, ◌+◌, ◌≤◌, fold, map, length, deque_len}
+use Rattle.std.proofs.Common.{◌≡◌, ◌+◌, ◌≤◌, fold, map, deque_len}
 use Rattle.iobufs_core.specs.MarkedText.{text_append, text_len}
 use Rattle.iobufs_core.specs.Part.{part_frozen}
 use Rattle.iobufs.specs.Parts.{parts_capacity, parts_frozen}
