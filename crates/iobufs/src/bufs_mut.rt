@@ -11,8 +11,6 @@ ghost use Rattle.iobufs.specs.PartLimits.{IsRowRefusedAt};
 
 mod read;
 mod row;
-#[cfg(test)]
-mod tests;
 mod write;
 
 use crate::bufs::IoBufs;

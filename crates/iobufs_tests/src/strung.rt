@@ -1,7 +1,7 @@
 // Writable parts strung together: worked examples, and calls that succeed.
 ghost use Rattle.std.specs.Prelude.{◌+◌, ◌≤◌, length};
 
-use super::IoBufsMut;
+use iobufs::bufs_mut::IoBufsMut;
 use iobufs_core::buf::IoBufMut;
 use iobufs_core::codec::{Buf, BufMut};
 use std::alloc::Global;
@@ -56,6 +56,16 @@ fn four_parts_lose_the_room_that_is_used_up(rt: HostRuntime) -> Result<(), Fail>
     assert!(rt; four.remaining_mut() >= 2);
     four.put_slice(b"xy");
     expect(&rt, &four, &[(b"abxy", 0), (b"ab", 2), (b"ab", 2)]);
+    let text = four.freeze(rt.alloc())?;
+    assert_eq!(rt; text.chunk_count(), 3);
+    assert_eq!(rt;
+        (text.chunk_at(0), text.chunk_at(1), text.chunk_at(2)),
+        (
+            Some(b"abxy".as_slice()),
+            Some(b"ab".as_slice()),
+            Some(b"ab".as_slice())
+        )
+    );
     Ok(())
 }
 
@@ -161,6 +171,7 @@ fn a_single_part_is_lent(rt: HostRuntime) -> Result<(), Fail> {
         None => return Err(Fail::new("not single")),
     }
     expect(&rt, &one, &[(b"", 4)]);
+    assert!(rt; one.freeze(rt.alloc())?.is_empty());
     let mut none = parts(rt.alloc(), &[(b"", 0), (b"", 0)])?;
     expect(&rt, &none, &[(b"", 0)]);
     assert!(rt; none.is_single() && none.as_single().is_some());
