@@ -6,7 +6,7 @@ use Rattle.std.proofs.Math.Seq.{take-append_seam}
 use Rattle.iobufs_core.specs.View.{View, default_view}
 use Rattle.iobufs.specs.Pieces.{view_len, piece_at, pieces_bytes}
 use Rattle.std.proofs.Math.Bool.{and-false}
-use Rattle.std.proofs.Common.{◌%◌, ◌^◌, ◌&&◌, ◌||◌, Bool, Result, Err, Ok, IsErrAnd, IsOkUnless, true, false, not, nat_lt, nat_eq}
+use Rattle.std.proofs.Common.{◌%◌, ◌^◌, Result, Err, Ok, IsErrAnd, IsOkUnless, true, false, not, nat_lt, nat_eq}
 use Rattle.std.specs.Int.{is_power_of_two}
 use Rattle.std.specs.Prelude.{count_ones}
 use Rattle.std.proofs.lemmas.Nat.{ones_le_self, zero_from_ones}

@@ -1,5 +1,5 @@
 -- What the code keeps is well formed.
-use Rattle.std.proofs.Common.{◌≡◌, ℕ, ◌+◌, ◌-◌, ◌<◌, ◌≤◌, List, [], ◌∷◌, ◌++◌, length, take, map, arith, length-append, length-drop, length-take, suc, zero, ⊎_elim, All, ◌⊎◌}
+use Rattle.std.proofs.Common.{◌≡◌, ℕ, ◌+◌, ◌-◌, ◌<◌, ◌≤◌, List, [], ◌∷◌, ◌++◌, length, take, map, arith, length-append, length-drop, length-take, suc, zero, ⊎_elim, All}
 use Rattle.std.proofs.lemmas.Bool.{cases_lt}
 use Rattle.iobufs_core.specs.View.{View, Mark, HasRoom, IsView, mark_after, native_mark, static_mark, bytes_mark, view_front, view_advanced}
 use Rattle.iobufs_core.specs.MarkedText.{IsMarked, AreCuts, text_len, moved_up, text_glue}

@@ -11,3 +11,11 @@ pub mod TextLaws
 pub mod ReadLaws
 pub mod RunLaws
 pub mod Rows
+pub mod Coalesced
+pub mod DrainShapes
+pub mod Frozen
+pub mod PartChunks
+pub mod PartLaws
+pub mod PartRows
+pub mod PartRuns
+pub mod PartTurns

@@ -1,5 +1,5 @@
 -- What a reader of a text in several pieces sees and takes.
-use Rattle.std.proofs.Common.{◌≡◌, ◌≢◌, Result, Ok, Err, IfOk, ℕ, ◌+◌, ◌-◌, ◌<◌, ◌≤◌, Bool, true, false, Option, Some, None, List, [], ◌∷◌, ◌++◌, length, take, drop, map, zero, suc, refl, sym, ap, ◌∙◌, arith, tests, add-one, append-nil, length-append, length-drop, length-take-le, take_all, zero-add, get_or, nat_eq, ⊎_elim, subst}
+use Rattle.std.proofs.Common.{◌≡◌, ◌≢◌, Result, Ok, Err, IfOk, ℕ, ◌+◌, ◌-◌, ◌<◌, ◌≤◌, true, false, Some, List, [], ◌∷◌, ◌++◌, length, take, drop, map, zero, suc, refl, sym, ap, ◌∙◌, arith, tests, add-one, append-nil, length-append, length-drop, length-take-le, take_all, zero-add, get_or, nat_eq, ⊎_elim, subst}
 use Rattle.std.specs.List.{slice_get}
 use Rattle.std.specs.declared.ops.Bound.TheVariants.{Included, Excluded, Unbounded}
 use Rattle.std.proofs.lemmas.Grind.{common_steps}
@@ -12,12 +12,11 @@ use Rattle.iobufs_core.specs.Chunks.{first_chunk, IsChunkOf}
 use Rattle.iobufs_core.specs.View.{View, view_front, view_advanced, view_slice, native_mark}
 use Rattle.iobufs_core.specs.Part.{part_frozen}
 use Rattle.iobufs_core.specs.MarkedText.{MarkedText, of_view, text_len, is_single, text_advanced, text_chunks, text_coalesced, text_right, taken_view}
-use Rattle.iobufs.specs.Pieces.{view_len, pieces_bytes, piece_at, piece_start, of_pieces, AreFull, IsPieces, IsPlace, AreViews, right_pieces}
+use Rattle.iobufs.specs.Pieces.{view_len, pieces_bytes, piece_at, piece_start, of_pieces, AreFull, IsPieces, IsPlace, AreViews}
 use Rattle.iobufs.specs.Shapes.{pieces, IsShape}
 use Rattle.iobufs.specs.Kept.{text_of, IsKept}
 use Rattle.iobufs.specs.declared.bufs.shape.Shape.{Shape}
 use Rattle.iobufs.specs.declared.bufs.text.IoBufs.TheInside.{Inside}
-use Rattle.iobufs.proofs.Sides.{not_zero}
 use Rattle.iobufs.proofs.PieceLaws.{bytes-of_pieces, len-of_pieces, right-of_pieces, length-bytes, AreFull-from_pieces, of_pieces-one}
 use Rattle.iobufs.proofs.PlaceLaws.{index-of_place, right-at_place}
 use Rattle.iobufs.proofs.KeptLaws.{IsView-advanced}

@@ -1,7 +1,7 @@
 -- Worked values of texts in pieces, computed by the definitions.
 use Rattle.std.proofs.Common.{◌≡◌, ℕ, List, [], ◌∷◌, refl}
-use Rattle.iobufs_core.specs.View.{View, static_mark, bytes_mark, native_mark, default_view}
-use Rattle.iobufs_core.specs.MarkedText.{MarkedText, of_view, default_text, text_left, text_right, text_split_front, text_rest, text_advanced, taken_view, text_glue, text_append, text_prepend, text_coalesced, joined, chunk_count, text_chunks, mark_at}
+use Rattle.iobufs_core.specs.View.{View, static_mark, native_mark, default_view}
+use Rattle.iobufs_core.specs.MarkedText.{MarkedText, of_view, default_text, text_left, text_right, text_split_front, text_rest, text_advanced, taken_view, text_glue, text_append, text_prepend, text_coalesced, joined, chunk_count, text_chunks}
 
 abbrev ab : List ℕ
 ab = 97 ∷ 98 ∷ []

@@ -1,5 +1,5 @@
 -- The shapes of the code, and what they keep.
-use Rattle.std.proofs.Common.{◌≡◌, Bool, true, false, cond, ℕ, ◌+◌, ◌-◌, ◌<◌, ◌≤◌, List, [], ◌∷◌, ◌++◌, length, refl, sym, ap, ◌∙◌, arith, length-append, subst}
+use Rattle.std.proofs.Common.{◌≡◌, Bool, true, false, cond, ℕ, ◌<◌, ◌≤◌, List, [], ◌∷◌, ◌++◌, length, sym, ap, arith, length-append, subst}
 use Rattle.iobufs_core.specs.View.{View}
 use Rattle.iobufs.specs.Pieces.{view_len, pieces_bytes, AreFull, left_pieces, right_pieces}
 use Rattle.iobufs.specs.Shapes.{pieces, IsShape}

@@ -3,3 +3,8 @@ pub mod Pieces
 pub mod ReaderLaws
 pub mod Refusals
 pub mod Shapes
+pub mod DrainLaws
+pub mod FillLaws
+pub mod PartLimits
+pub mod PartShape
+pub mod Parts

@@ -1,5 +1,5 @@
 -- The shapes of the code, as lists of pieces.
-use Rattle.std.specs.Prelude.{◌≡◌, ◌<◌, List, [], ◌∷◌, length}
+use Rattle.std.specs.Prelude.{◌<◌, List, [], ◌∷◌, length}
 use Rattle.iobufs_core.specs.View.{View}
 use Rattle.iobufs.specs.Pieces.{AreFull}
 use Rattle.iobufs.specs.declared.bufs.shape.Shape.{Shape}

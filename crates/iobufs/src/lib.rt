@@ -2,3 +2,4 @@
 #![tactic(auto)]
 
 pub mod bufs;
+pub mod bufs_mut;

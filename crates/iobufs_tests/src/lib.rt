@@ -8,6 +8,8 @@ mod lengths;
 #[cfg(test)]
 mod parts;
 #[cfg(test)]
+mod strung;
+#[cfg(test)]
 mod texts;
 #[cfg(test)]
 mod views;

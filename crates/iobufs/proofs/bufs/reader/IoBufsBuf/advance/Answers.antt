@@ -1,5 +1,4 @@
-use Rattle.std.proofs.Common.{◌≡◌, true, sym, ◌∙◌, arith}
-use Rattle.iobufs_core.specs.MarkedText.{is_single}
+use Rattle.std.proofs.Common.{sym, ◌∙◌, arith}
 use Rattle.iobufs.proofs.TextLaws.{len-kept}
 use Rattle.iobufs.proofs.ReadLaws.{one-piece, one-len, kept-single, advanced-single}
 use Rattle.iobufs.proofs.bufs.reader.IoBufsBuf.advance.Goals as goal

@@ -1,7 +1,6 @@
-use Rattle.std.proofs.Common.{◌≡◌, ◌++◌, ◌-◌, ◌+◌, sym, ap, ◌∙◌, arith, drop, take, length, length-append, length-take-le, min, refl}
+use Rattle.std.proofs.Common.{◌-◌, ap, ◌∙◌, arith, drop, take, length, length-append, length-take-le, min, refl}
 use Rattle.iobufs_core.specs.View.{View}
 use Rattle.iobufs_core.specs.Part.{Part}
-use Rattle.iobufs.specs.Pieces.{pieces_bytes}
 use Rattle.iobufs.specs.Shapes.{pieces}
 use Rattle.iobufs.proofs.CopyLaws.{only-cause, good_layout, copied-step, slice_from}
 use Rattle.iobufs.proofs.bufs.shape.Shape.copied.Goals as goal

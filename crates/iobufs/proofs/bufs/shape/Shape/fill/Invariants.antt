@@ -1,4 +1,4 @@
-use Rattle.std.proofs.Common.{◌≡◌, ◌+◌, ◌-◌, ◌≤◌, ◌++◌, length, take, drop}
+use Rattle.std.proofs.Common.{◌≡◌, ◌-◌, ◌≤◌, ◌++◌, length, take, drop}
 use Rattle.iobufs.specs.Pieces.{pieces_bytes}
 use Rattle.iobufs.specs.Shapes.{pieces}
 use Rattle.iobufs.proofs.bufs.shape.Shape.fill.Given as goal

@@ -1,4 +1,4 @@
-use Rattle.std.proofs.Common.{sym, ap, ◌∙◌, arith}
+use Rattle.std.proofs.Common.{sym, ◌∙◌, arith}
 use Rattle.iobufs.proofs.ReadLaws.{one-piece, single-view}
 use Rattle.iobufs.proofs.bufs.text.IoBufs.as_single.Goals as goal
 

@@ -1,6 +1,4 @@
-use Rattle.std.proofs.Common.{sym, ap, ◌∙◌, arith, Option, Some, None}
-use Rattle.iobufs_core.specs.View.{View}
-use Rattle.std.specs.Option.{option_copied}
+use Rattle.std.proofs.Common.{ap, ◌∙◌, arith, Some, None}
 use Rattle.iobufs.proofs.TextLaws.{chunk-at, chunk-none, len-kept, full-kept, some_pieces}
 use Rattle.iobufs.proofs.bufs.text.IoBufs.chunk_at.Goals as goal
 

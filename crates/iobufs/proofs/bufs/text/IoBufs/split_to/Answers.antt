@@ -1,4 +1,4 @@
-use Rattle.std.proofs.Common.{◌<◌, arith}
+use Rattle.std.proofs.Common.{arith}
 use Rattle.iobufs.proofs.TextLaws.{len-kept, full-kept, kept-front, kept-rest, front-kept, rest-kept}
 use Rattle.iobufs.proofs.bufs.text.IoBufs.split_to.Goals as goal
 

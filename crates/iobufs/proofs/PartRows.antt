@@ -1,0 +1,79 @@
+-- The rules of parts on examples with known answers.
+use Rattle.std.proofs.Common.{◌≡◌, ℕ, List, [], ◌∷◌, refl}
+use Rattle.iobufs_core.specs.MarkedText.{text_glue}
+use Rattle.iobufs_core.specs.View.{native_mark}
+use Rattle.iobufs_core.specs.Part.{Part, empty_part}
+use Rattle.iobufs.specs.Parts.{kept_parts, parts_coalesced, parts_copied, parts_drained, parts_fill, parts_frozen, parts_overwritten, parts_spare, parts_with_len}
+
+-- the bytes `ab` with so much room behind them
+abbrev ab : ℕ → Part
+ab spare = record { filled = 97 ∷ 98 ∷ []; spare = spare }
+
+abbrev of : List ℕ → ℕ → Part
+of bytes spare = record { filled = bytes; spare = spare }
+
+-- of four parts, one that is used up goes with its room
+four_drained : parts_drained (ab 2 ∷ ab 2 ∷ ab 2 ∷ ab 2 ∷ []) 2 ≡ ab 2 ∷ ab 2 ∷ ab 2 ∷ []
+four_drained = refl
+
+four_drained-spare : parts_spare (parts_drained (ab 2 ∷ ab 2 ∷ ab 2 ∷ ab 2 ∷ []) 2) ≡ 6
+four_drained-spare = refl
+
+-- three parts keep their room
+three_drained : parts_drained (ab 2 ∷ ab 2 ∷ ab 2 ∷ []) 2 ≡ empty_part 2 ∷ ab 2 ∷ ab 2 ∷ []
+three_drained = refl
+
+three_drained-spare : parts_spare (parts_drained (ab 2 ∷ ab 2 ∷ ab 2 ∷ []) 2) ≡ 6
+three_drained-spare = refl
+
+-- of two parts, a first one that is copied out whole goes with its room, else it keeps it
+two_copied : parts_copied (ab 2 ∷ of (99 ∷ 100 ∷ []) 0 ∷ []) 2 ≡ of (99 ∷ 100 ∷ []) 0 ∷ []
+two_copied = refl
+
+two_copied_past : parts_copied (ab 2 ∷ of (99 ∷ 100 ∷ []) 0 ∷ []) 3 ≡ empty_part 2 ∷ of (100 ∷ []) 0 ∷ []
+two_copied_past = refl
+
+-- of four parts, those before the last byte taken go
+four_not_drained : parts_drained (empty_part 4 ∷ ab 1 ∷ of (99 ∷ []) 0 ∷ of (100 ∷ []) 0 ∷ []) 0 ≡ empty_part 4 ∷ ab 1 ∷ of (99 ∷ []) 0 ∷ of (100 ∷ []) 0 ∷ []
+four_not_drained = refl
+
+four_copied : parts_copied (empty_part 4 ∷ ab 1 ∷ of (99 ∷ []) 0 ∷ of (100 ∷ []) 0 ∷ []) 2 ≡ of (99 ∷ []) 0 ∷ of (100 ∷ []) 0 ∷ []
+four_copied = refl
+
+-- one part that is copied out whole keeps no room
+one_copied : parts_copied (ab 2 ∷ []) 2 ≡ empty_part 0 ∷ []
+one_copied = refl
+
+-- puts fill the room of the parts in order
+two_filled : parts_fill (ab 1 ∷ of (99 ∷ []) 2 ∷ []) (120 ∷ 121 ∷ 122 ∷ []) ≡ of (97 ∷ 98 ∷ 120 ∷ []) 0 ∷ of (99 ∷ 121 ∷ 122 ∷ []) 0 ∷ []
+two_filled = refl
+
+-- each part in order takes as much of a length as it can hold, and further bytes are zero
+two_with_len : parts_with_len (ab 2 ∷ empty_part 4 ∷ []) 5 ≡ of (97 ∷ 98 ∷ 0 ∷ 0 ∷ []) 0 ∷ of (0 ∷ []) 3 ∷ []
+two_with_len = refl
+
+-- four parts, one advanced, then filled and frozen
+four_then_filled : parts_fill (parts_drained (ab 2 ∷ ab 2 ∷ ab 2 ∷ ab 2 ∷ []) 2) (120 ∷ 121 ∷ []) ≡ of (97 ∷ 98 ∷ 120 ∷ 121 ∷ []) 0 ∷ ab 2 ∷ ab 2 ∷ []
+four_then_filled = refl
+
+three_frozen : parts_frozen (of (97 ∷ 98 ∷ 120 ∷ 121 ∷ []) 0 ∷ ab 2 ∷ ab 2 ∷ [])
+    ≡ record { bytes = 97 ∷ 98 ∷ 120 ∷ 121 ∷ 97 ∷ 98 ∷ 97 ∷ 98 ∷ []; mark = native_mark 4; cuts = (4, native_mark 4) ∷ (6, native_mark 4) ∷ [] }
+unfolding text_glue
+three_frozen = refl
+
+-- parts without bytes are no pieces
+one_frozen : parts_frozen (empty_part 3 ∷ ab 2 ∷ empty_part 1 ∷ []) ≡ record { bytes = 97 ∷ 98 ∷ []; mark = native_mark 4; cuts = [] }
+one_frozen = refl
+
+-- parts that can't hold a byte are not kept
+kept_of_three : kept_parts (empty_part 0 ∷ ab 1 ∷ empty_part 0 ∷ []) ≡ ab 1 ∷ []
+kept_of_three = refl
+
+kept_of_none : kept_parts (empty_part 0 ∷ empty_part 0 ∷ []) ≡ empty_part 0 ∷ []
+kept_of_none = refl
+
+five_overwritten : parts_overwritten (ab 1 ∷ empty_part 3 ∷ of (99 ∷ []) 0 ∷ of (100 ∷ []) 2 ∷ empty_part 1 ∷ []) (1 ∷ 2 ∷ 3 ∷ 4 ∷ []) ≡ of (1 ∷ 2 ∷ []) 1 ∷ empty_part 3 ∷ of (3 ∷ []) 0 ∷ of (4 ∷ []) 2 ∷ empty_part 1 ∷ []
+five_overwritten = refl
+
+two_coalesced : parts_coalesced (ab 1 ∷ of (99 ∷ []) 2 ∷ []) ≡ of (97 ∷ 98 ∷ 99 ∷ []) 0
+two_coalesced = refl

@@ -1,0 +1,25 @@
+-- How the code keeps parts, as a list of parts.
+use Rattle.std.specs.Prelude.{◌<◌, ◌^◌, Option, None, Some, List, [], ◌∷◌, length}
+use Rattle.iobufs_core.specs.Part.{Part}
+use Rattle.iobufs.specs.Parts.{HaveCapacity, parts_capacity}
+use Rattle.iobufs.specs.declared.bufs_mut.Shape.{Shape}
+use Rattle.iobufs.specs.declared.bufs_mut.Shape.TheVariants.{One, Many}
+
+abbrev pub shape_parts : Shape → List Part
+shape_parts (One part) = part ∷ []
+shape_parts (Many row) = row.items
+
+-- the part that is kept beside no others
+abbrev pub shape_single : Shape → Option Part
+shape_single (One part) = Some part
+shape_single (Many row) = None
+
+-- several parts, each with capacity, whose capacities together fit a number
+pub record AreSeveral (parts : List Part) : Type 0 where
+  pub several : 1 < length parts
+  pub have_capacity : HaveCapacity parts
+  pub fits : parts_capacity parts < 2 ^ 64
+
+abbrev pub IsShape : Shape → Type 0
+IsShape (One part) = Unit {0}
+IsShape (Many row) = AreSeveral row.items

@@ -1,0 +1,120 @@
+-- Writable parts strung together: what the contracts of `IoBufsMut` speak of.
+--     IsParts                                     what is kept true of them
+--     parts_filled, parts_spare, parts_capacity   the bytes of all, the room of all, and both
+--     kept_parts                                  the parts that can hold a byte
+--     parts_fill                                  bytes written into the room, in order
+--     parts_drained, parts_copied                 what stays when bytes are dropped, and when they are copied out
+--     parts_with_len, parts_overwritten           so many bytes filled; other bytes written over them
+--     parts_chunks, parts_frozen                  the pieces that a reader sees, and the text that they freeze to
+--     single_part, parts_coalesced                the only part, and all as one part
+use Rattle.std.specs.Prelude.{ℕ, Bool, Option, None, Some, ◌-◌, ◌^◌, ◌<◌, min, ◌==◌, ◌&&◌, not, nat_lt, if◌then◌else◌, List, [], ◌∷◌, length, take, drop, map, filter, flat_map}
+use Rattle.std.specs.List.{sum_by}
+use Rattle.iobufs_core.specs.Chunks.{full_chunks}
+use Rattle.iobufs_core.specs.MarkedText.{MarkedText, joined}
+use Rattle.iobufs_core.specs.Part.{Part, empty_part, part_capacity, part_copied, part_drained, part_frozen, part_overwritten, part_put, part_with_len}
+
+-- the bytes that can be read
+abbrev pub parts_filled : List Part → List ℕ
+parts_filled parts = flat_map (λ part. part.filled) parts
+
+-- how many more fit
+abbrev pub parts_spare : List Part → ℕ
+parts_spare parts = sum_by (λ part. part.spare) parts
+
+abbrev pub parts_capacity : List Part → ℕ
+parts_capacity parts = sum_by part_capacity parts
+
+-- each part can hold a byte
+abbrev pub HaveCapacity : List Part → Type 0
+HaveCapacity [] = Unit {0}
+HaveCapacity (part ∷ parts) = (0 < part_capacity part) × HaveCapacity parts
+
+-- there is a part; where there are more, each can hold a byte; and a number can hold the capacity of all
+pub record IsParts (parts : List Part) : Type 0 where
+  pub some : 0 < length parts
+  pub have_capacity : 1 < length parts → HaveCapacity parts
+  pub fits : parts_capacity parts < 2 ^ 64
+
+-- the parts, or where there are none one that can't hold a byte
+abbrev pub parts_or_default : List Part → List Part
+parts_or_default [] = empty_part 0 ∷ []
+parts_or_default (part ∷ parts) = part ∷ parts
+
+-- the parts that can hold a byte
+abbrev pub with_capacity : List Part → List Part
+with_capacity parts = filter (λ part. nat_lt 0 (part_capacity part)) parts
+
+abbrev pub kept_parts : List Part → List Part
+kept_parts parts = parts_or_default (with_capacity parts)
+
+-- each part takes what fits, and the rest goes on to the next
+abbrev pub parts_fill : List Part → List ℕ → List Part
+parts_fill [] bytes = []
+parts_fill (part ∷ parts) bytes = part_put part (take part.spare bytes) ∷ parts_fill parts (drop part.spare bytes)
+
+-- each part loses its share of the first n bytes, and keeps its room
+abbrev pub parts_shared_out : List Part → ℕ → List Part
+parts_shared_out [] n = []
+parts_shared_out (part ∷ parts) n = part_drained part n ∷ parts_shared_out parts (n - length part.filled)
+
+-- from the front, parts that are used up go with their room, until n bytes are gone; the others stay
+abbrev pub parts_used_up : List Part → ℕ → List Part
+parts_used_up [] n = []
+parts_used_up (part ∷ parts) n =
+    if n == 0 then part ∷ parts
+    else if nat_lt n (length part.filled) then part_drained part n ∷ parts
+    else parts_used_up parts (n - length part.filled)
+
+-- without the first n bytes, where parts keep their room: with two or more, those that can't hold a byte any more go
+abbrev pub parts_drained_evenly : List Part → ℕ → List Part
+parts_drained_evenly [] n = []
+parts_drained_evenly (part ∷ []) n = part_drained part n ∷ []
+parts_drained_evenly (p ∷ q ∷ parts) n = if n == 0 then p ∷ q ∷ parts else kept_parts (parts_shared_out (p ∷ q ∷ parts) n)
+
+-- without the first n bytes: up to three parts keep their room, of four or more those used up go with it
+abbrev pub parts_drained : List Part → ℕ → List Part
+parts_drained (p ∷ q ∷ r ∷ s ∷ parts) n = parts_or_default (parts_used_up (p ∷ q ∷ r ∷ s ∷ parts) n)
+parts_drained parts n = parts_drained_evenly parts n
+
+-- the first part holds exactly n bytes, and some
+abbrev pub is_all_of : ℕ → Part → Bool
+is_all_of n part = not (n == 0) && (n == length part.filled)
+
+-- what stays when the first n bytes were copied out: as when they are dropped, but one part that is used up keeps no
+-- room, and of two or three a first part with exactly these bytes goes with its room
+abbrev pub parts_copied : List Part → ℕ → List Part
+parts_copied [] n = []
+parts_copied (part ∷ []) n = part_copied part n ∷ []
+parts_copied (p ∷ q ∷ []) n = if is_all_of n p then q ∷ [] else parts_drained (p ∷ q ∷ []) n
+parts_copied (p ∷ q ∷ r ∷ []) n = if is_all_of n p then q ∷ r ∷ [] else parts_drained (p ∷ q ∷ r ∷ []) n
+parts_copied (p ∷ q ∷ r ∷ s ∷ parts) n = parts_drained (p ∷ q ∷ r ∷ s ∷ parts) n
+
+-- n bytes filled, each part as far as its capacity goes; bytes that were not are zero
+abbrev pub parts_with_len : List Part → ℕ → List Part
+parts_with_len [] n = []
+parts_with_len (part ∷ parts) n = part_with_len part (min n (part_capacity part)) ∷ parts_with_len parts (n - part_capacity part)
+
+-- as many other bytes, written over those that are filled
+abbrev pub parts_overwritten : List Part → List ℕ → List Part
+parts_overwritten [] bytes = []
+parts_overwritten (part ∷ parts) bytes =
+    part_overwritten part (take (length part.filled) bytes) ∷ parts_overwritten parts (drop (length part.filled) bytes)
+
+-- the filled bytes of each part that holds some
+abbrev pub parts_chunks : List Part → List (List ℕ)
+parts_chunks parts = full_chunks (map (λ part. part.filled) parts)
+
+-- the parts that hold bytes as native pieces, one behind the other
+abbrev pub parts_frozen : List Part → MarkedText
+parts_frozen parts = joined (map part_frozen parts)
+
+-- the only part, if there is just one
+abbrev pub single_part : List Part → Option Part
+single_part (part ∷ []) = Some part
+single_part parts = None
+
+-- one part as it is, more as a copy with no room behind it
+abbrev pub parts_coalesced : List Part → Part
+parts_coalesced [] = empty_part 0
+parts_coalesced (part ∷ []) = part
+parts_coalesced (p ∷ q ∷ parts) = record { filled = parts_filled (p ∷ q ∷ parts); spare = 0 }

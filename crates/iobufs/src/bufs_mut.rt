@@ -1,0 +1,282 @@
+// Writable parts strung together.
+ghost use Rattle.std.specs.Prelude.{◌≡◌, ◌<◌, ◌≤◌, ◌==◌, ◌^◌, ◌∷◌, [], length, slice_get, Err, IfErr, IfOk, IsOk, IsOkUnless, MatchResult};
+ghost use Rattle.std.specs.Iterator.{IsFinite};
+ghost use Rattle.std.specs.Iterator.Runs.{SomeRun, WholeRun};
+ghost use Rattle.std.specs.Option.{option_copied, option_map};
+ghost use Rattle.std.specs.Borrow.{LendsIf, sem};
+ghost use Rattle.iobufs_core.specs.Part.{empty_part};
+ghost use Rattle.iobufs_core.specs.contracts.buf.write.IoBufMut.{the_row as part_row};
+ghost use Rattle.iobufs.specs.Parts.{HaveCapacity, IsParts, kept_parts, parts_capacity, parts_coalesced, parts_filled, parts_frozen, parts_or_default, parts_overwritten, parts_with_len, single_part};
+ghost use Rattle.iobufs.specs.PartLimits.{IsRowRefusedAt};
+
+mod read;
+mod row;
+mod write;
+
+use crate::bufs::IoBufs;
+use iobufs_core::buf::IoBufMut;
+use iobufs_core::codec::{BufError, BufMut};
+use std::alloc::Global;
+use std::collections::VecDeque;
+use std::marker::Model;
+
+/// Writable buffers in a row, read from the front and filled in order (`IoBufsMut`). With two or more, each can hold
+/// a byte.
+#[derive(Drop)]
+pub struct IoBufsMut {
+    shape: Shape,
+}
+
+// One part, which asks for no memory of its own, or a row of two or more.
+#[derive(Drop)]
+enum Shape {
+    One(IoBufMut),
+    Many(VecDeque<IoBufMut>),
+}
+
+impl Shape {
+    ghost use Rattle.iobufs.specs.contracts.bufs_mut.Shape.{the_row};
+    ghost use Rattle.iobufs.specs.declared.bufs_mut.Shape.TheVariants.{One};
+    ghost use Rattle.iobufs.specs.PartShape.{IsShape, shape_parts, shape_single};
+
+    fn of_row(mut parts: VecDeque<IoBufMut>) -> Shape
+        requires have_capacity { HaveCapacity parts.items }
+        requires fits { parts_capacity parts.items < 2 ^ 64 }
+        ensures parts { shape_parts result ≡ parts_or_default parts.items }
+        ensures shape { IsShape result }
+    {
+        match row::take_single(&mut parts) {
+            Some(part) => Shape::One(part),
+            None => Shape::Many(parts),
+        }
+    }
+
+    fn single_mut(&mut self) -> Option<&mut IoBufMut>
+        ensures* writes_back { sem 𝓛 (LendsIf the_row part_row self.entry result One self.old) }
+        ensures value { option_map (λ part. part.now) result ≡ shape_single self.old }
+    {
+        let Shape::One(part) = self else {
+            return None;
+        };
+        Some(part)
+    }
+}
+
+impl Model for IoBufsMut {
+    ghost use Rattle.std.specs.Prelude.{List};
+    ghost use Rattle.iobufs_core.specs.Part.{Part};
+    ghost use Rattle.iobufs.specs.PartShape.{shape_parts, IsShape};
+
+    ghost Value = { List Part };
+
+    ghost view = { λ parts. shape_parts parts.shape };
+
+    ghost invariant = { λ parts. IsShape parts.shape };
+}
+
+impl IoBufsMut {
+    ghost use Rattle.iobufs.specs.contracts.bufs_mut.IoBufsMut.{the_row};
+
+    /// One part of capacity 0.
+    pub fn default(alloc: Global) -> IoBufsMut
+        ensures { result ≡ empty_part 0 ∷ [] }
+    {
+        IoBufsMut::from(IoBufMut::default(alloc))
+    }
+
+    /// The parts of an iterator that can hold a byte; where there are none, one of capacity 0. `BufError::TooLong` where
+    /// a part's capacity and those before it together pass `usize::MAX`, tested before memory is asked for.
+    pub fn from_parts<I: Iterator<Item = IoBufMut> + Drop>(
+        alloc: Global,
+        items: I,
+    ) -> Result<IoBufsMut, BufError>
+        requires can { I.can_next items }
+        requires ends { IsFinite (I.remaining items) }
+        ensures ok { IfOk result (λ parts. WholeRun I.next_gives items (λ run. (parts_capacity run.items < 2 ^ 64) × (parts ≡ kept_parts run.items))) }
+        ensures err { IfErr result (λ cause. SomeRun I.next_gives items (λ run. IsRowRefusedAt run.items cause)) }
+    {
+        let mut parts = VecDeque::new(alloc);
+        let mut left = usize::MAX;
+        for part in items {
+            let capacity = part.capacity();
+            if capacity > left {
+                return Err(BufError::TooLong);
+            }
+            left -= capacity;
+            if capacity > 0 {
+                parts.push_back(part)?;
+            }
+        }
+        Ok(IoBufsMut {
+            shape: Shape::of_row(parts),
+        })
+    }
+
+    /// The number of readable bytes.
+    #[tactic(auto, using(crate::proofs::PartLaws::sums))]
+    pub fn len(&self) -> usize
+        ensures { result ≡ length (parts_filled self.now) }
+    {
+        match &self.shape {
+            Shape::One(part) => part.len(),
+            Shape::Many(parts) => row::len(parts),
+        }
+    }
+
+    pub fn is_empty(&self) -> bool
+        ensures { result ≡ (length (parts_filled self.now) == 0) }
+    {
+        self.len() == 0
+    }
+
+    /// How many bytes fit, counted from the first readable one.
+    pub fn capacity(&self) -> usize
+        ensures sum { result ≡ parts_capacity self.now }
+        ensures parts { IsParts self.now }
+    {
+        match &self.shape {
+            Shape::One(part) => part.capacity(),
+            Shape::Many(parts) => row::capacity(parts),
+        }
+    }
+
+    /// Makes `n` bytes readable, the parts filled in order (`IoBufsMut::set_len`, which is unsafe there). Bytes that
+    /// were not are zero.
+    #[tactic(auto, using(crate::proofs::PartLaws::kept))]
+    pub fn set_len(&mut self, n: usize)
+        requires { n ≤ parts_capacity self.old }
+        ensures { self.new ≡ parts_with_len self.old n }
+    {
+        match &mut self.shape {
+            Shape::One(part) => part.set_len(n),
+            Shape::Many(parts) => row::set_len(parts, n),
+        }
+    }
+
+    /// Writes over the readable bytes.
+    #[tactic(auto, using(crate::proofs::PartLaws::kept))]
+    pub fn copy_from_slice(&mut self, src: &[u8])
+        requires { length src.now ≡ length (parts_filled self.old) }
+        ensures { self.new ≡ parts_overwritten self.old src.now }
+    {
+        match &mut self.shape {
+            Shape::One(part) => part.as_mut().copy_from_slice(src),
+            Shape::Many(parts) => row::copy_from_slice(parts, src),
+        }
+    }
+
+    /// The number of parts (the original has no such call).
+    pub fn part_count(&self) -> usize
+        ensures { result ≡ length self.now }
+    {
+        match &self.shape {
+            Shape::One(_) => 1,
+            Shape::Many(parts) => parts.len(),
+        }
+    }
+
+    /// The part at a place, if there is one (the original has no such call).
+    pub fn part_at(&self, i: usize) -> Option<&IoBufMut>
+        ensures { option_copied result ≡ slice_get self.now i }
+    {
+        match &self.shape {
+            Shape::One(part) => match i {
+                0 => Some(part),
+                _ => None,
+            },
+            Shape::Many(parts) => parts.get(i),
+        }
+    }
+
+    /// Whether there is just one part.
+    pub fn is_single(&self) -> bool
+        ensures { result ≡ (length self.now == 1) }
+    {
+        match &self.shape {
+            Shape::One(_) => true,
+            Shape::Many(_) => false,
+        }
+    }
+
+    /// The only part, if there is just one.
+    pub fn as_single(&self) -> Option<&IoBufMut>
+        ensures { option_copied result ≡ single_part self.now }
+    {
+        match &self.shape {
+            Shape::One(part) => Some(part),
+            Shape::Many(_) => None,
+        }
+    }
+
+    /// The only part, to be written: what is written is the new part.
+    pub fn as_single_mut(&mut self) -> Option<&mut IoBufMut>
+        ensures* writes_back { sem 𝓛 (LendsIf the_row part_row self.entry result (λ part. part ∷ []) self.old) }
+        ensures value { option_map (λ part. part.now) result ≡ single_part self.old }
+    {
+        self.shape.single_mut()
+    }
+
+    /// The parts that hold bytes, as the pieces of one text.
+    #[tactic(auto, using(crate::proofs::Frozen::freezing))]
+    pub fn freeze(self, alloc: Global) -> Result<IoBufs, BufError>
+        ensures ok { IfOk result (λ text. text ≡ parts_frozen self) }
+        ensures memory { IsOkUnless result BufError.Memory }
+    {
+        match self.shape {
+            Shape::One(part) => IoBufs::from_mut(part),
+            Shape::Many(parts) => row::freeze(alloc, parts),
+        }
+    }
+
+    /// One part as it is; more as a copy of the readable bytes with no room behind them. `BufError::BadLayout` exactly
+    /// where two or more hold over `isize::MAX` bytes.
+    #[tactic(auto, using(crate::proofs::Coalesced::coalescing))]
+    pub fn coalesce(self, alloc: Global) -> Result<IoBufMut, BufError>
+        ensures ok { IfOk result (λ part. part ≡ parts_coalesced self) }
+        ensures single { length self ≡ 1 → IsOk result }
+        ensures bad_layout { 1 < length self → 2 ^ 63 ≤ length (parts_filled self) → result ≡ Err BufError.BadLayout }
+        ensures good_layout { length (parts_filled self) < 2 ^ 63 → IsOkUnless result BufError.Memory }
+    {
+        let parts = match self.try_into_single() {
+            Ok(part) => return Ok(part),
+            Err(parts) => parts,
+        };
+        let mut whole = IoBufMut::with_capacity(alloc, parts.len())?;
+        whole.put(parts);
+        Ok(whole)
+    }
+
+    /// The only part, if there is just one; several parts come back (`IoBufsMut::try_into_single`).
+    pub fn try_into_single(self) -> Result<IoBufMut, IoBufsMut>
+        ensures { MatchResult result (λ part. self ≡ part ∷ []) (λ parts. (parts ≡ self) × (single_part self ≡ None)) }
+    {
+        match self.shape {
+            Shape::One(part) => Ok(part),
+            Shape::Many(parts) => Err(IoBufsMut {
+                shape: Shape::Many(parts),
+            }),
+        }
+    }
+}
+
+impl From<IoBufMut> for IoBufsMut {
+    ghost use Rattle.std.specs.Prelude.{◌≡◌, ◌∷◌, []};
+
+    ghost from_gives = { λ part parts. parts ≡ part ∷ [] };
+
+    fn from(part: IoBufMut) -> IoBufsMut {
+        IoBufsMut {
+            shape: Shape::One(part),
+        }
+    }
+}
+
+impl From<Vec<u8>> for IoBufsMut {
+    ghost use Rattle.std.specs.Prelude.{◌≡◌, ◌-◌, ◌∷◌, [], vec_capacity, vec_len};
+
+    ghost from_gives = { λ v parts. parts ≡ (record { filled = v.items; spare = vec_capacity v - vec_len v }) ∷ [] };
+
+    fn from(bytes: Vec<u8>) -> IoBufsMut {
+        IoBufsMut::from(IoBufMut::from(bytes))
+    }
+}

@@ -1,0 +1,288 @@
+// Several parts in a row: what the calls of `IoBufsMut` do to two or more.
+ghost use Rattle.std.specs.Prelude.{◌≡◌, ◌^◌, ◌<◌, ◌≤◌, [], ◌∷◌, length, map, nat_lt, replicate, slice_get, take, IfNone, IfOk, IfSome, IsOkUnless};
+ghost use Rattle.std.specs.List.{sum_by};
+ghost use Rattle.iobufs_core.specs.Chunks.{first_chunk};
+ghost use Rattle.iobufs_core.specs.Part.{part_capacity};
+ghost use Rattle.iobufs.specs.Parts.{HaveCapacity, parts_capacity, parts_chunks, parts_copied, parts_drained, parts_fill, parts_filled, parts_frozen, parts_or_default, parts_overwritten, parts_shared_out, parts_spare, parts_used_up, parts_with_len, with_capacity};
+
+use crate::bufs::IoBufs;
+use iobufs_core::buf::IoBufMut;
+use iobufs_core::codec::{Buf, BufError, BufMut};
+use std::alloc::{AllocError, Global};
+use std::collections::VecDeque;
+
+pub(super) fn len(parts: &VecDeque<IoBufMut>) -> usize
+    requires { sum_by (λ part. length part.filled) parts.now.items < 2 ^ 64 }
+    ensures { result ≡ sum_by (λ part. length part.filled) parts.now.items }
+{
+    parts.iter().map(|part| part.len()).sum()
+}
+
+pub(super) fn capacity(parts: &VecDeque<IoBufMut>) -> usize
+    requires { parts_capacity parts.now.items < 2 ^ 64 }
+    ensures { result ≡ parts_capacity parts.now.items }
+{
+    parts.iter().map(|part| part.capacity()).sum()
+}
+
+pub(super) fn room(parts: &VecDeque<IoBufMut>) -> usize
+    requires { parts_spare parts.now.items < 2 ^ 64 }
+    ensures { result ≡ parts_spare parts.now.items }
+{
+    parts.iter().map(|part| part.remaining_mut()).sum()
+}
+
+// Fills the room of the parts in order.
+pub(super) fn put(parts: &mut VecDeque<IoBufMut>, src: &[u8])
+    requires { length src.now ≤ parts_spare parts.old.items }
+    ensures { parts.new.items ≡ parts_fill parts.old.items src.now }
+{
+    let mut left = src;
+    for i in 0..parts.len() {
+        if left.is_empty() {
+            return;
+        }
+        let part = &mut parts[i];
+        let n = left.len().min(part.remaining_mut());
+        part.put_slice(&left[..n]);
+        left = &left[n..];
+    }
+}
+
+// The same with `n` times one byte.
+pub(super) fn put_bytes(parts: &mut VecDeque<IoBufMut>, value: u8, n: usize)
+    requires { n ≤ parts_spare parts.old.items }
+    ensures { parts.new.items ≡ parts_fill parts.old.items (replicate n value) }
+{
+    let mut rest = n;
+    for i in 0..parts.len() {
+        if rest == 0 {
+            return;
+        }
+        let part = &mut parts[i];
+        let n = rest.min(part.remaining_mut());
+        part.put_bytes(value, n);
+        rest -= n;
+    }
+}
+
+// Makes `n` bytes readable, each part as far as its capacity goes.
+pub(super) fn set_len(parts: &mut VecDeque<IoBufMut>, n: usize)
+    ensures { parts.new.items ≡ parts_with_len parts.old.items n }
+{
+    let mut rest = n;
+    for i in 0..parts.len() {
+        let part = &mut parts[i];
+        let share = rest.min(part.capacity());
+        part.set_len(share);
+        rest -= share;
+    }
+}
+
+// Writes over the readable bytes of the parts in order.
+pub(super) fn copy_from_slice(parts: &mut VecDeque<IoBufMut>, src: &[u8])
+    requires { length src.now ≡ length (parts_filled parts.old.items) }
+    ensures { parts.new.items ≡ parts_overwritten parts.old.items src.now }
+{
+    let mut rest = src;
+    for i in 0..parts.len() {
+        let part = &mut parts[i];
+        let (share, behind) = rest.split_at(part.len());
+        part.as_mut().copy_from_slice(share);
+        rest = behind;
+    }
+}
+
+// Drops the first `n` bytes. Two or three parts keep their room; of four or more, those that are used up go with it.
+#[tactic(auto, using(crate::proofs::DrainShapes::draining))]
+pub(super) fn advance(parts: &mut VecDeque<IoBufMut>, n: usize)
+    requires { 1 < length parts.old.items }
+    ensures rest { parts_or_default parts.new.items ≡ parts_drained parts.old.items n }
+    ensures have_capacity { HaveCapacity parts.old.items → HaveCapacity parts.new.items }
+    ensures fits { parts_capacity parts.new.items ≤ parts_capacity parts.old.items }
+{
+    if n == 0 {
+        return;
+    }
+    if parts.len() > 3 {
+        use_up(parts, n);
+        return;
+    }
+    share_out(parts, n);
+    drop_spent(parts);
+}
+
+// What stays when the first `n` bytes were copied out: of two or three parts, a first one that held just these goes.
+pub(super) fn advance_copied(parts: &mut VecDeque<IoBufMut>, n: usize)
+    requires { 1 < length parts.old.items }
+    ensures rest { parts_or_default parts.new.items ≡ parts_copied parts.old.items n }
+    ensures have_capacity { HaveCapacity parts.old.items → HaveCapacity parts.new.items }
+    ensures fits { parts_capacity parts.new.items ≤ parts_capacity parts.old.items }
+{
+    if n != 0 && parts.len() <= 3 && n == parts[0].len() {
+        parts.pop_front();
+        return;
+    }
+    advance(parts, n);
+}
+
+// Drops the first `n` bytes, each part its share of them.
+fn share_out(parts: &mut VecDeque<IoBufMut>, n: usize)
+    ensures { parts.new.items ≡ parts_shared_out parts.old.items n }
+{
+    let mut rest = n;
+    for i in 0..parts.len() {
+        let part = &mut parts[i];
+        let share = rest.min(part.len());
+        part.advance(share);
+        rest -= share;
+    }
+}
+
+// Drops the parts that can't hold a byte any more.
+fn drop_spent(parts: &mut VecDeque<IoBufMut>)
+    ensures { parts.new.items ≡ with_capacity parts.old.items }
+{
+    parts.retain(
+        |part: &IoBufMut| -> bool
+            ensures { result ≡ nat_lt 0 (part_capacity part.now) }
+        { part.capacity() > 0 },
+    );
+}
+
+// Drops the first `n` bytes, and the parts that are used up on the way.
+fn use_up(parts: &mut VecDeque<IoBufMut>, n: usize)
+    ensures { parts.new.items ≡ parts_used_up parts.old.items n }
+{
+    let mut rest = n;
+    while rest > 0 {
+        let Some(part) = parts.front_mut() else {
+            return;
+        };
+        let len = part.len();
+        if rest < len {
+            part.advance(rest);
+            return;
+        }
+        parts.pop_front();
+        rest -= len;
+    }
+}
+
+// Where fewer than two parts are left: the one that is left, or one of capacity 0.
+pub(super) fn take_single(parts: &mut VecDeque<IoBufMut>) -> Option<IoBufMut>
+    ensures none { IfNone result ((1 < length parts.old.items) × (parts.new.items ≡ parts.old.items)) }
+    ensures some { IfSome result (λ part. parts_or_default parts.old.items ≡ part ∷ []) }
+{
+    if parts.len() > 1 {
+        return None;
+    }
+    let alloc = *parts.allocator();
+    Some(parts.pop_front().unwrap_or(IoBufMut::default(alloc)))
+}
+
+// The first part that holds bytes, or none of them.
+#[tactic(auto, using(crate::proofs::PartChunks::reading))]
+pub(super) fn chunk(parts: &VecDeque<IoBufMut>) -> &[u8]
+    ensures { result.now ≡ first_chunk (parts_chunks parts.now.items) }
+{
+    for part in parts {
+        if !part.is_empty() {
+            return part.as_ref();
+        }
+    }
+    &[]
+}
+
+#[tactic(auto, using(crate::proofs::PartChunks::reading))]
+pub(super) fn byte_at(parts: &VecDeque<IoBufMut>, i: usize) -> Option<u8>
+    ensures { result ≡ slice_get (parts_filled parts.now.items) i }
+{
+    let mut at = i;
+    for part in parts {
+        let len = part.len();
+        if at < len {
+            return part.byte_at(at);
+        }
+        at -= len;
+    }
+    None
+}
+
+// Fills `dst` with the first bytes.
+#[tactic(auto, using(crate::proofs::PartChunks::reading))]
+pub(super) fn read(parts: &VecDeque<IoBufMut>, dst: &mut [u8])
+    requires { length dst.old ≤ length (parts_filled parts.now.items) }
+    ensures { dst.new ≡ take (length dst.old) (parts_filled parts.now.items) }
+{
+    let mut at = 0;
+    for part in parts {
+        if at == dst.len() {
+            return;
+        }
+        let n = part.len().min(dst.len() - at);
+        dst[at..at + n].copy_from_slice(&part.as_ref()[..n]);
+        at += n;
+    }
+}
+
+// A copy of the first `n` bytes.
+#[tactic(auto, using(crate::proofs::PartChunks::reading))]
+pub(super) fn front(
+    alloc: Global,
+    parts: &VecDeque<IoBufMut>,
+    n: usize,
+) -> Result<Vec<u8>, AllocError>
+    ensures { IfOk result (λ bytes. bytes.items ≡ take n (parts_filled parts.now.items)) }
+{
+    let mut bytes = Vec::with_capacity(alloc, n)?;
+    let mut rest = n;
+    for part in parts {
+        if rest == 0 {
+            break;
+        }
+        let share = rest.min(part.len());
+        bytes.extend_from_slice(&part.as_ref()[..share])?;
+        rest -= share;
+    }
+    Ok(bytes)
+}
+
+// The first parts that hold bytes, at most `max`.
+#[tactic(auto, using(crate::proofs::PartChunks::reading))]
+pub(super) fn chunks(
+    alloc: Global,
+    parts: &VecDeque<IoBufMut>,
+    max: usize,
+) -> Result<Vec<&[u8]>, AllocError>
+    ensures { IfOk result (λ chunks. map (λ chunk. chunk.now) chunks.items ≡ take max (parts_chunks parts.now.items)) }
+{
+    let mut chunks = Vec::new(alloc);
+    for part in parts {
+        if chunks.len() == max {
+            break;
+        }
+        if part.is_empty() {
+            continue;
+        }
+        chunks.push(part.as_ref())?;
+    }
+    Ok(chunks)
+}
+
+// The parts that hold bytes, one piece behind the other.
+#[tactic(auto, using(crate::proofs::Frozen::freezing))]
+pub(super) fn freeze(alloc: Global, mut parts: VecDeque<IoBufMut>) -> Result<IoBufs, BufError>
+    requires { parts_capacity parts.items < 2 ^ 64 }
+    ensures ok { IfOk result (λ text. text ≡ parts_frozen parts.items) }
+    ensures memory { IsOkUnless result BufError.Memory }
+{
+    let mut text = IoBufs::default();
+    while let Some(part) = parts.pop_front() {
+        let piece = part.freeze()?;
+        if let Err(refused) = text.append(alloc, piece) {
+            return Err(refused.cause);
+        }
+    }
+    Ok(text)
+}

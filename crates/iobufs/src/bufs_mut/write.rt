@@ -1,0 +1,44 @@
+// `IoBufsMut` as room that is filled in order.
+ghost use Rattle.std.specs.Prelude.{◌≡◌, List, ℕ};
+ghost use Rattle.iobufs.specs.Parts.{parts_fill, parts_spare};
+
+use super::{IoBufsMut, Shape, row};
+use iobufs_core::codec::BufMut;
+
+impl BufMut for IoBufsMut {
+    ghost use Rattle.iobufs.specs.FillLaws.{filled_nothing, filled_composes, filled_lessens};
+
+    ghost room = { parts_spare };
+
+    ghost filled = { λ a bytes b. b ≡ parts_fill a bytes };
+
+    #[tactic(auto, using(crate::proofs::PartLaws::sums))]
+    fn remaining_mut(&self) -> usize {
+        match &self.shape {
+            Shape::One(part) => part.remaining_mut(),
+            Shape::Many(parts) => row::room(parts),
+        }
+    }
+
+    #[tactic(auto, using(crate::proofs::PartLaws::kept))]
+    fn put_slice(&mut self, src: &[u8]) {
+        match &mut self.shape {
+            Shape::One(part) => part.put_slice(src),
+            Shape::Many(parts) => row::put(parts, src),
+        }
+    }
+
+    #[tactic(auto, using(crate::proofs::PartLaws::kept))]
+    fn put_bytes(&mut self, value: u8, n: usize) {
+        match &mut self.shape {
+            Shape::One(part) => part.put_bytes(value, n),
+            Shape::Many(parts) => row::put_bytes(parts, value, n),
+        }
+    }
+
+    ghost nothing = { filled_nothing };
+
+    ghost composes = { filled_composes };
+
+    ghost lessens = { filled_lessens };
+}
