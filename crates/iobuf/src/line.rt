@@ -89,6 +89,10 @@ pub fn command(alloc: Global, line: &str) -> Result<Cmd, LineError> {
             dst: number(dst)?,
             sources: numbers(alloc, sources)?,
         }),
+        ["gathermut", dst, sources @ ..] => Ok(Cmd::GatherMut {
+            dst: number(dst)?,
+            sources: numbers(alloc, sources)?,
+        }),
         ["append", target, src] => Ok(Cmd::Append {
             target: number(target)?,
             src: number(src)?,

@@ -28,6 +28,7 @@ fn name(kind: Kind) -> &'static str {
         Kind::Part => "part",
         Kind::View => "view",
         Kind::Text => "text",
+        Kind::Parts => "parts",
     }
 }
 
@@ -41,7 +42,7 @@ impl fmt::Display for Line<'_> {
                 for Piece { bytes, spare } in pieces {
                     let digits = Hex(bytes.as_slice());
                     match kind {
-                        Kind::Part => write!(f, " {digits}+{spare}")?,
+                        Kind::Part | Kind::Parts => write!(f, " {digits}+{spare}")?,
                         Kind::View | Kind::Text => write!(f, " {digits}")?,
                     }
                 }

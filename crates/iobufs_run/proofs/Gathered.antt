@@ -1,5 +1,5 @@
 -- Names that are freed one after the other, and the text of what they held.
-use Rattle.std.proofs.Common.{◌≡◌, ◌≢◌, ℕ, zero, suc, ◌+◌, ◌<◌, ◌≤◌, ◌^◌, inl, inr, true, false, List, [], ◌∷◌, ◌++◌, length, take, map, get_or, arith, ap, sym, refl, ◌∙◌, get_or-set_other, length-append}
+use Rattle.std.proofs.Common.{Bool, None, ◌≡◌, ◌≢◌, ℕ, zero, suc, ◌+◌, ◌<◌, ◌≤◌, ◌^◌, inl, inr, true, false, List, [], ◌∷◌, ◌++◌, length, take, map, get_or, arith, ap, sym, refl, ◌∙◌, get_or-set_other, length-append}
 use Rattle.std.specs.Prelude.{slice_set, slice_index_or, ◌==◌, sum_by}
 use Rattle.std.specs.List.{list_all}
 use Rattle.std.proofs.lemmas.List.{get_or_default, take_more, map-append}
@@ -9,12 +9,15 @@ use Rattle.std.proofs.lemmas.Bool.{or_parts, or_from, and_parts}
 use Rattle.std.proofs.lemmas.Bool.Decides.{nat_tests}
 use Rattle.std.proofs.lemmas.List.Sums.{fold-append, sum_by-cons, sum_by_more_le}
 use Rattle.iobufs_core.specs.View.{View}
+use Rattle.iobufs_core.specs.Part.{Part as PartValue, part_capacity}
+use Rattle.iobufs.specs.Parts.{parts_capacity}
+use Rattle.iobufs_run.specs.declared.command.Kind.{Kind}
 use Rattle.iobufs_core.specs.MarkedText.{MarkedText, text_append, text_len, joined, default_text}
 use Rattle.iobufs_run.specs.declared.table.Slot.{Slot}
-use Rattle.iobufs_run.specs.declared.table.Slot.TheVariants.{Free, Part, Text}
+use Rattle.iobufs_run.specs.declared.table.Slot.TheVariants.{Free, Part, Text, Parts}
 use Rattle.iobufs_run.specs.declared.table.Slot.TheVariants.{View as SlotView}
-use Rattle.iobufs_run.specs.Slots.{held, is_view, view_held, readable}
-use Rattle.iobufs_run.specs.Run.{all_freed, MayFree, is_listed, has_twice}
+use Rattle.iobufs_run.specs.Slots.{held, part_held, view_held, extent}
+use Rattle.iobufs_run.specs.Run.{all_freed, first_cause, gather_causes, MayFree, is_listed, has_twice}
 
 pub all_freed-append : (old : List Slot) (xs : List ℕ) (x : ℕ) → all_freed old (xs ++ x ∷ []) ≡ slice_set (all_freed old xs) x Free
 all_freed-append old [] x = refl
@@ -69,16 +72,17 @@ put_back (first ∷ others) (suc src) slot inside e = ap (λ ss. first ∷ ss) (
 
 -- ---- one source more
 
-view_inside : (names : List Slot) (x : ℕ) → is_view (held names x) ≡ true → x < length names
-view_inside [] x e = cc
-view_inside (s ∷ ss) zero e = omega arith
-view_inside (s ∷ ss) (suc x) e = let ih = view_inside ss x e in omega arith
+-- a name that holds something that a free one doesn't is inside
+held_inside : (p : Slot → Bool) (names : List Slot) (x : ℕ) → p Free ≡ false → p (held names x) ≡ true → x < length names
+held_inside p [] x never e = cc
+held_inside p (s ∷ ss) zero never e = omega arith
+held_inside p (s ∷ ss) (suc x) never e = let ih = held_inside p ss x never e in omega arith
 
-source_is_view : (old : List Slot) (xs : List ℕ) (i : ℕ) → list_all (λ x. is_view (held old x)) xs ≡ true → i < length xs → is_view (held old (get_or xs i 0)) ≡ true
-source_is_view old [] i all inside = absurd (omega arith)
-source_is_view old (y ∷ ys) zero all inside = (and_parts (is_view (held old y)) (list_all (λ x. is_view (held old x)) ys) all).0
-source_is_view old (y ∷ ys) (suc i) all inside =
-    source_is_view old ys i (and_parts (is_view (held old y)) (list_all (λ x. is_view (held old x)) ys) all).1 (omega arith)
+source_passes : (p : Slot → Bool) (old : List Slot) (xs : List ℕ) (i : ℕ) → list_all (λ x. p (held old x)) xs ≡ true → i < length xs → p (held old (get_or xs i 0)) ≡ true
+source_passes p old [] i all inside = absurd (omega arith)
+source_passes p old (y ∷ ys) zero all inside = (and_parts (p (held old y)) (list_all (λ x. p (held old x)) ys) all).0
+source_passes p old (y ∷ ys) (suc i) all inside =
+    source_passes p old ys i (and_parts (p (held old y)) (list_all (λ x. p (held old x)) ys) all).1 (omega arith)
 
 -- a source holds still what it held, when those before it are free
 pub source_kept : (old now : List Slot) (xs : List ℕ) (i : ℕ) → has_twice xs ≡ false → now ≡ all_freed old (take i xs) → i < length xs
@@ -87,15 +91,15 @@ source_kept old now xs i once is inside =
     let x = get_or xs i 0 in
     ap (λ (ss : List Slot). held ss x) is ∙ held_kept old (take i xs) x (not_before xs i x once inside (get_or_default xs i 0 x inside))
 
--- read at any default it is a view
-pub source_read : (old now : List Slot) (xs : List ℕ) (i : ℕ) (d : Slot) → has_twice xs ≡ false → list_all (λ x. is_view (held old x)) xs ≡ true → now ≡ all_freed old (take i xs) → i < length xs
-    → (slice_index_or now (get_or xs i 0) d ≡ held old (get_or xs i 0)) × (is_view (held old (get_or xs i 0)) ≡ true)
-source_read old now xs i d once all is inside =
+-- read at any default it passes the test that all sources pass
+pub source_read : (p : Slot → Bool) (old now : List Slot) (xs : List ℕ) (i : ℕ) (d : Slot) → p Free ≡ false → has_twice xs ≡ false → list_all (λ x. p (held old x)) xs ≡ true → now ≡ all_freed old (take i xs) → i < length xs
+    → (slice_index_or now (get_or xs i 0) d ≡ held old (get_or xs i 0)) × (p (held old (get_or xs i 0)) ≡ true)
+source_read p old now xs i d never once all is inside =
     let x = get_or xs i 0 in
     let kept = source_kept old now xs i once is inside in
-    let view = source_is_view old xs i all inside in
-    let there = view_inside now x (ap is_view kept ∙ view) in
-    (get_or_default now x d Free there ∙ kept, view)
+    let passes = source_passes p old xs i all inside in
+    let there = held_inside p now x never (ap p kept ∙ passes) in
+    (get_or_default now x d Free there ∙ kept, passes)
 
 -- what is free after one source more
 pub freed_more : (old now : List Slot) (xs : List ℕ) (i : ℕ) (emptied : Slot) → now ≡ all_freed old (take i xs) → i < length xs → emptied ≡ Free
@@ -120,19 +124,56 @@ sum_by_le : (f g : ℕ → ℕ) (xs : List ℕ) → ((x : ℕ) → f x ≤ g x) 
 sum_by_le f g [] le = omega arith
 sum_by_le f g (x ∷ xs) le = let ih = sum_by_le f g xs le in omega (arith, le x, sum_by-cons f x xs, sum_by-cons g x xs)
 
-view_held_len : (s : Slot) → length (view_held s).bytes ≤ readable s
+view_held_len : (s : Slot) → length (view_held s).bytes ≤ extent s
 view_held_len (SlotView view) = omega arith
 view_held_len Free = omega arith
 view_held_len (Part part) = omega arith
 view_held_len (Text text) = omega arith
+view_held_len (Parts parts) = omega arith
 
 -- the text so far and one view more are no longer than all sources
-pub source_fits : (old : List Slot) (xs : List ℕ) (i : ℕ) (text : MarkedText) (view : View) → sum_by (λ x. readable (held old x)) xs < 2 ^ 64
+pub source_fits : (old : List Slot) (xs : List ℕ) (i : ℕ) (text : MarkedText) (view : View) → sum_by (λ x. extent (held old x)) xs < 2 ^ 64
     → text ≡ joined (map (λ x. view_held (held old x)) (take i xs)) → held old (get_or xs i 0) ≡ SlotView view → i < length xs → text_len text + length view.bytes < 2 ^ 64
 source_fits old xs i text view fits is at inside =
     let viewed = λ (x : ℕ). view_held (held old x) in
     let len : text_len text ≡ sum_by (λ x. length (viewed x).bytes) (take i xs) = length-joined (map viewed (take i xs)) text is ∙ bytes_sum viewed (take i xs) in
-    let few = sum_by_le (λ x. length (viewed x).bytes) (λ x. readable (held old x)) (take i xs) (λ x. view_held_len (held old x)) in
-    let more = sum_by_more_le (λ x. readable (held old x)) xs i 0 inside in
-    let last : readable (held old (get_or xs i 0)) ≡ length view.bytes = ap readable at in
+    let few = sum_by_le (λ x. length (viewed x).bytes) (λ x. extent (held old x)) (take i xs) (λ x. view_held_len (held old x)) in
+    let more = sum_by_more_le (λ x. extent (held old x)) xs i 0 inside in
+    let last : extent (held old (get_or xs i 0)) ≡ length view.bytes = ap extent at in
     omega (arith, len, few, more, last, fits)
+
+-- a row of one element more
+pub row_more : {X : Type 0} (f : ℕ → X) (xs : List ℕ) (i : ℕ) (row new : List X) (x : X) → row ≡ map f (take i xs) → new ≡ row ++ x ∷ [] → x ≡ f (get_or xs i 0) → i < length xs
+    → new ≡ map f (take (i + 1) xs)
+row_more f xs i row new x is e at inside =
+    e ∙ ap (λ ys. ys ++ x ∷ []) is ∙ ap (λ y. map f (take i xs) ++ y ∷ []) at
+    ∙ sym (map-append f (take i xs) (get_or xs i 0 ∷ [])) ∙ ap (map f) (sym (take_more xs i 0 inside))
+
+-- all sources were freed, in order
+pub MayFree-all : (xs : List ℕ) (old : List Slot) → MayFree xs old (all_freed old xs)
+MayFree-all [] old = refl
+MayFree-all (x ∷ xs) old = inr (MayFree-all xs (slice_set old x Free))
+
+sum_of_map : {X : Type 0} (f : X → ℕ) (h : ℕ → X) (xs : List ℕ) → sum_by f (map h xs) ≡ sum_by (λ x. f (h x)) xs
+sum_of_map f h [] = refl
+sum_of_map f h (x ∷ xs) = sum_by-cons f (h x) (map h xs) ∙ ap (λ n. f (h x) + n) (sum_of_map f h xs) ∙ sym (sum_by-cons (λ y. f (h y)) x xs)
+
+part_held_len : (s : Slot) → part_capacity (part_held s) ≤ extent s
+part_held_len (Part part) = omega arith
+part_held_len Free = omega arith
+part_held_len (SlotView view) = omega arith
+part_held_len (Text text) = omega arith
+part_held_len (Parts parts) = omega arith
+
+-- what isn't too long fits a number
+not_too_long : (kind : Kind) (names : List Slot) (dst : ℕ) (xs : List ℕ) → first_cause (gather_causes kind names dst xs) ≡ None → sum_by (λ x. extent (held names x)) xs < 2 ^ 64
+not_too_long kind names dst xs none = grind (arith, nat_tests)
+
+-- the capacities of the parts of a gathering fit
+pub row_fits : (kind : Kind) (names : List Slot) (dst : ℕ) (xs : List ℕ) (row : List PartValue) → first_cause (gather_causes kind names dst xs) ≡ None → row ≡ map (λ x. part_held (held names x)) xs
+    → parts_capacity row < 2 ^ 64
+row_fits kind names dst xs row none is =
+    let all = not_too_long kind names dst xs none in
+    let few = sum_by_le (λ x. part_capacity (part_held (held names x))) (λ x. extent (held names x)) xs (λ x. part_held_len (held names x)) in
+    let sum : parts_capacity row ≡ sum_by (λ x. part_capacity (part_held (held names x))) xs = ap parts_capacity is ∙ sum_of_map part_capacity (λ x. part_held (held names x)) xs in
+    omega (arith, sum, few, all)

@@ -8,13 +8,16 @@ use Rattle.std.specs.Prelude.{◌≡◌, ◌⊎◌, ℕ, ◌+◌, ◌^◌, ◌==
 use Rattle.std.specs.List.{list_any, list_all}
 use Rattle.iobufs_core.specs.Part.{empty_part, is_bad_layout}
 use Rattle.iobufs_core.specs.MarkedText.{joined}
-use Rattle.iobufs_run.specs.Slots.{held, is_free, is_part, is_view, is_text, is_static_view, is_in_pieces, is_too_large, readable, writable, view_held, slot_put, slot_frozen, slot_split_front, slot_rest, slot_advanced, slot_appended, slot_prepended, slot_coalesced, shown_piece, Shows}
+use Rattle.iobufs.specs.Parts.{kept_parts}
+use Rattle.iobufs_run.specs.Slots.{held, is_free, is_part, is_view, is_text, is_parts, is_of, extent, is_static_view, is_in_pieces, is_too_large, readable, writable, view_held, part_held, slot_put, slot_frozen, slot_split_front, slot_rest, slot_advanced, slot_appended, slot_prepended, slot_coalesced, shown_piece, Shows}
 use Rattle.iobufs_run.specs.declared.table.Slot.{Slot}
-use Rattle.iobufs_run.specs.declared.table.Slot.TheVariants.{Free, Part, Text}
+use Rattle.iobufs_run.specs.declared.table.Slot.TheVariants.{Free, Part, Text, Parts}
 use Rattle.iobufs_run.specs.declared.command.Cmd.{Cmd}
-use Rattle.iobufs_run.specs.declared.command.Cmd.TheVariants.{NewMut, Put, Freeze, Split, Advance, Gather, Append, Prepend, Coalesce, Show}
+use Rattle.iobufs_run.specs.declared.command.Cmd.TheVariants.{NewMut, Put, Freeze, Split, Advance, Gather, GatherMut, Append, Prepend, Coalesce, Show}
 use Rattle.iobufs_run.specs.declared.command.Reply.{Reply}
 use Rattle.iobufs_run.specs.declared.command.Reply.TheVariants.{Done, Shown, Refused}
+use Rattle.iobufs_run.specs.declared.command.Kind.{Kind}
+use Rattle.iobufs_run.specs.declared.command.Kind.TheVariants as kind
 use Rattle.iobufs_run.specs.declared.command.Refusal.{Refusal}
 use Rattle.iobufs_run.specs.declared.command.Refusal.TheVariants.{NoName, WrongKind, InUse, OutOfRange, BadLayout, TooLong, Memory}
 
@@ -38,13 +41,13 @@ has_twice (name ∷ names) = is_listed names name || has_twice names
 abbrev pub is_too_long : ℕ → Bool
 is_too_long n = nat_le (2 ^ 64) n
 
--- the causes to refuse a gathering of views
-abbrev pub gather_causes : List Slot → ℕ → List ℕ → List (Bool × Refusal)
-gather_causes names dst sources =
+-- the causes to refuse a gathering of buffers of this kind
+abbrev pub gather_causes : Kind → List Slot → ℕ → List ℕ → List (Bool × Refusal)
+gather_causes kind names dst sources =
     (is_no_name names dst || list_any (is_no_name names) sources, NoName)
-    ∷ (not (list_all (λ src. is_view (held names src)) sources), WrongKind)
+    ∷ (not (list_all (λ src. is_of kind (held names src)) sources), WrongKind)
     ∷ (not (is_free (held names dst)) && not (is_listed sources dst) || has_twice sources, InUse)
-    ∷ (is_too_long (sum_by (λ src. readable (held names src)) sources), TooLong) ∷ []
+    ∷ (is_too_long (sum_by (λ src. extent (held names src)) sources), TooLong) ∷ []
 
 -- the causes to refuse to put a view behind or in front of a text
 abbrev pub join_causes : List Slot → ℕ → ℕ → List (Bool × Refusal)
@@ -61,11 +64,11 @@ causes names (NewMut dst capacity align) =
     ∷ (is_bad_layout capacity align, BadLayout) ∷ []
 causes names (Put target bytes) =
     (is_no_name names target, NoName)
-    ∷ (not (is_part (held names target)), WrongKind)
+    ∷ (not (is_part (held names target)) && not (is_parts (held names target)), WrongKind)
     ∷ (nat_lt (writable (held names target)) (length bytes.items), OutOfRange) ∷ []
 causes names (Freeze src dst) =
     (is_no_name names src || is_no_name names dst, NoName)
-    ∷ (not (is_part (held names src)), WrongKind)
+    ∷ (not (is_part (held names src)) && not (is_parts (held names src)), WrongKind)
     ∷ (is_in_use_beside names src dst, InUse) ∷ []
 causes names (Split src dst at) =
     (is_no_name names src || is_no_name names dst, NoName)
@@ -76,12 +79,13 @@ causes names (Advance target n) =
     (is_no_name names target, NoName)
     ∷ (is_free (held names target), WrongKind)
     ∷ (nat_lt (readable (held names target)) n, OutOfRange) ∷ []
-causes names (Gather dst sources) = gather_causes names dst sources.items
+causes names (Gather dst sources) = gather_causes kind.View names dst sources.items
+causes names (GatherMut dst sources) = gather_causes kind.Part names dst sources.items
 causes names (Append target src) = join_causes names target src
 causes names (Prepend target src) = join_causes names target src
 causes names (Coalesce src dst) =
     (is_no_name names src || is_no_name names dst, NoName)
-    ∷ (not (is_text (held names src)), WrongKind)
+    ∷ (not (is_text (held names src)) && not (is_parts (held names src)), WrongKind)
     ∷ (is_in_use_beside names src dst, InUse)
     ∷ (is_too_large (held names src), BadLayout) ∷ []
 causes names (Show target) =
@@ -101,11 +105,12 @@ refusal_for names command = first_cause (causes names command)
 abbrev pub may_want_memory : List Slot → Cmd → Bool
 may_want_memory names (NewMut dst capacity align) = not (capacity == 0)
 may_want_memory names (Put target bytes) = false
-may_want_memory names (Freeze src dst) = not (readable (held names src) == 0)
+may_want_memory names (Freeze src dst) = is_parts (held names src) || not (readable (held names src) == 0)
 may_want_memory names (Split src dst at) =
     not (at == 0) && not (at == readable (held names src)) && not (is_static_view (held names src))
 may_want_memory names (Advance target n) = false
 may_want_memory names (Gather dst sources) = true
+may_want_memory names (GatherMut dst sources) = true
 may_want_memory names (Append target src) = not (readable (held names src) == 0) && not (readable (held names target) == 0)
 may_want_memory names (Prepend target src) = not (readable (held names src) == 0) && not (readable (held names target) == 0)
 may_want_memory names (Coalesce src dst) = is_in_pieces (held names src)
@@ -115,6 +120,7 @@ may_want_memory names (Show target) = true
 abbrev pub consumed : Cmd → List ℕ
 consumed (Freeze src dst) = src ∷ []
 consumed (Gather dst sources) = sources.items
+consumed (GatherMut dst sources) = sources.items
 consumed (Append target src) = src ∷ []
 consumed (Prepend target src) = src ∷ []
 consumed (Coalesce src dst) = src ∷ []
@@ -140,6 +146,8 @@ after names (Split src dst at) =
 after names (Advance target n) = slice_set names target (slot_advanced (held names target) n)
 after names (Gather dst sources) =
     slice_set (all_freed names sources.items) dst (Text (joined (map (λ src. view_held (held names src)) sources.items)))
+after names (GatherMut dst sources) =
+    slice_set (all_freed names sources.items) dst (Parts (kept_parts (map (λ src. part_held (held names src)) sources.items)))
 after names (Append target src) =
     slice_set (slice_set names src Free) target (slot_appended (held names target) (held names src))
 after names (Prepend target src) =

@@ -1,10 +1,11 @@
 -- What names hold, and what a command makes of it.
-use Rattle.std.specs.Prelude.{◌≡◌, ℕ, Bool, true, false, ◌^◌, ◌&&◌, not, nat_le, List, [], ◌∷◌, length, map, slice_index_or}
-use Rattle.iobufs_core.specs.Part.{part_drained, part_frozen, part_put}
+use Rattle.std.specs.Prelude.{◌≡◌, ℕ, Bool, true, false, ◌^◌, ◌&&◌, not, nat_le, nat_lt, List, [], ◌∷◌, length, map, slice_index_or}
+use Rattle.iobufs_core.specs.Part.{Part as PartValue, empty_part, part_capacity, part_drained, part_frozen, part_put}
+use Rattle.iobufs.specs.Parts.{parts_filled, parts_spare, parts_fill, parts_frozen, parts_drained, parts_coalesced}
 use Rattle.iobufs_core.specs.View.{View as ViewValue, view_advanced, view_rest, view_split_front, static_mark, Mark, default_view}
 use Rattle.iobufs_core.specs.MarkedText.{MarkedText, default_text, text_len, text_advanced, text_append, text_prepend, text_split_front, text_rest, text_chunks, text_coalesced, is_single}
 use Rattle.iobufs_run.specs.declared.table.Slot.{Slot}
-use Rattle.iobufs_run.specs.declared.table.Slot.TheVariants.{Free, Part, View, Text}
+use Rattle.iobufs_run.specs.declared.table.Slot.TheVariants.{Free, Part, View, Text, Parts}
 use Rattle.iobufs_run.specs.declared.command.Piece.{Piece}
 use Rattle.iobufs_run.specs.declared.command.Kind.{Kind}
 use Rattle.iobufs_run.specs.declared.command.Kind.TheVariants as kind
@@ -33,6 +34,10 @@ abbrev pub is_text : Slot → Bool
 is_text (Text text) = true
 is_text _ = false
 
+abbrev pub is_parts : Slot → Bool
+is_parts (Parts parts) = true
+is_parts _ = false
+
 -- a view of a static slice
 abbrev pub is_static_view : Slot → Bool
 is_static_view (View view) = is_static_mark view.mark
@@ -44,17 +49,21 @@ readable Free = 0
 readable (Part part) = length part.filled
 readable (View view) = length view.bytes
 readable (Text text) = text_len text
+readable (Parts parts) = length (parts_filled parts)
 
 abbrev pub writable : Slot → ℕ
 writable (Part part) = part.spare
+writable (Parts parts) = parts_spare parts
 writable _ = 0
 
 abbrev pub slot_put : Slot → List ℕ → Slot
 slot_put (Part part) bytes = Part (part_put part bytes)
+slot_put (Parts parts) bytes = Parts (parts_fill parts bytes)
 slot_put slot bytes = slot
 
 abbrev pub slot_frozen : Slot → Slot
 slot_frozen (Part part) = View (part_frozen part)
+slot_frozen (Parts parts) = Text (parts_frozen parts)
 slot_frozen slot = slot
 
 -- what a split answers and leaves
@@ -73,8 +82,9 @@ slot_advanced Free n = Free
 slot_advanced (Part part) n = Part (part_drained part n)
 slot_advanced (View view) n = View (view_advanced view n)
 slot_advanced (Text text) n = Text (text_advanced text n)
+slot_advanced (Parts parts) n = Parts (parts_drained parts n)
 
--- the view that is held, the default one where there is none; and the text
+-- the view that is held, the default one where there is none; so the text and the part
 abbrev pub view_held : Slot → ViewValue
 view_held (View view) = view
 view_held _ = default_view
@@ -82,6 +92,10 @@ view_held _ = default_view
 abbrev pub text_held : Slot → MarkedText
 text_held (Text text) = text
 text_held _ = default_text
+
+abbrev pub part_held : Slot → PartValue
+part_held (Part part) = part
+part_held _ = empty_part 0
 
 -- a text behind which, or in front of which, a view is put
 abbrev pub slot_appended : Slot → Slot → Slot
@@ -92,18 +106,31 @@ abbrev pub slot_prepended : Slot → Slot → Slot
 slot_prepended (Text text) slot = Text (text_prepend text (view_held slot))
 slot_prepended other slot = other
 
--- a text as one piece
+-- a text as one piece, and parts as one
 abbrev pub slot_coalesced : Slot → Slot
 slot_coalesced (Text text) = View (record { bytes = (text_coalesced text).bytes; mark = (text_coalesced text).mark })
+slot_coalesced (Parts parts) = Part (parts_coalesced parts)
 slot_coalesced slot = slot
 
--- a text in several pieces, and whether no storage has room for all of its bytes
+-- a text in several pieces or several parts, and whether no storage has room for all of its bytes
 abbrev pub is_in_pieces : Slot → Bool
 is_in_pieces (Text text) = not (is_single text)
+is_in_pieces (Parts parts) = nat_lt 1 (length parts)
 is_in_pieces _ = false
 
 abbrev pub is_too_large : Slot → Bool
 is_too_large slot = is_in_pieces slot && nat_le (2 ^ 63) (readable slot)
+
+-- of this kind, and how much it counts among others that it is put together with: a part by its capacity
+abbrev pub is_of : Kind → Slot → Bool
+is_of kind.Part slot = is_part slot
+is_of kind.View slot = is_view slot
+is_of kind.Text slot = is_text slot
+is_of kind.Parts slot = is_parts slot
+
+abbrev pub extent : Slot → ℕ
+extent (Part part) = part_capacity part
+extent slot = readable slot
 
 -- a piece that is shown: its bytes, and the room behind them
 abbrev pub shown_piece : Piece → List ℕ × ℕ
@@ -113,5 +140,6 @@ shown_piece piece = (piece.bytes.items, piece.spare)
 abbrev pub Shows : Slot → Kind → List (List ℕ × ℕ) → Type 0
 Shows (Part part) kind.Part pieces = pieces ≡ (part.filled, part.spare) ∷ []
 Shows (View view) kind.View pieces = pieces ≡ (view.bytes, 0) ∷ []
+Shows (Parts parts) kind.Parts pieces = pieces ≡ map (λ part. (part.filled, part.spare)) parts
 Shows (Text text) kind.Text pieces = pieces ≡ map (λ chunk. (chunk, 0)) (text_chunks text)
 Shows _ _ pieces = ⊥

@@ -13,12 +13,12 @@ pub enum Cmd {
         capacity: usize,
         align: usize,
     },
-    /// Puts bytes into a part.
+    /// Puts bytes into a part or parts.
     Put {
         target: usize,
         bytes: Vec<u8>,
     },
-    /// A part becomes a view.
+    /// A part becomes a view, parts a text.
     Freeze {
         src: usize,
         dst: usize,
@@ -39,6 +39,11 @@ pub enum Cmd {
         dst: usize,
         sources: Vec<usize>,
     },
+    /// Single parts become parts strung together, in this order.
+    GatherMut {
+        dst: usize,
+        sources: Vec<usize>,
+    },
     /// Puts a view behind a text.
     Append {
         target: usize,
@@ -49,7 +54,7 @@ pub enum Cmd {
         target: usize,
         src: usize,
     },
-    /// A text becomes a view.
+    /// A text becomes a view, parts a part.
     Coalesce {
         src: usize,
         dst: usize,
@@ -74,6 +79,7 @@ pub enum Kind {
     Part,
     View,
     Text,
+    Parts,
 }
 
 /// One piece of what is shown: its bytes, and the room behind them.

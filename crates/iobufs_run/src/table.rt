@@ -2,6 +2,7 @@
 ghost use Rattle.std.specs.Prelude.{◌≡◌, length, replicate, IfOk, IsOkUnless, OnErr};
 ghost use Rattle.iobufs_run.specs.Run.{Run, Step, outcome as outcome_of};
 
+mod gather;
 mod parts;
 mod shown;
 mod slots;
@@ -10,6 +11,7 @@ mod views;
 
 use crate::command::{Cmd, Refusal, Reply};
 use iobufs::bufs::IoBufs;
+use iobufs::bufs_mut::IoBufsMut;
 use iobufs_core::buf::{IoBuf, IoBufMut};
 use iobufs_core::codec::BufError;
 use std::alloc::Global;
@@ -22,6 +24,7 @@ pub enum Slot {
     Part(IoBufMut),
     View(IoBuf),
     Text(IoBufs),
+    Parts(IoBufsMut),
 }
 
 /// Buffers under the names 0, 1, and so on.
@@ -75,10 +78,13 @@ impl Table {
                 align,
             } => reply(parts::new_mut(alloc, slots, *dst, *capacity, *align)),
             Cmd::Put { target, bytes } => reply(parts::put(slots, *target, bytes)),
-            Cmd::Freeze { src, dst } => reply(parts::freeze(slots, *src, *dst)),
+            Cmd::Freeze { src, dst } => reply(parts::freeze(alloc, slots, *src, *dst)),
             Cmd::Split { src, dst, at } => reply(views::split(alloc, slots, *src, *dst, *at)),
             Cmd::Advance { target, n } => reply(views::advance(slots, *target, *n)),
-            Cmd::Gather { dst, sources } => reply(texts::gather(alloc, slots, *dst, sources)),
+            Cmd::Gather { dst, sources } => reply(gather::gather(alloc, slots, *dst, sources)),
+            Cmd::GatherMut { dst, sources } => {
+                reply(gather::gather_mut(alloc, slots, *dst, sources))
+            }
             Cmd::Append { target, src } => reply(texts::append(alloc, slots, *target, *src)),
             Cmd::Prepend { target, src } => reply(texts::prepend(alloc, slots, *target, *src)),
             Cmd::Coalesce { src, dst } => reply(texts::coalesce(alloc, slots, *src, *dst)),

@@ -8,6 +8,7 @@ ghost use Rattle.iobufs_core.specs.MarkedText.{text_chunks};
 use super::Slot;
 use crate::command::{Kind, Piece, Refusal, Reply};
 use iobufs::bufs::IoBufs;
+use iobufs::bufs_mut::IoBufsMut;
 use iobufs_core::codec::BufMut;
 use std::alloc::{AllocError, Global};
 
@@ -36,6 +37,22 @@ fn chunks(alloc: Global, text: &IoBufs) -> Result<Vec<Piece>, AllocError>
     Ok(pieces)
 }
 
+// A copy of each part, with its room.
+fn parts_shown(alloc: Global, parts: &IoBufsMut) -> Result<Vec<Piece>, AllocError>
+    ensures { IfOk result (λ pieces. map shown_piece pieces.items ≡ map (λ part. (part.filled, part.spare)) parts.now) }
+{
+    let mut pieces = Vec::new(alloc);
+    for i in 0..parts.part_count() {
+        let Some(part) = parts.part_at(i) else {
+            unreachable!()
+        };
+        let bytes = Vec::from_slice(alloc, part.as_ref())?;
+        let spare = part.remaining_mut();
+        pieces.push(Piece { bytes, spare })?;
+    }
+    Ok(pieces)
+}
+
 // What a name holds, as it is shown.
 fn shown(alloc: Global, slot: &Slot) -> Result<(Kind, Vec<Piece>), Refusal>
     ensures ok { IfOk result (λ shown. Shows slot.now shown.0 (map shown_piece shown.1.items)) }
@@ -50,6 +67,7 @@ fn shown(alloc: Global, slot: &Slot) -> Result<(Kind, Vec<Piece>), Refusal>
         )),
         Slot::View(view) => Ok((Kind::View, one_piece(alloc, view.as_ref(), 0)?)),
         Slot::Text(text) => Ok((Kind::Text, chunks(alloc, text)?)),
+        Slot::Parts(parts) => Ok((Kind::Parts, parts_shown(alloc, parts)?)),
     }
 }
 

@@ -1,9 +1,11 @@
 // Tests of what names hold, and what is taken from a slot.
 ghost use Rattle.std.specs.Prelude.{◌≡◌, ◌<◌, slice_set, length, false, IfSome, IfNone};
-ghost use Rattle.iobufs_run.specs.Slots.{is_free as free, is_part as part, is_view as view, is_text as text, readable as readable_bytes};
+ghost use Rattle.iobufs_run.specs.Slots.{is_free as free, is_part as part, is_view as view, is_text as text, is_parts as parts, is_of as of, readable as readable_bytes};
 
 use super::Slot;
+use crate::command::Kind;
 use iobufs::bufs::IoBufs;
+use iobufs::bufs_mut::IoBufsMut;
 use iobufs_core::buf::{IoBuf, IoBufMut};
 use std::mem;
 
@@ -31,6 +33,24 @@ pub(super) fn is_text(slot: &Slot) -> bool
     matches!(slot, Slot::Text(_))
 }
 
+pub(super) fn is_parts(slot: &Slot) -> bool
+    ensures { result ≡ parts slot.now }
+{
+    matches!(slot, Slot::Parts(_))
+}
+
+/// Whether a slot holds a buffer of this kind.
+pub(super) fn is_of(kind: Kind, slot: &Slot) -> bool
+    ensures { result ≡ of kind slot.now }
+{
+    match kind {
+        Kind::Part => is_part(slot),
+        Kind::View => is_view(slot),
+        Kind::Text => is_text(slot),
+        Kind::Parts => is_parts(slot),
+    }
+}
+
 /// How many bytes can be read from what a name holds.
 pub(super) fn readable(slot: &Slot) -> usize
     ensures { result ≡ readable_bytes slot.now }
@@ -40,6 +60,7 @@ pub(super) fn readable(slot: &Slot) -> usize
         Slot::Part(part) => part.len(),
         Slot::View(view) => view.len(),
         Slot::Text(text) => text.len(),
+        Slot::Parts(parts) => parts.len(),
     }
 }
 
@@ -73,6 +94,20 @@ pub(super) fn take_view(slot: &mut Slot) -> Option<IoBuf>
 {
     match mem::replace(slot, Slot::Free) {
         Slot::View(view) => Some(view),
+        other => {
+            *slot = other;
+            None
+        }
+    }
+}
+
+/// Takes the parts out of a slot.
+pub(super) fn take_parts(slot: &mut Slot) -> Option<IoBufsMut>
+    ensures some { IfSome result (λ parts. (slot.old ≡ Slot.Parts parts) × (slot.new ≡ Slot.Free)) }
+    ensures none { IfNone result ((parts slot.old ≡ false) × (slot.new ≡ slot.old)) }
+{
+    match mem::replace(slot, Slot::Free) {
+        Slot::Parts(parts) => Some(parts),
         other => {
             *slot = other;
             None

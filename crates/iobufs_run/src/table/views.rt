@@ -68,6 +68,7 @@ pub(super) fn advance(slots: &mut [Slot], target: usize, n: usize) -> Result<(),
         Slot::Part(part) => part.advance(n),
         Slot::View(view) => view.advance(n),
         Slot::Text(text) => text.advance(n),
+        Slot::Parts(parts) => parts.advance(n),
     }
     Ok(())
 }

@@ -1,14 +1,14 @@
-use Rattle.std.proofs.Common.{◌+◌, ap, sym, subst, ◌∙◌}
+use Rattle.std.proofs.Common.{◌+◌, ap, sym, refl, subst, ◌∙◌}
 use Rattle.iobufs_run.specs.Refusals.{refusal_of}
 use Rattle.iobufs_run.specs.Run.{MayFree}
 use Rattle.iobufs_run.specs.Slots.{held, is_view, view_held}
 use Rattle.iobufs_run.proofs.Gathered.{source_read, freed_more, text_more, source_fits, MayFree-front}
-use Rattle.iobufs_run.proofs.table.texts.take_all.Goals as goal
+use Rattle.iobufs_run.proofs.table.gather.take_views.Goals as goal
 
 pub unreachable-requires : goal.unreachable-requires
 unreachable-requires c =
     let inv = c.loop-src.invariant in
-    let read = source_read c.args.slots.now c.loop-src.slots c.args.sources.now c.loop-src.src-index c.index-slots-src.result c.requires.once c.requires.views inv.freed c.loop-src-test.true in
+    let read = source_read is_view c.args.slots.now c.loop-src.slots c.args.sources.now c.loop-src.src-index c.index-slots-src.result refl c.requires.once c.requires.views inv.freed c.loop-src-test.true in
     let not_view = c.in_default.ensures.none.0 in
     let view = ap is_view read.0 ∙ read.1 in
     cc
@@ -20,7 +20,7 @@ returns-in-Err-clause-err c =
     let sources = c.args.sources.now in
     let i = c.loop-src.src-index in
     let took = c.in-Some.ensures.some in
-    let read = source_read old c.loop-src.slots sources i c.index-slots-src.result c.requires.once c.requires.views inv.freed c.loop-src-test.true in
+    let read = source_read is_view old c.loop-src.slots sources i c.index-slots-src.result refl c.requires.once c.requires.views inv.freed c.loop-src-test.true in
     let fits = source_fits old sources i c.loop-src.text c.in-Some.piece c.requires.fits inv.text (sym read.0 ∙ took.0) c.loop-src-test.true in
     let cause = c.in-Err.ensures.memory fits in
     let freed = freed_more old c.loop-src.slots sources i c.take_view.new.slot inv.freed c.loop-src-test.true took.1 in
@@ -33,7 +33,7 @@ loop-src-preserved c =
     let sources = c.args.sources.now in
     let i = c.loop-src.src-index in
     let took = c.in-Some.ensures.some in
-    let read = source_read old c.loop-src.slots sources i c.index-slots-src.result c.requires.once c.requires.views inv.freed c.loop-src-test.true in
+    let read = source_read is_view old c.loop-src.slots sources i c.index-slots-src.result refl c.requires.once c.requires.views inv.freed c.loop-src-test.true in
     let piece = ap view_held (sym took.0 ∙ read.0) in record {
       freed = freed_more old c.loop-src.slots sources i c.take_view.new.slot inv.freed c.loop-src-test.true took.1;
       text = text_more (λ src. view_held (held old src)) sources i c.loop-src.text c.append.new.self c.in-Some.piece inv.text c.in_default-append.ensures.done piece c.loop-src-test.true;

@@ -1,6 +1,6 @@
 use Rattle.std.proofs.Common.{◌≡◌, drop}
 use Rattle.iobufs_run.specs.Run.{has_twice}
-use Rattle.iobufs_run.proofs.table.texts.has_twice.Given as goal
+use Rattle.iobufs_run.proofs.table.gather.has_twice.Given as goal
 
 -- none of the names so far stands again
 abbrev pub invariant-loop-i : goal.invariant-loop-i

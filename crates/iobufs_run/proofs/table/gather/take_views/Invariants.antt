@@ -2,7 +2,7 @@ use Rattle.std.proofs.Common.{◌≡◌, map, take}
 use Rattle.iobufs_core.specs.MarkedText.{joined}
 use Rattle.iobufs_run.specs.Slots.{held, view_held}
 use Rattle.iobufs_run.specs.Run.{all_freed}
-use Rattle.iobufs_run.proofs.table.texts.take_all.Given as goal
+use Rattle.iobufs_run.proofs.table.gather.take_views.Given as goal
 
 -- the sources so far are free, and their views are in the text
 abbrev pub invariant-loop-src : goal.invariant-loop-src

@@ -1,0 +1,175 @@
+// The commands that put several buffers together.
+ghost use Rattle.std.specs.Prelude.{◌≡◌, ◌≢◌, ◌^◌, ◌<◌, true, false, map, sum_by, IfOk, IfErr, IsOkUnless, OnOk, SomeIff, MatchResult, Some, None};
+ghost use Rattle.std.specs.List.{list_any, list_all};
+ghost use Rattle.iobufs_core.specs.MarkedText.{joined};
+ghost use Rattle.iobufs.specs.Parts.{kept_parts, parts_capacity};
+ghost use Rattle.iobufs_run.specs.declared.command.Cmd.{Cmd};
+ghost use Rattle.iobufs_run.specs.Run.{Step, outcome, all_freed, first_cause, gather_causes, has_twice as twice, is_no_name, MayFree};
+ghost use Rattle.iobufs_run.specs.Slots.{extent, held, is_of as of, part_held, view_held};
+
+use super::Slot;
+use super::slots::{hold, is_free, is_of, readable, take_part, take_view};
+use crate::command::{Kind, Refusal};
+use iobufs::bufs::IoBufs;
+use iobufs::bufs_mut::IoBufsMut;
+use iobufs_core::buf::IoBufMut;
+use std::alloc::Global;
+
+// Whether a name stands twice in a list.
+fn has_twice(names: &[usize]) -> bool
+    ensures { result ≡ twice names.now }
+{
+    for i in 0..names.len() {
+        if names[i + 1..].contains(&names[i]) {
+            return true;
+        }
+    }
+    false
+}
+
+// Whether one of the names doesn't exist.
+fn have_no_name(slots: &[Slot], names: &[usize]) -> bool
+    ensures { result ≡ list_any (is_no_name slots.now) names.now }
+{
+    names.iter().any(|name| slots.len() <= *name)
+}
+
+// Whether each of the names holds a buffer of this kind.
+fn hold_all(slots: &[Slot], names: &[usize], kind: Kind) -> bool
+    ensures { result ≡ list_all (λ name. of kind (held slots.now name)) names.now }
+{
+    names.iter().all(|name| holds(slots, *name, kind))
+}
+
+// Whether a name holds a buffer of this kind.
+fn holds(slots: &[Slot], name: usize, kind: Kind) -> bool
+    ensures { result ≡ of kind (held slots.now name) }
+{
+    match slots.get(name) {
+        Some(slot) => is_of(kind, slot),
+        None => false,
+    }
+}
+
+// How much the buffer of a name counts among others that it is put together with.
+fn extent_at(slots: &[Slot], name: usize) -> usize
+    ensures { result ≡ extent (held slots.now name) }
+{
+    match slots.get(name) {
+        Some(Slot::Part(part)) => part.capacity(),
+        Some(slot) => readable(slot),
+        None => 0,
+    }
+}
+
+// What these names count together, if a number can say it.
+fn total(slots: &[Slot], names: &[usize]) -> Option<usize>
+    ensures { SomeIff result (sum_by (λ name. extent (held slots.now name)) names.now < 2 ^ 64) (sum_by (λ name. extent (held slots.now name)) names.now) }
+{
+    let mut sum = 0usize;
+    for name in names {
+        sum = sum.checked_add(extent_at(slots, *name))?;
+    }
+    Some(sum)
+}
+
+// The first cause to refuse a gathering of buffers of this kind.
+fn gathering(slots: &[Slot], dst: usize, sources: &[usize], kind: Kind) -> Result<(), Refusal>
+    ensures causes { MatchResult result (λ _. first_cause (gather_causes kind slots.now dst sources.now) ≡ None) (λ refusal. first_cause (gather_causes kind slots.now dst sources.now) ≡ Some refusal) }
+    ensures known { IfErr result (λ refusal. refusal ≢ Refusal.Memory) }
+{
+    if dst >= slots.len() || have_no_name(slots, sources) {
+        return Err(Refusal::NoName);
+    }
+    if !hold_all(slots, sources, kind) {
+        return Err(Refusal::WrongKind);
+    }
+    if (!is_free(&slots[dst]) && !sources.contains(&dst)) || has_twice(sources) {
+        return Err(Refusal::InUse);
+    }
+    if total(slots, sources).is_none() {
+        return Err(Refusal::TooLong);
+    }
+    Ok(())
+}
+
+// Takes the views of these names, and makes a text of them.
+fn take_views(alloc: Global, slots: &mut [Slot], sources: &[usize]) -> Result<IoBufs, Refusal>
+    requires views { list_all (λ src. of Kind.View (held slots.old src)) sources.now ≡ true }
+    requires once { twice sources.now ≡ false }
+    requires fits { sum_by (λ src. extent (held slots.old src)) sources.now < 2 ^ 64 }
+    ensures ok { IfOk result (λ text. text ≡ joined (map (λ src. view_held (held slots.old src)) sources.now)) }
+    ensures freed { OnOk result (slots.new ≡ all_freed slots.old sources.now) }
+    ensures err { IfErr result (λ refusal. (refusal ≡ Refusal.Memory) × MayFree sources.now slots.old slots.new) }
+{
+    let mut text = IoBufs::default();
+    for src in sources {
+        let Some(piece) = take_view(&mut slots[*src]) else {
+            unreachable!()
+        };
+        if let Err(refused) = text.append(alloc, piece) {
+            return Err(Refusal::from(refused.cause));
+        }
+    }
+    Ok(text)
+}
+
+// Takes the parts of these names.
+fn take_row(alloc: Global, slots: &mut [Slot], sources: &[usize]) -> Result<Vec<IoBufMut>, Refusal>
+    requires parts { list_all (λ src. of Kind.Part (held slots.old src)) sources.now ≡ true }
+    requires once { twice sources.now ≡ false }
+    ensures ok { IfOk result (λ row. row.items ≡ map (λ src. part_held (held slots.old src)) sources.now) }
+    ensures freed { OnOk result (slots.new ≡ all_freed slots.old sources.now) }
+    ensures err { IfErr result (λ refusal. (refusal ≡ Refusal.Memory) × (slots.new ≡ slots.old)) }
+{
+    let mut row = Vec::with_capacity(alloc, sources.len())?;
+    for src in sources {
+        let Some(part) = take_part(&mut slots[*src]) else {
+            unreachable!()
+        };
+        row.push(part).unwrap();
+    }
+    Ok(row)
+}
+
+// Parts in a row, strung together.
+fn strung(alloc: Global, row: Vec<IoBufMut>) -> Result<IoBufsMut, Refusal>
+    requires { parts_capacity row.items < 2 ^ 64 }
+    ensures ok { IfOk result (λ parts. parts ≡ kept_parts row.items) }
+    ensures err { IsOkUnless result Refusal.Memory }
+{
+    Ok(IoBufsMut::from_parts(alloc, row.into_iter())?)
+}
+
+pub(super) fn gather_mut(
+    alloc: Global,
+    slots: &mut [Slot],
+    dst: usize,
+    sources: &Vec<usize>,
+) -> Result<(), Refusal>
+    ensures { Step slots.old (Cmd.GatherMut dst sources.now) (outcome result) slots.new }
+{
+    gathering(slots, dst, sources, Kind::Part)?;
+    let Ok(row) = take_row(alloc, slots, sources) else {
+        return Err(Refusal::Memory);
+    };
+    let Ok(parts) = strung(alloc, row) else {
+        return Err(Refusal::Memory);
+    };
+    hold(slots, dst, Slot::Parts(parts));
+    Ok(())
+}
+
+pub(super) fn gather(
+    alloc: Global,
+    slots: &mut [Slot],
+    dst: usize,
+    sources: &Vec<usize>,
+) -> Result<(), Refusal>
+    ensures { Step slots.old (Cmd.Gather dst sources.now) (outcome result) slots.new }
+{
+    gathering(slots, dst, sources, Kind::View)?;
+    let text = take_views(alloc, slots, sources)?;
+    hold(slots, dst, Slot::Text(text));
+    Ok(())
+}
