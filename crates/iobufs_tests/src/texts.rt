@@ -2,7 +2,7 @@
 use bytes::Bytes;
 use iobufs::bufs::IoBufs;
 use iobufs_core::buf::{IoBuf, IoBufMut};
-use iobufs_core::codec::{Buf, BufMut, OwnedBuf, OwnedBytes};
+use iobufs_core::codec::{Buf, BufMut, OwnedBuf, OwnedBytes, RangeCfg, Read};
 use std::alloc::Global;
 use std::process::Abort;
 use std::test::Fail;
@@ -199,37 +199,54 @@ fn a_part_is_filled_from_two_pieces(rt: HostRuntime) -> Result<(), Fail> {
     Ok(())
 }
 
-// Each number of pieces, cut at each place, by a split and by an advance.
+// The two sides of so many pieces, split at a place, and what an advance leaves of them.
+fn sides(alloc: Global, count: usize, at: usize) -> Result<(Vec<u8>, Vec<u8>), Fail> {
+    let mut text = pieces(alloc, count)?;
+    let front = split(alloc, &mut text, at)?;
+    Ok((shown(alloc, &front)?, shown(alloc, &text)?))
+}
+
+fn left(alloc: Global, count: usize, at: usize) -> Result<Vec<u8>, Fail> {
+    let mut text = pieces(alloc, count)?;
+    advanced(&mut text, at)?;
+    shown(alloc, &text)
+}
+
+// The bytes from one place to another, cut up at each even place.
+fn cut_up(alloc: Global, from: usize, to: usize) -> Result<Vec<u8>, Fail> {
+    let mut bytes = Vec::new(alloc);
+    for (i, byte) in b"abcdefghijkl".iter().enumerate() {
+        if i < from || i >= to {
+            continue;
+        }
+        if i > from && i % 2 == 0 {
+            bytes.push(b'|')?;
+        }
+        bytes.push(*byte)?;
+    }
+    Ok(bytes)
+}
+
 #[test]
 fn every_shape_is_cut_at_every_place(rt: HostRuntime) -> Result<(), Fail> {
     let alloc = rt.alloc();
     for count in 0..7usize {
-        let whole = pieces(alloc, count)?;
-        for at in 0..13usize {
-            if at > whole.len() {
-                continue;
-            }
-            let mut rest = whole.clone()?;
-            let mut front = split(alloc, &mut rest, at)?;
-            let mut left = whole.clone()?;
-            advanced(&mut left, at)?;
-            assert_eq!(rt;
-                shown(alloc, &left)?.as_slice(),
-                shown(alloc, &rest)?.as_slice()
-            );
-            assert_eq!(rt;
-                (front.chunk_count(), rest.chunk_count()),
-                (at.div_ceil(2), count.saturating_sub(at / 2))
-            );
-            for i in 0..rest.chunk_count() {
-                if let Some(chunk) = rest.chunk_at(i) {
-                    let piece = IoBuf::from_vec(Vec::from_slice(alloc, chunk)?)?;
-                    joined(front.append(alloc, piece).is_ok())?;
-                }
-            }
-            let (front, whole) = (front.coalesce(alloc)?, whole.clone()?.coalesce(alloc)?);
-            assert!(rt; front == whole);
+        for at in 0..2 * count + 1 {
+            let (front, rest) = sides(alloc, count, at)?;
+            assert!(rt; front == cut_up(alloc, 0, at)?);
+            assert!(rt; rest == cut_up(alloc, at, 2 * count)?);
+            assert!(rt; left(alloc, count, at)? == rest);
         }
+    }
+    Ok(())
+}
+
+#[test]
+fn a_clone_shows_the_same(rt: HostRuntime) -> Result<(), Fail> {
+    let alloc = rt.alloc();
+    for count in 0..7usize {
+        let text = pieces(alloc, count)?;
+        assert!(rt; shown(alloc, &text.clone()?)? == cut_up(alloc, 0, 2 * count)?);
     }
     Ok(())
 }
@@ -274,5 +291,19 @@ fn a_destination_is_filled_across_pieces(rt: HostRuntime) -> Result<(), Fail> {
     assert_eq!(rt; shown(alloc, &text)?.as_slice(), b"d|ef".as_slice());
     assert!(rt; text.try_copy_to_slice(&mut [0; 4]).is_err());
     assert_eq!(rt; text.chunk(), b"d".as_slice());
+    Ok(())
+}
+
+// The spelled length 4 ends one piece, and its bytes are in the next two.
+#[test]
+fn a_view_is_read_across_pieces(rt: HostRuntime) -> Result<(), Fail> {
+    let alloc = rt.alloc();
+    let mut text = IoBufs::from(b"\x04".as_slice());
+    joined(text.append(alloc, IoBuf::from(b"wx".as_slice())).is_ok())?;
+    joined(text.append(alloc, IoBuf::from(b"yz!".as_slice())).is_ok())?;
+    let view = IoBuf::read_cfg(alloc, &mut text, &RangeCfg { lo: 0, hi: 1024 })?;
+    assert_eq!(rt; view.as_ref(), b"wxyz".as_slice());
+    assert_eq!(rt; recovered(&rt, view)?, 4);
+    assert_eq!(rt; shown(alloc, &text)?.as_slice(), b"!".as_slice());
     Ok(())
 }
