@@ -1,0 +1,1 @@
+//! Calls that make blocks and handles.
