@@ -175,6 +175,15 @@ block-log-freed g log b used used' p l some none others k =
           rw length-append (omega (arith, a, o, c2, m));
     }
 
+-- blocks that keep having users or none
+pub block-log-alike : (bs : List Block) (log : List Freed) (used used' : ℕ → ℕ) → ((b : ℕ) → b < length bs → nat_eq (used' b) 0 ≡ nat_eq (used b) 0) → LogsBlocks bs log used → LogsBlocks bs log used'
+block-log-alike bs log used used' e k = record {
+  freed = λ b l. rw (e b l) (k.freed b l);
+  known = k.known;
+  once = k.once;
+  many = k.many;
+}
+
 -- where a block has a user, the log has room
 pub block-log-room : (bs : List Block) (log : List Freed) (used : ℕ → ℕ) (b : ℕ) → b < length bs → 0 < used b → LogsBlocks bs log used → length log < length bs
 block-log-room bs log used b l some k =
