@@ -55,3 +55,35 @@ held-at s h x b at o = rw (at, o) (is-eqb b b refl)
 -- its block is known
 pub owner-used : (s : State) (h : ℕ) (x : Handle) (b : ℕ) → handle_at s h ≡ Some x → owner_of s.tables x ≡ Some b → 0 < users (reading s) b
 owner-used s h x b at o = omega (arith, users-as s b, count-some (held_by s b) s.handles h None (at-some s.handles h x at) (held-at s h x b at o))
+
+-- ---- drops that have let go
+
+-- whether a call is a drop of the block that has let go
+abbrev pub lets_go : Tables → ℕ → Option Pending → Bool
+lets_go g b None = false
+lets_go g b (Some (Loaded h w)) = false
+lets_go g b (Some (Ready h w q)) = false
+lets_go g b (Some (Add h q)) = false
+lets_go g b (Some (Subtract q)) = false
+lets_go g b (Some (Release q v)) = (b == (record_at g q).block) && v
+
+pub drops-split : (g : Tables) (b : ℕ) (c : Option Pending) → cond (drops b (read_call g c)) 1 0 ≡ cond (still_holds b (read_call g c)) 1 0 + cond (lets_go g b c) 1 0
+drops-split g b None = refl
+drops-split g b (Some (Loaded h w)) = refl
+drops-split g b (Some (Ready h w q)) = refl
+drops-split g b (Some (Add h q)) = refl
+drops-split g b (Some (Subtract q)) = omega arith
+drops-split g b (Some (Release q true)) = elim (b == (record_at g q).block) as (λ v. cond v 1 0 ≡ 0 + cond (v && true) 1 0) [ true ↦ refl | false ↦ refl ]
+drops-split g b (Some (Release q false)) = elim (b == (record_at g q).block) as (λ v. cond v 1 0 ≡ cond v 1 0 + cond (v && false) 1 0) [ true ↦ refl | false ↦ refl ]
+
+first-and : (a b : Bool) → (a && b) ≡ true → a ≡ true
+first-and true b e = refl
+first-and false b e = e
+
+go-releases : (g : Tables) (b : ℕ) (c : Option Pending) → lets_go g b c ≡ true → releases g b c ≡ true
+go-releases g b None e = e
+go-releases g b (Some (Loaded h w)) e = e
+go-releases g b (Some (Ready h w q)) e = e
+go-releases g b (Some (Add h q)) e = e
+go-releases g b (Some (Subtract q)) e = e
+go-releases g b (Some (Release q v)) e = first-and (b == (record_at g q).block) v e
