@@ -12,15 +12,16 @@ use Rattle.iobufs_owner.specs.declared.owner.types.Word.{Word}
 use Rattle.iobufs_owner.specs.declared.owner.types.Word.TheVariants.{Empty, Descriptor, Record as Counted}
 use Rattle.iobufs_owner.specs.Word.{HasRoom, IsWord, word_of}
 use Rattle.iobufs_owner.specs.State.{State, Tables, owner_of, owner_by, base_by, block_with, handle_at, record_at, block_at, size_in, tail_in, retailed}
-use Rattle.iobufs_owner.specs.Moves.{is_lent, is_mut, edited, with_handle, advanced, frozen, thawed, Lends}
-use Rattle.iobufs_owner.specs.World.{holders, reading, is_block}
-use Rattle.iobufs_owner.specs.Sound.{IsSound, FitsWord, IsDescribed, IsCounted, LiesIn, LeavesBehind, alone, describes, is_descriptor}
+use Rattle.iobufs_owner.specs.Moves.{is_lent, is_mut, edited, with_handle, detached, advanced, frozen, thawed, Lends}
+use Rattle.iobufs_owner.specs.World.{holders, reading, read_handle, read_call, is_block}
+use Rattle.iobufs_owner.specs.Sound.{IsSound, FitsWord, IsDescribed, IsCounted, LiesIn, LeavesBehind, alone, describes, is_descriptor, hidden}
 use Rattle.iobufs_owner.proofs.Words.{word-size, word-tail, word-log, retailed-is, log-below}
 use Rattle.iobufs_owner.proofs.Kept.{sound-edited, sound-detached, at-some, owner-empty, owner-counted}
 use Rattle.iobufs_owner.proofs.Lent.{owner-same, base-mut}
-use Rattle.iobufs_owner.proofs.Counts.{count-some}
+use Rattle.iobufs_owner.proofs.Counts.{count-some, holders-few}
 use Rattle.iobufs_owner.proofs.Frames.{is-eqb}
 use Rattle.std.proofs.lemmas.Nat.{pow_pos}
+use Rattle.std.proofs.lemmas.List.{get_or_read, length-map}
 use Rattle.std.proofs.lemmas.Bool.Decides.{nat_tests}
 
 pub fits-at : (s : State) (h : ℕ) (x : Handle) → IsSound s → handle_at s h ≡ Some x → FitsWord s.tables s.calls x x.word
@@ -248,6 +249,13 @@ sound-frozen_empty s h x k t i =
     let oy = owner-empty s.tables y refl in
     sound-edited s h x y k t.at t.free (oy ∙ sym (owner-empty s.tables x i)) (λ c. rw (oy, owner-empty s.tables x i) refl) (λ c a. absurd (let q = rw oy at a in cc)) (refl, f.1, λ m. absurd (cc))
 
+-- a handle without block becomes the detached view
+pub sound-detached_empty : (s : State) (h : ℕ) (x : Handle) (kind : Kind) → IsSound s → Lends s h kind x → x.word ≡ Empty → IsSound (edited s h (detached 0))
+sound-detached_empty s h x kind k t i =
+    let y : Handle = detached 0 in
+    let oy = owner-empty s.tables y refl in
+    sound-edited s h x y k t.at t.free (oy ∙ sym (owner-empty s.tables x i)) (λ c. rw (oy, owner-empty s.tables x i) refl) (λ c a. absurd (let q = rw oy at a in cc)) (refl, omega arith, λ m. refl)
+
 -- ---- TryIntoMut
 
 pub sound-thawed_empty : (s : State) (h : ℕ) (x : Handle) → IsSound s → Lends s h View x → x.word ≡ Empty → x.len ≡ 0 → IsSound (edited s h (thawed x 0 Empty))
@@ -320,3 +328,19 @@ tail-small s h x w k t i =
 pub same-some : (o : Option ℕ) (v : ℕ) (P : Type 0) (w : ℕ) → o ≡ Some v → SomeIff o P w → v ≡ w
 same-some None v P w e s = absurd (cc)
 same-some (Some u) v P w e s = let q : u ≡ v = cc in sym q ∙ s.1
+
+-- the origin of a handle with a descriptor is its block
+pub owned-at : (s : State) (h : ℕ) (x : Handle) (w n : ℕ) → IsSound s → handle_at s h ≡ Some x → x.word ≡ Descriptor w → n ≡ get_or s.origins h n → owner_of s.tables x ≡ Some n
+owned-at s h x w n k at i e =
+    let d = described-at s h x w k at i in
+    let l : h < length s.origins = (let m = at-some s.handles h x at in let q = k.size.origins in omega arith) in
+    let o : n ≡ get_or s.origins h 0 = get_or_read s.origins h n l e 0 in
+    d.3.owner ∙ ap Some (sym (k.made_on h d.0 x at d.3.owner) ∙ sym o)
+
+-- a count never comes near the end of its type
+pub count-small : (s : State) (r : ℕ) → IsSound s → (record_at s.tables r).live ≡ true → hidden s.calls r ≡ 0 → (record_at s.tables r).count ≤ 2 ^ 33
+count-small s r k live z =
+    let b : ℕ = (record_at s.tables r).block in
+    let c = (k.counted r live).counts z in
+    let size = k.size in
+    omega (arith, c, holders-few (reading s) b, length-map s.handles (read_handle s.tables), length-map s.calls (read_call s.tables), size.few_handles, size.few_calls)

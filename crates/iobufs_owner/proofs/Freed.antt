@@ -4,13 +4,15 @@ use Rattle.std.proofs.Math.ListN.{length-set}
 use Rattle.std.proofs.lemmas.List.Elements.{All-set, All-from_get_or}
 use Rattle.std.proofs.lemmas.List.{get_or-set_same, get_or-set_other}
 use Rattle.std.proofs.lemmas.Bool.Decides.{nat_tests, eqb_tells}
-use Rattle.iobufs_owner.specs.State.{State, Tables, owner_of, record_at, block_at, handle_at, call_at, base_by, block_with, recovered, triple}
+use Rattle.iobufs_owner.specs.State.{State, Tables, owner_of, record_at, block_at, handle_at, call_at, base_by, block_with, end_of, size_in, tail_in, recovered, triple}
+use Rattle.iobufs_owner.specs.Word.{IsWord}
 use Rattle.iobufs_owner.specs.World.{World, holds, is_block, holders, users, still_holds, drops, reading, read_handle, read_call, tally}
-use Rattle.iobufs_owner.specs.Sound.{IsSound, Fits, FitsCall, alone, describes, hidden, readies, releases}
+use Rattle.iobufs_owner.specs.Sound.{IsSound, Fits, FitsCall, LiesIn, LeavesBehind, alone, describes, hidden, readies, releases}
 use Rattle.iobufs_owner.specs.Moves.{is_lent, borrows_it, detached, replaced, block_freed, both_freed, dead, IsLoose}
 use Rattle.iobufs_owner.specs.declared.owner.types.Block.{Block}
 use Rattle.iobufs_owner.specs.declared.owner.types.Freed.{Freed}
 use Rattle.iobufs_owner.specs.declared.owner.types.Handle.{Handle}
+use Rattle.iobufs_owner.specs.declared.owner.types.Kind.{Kind}
 use Rattle.iobufs_owner.specs.declared.owner.types.Kind.TheVariants.{View, Mut}
 use Rattle.iobufs_owner.specs.declared.owner.types.Pending.{Pending}
 use Rattle.iobufs_owner.specs.declared.owner.types.Pending.TheVariants.{Loaded, Ready, Add, Subtract, Release}
@@ -20,9 +22,9 @@ use Rattle.iobufs_owner.proofs.Keeps.{Keeps, keeps-self, call-kept, lent-by, nam
 use Rattle.iobufs_owner.proofs.Kept.{at-some, at-set, made-on-set, owner-empty, owner-counted}
 use Rattle.iobufs_owner.proofs.Words.{word-log}
 use Rattle.iobufs_owner.proofs.Frames.{not-eqb, is-eqb, handles-kept, alone-kept, describes-kept, holders-tables, users-tables}
-use Rattle.iobufs_owner.proofs.Edits.{fits-at, alone-at, described-at, counted-at, live-inside, no_block, owner-described, size-says, alone-described, describes-described, alone-written}
+use Rattle.iobufs_owner.proofs.Edits.{word-at, tail-says, behind-as, lies-as, fits-at, alone-at, described-at, counted-at, live-inside, no_block, owner-described, size-says, alone-described, describes-described, alone-written}
 use Rattle.iobufs_owner.proofs.Holders.{held_by, still_by, drops_by, holders-as, users-as, held-at, alone-few, describes-few, lets_go, drops-split, owner-used}
-use Rattle.iobufs_owner.proofs.Logs.{no_record, block-log-freed, record-log-dead}
+use Rattle.iobufs_owner.proofs.Logs.{no_record, block-log-freed, record-log-dead, block-log-room, record-log-room}
 use Rattle.iobufs_owner.proofs.Dead.{dead-block, dead-count, dead-other, dead-same, dead-keeps, dead-live}
 
 -- ---- what holds nothing
@@ -286,4 +288,49 @@ sound-freed_counted s h x r o k at free xm xw is =
       made_on = made-on-set s g' h o k l (λ i z a. owner-kept g g' s.calls z e (fits-at s i z k a)) (λ c z i own. absurd (n.owner c z i own));
       block_log = block-log-freed g s.freed_blocks b (users (reading s)) (users (reading next)) k.blocks f.known (let u = me.users in omega (arith, u)) none (λ c ne. ap (λ m. nat_eq m 0) (un c ne)) k.block_log;
       record_log = record-log-dead g.records s.freed_records r (record { count = (record_at g r).count; block = (record_at g r).block; live = false }) inside refl f.live k.record_log;
+    }
+
+-- ---- what freeing asks
+
+pub record DescribedEnds (s : State) (x : Handle) (w : ℕ) : Type 0 where
+  pub word : IsWord s.tables.align_bits s.tables.tail_bits s.tables.size_bits w
+  pub view : x.kind ≡ View → x.ptr + x.len + tail_in s.tables w < 2 ^ 64
+  pub room : x.kind ≡ Mut → x.ptr + x.cap < 2 ^ 64
+  pub below : size_in s.tables w ≤ end_of x (tail_in s.tables w)
+  pub log : length s.freed_blocks < length s.tables.blocks
+
+ends-below : (b : Block) (x : Handle) (tail size : ℕ) (kind : Kind) → x.kind ≡ kind → size ≡ b.size → LiesIn b x kind → LeavesBehind b x tail kind → size ≤ end_of x tail
+ends-below b x tail size View e n lies behind = rw e (omega (arith, n, behind))
+ends-below b x tail size Mut e n lies behind = rw e (omega (arith, n, lies.1))
+
+pub described-ends : (s : State) (h : ℕ) (x : Handle) (w : ℕ) → IsSound s → handle_at s h ≡ Some x → x.word ≡ Descriptor w → DescribedEnds s x w
+described-ends s h x w k at i =
+    let d = described-at s h x w k at i in
+    let bl : Block = block_at s.tables d.0 in
+    let tail = tail-says s.tables x w d.0 d.1 d.2 d.3 in
+    let size = size-says s.tables x w d.0 d.1 d.2 d.3 in
+    let ends = (k.blocks.places d.0 no_block d.3.known).ends in
+    record {
+      word = word-at s h x w k at i;
+      view = λ e. let behind = behind-as (block_at s.tables d.0) x d.2 View e d.3.behind in rw tail (omega (arith, behind, ends));
+      room = λ e. let lies = lies-as (block_at s.tables d.0) x Mut e d.3.lies in omega (arith, lies.1, ends);
+      below = rw tail (ends-below (block_at s.tables d.0) x d.2 (size_in s.tables w) x.kind refl size d.3.lies d.3.behind);
+      log = block-log-room s.tables.blocks s.freed_blocks (users (reading s)) d.0 d.3.known (owner-used s h x d.0 at d.3.owner) k.block_log;
+    }
+
+pub record CountedEnds (s : State) (r : ℕ) : Type 0 where
+  pub inside : r < length s.tables.records
+  pub known : (record_at s.tables r).block < length s.tables.blocks
+  pub block_log : length s.freed_blocks < length s.tables.blocks
+  pub record_log : length s.freed_records < length s.tables.records
+
+pub counted-ends : (s : State) (r : ℕ) → IsSound s → (record_at s.tables r).live ≡ true → CountedEnds s r
+counted-ends s r k live =
+    let c = k.counted r live in
+    let inside = live-inside s.tables.records r live in
+    record {
+      inside = inside;
+      known = c.known;
+      block_log = block-log-room s.tables.blocks s.freed_blocks (users (reading s)) (record_at s.tables r).block c.known c.used k.block_log;
+      record_log = record-log-room s.tables.records s.freed_records r inside live k.record_log;
     }

@@ -8,7 +8,7 @@ use Rattle.std.proofs.lemmas.Bool.Decides.{nat_tests, eqb_tells}
 use Rattle.iobufs_owner.specs.State.{State, Tables, owner_of, record_at, block_at, handle_at, owned_by}
 use Rattle.iobufs_owner.specs.World.{holders, users, holds, is_block, reading, read_handle, tally}
 use Rattle.iobufs_owner.specs.Sound.{IsSound, Fits, FitsWord, FitsCall, FitsRecord, IsCounted, LiesIn, alone, describes, hidden, readies}
-use Rattle.iobufs_owner.specs.Moves.{with_block, with_record, with_handle, edited, next_record, promoted, Lends, is_lent}
+use Rattle.iobufs_owner.specs.Moves.{with_block, with_record, with_handle, edited, next_record, frozen, Lends, is_lent}
 use Rattle.iobufs_owner.specs.Places.{IsGoodPlace}
 use Rattle.iobufs_owner.specs.declared.owner.types.Block.{Block}
 use Rattle.iobufs_owner.specs.declared.owner.types.Record.{Record}
@@ -23,7 +23,7 @@ use Rattle.iobufs_owner.proofs.Keeps.{Keeps, all-fit-kept, calls-kept, calls-rea
 use Rattle.iobufs_owner.proofs.Kept.{at-some, append-at, set-at, made-on-more, made-on-set, owner-counted, block-log-kept}
 use Rattle.iobufs_owner.proofs.Counts.{count-append, count-set, count-map, count-find, count-most, holders-more, users-more, holders-changed, users-changed, holders-le-users}
 use Rattle.iobufs_owner.proofs.Frames.{grown, grown-keeps, with-append, handles-kept, alone-kept, describes-kept, holders-tables, users-tables, not-eqb, is-eqb}
-use Rattle.iobufs_owner.proofs.Edits.{no_block, fits-at, live-inside, described-at, alone-at, alone-described, describes-described, describes-counted, alone-shared}
+use Rattle.iobufs_owner.proofs.Edits.{no_block, lies-as, fits-at, live-inside, described-at, alone-at, alone-described, describes-described, describes-counted, alone-shared}
 use Rattle.iobufs_owner.proofs.Holders.{describes-few}
 use Rattle.iobufs_owner.proofs.Logs.{no_record, below-or, block-log-more, record-log-more}
 use Rattle.iobufs_owner.proofs.Made.{other-base, placed-more}
@@ -236,3 +236,11 @@ sound-promoted s h x y w b k at free xw ox kb yw yv lies few =
       block_log = block-log-kept g.blocks s.freed_blocks (users (reading s)) (users (reading next)) um k.block_log;
       record_log = record-log-more g.records s.freed_records (record { count = 1; block = b; live = true }) refl k.record_log;
     }
+
+pub sound-promoted-frozen : (s : State) (h : ℕ) (x : Handle) (w b : ℕ) → IsSound s → Lends s h Mut x → x.word ≡ Descriptor w → owner_of s.tables x ≡ Some b → length s.tables.records < 2 ^ 32 → IsSound (edited (with_record s 1 b) h (frozen x (Counted (length s.tables.records))))
+sound-promoted-frozen s h x w b k t i o few =
+    let d = described-at s h x w k t.at i in
+    let same : d.0 ≡ b = (let q = sym d.3.owner ∙ o in cc) in
+    let kb = subst (λ (n : ℕ). n < length s.tables.blocks) same d.3.known in
+    let lies = subst (λ (n : ℕ). LiesIn (block_at s.tables n) x Mut) same (lies-as (block_at s.tables d.0) x Mut t.kind_is d.3.lies) in
+    sound-promoted s h x (frozen x (Counted (length s.tables.records))) w b k t.at t.free i o kb refl refl (lies.0, omega (arith, lies.1, lies.2), refl) few

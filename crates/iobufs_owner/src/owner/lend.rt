@@ -1,8 +1,10 @@
 //! Handles as a call asks for them: there, of the right kind, and not borrowed.
-ghost use Rattle.std.specs.Prelude.{◌≡◌, ℕ, ◌+◌, ◌^◌, ◌<◌, ◌≤◌, length, IfOk};
+ghost use Rattle.std.specs.Prelude.{◌≡◌, ℕ, ◌+◌, ◌^◌, ◌<◌, ◌≤◌, length, IfOk, Some};
+ghost use Rattle.iobufs_owner.specs.declared.owner.types.Word.TheVariants.{Descriptor};
+ghost use Rattle.iobufs_owner.specs.Moves as move;
 ghost use Rattle.iobufs_owner.specs.Moves.{borrows_it, is_lent, lend_of, any_of, owning_of, Lends};
 ghost use Rattle.iobufs_owner.specs.Sound.{IsSound};
-ghost use Rattle.iobufs_owner.specs.State.{handle_at, record_at, block_at};
+ghost use Rattle.iobufs_owner.specs.State.{handle_at, origin_at, record_at, block_at, owner_of, owned_by};
 
 use crate::owner::{Block, Handle, Kind, Machine, Pending, Record, Refusal, Word};
 
@@ -30,6 +32,35 @@ fn lent(calls: &[Option<Pending>], h: usize) -> bool
     false
 }
 
+/// The bytes `lo` to `hi` of a view as a view, which owns what the word says.
+pub(super) fn part(x: Handle, lo: u64, hi: u64, word: Word) -> Handle
+    requires order { lo ≤ hi }
+    requires within { hi ≤ x.len }
+    requires ends { x.ptr + x.len < 2 ^ 64 }
+    ensures { result ≡ move.part x lo hi word }
+{
+    Handle {
+        kind: Kind::View,
+        ptr: x.ptr + lo,
+        len: hi - lo,
+        cap: 0,
+        word,
+    }
+}
+
+/// A view of no bytes without block.
+pub(super) fn detached() -> Handle
+    ensures { result ≡ move.detached 0 }
+{
+    Handle {
+        kind: Kind::View,
+        ptr: 0,
+        len: 0,
+        cap: 0,
+        word: Word::Empty,
+    }
+}
+
 impl Machine {
     /// The handle of this number, where it was given and isn't gone.
     pub(super) fn find(&self, h: usize) -> Option<Handle>
@@ -48,6 +79,7 @@ impl Machine {
         ensures value { result ≡ lend_of self.now h kind }
         ensures sound { IsSound self.now }
         ensures lends { IfOk result (Lends self.now h kind) }
+        ensures ends { IfOk result (λ x. x.ptr + x.len < 2 ^ 64) }
     {
         let Some(x) = self.find(h) else {
             return Err(Refusal::NoHandle);
@@ -108,5 +140,23 @@ impl Machine {
         ensures { result ≡ block_at self.now.tables b }
     {
         self.blocks[b]
+    }
+
+    /// The number of the block that a handle was made on, 0 where there was none.
+    pub(super) fn origin(&self, h: usize) -> usize
+        requires { h < length self.now.handles }
+        ensures { result ≡ origin_at self.now h }
+    {
+        self.origins[h]
+    }
+
+    /// The number of the block of a handle with a descriptor.
+    pub(super) fn owned(&self, h: usize, x: Handle, word: u64) -> usize
+        requires at { handle_at self.now h ≡ Some x }
+        requires word { x.word ≡ Descriptor word }
+        ensures owner { owner_of self.now.tables x ≡ Some result }
+        ensures number { result ≡ owned_by self.now.tables x }
+    {
+        self.origins[h]
     }
 }
