@@ -167,7 +167,7 @@ sound-advanced s h x n k at free l =
 
 -- ---- Freeze, where the handle keeps what it owns by
 
-base-frozen : (g : Tables) (x : Handle) (w b log tail : ℕ) → x.kind ≡ Mut → x.len ≤ x.cap → IsDescribed g x w b log tail → x.cap - x.len < 2 ^ g.tail_bits → base_by g (frozen x (Descriptor (retailed g w (x.cap - x.len)))) (retailed g w (x.cap - x.len)) ≡ base_by g x w
+pub base-frozen : (g : Tables) (x : Handle) (w b log tail : ℕ) → x.kind ≡ Mut → x.len ≤ x.cap → IsDescribed g x w b log tail → x.cap - x.len < 2 ^ g.tail_bits → base_by g (frozen x (Descriptor (retailed g w (x.cap - x.len)))) (retailed g w (x.cap - x.len)) ≡ base_by g x w
 base-frozen g x w b log tail m c d l =
     let n : ℕ = x.cap - x.len in
     let room = room-again g x w b log tail (x.cap - x.len) d l in
@@ -265,7 +265,7 @@ sound-thawed_empty s h x k t i z =
     let oy = owner-empty s.tables y refl in
     sound-edited s h x y k t.at t.free (oy ∙ sym (owner-empty s.tables x i)) (λ c. rw (oy, owner-empty s.tables x i) refl) (λ c a. absurd (let q = rw oy at a in cc)) (refl, f.1, λ m. z)
 
-base-thawed : (g : Tables) (x : Handle) (w b log tail : ℕ) → x.kind ≡ View → IsDescribed g x w b log tail → base_by g (thawed x (x.len + tail_in g w) (Descriptor (retailed g w 0))) (retailed g w 0) ≡ base_by g x w
+pub base-thawed : (g : Tables) (x : Handle) (w b log tail : ℕ) → x.kind ≡ View → IsDescribed g x w b log tail → base_by g (thawed x (x.len + tail_in g w) (Descriptor (retailed g w 0))) (retailed g w 0) ≡ base_by g x w
 base-thawed g x w b log tail m d =
     let room = room-again g x w b log tail 0 d (pow_pos g.tail_bits) in
     let word = word-again g x w b log tail 0 d in

@@ -193,7 +193,7 @@ block-log-room bs log used b l some k =
     omega (arith, s, m)
 
 -- a new block isn't in the log
-fresh-log : (g : Tables) (b : Block) (fs : List Freed) → All (λ (x : Block). x.base ≢ b.base) g.blocks → All (λ (f : Freed). (c : ℕ) × (c < length g.blocks) × (f ≡ triple (block_at g c))) fs → is_freed b fs ≡ false
+pub fresh-log : (g : Tables) (b : Block) (fs : List Freed) → All (λ (x : Block). x.base ≢ b.base) g.blocks → All (λ (f : Freed). (c : ℕ) × (c < length g.blocks) × (f ≡ triple (block_at g c))) fs → is_freed b fs ≡ false
 fresh-log g b [] other known = refl
 fresh-log g b (f ∷ fs) other known =
     let one = All-head (λ (f : Freed). (c : ℕ) × (c < length g.blocks) × (f ≡ triple (block_at g c))) f fs known in

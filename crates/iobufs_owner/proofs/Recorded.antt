@@ -82,10 +82,10 @@ unhidden-next s k =
 
 -- ---- a new block that a new record counts
 
-abbrev both : Tables → Block → Tables
+abbrev pub both : Tables → Block → Tables
 both g b = recorded (grown g b) 1 (length g.blocks)
 
-both-keeps : (g : Tables) (b : Block) → Keeps g (both g b)
+pub both-keeps : (g : Tables) (b : Block) → Keeps g (both g b)
 both-keeps g b =
     let one = grown-keeps g b in
     let two = recorded-keeps (grown g b) 1 (length g.blocks) in
