@@ -105,3 +105,11 @@ unique-found s t h reply (Some x) k at i = unique-word s t h x reply x.word k at
 
 pub unique-steps : (s t : State) (h : ℕ) (reply : Reply) → IsSound s → IsTaken s (move.unique_of s h) reply t → world.UniqueIs (reading s) (world.block_of (reading s) h) reply (reading t)
 unique-steps s t h reply k i = rw (held-reads s h) (unique-found s t h reply (handle_at s h) k refl i)
+
+-- the question changes nothing
+unique-same : (s : State) (r : Result Handle Refusal) → s ≡ (move.unique_lent s r).state
+unique-same s (Err why) = refl
+unique-same s (Ok x) = refl
+
+pub unique-state : (s : State) (h : ℕ) → s ≡ (move.unique_of s h).state
+unique-state s h = unique-same s (move.owning_of s h)
