@@ -123,11 +123,11 @@ undropped' s h b i r one l at e =
 
 -- ---- the logs are no part of who holds
 
-holders-alike : (v w : World) (b : ℕ) → v.handles ≡ w.handles → v.calls ≡ w.calls → holders v b ≡ holders w b
+pub holders-alike : (v w : World) (b : ℕ) → v.handles ≡ w.handles → v.calls ≡ w.calls → holders v b ≡ holders w b
 unfolding holders
 holders-alike v w b e f = rw (e, f) refl
 
-users-alike : (v w : World) (b : ℕ) → v.handles ≡ w.handles → v.calls ≡ w.calls → users v b ≡ users w b
+pub users-alike : (v w : World) (b : ℕ) → v.handles ≡ w.handles → v.calls ≡ w.calls → users v b ≡ users w b
 unfolding users
 users-alike v w b e f = rw (e, f) refl
 
@@ -191,7 +191,7 @@ sound-freed_described s h x w o k at free xw is =
       calls_fit = All-from_get_or (FitsCall next) s.calls None (λ i li. call-kept s next (call_at s i) (record {
         tables = keeps-self g;
         live = λ q _ t. t;
-        hidden = λ q. refl;
+        hidden = λ q _. refl;
         handle = λ j y b a. get_or-set_other s.handles h j o None (λ e. let q = rw e at (lent-by j s.calls i None li b) in absurd (cc)) ∙ a;
         owner = λ j y a. refl;
         holders = λ q v e. hn (record_at g q).block (undropped s h b i q v me li e);
@@ -270,7 +270,7 @@ sound-freed_counted s h x r o k at free xm xw is =
       calls_fit = All-from_get_or (FitsCall next) s.calls None (λ i li. call-kept s next (call_at s i) (record {
         tables = e;
         live = λ q m t. dead-other g r q (λ y. other-names s h b r i (call_at s i) me refl f.shown li refl (rw y at m)) ∙ t;
-        hidden = λ q. refl;
+        hidden = λ q _. refl;
         handle = λ j y b a. get_or-set_other s.handles h j o None (λ e. let q = rw e at (lent-by j s.calls i None li b) in absurd (cc)) ∙ a;
         owner = λ j y a. owner-kept g g' s.calls y e (fits-at s j y k a);
         holders = λ q v e. hn (record_at g q).block (undropped s h b i q v me li e);
