@@ -121,11 +121,11 @@ sound-put s h x n k t l =
 
 -- ---- Advance
 
-and-no : (v : Bool) → (v && false) ≡ false
+pub and-no : (v : Bool) → (v && false) ≡ false
 and-no true = refl
 and-no false = refl
 
-and-yes : (v : Bool) → (v && true) ≡ v
+pub and-yes : (v : Bool) → (v && true) ≡ v
 and-yes true = refl
 and-yes false = refl
 

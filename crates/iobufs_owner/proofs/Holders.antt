@@ -80,7 +80,7 @@ first-and : (a b : Bool) → (a && b) ≡ true → a ≡ true
 first-and true b e = refl
 first-and false b e = e
 
-go-releases : (g : Tables) (b : ℕ) (c : Option Pending) → lets_go g b c ≡ true → releases g b c ≡ true
+pub go-releases : (g : Tables) (b : ℕ) (c : Option Pending) → lets_go g b c ≡ true → releases g b c ≡ true
 go-releases g b None e = e
 go-releases g b (Some (Loaded h w)) e = e
 go-releases g b (Some (Ready h w q)) e = e

@@ -1,13 +1,13 @@
 -- Clones and slices keep the machine sound.
-use Rattle.std.proofs.Common.{◌≡◌, ◌≢◌, ◌⊎◌, inl, inr, ℕ, zero, suc, ◌+◌, ◌-◌, ◌^◌, ◌<◌, ◌≤◌, ◌==◌, ◌&&◌, ◌||◌, Bool, true, false, cond, List, [], ◌∷◌, ◌++◌, length, get_or, set, map, sym, ◌∙◌, ap, subst, refl, arith, All, Option, Some, None, nat_eq, length-append}
+use Rattle.std.proofs.Common.{◌≡◌, ◌≢◌, ◌⊎◌, inl, inr, ℕ, zero, suc, ◌+◌, ◌-◌, ◌^◌, ◌<◌, ◌≤◌, ◌==◌, ◌&&◌, ◌||◌, Bool, true, false, cond, List, [], ◌∷◌, ◌++◌, length, get_or, set, map, sym, ◌∙◌, ap, subst, refl, arith, All, Option, Some, None, nat_eq, unwrap_or, length-append}
 use Rattle.std.proofs.Math.ListN.{length-set}
 use Rattle.std.proofs.lemmas.List.Elements.{All-from_get_or}
-use Rattle.std.proofs.lemmas.List.{get_or-set_same, get_or-set_other, map-set, length-map, set-set}
+use Rattle.std.proofs.lemmas.List.{get_or-set_same, get_or-set_other, map-set, length-map, set-set, get_or_read}
 use Rattle.std.proofs.lemmas.Bool.Decides.{nat_tests, eqb_tells}
 use Rattle.iobufs_owner.specs.State.{State, Tables, owner_of, owned_by, record_at, block_at, handle_at, call_at}
 use Rattle.iobufs_owner.specs.World.{World, Unfinished, holds, holders, users, still_holds, drops, is_block, reading, read_handle, read_call, tally}
 use Rattle.iobufs_owner.specs.Sound.{IsSound, Fits, FitsWord, FitsCall, FitsRecord, Shares, Promised, IsDescribed, IsCounted, LiesIn, alone, describes, hidden, readies, releases}
-use Rattle.iobufs_owner.specs.Moves.{borrows_it, counted, with_count, called, with_record, record_freed, dead, edited, with_handle, part, is_lent, next_record, promoted}
+use Rattle.iobufs_owner.specs.Moves.{held_found, block_held, borrows_it, counted, with_count, called, with_record, record_freed, dead, edited, with_handle, part, is_lent, next_record, promoted}
 use Rattle.iobufs_owner.specs.declared.owner.types.Record.{Record}
 use Rattle.iobufs_owner.specs.declared.owner.types.Handle.{Handle}
 use Rattle.iobufs_owner.specs.declared.owner.types.Share.{Share}
@@ -227,7 +227,7 @@ shown s p h r x = record s {
   calls = set s.calls p None;
 }
 
-some-same : {X : Type 0} (x y : X) → Some x ≡ Some y → x ≡ y
+pub some-same : {X : Type 0} (x y : X) → Some x ≡ Some y → x ≡ y
 some-same x y e = cc
 
 share-shown : (s : State) (p h r : ℕ) (x : Handle) (b : ℕ) (part : Share) (z : ℕ) (y : Handle) (d : ℕ) → handle_at s h ≡ Some x → h < length s.handles → All (Fits s.tables s.calls) s.handles → owner_of s.tables x ≡ Some b → (record_at s.tables r).block ≡ b → Shares s part y → Promised s.tables y z d → (u : Handle) × Shares (shown s p h r x) part u × Promised (counted s.tables r 1) u z d
@@ -403,7 +403,7 @@ sound-shown s p r w part x k atp at word =
 
 -- ---- the race is won: one more view, and the record counts both
 
-set-get : {X : Type 0} (xs : List X) (i : ℕ) (v d : X) → i < length xs → v ≡ get_or xs i d → set xs i v ≡ xs
+pub set-get : {X : Type 0} (xs : List X) (i : ℕ) (v d : X) → i < length xs → v ≡ get_or xs i d → set xs i v ≡ xs
 set-get [] i v d l e = refl
 set-get (x ∷ xs) zero v d l e = ap (λ (y : List _). y) (rw e refl)
 set-get (x ∷ xs) (suc i) v d l e = ap (λ (l : List _). x ∷ l) (set-get xs i v d (omega arith) e)
@@ -557,3 +557,66 @@ sound-lost s p r w winner part' x k at atx xw =
       block_log = block-log-kept g.blocks s.freed_blocks (users (reading s)) (users (reading next)) um k.block_log;
       record_log = record-log-dead g.records s.freed_records r (record { count = (record_at g r).count; block = (record_at g r).block; live = false }) inside refl f.4 k.record_log;
     }
+
+-- ---- what share calls need
+
+-- a loaded descriptor speaks of the block of its handle
+pub loaded-fits : (s : State) (k : Share) (x : Handle) (w : ℕ) → IsSound s → Shares s k x → x.word ≡ Descriptor w → FitsCall s (Some (Loaded k w))
+loaded-fits s k x w i sh xw =
+    let d = described-at s k.handle x w i sh.at xw in
+    let e : record x { word = Descriptor w } ≡ x = ap (λ (v : Word). record x { word = v }) (sym xw) in
+    (x, d.0, sh, record { log = d.1; tail = d.2; says = subst (λ (y : Handle). IsDescribed s.tables y w d.0 d.1 d.2) (sym e) d.3; owner = d.3.owner; now' = inl xw })
+
+pub record IsRacing (s : State) (k : Share) (w r : ℕ) (x : Handle) : Type 0 where
+  pub shares : Shares s k x
+  pub block : ℕ
+  pub promised : Promised s.tables x w block
+  pub live : (record_at s.tables r).live ≡ true
+  pub same : (record_at s.tables r).block ≡ block
+
+pub racing : (s : State) (p : ℕ) (k : Share) (w r : ℕ) → IsSound s → call_at s p ≡ Some (Ready k w r) → (x : Handle) × IsRacing s k w r x
+racing s p k w r i at =
+    let f : FitsCall s (Some (Ready k w r)) = subst (λ (c : Option Pending). FitsCall s c) at (i.calls_fit p None (at-some s.calls p (Ready k w r) at)) in
+    (f.0, record { shares = f.2; block = f.1; promised = f.3; live = f.4; same = f.5 })
+
+pub record IsAdding (s : State) (k : Share) (r : ℕ) (x : Handle) : Type 0 where
+  pub shares : Shares s k x
+  pub word : x.word ≡ Counted r
+
+pub adding : (s : State) (p : ℕ) (k : Share) (r : ℕ) → IsSound s → call_at s p ≡ Some (Add k r) → (x : Handle) × IsAdding s k r x
+adding s p k r i at =
+    let f : FitsCall s (Some (Add k r)) = subst (λ (c : Option Pending). FitsCall s c) at (i.calls_fit p None (at-some s.calls p (Add k r) at)) in
+    (f.0, record { shares = f.1; word = f.2 })
+
+-- the same of the handle that was found
+pub adding-at : (s : State) (p : ℕ) (k : Share) (r : ℕ) (x : Handle) → IsSound s → call_at s p ≡ Some (Add k r) → handle_at s k.handle ≡ Some x → IsAdding s k r x
+adding-at s p k r x i at h = let a = adding s p k r i at in subst (λ (y : Handle). IsAdding s k r y) (some-same a.0 x (sym a.1.shares.at ∙ h)) a.1
+
+pub racing-at : (s : State) (p : ℕ) (k : Share) (w r : ℕ) (x : Handle) → IsSound s → call_at s p ≡ Some (Ready k w r) → handle_at s k.handle ≡ Some x → IsRacing s k w r x
+racing-at s p k w r x i at h = let a = racing s p k w r i at in subst (λ (y : Handle). IsRacing s k w r y) (some-same a.0 x (sym a.1.shares.at ∙ h)) a.1
+
+-- a finished addition
+pub sound-added-call : (s : State) (p r : ℕ) (k : Share) (x : Handle) → IsSound s → call_at s p ≡ Some (Add k r) → handle_at s k.handle ≡ Some x → (record_at s.tables r).count ≤ s.ceiling → length s.handles < 2 ^ 32 → IsSound (with_handle (called (with_count s r ((record_at s.tables r).count + 1)) p None) (part x k.lo k.hi (Counted r)) (record_at s.tables r).block)
+sound-added-call s p r k x i at h low few =
+    let a = adding-at s p k r x i at h in
+    let c = counted-at s k.handle x r i h a.word in
+    let lies = lies-as (block_at s.tables (record_at s.tables r).block) x View a.shares.view c.lies in
+    let order = a.shares.order in
+    let within = a.shares.within in
+    let y : Handle = part x k.lo k.hi (Counted r) in
+    let one = sound-added s k.handle r (record_at s.tables r).block x y i h a.shares.view a.word refl refl (omega (arith, lies.0), omega (arith, lies.1, order, within), refl) low refl few in
+    let s1 : State = with_handle (with_count s r ((record_at s.tables r).count + 1)) (part x k.lo k.hi (Counted r)) (record_at s.tables r).block in
+    sound-called s1 p None one (at-some s.calls p (Add k r) at) (subst (λ (c : Option Pending). IsQuiet s1 c) (sym at) (quiet-add s1 k r)) (quiet-none s1) tt
+
+-- the block of a loaded call
+pub held-loading : (s : State) (p : ℕ) (k : Share) (w : ℕ) → IsSound s → call_at s p ≡ Some (Loaded k w) → (x : Handle) × IsLoading s k w x (block_held s k.handle)
+held-loading s p k w i at =
+    let l = loading s p k w i at in
+    let e : block_held s k.handle ≡ l.1 = ap (λ (o : Option Handle). held_found s o) l.2.shares.at ∙ ap (λ (o : Option ℕ). unwrap_or o 0) l.2.promised.owner in
+    (l.0, subst (λ (n : ℕ). IsLoading s k w l.0 n) (sym e) l.2)
+
+pub origin-held : (s : State) (p : ℕ) (k : Share) (w n : ℕ) → IsSound s → call_at s p ≡ Some (Loaded k w) → n ≡ get_or s.origins k.handle n → n ≡ block_held s k.handle
+origin-held s p k w n i at e =
+    let l = held-loading s p k w i at in
+    let m : k.handle < length s.origins = (let q = at-some s.handles k.handle l.0 l.1.shares.at in let z = i.size.origins in omega arith) in
+    get_or_read s.origins k.handle n m e 0 ∙ i.made_on k.handle (block_held s k.handle) l.0 l.1.shares.at l.1.promised.owner

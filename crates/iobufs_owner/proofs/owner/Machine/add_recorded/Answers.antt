@@ -16,7 +16,6 @@ invariant_of-self-2 c =
     let n : c.len-number.result ≡ length c.self.inside.blocks.items = omega (arith, c.len-number.ensures, c.in_ok-reserve.ensures.len) in
     record {
       sound = rw (c.put_last-3.ensures.items, c.in_ok-reserve-3.ensures.items, c.put_last-2.ensures.items, c.in_ok-reserve-2.ensures.items, c.put_last.ensures.items, c.in_ok-reserve.ensures.items, c.put_last-4.ensures.items, c.in_ok-reserve-4.ensures.items, c.in_ok-reserve_log.ensures.items, c.in_ok-reserve_log-2.ensures.items, n) (sound-recorded s c.args.block c.args.x k.sound good word c.requires.lies c.requires.native (omega arith) (omega arith) (omega arith));
-      idle = k.idle;
       block_room = rw (c.put_last.ensures.items, c.in_ok-reserve.ensures.items, length-append) (omega (arith, c.in_ok-reserve_log.ensures.room, c.len-2.ensures, c.in_ok-reserve.ensures.len));
       record_room = rw (c.put_last-2.ensures.items, c.in_ok-reserve-2.ensures.items, length-append) (omega (arith, c.in_ok-reserve_log-2.ensures.room, c.len-3.ensures, c.in_ok-reserve-2.ensures.len));
     }

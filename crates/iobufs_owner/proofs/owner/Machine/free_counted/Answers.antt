@@ -34,7 +34,6 @@ invariant_of-self c =
     let e2 = subst (λ (s : State). c.block-block.result ≡ block_at s.tables c.record-record.result.block) (sym c.self.view_is) c.block-block.ensures in
     record {
       sound = rw (c.put_last.ensures.items, c.put_last-2.ensures.items, e2, e1) (sound-freed_counted s c.args.h c.args.x c.args.r c.args.rest k.sound t.at t.free t.kind_is c.requires.word c.requires.rest);
-      idle = k.idle;
       block_room = omega (arith, k.block_room, c.put_last.ensures.capacity);
       record_room = rw length-set (omega (arith, k.record_room, c.put_last-2.ensures.capacity));
     }

@@ -52,7 +52,6 @@ invariant_of-self c =
     let e : c.end.result ≡ end_of c.args.x (tail_in s.tables c.args.word) = c.end.ensures ∙ ap (λ (n : ℕ). end_of c.args.x n) c.unpack-fields.ensures.tail in
     record {
       sound = rw (c.put_last.ensures.items, e, c.unpack-fields.ensures.size, c.unpack-fields.ensures.align) (sound-freed_described s c.args.h c.args.x c.args.word c.args.rest k.sound t.at t.free c.requires.word c.requires.rest);
-      idle = k.idle;
       block_room = omega (arith, k.block_room, c.put_last.ensures.capacity);
       record_room = k.record_room;
     }

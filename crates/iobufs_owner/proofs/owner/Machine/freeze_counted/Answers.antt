@@ -11,4 +11,4 @@ invariant_of-self c =
     let s : State = state_of c.self.inside in
     let k = c.self.invariant in
     let t = subst (λ (s : State). Lends s c.args.h Mut c.args.x) (sym c.self.view_is) c.requires.lent in
-    record { sound = rw c.frozen.ensures (sound-frozen_counted s c.args.h c.args.x c.args.r k.sound t c.requires.word); idle = k.idle; block_room = k.block_room; record_room = k.record_room }
+    record { sound = rw c.frozen.ensures (sound-frozen_counted s c.args.h c.args.x c.args.r k.sound t c.requires.word); block_room = k.block_room; record_room = k.record_room }

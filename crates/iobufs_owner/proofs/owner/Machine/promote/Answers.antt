@@ -17,7 +17,6 @@ invariant_of-self-2 c =
     let r : c.len-r.result ≡ length c.self.inside.records.items = omega (arith, c.len-r.ensures, c.in_ok-reserve.ensures.len) in
     record {
       sound = rw (c.frozen.ensures, c.put_last.ensures.items, c.in_ok-reserve.ensures.items, c.in_ok-reserve_log.ensures.items, r) (sound-promoted-frozen s c.args.h c.args.x c.args.word c.owned-block.result k.sound t c.requires.word o (omega arith));
-      idle = k.idle;
       block_room = k.block_room;
       record_room = rw (c.put_last.ensures.items, c.in_ok-reserve.ensures.items, length-append) (omega (arith, c.in_ok-reserve_log.ensures.room, c.len-2.ensures, c.in_ok-reserve.ensures.len));
     }

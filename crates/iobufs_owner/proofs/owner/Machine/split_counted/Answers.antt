@@ -29,4 +29,4 @@ invariant_of-self-2 c =
     let low = rw e at c.if-record-self.false in
     let l : c.args.h < length c.self.inside.origins.items = (let m = at-some s.handles c.args.h c.args.x t.at in let q = k.sound.size.origins in omega arith) in
     let org = get_or_read c.self.inside.origins.items c.args.h c.index-origin.result.now l (rw c.in_ok-reserve-2.ensures.items at c.index-origin.ensures) 0 in
-    record { sound = rw (e, c.put_last.ensures.items, c.in_ok-reserve.ensures.items, c.part.ensures, c.part-2.ensures, c.put_last-2.ensures.items, c.in_ok-reserve-2.ensures.items, org) (sound-split_counted s c.args.h c.args.r c.args.at c.args.x k.sound t c.requires.word c.requires.within low (omega arith)); idle = k.idle; block_room = k.block_room; record_room = rw length-set k.record_room }
+    record { sound = rw (e, c.put_last.ensures.items, c.in_ok-reserve.ensures.items, c.part.ensures, c.part-2.ensures, c.put_last-2.ensures.items, c.in_ok-reserve-2.ensures.items, org) (sound-split_counted s c.args.h c.args.r c.args.at c.args.x k.sound t c.requires.word c.requires.within low (omega arith)); block_room = k.block_room; record_room = rw length-set k.record_room }

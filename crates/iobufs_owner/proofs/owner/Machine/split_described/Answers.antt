@@ -19,7 +19,6 @@ invariant_of-self-2 c =
     let org = get_or_read c.self.inside.origins.items c.args.h c.index-origin.result.now l (rw c.in_ok-reserve-3.ensures.items at c.index-origin.ensures) 0 in
     record {
       sound = rw (c.put_last-2.ensures.items, c.in_ok-reserve-2.ensures.items, c.part.ensures, c.part-2.ensures, c.put_last.ensures.items, c.in_ok-reserve.ensures.items, c.put_last-3.ensures.items, c.in_ok-reserve-3.ensures.items, org, c.in_ok-reserve_log.ensures.items, r) (sound-split_described s c.args.h c.args.word c.owned-block.result c.args.at c.args.x k.sound t c.requires.word o c.requires.within (omega arith) (omega arith));
-      idle = k.idle;
       block_room = k.block_room;
       record_room = rw (c.put_last.ensures.items, c.in_ok-reserve.ensures.items, length-append) (omega (arith, c.in_ok-reserve_log.ensures.room, c.len-2.ensures, c.in_ok-reserve.ensures.len));
     }
