@@ -1,5 +1,5 @@
 -- The further steps of calls, read as steps of the world.
-use Rattle.std.proofs.Common.{◌≡◌, ◌≢◌, ◌⊎◌, inl, inr, ℕ, ◌+◌, ◌-◌, ◌<◌, ◌≤◌, Bool, true, false, cond, nat_lt, nat_eq, List, length, get_or, set, map, Option, Some, None, ap, sym, ◌∙◌, subst, refl, arith}
+use Rattle.std.proofs.Common.{◌≡◌, ◌≢◌, ◌⊎◌, inl, inr, ℕ, ◌+◌, ◌-◌, ◌<◌, ◌≤◌, Bool, true, false, cond, nat_lt, nat_eq, List, length, get_or, set, map, ◌||◌, Option, Some, None, Result, Ok, Err, MatchOption, ap, sym, ◌∙◌, subst, refl, arith}
 use Rattle.std.proofs.Math.ListN.{length-set}
 use Rattle.std.proofs.lemmas.Bool.Decides.{nat_tests, eqb_tells}
 use Rattle.std.proofs.lemmas.List.{length-map, map-set}
@@ -12,7 +12,7 @@ use Rattle.iobufs_owner.specs.declared.owner.types.Pending.TheVariants.{Loaded, 
 use Rattle.iobufs_owner.specs.declared.owner.types.Word.{Word}
 use Rattle.iobufs_owner.specs.declared.owner.types.Word.TheVariants.{Empty, Descriptor, Record as Counted}
 use Rattle.iobufs_owner.specs.declared.owner.types.Refusal.{Refusal}
-use Rattle.iobufs_owner.specs.declared.owner.types.Refusal.TheVariants.{Idle, Memory, Ceiling}
+use Rattle.iobufs_owner.specs.declared.owner.types.Refusal.TheVariants.{Idle, WrongKind, OutOfRange, Memory, Ceiling}
 use Rattle.iobufs_owner.specs.declared.owner.types.Reply.{Reply}
 use Rattle.iobufs_owner.specs.declared.owner.types.Reply.TheVariants.{More, Done, Refused}
 use Rattle.iobufs_owner.specs.State.{State, Tables, owner_of, handle_at, call_at, record_at, block_at}
@@ -23,10 +23,10 @@ use Rattle.iobufs_owner.specs.Moves.{Outcome, IsTaken, entries, called, ended, m
 use Rattle.iobufs_owner.specs.Steps as world
 use Rattle.iobufs_owner.specs.Steps.{NoRoom, Makes, IsOver, GoesOn, SharesOn, Goes, call_set, free_in, part_of, held_set}
 use Rattle.iobufs_owner.proofs.Keeps.{Keeps, calls-read-kept, owner-kept}
-use Rattle.iobufs_owner.proofs.Kept.{at-some, owner-counted}
+use Rattle.iobufs_owner.proofs.Kept.{at-some, owner-empty, owner-counted}
 use Rattle.iobufs_owner.proofs.Frames.{handles-kept, is-eqb, not-eqb}
-use Rattle.iobufs_owner.proofs.Shown.{get_or-read, held-reads}
-use Rattle.iobufs_owner.proofs.Edits.{counted-at, alone-at, alone-described}
+use Rattle.iobufs_owner.proofs.Shown.{get_or-read, held-reads, view-reads, read_lent}
+use Rattle.iobufs_owner.proofs.Edits.{described-at, counted-at, alone-at, alone-described}
 use Rattle.iobufs_owner.proofs.Logs.{freed-more}
 use Rattle.iobufs_owner.proofs.Recorded.{recorded, recorded-keeps}
 use Rattle.iobufs_owner.proofs.Added.{counted-keeps, counted-block}
@@ -34,7 +34,7 @@ use Rattle.iobufs_owner.proofs.Dead.{dead-keeps, dead-block}
 use Rattle.iobufs_owner.proofs.Shares.{by_record, set-get, IsLoading, held-loading, IsRacing, racing, IsAdding, adding}
 use Rattle.iobufs_owner.proofs.Released.{releasing}
 use Rattle.iobufs_owner.proofs.Subtracted.{letting-go}
-use Rattle.iobufs_owner.proofs.Taken.{grown-taken, made-taken, done-taken, lt-true, lt-false, eq-true}
+use Rattle.iobufs_owner.proofs.Taken.{refused-taken, by-test, reads-detached, grown-taken, made-taken, done-taken, lt-true, lt-false, eq-true}
 
 -- ---- outcomes
 
@@ -182,3 +182,60 @@ release-goes s t p r false memory reply i at y =
     let l = length-set s.tables.records r (record { count = (record_at s.tables r).count; block = (record_at s.tables r).block; live = false }) in
     let z = reply-taken s (called (both_freed s r) p None) t (free_in (call_set (reading s) p None) (record_at s.tables r).block) Done reply (omega (arith, l)) (released-reads s p r i f.0) y in
     inr (inr (f.2, z.0, z.1))
+
+-- ---- a clone or a slice begins
+
+view-is : (y x : Handle) (v : Bool) → cond v (Ok y) (Err WrongKind) ≡ Ok x → Some y ≡ Some x
+view-is y x true e = cc
+view-is y x false e = absurd (cc)
+
+view-tells : (s : State) (h : ℕ) (x : Handle) → move.view_of s h ≡ Ok x → handle_at s h ≡ Some x
+view-tells s h x e =
+    let by : (o : Option Handle) → move.view_found o ≡ Ok x → o ≡ Some x =
+    λ o. elim o as (λ o. move.view_found o ≡ Ok x → o ≡ Some x) [
+      | None ↦ λ i. absurd (cc)
+      | Some y ↦ λ i. view-is y x (move.same_kind y.kind View) i
+    ] in
+    by (handle_at s h) e
+
+-- what the world says, by the block
+abbrev Begun : State → (p h lo hi : ℕ) → Handle → Option ℕ → Reply → World → Type 0
+Begun s p h lo hi x o reply next =
+    MatchOption o (NoRoom (reading s) reply next ⊎ Makes (reading s) (part_of (read_held s.tables x) lo hi) reply next)
+    (λ _. (left : ℕ) × (0 < left) × (left ≤ 3) × GoesOn (reading s) p (Sharing h lo hi left) reply next)
+
+begun-word : (s t : State) (p h lo hi : ℕ) (x : Handle) (reply : Reply) (w : Word) → IsSound s → handle_at s h ≡ Some x → x.word ≡ w → IsTaken s (move.share_by s p (record { handle = h; lo = lo; hi = hi }) x w) reply t → Begun s p h lo hi x (owner_of s.tables x) reply (reading t)
+begun-word s t p h lo hi x reply Empty k at e y =
+    let n = owner-empty s.tables x e in
+    let front : Handle = part x lo hi Empty in
+    let of = owner-empty s.tables front refl ∙ sym n in
+    subst (λ (o : Option ℕ). Begun s p h lo hi x o reply (reading t)) (sym n)
+    (made-taken s s t (reading s) front 0 (part_of (read_held s.tables x) lo hi) reply refl (ap (λ (b : Option ℕ). record { kind = View; block = b; place = x.ptr + lo; len = hi - lo }) of) y)
+begun-word s t p h lo hi x reply (Descriptor w) k at e y =
+    let d = described-at s h x w k at e in
+    let k' : Share = record { handle = h; lo = lo; hi = hi } in
+    let z = reply-taken s (called s p (Some (Loaded k' w))) t (call_set (reading s) p (Some (Sharing h lo hi 3))) More reply refl (called-reads s p (Some (Loaded k' w))) y in
+    subst (λ (o : Option ℕ). Begun s p h lo hi x o reply (reading t)) (sym d.3.owner) (3, omega arith, omega arith, z)
+begun-word s t p h lo hi x reply (Counted r) k at e y =
+    let k' : Share = record { handle = h; lo = lo; hi = hi } in
+    let z = reply-taken s (called s p (Some (Add k' r))) t (call_set (reading s) p (Some (Sharing h lo hi 1))) More reply refl (called-reads s p (Some (Add k' r))) y in
+    subst (λ (o : Option ℕ). Begun s p h lo hi x o reply (reading t)) (sym (owner-counted s.tables x r e)) (1, omega arith, omega arith, z)
+
+clone-lent : (s t : State) (p h : ℕ) (reply : Reply) (r : Result Handle Refusal) → IsSound s → move.view_of s h ≡ r → IsTaken s (move.clone_lent s p h r) reply t → world.CloneIs (reading s) p h (read_lent s.tables r) reply (reading t)
+clone-lent s t p h reply (Err why) k e i = refused-taken s t why reply i
+clone-lent s t p h reply (Ok x) k e i = begun-word s t p h 0 x.len x reply x.word k (view-tells s h x e) refl i
+
+pub clone-steps : (s t : State) (p h : ℕ) (reply : Reply) → IsSound s → IsTaken s (move.clone_of s p h) reply t → world.CloneIs (reading s) p h (world.view_of (reading s) h) reply (reading t)
+clone-steps s t p h reply k i = rw (view-reads s h) (clone-lent s t p h reply (move.view_of s h) k refl i)
+
+slice-lent : (s t : State) (p h lo hi : ℕ) (reply : Reply) (r : Result Handle Refusal) → IsSound s → move.view_of s h ≡ r → IsTaken s (move.slice_lent s p h lo hi r) reply t → world.SliceIs (reading s) p h lo hi (read_lent s.tables r) reply (reading t)
+slice-lent s t p h lo hi reply (Err why) k e i = refused-taken s t why reply i
+slice-lent s t p h lo hi reply (Ok x) k e i =
+    by-test _ _ s t (move.refused s OutOfRange) (cond (nat_eq lo hi) (made s (move.detached 0) 0) (move.share_by s p (record { handle = h; lo = lo; hi = hi }) x x.word)) reply (nat_lt hi lo || nat_lt x.len hi)
+    (λ _ i. refused-taken s t OutOfRange reply i)
+    (λ _ i. by-test _ _ s t (made s (move.detached 0) 0) (move.share_by s p (record { handle = h; lo = lo; hi = hi }) x x.word) reply (nat_eq lo hi)
+    (λ _ i. made-taken s s t (reading s) (move.detached 0) 0 (world.detached 0) reply refl (reads-detached s.tables 0) i)
+    (λ _ i. begun-word s t p h lo hi x reply x.word k (view-tells s h x e) refl i) i) i
+
+pub slice-steps : (s t : State) (p h lo hi : ℕ) (reply : Reply) → IsSound s → IsTaken s (move.slice_of s p h lo hi) reply t → world.SliceIs (reading s) p h lo hi (world.view_of (reading s) h) reply (reading t)
+slice-steps s t p h lo hi reply k i = rw (view-reads s h) (slice-lent s t p h lo hi reply (move.view_of s h) k refl i)

@@ -110,6 +110,10 @@ pub enum Call {
     SplitTo(usize, u64),
     /// Whether a handle holds its block alone.
     IsUnique(usize),
+    /// Another view of the same bytes, in several steps where the view has a block.
+    Clone(usize),
+    /// A view of the bytes from the first number to the second, in several steps where it has any and a block.
+    Slice(usize, u64, u64),
 }
 
 /// A party begins a call, or goes on with its unfinished one. The flag says whether memory may be taken.
