@@ -1,0 +1,19 @@
+use Rattle.std.proofs.Common.{◌≡◌, ◌<◌, ◌≤◌, ◌∙◌, ℕ, Option, Some, None, length, length-append, get_or, sym, ap, subst, refl, arith}
+use Rattle.std.proofs.Math.ListN.{length-set}
+use Rattle.iobufs_owner.specs.declared.owner.types.Pending.{Pending}
+use Rattle.iobufs_owner.specs.declared.owner.types.Pending.TheVariants.{Loaded, Ready, Add, Subtract, Release}
+use Rattle.iobufs_owner.specs.declared.owner.types.Kind.TheVariants.{View}
+use Rattle.iobufs_owner.specs.Inside.{state_of}
+use Rattle.iobufs_owner.specs.Moves.{part, block_held}
+use Rattle.iobufs_owner.specs.Sound.{Shares}
+use Rattle.iobufs_owner.specs.State.{State, handle_at, call_at, record_at, block_at}
+use Rattle.iobufs_owner.proofs.Kept.{at-some}
+use Rattle.iobufs_owner.proofs.Shares.{held-loading, origin-held}
+use Rattle.iobufs_owner.proofs.owner.Machine.loaded_block.Goals as goal
+
+pub returns : goal.returns
+returns c =
+    let s : State = state_of c.self.inside in
+    let k = c.self.invariant in
+    let at = subst (λ (s : State). call_at s c.args.party ≡ Some (Loaded c.args.range c.args.word)) (sym c.self.view_is) c.requires in
+    subst (λ (s : State). c.index.result.now ≡ block_held s c.args.range.handle) c.self.view_is (origin-held s c.args.party c.args.range c.args.word c.index.result.now k.sound at c.index.ensures)

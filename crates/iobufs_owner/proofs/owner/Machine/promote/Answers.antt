@@ -1,0 +1,22 @@
+use Rattle.std.proofs.Common.{◌≡◌, ◌<◌, ◌≤◌, ◌∙◌, Some, length, length-append, get_or, sym, ap, subst, arith}
+use Rattle.std.proofs.lemmas.List.{get_or_read}
+use Rattle.iobufs_owner.specs.declared.owner.types.Kind.TheVariants.{View, Mut}
+use Rattle.iobufs_owner.specs.Inside.{state_of}
+use Rattle.iobufs_owner.specs.Moves.{Lends}
+use Rattle.iobufs_owner.specs.State.{State, record_at, block_at, owner_of, owned_by, retailed}
+use Rattle.iobufs_owner.proofs.Edits.{described-at, lies-as}
+use Rattle.iobufs_owner.proofs.Recorded.{sound-promoted-frozen}
+use Rattle.iobufs_owner.proofs.owner.Machine.promote.Goals as goal
+
+pub invariant_of-self-2 : goal.invariant_of-self-2
+invariant_of-self-2 c =
+    let s : State = state_of c.self.inside in
+    let k = c.self.invariant in
+    let t = subst (λ (s : State). Lends s c.args.h Mut c.args.x) (sym c.self.view_is) c.requires.lent in
+    let o = subst (λ (s : State). owner_of s.tables c.args.x ≡ Some c.owned-block.result) (sym c.self.view_is) c.owned-block.ensures.owner in
+    let r : c.len-r.result ≡ length c.self.inside.records.items = omega (arith, c.len-r.ensures, c.in_ok-reserve.ensures.len) in
+    record {
+      sound = rw (c.frozen.ensures, c.put_last.ensures.items, c.in_ok-reserve.ensures.items, c.in_ok-reserve_log.ensures.items, r) (sound-promoted-frozen s c.args.h c.args.x c.args.word c.owned-block.result k.sound t c.requires.word o (omega arith));
+      block_room = k.block_room;
+      record_room = rw (c.put_last.ensures.items, c.in_ok-reserve.ensures.items, length-append) (omega (arith, c.in_ok-reserve_log.ensures.room, c.len-2.ensures, c.in_ok-reserve.ensures.len));
+    }

@@ -1,0 +1,23 @@
+use Rattle.std.proofs.Common.{◌≡◌, ◌<◌, ◌≤◌, ◌∙◌, ℕ, Option, Some, None, length, length-append, get_or, sym, ap, subst, refl, arith}
+use Rattle.std.proofs.Math.ListN.{length-set}
+use Rattle.iobufs_owner.specs.declared.owner.types.Pending.{Pending}
+use Rattle.iobufs_owner.specs.declared.owner.types.Pending.TheVariants.{Loaded, Ready, Add, Subtract, Release}
+use Rattle.iobufs_owner.specs.declared.owner.types.Kind.TheVariants.{View}
+use Rattle.iobufs_owner.specs.Inside.{state_of}
+use Rattle.iobufs_owner.specs.Moves.{part, block_held}
+use Rattle.iobufs_owner.specs.Sound.{Shares}
+use Rattle.iobufs_owner.specs.State.{State, handle_at, call_at, record_at, block_at}
+use Rattle.iobufs_owner.proofs.Kept.{sound-detached}
+use Rattle.iobufs_owner.proofs.Edits.{empty-at}
+use Rattle.iobufs_owner.specs.declared.owner.types.Word.TheVariants.{Empty}
+use Rattle.iobufs_owner.proofs.owner.Machine.share_empty.Goals as goal
+
+pub invariant_of-self-2 : goal.invariant_of-self-2
+invariant_of-self-2 c =
+    let s : State = state_of c.self.inside in
+    let k = c.self.invariant in
+    let sh = subst (λ (s : State). Shares s c.args.range c.args.x) (sym c.self.view_is) c.requires.fits in
+    let f = empty-at s c.args.range.handle c.args.x k.sound sh.at c.requires.word in
+    let order = sh.order in
+    let within = sh.within in
+    record { sound = rw (c.put_last-2.ensures.items, c.in_ok-reserve-2.ensures.items, c.put_last.ensures.items, c.in_ok-reserve.ensures.items, c.part.ensures) (sound-detached s (part c.args.x c.args.range.lo c.args.range.hi Empty) 0 k.sound refl (refl, omega (arith, f.1, order, within), λ m. absurd (cc)) (omega arith)); block_room = k.block_room; record_room = k.record_room }

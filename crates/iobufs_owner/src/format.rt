@@ -1,0 +1,183 @@
+//! Descriptor words: a size, an alignment and a tail in one number.
+ghost use Rattle.std.specs.Prelude.{◌≡◌, ℕ, ◌+◌, ◌^◌, ◌<◌, ◌≤◌, ◌↔◌, SomeIff, IfSome, IsTrue, MatchOption};
+ghost use Rattle.iobufs_owner.specs.Word.{IsPowerOfTwo, word_of, HasRoom, IsWord, size_in, tail_in, log_in, retailed};
+
+/// How many bits of a word hold the alignment, the tail and the size. Below them a word has one bit that is always set.
+#[derive(Clone, Copy, Debug, Drop)]
+pub struct Format {
+    /// Bits for the logarithm of the alignment.
+    pub align_bits: u32,
+    /// Bits for the number of bytes of the block behind a view.
+    pub tail_bits: u32,
+    /// Bits for the size of the block, in bytes.
+    pub size_bits: u32,
+    pub ghost in_a_word: { 1 + align_bits + tail_bits + size_bits ≤ 64 },
+}
+
+/// What a word holds: size and tail in bytes, the alignment as a power of two.
+#[derive(Clone, Copy, Debug, PartialEq, Eq, Drop)]
+pub struct Fields {
+    /// The size of the block.
+    pub size: u64,
+    /// The alignment of the block.
+    pub align: u64,
+    /// The bytes of the block behind the view; 0 in a writable handle.
+    pub tail: u64,
+}
+
+/// Six bits of alignment, seventeen of tail, forty of size.
+pub const FORMAT_64: Format = Format {
+    align_bits: 6,
+    tail_bits: 17,
+    size_bits: 40,
+};
+
+/// No alignment but 1, seven bits of tail, twenty-four of size.
+pub const FORMAT_32: Format = Format {
+    align_bits: 0,
+    tail_bits: 7,
+    size_bits: 24,
+};
+
+/// Whether a number has no more than so many bits.
+fn fits(x: u64, bits: u32) -> bool
+    requires { bits < 64 }
+    ensures { IsTrue result ↔ (x < 2 ^ bits) }
+{
+    x >> bits == 0
+}
+
+impl Format {
+    /// The format with these numbers of bits, `None` where they and the lowest bit don't fit a word.
+    pub fn new(align_bits: u32, tail_bits: u32, size_bits: u32) -> Option<Format>
+        ensures { MatchOption result (64 < 1 + align_bits + tail_bits + size_bits)
+            (λ f. (f.align_bits ≡ align_bits) × (f.tail_bits ≡ tail_bits) × (f.size_bits ≡ size_bits)) }
+    {
+        if align_bits > 63
+            || tail_bits > 63 - align_bits
+            || size_bits > 63 - align_bits - tail_bits
+        {
+            return None;
+        }
+        Some(Format {
+            align_bits,
+            tail_bits,
+            size_bits,
+        })
+    }
+
+    /// How many bits a word of this format has.
+    pub fn bits(&self) -> u32
+        ensures { result ≡ 1 + self.now.align_bits + self.now.tail_bits + self.now.size_bits }
+    {
+        1 + self.align_bits + self.tail_bits + self.size_bits
+    }
+
+    /// Whether the fields have room; the alignment is given by its logarithm.
+    fn has_room(&self, size: u64, log: u32, tail: u64) -> bool
+        ensures { IsTrue result
+            ↔ HasRoom self.now.align_bits self.now.tail_bits self.now.size_bits size log tail }
+    {
+        size != 0
+            && fits(u64::from(log), self.align_bits)
+            && fits(tail, self.tail_bits)
+            && fits(size, self.size_bits)
+    }
+
+    /// The word of these fields, or `None` where one has no room or the size is 0.
+    pub fn pack(&self, size: u64, align: u64, tail: u64) -> Option<u64>
+        requires { IsPowerOfTwo align }
+        ensures sum { (log : ℕ) → align ≡ 2 ^ log → SomeIff result
+            (HasRoom self.now.align_bits self.now.tail_bits self.now.size_bits size log tail)
+            (word_of self.now.align_bits self.now.tail_bits size log tail) }
+        ensures word { IfSome result
+            (IsWord self.now.align_bits self.now.tail_bits self.now.size_bits) }
+    {
+        let log = align.trailing_zeros();
+        if !self.has_room(size, log, tail) {
+            return None;
+        }
+        let shape = u64::from(log) << 1 | 1;
+        let low = tail << (1 + self.align_bits) | shape;
+        Some(size << (1 + self.align_bits + self.tail_bits) | low)
+    }
+
+    /// The fields of a word of this format.
+    pub fn unpack(&self, word: u64) -> Fields
+        requires { IsWord self.now.align_bits self.now.tail_bits self.now.size_bits word }
+        ensures inverse { (size log tail : ℕ)
+            → HasRoom self.now.align_bits self.now.tail_bits self.now.size_bits size log tail
+            → word ≡ word_of self.now.align_bits self.now.tail_bits size log tail
+            → (result.size ≡ size) × (result.align ≡ 2 ^ log) × (result.tail ≡ tail) }
+        ensures size { result.size ≡ size_in self.now.align_bits self.now.tail_bits word }
+        ensures align { result.align ≡ 2 ^ log_in self.now.align_bits word }
+        ensures tail { result.tail ≡ tail_in self.now.align_bits self.now.tail_bits word }
+    {
+        let log = word >> 1 & (1 << self.align_bits) - 1;
+        Fields {
+            size: word >> (1 + self.align_bits + self.tail_bits),
+            align: 1 << log,
+            tail: word >> (1 + self.align_bits) & (1 << self.tail_bits) - 1,
+        }
+    }
+
+    /// The same word with another tail, or `None` where it has no room.
+    pub fn with_tail(&self, word: u64, tail: u64) -> Option<u64>
+        requires { IsWord self.now.align_bits self.now.tail_bits self.now.size_bits word }
+        ensures sum { (size log old : ℕ)
+            → HasRoom self.now.align_bits self.now.tail_bits self.now.size_bits size log old
+            → word ≡ word_of self.now.align_bits self.now.tail_bits size log old → SomeIff result
+            (tail < 2 ^ self.now.tail_bits)
+            (word_of self.now.align_bits self.now.tail_bits size log tail) }
+        ensures same { SomeIff result (tail < 2 ^ self.now.tail_bits)
+            (retailed self.now.align_bits self.now.tail_bits word tail) }
+        ensures word { IfSome result
+            (IsWord self.now.align_bits self.now.tail_bits self.now.size_bits) }
+    {
+        let fields = self.unpack(word);
+        self.pack(fields.size, fields.align, tail)
+    }
+}
+
+#[cfg(test)]
+mod tests {
+    use super::*;
+
+    #[test]
+    fn words(rt: HostRuntime) {
+        assert_eq!(rt; FORMAT_64.pack(10, 1, 9), Some(167773313));
+        assert_eq!(rt; FORMAT_64.pack(1, 1 << 62, 0), Some(16777341));
+        let most = FORMAT_64.pack((1 << 40) - 1, 1 << 30, (1 << 17) - 1);
+        assert_eq!(rt; most, Some(18446744073709551549));
+        assert_eq!(rt; FORMAT_64.pack(1 << 40, 1, 0), None);
+        assert_eq!(rt; FORMAT_64.pack(64, 1, 1 << 17), None);
+        assert_eq!(rt; FORMAT_64.pack(0, 1, 0), None);
+        assert_eq!(rt; FORMAT_32.pack(64, 2, 0), None);
+    }
+
+    #[test]
+    fn fields_and_tails(rt: HostRuntime) {
+        let word = FORMAT_64.pack(64, 8, 24).expect(&rt, "it fits");
+        assert_eq!(rt; word, 1073744903);
+        let fields = FORMAT_64.unpack(word);
+        let base = 72 + 32 + u128::from(fields.tail) - u128::from(fields.size);
+        assert_eq!(rt; base, 64);
+        assert_eq!(rt; fields.align, 8);
+        let word = FORMAT_32.pack(1000, 1, 0).expect(&rt, "it fits");
+        assert_eq!(rt; word, 256001);
+        let longer = FORMAT_32.with_tail(word, 127).expect(&rt, "it fits");
+        assert_eq!(rt; longer, 256255);
+        assert_eq!(rt; FORMAT_32.with_tail(longer, 0), Some(256001));
+        assert_eq!(rt; FORMAT_32.with_tail(longer, 128), None);
+    }
+
+    #[test]
+    fn formats(rt: HostRuntime) {
+        let whole = Format::new(6, 17, 40).expect(&rt, "it fits");
+        assert_eq!(rt; whole.bits(), 64);
+        assert!(rt; Format::new(6, 17, 41).is_none());
+        assert_eq!(rt; FORMAT_32.bits(), 32);
+        let least = Format::new(0, 0, 0).expect(&rt, "it fits");
+        assert_eq!(rt; least.pack(1, 1, 0), None);
+    }
+}

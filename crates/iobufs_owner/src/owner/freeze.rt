@@ -1,0 +1,197 @@
+//! A writable handle becomes a view, and handles let their blocks go.
+ghost use Rattle.std.specs.Prelude.{◌≡◌, ℕ, ◌+◌, ◌^◌, ◌<◌, ◌≤◌};
+ghost use Rattle.iobufs_owner.specs.declared.owner.types.Kind.TheVariants.{View, Mut};
+ghost use Rattle.iobufs_owner.specs.declared.owner.types.Reply.TheVariants.{Done};
+ghost use Rattle.iobufs_owner.specs.declared.owner.types.Word.TheVariants.{Empty, Descriptor, Record as Counted};
+ghost use Rattle.iobufs_owner.specs.Moves as move;
+ghost use Rattle.iobufs_owner.specs.Moves.{Lends, IsLoose, Took, done, edited, replaced, promoted, next_record, block_freed, both_freed, freeze_by, freeze_of};
+ghost use Rattle.iobufs_owner.specs.State.{recovered, end_of};
+
+use crate::owner::lend::detached;
+use crate::owner::make::{MOST, put_last, reserve_log};
+use crate::owner::{Freed, Handle, Kind, Machine, Record, Refusal, Reply, Word};
+use std::alloc::AllocError;
+
+/// A writable handle as a view, which owns what the word says.
+fn frozen(x: Handle, word: Word) -> Handle
+    ensures { result ≡ move.frozen x word }
+{
+    Handle {
+        kind: Kind::View,
+        cap: 0,
+        word,
+        ..x
+    }
+}
+
+/// Where the block ends under a descriptor with this tail.
+fn end(x: Handle, tail: u64) -> u64
+    requires behind_view { x.kind ≡ View → x.ptr + x.len + tail < 2 ^ 64 }
+    requires behind_room { x.kind ≡ Mut → x.ptr + x.cap < 2 ^ 64 }
+    ensures { result ≡ end_of x tail }
+{
+    match x.kind {
+        Kind::View => x.ptr + x.len + tail,
+        Kind::Mut => x.ptr + x.cap,
+    }
+}
+
+impl Machine {
+    /// A writable handle becomes a view; an empty one lets its block go.
+    pub(super) fn freeze(&mut self, h: usize, memory: bool) -> Result<Reply, AllocError>
+        ensures { Took self.old (freeze_of self.old h memory) result self.new }
+    {
+        let x = match self.lend(h, Kind::Mut) {
+            Ok(x) => x,
+            Err(why) => return Ok(Reply::Refused(why)),
+        };
+        if x.len == 0 {
+            return Ok(self.freeze_nothing(h, x));
+        }
+        match x.word {
+            Word::Empty => Ok(self.freeze_empty(h, x)),
+            Word::Descriptor(word) => self.freeze_described(h, memory, x, word),
+            Word::Record(r) => Ok(self.freeze_counted(h, x, r)),
+        }
+    }
+
+    /// An empty writable handle is detached, and what it owned is freed.
+    fn freeze_nothing(&mut self, h: usize, x: Handle) -> Reply
+        requires { Lends self.old h Mut x }
+        ensures reply { result ≡ Done }
+        ensures state { self.new ≡ edited (move.freed_with self.old x x.word) h (move.detached 0) }
+    {
+        match x.word {
+            Word::Empty => self.detach(h, x),
+            Word::Descriptor(word) => self.free_described(h, x, word, Some(detached())),
+            Word::Record(r) => self.free_counted(h, x, r, Some(detached())),
+        }
+        Reply::Done
+    }
+
+    /// A handle without block becomes the detached view.
+    fn detach(&mut self, h: usize, x: Handle)
+        requires lent { Lends self.old h Mut x }
+        requires word { x.word ≡ Empty }
+        ensures { self.new ≡ edited self.old h (move.detached 0) }
+    {
+        self.handles[h] = Some(detached());
+    }
+
+    /// A handle with a descriptor is replaced, and its block is freed, as the word and the handle describe it.
+    pub(super) fn free_described(&mut self, h: usize, x: Handle, word: u64, rest: Option<Handle>)
+        requires lent { Lends self.old h x.kind x }
+        requires word { x.word ≡ Descriptor word }
+        requires rest { IsLoose rest }
+        ensures { self.new ≡ replaced (block_freed self.old (recovered self.old.tables x word)) h rest }
+    {
+        let fields = self.format.unpack(word);
+        let base = end(x, fields.tail) - fields.size;
+        self.handles[h] = rest;
+        put_last(
+            &mut self.freed_blocks,
+            Freed {
+                base,
+                size: fields.size,
+                align: fields.align,
+            },
+        );
+    }
+
+    /// A writable handle with a record is replaced, and its record and block are freed.
+    pub(super) fn free_counted(&mut self, h: usize, x: Handle, r: usize, rest: Option<Handle>)
+        requires lent { Lends self.old h Mut x }
+        requires word { x.word ≡ Counted r }
+        requires rest { IsLoose rest }
+        ensures { self.new ≡ replaced (both_freed self.old r) h rest }
+    {
+        let record = self.record(r);
+        let block = self.block(record.block);
+        self.handles[h] = rest;
+        self.records[r] = Record {
+            live: false,
+            ..record
+        };
+        put_last(
+            &mut self.freed_blocks,
+            Freed {
+                base: block.base,
+                size: block.size,
+                align: block.align,
+            },
+        );
+        put_last(&mut self.freed_records, r);
+    }
+
+    /// A writable handle without block becomes a view.
+    fn freeze_empty(&mut self, h: usize, x: Handle) -> Reply
+        requires lent { Lends self.old h Mut x }
+        requires word { x.word ≡ Empty }
+        ensures reply { result ≡ Done }
+        ensures state { self.new ≡ edited self.old h (move.frozen x Empty) }
+    {
+        self.handles[h] = Some(frozen(x, Word::Empty));
+        Reply::Done
+    }
+
+    /// A writable handle with a record becomes a view.
+    fn freeze_counted(&mut self, h: usize, x: Handle, r: usize) -> Reply
+        requires lent { Lends self.old h Mut x }
+        requires word { x.word ≡ Counted r }
+        ensures reply { result ≡ Done }
+        ensures state { self.new ≡ edited self.old h (move.frozen x (Counted r)) }
+    {
+        self.handles[h] = Some(frozen(x, Word::Record(r)));
+        Reply::Done
+    }
+
+    /// A writable handle with a descriptor becomes a view: its tail goes into the word where it fits, else a record takes
+    /// the word's place.
+    fn freeze_described(
+        &mut self,
+        h: usize,
+        memory: bool,
+        x: Handle,
+        word: u64,
+    ) -> Result<Reply, AllocError>
+        requires lent { Lends self.old h Mut x }
+        requires word { x.word ≡ Descriptor word }
+        ensures { Took self.old (freeze_by self.old h memory x (Descriptor word)) result self.new }
+    {
+        if let Some(tailed) = self.format.with_tail(word, x.cap - x.len) {
+            self.handles[h] = Some(frozen(x, Word::Descriptor(tailed)));
+            return Ok(Reply::Done);
+        }
+        if !memory {
+            return Ok(Reply::Refused(Refusal::Memory));
+        }
+        self.promote(h, x, word)
+    }
+
+    /// A record takes the place of a writable handle's descriptor, and the handle becomes a view.
+    fn promote(&mut self, h: usize, x: Handle, word: u64) -> Result<Reply, AllocError>
+        requires lent { Lends self.old h Mut x }
+        requires word { x.word ≡ Descriptor word }
+        ensures { Took self.old
+            (done (edited (promoted self.old x 1) h (move.frozen x (Counted (next_record self.old)))))
+            result self.new }
+    {
+        let block = self.owned(h, x, word);
+        if self.records.len() >= MOST {
+            return Err(AllocError);
+        }
+        self.records.reserve(1)?;
+        reserve_log(&mut self.freed_records, self.records.len() + 1)?;
+        let r = self.records.len();
+        put_last(
+            &mut self.records,
+            Record {
+                count: 1,
+                block,
+                live: true,
+            },
+        );
+        self.handles[h] = Some(frozen(x, Word::Record(r)));
+        Ok(Reply::Done)
+    }
+}

@@ -1,0 +1,162 @@
+//! Handles as a call asks for them: there, of the right kind, and not borrowed.
+ghost use Rattle.std.specs.Prelude.{◌≡◌, ℕ, ◌+◌, ◌^◌, ◌<◌, ◌≤◌, length, IfOk, Some};
+ghost use Rattle.iobufs_owner.specs.declared.owner.types.Word.TheVariants.{Descriptor};
+ghost use Rattle.iobufs_owner.specs.Moves as move;
+ghost use Rattle.iobufs_owner.specs.Moves.{borrows_it, is_lent, lend_of, any_of, owning_of, Lends};
+ghost use Rattle.iobufs_owner.specs.Sound.{IsSound};
+ghost use Rattle.iobufs_owner.specs.State.{handle_at, origin_at, record_at, block_at, owner_of, owned_by};
+
+use crate::owner::{Block, Handle, Kind, Machine, Pending, Record, Refusal, Word};
+
+/// Whether a call borrows the handle.
+fn borrows(call: &Option<Pending>, h: usize) -> bool
+    ensures { result ≡ borrows_it h call.now }
+{
+    match call {
+        Some(Pending::Loaded(share, _) | Pending::Ready(share, _, _) | Pending::Add(share, _)) => {
+            share.handle == h
+        }
+        _ => false,
+    }
+}
+
+/// Whether one of the calls borrows the handle.
+fn lent(calls: &[Option<Pending>], h: usize) -> bool
+    ensures { result ≡ is_lent h calls.now }
+{
+    for call in calls {
+        if borrows(call, h) {
+            return true;
+        }
+    }
+    false
+}
+
+/// The bytes `lo` to `hi` of a view as a view, which owns what the word says.
+pub(super) fn part(x: Handle, lo: u64, hi: u64, word: Word) -> Handle
+    requires order { lo ≤ hi }
+    requires within { hi ≤ x.len }
+    requires ends { x.ptr + x.len < 2 ^ 64 }
+    ensures { result ≡ move.part x lo hi word }
+{
+    Handle {
+        kind: Kind::View,
+        ptr: x.ptr + lo,
+        len: hi - lo,
+        cap: 0,
+        word,
+    }
+}
+
+/// A view of no bytes without block.
+pub(super) fn detached() -> Handle
+    ensures { result ≡ move.detached 0 }
+{
+    Handle {
+        kind: Kind::View,
+        ptr: 0,
+        len: 0,
+        cap: 0,
+        word: Word::Empty,
+    }
+}
+
+impl Machine {
+    /// The handle of this number, where it was given and isn't gone.
+    pub(super) fn find(&self, h: usize) -> Option<Handle>
+        ensures value { result ≡ handle_at self.now h }
+        ensures sound { IsSound self.now }
+    {
+        if h < self.handles.len() {
+            self.handles[h]
+        } else {
+            None
+        }
+    }
+
+    /// The handle, for a call that must have it alone.
+    pub(super) fn lend(&self, h: usize, kind: Kind) -> Result<Handle, Refusal>
+        ensures value { result ≡ lend_of self.now h kind }
+        ensures sound { IsSound self.now }
+        ensures lends { IfOk result (Lends self.now h kind) }
+        ensures ends { IfOk result (λ x. x.ptr + x.len < 2 ^ 64) }
+    {
+        let Some(x) = self.find(h) else {
+            return Err(Refusal::NoHandle);
+        };
+        if x.kind != kind {
+            return Err(Refusal::WrongKind);
+        }
+        if lent(&self.calls, h) {
+            return Err(Refusal::Borrowed);
+        }
+        Ok(x)
+    }
+
+    /// The same where either kind may be given.
+    pub(super) fn lend_any(&self, h: usize) -> Result<Handle, Refusal>
+        ensures value { result ≡ any_of self.now h }
+        ensures sound { IsSound self.now }
+        ensures lends { IfOk result (λ x. Lends self.now h x.kind x) }
+    {
+        let Some(x) = self.find(h) else {
+            return Err(Refusal::NoHandle);
+        };
+        if lent(&self.calls, h) {
+            return Err(Refusal::Borrowed);
+        }
+        Ok(x)
+    }
+
+    /// The same for a handle that has a block.
+    pub(super) fn lend_owning(&self, h: usize) -> Result<Handle, Refusal>
+        ensures value { result ≡ owning_of self.now h }
+        ensures sound { IsSound self.now }
+        ensures lends { IfOk result (λ x. Lends self.now h x.kind x) }
+    {
+        let Some(x) = self.find(h) else {
+            return Err(Refusal::NoHandle);
+        };
+        if let Word::Empty = x.word {
+            return Err(Refusal::WrongKind);
+        }
+        if lent(&self.calls, h) {
+            return Err(Refusal::Borrowed);
+        }
+        Ok(x)
+    }
+
+    /// The record of this number.
+    pub(super) fn record(&self, r: usize) -> Record
+        requires { r < length self.now.tables.records }
+        ensures { result ≡ record_at self.now.tables r }
+    {
+        self.records[r]
+    }
+
+    /// The block of this number.
+    pub(super) fn block(&self, b: usize) -> Block
+        requires { b < length self.now.tables.blocks }
+        ensures { result ≡ block_at self.now.tables b }
+    {
+        self.blocks[b]
+    }
+
+    /// The number of the block that a handle was made on, 0 where there was none.
+    pub(super) fn origin(&self, h: usize) -> usize
+        requires { h < length self.now.handles }
+        ensures { result ≡ origin_at self.now h }
+    {
+        self.origins[h]
+    }
+
+    /// The number of the block of a handle with a descriptor.
+    pub(super) fn owned(&self, h: usize, x: Handle, word: u64) -> usize
+        requires at { handle_at self.now h ≡ Some x }
+        requires word { x.word ≡ Descriptor word }
+        ensures owner { owner_of self.now.tables x ≡ Some result }
+        ensures number { result ≡ owned_by self.now.tables x }
+    {
+        self.origins[h]
+    }
+}

@@ -1,0 +1,171 @@
+//! What the machine holds, and what it is asked and answers.
+
+/// A block of storage; the bytes `base` to `base + size` are its own. In the original an `OwnerCell` and its layout.
+#[derive(Clone, Copy, Debug, PartialEq, Eq, Drop)]
+pub struct Block {
+    /// Its first address.
+    pub base: u64,
+    /// Its bytes, more than 0.
+    pub size: u64,
+    /// A power of two that `base` is a multiple of.
+    pub align: u64,
+    /// Whether it came from outside, and is never written.
+    pub external: bool,
+}
+
+/// A count of the holders of a block. In the original `Record`.
+#[derive(Clone, Copy, Debug, PartialEq, Eq, Drop)]
+pub struct Record {
+    /// How many hold the block by this record.
+    pub count: u64,
+    /// The number of the block.
+    pub block: usize,
+    /// Whether the record isn't freed.
+    pub live: bool,
+}
+
+/// Whether a handle reads or writes.
+#[derive(Clone, Copy, Debug, PartialEq, Eq, Drop)]
+pub enum Kind {
+    View,
+    Mut,
+}
+
+/// What a handle owns. In the original `Owner`.
+#[derive(Clone, Copy, Debug, PartialEq, Eq, Drop)]
+pub enum Word {
+    /// Nothing.
+    Empty,
+    /// A block alone, which the packed word describes. In the original `Descriptor`.
+    Descriptor(u64),
+    /// A share of the block that the record of this number counts.
+    Record(usize),
+}
+
+/// A value that may hold a block.
+#[derive(Clone, Copy, Debug, PartialEq, Eq, Drop)]
+pub struct Handle {
+    pub kind: Kind,
+    /// The address of its first byte.
+    pub ptr: u64,
+    /// Its readable bytes.
+    pub len: u64,
+    /// The bytes from `ptr` to the end of the block, for a writable handle; 0 for a view.
+    pub cap: u64,
+    pub word: Word,
+}
+
+/// The part of a view that an unfinished clone or slice takes.
+#[derive(Clone, Copy, Debug, PartialEq, Eq, Drop)]
+pub struct Share {
+    /// The number of the view, which is borrowed until the call ends.
+    pub handle: usize,
+    /// The first byte taken, counted from the view's.
+    pub lo: u64,
+    /// The byte behind the last one taken.
+    pub hi: u64,
+}
+
+/// A call that isn't finished, by what its next step does.
+#[derive(Clone, Copy, Debug, PartialEq, Eq, Drop)]
+pub enum Pending {
+    /// A clone or slice has loaded this descriptor, and makes a record.
+    Loaded(Share, u64),
+    /// It has made the record of this number, and tries to put it in the descriptor's place.
+    Ready(Share, u64, usize),
+    /// It adds a holder to the record of this number.
+    Add(Share, usize),
+    /// A drop subtracts its holder from the record of this number.
+    Subtract(usize),
+    /// A drop frees the record of this number and its block; whether the drop has subtracted.
+    Release(usize, bool),
+}
+
+/// A block that was freed.
+#[derive(Clone, Copy, Debug, PartialEq, Eq, Drop)]
+pub struct Freed {
+    pub base: u64,
+    pub size: u64,
+    pub align: u64,
+}
+
+/// What a party may begin. Handles go by their numbers.
+#[derive(Clone, Copy, Debug, PartialEq, Eq, Drop)]
+pub enum Call {
+    /// A new block of this base, size and alignment, and a writable handle on it.
+    New(u64, u64, u64),
+    /// A block from outside of this base and size, and a view of it.
+    External(u64, u64),
+    /// A view of so many bytes, without block.
+    Static(u64),
+    /// A writable handle is filled by so many bytes.
+    Put(usize, u64),
+    /// So many bytes go from the front of a handle.
+    Advance(usize, u64),
+    /// A writable handle becomes a view.
+    Freeze(usize),
+    /// A view that holds its block alone becomes writable.
+    TryIntoMut(usize),
+    /// The first so many bytes of a view become a view of their own.
+    SplitTo(usize, u64),
+    /// Whether a handle holds its block alone.
+    IsUnique(usize),
+    /// Another view of the same bytes, in several steps where the view has a block.
+    Clone(usize),
+    /// A view of the bytes from the first number to the second, in several steps where it has any and a block.
+    Slice(usize, u64, u64),
+}
+
+/// A party begins a call, or goes on with its unfinished one. The flag says whether memory may be taken.
+#[derive(Clone, Copy, Debug, PartialEq, Eq, Drop)]
+pub enum Act {
+    Begin(Call, bool),
+    Go(bool),
+}
+
+/// One atomic access of one party, which goes by its number.
+#[derive(Clone, Copy, Debug, PartialEq, Eq, Drop)]
+pub struct Step {
+    pub party: usize,
+    pub act: Act,
+}
+
+/// Why a step isn't taken; of several causes the first one here is told.
+#[derive(Clone, Copy, Debug, PartialEq, Eq, Drop)]
+pub enum Refusal {
+    /// The party has an unfinished call.
+    Busy,
+    /// The party has none to go on with, or there is no such party.
+    Idle,
+    /// The number was never given, or the handle is gone.
+    NoHandle,
+    /// A view where a writable handle is asked, or the other way; no block where one is asked.
+    WrongKind,
+    /// An exclusive call on a handle with an unfinished clone or slice.
+    Borrowed,
+    /// A number of bytes or a range that doesn't fit the handle.
+    OutOfRange,
+    /// No block may lie there.
+    BadPlace,
+    /// The step needs memory, and its flag denies it. An unfinished call is ended.
+    Memory,
+    /// A holder more, where the count is above the ceiling. An unfinished call is ended.
+    Ceiling,
+    /// A table of the machine couldn't grow, or has 2^32 entries.
+    Room,
+}
+
+/// The answer to a step.
+#[derive(Clone, Copy, Debug, PartialEq, Eq, Drop)]
+pub enum Reply {
+    /// The handle of this number is new.
+    Made(usize),
+    /// The call is unfinished.
+    More,
+    Done,
+    /// A view that may not become writable; nothing has changed.
+    Declined,
+    /// Whether the handle is the only holder of its block.
+    Unique(bool),
+    Refused(Refusal),
+}
