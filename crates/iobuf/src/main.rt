@@ -1,11 +1,14 @@
-// Reads commands on named buffers, a line each, and prints a reply to each.
+// Reads commands on named buffers, or steps of the owner machine, a line each, and prints a reply to each.
 #![tactic(auto)]
 
-mod line;
-mod reply;
-mod serve;
+mod buf;
 #[cfg(test)]
-mod tests;
+mod buf_tests;
+mod owner;
+#[cfg(test)]
+mod owner_tests;
+mod serve;
+mod words;
 
 pub use serve::serve;
 use std::io::{BufReader, BufWriter, Write};

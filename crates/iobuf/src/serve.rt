@@ -1,7 +1,11 @@
 // The program, over any reader and writers.
-use crate::line::{self, LineError};
-use crate::reply::Line;
+use crate::buf::line as buf_line;
+use crate::buf::reply::Line as ReplyToCommand;
+use crate::owner::line::{self as owner_line, Line};
+use crate::owner::reply::{FreedLine, HandleLine, RecordLine, ReplyLine};
+use crate::words::LineError;
 use iobufs_core::codec::BufError;
+use iobufs_owner::owner::Machine;
 use iobufs_run::table::Table;
 use std::alloc::Global;
 use std::io;
@@ -47,6 +51,7 @@ pub fn serve<R: BufRead + Drop, W: Write, E: Write>(
 ) -> u8 {
     let served = match args {
         ["buf"] => serve_buffers(alloc, input, output),
+        ["owner"] => serve_machine(alloc, input, output),
         _ => {
             let _ = errors.write_all(USAGE);
             return 2;
@@ -66,7 +71,16 @@ pub fn serve<R: BufRead + Drop, W: Write, E: Write>(
     }
 }
 
-// Answers each line of the input.
+// What a line of this number says, or why the program stops at it.
+fn said<T>(line: Result<T, LineError>, number: u64) -> Result<T, Stop> {
+    match line {
+        Ok(said) => Ok(said),
+        Err(LineError::NoCommand) => Err(Stop::BadCommand(number)),
+        Err(LineError::Memory) => Err(Stop::CannotContinue),
+    }
+}
+
+// Answers each line of the input by a table of named buffers.
 fn serve_buffers<R: BufRead + Drop, W: Write>(
     alloc: Global,
     input: R,
@@ -76,12 +90,51 @@ fn serve_buffers<R: BufRead + Drop, W: Write>(
     let mut number = 0u64;
     for text in input.lines(alloc) {
         number = number.saturating_add(1);
-        let cmd = match line::command(alloc, text?.as_str()) {
-            Ok(cmd) => cmd,
-            Err(LineError::NoCommand) => return Err(Stop::BadCommand(number)),
-            Err(LineError::Memory) => return Err(Stop::CannotContinue),
-        };
-        writeln!(output, "{}", Line(&table.apply(&cmd)))?;
+        let cmd = said(buf_line::command(alloc, text?.as_str()), number)?;
+        writeln!(output, "{}", ReplyToCommand(&table.apply(&cmd)))?;
     }
     Ok(())
+}
+
+// Answers each line of the input by an owner machine, which the first line asks for.
+fn serve_machine<R: BufRead + Drop, W: Write>(
+    alloc: Global,
+    input: R,
+    output: &mut W,
+) -> Result<(), Stop> {
+    let mut machine = None;
+    let mut number = 0u64;
+    for text in input.lines(alloc) {
+        number = number.saturating_add(1);
+        let text = text?;
+        match &mut machine {
+            None => {
+                let setup = said(owner_line::first_line(alloc, text.as_str()), number)?;
+                let (parties, ceiling) = (setup.parties, setup.ceiling);
+                machine = Some(Machine::new(alloc, parties, ceiling, setup.format)?);
+                writeln!(output, "ok")?;
+            }
+            Some(machine) => {
+                let line = said(owner_line::further_line(alloc, text.as_str()), number)?;
+                answer(machine, line, output)?;
+            }
+        }
+    }
+    Ok(())
+}
+
+// Takes a step, or answers a question.
+fn answer<W: Write>(machine: &mut Machine, line: Line, output: &mut W) -> io::Result<()> {
+    match line {
+        Line::Step(step) => writeln!(output, "{}", ReplyLine(machine.step(step))),
+        Line::Handle(h) => match machine.handles().get(h) {
+            Some(handle) => writeln!(output, "{}", HandleLine(*handle)),
+            None => writeln!(output, "none"),
+        },
+        Line::Record(r) => match machine.records().get(r) {
+            Some(record) => writeln!(output, "{}", RecordLine(*record)),
+            None => writeln!(output, "none"),
+        },
+        Line::Freed => writeln!(output, "{}", FreedLine(machine)),
+    }
 }

@@ -1,0 +1,3 @@
+// Named buffers, line by line.
+pub mod line;
+pub mod reply;

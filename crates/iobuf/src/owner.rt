@@ -1,0 +1,3 @@
+// The owner machine, line by line.
+pub mod line;
+pub mod reply;
