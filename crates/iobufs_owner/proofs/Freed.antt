@@ -19,7 +19,7 @@ use Rattle.iobufs_owner.specs.declared.owner.types.Pending.TheVariants.{Loaded, 
 use Rattle.iobufs_owner.specs.declared.owner.types.Word.TheVariants.{Empty, Descriptor, Record as Counted}
 use Rattle.iobufs_owner.proofs.Counts.{count-set, count-some, count-two, count-find, count-sum, count-most, holders-changed, users-changed, holders-le-users}
 use Rattle.iobufs_owner.proofs.Keeps.{Keeps, keeps-self, call-kept, lent-by, names, fits-kept, fits-calls, owner-kept, live-of, calls-read-kept, releases-kept}
-use Rattle.iobufs_owner.proofs.Kept.{at-some, at-set, made-on-set, owner-empty, owner-counted}
+use Rattle.iobufs_owner.proofs.Kept.{at-some, at-set, made-on-set, block-log-kept, owner-empty, owner-counted}
 use Rattle.iobufs_owner.proofs.Words.{word-log}
 use Rattle.iobufs_owner.proofs.Frames.{not-eqb, is-eqb, handles-kept, alone-kept, describes-kept, holders-tables, users-tables}
 use Rattle.iobufs_owner.proofs.Edits.{word-at, tail-says, behind-as, lies-as, fits-at, alone-at, described-at, counted-at, live-inside, no_block, owner-described, size-says, alone-described, describes-described, alone-written}
@@ -333,4 +333,41 @@ counted-ends s r k live =
       known = c.known;
       block_log = block-log-room s.tables.blocks s.freed_blocks (users (reading s)) (record_at s.tables r).block c.known c.used k.block_log;
       record_log = record-log-room s.tables.records s.freed_records r inside live k.record_log;
+    }
+
+-- ---- a handle without block is gone
+
+pub sound-gone_empty : (s : State) (h : ℕ) (x : Handle) → IsSound s → handle_at s h ≡ Some x → is_lent h s.calls ≡ false → x.word ≡ Empty → IsSound (replaced s h None)
+sound-gone_empty s h x k at free xw =
+    let g : Tables = s.tables in
+    let next : State = replaced s h None in
+    let l = at-some s.handles h x at in
+    let ox = owner-empty g x xw in
+    let n = loose g s.calls None (inl refl) in
+    let hm : (c : ℕ) → holders (reading next) c ≡ holders (reading s) c = λ c. let m = rw (at, ox) at (holders-changed s h None c l) in omega (arith, m) in
+    let um : (c : ℕ) → users (reading next) c ≡ users (reading s) c = λ c. let m = rw (at, ox) at (users-changed s h None c l) in omega (arith, m) in
+    let dm : (c : ℕ) → tally (describes g c) (set s.handles h None) ≤ tally (describes g c) s.handles = λ c. let m = count-set (describes g c) s.handles h None None l in omega (arith, m) in
+    let am : (c : ℕ) → tally (alone g c) (set s.handles h None) ≤ tally (alone g c) s.handles = λ c. let m = count-set (alone g c) s.handles h None None l in omega (arith, m) in
+    let size = k.size in
+    record {
+      size = record { wide = size.wide; ceiling = size.ceiling; few_blocks = size.few_blocks; few_records = size.few_records; few_handles = rw length-set size.few_handles; few_calls = size.few_calls; origins = rw length-set size.origins };
+      blocks = k.blocks;
+      fit = All-set (Fits g s.calls) s.handles h None tt k.fit;
+      calls_fit = All-from_get_or (FitsCall next) s.calls None (λ i li. call-kept s next (call_at s i) (record {
+        tables = keeps-self g;
+        live = λ q _ t. t;
+        hidden = λ q _. refl;
+        handle = λ j y b a. get_or-set_other s.handles h j None None (λ e. let q = rw e at (lent-by j s.calls i None li b) in absurd (cc)) ∙ a;
+        owner = λ j y a. refl;
+        holders = λ q v e. hm (record_at g q).block;
+      }) (k.calls_fit i None li));
+      one_release = k.one_release;
+      counted = λ q t. let c = k.counted q t in record { known = c.known; one_maker = c.one_maker; counts = λ z. rw hm (c.counts z); fresh = c.fresh; used = rw um c.used; undescribed = λ z. omega (arith, dm (record_at g q).block, c.undescribed z) };
+      one_record = k.one_record;
+      sole = λ c t. rw hm (k.sole c (omega (arith, t, am c)));
+      capped = λ c. rw hm (k.capped c);
+      known_users = λ c t. k.known_users c (rw um at t);
+      made_on = made-on-set s g h None k l (λ i z a. refl) (λ c z i own. absurd (cc));
+      block_log = block-log-kept g.blocks s.freed_blocks (users (reading s)) (users (reading next)) um k.block_log;
+      record_log = k.record_log;
     }

@@ -3,7 +3,7 @@ use Rattle.std.proofs.Common.{◌≡◌, ◌⊎◌, inl, inr, ℕ, ◌<◌, ◌�
 use Rattle.std.proofs.lemmas.List.{length-map}
 use Rattle.iobufs_owner.specs.declared.owner.types.Kind.TheVariants.{View, Mut}
 use Rattle.iobufs_owner.specs.declared.owner.types.Call.{Call}
-use Rattle.iobufs_owner.specs.declared.owner.types.Call.TheVariants.{New, External, Static, Put, Advance, Freeze, TryIntoMut, SplitTo, IsUnique, Clone, Slice}
+use Rattle.iobufs_owner.specs.declared.owner.types.Call.TheVariants.{New, External, Static, Put, Advance, Freeze, TryIntoMut, SplitTo, IsUnique, Clone, Slice, Drop}
 use Rattle.iobufs_owner.specs.declared.owner.types.Act.{Act}
 use Rattle.iobufs_owner.specs.declared.owner.types.Act.TheVariants.{Begin, Go}
 use Rattle.iobufs_owner.specs.declared.owner.types.Pending.{Pending}
@@ -26,6 +26,7 @@ use Rattle.iobufs_owner.proofs.Recovers.{recover-steps, unique-steps}
 use Rattle.iobufs_owner.proofs.Freezes.{freeze-steps}
 use Rattle.iobufs_owner.proofs.Splits.{split-steps}
 use Rattle.iobufs_owner.proofs.News.{new-steps, external-steps}
+use Rattle.iobufs_owner.proofs.Drops.{drop-steps}
 use Rattle.iobufs_owner.proofs.Goings.{clone-steps, slice-steps, loaded-goes, ready-goes, add-goes, subtract-goes, release-goes}
 
 by-outcome : (s t : State) (o u : Outcome) (reply : Reply) → o ≡ u → IsTaken s o reply t → IsTaken s u reply t
@@ -44,6 +45,7 @@ begins s t p (SplitTo h at) memory o reply k b i = split-steps s t h at memory r
 begins s t p (IsUnique h) memory o reply k b i = unique-steps s t h reply k (by-outcome s t o _ reply b i)
 begins s t p (Clone h) memory o reply k b i = clone-steps s t p h reply k (by-outcome s t o _ reply b i)
 begins s t p (Slice h lo hi) memory o reply k b i = slice-steps s t p h lo hi reply k (by-outcome s t o _ reply b i)
+begins s t p (Drop h) memory o reply k b i = drop-steps s t p h reply k (by-outcome s t o _ reply b i)
 
 acts : (s t : State) (p : ℕ) (act : Act) (c : Option Pending) (o : Outcome) (reply : Reply) → IsSound s → call_at s p ≡ c → IsMovedAt s p act c o → IsTaken s o reply t → ActsAt (reading s) p act (read_call s.tables c) reply (reading t)
 acts s t p (Begin call memory) None o reply k n b i = begins s t p call memory o reply k b i

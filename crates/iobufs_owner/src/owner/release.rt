@@ -1,13 +1,96 @@
-//! The further steps of a drop.
-ghost use Rattle.std.specs.Prelude.{◌≡◌, ℕ, Bool, Some};
+//! Drops, step by step. In the original the `Drop` of an `Owner`.
+ghost use Rattle.std.specs.Prelude.{◌≡◌, ℕ, ◌<◌, Bool, length, None, Some};
+ghost use Rattle.iobufs_owner.specs.declared.owner.types.Kind.TheVariants.{View};
+ghost use Rattle.iobufs_owner.specs.declared.owner.types.Word.TheVariants.{Empty, Record as Counted};
+ghost use Rattle.iobufs_owner.specs.declared.owner.types.Reply.TheVariants.{More, Done};
 ghost use Rattle.iobufs_owner.specs.declared.owner.types.Pending.TheVariants.{Subtract, Release};
-ghost use Rattle.iobufs_owner.specs.Moves.{subtract_of, release_of};
-ghost use Rattle.iobufs_owner.specs.State.{call_at};
+ghost use Rattle.iobufs_owner.specs.Moves as move;
+ghost use Rattle.iobufs_owner.specs.Moves.{Lends, called, gone, drop_of, subtract_of, release_of};
+ghost use Rattle.iobufs_owner.specs.State.{call_at, record_at};
 
 use crate::owner::make::put_last;
-use crate::owner::{Freed, Machine, Pending, Record, Reply};
+use crate::owner::{Freed, Handle, Kind, Machine, Pending, Record, Reply, Word};
+
+/// What a drop does next that loaded this count.
+fn after_count(count: u64, r: usize) -> Pending
+    ensures { result ≡ move.after_count count r }
+{
+    if count == 1 {
+        Pending::Release(r, false)
+    } else {
+        Pending::Subtract(r)
+    }
+}
 
 impl Machine {
+    /// A drop begins: the handle is gone. What it holds alone is freed at once, but for a view with a record.
+    pub(super) fn drop_handle(&mut self, party: usize, h: usize) -> Reply
+        requires there { party < length self.old.calls }
+        requires idle { call_at self.old party ≡ None }
+        ensures reply { result ≡ (drop_of self.old party h).reply }
+        ensures state { self.new ≡ (drop_of self.old party h).state }
+    {
+        let x = match self.lend_any(h) {
+            Ok(x) => x,
+            Err(why) => return Reply::Refused(why),
+        };
+        match x.word {
+            Word::Empty => self.drop_empty(h, x),
+            Word::Descriptor(word) => {
+                self.free_described(h, x, word, None);
+                Reply::Done
+            }
+            Word::Record(r) => self.drop_counted(party, h, x, r),
+        }
+    }
+
+    /// A handle without block is gone.
+    fn drop_empty(&mut self, h: usize, x: Handle) -> Reply
+        requires lent { Lends self.old h x.kind x }
+        requires word { x.word ≡ Empty }
+        ensures reply { result ≡ Done }
+        ensures state { self.new ≡ gone self.old h }
+    {
+        self.handles[h] = None;
+        Reply::Done
+    }
+
+    /// A handle with a record is gone: a writable one frees record and block, a view loads the count.
+    fn drop_counted(&mut self, party: usize, h: usize, x: Handle, r: usize) -> Reply
+        requires there { party < length self.old.calls }
+        requires idle { call_at self.old party ≡ None }
+        requires lent { Lends self.old h x.kind x }
+        requires word { x.word ≡ Counted r }
+        ensures reply { result ≡ (move.drop_counted self.old party h r x.kind).reply }
+        ensures state { self.new ≡ (move.drop_counted self.old party h r x.kind).state }
+    {
+        match x.kind {
+            Kind::Mut => {
+                self.free_counted(h, x, r, None);
+                Reply::Done
+            }
+            Kind::View => self.drop_view(party, h, x, r),
+        }
+    }
+
+    /// A view with a record is gone; its drop loads the count.
+    fn drop_view(&mut self, party: usize, h: usize, x: Handle, r: usize) -> Reply
+        requires there { party < length self.old.calls }
+        requires idle { call_at self.old party ≡ None }
+        requires lent { Lends self.old h View x }
+        requires word { x.word ≡ Counted r }
+        ensures reply { result ≡ More }
+        ensures state { self.new
+            ≡ called (gone self.old h) party
+            (Some (move.after_count (record_at self.old.tables r).count r)) }
+    {
+        let record = self.record(r);
+        let next = after_count(record.count, r);
+        self.handles[h] = None;
+        self.calls[party] = Some(next);
+        Reply::More
+    }
+
     /// A drop lets go; who saw the count at 1 will free.
     pub(super) fn subtract(&mut self, party: usize, r: usize) -> Reply
         requires { call_at self.old party ≡ Some (Subtract r) }

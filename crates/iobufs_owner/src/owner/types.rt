@@ -114,6 +114,8 @@ pub enum Call {
     Clone(usize),
     /// A view of the bytes from the first number to the second, in several steps where it has any and a block.
     Slice(usize, u64, u64),
+    /// The handle is gone, and its block is freed where no other handle holds it; in several steps for a shared view.
+    Drop(usize),
 }
 
 /// A party begins a call, or goes on with its unfinished one. The flag says whether memory may be taken.
