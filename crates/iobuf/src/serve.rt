@@ -1,4 +1,6 @@
 // The program, over any reader and writers.
+ghost use Rattle.std.specs.Prelude.{Ok, ◌≡◌, IfOk};
+
 use crate::buf::line as buf_line;
 use crate::buf::reply::Line as ReplyToCommand;
 use crate::owner::line::{self as owner_line, Line};
@@ -72,7 +74,9 @@ pub fn serve<R: BufRead + Drop, W: Write, E: Write>(
 }
 
 // What a line of this number says, or why the program stops at it.
-fn said<T>(line: Result<T, LineError>, number: u64) -> Result<T, Stop> {
+fn said<T>(line: Result<T, LineError>, number: u64) -> Result<T, Stop>
+    ensures { IfOk result (λ said. line ≡ Ok said) }
+{
     match line {
         Ok(said) => Ok(said),
         Err(LineError::NoCommand) => Err(Stop::BadCommand(number)),

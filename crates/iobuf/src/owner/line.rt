@@ -91,6 +91,7 @@ fn call(words: &[&str]) -> Result<Call, LineError> {
         ["unique", h] => Ok(Call::IsUnique(number(h)?)),
         ["clone", h] => Ok(Call::Clone(number(h)?)),
         ["slice", h, lo, hi] => Ok(Call::Slice(number(h)?, size(lo)?, size(hi)?)),
+        ["drop", h] => Ok(Call::Drop(number(h)?)),
         _ => Err(LineError::NoCommand),
     }
 }
