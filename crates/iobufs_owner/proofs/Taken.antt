@@ -123,7 +123,7 @@ advance-lent s t h n reply (Ok x) k e i =
     by-test _ _ s t (refused s OutOfRange) (done (edited s h (move.advanced x n))) reply (nat_lt x.len n)
     (λ _ i. refused-taken s t OutOfRange reply i)
     (λ v i. let o = owner-advanced s.tables x n (lt-false x.len n v) (within s h x k l.at) in
-        edit-taken s t h (move.advanced x n) (record { kind = x.kind; block = owner_of s.tables x; place = x.ptr + n; len = x.len - n }) reply (rw o refl) i) i
+    edit-taken s t h (move.advanced x n) (record { kind = x.kind; block = owner_of s.tables x; place = x.ptr + n; len = x.len - n }) reply (rw o refl) i) i
 
 pub advance-steps : (s t : State) (h n : ℕ) (reply : Reply) → IsSound s → IsTaken s (move.advance_of s h n) reply t → world.AdvanceIs (reading s) h n (world.any_of (reading s) h) reply (reading t)
 advance-steps s t h n reply k i = rw (any-reads s h) (advance-lent s t h n reply (move.any_of s h) k refl i)
