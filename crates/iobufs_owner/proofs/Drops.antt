@@ -1,5 +1,5 @@
 -- A drop begins, read as a step of the world.
-use Rattle.std.proofs.Common.{◌≡◌, ◌⊎◌, inl, inr, ℕ, ◌<◌, ◌≤◌, Bool, true, false, cond, nat_eq, List, length, set, map, Option, Some, None, Result, Ok, Err, MatchOption, ap, sym, ◌∙◌, subst, refl, arith}
+use Rattle.std.proofs.Common.{◌≡◌, ◌⊎◌, inl, inr, ℕ, ◌<◌, ◌≤◌, Bool, true, false, cond, nat_eq, length, set, Option, Some, None, Result, Ok, Err, MatchOption, ap, sym, ◌∙◌, subst, refl, arith}
 use Rattle.std.proofs.Math.ListN.{length-set}
 use Rattle.std.proofs.lemmas.List.{map-set}
 use Rattle.iobufs_owner.specs.declared.owner.types.Handle.{Handle}
@@ -14,7 +14,7 @@ use Rattle.iobufs_owner.specs.declared.owner.types.Refusal.{Refusal}
 use Rattle.iobufs_owner.specs.declared.owner.types.Reply.{Reply}
 use Rattle.iobufs_owner.specs.declared.owner.types.Reply.TheVariants.{More, Done}
 use Rattle.iobufs_owner.specs.State.{State, owner_of, handle_at, record_at, block_at, triple}
-use Rattle.iobufs_owner.specs.World.{World, Unfinished, Dropping, reading, read_handle, read_call, holders, is_block}
+use Rattle.iobufs_owner.specs.World.{World, Dropping, reading, read_handle, read_call, holders, is_block}
 use Rattle.iobufs_owner.specs.Sound.{IsSound}
 use Rattle.iobufs_owner.specs.Moves as move
 use Rattle.iobufs_owner.specs.Moves.{IsTaken, done, more, called, gone, replaced, block_freed, both_freed, after_count, Lends}

@@ -1,5 +1,5 @@
 -- Handles that change and hold what they held keep the machine sound.
-use Rattle.std.proofs.Common.{◌≡◌, ◌≢◌, inl, inr, ℕ, ◌+◌, ◌-◌, ◌*◌, ◌/◌, ◌%◌, ◌^◌, ◌<◌, ◌≤◌, ◌&&◌, ◌||◌, zero, suc, get_or, List, [], ◌∷◌, Bool, true, false, Option, Some, None, Ok, SomeIff, sym, ◌∙◌, ap, subst, refl, arith, length}
+use Rattle.std.proofs.Common.{◌≡◌, inl, inr, ℕ, ◌+◌, ◌-◌, ◌%◌, ◌^◌, ◌<◌, ◌≤◌, ◌&&◌, ◌||◌, zero, suc, get_or, List, [], ◌∷◌, Bool, true, false, Option, Some, None, SomeIff, sym, ◌∙◌, ap, subst, refl, arith, length}
 use Rattle.std.proofs.lemmas.Bool.Decides.{leb_tells}
 use Rattle.std.proofs.Math.Nat.{mod-eq_of_lt}
 use Rattle.iobufs_owner.specs.declared.owner.types.Handle.{Handle}
@@ -11,15 +11,14 @@ use Rattle.iobufs_owner.specs.declared.owner.types.Pending.{Pending}
 use Rattle.iobufs_owner.specs.declared.owner.types.Word.{Word}
 use Rattle.iobufs_owner.specs.declared.owner.types.Word.TheVariants.{Empty, Descriptor, Record as Counted}
 use Rattle.iobufs_owner.specs.Word.{HasRoom, IsWord, word_of}
-use Rattle.iobufs_owner.specs.State.{State, Tables, owner_of, owner_by, base_by, block_with, handle_at, record_at, block_at, size_in, tail_in, retailed}
-use Rattle.iobufs_owner.specs.Moves.{is_lent, is_mut, edited, with_handle, detached, advanced, frozen, thawed, Lends}
+use Rattle.iobufs_owner.specs.State.{State, Tables, owner_of, base_by, block_with, handle_at, record_at, block_at, size_in, tail_in, retailed}
+use Rattle.iobufs_owner.specs.Moves.{is_lent, is_mut, edited, detached, advanced, frozen, thawed, Lends}
 use Rattle.iobufs_owner.specs.World.{holders, reading, read_handle, read_call, is_block}
 use Rattle.iobufs_owner.specs.Sound.{IsSound, FitsWord, IsDescribed, IsCounted, LiesIn, LeavesBehind, alone, describes, is_descriptor, hidden}
-use Rattle.iobufs_owner.proofs.Words.{word-size, word-tail, word-log, retailed-is, log-below}
-use Rattle.iobufs_owner.proofs.Kept.{sound-edited, sound-detached, at-some, owner-empty, owner-counted}
+use Rattle.iobufs_owner.proofs.Words.{word-size, word-tail, retailed-is, log-below}
+use Rattle.iobufs_owner.proofs.Kept.{sound-edited, at-some, owner-empty, owner-counted}
 use Rattle.iobufs_owner.proofs.Lent.{owner-same, base-mut}
 use Rattle.iobufs_owner.proofs.Counts.{count-some, holders-few}
-use Rattle.iobufs_owner.proofs.Frames.{is-eqb}
 use Rattle.std.proofs.lemmas.Nat.{pow_pos}
 use Rattle.std.proofs.lemmas.List.{get_or_read, length-map}
 use Rattle.std.proofs.lemmas.Bool.Decides.{nat_tests}

@@ -1,14 +1,14 @@
 -- A handle that holds its block alone lets it go, and the block is freed at once.
-use Rattle.std.proofs.Common.{◌≡◌, ◌≢◌, inl, inr, ℕ, zero, suc, ◌+◌, ◌-◌, ◌^◌, ◌<◌, ◌≤◌, ◌==◌, ◌&&◌, ◌||◌, Bool, true, false, cond, List, [], ◌∷◌, ◌++◌, length, get_or, set, map, sym, ◌∙◌, ap, subst, refl, arith, All, Option, Some, None, option_map, nat_eq, add-one}
+use Rattle.std.proofs.Common.{◌≡◌, ◌≢◌, inl, inr, ℕ, suc, ◌+◌, ◌^◌, ◌<◌, ◌≤◌, ◌==◌, Bool, true, false, cond, List, [], ◌∷◌, length, get_or, set, sym, ◌∙◌, ap, subst, refl, arith, Option, Some, None, option_map, nat_eq, add-one}
 use Rattle.std.proofs.Math.ListN.{length-set}
 use Rattle.std.proofs.lemmas.List.Elements.{All-set, All-from_get_or}
 use Rattle.std.proofs.lemmas.List.{get_or-set_same, get_or-set_other}
 use Rattle.std.proofs.lemmas.Bool.Decides.{nat_tests, eqb_tells}
 use Rattle.iobufs_owner.specs.State.{State, Tables, owner_of, record_at, block_at, handle_at, call_at, base_by, block_with, end_of, size_in, tail_in, recovered, triple}
 use Rattle.iobufs_owner.specs.Word.{IsWord}
-use Rattle.iobufs_owner.specs.World.{World, holds, is_block, holders, users, still_holds, drops, reading, read_handle, read_call, tally}
-use Rattle.iobufs_owner.specs.Sound.{IsSound, Fits, FitsCall, LiesIn, LeavesBehind, alone, describes, hidden, readies, releases}
-use Rattle.iobufs_owner.specs.Moves.{is_lent, borrows_it, detached, replaced, block_freed, both_freed, dead, IsLoose}
+use Rattle.iobufs_owner.specs.World.{World, holds, is_block, holders, users, reading, read_handle, tally}
+use Rattle.iobufs_owner.specs.Sound.{IsSound, Fits, FitsCall, LiesIn, LeavesBehind, alone, describes, hidden, readies}
+use Rattle.iobufs_owner.specs.Moves.{is_lent, detached, replaced, block_freed, both_freed, dead, IsLoose}
 use Rattle.iobufs_owner.specs.declared.owner.types.Block.{Block}
 use Rattle.iobufs_owner.specs.declared.owner.types.Freed.{Freed}
 use Rattle.iobufs_owner.specs.declared.owner.types.Handle.{Handle}
@@ -17,15 +17,15 @@ use Rattle.iobufs_owner.specs.declared.owner.types.Kind.TheVariants.{View, Mut}
 use Rattle.iobufs_owner.specs.declared.owner.types.Pending.{Pending}
 use Rattle.iobufs_owner.specs.declared.owner.types.Pending.TheVariants.{Loaded, Ready, Add, Subtract, Release}
 use Rattle.iobufs_owner.specs.declared.owner.types.Word.TheVariants.{Empty, Descriptor, Record as Counted}
-use Rattle.iobufs_owner.proofs.Counts.{count-set, count-some, count-two, count-find, count-sum, count-most, holders-changed, users-changed, holders-le-users}
-use Rattle.iobufs_owner.proofs.Keeps.{Keeps, keeps-self, call-kept, lent-by, names, fits-kept, fits-calls, owner-kept, live-of, calls-read-kept, releases-kept}
-use Rattle.iobufs_owner.proofs.Kept.{at-some, at-set, made-on-set, block-log-kept, owner-empty, owner-counted}
+use Rattle.iobufs_owner.proofs.Counts.{count-set, count-some, count-two, count-find, count-sum, holders-changed, users-changed}
+use Rattle.iobufs_owner.proofs.Keeps.{keeps-self, call-kept, lent-by, names, fits-kept, owner-kept, live-of, calls-read-kept, releases-kept}
+use Rattle.iobufs_owner.proofs.Kept.{at-some, made-on-set, block-log-kept, owner-empty, owner-counted}
 use Rattle.iobufs_owner.proofs.Words.{word-log}
 use Rattle.iobufs_owner.proofs.Frames.{not-eqb, is-eqb, handles-kept, alone-kept, describes-kept, holders-tables, users-tables}
 use Rattle.iobufs_owner.proofs.Edits.{word-at, tail-says, behind-as, lies-as, fits-at, alone-at, described-at, counted-at, live-inside, no_block, owner-described, size-says, alone-described, describes-described, alone-written}
-use Rattle.iobufs_owner.proofs.Holders.{held_by, still_by, drops_by, holders-as, users-as, held-at, alone-few, describes-few, lets_go, drops-split, owner-used}
-use Rattle.iobufs_owner.proofs.Logs.{no_record, block-log-freed, record-log-dead, block-log-room, record-log-room}
-use Rattle.iobufs_owner.proofs.Dead.{dead-block, dead-count, dead-other, dead-same, dead-keeps, dead-live}
+use Rattle.iobufs_owner.proofs.Holders.{held_by, still_by, drops_by, holders-as, users-as, held-at, alone-few, lets_go, drops-split, owner-used}
+use Rattle.iobufs_owner.proofs.Logs.{block-log-freed, record-log-dead, block-log-room, record-log-room}
+use Rattle.iobufs_owner.proofs.Dead.{dead-block, dead-count, dead-other, dead-keeps, dead-live}
 
 -- ---- what holds nothing
 

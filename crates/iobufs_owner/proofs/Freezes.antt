@@ -1,8 +1,7 @@
 -- Freeze, read as a step of the world.
-use Rattle.std.proofs.Common.{◌≡◌, ◌⊎◌, inl, inr, ℕ, ◌+◌, ◌-◌, ◌^◌, ◌<◌, Bool, true, false, cond, nat_lt, nat_eq, List, [], ◌∷◌, ◌++◌, length, get_or, set, map, Option, Some, None, Result, Ok, Err, ap, sym, ◌∙◌, subst, refl, arith, MatchBool, length-append}
+use Rattle.std.proofs.Common.{◌≡◌, ◌⊎◌, inl, inr, ℕ, ◌-◌, ◌^◌, ◌<◌, Bool, true, false, cond, nat_lt, nat_eq, length, set, Option, Some, Result, Ok, Err, ap, sym, ◌∙◌, subst, refl, arith}
 use Rattle.std.proofs.Math.ListN.{length-set}
-use Rattle.std.proofs.lemmas.List.{map-set, map-append}
-use Rattle.iobufs_owner.specs.declared.owner.types.Block.{Block}
+use Rattle.std.proofs.lemmas.List.{map-set}
 use Rattle.iobufs_owner.specs.declared.owner.types.Handle.{Handle}
 use Rattle.iobufs_owner.specs.declared.owner.types.Freed.{Freed}
 use Rattle.iobufs_owner.specs.declared.owner.types.Record.{Record}
@@ -13,19 +12,19 @@ use Rattle.iobufs_owner.specs.declared.owner.types.Refusal.{Refusal}
 use Rattle.iobufs_owner.specs.declared.owner.types.Refusal.TheVariants.{Memory}
 use Rattle.iobufs_owner.specs.declared.owner.types.Reply.{Reply}
 use Rattle.iobufs_owner.specs.declared.owner.types.Reply.TheVariants.{Done}
-use Rattle.iobufs_owner.specs.State.{State, Tables, owner_of, owned_by, handle_at, record_at, block_at, recovered, triple, retailed}
-use Rattle.iobufs_owner.specs.World.{World, Held, reading, read_held, read_handle, read_call, is_freed}
+use Rattle.iobufs_owner.specs.State.{State, Tables, owner_of, owned_by, handle_at, record_at, block_at, triple, retailed}
+use Rattle.iobufs_owner.specs.World.{Held, reading, read_held, read_handle}
 use Rattle.iobufs_owner.specs.Sound.{IsSound}
 use Rattle.iobufs_owner.specs.Moves as move
 use Rattle.iobufs_owner.specs.Moves.{Outcome, IsTaken, entries, refused, done, edited, frozen, promoted, next_record, dead, block_freed, both_freed, replaced, lend_of, Lends}
 use Rattle.iobufs_owner.specs.Steps as world
 use Rattle.iobufs_owner.specs.Steps.{NoRoom, Denied, free_in, free_of, held_set}
-use Rattle.iobufs_owner.proofs.Keeps.{Keeps, owner-kept, calls-read-kept}
+use Rattle.iobufs_owner.proofs.Keeps.{calls-read-kept}
 use Rattle.iobufs_owner.proofs.Kept.{owner-empty, owner-counted}
 use Rattle.iobufs_owner.proofs.Lent.{lend-tells}
 use Rattle.iobufs_owner.proofs.Frames.{handles-kept}
 use Rattle.iobufs_owner.proofs.Shown.{alone-reads, read_lent}
-use Rattle.iobufs_owner.proofs.Edits.{described-at, counted-at, within, fits-at, owner-redescribed, base-frozen}
+use Rattle.iobufs_owner.proofs.Edits.{described-at, counted-at, within, owner-redescribed, base-frozen}
 use Rattle.iobufs_owner.proofs.Logs.{freed-more}
 use Rattle.iobufs_owner.proofs.Dead.{dead-keeps}
 use Rattle.iobufs_owner.proofs.Freed.{recovered-is}

@@ -1,10 +1,8 @@
 -- The further steps of calls, read as steps of the world.
-use Rattle.std.proofs.Common.{◌≡◌, ◌≢◌, ◌⊎◌, inl, inr, ℕ, ◌+◌, ◌-◌, ◌<◌, ◌≤◌, Bool, true, false, cond, nat_lt, nat_eq, List, length, get_or, set, map, ◌||◌, Option, Some, None, Result, Ok, Err, MatchOption, ap, sym, ◌∙◌, subst, refl, arith}
+use Rattle.std.proofs.Common.{◌≡◌, ◌≢◌, ◌⊎◌, inl, inr, ℕ, ◌+◌, ◌-◌, ◌<◌, ◌≤◌, Bool, true, false, cond, nat_lt, nat_eq, get_or, map, ◌||◌, Option, Some, None, Result, Ok, Err, MatchOption, ap, sym, ◌∙◌, subst, refl, arith}
 use Rattle.std.proofs.Math.ListN.{length-set}
-use Rattle.std.proofs.lemmas.Bool.Decides.{nat_tests, eqb_tells}
 use Rattle.std.proofs.lemmas.List.{length-map, map-set}
 use Rattle.iobufs_owner.specs.declared.owner.types.Handle.{Handle}
-use Rattle.iobufs_owner.specs.declared.owner.types.Record.{Record}
 use Rattle.iobufs_owner.specs.declared.owner.types.Share.{Share}
 use Rattle.iobufs_owner.specs.declared.owner.types.Kind.TheVariants.{View}
 use Rattle.iobufs_owner.specs.declared.owner.types.Pending.{Pending}
@@ -15,26 +13,25 @@ use Rattle.iobufs_owner.specs.declared.owner.types.Refusal.{Refusal}
 use Rattle.iobufs_owner.specs.declared.owner.types.Refusal.TheVariants.{Idle, WrongKind, OutOfRange, Memory, Ceiling}
 use Rattle.iobufs_owner.specs.declared.owner.types.Reply.{Reply}
 use Rattle.iobufs_owner.specs.declared.owner.types.Reply.TheVariants.{More, Done, Refused}
-use Rattle.iobufs_owner.specs.State.{State, Tables, owner_of, handle_at, call_at, record_at, block_at}
-use Rattle.iobufs_owner.specs.World.{World, Held, Unfinished, Sharing, Dropping, reading, read_held, read_handle, read_call, held_at, holders, is_block}
+use Rattle.iobufs_owner.specs.State.{State, Tables, owner_of, handle_at, call_at, record_at}
+use Rattle.iobufs_owner.specs.World.{World, Held, Sharing, Dropping, reading, read_held, read_handle, read_call, is_block}
 use Rattle.iobufs_owner.specs.Sound.{IsSound, FitsCall, hidden}
 use Rattle.iobufs_owner.specs.Moves as move
 use Rattle.iobufs_owner.specs.Moves.{Outcome, IsTaken, entries, called, ended, more, done, edited, part, shared, made, counted, with_count, with_record, record_freed, both_freed, next_record, block_held, dead, ready_of, race_of, add_of, subtract_of, release_of, gone_on}
 use Rattle.iobufs_owner.specs.Steps as world
 use Rattle.iobufs_owner.specs.Steps.{NoRoom, Makes, IsOver, GoesOn, SharesOn, Goes, call_set, free_in, part_of, held_set}
-use Rattle.iobufs_owner.proofs.Keeps.{Keeps, calls-read-kept, owner-kept}
+use Rattle.iobufs_owner.proofs.Keeps.{Keeps, calls-read-kept}
 use Rattle.iobufs_owner.proofs.Kept.{at-some, owner-empty, owner-counted}
-use Rattle.iobufs_owner.proofs.Frames.{handles-kept, is-eqb, not-eqb}
+use Rattle.iobufs_owner.proofs.Frames.{handles-kept, is-eqb}
 use Rattle.iobufs_owner.proofs.Shown.{get_or-read, held-reads, view-reads, read_lent}
 use Rattle.iobufs_owner.proofs.Edits.{described-at, counted-at, alone-at, alone-described}
 use Rattle.iobufs_owner.proofs.Logs.{freed-more}
 use Rattle.iobufs_owner.proofs.Recorded.{recorded, recorded-keeps}
 use Rattle.iobufs_owner.proofs.Added.{counted-keeps, counted-block}
-use Rattle.iobufs_owner.proofs.Dead.{dead-keeps, dead-block}
-use Rattle.iobufs_owner.proofs.Shares.{by_record, set-get, IsLoading, held-loading, IsRacing, racing, IsAdding, adding}
-use Rattle.iobufs_owner.proofs.Released.{releasing}
+use Rattle.iobufs_owner.proofs.Dead.{dead-keeps}
+use Rattle.iobufs_owner.proofs.Shares.{by_record, set-get, held-loading, IsRacing, racing, IsAdding, adding}
 use Rattle.iobufs_owner.proofs.Subtracted.{letting-go}
-use Rattle.iobufs_owner.proofs.Taken.{refused-taken, by-test, reads-detached, grown-taken, made-taken, done-taken, lt-true, lt-false, eq-true}
+use Rattle.iobufs_owner.proofs.Taken.{refused-taken, by-test, reads-detached, grown-taken, made-taken, lt-true, lt-false, eq-true}
 
 -- ---- outcomes
 

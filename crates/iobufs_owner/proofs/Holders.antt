@@ -1,14 +1,13 @@
 -- Holders and users as counts over the machine's own lists.
-use Rattle.std.proofs.Common.{◌≡◌, ◌≢◌, inl, inr, ℕ, zero, suc, ◌+◌, ◌<◌, ◌≤◌, ◌==◌, ◌&&◌, ◌||◌, Bool, true, false, cond, List, [], ◌∷◌, length, get_or, set, map, sym, ◌∙◌, ap, refl, arith, Option, Some, None}
-use Rattle.std.proofs.lemmas.Bool.Decides.{nat_tests, eqb_tells}
-use Rattle.iobufs_owner.specs.State.{State, Tables, owner_of, record_at, handle_at, call_at}
-use Rattle.iobufs_owner.specs.World.{holds, holders, users, is_block, Dropping, still_holds, drops, reading, read_handle, read_call, tally}
-use Rattle.iobufs_owner.specs.Sound.{IsSound, alone, describes, is_descriptor, releases}
+use Rattle.std.proofs.Common.{◌≡◌, ℕ, ◌+◌, ◌<◌, ◌≤◌, ◌==◌, ◌&&◌, ◌||◌, Bool, true, false, cond, get_or, refl, arith, Option, Some, None}
+use Rattle.iobufs_owner.specs.State.{State, Tables, owner_of, record_at, handle_at}
+use Rattle.iobufs_owner.specs.World.{holds, holders, users, still_holds, drops, reading, read_handle, read_call, tally}
+use Rattle.iobufs_owner.specs.Sound.{alone, describes, is_descriptor, releases}
 use Rattle.iobufs_owner.specs.Moves.{is_mut}
 use Rattle.iobufs_owner.specs.declared.owner.types.Handle.{Handle}
 use Rattle.iobufs_owner.specs.declared.owner.types.Pending.{Pending}
 use Rattle.iobufs_owner.specs.declared.owner.types.Pending.TheVariants.{Loaded, Ready, Add, Subtract, Release}
-use Rattle.iobufs_owner.proofs.Counts.{count-set, count-some, count-map, count-less, count-most, count-two, count-find, count-sum}
+use Rattle.iobufs_owner.proofs.Counts.{count-some, count-map, count-most}
 use Rattle.iobufs_owner.proofs.Kept.{at-some}
 use Rattle.iobufs_owner.proofs.Frames.{is-eqb}
 

@@ -1,5 +1,5 @@
 -- New and External, read as steps of the world.
-use Rattle.std.proofs.Common.{◌≡◌, ◌⊎◌, inl, inr, ℕ, ◌+◌, ◌^◌, ◌<◌, Bool, true, false, List, [], ◌∷◌, ◌++◌, length, map, Option, Some, ap, sym, ◌∙◌, subst, refl, arith, MatchBool}
+use Rattle.std.proofs.Common.{◌≡◌, ◌⊎◌, inl, inr, ℕ, ◌^◌, Bool, true, false, [], ◌∷◌, ◌++◌, length, map, Option, Some, ap, sym, ◌∙◌, subst, refl, MatchBool}
 use Rattle.std.proofs.lemmas.List.{map-append}
 use Rattle.iobufs_owner.specs.declared.owner.types.Block.{Block}
 use Rattle.iobufs_owner.specs.declared.owner.types.Handle.{Handle}
@@ -8,8 +8,8 @@ use Rattle.iobufs_owner.specs.declared.owner.types.Kind.TheVariants.{View, Mut}
 use Rattle.iobufs_owner.specs.declared.owner.types.Word.TheVariants.{Descriptor, Record as Counted}
 use Rattle.iobufs_owner.specs.declared.owner.types.Refusal.TheVariants.{BadPlace, Memory}
 use Rattle.iobufs_owner.specs.declared.owner.types.Reply.{Reply}
-use Rattle.iobufs_owner.specs.State.{State, Tables, owner_of, record_at}
-use Rattle.iobufs_owner.specs.World.{World, Held, reading, read_held, read_handle, is_freed}
+use Rattle.iobufs_owner.specs.State.{State, Tables, owner_of}
+use Rattle.iobufs_owner.specs.World.{reading, read_held, is_freed}
 use Rattle.iobufs_owner.specs.Sound.{IsSound}
 use Rattle.iobufs_owner.specs.Places.{IsGoodPlace}
 use Rattle.iobufs_owner.specs.Word.{word_of}
@@ -17,7 +17,7 @@ use Rattle.iobufs_owner.specs.Moves as move
 use Rattle.iobufs_owner.specs.Moves.{Outcome, IsTaken, refused, block_of, first_handle, whole_view, described_of, recorded_of, with_block, with_record, next_record}
 use Rattle.iobufs_owner.specs.Steps as world
 use Rattle.iobufs_owner.specs.Steps.{NoRoom, Makes, Refuses, block_more, native_block, external_block}
-use Rattle.iobufs_owner.proofs.Keeps.{Keeps, calls-read-kept}
+use Rattle.iobufs_owner.proofs.Keeps.{calls-read-kept}
 use Rattle.iobufs_owner.proofs.Kept.{owner-counted}
 use Rattle.iobufs_owner.proofs.Frames.{grown, grown-keeps, handles-kept}
 use Rattle.iobufs_owner.proofs.Logs.{fresh-log}

@@ -1,13 +1,13 @@
 -- A new record keeps the machine sound: for a new block, and in the place of a descriptor.
-use Rattle.std.proofs.Common.{◌≡◌, ◌≢◌, ℕ, zero, suc, ◌+◌, ◌^◌, ◌<◌, ◌≤◌, ◌==◌, ◌&&◌, ◌||◌, ◌⊎◌, inl, inr, Bool, true, false, cond, List, [], ◌∷◌, ◌++◌, length, get_or, set, sym, ◌∙◌, ap, subst, refl, arith, All, Option, Some, None, length-append}
+use Rattle.std.proofs.Common.{◌≡◌, ◌≢◌, ℕ, ◌+◌, ◌^◌, ◌<◌, ◌≤◌, ◌==◌, ◌⊎◌, inl, inr, Bool, true, false, cond, [], ◌∷◌, ◌++◌, length, get_or, set, sym, ◌∙◌, ap, subst, refl, arith, Option, Some, None, length-append}
 use Rattle.std.proofs.Math.ListN.{length-set}
-use Rattle.std.proofs.lemmas.List.Elements.{All-push, All-set, All-from_get_or}
-use Rattle.std.proofs.lemmas.List.{get_or_append_left, get_or-set_same, get_or-set_other}
+use Rattle.std.proofs.lemmas.List.Elements.{All-push, All-set}
+use Rattle.std.proofs.lemmas.List.{get_or_append_left}
 use Rattle.std.proofs.Math.Seq.{get_or-append_seam}
 use Rattle.std.proofs.lemmas.Bool.Decides.{nat_tests, eqb_tells}
-use Rattle.iobufs_owner.specs.State.{State, Tables, owner_of, record_at, block_at, handle_at, owned_by}
-use Rattle.iobufs_owner.specs.World.{holders, users, holds, is_block, reading, read_handle, tally}
-use Rattle.iobufs_owner.specs.Sound.{IsSound, Fits, FitsWord, FitsCall, FitsRecord, IsCounted, LiesIn, alone, describes, hidden, readies}
+use Rattle.iobufs_owner.specs.State.{State, Tables, owner_of, record_at, block_at, handle_at}
+use Rattle.iobufs_owner.specs.World.{holders, users, is_block, reading, tally}
+use Rattle.iobufs_owner.specs.Sound.{IsSound, Fits, FitsWord, FitsCall, FitsRecord, LiesIn, alone, describes, hidden, readies}
 use Rattle.iobufs_owner.specs.Moves.{with_block, with_record, with_handle, edited, next_record, frozen, Lends, is_lent}
 use Rattle.iobufs_owner.specs.Places.{IsGoodPlace}
 use Rattle.iobufs_owner.specs.declared.owner.types.Block.{Block}
@@ -19,11 +19,11 @@ use Rattle.iobufs_owner.specs.declared.owner.types.Pending.{Pending}
 use Rattle.iobufs_owner.specs.declared.owner.types.Pending.TheVariants.{Loaded, Ready, Add, Subtract, Release}
 use Rattle.iobufs_owner.specs.declared.owner.types.Word.{Word}
 use Rattle.iobufs_owner.specs.declared.owner.types.Word.TheVariants.{Descriptor, Record as Counted}
-use Rattle.iobufs_owner.proofs.Keeps.{Keeps, all-fit-kept, calls-kept, calls-read-kept, releases-kept, owner-kept, fits-kept, live-of, fits-calls}
+use Rattle.iobufs_owner.proofs.Keeps.{Keeps, all-fit-kept, calls-kept, calls-read-kept, releases-kept, owner-kept}
 use Rattle.iobufs_owner.proofs.Kept.{at-some, append-at, set-at, made-on-more, made-on-set, owner-counted, block-log-kept}
-use Rattle.iobufs_owner.proofs.Counts.{count-append, count-set, count-map, count-find, count-most, holders-more, users-more, holders-changed, users-changed, holders-le-users}
-use Rattle.iobufs_owner.proofs.Frames.{grown, grown-keeps, with-append, handles-kept, alone-kept, describes-kept, holders-tables, users-tables, not-eqb, is-eqb}
-use Rattle.iobufs_owner.proofs.Edits.{no_block, lies-as, fits-at, live-inside, described-at, alone-at, alone-described, describes-described, describes-counted, alone-shared}
+use Rattle.iobufs_owner.proofs.Counts.{count-append, count-set, count-find, holders-more, users-more, holders-changed, users-changed, holders-le-users}
+use Rattle.iobufs_owner.proofs.Frames.{grown, grown-keeps, handles-kept, alone-kept, describes-kept, holders-tables, users-tables, not-eqb, is-eqb}
+use Rattle.iobufs_owner.proofs.Edits.{lies-as, fits-at, live-inside, described-at, alone-at, alone-described, describes-described, describes-counted, alone-shared}
 use Rattle.iobufs_owner.proofs.Holders.{describes-few}
 use Rattle.iobufs_owner.proofs.Logs.{no_record, below-or, block-log-more, record-log-more}
 use Rattle.iobufs_owner.proofs.Made.{other-base, placed-more}

@@ -1,6 +1,5 @@
 -- TryIntoMut and IsUnique, read as steps of the world.
-use Rattle.std.proofs.Common.{◌≡◌, ◌⊎◌, inl, inr, ℕ, ◌+◌, ◌-◌, ◌<◌, Bool, true, false, cond, nat_eq, length, Option, Some, None, Result, Ok, Err, ap, sym, ◌∙◌, subst, refl, arith, MatchBool}
-use Rattle.std.proofs.lemmas.Bool.Decides.{nat_tests, eqb_tells}
+use Rattle.std.proofs.Common.{◌≡◌, ◌⊎◌, inl, inr, ℕ, ◌+◌, ◌-◌, Bool, true, false, cond, nat_eq, Option, Some, None, Result, Ok, Err, ap, sym, ◌∙◌, subst, refl, arith}
 use Rattle.iobufs_owner.specs.declared.owner.types.Handle.{Handle}
 use Rattle.iobufs_owner.specs.declared.owner.types.Kind.{Kind}
 use Rattle.iobufs_owner.specs.declared.owner.types.Kind.TheVariants.{View, Mut}
@@ -11,7 +10,7 @@ use Rattle.iobufs_owner.specs.declared.owner.types.Refusal.TheVariants.{NoHandle
 use Rattle.iobufs_owner.specs.declared.owner.types.Reply.{Reply}
 use Rattle.iobufs_owner.specs.declared.owner.types.Reply.TheVariants.{Done, Unique}
 use Rattle.iobufs_owner.specs.State.{State, owner_of, handle_at, record_at, block_at, tail_in, retailed}
-use Rattle.iobufs_owner.specs.World.{World, reading, read_held, read_handle, holders, held_at, is_block}
+use Rattle.iobufs_owner.specs.World.{World, reading, read_held, read_handle, holders, is_block}
 use Rattle.iobufs_owner.specs.Sound.{IsSound}
 use Rattle.iobufs_owner.specs.Moves as move
 use Rattle.iobufs_owner.specs.Moves.{Outcome, IsTaken, entries, refused, done, declined, edited, thawed, lend_of, Lends, is_lent, is_unique}

@@ -1,32 +1,31 @@
 -- Clones and slices keep the machine sound.
-use Rattle.std.proofs.Common.{◌≡◌, ◌≢◌, ◌⊎◌, inl, inr, ℕ, zero, suc, ◌+◌, ◌-◌, ◌^◌, ◌<◌, ◌≤◌, ◌==◌, ◌&&◌, ◌||◌, Bool, true, false, cond, List, [], ◌∷◌, ◌++◌, length, get_or, set, map, sym, ◌∙◌, ap, subst, refl, arith, All, Option, Some, None, nat_eq, unwrap_or, length-append}
+use Rattle.std.proofs.Common.{◌≡◌, ◌≢◌, inl, inr, ℕ, zero, suc, ◌+◌, ◌^◌, ◌<◌, ◌≤◌, ◌==◌, Bool, true, false, cond, List, [], ◌∷◌, ◌++◌, length, get_or, set, map, sym, ◌∙◌, ap, subst, refl, arith, All, Option, Some, None, unwrap_or, length-append}
 use Rattle.std.proofs.Math.ListN.{length-set}
 use Rattle.std.proofs.lemmas.List.Elements.{All-from_get_or}
 use Rattle.std.proofs.lemmas.List.{get_or-set_same, get_or-set_other, map-set, length-map, set-set, get_or_read}
 use Rattle.std.proofs.lemmas.Bool.Decides.{nat_tests, eqb_tells}
-use Rattle.iobufs_owner.specs.State.{State, Tables, owner_of, owned_by, record_at, block_at, handle_at, call_at}
-use Rattle.iobufs_owner.specs.World.{World, Unfinished, holds, holders, users, still_holds, drops, is_block, reading, read_handle, read_call, tally}
-use Rattle.iobufs_owner.specs.Sound.{IsSound, Fits, FitsWord, FitsCall, FitsRecord, Shares, Promised, IsDescribed, IsCounted, LiesIn, alone, describes, hidden, readies, releases}
-use Rattle.iobufs_owner.specs.Moves.{held_found, block_held, borrows_it, counted, with_count, called, with_record, record_freed, dead, edited, with_handle, part, is_lent, next_record, promoted}
+use Rattle.iobufs_owner.specs.State.{State, Tables, owner_of, record_at, block_at, handle_at, call_at}
+use Rattle.iobufs_owner.specs.World.{holds, holders, users, still_holds, drops, is_block, reading, read_handle, read_call, tally}
+use Rattle.iobufs_owner.specs.Sound.{IsSound, Fits, FitsWord, FitsCall, FitsRecord, Shares, Promised, IsDescribed, LiesIn, alone, describes, hidden, readies, releases}
+use Rattle.iobufs_owner.specs.Moves.{held_found, block_held, borrows_it, counted, with_count, called, with_record, record_freed, dead, edited, with_handle, part}
 use Rattle.iobufs_owner.specs.declared.owner.types.Record.{Record}
 use Rattle.iobufs_owner.specs.declared.owner.types.Handle.{Handle}
 use Rattle.iobufs_owner.specs.declared.owner.types.Share.{Share}
-use Rattle.iobufs_owner.specs.declared.owner.types.Kind.{Kind}
 use Rattle.iobufs_owner.specs.declared.owner.types.Kind.TheVariants.{View}
 use Rattle.iobufs_owner.specs.declared.owner.types.Pending.{Pending}
 use Rattle.iobufs_owner.specs.declared.owner.types.Pending.TheVariants.{Loaded, Ready, Add, Subtract, Release}
 use Rattle.iobufs_owner.specs.declared.owner.types.Word.{Word}
 use Rattle.iobufs_owner.specs.declared.owner.types.Word.TheVariants.{Empty, Descriptor, Record as Counted}
-use Rattle.iobufs_owner.proofs.Counts.{count-set, count-some, count-find, count-most, count-two, holders-le-users}
+use Rattle.iobufs_owner.proofs.Counts.{count-set, count-some, count-two}
 use Rattle.iobufs_owner.proofs.Keeps.{Keeps, keeps-self, names, call-kept, calls-read-kept, releases-kept, owner-kept, fits-kept, fits-calls, live-of, shares-kept, promised-kept, described-kept}
 use Rattle.iobufs_owner.proofs.Kept.{at-some, made-on-set, owner-counted, block-log-kept}
 use Rattle.iobufs_owner.proofs.Frames.{handles-kept, alone-kept, describes-kept, holders-tables, users-tables, not-eqb, is-eqb}
 use Rattle.iobufs_owner.proofs.Edits.{fits-at, described-at, counted-at, alone-at, live-inside, lies-as, alone-described, describes-described, describes-counted, alone-shared}
-use Rattle.iobufs_owner.proofs.Holders.{held_by, holders-as, describes-few, owner-used}
+use Rattle.iobufs_owner.proofs.Holders.{describes-few, owner-used}
 use Rattle.iobufs_owner.proofs.Logs.{no_record, record-log-more, record-log-counted, record-log-dead}
-use Rattle.iobufs_owner.proofs.Recorded.{recorded, recorded-old, recorded-new, recorded-keeps, recorded-live, recorded-either, unhidden-next}
+use Rattle.iobufs_owner.proofs.Recorded.{recorded, recorded-new, recorded-keeps, recorded-live, recorded-either, unhidden-next}
 use Rattle.iobufs_owner.proofs.Added.{sound-added, counted-keeps, counted-block, counted-live, counted-same, counted-other}
-use Rattle.iobufs_owner.proofs.Dead.{dead-block, dead-count, dead-other, dead-same, dead-keeps, dead-live}
+use Rattle.iobufs_owner.proofs.Dead.{dead-block, dead-count, dead-other, dead-keeps, dead-live}
 use Rattle.iobufs_owner.proofs.Freed.{holders-alike, users-alike}
 use Rattle.iobufs_owner.proofs.Shown.{get_or-read}
 

@@ -1,20 +1,20 @@
 -- Splitting a view keeps the machine sound.
-use Rattle.std.proofs.Common.{◌≡◌, ◌≢◌, ℕ, zero, suc, ◌+◌, ◌-◌, ◌^◌, ◌<◌, ◌≤◌, ◌==◌, Bool, true, false, cond, inl, inr, List, [], ◌∷◌, ◌++◌, length, get_or, set, sym, ◌∙◌, ap, subst, refl, arith, Option, Some, None, length-append}
+use Rattle.std.proofs.Common.{◌≡◌, ℕ, zero, suc, ◌+◌, ◌^◌, ◌<◌, ◌≤◌, true, inl, inr, List, [], ◌∷◌, ◌++◌, length, get_or, set, sym, ◌∙◌, ap, subst, refl, arith, Option, Some, None, length-append}
 use Rattle.std.proofs.Math.ListN.{length-set}
 use Rattle.std.proofs.lemmas.List.Elements.{All-push, All-set}
 use Rattle.std.proofs.lemmas.List.{set-set, get_or-set_same, get_or_append_left}
 use Rattle.std.proofs.Math.Seq.{get_or-append_seam}
 use Rattle.iobufs_owner.specs.State.{State, Tables, owner_of, record_at, block_at, handle_at, origin_at}
-use Rattle.iobufs_owner.specs.World.{holds, holders, users, reading, read_handle, tally}
-use Rattle.iobufs_owner.specs.Sound.{IsSound, Fits, FitsWord, LiesIn, alone, describes}
-use Rattle.iobufs_owner.specs.Moves.{counted, with_count, with_handle, with_record, edited, detached, part, is_lent, Lends, next_record}
+use Rattle.iobufs_owner.specs.World.{holders, users, reading, tally}
+use Rattle.iobufs_owner.specs.Sound.{IsSound, Fits, LiesIn, alone, describes}
+use Rattle.iobufs_owner.specs.Moves.{counted, with_count, with_handle, with_record, edited, detached, part, Lends, next_record}
 use Rattle.iobufs_owner.specs.declared.owner.types.Record.{Record}
 use Rattle.iobufs_owner.specs.declared.owner.types.Handle.{Handle}
-use Rattle.iobufs_owner.specs.declared.owner.types.Kind.TheVariants.{View, Mut}
+use Rattle.iobufs_owner.specs.declared.owner.types.Kind.TheVariants.{View}
 use Rattle.iobufs_owner.specs.declared.owner.types.Word.TheVariants.{Empty, Descriptor, Record as Counted}
 use Rattle.iobufs_owner.proofs.Counts.{count-append, count-set, holders-more, users-more, holders-changed, users-changed}
 use Rattle.iobufs_owner.proofs.Keeps.{keeps-self, calls-kept}
-use Rattle.iobufs_owner.proofs.Kept.{at-some, append-at, set-at, at-more, sound-edited, sound-detached, made-on-more, made-on-set, owner-empty, owner-counted, block-log-kept}
+use Rattle.iobufs_owner.proofs.Kept.{at-some, append-at, set-at, at-more, sound-edited, sound-detached, made-on-set, owner-empty, owner-counted, block-log-kept}
 use Rattle.iobufs_owner.proofs.Edits.{fits-at, counted-at, empty-at, described-at, lies-as, describes-counted, alone-shared}
 use Rattle.iobufs_owner.proofs.Recorded.{recorded, recorded-new, sound-promoted}
 use Rattle.iobufs_owner.proofs.Added.{sound-added}

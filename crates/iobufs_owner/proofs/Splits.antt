@@ -1,5 +1,5 @@
 -- SplitTo, read as a step of the world.
-use Rattle.std.proofs.Common.{◌≡◌, ◌⊎◌, inl, inr, ℕ, ◌+◌, ◌-◌, ◌^◌, ◌<◌, ◌≤◌, Bool, true, false, cond, nat_lt, nat_eq, List, length, set, map, Option, Some, None, Result, Ok, Err, ap, sym, ◌∙◌, subst, refl, arith, MatchBool}
+use Rattle.std.proofs.Common.{◌≡◌, ◌⊎◌, inl, inr, ℕ, ◌+◌, ◌-◌, Bool, true, false, cond, nat_lt, nat_eq, length, Option, Some, Result, Ok, Err, ap, sym, ◌∙◌, subst, refl, arith}
 use Rattle.std.proofs.lemmas.List.{map-set}
 use Rattle.iobufs_owner.specs.declared.owner.types.Handle.{Handle}
 use Rattle.iobufs_owner.specs.declared.owner.types.Kind.TheVariants.{View}
@@ -8,8 +8,8 @@ use Rattle.iobufs_owner.specs.declared.owner.types.Word.TheVariants.{Empty, Desc
 use Rattle.iobufs_owner.specs.declared.owner.types.Refusal.{Refusal}
 use Rattle.iobufs_owner.specs.declared.owner.types.Refusal.TheVariants.{OutOfRange, Memory, Ceiling}
 use Rattle.iobufs_owner.specs.declared.owner.types.Reply.{Reply}
-use Rattle.iobufs_owner.specs.State.{State, Tables, owner_of, owned_by, handle_at, record_at, origin_at}
-use Rattle.iobufs_owner.specs.World.{World, Held, reading, read_held, read_handle, holders, is_block}
+use Rattle.iobufs_owner.specs.State.{State, Tables, owner_of, owned_by, record_at, origin_at}
+use Rattle.iobufs_owner.specs.World.{World, Held, reading, read_held, read_handle, is_block}
 use Rattle.iobufs_owner.specs.Sound.{IsSound}
 use Rattle.iobufs_owner.specs.Moves as move
 use Rattle.iobufs_owner.specs.Moves.{IsTaken, refused, made, edited, part, counted, with_count, promoted, next_record, lend_of, Lends}

@@ -1,7 +1,6 @@
 -- A step by the tables is a step of the world.
-use Rattle.std.proofs.Common.{◌≡◌, ◌⊎◌, inl, inr, ℕ, ◌<◌, ◌≤◌, arith, Result, Ok, Err, Bool, true, false, nat_lt, length, map, Option, Some, None, ap, sym, ◌∙◌, subst, refl, MatchBool}
+use Rattle.std.proofs.Common.{◌≡◌, inl, inr, ℕ, ◌<◌, ◌≤◌, arith, Result, Ok, Err, Bool, true, false, nat_lt, length, Option, Some, None, subst, refl, MatchBool}
 use Rattle.std.proofs.lemmas.List.{length-map}
-use Rattle.iobufs_owner.specs.declared.owner.types.Kind.TheVariants.{View, Mut}
 use Rattle.iobufs_owner.specs.declared.owner.types.Call.{Call}
 use Rattle.iobufs_owner.specs.declared.owner.types.Call.TheVariants.{New, External, Static, Put, Advance, Freeze, TryIntoMut, SplitTo, IsUnique, Clone, Slice, Drop}
 use Rattle.iobufs_owner.specs.declared.owner.types.Act.{Act}
@@ -16,7 +15,7 @@ use Rattle.std.specs.Result.{result_unwrap_or}
 use Rattle.std.proofs.lemmas.Bool.Decides.{nat_tests}
 use Rattle.iobufs_owner.specs.declared.owner.types.Reply.{Reply}
 use Rattle.iobufs_owner.specs.State.{State, call_at}
-use Rattle.iobufs_owner.specs.World.{World, reading, read_call, going_at}
+use Rattle.iobufs_owner.specs.World.{reading, read_call}
 use Rattle.iobufs_owner.specs.Sound.{IsSound}
 use Rattle.iobufs_owner.specs.Moves.{Outcome, Took, IsTaken, IsBegun, IsMoved, IsMovedAt, Moves, refused, gone_on}
 use Rattle.iobufs_owner.specs.Steps.{Refuses, Begins, ActsAt, Steps}

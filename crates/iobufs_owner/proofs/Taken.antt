@@ -1,25 +1,24 @@
 -- What a taken step shows of the world.
-use Rattle.std.proofs.Common.{◌≡◌, ◌⊎◌, inl, inr, ℕ, ◌+◌, ◌-◌, ◌<◌, ◌≤◌, ◌^◌, Bool, true, false, cond, nat_lt, nat_eq, List, [], ◌∷◌, ◌++◌, length, get_or, set, map, Option, Some, None, Result, Ok, Err, ap, sym, ◌∙◌, subst, refl, arith, MatchBool, MatchOption, length-append}
+use Rattle.std.proofs.Common.{◌≡◌, ◌⊎◌, inl, inr, ℕ, ◌+◌, ◌-◌, ◌<◌, ◌≤◌, Bool, true, false, cond, nat_lt, nat_eq, length, Option, Some, None, Result, Ok, Err, ap, sym, ◌∙◌, refl, arith, MatchBool}
 use Rattle.std.proofs.Math.ListN.{length-set}
 use Rattle.std.proofs.lemmas.Bool.Decides.{nat_tests}
-use Rattle.std.proofs.lemmas.List.{length-map, map-append, map-set}
+use Rattle.std.proofs.lemmas.List.{length-map}
 use Rattle.iobufs_owner.specs.declared.owner.types.Handle.{Handle}
-use Rattle.iobufs_owner.specs.declared.owner.types.Kind.TheVariants.{View, Mut}
-use Rattle.iobufs_owner.specs.declared.owner.types.Word.{Word}
-use Rattle.iobufs_owner.specs.declared.owner.types.Word.TheVariants.{Empty, Descriptor, Record as Counted}
+use Rattle.iobufs_owner.specs.declared.owner.types.Kind.TheVariants.{Mut}
+use Rattle.iobufs_owner.specs.declared.owner.types.Word.TheVariants.{Empty}
 use Rattle.iobufs_owner.specs.declared.owner.types.Refusal.{Refusal}
-use Rattle.iobufs_owner.specs.declared.owner.types.Refusal.TheVariants.{NoHandle, WrongKind, Borrowed, OutOfRange, BadPlace, Memory, Ceiling, Room}
+use Rattle.iobufs_owner.specs.declared.owner.types.Refusal.TheVariants.{Borrowed, OutOfRange}
 use Rattle.iobufs_owner.specs.declared.owner.types.Reply.{Reply}
-use Rattle.iobufs_owner.specs.declared.owner.types.Reply.TheVariants.{Made, More, Done, Declined, Unique, Refused}
-use Rattle.iobufs_owner.specs.State.{State, Tables, owner_of, owned_by, handle_at, record_at, block_at, origin_at}
-use Rattle.iobufs_owner.specs.World.{World, Held, reading, read_held, read_handle, read_call, holders}
+use Rattle.iobufs_owner.specs.declared.owner.types.Reply.TheVariants.{Made, Done}
+use Rattle.iobufs_owner.specs.State.{State, Tables, owner_of, handle_at}
+use Rattle.iobufs_owner.specs.World.{World, Held, reading, read_held, read_handle}
 use Rattle.iobufs_owner.specs.Sound.{IsSound}
 use Rattle.iobufs_owner.specs.Moves as move
 use Rattle.iobufs_owner.specs.Moves.{Outcome, IsTaken, entries, refused, done, declined, edited, made, with_handle, lend_of, Lends, is_lent}
 use Rattle.iobufs_owner.specs.Steps as world
 use Rattle.iobufs_owner.specs.Steps.{Refuses, NoRoom, Denied, Makes, Declines, held_set, held_more}
 use Rattle.iobufs_owner.proofs.Counts.{reading-set, reading-append}
-use Rattle.iobufs_owner.proofs.Kept.{owner-empty, owner-counted}
+use Rattle.iobufs_owner.proofs.Kept.{owner-empty}
 use Rattle.iobufs_owner.proofs.Lent.{lend-tells}
 use Rattle.iobufs_owner.proofs.Shown.{alone-reads, any-reads, capacity-reads, read_lent}
 use Rattle.iobufs_owner.proofs.Edits.{owner-put, owner-advanced, within}
@@ -123,7 +122,7 @@ advance-lent s t h n reply (Ok x) k e i =
     by-test _ _ s t (refused s OutOfRange) (done (edited s h (move.advanced x n))) reply (nat_lt x.len n)
     (λ _ i. refused-taken s t OutOfRange reply i)
     (λ v i. let o = owner-advanced s.tables x n (lt-false x.len n v) (within s h x k l.at) in
-        edit-taken s t h (move.advanced x n) (record { kind = x.kind; block = owner_of s.tables x; place = x.ptr + n; len = x.len - n }) reply (rw o refl) i) i
+    edit-taken s t h (move.advanced x n) (record { kind = x.kind; block = owner_of s.tables x; place = x.ptr + n; len = x.len - n }) reply (rw o refl) i) i
 
 pub advance-steps : (s t : State) (h n : ℕ) (reply : Reply) → IsSound s → IsTaken s (move.advance_of s h n) reply t → world.AdvanceIs (reading s) h n (world.any_of (reading s) h) reply (reading t)
 advance-steps s t h n reply k i = rw (any-reads s h) (advance-lent s t h n reply (move.any_of s h) k refl i)

@@ -120,13 +120,7 @@ impl Machine {
     }
 
     /// A view with a record is split: the record counts one more.
-    fn split_counted(
-        &mut self,
-        h: usize,
-        at: u64,
-        x: Handle,
-        r: usize,
-    ) -> Result<Reply, AllocError>
+    fn split_counted(&mut self, h: usize, at: u64, x: Handle, r: usize) -> Result<Reply, AllocError>
         requires lent { Lends self.old h View x }
         requires word { x.word ≡ Counted r }
         requires within { at ≤ x.len }

@@ -1,5 +1,4 @@
-use Rattle.std.proofs.Common.{◌≡◌, ◌^◌, ◌<◌, subst, sym}
-use Rattle.iobufs_owner.specs.Word.{HasRoom, word_of}
+use Rattle.iobufs_owner.specs.Word.{HasRoom}
 use Rattle.iobufs_owner.proofs.Words.{pack-is, zeros-of, log-below}
 use Rattle.iobufs_owner.proofs.format.Format.pack.Goals as goal
 

@@ -1,5 +1,3 @@
-use Rattle.std.proofs.Common.{SomeIff, ◌<◌, ◌^◌}
-use Rattle.iobufs_owner.specs.Word.{word_of}
 use Rattle.iobufs_owner.proofs.Words.{some-iff, retailed-is}
 use Rattle.iobufs_owner.proofs.format.Format.with_tail.Goals as goal
 

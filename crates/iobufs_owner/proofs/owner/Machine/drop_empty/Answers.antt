@@ -1,9 +1,7 @@
-use Rattle.std.proofs.Common.{◌≡◌, ◌<◌, None, length, ap, nat_eq, sym, refl, subst}
-use Rattle.std.proofs.Math.ListN.{length-set}
-use Rattle.iobufs_owner.specs.declared.owner.types.Kind.TheVariants.{View}
+use Rattle.std.proofs.Common.{sym, subst}
 use Rattle.iobufs_owner.specs.Inside.{state_of}
-use Rattle.iobufs_owner.specs.Moves.{Lends, after_count}
-use Rattle.iobufs_owner.specs.State.{State, call_at, record_at}
+use Rattle.iobufs_owner.specs.Moves.{Lends}
+use Rattle.iobufs_owner.specs.State.{State}
 use Rattle.iobufs_owner.proofs.Freed.{sound-gone_empty}
 use Rattle.iobufs_owner.proofs.owner.Machine.drop_empty.Goals as goal
 

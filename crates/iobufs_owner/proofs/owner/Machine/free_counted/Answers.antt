@@ -1,10 +1,9 @@
-use Rattle.std.proofs.Common.{◌≡◌, ◌<◌, ◌≤◌, ◌∙◌, Some, length, length-append, get_or, sym, ap, subst, arith}
-use Rattle.std.proofs.lemmas.List.{get_or_read}
+use Rattle.std.proofs.Common.{◌≡◌, sym, subst, arith}
 use Rattle.std.proofs.Math.ListN.{length-set}
-use Rattle.iobufs_owner.specs.declared.owner.types.Kind.TheVariants.{View, Mut}
+use Rattle.iobufs_owner.specs.declared.owner.types.Kind.TheVariants.{Mut}
 use Rattle.iobufs_owner.specs.Inside.{state_of}
 use Rattle.iobufs_owner.specs.Moves.{Lends}
-use Rattle.iobufs_owner.specs.State.{State, record_at, block_at, owner_of, owned_by, retailed}
+use Rattle.iobufs_owner.specs.State.{State, record_at, block_at}
 use Rattle.iobufs_owner.proofs.Edits.{counted-at}
 use Rattle.iobufs_owner.proofs.Freed.{counted-ends, sound-freed_counted}
 use Rattle.iobufs_owner.proofs.owner.Machine.free_counted.Goals as goal

@@ -1,9 +1,7 @@
-use Rattle.std.proofs.Common.{◌≡◌, ℕ, ◌<◌, ◌≤◌, ◌∙◌, Some, length, length-append, get_or, sym, ap, subst, arith}
-use Rattle.std.proofs.lemmas.List.{get_or_read}
-use Rattle.iobufs_owner.specs.declared.owner.types.Kind.TheVariants.{View, Mut}
+use Rattle.std.proofs.Common.{◌≡◌, ℕ, ◌∙◌, sym, ap, subst, arith}
 use Rattle.iobufs_owner.specs.Inside.{state_of}
 use Rattle.iobufs_owner.specs.Moves.{Lends}
-use Rattle.iobufs_owner.specs.State.{State, record_at, block_at, owner_of, owned_by, retailed, end_of, tail_in}
+use Rattle.iobufs_owner.specs.State.{State, end_of, tail_in}
 use Rattle.iobufs_owner.proofs.Freed.{described-ends, sound-freed_described}
 use Rattle.iobufs_owner.proofs.owner.Machine.free_described.Goals as goal
 

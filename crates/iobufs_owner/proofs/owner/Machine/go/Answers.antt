@@ -1,4 +1,3 @@
-use Rattle.std.proofs.Common.{refl}
 use Rattle.iobufs_owner.specs.Moves.{gone_on}
 use Rattle.iobufs_owner.proofs.owner.Machine.go.Goals as goal
 

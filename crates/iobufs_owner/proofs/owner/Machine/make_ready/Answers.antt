@@ -1,12 +1,9 @@
-use Rattle.std.proofs.Common.{◌≡◌, ◌<◌, ◌≤◌, ◌∙◌, ℕ, Option, Some, None, length, length-append, get_or, sym, ap, subst, refl, arith}
-use Rattle.std.proofs.Math.ListN.{length-set}
+use Rattle.std.proofs.Common.{◌≡◌, Option, Some, None, length, length-append, sym, subst, arith}
 use Rattle.iobufs_owner.specs.declared.owner.types.Pending.{Pending}
-use Rattle.iobufs_owner.specs.declared.owner.types.Pending.TheVariants.{Loaded, Ready, Add, Subtract, Release}
-use Rattle.iobufs_owner.specs.declared.owner.types.Kind.TheVariants.{View}
+use Rattle.iobufs_owner.specs.declared.owner.types.Pending.TheVariants.{Loaded}
 use Rattle.iobufs_owner.specs.Inside.{state_of}
-use Rattle.iobufs_owner.specs.Moves.{part, block_held}
-use Rattle.iobufs_owner.specs.Sound.{Shares}
-use Rattle.iobufs_owner.specs.State.{State, handle_at, call_at, record_at, block_at}
+use Rattle.iobufs_owner.specs.Moves.{block_held}
+use Rattle.iobufs_owner.specs.State.{State, call_at}
 use Rattle.iobufs_owner.proofs.Kept.{at-some}
 use Rattle.iobufs_owner.proofs.Shares.{IsQuiet, quiet-none, quiet-loaded, sound-called, held-loading, sound-readied}
 use Rattle.iobufs_owner.proofs.owner.Machine.make_ready.Goals as goal

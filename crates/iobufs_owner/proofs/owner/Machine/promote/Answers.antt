@@ -1,10 +1,8 @@
-use Rattle.std.proofs.Common.{◌≡◌, ◌<◌, ◌≤◌, ◌∙◌, Some, length, length-append, get_or, sym, ap, subst, arith}
-use Rattle.std.proofs.lemmas.List.{get_or_read}
-use Rattle.iobufs_owner.specs.declared.owner.types.Kind.TheVariants.{View, Mut}
+use Rattle.std.proofs.Common.{◌≡◌, Some, length, length-append, sym, subst, arith}
+use Rattle.iobufs_owner.specs.declared.owner.types.Kind.TheVariants.{Mut}
 use Rattle.iobufs_owner.specs.Inside.{state_of}
 use Rattle.iobufs_owner.specs.Moves.{Lends}
-use Rattle.iobufs_owner.specs.State.{State, record_at, block_at, owner_of, owned_by, retailed}
-use Rattle.iobufs_owner.proofs.Edits.{described-at, lies-as}
+use Rattle.iobufs_owner.specs.State.{State, owner_of}
 use Rattle.iobufs_owner.proofs.Recorded.{sound-promoted-frozen}
 use Rattle.iobufs_owner.proofs.owner.Machine.promote.Goals as goal
 

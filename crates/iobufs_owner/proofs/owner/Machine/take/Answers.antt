@@ -1,7 +1,7 @@
-use Rattle.std.proofs.Common.{◌≡◌, ◌<◌, ◌∙◌, Some, None, length, sym, refl, subst, arith}
+use Rattle.std.proofs.Common.{◌<◌, ◌∙◌, None, length, sym, refl, subst, arith}
 use Rattle.std.proofs.lemmas.List.{get_or_read}
 use Rattle.iobufs_owner.specs.Inside.{state_of}
-use Rattle.iobufs_owner.specs.State.{State, call_at}
+use Rattle.iobufs_owner.specs.State.{State}
 use Rattle.iobufs_owner.specs.Moves.{refused, IsMoved, gone_on}
 use Rattle.iobufs_owner.specs.declared.owner.types.Refusal.TheVariants.{Idle, Busy}
 use Rattle.iobufs_owner.proofs.Stepping.{moved-nobody, moved-idle, moved-goes, moved-busy}
