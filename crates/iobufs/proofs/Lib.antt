@@ -19,3 +19,4 @@ pub mod PartLaws
 pub mod PartRows
 pub mod PartRuns
 pub mod PartTurns
+mod VisitLaws

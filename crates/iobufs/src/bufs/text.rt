@@ -1,4 +1,6 @@
 // A text in several pieces.
+ghost use Rattle.std.specs.Fn.{CalledAt};
+ghost use Rattle.std.specs.List.{FoldsTo};
 ghost use Rattle.std.specs.Option.{option_copied};
 ghost use Rattle.std.specs.Prelude.{◌≡◌, ◌+◌, ◌<◌, ◌≤◌, ◌^◌, ◌==◌, [], length, if◌then◌else◌, false, slice_get, IsOk, IfOk, IfErr, OnOk, OnErr, IsOkUnless, IsErrAnd, MatchOption, MatchResult};
 ghost use Rattle.std.specs.Iterator.{IsFinite};
@@ -280,6 +282,8 @@ impl IoBufs {
     /// Shows each piece that holds bytes, in order.
     pub fn for_each_chunk<F: FnMut(&[u8])>(&self, mut visit: F)
         requires { F.IsAlwaysCallable visit }
+        ensures { (last : F)
+            × FoldsTo (λ before chunk after. CalledAt F.FnMut before chunk tt after) visit (text_chunks self.now) last }
     {
         for i in 0..self.chunk_count() {
             if let Some(chunk) = self.chunk_at(i) {
