@@ -86,7 +86,8 @@ impl IoBufs {
         ensures value { result ≡ text_len self.now }
         ensures marked { IsMarked self.now }
     {
-        self.len
+        let IoBufs { len, .. } = self;
+        *len
     }
 
     pub fn is_empty(&self) -> bool
