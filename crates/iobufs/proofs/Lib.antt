@@ -19,4 +19,6 @@ pub mod PartLaws
 pub mod PartRows
 pub mod PartRuns
 pub mod PartTurns
+mod BuildLaws
+mod FinishLaws
 mod VisitLaws

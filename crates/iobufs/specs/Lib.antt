@@ -8,3 +8,6 @@ pub mod FillLaws
 pub mod PartLimits
 pub mod PartShape
 pub mod Parts
+pub mod Building
+pub mod BuildingLaws
+pub mod Pushes

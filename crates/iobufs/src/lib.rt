@@ -3,3 +3,4 @@
 
 pub mod bufs;
 pub mod bufs_mut;
+pub mod builder;

@@ -1,0 +1,140 @@
+-- The pieces that a builder finishes to.
+use Rattle.std.proofs.Common.{◌≡◌, ℕ, ◌+◌, ◌-◌, ◌^◌, ◌<◌, ◌≤◌, ◌==◌, if◌then◌else◌, List, [], ◌∷◌, ◌++◌, length, take, drop, fold, refl, sym, ap, ◌∙◌, arith, append_assoc, length-drop, length-take, take_all, ⊎_elim}
+use Rattle.std.proofs.lemmas.Bool.{cases_lt}
+use Rattle.std.proofs.lemmas.Bool.Decides.{nat_tests}
+use Rattle.std.proofs.lemmas.Grind.{common_steps}
+use Rattle.std.proofs.lemmas.List.{drop-drop, drop_all, nil_from_length}
+use Rattle.iobufs_core.specs.View.{View, default_view, native_mark, view_rest, view_split_front}
+use Rattle.iobufs_core.specs.MarkedText.{MarkedText, default_text, joined, text_append, text_len}
+use Rattle.iobufs_core.specs.Items.{Item, push_item}
+use Rattle.iobufs_core.specs.Part.{Part, part_frozen, part_capacity}
+use Rattle.iobufs.specs.Building.{Building, inline_run, views_from, finished}
+use Rattle.iobufs.specs.Pushes.{items_front, runs_len, pushed_len, building_with}
+use Rattle.iobufs.specs.declared.builder.Push.{Push}
+use Rattle.iobufs.proofs.BuildLaws.{runs-cons, pushed-cons}
+use Rattle.iobufs.proofs.Frozen.{len-append}
+
+-- the views that are made of what is left of the inline bytes, and of these pushes
+abbrev pub views_left : View → List Push → List View
+views_left rest [] = rest ∷ []
+views_left rest (p ∷ ps) = view_split_front rest p.run ∷ p.view ∷ views_left (view_rest rest p.run) ps
+
+-- inline bytes as a view
+abbrev pub inline_view : ℕ → List ℕ → View
+inline_view room bytes = if length bytes == 0 then default_view else record { bytes = bytes; mark = native_mark room }
+
+abbrev pub run_views : ℕ → List ℕ → List View
+run_views room [] = []
+run_views room (byte ∷ bytes) = record { bytes = byte ∷ bytes; mark = native_mark room } ∷ []
+
+run_views-some : (room : ℕ) (bytes : List ℕ) → 0 < length bytes → run_views room bytes ≡ record { bytes = bytes; mark = native_mark room } ∷ []
+run_views-some room [] some = absurd (omega arith)
+run_views-some room (b ∷ bs) some = refl
+
+inline-some : (room : ℕ) (bytes : List ℕ) → 0 < length bytes → inline_view room bytes ≡ record { bytes = bytes; mark = native_mark room }
+inline-some room bytes some = grind (arith, nat_tests, common_steps)
+
+inline-none : (room : ℕ) (bytes : List ℕ) → length bytes ≡ 0 → inline_view room bytes ≡ default_view
+inline-none room bytes none = grind (arith, nat_tests, common_steps)
+
+fold-both : (text : MarkedText) (xs ys : List View) → fold text_append text (xs ++ ys) ≡ fold text_append (fold text_append text xs) ys
+fold-both text [] ys = refl
+fold-both text (x ∷ xs) ys = fold-both (text_append text x) xs ys
+
+views-run : (room : ℕ) (bytes : List ℕ) (items : List Item) → views_from room (inline_run bytes ++ items) ≡ run_views room bytes ++ views_from (room - length bytes) items
+views-run room [] items = let n : room ≡ room - 0 = omega arith in ap (λ r. views_from r items) n
+views-run room (b ∷ bs) items = refl
+
+-- the front of inline bytes, and what is left of them
+split-some : (room : ℕ) (bytes : List ℕ) (n : ℕ) → 0 < n → n ≤ length bytes → view_split_front (inline_view room bytes) n ≡ record { bytes = take n bytes; mark = native_mark room }
+split-some room bytes n some fits =
+    ap (λ (v : View). view_split_front v n) (inline-some room bytes (omega arith))
+    ∙ ⊎_elim
+    (λ (h : n < length bytes). grind (arith, nat_tests, common_steps))
+    (λ (h : length bytes ≤ n). let all = take_all n bytes h in let e : n ≡ length bytes = omega arith in rw all (grind (arith, nat_tests, common_steps)))
+    (cases_lt n (length bytes))
+
+rest-inside : (room : ℕ) (bytes : List ℕ) (n : ℕ) → 0 < n → n < length bytes → view_rest (record { bytes = bytes; mark = native_mark room }) n ≡ record { bytes = drop n bytes; mark = native_mark (room - n) }
+rest-inside room bytes n some inside = grind (arith, nat_tests, common_steps)
+
+rest-whole : (room : ℕ) (bytes : List ℕ) (n : ℕ) → 0 < n → n ≡ length bytes → view_rest (record { bytes = bytes; mark = native_mark room }) n ≡ default_view
+rest-whole room bytes n some whole = grind (arith, nat_tests, common_steps)
+
+rest-inline : (room : ℕ) (bytes : List ℕ) (n : ℕ) → n ≤ length bytes → view_rest (inline_view room bytes) n ≡ inline_view (room - n) (drop n bytes)
+rest-inline room bytes n fits =
+    ⊎_elim
+    (λ (some : 0 < n).
+        let d = length-drop n bytes in
+        ap (λ (v : View). view_rest v n) (inline-some room bytes (omega arith))
+        ∙ ⊎_elim
+        (λ (h : n < length bytes). rest-inside room bytes n some h ∙ sym (inline-some (room - n) (drop n bytes) (omega arith)))
+        (λ (h : length bytes ≤ n). rest-whole room bytes n some (omega arith) ∙ sym (inline-none (room - n) (drop n bytes) (omega arith)))
+        (cases_lt n (length bytes)))
+    (λ (h : n ≤ 0).
+        let none : n ≡ 0 = omega arith in
+        let same : room ≡ room - 0 = omega arith in
+        rw none (ap (λ r. inline_view r bytes) same))
+    (cases_lt 0 n)
+
+fold-run : (text : MarkedText) (room : ℕ) (bytes : List ℕ) (n : ℕ) (views : List View) → n ≤ length bytes → fold text_append text (view_split_front (inline_view room bytes) n ∷ views) ≡ fold text_append text (run_views room (take n bytes) ++ views)
+fold-run text room bytes n views fits =
+    ⊎_elim
+    (λ (some : 0 < n).
+        let t = length-take n bytes in
+        ap (λ (v : View). fold text_append (text_append text v) views) (split-some room bytes n some fits)
+        ∙ ap (λ (vs : List View). fold text_append text (vs ++ views)) (sym (run_views-some room (take n bytes) (omega arith))))
+    (λ (h : n ≤ 0). let none : n ≡ 0 = omega arith in rw none refl)
+    (cases_lt 0 n)
+
+fold-last : (text : MarkedText) (room : ℕ) (bytes : List ℕ) → fold text_append text (inline_view room bytes ∷ []) ≡ fold text_append text (views_from room (inline_run bytes))
+fold-last text room [] = refl
+fold-last text room (b ∷ bs) = ap (λ (v : View). fold text_append text (v ∷ [])) (inline-some room (b ∷ bs) (omega arith))
+
+-- all of them make the same text
+pub join-views : (text : MarkedText) (room : ℕ) (bytes : List ℕ) (ps : List Push) → runs_len ps ≤ length bytes → fold text_append text (views_left (inline_view room bytes) ps) ≡ fold text_append text (views_from room (items_front bytes ps ++ inline_run (drop (runs_len ps) bytes)))
+join-views text room bytes [] fits = fold-last text room bytes
+join-views text room bytes (p ∷ ps) fits =
+    let n = runs-cons p ps in
+    let d = length-drop p.run bytes in
+    let inside : p.run ≤ length bytes = omega arith in
+    let w = take p.run bytes in
+    let left = drop p.run bytes in
+    let len : length w ≡ p.run = (let t = length-take p.run bytes in omega arith) in
+    fold-run text room bytes p.run _ inside
+    ∙ fold-both text (run_views room w) (p.view ∷ views_left (view_rest (inline_view room bytes) p.run) ps)
+    ∙ ap (λ (v : View). fold text_append (text_append (fold text_append text (run_views room w)) p.view) (views_left v ps)) (rest-inline room bytes p.run inside)
+    ∙ join-views (text_append (fold text_append text (run_views room w)) p.view) (room - p.run) left ps (omega arith)
+    ∙ sym (fold-both text (run_views room w) (p.view ∷ views_from (room - p.run) (items_front left ps ++ inline_run (drop (runs_len ps) left))))
+    ∙ ap (λ k. fold text_append text (run_views room w ++ p.view ∷ views_from (room - k) (items_front left ps ++ inline_run (drop (runs_len ps) left)))) (sym len)
+    ∙ ap (λ (b : List ℕ). fold text_append text (run_views room w ++ p.view ∷ views_from (room - length w) (items_front left ps ++ inline_run b))) (drop-drop (runs_len ps) p.run bytes ∙ ap (λ k. drop k bytes) (sym n))
+    ∙ ap (fold text_append text) (sym (views-run room w (push_item p.view ∷ items_front left ps ++ inline_run (drop (runs_len (p ∷ ps)) bytes))))
+    ∙ ap (λ (items : List Item). fold text_append text (views_from room items)) (sym (append_assoc (inline_run w) (push_item p.view ∷ items_front left ps) _))
+
+-- so they make what the builder says
+pub finished-views : (part : Part) (ps : List Push) (placed : ℕ) → runs_len ps ≡ placed → placed ≤ length part.filled → joined (views_left (part_frozen part) ps) ≡ finished (building_with part ps placed)
+finished-views part ps placed counted within =
+    join-views default_text (part_capacity part) part.filled ps (omega arith)
+    ∙ ap (λ n. joined (views_from (part_capacity part) (items_front part.filled ps ++ inline_run (drop n part.filled)))) counted
+
+inline-bytes : (room : ℕ) (bytes : List ℕ) → (inline_view room bytes).bytes ≡ bytes
+inline-bytes room [] = refl
+inline-bytes room (b ∷ bs) = ap (λ (v : View). v.bytes) (inline-some room (b ∷ bs) (omega arith))
+
+pub frozen-bytes : (part : Part) → (part_frozen part).bytes ≡ part.filled
+frozen-bytes part = inline-bytes (part_capacity part) part.filled
+
+pub front-len : (view : View) (n : ℕ) → n ≤ length view.bytes → length (view_split_front view n).bytes ≡ n
+front-len view n fits = let t = length-take n view.bytes in grind (arith, nat_tests, common_steps)
+
+pub rest-len : (view : View) (n : ℕ) → n ≤ length view.bytes → length (view_rest view n).bytes ≡ length view.bytes - n
+rest-len view n fits = let d = length-drop n view.bytes in grind (arith, nat_tests, common_steps)
+
+-- one turn: a run and a view go from what is left to the text
+pub join-so_far : (text mid next all : MarkedText) (rest run left : View) (ps more : List Push) (p : Push) → fold text_append text (views_left rest ps) ≡ all → ps ≡ p ∷ more → run ≡ view_split_front rest p.run → left ≡ view_rest rest p.run → mid ≡ text_append text run → next ≡ text_append mid p.view → fold text_append next (views_left left more) ≡ all
+join-so_far text mid next all rest run left ps more p so_far taken front behind first second =
+    ap (λ (t : MarkedText). fold text_append t (views_left left more)) (second ∙ ap (λ (t : MarkedText). text_append t p.view) (first ∙ ap (text_append text) front))
+    ∙ ap (λ (v : View). fold text_append (text_append (text_append text (view_split_front rest p.run)) p.view) (views_left v more)) behind
+    ∙ ap (λ (qs : List Push). fold text_append text (views_left rest qs)) (sym taken)
+    ∙ so_far
+
+pub ruleset finishing = (len-append, frozen-bytes, front-len, rest-len, runs-cons, pushed-cons)

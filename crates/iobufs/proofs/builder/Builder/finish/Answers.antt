@@ -1,0 +1,56 @@
+use Rattle.std.proofs.Common.{◌≡◌, List, [], length, fold, ap, sym, ◌∙◌, arith}
+use Rattle.std.proofs.lemmas.List.{nil_from_length}
+use Rattle.iobufs_core.specs.Part.{part_frozen}
+use Rattle.iobufs_core.specs.View.{View}
+use Rattle.iobufs_core.specs.MarkedText.{joined, text_append, text_len}
+use Rattle.iobufs.specs.Building.{finished}
+use Rattle.iobufs.specs.Pushes.{runs_len, pushed_len}
+use Rattle.iobufs.specs.declared.builder.Push.{Push}
+use Rattle.iobufs.proofs.BuildLaws.{runs-cons, pushed-cons}
+use Rattle.iobufs.proofs.Frozen.{len-append}
+use Rattle.iobufs.proofs.FinishLaws.{views_left, finished-views, front-len, join-so_far, rest-len}
+use Rattle.iobufs.proofs.builder.Builder.finish.Goals as goal
+
+pub loop-push-preserved : goal.loop-push-preserved
+loop-push-preserved c =
+    let l = c.loop-push in
+    let inv = l.invariant in
+    let p = c.in-Some.push in
+    let more = c.next.new.self.rest.items in
+    let taken = c.in-Some.ensures.steps.0 in
+    let front = c.in_ok-run.ensures.front in
+    let behind = c.in_ok-run.ensures.rest in
+    let first = c.in_ok-append.ensures.ok in
+    let second = c.in_ok-append-2.ensures.ok in
+    let runs = ap runs_len taken in
+    let pushed = ap pushed_len taken in
+    let runs_are = runs-cons p more in
+    let pushed_are = pushed-cons p more in
+    let left = ap (λ (v : View). length v.bytes) behind in
+    let run = ap (λ (v : View). length v.bytes) front in
+    let inside = inv.within in
+    let left_is = rest-len l.rest p.run (omega arith) in
+    let run_is = front-len l.rest p.run (omega arith) in
+    let mid = ap text_len first in
+    let next = ap text_len second in
+    let mid_fits = len-append l.text c.in_ok-run.run' in
+    let next_fits = len-append c.append.new.text p.view in
+    let fits = inv.fits in
+    record {
+      so_far = join-so_far l.text c.append.new.text c.append-in-loop-push.new.text _ l.rest c.in_ok-run.run' c.split_to.new.self l.push-iterator.rest.items more p inv.so_far taken front behind first second;
+      within = omega arith;
+      fits = omega arith;
+    }
+
+pub returns-clause-ok : goal.returns-clause-ok
+returns-clause-ok c =
+    let b = c.self.inside in
+    let l = c.loop-push in
+    let none : l.push-iterator.rest.items ≡ [] = nil_from_length _ (sym l.push-iterator.rest.ok.0 ∙ c.in-None.ensures.steps.0) in
+    c.in_ok-append-3.ensures.ok
+    ∙ ap (λ (ps : List Push). fold text_append l.text (views_left l.rest ps)) (sym none)
+    ∙ l.invariant.so_far
+    ∙ ap (λ (v : View). joined (views_left v c.into_iter-push-iterator.result.rest.items)) c.in_ok-rest.ensures.ok
+    ∙ ap (λ (ps : List Push). joined (views_left (part_frozen b.inline) ps)) c.into_iter-push-iterator.ensures.into_iter_gives.0
+    ∙ finished-views b.inline b.pushes.items b.placed c.self.invariant.counted c.self.invariant.within
+    ∙ ap finished c.self.view_is

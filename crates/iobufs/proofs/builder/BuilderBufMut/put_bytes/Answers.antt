@@ -1,0 +1,12 @@
+use Rattle.std.proofs.Common.{◌≤◌, replicate, subst, sym}
+use Rattle.std.proofs.lemmas.List.{length-replicate}
+use Rattle.iobufs.specs.Building.{building_room}
+use Rattle.iobufs.proofs.BuildLaws.{put-kept}
+use Rattle.iobufs.proofs.builder.BuilderBufMut.put_bytes.Goals as goal
+
+pub returns : goal.returns
+returns c =
+    let b = c.self.inside in
+    let inv = c.self.invariant in
+    let fits = subst (λ n. n ≤ building_room c.args.self.now) (sym (length-replicate c.args.n c.args.value)) c.requires in
+    put-kept b.inline _ b.pushes.items b.placed _ (replicate c.args.n c.args.value) inv.counted inv.within c.self.view_is fits c.put_bytes.ensures

@@ -1,0 +1,8 @@
+use Rattle.iobufs.proofs.BuildLaws.{put-kept}
+use Rattle.iobufs.proofs.builder.BuilderBufMut.put_slice.Goals as goal
+
+pub returns : goal.returns
+returns c =
+    let b = c.self.inside in
+    let inv = c.self.invariant in
+    put-kept b.inline _ b.pushes.items b.placed _ c.args.src.now inv.counted inv.within c.self.view_is c.requires c.put_slice.ensures

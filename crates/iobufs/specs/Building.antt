@@ -1,0 +1,65 @@
+-- What has been written to a builder: inline bytes and views, in order.
+--     Building, building_items                        what is there; no inline text is empty, and no two are neighbours
+--     building_put, building_push, built              what a put, a push, and a list of them add
+--     building_bytes, building_room, room_for_pushes  all bytes, and how many puts and pushes may still add
+--     finished                                        the text that is made of it
+use Rattle.std.specs.Prelude.{ℕ, ◌+◌, ◌-◌, ◌^◌, ◌==◌, if◌then◌else◌, List, [], ◌∷◌, ◌++◌, length}
+use Rattle.iobufs_core.specs.View.{View, native_mark}
+use Rattle.iobufs_core.specs.MarkedText.{MarkedText, joined}
+use Rattle.iobufs_core.specs.Items.{Item, put_item, push_item, items_bytes, items_inline, items_pushed}
+
+-- room for so many inline bytes, the items up to the last view, and the inline bytes behind it
+pub record Building : Type 0 where
+  pub capacity : ℕ
+  pub front : List Item
+  pub last : List ℕ
+
+abbrev pub empty_building : ℕ → Building
+empty_building capacity = record { capacity = capacity; front = []; last = [] }
+
+-- inline bytes are one item, and none where there are none
+abbrev pub inline_run : List ℕ → List Item
+inline_run [] = []
+inline_run (byte ∷ bytes) = put_item (byte ∷ bytes) ∷ []
+
+abbrev pub building_items : Building → List Item
+building_items b = b.front ++ inline_run b.last
+
+-- a put lengthens a last inline text, or begins one
+abbrev pub building_put : Building → List ℕ → Building
+building_put b bytes = record { capacity = b.capacity; front = b.front; last = b.last ++ bytes }
+
+-- a push adds a view; an empty one changes nothing
+abbrev pub building_push : Building → View → Building
+building_push b view =
+    if length view.bytes == 0 then b
+    else record { capacity = b.capacity; front = b.front ++ (inline_run b.last ++ push_item view ∷ []); last = [] }
+
+abbrev pub built_one : Building → Item → Building
+built_one b (put_item bytes) = building_put b bytes
+built_one b (push_item view) = building_push b view
+
+-- these puts and pushes, one after another
+abbrev pub built : Building → List Item → Building
+built b [] = b
+built b (item ∷ items) = built (built_one b item) items
+
+abbrev pub building_bytes : Building → List ℕ
+building_bytes b = items_bytes b.front ++ b.last
+
+-- how many bytes may still be put, and how many pushed
+abbrev pub building_room : Building → ℕ
+building_room b = b.capacity - (items_inline b.front + length b.last)
+
+abbrev pub room_for_pushes : Building → ℕ
+room_for_pushes b = 2 ^ 64 - 1 - b.capacity - items_pushed b.front
+
+-- the views of items: an inline text is native, with the room behind its place
+abbrev pub views_from : ℕ → List Item → List View
+views_from room [] = []
+views_from room (put_item bytes ∷ items) = record { bytes = bytes; mark = native_mark room } ∷ views_from (room - length bytes) items
+views_from room (push_item view ∷ items) = view ∷ views_from room items
+
+-- all items as one text
+abbrev pub finished : Building → MarkedText
+finished b = joined (views_from b.capacity (building_items b))

@@ -1,0 +1,216 @@
+// Encoded bytes and existing buffers, put together as one text.
+ghost use Rattle.std.specs.Prelude.{◌≡◌, ◌+◌, ◌<◌, ◌≤◌, ◌^◌, length, Err, IfErr, IsErrAnd, IfOk, IsOk, IsOkUnless, OnErr, OnOk, vec_len, vec_capacity};
+ghost use Rattle.iobufs_core.specs.Items.{items_inline};
+ghost use Rattle.iobufs_core.specs.MarkedText.{text_append, text_len};
+ghost use Rattle.iobufs_core.specs.View.{View};
+ghost use Rattle.iobufs.specs.Building.{built, empty_building, finished};
+
+use crate::bufs::IoBufs;
+use bytes::Bytes;
+use iobufs_core::buf::{IoBuf, IoBufMut};
+use iobufs_core::codec::{BufError, BufMut, BufsMut, Error, Refused, Write};
+use std::alloc::Global;
+use std::marker::Model;
+
+/// Puts and pushes on their way to one text (`Builder`). All puts share one buffer of a fixed capacity; what is
+/// pushed is not copied.
+#[derive(Drop)]
+pub struct Builder {
+    inline: IoBufMut,
+    pushes: Vec<Push>,
+    // How many inline bytes stand before the last push.
+    placed: usize,
+    // How many bytes pushes may still add.
+    pushable: usize,
+}
+
+// A view, and how many inline bytes stand between it and the one before it.
+#[derive(Drop)]
+struct Push {
+    run: usize,
+    view: IoBuf,
+}
+
+impl Model for Builder {
+    ghost use Rattle.iobufs.specs.Building.{Building};
+
+    ghost Value = { Building };
+
+    ghost use Rattle.iobufs.specs.Pushes.{building_of, IsBuilder};
+
+    ghost view = { building_of };
+
+    ghost invariant = { IsBuilder };
+}
+
+// Room to note one more push of so many bytes, if pushes may still add them.
+fn make_room(pushes: &mut Vec<Push>, pushable: usize, len: usize) -> Result<(), BufError>
+    ensures same { pushes.new.items ≡ pushes.old.items }
+    ensures ok { OnOk result ((len ≤ pushable) × (vec_len pushes.new < vec_capacity pushes.new)) }
+    ensures too_long { pushable < len → IsErrAnd result (λ cause. cause ≡ BufError.TooLong) }
+    ensures memory { len ≤ pushable → IfErr result (λ cause. cause ≡ BufError.Memory) }
+{
+    if len > pushable {
+        return Err(BufError::TooLong);
+    }
+    pushes.try_reserve(1)?;
+    Ok(())
+}
+
+// Puts a piece behind a text.
+fn append(alloc: Global, text: &mut IoBufs, piece: IoBuf) -> Result<(), BufError>
+    requires { text_len text.old + length piece.bytes < 2 ^ 64 }
+    ensures ok { OnOk result (text.new ≡ text_append text.old piece) }
+    ensures memory { IsOkUnless result BufError.Memory }
+{
+    match text.append(alloc, piece) {
+        Ok(()) => Ok(()),
+        Err(refused) => Err(refused.cause),
+    }
+}
+
+impl Builder {
+    /// A builder for so many inline bytes and no more. `BufError::BadLayout` above `isize::MAX`.
+    #[tactic(auto, using(crate::proofs::BuildLaws::building))]
+    pub fn new(alloc: Global, capacity: usize) -> Result<Builder, BufError>
+        ensures ok { IfOk result (λ b. b ≡ empty_building capacity) }
+        ensures bad_layout { 2 ^ 63 ≤ capacity → result ≡ Err BufError.BadLayout }
+        ensures memory { capacity < 2 ^ 63 → IsOkUnless result BufError.Memory }
+        ensures nothing { capacity ≡ 0 → IsOk result }
+    {
+        let inline = IoBufMut::with_capacity(alloc, capacity)?;
+        Ok(Builder {
+            inline,
+            pushes: Vec::new(alloc),
+            placed: 0,
+            pushable: usize::MAX - capacity,
+        })
+    }
+
+    /// All that was put and pushed, in order. The inline bytes are split where views stand, and not copied.
+    #[tactic(auto, using(crate::proofs::FinishLaws::finishing))]
+    pub fn finish(self) -> Result<IoBufs, BufError>
+        ensures ok { IfOk result (λ text. text ≡ finished self) }
+        ensures memory { IsOkUnless result BufError.Memory }
+    {
+        let alloc = *self.pushes.allocator();
+        let Builder { inline, pushes, .. } = self;
+        let mut rest = inline.freeze()?;
+        let mut text = IoBufs::default();
+        for push in pushes {
+            let run = rest.split_to(push.run)?;
+            append(alloc, &mut text, run)?;
+            append(alloc, &mut text, push.view)?;
+        }
+        append(alloc, &mut text, rest)?;
+        Ok(text)
+    }
+}
+
+impl BufMut for Builder {
+    ghost use Rattle.iobufs.specs.Building.{building_put, building_room};
+    ghost use Rattle.iobufs.specs.BuildingLaws.{put_composes, put_lessens, put_nothing};
+
+    ghost room = { building_room };
+
+    ghost filled = { λ a bytes b. b ≡ building_put a bytes };
+
+    #[tactic(auto, using(crate::proofs::BuildLaws::building))]
+    fn remaining_mut(&self) -> usize {
+        self.inline.remaining_mut()
+    }
+
+    #[tactic(auto, using(crate::proofs::BuildLaws::building))]
+    fn put_slice(&mut self, src: &[u8]) {
+        self.inline.put_slice(src);
+    }
+
+    #[tactic(auto, using(crate::proofs::BuildLaws::building))]
+    fn put_bytes(&mut self, value: u8, n: usize) {
+        self.inline.put_bytes(value, n);
+    }
+
+    ghost nothing = { put_nothing };
+
+    ghost composes = { put_composes };
+
+    ghost lessens = { put_lessens };
+}
+
+impl BufsMut for Builder {
+    ghost use Rattle.iobufs.specs.Building.{building_bytes, room_for_pushes};
+    ghost use Rattle.iobufs.specs.BuildingLaws.{built_adds, built_follows, built_puts, built_spends, built_uses};
+
+    ghost joined = { building_bytes };
+
+    ghost pushable = { room_for_pushes };
+
+    ghost done = { λ a items b. b ≡ built a items };
+
+    #[tactic(auto, using(crate::proofs::BuildLaws::building))]
+    fn push(&mut self, view: IoBuf) -> Result<(), Refused<IoBuf>> {
+        let len = view.len();
+        if len == 0 {
+            return Ok(());
+        }
+        if let Err(cause) = make_room(&mut self.pushes, self.pushable, len) {
+            return Err(Refused { cause, value: view });
+        }
+        let run = self.inline.len() - self.placed;
+        self.pushes.push(Push { run, view }).unwrap();
+        self.placed += run;
+        self.pushable -= len;
+        Ok(())
+    }
+
+    #[tactic(auto, using(crate::proofs::BuildLaws::building))]
+    fn push_bytes(&mut self, bytes: Bytes) -> Result<(), Refused<Bytes>> {
+        let len = bytes.len();
+        if len == 0 {
+            return Ok(());
+        }
+        if let Err(cause) = make_room(&mut self.pushes, self.pushable, len) {
+            return Err(Refused { cause, value: bytes });
+        }
+        let (run, view) = (self.inline.len() - self.placed, IoBuf::from(bytes));
+        self.pushes.push(Push { run, view }).unwrap();
+        self.placed += run;
+        self.pushable -= len;
+        Ok(())
+    }
+
+    ghost puts = { built_puts };
+
+    ghost follows = { built_follows };
+
+    ghost adds = { built_adds };
+
+    ghost uses = { built_uses };
+
+    ghost spends = { built_spends };
+}
+
+/// Encoding into pieces (`EncodeExt`).
+pub trait EncodeExt: Write {
+    /// The written value as a text: what `write_bufs` puts in one buffer of exactly that size, and what it pushes,
+    /// not copied. `Error::TooLong` where `encode_size` is none, then `Error::BadLayout` where more than
+    /// `isize::MAX` bytes are inline.
+    final fn encode_iobufs(&self, alloc: Global) -> Result<IoBufs, Error>
+    where
+        Self: Sized,
+        ensures pieces { IfOk result (λ text. text ≡ finished (built (empty_building (items_inline (Self.items self.now))) (Self.items self.now))) }
+        ensures bytes { IfOk result (λ text. text.bytes ≡ Self.written self.now) }
+        ensures too_long { 2 ^ 64 ≤ length (Self.written self.now) → result ≡ Err Error.TooLong }
+        ensures bad_layout { length (Self.written self.now) < 2 ^ 64 → 2 ^ 63 ≤ items_inline (Self.items self.now) → result ≡ Err Error.BadLayout }
+        ensures memory { length (Self.written self.now) < 2 ^ 64 → items_inline (Self.items self.now) < 2 ^ 63 → IsOkUnless result Error.Memory }
+    {
+        if self.encode_size().is_none() {
+            return Err(Error::TooLong);
+        }
+        let mut builder = Builder::new(alloc, self.encode_inline_size())?;
+        self.write_bufs(&mut builder)?;
+        Ok(builder.finish()?)
+    }
+}
+
+impl<T: Write> EncodeExt for T {}
