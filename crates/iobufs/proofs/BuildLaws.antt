@@ -1,12 +1,12 @@
 -- How puts and pushes change the fields of a builder.
-use Rattle.std.proofs.Common.{◌≡◌, ℕ, ◌+◌, ◌-◌, ◌^◌, ◌<◌, ◌≤◌, List, [], ◌∷◌, ◌++◌, length, take, drop, sum_by, refl, sym, ap, ◌∙◌, arith, append_assoc, append-nil, length-append, length-drop, length-take, take_all}
-use Rattle.std.proofs.Common.{IsTrue, nat_lt, false}
+use Rattle.std.proofs.Common.{◌≡◌, ℕ, ◌+◌, ◌-◌, ◌^◌, ◌<◌, ◌≤◌, List, [], ◌∷◌, ◌++◌, length, take, drop, refl, sym, ap, ◌∙◌, arith, append_assoc, length-append, length-drop, length-take, take_all}
+use Rattle.std.proofs.Common.{IsTrue, false}
 use Rattle.std.proofs.lemmas.Bool.Decides.{nat_tests}
 use Rattle.std.proofs.lemmas.Grind.{common_steps}
 use Rattle.std.proofs.lemmas.List.{drop-drop, length-replicate, take-append-le, drop-append-le, drop_all}
 use Rattle.std.proofs.lemmas.List.Sums.{sum_by-cons, sum_by_push}
-use Rattle.iobufs_core.specs.View.{View, view_of_bytes}
-use Rattle.iobufs_core.specs.Items.{Item, push_item, items_inline, items_pushed}
+use Rattle.iobufs_core.specs.View.{view_of_bytes}
+use Rattle.iobufs_core.specs.Items.{push_item, items_inline, items_pushed}
 use Rattle.iobufs_core.specs.Part.{Part, empty_part, is_bad_layout, part_put, part_capacity}
 use Rattle.iobufs.specs.Building.{Building, inline_run, empty_building, building_put, building_push, building_room, room_for_pushes}
 use Rattle.iobufs.specs.BuildingLaws.{items_inline-append, items_pushed-append, run-inline, run-pushed, push-some}

@@ -1,15 +1,18 @@
 -- The pieces that a builder finishes to.
-use Rattle.std.proofs.Common.{◌≡◌, ℕ, ◌+◌, ◌-◌, ◌^◌, ◌<◌, ◌≤◌, ◌==◌, if◌then◌else◌, List, [], ◌∷◌, ◌++◌, length, take, drop, fold, refl, sym, ap, ◌∙◌, arith, append_assoc, length-drop, length-take, take_all, ⊎_elim}
+use Rattle.std.proofs.Common.{◌≡◌, ℕ, ◌+◌, ◌-◌, ◌^◌, ◌<◌, ◌≤◌, ◌==◌, if◌then◌else◌, List, [], ◌∷◌, ◌++◌, length, take, drop, fold, refl, sym, ap, ◌∙◌, arith, append_assoc, length-append, length-drop, length-take, take_all, ⊎_elim}
 use Rattle.std.proofs.lemmas.Bool.{cases_lt}
 use Rattle.std.proofs.lemmas.Bool.Decides.{nat_tests}
 use Rattle.std.proofs.lemmas.Grind.{common_steps}
-use Rattle.std.proofs.lemmas.List.{drop-drop, drop_all, nil_from_length}
+use Rattle.std.proofs.lemmas.List.{drop-drop}
 use Rattle.iobufs_core.specs.View.{View, default_view, native_mark, view_rest, view_split_front}
-use Rattle.iobufs_core.specs.MarkedText.{MarkedText, default_text, joined, text_append, text_len}
-use Rattle.iobufs_core.specs.Items.{Item, push_item}
+use Rattle.iobufs_core.specs.MarkedText.{MarkedText, default_text, joined, text_append}
+use Rattle.iobufs_core.specs.Items.{Item, put_item, push_item, items_bytes, items_inline, items_pushed}
 use Rattle.iobufs_core.specs.Part.{Part, part_frozen, part_capacity}
-use Rattle.iobufs.specs.Building.{Building, inline_run, views_from, finished}
-use Rattle.iobufs.specs.Pushes.{items_front, runs_len, pushed_len, building_with}
+use Rattle.iobufs.specs.Building.{Building, building_bytes, building_items, built, empty_building, inline_run, room_for_pushes, views_from, finished}
+use Rattle.iobufs.specs.BuildingLaws.{bytes-built, items_bytes-append, run-bytes}
+use Rattle.iobufs.specs.Pieces.{pieces_bytes}
+use Rattle.iobufs.proofs.JoinLaws.{bytes-joined}
+use Rattle.iobufs.specs.Pushes.{items_front, runs_len, building_with}
 use Rattle.iobufs.specs.declared.builder.Push.{Push}
 use Rattle.iobufs.proofs.BuildLaws.{runs-cons, pushed-cons}
 use Rattle.iobufs.proofs.Frozen.{len-append}
@@ -136,5 +139,32 @@ join-so_far text mid next all rest run left ps more p so_far taken front behind 
     ∙ ap (λ (v : View). fold text_append (text_append (text_append text (view_split_front rest p.run)) p.view) (views_left v more)) behind
     ∙ ap (λ (qs : List Push). fold text_append text (views_left rest qs)) (sym taken)
     ∙ so_far
+
+-- the bytes of the pieces are all bytes
+views-bytes : (room : ℕ) (items : List Item) → pieces_bytes (views_from room items) ≡ items_bytes items
+views-bytes room [] = refl
+views-bytes room (put_item bytes ∷ items) = ap (λ more. bytes ++ more) (views-bytes (room - length bytes) items)
+views-bytes room (push_item view ∷ items) = ap (λ more. view.bytes ++ more) (views-bytes room items)
+
+pub finished-bytes : (b : Building) → (finished b).bytes ≡ building_bytes b
+finished-bytes b =
+    bytes-joined (views_from b.capacity (building_items b))
+    ∙ views-bytes b.capacity (building_items b)
+    ∙ items_bytes-append b.front (inline_run b.last)
+    ∙ ap (λ more. items_bytes b.front ++ more) (run-bytes b.last)
+
+pub encoded-bytes : (capacity : ℕ) (items : List Item) → (finished (built (empty_building capacity) items)).bytes ≡ items_bytes items
+encoded-bytes capacity items = finished-bytes (built (empty_building capacity) items) ∙ bytes-built (empty_building capacity) items
+
+items-len : (items : List Item) → length (items_bytes items) ≡ items_inline items + items_pushed items
+items-len [] = omega arith
+items-len (put_item bytes ∷ items) = let n = length-append bytes (items_bytes items) in let ih = items-len items in omega arith
+items-len (push_item view ∷ items) = let n = length-append view.bytes (items_bytes items) in let ih = items-len items in omega arith
+
+-- a builder for the inline bytes has room for all pushes
+pub pushes-fit : (b : Building) (items : List Item) → b ≡ empty_building (items_inline items) → length (items_bytes items) < 2 ^ 64 → room_for_pushes b < items_pushed items → ⊥
+pushes-fit b items empty fits long =
+    let n = items-len items in
+    let room = ap room_for_pushes empty in omega arith
 
 pub ruleset finishing = (len-append, frozen-bytes, front-len, rest-len, runs-cons, pushed-cons)

@@ -1,7 +1,24 @@
+use Rattle.std.proofs.Common.{◌^◌, ◌<◌, length, ap, sym, subst, ◌∙◌, ⊎_elim}
+use Rattle.iobufs_core.specs.Items.{items_inline}
+use Rattle.iobufs_core.specs.MarkedText.{MarkedText}
+use Rattle.iobufs.specs.Building.{Building, built, empty_building, finished}
+use Rattle.iobufs.proofs.CopyLaws.{only-cause}
+use Rattle.iobufs.proofs.FinishLaws.{encoded-bytes, pushes-fit}
 use Rattle.iobufs.proofs.builder.EncodeExt.encode_iobufs.Goals as goal
 
 pub returns-in_err-write_bufs-clause-memory : goal.returns-in_err-write_bufs-clause-memory
-returns-in_err-write_bufs-clause-memory g c = ?
+returns-in_err-write_bufs-clause-memory g c =
+    let items = g.Self.EncodeSize.items c.args.self.now in
+    λ (fits : length (g.Self.EncodeSize.written c.args.self.now) < 2 ^ 64) (inline : items_inline (g.Self.EncodeSize.items c.args.self.now) < 2 ^ 63).
+    let bytes = subst (λ bytes. length bytes < 2 ^ 64) (sym (g.met.Self.EncodeSize.joins_items c.args.self.now)) fits in
+    ⊎_elim
+    (only-cause _ _ _ c.from_residual-in_err-write_bufs.ensures.1)
+    (λ long. absurd (pushes-fit c.in_ok-builder.builder items (c.in_ok-builder.ensures.ok ∙ ap empty_building c.encode_inline_size.ensures) bytes long.1))
+    c.in_err-write_bufs.ensures.cause
 
 pub returns-clause-bytes : goal.returns-clause-bytes
-returns-clause-bytes g c = ?
+returns-clause-bytes g c =
+    let items = g.Self.EncodeSize.items c.args.self.now in
+    ap (λ (text : MarkedText). text.bytes) (c.in_ok-finish.ensures.ok ∙ ap finished (c.in_ok-write_bufs.ensures.ok ∙ ap (λ (b : Building). built b items) (c.in_ok-builder.ensures.ok ∙ ap empty_building c.encode_inline_size.ensures)))
+    ∙ encoded-bytes (items_inline items) items
+    ∙ g.met.Self.EncodeSize.joins_items c.args.self.now
