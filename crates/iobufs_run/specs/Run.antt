@@ -8,12 +8,13 @@ use Rattle.std.specs.Prelude.{◌≡◌, ◌⊎◌, ℕ, ◌+◌, ◌^◌, ◌==
 use Rattle.std.specs.List.{list_any, list_all}
 use Rattle.iobufs_core.specs.Part.{empty_part, is_bad_layout}
 use Rattle.iobufs_core.specs.MarkedText.{joined}
+use Rattle.iobufs_core.specs.View.{range_fits, static_mark, view_of_bytes}
 use Rattle.iobufs.specs.Parts.{kept_parts}
-use Rattle.iobufs_run.specs.Slots.{held, is_free, is_part, is_view, is_text, is_parts, is_of, extent, is_static_view, is_in_pieces, is_too_large, readable, writable, view_held, part_held, slot_put, slot_frozen, slot_split_front, slot_rest, slot_advanced, slot_appended, slot_prepended, slot_coalesced, shown_piece, Shows}
+use Rattle.iobufs_run.specs.Slots.{held, is_free, is_part, is_view, is_text, is_parts, is_of, extent, is_static_view, is_empty_range, is_in_pieces, is_too_large, readable, writable, view_held, part_held, slot_put, slot_frozen, slot_sliced, slot_split_front, slot_rest, slot_advanced, slot_appended, slot_prepended, slot_coalesced, shown_piece, Shows}
 use Rattle.iobufs_run.specs.declared.table.Slot.{Slot}
-use Rattle.iobufs_run.specs.declared.table.Slot.TheVariants.{Free, Part, Text, Parts}
+use Rattle.iobufs_run.specs.declared.table.Slot.TheVariants.{Free, Part, View, Text, Parts}
 use Rattle.iobufs_run.specs.declared.command.Cmd.{Cmd}
-use Rattle.iobufs_run.specs.declared.command.Cmd.TheVariants.{NewMut, Put, Freeze, Split, Advance, Gather, GatherMut, Append, Prepend, Coalesce, Show}
+use Rattle.iobufs_run.specs.declared.command.Cmd.TheVariants.{NewMut, Static, FromBytes, Put, Freeze, Clone, Slice, Split, Advance, Gather, GatherMut, Append, Prepend, Coalesce, Drop, Show}
 use Rattle.iobufs_run.specs.declared.command.Reply.{Reply}
 use Rattle.iobufs_run.specs.declared.command.Reply.TheVariants.{Done, Shown, Refused}
 use Rattle.iobufs_run.specs.declared.command.Kind.{Kind}
@@ -62,6 +63,12 @@ causes names (NewMut dst capacity align) =
     (is_no_name names dst, NoName)
     ∷ (not (is_free (held names dst)), InUse)
     ∷ (is_bad_layout capacity align, BadLayout) ∷ []
+causes names (Static dst text) =
+    (is_no_name names dst, NoName)
+    ∷ (not (is_free (held names dst)), InUse) ∷ []
+causes names (FromBytes dst bytes) =
+    (is_no_name names dst, NoName)
+    ∷ (not (is_free (held names dst)), InUse) ∷ []
 causes names (Put target bytes) =
     (is_no_name names target, NoName)
     ∷ (not (is_part (held names target)) && not (is_parts (held names target)), WrongKind)
@@ -70,6 +77,15 @@ causes names (Freeze src dst) =
     (is_no_name names src || is_no_name names dst, NoName)
     ∷ (not (is_part (held names src)) && not (is_parts (held names src)), WrongKind)
     ∷ (is_in_use_beside names src dst, InUse) ∷ []
+causes names (Clone src dst) =
+    (is_no_name names src || is_no_name names dst, NoName)
+    ∷ (not (is_view (held names src)) && not (is_text (held names src)), WrongKind)
+    ∷ (not (is_free (held names dst)), InUse) ∷ []
+causes names (Slice src dst lo hi) =
+    (is_no_name names src || is_no_name names dst, NoName)
+    ∷ (not (is_view (held names src)), WrongKind)
+    ∷ (not (is_free (held names dst)), InUse)
+    ∷ (not (range_fits lo hi (readable (held names src))), OutOfRange) ∷ []
 causes names (Split src dst at) =
     (is_no_name names src || is_no_name names dst, NoName)
     ∷ (not (is_view (held names src)) && not (is_text (held names src)), WrongKind)
@@ -88,6 +104,9 @@ causes names (Coalesce src dst) =
     ∷ (not (is_text (held names src)) && not (is_parts (held names src)), WrongKind)
     ∷ (is_in_use_beside names src dst, InUse)
     ∷ (is_too_large (held names src), BadLayout) ∷ []
+causes names (Drop target) =
+    (is_no_name names target, NoName)
+    ∷ (is_free (held names target), WrongKind) ∷ []
 causes names (Show target) =
     (is_no_name names target, NoName)
     ∷ (is_free (held names target), WrongKind) ∷ []
@@ -104,8 +123,13 @@ refusal_for names command = first_cause (causes names command)
 -- the command may be refused for want of memory
 abbrev pub may_want_memory : List Slot → Cmd → Bool
 may_want_memory names (NewMut dst capacity align) = not (capacity == 0)
+may_want_memory names (Static dst text) = false
+may_want_memory names (FromBytes dst bytes) = not (length bytes.items == 0)
 may_want_memory names (Put target bytes) = false
 may_want_memory names (Freeze src dst) = is_parts (held names src) || not (readable (held names src) == 0)
+may_want_memory names (Clone src dst) = true
+may_want_memory names (Slice src dst lo hi) =
+    not (is_empty_range lo hi (readable (held names src))) && not (is_static_view (held names src))
 may_want_memory names (Split src dst at) =
     not (at == 0) && not (at == readable (held names src)) && not (is_static_view (held names src))
 may_want_memory names (Advance target n) = false
@@ -114,6 +138,7 @@ may_want_memory names (GatherMut dst sources) = true
 may_want_memory names (Append target src) = not (readable (held names src) == 0) && not (readable (held names target) == 0)
 may_want_memory names (Prepend target src) = not (readable (held names src) == 0) && not (readable (held names target) == 0)
 may_want_memory names (Coalesce src dst) = is_in_pieces (held names src)
+may_want_memory names (Drop target) = false
 may_want_memory names (Show target) = true
 
 -- the names whose buffers a command moves away
@@ -139,8 +164,12 @@ all_freed names (src ∷ sources) = all_freed (slice_set names src Free) sources
 -- the names after a command that is done
 abbrev pub after : List Slot → Cmd → List Slot
 after names (NewMut dst capacity align) = slice_set names dst (Part (empty_part capacity))
+after names (Static dst text) = slice_set names dst (View (record { bytes = text.now; mark = static_mark }))
+after names (FromBytes dst bytes) = slice_set names dst (View (view_of_bytes bytes.items))
 after names (Put target bytes) = slice_set names target (slot_put (held names target) bytes.items)
 after names (Freeze src dst) = slice_set (slice_set names src Free) dst (slot_frozen (held names src))
+after names (Clone src dst) = slice_set names dst (held names src)
+after names (Slice src dst lo hi) = slice_set names dst (slot_sliced (held names src) lo hi)
 after names (Split src dst at) =
     slice_set (slice_set names src (slot_rest (held names src) at)) dst (slot_split_front (held names src) at)
 after names (Advance target n) = slice_set names target (slot_advanced (held names target) n)
@@ -153,6 +182,7 @@ after names (Append target src) =
 after names (Prepend target src) =
     slice_set (slice_set names src Free) target (slot_prepended (held names target) (held names src))
 after names (Coalesce src dst) = slice_set (slice_set names src Free) dst (slot_coalesced (held names src))
+after names (Drop target) = slice_set names target Free
 after names (Show target) = names
 
 -- the reply to a command that is done

@@ -1,8 +1,9 @@
 -- What names hold, and what a command makes of it.
-use Rattle.std.specs.Prelude.{◌≡◌, ℕ, Bool, true, false, ◌^◌, ◌&&◌, not, nat_le, nat_lt, List, [], ◌∷◌, length, map, slice_index_or}
+use Rattle.std.specs.Prelude.{◌≡◌, ℕ, Bool, true, false, ◌^◌, ◌==◌, ◌&&◌, not, nat_le, nat_lt, List, [], ◌∷◌, length, map, slice_index_or, unwrap_or}
 use Rattle.iobufs_core.specs.Part.{Part as PartValue, empty_part, part_capacity, part_drained, part_frozen, part_put}
 use Rattle.iobufs.specs.Parts.{parts_filled, parts_spare, parts_fill, parts_frozen, parts_drained, parts_coalesced}
-use Rattle.iobufs_core.specs.View.{View as ViewValue, view_advanced, view_rest, view_split_front, static_mark, Mark, default_view}
+use Rattle.std.specs.declared.ops.Bound.{Bound}
+use Rattle.iobufs_core.specs.View.{View as ViewValue, view_advanced, view_rest, view_slice, view_split_front, start_place, end_place, static_mark, Mark, default_view}
 use Rattle.iobufs_core.specs.MarkedText.{MarkedText, default_text, text_len, text_advanced, text_append, text_prepend, text_split_front, text_rest, text_chunks, text_coalesced, is_single}
 use Rattle.iobufs_run.specs.declared.table.Slot.{Slot}
 use Rattle.iobufs_run.specs.declared.table.Slot.TheVariants.{Free, Part, View, Text, Parts}
@@ -65,6 +66,14 @@ abbrev pub slot_frozen : Slot → Slot
 slot_frozen (Part part) = View (part_frozen part)
 slot_frozen (Parts parts) = Text (parts_frozen parts)
 slot_frozen slot = slot
+
+-- the bytes of a view in a range; and whether a range has none
+abbrev pub slot_sliced : Slot → Bound ℕ → Bound ℕ → Slot
+slot_sliced (View view) lo hi = View (view_slice view lo hi)
+slot_sliced slot lo hi = slot
+
+abbrev pub is_empty_range : Bound ℕ → Bound ℕ → ℕ → Bool
+is_empty_range lo hi len = unwrap_or (start_place lo) 0 == unwrap_or (end_place hi len) 0
 
 -- what a split answers and leaves
 abbrev pub slot_split_front : Slot → ℕ → Slot

@@ -2,6 +2,7 @@
 use iobufs_core::codec::BufError;
 use std::alloc::AllocError;
 use std::fmt;
+use std::ops::Bound;
 
 /// A command on the named buffers of a table. `dst` is a name that becomes used, `src` a source, `target` a buffer
 /// that is changed or shown in place.
@@ -13,6 +14,16 @@ pub enum Cmd {
         capacity: usize,
         align: usize,
     },
+    /// A view of a static slice.
+    Static {
+        dst: usize,
+        text: &'static [u8],
+    },
+    /// A view of a `Bytes` that is a copy of these bytes.
+    FromBytes {
+        dst: usize,
+        bytes: Vec<u8>,
+    },
     /// Puts bytes into a part or parts.
     Put {
         target: usize,
@@ -22,6 +33,18 @@ pub enum Cmd {
     Freeze {
         src: usize,
         dst: usize,
+    },
+    /// The same view or text again.
+    Clone {
+        src: usize,
+        dst: usize,
+    },
+    /// The bytes of a view in a range.
+    Slice {
+        src: usize,
+        dst: usize,
+        lo: Bound<usize>,
+        hi: Bound<usize>,
     },
     /// The first `at` bytes of a view or a text go to `dst`.
     Split {
@@ -58,6 +81,10 @@ pub enum Cmd {
     Coalesce {
         src: usize,
         dst: usize,
+    },
+    /// The name is free.
+    Drop {
+        target: usize,
     },
     /// Shows what a name holds.
     Show {

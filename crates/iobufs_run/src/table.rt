@@ -3,6 +3,7 @@ ghost use Rattle.std.specs.Prelude.{◌≡◌, length, replicate, IfOk, IsOkUnle
 ghost use Rattle.iobufs_run.specs.Run.{Run, Step, outcome as outcome_of};
 
 mod gather;
+mod made;
 mod parts;
 mod shown;
 mod slots;
@@ -77,8 +78,12 @@ impl Table {
                 capacity,
                 align,
             } => reply(parts::new_mut(alloc, slots, *dst, *capacity, *align)),
+            Cmd::Static { dst, text } => reply(made::of_static(slots, *dst, text)),
+            Cmd::FromBytes { dst, bytes } => reply(made::of_bytes(alloc, slots, *dst, bytes)),
             Cmd::Put { target, bytes } => reply(parts::put(slots, *target, bytes)),
             Cmd::Freeze { src, dst } => reply(parts::freeze(alloc, slots, *src, *dst)),
+            Cmd::Clone { src, dst } => reply(made::clone(slots, *src, *dst)),
+            Cmd::Slice { src, dst, lo, hi } => reply(made::slice(slots, *src, *dst, *lo, *hi)),
             Cmd::Split { src, dst, at } => reply(views::split(alloc, slots, *src, *dst, *at)),
             Cmd::Advance { target, n } => reply(views::advance(slots, *target, *n)),
             Cmd::Gather { dst, sources } => reply(gather::gather(alloc, slots, *dst, sources)),
@@ -88,6 +93,7 @@ impl Table {
             Cmd::Append { target, src } => reply(texts::append(alloc, slots, *target, *src)),
             Cmd::Prepend { target, src } => reply(texts::prepend(alloc, slots, *target, *src)),
             Cmd::Coalesce { src, dst } => reply(texts::coalesce(alloc, slots, *src, *dst)),
+            Cmd::Drop { target } => reply(slots::free(slots, *target)),
             Cmd::Show { target } => match shown::show(alloc, slots, *target) {
                 Ok(shown) => shown,
                 Err(refusal) => Reply::Refused(refusal),

@@ -1,9 +1,11 @@
-// Tests of what names hold, and what is taken from a slot.
+// Tests of what names hold, what is taken from a slot, and the command that frees a name.
 ghost use Rattle.std.specs.Prelude.{◌≡◌, ◌<◌, slice_set, length, false, IfSome, IfNone};
+ghost use Rattle.iobufs_run.specs.declared.command.Cmd.{Cmd};
+ghost use Rattle.iobufs_run.specs.Run.{Step, outcome};
 ghost use Rattle.iobufs_run.specs.Slots.{is_free as free, is_part as part, is_view as view, is_text as text, is_parts as parts, is_of as of, readable as readable_bytes};
 
 use super::Slot;
-use crate::command::Kind;
+use crate::command::{Kind, Refusal};
 use iobufs::bufs::IoBufs;
 use iobufs::bufs_mut::IoBufsMut;
 use iobufs_core::buf::{IoBuf, IoBufMut};
@@ -127,4 +129,17 @@ pub(super) fn take_text(slot: &mut Slot) -> Option<IoBufs>
             None
         }
     }
+}
+
+pub(super) fn free(slots: &mut [Slot], target: usize) -> Result<(), Refusal>
+    ensures { Step slots.old (Cmd.Drop target) (outcome result) slots.new }
+{
+    if target >= slots.len() {
+        return Err(Refusal::NoName);
+    }
+    if is_free(&slots[target]) {
+        return Err(Refusal::WrongKind);
+    }
+    hold(slots, target, Slot::Free);
+    Ok(())
 }

@@ -1,0 +1,136 @@
+// The commands that make a view or a text of what is given, or of what a name holds and keeps.
+ghost use Rattle.std.specs.Prelude.{◌≡◌, ◌⊎◌, length, false, IfOk, IfErr, IsOk, IsTrue};
+ghost use Rattle.iobufs_core.specs.View.{range_fits};
+ghost use Rattle.iobufs_run.specs.declared.command.Cmd.{Cmd};
+ghost use Rattle.iobufs_run.specs.Run.{Step, outcome};
+ghost use Rattle.iobufs_run.specs.Slots.{is_empty_range, is_static_view as static_view, is_text as text, is_view as view, readable as readable_bytes, slot_sliced};
+
+use super::Slot;
+use super::slots::{hold, is_free, is_text, is_view};
+use crate::command::Refusal;
+use bytes::Bytes;
+use iobufs_core::buf::IoBuf;
+use std::alloc::{AllocError, Global};
+use std::ops::Bound;
+
+pub(super) fn of_static(slots: &mut [Slot], dst: usize, text: &'static [u8]) -> Result<(), Refusal>
+    ensures { Step slots.old (Cmd.Static dst text.entry) (outcome result) slots.new }
+{
+    if dst >= slots.len() {
+        return Err(Refusal::NoName);
+    }
+    if !is_free(&slots[dst]) {
+        return Err(Refusal::InUse);
+    }
+    hold(slots, dst, Slot::View(IoBuf::from(text)));
+    Ok(())
+}
+
+// A copy of these bytes.
+fn copied(alloc: Global, bytes: &[u8]) -> Result<Bytes, AllocError>
+    ensures ok { IfOk result (λ copy. copy ≡ bytes.now) }
+    ensures empty { length bytes.now ≡ 0 → IsOk result }
+{
+    if bytes.is_empty() {
+        return Ok(Bytes::new());
+    }
+    Bytes::copy_from_slice(alloc, bytes)
+}
+
+pub(super) fn of_bytes(
+    alloc: Global,
+    slots: &mut [Slot],
+    dst: usize,
+    bytes: &Vec<u8>,
+) -> Result<(), Refusal>
+    ensures { Step slots.old (Cmd.FromBytes dst bytes.now) (outcome result) slots.new }
+{
+    if dst >= slots.len() {
+        return Err(Refusal::NoName);
+    }
+    if !is_free(&slots[dst]) {
+        return Err(Refusal::InUse);
+    }
+    let copy = copied(alloc, bytes.as_slice())?;
+    hold(slots, dst, Slot::View(IoBuf::from(copy)));
+    Ok(())
+}
+
+// The view or the text of a slot again.
+fn cloned(slot: &Slot) -> Result<Slot, AllocError>
+    requires kind { IsTrue (view slot.now) ⊎ IsTrue (text slot.now) }
+    ensures { IfOk result (λ clone. clone ≡ slot.now) }
+{
+    match slot {
+        Slot::View(view) => Ok(Slot::View(view.clone()?)),
+        Slot::Text(text) => Ok(Slot::Text(text.clone()?)),
+        _ => unreachable!(),
+    }
+}
+
+pub(super) fn clone(slots: &mut [Slot], src: usize, dst: usize) -> Result<(), Refusal>
+    ensures { Step slots.old (Cmd.Clone src dst) (outcome result) slots.new }
+{
+    if src >= slots.len() || dst >= slots.len() {
+        return Err(Refusal::NoName);
+    }
+    if !is_view(&slots[src]) && !is_text(&slots[src]) {
+        return Err(Refusal::WrongKind);
+    }
+    if !is_free(&slots[dst]) {
+        return Err(Refusal::InUse);
+    }
+    let clone = cloned(&slots[src])?;
+    hold(slots, dst, clone);
+    Ok(())
+}
+
+// Whether a range lies within the bytes of a view.
+fn fits(slot: &Slot, lo: Bound<usize>, hi: Bound<usize>) -> bool
+    requires kind { IsTrue (view slot.now) }
+    ensures { result ≡ range_fits lo hi (readable_bytes slot.now) }
+{
+    match slot {
+        Slot::View(view) => view.fits_range(lo, hi),
+        _ => unreachable!(),
+    }
+}
+
+// The bytes of a view in a range.
+fn sliced(slot: &Slot, lo: Bound<usize>, hi: Bound<usize>) -> Result<Slot, Refusal>
+    requires kind { IsTrue (view slot.now) }
+    requires within { IsTrue (range_fits lo hi (readable_bytes slot.now)) }
+    ensures ok { IfOk result (λ slice. slice ≡ slot_sliced slot.now lo hi) }
+    ensures memory { IfErr result (λ refusal. (refusal ≡ Refusal.Memory) × (is_empty_range lo hi (readable_bytes slot.now) ≡ false) × (static_view slot.now ≡ false)) }
+{
+    match slot {
+        Slot::View(view) => Ok(Slot::View(view.slice(lo, hi)?)),
+        _ => unreachable!(),
+    }
+}
+
+pub(super) fn slice(
+    slots: &mut [Slot],
+    src: usize,
+    dst: usize,
+    lo: Bound<usize>,
+    hi: Bound<usize>,
+) -> Result<(), Refusal>
+    ensures { Step slots.old (Cmd.Slice src dst lo hi) (outcome result) slots.new }
+{
+    if src >= slots.len() || dst >= slots.len() {
+        return Err(Refusal::NoName);
+    }
+    if !is_view(&slots[src]) {
+        return Err(Refusal::WrongKind);
+    }
+    if !is_free(&slots[dst]) {
+        return Err(Refusal::InUse);
+    }
+    if !fits(&slots[src], lo, hi) {
+        return Err(Refusal::OutOfRange);
+    }
+    let slice = sliced(&slots[src], lo, hi)?;
+    hold(slots, dst, slice);
+    Ok(())
+}
