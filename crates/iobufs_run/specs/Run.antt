@@ -4,19 +4,19 @@
 --     consumed, MayFree          the names that such a refusal may cost
 --     after, Answers             what a command that is done leaves, and its reply
 --     Step, Run                  one command; any list of them
-use Rattle.std.specs.Prelude.{◌≡◌, ◌⊎◌, ℕ, ◌+◌, ◌^◌, ◌==◌, sum_by, Bool, true, false, ◌&&◌, ◌||◌, not, nat_lt, nat_le, if◌then◌else◌, List, [], ◌∷◌, map, length, slice_set, Option, Some, None, IsTrue, Result, Ok, Err}
+use Rattle.std.specs.Prelude.{◌≡◌, ◌⊎◌, ℕ, ◌+◌, ◌^◌, ◌==◌, sum_by, Bool, true, false, ◌&&◌, ◌||◌, not, nat_lt, nat_le, if◌then◌else◌, List, [], ◌∷◌, map, length, take, slice_set, Option, Some, None, IsTrue, Result, Ok, Err}
 use Rattle.std.specs.List.{list_any, list_all}
 use Rattle.iobufs_core.specs.Part.{empty_part, is_bad_layout}
 use Rattle.iobufs_core.specs.MarkedText.{joined}
 use Rattle.iobufs_core.specs.View.{range_fits, static_mark, view_of_bytes}
 use Rattle.iobufs.specs.Parts.{kept_parts}
-use Rattle.iobufs_run.specs.Slots.{held, is_free, is_part, is_view, is_text, is_parts, is_of, extent, is_static_view, is_empty_range, is_in_pieces, is_too_large, readable, writable, view_held, part_held, slot_put, slot_frozen, slot_sliced, slot_split_front, slot_rest, slot_advanced, slot_appended, slot_prepended, slot_coalesced, shown_piece, Shows}
+use Rattle.iobufs_run.specs.Slots.{held, is_free, is_part, is_view, is_text, is_parts, is_of, bytes_held, extent, is_static_view, is_empty_range, is_in_pieces, is_too_large, readable, writable, view_held, part_held, slot_put, slot_frozen, slot_sliced, slot_split_front, slot_rest, slot_advanced, slot_copied, slot_appended, slot_prepended, slot_coalesced, shown_piece, Shows}
 use Rattle.iobufs_run.specs.declared.table.Slot.{Slot}
 use Rattle.iobufs_run.specs.declared.table.Slot.TheVariants.{Free, Part, View, Text, Parts}
 use Rattle.iobufs_run.specs.declared.command.Cmd.{Cmd}
-use Rattle.iobufs_run.specs.declared.command.Cmd.TheVariants.{NewMut, Static, FromBytes, Put, Freeze, Clone, Slice, Split, Advance, Gather, GatherMut, Append, Prepend, Coalesce, Drop, Show}
+use Rattle.iobufs_run.specs.declared.command.Cmd.TheVariants.{NewMut, Static, FromBytes, Put, Freeze, Clone, Slice, Split, Advance, Take, Gather, GatherMut, Append, Prepend, Coalesce, Drop, Show}
 use Rattle.iobufs_run.specs.declared.command.Reply.{Reply}
-use Rattle.iobufs_run.specs.declared.command.Reply.TheVariants.{Done, Shown, Refused}
+use Rattle.iobufs_run.specs.declared.command.Reply.TheVariants.{Done, Bytes, Shown, Refused}
 use Rattle.iobufs_run.specs.declared.command.Kind.{Kind}
 use Rattle.iobufs_run.specs.declared.command.Kind.TheVariants as kind
 use Rattle.iobufs_run.specs.declared.command.Refusal.{Refusal}
@@ -95,6 +95,10 @@ causes names (Advance target n) =
     (is_no_name names target, NoName)
     ∷ (is_free (held names target), WrongKind)
     ∷ (nat_lt (readable (held names target)) n, OutOfRange) ∷ []
+causes names (Take target n) =
+    (is_no_name names target, NoName)
+    ∷ (is_free (held names target), WrongKind)
+    ∷ (nat_lt (readable (held names target)) n, OutOfRange) ∷ []
 causes names (Gather dst sources) = gather_causes kind.View names dst sources.items
 causes names (GatherMut dst sources) = gather_causes kind.Part names dst sources.items
 causes names (Append target src) = join_causes names target src
@@ -133,6 +137,7 @@ may_want_memory names (Slice src dst lo hi) =
 may_want_memory names (Split src dst at) =
     not (at == 0) && not (at == readable (held names src)) && not (is_static_view (held names src))
 may_want_memory names (Advance target n) = false
+may_want_memory names (Take target n) = true
 may_want_memory names (Gather dst sources) = true
 may_want_memory names (GatherMut dst sources) = true
 may_want_memory names (Append target src) = not (readable (held names src) == 0) && not (readable (held names target) == 0)
@@ -173,6 +178,7 @@ after names (Slice src dst lo hi) = slice_set names dst (slot_sliced (held names
 after names (Split src dst at) =
     slice_set (slice_set names src (slot_rest (held names src) at)) dst (slot_split_front (held names src) at)
 after names (Advance target n) = slice_set names target (slot_advanced (held names target) n)
+after names (Take target n) = slice_set names target (slot_copied (held names target) n)
 after names (Gather dst sources) =
     slice_set (all_freed names sources.items) dst (Text (joined (map (λ src. view_held (held names src)) sources.items)))
 after names (GatherMut dst sources) =
@@ -187,6 +193,8 @@ after names (Show target) = names
 
 -- the reply to a command that is done
 abbrev pub Answers : List Slot → Cmd → Reply → Type 0
+Answers names (Take target n) (Bytes bytes) = bytes ≡ take n (bytes_held (held names target))
+Answers names (Take target n) _ = ⊥
 Answers names (Show target) (Shown kind pieces) = Shows (held names target) kind (map shown_piece pieces.items)
 Answers names (Show target) _ = ⊥
 Answers names _ Done = Unit {0}

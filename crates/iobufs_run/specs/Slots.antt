@@ -1,7 +1,7 @@
 -- What names hold, and what a command makes of it.
 use Rattle.std.specs.Prelude.{◌≡◌, ℕ, Bool, true, false, ◌^◌, ◌==◌, ◌&&◌, not, nat_le, nat_lt, List, [], ◌∷◌, length, map, slice_index_or, unwrap_or}
-use Rattle.iobufs_core.specs.Part.{Part as PartValue, empty_part, part_capacity, part_drained, part_frozen, part_put}
-use Rattle.iobufs.specs.Parts.{parts_filled, parts_spare, parts_fill, parts_frozen, parts_drained, parts_coalesced}
+use Rattle.iobufs_core.specs.Part.{Part as PartValue, empty_part, part_capacity, part_copied, part_drained, part_frozen, part_put}
+use Rattle.iobufs.specs.Parts.{parts_filled, parts_spare, parts_fill, parts_frozen, parts_copied, parts_drained, parts_coalesced}
 use Rattle.std.specs.declared.ops.Bound.{Bound}
 use Rattle.iobufs_core.specs.View.{View as ViewValue, view_advanced, view_rest, view_slice, view_split_front, start_place, end_place, static_mark, Mark, default_view}
 use Rattle.iobufs_core.specs.MarkedText.{MarkedText, default_text, text_len, text_advanced, text_append, text_prepend, text_split_front, text_rest, text_chunks, text_coalesced, is_single}
@@ -44,7 +44,14 @@ abbrev pub is_static_view : Slot → Bool
 is_static_view (View view) = is_static_mark view.mark
 is_static_view _ = false
 
--- how many bytes can be read, and how many put
+-- the bytes that can be read, how many there are, and how many can be put
+abbrev pub bytes_held : Slot → List ℕ
+bytes_held Free = []
+bytes_held (Part part) = part.filled
+bytes_held (View view) = view.bytes
+bytes_held (Text text) = text.bytes
+bytes_held (Parts parts) = parts_filled parts
+
 abbrev pub readable : Slot → ℕ
 readable Free = 0
 readable (Part part) = length part.filled
@@ -92,6 +99,14 @@ slot_advanced (Part part) n = Part (part_drained part n)
 slot_advanced (View view) n = View (view_advanced view n)
 slot_advanced (Text text) n = Text (text_advanced text n)
 slot_advanced (Parts parts) n = Parts (parts_drained parts n)
+
+-- what is left when so many bytes are taken out
+abbrev pub slot_copied : Slot → ℕ → Slot
+slot_copied Free n = Free
+slot_copied (Part part) n = Part (part_copied part n)
+slot_copied (View view) n = View (view_rest view n)
+slot_copied (Text text) n = Text (text_rest text n)
+slot_copied (Parts parts) n = Parts (parts_copied parts n)
 
 -- the view that is held, the default one where there is none; so the text and the part
 abbrev pub view_held : Slot → ViewValue

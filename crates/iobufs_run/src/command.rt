@@ -1,4 +1,5 @@
 // The commands, and what is answered to them.
+use bytes::Bytes;
 use iobufs_core::codec::BufError;
 use std::alloc::AllocError;
 use std::fmt;
@@ -57,6 +58,11 @@ pub enum Cmd {
         target: usize,
         n: usize,
     },
+    /// Takes the first `n` bytes out; they are the reply.
+    Take {
+        target: usize,
+        n: usize,
+    },
     /// Views become a text, in this order.
     Gather {
         dst: usize,
@@ -96,6 +102,7 @@ pub enum Cmd {
 #[derive(Drop)]
 pub enum Reply {
     Done,
+    Bytes(Bytes),
     Shown { kind: Kind, pieces: Vec<Piece> },
     Refused(Refusal),
 }

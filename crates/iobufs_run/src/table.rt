@@ -86,6 +86,10 @@ impl Table {
             Cmd::Slice { src, dst, lo, hi } => reply(made::slice(slots, *src, *dst, *lo, *hi)),
             Cmd::Split { src, dst, at } => reply(views::split(alloc, slots, *src, *dst, *at)),
             Cmd::Advance { target, n } => reply(views::advance(slots, *target, *n)),
+            Cmd::Take { target, n } => match views::take(alloc, slots, *target, *n) {
+                Ok(bytes) => bytes,
+                Err(refusal) => Reply::Refused(refusal),
+            },
             Cmd::Gather { dst, sources } => reply(gather::gather(alloc, slots, *dst, sources)),
             Cmd::GatherMut { dst, sources } => {
                 reply(gather::gather_mut(alloc, slots, *dst, sources))

@@ -1,12 +1,13 @@
 // The commands that take bytes from the front.
-ghost use Rattle.std.specs.Prelude.{◌≡◌, ◌≤◌, ◌⊎◌, false, IfOk, IfErr, IsTrue, OnErr, nat_eq};
+ghost use Rattle.std.specs.Prelude.{◌≡◌, ◌≤◌, ◌⊎◌, false, take as first, IfOk, IsOkUnless, IfErr, IsTrue, OnErr, OnOk, nat_eq};
 ghost use Rattle.iobufs_run.specs.declared.command.Cmd.{Cmd};
-ghost use Rattle.iobufs_run.specs.Run.{Step, outcome};
-ghost use Rattle.iobufs_run.specs.Slots.{is_view as view, is_text as text, is_static_view as static_view, readable as readable_bytes, slot_split_front, slot_rest};
+ghost use Rattle.iobufs_run.specs.Run.{Step, outcome, reply_of};
+ghost use Rattle.iobufs_run.specs.Slots.{bytes_held, is_free as free, is_view as view, is_text as text, is_static_view as static_view, readable as readable_bytes, slot_copied, slot_split_front, slot_rest};
 
 use super::Slot;
 use super::slots::{hold, is_free, is_text, is_view, readable};
-use crate::command::Refusal;
+use crate::command::{Refusal, Reply};
+use bytes::Bytes;
 use iobufs_core::codec::Buf;
 use std::alloc::Global;
 
@@ -71,4 +72,43 @@ pub(super) fn advance(slots: &mut [Slot], target: usize, n: usize) -> Result<(),
         Slot::Parts(parts) => parts.advance(n),
     }
     Ok(())
+}
+
+// Takes the first bytes of what a slot holds out.
+fn take_slot(alloc: Global, slot: &mut Slot, n: usize) -> Result<Bytes, Refusal>
+    requires kind { free slot.old ≡ false }
+    requires within { n ≤ readable_bytes slot.old }
+    ensures ok { IfOk result (λ bytes. bytes ≡ first n (bytes_held slot.old)) }
+    ensures rest { OnOk result (slot.new ≡ slot_copied slot.old n) }
+    ensures err { OnErr result (slot.new ≡ slot.old) }
+    ensures memory { IsOkUnless result Refusal.Memory }
+{
+    match slot {
+        Slot::Free => unreachable!(),
+        Slot::Part(part) => Ok(part.copy_to_bytes(alloc, n)?),
+        Slot::View(view) => Ok(view.copy_to_bytes(alloc, n)?),
+        Slot::Text(text) => Ok(text.copy_to_bytes(alloc, n)?),
+        Slot::Parts(parts) => Ok(parts.copy_to_bytes(alloc, n)?),
+    }
+}
+
+pub(super) fn take(
+    alloc: Global,
+    slots: &mut [Slot],
+    target: usize,
+    n: usize,
+) -> Result<Reply, Refusal>
+    ensures { Step slots.old (Cmd.Take target n) (reply_of result) slots.new }
+{
+    if target >= slots.len() {
+        return Err(Refusal::NoName);
+    }
+    if is_free(&slots[target]) {
+        return Err(Refusal::WrongKind);
+    }
+    if readable(&slots[target]) < n {
+        return Err(Refusal::OutOfRange);
+    }
+    let bytes = take_slot(alloc, &mut slots[target], n)?;
+    Ok(Reply::Bytes(bytes))
 }
