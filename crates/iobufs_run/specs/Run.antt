@@ -3,24 +3,28 @@
 --     may_want_memory            the commands that may be refused for want of memory
 --     consumed, MayFree          the names that such a refusal may cost
 --     after, Answers             what a command that is done leaves, and its reply
+--     IsDecoded                  the command that reads a view
 --     Step, Run                  one command; any list of them
 use Rattle.std.specs.Prelude.{◌≡◌, ◌⊎◌, ℕ, ◌+◌, ◌^◌, ◌==◌, sum_by, Bool, true, false, ◌&&◌, ◌||◌, not, nat_lt, nat_le, if◌then◌else◌, List, [], ◌∷◌, map, length, take, slice_set, Option, Some, None, IsTrue, Result, Ok, Err}
 use Rattle.std.specs.List.{list_any, list_all}
 use Rattle.iobufs_core.specs.Part.{empty_part, is_bad_layout}
 use Rattle.iobufs_core.specs.MarkedText.{joined}
-use Rattle.iobufs_core.specs.View.{range_fits, static_mark, view_of_bytes}
+use Rattle.iobufs_core.specs.View.{View as ViewValue, range_fits, static_mark, view_of_bytes}
+use Rattle.iobufs_core.specs.Wire.{IsViewRead}
+use Rattle.iobufs_core.specs.declared.codec.base.Error.TheVariants as fault
+use Rattle.iobufs_core.specs.declared.codec.base.RangeCfg.{RangeCfg}
 use Rattle.iobufs.specs.Parts.{kept_parts}
-use Rattle.iobufs_run.specs.Slots.{held, is_free, is_part, is_view, is_text, is_parts, is_of, bytes_held, extent, is_static_view, is_empty_range, is_in_pieces, is_too_large, readable, writable, view_held, part_held, slot_put, slot_frozen, slot_sliced, slot_split_front, slot_rest, slot_advanced, slot_copied, slot_appended, slot_prepended, slot_coalesced, shown_piece, Shows}
+use Rattle.iobufs_run.specs.Slots.{held, is_free, is_part, is_view, is_text, is_parts, is_of, bytes_held, extent, is_static_view, is_empty_range, is_in_pieces, is_too_large, readable, writable, view_held, part_held, marked_held, slot_put, slot_frozen, slot_sliced, slot_split_front, slot_rest, slot_advanced, slot_copied, slot_appended, slot_prepended, slot_coalesced, slot_read, shown_piece, Shows}
 use Rattle.iobufs_run.specs.declared.table.Slot.{Slot}
 use Rattle.iobufs_run.specs.declared.table.Slot.TheVariants.{Free, Part, View, Text, Parts}
 use Rattle.iobufs_run.specs.declared.command.Cmd.{Cmd}
-use Rattle.iobufs_run.specs.declared.command.Cmd.TheVariants.{NewMut, Static, FromBytes, Put, Freeze, Clone, Slice, Split, Advance, Take, Gather, GatherMut, Append, Prepend, Coalesce, Drop, Show}
+use Rattle.iobufs_run.specs.declared.command.Cmd.TheVariants.{NewMut, Static, FromBytes, Put, Freeze, Clone, Slice, Split, Advance, Take, Gather, GatherMut, Append, Prepend, Coalesce, Decode, Drop, Show}
 use Rattle.iobufs_run.specs.declared.command.Reply.{Reply}
 use Rattle.iobufs_run.specs.declared.command.Reply.TheVariants.{Done, Bytes, Shown, Refused}
 use Rattle.iobufs_run.specs.declared.command.Kind.{Kind}
 use Rattle.iobufs_run.specs.declared.command.Kind.TheVariants as kind
 use Rattle.iobufs_run.specs.declared.command.Refusal.{Refusal}
-use Rattle.iobufs_run.specs.declared.command.Refusal.TheVariants.{NoName, WrongKind, InUse, OutOfRange, BadLayout, TooLong, Memory}
+use Rattle.iobufs_run.specs.declared.command.Refusal.TheVariants.{NoName, WrongKind, InUse, OutOfRange, BadLayout, TooLong, Codec, Memory}
 
 -- no such name
 abbrev pub is_no_name : List Slot → ℕ → Bool
@@ -108,6 +112,10 @@ causes names (Coalesce src dst) =
     ∷ (not (is_text (held names src)) && not (is_parts (held names src)), WrongKind)
     ∷ (is_in_use_beside names src dst, InUse)
     ∷ (is_too_large (held names src), BadLayout) ∷ []
+causes names (Decode src dst range) =
+    (is_no_name names src || is_no_name names dst, NoName)
+    ∷ (not (is_view (held names src)) && not (is_text (held names src)), WrongKind)
+    ∷ (not (is_free (held names dst)), InUse) ∷ []
 causes names (Drop target) =
     (is_no_name names target, NoName)
     ∷ (is_free (held names target), WrongKind) ∷ []
@@ -143,6 +151,7 @@ may_want_memory names (GatherMut dst sources) = true
 may_want_memory names (Append target src) = not (readable (held names src) == 0) && not (readable (held names target) == 0)
 may_want_memory names (Prepend target src) = not (readable (held names src) == 0) && not (readable (held names target) == 0)
 may_want_memory names (Coalesce src dst) = is_in_pieces (held names src)
+may_want_memory names (Decode src dst range) = true
 may_want_memory names (Drop target) = false
 may_want_memory names (Show target) = true
 
@@ -166,7 +175,7 @@ abbrev pub all_freed : List Slot → List ℕ → List Slot
 all_freed names [] = names
 all_freed names (src ∷ sources) = all_freed (slice_set names src Free) sources
 
--- the names after a command that is done
+-- the names after a command that is done; after reading a view, which `IsDecoded` tells, as before
 abbrev pub after : List Slot → Cmd → List Slot
 after names (NewMut dst capacity align) = slice_set names dst (Part (empty_part capacity))
 after names (Static dst text) = slice_set names dst (View (record { bytes = text.now; mark = static_mark }))
@@ -188,6 +197,7 @@ after names (Append target src) =
 after names (Prepend target src) =
     slice_set (slice_set names src Free) target (slot_prepended (held names target) (held names src))
 after names (Coalesce src dst) = slice_set (slice_set names src Free) dst (slot_coalesced (held names src))
+after names (Decode src dst range) = names
 after names (Drop target) = slice_set names target Free
 after names (Show target) = names
 
@@ -200,8 +210,23 @@ Answers names (Show target) _ = ⊥
 Answers names _ Done = Unit {0}
 Answers names _ _ = ⊥
 
+-- Reading a view: refused for the first cause that stands; else for want of memory or for the fault of what is read,
+-- and nothing has changed; else done, and the view is held
+abbrev pub IsDecoded : List Slot → ℕ → ℕ → RangeCfg → Reply → List Slot → Type 0
+IsDecoded old src dst range (Refused Memory) new =
+    (refusal_for old (Decode src dst range) ≡ None) × IsViewRead (marked_held (held old src)) range (Err fault.Memory) × (new ≡ old)
+IsDecoded old src dst range (Refused (Codec fault.Memory)) new = ⊥
+IsDecoded old src dst range (Refused (Codec error)) new =
+    (refusal_for old (Decode src dst range) ≡ None) × IsViewRead (marked_held (held old src)) range (Err error) × (new ≡ old)
+IsDecoded old src dst range (Refused refusal) new = (refusal_for old (Decode src dst range) ≡ Some refusal) × (new ≡ old)
+IsDecoded old src dst range Done new =
+    (refusal_for old (Decode src dst range) ≡ None) × (view : ViewValue) × IsViewRead (marked_held (held old src)) range (Ok view)
+    × (new ≡ slice_set (slice_set old src (slot_read (held old src) view)) dst (View view))
+IsDecoded old src dst range _ new = ⊥
+
 -- one command: refused for want of memory, refused for the first cause that stands, or done
 abbrev pub Step : List Slot → Cmd → Reply → List Slot → Type 0
+Step old (Decode src dst range) reply new = IsDecoded old src dst range reply new
 Step old command (Refused Memory) new =
     (refusal_for old command ≡ None) × IsTrue (may_want_memory old command) × MayFree (consumed command) old new
 Step old command (Refused refusal) new = (refusal_for old command ≡ Some refusal) × (new ≡ old)

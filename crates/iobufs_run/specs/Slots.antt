@@ -4,7 +4,8 @@ use Rattle.iobufs_core.specs.Part.{Part as PartValue, empty_part, part_capacity,
 use Rattle.iobufs.specs.Parts.{parts_filled, parts_spare, parts_fill, parts_frozen, parts_copied, parts_drained, parts_coalesced}
 use Rattle.std.specs.declared.ops.Bound.{Bound}
 use Rattle.iobufs_core.specs.View.{View as ViewValue, view_advanced, view_rest, view_slice, view_split_front, start_place, end_place, static_mark, Mark, default_view}
-use Rattle.iobufs_core.specs.MarkedText.{MarkedText, default_text, text_len, text_advanced, text_append, text_prepend, text_split_front, text_rest, text_chunks, text_coalesced, is_single}
+use Rattle.iobufs_core.specs.Wire.{view_left}
+use Rattle.iobufs_core.specs.MarkedText.{MarkedText, default_text, of_view, text_len, text_advanced, text_append, text_prepend, text_split_front, text_rest, text_chunks, text_coalesced, is_single}
 use Rattle.iobufs_run.specs.declared.table.Slot.{Slot}
 use Rattle.iobufs_run.specs.declared.table.Slot.TheVariants.{Free, Part, View, Text, Parts}
 use Rattle.iobufs_run.specs.declared.command.Piece.{Piece}
@@ -120,6 +121,16 @@ text_held _ = default_text
 abbrev pub part_held : Slot → PartValue
 part_held (Part part) = part
 part_held _ = empty_part 0
+
+-- what is held as a marked text, a view as one of one piece; and what is left when a view is read from it
+abbrev pub marked_held : Slot → MarkedText
+marked_held (View view) = of_view view
+marked_held slot = text_held slot
+
+abbrev pub slot_read : Slot → ViewValue → Slot
+slot_read (View view) taken = View (record { bytes = (view_left (of_view view) taken).bytes; mark = (view_left (of_view view) taken).mark })
+slot_read (Text text) taken = Text (view_left text taken)
+slot_read slot taken = slot
 
 -- a text behind which, or in front of which, a view is put
 abbrev pub slot_appended : Slot → Slot → Slot

@@ -1,6 +1,6 @@
 // The commands, and what is answered to them.
 use bytes::Bytes;
-use iobufs_core::codec::BufError;
+use iobufs_core::codec::{BufError, Error, RangeCfg};
 use std::alloc::AllocError;
 use std::fmt;
 use std::ops::Bound;
@@ -88,6 +88,12 @@ pub enum Cmd {
         src: usize,
         dst: usize,
     },
+    /// Reads a view from the front of a view or a text, its length in this range.
+    Decode {
+        src: usize,
+        dst: usize,
+        range: RangeCfg,
+    },
     /// The name is free.
     Drop {
         target: usize,
@@ -138,6 +144,8 @@ pub enum Refusal {
     BadLayout,
     /// As `BufError::TooLong`.
     TooLong,
+    /// No view was read, for this reason; never `Error::Memory`.
+    Codec(Error),
     /// A request for memory was refused.
     Memory,
 }
@@ -151,8 +159,21 @@ impl fmt::Display for Refusal {
             Refusal::OutOfRange => "N4 OutOfRange",
             Refusal::BadLayout => "N5 BadLayout",
             Refusal::TooLong => "N6 TooLong",
+            Refusal::Codec(error) => return write_codec(*error, f),
             Refusal::Memory => "N9 Memory",
         })
+    }
+}
+
+// A fault of reading, behind the number of its kind.
+fn write_codec<W: fmt::Write>(error: Error, f: &mut fmt::Formatter<W>) -> fmt::Result {
+    match error {
+        Error::EndOfBuffer => f.write_str("N8 C1 EndOfBuffer"),
+        Error::InvalidVarint => f.write_str("N8 C2 InvalidVarint"),
+        Error::InvalidLength(len) => write!(f, "N8 C3 InvalidLength {len}"),
+        Error::Memory => f.write_str("N8 C4 Memory"),
+        Error::TooLong => f.write_str("N8 C5 TooLong"),
+        Error::BadLayout => f.write_str("N8 C6 BadLayout"),
     }
 }
 
@@ -178,6 +199,20 @@ impl From<BufError> for Refusal {
             BufError::Memory => Refusal::Memory,
             BufError::BadLayout => Refusal::BadLayout,
             BufError::TooLong => Refusal::TooLong,
+        }
+    }
+}
+
+impl From<Error> for Refusal {
+    ghost use Rattle.std.specs.Prelude.{◌≡◌};
+    ghost use Rattle.iobufs_run.specs.Refusals.{codec_refusal};
+
+    ghost from_gives = { λ error refusal. refusal ≡ codec_refusal error };
+
+    fn from(error: Error) -> Refusal {
+        match error {
+            Error::Memory => Refusal::Memory,
+            error => Refusal::Codec(error),
         }
     }
 }

@@ -1,14 +1,16 @@
 // The commands that take bytes from the front.
 ghost use Rattle.std.specs.Prelude.{◌≡◌, ◌≤◌, ◌⊎◌, false, take as first, IfOk, IsOkUnless, IfErr, IsTrue, OnErr, OnOk, nat_eq};
+ghost use Rattle.iobufs_core.specs.Wire.{IsViewRead};
 ghost use Rattle.iobufs_run.specs.declared.command.Cmd.{Cmd};
 ghost use Rattle.iobufs_run.specs.Run.{Step, outcome, reply_of};
-ghost use Rattle.iobufs_run.specs.Slots.{bytes_held, is_free as free, is_view as view, is_text as text, is_static_view as static_view, readable as readable_bytes, slot_copied, slot_split_front, slot_rest};
+ghost use Rattle.iobufs_run.specs.Slots.{bytes_held, is_free as free, is_view as view, is_text as text, is_static_view as static_view, readable as readable_bytes, marked_held, slot_copied, slot_read, slot_split_front, slot_rest};
 
 use super::Slot;
 use super::slots::{hold, is_free, is_text, is_view, readable};
 use crate::command::{Refusal, Reply};
 use bytes::Bytes;
-use iobufs_core::codec::Buf;
+use iobufs_core::buf::IoBuf;
+use iobufs_core::codec::{Buf, Error, RangeCfg, Read};
 use std::alloc::Global;
 
 // Splits the view or the text that a slot holds.
@@ -111,4 +113,41 @@ pub(super) fn take(
     }
     let bytes = take_slot(alloc, &mut slots[target], n)?;
     Ok(Reply::Bytes(bytes))
+}
+
+// Reads a view from the view or the text that a slot holds.
+fn read_slot(alloc: Global, slot: &mut Slot, range: &RangeCfg) -> Result<IoBuf, Error>
+    requires kind { IsTrue (view slot.old) ⊎ IsTrue (text slot.old) }
+    ensures answer { IsViewRead (marked_held slot.old) range.now result }
+    ensures rest { IfOk result (λ taken. slot.new ≡ slot_read slot.old taken) }
+    ensures err { OnErr result (slot.new ≡ slot.old) }
+{
+    match slot {
+        Slot::View(view) => IoBuf::read_cfg(alloc, view, range),
+        Slot::Text(text) => IoBuf::read_cfg(alloc, text, range),
+        _ => unreachable!(),
+    }
+}
+
+pub(super) fn decode(
+    alloc: Global,
+    slots: &mut [Slot],
+    src: usize,
+    dst: usize,
+    range: &RangeCfg,
+) -> Result<(), Refusal>
+    ensures { Step slots.old (Cmd.Decode src dst range.now) (outcome result) slots.new }
+{
+    if src >= slots.len() || dst >= slots.len() {
+        return Err(Refusal::NoName);
+    }
+    if !is_view(&slots[src]) && !is_text(&slots[src]) {
+        return Err(Refusal::WrongKind);
+    }
+    if !is_free(&slots[dst]) {
+        return Err(Refusal::InUse);
+    }
+    let view = read_slot(alloc, &mut slots[src], range)?;
+    hold(slots, dst, Slot::View(view));
+    Ok(())
 }
