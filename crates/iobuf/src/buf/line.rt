@@ -1,7 +1,12 @@
 // Lines of text as commands on named buffers.
 use crate::words::{LineError, bytes, number, numbers};
+use iobufs_core::codec::RangeCfg;
 use iobufs_run::command::Cmd;
 use std::alloc::Global;
+use std::ops::Bound;
+
+// What a static view is made of.
+const LETTERS: &[u8] = b"abcdefghijklmnopqrstuvwxyz";
 
 /// The command that a line says. Its words are separated by one space each.
 pub fn command(alloc: Global, line: &str) -> Result<Cmd, LineError> {
@@ -52,6 +57,70 @@ pub fn command(alloc: Global, line: &str) -> Result<Cmd, LineError> {
         ["show", target] => Ok(Cmd::Show {
             target: number(target)?,
         }),
+        words => view_command(alloc, words),
+    }
+}
+
+// The commands that make views, share them, and take bytes or views out of what a name holds.
+fn view_command(alloc: Global, words: &[&str]) -> Result<Cmd, LineError> {
+    match words {
+        ["static", dst, lo, hi] => Ok(Cmd::Static {
+            dst: number(dst)?,
+            text: letters(number(lo)?, number(hi)?)?,
+        }),
+        ["bytes", dst, digits] => Ok(Cmd::FromBytes {
+            dst: number(dst)?,
+            bytes: bytes(alloc, digits)?,
+        }),
+        ["clone", src, dst] => Ok(Cmd::Clone {
+            src: number(src)?,
+            dst: number(dst)?,
+        }),
+        ["slice", src, dst, lo, hi] => Ok(Cmd::Slice {
+            src: number(src)?,
+            dst: number(dst)?,
+            lo: bound(lo)?,
+            hi: bound(hi)?,
+        }),
+        ["take", target, n] => Ok(Cmd::Take {
+            target: number(target)?,
+            n: number(n)?,
+        }),
+        ["decode", src, dst, lo, hi] => Ok(Cmd::Decode {
+            src: number(src)?,
+            dst: number(dst)?,
+            range: range(lo, hi)?,
+        }),
+        ["drop", target] => Ok(Cmd::Drop {
+            target: number(target)?,
+        }),
         _ => Err(LineError::NoCommand),
     }
+}
+
+// The letters from one place to another.
+fn letters(lo: usize, hi: usize) -> Result<&'static [u8], LineError> {
+    LETTERS.get(lo..hi).ok_or(LineError::NoCommand)
+}
+
+// A bound that includes a place, excludes it, or is none: `i3`, `e3` or `u`.
+fn bound(word: &str) -> Result<Bound<usize>, LineError> {
+    if word == "u" {
+        return Ok(Bound::Unbounded);
+    }
+    if let Some(place) = word.strip_prefix('i') {
+        return Ok(Bound::Included(number(place)?));
+    }
+    match word.strip_prefix('e') {
+        Some(place) => Ok(Bound::Excluded(number(place)?)),
+        None => Err(LineError::NoCommand),
+    }
+}
+
+// The lengths from one to another, both included.
+fn range(lo: &str, hi: &str) -> Result<RangeCfg, LineError> {
+    Ok(RangeCfg {
+        lo: number(lo)?,
+        hi: number(hi)?,
+    })
 }

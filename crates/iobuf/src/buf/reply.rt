@@ -36,6 +36,7 @@ impl fmt::Display for Line<'_> {
     fn fmt<W: fmt::Write>(&self, f: &mut fmt::Formatter<W>) -> fmt::Result {
         match self.0 {
             Reply::Done => f.write_str("ok"),
+            Reply::Bytes(bytes) => write!(f, "bytes {}", Hex(bytes.as_slice())),
             Reply::Refused(refusal) => write!(f, "refused {refusal}"),
             Reply::Shown { kind, pieces } => {
                 f.write_str(name(*kind))?;
