@@ -175,7 +175,7 @@ abbrev pub all_freed : List Slot → List ℕ → List Slot
 all_freed names [] = names
 all_freed names (src ∷ sources) = all_freed (slice_set names src Free) sources
 
--- the names after a command that is done; after reading a view, which `IsDecoded` tells, as before
+-- the names after a command that is done; what reading a view leaves is told by `IsDecoded`, and not here
 abbrev pub after : List Slot → Cmd → List Slot
 after names (NewMut dst capacity align) = slice_set names dst (Part (empty_part capacity))
 after names (Static dst text) = slice_set names dst (View (record { bytes = text.now; mark = static_mark }))
