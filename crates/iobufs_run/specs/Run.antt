@@ -10,15 +10,15 @@ use Rattle.std.specs.List.{list_any, list_all}
 use Rattle.iobufs_core.specs.Part.{empty_part, is_bad_layout}
 use Rattle.iobufs_core.specs.MarkedText.{joined}
 use Rattle.iobufs_core.specs.View.{View as ViewValue, range_fits, static_mark, view_of_bytes}
-use Rattle.iobufs_core.specs.Wire.{IsViewRead}
+use Rattle.iobufs_core.specs.Wire.{IsViewRead, view_written}
 use Rattle.iobufs_core.specs.declared.codec.base.Error.TheVariants as fault
 use Rattle.iobufs_core.specs.declared.codec.base.RangeCfg.{RangeCfg}
 use Rattle.iobufs.specs.Parts.{kept_parts}
-use Rattle.iobufs_run.specs.Slots.{held, is_free, is_part, is_view, is_text, is_parts, is_of, bytes_held, extent, is_static_view, is_empty_range, is_in_pieces, is_too_large, readable, writable, view_held, part_held, marked_held, slot_put, slot_frozen, slot_sliced, slot_split_front, slot_rest, slot_advanced, slot_copied, slot_appended, slot_prepended, slot_coalesced, slot_read, shown_piece, Shows}
+use Rattle.iobufs_run.specs.Slots.{held, is_free, is_part, is_view, is_text, is_parts, is_of, bytes_held, extent, is_static_view, is_empty_range, is_in_pieces, is_too_large, readable, writable, view_held, part_held, marked_held, slot_put, slot_frozen, slot_sliced, slot_split_front, slot_rest, slot_advanced, slot_copied, slot_appended, slot_prepended, slot_coalesced, view_encoded, slot_read, shown_piece, Shows}
 use Rattle.iobufs_run.specs.declared.table.Slot.{Slot}
 use Rattle.iobufs_run.specs.declared.table.Slot.TheVariants.{Free, Part, View, Text, Parts}
 use Rattle.iobufs_run.specs.declared.command.Cmd.{Cmd}
-use Rattle.iobufs_run.specs.declared.command.Cmd.TheVariants.{NewMut, Static, FromBytes, Put, Freeze, Clone, Slice, Split, Advance, Take, Gather, GatherMut, Append, Prepend, Coalesce, Decode, Drop, Show}
+use Rattle.iobufs_run.specs.declared.command.Cmd.TheVariants.{NewMut, Static, FromBytes, Put, Freeze, Clone, Slice, Split, Advance, Take, Gather, GatherMut, Append, Prepend, Coalesce, Encode, Decode, Drop, Show}
 use Rattle.iobufs_run.specs.declared.command.Reply.{Reply}
 use Rattle.iobufs_run.specs.declared.command.Reply.TheVariants.{Done, Bytes, Shown, Refused}
 use Rattle.iobufs_run.specs.declared.command.Kind.{Kind}
@@ -112,6 +112,11 @@ causes names (Coalesce src dst) =
     ∷ (not (is_text (held names src)) && not (is_parts (held names src)), WrongKind)
     ∷ (is_in_use_beside names src dst, InUse)
     ∷ (is_too_large (held names src), BadLayout) ∷ []
+causes names (Encode src dst) =
+    (is_no_name names src || is_no_name names dst, NoName)
+    ∷ (not (is_view (held names src)), WrongKind)
+    ∷ (not (is_free (held names dst)), InUse)
+    ∷ (is_too_long (length (view_written (view_held (held names src)))), Codec fault.TooLong) ∷ []
 causes names (Decode src dst range) =
     (is_no_name names src || is_no_name names dst, NoName)
     ∷ (not (is_view (held names src)) && not (is_text (held names src)), WrongKind)
@@ -151,6 +156,7 @@ may_want_memory names (GatherMut dst sources) = true
 may_want_memory names (Append target src) = not (readable (held names src) == 0) && not (readable (held names target) == 0)
 may_want_memory names (Prepend target src) = not (readable (held names src) == 0) && not (readable (held names target) == 0)
 may_want_memory names (Coalesce src dst) = is_in_pieces (held names src)
+may_want_memory names (Encode src dst) = true
 may_want_memory names (Decode src dst range) = true
 may_want_memory names (Drop target) = false
 may_want_memory names (Show target) = true
@@ -197,6 +203,7 @@ after names (Append target src) =
 after names (Prepend target src) =
     slice_set (slice_set names src Free) target (slot_prepended (held names target) (held names src))
 after names (Coalesce src dst) = slice_set (slice_set names src Free) dst (slot_coalesced (held names src))
+after names (Encode src dst) = slice_set names dst (Text (view_encoded (view_held (held names src))))
 after names (Decode src dst range) = names
 after names (Drop target) = slice_set names target Free
 after names (Show target) = names

@@ -1,6 +1,9 @@
 -- What names hold, and what a command makes of it.
 use Rattle.std.specs.Prelude.{◌≡◌, ℕ, Bool, true, false, ◌^◌, ◌==◌, ◌&&◌, not, nat_le, nat_lt, List, [], ◌∷◌, length, map, slice_index_or, unwrap_or}
 use Rattle.iobufs_core.specs.Part.{Part as PartValue, empty_part, part_capacity, part_copied, part_drained, part_frozen, part_put}
+use Rattle.iobufs_core.specs.Spelling.{spell}
+use Rattle.iobufs_core.specs.Wire.{view_items}
+use Rattle.iobufs.specs.Building.{built, empty_building, finished}
 use Rattle.iobufs.specs.Parts.{parts_filled, parts_spare, parts_fill, parts_frozen, parts_copied, parts_drained, parts_coalesced}
 use Rattle.std.specs.declared.ops.Bound.{Bound}
 use Rattle.iobufs_core.specs.View.{View as ViewValue, view_advanced, view_rest, view_slice, view_split_front, start_place, end_place, static_mark, Mark, default_view}
@@ -178,3 +181,7 @@ Shows (View view) kind.View pieces = pieces ≡ (view.bytes, 0) ∷ []
 Shows (Parts parts) kind.Parts pieces = pieces ≡ map (λ part. (part.filled, part.spare)) parts
 Shows (Text text) kind.Text pieces = pieces ≡ map (λ chunk. (chunk, 0)) (text_chunks text)
 Shows _ _ pieces = ⊥
+
+-- a view as it is encoded: its length in room of exactly that size, and the view behind it
+abbrev pub view_encoded : ViewValue → MarkedText
+view_encoded view = finished (built (empty_building (length (spell (length view.bytes)))) (view_items view))

@@ -88,6 +88,11 @@ pub enum Cmd {
         src: usize,
         dst: usize,
     },
+    /// A view as it is written, behind its length, as a text.
+    Encode {
+        src: usize,
+        dst: usize,
+    },
     /// Reads a view from the front of a view or a text, its length in this range.
     Decode {
         src: usize,

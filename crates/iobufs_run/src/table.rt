@@ -97,6 +97,7 @@ impl Table {
             Cmd::Append { target, src } => reply(texts::append(alloc, slots, *target, *src)),
             Cmd::Prepend { target, src } => reply(texts::prepend(alloc, slots, *target, *src)),
             Cmd::Coalesce { src, dst } => reply(texts::coalesce(alloc, slots, *src, *dst)),
+            Cmd::Encode { src, dst } => reply(made::encode(alloc, slots, *src, *dst)),
             Cmd::Decode { src, dst, range } => {
                 reply(views::decode(alloc, slots, *src, *dst, range))
             }

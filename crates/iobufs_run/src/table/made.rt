@@ -1,15 +1,19 @@
 // The commands that make a view or a text of what is given, or of what a name holds and keeps.
-ghost use Rattle.std.specs.Prelude.{◌≡◌, ◌⊎◌, length, false, IfOk, IfErr, IsOk, IsTrue};
+ghost use Rattle.std.specs.Prelude.{◌≡◌, ◌⊎◌, ◌^◌, ◌<◌, ◌≤◌, length, false, IfOk, IfErr, IsErrAnd, IsOk, IsOkUnless, IsTrue};
 ghost use Rattle.iobufs_core.specs.View.{range_fits};
+ghost use Rattle.iobufs_core.specs.Wire.{view_written};
 ghost use Rattle.iobufs_run.specs.declared.command.Cmd.{Cmd};
 ghost use Rattle.iobufs_run.specs.Run.{Step, outcome};
-ghost use Rattle.iobufs_run.specs.Slots.{is_empty_range, is_static_view as static_view, is_text as text, is_view as view, readable as readable_bytes, slot_sliced};
+ghost use Rattle.iobufs_run.specs.Slots.{is_empty_range, is_static_view as static_view, is_text as text, is_view as view, readable as readable_bytes, slot_sliced, view_encoded, view_held};
 
 use super::Slot;
 use super::slots::{hold, is_free, is_text, is_view};
 use crate::command::Refusal;
 use bytes::Bytes;
+use iobufs::builder::EncodeExt;
+use iobufs::bufs::IoBufs;
 use iobufs_core::buf::IoBuf;
+use iobufs_core::codec::Error;
 use std::alloc::{AllocError, Global};
 use std::ops::Bound;
 
@@ -132,5 +136,41 @@ pub(super) fn slice(
     }
     let slice = sliced(&slots[src], lo, hi)?;
     hold(slots, dst, slice);
+    Ok(())
+}
+
+// A view as it is encoded.
+#[tactic(auto, using(crate::proofs::Encoded::encoding))]
+fn encoded(alloc: Global, slot: &Slot) -> Result<IoBufs, Refusal>
+    requires kind { IsTrue (view slot.now) }
+    ensures ok { IfOk result (λ text. text ≡ view_encoded (view_held slot.now)) }
+    ensures too_long { 2 ^ 64 ≤ length (view_written (view_held slot.now)) → IsErrAnd result (λ refusal. refusal ≡ Refusal.Codec Error.TooLong) }
+    ensures memory { length (view_written (view_held slot.now)) < 2 ^ 64 → IsOkUnless result Refusal.Memory }
+{
+    match slot {
+        Slot::View(view) => Ok(view.encode_iobufs(alloc)?),
+        _ => unreachable!(),
+    }
+}
+
+pub(super) fn encode(
+    alloc: Global,
+    slots: &mut [Slot],
+    src: usize,
+    dst: usize,
+) -> Result<(), Refusal>
+    ensures { Step slots.old (Cmd.Encode src dst) (outcome result) slots.new }
+{
+    if src >= slots.len() || dst >= slots.len() {
+        return Err(Refusal::NoName);
+    }
+    if !is_view(&slots[src]) {
+        return Err(Refusal::WrongKind);
+    }
+    if !is_free(&slots[dst]) {
+        return Err(Refusal::InUse);
+    }
+    let text = encoded(alloc, &slots[src])?;
+    hold(slots, dst, Slot::Text(text));
     Ok(())
 }
