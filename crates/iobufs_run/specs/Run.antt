@@ -2,10 +2,11 @@
 --     causes, refusal_for        why a command is refused, and the first cause that stands
 --     may_want_memory            the commands that may be refused for want of memory
 --     consumed, MayFree          the names that such a refusal may cost
---     after, Answers             what a command that is done leaves, and its reply
+--     may_decline                a view that may be shared, which a command would recover
+--     after, Leaves, Answers     what a command that is done leaves, and its reply
 --     IsDecoded                  the command that reads a view
 --     Step, Run                  one command; any list of them
-use Rattle.std.specs.Prelude.{◌≡◌, ◌⊎◌, ℕ, ◌+◌, ◌^◌, ◌==◌, sum_by, Bool, true, false, ◌&&◌, ◌||◌, not, nat_lt, nat_le, if◌then◌else◌, List, [], ◌∷◌, map, length, take, slice_set, Option, Some, None, IsTrue, Result, Ok, Err}
+use Rattle.std.specs.Prelude.{◌≡◌, ◌⊎◌, ℕ, ◌+◌, ◌^◌, ◌==◌, sum_by, Bool, true, false, ◌&&◌, ◌||◌, not, nat_lt, nat_le, if◌then◌else◌, List, [], ◌∷◌, map, length, take, replicate, slice_set, Option, Some, None, IsTrue, Result, Ok, Err}
 use Rattle.std.specs.List.{list_any, list_all}
 use Rattle.iobufs_core.specs.Part.{empty_part, is_bad_layout}
 use Rattle.iobufs_core.specs.MarkedText.{joined}
@@ -14,17 +15,17 @@ use Rattle.iobufs_core.specs.Wire.{IsViewRead, view_written}
 use Rattle.iobufs_core.specs.declared.codec.base.Error.TheVariants as fault
 use Rattle.iobufs_core.specs.declared.codec.base.RangeCfg.{RangeCfg}
 use Rattle.iobufs.specs.Parts.{kept_parts}
-use Rattle.iobufs_run.specs.Slots.{held, is_free, is_part, is_view, is_text, is_parts, is_of, bytes_held, extent, is_static_view, is_empty_range, is_in_pieces, is_too_large, readable, writable, view_held, part_held, marked_held, slot_put, slot_frozen, slot_sliced, slot_split_front, slot_rest, slot_advanced, slot_copied, slot_appended, slot_prepended, slot_coalesced, view_encoded, slot_read, shown_piece, Shows}
+use Rattle.iobufs_run.specs.Slots.{held, is_free, is_part, is_view, is_text, is_parts, is_of, bytes_held, extent, is_static_view, is_empty_range, is_in_pieces, is_too_large, readable, writable, view_held, part_held, marked_held, slot_put, slot_frozen, slot_sliced, slot_split_front, slot_rest, slot_advanced, slot_copied, slot_appended, slot_prepended, slot_coalesced, view_encoded, slot_read, shown_piece, Shows, is_native_view, is_fixed_view, slot_capacity, slot_with_len, slot_truncated, slot_overwritten, slot_recovered}
 use Rattle.iobufs_run.specs.declared.table.Slot.{Slot}
 use Rattle.iobufs_run.specs.declared.table.Slot.TheVariants.{Free, Part, View, Text, Parts}
 use Rattle.iobufs_run.specs.declared.command.Cmd.{Cmd}
-use Rattle.iobufs_run.specs.declared.command.Cmd.TheVariants.{NewMut, Static, FromBytes, Put, Freeze, Clone, Slice, Split, Advance, Take, Gather, GatherMut, Append, Prepend, Coalesce, Encode, Decode, Drop, Show}
+use Rattle.iobufs_run.specs.declared.command.Cmd.TheVariants.{NewMut, Zeroed, Adopt, Static, FromBytes, Put, Fill, SetLen, Truncate, Clear, Overwrite, Freeze, Recover, Clone, Slice, Split, Advance, Take, Gather, GatherMut, Append, Prepend, Coalesce, Encode, Decode, Drop, Show}
 use Rattle.iobufs_run.specs.declared.command.Reply.{Reply}
 use Rattle.iobufs_run.specs.declared.command.Reply.TheVariants.{Done, Bytes, Shown, Refused}
 use Rattle.iobufs_run.specs.declared.command.Kind.{Kind}
 use Rattle.iobufs_run.specs.declared.command.Kind.TheVariants as kind
 use Rattle.iobufs_run.specs.declared.command.Refusal.{Refusal}
-use Rattle.iobufs_run.specs.declared.command.Refusal.TheVariants.{NoName, WrongKind, InUse, OutOfRange, BadLayout, TooLong, Codec, Memory}
+use Rattle.iobufs_run.specs.declared.command.Refusal.TheVariants.{NoName, WrongKind, InUse, OutOfRange, BadLayout, TooLong, Declined, Codec, Memory}
 
 -- no such name
 abbrev pub is_no_name : List Slot → ℕ → Bool
@@ -67,6 +68,13 @@ causes names (NewMut dst capacity align) =
     (is_no_name names dst, NoName)
     ∷ (not (is_free (held names dst)), InUse)
     ∷ (is_bad_layout capacity align, BadLayout) ∷ []
+causes names (Zeroed dst len align) =
+    (is_no_name names dst, NoName)
+    ∷ (not (is_free (held names dst)), InUse)
+    ∷ (is_bad_layout len align, BadLayout) ∷ []
+causes names (Adopt dst bytes) =
+    (is_no_name names dst, NoName)
+    ∷ (not (is_free (held names dst)), InUse) ∷ []
 causes names (Static dst text) =
     (is_no_name names dst, NoName)
     ∷ (not (is_free (held names dst)), InUse) ∷ []
@@ -77,10 +85,33 @@ causes names (Put target bytes) =
     (is_no_name names target, NoName)
     ∷ (not (is_part (held names target)) && not (is_parts (held names target)), WrongKind)
     ∷ (nat_lt (writable (held names target)) (length bytes.items), OutOfRange) ∷ []
+causes names (Fill target byte n) =
+    (is_no_name names target, NoName)
+    ∷ (not (is_part (held names target)) && not (is_parts (held names target)), WrongKind)
+    ∷ (nat_lt (writable (held names target)) n, OutOfRange) ∷ []
+causes names (SetLen target n) =
+    (is_no_name names target, NoName)
+    ∷ (not (is_part (held names target)) && not (is_parts (held names target)), WrongKind)
+    ∷ (nat_lt (slot_capacity (held names target)) n, OutOfRange) ∷ []
+causes names (Truncate target n) =
+    (is_no_name names target, NoName)
+    ∷ (not (is_part (held names target)), WrongKind) ∷ []
+causes names (Clear target) =
+    (is_no_name names target, NoName)
+    ∷ (not (is_part (held names target)), WrongKind) ∷ []
+causes names (Overwrite target bytes) =
+    (is_no_name names target, NoName)
+    ∷ (not (is_part (held names target)) && not (is_parts (held names target)), WrongKind)
+    ∷ (not (length bytes.items == readable (held names target)), OutOfRange) ∷ []
 causes names (Freeze src dst) =
     (is_no_name names src || is_no_name names dst, NoName)
     ∷ (not (is_part (held names src)) && not (is_parts (held names src)), WrongKind)
     ∷ (is_in_use_beside names src dst, InUse) ∷ []
+causes names (Recover src dst) =
+    (is_no_name names src || is_no_name names dst, NoName)
+    ∷ (not (is_view (held names src)), WrongKind)
+    ∷ (is_in_use_beside names src dst, InUse)
+    ∷ (is_fixed_view (held names src), Declined) ∷ []
 causes names (Clone src dst) =
     (is_no_name names src || is_no_name names dst, NoName)
     ∷ (not (is_view (held names src)) && not (is_text (held names src)), WrongKind)
@@ -133,17 +164,26 @@ abbrev pub first_cause : List (Bool × Refusal) → Option Refusal
 first_cause [] = None
 first_cause (cause ∷ others) = if cause.0 then Some cause.1 else first_cause others
 
--- the command is refused for this, or for want of memory alone
+-- the command is refused for this; where there is none, only for want of memory, or as declined by a view that may be
+-- shared
 abbrev pub refusal_for : List Slot → Cmd → Option Refusal
 refusal_for names command = first_cause (causes names command)
 
 -- the command may be refused for want of memory
 abbrev pub may_want_memory : List Slot → Cmd → Bool
 may_want_memory names (NewMut dst capacity align) = not (capacity == 0)
+may_want_memory names (Zeroed dst len align) = not (len == 0)
+may_want_memory names (Adopt dst bytes) = not (length bytes.items == 0)
 may_want_memory names (Static dst text) = false
 may_want_memory names (FromBytes dst bytes) = not (length bytes.items == 0)
 may_want_memory names (Put target bytes) = false
+may_want_memory names (Fill target byte n) = false
+may_want_memory names (SetLen target n) = false
+may_want_memory names (Truncate target n) = false
+may_want_memory names (Clear target) = false
+may_want_memory names (Overwrite target bytes) = false
 may_want_memory names (Freeze src dst) = is_parts (held names src) || not (readable (held names src) == 0)
+may_want_memory names (Recover src dst) = false
 may_want_memory names (Clone src dst) = true
 may_want_memory names (Slice src dst lo hi) =
     not (is_empty_range lo hi (readable (held names src))) && not (is_static_view (held names src))
@@ -161,9 +201,15 @@ may_want_memory names (Decode src dst range) = true
 may_want_memory names (Drop target) = false
 may_want_memory names (Show target) = true
 
+-- the command recovers a view that may be shared
+abbrev pub may_decline : List Slot → Cmd → Bool
+may_decline names (Recover src dst) = is_native_view (held names src)
+may_decline names _ = false
+
 -- the names whose buffers a command moves away
 abbrev pub consumed : Cmd → List ℕ
 consumed (Freeze src dst) = src ∷ []
+consumed (Recover src dst) = src ∷ []
 consumed (Gather dst sources) = sources.items
 consumed (GatherMut dst sources) = sources.items
 consumed (Append target src) = src ∷ []
@@ -181,13 +227,26 @@ abbrev pub all_freed : List Slot → List ℕ → List Slot
 all_freed names [] = names
 all_freed names (src ∷ sources) = all_freed (slice_set names src Free) sources
 
--- the names after a command that is done; what reading a view leaves is told by `IsDecoded`, and not here
+-- the names with a part of these bytes, and so much room behind them
+abbrev pub with_bytes : List Slot → ℕ → List ℕ → ℕ → List Slot
+with_bytes names dst bytes spare = slice_set names dst (Part (record { filled = bytes; spare = spare }))
+
+-- the names after a command that is done; the room of adopted bytes may be any other (`Leaves`), and what reading a
+-- view leaves is told by `IsDecoded`
 abbrev pub after : List Slot → Cmd → List Slot
 after names (NewMut dst capacity align) = slice_set names dst (Part (empty_part capacity))
+after names (Zeroed dst len align) = with_bytes names dst (replicate len 0) 0
+after names (Adopt dst bytes) = with_bytes names dst bytes.items 0
 after names (Static dst text) = slice_set names dst (View (record { bytes = text.now; mark = static_mark }))
 after names (FromBytes dst bytes) = slice_set names dst (View (view_of_bytes bytes.items))
 after names (Put target bytes) = slice_set names target (slot_put (held names target) bytes.items)
+after names (Fill target byte n) = slice_set names target (slot_put (held names target) (replicate n byte))
+after names (SetLen target n) = slice_set names target (slot_with_len (held names target) n)
+after names (Truncate target n) = slice_set names target (slot_truncated (held names target) n)
+after names (Clear target) = slice_set names target (slot_truncated (held names target) 0)
+after names (Overwrite target bytes) = slice_set names target (slot_overwritten (held names target) bytes.items)
 after names (Freeze src dst) = slice_set (slice_set names src Free) dst (slot_frozen (held names src))
+after names (Recover src dst) = slice_set (slice_set names src Free) dst (slot_recovered (held names src))
 after names (Clone src dst) = slice_set names dst (held names src)
 after names (Slice src dst lo hi) = slice_set names dst (slot_sliced (held names src) lo hi)
 after names (Split src dst at) =
@@ -207,6 +266,11 @@ after names (Encode src dst) = slice_set names dst (Text (view_encoded (view_hel
 after names (Decode src dst range) = names
 after names (Drop target) = slice_set names target Free
 after names (Show target) = names
+
+-- what a command that is done leaves
+abbrev pub Leaves : List Slot → Cmd → List Slot → Type 0
+Leaves old (Adopt dst bytes) new = (spare : ℕ) × (new ≡ with_bytes old dst bytes.items spare)
+Leaves old command new = new ≡ after old command
 
 -- the reply to a command that is done
 abbrev pub Answers : List Slot → Cmd → Reply → Type 0
@@ -231,13 +295,15 @@ IsDecoded old src dst range Done new =
     × (new ≡ slice_set (slice_set old src (slot_read (held old src) view)) dst (View view))
 IsDecoded old src dst range _ new = ⊥
 
--- one command: refused for want of memory, refused for the first cause that stands, or done
+-- one command: refused for want of memory, declined, refused for the first cause that stands, or done
 abbrev pub Step : List Slot → Cmd → Reply → List Slot → Type 0
 Step old (Decode src dst range) reply new = IsDecoded old src dst range reply new
 Step old command (Refused Memory) new =
     (refusal_for old command ≡ None) × IsTrue (may_want_memory old command) × MayFree (consumed command) old new
+Step old command (Refused Declined) new =
+    ((refusal_for old command ≡ Some Declined) ⊎ ((refusal_for old command ≡ None) × IsTrue (may_decline old command))) × (new ≡ old)
 Step old command (Refused refusal) new = (refusal_for old command ≡ Some refusal) × (new ≡ old)
-Step old command reply new = (refusal_for old command ≡ None) × Answers old command reply × (new ≡ after old command)
+Step old command reply new = (refusal_for old command ≡ None) × Answers old command reply × Leaves old command new
 
 -- these commands are answered so, one step after another
 abbrev pub Run : List Slot → List Cmd → List Reply → List Slot → Type 0

@@ -1,12 +1,12 @@
 -- What names hold, and what a command makes of it.
-use Rattle.std.specs.Prelude.{◌≡◌, ℕ, Bool, true, false, ◌^◌, ◌==◌, ◌&&◌, not, nat_le, nat_lt, List, [], ◌∷◌, length, map, slice_index_or, unwrap_or}
-use Rattle.iobufs_core.specs.Part.{Part as PartValue, empty_part, part_capacity, part_copied, part_drained, part_frozen, part_put}
+use Rattle.std.specs.Prelude.{◌≡◌, ℕ, Bool, true, false, ◌^◌, ◌==◌, ◌&&◌, not, nat_le, nat_lt, List, [], ◌∷◌, length, map, slice_index_or, unwrap_or, ◌-◌}
+use Rattle.iobufs_core.specs.Part.{Part as PartValue, empty_part, part_capacity, part_copied, part_drained, part_frozen, part_put, part_overwritten, part_truncated, part_with_len}
 use Rattle.iobufs_core.specs.Spelling.{spell}
 use Rattle.iobufs_core.specs.Wire.{view_items}
 use Rattle.iobufs.specs.Building.{built, empty_building, finished}
-use Rattle.iobufs.specs.Parts.{parts_filled, parts_spare, parts_fill, parts_frozen, parts_copied, parts_drained, parts_coalesced}
+use Rattle.iobufs.specs.Parts.{parts_filled, parts_spare, parts_fill, parts_frozen, parts_copied, parts_drained, parts_coalesced, parts_capacity, parts_overwritten, parts_with_len}
 use Rattle.std.specs.declared.ops.Bound.{Bound}
-use Rattle.iobufs_core.specs.View.{View as ViewValue, view_advanced, view_rest, view_slice, view_split_front, start_place, end_place, static_mark, Mark, default_view}
+use Rattle.iobufs_core.specs.View.{View as ViewValue, view_advanced, view_rest, view_slice, view_split_front, start_place, end_place, static_mark, Mark, default_view, bytes_mark, native_mark}
 use Rattle.iobufs_core.specs.Wire.{view_left}
 use Rattle.iobufs_core.specs.MarkedText.{MarkedText, default_text, of_view, text_len, text_advanced, text_append, text_prepend, text_split_front, text_rest, text_chunks, text_coalesced, is_single}
 use Rattle.iobufs_run.specs.declared.table.Slot.{Slot}
@@ -48,6 +48,25 @@ abbrev pub is_static_view : Slot → Bool
 is_static_view (View view) = is_static_mark view.mark
 is_static_view _ = false
 
+-- a view of native storage, which may be shared
+abbrev pub is_native_mark : Mark → Bool
+is_native_mark (native_mark room) = true
+is_native_mark _ = false
+
+abbrev pub is_native_view : Slot → Bool
+is_native_view (View view) = is_native_mark view.mark
+is_native_view _ = false
+
+-- a view that never becomes a part: of a `Bytes`, or of a static slice that holds bytes
+abbrev pub is_fixed_mark : Mark → ℕ → Bool
+is_fixed_mark bytes_mark len = true
+is_fixed_mark static_mark len = not (len == 0)
+is_fixed_mark (native_mark room) len = false
+
+abbrev pub is_fixed_view : Slot → Bool
+is_fixed_view (View view) = is_fixed_mark view.mark (length view.bytes)
+is_fixed_view _ = false
+
 -- the bytes that can be read, how many there are, and how many can be put
 abbrev pub bytes_held : Slot → List ℕ
 bytes_held Free = []
@@ -68,16 +87,45 @@ writable (Part part) = part.spare
 writable (Parts parts) = parts_spare parts
 writable _ = 0
 
+-- how many bytes can be filled, counted from the first readable one
+abbrev pub slot_capacity : Slot → ℕ
+slot_capacity (Part part) = part_capacity part
+slot_capacity (Parts parts) = parts_capacity parts
+slot_capacity _ = 0
+
 abbrev pub slot_put : Slot → List ℕ → Slot
 slot_put (Part part) bytes = Part (part_put part bytes)
 slot_put (Parts parts) bytes = Parts (parts_fill parts bytes)
 slot_put slot bytes = slot
+
+-- with so many bytes filled, cut to so many, and with other bytes written over those that are filled
+abbrev pub slot_with_len : Slot → ℕ → Slot
+slot_with_len (Part part) n = Part (part_with_len part n)
+slot_with_len (Parts parts) n = Parts (parts_with_len parts n)
+slot_with_len slot n = slot
+
+abbrev pub slot_truncated : Slot → ℕ → Slot
+slot_truncated (Part part) n = Part (part_truncated part n)
+slot_truncated slot n = slot
+
+abbrev pub slot_overwritten : Slot → List ℕ → Slot
+slot_overwritten (Part part) bytes = Part (part_overwritten part bytes)
+slot_overwritten (Parts parts) bytes = Parts (parts_overwritten parts bytes)
+slot_overwritten slot bytes = slot
 
 abbrev pub slot_frozen : Slot → Slot
 slot_frozen (Part part) = View (part_frozen part)
 slot_frozen (Parts parts) = Text (parts_frozen parts)
 slot_frozen slot = slot
 
+-- the part that a view recovers to: its bytes, and the room behind them
+abbrev pub recovered_spare : Mark → ℕ → ℕ
+recovered_spare (native_mark room) len = room - len
+recovered_spare _ len = 0
+
+abbrev pub slot_recovered : Slot → Slot
+slot_recovered (View view) = Part (record { filled = view.bytes; spare = recovered_spare view.mark (length view.bytes) })
+slot_recovered slot = slot
 -- the bytes of a view in a range; and whether a range has none
 abbrev pub slot_sliced : Slot → Bound ℕ → Bound ℕ → Slot
 slot_sliced (View view) lo hi = View (view_slice view lo hi)

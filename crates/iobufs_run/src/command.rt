@@ -15,6 +15,17 @@ pub enum Cmd {
         capacity: usize,
         align: usize,
     },
+    /// A part of so many zeros, with no room behind them.
+    Zeroed {
+        dst: usize,
+        len: usize,
+        align: usize,
+    },
+    /// A part made of a copy of these bytes.
+    Adopt {
+        dst: usize,
+        bytes: Vec<u8>,
+    },
     /// A view of a static slice.
     Static {
         dst: usize,
@@ -30,8 +41,38 @@ pub enum Cmd {
         target: usize,
         bytes: Vec<u8>,
     },
+    /// Puts one byte `n` times into a part or parts.
+    Fill {
+        target: usize,
+        byte: u8,
+        n: usize,
+    },
+    /// Makes `n` bytes of a part or parts readable; those that were not are zero.
+    SetLen {
+        target: usize,
+        n: usize,
+    },
+    /// Keeps at most the first `n` bytes of a part.
+    Truncate {
+        target: usize,
+        n: usize,
+    },
+    /// Keeps none of the bytes of a part.
+    Clear {
+        target: usize,
+    },
+    /// Writes over all readable bytes of a part or parts.
+    Overwrite {
+        target: usize,
+        bytes: Vec<u8>,
+    },
     /// A part becomes a view, parts a text.
     Freeze {
+        src: usize,
+        dst: usize,
+    },
+    /// A view becomes a part, if no other buffer shares its storage.
+    Recover {
         src: usize,
         dst: usize,
     },
@@ -149,6 +190,8 @@ pub enum Refusal {
     BadLayout,
     /// As `BufError::TooLong`.
     TooLong,
+    /// The view can't be written: its storage is shared, static, or that of a `Bytes`. It stays under its name.
+    Declined,
     /// No view was read, for this reason; never `Error::Memory`.
     Codec(Error),
     /// A request for memory was refused.
@@ -164,6 +207,7 @@ impl fmt::Display for Refusal {
             Refusal::OutOfRange => "N4 OutOfRange",
             Refusal::BadLayout => "N5 BadLayout",
             Refusal::TooLong => "N6 TooLong",
+            Refusal::Declined => "N7 Declined",
             Refusal::Codec(error) => return write_codec(*error, f),
             Refusal::Memory => "N9 Memory",
         })

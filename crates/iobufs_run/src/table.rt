@@ -78,10 +78,20 @@ impl Table {
                 capacity,
                 align,
             } => reply(parts::new_mut(alloc, slots, *dst, *capacity, *align)),
+            Cmd::Zeroed { dst, len, align } => {
+                reply(parts::zeroed(alloc, slots, *dst, *len, *align))
+            }
+            Cmd::Adopt { dst, bytes } => reply(parts::adopt(alloc, slots, *dst, bytes)),
             Cmd::Static { dst, text } => reply(made::of_static(slots, *dst, text)),
             Cmd::FromBytes { dst, bytes } => reply(made::of_bytes(alloc, slots, *dst, bytes)),
             Cmd::Put { target, bytes } => reply(parts::put(slots, *target, bytes)),
+            Cmd::Fill { target, byte, n } => reply(parts::fill(slots, *target, *byte, *n)),
+            Cmd::SetLen { target, n } => reply(parts::set_len(slots, *target, *n)),
+            Cmd::Truncate { target, n } => reply(parts::truncate(slots, *target, *n)),
+            Cmd::Clear { target } => reply(parts::clear(slots, *target)),
+            Cmd::Overwrite { target, bytes } => reply(parts::overwrite(slots, *target, bytes)),
             Cmd::Freeze { src, dst } => reply(parts::freeze(alloc, slots, *src, *dst)),
+            Cmd::Recover { src, dst } => reply(parts::recover(alloc, slots, *src, *dst)),
             Cmd::Clone { src, dst } => reply(made::clone(slots, *src, *dst)),
             Cmd::Slice { src, dst, lo, hi } => reply(made::slice(slots, *src, *dst, *lo, *hi)),
             Cmd::Split { src, dst, at } => reply(views::split(alloc, slots, *src, *dst, *at)),
