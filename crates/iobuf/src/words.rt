@@ -40,6 +40,11 @@ pub fn number(word: &str) -> Result<usize, LineError> {
     word.parse::<usize>().map_err(|_| LineError::NoCommand)
 }
 
+/// A number of at most 255.
+pub fn byte(word: &str) -> Result<u8, LineError> {
+    u8::try_from(number(word)?).map_err(|_| LineError::NoCommand)
+}
+
 /// Any number of numbers.
 pub fn numbers(alloc: Global, words: &[&str]) -> Result<Vec<usize>, LineError> {
     let mut all = Vec::with_capacity(alloc, words.len())?;

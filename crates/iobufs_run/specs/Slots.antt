@@ -2,12 +2,11 @@
 use Rattle.std.specs.Prelude.{◌≡◌, ℕ, Bool, true, false, ◌^◌, ◌==◌, ◌&&◌, not, nat_le, nat_lt, List, [], ◌∷◌, length, map, slice_index_or, unwrap_or, ◌-◌}
 use Rattle.iobufs_core.specs.Part.{Part as PartValue, empty_part, part_capacity, part_copied, part_drained, part_frozen, part_put, part_overwritten, part_truncated, part_with_len}
 use Rattle.iobufs_core.specs.Spelling.{spell}
-use Rattle.iobufs_core.specs.Wire.{view_items}
+use Rattle.iobufs_core.specs.Wire.{view_items, view_left}
 use Rattle.iobufs.specs.Building.{built, empty_building, finished}
 use Rattle.iobufs.specs.Parts.{parts_filled, parts_spare, parts_fill, parts_frozen, parts_copied, parts_drained, parts_coalesced, parts_capacity, parts_overwritten, parts_with_len}
 use Rattle.std.specs.declared.ops.Bound.{Bound}
 use Rattle.iobufs_core.specs.View.{View as ViewValue, view_advanced, view_rest, view_slice, view_split_front, start_place, end_place, static_mark, Mark, default_view, bytes_mark, native_mark}
-use Rattle.iobufs_core.specs.Wire.{view_left}
 use Rattle.iobufs_core.specs.MarkedText.{MarkedText, default_text, of_view, text_len, text_advanced, text_append, text_prepend, text_split_front, text_rest, text_chunks, text_coalesced, is_single}
 use Rattle.iobufs_run.specs.declared.table.Slot.{Slot}
 use Rattle.iobufs_run.specs.declared.table.Slot.TheVariants.{Free, Part, View, Text, Parts}

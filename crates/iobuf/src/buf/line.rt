@@ -1,5 +1,5 @@
 // Lines of text as commands on named buffers.
-use crate::words::{LineError, bytes, number, numbers};
+use crate::words::{LineError, byte, bytes, number, numbers};
 use iobufs_core::codec::RangeCfg;
 use iobufs_run::command::Cmd;
 use std::alloc::Global;
@@ -57,6 +57,46 @@ pub fn command(alloc: Global, line: &str) -> Result<Cmd, LineError> {
         ["show", target] => Ok(Cmd::Show {
             target: number(target)?,
         }),
+        words => part_command(alloc, words),
+    }
+}
+
+// The commands that make a part of bytes or of a view, and those that write one in place.
+fn part_command(alloc: Global, words: &[&str]) -> Result<Cmd, LineError> {
+    match words {
+        ["zeroed", dst, len, align] => Ok(Cmd::Zeroed {
+            dst: number(dst)?,
+            len: number(len)?,
+            align: number(align)?,
+        }),
+        ["adopt", dst, digits] => Ok(Cmd::Adopt {
+            dst: number(dst)?,
+            bytes: bytes(alloc, digits)?,
+        }),
+        ["fill", target, value, n] => Ok(Cmd::Fill {
+            target: number(target)?,
+            byte: byte(value)?,
+            n: number(n)?,
+        }),
+        ["setlen", target, n] => Ok(Cmd::SetLen {
+            target: number(target)?,
+            n: number(n)?,
+        }),
+        ["truncate", target, n] => Ok(Cmd::Truncate {
+            target: number(target)?,
+            n: number(n)?,
+        }),
+        ["clear", target] => Ok(Cmd::Clear {
+            target: number(target)?,
+        }),
+        ["overwrite", target, digits] => Ok(Cmd::Overwrite {
+            target: number(target)?,
+            bytes: bytes(alloc, digits)?,
+        }),
+        ["recover", src, dst] => Ok(Cmd::Recover {
+            src: number(src)?,
+            dst: number(dst)?,
+        }),
         words => view_command(alloc, words),
     }
 }
@@ -85,6 +125,10 @@ fn view_command(alloc: Global, words: &[&str]) -> Result<Cmd, LineError> {
         ["take", target, n] => Ok(Cmd::Take {
             target: number(target)?,
             n: number(n)?,
+        }),
+        ["encode", src, dst] => Ok(Cmd::Encode {
+            src: number(src)?,
+            dst: number(dst)?,
         }),
         ["decode", src, dst, lo, hi] => Ok(Cmd::Decode {
             src: number(src)?,
