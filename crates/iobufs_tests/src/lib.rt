@@ -4,8 +4,6 @@
 #[cfg(test)]
 mod generic;
 #[cfg(test)]
-mod lengths;
-#[cfg(test)]
 mod parts;
 #[cfg(test)]
 mod strung;

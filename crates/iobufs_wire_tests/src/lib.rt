@@ -1,0 +1,7 @@
+// What no contract says of encoding: worked examples of lengths, views, types of several fields and the builder.
+#![tactic(auto)]
+
+#[cfg(test)]
+mod lengths;
+mod shard;
+mod zeros;
