@@ -2,6 +2,12 @@
 #![tactic(auto)]
 
 #[cfg(test)]
+mod build;
+#[cfg(test)]
+mod chunks;
+#[cfg(test)]
+mod encode;
+#[cfg(test)]
 mod lengths;
 mod shard;
 mod zeros;

@@ -1,0 +1,12 @@
+// A text that is looked at piece by piece.
+use iobufs::bufs::IoBufs;
+use std::process::Abort;
+
+// The text has these pieces and no other.
+pub fn assert_chunks(rt: &(impl Abort + AllocGlobal), text: &IoBufs, chunks: &[&[u8]]) {
+    assert_eq!(rt; text.chunk_count(), chunks.len());
+    for (i, chunk) in chunks.iter().enumerate() {
+        assert_eq!(rt; text.chunk_at(i), Some(*chunk), "chunk {i}");
+    }
+    assert_eq!(rt; text.chunk_at(chunks.len()), None);
+}
