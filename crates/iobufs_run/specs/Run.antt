@@ -6,20 +6,24 @@
 --     after, Leaves, Answers     what a command that is done leaves, and its reply
 --     IsDecoded                  the command that reads a view
 --     Step, Run                  one command; any list of them
-use Rattle.std.specs.Prelude.{◌≡◌, ◌⊎◌, ℕ, ◌+◌, ◌^◌, ◌==◌, sum_by, Bool, true, false, ◌&&◌, ◌||◌, not, nat_lt, nat_le, if◌then◌else◌, List, [], ◌∷◌, map, length, take, replicate, slice_set, Option, Some, None, IsTrue, Result, Ok, Err}
+use Rattle.std.specs.Prelude.{◌≡◌, ◌⊎◌, ℕ, ◌+◌, ◌^◌, ◌==◌, sum_by, Bool, true, false, ◌&&◌, ◌||◌, not, nat_lt, nat_le, if◌then◌else◌, List, [], ◌∷◌, ◌++◌, map, length, take, replicate, slice_set, Option, Some, None, IsTrue, Result, Ok, Err}
 use Rattle.std.specs.List.{list_any, list_all}
 use Rattle.iobufs_core.specs.Part.{empty_part, is_bad_layout}
+use Rattle.iobufs_core.specs.Items.{Item as Written, put_item, push_item}
 use Rattle.iobufs_core.specs.MarkedText.{joined}
 use Rattle.iobufs_core.specs.View.{View as ViewValue, range_fits, static_mark, view_of_bytes}
 use Rattle.iobufs_core.specs.Wire.{IsViewRead, view_written}
 use Rattle.iobufs_core.specs.declared.codec.base.Error.TheVariants as fault
 use Rattle.iobufs_core.specs.declared.codec.base.RangeCfg.{RangeCfg}
+use Rattle.iobufs.specs.Building.{built, empty_building, finished}
 use Rattle.iobufs.specs.Parts.{kept_parts}
 use Rattle.iobufs_run.specs.Slots.{held, is_free, is_part, is_view, is_text, is_parts, is_of, bytes_held, extent, is_static_view, is_empty_range, is_in_pieces, is_too_large, readable, writable, view_held, part_held, marked_held, slot_put, slot_frozen, slot_sliced, slot_split_front, slot_rest, slot_advanced, slot_copied, slot_appended, slot_prepended, slot_coalesced, view_encoded, slot_read, shown_piece, Shows, is_native_view, is_fixed_view, slot_capacity, slot_with_len, slot_truncated, slot_overwritten, slot_recovered}
 use Rattle.iobufs_run.specs.declared.table.Slot.{Slot}
 use Rattle.iobufs_run.specs.declared.table.Slot.TheVariants.{Free, Part, View, Text, Parts}
 use Rattle.iobufs_run.specs.declared.command.Cmd.{Cmd}
-use Rattle.iobufs_run.specs.declared.command.Cmd.TheVariants.{NewMut, Zeroed, Adopt, Static, FromBytes, Put, Fill, SetLen, Truncate, Clear, Overwrite, Freeze, Recover, Clone, Slice, Split, Advance, Take, Gather, GatherMut, Append, Prepend, Coalesce, Encode, Decode, Drop, Show}
+use Rattle.iobufs_run.specs.declared.command.Cmd.TheVariants.{NewMut, Zeroed, Adopt, Static, FromBytes, Put, Fill, SetLen, Truncate, Clear, Overwrite, Freeze, Recover, Clone, Slice, Split, Advance, Take, Gather, GatherMut, Append, Prepend, Coalesce, Build, Encode, Decode, Drop, Show}
+use Rattle.iobufs_run.specs.declared.command.Item.{Item}
+use Rattle.iobufs_run.specs.declared.command.Item.TheVariants.{Inline, Push}
 use Rattle.iobufs_run.specs.declared.command.Reply.{Reply}
 use Rattle.iobufs_run.specs.declared.command.Reply.TheVariants.{Done, Bytes, Shown, Refused}
 use Rattle.iobufs_run.specs.declared.command.Kind.{Kind}
@@ -47,13 +51,45 @@ has_twice (name ∷ names) = is_listed names name || has_twice names
 abbrev pub is_too_long : ℕ → Bool
 is_too_long n = nat_le (2 ^ 64) n
 
+-- the causes to refuse several sources of this kind
+abbrev pub source_causes : Kind → List Slot → ℕ → List ℕ → List (Bool × Refusal)
+source_causes kind names dst sources =
+    (is_no_name names dst || list_any (is_no_name names) sources, NoName)
+    ∷ (not (list_all (λ src. is_of kind (held names src)) sources), WrongKind)
+    ∷ (not (is_free (held names dst)) && not (is_listed sources dst) || has_twice sources, InUse) ∷ []
+
+-- how much sources count together
+abbrev pub total_extent : List Slot → List ℕ → ℕ
+total_extent names sources = sum_by (λ src. extent (held names src)) sources
+
 -- the causes to refuse a gathering of buffers of this kind
 abbrev pub gather_causes : Kind → List Slot → ℕ → List ℕ → List (Bool × Refusal)
 gather_causes kind names dst sources =
-    (is_no_name names dst || list_any (is_no_name names) sources, NoName)
-    ∷ (not (list_all (λ src. is_of kind (held names src)) sources), WrongKind)
-    ∷ (not (is_free (held names dst)) && not (is_listed sources dst) || has_twice sources, InUse)
-    ∷ (is_too_long (sum_by (λ src. extent (held names src)) sources), TooLong) ∷ []
+    source_causes kind names dst sources ++ (is_too_long (total_extent names sources), TooLong) ∷ []
+
+-- the names that items push, and how many bytes they put
+abbrev pub pushed_names : List Item → List ℕ
+pushed_names [] = []
+pushed_names (Inline bytes ∷ items) = pushed_names items
+pushed_names (Push name ∷ items) = name ∷ pushed_names items
+
+abbrev pub inline_len : List Item → ℕ
+inline_len [] = 0
+inline_len (Inline bytes ∷ items) = length bytes.items + inline_len items
+inline_len (Push name ∷ items) = inline_len items
+
+-- what is put or pushed by an item
+abbrev pub item_held : List Slot → Item → Written
+item_held names (Inline bytes) = put_item bytes.items
+item_held names (Push name) = push_item (view_held (held names name))
+
+-- the causes to refuse to build a text of these items
+abbrev pub build_causes : List Slot → ℕ → ℕ → List Item → List (Bool × Refusal)
+build_causes names dst capacity items =
+    source_causes kind.View names dst (pushed_names items)
+    ++ (nat_lt capacity (inline_len items), OutOfRange)
+    ∷ (nat_le (2 ^ 63) capacity, BadLayout)
+    ∷ (is_too_long (capacity + total_extent names (pushed_names items)), TooLong) ∷ []
 
 -- the causes to refuse to put a view behind or in front of a text
 abbrev pub join_causes : List Slot → ℕ → ℕ → List (Bool × Refusal)
@@ -143,6 +179,7 @@ causes names (Coalesce src dst) =
     ∷ (not (is_text (held names src)) && not (is_parts (held names src)), WrongKind)
     ∷ (is_in_use_beside names src dst, InUse)
     ∷ (is_too_large (held names src), BadLayout) ∷ []
+causes names (Build dst capacity items) = build_causes names dst capacity items.items
 causes names (Encode src dst) =
     (is_no_name names src || is_no_name names dst, NoName)
     ∷ (not (is_view (held names src)), WrongKind)
@@ -196,6 +233,7 @@ may_want_memory names (GatherMut dst sources) = true
 may_want_memory names (Append target src) = not (readable (held names src) == 0) && not (readable (held names target) == 0)
 may_want_memory names (Prepend target src) = not (readable (held names src) == 0) && not (readable (held names target) == 0)
 may_want_memory names (Coalesce src dst) = is_in_pieces (held names src)
+may_want_memory names (Build dst capacity items) = true
 may_want_memory names (Encode src dst) = true
 may_want_memory names (Decode src dst range) = true
 may_want_memory names (Drop target) = false
@@ -215,6 +253,7 @@ consumed (GatherMut dst sources) = sources.items
 consumed (Append target src) = src ∷ []
 consumed (Prepend target src) = src ∷ []
 consumed (Coalesce src dst) = src ∷ []
+consumed (Build dst capacity items) = pushed_names items.items
 consumed _ = []
 
 -- new is old, but that some of these names may be free
@@ -262,6 +301,8 @@ after names (Append target src) =
 after names (Prepend target src) =
     slice_set (slice_set names src Free) target (slot_prepended (held names target) (held names src))
 after names (Coalesce src dst) = slice_set (slice_set names src Free) dst (slot_coalesced (held names src))
+after names (Build dst capacity items) =
+    slice_set (all_freed names (pushed_names items.items)) dst (Text (finished (built (empty_building capacity) (map (item_held names) items.items))))
 after names (Encode src dst) = slice_set names dst (Text (view_encoded (view_held (held names src))))
 after names (Decode src dst range) = names
 after names (Drop target) = slice_set names target Free

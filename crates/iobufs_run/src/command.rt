@@ -129,6 +129,12 @@ pub enum Cmd {
         src: usize,
         dst: usize,
     },
+    /// Bytes that are put, into room for `capacity`, and views that are pushed become a text, in this order.
+    Build {
+        dst: usize,
+        capacity: usize,
+        items: Vec<Item>,
+    },
     /// A view as it is written, behind its length, as a text.
     Encode {
         src: usize,
@@ -148,6 +154,15 @@ pub enum Cmd {
     Show {
         target: usize,
     },
+}
+
+/// An item of a text that is built.
+#[derive(Drop)]
+pub enum Item {
+    /// Bytes that are put.
+    Inline(Vec<u8>),
+    /// The name of a view that is pushed, and consumed.
+    Push(usize),
 }
 
 /// The answer to a command.

@@ -2,6 +2,7 @@
 ghost use Rattle.std.specs.Prelude.{◌≡◌, length, replicate, IfOk, IsOkUnless, OnErr};
 ghost use Rattle.iobufs_run.specs.Run.{Run, Step, outcome as outcome_of};
 
+mod build;
 mod gather;
 mod made;
 mod parts;
@@ -107,6 +108,11 @@ impl Table {
             Cmd::Append { target, src } => reply(texts::append(alloc, slots, *target, *src)),
             Cmd::Prepend { target, src } => reply(texts::prepend(alloc, slots, *target, *src)),
             Cmd::Coalesce { src, dst } => reply(texts::coalesce(alloc, slots, *src, *dst)),
+            Cmd::Build {
+                dst,
+                capacity,
+                items,
+            } => reply(build::build(alloc, slots, *dst, *capacity, items)),
             Cmd::Encode { src, dst } => reply(made::encode(alloc, slots, *src, *dst)),
             Cmd::Decode { src, dst, range } => {
                 reply(views::decode(alloc, slots, *src, *dst, range))

@@ -42,7 +42,7 @@ fn hold_all(slots: &[Slot], names: &[usize], kind: Kind) -> bool
 }
 
 // Whether a name holds a buffer of this kind.
-fn holds(slots: &[Slot], name: usize, kind: Kind) -> bool
+pub(super) fn holds(slots: &[Slot], name: usize, kind: Kind) -> bool
     ensures { result ≡ of kind (held slots.now name) }
 {
     match slots.get(name) {
@@ -52,7 +52,7 @@ fn holds(slots: &[Slot], name: usize, kind: Kind) -> bool
 }
 
 // How much the buffer of a name counts among others that it is put together with.
-fn extent_at(slots: &[Slot], name: usize) -> usize
+pub(super) fn extent_at(slots: &[Slot], name: usize) -> usize
     ensures { result ≡ extent (held slots.now name) }
 {
     match slots.get(name) {
