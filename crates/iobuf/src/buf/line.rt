@@ -1,7 +1,7 @@
 // Lines of text as commands on named buffers.
 use crate::words::{LineError, byte, bytes, number, numbers};
 use iobufs_core::codec::RangeCfg;
-use iobufs_run::command::Cmd;
+use iobufs_run::command::{Cmd, Item};
 use std::alloc::Global;
 use std::ops::Bound;
 
@@ -126,6 +126,11 @@ fn view_command(alloc: Global, words: &[&str]) -> Result<Cmd, LineError> {
             target: number(target)?,
             n: number(n)?,
         }),
+        ["build", dst, capacity, items @ ..] => Ok(Cmd::Build {
+            dst: number(dst)?,
+            capacity: number(capacity)?,
+            items: built_items(alloc, items)?,
+        }),
         ["encode", src, dst] => Ok(Cmd::Encode {
             src: number(src)?,
             dst: number(dst)?,
@@ -157,6 +162,26 @@ fn bound(word: &str) -> Result<Bound<usize>, LineError> {
     }
     match word.strip_prefix('e') {
         Some(place) => Ok(Bound::Excluded(number(place)?)),
+        None => Err(LineError::NoCommand),
+    }
+}
+
+// Any number of items.
+fn built_items(alloc: Global, words: &[&str]) -> Result<Vec<Item>, LineError> {
+    let mut items = Vec::with_capacity(alloc, words.len())?;
+    for word in words {
+        items.push(item(alloc, word)?)?;
+    }
+    Ok(items)
+}
+
+// Bytes behind an `i`, or the name of a view behind a `p`.
+fn item(alloc: Global, word: &str) -> Result<Item, LineError> {
+    if let Some(digits) = word.strip_prefix('i') {
+        return Ok(Item::Inline(bytes(alloc, digits)?));
+    }
+    match word.strip_prefix('p') {
+        Some(name) => Ok(Item::Push(number(name)?)),
         None => Err(LineError::NoCommand),
     }
 }
