@@ -7,6 +7,8 @@ mod buf_tests;
 mod owner;
 #[cfg(test)]
 mod owner_tests;
+#[cfg(test)]
+mod sample_tests;
 mod serve;
 mod words;
 
