@@ -67,25 +67,25 @@ rest-inline : (room : ℕ) (bytes : List ℕ) (n : ℕ) → n ≤ length bytes �
 rest-inline room bytes n fits =
     ⊎_elim
     (λ (some : 0 < n).
-        let d = length-drop n bytes in
-        ap (λ (v : View). view_rest v n) (inline-some room bytes (omega arith))
-        ∙ ⊎_elim
-        (λ (h : n < length bytes). rest-inside room bytes n some h ∙ sym (inline-some (room - n) (drop n bytes) (omega arith)))
-        (λ (h : length bytes ≤ n). rest-whole room bytes n some (omega arith) ∙ sym (inline-none (room - n) (drop n bytes) (omega arith)))
-        (cases_lt n (length bytes)))
+    let d = length-drop n bytes in
+    ap (λ (v : View). view_rest v n) (inline-some room bytes (omega arith))
+    ∙ ⊎_elim
+    (λ (h : n < length bytes). rest-inside room bytes n some h ∙ sym (inline-some (room - n) (drop n bytes) (omega arith)))
+    (λ (h : length bytes ≤ n). rest-whole room bytes n some (omega arith) ∙ sym (inline-none (room - n) (drop n bytes) (omega arith)))
+    (cases_lt n (length bytes)))
     (λ (h : n ≤ 0).
-        let none : n ≡ 0 = omega arith in
-        let same : room ≡ room - 0 = omega arith in
-        rw none (ap (λ r. inline_view r bytes) same))
+    let none : n ≡ 0 = omega arith in
+    let same : room ≡ room - 0 = omega arith in
+    rw none (ap (λ r. inline_view r bytes) same))
     (cases_lt 0 n)
 
 fold-run : (text : MarkedText) (room : ℕ) (bytes : List ℕ) (n : ℕ) (views : List View) → n ≤ length bytes → fold text_append text (view_split_front (inline_view room bytes) n ∷ views) ≡ fold text_append text (run_views room (take n bytes) ++ views)
 fold-run text room bytes n views fits =
     ⊎_elim
     (λ (some : 0 < n).
-        let t = length-take n bytes in
-        ap (λ (v : View). fold text_append (text_append text v) views) (split-some room bytes n some fits)
-        ∙ ap (λ (vs : List View). fold text_append text (vs ++ views)) (sym (run_views-some room (take n bytes) (omega arith))))
+    let t = length-take n bytes in
+    ap (λ (v : View). fold text_append (text_append text v) views) (split-some room bytes n some fits)
+    ∙ ap (λ (vs : List View). fold text_append text (vs ++ views)) (sym (run_views-some room (take n bytes) (omega arith))))
     (λ (h : n ≤ 0). let none : n ≡ 0 = omega arith in rw none refl)
     (cases_lt 0 n)
 

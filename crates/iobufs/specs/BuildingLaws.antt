@@ -69,9 +69,9 @@ bytes-one a (push_item view) =
     by_length view _
     (λ (none : length view.bytes ≡ 0). ap building_bytes (push-none a view none) ∙ sym (append-nil (building_bytes a)) ∙ ap (λ bs. building_bytes a ++ bs) (sym (nil_from_length view.bytes none)))
     (λ (some : 0 < length view.bytes).
-        ap building_bytes (push-some a view some) ∙ append-nil _ ∙ items_bytes-append a.front _
-        ∙ ap (λ bs. items_bytes a.front ++ bs) (items_bytes-append (inline_run a.last) _ ∙ ap (λ bs. bs ++ (view.bytes ++ [])) (run-bytes a.last) ∙ ap (λ bs. a.last ++ bs) (append-nil view.bytes))
-        ∙ sym (append_assoc (items_bytes a.front) a.last view.bytes))
+    ap building_bytes (push-some a view some) ∙ append-nil _ ∙ items_bytes-append a.front _
+    ∙ ap (λ bs. items_bytes a.front ++ bs) (items_bytes-append (inline_run a.last) _ ∙ ap (λ bs. bs ++ (view.bytes ++ [])) (run-bytes a.last) ∙ ap (λ bs. a.last ++ bs) (append-nil view.bytes))
+    ∙ sym (append_assoc (items_bytes a.front) a.last view.bytes))
 
 room-one : (a : Building) (item : Item) → building_room (built_one a item) ≡ building_room a - item_inline item
 room-one a (put_item bytes) = let n = length-append a.last bytes in omega arith
@@ -79,9 +79,9 @@ room-one a (push_item view) =
     by_length view _
     (λ (none : length view.bytes ≡ 0). ap building_room (push-none a view none) ∙ (omega arith))
     (λ (some : 0 < length view.bytes).
-        let n = items_inline-append a.front (inline_run a.last ++ push_item view ∷ []) in
-        let m = items_inline-append (inline_run a.last) (push_item view ∷ []) in
-        let r = run-inline a.last in ap building_room (push-some a view some) ∙ (omega arith))
+    let n = items_inline-append a.front (inline_run a.last ++ push_item view ∷ []) in
+    let m = items_inline-append (inline_run a.last) (push_item view ∷ []) in
+    let r = run-inline a.last in ap building_room (push-some a view some) ∙ (omega arith))
 
 pushes-one : (a : Building) (item : Item) → room_for_pushes (built_one a item) ≡ room_for_pushes a - item_pushed item
 pushes-one a (put_item bytes) = omega arith
@@ -89,9 +89,9 @@ pushes-one a (push_item view) =
     by_length view _
     (λ (none : length view.bytes ≡ 0). ap room_for_pushes (push-none a view none) ∙ (omega arith))
     (λ (some : 0 < length view.bytes).
-        let n = items_pushed-append a.front (inline_run a.last ++ push_item view ∷ []) in
-        let m = items_pushed-append (inline_run a.last) (push_item view ∷ []) in
-        let r = run-pushed a.last in ap room_for_pushes (push-some a view some) ∙ (omega arith))
+    let n = items_pushed-append a.front (inline_run a.last ++ push_item view ∷ []) in
+    let m = items_pushed-append (inline_run a.last) (push_item view ∷ []) in
+    let r = run-pushed a.last in ap room_for_pushes (push-some a view some) ∙ (omega arith))
 
 pub bytes-built : (a : Building) (items : List Item) → building_bytes (built a items) ≡ building_bytes a ++ items_bytes items
 bytes-built a [] = sym (append-nil (building_bytes a))

@@ -170,7 +170,10 @@ impl BufsMut for Builder {
             return Ok(());
         }
         if let Err(cause) = make_room(&mut self.pushes, self.pushable, len) {
-            return Err(Refused { cause, value: bytes });
+            return Err(Refused {
+                cause,
+                value: bytes,
+            });
         }
         let (run, view) = (self.inline.len() - self.placed, IoBuf::from(bytes));
         self.pushes.push(Push { run, view }).unwrap();

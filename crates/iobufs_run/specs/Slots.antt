@@ -125,6 +125,7 @@ recovered_spare _ len = 0
 abbrev pub slot_recovered : Slot → Slot
 slot_recovered (View view) = Part (record { filled = view.bytes; spare = recovered_spare view.mark (length view.bytes) })
 slot_recovered slot = slot
+
 -- the bytes of a view in a range; and whether a range has none
 abbrev pub slot_sliced : Slot → Bound ℕ → Bound ℕ → Slot
 slot_sliced (View view) lo hi = View (view_slice view lo hi)
