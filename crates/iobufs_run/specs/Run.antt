@@ -47,7 +47,7 @@ abbrev pub has_twice : List ℕ → Bool
 has_twice [] = false
 has_twice (name ∷ names) = is_listed names name || has_twice names
 
--- so many bytes in front of others are more than a length can say
+-- so many bytes are more than a length can say
 abbrev pub is_too_long : ℕ → Bool
 is_too_long n = nat_le (2 ^ 64) n
 

@@ -1,6 +1,6 @@
 // Named buffers, and the commands on them.
 ghost use Rattle.std.specs.Prelude.{◌≡◌, length, replicate, IfOk, IsOkUnless, OnErr};
-ghost use Rattle.iobufs_run.specs.Run.{Run, Step, outcome as outcome_of};
+ghost use Rattle.iobufs_run.specs.Run.{Run, Step, outcome as outcome_of, reply_of};
 
 mod build;
 mod gather;
@@ -54,6 +54,16 @@ fn reply(outcome: Result<(), Refusal>) -> Reply
     }
 }
 
+// A refusal as a reply, or the answer.
+fn answer(outcome: Result<Reply, Refusal>) -> Reply
+    ensures { result ≡ reply_of outcome }
+{
+    match outcome {
+        Ok(answer) => answer,
+        Err(refusal) => Reply::Refused(refusal),
+    }
+}
+
 impl Table {
     /// The names 0 to `n - 1`, which hold nothing.
     pub fn new(alloc: Global, n: usize) -> Result<Table, BufError>
@@ -97,10 +107,7 @@ impl Table {
             Cmd::Slice { src, dst, lo, hi } => reply(made::slice(slots, *src, *dst, *lo, *hi)),
             Cmd::Split { src, dst, at } => reply(views::split(alloc, slots, *src, *dst, *at)),
             Cmd::Advance { target, n } => reply(views::advance(slots, *target, *n)),
-            Cmd::Take { target, n } => match views::take(alloc, slots, *target, *n) {
-                Ok(bytes) => bytes,
-                Err(refusal) => Reply::Refused(refusal),
-            },
+            Cmd::Take { target, n } => answer(views::take(alloc, slots, *target, *n)),
             Cmd::Gather { dst, sources } => reply(gather::gather(alloc, slots, *dst, sources)),
             Cmd::GatherMut { dst, sources } => {
                 reply(gather::gather_mut(alloc, slots, *dst, sources))
@@ -118,10 +125,7 @@ impl Table {
                 reply(views::decode(alloc, slots, *src, *dst, range))
             }
             Cmd::Drop { target } => reply(slots::free(slots, *target)),
-            Cmd::Show { target } => match shown::show(alloc, slots, *target) {
-                Ok(shown) => shown,
-                Err(refusal) => Reply::Refused(refusal),
-            },
+            Cmd::Show { target } => answer(shown::show(alloc, slots, *target)),
         }
     }
 
