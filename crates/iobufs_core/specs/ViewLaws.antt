@@ -1,7 +1,7 @@
 -- Views as marked texts without cuts.
-use Rattle.std.specs.Prelude.{◌≡◌, ℕ, ◌+◌, ◌≤◌, length, drop, refl, [], ◌∷◌}
+use Rattle.std.specs.Prelude.{◌≡◌, ◌≢◌, ℕ, ◌+◌, ◌≤◌, length, drop, refl, [], ◌∷◌}
 use Rattle.std.specs.declared.ops.Bound.TheVariants.{Included, Excluded}
-use Rattle.std.proofs.Common.{arith}
+use Rattle.std.proofs.Common.{arith, take_all, ◌∙◌}
 use Rattle.std.proofs.lemmas.Grind.{common_steps}
 use Rattle.std.proofs.lemmas.List.{drop-take}
 use Rattle.std.proofs.lemmas.Bool.Decides.{nat_tests}
@@ -31,3 +31,10 @@ chunks-of_view v = refl
 pub taken_of_view : (v : View) (skip n : ℕ) → taken_view (of_view v) skip n ≡ view_slice v (Included skip) (Excluded (skip + n))
 unfolding taken_view
 taken_of_view v skip n = grind (arith, nat_tests, common_steps, drop-take)
+
+-- all that there is, is taken as it is
+pub taken-whole : (v : View) (skip n : ℕ) → skip + n ≤ length v.bytes → n ≡ length v.bytes → n ≢ 0 → taken_view (of_view v) skip n ≡ v
+taken-whole v skip n within whole some =
+    let none : skip ≡ 0 = omega arith in
+    let all = take_all n v.bytes (omega arith) in
+    taken_of_view v skip n ∙ grind (arith, nat_tests, common_steps)

@@ -14,9 +14,15 @@ use std::{fmt, mem};
 
 /// A read-only text of one piece (`IoBuf`): in a static slice, in a `Bytes`, or in native storage. Clones, slices
 /// and both sides of a split share their storage; none of these copies a byte.
-#[derive(Drop)]
 pub struct IoBuf {
     storage: Storage,
+}
+
+// By hand, so that what is kept privately is none of a caller's business.
+impl Drop for IoBuf {
+    fn drop(self) {
+        let IoBuf { storage: _ } = self;
+    }
 }
 
 #[derive(Drop)]
@@ -82,10 +88,7 @@ impl IoBuf {
         ensures memory { IsOkUnless result BufError.Memory }
         ensures empty { length bytes.items ≡ 0 → IsOk result }
     {
-        if bytes.is_empty() {
-            return Ok(IoBuf::default());
-        }
-        IoBuf::from_vec(bytes.into_vec()?)
+        Ok(IoBuf::from(bytes.freeze()?))
     }
 
     /// The number of bytes (`IoBuf::len`).
@@ -132,7 +135,7 @@ impl IoBuf {
     }
 
     // Drops the first bytes, as a copy of them does.
-    fn forget(&mut self, n: usize)
+    fn drop_front(&mut self, n: usize)
         requires { n ≤ length self.old.bytes }
         ensures { self.new ≡ view_rest self.old n }
     {
@@ -191,7 +194,7 @@ impl IoBuf {
             return Ok(IoBuf::default());
         }
         if at == self.len() {
-            return Ok(mem::replace(self, IoBuf::default()));
+            return Ok(mem::take(self));
         }
         let front = self.front(at)?;
         self.advance(at);
@@ -203,7 +206,8 @@ impl IoBuf {
     pub fn try_into_mut(self, alloc: Global) -> Result<IoBufMut, IoBuf>
         ensures { IsRecovery self result }
     {
-        match self.storage {
+        let IoBuf { storage } = self;
+        match storage {
             Storage::Native(native) => match native.try_into_mut() {
                 Ok(part) => Ok(part),
                 Err(native) => Err(IoBuf::from_native(native)),
@@ -217,7 +221,11 @@ impl IoBuf {
     pub fn to_vec(&self, alloc: Global) -> Result<Vec<u8>, BufError>
         ensures ok { IfOk result (λ v. v.items ≡ self.now.bytes) }
         ensures memory { IsOkUnless result BufError.Memory }
+        ensures empty { length self.now.bytes ≡ 0 → IsOk result }
     {
+        if self.is_empty() {
+            return Ok(Vec::new(alloc));
+        }
         Ok(Vec::from_slice(alloc, self.as_ref())?)
     }
 
@@ -227,8 +235,13 @@ impl IoBuf {
         ensures same { MatchResult result (λ bytes. bytes ≡ self.bytes) (λ view. view ≡ self) }
         ensures static_text { self.mark ≡ static_mark → IsOk result }
         ensures shared_text { self.mark ≡ bytes_mark → IsOk result }
+        ensures empty { length self.bytes ≡ 0 → IsOk result }
     {
-        match self.storage {
+        if self.is_empty() {
+            return Ok(Bytes::new());
+        }
+        let IoBuf { storage } = self;
+        match storage {
             Storage::Static(text) => Ok(Bytes::from_static(text)),
             Storage::Shared(bytes) => Ok(bytes),
             Storage::Native(native) => match Bytes::copy_from_slice(alloc, native.as_slice()) {
@@ -367,12 +380,18 @@ impl Buf for IoBuf {
     }
 
     fn copy_to_bytes(&mut self, alloc: Global, n: usize) -> Result<Bytes, BufError> {
+        if n == 0 {
+            return Ok(Bytes::new());
+        }
+        if n == self.len() {
+            return Bytes::take_view(alloc, self);
+        }
         let bytes = match &self.storage {
             Storage::Static(text) => Bytes::from_static(&text[..n]),
             Storage::Shared(bytes) => bytes.slice(..n)?,
             Storage::Native(native) => Bytes::copy_from_slice(alloc, &native.as_slice()[..n])?,
         };
-        self.forget(n);
+        self.advance(n);
         Ok(bytes)
     }
 
@@ -407,10 +426,14 @@ impl OwnedBuf for IoBuf {
         skip: usize,
         n: usize,
     ) -> Result<T, BufError> {
-        let end = self.len() - (self.len() - skip - n);
+        if n != 0 && n == self.len() {
+            return T::take_view(alloc, self);
+        }
+        let _len = self.len();
+        let end = skip + n;
         let view = self.slice(Bound::Included(skip), Bound::Excluded(end))?;
         let made = T::from_view(alloc, view)?;
-        self.forget(end);
+        self.drop_front(end);
         Ok(made)
     }
 

@@ -15,12 +15,22 @@ use std::marker::Model;
 
 /// One piece of storage to write (`IoBufMut`): bytes that are filled, and room behind them. The capacity is fixed
 /// when the buffer is made, and counted from the first readable byte.
-#[derive(Drop)]
 pub struct IoBufMut {
     // It may have more room than up to `limit`, which is never used.
     storage: Vec<u8>,
     start: usize,
     limit: usize,
+}
+
+// By hand, so that what is kept privately is none of a caller's business.
+impl Drop for IoBufMut {
+    fn drop(self) {
+        let IoBufMut {
+            storage: _,
+            start: _,
+            limit: _,
+        } = self;
+    }
 }
 
 impl Model for IoBufMut {
@@ -142,10 +152,12 @@ impl IoBufMut {
         ensures memory { IsOkUnless result BufError.Memory }
         ensures empty { length bytes.items ≡ 0 → IsOk result }
     {
-        if bytes.is_empty() {
-            return Ok(IoBufMut::default(*bytes.allocator()));
+        let alloc = *bytes.allocator();
+        match bytes.into_vec() {
+            Ok(bytes) => Ok(IoBufMut::from(bytes)),
+            Err(shared) if shared.value.is_empty() => Ok(IoBufMut::default(alloc)),
+            Err(_) => Err(BufError::Memory),
         }
-        Ok(IoBufMut::from(bytes.into_vec()?))
     }
 
     /// The bytes of a view (`From<IoBuf>`): recovered where `IoBuf::try_into_mut` does, else copied. `Err` for
@@ -306,8 +318,11 @@ impl Buf for IoBufMut {
     }
 
     fn copy_to_bytes(&mut self, alloc: Global, n: usize) -> Result<Bytes, BufError> {
+        if n == 0 {
+            return Ok(Bytes::new());
+        }
         let bytes = Bytes::copy_from_slice(alloc, &self.as_ref()[..n])?;
-        if n != 0 && n == self.len() {
+        if n == self.len() {
             *self = IoBufMut::default(alloc);
             return Ok(bytes);
         }
@@ -333,11 +348,13 @@ impl Buf for IoBufMut {
 }
 
 impl BufMut for IoBufMut {
-    ghost use Rattle.iobufs_core.specs.PartLaws.{part_put-nothing, part_put-composes, part_put-lessens};
+    ghost use Rattle.std.specs.Prelude.{◌≡◌, ◌≤◌, length};
+    ghost use Rattle.iobufs_core.specs.Part.{part_put};
+    ghost use Rattle.iobufs_core.specs.PartLaws.{put_nothing, put_unchanged, put_composes, put_lessens};
 
     ghost room = { λ p. p.spare };
 
-    ghost filled = { λ a w b. b ≡ part_put a w };
+    ghost filled = { λ a w b. (length w ≤ a.spare) × (b ≡ part_put a w) };
 
     fn remaining_mut(&self) -> usize {
         self.limit - self.storage.len()
@@ -352,9 +369,11 @@ impl BufMut for IoBufMut {
         self.storage.resize(end, value).unwrap();
     }
 
-    ghost nothing = { part_put-nothing };
+    ghost nothing = { put_nothing };
 
-    ghost composes = { part_put-composes };
+    ghost unchanged = { put_unchanged };
 
-    ghost lessens = { part_put-lessens };
+    ghost composes = { put_composes };
+
+    ghost lessens = { put_lessens };
 }

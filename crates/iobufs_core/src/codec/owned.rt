@@ -1,12 +1,13 @@
 // The traits to take pieces of a text out and keep them.
 ghost use Rattle.std.specs.Prelude.{◌≡◌, ℕ, ◌+◌, ◌≤◌, ◌<◌, List, length, Err, IfOk, IsOk, OnOk, OnErr, IsOkUnless};
-ghost use Rattle.iobufs_core.specs.View.{View};
+ghost use Rattle.iobufs_core.specs.View.{View, default_view};
 ghost use Rattle.iobufs_core.specs.MarkedText.{MarkedText, taken_view, text_advanced, text_rest, text_chunks};
 
 use super::{Buf, BufError, Error};
 use crate::buf::IoBuf;
 use bytes::Bytes;
 use std::alloc::Global;
+use std::mem;
 
 /// What is made of bytes that were taken out (the codec's `OwnedBytes`; `from_view` stands for its `claim`).
 pub trait OwnedBytes: Sized {
@@ -23,7 +24,16 @@ pub trait OwnedBytes: Sized {
     /// The same bytes, sharing the view's storage where the type can.
     fn from_view(alloc: Global, view: IoBuf) -> Result<Self, BufError>
         ensures ok { IfOk result (makes view) }
-        ensures memory { IsOkUnless result BufError.Memory };
+        ensures memory { IsOkUnless result BufError.Memory }
+        ensures empty { length view.bytes ≡ 0 → IsOk result };
+
+    /// What `from_view` makes of a view, which is then empty. A refusal leaves it (the original has no such call).
+    fn take_view(alloc: Global, view: &mut IoBuf) -> Result<Self, BufError>
+        ensures ok { IfOk result (makes view.old) }
+        ensures taken { OnOk result (view.new ≡ default_view) }
+        ensures err { OnErr result (view.new ≡ view.old) }
+        ensures memory { IsOkUnless result BufError.Memory }
+        ensures empty { length view.old.bytes ≡ 0 → IsOk result };
 
     ghost same_bytes: { (view : View) (made : Self) → makes view made → bytes_of made ≡ view.bytes };
 }
@@ -43,7 +53,8 @@ pub trait OwnedBuf: Buf {
         ensures ok { IfOk result (T.makes (taken_view (marked self.old) skip n)) }
         ensures rest { OnOk result (self.new ≡ Self.copied self.old (skip + n)) }
         ensures err { OnErr result (self.new ≡ self.old) }
-        ensures memory { IsOkUnless result BufError.Memory };
+        ensures memory { IsOkUnless result BufError.Memory }
+        ensures nothing { n ≡ 0 → IsOk result };
 
     ghost same_text: { (s : Self) → (marked s).bytes ≡ Self.text s };
 
@@ -62,6 +73,7 @@ pub trait OwnedBuf: Buf {
         ensures rest { OnOk result (self.new ≡ Self.copied self.old n) }
         ensures err { OnErr result (self.new ≡ self.old) }
         ensures memory { IsOkUnless result BufError.Memory }
+        ensures nothing { n ≡ 0 → IsOk result }
     {
         self.take_owned_after(alloc, 0, n)
     }
@@ -75,6 +87,7 @@ pub trait OwnedBuf: Buf {
         ensures err { OnErr result (self.new ≡ self.old) }
         ensures short { length (Self.text self.old) < n → result ≡ Err Error.EndOfBuffer }
         ensures memory { n ≤ length (Self.text self.old) → IsOkUnless result Error.Memory }
+        ensures nothing { n ≡ 0 → IsOk result }
     {
         if n > self.remaining() {
             return Err(Error::EndOfBuffer);
@@ -102,6 +115,14 @@ impl OwnedBytes for IoBuf {
         Ok(view)
     }
 
+    fn take_view(_alloc: Global, view: &mut IoBuf) -> Result<IoBuf, BufError>
+        ensures ok { IfOk result (λ made. made ≡ view.old) }
+        ensures taken { view.new ≡ default_view }
+        ensures never_refused { IsOk result }
+    {
+        Ok(mem::take(view))
+    }
+
     ghost use Rattle.std.proofs.Common.{rules};
 
     ghost same_bytes = { Prim.search rules };
@@ -121,6 +142,16 @@ impl OwnedBytes for Bytes {
 
     fn from_view(alloc: Global, view: IoBuf) -> Result<Bytes, BufError> {
         Ok(view.into_bytes(alloc).map_err(|_| BufError::Memory)?)
+    }
+
+    fn take_view(alloc: Global, view: &mut IoBuf) -> Result<Bytes, BufError> {
+        match mem::take(view).into_bytes(alloc) {
+            Ok(bytes) => Ok(bytes),
+            Err(same) => {
+                *view = same;
+                Err(BufError::Memory)
+            }
+        }
     }
 
     ghost use Rattle.std.proofs.Common.{rules};

@@ -1,5 +1,5 @@
 // The trait to read bytes from the front.
-ghost use Rattle.std.specs.Prelude.{◌≡◌, ℕ, ◌≤◌, ◌<◌, ◌↔◌, List, [], ◌∷◌, map, length, take, drop, slice_get, IsTrue, IfOk, IfErr, OnOk, OnErr, IsErr, IsOkUnless};
+ghost use Rattle.std.specs.Prelude.{◌≡◌, ℕ, ◌≤◌, ◌<◌, ◌↔◌, List, [], ◌∷◌, map, length, take, drop, slice_get, IsTrue, IfOk, IfErr, OnOk, OnErr, IsErr, IsOk, IsOkUnless};
 ghost use Rattle.std.specs.List.{flat_map};
 ghost use Rattle.iobufs_core.specs.Chunks.{IsChunkOf, first_chunk, full_chunks};
 
@@ -50,7 +50,8 @@ pub trait Buf {
         ensures ok { IfOk result (λ bytes. bytes ≡ take n (text self.old)) }
         ensures rest { OnOk result (self.new ≡ copied self.old n) }
         ensures err { OnErr result (self.new ≡ self.old) }
-        ensures memory { IsOkUnless result BufError.Memory };
+        ensures memory { IsOkUnless result BufError.Memory }
+        ensures nothing { n ≡ 0 → IsOk result };
 
     /// The first pieces that hold bytes, at most `max` (the original fills `IoSlice`s).
     fn chunks_vectored(&self, alloc: Global, max: usize) -> Result<Vec<&[u8]>, BufError>

@@ -1,8 +1,8 @@
 // The traits to write and read values, with bytes that are pushed and not copied.
-ghost use Rattle.std.specs.Prelude.{◌≡◌, ◌⊎◌, ℕ, ◌+◌, ◌-◌, ◌^◌, ◌<◌, ◌≤◌, List, [], ◌∷◌, ◌++◌, length, Result, SomeIff, OnOk, OnErr, IfOk, IfErr, IsErrAnd};
+ghost use Rattle.std.specs.Prelude.{◌≡◌, ◌⊎◌, ℕ, ◌+◌, ◌^◌, ◌<◌, ◌≤◌, List, [], ◌∷◌, ◌++◌, length, Result, SomeIff, OnOk, OnErr, IfOk, IfErr, IsOk, IsErrAnd};
 ghost use Rattle.iobufs_core.specs.View.{View};
 ghost use Rattle.iobufs_core.specs.MarkedText.{MarkedText};
-ghost use Rattle.iobufs_core.specs.Items.{Item, put_item, push_item, items_bytes, items_inline, items_pushed, IsBegun};
+ghost use Rattle.iobufs_core.specs.Items.{Item, put_item, push_item, items_bytes, items_inline, items_pushed, ArePuts, IsBegun};
 ghost use Rattle.iobufs_core.specs.View.{view_of_bytes};
 ghost use Rattle.iobufs_core.specs.declared.codec.base.Error.{Error as AnyError};
 
@@ -20,7 +20,7 @@ pub trait BufsMut: BufMut {
     // How many bytes pushes may still add.
     ghost pushable: { Self → ℕ };
 
-    // From one value to another by these puts and pushes.
+    // From one value to another by these puts and pushes, all of which fit.
     ghost done: { Self → List Item → Self → Type 0 };
 
     /// Takes a view. `BufError::TooLong` exactly where it is longer than pushes may still add.
@@ -29,7 +29,8 @@ pub trait BufsMut: BufMut {
         ensures err { OnErr result (self.new ≡ self.old) }
         ensures back { IfErr result (λ refused. refused.value ≡ view) }
         ensures too_long { pushable self.old < length view.bytes → IsErrAnd result (λ refused. refused.cause ≡ BufError.TooLong) }
-        ensures memory { length view.bytes ≤ pushable self.old → IfErr result (λ refused. refused.cause ≡ BufError.Memory) };
+        ensures memory { length view.bytes ≤ pushable self.old → IfErr result (λ refused. refused.cause ≡ BufError.Memory) }
+        ensures nothing { length view.bytes ≡ 0 → IsOk result };
 
     /// The same with a `Bytes`.
     fn push_bytes(&mut self, bytes: Bytes) -> Result<(), Refused<Bytes>>
@@ -37,7 +38,10 @@ pub trait BufsMut: BufMut {
         ensures err { OnErr result (self.new ≡ self.old) }
         ensures back { IfErr result (λ refused. refused.value ≡ bytes) }
         ensures too_long { pushable self.old < length bytes → IsErrAnd result (λ refused. refused.cause ≡ BufError.TooLong) }
-        ensures memory { length bytes ≤ pushable self.old → IfErr result (λ refused. refused.cause ≡ BufError.Memory) };
+        ensures memory { length bytes ≤ pushable self.old → IfErr result (λ refused. refused.cause ≡ BufError.Memory) }
+        ensures nothing { length bytes ≡ 0 → IsOk result };
+
+    ghost idle: { (s : Self) → done s [] s };
 
     ghost puts: { (a b : Self) (w : List ℕ) → Self.filled a w b → done a (put_item w ∷ []) b };
 
@@ -45,9 +49,9 @@ pub trait BufsMut: BufMut {
 
     ghost adds: { (a b : Self) (items : List Item) → done a items b → joined b ≡ joined a ++ items_bytes items };
 
-    ghost uses: { (a b : Self) (items : List Item) → done a items b → Self.room b ≡ Self.room a - items_inline items };
+    ghost uses: { (a b : Self) (items : List Item) → done a items b → Self.room a ≡ Self.room b + items_inline items };
 
-    ghost spends: { (a b : Self) (items : List Item) → done a items b → pushable b ≡ pushable a - items_pushed items };
+    ghost spends: { (a b : Self) (items : List Item) → done a items b → pushable a ≡ pushable b + items_pushed items };
 }
 
 /// A value whose written size is known (the codec's `EncodeSize`).
@@ -81,7 +85,8 @@ pub trait Write: EncodeSize {
         requires { items_inline (Self.items self.now) ≤ B.room buf.old }
         ensures ok { OnOk result (B.done buf.old (Self.items self.now) buf.new) }
         ensures err { OnErr result (IsBegun (B.joined buf.old) (Self.written self.now) (B.joined buf.new)) }
-        ensures cause { IfErr result (λ error. (error ≡ Error.Memory) ⊎ ((error ≡ Error.TooLong) × (B.pushable buf.old < items_pushed (Self.items self.now)))) };
+        ensures cause { IfErr result (λ error. (error ≡ Error.Memory) ⊎ ((error ≡ Error.TooLong) × (B.pushable buf.old < items_pushed (Self.items self.now)))) }
+        ensures only_puts { ArePuts (Self.items self.now) → IsOk result };
 }
 
 /// A value that can be read (the codec's `Read`).

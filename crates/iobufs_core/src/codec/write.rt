@@ -1,5 +1,5 @@
 // The trait to fill room with bytes, in order.
-ghost use Rattle.std.specs.Prelude.{◌≡◌, ℕ, ◌-◌, ◌≤◌, List, [], ◌∷◌, ◌++◌, length, replicate};
+ghost use Rattle.std.specs.Prelude.{◌≡◌, ℕ, ◌+◌, ◌≤◌, List, [], ◌∷◌, ◌++◌, length, replicate};
 ghost use Rattle.std.specs.Int.{w16, w32, w64, to_be_bytes};
 
 use super::Buf;
@@ -8,7 +8,7 @@ use super::Buf;
 pub trait BufMut {
     ghost room: { Self → ℕ };
 
-    // From one value to another by filling these bytes in.
+    // From one value to another by filling these bytes in, which fit.
     ghost filled: { Self → List ℕ → Self → Type 0 };
 
     /// How many bytes fit.
@@ -25,11 +25,14 @@ pub trait BufMut {
         requires { n ≤ room self.old }
         ensures { filled self.old (replicate n value) self.new };
 
+    // To fill nothing in is always possible, and changes nothing.
     ghost nothing: { (s : Self) → filled s [] s };
+
+    ghost unchanged: { (a b : Self) → filled a [] b → b ≡ a };
 
     ghost composes: { (a b c : Self) (u v : List ℕ) → filled a u b → filled b v c → filled a (u ++ v) c };
 
-    ghost lessens: { (a b : Self) (w : List ℕ) → length w ≤ room a → filled a w b → room b ≡ room a - length w };
+    ghost lessens: { (a b : Self) (w : List ℕ) → filled a w b → room a ≡ room b + length w };
 
     final fn put_u8(&mut self, n: u8)
     where

@@ -14,7 +14,7 @@ loop-rest-preserved g c =
     let so_far = c.loop-rest.invariant.so_far in
     let more = spell-more rest c.loop-rest-test.true (omega arith) in
     let less = ap length more in
-    let room = g.met.B.BufMut.lessens c.loop-rest.buf c.put_u8.new.self ((128 + rest % 128) ∷ []) (omega (arith, c.loop-rest.invariant.fits)) c.put_u8.ensures in record {
+    let room = g.met.B.BufMut.lessens c.loop-rest.buf c.put_u8.new.self ((128 + rest % 128) ∷ []) c.put_u8.ensures in record {
       so_far = (
         so_far.0 ++ (128 + rest % 128) ∷ [],
         g.met.B.BufMut.composes _ _ _ _ _ so_far.1 c.put_u8.ensures,

@@ -13,7 +13,7 @@ loop-src-preserved g c =
     ap g.B.Buf.text c.advance.ensures ∙ g.met.B.Buf.drops c.loop-src.src n within in
     let whole : chunk ++ g.B.Buf.text c.advance.new.self ≡ text =
     ap (λ xs. chunk ++ xs) rest ∙ ap (λ xs. xs ++ drop n text) front ∙ take-append-drop n text in
-    let room = g.met.Self.BufMut.lessens c.loop-src.self c.put_slice.new.self chunk (omega (arith, within, c.loop-src.invariant.fits)) c.put_slice.ensures in record {
+    let room = g.met.Self.BufMut.lessens c.loop-src.self c.put_slice.new.self chunk c.put_slice.ensures in record {
       so_far = (
         done ++ chunk,
         g.met.Self.BufMut.composes _ _ _ _ _ c.loop-src.invariant.so_far.1 c.put_slice.ensures,

@@ -1,9 +1,8 @@
 -- The chunks of a marked text are as many as its keys.
-use Rattle.std.proofs.Common.{◌≡◌, ℕ, suc, ◌+◌, ◌-◌, ◌<◌, ◌≤◌, List, [], ◌∷◌, length, take, drop, arith, ap, refl, ◌∙◌, length-take-le, length-drop}
-use Rattle.std.specs.Prelude.{true, ◌==◌}
-use Rattle.iobufs_core.specs.Chunks.{full_chunks, is_full}
+use Rattle.std.proofs.Common.{◌≡◌, ℕ, suc, ◌+◌, ◌-◌, ◌<◌, List, [], ◌∷◌, length, take, drop, arith, ap, refl, ◌∙◌, length-take-le, length-drop}
+use Rattle.iobufs_core.specs.Chunks.{full_chunks}
 use Rattle.iobufs_core.specs.View.{Mark}
-use Rattle.iobufs_core.specs.MarkedText.{MarkedText, AreCuts, IsMarked, cut_up, text_chunks, chunk_count, text_len}
+use Rattle.iobufs_core.specs.MarkedText.{MarkedText, AreCuts, IsMarked, cut_up, text_chunks, text_len}
 
 -- a chunk that holds bytes counts
 full_one : (chunk : List ℕ) (chunks : List (List ℕ)) → 0 < length chunk → length (full_chunks (chunk ∷ chunks)) ≡ suc (length (full_chunks chunks))
