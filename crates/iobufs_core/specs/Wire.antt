@@ -1,5 +1,6 @@
 -- How lengths and views are written and read.
-use Rattle.std.specs.Prelude.{◌≡◌, ◌⊎◌, ℕ, ◌+◌, ◌<◌, ◌≤◌, ◌&&◌, Bool, true, false, nat_le, Result, Ok, Err, List, [], ◌∷◌, ◌++◌, length}
+use Rattle.std.specs.Prelude.{◌≡◌, ◌⊎◌, ℕ, ◌+◌, ◌<◌, ◌≤◌, true, false, Result, Ok, Err, List, [], ◌∷◌, ◌++◌, length}
+use Rattle.iobufs_core.specs.Ranges.{in_range}
 use Rattle.iobufs_core.specs.Spelling.{spell, IsSpelledAt, HasNoLength, IsOpen}
 use Rattle.iobufs_core.specs.View.{View}
 use Rattle.iobufs_core.specs.MarkedText.{MarkedText, taken_view, text_advanced, text_rest}
@@ -14,10 +15,6 @@ view_written view = spell (length view.bytes) ++ view.bytes
 
 abbrev pub view_items : View → List Item
 view_items view = put_item (spell (length view.bytes)) ∷ push_item view ∷ []
-
--- both ends of a range are in it
-abbrev pub in_range : RangeCfg → ℕ → Bool
-in_range range n = nat_le range.lo n && nat_le n range.hi
 
 -- why no length is spelled in front: the end of the buffer if a spelling may go on behind it, else it is invalid
 abbrev pub IsNoLength : List ℕ → Error → Type 0

@@ -1,7 +1,7 @@
 // Lengths, as they are spelled: seven bits a byte, lowest first.
-ghost use Rattle.std.specs.Prelude.{◌≡◌, ℕ, ◌+◌, ◌^◌, ◌<◌, ◌≤◌, ◌++◌, List, length, IfOk, IfErr};
+ghost use Rattle.std.specs.Prelude.{◌≡◌, ℕ, ◌+◌, ◌/◌, ◌%◌, ◌^◌, ◌<◌, ◌≤◌, ◌∷◌, ◌++◌, [], List, length, take, Ok, Err, IfOk, IfErr};
 ghost use Rattle.iobufs_core.specs.Spelling.{IsSpelledAt, spell};
-ghost use Rattle.iobufs_core.specs.Wire.{IsNoLength, in_range};
+ghost use Rattle.iobufs_core.specs.Wire.{IsLengthRead, IsNoLength};
 
 use super::{Buf, BufMut, Error, RangeCfg};
 
@@ -12,16 +12,38 @@ pub(super) struct Spelled {
     pub len: usize,
 }
 
-/// How many bytes spell a length.
-pub(super) fn spelled_len(n: usize) -> usize
-    ensures { result ≡ length (spell n) }
+// The first `len` bytes spell a length.
+struct Spelling {
+    bytes: [u8; 10],
+    len: usize,
+}
+
+fn spelling_of(n: usize) -> Spelling
+    ensures len { result.len ≡ length (spell n) }
+    ensures few { result.len ≤ 10 }
+    ensures bytes { take result.len result.bytes ≡ spell n }
 {
-    let mut len = 1;
+    let mut bytes = [0; 10];
+    let mut len = 0;
     let mut rest = n;
     while rest >= 128 {
+        bytes[len] = (128 + rest % 128) as u8;
         rest /= 128;
         len += 1;
     }
+    bytes[len] = rest as u8;
+    Spelling {
+        bytes,
+        len: len + 1,
+    }
+}
+
+/// How many bytes spell a length: at most ten.
+pub(super) fn spelled_len(n: usize) -> usize
+    ensures value { result ≡ length (spell n) }
+    ensures few { result ≤ 10 }
+{
+    let Spelling { bytes: _, len } = spelling_of(n);
     len
 }
 
@@ -30,16 +52,12 @@ pub(super) fn put_length<B: BufMut>(buf: &mut B, n: usize)
     requires { length (spell n) ≤ B.room buf.old }
     ensures { B.filled buf.old (spell n) buf.new }
 {
-    let mut rest = n;
-    while rest >= 128 {
-        buf.put_u8((128 + rest % 128) as u8);
-        rest /= 128;
-    }
-    buf.put_u8(rest as u8);
+    let Spelling { bytes, len } = spelling_of(n);
+    buf.put_slice(&bytes[..len]);
 }
 
 /// The length that a text begins with.
-pub(super) fn length_at<B: Buf>(buf: &B) -> Result<Spelled, Error>
+fn length_at<B: Buf>(buf: &B) -> Result<Spelled, Error>
     ensures ok { IfOk result (λ s. IsSpelledAt (B.text buf.now) s.value × (s.len ≡ length (spell s.value))) }
     ensures err { IfErr result (IsNoLength (B.text buf.now)) }
 {
@@ -71,17 +89,26 @@ pub(super) fn length_at<B: Buf>(buf: &B) -> Result<Spelled, Error>
     }
 }
 
-/// Whether a length is in a range.
-pub(super) fn is_in_range(range: &RangeCfg, n: usize) -> bool
-    ensures { result ≡ in_range range.now n }
+/// The length that a text begins with, if it is in a range.
+pub(super) fn length_in<B: Buf>(buf: &B, range: &RangeCfg) -> Result<Spelled, Error>
+    ensures ok { IfOk result (λ s. IsLengthRead (B.text buf.now) range.now (Ok s.value) × (s.len ≡ length (spell s.value))) }
+    ensures err { IfErr result (λ error. IsLengthRead (B.text buf.now) range.now (Err error)) }
 {
-    range.lo <= n && n <= range.hi
+    let found = length_at(buf)?;
+    if range.contains(found.value) {
+        Ok(found)
+    } else {
+        Err(Error::InvalidLength(found.value))
+    }
 }
 
-/// Does nothing. Its contract is a law: the spelling of a length begins the spelling of no other, so what was
-/// written is read back whatever follows.
+/// Does nothing. Its contract is two laws of spelling. A length below 128 is spelled by itself, a larger one by its low
+/// seven bits with the top bit set, and then the rest. And the spelling of a length begins the spelling of no other, so
+/// what was written is read back whatever follows.
 pub fn spelling_law(n: usize, m: usize)
-    ensures { (x y : List ℕ) → spell n ++ x ≡ spell m ++ y → n ≡ m }
+    ensures last { n < 128 → spell n ≡ n ∷ [] }
+    ensures more { 128 ≤ n → spell n ≡ (128 + n % 128) ∷ spell (n / 128) }
+    ensures no_front { (x y : List ℕ) → spell n ++ x ≡ spell m ++ y → n ≡ m }
 {
     let _ = (n, m);
 }

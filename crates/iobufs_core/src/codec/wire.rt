@@ -6,7 +6,7 @@ ghost use Rattle.iobufs_core.specs.Items.{Item, put_item, push_item, items_bytes
 ghost use Rattle.iobufs_core.specs.View.{view_of_bytes};
 ghost use Rattle.iobufs_core.specs.declared.codec.base.Error.{Error as AnyError};
 
-use super::length::{is_in_range, length_at, put_length, spelled_len};
+use super::length::{length_in, put_length, spelled_len};
 use super::{Buf, BufError, BufMut, Error, OwnedBuf, RangeCfg, Refused};
 use crate::buf::IoBuf;
 use bytes::Bytes;
@@ -150,10 +150,7 @@ impl Read for usize {
         buf: &mut B,
         range: &RangeCfg,
     ) -> Result<usize, Error> {
-        let found = length_at(buf)?;
-        if !is_in_range(range, found.value) {
-            return Err(Error::InvalidLength(found.value));
-        }
+        let found = length_in(buf, range)?;
         buf.advance(found.len);
         Ok(found.value)
     }
@@ -205,10 +202,7 @@ impl Read for IoBuf {
     ghost left = { view_left };
 
     fn read_cfg<B: OwnedBuf>(alloc: Global, buf: &mut B, range: &RangeCfg) -> Result<IoBuf, Error> {
-        let found = length_at(buf)?;
-        if !is_in_range(range, found.value) {
-            return Err(Error::InvalidLength(found.value));
-        }
+        let found = length_in(buf, range)?;
         if buf.remaining() - found.len < found.value {
             return Err(Error::EndOfBuffer);
         }
