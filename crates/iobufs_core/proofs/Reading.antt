@@ -6,9 +6,6 @@ use Rattle.std.proofs.lemmas.Bool.{cases_lt}
 use Rattle.std.proofs.lemmas.Bool.Decides.{eqb_tells}
 use Rattle.std.proofs.lemmas.Option.{slice_get_within, get_or_from_slice_get}
 use Rattle.std.proofs.Math.Nat.{pow-suc, pow-le-pow_right, mul-le-mul_left}
-use Rattle.std.proofs.lemmas.Grind.{common_steps}
-use Rattle.std.proofs.lemmas.Bool.Decides.{nat_tests}
-use Rattle.iobufs_core.specs.MarkedText.{MarkedText, taken_view}
 use Rattle.iobufs_core.specs.Spelling.{spell, IsSpelledAt, IsSpelling, AreHigh, HasNoLength, IsOpen}
 use Rattle.iobufs_core.proofs.Spelled.{grow, read_off, AreHigh-append, none_high, none_long, none_zero, none_large}
 
@@ -143,11 +140,6 @@ pub end_from_none : (text : List ℕ) (i : ℕ) → slice_get text i ≡ None �
 end_from_none [] i e = omega arith
 end_from_none (x ∷ xs) zero e = cc
 end_from_none (x ∷ xs) (suc i) e = let ih = end_from_none xs i e in omega arith
-
--- what is taken as one view has as many bytes as were asked for
-pub length-taken_view : (text : MarkedText) (skip n : ℕ) → skip + n ≤ length text.bytes → length (taken_view text skip n).bytes ≡ n
-unfolding taken_view
-length-taken_view text skip n within = grind (arith, nat_tests, common_steps)
 
 -- a spelling lies inside the text that it begins
 pub spelled_inside : (text : List ℕ) (n : ℕ) → IsSpelledAt text n → length (spell n) ≤ length text

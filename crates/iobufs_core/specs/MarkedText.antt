@@ -44,7 +44,7 @@ abbrev pub mark_past : ℕ × Mark → ℕ → Mark
 mark_past key p = mark_after (p - key.0) key.1
 
 -- the mark at the greatest key that is at most p, moved on to p
-unfoldable pub mark_at : MarkedText → ℕ → Mark
+abbrev pub mark_at : MarkedText → ℕ → Mark
 mark_at text p = mark_past (key_upto (0, text.mark) text.cuts p) p
 
 abbrev pub moved_up : ℕ → ℕ × Mark → ℕ × Mark
@@ -59,7 +59,7 @@ text_left text at = record { bytes = take at text.bytes; mark = text.mark; cuts 
 
 -- the other bytes, with key 0 marked as `mark_at text at` is, and each key above `at` moved down
 unfoldable pub text_right : MarkedText → ℕ → MarkedText
-text_right text at = record { bytes = drop at text.bytes; mark = mark_past (key_upto (0, text.mark) text.cuts at) at; cuts = map (moved_down at) (filter (λ cut. nat_lt at cut.0) text.cuts) }
+text_right text at = record { bytes = drop at text.bytes; mark = mark_at text at; cuts = map (moved_down at) (filter (λ cut. nat_lt at cut.0) text.cuts) }
 
 -- what a split at a place answers
 abbrev pub text_split_front : MarkedText → ℕ → MarkedText
@@ -84,7 +84,7 @@ has_cut_between text from to = list_any (λ cut. nat_lt from cut.0 && nat_lt cut
 unfoldable pub taken_view : MarkedText → ℕ → ℕ → View
 taken_view text skip n =
     if n == 0 then default_view
-    else record { bytes = take n (drop skip text.bytes); mark = if has_cut_between text skip (skip + n) then native_mark n else mark_past (key_upto (0, text.mark) text.cuts skip) skip }
+    else record { bytes = take n (drop skip text.bytes); mark = if has_cut_between text skip (skip + n) then native_mark n else mark_at text skip }
 
 -- one behind the other, neither of them empty
 unfoldable pub text_glue : MarkedText → MarkedText → MarkedText

@@ -1,16 +1,19 @@
 -- Views as marked texts without cuts.
-use Rattle.std.specs.Prelude.{◌≡◌, ◌≢◌, ℕ, ◌+◌, ◌≤◌, length, drop, refl, [], ◌∷◌}
+use Rattle.std.specs.Prelude.{◌≡◌, ◌≢◌, ℕ, ◌+◌, ◌-◌, ◌≤◌, length, drop, refl, [], ◌∷◌}
 use Rattle.std.specs.declared.ops.Bound.TheVariants.{Included, Excluded}
 use Rattle.std.proofs.Common.{arith, take_all, ◌∙◌}
 use Rattle.std.proofs.lemmas.Grind.{common_steps}
 use Rattle.std.proofs.lemmas.List.{drop-take}
 use Rattle.std.proofs.lemmas.Bool.Decides.{nat_tests}
 use Rattle.iobufs_core.specs.Chunks.{full_chunks}
-use Rattle.iobufs_core.specs.View.{View, view_rest, view_slice, view_advanced}
-use Rattle.iobufs_core.specs.MarkedText.{of_view, text_rest, text_right, text_advanced, text_chunks, taken_view}
+use Rattle.iobufs_core.specs.View.{View, IsView, view_rest, view_slice, view_advanced}
+use Rattle.iobufs_core.specs.MarkedText.{IsMarked, of_view, text_rest, text_right, text_advanced, text_chunks, taken_view}
 
 pub view_rest-bytes : (v : View) (n : ℕ) → n ≤ length v.bytes → (view_rest v n).bytes ≡ drop n v.bytes
 view_rest-bytes v n h = grind (arith, nat_tests, common_steps)
+
+pub marked_view : (v : View) → IsView v → IsMarked (of_view v)
+marked_view v room = let len : length v.bytes - 0 ≡ length v.bytes = omega arith in rw len room
 
 pub right-of_view : (v : View) (n : ℕ) → text_right (of_view v) n ≡ of_view (view_advanced v n)
 unfolding text_right

@@ -1,20 +1,26 @@
 -- How lengths and views are written and read.
-use Rattle.std.specs.Prelude.{◌≡◌, ◌⊎◌, ℕ, ◌+◌, ◌<◌, ◌≤◌, true, false, Result, Ok, Err, List, [], ◌∷◌, ◌++◌, length}
+use Rattle.std.specs.Prelude.{◌≡◌, ◌⊎◌, ℕ, ◌+◌, ◌<◌, ◌≤◌, true, false, Result, Ok, Err, List, [], ◌∷◌, ◌++◌, length, take, drop}
 use Rattle.iobufs_core.specs.Ranges.{in_range}
 use Rattle.iobufs_core.specs.Spelling.{spell, IsSpelledAt, HasNoLength, IsOpen}
-use Rattle.iobufs_core.specs.View.{View}
-use Rattle.iobufs_core.specs.MarkedText.{MarkedText, taken_view, text_advanced, text_rest}
+use Rattle.iobufs_core.specs.View.{View, view_of_bytes}
+use Rattle.iobufs_core.specs.MarkedText.{MarkedText, taken_view, text_rest}
 use Rattle.iobufs_core.specs.Items.{Item, put_item, push_item}
 use Rattle.iobufs_core.specs.declared.codec.base.Error.{Error}
 use Rattle.iobufs_core.specs.declared.codec.base.Error.TheVariants.{EndOfBuffer, InvalidVarint, InvalidLength, Memory}
 use Rattle.iobufs_core.specs.declared.codec.base.RangeCfg.{RangeCfg}
 
--- a view is written as its length and its bytes: the length is put, the view pushed
+-- bytes are written behind their length; of a view the length is put, and the view pushed
+abbrev pub bytes_written : List ℕ → List ℕ
+bytes_written bytes = spell (length bytes) ++ bytes
+
 abbrev pub view_written : View → List ℕ
-view_written view = spell (length view.bytes) ++ view.bytes
+view_written view = bytes_written view.bytes
 
 abbrev pub view_items : View → List Item
 view_items view = put_item (spell (length view.bytes)) ∷ push_item view ∷ []
+
+abbrev pub bytes_items : List ℕ → List Item
+bytes_items bytes = put_item (spell (length bytes)) ∷ push_item (view_of_bytes bytes) ∷ []
 
 -- why no length is spelled in front: the end of the buffer if a spelling may go on behind it, else it is invalid
 abbrev pub IsNoLength : List ℕ → Error → Type 0
@@ -28,22 +34,32 @@ IsLengthRead bytes range (Ok n) = IsSpelledAt bytes n × (in_range range n ≡ t
 IsLengthRead bytes range (Err (InvalidLength n)) = IsSpelledAt bytes n × (in_range range n ≡ false)
 IsLengthRead bytes range (Err error) = IsNoLength bytes error
 
--- what a read length leaves: what one `advance` over its spelling leaves
-abbrev pub length_left : MarkedText → ℕ → MarkedText
-length_left text n = text_advanced text (length (spell n))
+-- what reading a value of a fixed size answers: the value whose written bytes stand in front; the end of the buffer where there are fewer bytes
+abbrev pub IsFixedRead : {Value : Type 0} → (Value → List ℕ) → ℕ → List ℕ → Result Value Error → Type 0
+IsFixedRead written size bytes (Ok value) = (size ≤ length bytes) × (written value ≡ take size bytes)
+IsFixedRead written size bytes (Err EndOfBuffer) = length bytes < size
+IsFixedRead written size bytes (Err error) = ⊥
 
 -- a length in the range is spelled in front, and so many bytes are behind it
 abbrev pub HasView : MarkedText → RangeCfg → ℕ → Type 0
 HasView text range n = IsLengthRead text.bytes range (Ok n) × (length (spell n) + n ≤ length text.bytes)
 
--- What reading a view answers: the bytes behind its length, or the fault of the length, or the end of the buffer
+-- why no view is read: the fault of its length, fewer bytes behind it than it says, or bytes that find no memory
+abbrev pub IsViewFault : MarkedText → RangeCfg → Error → Type 0
+IsViewFault text range Memory = (n : ℕ) × HasView text range n × (0 < n)
+IsViewFault text range EndOfBuffer =
+    IsLengthRead text.bytes range (Err EndOfBuffer) ⊎ ((n : ℕ) × IsLengthRead text.bytes range (Ok n) × (length text.bytes < length (spell n) + n))
+IsViewFault text range error = IsLengthRead text.bytes range (Err error)
+
+-- what reading a view answers: the bytes behind its length as one view, or a fault; and the same of these bytes alone
 abbrev pub IsViewRead : MarkedText → RangeCfg → Result View Error → Type 0
 IsViewRead text range (Ok view) = (n : ℕ) × HasView text range n × (view ≡ taken_view text (length (spell n)) n)
-IsViewRead text range (Err Memory) = (n : ℕ) × HasView text range n
-IsViewRead text range (Err EndOfBuffer) =
-    IsLengthRead text.bytes range (Err EndOfBuffer) ⊎ ((n : ℕ) × IsLengthRead text.bytes range (Ok n) × (length text.bytes < length (spell n) + n))
-IsViewRead text range (Err error) = IsLengthRead text.bytes range (Err error)
+IsViewRead text range (Err error) = IsViewFault text range error
+
+abbrev pub IsBytesRead : MarkedText → RangeCfg → Result (List ℕ) Error → Type 0
+IsBytesRead text range (Ok bytes) = (n : ℕ) × HasView text range n × (bytes ≡ take n (drop (length (spell n)) text.bytes))
+IsBytesRead text range (Err error) = IsViewFault text range error
 
 -- what a read view leaves: what a copy of its length and its bytes leaves
 abbrev pub view_left : MarkedText → View → MarkedText
-view_left text view = text_rest text (length (spell (length view.bytes)) + length view.bytes)
+view_left text view = text_rest text (length (view_written view))

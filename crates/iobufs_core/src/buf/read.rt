@@ -332,6 +332,11 @@ impl Eq for IoBuf {
 }
 
 impl fmt::Debug for IoBuf {
+    ghost use Rattle.std.specs.Prelude.{Some, codes, length, ◌++◌};
+    ghost use Rattle.std.specs.Fmt.{decimal};
+
+    ghost debug_output = { λ v. Some (codes "IoBuf { len: " ++ decimal (length v.bytes) ++ codes " }") };
+
     fn fmt<W: fmt::Write>(&self, f: &mut fmt::Formatter<W>) -> fmt::Result {
         let len = self.len();
         write!(f, "IoBuf {{ len: {len} }}")
@@ -418,6 +423,14 @@ impl OwnedBuf for IoBuf {
     ghost use Rattle.std.proofs.Common.{rules};
 
     ghost marked = { of_view };
+
+    #[tactic(auto, using(crate::specs::ViewLaws::marked_view))]
+    fn chunk_count(&self) -> usize {
+        match self.len() {
+            0 => 0,
+            _ => 1,
+        }
+    }
 
     #[tactic(auto, using(crate::specs::ViewLaws::taken_of_view))]
     fn take_owned_after<T: OwnedBytes>(

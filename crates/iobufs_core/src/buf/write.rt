@@ -1,5 +1,6 @@
 // A buffer of fixed capacity, to be written.
-ghost use Rattle.std.specs.Prelude.{◌≡◌, ◌+◌, ◌-◌, ◌<◌, ◌≤◌, ◌==◌, [], ◌∷◌, length, take, drop, replicate, OnOk, OnErr, vec_len, vec_capacity, false, IfOk, IsOk, IsOkUnless, IsTrue, MatchResult};
+ghost use Rattle.std.specs.Prelude.{◌≡◌, ◌+◌, ◌-◌, ◌<◌, ◌≤◌, ◌==◌, [], ◌∷◌, length, take, drop, replicate, OnOk, OnErr, vec_len, vec_capacity, false, IfOk, IsOk, IsOkUnless, IsTrue, ◌↔◌, MatchResult};
+ghost use Rattle.std.specs.Align.{IsLayout};
 ghost use Rattle.iobufs_core.specs.Part.{empty_part, is_bad_layout as bad_layout, part_capacity, part_copied, part_drained, part_frozen, part_overwritten, part_put, part_with_len, part_truncated};
 ghost use Rattle.iobufs_core.specs.Recovery.{IsPartOf};
 ghost use Rattle.std.specs.Borrow.{Lends, Array, sem, u8 as byte};
@@ -9,7 +10,7 @@ use super::IoBuf;
 use super::native::Native;
 use crate::codec::{Buf, BufError, BufMut};
 use bytes::{Bytes, BytesMut};
-use std::alloc::Global;
+use std::alloc::{Global, Layout};
 use std::fmt;
 use std::marker::Model;
 
@@ -46,17 +47,10 @@ impl Model for IoBufMut {
 
 // Whether no storage has this capacity and alignment.
 fn is_bad_layout(n: usize, align: usize) -> bool
-    ensures { result ≡ bad_layout n align }
+    ensures value { result ≡ bad_layout n align }
+    ensures layout { IsTrue result ↔ ((0 < n) × (IsLayout n align → ⊥)) }
 {
-    if n == 0 {
-        return false;
-    }
-    if align == 0 || !align.is_power_of_two() {
-        return true;
-    }
-    let most = isize::MAX as usize;
-    let padding = (align - n % align) % align;
-    n > most || padding > most - n
+    n != 0 && Layout::from_size_align(n, align).is_err()
 }
 
 impl IoBufMut {
@@ -82,6 +76,7 @@ impl IoBufMut {
         ensures ok { IfOk result (λ b. b ≡ empty_part n) }
         ensures bad_layout { IsTrue (bad_layout n align) → result ≡ Err BufError.BadLayout }
         ensures good_layout { bad_layout n align ≡ false → IsOkUnless result BufError.Memory }
+        ensures layout { IsTrue (bad_layout n align) ↔ ((0 < n) × (IsLayout n align → ⊥)) }
         ensures nothing { n ≡ 0 → IsOk result }
     {
         if is_bad_layout(n, align) {
@@ -273,6 +268,12 @@ impl From<Vec<u8>> for IoBufMut {
 }
 
 impl fmt::Debug for IoBufMut {
+    ghost use Rattle.std.specs.Prelude.{Some, codes, length, ◌++◌};
+    ghost use Rattle.std.specs.Fmt.{decimal};
+    ghost use Rattle.iobufs_core.specs.Part.{part_capacity};
+
+    ghost debug_output = { λ p. Some (codes "IoBufMut { len: " ++ decimal (length p.filled) ++ codes ", cap: " ++ decimal (part_capacity p) ++ codes " }") };
+
     fn fmt<W: fmt::Write>(&self, f: &mut fmt::Formatter<W>) -> fmt::Result {
         let len = self.len();
         let cap = self.capacity();

@@ -1,7 +1,7 @@
 // The traits to take pieces of a text out and keep them.
 ghost use Rattle.std.specs.Prelude.{◌≡◌, ℕ, ◌+◌, ◌≤◌, ◌<◌, List, length, Err, IfOk, IsOk, OnOk, OnErr, IsOkUnless};
 ghost use Rattle.iobufs_core.specs.View.{View, default_view};
-ghost use Rattle.iobufs_core.specs.MarkedText.{MarkedText, taken_view, text_advanced, text_rest, text_chunks};
+ghost use Rattle.iobufs_core.specs.MarkedText.{MarkedText, IsMarked, chunk_count as count_of, taken_view, text_advanced, text_rest, text_chunks};
 
 use super::{Buf, BufError, Error};
 use crate::buf::IoBuf;
@@ -41,6 +41,11 @@ pub trait OwnedBytes: Sized {
 /// A text in pieces that can be taken out and kept (the codec's `Buf`).
 pub trait OwnedBuf: Buf {
     ghost marked: { Self → MarkedText };
+
+    /// The number of pieces that hold bytes.
+    fn chunk_count(&self) -> usize
+        ensures count { result ≡ count_of (marked self.now) }
+        ensures marked { IsMarked (marked self.now) };
 
     /// Takes the `n` bytes behind the first `skip` out, and drops all of them.
     fn take_owned_after<T: OwnedBytes>(

@@ -1,13 +1,16 @@
 // The traits to write and read values, with bytes that are pushed and not copied.
 ghost use Rattle.std.specs.Prelude.{◌≡◌, ◌⊎◌, ℕ, ◌+◌, ◌^◌, ◌<◌, ◌≤◌, List, [], ◌∷◌, ◌++◌, length, Result, SomeIff, OnOk, OnErr, IfOk, IfErr, IsOk, IsErrAnd};
 ghost use Rattle.iobufs_core.specs.View.{View};
-ghost use Rattle.iobufs_core.specs.MarkedText.{MarkedText};
+ghost use Rattle.iobufs_core.specs.MarkedText.{MarkedText, taken_view, text_advanced, text_rest};
+ghost use Rattle.iobufs_core.specs.Spelling.{spell};
+ghost use Rattle.iobufs_core.specs.Wire.{HasView, IsViewFault, view_items, view_written};
+ghost use Rattle.iobufs_core.specs.Dropping.{Dropping, by_advance, by_copy, dropped};
 ghost use Rattle.iobufs_core.specs.Items.{Item, put_item, push_item, items_bytes, items_inline, items_pushed, ArePuts, IsBegun};
 ghost use Rattle.iobufs_core.specs.View.{view_of_bytes};
 ghost use Rattle.iobufs_core.specs.declared.codec.base.Error.{Error as AnyError};
 
 use super::length::{length_in, put_length, spelled_len};
-use super::{Buf, BufError, BufMut, Error, OwnedBuf, RangeCfg, Refused};
+use super::{Buf, BufError, BufMut, Error, OwnedBuf, OwnedBytes, RangeCfg, Refused};
 use crate::buf::IoBuf;
 use bytes::Bytes;
 use std::alloc::Global;
@@ -94,21 +97,22 @@ pub trait Read: Sized {
     /// What is asked of the value.
     type Cfg;
 
-    // What reading answers on a text, and what a value that was read leaves of it.
+    // What reading answers on a text, and how a value that was read is dropped from its front.
     ghost is_read: { MarkedText → Self.Cfg → Result Self AnyError → Type 0 };
 
-    ghost left: { MarkedText → Self → MarkedText };
+    ghost dropping: { Self → List Dropping };
 
     /// Reads a value from the front. A refusal leaves the reader as it was.
     fn read_cfg<B: OwnedBuf>(alloc: Global, buf: &mut B, cfg: &Self::Cfg) -> Result<Self, Error>
         ensures answer { is_read (B.marked buf.old) cfg.now result }
-        ensures rest { IfOk result (λ value. B.marked buf.new ≡ left (B.marked buf.old) value) }
+        ensures left { IfOk result (λ value. buf.new ≡ dropped B.advanced B.copied buf.old (dropping value)) }
+        ensures rest { IfOk result (λ value. B.marked buf.new ≡ dropped text_advanced text_rest (B.marked buf.old) (dropping value)) }
         ensures err { OnErr result (buf.new ≡ buf.old) };
 }
 
 impl EncodeSize for usize {
     ghost use Rattle.iobufs_core.specs.Spelling.{spell};
-    ghost use Rattle.iobufs_core.specs.WireLaws.{joins-length};
+    ghost use Rattle.iobufs_core.specs.WireLaws.{joins-put};
 
     ghost written = { spell };
 
@@ -122,7 +126,7 @@ impl EncodeSize for usize {
         spelled_len(*self)
     }
 
-    ghost joins_items = { joins-length };
+    ghost joins_items = { λ n. joins-put (spell n) };
 }
 
 impl Write for usize {
@@ -139,11 +143,12 @@ impl Write for usize {
 impl Read for usize {
     type Cfg = RangeCfg;
 
-    ghost use Rattle.iobufs_core.specs.Wire.{IsLengthRead, length_left};
+    ghost use Rattle.iobufs_core.specs.Spelling.{spell};
+    ghost use Rattle.iobufs_core.specs.Wire.{IsLengthRead};
 
     ghost is_read = { λ text range answer. IsLengthRead text.bytes range answer };
 
-    ghost left = { length_left };
+    ghost dropping = { λ n. by_advance (length (spell n)) ∷ [] };
 
     fn read_cfg<B: OwnedBuf>(
         _alloc: Global,
@@ -182,30 +187,49 @@ impl Write for IoBuf {
         buf.put_slice(self.as_ref());
     }
 
-    fn write_bufs<B: BufsMut>(&self, buf: &mut B) -> Result<(), Error> {
-        put_length(buf, self.len());
+    /// The view is shared before its length is put: a refusal leaves the target as it was, or with the length alone.
+    fn write_bufs<B: BufsMut>(&self, buf: &mut B) -> Result<(), Error>
+        requires { items_inline (view_items self.now) ≤ B.room buf.old }
+        ensures ok { OnOk result (B.done buf.old (view_items self.now) buf.new) }
+        ensures err { OnErr result (IsBegun (B.joined buf.old) (view_written self.now) (B.joined buf.new)) }
+        ensures left { OnErr result ((buf.new ≡ buf.old) ⊎ B.done buf.old (put_item (spell (length self.now.bytes)) ∷ []) buf.new) }
+        ensures cause { IfErr result (λ error. (error ≡ Error.Memory) ⊎ ((error ≡ Error.TooLong) × (B.pushable buf.old < items_pushed (view_items self.now)))) }
+        ensures only_puts { ArePuts (view_items self.now) → IsOk result }
+    {
         let view = self.clone()?;
-        match buf.push(view) {
-            Ok(()) => Ok(()),
-            Err(refused) => Err(Error::from(refused.cause)),
-        }
+        put_length(buf, self.len());
+        buf.push(view)?;
+        Ok(())
     }
 }
 
 impl Read for IoBuf {
     type Cfg = RangeCfg;
 
-    ghost use Rattle.iobufs_core.specs.Wire.{IsViewRead, view_left};
+    ghost use Rattle.iobufs_core.specs.Wire.{IsViewRead, view_written};
 
     ghost is_read = { IsViewRead };
 
-    ghost left = { view_left };
+    ghost dropping = { λ view. by_copy (length (view_written view)) ∷ [] };
 
     fn read_cfg<B: OwnedBuf>(alloc: Global, buf: &mut B, range: &RangeCfg) -> Result<IoBuf, Error> {
-        let found = length_in(buf, range)?;
-        if buf.remaining() - found.len < found.value {
-            return Err(Error::EndOfBuffer);
-        }
-        Ok(buf.take_owned_after(alloc, found.len, found.value)?)
+        read_bytes(alloc, buf, range)
     }
+}
+
+/// Reads the bytes behind a length, as what is made of a view.
+pub(super) fn read_bytes<T: OwnedBytes, B: OwnedBuf>(
+    alloc: Global,
+    buf: &mut B,
+    range: &RangeCfg,
+) -> Result<T, Error>
+    ensures ok { IfOk result (λ made. (n : ℕ) × HasView (B.marked buf.old) range.now n × T.makes (taken_view (B.marked buf.old) (length (spell n)) n) made × (buf.new ≡ B.copied buf.old (length (spell n) + n))) }
+    ensures fault { IfErr result (IsViewFault (B.marked buf.old) range.now) }
+    ensures err { OnErr result (buf.new ≡ buf.old) }
+{
+    let found = length_in(buf, range)?;
+    if buf.remaining() - found.len < found.value {
+        return Err(Error::EndOfBuffer);
+    }
+    Ok(buf.take_owned_after(alloc, found.len, found.value)?)
 }

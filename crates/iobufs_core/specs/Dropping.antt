@@ -1,0 +1,13 @@
+-- How bytes in front of a reader are dropped.
+use Rattle.std.specs.Prelude.{ℕ, List, [], ◌∷◌}
+
+-- by one `advance`, or by one copy of them
+pub data Dropping : Type 0 where
+  by_advance : ℕ → Dropping
+  by_copy : ℕ → Dropping
+
+-- what these leave one after another, where it is known what an `advance` and what a copy leaves
+abbrev pub dropped : {Reader : Type 0} → (Reader → ℕ → Reader) → (Reader → ℕ → Reader) → Reader → List Dropping → Reader
+dropped advanced copied reader [] = reader
+dropped advanced copied reader (by_advance n ∷ more) = dropped advanced copied (advanced reader n) more
+dropped advanced copied reader (by_copy n ∷ more) = dropped advanced copied (copied reader n) more

@@ -1,0 +1,31 @@
+// Encoding a value into one buffer.
+ghost use Rattle.std.specs.Prelude.{◌≡◌, ◌^◌, ◌<◌, ◌≤◌, length, Err, IfOk, IsOk, IsOkUnless};
+
+use super::{Error, Write};
+use crate::buf::IoBufMut;
+use std::alloc::Global;
+
+/// Encoding into one buffer (the codec's `Encode`).
+pub trait Encode: Write {
+    /// The written value in one buffer of exactly its size, with no room behind it. `Error::TooLong` where
+    /// `encode_size` is none, then `Error::BadLayout` above `isize::MAX` bytes.
+    #[tactic(auto, using(crate::specs::LayoutLaws::good_layout, crate::specs::LayoutLaws::large_layout))]
+    final fn encode(&self, alloc: Global) -> Result<IoBufMut, Error>
+    where
+        Self: Sized,
+        ensures ok { IfOk result (λ part. part ≡ record { filled = Self.written self.now; spare = 0 }) }
+        ensures too_long { 2 ^ 64 ≤ length (Self.written self.now) → result ≡ Err Error.TooLong }
+        ensures bad_layout { length (Self.written self.now) < 2 ^ 64 → 2 ^ 63 ≤ length (Self.written self.now) → result ≡ Err Error.BadLayout }
+        ensures memory { length (Self.written self.now) < 2 ^ 63 → IsOkUnless result Error.Memory }
+        ensures nothing { length (Self.written self.now) ≡ 0 → IsOk result }
+    {
+        let Some(size) = self.encode_size() else {
+            return Err(Error::TooLong);
+        };
+        let mut buf = IoBufMut::with_capacity(alloc, size)?;
+        self.write(&mut buf);
+        Ok(buf)
+    }
+}
+
+impl<T: Write> Encode for T {}

@@ -1,0 +1,57 @@
+// A `Bytes` as a value that is written and read behind its length.
+ghost use Rattle.std.specs.Prelude.{[], ◌∷◌, length};
+ghost use Rattle.iobufs_core.specs.Dropping.{by_copy};
+
+use super::length::{put_length, spelled_len};
+use super::wire::read_bytes;
+use super::{BufMut, BufsMut, EncodeSize, Error, OwnedBuf, RangeCfg, Read, Write};
+use bytes::Bytes;
+use std::alloc::Global;
+
+impl EncodeSize for Bytes {
+    ghost use Rattle.iobufs_core.specs.Wire.{bytes_items, bytes_written};
+    ghost use Rattle.iobufs_core.specs.WireLaws.{joins-bytes};
+
+    ghost written = { bytes_written };
+
+    ghost items = { bytes_items };
+
+    fn encode_size(&self) -> Option<usize> {
+        let len = self.len();
+        spelled_len(len).checked_add(len)
+    }
+
+    fn encode_inline_size(&self) -> usize {
+        spelled_len(self.len())
+    }
+
+    ghost joins_items = { joins-bytes };
+}
+
+impl Write for Bytes {
+    fn write<B: BufMut>(&self, buf: &mut B) {
+        put_length(buf, self.len());
+        buf.put_slice(self.as_slice());
+    }
+
+    fn write_bufs<B: BufsMut>(&self, buf: &mut B) -> Result<(), Error> {
+        let bytes = self.clone()?;
+        put_length(buf, self.len());
+        buf.push_bytes(bytes)?;
+        Ok(())
+    }
+}
+
+impl Read for Bytes {
+    type Cfg = RangeCfg;
+
+    ghost use Rattle.iobufs_core.specs.Wire.{IsBytesRead, bytes_written};
+
+    ghost is_read = { IsBytesRead };
+
+    ghost dropping = { λ bytes. by_copy (length (bytes_written bytes)) ∷ [] };
+
+    fn read_cfg<B: OwnedBuf>(alloc: Global, buf: &mut B, range: &RangeCfg) -> Result<Bytes, Error> {
+        read_bytes(alloc, buf, range)
+    }
+}
