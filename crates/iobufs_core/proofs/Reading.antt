@@ -17,15 +17,6 @@ pub record IsSoFar (text : List ℕ) (i value place : ℕ) : Type 0 where
   pub below : value < place
   pub completes : (tail : List ℕ) (rest : ℕ) → IsSpelling tail rest → (i ≡ 0) ⊎ (0 < rest) → IsSpelling (take i text ++ tail) (value + place * rest)
 
-pub none_so_far : (text : List ℕ) → IsSoFar text 0 0 1
-none_so_far text = record {
-  inside = omega arith;
-  high = tt;
-  place_is = refl;
-  below = omega arith;
-  completes = λ tail rest is some. let e : rest ≡ 0 + 1 * rest = omega arith in subst (IsSpelling tail) e is;
-}
-
 -- the byte behind those that were read
 pub next_byte : (text : List ℕ) (i b : ℕ) → slice_get text i ≡ Some b → take (i + 1) text ≡ take i text ++ b ∷ []
 next_byte text i b e = take_more text i b (slice_get_within text i b e) ∙ ap (λ x. take i text ++ x ∷ []) (get_or_from_slice_get text i b b e)
@@ -140,7 +131,3 @@ pub end_from_none : (text : List ℕ) (i : ℕ) → slice_get text i ≡ None �
 end_from_none [] i e = omega arith
 end_from_none (x ∷ xs) zero e = cc
 end_from_none (x ∷ xs) (suc i) e = let ih = end_from_none xs i e in omega arith
-
--- a spelling lies inside the text that it begins
-pub spelled_inside : (text : List ℕ) (n : ℕ) → IsSpelledAt text n → length (spell n) ≤ length text
-spelled_inside text n at = omega (arith, ap (λ (xs : List ℕ). length xs) at.1, length-take (length (spell n)) text)

@@ -54,11 +54,6 @@ one_form (b ∷ c ∷ bs) (d ∷ f ∷ ds) x y m n p q e =
     let second = q.4 in
     (cc (rest.0, h), omega arith)
 
--- a spelling is at least one byte long
-pub spelling_some : (a : List ℕ) (n : ℕ) → IsSpelling a n → 0 < length a
-spelling_some [] n p = elim p [ ]
-spelling_some (b ∷ bs) n p = omega arith
-
 -- a number has one spelling
 pub same_form : (a b : List ℕ) (n : ℕ) → IsSpelling a n → IsSpelling b n → a ≡ b
 same_form [] b n p q = elim p [ ]
