@@ -22,9 +22,15 @@ use std::marker::Model;
 
 /// Writable buffers in a row, read from the front and filled in order (`IoBufsMut`). With two or more, each can hold
 /// a byte.
-#[derive(Drop)]
 pub struct IoBufsMut {
     shape: Shape,
+}
+
+// Written out, so that what a caller proves about parts that it drops names no field.
+impl Drop for IoBufsMut {
+    fn drop(self) {
+        let IoBufsMut { shape: _ } = self;
+    }
 }
 
 // One part, which asks for no memory of its own, or a row of two or more.
@@ -222,7 +228,8 @@ impl IoBufsMut {
         ensures ok { IfOk result (λ text. text ≡ parts_frozen self) }
         ensures memory { IsOkUnless result BufError.Memory }
     {
-        match self.shape {
+        let IoBufsMut { shape } = self;
+        match shape {
             Shape::One(part) => IoBufs::from_mut(part),
             Shape::Many(parts) => row::freeze(alloc, parts),
         }
@@ -250,11 +257,10 @@ impl IoBufsMut {
     pub fn try_into_single(self) -> Result<IoBufMut, IoBufsMut>
         ensures { MatchResult result (λ part. self ≡ part ∷ []) (λ parts. (parts ≡ self) × (single_part self ≡ None)) }
     {
-        match self.shape {
+        let IoBufsMut { shape } = self;
+        match shape {
             Shape::One(part) => Ok(part),
-            Shape::Many(parts) => Err(IoBufsMut {
-                shape: Shape::Many(parts),
-            }),
+            shape => Err(IoBufsMut { shape }),
         }
     }
 }

@@ -14,7 +14,6 @@ use std::marker::Model;
 
 /// Puts and pushes on their way to one text (`Builder`). All puts share one buffer of a fixed capacity; what is
 /// pushed is not copied.
-#[derive(Drop)]
 pub struct Builder {
     inline: IoBufMut,
     pushes: Vec<Push>,
@@ -22,6 +21,18 @@ pub struct Builder {
     placed: usize,
     // How many bytes pushes may still add.
     pushable: usize,
+}
+
+// Written out, so that what a caller proves about a builder that it drops names no field.
+impl Drop for Builder {
+    fn drop(self) {
+        let Builder {
+            inline: _,
+            pushes: _,
+            placed: _,
+            pushable: _,
+        } = self;
+    }
 }
 
 // A view, and how many inline bytes stand between it and the one before it.
@@ -94,7 +105,12 @@ impl Builder {
         ensures memory { IsOkUnless result BufError.Memory }
     {
         let alloc = *self.pushes.allocator();
-        let Builder { inline, pushes, .. } = self;
+        let Builder {
+            inline,
+            pushes,
+            placed: _,
+            pushable: _,
+        } = self;
         let mut rest = inline.freeze()?;
         let mut text = IoBufs::default();
         for push in pushes {

@@ -20,10 +20,16 @@ use std::marker::Model;
 use std::mem;
 
 /// A read-only text in pieces (the original's `IoBufs`). Two or more pieces are never empty.
-#[derive(Drop)]
 pub struct IoBufs {
     pub(super) shape: Shape,
     pub(super) len: usize,
+}
+
+// Written out, so that what a caller proves about a text that it drops names no field.
+impl Drop for IoBufs {
+    fn drop(self) {
+        let IoBufs { shape: _, len: _ } = self;
+    }
 }
 
 impl Model for IoBufs {
@@ -86,7 +92,7 @@ impl IoBufs {
         ensures value { result ≡ text_len self.now }
         ensures marked { IsMarked self.now }
     {
-        let IoBufs { len, .. } = self;
+        let IoBufs { shape: _, len } = self;
         *len
     }
 
@@ -142,8 +148,8 @@ impl IoBufs {
     pub fn try_into_single(self) -> Result<IoBuf, IoBufs>
         ensures { MatchResult result (λ piece. self ≡ of_view piece) (λ text. (text ≡ self) × (is_single self ≡ false)) }
     {
-        let len = self.len;
-        match self.shape.into_single() {
+        let IoBufs { shape, len } = self;
+        match shape.into_single() {
             Ok(piece) => Ok(piece),
             Err(shape) => Err(IoBufs { shape, len }),
         }
