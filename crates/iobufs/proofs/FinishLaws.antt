@@ -132,6 +132,21 @@ front-len view n fits = let t = length-take n view.bytes in grind (arith, nat_te
 pub rest-len : (view : View) (n : ℕ) → n ≤ length view.bytes → length (view_rest view n).bytes ≡ length view.bytes - n
 rest-len view n fits = let d = length-drop n view.bytes in grind (arith, nat_tests, common_steps)
 
+-- where a builder has no items, nothing was pushed, and no bytes are inline
+pub nothing-built : (part : Part) (ps : List Push) (placed : ℕ) (b : Building) → runs_len ps ≡ placed → building_with part ps placed ≡ b → building_items b ≡ [] → (length ps ≡ 0) × (length part.filled ≡ 0)
+nothing-built part ps placed b counted is none = by_pushes ps counted (ap building_items is ∙ none)
+  where
+    no_run : (bytes : List ℕ) → inline_run bytes ≡ [] → length bytes ≡ 0
+    no_run [] none = refl
+    no_run (byte ∷ bytes) none = let n = ap length none in absurd (omega arith)
+
+    by_pushes : (ps : List Push) → runs_len ps ≡ placed → items_front part.filled ps ++ inline_run (drop placed part.filled) ≡ [] → (length ps ≡ 0) × (length part.filled ≡ 0)
+    by_pushes [] counted none = let d = length-drop placed part.filled in let n = no_run (drop placed part.filled) none in (refl, omega arith)
+    by_pushes (p ∷ ps) counted none =
+        let n = length-append (items_front part.filled (p ∷ ps)) (inline_run (drop placed part.filled)) in
+        let m = length-append (inline_run (take p.run part.filled)) (push_item p.view ∷ items_front (drop p.run part.filled) ps) in
+        let z = ap length none in absurd (omega arith)
+
 -- one turn: a run and a view go from what is left to the text
 pub join-so_far : (text mid next all : MarkedText) (rest run left : View) (ps more : List Push) (p : Push) → fold text_append text (views_left rest ps) ≡ all → ps ≡ p ∷ more → run ≡ view_split_front rest p.run → left ≡ view_rest rest p.run → mid ≡ text_append text run → next ≡ text_append mid p.view → fold text_append next (views_left left more) ≡ all
 join-so_far text mid next all rest run left ps more p so_far taken front behind first second =

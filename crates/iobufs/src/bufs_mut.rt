@@ -227,6 +227,7 @@ impl IoBufsMut {
     pub fn freeze(self, alloc: Global) -> Result<IoBufs, BufError>
         ensures ok { IfOk result (λ text. text ≡ parts_frozen self) }
         ensures memory { IsOkUnless result BufError.Memory }
+        ensures nothing { length (parts_filled self) ≡ 0 → IsOk result }
     {
         let IoBufsMut { shape } = self;
         match shape {

@@ -1,9 +1,9 @@
 // Encoded bytes and existing buffers, put together as one text.
-ghost use Rattle.std.specs.Prelude.{◌≡◌, ◌+◌, ◌<◌, ◌≤◌, ◌^◌, length, Err, IfErr, IsErrAnd, IfOk, IsOk, IsOkUnless, OnErr, OnOk, vec_len, vec_capacity};
+ghost use Rattle.std.specs.Prelude.{◌≡◌, ◌+◌, ◌<◌, ◌≤◌, ◌^◌, [], length, Err, IfErr, IsErrAnd, IfOk, IsOk, IsOkUnless, OnErr, OnOk, vec_len, vec_capacity};
 ghost use Rattle.iobufs_core.specs.Items.{items_inline};
 ghost use Rattle.iobufs_core.specs.MarkedText.{text_append, text_len};
 ghost use Rattle.iobufs_core.specs.View.{View};
-ghost use Rattle.iobufs.specs.Building.{built, empty_building, finished};
+ghost use Rattle.iobufs.specs.Building.{building_items, built, empty_building, finished};
 
 use crate::bufs::IoBufs;
 use bytes::Bytes;
@@ -73,6 +73,7 @@ fn append(alloc: Global, text: &mut IoBufs, piece: IoBuf) -> Result<(), BufError
     requires { text_len text.old + length piece.bytes < 2 ^ 64 }
     ensures ok { OnOk result (text.new ≡ text_append text.old piece) }
     ensures memory { IsOkUnless result BufError.Memory }
+    ensures nothing { length piece.bytes ≡ 0 → IsOk result }
 {
     match text.append(alloc, piece) {
         Ok(()) => Ok(()),
@@ -103,6 +104,7 @@ impl Builder {
     pub fn finish(self) -> Result<IoBufs, BufError>
         ensures ok { IfOk result (λ text. text ≡ finished self) }
         ensures memory { IsOkUnless result BufError.Memory }
+        ensures nothing { building_items self ≡ [] → IsOk result }
     {
         let alloc = *self.pushes.allocator();
         let Builder {

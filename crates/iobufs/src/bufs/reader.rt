@@ -55,6 +55,7 @@ impl IoBufs {
         requires { n ≤ text_len self.now }
         ensures ok { IfOk result (λ bytes. bytes ≡ take n self.now.bytes) }
         ensures memory { IsOkUnless result BufError.Memory }
+        ensures nothing { n ≡ 0 → IsOk result }
     {
         if n == 0 {
             return Ok(Bytes::new());

@@ -1,5 +1,5 @@
 // Several parts in a row: what the calls of `IoBufsMut` do to two or more.
-ghost use Rattle.std.specs.Prelude.{◌≡◌, ◌^◌, ◌<◌, ◌≤◌, [], ◌∷◌, length, map, nat_lt, replicate, slice_get, take, IfNone, IfOk, IfSome, IsOkUnless};
+ghost use Rattle.std.specs.Prelude.{◌≡◌, ◌^◌, ◌<◌, ◌≤◌, [], ◌∷◌, length, map, nat_lt, replicate, slice_get, take, IfNone, IfOk, IfSome, IsOk, IsOkUnless};
 ghost use Rattle.std.specs.List.{sum_by};
 ghost use Rattle.iobufs_core.specs.Chunks.{first_chunk};
 ghost use Rattle.iobufs_core.specs.Part.{part_capacity};
@@ -233,7 +233,8 @@ pub(super) fn front(
     parts: &VecDeque<IoBufMut>,
     n: usize,
 ) -> Result<Vec<u8>, AllocError>
-    ensures { IfOk result (λ bytes. bytes.items ≡ take n (parts_filled parts.now.items)) }
+    ensures bytes { IfOk result (λ bytes. bytes.items ≡ take n (parts_filled parts.now.items)) }
+    ensures nothing { n ≡ 0 → IsOk result }
 {
     let mut bytes = Vec::with_capacity(alloc, n)?;
     let mut rest = n;
@@ -276,6 +277,7 @@ pub(super) fn freeze(alloc: Global, mut parts: VecDeque<IoBufMut>) -> Result<IoB
     requires { parts_capacity parts.items < 2 ^ 64 }
     ensures ok { IfOk result (λ text. text ≡ parts_frozen parts.items) }
     ensures memory { IsOkUnless result BufError.Memory }
+    ensures nothing { length (parts_filled parts.items) ≡ 0 → IsOk result }
 {
     let mut text = IoBufs::default();
     while let Some(part) = parts.pop_front() {
