@@ -8,6 +8,14 @@ use Rattle.iobufs_core.specs.View.{View}
 use Rattle.iobufs_core.specs.Items.{Item, put_item, push_item, item_bytes, item_inline, item_pushed, items_bytes, items_inline, items_pushed}
 use Rattle.iobufs.specs.Building.{Building, inline_run, building_put, building_push, built_one, built, building_bytes, building_room, room_for_pushes}
 
+-- putting these bytes in, which fit
+abbrev pub IsPut : Building → List ℕ → Building → Type 0
+IsPut a bytes b = (length bytes ≤ building_room a) × (b ≡ building_put a bytes)
+
+-- doing these puts and pushes one after another, all of which fit
+abbrev pub IsBuilt : Building → List Item → Building → Type 0
+IsBuilt a items b = (items_inline items ≤ building_room a) × (items_pushed items ≤ room_for_pushes a) × (b ≡ built a items)
+
 pub items_bytes-append : (xs ys : List Item) → items_bytes (xs ++ ys) ≡ items_bytes xs ++ items_bytes ys
 items_bytes-append [] ys = refl
 items_bytes-append (x ∷ xs) ys = ap (λ bs. item_bytes x ++ bs) (items_bytes-append xs ys) ∙ sym (append_assoc (item_bytes x) (items_bytes xs) (items_bytes ys))
@@ -32,25 +40,32 @@ pub run-pushed : (bytes : List ℕ) → items_pushed (inline_run bytes) ≡ 0
 run-pushed [] = refl
 run-pushed (b ∷ bs) = refl
 
--- a put of no bytes changes nothing, and two puts are one of both
-pub put_nothing : (b : Building) → b ≡ building_put b []
-put_nothing b = ap (λ (last : List ℕ). record { capacity = b.capacity; front = b.front; last = last }) (sym (append-nil b.last))
+put-nothing : (b : Building) → b ≡ building_put b []
+put-nothing b = ap (λ (last : List ℕ). record { capacity = b.capacity; front = b.front; last = last }) (sym (append-nil b.last))
 
-pub put_composes : (a b c : Building) (u v : List ℕ) → b ≡ building_put a u → c ≡ building_put b v → c ≡ building_put a (u ++ v)
-put_composes a b c u v p q =
-    q ∙ ap (λ (x : Building). building_put x v) p
-    ∙ ap (λ (last : List ℕ). record { capacity = a.capacity; front = a.front; last = last }) (append_assoc a.last u v)
+put-append : (b : Building) (u v : List ℕ) → building_put (building_put b u) v ≡ building_put b (u ++ v)
+put-append b u v = ap (λ (last : List ℕ). record { capacity = b.capacity; front = b.front; last = last }) (append_assoc b.last u v)
 
-pub put_lessens : (a b : Building) (w : List ℕ) → length w ≤ building_room a → b ≡ building_put a w → building_room b ≡ building_room a - length w
-put_lessens a b w fits p = let n = length-append a.last w in ap building_room p ∙ (omega arith)
+-- the laws of the trait to fill room
+pub put_nothing : (b : Building) → IsPut b [] b
+put_nothing b = (omega arith, put-nothing b)
+
+pub put_unchanged : (a b : Building) → IsPut a [] b → b ≡ a
+put_unchanged a b put = put.1 ∙ sym (put-nothing a)
+
+pub put_lessens : (a b : Building) (w : List ℕ) → IsPut a w b → building_room a ≡ building_room b + length w
+put_lessens a b w put = omega (arith, put.0, length-append a.last w, ap building_room put.1)
+
+pub put_composes : (a b c : Building) (u v : List ℕ) → IsPut a u b → IsPut b v c → IsPut a (u ++ v) c
+put_composes a b c u v first second = (
+  omega (arith, length-append u v, put_lessens a b u first, second.0),
+  second.1 ∙ ap (λ (x : Building). building_put x v) first.1 ∙ put-append a u v,
+)
 
 -- items done, then others
 pub built-append : (a : Building) (us vs : List Item) → built a (us ++ vs) ≡ built (built a us) vs
 built-append a [] vs = refl
 built-append a (u ∷ us) vs = built-append (built_one a u) us vs
-
-pub built_follows : (a b c : Building) (us vs : List Item) → b ≡ built a us → c ≡ built b vs → c ≡ built a (us ++ vs)
-built_follows a b c us vs p q = q ∙ ap (λ (x : Building). built x vs) p ∙ sym (built-append a us vs)
 
 -- a push of nothing, and of something
 pub push-none : (a : Building) (view : View) → length view.bytes ≡ 0 → building_push a view ≡ a
@@ -106,15 +121,25 @@ pub pushes-built : (a : Building) (items : List Item) → room_for_pushes (built
 pushes-built a [] = omega arith
 pushes-built a (i ∷ is) = let ih = pushes-built (built_one a i) is in let one = pushes-one a i in omega arith
 
--- the laws of a builder
-pub built_puts : (a b : Building) (w : List ℕ) → b ≡ building_put a w → b ≡ built a (put_item w ∷ [])
-built_puts a b w p = p
+-- the laws of the trait of puts and pushes
+pub built_idle : (a : Building) → IsBuilt a [] a
+built_idle a = (omega arith, omega arith, refl)
 
-pub built_adds : (a b : Building) (items : List Item) → b ≡ built a items → building_bytes b ≡ building_bytes a ++ items_bytes items
-built_adds a b items p = ap building_bytes p ∙ bytes-built a items
+pub built_puts : (a b : Building) (w : List ℕ) → IsPut a w b → IsBuilt a (put_item w ∷ []) b
+built_puts a b w put = (omega (arith, put.0), omega arith, put.1)
 
-pub built_uses : (a b : Building) (items : List Item) → b ≡ built a items → building_room b ≡ building_room a - items_inline items
-built_uses a b items p = ap building_room p ∙ room-built a items
+pub built_adds : (a b : Building) (items : List Item) → IsBuilt a items b → building_bytes b ≡ building_bytes a ++ items_bytes items
+built_adds a b items done = ap building_bytes done.2 ∙ bytes-built a items
 
-pub built_spends : (a b : Building) (items : List Item) → b ≡ built a items → room_for_pushes b ≡ room_for_pushes a - items_pushed items
-built_spends a b items p = ap room_for_pushes p ∙ pushes-built a items
+pub built_uses : (a b : Building) (items : List Item) → IsBuilt a items b → building_room a ≡ building_room b + items_inline items
+built_uses a b items done = omega (arith, done.0, ap building_room done.2, room-built a items)
+
+pub built_spends : (a b : Building) (items : List Item) → IsBuilt a items b → room_for_pushes a ≡ room_for_pushes b + items_pushed items
+built_spends a b items done = omega (arith, done.1, ap room_for_pushes done.2, pushes-built a items)
+
+pub built_follows : (a b c : Building) (us vs : List Item) → IsBuilt a us b → IsBuilt b vs c → IsBuilt a (us ++ vs) c
+built_follows a b c us vs first second = (
+  omega (arith, items_inline-append us vs, built_uses a b us first, second.0),
+  omega (arith, items_pushed-append us vs, built_spends a b us first, second.1),
+  second.2 ∙ ap (λ (x : Building). built x vs) first.2 ∙ sym (built-append a us vs),
+)

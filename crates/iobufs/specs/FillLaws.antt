@@ -8,6 +8,10 @@ use Rattle.std.proofs.lemmas.List.Sums.{sum_by-cons}
 use Rattle.iobufs_core.specs.Part.{Part, part_put}
 use Rattle.iobufs.specs.Parts.{parts_fill, parts_spare}
 
+-- filling these bytes in, which fit
+abbrev pub AreFilled : List Part → List ℕ → List Part → Type 0
+AreFilled a w b = (length w ≤ parts_spare a) × (b ≡ parts_fill a w)
+
 pub drop_past : {A : Type 0} (n : ℕ) (xs ys : List A) → length xs ≤ n → drop n (xs ++ ys) ≡ drop (n - length xs) ys
 drop_past n xs ys l =
     let k : n ≡ length xs + (n - length xs) = omega arith in
@@ -80,12 +84,18 @@ spare-fill (p ∷ parts) w l =
     let ih = spare-fill parts (drop p.spare w) (omega arith) in
     omega arith
 
--- the same, as the trait to fill room states them
-pub filled_nothing : (parts : List Part) → parts ≡ parts_fill parts []
-filled_nothing parts = sym (fill-nil parts)
+-- the laws of the trait to fill room
+pub filled_nothing : (parts : List Part) → AreFilled parts [] parts
+filled_nothing parts = (omega arith, sym (fill-nil parts))
 
-pub filled_composes : (a b c : List Part) (u v : List ℕ) → b ≡ parts_fill a u → c ≡ parts_fill b v → c ≡ parts_fill a (u ++ v)
-filled_composes a b c u v g h = h ∙ ap (λ x. parts_fill x v) g ∙ sym (fill-append a u v)
+pub filled_unchanged : (a b : List Part) → AreFilled a [] b → b ≡ a
+filled_unchanged a b filled = filled.1 ∙ fill-nil a
 
-pub filled_lessens : (a b : List Part) (w : List ℕ) → length w ≤ parts_spare a → b ≡ parts_fill a w → parts_spare b ≡ parts_spare a - length w
-filled_lessens a b w l h = ap parts_spare h ∙ spare-fill a w l
+pub filled_lessens : (a b : List Part) (w : List ℕ) → AreFilled a w b → parts_spare a ≡ parts_spare b + length w
+filled_lessens a b w filled = omega (arith, filled.0, ap parts_spare filled.1, spare-fill a w filled.0)
+
+pub filled_composes : (a b c : List Part) (u v : List ℕ) → AreFilled a u b → AreFilled b v c → AreFilled a (u ++ v) c
+filled_composes a b c u v first second = (
+  omega (arith, length-append u v, filled_lessens a b u first, second.0),
+  second.1 ∙ ap (λ x. parts_fill x v) first.1 ∙ sym (fill-append a u v),
+)

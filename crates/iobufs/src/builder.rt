@@ -126,12 +126,12 @@ impl Builder {
 }
 
 impl BufMut for Builder {
-    ghost use Rattle.iobufs.specs.Building.{building_put, building_room};
-    ghost use Rattle.iobufs.specs.BuildingLaws.{put_composes, put_lessens, put_nothing};
+    ghost use Rattle.iobufs.specs.Building.{building_room};
+    ghost use Rattle.iobufs.specs.BuildingLaws.{IsPut, put_composes, put_lessens, put_nothing, put_unchanged};
 
     ghost room = { building_room };
 
-    ghost filled = { λ a bytes b. b ≡ building_put a bytes };
+    ghost filled = { IsPut };
 
     #[tactic(auto, using(crate::proofs::BuildLaws::building))]
     fn remaining_mut(&self) -> usize {
@@ -150,6 +150,8 @@ impl BufMut for Builder {
 
     ghost nothing = { put_nothing };
 
+    ghost unchanged = { put_unchanged };
+
     ghost composes = { put_composes };
 
     ghost lessens = { put_lessens };
@@ -157,13 +159,13 @@ impl BufMut for Builder {
 
 impl BufsMut for Builder {
     ghost use Rattle.iobufs.specs.Building.{building_bytes, room_for_pushes};
-    ghost use Rattle.iobufs.specs.BuildingLaws.{built_adds, built_follows, built_puts, built_spends, built_uses};
+    ghost use Rattle.iobufs.specs.BuildingLaws.{IsBuilt, built_adds, built_follows, built_idle, built_puts, built_spends, built_uses};
 
     ghost joined = { building_bytes };
 
     ghost pushable = { room_for_pushes };
 
-    ghost done = { λ a items b. b ≡ built a items };
+    ghost done = { IsBuilt };
 
     #[tactic(auto, using(crate::proofs::BuildLaws::building))]
     fn push(&mut self, view: IoBuf) -> Result<(), Refused<IoBuf>> {
@@ -199,6 +201,8 @@ impl BufsMut for Builder {
         self.pushable -= len;
         Ok(())
     }
+
+    ghost idle = { built_idle };
 
     ghost puts = { built_puts };
 

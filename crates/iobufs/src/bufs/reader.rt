@@ -32,6 +32,7 @@ impl IoBufs {
         requires { skip + n ≤ text_len self.now }
         ensures ok { IfOk result (λ view. view ≡ taken_view self.now skip n) }
         ensures memory { IsOkUnless result BufError.Memory }
+        ensures nothing { n ≡ 0 → IsOk result }
     {
         if n == 0 {
             return Ok(IoBuf::default());

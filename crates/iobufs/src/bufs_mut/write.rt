@@ -1,16 +1,16 @@
 // `IoBufsMut` as room that is filled in order.
-ghost use Rattle.std.specs.Prelude.{◌≡◌, List, ℕ};
-ghost use Rattle.iobufs.specs.Parts.{parts_fill, parts_spare};
+ghost use Rattle.std.specs.Prelude.{List, ℕ};
+ghost use Rattle.iobufs.specs.Parts.{parts_spare};
 
 use super::{IoBufsMut, Shape, row};
 use iobufs_core::codec::BufMut;
 
 impl BufMut for IoBufsMut {
-    ghost use Rattle.iobufs.specs.FillLaws.{filled_nothing, filled_composes, filled_lessens};
+    ghost use Rattle.iobufs.specs.FillLaws.{AreFilled, filled_composes, filled_lessens, filled_nothing, filled_unchanged};
 
     ghost room = { parts_spare };
 
-    ghost filled = { λ a bytes b. b ≡ parts_fill a bytes };
+    ghost filled = { AreFilled };
 
     #[tactic(auto, using(crate::proofs::PartLaws::sums))]
     fn remaining_mut(&self) -> usize {
@@ -37,6 +37,8 @@ impl BufMut for IoBufsMut {
     }
 
     ghost nothing = { filled_nothing };
+
+    ghost unchanged = { filled_unchanged };
 
     ghost composes = { filled_composes };
 

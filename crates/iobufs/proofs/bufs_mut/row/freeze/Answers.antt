@@ -1,4 +1,4 @@
-use Rattle.std.proofs.Common.{◌++◌, fold, length, length-append, map, arith, ap, sym, ◌∙◌}
+use Rattle.std.proofs.Common.{fold, length, length-append, map, arith, ap, sym, ◌∙◌}
 use Rattle.std.proofs.lemmas.List.Sums.{sum_by-cons}
 use Rattle.iobufs_core.specs.MarkedText.{text_append, text_len}
 use Rattle.iobufs_core.specs.Part.{part_capacity, part_frozen}

@@ -23,7 +23,11 @@ returns-clause-ok c =
     let push : Push = record { run = c.len.result - b.placed; view = c.args.view } in
     let run : push.run ≡ length b.inline.filled - b.placed = ap (λ n. n - b.placed) c.len.ensures in
     let noted = rw c.unwrap.ensures at c.push.ensures.items in
-    push-kept b.inline b.pushes.items _ b.placed _ _ push inv.counted inv.within c.self.view_is run (omega arith) (noted ∙ ap (λ (ps : List Push). ps ++ push ∷ []) c.make_room.ensures.same) refl
+    let limit = pushes-kept b.inline b.pushes.items b.placed b.pushable _ inv.limited c.self.view_is in (
+      omega arith,
+      omega (arith, limit, c.in_default.ensures.ok.0),
+      push-kept b.inline b.pushes.items _ b.placed _ _ push inv.counted inv.within c.self.view_is run (omega arith) (noted ∙ ap (λ (ps : List Push). ps ++ push ∷ []) c.make_room.ensures.same) refl,
+    )
 
 pub returns-clause-too_long : goal.returns-clause-too_long
 returns-clause-too_long c =

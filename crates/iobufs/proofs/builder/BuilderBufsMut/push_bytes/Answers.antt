@@ -25,8 +25,12 @@ returns-clause-ok c =
     let run : push.run ≡ length b.inline.filled - b.placed = ap (λ n. n - b.placed) c.len.ensures in
     let len = ap (λ (v : View). length v.bytes) c.from-view.ensures ∙ bytes-len c.args.bytes in
     let noted = rw c.unwrap.ensures at c.push.ensures.items in
-    push-kept b.inline b.pushes.items _ b.placed _ _ push inv.counted inv.within c.self.view_is run (omega arith) (noted ∙ ap (λ (ps : List Push). ps ++ push ∷ []) c.make_room.ensures.same) refl
-    ∙ ap (building_push c.args.self.now) c.from-view.ensures
+    let limit = pushes-kept b.inline b.pushes.items b.placed b.pushable _ inv.limited c.self.view_is in (
+      omega arith,
+      omega (arith, limit, c.in_default.ensures.ok.0, bytes-len c.args.bytes),
+      push-kept b.inline b.pushes.items _ b.placed _ _ push inv.counted inv.within c.self.view_is run (omega arith) (noted ∙ ap (λ (ps : List Push). ps ++ push ∷ []) c.make_room.ensures.same) refl
+          ∙ ap (building_push c.args.self.now) c.from-view.ensures,
+    )
 
 pub returns-clause-too_long : goal.returns-clause-too_long
 returns-clause-too_long c =

@@ -19,6 +19,6 @@ returns-in_err-write_bufs-clause-memory g c =
 pub returns-clause-bytes : goal.returns-clause-bytes
 returns-clause-bytes g c =
     let items = g.Self.EncodeSize.items c.args.self.now in
-    ap (λ (text : MarkedText). text.bytes) (c.in_ok-finish.ensures.ok ∙ ap finished (c.in_ok-write_bufs.ensures.ok ∙ ap (λ (b : Building). built b items) (c.in_ok-builder.ensures.ok ∙ ap empty_building c.encode_inline_size.ensures)))
+    ap (λ (text : MarkedText). text.bytes) (c.in_ok-finish.ensures.ok ∙ ap finished (c.in_ok-write_bufs.ensures.ok.2 ∙ ap (λ (b : Building). built b items) (c.in_ok-builder.ensures.ok ∙ ap empty_building c.encode_inline_size.ensures)))
     ∙ encoded-bytes (items_inline items) items
     ∙ g.met.Self.EncodeSize.joins_items c.args.self.now
