@@ -1,12 +1,12 @@
 // Writable parts strung together.
-ghost use Rattle.std.specs.Prelude.{◌≡◌, ◌<◌, ◌≤◌, ◌==◌, ◌^◌, ◌∷◌, [], length, slice_get, Err, IfErr, IfOk, IsOk, IsOkUnless, MatchResult};
+ghost use Rattle.std.specs.Prelude.{◌≡◌, ◌+◌, ◌<◌, ◌≤◌, ◌==◌, ◌^◌, ◌++◌, ◌∷◌, [], length, slice_get, Err, IfErr, IfOk, IsOk, IsOkUnless, MatchResult};
 ghost use Rattle.std.specs.Iterator.{IsFinite};
 ghost use Rattle.std.specs.Iterator.Runs.{SomeRun, WholeRun};
 ghost use Rattle.std.specs.Option.{option_copied, option_map};
 ghost use Rattle.std.specs.Borrow.{LendsIf, sem};
-ghost use Rattle.iobufs_core.specs.Part.{empty_part};
+ghost use Rattle.iobufs_core.specs.Part.{empty_part, part_capacity};
 ghost use Rattle.iobufs_core.specs.contracts.buf.write.IoBufMut.{the_row as part_row};
-ghost use Rattle.iobufs.specs.Parts.{HaveCapacity, IsParts, kept_parts, parts_capacity, parts_coalesced, parts_filled, parts_frozen, parts_or_default, parts_overwritten, parts_with_len, single_part};
+ghost use Rattle.iobufs.specs.Parts.{IsParts, kept_parts, parts_capacity, parts_coalesced, parts_filled, parts_frozen, parts_overwritten, parts_with_len, single_part};
 ghost use Rattle.iobufs.specs.PartLimits.{IsRowRefusedAt};
 
 mod read;
@@ -45,15 +45,31 @@ impl Shape {
     ghost use Rattle.iobufs.specs.declared.bufs_mut.Shape.TheVariants.{One};
     ghost use Rattle.iobufs.specs.PartShape.{IsShape, shape_parts, shape_single};
 
-    fn of_row(mut parts: VecDeque<IoBufMut>) -> Shape
-        requires have_capacity { HaveCapacity parts.items }
-        requires fits { parts_capacity parts.items < 2 ^ 64 }
-        ensures parts { shape_parts result ≡ parts_or_default parts.items }
-        ensures shape { IsShape result }
+    // One more part, which can hold a byte; one that can't makes way for it.
+    #[tactic(auto, using(crate::proofs::PartRuns::growing))]
+    fn with_part(self, alloc: Global, part: IoBufMut) -> Result<Shape, BufError>
+        requires shape { IsShape self }
+        requires more { 0 < part_capacity part }
+        requires fits { parts_capacity (shape_parts self) + part_capacity part < 2 ^ 64 }
+        ensures parts { IfOk result (λ shape. shape_parts shape ≡ kept_parts (shape_parts self ++ part ∷ [])) }
+        ensures shape { IfOk result IsShape }
+        ensures memory { IsOkUnless result BufError.Memory }
+        ensures first { parts_capacity (shape_parts self) ≡ 0 → IsOk result }
     {
-        match row::take_single(&mut parts) {
-            Some(part) => Shape::One(part),
-            None => Shape::Many(parts),
+        match self {
+            Shape::One(first) => {
+                if first.capacity() == 0 {
+                    return Ok(Shape::One(part));
+                }
+                let mut row = VecDeque::with_capacity(alloc, 4)?;
+                row.push_back_reserved(first);
+                row.push_back_reserved(part);
+                Ok(Shape::Many(row))
+            }
+            Shape::Many(mut row) => {
+                row.push_back(part)?;
+                Ok(Shape::Many(row))
+            }
         }
     }
 
@@ -91,7 +107,8 @@ impl IoBufsMut {
     }
 
     /// The parts of an iterator that can hold a byte; where there are none, one of capacity 0. `BufError::TooLong` where
-    /// a part's capacity and those before it together pass `usize::MAX`, tested before memory is asked for.
+    /// a part's capacity and those before it together pass `usize::MAX`, tested before memory is asked for. The first
+    /// part that can hold a byte asks for none.
     pub fn from_parts<I: Iterator<Item = IoBufMut> + Drop>(
         alloc: Global,
         items: I,
@@ -101,7 +118,7 @@ impl IoBufsMut {
         ensures ok { IfOk result (λ parts. WholeRun I.next_gives items (λ run. (parts_capacity run.items < 2 ^ 64) × (parts ≡ kept_parts run.items))) }
         ensures err { IfErr result (λ cause. SomeRun I.next_gives items (λ run. IsRowRefusedAt run.items cause)) }
     {
-        let mut parts = VecDeque::new(alloc);
+        let mut shape = Shape::One(IoBufMut::default(alloc));
         let mut left = usize::MAX;
         for part in items {
             let capacity = part.capacity();
@@ -110,12 +127,10 @@ impl IoBufsMut {
             }
             left -= capacity;
             if capacity > 0 {
-                parts.push_back(part)?;
+                shape = shape.with_part(alloc, part)?;
             }
         }
-        Ok(IoBufsMut {
-            shape: Shape::of_row(parts),
-        })
+        Ok(IoBufsMut { shape })
     }
 
     /// The number of readable bytes.

@@ -1,7 +1,6 @@
 // Encoded bytes and existing buffers, put together as one text.
 ghost use Rattle.std.specs.Prelude.{◌≡◌, ◌+◌, ◌<◌, ◌≤◌, ◌^◌, [], length, Err, IfErr, IsErrAnd, IfOk, IsOk, IsOkUnless, OnErr, OnOk, vec_len, vec_capacity};
 ghost use Rattle.iobufs_core.specs.Items.{items_inline};
-ghost use Rattle.iobufs_core.specs.MarkedText.{text_append, text_len};
 ghost use Rattle.iobufs_core.specs.View.{View};
 ghost use Rattle.iobufs.specs.Building.{building_items, built, empty_building, finished};
 
@@ -68,19 +67,6 @@ fn make_room(pushes: &mut Vec<Push>, pushable: usize, len: usize) -> Result<(), 
     Ok(())
 }
 
-// Puts a piece behind a text.
-fn append(alloc: Global, text: &mut IoBufs, piece: IoBuf) -> Result<(), BufError>
-    requires { text_len text.old + length piece.bytes < 2 ^ 64 }
-    ensures ok { OnOk result (text.new ≡ text_append text.old piece) }
-    ensures memory { IsOkUnless result BufError.Memory }
-    ensures nothing { length piece.bytes ≡ 0 → IsOk result }
-{
-    match text.append(alloc, piece) {
-        Ok(()) => Ok(()),
-        Err(refused) => Err(refused.cause),
-    }
-}
-
 impl Builder {
     /// A builder for so many inline bytes and no more. `BufError::BadLayout` above `isize::MAX`.
     #[tactic(auto, using(crate::proofs::BuildLaws::building))]
@@ -117,10 +103,10 @@ impl Builder {
         let mut text = IoBufs::default();
         for push in pushes {
             let run = rest.split_to(push.run)?;
-            append(alloc, &mut text, run)?;
-            append(alloc, &mut text, push.view)?;
+            text.append(alloc, run)?;
+            text.append(alloc, push.view)?;
         }
-        append(alloc, &mut text, rest)?;
+        text.append(alloc, rest)?;
         Ok(text)
     }
 }

@@ -267,7 +267,8 @@ impl IoBufs {
         Ok(IoBufs::from(IoBuf::from_vec(bytes)?))
     }
 
-    /// Joins buffers in order, and leaves the empty ones out (`FromIterator` of the original).
+    /// Joins buffers in order, and leaves the empty ones out (`FromIterator` of the original). `BufError::TooLong` where
+    /// the bytes of a buffer and those before it together pass `usize::MAX`.
     pub fn from_chunks<I: Iterator<Item = IoBuf>>(
         alloc: Global,
         mut chunks: I,
@@ -279,9 +280,7 @@ impl IoBufs {
     {
         let mut text = IoBufs::default();
         while let Some(chunk) = chunks.next() {
-            if let Err(refused) = text.append(alloc, chunk) {
-                return Err(refused.cause);
-            }
+            text.append(alloc, chunk)?;
         }
         Ok(text)
     }

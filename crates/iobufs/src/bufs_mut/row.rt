@@ -282,9 +282,7 @@ pub(super) fn freeze(alloc: Global, mut parts: VecDeque<IoBufMut>) -> Result<IoB
     let mut text = IoBufs::default();
     while let Some(part) = parts.pop_front() {
         let piece = part.freeze()?;
-        if let Err(refused) = text.append(alloc, piece) {
-            return Err(refused.cause);
-        }
+        text.append(alloc, piece)?;
     }
     Ok(text)
 }

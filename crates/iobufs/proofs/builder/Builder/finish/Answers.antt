@@ -21,8 +21,8 @@ loop-push-preserved c =
     let taken = c.in-Some.ensures.steps.0 in
     let front = c.in_ok-run.ensures.front in
     let behind = c.in_ok-run.ensures.rest in
-    let first = c.in_ok-append.ensures.ok in
-    let second = c.in_ok-append-2.ensures.ok in
+    let first = c.in_ok-append.ensures.done in
+    let second = c.in_ok-append-2.ensures.done in
     let runs = ap runs_len taken in
     let pushed = ap pushed_len taken in
     let runs_are = runs-cons p more in
@@ -35,10 +35,10 @@ loop-push-preserved c =
     let mid = ap text_len first in
     let next = ap text_len second in
     let mid_fits = len-append l.text c.in_ok-run.run' in
-    let next_fits = len-append c.append.new.text p.view in
+    let next_fits = len-append c.append.new.self p.view in
     let fits = inv.fits in
     record {
-      so_far = join-so_far l.text c.append.new.text c.append-in-loop-push.new.text _ l.rest c.in_ok-run.run' c.split_to.new.self l.push-iterator.rest.items more p inv.so_far taken front behind first second;
+      so_far = join-so_far l.text c.append.new.self c.append-in-loop-push.new.self _ l.rest c.in_ok-run.run' c.split_to.new.self l.push-iterator.rest.items more p inv.so_far taken front behind first second;
       within = omega arith;
       fits = omega arith;
       few = omega (arith, inv.few, ap length taken);
@@ -50,7 +50,7 @@ returns-clause-ok c =
     let b = c.self.inside in
     let l = c.loop-push in
     let none : l.push-iterator.rest.items ≡ [] = nil_from_length _ (sym l.push-iterator.rest.ok.0 ∙ c.in-None.ensures.steps.0) in
-    c.in_ok-append-3.ensures.ok
+    c.in_ok-append-3.ensures.done
     ∙ ap (λ (ps : List Push). fold text_append l.text (views_left l.rest ps)) (sym none)
     ∙ l.invariant.so_far
     ∙ ap (λ (v : View). joined (views_left v c.into_iter-push-iterator.result.rest.items)) c.in_ok-rest.ensures.ok
