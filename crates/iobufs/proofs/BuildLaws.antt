@@ -1,16 +1,17 @@
 -- How puts and pushes change the fields of a builder.
 use Rattle.std.proofs.Common.{◌≡◌, ℕ, ◌+◌, ◌-◌, ◌^◌, ◌<◌, ◌≤◌, List, [], ◌∷◌, ◌++◌, length, take, drop, refl, sym, ap, ◌∙◌, arith, append_assoc, length-append, length-drop, length-take, take_all}
-use Rattle.std.proofs.Common.{IsTrue, false}
+use Rattle.std.proofs.Common.{IsTrue, false, subst}
 use Rattle.std.proofs.lemmas.Bool.Decides.{nat_tests}
 use Rattle.std.proofs.lemmas.Grind.{common_steps}
 use Rattle.std.proofs.lemmas.List.{drop-drop, length-replicate, take-append-le, drop-append-le, drop_all}
 use Rattle.std.proofs.lemmas.List.Sums.{sum_by-cons, sum_by_push}
 use Rattle.iobufs_core.specs.View.{view_of_bytes}
-use Rattle.iobufs_core.specs.Items.{push_item, items_inline, items_pushed}
+use Rattle.iobufs_core.specs.Items.{Item, push_item, items_inline, items_pushed}
 use Rattle.iobufs_core.specs.Part.{Part, empty_part, is_bad_layout, part_put, part_capacity}
-use Rattle.iobufs.specs.Building.{Building, inline_run, empty_building, building_put, building_push, building_room, room_for_pushes}
+use Rattle.iobufs.specs.Building.{Building, AreInTurn, IsBuilding, inline_run, empty_building, building_put, building_push, building_room, room_for_pushes}
 use Rattle.iobufs.specs.BuildingLaws.{items_inline-append, items_pushed-append, run-inline, run-pushed, push-some}
-use Rattle.iobufs.specs.Pushes.{items_front, runs_len, pushed_len, building_with}
+use Rattle.iobufs.specs.Pieces.{AreFull}
+use Rattle.iobufs.specs.Pushes.{items_front, pushed_views, runs_len, pushed_len, building_with}
 use Rattle.iobufs.specs.declared.builder.Push.{Push}
 use Rattle.iobufs.proofs.Coalesced.{bad_layout-one}
 
@@ -123,6 +124,27 @@ push-kept part ps after placed end b p counted within is run some pushed moved =
 pub pushes-kept : (part : Part) (ps : List Push) (placed pushable : ℕ) (b : Building) → part_capacity part + pushed_len ps + pushable + 1 ≡ 2 ^ 64 → building_with part ps placed ≡ b → room_for_pushes b ≡ pushable
 pushes-kept part ps placed pushable b limited is = ap room_for_pushes (sym is) ∙ pushes-building part ps placed pushable limited
 
+pub full-push : (ps : List Push) (p : Push) → AreFull (pushed_views ps) → 0 < length p.view.bytes → AreFull (pushed_views (ps ++ p ∷ []))
+full-push [] p full some = (some, tt)
+full-push (q ∷ ps) p full some = (full.0, full-push ps p full.1 some)
+
+-- what the fields keep is what a builder keeps
+in_turn-run : (bytes : List ℕ) (p : Push) (items : List Item) → 0 < length p.view.bytes → AreInTurn items → AreInTurn (inline_run bytes ++ push_item p.view ∷ items)
+in_turn-run [] p items some rest = (some, rest)
+in_turn-run (byte ∷ bytes) p items some rest = (omega arith, some, rest)
+
+in_turn-front : (bytes : List ℕ) (ps : List Push) → AreFull (pushed_views ps) → AreInTurn (items_front bytes ps)
+in_turn-front bytes [] full = tt
+in_turn-front bytes (p ∷ ps) full = in_turn-run (take p.run bytes) p (items_front (drop p.run bytes) ps) full.0 (in_turn-front (drop p.run bytes) ps full.1)
+
+pub IsBuilding-kept : (part : Part) (ps : List Push) (placed pushable : ℕ) (b : Building) → runs_len ps ≡ placed → placed ≤ length part.filled → AreFull (pushed_views ps) → part_capacity part + pushed_len ps + pushable + 1 ≡ 2 ^ 64 → building_with part ps placed ≡ b → IsBuilding b
+IsBuilding-kept part ps placed pushable b counted within full limited is = subst IsBuilding is (
+    record {
+      in_turn = in_turn-front part.filled ps full;
+      within = omega (arith, front-inline part.filled ps (omega arith), length-drop placed part.filled);
+      fits = omega (arith, front-pushed part.filled ps);
+    })
+
 pub bytes-len : (bytes : List ℕ) → length (view_of_bytes bytes).bytes ≡ length bytes
 bytes-len bytes = grind (arith, nat_tests, common_steps)
 
@@ -132,4 +154,4 @@ good-layout n fits = rw (bad_layout-one n) (grind (arith, nat_tests))
 pub large-layout : (n : ℕ) → 2 ^ 63 ≤ n → IsTrue (is_bad_layout n 1)
 large-layout n large = rw (bad_layout-one n) (grind (arith, nat_tests))
 
-pub ruleset building = (good-layout, large-layout, new-building, put-building, push-building, room-building, pushes-building, runs-push, pushed-push, put-capacity, pushes-kept, bytes-len, length-replicate)
+pub ruleset building = (good-layout, large-layout, new-building, put-building, push-building, room-building, pushes-building, runs-push, pushed-push, put-capacity, pushes-kept, full-push, bytes-len, length-replicate)

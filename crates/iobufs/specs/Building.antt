@@ -1,9 +1,10 @@
 -- What has been written to a builder: inline bytes and views, in order.
 --     Building, building_items                        what is there; no inline text is empty, and no two are neighbours
+--     IsBuilding                                      what each builder keeps true of it
 --     building_put, building_push, built              what a put, a push, and a list of them add
 --     building_bytes, building_room, room_for_pushes  all bytes, and how many puts and pushes may still add
 --     finished                                        the text that is made of it
-use Rattle.std.specs.Prelude.{ℕ, ◌+◌, ◌-◌, ◌^◌, ◌==◌, if◌then◌else◌, List, [], ◌∷◌, ◌++◌, length}
+use Rattle.std.specs.Prelude.{ℕ, ◌+◌, ◌-◌, ◌^◌, ◌<◌, ◌≤◌, ◌==◌, if◌then◌else◌, List, [], ◌∷◌, ◌++◌, length}
 use Rattle.iobufs_core.specs.View.{View, native_mark}
 use Rattle.iobufs_core.specs.MarkedText.{MarkedText, joined}
 use Rattle.iobufs_core.specs.Items.{Item, put_item, push_item, items_bytes, items_inline, items_pushed}
@@ -24,6 +25,19 @@ inline_run (byte ∷ bytes) = put_item (byte ∷ bytes) ∷ []
 
 abbrev pub building_items : Building → List Item
 building_items b = b.front ++ inline_run b.last
+
+-- no item is empty, and behind each inline text stands a view
+abbrev pub AreInTurn : List Item → Type 0
+AreInTurn [] = Unit {0}
+AreInTurn (push_item view ∷ items) = (0 < length view.bytes) × AreInTurn items
+AreInTurn (put_item bytes ∷ push_item view ∷ items) = (0 < length bytes) × (0 < length view.bytes) × AreInTurn items
+AreInTurn (put_item bytes ∷ items) = ⊥
+
+-- the inline bytes fit the capacity, and this and the pushed bytes together a number
+pub record IsBuilding (b : Building) : Type 0 where
+  pub in_turn : AreInTurn b.front
+  pub within : items_inline b.front + length b.last ≤ b.capacity
+  pub fits : b.capacity + items_pushed b.front < 2 ^ 64
 
 -- a put lengthens a last inline text, or begins one
 abbrev pub building_put : Building → List ℕ → Building

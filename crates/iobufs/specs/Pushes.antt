@@ -1,8 +1,10 @@
 -- How the fields of a builder are read: inline bytes, and views that stand between them.
-use Rattle.std.specs.Prelude.{◌≡◌, ◌≤◌, ℕ, ◌+◌, ◌^◌, List, [], ◌∷◌, ◌++◌, length, take, drop, sum_by}
+use Rattle.std.specs.Prelude.{◌≡◌, ◌≤◌, ℕ, ◌+◌, ◌^◌, List, [], ◌∷◌, ◌++◌, length, map, take, drop, sum_by}
 use Rattle.iobufs_core.specs.Items.{Item, push_item}
 use Rattle.iobufs_core.specs.Part.{Part, part_capacity}
+use Rattle.iobufs_core.specs.View.{View}
 use Rattle.iobufs.specs.Building.{Building, inline_run}
+use Rattle.iobufs.specs.Pieces.{AreFull}
 use Rattle.iobufs.specs.declared.builder.Push.{Push}
 use Rattle.iobufs.specs.declared.builder.Builder.TheInside.{Inside}
 
@@ -10,6 +12,9 @@ use Rattle.iobufs.specs.declared.builder.Builder.TheInside.{Inside}
 abbrev pub items_front : List ℕ → List Push → List Item
 items_front bytes [] = []
 items_front bytes (push ∷ pushes) = inline_run (take push.run bytes) ++ push_item push.view ∷ items_front (drop push.run bytes) pushes
+
+abbrev pub pushed_views : List Push → List View
+pushed_views pushes = map (λ push. push.view) pushes
 
 abbrev pub runs_len : List Push → ℕ
 runs_len pushes = sum_by (λ push. push.run) pushes
@@ -28,4 +33,5 @@ building_of b = building_with b.inline b.pushes.items b.placed
 pub record IsBuilder (b : Inside) : Type 0 where
   pub counted : runs_len b.pushes.items ≡ b.placed
   pub within : b.placed ≤ length b.inline.filled
+  pub full : AreFull (pushed_views b.pushes.items)
   pub limited : part_capacity b.inline + pushed_len b.pushes.items + b.pushable + 1 ≡ 2 ^ 64

@@ -2,7 +2,7 @@
 ghost use Rattle.std.specs.Prelude.{◌≡◌, ◌+◌, ◌<◌, ◌≤◌, ◌^◌, [], length, Err, IfErr, IsErrAnd, IfOk, IsOk, IsOkUnless, OnErr, OnOk, vec_len, vec_capacity};
 ghost use Rattle.iobufs_core.specs.Items.{items_inline};
 ghost use Rattle.iobufs_core.specs.View.{View};
-ghost use Rattle.iobufs.specs.Building.{building_items, built, empty_building, finished};
+ghost use Rattle.iobufs.specs.Building.{IsBuilding, building_items, building_room, built, empty_building, finished};
 
 use crate::bufs::IoBufs;
 use bytes::Bytes;
@@ -112,7 +112,6 @@ impl Builder {
 }
 
 impl BufMut for Builder {
-    ghost use Rattle.iobufs.specs.Building.{building_room};
     ghost use Rattle.iobufs.specs.BuildingLaws.{IsPut, put_composes, put_lessens, put_nothing, put_unchanged};
 
     ghost room = { building_room };
@@ -120,7 +119,10 @@ impl BufMut for Builder {
     ghost filled = { IsPut };
 
     #[tactic(auto, using(crate::proofs::BuildLaws::building))]
-    fn remaining_mut(&self) -> usize {
+    fn remaining_mut(&self) -> usize
+        ensures room { result ≡ building_room self.now }
+        ensures building { IsBuilding self.now }
+    {
         self.inline.remaining_mut()
     }
 
