@@ -11,7 +11,7 @@ use Rattle.iobufs_core.specs.Part.{Part, part_frozen, part_capacity}
 use Rattle.iobufs.specs.Building.{Building, building_bytes, building_items, built, empty_building, inline_run, room_for_pushes, views_from, finished}
 use Rattle.iobufs.specs.BuildingLaws.{bytes-built, items_bytes-append, run-bytes}
 use Rattle.iobufs.specs.Pieces.{pieces_bytes}
-use Rattle.iobufs.proofs.JoinLaws.{bytes-joined}
+use Rattle.iobufs.specs.JoinedLaws.{bytes-joined}
 use Rattle.iobufs.specs.Pushes.{items_front, runs_len, building_with}
 use Rattle.iobufs.specs.declared.builder.Push.{Push}
 use Rattle.iobufs.proofs.BuildLaws.{runs-cons, pushed-cons}

@@ -42,32 +42,6 @@ prepend-cons v w vs p q =
 pub joined-push : (vs : List View) (v : View) → joined (vs ++ v ∷ []) ≡ text_append (joined vs) v
 joined-push vs v = fold-append text_append default_text vs (v ∷ [])
 
-no_length : {A : Type 0} (xs : List A) → length xs ≡ 0 → xs ≡ []
-no_length [] e = refl
-no_length (x ∷ xs) e = absurd (omega arith)
-
-bytes-glue : (x y : MarkedText) → (text_glue x y).bytes ≡ x.bytes ++ y.bytes
-unfolding text_glue
-bytes-glue x y = refl
-
-pub bytes-append : (t : MarkedText) (v : View) → (text_append t v).bytes ≡ t.bytes ++ v.bytes
-bytes-append t v =
-    ⊎_elim
-    (λ (q : 0 < view_len v).
-    ⊎_elim
-    (λ (p : 0 < text_len t). ap (λ (x : MarkedText). x.bytes) (append-both t v p q) ∙ bytes-glue t (of_view v))
-    (λ (p : text_len t ≤ 0). let e : t.bytes ≡ [] = no_length t.bytes (omega arith) in ap (λ (x : MarkedText). x.bytes) (append-first t v (omega arith) q) ∙ ap (λ b. b ++ v.bytes) (sym e))
-    (cases_lt 0 (text_len t)))
-    (λ (q : view_len v ≤ 0). let e : v.bytes ≡ [] = no_length v.bytes (omega arith) in ap (λ (x : MarkedText). x.bytes) (append-none t v (omega arith)) ∙ sym (ap (λ b. t.bytes ++ b) e ∙ append-nil t.bytes))
-    (cases_lt 0 (view_len v))
-
-bytes-fold : (t : MarkedText) (vs : List View) → (fold text_append t vs).bytes ≡ t.bytes ++ pieces_bytes vs
-bytes-fold t [] = sym (append-nil t.bytes)
-bytes-fold t (v ∷ vs) = bytes-fold (text_append t v) vs ∙ ap (λ w. w ++ pieces_bytes vs) (bytes-append t v) ∙ append_assoc t.bytes v.bytes (pieces_bytes vs)
-
-pub bytes-joined : (vs : List View) → (joined vs).bytes ≡ pieces_bytes vs
-bytes-joined vs = bytes-fold default_text vs
-
 -- buffers joined in order are the pieces that are not empty, or the default
 abbrev pub full_views : List View → List View
 full_views vs = filter (λ v. nat_lt 0 (view_len v)) vs

@@ -8,10 +8,10 @@ use Rattle.iobufs_core.specs.View.{View}
 use Rattle.iobufs_core.specs.MarkedText.{MarkedText, text_len, text_append, joined}
 use Rattle.iobufs_core.specs.declared.codec.base.BufError.{BufError}
 use Rattle.iobufs_core.specs.declared.codec.base.BufError.TheVariants.{Memory, TooLong}
-use Rattle.iobufs.specs.Pieces.{pieces_bytes}
 use Rattle.iobufs.specs.Refusals.{IsRefusedAt}
 use Rattle.iobufs.proofs.Sides.{is_lt, not_lt}
-use Rattle.iobufs.proofs.JoinLaws.{joined-push, bytes-append, bytes-joined}
+use Rattle.iobufs.specs.JoinedLaws.{bytes-append}
+use Rattle.iobufs.proofs.JoinLaws.{joined-push}
 
 abbrev pub run_to_end : {S A : Type 0} (steps : S → Option A → S → Type 0) (s : S) (xs : List A) {t u : S} → Yields steps s xs t → steps t None u → Run steps
 run_to_end steps s xs {t} {u} ran e = run steps s xs true (to_end steps s xs (u, (t, ran, e)))
@@ -19,10 +19,7 @@ run_to_end steps s xs {t} {u} ran e = run steps s xs true (to_end steps s xs (u,
 abbrev pub run_to_item : {S A : Type 0} (steps : S → Option A → S → Type 0) (s : S) (xs : List A) {t u : S} → Yields steps s xs t → (x : A) → steps t (Some x) u → Run steps
 run_to_item steps s xs {t} {u} ran x e = run steps s (xs ++ x ∷ []) false (to_item steps s u xs x (t, ran, e))
 
--- the length of joined views
-pub length-joined : (views : List View) (t : MarkedText) → t ≡ joined views → text_len t ≡ length (pieces_bytes views)
-length-joined views t e = ap text_len e ∙ ap length (bytes-joined views)
-
+-- one more view behind those joined so far
 pub joined-more : (views : List View) (view : View) (t u : MarkedText) → t ≡ joined views → u ≡ text_append t view → u ≡ joined (views ++ view ∷ [])
 joined-more views view t u e a = a ∙ ap (λ (x : MarkedText). text_append x view) e ∙ sym (joined-push views view)
 

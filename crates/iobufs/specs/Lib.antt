@@ -5,6 +5,7 @@ pub mod Refusals
 pub mod Shapes
 pub mod DrainLaws
 pub mod FillLaws
+pub mod JoinedLaws
 pub mod PartLimits
 pub mod PartShape
 pub mod Parts
