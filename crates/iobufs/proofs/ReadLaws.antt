@@ -1,29 +1,29 @@
 -- What a reader of a text in several pieces sees and takes.
 use Rattle.std.proofs.Common.{◌≡◌, ◌≢◌, Result, Ok, Err, IfOk, ℕ, ◌+◌, ◌-◌, ◌<◌, ◌≤◌, true, false, Some, List, [], ◌∷◌, ◌++◌, length, take, drop, map, zero, suc, refl, sym, ap, ◌∙◌, arith, tests, add-one, append-nil, length-append, length-drop, length-take-le, take_all, zero-add, get_or, nat_eq, ⊎_elim, subst}
 use Rattle.std.specs.List.{slice_get}
-use Rattle.std.specs.declared.ops.Bound.TheVariants.{Included, Excluded, Unbounded}
+use Rattle.std.specs.declared.ops.Bound.TheVariants.{Included, Excluded}
 use Rattle.std.proofs.lemmas.Grind.{common_steps}
-use Rattle.std.proofs.lemmas.List.{take-append-drop, take-append-le, drop-take}
+use Rattle.std.proofs.lemmas.List.{take-append-drop, drop-take}
 use Rattle.std.proofs.lemmas.List.Concat.{flat_map-append}
 use Rattle.std.proofs.lemmas.Bool.{cases_lt}
 use Rattle.std.proofs.lemmas.Bool.Decides.{nat_tests}
 use Rattle.std.proofs.Math.Seq.{take-append_seam}
 use Rattle.iobufs_core.specs.Chunks.{first_chunk, IsChunkOf}
-use Rattle.iobufs_core.specs.View.{View, view_front, view_advanced, view_slice, native_mark}
+use Rattle.iobufs_core.specs.View.{View, default_view, view_front, view_advanced, view_slice, native_mark}
 use Rattle.iobufs_core.specs.Part.{part_frozen}
-use Rattle.iobufs_core.specs.MarkedText.{MarkedText, of_view, text_len, is_single, text_advanced, text_chunks, text_coalesced, text_right, taken_view}
-use Rattle.iobufs.specs.Pieces.{view_len, pieces_bytes, piece_at, piece_start, of_pieces, AreFull, IsPieces, IsPlace, AreViews}
+use Rattle.iobufs_core.specs.MarkedText.{MarkedText, of_view, text_len, is_single, text_advanced, text_chunks, text_coalesced, text_rest, text_right, taken_view}
+use Rattle.iobufs.specs.Pieces.{view_len, pieces_bytes, piece_at, piece_start, of_pieces, behind_first, right_pieces, AreFull, IsPieces, IsPlace, AreViews}
 use Rattle.iobufs.specs.Shapes.{pieces, IsShape}
 use Rattle.iobufs.specs.Kept.{text_of, IsKept}
 use Rattle.iobufs.specs.declared.bufs.shape.Shape.{Shape}
 use Rattle.iobufs.specs.declared.bufs.text.IoBufs.TheInside.{Inside}
-use Rattle.iobufs.proofs.PieceLaws.{bytes-of_pieces, len-of_pieces, right-of_pieces, length-bytes, AreFull-from_pieces, of_pieces-one}
+use Rattle.iobufs.proofs.PieceLaws.{bytes-of_pieces, len-of_pieces, right-of_pieces, length-bytes, AreFull-from_pieces, of_pieces-one, front-all, rest-all, right_pieces-past, right_pieces-none}
 use Rattle.iobufs.proofs.PlaceLaws.{index-of_place, right-at_place}
 use Rattle.iobufs.proofs.KeptLaws.{IsView-advanced}
 use Rattle.iobufs.proofs.TakenLaws.{taken_view-right, taken_view-within, taken_view-across}
 use Rattle.iobufs.proofs.ChunkLaws.{chunks-of_empty}
 use Rattle.iobufs.proofs.CopyLaws.{bytes-from}
-use Rattle.iobufs.proofs.TextLaws.{bytes-kept, IsPieces-from_shape, some_pieces, chunks-kept, single-kept, advanced-one}
+use Rattle.iobufs.proofs.TextLaws.{bytes-kept, IsPieces-from_shape, some_pieces, chunks-kept, single-kept, advanced-one, rest-kept}
 
 empty_list : (bytes : List ℕ) → length bytes ≡ 0 → bytes ≡ []
 empty_list [] e = refl
@@ -123,14 +123,47 @@ taken-across vs t skip n i o copy e h l m c =
     frozen copy n e p = grind (arith, nat_tests, common_steps)
 
 -- the first bytes
-pub front-bytes : (v : View) (n : ℕ) → 0 < n → (view_slice v Unbounded (Excluded n)).bytes ≡ take n v.bytes
-front-bytes v n p = grind (arith, nat_tests, common_steps)
+pub bytes-taken : (t : MarkedText) (n : ℕ) → (taken_view t 0 n).bytes ≡ take n t.bytes
+unfolding taken_view
+bytes-taken t n = grind (arith, nat_tests, common_steps)
 
-pub first-bytes : (vs : List View) (t : MarkedText) (n : ℕ) (bytes : List ℕ) (front : View) → of_pieces vs ≡ t → 0 < n → n ≤ view_len (piece_at vs 0) → front ≡ view_slice (piece_at vs 0) Unbounded (Excluded n) → bytes ≡ front.bytes → bytes ≡ take n t.bytes
-first-bytes [] t n bytes front e p l f b = absurd (omega arith)
-first-bytes (v ∷ vs) t n bytes front e p l f b =
-    b ∙ ap (λ (x : View). x.bytes) f ∙ front-bytes v n p ∙ sym (take-append-le n v.bytes (pieces_bytes vs) l)
-    ∙ ap (take n) (sym (bytes-of_pieces (v ∷ vs)) ∙ ap (λ (x : MarkedText). x.bytes) e)
+-- the first piece, taken as it is, and what it leaves
+pub first-whole : (vs : List View) (t : MarkedText) (n : ℕ) → of_pieces vs ≡ t → 0 < n → n ≡ view_len (piece_at vs 0) → taken_view t 0 n ≡ piece_at vs 0
+first-whole [] t n e p w = absurd (omega arith)
+first-whole (v ∷ vs) t n e p w = sym (ap (λ (x : MarkedText). taken_view x 0 n) e) ∙ taken_view-within n v vs p (omega arith) ∙ front-all n v (omega arith)
+
+pub first-rest : (vs ws : List View) (t : MarkedText) (n : ℕ) → of_pieces vs ≡ t → AreFull vs → 0 < n → n ≡ view_len (piece_at vs 0) → ws ≡ behind_first vs → of_pieces ws ≡ text_rest t n
+first-rest [] ws t n e f p w is = absurd (omega arith)
+first-rest (v ∷ []) ws t n e f p w is =
+    let all : n ≡ text_len t = w ∙ ap text_len (sym (of_pieces-one v) ∙ e) in
+    ap of_pieces is ∙ of_pieces-one default_view ∙ sym (rest-all n t p all)
+first-rest (v ∷ u ∷ vs) ws t n e f p w is =
+    let none : n - view_len v ≡ 0 = omega arith in
+    let right = right_pieces-past n v (u ∷ vs) (omega arith) ∙ ap (right_pieces (u ∷ vs)) none ∙ right_pieces-none (u ∷ vs) f.1 in
+    let l = length-bytes v (u ∷ vs) in
+    let m = length-bytes u vs in
+    rest-kept (v ∷ u ∷ vs) ws t n e p (omega (arith, f.1.0)) (is ∙ sym right)
+
+pub length-behind : (vs : List View) → length (pieces_bytes vs) ≡ view_len (piece_at vs 0) + length (pieces_bytes (behind_first vs))
+length-behind [] = refl
+length-behind (v ∷ []) = ap length (append-nil v.bytes) ∙ (omega arith)
+length-behind (v ∷ w ∷ vs) = length-bytes v (w ∷ vs)
+
+AreViews-behind : (vs : List View) → AreViews vs → AreViews (behind_first vs)
+AreViews-behind [] h = tt
+AreViews-behind (v ∷ []) h = (tt, tt)
+AreViews-behind (v ∷ w ∷ vs) h = h.1
+
+pub kept-behind : (s : Inside) (n : ℕ) (shape : Shape) → IsKept s → IsShape shape → n ≡ view_len (piece_at (pieces s.shape) 0) → pieces shape ≡ behind_first (pieces s.shape) → IsKept (record { shape = shape; len = s.len - n })
+kept-behind s n shape k h w is =
+    let c = k.counted in
+    let l = length-behind (pieces s.shape) in
+    let m = ap (λ (x : List View). length (pieces_bytes x)) is in
+    record {
+      shaped = h;
+      counted = omega arith;
+      roomy = subst AreViews (sym is) (AreViews-behind (pieces s.shape) k.roomy);
+    }
 
 -- a text of one piece
 pub one-piece : (s : Inside) (t : MarkedText) → text_of s ≡ t → IsKept s → is_single t ≡ true → length (pieces s.shape) ≡ 1

@@ -47,6 +47,12 @@ abbrev pub right_pieces : List View → ℕ → List View
 right_pieces [] at = []
 right_pieces (v ∷ vs) at = if nat_lt at (view_len v) then view_advanced v at ∷ vs else right_pieces vs (at - view_len v)
 
+-- the pieces behind the first; an only one leaves the default view
+abbrev pub behind_first : List View → List View
+behind_first [] = []
+behind_first (v ∷ []) = default_view ∷ []
+behind_first (v ∷ w ∷ vs) = w ∷ vs
+
 -- the i-th piece
 abbrev pub piece_at : List View → ℕ → View
 piece_at pieces i = get_or pieces i default_view

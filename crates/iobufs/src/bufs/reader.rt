@@ -1,5 +1,6 @@
 // A text in several pieces, read from the front.
 ghost use Rattle.std.specs.Prelude.{◌≡◌, ◌+◌, ◌<◌, ◌≤◌, ◌^◌, length, take, false, true, IsOk, IfOk, OnOk, OnErr, Err, IsOkUnless};
+ghost use Rattle.iobufs_core.specs.Chunks.{first_chunk};
 ghost use Rattle.iobufs_core.specs.MarkedText.{is_single, of_view, taken_view, text_advanced, text_chunks, text_coalesced, text_len, text_rest};
 
 use super::IoBufs;
@@ -12,7 +13,7 @@ use std::ops::Bound;
 
 impl IoBufs {
     // Drops the first bytes, and keeps no mark where none are left.
-    fn forget(&mut self, n: usize)
+    fn drop_front(&mut self, n: usize)
         requires { n ≤ text_len self.old }
         ensures { self.new ≡ text_rest self.old n }
     {
@@ -51,24 +52,27 @@ impl IoBufs {
         }
     }
 
-    // The first bytes, shared where they are in one piece that is a `Bytes`.
-    fn first_bytes(&self, alloc: Global, n: usize) -> Result<Bytes, BufError>
+    // A copy of the first bytes.
+    fn front(&self, alloc: Global, n: usize) -> Result<Bytes, BufError>
         requires { n ≤ text_len self.now }
         ensures ok { IfOk result (λ bytes. bytes ≡ take n self.now.bytes) }
         ensures memory { IsOkUnless result BufError.Memory }
-        ensures nothing { n ≡ 0 → IsOk result }
     {
-        if n == 0 {
-            return Ok(Bytes::new());
-        }
-        let first = self.shape.piece(0);
-        if n <= first.len() {
-            let front = first.slice(Bound::Unbounded, Bound::Excluded(n))?;
-            return Bytes::from_view(alloc, front);
-        }
-        let mut copy = vec![in alloc; 0u8; n]?;
-        self.shape.fill(copy.as_mut_slice());
-        Ok(Bytes::from_vec(copy)?)
+        Ok(Bytes::from_vec(self.shape.front(alloc, n)?)?)
+    }
+
+    // What is made of the first piece, which has `n` bytes and goes.
+    fn take_first<T: OwnedBytes>(&mut self, alloc: Global, n: usize) -> Result<T, BufError>
+        requires some { 0 < n }
+        requires first { n ≡ length (first_chunk (text_chunks self.old)) }
+        ensures ok { IfOk result (T.makes (taken_view self.old 0 n)) }
+        ensures rest { OnOk result (self.new ≡ text_rest self.old n) }
+        ensures err { OnErr result (self.new ≡ self.old) }
+        ensures memory { IsOkUnless result BufError.Memory }
+    {
+        let made = self.shape.take_first(alloc)?;
+        self.len -= n;
+        Ok(made)
     }
 
     /// The text as one piece, with a copy where there are several.
@@ -133,7 +137,7 @@ impl Buf for IoBufs {
             self.len -= n;
             return;
         }
-        self.forget(n);
+        self.drop_front(n);
     }
 
     fn copy_to_slice(&mut self, dst: &mut [u8]) {
@@ -143,8 +147,11 @@ impl Buf for IoBufs {
     }
 
     fn copy_to_bytes(&mut self, alloc: Global, n: usize) -> Result<Bytes, BufError> {
-        let bytes = self.first_bytes(alloc, n)?;
-        self.forget(n);
+        if n <= self.chunk().len() {
+            return self.take_owned_after(alloc, 0, n);
+        }
+        let bytes = self.front(alloc, n)?;
+        self.drop_front(n);
         Ok(bytes)
     }
 
@@ -175,10 +182,13 @@ impl OwnedBuf for IoBufs {
         skip: usize,
         n: usize,
     ) -> Result<T, BufError> {
-        let end = self.len() - (self.len() - skip - n);
+        if skip == 0 && n != 0 && n == self.chunk().len() {
+            return self.take_first(alloc, n);
+        }
+        let _len = self.len();
         let view = self.taken(alloc, skip, n)?;
         let made = T::from_view(alloc, view)?;
-        self.forget(end);
+        self.drop_front(skip + n);
         Ok(made)
     }
 

@@ -52,6 +52,23 @@ impl Shape {
         }
     }
 
+    /// A copy of the first `n` bytes.
+    pub(super) fn front(&self, alloc: Global, n: usize) -> Result<Vec<u8>, AllocError>
+        requires { n ≤ length (pieces_bytes (pieces self.now)) }
+        ensures { IfOk result (λ copy. copy.items ≡ take n (pieces_bytes (pieces self.now))) }
+    {
+        let count = self.count();
+        let mut copy = Vec::with_capacity(alloc, n)?;
+        let mut index = 0;
+        while copy.len() < n && index < count {
+            let bytes = self.piece(index).as_ref();
+            let some = bytes.len().min(n - copy.len());
+            copy.extend_from_slice(&bytes[..some])?;
+            index += 1;
+        }
+        Ok(copy)
+    }
+
     /// The bytes of the first pieces, at most `max` of these.
     pub(super) fn chunks(&self, alloc: Global, max: usize) -> Result<Vec<&[u8]>, AllocError>
         ensures { IfOk result (λ chunks. map (λ chunk. chunk.now) chunks.items ≡ take max (map (λ piece. piece.bytes) (pieces self.now))) }

@@ -2,12 +2,12 @@
 ghost use Rattle.std.specs.Option.{option_copied};
 ghost use Rattle.std.specs.Prelude.{◌≡◌, ◌<◌, ◌≤◌, ◌++◌, [], ◌∷◌, OnOk, OnErr, IfOk, IfErr, IsOkUnless, MatchResult, length, slice_get};
 ghost use Rattle.iobufs_core.specs.View.{view_advanced};
-ghost use Rattle.iobufs.specs.Pieces.{AreFull, left_pieces, right_pieces, piece_at, pieces_bytes};
+ghost use Rattle.iobufs.specs.Pieces.{AreFull, behind_first, left_pieces, right_pieces, piece_at, pieces_bytes};
 ghost use Rattle.iobufs.specs.Shapes.{pieces, IsShape};
 
 use super::row::{cut_row, drop_row_front, split_inside};
 use iobufs_core::buf::IoBuf;
-use iobufs_core::codec::{Buf, BufError};
+use iobufs_core::codec::{Buf, BufError, OwnedBytes};
 use std::alloc::{AllocError, AllocFailed, Global};
 use std::collections::VecDeque;
 use std::mem;
@@ -92,6 +92,50 @@ impl Shape {
         match self {
             Shape::One(piece) => Ok(piece),
             shape => Err(shape),
+        }
+    }
+
+    /// What is made of the first piece, which goes; an only one leaves an empty one.
+    pub(super) fn take_first<T: OwnedBytes>(&mut self, alloc: Global) -> Result<T, BufError>
+        requires shaped { IsShape self.old }
+        requires full { AreFull (pieces self.old) }
+        ensures made { IfOk result (T.makes (piece_at (pieces self.old) 0)) }
+        ensures left { OnOk result (pieces self.new ≡ behind_first (pieces self.old)) }
+        ensures shaped { IsShape self.new }
+        ensures refused { OnErr result (pieces self.new ≡ pieces self.old) }
+        ensures memory { IsOkUnless result BufError.Memory }
+    {
+        match self.take() {
+            Shape::One(mut a) => {
+                let made = T::take_view(alloc, &mut a);
+                self.put(Shape::One(a));
+                made
+            }
+            Shape::Two(mut a, b) => {
+                let made = T::take_view(alloc, &mut a);
+                self.put(match made {
+                    Ok(_) => Shape::One(b),
+                    Err(_) => Shape::Two(a, b),
+                });
+                made
+            }
+            Shape::Three(mut a, b, c) => {
+                let made = T::take_view(alloc, &mut a);
+                self.put(match made {
+                    Ok(_) => Shape::Two(b, c),
+                    Err(_) => Shape::Three(a, b, c),
+                });
+                made
+            }
+            Shape::Many(mut row) => {
+                let mut a = row.pop_front().unwrap();
+                let made = T::take_view(alloc, &mut a);
+                if made.is_err() {
+                    row.push_front_reserved(a);
+                }
+                self.put(Shape::of_row(row));
+                made
+            }
         }
     }
 

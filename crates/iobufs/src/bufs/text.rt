@@ -237,7 +237,7 @@ impl IoBufs {
             return Ok(IoBufs::default());
         }
         if at == self.len() {
-            return Ok(mem::replace(self, IoBufs::default()));
+            return Ok(mem::take(self));
         }
         let front = self.shape.split_front(alloc, at)?;
         self.len -= at;
