@@ -3,7 +3,7 @@ use Rattle.std.proofs.Common.{◌≡◌, ℕ, ◌+◌, ◌-◌, ◌<◌, ◌≤�
 use Rattle.std.proofs.lemmas.List.{map-append, take-append-le, drop-append-le}
 use Rattle.std.proofs.Math.Seq.{drop-append-add, take-append-add}
 use Rattle.iobufs_core.specs.View.{View, Mark, mark_after, native_mark, static_mark, bytes_mark, view_front, view_advanced}
-use Rattle.iobufs_core.specs.MarkedText.{MarkedText, of_view, key_upto, mark_past, mark_at, moved_up, moved_down, text_left, text_right, text_glue}
+use Rattle.iobufs_core.specs.MarkedText.{MarkedText, of_view, key_upto, mark_past, moved_up, moved_down, text_left, text_right, text_glue}
 use Rattle.iobufs.specs.Pieces.{view_len}
 
 pub up_up : (m n : ℕ) (es : List (ℕ × Mark)) → map (moved_up m) (map (moved_up n) es) ≡ map (moved_up (m + n)) es
@@ -95,10 +95,6 @@ pub left-of_view : (at : ℕ) (v : View) → text_left (of_view v) at ≡ of_vie
 unfolding text_left
 left-of_view at v = refl
 
-pub mark_at-of_view : (at : ℕ) (v : View) → mark_at (of_view v) at ≡ mark_after at v.mark
-unfolding mark_at
-mark_at-of_view at v = rw (no_sub at)
-
 pub drop_past : {A : Type 0} (n : ℕ) (xs ys : List A) → length xs ≤ n → drop n (xs ++ ys) ≡ drop (n - length xs) ys
 drop_past n xs ys l =
     let k : n ≡ length xs + (n - length xs) = omega arith in
@@ -164,17 +160,6 @@ left-glue_past at v y l =
     (take_past at v.bytes y.bytes l')
     refl
     (rw (is_lt (view_len v) at l, filter_up_left at (view_len v) y.cuts l'))
-
-pub mark_at-right : (at : ℕ) (t : MarkedText) → (text_right t at).mark ≡ mark_at t at
-unfolding text_right mark_at
-mark_at-right at t = refl
-
-pub mark_at-glue_within : (at : ℕ) (v : View) (y : MarkedText) → at < view_len v → mark_at (text_glue (of_view v) y) at ≡ mark_after at v.mark
-unfolding text_glue
-mark_at-glue_within at v y l = sym (mark_at-right at (text_glue (of_view v) y)) ∙ ap (λ t. t.mark) (right-glue_within at v y l)
-
-pub mark_at-glue_past : (at : ℕ) (v : View) (y : MarkedText) → view_len v ≤ at → mark_at (text_glue (of_view v) y) at ≡ mark_at y (at - view_len v)
-mark_at-glue_past at v y l = sym (mark_at-right at (text_glue (of_view v) y)) ∙ ap (λ t. t.mark) (right-glue_past at v y l) ∙ mark_at-right (at - view_len v) y
 
 -- the sides by place
 pub same_eq : (m n : ℕ) → m ≡ n → nat_eq m n ≡ true

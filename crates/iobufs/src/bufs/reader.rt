@@ -176,6 +176,11 @@ impl OwnedBuf for IoBufs {
 
     ghost marked = { λ t. t };
 
+    fn chunk_count(&self) -> usize {
+        let _len = self.len();
+        IoBufs::chunk_count(self)
+    }
+
     fn take_owned_after<T: OwnedBytes>(
         &mut self,
         alloc: Global,
