@@ -2,7 +2,6 @@
 use Rattle.std.proofs.Common.{◌≡◌, ℕ, ◌+◌, ◌-◌, ◌<◌, ◌≤◌, List, [], ◌∷◌, ◌++◌, length, take, drop, map, zero, suc, min, sym, ap, ◌∙◌, arith, add-one, append-nil, append_assoc, length-append, length-drop, length-take-le, drop-cons, take_all, ⊎_elim, refl}
 use Rattle.std.proofs.lemmas.List.{map-append, take-append-le, drop-append-le}
 use Rattle.std.proofs.lemmas.Bool.{cases_lt}
-use Rattle.std.proofs.Math.Seq.{take-append_seam}
 use Rattle.iobufs_core.specs.View.{View, default_view}
 use Rattle.iobufs.specs.Pieces.{view_len, piece_at, pieces_bytes}
 use Rattle.std.proofs.Math.Bool.{and-false}
@@ -96,9 +95,6 @@ good_layout n l =
     let k : (1 - n % 1) % 1 ≡ 0 = omega arith in
     let short : nat_lt (2 ^ 63 - 1) (n + (1 - n % 1) % 1) ≡ false = not_lt (2 ^ 63 - 1) (n + (1 - n % 1) % 1) (omega arith) in
     rw (short, one-power) (and-false (not (nat_eq n 0)))
-
-pub seam-take : (n : ℕ) (xs ys all : List ℕ) → xs ≡ all → length all ≡ n → take n (xs ++ ys) ≡ all
-seam-take n xs ys all e l = rw e (ap (λ k. take k (all ++ ys)) (sym l) ∙ take-append_seam all ys)
 
 -- a refusal by its cause
 pub only-cause : {A E : Type 0} (result : Result A E) (e cause : E) → IsErrAnd result (λ x. x ≡ e) → e ≡ cause → IsOkUnless result cause

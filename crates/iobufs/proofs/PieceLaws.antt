@@ -1,8 +1,8 @@
 -- Lists of pieces, and the marked texts that they make.
-use Rattle.std.proofs.Common.{◌≡◌, ℕ, ◌+◌, ◌-◌, ◌<◌, ◌≤◌, false, List, [], ◌∷◌, ◌++◌, length, take, drop, refl, sym, ap, ◌∙◌, arith, append-nil, length-append, length-drop, suc, ⊎_elim, length-take-le, nat_eq, take_all, ◌⊎◌}
+use Rattle.std.proofs.Common.{◌≡◌, ℕ, ◌+◌, ◌-◌, ◌<◌, ◌≤◌, List, [], ◌∷◌, ◌++◌, length, take, drop, refl, sym, ap, ◌∙◌, arith, append-nil, length-append, length-drop, suc, ⊎_elim, length-take-le, nat_eq, take_all, ◌⊎◌}
 use Rattle.std.proofs.lemmas.List.{length-map}
 use Rattle.std.proofs.lemmas.Bool.{cases_lt, cases_order}
-use Rattle.iobufs_core.specs.View.{View, Mark, view_front, view_advanced}
+use Rattle.iobufs_core.specs.View.{View, view_front, view_advanced}
 use Rattle.iobufs_core.specs.MarkedText.{MarkedText, of_view, default_text, text_len, moved_up, text_left, text_right, text_split_front, text_rest, is_single, text_advanced, text_glue}
 use Rattle.iobufs.specs.Pieces.{view_len, pieces_bytes, of_pieces, AreFull, IsPieces, left_pieces, right_pieces}
 use Rattle.iobufs.proofs.Sides.{glue_assoc, right-of_view, left-of_view, is_lt, not_zero, not_lt, right-glue_within, right-glue_past, left-glue_within, left-glue_past, same_eq, not_eq, same_view, mark_after-zero}
@@ -147,20 +147,11 @@ unfolding of_pieces text_glue
 mark-of_pieces v [] = refl
 mark-of_pieces v (w ∷ vs) = refl
 
-pub rest-none : (t : MarkedText) → text_rest t 0 ≡ t
-rest-none t = refl
-
 pub rest-all : (at : ℕ) (t : MarkedText) → 0 < at → at ≡ text_len t → text_rest t at ≡ default_text
 rest-all at t p e = rw (not_zero at p, same_eq at (text_len t) e)
 
 pub rest-inside : (at : ℕ) (t : MarkedText) → 0 < at → at < text_len t → text_rest t at ≡ text_right t at
 rest-inside at t p l = rw (not_zero at p, not_eq at (text_len t) l)
-
-pub split_front-none : (t : MarkedText) → text_split_front t 0 ≡ default_text
-split_front-none t = refl
-
-pub split_front-all : (at : ℕ) (t : MarkedText) → 0 < at → at ≡ text_len t → text_split_front t at ≡ t
-split_front-all at t p e = rw (not_zero at p, same_eq at (text_len t) e)
 
 pub split_front-inside : (at : ℕ) (t : MarkedText) → 0 < at → at < text_len t → text_split_front t at ≡ text_left t at
 split_front-inside at t p l = rw (not_zero at p, not_eq at (text_len t) l)
@@ -197,11 +188,6 @@ advanced-of_view n v l =
     h)
     (cases_order n (view_len v))
 
-pub advanced-cut : (n : ℕ) (v w : View) (vs : List View) → text_advanced (of_pieces (v ∷ w ∷ vs)) n ≡ text_rest (of_pieces (v ∷ w ∷ vs)) n
-advanced-cut n v w vs =
-    let e : is_single (of_pieces (v ∷ w ∷ vs)) ≡ false = is_single-of_pieces v (w ∷ vs) ∙ not_zero (length (w ∷ vs)) (omega arith) in
-    rw e
-
 pub bytes-text_left : (at : ℕ) (t : MarkedText) → (text_left t at).bytes ≡ take at t.bytes
 unfolding text_left
 bytes-text_left at t = refl
@@ -223,10 +209,3 @@ length-left at vs p l = ap length (bytes-left at vs p l) ∙ length-take-le at (
 
 pub length-right : (at : ℕ) (vs : List View) → at < length (pieces_bytes vs) → length (pieces_bytes (right_pieces vs at)) ≡ length (pieces_bytes vs) - at
 length-right at vs l = ap length (bytes-right at vs l) ∙ length-drop at (pieces_bytes vs)
-
-pub advanced-fields : (text : List ℕ) (mark : Mark) (cuts : List (ℕ × Mark)) → text_advanced (record { bytes = text; mark = mark; cuts = cuts }) 0 ≡ record { bytes = text; mark = mark; cuts = cuts }
-advanced-fields text mark [] = advanced-of_view 0 (record { bytes = text; mark = mark }) (omega arith) ∙ ap of_view (advanced_view-none (record { bytes = text; mark = mark }))
-advanced-fields text mark (e ∷ es) = let z : nat_eq (length (e ∷ es)) 0 ≡ false = not_zero (length (e ∷ es)) (omega arith) in rw z
-
-pub advanced-none : (t : MarkedText) → text_advanced t 0 ≡ t
-advanced-none t = advanced-fields t.bytes t.mark t.cuts

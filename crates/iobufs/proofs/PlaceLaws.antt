@@ -1,5 +1,5 @@
 -- The piece that holds a place.
-use Rattle.std.proofs.Common.{take_all, ◌≡◌, ℕ, ◌+◌, ◌-◌, ◌<◌, ◌≤◌, List, [], ◌∷◌, ◌++◌, length, take, drop, refl, sym, ap, ◌∙◌, arith, append-nil, length-append, suc, zero, get_or}
+use Rattle.std.proofs.Common.{◌≡◌, ℕ, ◌+◌, ◌-◌, ◌<◌, ◌≤◌, List, [], ◌∷◌, ◌++◌, length, take, drop, refl, sym, ap, ◌∙◌, arith, length-append, suc, zero, get_or}
 use Rattle.std.proofs.Common.{drop-cons, Option, Some, option_to_list}
 use Rattle.iobufs_core.specs.View.{View, default_view, view_front, view_advanced}
 use Rattle.iobufs.specs.Pieces.{view_len, pieces_bytes, piece_start, piece_at, IsPlace, AreFull, left_pieces, right_pieces}
@@ -35,21 +35,6 @@ left_pieces-seam (suc i) (v ∷ vs) f =
     let n : piece_start (v ∷ vs) (suc i) ≡ view_len v + piece_start vs i = length-append v.bytes (pieces_bytes (take i vs)) in
     let k : piece_start (v ∷ vs) (suc i) - view_len v ≡ piece_start vs i = omega arith in
     left_pieces-past (piece_start (v ∷ vs) (suc i)) v vs (omega (arith, f.0)) (omega arith) ∙ ap (λ m. v ∷ left_pieces vs m) k ∙ ap (λ ws. v ∷ ws) (left_pieces-seam i vs f.1)
-
-pub piece_start-next : (i : ℕ) (vs : List View) (d : View) → i < length vs → piece_start vs (suc i) ≡ piece_start vs i + view_len (get_or vs i d)
-piece_start-next i [] d l = absurd (omega arith)
-piece_start-next zero (v ∷ vs) d l = let k : length (v.bytes ++ []) ≡ view_len v = ap length (append-nil v.bytes) in omega arith
-piece_start-next (suc i) (v ∷ vs) d l =
-    let n : piece_start (v ∷ vs) (suc (suc i)) ≡ view_len v + piece_start vs (suc i) = length-append v.bytes (pieces_bytes (take (suc i) vs)) in
-    let m : piece_start (v ∷ vs) (suc i) ≡ view_len v + piece_start vs i = length-append v.bytes (pieces_bytes (take i vs)) in
-    let ih = piece_start-next i vs d (omega arith) in
-    omega arith
-
-pub piece_start-all : (vs : List View) → piece_start vs (length vs) ≡ length (pieces_bytes vs)
-piece_start-all vs = ap (λ (ws : List View). length (pieces_bytes ws)) (take_all (length vs) vs (omega arith))
-
-pub piece_start-none : (vs : List View) → piece_start vs 0 ≡ 0
-piece_start-none vs = refl
 
 pub right_pieces-seam : (i : ℕ) (vs : List View) → AreFull vs → right_pieces vs (piece_start vs i) ≡ drop i vs
 right_pieces-seam zero vs f = right_pieces-none vs f

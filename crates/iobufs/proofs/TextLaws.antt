@@ -5,15 +5,15 @@ use Rattle.std.specs.Option.{option_map}
 use Rattle.std.proofs.Common.{Option, None}
 use Rattle.std.proofs.lemmas.List.Concat.{flat_map-append}
 use Rattle.iobufs_core.specs.View.{View, IsView, view_advanced}
-use Rattle.iobufs_core.specs.MarkedText.{MarkedText, of_view, text_len, is_single, chunk_count, default_text, text_append, text_prepend, text_rest, text_split_front, text_advanced, text_chunks, IsMarked}
+use Rattle.iobufs_core.specs.MarkedText.{MarkedText, of_view, text_len, is_single, chunk_count, text_append, text_prepend, text_rest, text_split_front, text_advanced, text_chunks, IsMarked}
 use Rattle.iobufs.specs.Pieces.{view_len, pieces_bytes, of_pieces, AreFull, IsPieces, AreViews, left_pieces, right_pieces}
 use Rattle.iobufs.specs.Shapes.{pieces, IsShape}
 use Rattle.iobufs.specs.Kept.{text_of, IsKept}
 use Rattle.iobufs.specs.declared.bufs.shape.Shape.{Shape}
 use Rattle.iobufs.specs.declared.bufs.shape.Shape.TheVariants.{One, Two, Three, Many}
 use Rattle.iobufs.specs.declared.bufs.text.IoBufs.TheInside.{Inside}
-use Rattle.iobufs.proofs.Sides.{not_zero, same_eq}
-use Rattle.iobufs.proofs.PieceLaws.{bytes-of_pieces, len-of_pieces, of_pieces-one, cuts-of_pieces, is_single-of_pieces, AreFull-from_pieces, rest-of_pieces, split_front-of_pieces, length-left, length-right, advanced-of_view, advanced-cut, rest-all}
+use Rattle.iobufs.proofs.Sides.{not_zero}
+use Rattle.iobufs.proofs.PieceLaws.{bytes-of_pieces, len-of_pieces, of_pieces-one, cuts-of_pieces, is_single-of_pieces, AreFull-from_pieces, rest-of_pieces, split_front-of_pieces, length-left, length-right, advanced-of_view}
 use Rattle.iobufs.proofs.JoinLaws.{append-push, prepend-cons}
 use Rattle.iobufs.proofs.KeptLaws.{AreViews-right, AreViews-left, AreViews-append, IsMarked-from_views}
 use Rattle.iobufs.proofs.ChunkLaws.{chunks-of_pieces, chunks-of_empty}
@@ -72,9 +72,6 @@ count-pieces (v ∷ vs) t e l =
     let n : length t.cuts ≡ length vs = ap (λ (x : MarkedText). length x.cuts) (sym e) ∙ cuts-of_pieces v vs in
     rw (not_zero (text_len t) s) (omega arith)
 
-pub count-none : (t : MarkedText) → text_len t ≡ 0 → 0 ≡ chunk_count t
-count-none t e = rw (same_eq (text_len t) 0 e)
-
 pub chunks-kept : (vs : List View) (t : MarkedText) → of_pieces vs ≡ t → 0 < length vs → AreFull vs → text_chunks t ≡ map (λ (v : View). v.bytes) vs
 chunks-kept [] t e l f = absurd (omega arith)
 chunks-kept (v ∷ vs) t e l f = sym (ap text_chunks e) ∙ chunks-of_pieces v vs f
@@ -130,29 +127,6 @@ views-left vs ws at is h = subst AreViews (sym is) (AreViews-left at vs h)
 -- what `advance` leaves
 pub advanced-one : (v : View) (t : MarkedText) (n : ℕ) → of_pieces (v ∷ []) ≡ t → n ≤ view_len v → of_pieces (view_advanced v n ∷ []) ≡ text_advanced t n
 advanced-one v t n e l = of_pieces-one (view_advanced v n) ∙ sym (advanced-of_view n v l) ∙ ap (λ (x : MarkedText). text_advanced x n) (sym (of_pieces-one v) ∙ e)
-
-pub advanced-all : (vs : List View) (t : MarkedText) (n : ℕ) → of_pieces vs ≡ t → 1 < length vs → 0 < n → n ≡ text_len t → default_text ≡ text_advanced t n
-advanced-all [] t n e l p q = absurd (omega arith)
-advanced-all (v ∷ []) t n e l p q = absurd (omega arith)
-advanced-all (v ∷ w ∷ vs) t n e l p q = sym (sym (ap (λ (x : MarkedText). text_advanced x n) e) ∙ advanced-cut n v w vs ∙ ap (λ (x : MarkedText). text_rest x n) e ∙ rest-all n t p q)
-
-pub advanced-kept : (vs ws : List View) (t : MarkedText) (n : ℕ) → of_pieces vs ≡ t → 1 < length vs → 0 < n → n < length (pieces_bytes vs) → ws ≡ right_pieces vs n → of_pieces ws ≡ text_advanced t n
-advanced-kept [] ws t n e l p q is = absurd (omega arith)
-advanced-kept (v ∷ []) ws t n e l p q is = absurd (omega arith)
-advanced-kept (v ∷ w ∷ vs) ws t n e l p q is = rest-kept (v ∷ w ∷ vs) ws t n e p q is ∙ sym (ap (λ (x : MarkedText). text_rest x n) e) ∙ sym (advanced-cut n v w vs) ∙ ap (λ (x : MarkedText). text_advanced x n) e
-
-pub more-shape : (s : Shape) → IsShape s → ((a : View) → s ≡ One a → ⊥) → 1 < length (pieces s)
-more-shape (One a) h n = absurd (n a refl)
-more-shape (Two a b) h n = omega arith
-more-shape (Three a b c) h n = omega arith
-more-shape (Many q) h n = omega (arith, h.0)
-
--- in an arm on the shape: what is known, by that shape's pieces
-pub view-as : {a b : Shape} {t : MarkedText} → of_pieces (pieces a) ≡ t → a ≡ b → of_pieces (pieces b) ≡ t
-view-as e is = sym (ap (λ x. of_pieces (pieces x)) is) ∙ e
-
-pub len-as : {a b : Shape} {n : ℕ} → n ≡ length (pieces_bytes (pieces a)) → a ≡ b → n ≡ length (pieces_bytes (pieces b))
-len-as e is = e ∙ ap (λ x. length (pieces_bytes (pieces x))) is
 
 -- a text of one piece is that view
 pub one-view : (v : View) (t : MarkedText) → of_pieces (v ∷ []) ≡ t → t ≡ of_view v
