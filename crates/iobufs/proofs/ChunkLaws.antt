@@ -5,7 +5,8 @@ use Rattle.iobufs_core.specs.View.{View, Mark}
 use Rattle.iobufs_core.specs.Chunks.{full_chunks, is_full}
 use Rattle.iobufs_core.specs.MarkedText.{MarkedText, text_len, moved_up, text_glue, cut_up, text_chunks}
 use Rattle.iobufs.specs.Pieces.{view_len, of_pieces, AreFull}
-use Rattle.iobufs.proofs.Sides.{no_sub, drop_past}
+use Rattle.iobufs.specs.FillLaws.{drop_past}
+use Rattle.iobufs.proofs.Sides.{no_sub}
 
 moved_off : (n k key : ℕ) (bytes : List ℕ) (cuts : List (ℕ × Mark)) → cut_up bytes (n + key) (map (moved_up n) cuts) ≡ cut_up bytes key cuts
 moved_off n k key bytes [] = refl

@@ -10,7 +10,8 @@ use Rattle.std.specs.Int.{is_power_of_two}
 use Rattle.std.specs.Prelude.{count_ones}
 use Rattle.std.proofs.lemmas.Nat.{ones_le_self, zero_from_ones}
 use Rattle.iobufs_core.specs.Part.{is_bad_layout}
-use Rattle.iobufs.proofs.Sides.{take_past, not_lt, same_eq}
+use Rattle.iobufs.specs.FillLaws.{take_past}
+use Rattle.iobufs.proofs.Sides.{not_lt, same_eq}
 
 -- the bytes from inside a piece on
 pub bytes-from : (ps : List View) (i o : ℕ) → i < length ps → o ≤ view_len (piece_at ps i) → drop o (pieces_bytes (drop i ps)) ≡ drop o (piece_at ps i).bytes ++ pieces_bytes (drop (i + 1) ps)

@@ -5,7 +5,7 @@ use Rattle.std.proofs.lemmas.List.{take-append-le}
 use Rattle.std.proofs.Math.Seq.{take-nil}
 use Rattle.iobufs_core.specs.Chunks.{IsChunkOf, first_chunk, full_chunks}
 use Rattle.iobufs_core.specs.Part.{Part}
-use Rattle.iobufs.specs.DrainLaws.{no_length}
+use Rattle.std.proofs.lemmas.List.{nil_from_length}
 use Rattle.iobufs.specs.FillLaws.{take_both}
 use Rattle.iobufs.specs.Parts.{parts_chunks, parts_filled}
 
@@ -14,7 +14,7 @@ filled-one p = append-nil p.filled
 
 -- a part without bytes is no chunk
 pub chunks-empty : (p : Part) (parts : List Part) → length p.filled ≡ 0 → parts_chunks (p ∷ parts) ≡ parts_chunks parts
-chunks-empty p parts e = ap (λ bytes. full_chunks (bytes ∷ map (λ (q : Part). q.filled) parts)) (no_length p.filled e)
+chunks-empty p parts e = ap (λ bytes. full_chunks (bytes ∷ map (λ (q : Part). q.filled) parts)) (nil_from_length p.filled e)
 
 full_first : (bytes : List ℕ) (texts : List (List ℕ)) → 0 < length bytes → full_chunks (bytes ∷ texts) ≡ bytes ∷ full_chunks texts
 full_first [] texts h = absurd (omega arith)
@@ -36,7 +36,7 @@ first_chunk-front [] = record { front = refl; some = λ e. refl }
 first_chunk-front (p ∷ parts) =
     ⊎_elim
     (λ (h : 0 < length p.filled). rw (chunks-full p parts h) (chunk_front p.filled (parts_filled parts) h))
-    (λ (h : length p.filled ≤ 0). let none : p.filled ≡ [] = no_length p.filled (omega arith) in rw none (first_chunk-front parts))
+    (λ (h : length p.filled ≤ 0). let none : p.filled ≡ [] = nil_from_length p.filled (omega arith) in rw none (first_chunk-front parts))
     (cases_lt 0 (length p.filled))
 
 -- the byte at a place, in a part or behind it

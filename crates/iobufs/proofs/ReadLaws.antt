@@ -3,7 +3,7 @@ use Rattle.std.proofs.Common.{◌≡◌, ◌≢◌, Result, Ok, Err, IfOk, ℕ, 
 use Rattle.std.specs.List.{slice_get}
 use Rattle.std.specs.declared.ops.Bound.TheVariants.{Included, Excluded}
 use Rattle.std.proofs.lemmas.Grind.{common_steps}
-use Rattle.std.proofs.lemmas.List.{take-append-drop, drop-take}
+use Rattle.std.proofs.lemmas.List.{nil_from_length, take-append-drop, drop-take}
 use Rattle.std.proofs.lemmas.List.Concat.{flat_map-append}
 use Rattle.std.proofs.lemmas.Bool.{cases_lt}
 use Rattle.std.proofs.lemmas.Bool.Decides.{nat_tests}
@@ -25,10 +25,6 @@ use Rattle.iobufs.proofs.ChunkLaws.{chunks-of_empty}
 use Rattle.iobufs.proofs.CopyLaws.{bytes-from}
 use Rattle.iobufs.proofs.TextLaws.{bytes-kept, IsPieces-from_shape, some_pieces, chunks-kept, single-kept, advanced-one, rest-kept}
 
-empty_list : (bytes : List ℕ) → length bytes ≡ 0 → bytes ≡ []
-empty_list [] e = refl
-empty_list (byte ∷ bytes) e = absurd (omega arith)
-
 -- the first piece is the first chunk, and a beginning of the text
 first-of : (vs : List View) (t : MarkedText) → of_pieces vs ≡ t → 0 < length vs → (0 < length (pieces_bytes vs) → AreFull vs) → (piece_at vs 0).bytes ≡ first_chunk (text_chunks t)
 first-of [] t e l f = absurd (omega arith)
@@ -37,7 +33,7 @@ first-of (v ∷ vs) t e l f =
     let s : text_len t ≡ length (pieces_bytes (v ∷ vs)) = sym (ap text_len e) ∙ len-of_pieces (v ∷ vs) in
     ⊎_elim
     (λ (h : 0 < length (pieces_bytes (v ∷ vs))). sym (ap first_chunk (chunks-kept (v ∷ vs) t e l (f h))))
-    (λ (h : length (pieces_bytes (v ∷ vs)) ≤ 0). empty_list v.bytes (omega arith) ∙ sym (ap first_chunk (chunks-of_empty t (omega arith))))
+    (λ (h : length (pieces_bytes (v ∷ vs)) ≤ 0). nil_from_length v.bytes (omega arith) ∙ sym (ap first_chunk (chunks-of_empty t (omega arith))))
     (cases_lt 0 (length (pieces_bytes (v ∷ vs))))
 
 pub first-kept : (s : Shape) (t : MarkedText) → of_pieces (pieces s) ≡ t → IsShape s → (piece_at (pieces s) 0).bytes ≡ first_chunk (text_chunks t)

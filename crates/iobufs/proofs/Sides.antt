@@ -1,9 +1,9 @@
 -- A text behind a view: its sides, and the mark at a place.
-use Rattle.std.proofs.Common.{◌≡◌, ℕ, ◌+◌, ◌-◌, ◌<◌, ◌≤◌, Bool, true, false, cond, nat_lt, nat_le, List, [], ◌∷◌, ◌++◌, length, take, drop, map, filter, refl, sym, ap, ◌∙◌, arith, tests, append_assoc, length-append, length-drop, nat_eq}
+use Rattle.std.proofs.Common.{◌≡◌, ℕ, ◌+◌, ◌-◌, ◌<◌, ◌≤◌, Bool, true, false, cond, nat_lt, nat_le, List, [], ◌∷◌, ◌++◌, length, drop, map, filter, refl, sym, ap, ◌∙◌, arith, tests, append_assoc, length-append, length-drop, nat_eq}
 use Rattle.std.proofs.lemmas.List.{map-append, take-append-le, drop-append-le}
-use Rattle.std.proofs.Math.Seq.{drop-append-add, take-append-add}
 use Rattle.iobufs_core.specs.View.{View, Mark, mark_after, native_mark, static_mark, bytes_mark, view_front, view_advanced}
 use Rattle.iobufs_core.specs.MarkedText.{MarkedText, of_view, key_upto, mark_past, moved_up, moved_down, text_left, text_right, text_glue}
+use Rattle.iobufs.specs.FillLaws.{drop_past, take_past}
 use Rattle.iobufs.specs.Pieces.{view_len}
 
 pub up_up : (m n : ℕ) (es : List (ℕ × Mark)) → map (moved_up m) (map (moved_up n) es) ≡ map (moved_up (m + n)) es
@@ -94,16 +94,6 @@ right-of_view at v = rw (no_sub at)
 pub left-of_view : (at : ℕ) (v : View) → text_left (of_view v) at ≡ of_view (view_front v at)
 unfolding text_left
 left-of_view at v = refl
-
-pub drop_past : {A : Type 0} (n : ℕ) (xs ys : List A) → length xs ≤ n → drop n (xs ++ ys) ≡ drop (n - length xs) ys
-drop_past n xs ys l =
-    let k : n ≡ length xs + (n - length xs) = omega arith in
-    ap (λ m. drop m (xs ++ ys)) k ∙ drop-append-add xs ys (n - length xs)
-
-pub take_past : {A : Type 0} (n : ℕ) (xs ys : List A) → length xs ≤ n → take n (xs ++ ys) ≡ xs ++ take (n - length xs) ys
-take_past n xs ys l =
-    let k : n ≡ length xs + (n - length xs) = omega arith in
-    ap (λ m. take m (xs ++ ys)) k ∙ take-append-add xs ys (n - length xs)
 
 pub is_lt : (m n : ℕ) → m < n → nat_lt m n ≡ true
 is_lt m n l = grind (arith, tests)

@@ -5,18 +5,13 @@ use Rattle.std.proofs.Common.{sym, ap, ◌∙◌, arith, append-nil}
 use Rattle.std.proofs.lemmas.Bool.{cond_both, eqb-true, ltb-true, ltb-false}
 use Rattle.std.proofs.lemmas.Bool.Decides.{nat_tests}
 use Rattle.std.proofs.Math.Seq.{drop-nil}
-use Rattle.std.proofs.lemmas.List.{drop-append-le}
+use Rattle.std.proofs.lemmas.List.{drop-append-le, nil_from_length}
 use Rattle.iobufs_core.specs.Chunks.{full_chunks}
 use Rattle.iobufs_core.specs.ChunkLaws.{joined-full_chunks, full_chunks-twice}
 use Rattle.iobufs_core.specs.Part.{Part, part_capacity, part_drained, part_copied}
 use Rattle.iobufs_core.specs.PartLaws.{part_copied-filled}
 use Rattle.iobufs.specs.FillLaws.{drop_both, drop_past}
 use Rattle.iobufs.specs.Parts.{is_all_of, parts_filled, with_capacity, parts_or_default, kept_parts, parts_shared_out, parts_used_up, parts_drained_evenly, parts_drained, parts_copied, parts_chunks}
-
--- a list of no length has no element
-pub no_length : {A : Type 0} (xs : List A) → length xs ≡ 0 → xs ≡ []
-no_length [] e = refl
-no_length (x ∷ xs) e = absurd (omega arith)
 
 -- parts that can't hold a byte have none
 pub filled-with_capacity : (parts : List Part) → parts_filled (with_capacity parts) ≡ parts_filled parts
@@ -25,7 +20,7 @@ filled-with_capacity (p ∷ parts) =
     let ih = filled-with_capacity parts in
     cond_both (nat_lt 0 (part_capacity p)) (p ∷ with_capacity parts) (with_capacity parts) (λ ps. parts_filled ps ≡ p.filled ++ parts_filled parts)
     (λ _. ap (λ w. p.filled ++ w) ih)
-    (λ e. let none : p.filled ≡ [] = no_length p.filled (omega (arith, ltb-false 0 (part_capacity p) e)) in rw none ih)
+    (λ e. let none : p.filled ≡ [] = nil_from_length p.filled (omega (arith, ltb-false 0 (part_capacity p) e)) in rw none ih)
 
 pub filled-or_default : (parts : List Part) → parts_filled (parts_or_default parts) ≡ parts_filled parts
 filled-or_default [] = refl

@@ -17,7 +17,7 @@ drop_past n xs ys l =
     let k : n ≡ length xs + (n - length xs) = omega arith in
     ap (λ m. drop m (xs ++ ys)) k ∙ drop-append-add xs ys (n - length xs)
 
-take_past : {A : Type 0} (n : ℕ) (xs ys : List A) → length xs ≤ n → take n (xs ++ ys) ≡ xs ++ take (n - length xs) ys
+pub take_past : {A : Type 0} (n : ℕ) (xs ys : List A) → length xs ≤ n → take n (xs ++ ys) ≡ xs ++ take (n - length xs) ys
 take_past n xs ys l =
     let k : n ≡ length xs + (n - length xs) = omega arith in
     ap (λ m. take m (xs ++ ys)) k ∙ take-append-add xs ys (n - length xs)

@@ -1,6 +1,6 @@
 use Rattle.std.proofs.Common.{◌≡◌, ◌-◌, [], slice_get, arith, ap, sym, ◌∙◌}
 use Rattle.std.specs.VecDeque.Iter.{deque_iter_rest}
-use Rattle.iobufs.specs.DrainLaws.{no_length}
+use Rattle.std.proofs.lemmas.List.{nil_from_length}
 use Rattle.iobufs.specs.Parts.{parts_filled}
 use Rattle.iobufs.proofs.PartChunks.{byte_in, byte_behind}
 use Rattle.iobufs.proofs.bufs_mut.row.byte_at.Goals as goal
@@ -23,5 +23,5 @@ loop-part-preserved c =
 pub returns : goal.returns
 returns c =
     let l = c.loop-part in
-    let none : deque_iter_rest l.part-iterator ≡ [] = no_length _ c.in-None.ensures.steps.0 in
+    let none : deque_iter_rest l.part-iterator ≡ [] = nil_from_length _ c.in-None.ensures.steps.0 in
     sym (l.invariant ∙ ap (λ ps. slice_get (parts_filled ps) l.at) none)

@@ -3,7 +3,7 @@ use Rattle.std.proofs.Math.Seq.{take-nil}
 use Rattle.std.proofs.lemmas.List.{map-append}
 use Rattle.std.specs.VecDeque.Iter.{deque_iter_rest}
 use Rattle.iobufs_core.specs.Part.{Part}
-use Rattle.iobufs.specs.DrainLaws.{no_length}
+use Rattle.std.proofs.lemmas.List.{nil_from_length}
 use Rattle.iobufs.specs.Parts.{parts_chunks}
 use Rattle.iobufs.proofs.PartChunks.{chunks-full, chunk-turn}
 use Rattle.iobufs.proofs.bufs_mut.row.chunks.Goals as goal
@@ -38,7 +38,7 @@ returns c =
     let left = c.args.max - vec_len l.chunks in
     elim c.match-next.branch [
       | in-None w ↦
-          let none : deque_iter_rest l.part-iterator ≡ [] = no_length _ w.in-None.ensures.steps.0 in
+          let none : deque_iter_rest l.part-iterator ≡ [] = nil_from_length _ w.in-None.ensures.steps.0 in
           sym (l.invariant.so_far ∙ ap (shown left) none ∙ ap (λ texts. chunks ++ texts) (take-nil left) ∙ append-nil chunks)
       | in-Some+then-len-max w ↦
           let done : left ≡ 0 = omega (arith, w.len.ensures, w.if-len-max.true) in

@@ -2,7 +2,7 @@ use Rattle.std.proofs.Common.{◌≡◌, ℕ, List, ◌-◌, ◌++◌, [], lengt
 use Rattle.std.proofs.Math.Seq.{take-nil}
 use Rattle.std.specs.VecDeque.Iter.{deque_iter_rest}
 use Rattle.iobufs_core.specs.Part.{Part}
-use Rattle.iobufs.specs.DrainLaws.{no_length}
+use Rattle.std.proofs.lemmas.List.{nil_from_length}
 use Rattle.iobufs.specs.Parts.{parts_filled}
 use Rattle.iobufs.proofs.PartChunks.{share-turn}
 use Rattle.iobufs.proofs.bufs_mut.row.front.Goals as goal
@@ -27,7 +27,7 @@ returns-clause-bytes c =
     let left = λ (k : ℕ) (ps : List Part). l.bytes.items ++ take k (parts_filled ps) in
     elim c.match-next.branch [
       | in-None w ↦
-          let none : deque_iter_rest l.part-iterator ≡ [] = no_length _ w.in-None.ensures.steps.0 in
+          let none : deque_iter_rest l.part-iterator ≡ [] = nil_from_length _ w.in-None.ensures.steps.0 in
           sym (l.invariant.so_far ∙ ap (left l.rest) none ∙ ap (λ bytes. l.bytes.items ++ bytes) (take-nil l.rest) ∙ append-nil l.bytes.items)
       | in-Some+then-rest-eq0 w ↦
           let done : l.rest ≡ 0 = omega (arith, w.if-rest-eq0.true) in

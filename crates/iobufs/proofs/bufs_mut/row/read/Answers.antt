@@ -2,7 +2,7 @@ use Rattle.std.proofs.Common.{◌≡◌, ℕ, List, ◌+◌, ◌-◌, ◌++◌, 
 use Rattle.std.proofs.lemmas.Slice.{take-put_mid}
 use borrow.Rule.Slice.PartMut.{put_mid, same_len_mid}
 use Rattle.std.specs.VecDeque.Iter.{deque_iter_rest}
-use Rattle.iobufs.specs.DrainLaws.{no_length}
+use Rattle.std.proofs.lemmas.List.{nil_from_length}
 use Rattle.iobufs.specs.Parts.{parts_filled}
 use Rattle.iobufs.proofs.PartChunks.{read-turn, read-done}
 use Rattle.iobufs.proofs.bufs_mut.row.read.Goals as goal
@@ -27,5 +27,5 @@ loop-part-preserved c =
 pub returns : goal.returns
 returns c =
     let l = c.loop-part in
-    let none : deque_iter_rest l.part-iterator ≡ [] = no_length _ c.in-None.ensures.steps.0 in
+    let none : deque_iter_rest l.part-iterator ≡ [] = nil_from_length _ c.in-None.ensures.steps.0 in
     read-done _ l.dst l.at l.invariant.within (omega (arith, l.auto.dst, c.requires)) (l.invariant.so_far ∙ ap (λ ps. take l.at l.dst ++ take (length l.dst - l.at) (parts_filled ps)) none) ∙ ap (λ m. take m (parts_filled c.args.parts.now.items)) l.auto.dst
