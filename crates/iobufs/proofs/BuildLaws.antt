@@ -1,19 +1,19 @@
 -- How puts and pushes change the fields of a builder.
 use Rattle.std.proofs.Common.{◌≡◌, ℕ, ◌+◌, ◌-◌, ◌^◌, ◌<◌, ◌≤◌, List, [], ◌∷◌, ◌++◌, length, take, drop, refl, sym, ap, ◌∙◌, arith, append_assoc, length-append, length-drop, length-take, take_all}
-use Rattle.std.proofs.Common.{IsTrue, false, subst}
+use Rattle.std.proofs.Common.{subst}
 use Rattle.std.proofs.lemmas.Bool.Decides.{nat_tests}
 use Rattle.std.proofs.lemmas.Grind.{common_steps}
 use Rattle.std.proofs.lemmas.List.{drop-drop, length-replicate, take-append-le, drop-append-le, drop_all}
 use Rattle.std.proofs.lemmas.List.Sums.{sum_by-cons, sum_by_push}
+use Rattle.iobufs_core.specs.LayoutLaws.{good_layout, large_layout}
 use Rattle.iobufs_core.specs.View.{view_of_bytes}
 use Rattle.iobufs_core.specs.Items.{Item, push_item, items_inline, items_pushed}
-use Rattle.iobufs_core.specs.Part.{Part, empty_part, is_bad_layout, part_put, part_capacity}
+use Rattle.iobufs_core.specs.Part.{Part, empty_part, part_put, part_capacity}
 use Rattle.iobufs.specs.Building.{Building, AreInTurn, IsBuilding, inline_run, empty_building, building_put, building_push, building_room, room_for_pushes}
 use Rattle.iobufs.specs.BuildingLaws.{items_inline-append, items_pushed-append, run-inline, run-pushed, push-some}
 use Rattle.iobufs.specs.Pieces.{AreFull}
 use Rattle.iobufs.specs.Pushes.{items_front, pushed_views, runs_len, pushed_len, building_with}
 use Rattle.iobufs.specs.declared.builder.Push.{Push}
-use Rattle.iobufs.proofs.Coalesced.{bad_layout-one}
 
 pub runs-cons : (p : Push) (ps : List Push) → runs_len (p ∷ ps) ≡ p.run + runs_len ps
 runs-cons p ps = sum_by-cons (λ (push : Push). push.run) p ps
@@ -148,10 +148,4 @@ IsBuilding-kept part ps placed pushable b counted within full limited is = subst
 pub bytes-len : (bytes : List ℕ) → length (view_of_bytes bytes).bytes ≡ length bytes
 bytes-len bytes = grind (arith, nat_tests, common_steps)
 
-pub good-layout : (n : ℕ) → n < 2 ^ 63 → is_bad_layout n 1 ≡ false
-good-layout n fits = rw (bad_layout-one n) (grind (arith, nat_tests))
-
-pub large-layout : (n : ℕ) → 2 ^ 63 ≤ n → IsTrue (is_bad_layout n 1)
-large-layout n large = rw (bad_layout-one n) (grind (arith, nat_tests))
-
-pub ruleset building = (good-layout, large-layout, new-building, put-building, push-building, room-building, pushes-building, runs-push, pushed-push, put-capacity, pushes-kept, full-push, bytes-len, length-replicate)
+pub ruleset building = (good_layout, large_layout, new-building, put-building, push-building, room-building, pushes-building, runs-push, pushed-push, put-capacity, pushes-kept, full-push, bytes-len, length-replicate)

@@ -4,14 +4,8 @@ use Rattle.std.proofs.lemmas.List.{map-append, take-append-le, drop-append-le}
 use Rattle.std.proofs.lemmas.Bool.{cases_lt}
 use Rattle.iobufs_core.specs.View.{View, default_view}
 use Rattle.iobufs.specs.Pieces.{view_len, piece_at, pieces_bytes}
-use Rattle.std.proofs.Math.Bool.{and-false}
-use Rattle.std.proofs.Common.{◌%◌, ◌^◌, Result, Err, Ok, IsErrAnd, IsOkUnless, true, false, not, nat_lt, nat_eq}
-use Rattle.std.specs.Int.{is_power_of_two}
-use Rattle.std.specs.Prelude.{count_ones}
-use Rattle.std.proofs.lemmas.Nat.{ones_le_self, zero_from_ones}
-use Rattle.iobufs_core.specs.Part.{is_bad_layout}
+use Rattle.std.proofs.Common.{Result, Err, Ok, IsErrAnd, IsOkUnless}
 use Rattle.iobufs.specs.FillLaws.{take_past}
-use Rattle.iobufs.proofs.Sides.{not_lt, same_eq}
 
 -- the bytes from inside a piece on
 pub bytes-from : (ps : List View) (i o : ℕ) → i < length ps → o ≤ view_len (piece_at ps i) → drop o (pieces_bytes (drop i ps)) ≡ drop o (piece_at ps i).bytes ++ pieces_bytes (drop (i + 1) ps)
@@ -80,22 +74,6 @@ chunk-next (p ∷ ps) (suc i) l = ap (λ rest. p.bytes ∷ rest) (chunk-next ps 
 pub chunks-step : {B : Type 0} (now : B → List ℕ) (chunks more : List B) (chunk : B) (ps : List View) (i : ℕ) → i < length ps → map now chunks ≡ take i (map (λ (p : View). p.bytes) ps) → now chunk ≡ (piece_at ps i).bytes → more ≡ chunks ++ chunk ∷ [] → map now more ≡ take (i + 1) (map (λ (p : View). p.bytes) ps)
 chunks-step now chunks more chunk ps i l h b m =
     ap (map now) m ∙ map-append now chunks (chunk ∷ []) ∙ (λ k. h k ++ b k ∷ []) ∙ sym (chunk-next ps i l) ∙ ap (λ n. take n (map (λ (p : View). p.bytes) ps)) (sym (add-one i))
-
-one-power : is_power_of_two 1 ≡ true
-one-power =
-    let most = ones_le_self 1 in
-    same_eq (count_ones 1) 1
-    (⊎_elim
-    (λ (h : 0 < count_ones 1). omega arith)
-    (λ (h : count_ones 1 ≤ 0). let z : count_ones 1 ≡ 0 = omega arith in let e = zero_from_ones 1 z in absurd (omega arith))
-    (cases_lt 0 (count_ones 1)))
-
--- so many bytes can be held
-pub good_layout : (n : ℕ) → n < 2 ^ 63 → is_bad_layout n 1 ≡ false
-good_layout n l =
-    let k : (1 - n % 1) % 1 ≡ 0 = omega arith in
-    let short : nat_lt (2 ^ 63 - 1) (n + (1 - n % 1) % 1) ≡ false = not_lt (2 ^ 63 - 1) (n + (1 - n % 1) % 1) (omega arith) in
-    rw (short, one-power) (and-false (not (nat_eq n 0)))
 
 -- a refusal by its cause
 pub only-cause : {A E : Type 0} (result : Result A E) (e cause : E) → IsErrAnd result (λ x. x ≡ e) → e ≡ cause → IsOkUnless result cause

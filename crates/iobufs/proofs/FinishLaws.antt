@@ -3,13 +3,13 @@ use Rattle.std.proofs.Common.{◌≡◌, ℕ, ◌+◌, ◌-◌, ◌^◌, ◌<◌
 use Rattle.std.proofs.lemmas.Bool.{cases_lt}
 use Rattle.std.proofs.lemmas.Bool.Decides.{nat_tests}
 use Rattle.std.proofs.lemmas.Grind.{common_steps}
-use Rattle.std.proofs.lemmas.List.{drop-drop}
+use Rattle.std.proofs.lemmas.List.{drop-drop, nil_from_length}
 use Rattle.iobufs_core.specs.View.{View, default_view, native_mark, view_rest, view_split_front}
 use Rattle.iobufs_core.specs.MarkedText.{MarkedText, default_text, joined, text_append}
-use Rattle.iobufs_core.specs.Items.{Item, put_item, push_item, items_bytes, items_inline, items_pushed}
+use Rattle.iobufs_core.specs.Items.{Item, put_item, push_item, ArePuts, items_bytes, items_inline, items_pushed}
 use Rattle.iobufs_core.specs.Part.{Part, part_frozen, part_capacity}
-use Rattle.iobufs.specs.Building.{Building, building_bytes, building_items, built, empty_building, inline_run, room_for_pushes, views_from, finished}
-use Rattle.iobufs.specs.BuildingLaws.{bytes-built, items_bytes-append, run-bytes}
+use Rattle.iobufs.specs.Building.{Building, building_bytes, building_items, building_put, built, empty_building, inline_run, room_for_pushes, views_from, finished}
+use Rattle.iobufs.specs.BuildingLaws.{bytes-built, items_bytes-append, put-append, put_nothing, run-bytes}
 use Rattle.iobufs.specs.Pieces.{pieces_bytes}
 use Rattle.iobufs.specs.JoinedLaws.{bytes-joined}
 use Rattle.iobufs.specs.Pushes.{items_front, runs_len, building_with}
@@ -171,7 +171,7 @@ finished-bytes b =
 pub encoded-bytes : (capacity : ℕ) (items : List Item) → (finished (built (empty_building capacity) items)).bytes ≡ items_bytes items
 encoded-bytes capacity items = finished-bytes (built (empty_building capacity) items) ∙ bytes-built (empty_building capacity) items
 
-items-len : (items : List Item) → length (items_bytes items) ≡ items_inline items + items_pushed items
+pub items-len : (items : List Item) → length (items_bytes items) ≡ items_inline items + items_pushed items
 items-len [] = omega arith
 items-len (put_item bytes ∷ items) = let n = length-append bytes (items_bytes items) in let ih = items-len items in omega arith
 items-len (push_item view ∷ items) = let n = length-append view.bytes (items_bytes items) in let ih = items-len items in omega arith
@@ -181,5 +181,16 @@ pub pushes-fit : (b : Building) (items : List Item) → b ≡ empty_building (it
 pushes-fit b items empty fits long =
     let n = items-len items in
     let room = ap room_for_pushes empty in omega arith
+
+-- puts without bytes leave a builder without items
+pub nothing-put : (capacity : ℕ) (items : List Item) → ArePuts items → length (items_bytes items) ≡ 0 → building_items (built (empty_building capacity) items) ≡ []
+nothing-put capacity items puts none =
+    ap building_items (built-puts (empty_building capacity) items puts)
+    ∙ ap inline_run (nil_from_length (items_bytes items) none)
+  where
+    built-puts : (b : Building) (items : List Item) → ArePuts items → built b items ≡ building_put b (items_bytes items)
+    built-puts b [] puts = (put_nothing b).1
+    built-puts b (put_item bytes ∷ items) puts = built-puts (building_put b bytes) items puts ∙ put-append b bytes (items_bytes items)
+    built-puts b (push_item view ∷ items) puts = absurd puts
 
 pub ruleset finishing = (len-append, frozen-bytes, front-len, rest-len, runs-cons, pushed-cons)

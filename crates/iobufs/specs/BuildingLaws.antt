@@ -43,7 +43,7 @@ run-pushed (b ∷ bs) = refl
 put-nothing : (b : Building) → b ≡ building_put b []
 put-nothing b = ap (λ (last : List ℕ). record { capacity = b.capacity; front = b.front; last = last }) (sym (append-nil b.last))
 
-put-append : (b : Building) (u v : List ℕ) → building_put (building_put b u) v ≡ building_put b (u ++ v)
+pub put-append : (b : Building) (u v : List ℕ) → building_put (building_put b u) v ≡ building_put b (u ++ v)
 put-append b u v = ap (λ (last : List ℕ). record { capacity = b.capacity; front = b.front; last = last }) (append_assoc b.last u v)
 
 -- the laws of the trait to fill room

@@ -259,6 +259,7 @@ impl IoBufsMut {
         ensures single { length self ≡ 1 → IsOk result }
         ensures bad_layout { 1 < length self → 2 ^ 63 ≤ length (parts_filled self) → result ≡ Err BufError.BadLayout }
         ensures good_layout { length (parts_filled self) < 2 ^ 63 → IsOkUnless result BufError.Memory }
+        ensures nothing { length (parts_filled self) ≡ 0 → IsOk result }
     {
         let parts = match self.try_into_single() {
             Ok(part) => return Ok(part),

@@ -1,6 +1,6 @@
 // Encoded bytes and existing buffers, put together as one text.
 ghost use Rattle.std.specs.Prelude.{◌≡◌, ◌+◌, ◌<◌, ◌≤◌, ◌^◌, [], length, Err, IfErr, IsErrAnd, IfOk, IsOk, IsOkUnless, OnErr, OnOk, vec_len, vec_capacity};
-ghost use Rattle.iobufs_core.specs.Items.{items_inline};
+ghost use Rattle.iobufs_core.specs.Items.{ArePuts, items_inline};
 ghost use Rattle.iobufs_core.specs.View.{View};
 ghost use Rattle.iobufs.specs.Building.{IsBuilding, building_items, building_room, built, empty_building, finished};
 
@@ -216,6 +216,7 @@ pub trait EncodeExt: Write {
         ensures too_long { 2 ^ 64 ≤ length (Self.written self.now) → result ≡ Err Error.TooLong }
         ensures bad_layout { length (Self.written self.now) < 2 ^ 64 → 2 ^ 63 ≤ items_inline (Self.items self.now) → result ≡ Err Error.BadLayout }
         ensures memory { length (Self.written self.now) < 2 ^ 64 → items_inline (Self.items self.now) < 2 ^ 63 → IsOkUnless result Error.Memory }
+        ensures nothing { ArePuts (Self.items self.now) → length (Self.written self.now) ≡ 0 → IsOk result }
     {
         if self.encode_size().is_none() {
             return Err(Error::TooLong);

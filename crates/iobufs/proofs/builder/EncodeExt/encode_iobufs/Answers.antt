@@ -1,9 +1,10 @@
-use Rattle.std.proofs.Common.{◌^◌, ◌<◌, length, ap, sym, subst, ◌∙◌, ⊎_elim}
-use Rattle.iobufs_core.specs.Items.{items_inline}
+use Rattle.std.proofs.Common.{◌≡◌, ◌^◌, ◌<◌, arith, length, ap, sym, subst, ◌∙◌, ⊎_elim}
+use Rattle.std.proofs.lemmas.Bool.{false≢true}
+use Rattle.iobufs_core.specs.Items.{ArePuts, items_bytes, items_inline}
 use Rattle.iobufs_core.specs.MarkedText.{MarkedText}
-use Rattle.iobufs.specs.Building.{Building, built, empty_building, finished}
+use Rattle.iobufs.specs.Building.{Building, building_items, built, empty_building, finished}
 use Rattle.iobufs.proofs.CopyLaws.{only-cause}
-use Rattle.iobufs.proofs.FinishLaws.{encoded-bytes, pushes-fit}
+use Rattle.iobufs.proofs.FinishLaws.{encoded-bytes, items-len, nothing-put, pushes-fit}
 use Rattle.iobufs.proofs.builder.EncodeExt.encode_iobufs.Goals as goal
 
 pub returns-in_err-write_bufs-clause-memory : goal.returns-in_err-write_bufs-clause-memory
@@ -22,3 +23,18 @@ returns-clause-bytes g c =
     ap (λ (text : MarkedText). text.bytes) (c.in_ok-finish.ensures.ok ∙ ap finished (c.in_ok-write_bufs.ensures.ok.2 ∙ ap (λ (b : Building). built b items) (c.in_ok-builder.ensures.ok ∙ ap empty_building c.encode_inline_size.ensures)))
     ∙ encoded-bytes (items_inline items) items
     ∙ g.met.Self.EncodeSize.joins_items c.args.self.now
+
+pub returns-in_err-builder-clause-nothing : goal.returns-in_err-builder-clause-nothing
+returns-in_err-builder-clause-nothing g c =
+    let items = g.Self.EncodeSize.items c.args.self.now in
+    λ (puts : ArePuts items) (none : length (g.Self.EncodeSize.written c.args.self.now) ≡ 0).
+    let bytes = ap length (g.met.Self.EncodeSize.joins_items c.args.self.now) in
+    absurd (false≢true (c.in_err-builder.ensures.nothing (omega (arith, none, bytes, items-len items, c.encode_inline_size.ensures))))
+
+pub returns-in_err-finish-clause-nothing : goal.returns-in_err-finish-clause-nothing
+returns-in_err-finish-clause-nothing g c =
+    let items = g.Self.EncodeSize.items c.args.self.now in
+    λ (puts : ArePuts items) (none : length (g.Self.EncodeSize.written c.args.self.now) ≡ 0).
+    let bytes : length (items_bytes items) ≡ 0 = ap length (g.met.Self.EncodeSize.joins_items c.args.self.now) ∙ none in
+    let is = c.in_ok-write_bufs.ensures.ok.2 ∙ ap (λ (b : Building). built b items) (c.in_ok-builder.ensures.ok ∙ ap empty_building c.encode_inline_size.ensures) in
+    absurd (false≢true (c.in_err-finish.ensures.nothing (ap building_items is ∙ nothing-put (items_inline items) items puts bytes)))

@@ -2,7 +2,8 @@ use Rattle.std.proofs.Common.{◌-◌, ap, ◌∙◌, arith, drop, take, length,
 use Rattle.iobufs_core.specs.View.{View}
 use Rattle.iobufs_core.specs.Part.{Part}
 use Rattle.iobufs.specs.Shapes.{pieces}
-use Rattle.iobufs.proofs.CopyLaws.{only-cause, good_layout, copied-step, slice_from}
+use Rattle.iobufs_core.specs.LayoutLaws.{good_layout}
+use Rattle.iobufs.proofs.CopyLaws.{only-cause, copied-step, slice_from}
 use Rattle.iobufs.proofs.bufs.shape.Shape.copied.Goals as goal
 
 pub loop-offset-preserved : goal.loop-offset-preserved
