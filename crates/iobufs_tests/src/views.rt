@@ -35,6 +35,14 @@ fn recovered(rt: &(impl Abort + AllocGlobal), view: IoBuf) -> Result<IoBufMut, F
     }
 }
 
+// The part that is made of the view.
+fn part_of(rt: &(impl Abort + AllocGlobal), view: IoBuf) -> Result<IoBufMut, Fail> {
+    match IoBufMut::from_view(rt.alloc(), view) {
+        Ok(part) => Ok(part),
+        Err(_) => Err(Fail::new("refused")),
+    }
+}
+
 #[test]
 fn a_static_view_is_read_to_its_end(rt: HostRuntime) -> Result<(), Fail> {
     let mut view = IoBuf::from(HELLO);
@@ -72,6 +80,27 @@ fn empty_slices_and_splits_at_the_ends(rt: HostRuntime) -> Result<(), Fail> {
     assert_eq!(rt; view.as_ref(), HELLO);
     assert_eq!(rt; view.split_to(11)?.as_ref(), HELLO);
     assert!(rt; view.is_empty());
+    Ok(())
+}
+
+#[test]
+fn a_view_becomes_the_part_that_it_was(rt: HostRuntime) -> Result<(), Fail> {
+    let mut part = IoBufMut::with_capacity(rt.alloc(), 16)?;
+    part.put_slice(b"abc");
+    let view = part.freeze()?;
+    let shared = view.clone()?;
+    assert_eq!(rt; part_of(&rt, shared)?.capacity(), 3);
+    let part = part_of(&rt, view)?;
+    assert_eq!(rt; (part.as_ref(), part.capacity()), (b"abc".as_slice(), 16));
+    Ok(())
+}
+
+#[test]
+fn adopted_buffers_keep_what_they_have(rt: HostRuntime) -> Result<(), Fail> {
+    let empty = BytesMut::with_capacity(rt.alloc(), 16)?;
+    assert!(rt; IoBufMut::from_bytes_mut(empty)?.capacity() >= 16);
+    let view = IoBuf::from_bytes_mut(BytesMut::copy_from_slice(rt.alloc(), b"abc")?)?;
+    assert_eq!(rt; declined(&rt, view)?.as_ref(), b"abc".as_slice());
     Ok(())
 }
 

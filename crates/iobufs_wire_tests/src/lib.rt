@@ -10,4 +10,6 @@ mod encode;
 #[cfg(test)]
 mod lengths;
 mod shard;
+#[cfg(test)]
+mod values;
 mod zeros;
