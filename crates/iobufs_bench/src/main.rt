@@ -1,0 +1,95 @@
+// iobufs_bench [--sums] [NAME..]: times the workloads, all or those named; with `--sums` what one run of each saw.
+#![tactic(auto)]
+
+mod codec;
+mod lists;
+mod run;
+mod single;
+mod texts;
+mod workloads;
+
+use run::{Run, Stop};
+use std::process::ExitCode;
+use std::time::Instant;
+use std::{env, io};
+use workloads::{NAMES, run_named};
+
+// What is asked for: times or sums, of all workloads where none is named.
+#[derive(Drop)]
+struct Request {
+    is_sums: bool,
+    names: Vec<&'static str>,
+}
+
+fn requested(rt: &HostRuntime) -> Result<Request, Stop> {
+    let mut is_sums = false;
+    let mut names = Vec::new(rt.alloc());
+    for word in env::args(rt)?.skip(1) {
+        let word = word.as_str();
+        if word == "--sums" && !is_sums {
+            is_sums = true;
+            continue;
+        }
+        match NAMES.iter().find(|name| **name == word) {
+            Some(name) => names.push(*name)?,
+            None => return Err(Stop::NoName),
+        }
+    }
+    if names.is_empty() {
+        names.extend_from_slice(&NAMES)?;
+    }
+    Ok(Request { is_sums, names })
+}
+
+// The picoseconds of an operation over as many runs as make 8 milliseconds of timed work, or 60 in all.
+fn repetition(rt: &HostRuntime, name: &str) -> Result<u64, Stop> {
+    let mut nanos = 0u64;
+    let mut ops = 0u64;
+    let begun = Instant::now(rt)?;
+    for _ in 0..100_000 {
+        let run = run_named(rt, name)?;
+        nanos = nanos.wrapping_add(run.nanos);
+        ops = ops.wrapping_add(run.ops);
+        if nanos >= 8_000_000 || run::since(rt, begun)? >= 60_000_000 {
+            break;
+        }
+    }
+    Ok(nanos.wrapping_mul(1000).checked_div(ops).unwrap_or(0))
+}
+
+// The least of five repetitions.
+fn least(rt: &HostRuntime, name: &str) -> Result<u64, Stop> {
+    let mut least = repetition(rt, name)?;
+    for _ in 0..4 {
+        least = least.min(repetition(rt, name)?);
+    }
+    Ok(least)
+}
+
+fn answer(rt: &HostRuntime) -> Result<(), Stop> {
+    let Request { is_sums, names } = requested(rt)?;
+    for name in names {
+        if is_sums {
+            let Run { sum, ops, .. } = run_named(rt, name)?;
+            println!(rt; "{name} {sum} {ops}")?;
+        } else {
+            let picos = least(rt, name)?;
+            println!(rt; "{name} {}.{:03}", picos / 1000, picos % 1000)?;
+        }
+    }
+    Ok(())
+}
+
+fn main(rt: HostRuntime) -> ExitCode {
+    match answer(&rt) {
+        Ok(()) => ExitCode::from(0),
+        Err(Stop::NoName) => {
+            let _ = eprintln!(&rt; "usage: iobufs_bench [--sums] [NAME..]");
+            ExitCode::from(2)
+        }
+        Err(stop) => {
+            let _ = eprintln!(&rt; "stopped: {stop:?}");
+            ExitCode::from(3)
+        }
+    }
+}
