@@ -1,5 +1,5 @@
 -- Reading a spelled length, byte by byte.
-use Rattle.std.proofs.Common.{◌≡◌, ◌≢◌, ℕ, zero, suc, ◌+◌, ◌-◌, ◌*◌, ◌^◌, ◌<◌, ◌≤◌, ◌⊎◌, inl, inr, List, [], ◌∷◌, ◌++◌, length, take, drop, arith, ap, sym, refl, subst, ◌∙◌, length-take, length-take-le, take-append-drop, None, Some, append_assoc, take_all, add-one}
+use Rattle.std.proofs.Common.{◌≡◌, ◌≢◌, ℕ, zero, suc, ◌+◌, ◌-◌, ◌*◌, ◌^◌, ◌<◌, ◌≤◌, ◌⊎◌, inl, inr, List, [], ◌∷◌, ◌++◌, length, take, drop, arith, ap, sym, refl, subst, ◌∙◌, length-take-le, take-append-drop, None, Some, append_assoc, take_all, add-one}
 use Rattle.std.specs.Prelude.{slice_get}
 use Rattle.std.proofs.lemmas.List.{take_more}
 use Rattle.std.proofs.lemmas.Bool.{cases_lt}
@@ -7,7 +7,7 @@ use Rattle.std.proofs.lemmas.Bool.Decides.{eqb_tells}
 use Rattle.std.proofs.lemmas.Option.{slice_get_within, get_or_from_slice_get}
 use Rattle.std.proofs.Math.Nat.{pow-suc, pow-le-pow_right, mul-le-mul_left}
 use Rattle.iobufs_core.specs.Spelling.{spell, IsSpelledAt, IsSpelling, AreHigh, HasNoLength, IsOpen}
-use Rattle.iobufs_core.proofs.Spelled.{grow, read_off, AreHigh-append, none_high, none_long, none_zero, none_large}
+use Rattle.iobufs_core.specs.Spelled.{grow, read_off, AreHigh-append, none_high, none_long, none_zero, none_large}
 
 -- i bytes were read: they have the top bit set, and whatever spells the rest completes the number
 pub record IsSoFar (text : List ℕ) (i value place : ℕ) : Type 0 where

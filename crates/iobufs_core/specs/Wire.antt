@@ -1,5 +1,5 @@
 -- How lengths and views are written and read.
-use Rattle.std.specs.Prelude.{◌≡◌, ◌⊎◌, ℕ, ◌+◌, ◌<◌, ◌≤◌, true, false, Result, Ok, Err, List, [], ◌∷◌, ◌++◌, length, take, drop}
+use Rattle.std.specs.Prelude.{◌≡◌, ◌⊎◌, ℕ, ◌+◌, ◌^◌, ◌<◌, ◌≤◌, true, false, Result, Ok, Err, List, [], ◌∷◌, ◌++◌, length, take, drop}
 use Rattle.iobufs_core.specs.Ranges.{in_range}
 use Rattle.iobufs_core.specs.Spelling.{spell, IsSpelledAt, HasNoLength, IsOpen}
 use Rattle.iobufs_core.specs.View.{View, view_of_bytes}
@@ -34,11 +34,11 @@ IsLengthRead bytes range (Ok n) = IsSpelledAt bytes n × (in_range range n ≡ t
 IsLengthRead bytes range (Err (InvalidLength n)) = IsSpelledAt bytes n × (in_range range n ≡ false)
 IsLengthRead bytes range (Err error) = IsNoLength bytes error
 
--- what reading a value of a fixed size answers: the value whose written bytes stand in front; the end of the buffer where there are fewer bytes
-abbrev pub IsFixedRead : {Value : Type 0} → (Value → List ℕ) → ℕ → List ℕ → Result Value Error → Type 0
-IsFixedRead written size bytes (Ok value) = (size ≤ length bytes) × (written value ≡ take size bytes)
-IsFixedRead written size bytes (Err EndOfBuffer) = length bytes < size
-IsFixedRead written size bytes (Err error) = ⊥
+-- what reading a number of so many bytes answers: the number whose written bytes stand in front; the end of the buffer where there are fewer bytes
+abbrev pub IsNumberRead : (ℕ → List ℕ) → ℕ → List ℕ → Result ℕ Error → Type 0
+IsNumberRead written size bytes (Ok n) = (n < 256 ^ size) × (size ≤ length bytes) × (written n ≡ take size bytes)
+IsNumberRead written size bytes (Err EndOfBuffer) = length bytes < size
+IsNumberRead written size bytes (Err error) = ⊥
 
 -- a length in the range is spelled in front, and so many bytes are behind it
 abbrev pub HasView : MarkedText → RangeCfg → ℕ → Type 0

@@ -1,11 +1,11 @@
 // Numbers as values of a fixed size, the highest byte first.
-ghost use Rattle.std.specs.Prelude.{◌≡◌, ℕ, [], ◌∷◌};
+ghost use Rattle.std.specs.Prelude.{◌≡◌, ◌^◌, ◌<◌, ℕ, [], ◌∷◌};
 ghost use Rattle.std.specs.Int.{w16, w32, w64, to_be_bytes};
 ghost use Rattle.iobufs_core.specs.Dropping.{by_advance};
 ghost use Rattle.iobufs_core.specs.Items.{put_item};
-ghost use Rattle.iobufs_core.specs.Wire.{IsFixedRead};
+ghost use Rattle.iobufs_core.specs.Wire.{IsNumberRead};
 
-use super::{Buf, BufMut, BufsMut, EncodeSize, Error, OwnedBuf, Read, Write};
+use super::{Buf, BufMut, BufsMut, Codec, EncodeSize, Error, OwnedBuf, Read, Write};
 use std::alloc::Global;
 
 impl EncodeSize for u8 {
@@ -40,9 +40,11 @@ impl Write for u8 {
 impl Read for u8 {
     type Cfg = ();
 
-    ghost is_read = { λ text _ answer. IsFixedRead (λ n. n ∷ []) 1 text.bytes answer };
+    ghost is_read = { λ text _ answer. IsNumberRead (λ n. n ∷ []) 1 text.bytes answer };
 
     ghost dropping = { λ _. by_advance 1 ∷ [] };
+
+    ghost same = { λ m n. m ≡ n };
 
     fn read_cfg<B: OwnedBuf>(_alloc: Global, buf: &mut B, _cfg: &()) -> Result<u8, Error> {
         let Some(byte) = buf.byte_at(0) else {
@@ -51,6 +53,20 @@ impl Read for u8 {
         buf.advance(1);
         Ok(byte)
     }
+
+    ghost use Rattle.iobufs_core.specs.NumberLaws.{form_8};
+    ghost use Rattle.iobufs_core.specs.ReadLaws.{number_alike};
+
+    ghost alike = { λ s t _ a b e p q. number_alike (λ n. n ∷ []) 1 form_8 s t a b e p q };
+}
+
+impl Codec for u8 {
+    ghost use Rattle.iobufs_core.specs.NumberLaws.{form_8};
+    ghost use Rattle.iobufs_core.specs.ReadLaws.{number_back};
+
+    ghost admits = { λ _ n. n < 2 ^ 8 };
+
+    ghost gives_back = { λ n _ text rest answer ok e h. number_back (λ n. n ∷ []) 1 n text.bytes rest answer form_8 ok e h };
 }
 
 impl EncodeSize for u16 {
@@ -85,9 +101,11 @@ impl Write for u16 {
 impl Read for u16 {
     type Cfg = ();
 
-    ghost is_read = { λ text _ answer. IsFixedRead (λ n. to_be_bytes w16 n) 2 text.bytes answer };
+    ghost is_read = { λ text _ answer. IsNumberRead (λ n. to_be_bytes w16 n) 2 text.bytes answer };
 
     ghost dropping = { λ _. by_advance 2 ∷ [] };
+
+    ghost same = { λ m n. m ≡ n };
 
     fn read_cfg<B: OwnedBuf>(_alloc: Global, buf: &mut B, _cfg: &()) -> Result<u16, Error> {
         let mut bytes = [0; 2];
@@ -96,6 +114,20 @@ impl Read for u16 {
         }
         Ok(u16_of(bytes))
     }
+
+    ghost use Rattle.iobufs_core.specs.NumberLaws.{form_16};
+    ghost use Rattle.iobufs_core.specs.ReadLaws.{number_alike};
+
+    ghost alike = { λ s t _ a b e p q. number_alike (to_be_bytes w16) 2 form_16 s t a b e p q };
+}
+
+impl Codec for u16 {
+    ghost use Rattle.iobufs_core.specs.NumberLaws.{form_16};
+    ghost use Rattle.iobufs_core.specs.ReadLaws.{number_back};
+
+    ghost admits = { λ _ n. n < 2 ^ 16 };
+
+    ghost gives_back = { λ n _ text rest answer ok e h. number_back (to_be_bytes w16) 2 n text.bytes rest answer form_16 ok e h };
 }
 
 impl EncodeSize for u32 {
@@ -130,9 +162,11 @@ impl Write for u32 {
 impl Read for u32 {
     type Cfg = ();
 
-    ghost is_read = { λ text _ answer. IsFixedRead (λ n. to_be_bytes w32 n) 4 text.bytes answer };
+    ghost is_read = { λ text _ answer. IsNumberRead (λ n. to_be_bytes w32 n) 4 text.bytes answer };
 
     ghost dropping = { λ _. by_advance 4 ∷ [] };
+
+    ghost same = { λ m n. m ≡ n };
 
     fn read_cfg<B: OwnedBuf>(_alloc: Global, buf: &mut B, _cfg: &()) -> Result<u32, Error> {
         let mut bytes = [0; 4];
@@ -141,6 +175,20 @@ impl Read for u32 {
         }
         Ok(u32_of(bytes))
     }
+
+    ghost use Rattle.iobufs_core.specs.NumberLaws.{form_32};
+    ghost use Rattle.iobufs_core.specs.ReadLaws.{number_alike};
+
+    ghost alike = { λ s t _ a b e p q. number_alike (to_be_bytes w32) 4 form_32 s t a b e p q };
+}
+
+impl Codec for u32 {
+    ghost use Rattle.iobufs_core.specs.NumberLaws.{form_32};
+    ghost use Rattle.iobufs_core.specs.ReadLaws.{number_back};
+
+    ghost admits = { λ _ n. n < 2 ^ 32 };
+
+    ghost gives_back = { λ n _ text rest answer ok e h. number_back (to_be_bytes w32) 4 n text.bytes rest answer form_32 ok e h };
 }
 
 impl EncodeSize for u64 {
@@ -175,9 +223,11 @@ impl Write for u64 {
 impl Read for u64 {
     type Cfg = ();
 
-    ghost is_read = { λ text _ answer. IsFixedRead (λ n. to_be_bytes w64 n) 8 text.bytes answer };
+    ghost is_read = { λ text _ answer. IsNumberRead (λ n. to_be_bytes w64 n) 8 text.bytes answer };
 
     ghost dropping = { λ _. by_advance 8 ∷ [] };
+
+    ghost same = { λ m n. m ≡ n };
 
     fn read_cfg<B: OwnedBuf>(_alloc: Global, buf: &mut B, _cfg: &()) -> Result<u64, Error> {
         let mut bytes = [0; 8];
@@ -186,6 +236,20 @@ impl Read for u64 {
         }
         Ok(u64_of(bytes))
     }
+
+    ghost use Rattle.iobufs_core.specs.NumberLaws.{form_64};
+    ghost use Rattle.iobufs_core.specs.ReadLaws.{number_alike};
+
+    ghost alike = { λ s t _ a b e p q. number_alike (to_be_bytes w64) 8 form_64 s t a b e p q };
+}
+
+impl Codec for u64 {
+    ghost use Rattle.iobufs_core.specs.NumberLaws.{form_64};
+    ghost use Rattle.iobufs_core.specs.ReadLaws.{number_back};
+
+    ghost admits = { λ _ n. n < 2 ^ 64 };
+
+    ghost gives_back = { λ n _ text rest answer ok e h. number_back (to_be_bytes w64) 8 n text.bytes rest answer form_64 ok e h };
 }
 
 // The number with these bytes.

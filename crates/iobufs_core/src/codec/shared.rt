@@ -1,10 +1,10 @@
 // A `Bytes` as a value that is written and read behind its length.
-ghost use Rattle.std.specs.Prelude.{[], ◌∷◌, length};
+ghost use Rattle.std.specs.Prelude.{◌≡◌, ◌^◌, ◌<◌, [], ◌∷◌, length};
 ghost use Rattle.iobufs_core.specs.Dropping.{by_copy};
 
 use super::length::{put_length, spelled_len};
 use super::wire::read_bytes;
-use super::{BufMut, BufsMut, EncodeSize, Error, OwnedBuf, RangeCfg, Read, Write};
+use super::{BufMut, BufsMut, Codec, EncodeSize, Error, OwnedBuf, RangeCfg, Read, Write};
 use bytes::Bytes;
 use std::alloc::Global;
 
@@ -45,13 +45,28 @@ impl Write for Bytes {
 impl Read for Bytes {
     type Cfg = RangeCfg;
 
+    ghost use Rattle.iobufs_core.specs.ReadLaws.{bytes_alike};
     ghost use Rattle.iobufs_core.specs.Wire.{IsBytesRead, bytes_written};
 
     ghost is_read = { IsBytesRead };
 
     ghost dropping = { λ bytes. by_copy (length (bytes_written bytes)) ∷ [] };
 
+    ghost same = { λ x y. x ≡ y };
+
     fn read_cfg<B: OwnedBuf>(alloc: Global, buf: &mut B, range: &RangeCfg) -> Result<Bytes, Error> {
         read_bytes(alloc, buf, range)
     }
+
+    ghost alike = { bytes_alike };
+}
+
+impl Codec for Bytes {
+    ghost use Rattle.std.specs.Prelude.{true};
+    ghost use Rattle.iobufs_core.specs.Ranges.{in_range};
+    ghost use Rattle.iobufs_core.specs.ReadLaws.{bytes_back};
+
+    ghost admits = { λ range bytes. (length bytes < 2 ^ 64) × (in_range range (length bytes) ≡ true) };
+
+    ghost gives_back = { λ bytes range text rest answer ok e h. bytes_back bytes range text rest answer ok.0 ok.1 e h };
 }

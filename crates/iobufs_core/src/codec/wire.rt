@@ -4,6 +4,7 @@ ghost use Rattle.iobufs_core.specs.View.{View};
 ghost use Rattle.iobufs_core.specs.MarkedText.{MarkedText, taken_view, text_advanced, text_rest};
 ghost use Rattle.iobufs_core.specs.Spelling.{spell};
 ghost use Rattle.iobufs_core.specs.Wire.{HasView, IsViewFault, view_items, view_written};
+ghost use Rattle.iobufs_core.specs.ReadBack.{IsReadAlike, IsReadBack};
 ghost use Rattle.iobufs_core.specs.Dropping.{Dropping, by_advance, by_copy, dropped};
 ghost use Rattle.iobufs_core.specs.Items.{Item, put_item, push_item, items_bytes, items_inline, items_pushed, ArePuts, IsBegun};
 ghost use Rattle.iobufs_core.specs.View.{view_of_bytes};
@@ -102,12 +103,26 @@ pub trait Read: Sized {
 
     ghost dropping: { Self → List Dropping };
 
+    // The same value, wherever its bytes are kept.
+    ghost same: { Self → Self → Type 0 };
+
     /// Reads a value from the front. A refusal leaves the reader as it was.
     fn read_cfg<B: OwnedBuf>(alloc: Global, buf: &mut B, cfg: &Self::Cfg) -> Result<Self, Error>
         ensures answer { is_read (B.marked buf.old) cfg.now result }
         ensures left { IfOk result (λ value. buf.new ≡ dropped B.advanced B.copied buf.old (dropping value)) }
         ensures rest { IfOk result (λ value. B.marked buf.new ≡ dropped text_advanced text_rest (B.marked buf.old) (dropping value)) }
         ensures err { OnErr result (buf.new ≡ buf.old) };
+
+    // Reading doesn't depend on where a text is cut.
+    ghost alike: { (s t : MarkedText) (cfg : Self.Cfg) (a b : Result Self AnyError) → s.bytes ≡ t.bytes → is_read s cfg a → is_read t cfg b → IsReadAlike same a b };
+}
+
+/// A value that is read back as it was written, whatever follows it (the codec's `Codec`).
+pub trait Codec: Write + Read {
+    // Which values a configuration admits.
+    ghost admits: { Self.Cfg → Self → Type 0 };
+
+    ghost gives_back: { (value : Self) (cfg : Self.Cfg) (text : MarkedText) (rest : List ℕ) (answer : Result Self AnyError) → admits cfg value → text.bytes ≡ Self.written value ++ rest → Self.is_read text cfg answer → IsReadBack Self.same value answer };
 }
 
 impl EncodeSize for usize {
@@ -144,11 +159,14 @@ impl Read for usize {
     type Cfg = RangeCfg;
 
     ghost use Rattle.iobufs_core.specs.Spelling.{spell};
+    ghost use Rattle.iobufs_core.specs.ReadLaws.{length_alike};
     ghost use Rattle.iobufs_core.specs.Wire.{IsLengthRead};
 
     ghost is_read = { λ text range answer. IsLengthRead text.bytes range answer };
 
     ghost dropping = { λ n. by_advance (length (spell n)) ∷ [] };
+
+    ghost same = { λ m n. m ≡ n };
 
     fn read_cfg<B: OwnedBuf>(
         _alloc: Global,
@@ -159,6 +177,18 @@ impl Read for usize {
         buf.advance(found.len);
         Ok(found.value)
     }
+
+    ghost alike = { λ s t range a b e p q. length_alike s t range a b e p q };
+}
+
+impl Codec for usize {
+    ghost use Rattle.std.specs.Prelude.{true};
+    ghost use Rattle.iobufs_core.specs.Ranges.{in_range};
+    ghost use Rattle.iobufs_core.specs.ReadLaws.{length_back};
+
+    ghost admits = { λ range n. (n < 2 ^ 64) × (in_range range n ≡ true) };
+
+    ghost gives_back = { λ n range text rest answer ok e h. length_back n range text.bytes rest answer ok.0 ok.1 e h };
 }
 
 impl EncodeSize for IoBuf {
@@ -206,15 +236,30 @@ impl Write for IoBuf {
 impl Read for IoBuf {
     type Cfg = RangeCfg;
 
+    ghost use Rattle.iobufs_core.specs.ReadLaws.{views_alike};
     ghost use Rattle.iobufs_core.specs.Wire.{IsViewRead, view_written};
 
     ghost is_read = { IsViewRead };
 
     ghost dropping = { λ view. by_copy (length (view_written view)) ∷ [] };
 
+    ghost same = { λ x y. x.bytes ≡ y.bytes };
+
     fn read_cfg<B: OwnedBuf>(alloc: Global, buf: &mut B, range: &RangeCfg) -> Result<IoBuf, Error> {
         read_bytes(alloc, buf, range)
     }
+
+    ghost alike = { views_alike };
+}
+
+impl Codec for IoBuf {
+    ghost use Rattle.std.specs.Prelude.{true};
+    ghost use Rattle.iobufs_core.specs.Ranges.{in_range};
+    ghost use Rattle.iobufs_core.specs.ReadLaws.{view_back};
+
+    ghost admits = { λ range view. (length view.bytes < 2 ^ 64) × (in_range range (length view.bytes) ≡ true) };
+
+    ghost gives_back = { λ view range text rest answer ok e h. view_back view range text rest answer ok.0 ok.1 e h };
 }
 
 /// Reads the bytes behind a length, as what is made of a view.

@@ -1,5 +1,5 @@
 use Rattle.std.proofs.Common.{arith}
-use Rattle.iobufs_core.proofs.Spelled.{spell_begins, spell-last, spell-more}
+use Rattle.iobufs_core.specs.Spelled.{spell_begins, spell-last, spell-more}
 use Rattle.iobufs_core.proofs.codec.length.spelling_law.Goals as goal
 
 pub returns : goal.returns

@@ -2,7 +2,7 @@ use Rattle.std.proofs.Common.{◌+◌, ◌/◌, ◌%◌, ◌<◌, ◌++◌, ◌�
 use Rattle.std.proofs.lemmas.List.{take_more_set}
 use Rattle.std.proofs.lemmas.Grind.{common_steps}
 use Rattle.iobufs_core.specs.Spelling.{spell}
-use Rattle.iobufs_core.proofs.Spelled.{spell-more, spell-last, length-spell}
+use Rattle.iobufs_core.specs.Spelled.{spell-more, spell-last, length-spell}
 use Rattle.iobufs_core.proofs.codec.length.spelling_of.Goals as goal
 
 pub loop-rest-init : goal.loop-rest-init

@@ -4,7 +4,7 @@ use Rattle.iobufs_core.specs.Spelling.{spell}
 use Rattle.iobufs_core.specs.Wire.{HasView, IsViewFault, IsBytesRead}
 use Rattle.iobufs_core.specs.declared.codec.base.Error.{Error}
 use Rattle.iobufs_core.specs.declared.codec.base.RangeCfg.{RangeCfg}
-use Rattle.iobufs_core.proofs.ReadBytes.{bytes-taken_view, left_by_copy, rest_by_copy}
+use Rattle.iobufs_core.specs.ReadBytes.{bytes-taken_view, left_by_copy, rest_by_copy}
 use Rattle.iobufs_core.proofs.codec.shared.BytesRead.read_cfg.Goals as goal
 
 answered : (text : MarkedText) (range : RangeCfg) (result : Result (List ℕ) Error) (Rest : ℕ → Type 0)

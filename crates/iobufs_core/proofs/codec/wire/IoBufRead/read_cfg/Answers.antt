@@ -2,7 +2,7 @@ use Rattle.std.proofs.Common.{◌≡◌, ◌≤◌, ℕ, List, length, subst, ap
 use Rattle.iobufs_core.specs.View.{View}
 use Rattle.iobufs_core.specs.MarkedText.{taken_view}
 use Rattle.iobufs_core.specs.Spelling.{spell}
-use Rattle.iobufs_core.proofs.ReadBytes.{left_by_copy, rest_by_copy}
+use Rattle.iobufs_core.specs.ReadBytes.{left_by_copy, rest_by_copy}
 use Rattle.iobufs_core.proofs.codec.wire.IoBufRead.read_cfg.Goals as goal
 
 pub returns-clause-left : goal.returns-clause-left

@@ -3,6 +3,7 @@ use Rattle.std.proofs.Common.{◌≡◌, ℕ, zero, suc, ◌+◌, ◌*◌, ◌/�
 use Rattle.std.specs.Prelude.{nat_lt}
 use Rattle.std.proofs.Math.Nat.{pow-suc}
 use Rattle.std.proofs.lemmas.List.{take-take}
+use Rattle.std.proofs.Math.Seq.{take-append_seam}
 use Rattle.std.proofs.lemmas.Bool.{ltb-true, ltb-false}
 use Rattle.iobufs_core.specs.Spelling.{spell_within, spell, IsSpelledAt, IsSpelling, AreHigh, HasNoLength}
 
@@ -163,3 +164,15 @@ spell-last n small = same_form (spell n) (n ∷ []) n (spelled n (omega arith)) 
 -- the spelling of a number begins that of no other
 pub spell_begins : (n m : ℕ) (x y : List ℕ) → n < 2 ^ 64 → m < 2 ^ 64 → spell n ++ x ≡ spell m ++ y → n ≡ m
 spell_begins n m x y p q e = (one_form (spell n) (spell m) x y n m (spelled n p) (spelled m q) e).1
+
+-- no text begins with two spellings, and each text that begins with one says so
+pub spelled_as_one : (text : List ℕ) (m n : ℕ) → IsSpelledAt text m → IsSpelledAt text n → m ≡ n
+spelled_as_one text m n p q =
+    let k = length (spell m) in
+    let l = length (spell n) in
+    let whole : take k text ++ drop k text ≡ text = take-append-drop k text in
+    let whole' : take l text ++ drop l text ≡ text = take-append-drop l text in
+    (one_form (take k text) (take l text) (drop k text) (drop l text) m n (spelled_front text m p) (spelled_front text n q) (whole ∙ sym whole')).1
+
+pub spelled_before : (n : ℕ) (rest : List ℕ) → n < 2 ^ 64 → IsSpelledAt (spell n ++ rest) n
+spelled_before n rest small = (small, take-append_seam (spell n) rest)

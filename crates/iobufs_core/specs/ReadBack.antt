@@ -1,0 +1,16 @@
+-- What reading answers of what was written, and of texts that differ in their cuts alone.
+use Rattle.std.specs.Prelude.{◌≡◌, ◌⊎◌, Result, Ok, Err}
+use Rattle.iobufs_core.specs.declared.codec.base.Error.{Error}
+use Rattle.iobufs_core.specs.declared.codec.base.Error.TheVariants.{Memory}
+
+-- the value is read back, or there was no memory for it
+abbrev pub IsReadBack : {Value : Type 0} → (Value → Value → Type 0) → Value → Result Value Error → Type 0
+IsReadBack same value (Ok read) = same value read
+IsReadBack same value (Err error) = error ≡ Memory
+
+-- two answers are the same value or the same refusal; but want of memory is told of neither
+abbrev pub IsReadAlike : {Value : Type 0} → (Value → Value → Type 0) → Result Value Error → Result Value Error → Type 0
+IsReadAlike same (Ok x) (Ok y) = same x y
+IsReadAlike same (Ok x) (Err error) = error ≡ Memory
+IsReadAlike same (Err error) (Ok y) = error ≡ Memory
+IsReadAlike same (Err error) (Err other) = (error ≡ other) ⊎ ((error ≡ Memory) ⊎ (other ≡ Memory))
