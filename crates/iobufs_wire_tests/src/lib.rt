@@ -1,6 +1,7 @@
 // What no contract says of encoding: worked examples of lengths, views, types of several fields and the builder.
 #![tactic(auto)]
 
+mod alike;
 #[cfg(test)]
 mod build;
 #[cfg(test)]
@@ -8,7 +9,12 @@ mod chunks;
 #[cfg(test)]
 mod encode;
 #[cfg(test)]
+mod hostile;
+#[cfg(test)]
 mod lengths;
+#[cfg(test)]
+mod made;
+mod record;
 mod shard;
 #[cfg(test)]
 mod values;

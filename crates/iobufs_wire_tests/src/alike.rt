@@ -1,0 +1,28 @@
+// What the laws of reading give to code that knows neither the value nor the reader.
+ghost use Rattle.std.specs.Prelude.{◌≡◌, IfOk};
+ghost use Rattle.iobufs_core.specs.ReadBack.{IsReadAlike};
+
+use iobufs_core::codec::{Codec, Encode, Error, OwnedBuf, Read};
+use std::alloc::Global;
+
+/// Reads a value from two readers of the same text: the answers are the same, but that either may want memory.
+pub fn read_twice<T: Read + Drop, A: OwnedBuf, B: OwnedBuf>(
+    alloc: Global,
+    one: &mut A,
+    two: &mut B,
+    cfg: &T::Cfg,
+) -> (Result<T, Error>, Result<T, Error>)
+    requires { A.text one.old ≡ B.text two.old }
+    ensures { IsReadAlike T.same result.0 result.1 }
+{
+    (T::read_cfg(alloc, one, cfg), T::read_cfg(alloc, two, cfg))
+}
+
+/// Writes a value and reads it back.
+pub fn there_and_back<T: Codec + Drop>(alloc: Global, value: &T, cfg: &T::Cfg) -> Result<T, Error>
+    requires { T.admits cfg.now value.now }
+    ensures { IfOk result (T.same value.now) }
+{
+    let mut view = value.encode(alloc)?.freeze()?;
+    T::read_cfg(alloc, &mut view, cfg)
+}

@@ -1,0 +1,96 @@
+// A record of three numbers, read all or nothing.
+ghost use Rattle.std.specs.Prelude.{◌≡◌, ◌++◌, [], ◌∷◌, ⊤};
+ghost use Rattle.std.specs.Int.{w16, w32, to_be_bytes};
+ghost use Rattle.iobufs_core.specs.Dropping.{by_advance};
+ghost use Rattle.iobufs_core.specs.Items.{put_item};
+
+use iobufs_core::codec::{Buf, BufMut, BufsMut, Codec, EncodeSize, Error, OwnedBuf, Read, Write};
+use std::alloc::Global;
+
+#[derive(Clone, Copy, Debug, PartialEq, Eq)]
+pub struct Record {
+    pub kind: u8,
+    pub number: u16,
+    pub place: u32,
+}
+
+impl EncodeSize for Record {
+    ghost use Rattle.iobufs_core.specs.WireLaws.{joins-put};
+    ghost use Rattle.iobufs_wire_tests.specs.Record.{record_written};
+
+    ghost written = { record_written };
+
+    ghost items = { λ r. put_item (record_written r) ∷ [] };
+
+    fn encode_size(&self) -> Option<usize> {
+        Some(7)
+    }
+
+    fn encode_inline_size(&self) -> usize {
+        7
+    }
+
+    ghost joins_items = { λ r. joins-put (record_written r) };
+}
+
+impl Write for Record {
+    fn write<B: BufMut>(&self, buf: &mut B) {
+        let [a, b] = u16::to_be_bytes(self.number);
+        let [c, d, e, f] = u32::to_be_bytes(self.place);
+        buf.put_slice(&[self.kind, a, b, c, d, e, f]);
+    }
+
+    fn write_bufs<B: BufsMut>(&self, buf: &mut B) -> Result<(), Error> {
+        self.write(buf);
+        Ok(())
+    }
+}
+
+// The number with these bytes.
+fn number_of(high: u8, low: u8) -> u16
+    ensures { to_be_bytes w16 result ≡ high ∷ low ∷ [] }
+{
+    u16::from_be_bytes([high, low])
+}
+
+fn place_of(a: u8, b: u8, c: u8, d: u8) -> u32
+    ensures { to_be_bytes w32 result ≡ a ∷ b ∷ c ∷ d ∷ [] }
+{
+    u32::from_be_bytes([a, b, c, d])
+}
+
+impl Read for Record {
+    type Cfg = ();
+
+    ghost use Rattle.iobufs_wire_tests.specs.Record.{record_written, IsRecordRead};
+    ghost use Rattle.iobufs_wire_tests.specs.RecordLaws.{record_alike};
+
+    ghost is_read = { λ text _ answer. IsRecordRead text.bytes answer };
+
+    ghost dropping = { λ _. by_advance 7 ∷ [] };
+
+    ghost same = { λ x y. record_written x ≡ record_written y };
+
+    fn read_cfg<B: OwnedBuf>(_alloc: Global, buf: &mut B, _cfg: &()) -> Result<Record, Error> {
+        let mut bytes = [0; 7];
+        if buf.try_copy_to_slice(&mut bytes).is_err() {
+            return Err(Error::EndOfBuffer);
+        }
+        let [kind, a, b, c, d, e, f] = bytes;
+        Ok(Record {
+            kind,
+            number: number_of(a, b),
+            place: place_of(c, d, e, f),
+        })
+    }
+
+    ghost alike = { λ s t _ a b e p q. record_alike s t a b e p q };
+}
+
+impl Codec for Record {
+    ghost use Rattle.iobufs_wire_tests.specs.RecordLaws.{record_back};
+
+    ghost admits = { λ _ _. ⊤ };
+
+    ghost gives_back = { λ r _ text rest answer _ e h. record_back r text.bytes rest answer e h };
+}
