@@ -125,7 +125,13 @@ fn ranges(rt: HostRuntime) -> Result<(), Fail> {
         view.slice(Excluded(0), Unbounded)?.as_ref(),
         b"ello".as_slice()
     );
+    assert!(rt; view.slice(Excluded(4), Unbounded)?.is_empty());
+    assert!(rt; view.slice(Included(5), Included(4))?.is_empty());
+    let empty = IoBuf::default();
+    assert!(rt; empty.fits_range(Unbounded, Unbounded));
+    assert!(rt; !empty.fits_range(Unbounded, Included(0)));
     for (lo, hi) in [
+        (Excluded(5), Unbounded),
         (Unbounded, Excluded(6)),
         (Included(3), Excluded(1)),
         (Included(0), Included(usize::MAX)),
