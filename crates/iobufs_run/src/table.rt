@@ -30,9 +30,15 @@ pub enum Slot {
 }
 
 /// Buffers under the names 0, 1, and so on.
-#[derive(Drop)]
 pub struct Table {
     slots: Vec<Slot>,
+}
+
+// Written out, so that what a caller proves about a table that it drops names no field.
+impl Drop for Table {
+    fn drop(self) {
+        let Table { slots: _ } = self;
+    }
 }
 
 impl Model for Table {
