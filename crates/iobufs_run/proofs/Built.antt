@@ -1,9 +1,8 @@
 -- Items that are put and pushed one after the other, and the names that are freed on the way.
-use Rattle.std.proofs.Common.{◌≡◌, ◌≢◌, ℕ, ◌+◌, ◌≤◌, ◌<◌, ◌^◌, true, false, List, [], ◌∷◌, length, map, arith, ap, sym, refl, inr, ◌∙◌, get_or-set_other}
+use Rattle.std.proofs.Common.{◌≡◌, ℕ, ◌+◌, ◌≤◌, ◌<◌, ◌^◌, true, false, List, [], ◌∷◌, length, map, arith, ap, refl, ◌∙◌}
 use Rattle.std.specs.Prelude.{slice_set, ◌==◌}
 use Rattle.std.specs.List.{list_all}
 use Rattle.std.proofs.lemmas.Bool.{or_parts, and_parts}
-use Rattle.std.proofs.lemmas.Bool.Decides.{nat_tests}
 use Rattle.std.proofs.lemmas.List.Sums.{sum_by-cons}
 use Rattle.iobufs_core.specs.Items.{Item as Written, put_item, push_item, items_inline, items_pushed}
 use Rattle.iobufs.specs.Building.{Building, built, built_one, empty_building, building_room, room_for_pushes}
@@ -13,8 +12,10 @@ use Rattle.iobufs_run.specs.declared.command.Item.TheVariants.{Inline, Push}
 use Rattle.iobufs_run.specs.declared.table.Slot.{Slot}
 use Rattle.iobufs_run.specs.declared.table.Slot.TheVariants.{Free}
 use Rattle.iobufs_run.specs.Slots.{held, is_view, view_held, extent}
-use Rattle.iobufs_run.specs.Run.{all_freed, MayFree, is_listed, has_twice, inline_len, item_held, pushed_names, total_extent}
-use Rattle.iobufs_run.proofs.Gathered.{MayFree-none, view_held_len}
+use Rattle.iobufs_run.specs.Causes.{is_listed, has_twice, inline_len, pushed_names, total_extent}
+use Rattle.iobufs_run.specs.Run.{all_freed, MayFree, item_held}
+use Rattle.iobufs_run.proofs.Freed.{differ_back, held_other, MayFree-none, MayFree-next}
+use Rattle.iobufs_run.proofs.Gathered.{view_held_len}
 
 -- what is left to build from here on, of what was to be built from the old names
 pub record IsLeft (old : List Slot) (capacity : ℕ) (items : List Item) (names : List Slot) (b : Building) (rest : List Item) : Type 0 where
@@ -26,18 +27,12 @@ pub record IsLeft (old : List Slot) (capacity : ℕ) (items : List Item) (names 
   pub freed : all_freed names (pushed_names rest) ≡ all_freed old (pushed_names items)
   pub costs : (new : List Slot) → MayFree (pushed_names rest) names new → MayFree (pushed_names items) old new
 
--- a name that is freed changes nothing for others
-other_kept : (names : List Slot) (n x : ℕ) → (x == n) ≡ false → held (slice_set names n Free) x ≡ held names x
-other_kept names n x e =
-    let other : n ≢ x = grind (arith, nat_tests) in
-    get_or-set_other names n x Free Free (λ (same : x ≡ n). other (sym same))
-
 views_kept : (names : List Slot) (n : ℕ) (xs : List ℕ) → is_listed xs n ≡ false
     → list_all (λ src. is_view (held (slice_set names n Free) src)) xs ≡ list_all (λ src. is_view (held names src)) xs
 views_kept names n [] e = refl
 views_kept names n (x ∷ xs) e =
     let parts = or_parts (x == n) (is_listed xs n) e in
-    rw (other_kept names n x parts.0, views_kept names n xs parts.1) refl
+    rw (held_other names n x Free (differ_back x n parts.0), views_kept names n xs parts.1) refl
 
 items_kept : (names : List Slot) (n : ℕ) (items : List Item) → is_listed (pushed_names items) n ≡ false
     → map (item_held (slice_set names n Free)) items ≡ map (item_held names) items
@@ -45,7 +40,7 @@ items_kept names n [] e = refl
 items_kept names n (Inline bytes ∷ items) e = ap (λ (ws : List Written). put_item bytes.items ∷ ws) (items_kept names n items e)
 items_kept names n (Push x ∷ items) e =
     let parts = or_parts (x == n) (is_listed (pushed_names items) n) e in
-    rw (other_kept names n x parts.0, items_kept names n items parts.1) refl
+    rw (held_other names n x Free (differ_back x n parts.0), items_kept names n items parts.1) refl
 
 -- one item takes from the room what it puts, and from what pushes may add what it pushes
 room-next : (b : Building) (w : Written) (ws : List Written) → items_inline (w ∷ ws) ≤ building_room b → items_inline ws ≤ building_room (built_one b w)
@@ -77,13 +72,13 @@ left_next old capacity items names b (Push n) rest left =
       pushable = rw kept (pushes-next b (push_item view) (map (item_held names) rest) left.pushable);
       made = ap (built (built_one b (push_item view))) kept ∙ left.made;
       freed = left.freed;
-      costs = λ new some. left.costs new (inr some);
+      costs = λ new some. left.costs new (MayFree-next names new n (pushed_names rest) some);
     }
 
 -- the names of one item may be free
 pub item_costs : (names : List Slot) (item : Item) (rest : List Item) → MayFree (pushed_names (item ∷ rest)) names (all_freed names (pushed_names (item ∷ [])))
 item_costs names (Inline bytes) rest = MayFree-none (pushed_names rest) names
-item_costs names (Push n) rest = inr (MayFree-none (pushed_names rest) (slice_set names n Free))
+item_costs names (Push n) rest = MayFree-next names _ n (pushed_names rest) (MayFree-none (pushed_names rest) (slice_set names n Free))
 
 inline_is : (names : List Slot) (items : List Item) → items_inline (map (item_held names) items) ≡ inline_len items
 inline_is names [] = refl

@@ -1,5 +1,5 @@
 -- Names that are freed one after the other, and the text of what they held.
-use Rattle.std.proofs.Common.{Bool, None, ◌≡◌, ◌≢◌, ℕ, zero, suc, ◌+◌, ◌<◌, ◌≤◌, ◌^◌, inl, inr, true, false, List, [], ◌∷◌, ◌++◌, length, take, map, get_or, arith, ap, sym, refl, ◌∙◌, get_or-set_other, length-append}
+use Rattle.std.proofs.Common.{Bool, ◌≡◌, ℕ, zero, suc, ◌+◌, ◌<◌, ◌≤◌, ◌^◌, true, false, List, [], ◌∷◌, ◌++◌, length, take, map, get_or, arith, ap, sym, refl, ◌∙◌, length-append}
 use Rattle.std.specs.Prelude.{slice_set, slice_index_or, ◌==◌, sum_by}
 use Rattle.std.specs.List.{list_all}
 use Rattle.std.proofs.lemmas.List.{get_or_default, take_more, map-append}
@@ -11,36 +11,14 @@ use Rattle.std.proofs.lemmas.List.Sums.{fold-append, sum_by-cons, sum_by_more_le
 use Rattle.iobufs_core.specs.View.{View}
 use Rattle.iobufs_core.specs.Part.{Part as PartValue, part_capacity}
 use Rattle.iobufs.specs.Parts.{parts_capacity}
-use Rattle.iobufs_run.specs.declared.command.Kind.{Kind}
 use Rattle.iobufs_core.specs.MarkedText.{MarkedText, text_append, text_len, joined, default_text}
 use Rattle.iobufs_run.specs.declared.table.Slot.{Slot}
 use Rattle.iobufs_run.specs.declared.table.Slot.TheVariants.{Free, Part, Text, Parts}
 use Rattle.iobufs_run.specs.declared.table.Slot.TheVariants.{View as SlotView}
 use Rattle.iobufs_run.specs.Slots.{held, part_held, view_held, extent}
-use Rattle.iobufs_run.specs.Run.{all_freed, first_cause, gather_causes, MayFree, is_listed, has_twice}
-
-pub all_freed-append : (old : List Slot) (xs : List ℕ) (x : ℕ) → all_freed old (xs ++ x ∷ []) ≡ slice_set (all_freed old xs) x Free
-all_freed-append old [] x = refl
-all_freed-append old (y ∷ ys) x = all_freed-append (slice_set old y Free) ys x
-
--- a name that isn't listed keeps what it holds
-pub held_kept : (old : List Slot) (xs : List ℕ) (x : ℕ) → is_listed xs x ≡ false → held (all_freed old xs) x ≡ held old x
-held_kept old [] x e = refl
-held_kept old (y ∷ ys) x e =
-    let parts = or_parts (y == x) (is_listed ys x) e in
-    let other : x ≢ y = (let e = parts.0 in grind (arith, nat_tests)) in
-    held_kept (slice_set old y Free) ys x parts.1 ∙ get_or-set_other old y x Free Free other
-
-pub MayFree-none : (xs : List ℕ) (old : List Slot) → MayFree xs old old
-MayFree-none [] old = refl
-MayFree-none (x ∷ xs) old = inl (MayFree-none xs old)
-
--- some of the names were freed, in order
-pub MayFree-front : (xs : List ℕ) (k : ℕ) (old : List Slot) → MayFree xs old (all_freed old (take k xs))
-MayFree-front [] zero old = refl
-MayFree-front [] (suc k) old = refl
-MayFree-front (x ∷ xs) zero old = inl (MayFree-none xs old)
-MayFree-front (x ∷ xs) (suc k) old = inr (MayFree-front xs k (slice_set old x Free))
+use Rattle.iobufs_run.specs.Causes.{is_listed, has_twice}
+use Rattle.iobufs_run.proofs.Freed.{all_freed-append, held_kept}
+use Rattle.iobufs_run.specs.Run.{all_freed}
 
 -- a name that isn't listed is another than each that is
 differs : (xs : List ℕ) (i x y : ℕ) → is_listed xs y ≡ false → i < length xs → x ≡ get_or xs i x → (y == x) ≡ false
@@ -149,11 +127,6 @@ row_more f xs i row new x is e at inside =
     e ∙ ap (λ ys. ys ++ x ∷ []) is ∙ ap (λ y. map f (take i xs) ++ y ∷ []) at
     ∙ sym (map-append f (take i xs) (get_or xs i 0 ∷ [])) ∙ ap (map f) (sym (take_more xs i 0 inside))
 
--- all sources were freed, in order
-pub MayFree-all : (xs : List ℕ) (old : List Slot) → MayFree xs old (all_freed old xs)
-MayFree-all [] old = refl
-MayFree-all (x ∷ xs) old = inr (MayFree-all xs (slice_set old x Free))
-
 sum_of_map : {X : Type 0} (f : X → ℕ) (h : ℕ → X) (xs : List ℕ) → sum_by f (map h xs) ≡ sum_by (λ x. f (h x)) xs
 sum_of_map f h [] = refl
 sum_of_map f h (x ∷ xs) = sum_by-cons f (h x) (map h xs) ∙ ap (λ n. f (h x) + n) (sum_of_map f h xs) ∙ sym (sum_by-cons (λ y. f (h y)) x xs)
@@ -165,15 +138,10 @@ part_held_len (SlotView view) = omega arith
 part_held_len (Text text) = omega arith
 part_held_len (Parts parts) = omega arith
 
--- what isn't too long fits a number
-not_too_long : (kind : Kind) (names : List Slot) (dst : ℕ) (xs : List ℕ) → first_cause (gather_causes kind names dst xs) ≡ None → sum_by (λ x. extent (held names x)) xs < 2 ^ 64
-not_too_long kind names dst xs none = grind (arith, nat_tests)
-
 -- the capacities of the parts of a gathering fit
-pub row_fits : (kind : Kind) (names : List Slot) (dst : ℕ) (xs : List ℕ) (row : List PartValue) → first_cause (gather_causes kind names dst xs) ≡ None → row ≡ map (λ x. part_held (held names x)) xs
+pub row_fits : (names : List Slot) (xs : List ℕ) (row : List PartValue) → sum_by (λ x. extent (held names x)) xs < 2 ^ 64 → row ≡ map (λ x. part_held (held names x)) xs
     → parts_capacity row < 2 ^ 64
-row_fits kind names dst xs row none is =
-    let all = not_too_long kind names dst xs none in
+row_fits names xs row fits is =
     let few = sum_by_le (λ x. part_capacity (part_held (held names x))) (λ x. extent (held names x)) xs (λ x. part_held_len (held names x)) in
     let sum : parts_capacity row ≡ sum_by (λ x. part_capacity (part_held (held names x))) xs = ap parts_capacity is ∙ sum_of_map part_capacity (λ x. part_held (held names x)) xs in
-    omega (arith, sum, few, all)
+    omega (arith, sum, few, fits)

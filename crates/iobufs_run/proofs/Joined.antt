@@ -7,7 +7,7 @@ use Rattle.iobufs_core.specs.View.{View as ViewValue}
 use Rattle.iobufs_run.specs.declared.table.Slot.{Slot}
 use Rattle.iobufs_run.specs.declared.table.Slot.TheVariants.{Free, View}
 use Rattle.iobufs_run.specs.Slots.{held, is_text, readable}
-use Rattle.iobufs_run.specs.Run.{first_cause, join_causes}
+use Rattle.iobufs_run.specs.Causes.{first_cause, join_causes}
 use Rattle.iobufs_run.proofs.Gathered.{put_back}
 
 -- the target of a joining is a text

@@ -1,22 +1,38 @@
 -- What names hold, and what a command makes of it.
-use Rattle.std.specs.Prelude.{◌≡◌, ℕ, Bool, true, false, ◌-◌, ◌^◌, ◌==◌, ◌&&◌, not, nat_le, nat_lt, List, [], ◌∷◌, length, map, slice_index_or, unwrap_or}
+use Rattle.std.specs.Prelude.{◌≡◌, ℕ, Bool, true, false, ◌-◌, ◌<◌, ◌^◌, ◌==◌, ◌&&◌, not, nat_le, nat_lt, List, [], ◌∷◌, length, map, slice_index_or, unwrap_or}
+use Rattle.std.specs.List.{list_any}
 use Rattle.iobufs_core.specs.Part.{Part as PartValue, empty_part, part_capacity, part_copied, part_drained, part_frozen, part_put, part_overwritten, part_truncated, part_with_len}
 use Rattle.iobufs_core.specs.Spelling.{spell}
 use Rattle.iobufs_core.specs.Wire.{view_items, view_left}
 use Rattle.iobufs.specs.Building.{built, empty_building, finished}
-use Rattle.iobufs.specs.Parts.{parts_filled, parts_spare, parts_fill, parts_frozen, parts_copied, parts_drained, parts_coalesced, parts_capacity, parts_overwritten, parts_with_len}
+use Rattle.iobufs.specs.Parts.{IsParts, parts_filled, parts_spare, parts_fill, parts_frozen, parts_copied, parts_drained, parts_coalesced, parts_capacity, parts_overwritten, parts_with_len}
 use Rattle.std.specs.declared.ops.Bound.{Bound}
-use Rattle.iobufs_core.specs.View.{View as ViewValue, view_advanced, view_rest, view_slice, view_split_front, start_place, end_place, static_mark, Mark, default_view, bytes_mark, native_mark}
-use Rattle.iobufs_core.specs.MarkedText.{MarkedText, default_text, of_view, text_len, text_advanced, text_append, text_prepend, text_split_front, text_rest, text_chunks, text_coalesced, is_single}
+use Rattle.iobufs_core.specs.View.{View as ViewValue, IsView, view_advanced, view_rest, view_slice, view_split_front, start_place, end_place, static_mark, Mark, default_view, bytes_mark, native_mark}
+use Rattle.iobufs_core.specs.MarkedText.{MarkedText, IsMarked, default_text, of_view, text_len, text_advanced, text_append, text_prepend, text_split_front, text_rest, text_chunks, text_coalesced, is_single}
 use Rattle.iobufs_run.specs.declared.table.Slot.{Slot}
 use Rattle.iobufs_run.specs.declared.table.Slot.TheVariants.{Free, Part, View, Text, Parts}
 use Rattle.iobufs_run.specs.declared.command.Piece.{Piece}
 use Rattle.iobufs_run.specs.declared.command.Kind.{Kind}
 use Rattle.iobufs_run.specs.declared.command.Kind.TheVariants as kind
+use Rattle.iobufs_run.specs.declared.command.Reply.{Reply}
+use Rattle.iobufs_run.specs.declared.command.Reply.TheVariants.{Shown}
 
 -- what a name holds, nothing where there is no such name
 abbrev pub held : List Slot → ℕ → Slot
 held names name = slice_index_or names name Free
+
+-- a buffer that a name holds is well formed: a part, a view, a marked text, or a list of parts, of a length or a
+-- capacity that a number can say
+abbrev pub IsSlot : Slot → Type 0
+IsSlot Free = Unit {0}
+IsSlot (Part part) = part_capacity part < 2 ^ 64
+IsSlot (View view) = IsView view × (length view.bytes < 2 ^ 64)
+IsSlot (Text text) = IsMarked text × (text_len text < 2 ^ 64)
+IsSlot (Parts parts) = IsParts parts
+
+-- so does each name
+abbrev pub AreSlots : List Slot → Type 0
+AreSlots names = (name : ℕ) → IsSlot (held names name)
 
 abbrev pub is_free : Slot → Bool
 is_free Free = true
@@ -207,13 +223,18 @@ is_in_pieces _ = false
 abbrev pub is_too_large : Slot → Bool
 is_too_large slot = is_in_pieces slot && nat_le (2 ^ 63) (readable slot)
 
--- of this kind, and how much it counts among others that it is put together with: a part by its capacity
+-- of this kind
 abbrev pub is_of : Kind → Slot → Bool
 is_of kind.Part slot = is_part slot
 is_of kind.View slot = is_view slot
 is_of kind.Text slot = is_text slot
 is_of kind.Parts slot = is_parts slot
 
+-- of one of these kinds
+abbrev pub is_one_of : List Kind → Slot → Bool
+is_one_of kinds slot = list_any (λ kind. is_of kind slot) kinds
+
+-- how much it counts among others that it is put together with: a part by its capacity
 abbrev pub extent : Slot → ℕ
 extent (Part part) = part_capacity part
 extent slot = readable slot
@@ -229,6 +250,11 @@ Shows (View view) kind.View pieces = pieces ≡ (view.bytes, 0) ∷ []
 Shows (Parts parts) kind.Parts pieces = pieces ≡ map (λ part. (part.filled, part.spare)) parts
 Shows (Text text) kind.Text pieces = pieces ≡ map (λ chunk. (chunk, 0)) (text_chunks text)
 Shows _ _ pieces = ⊥
+
+-- the reply shows what is held
+abbrev pub IsShown : Slot → Reply → Type 0
+IsShown slot (Shown kind pieces) = Shows slot kind (map shown_piece pieces.items)
+IsShown slot _ = ⊥
 
 -- a view as it is encoded: its length in room of exactly that size, and the view behind it
 abbrev pub view_encoded : ViewValue → MarkedText

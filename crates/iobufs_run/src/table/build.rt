@@ -4,7 +4,8 @@ ghost use Rattle.std.specs.List.{list_any, list_all};
 ghost use Rattle.iobufs_core.specs.Items.{item_inline, item_pushed};
 ghost use Rattle.iobufs.specs.Building.{building_push, building_room, built, built_one, empty_building, finished, room_for_pushes};
 ghost use Rattle.iobufs_run.specs.declared.command.Cmd.{Cmd};
-ghost use Rattle.iobufs_run.specs.Run.{Step, outcome, all_freed, build_causes, first_cause, has_twice, inline_len, is_listed, is_no_name, is_too_long, item_held, pushed_names, total_extent, MayFree};
+ghost use Rattle.iobufs_run.specs.Causes.{build_causes, first_cause, has_twice, inline_len, is_listed, is_no_name, is_too_long, pushed_names, total_extent};
+ghost use Rattle.iobufs_run.specs.Run.{Step, outcome, all_freed, item_held, MayFree};
 ghost use Rattle.iobufs_run.specs.Slots.{extent, held, is_of as of, view_held};
 
 use super::Slot;

@@ -1,10 +1,11 @@
 // The commands that put several buffers together.
-ghost use Rattle.std.specs.Prelude.{◌≡◌, ◌≢◌, ◌^◌, ◌<◌, true, false, map, sum_by, IfOk, IfErr, IsOkUnless, OnOk, SomeIff, MatchResult, Some, None};
+ghost use Rattle.std.specs.Prelude.{◌≡◌, ◌≢◌, ◌^◌, ◌<◌, true, false, length, map, sum_by, IfOk, IfErr, IsOk, IsOkUnless, OnOk, SomeIff, MatchResult, Some, None};
 ghost use Rattle.std.specs.List.{list_any, list_all};
 ghost use Rattle.iobufs_core.specs.MarkedText.{joined};
 ghost use Rattle.iobufs.specs.Parts.{kept_parts, parts_capacity};
 ghost use Rattle.iobufs_run.specs.declared.command.Cmd.{Cmd};
-ghost use Rattle.iobufs_run.specs.Run.{Step, outcome, all_freed, first_cause, gather_causes, has_twice as twice, is_no_name, MayFree};
+ghost use Rattle.iobufs_run.specs.Causes.{first_cause, gather_causes, has_twice as twice, is_no_name};
+ghost use Rattle.iobufs_run.specs.Run.{Step, outcome, all_freed, MayFree};
 ghost use Rattle.iobufs_run.specs.Slots.{extent, held, is_of as of, part_held, view_held};
 
 use super::Slot;
@@ -101,6 +102,7 @@ fn take_views(alloc: Global, slots: &mut [Slot], sources: &[usize]) -> Result<Io
     ensures ok { IfOk result (λ text. text ≡ joined (map (λ src. view_held (held slots.old src)) sources.now)) }
     ensures freed { OnOk result (slots.new ≡ all_freed slots.old sources.now) }
     ensures err { IfErr result (λ refusal. (refusal ≡ Refusal.Memory) × MayFree sources.now slots.old slots.new) }
+    ensures none { length sources.now ≡ 0 → IsOk result }
 {
     let mut text = IoBufs::default();
     for src in sources {
@@ -121,6 +123,7 @@ fn take_row(alloc: Global, slots: &mut [Slot], sources: &[usize]) -> Result<Vec<
     ensures ok { IfOk result (λ row. row.items ≡ map (λ src. part_held (held slots.old src)) sources.now) }
     ensures freed { OnOk result (slots.new ≡ all_freed slots.old sources.now) }
     ensures err { IfErr result (λ refusal. (refusal ≡ Refusal.Memory) × (slots.new ≡ slots.old)) }
+    ensures none { length sources.now ≡ 0 → IsOk result }
 {
     let mut row = Vec::with_capacity(alloc, sources.len())?;
     for src in sources {
@@ -137,8 +140,23 @@ fn strung(alloc: Global, row: Vec<IoBufMut>) -> Result<IoBufsMut, Refusal>
     requires { parts_capacity row.items < 2 ^ 64 }
     ensures ok { IfOk result (λ parts. parts ≡ kept_parts row.items) }
     ensures err { IsOkUnless result Refusal.Memory }
+    ensures none { length row.items ≡ 0 → IsOk result }
 {
     Ok(IoBufsMut::from_parts(alloc, row.into_iter())?)
+}
+
+// Takes the parts of these names, and strings them together.
+fn take_parts(alloc: Global, slots: &mut [Slot], sources: &[usize]) -> Result<IoBufsMut, Refusal>
+    requires parts { list_all (λ src. of Kind.Part (held slots.old src)) sources.now ≡ true }
+    requires once { twice sources.now ≡ false }
+    requires fits { sum_by (λ src. extent (held slots.old src)) sources.now < 2 ^ 64 }
+    ensures ok { IfOk result (λ parts. parts ≡ kept_parts (map (λ src. part_held (held slots.old src)) sources.now)) }
+    ensures freed { OnOk result (slots.new ≡ all_freed slots.old sources.now) }
+    ensures err { IfErr result (λ refusal. (refusal ≡ Refusal.Memory) × MayFree sources.now slots.old slots.new) }
+    ensures none { length sources.now ≡ 0 → IsOk result }
+{
+    let row = take_row(alloc, slots, sources)?;
+    strung(alloc, row)
 }
 
 pub(super) fn gather_mut(
@@ -150,12 +168,7 @@ pub(super) fn gather_mut(
     ensures { Step slots.old (Cmd.GatherMut dst sources.now) (outcome result) slots.new }
 {
     gathering(slots, dst, sources, Kind::Part)?;
-    let Ok(row) = take_row(alloc, slots, sources) else {
-        return Err(Refusal::Memory);
-    };
-    let Ok(parts) = strung(alloc, row) else {
-        return Err(Refusal::Memory);
-    };
+    let parts = take_parts(alloc, slots, sources)?;
     hold(slots, dst, Slot::Parts(parts));
     Ok(())
 }

@@ -1,7 +1,8 @@
 // The commands that join texts and views, and make one piece of several.
 ghost use Rattle.std.specs.Prelude.{◌≡◌, ◌≢◌, ◌⊎◌, ◌+◌, ◌^◌, ◌<◌, false, length, IfOk, IfErr, IsTrue, OnOk, MatchResult, Some, None};
 ghost use Rattle.iobufs_run.specs.declared.command.Cmd.{Cmd};
-ghost use Rattle.iobufs_run.specs.Run.{Step, outcome, first_cause, join_causes};
+ghost use Rattle.iobufs_run.specs.Causes.{first_cause, join_causes};
+ghost use Rattle.iobufs_run.specs.Run.{Step, outcome};
 ghost use Rattle.iobufs_run.specs.Slots.{is_text as text, is_parts as parts, is_in_pieces as in_pieces, is_too_large as too_large, readable as readable_bytes, slot_appended, slot_coalesced, slot_prepended};
 
 use super::Slot;

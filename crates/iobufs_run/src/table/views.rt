@@ -1,5 +1,5 @@
 // The commands that take bytes from the front.
-ghost use Rattle.std.specs.Prelude.{◌≡◌, ◌≤◌, ◌⊎◌, false, take as first, IfOk, IsOkUnless, IfErr, IsTrue, OnErr, OnOk, nat_eq};
+ghost use Rattle.std.specs.Prelude.{◌≡◌, ◌≤◌, ◌⊎◌, false, take as first, IfOk, IsOk, IsOkUnless, IfErr, IsTrue, OnErr, OnOk, nat_eq};
 ghost use Rattle.iobufs_core.specs.Wire.{IsViewRead};
 ghost use Rattle.iobufs_run.specs.declared.command.Cmd.{Cmd};
 ghost use Rattle.iobufs_run.specs.Run.{Step, outcome, reply_of};
@@ -84,7 +84,11 @@ fn take_slot(alloc: Global, slot: &mut Slot, n: usize) -> Result<Bytes, Refusal>
     ensures rest { OnOk result (slot.new ≡ slot_copied slot.old n) }
     ensures err { OnErr result (slot.new ≡ slot.old) }
     ensures memory { IsOkUnless result Refusal.Memory }
+    ensures nothing { n ≡ 0 → IsOk result }
 {
+    if n == 0 {
+        return Ok(Bytes::new());
+    }
     match slot {
         Slot::Free => unreachable!(),
         Slot::Part(part) => Ok(part.copy_to_bytes(alloc, n)?),

@@ -9,7 +9,8 @@ loop-cmd-preserved c = record {
   so_far = (
       let kept : c.push.new.self.items ≡ c.loop-cmd.replies.items ++ c.apply-reply.result ∷ [] = rw c.unwrap.ensures at c.push.ensures.items in
       let done = take_more c.args.cmds.now c.loop-cmd.cmd-index c.cmd-item.result c.loop-cmd-test.true in
-      rw (done, ← c.cmd-item.is, kept) (run_more _ _ _ _ _ _ _ c.loop-cmd.invariant.so_far c.apply-reply.ensures));
+      rw (done, ← c.cmd-item.is, kept) (run_more _ _ _ _ _ _ _ c.loop-cmd.invariant.so_far c.apply-reply.ensures.step));
+  slots = c.apply-reply.ensures.slots;
   count = grind (arith, common_steps);
   room = grind (arith, common_steps);
 }

@@ -1,5 +1,5 @@
 use Rattle.std.proofs.Common.{◌≡◌, ◌+◌, ◌^◌, drop}
-use Rattle.iobufs_run.specs.Run.{pushed_names, total_extent}
+use Rattle.iobufs_run.specs.Causes.{pushed_names, total_extent}
 use Rattle.iobufs_run.proofs.table.build.are_too_long.Given as goal
 
 -- what is left of the largest length, for the names that are left

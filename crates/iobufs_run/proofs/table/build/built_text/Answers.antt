@@ -1,9 +1,9 @@
 use Rattle.std.proofs.Common.{◌+◌, drop, refl}
 use Rattle.std.proofs.lemmas.List.{drop_more}
 use Rattle.std.proofs.lemmas.Result.{err_from_is_err_and}
-use Rattle.iobufs_run.specs.Run.{pushed_names}
+use Rattle.iobufs_run.specs.Causes.{pushed_names}
 use Rattle.iobufs_run.proofs.Built.{left_first, left_next, item_costs}
-use Rattle.iobufs_run.proofs.Gathered.{MayFree-none}
+use Rattle.iobufs_run.proofs.Freed.{MayFree-none}
 use Rattle.iobufs_run.proofs.table.build.built_text.Goals as goal
 
 pub returns-in_err-builder-clause-err : goal.returns-in_err-builder-clause-err

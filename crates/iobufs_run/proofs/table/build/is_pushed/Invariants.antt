@@ -1,5 +1,5 @@
 use Rattle.std.proofs.Common.{◌≡◌, drop}
-use Rattle.iobufs_run.specs.Run.{is_listed, pushed_names}
+use Rattle.iobufs_run.specs.Causes.{is_listed, pushed_names}
 use Rattle.iobufs_run.proofs.table.build.is_pushed.Given as goal
 
 -- the name isn't among those so far

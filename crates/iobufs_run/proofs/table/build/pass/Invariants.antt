@@ -1,5 +1,5 @@
 use Rattle.std.proofs.Common.{◌≡◌, ◌+◌, drop}
-use Rattle.iobufs_run.specs.Run.{inline_len}
+use Rattle.iobufs_run.specs.Causes.{inline_len}
 use Rattle.iobufs_run.proofs.table.build.pass.Given as goal
 
 -- what is left of the capacity, for the bytes that are left

@@ -1,6 +1,6 @@
 use Rattle.std.proofs.Common.{◌≡◌, drop}
 use Rattle.std.specs.List.{list_any}
-use Rattle.iobufs_run.specs.Run.{is_no_name, pushed_names}
+use Rattle.iobufs_run.specs.Causes.{is_no_name, pushed_names}
 use Rattle.iobufs_run.proofs.table.build.push_no_name.Given as goal
 
 -- no name so far is missing

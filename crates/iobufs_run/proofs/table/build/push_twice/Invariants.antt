@@ -1,5 +1,5 @@
 use Rattle.std.proofs.Common.{◌≡◌, drop}
-use Rattle.iobufs_run.specs.Run.{has_twice, pushed_names}
+use Rattle.iobufs_run.specs.Causes.{has_twice, pushed_names}
 use Rattle.iobufs_run.proofs.table.build.push_twice.Given as goal
 
 -- none of the names so far stands again

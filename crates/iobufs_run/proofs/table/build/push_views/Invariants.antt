@@ -1,7 +1,7 @@
 use Rattle.std.proofs.Common.{◌≡◌, drop}
 use Rattle.std.specs.List.{list_all}
 use Rattle.iobufs_run.specs.Slots.{held, is_view}
-use Rattle.iobufs_run.specs.Run.{pushed_names}
+use Rattle.iobufs_run.specs.Causes.{pushed_names}
 use Rattle.iobufs_run.proofs.table.build.push_views.Given as goal
 
 -- each name so far holds a view

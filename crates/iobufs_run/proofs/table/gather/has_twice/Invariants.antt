@@ -1,5 +1,5 @@
 use Rattle.std.proofs.Common.{◌≡◌, drop}
-use Rattle.iobufs_run.specs.Run.{has_twice}
+use Rattle.iobufs_run.specs.Causes.{has_twice}
 use Rattle.iobufs_run.proofs.table.gather.has_twice.Given as goal
 
 -- none of the names so far stands again

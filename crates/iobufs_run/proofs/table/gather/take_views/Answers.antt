@@ -2,7 +2,8 @@ use Rattle.std.proofs.Common.{◌+◌, ap, sym, refl, subst, ◌∙◌}
 use Rattle.iobufs_run.specs.Refusals.{refusal_of}
 use Rattle.iobufs_run.specs.Run.{MayFree}
 use Rattle.iobufs_run.specs.Slots.{held, is_view, view_held}
-use Rattle.iobufs_run.proofs.Gathered.{source_read, freed_more, text_more, source_fits, MayFree-front}
+use Rattle.iobufs_run.proofs.Freed.{MayFree-front}
+use Rattle.iobufs_run.proofs.Gathered.{source_read, freed_more, text_more, source_fits}
 use Rattle.iobufs_run.proofs.table.gather.take_views.Goals as goal
 
 pub unreachable-requires : goal.unreachable-requires

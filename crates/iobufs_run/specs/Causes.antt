@@ -1,0 +1,163 @@
+-- Why a command is refused.
+--     is_no_name, is_in_use_beside, has_twice   what is asked of names
+--     free_name, one_of, lent, moved            the causes that several commands have in common, each with further ones
+--     gathered, join_causes, build_causes       those of commands on several sources
+--     causes, refusal_for                       the causes of each command, and the first that stands
+use Rattle.std.specs.Prelude.{ℕ, ◌+◌, ◌^◌, ◌==◌, Bool, false, ◌&&◌, ◌||◌, not, nat_lt, nat_le, if◌then◌else◌, sum_by, List, [], ◌∷◌, length, Option, Some, None}
+use Rattle.std.specs.List.{list_any, list_all}
+use Rattle.iobufs_core.specs.Part.{is_bad_layout}
+use Rattle.iobufs_core.specs.View.{range_fits}
+use Rattle.iobufs_core.specs.Wire.{view_written}
+use Rattle.iobufs_core.specs.declared.codec.base.Error.TheVariants as fault
+use Rattle.iobufs_run.specs.Slots.{held, is_free, is_of, is_one_of, is_fixed_view, is_too_large, extent, readable, writable, slot_capacity, view_held}
+use Rattle.iobufs_run.specs.declared.table.Slot.{Slot}
+use Rattle.iobufs_run.specs.declared.command.Cmd.{Cmd}
+use Rattle.iobufs_run.specs.declared.command.Cmd.TheVariants.{NewMut, Zeroed, Adopt, Static, FromBytes, Put, Fill, SetLen, Truncate, Clear, Overwrite, Freeze, Recover, Clone, Slice, Split, Advance, Take, Gather, GatherMut, Append, Prepend, Coalesce, Build, Encode, Decode, Drop, Show}
+use Rattle.iobufs_run.specs.declared.command.Item.{Item}
+use Rattle.iobufs_run.specs.declared.command.Item.TheVariants.{Inline, Push}
+use Rattle.iobufs_run.specs.declared.command.Kind.{Kind}
+use Rattle.iobufs_run.specs.declared.command.Kind.TheVariants.{Part, View, Text, Parts}
+use Rattle.iobufs_run.specs.declared.command.Refusal.{Refusal}
+use Rattle.iobufs_run.specs.declared.command.Refusal.TheVariants.{NoName, WrongKind, InUse, OutOfRange, BadLayout, TooLong, Declined, Codec}
+
+-- a cause is a refusal with whether it stands
+abbrev pub Cause : Type 0
+Cause = Bool × Refusal
+
+-- no such name
+abbrev pub is_no_name : List Slot → ℕ → Bool
+is_no_name names name = nat_le (length names) name
+
+-- a destination that is in use, and is not the source that the command consumes
+abbrev pub is_in_use_beside : List Slot → ℕ → ℕ → Bool
+is_in_use_beside names src dst = not (dst == src) && not (is_free (held names dst))
+
+-- a name stands in a list, and one stands there twice
+abbrev pub is_listed : List ℕ → ℕ → Bool
+is_listed names name = list_any (λ other. other == name) names
+
+abbrev pub has_twice : List ℕ → Bool
+has_twice [] = false
+has_twice (name ∷ names) = is_listed names name || has_twice names
+
+-- so many bytes are more than a length can say
+abbrev pub is_too_long : ℕ → Bool
+is_too_long n = nat_le (2 ^ 64) n
+
+-- a destination that has to be free
+abbrev pub free_name : List Slot → ℕ → List Cause → List Cause
+free_name names dst others = (is_no_name names dst, NoName) ∷ (not (is_free (held names dst)), InUse) ∷ others
+
+-- a buffer of one of these kinds
+abbrev pub one_of : List Kind → List Slot → ℕ → List Cause → List Cause
+one_of kinds names target others = (is_no_name names target, NoName) ∷ (not (is_one_of kinds (held names target)), WrongKind) ∷ others
+
+-- a source of one of these kinds that keeps its name, and a free destination
+abbrev pub lent : List Kind → List Slot → ℕ → ℕ → List Cause → List Cause
+lent kinds names src dst others =
+    (is_no_name names src || is_no_name names dst, NoName)
+    ∷ (not (is_one_of kinds (held names src)), WrongKind)
+    ∷ (not (is_free (held names dst)), InUse)
+    ∷ others
+
+-- a source of one of these kinds that is consumed, and a destination that is free or the source
+abbrev pub moved : List Kind → List Slot → ℕ → ℕ → List Cause → List Cause
+moved kinds names src dst others =
+    (is_no_name names src || is_no_name names dst, NoName)
+    ∷ (not (is_one_of kinds (held names src)), WrongKind)
+    ∷ (is_in_use_beside names src dst, InUse)
+    ∷ others
+
+-- several sources of a kind that are consumed, and a destination that is free or one of them
+abbrev pub gathered : Kind → List Slot → ℕ → List ℕ → List Cause → List Cause
+gathered kind names dst sources others =
+    (is_no_name names dst || list_any (is_no_name names) sources, NoName)
+    ∷ (not (list_all (λ src. is_of kind (held names src)) sources), WrongKind)
+    ∷ (not (is_free (held names dst)) && not (is_listed sources dst) || has_twice sources, InUse)
+    ∷ others
+
+-- how much sources count together
+abbrev pub total_extent : List Slot → List ℕ → ℕ
+total_extent names sources = sum_by (λ src. extent (held names src)) sources
+
+-- the causes to refuse a gathering of buffers of this kind
+abbrev pub gather_causes : Kind → List Slot → ℕ → List ℕ → List Cause
+gather_causes kind names dst sources = gathered kind names dst sources ((is_too_long (total_extent names sources), TooLong) ∷ [])
+
+-- the names that items push, and how many bytes they put
+abbrev pub pushed_names : List Item → List ℕ
+pushed_names [] = []
+pushed_names (Inline bytes ∷ items) = pushed_names items
+pushed_names (Push name ∷ items) = name ∷ pushed_names items
+
+abbrev pub inline_len : List Item → ℕ
+inline_len [] = 0
+inline_len (Inline bytes ∷ items) = length bytes.items + inline_len items
+inline_len (Push name ∷ items) = inline_len items
+
+-- the causes to refuse to build a text of these items
+abbrev pub build_causes : List Slot → ℕ → ℕ → List Item → List Cause
+build_causes names dst capacity items =
+    gathered View names dst (pushed_names items)
+    ((nat_lt capacity (inline_len items), OutOfRange)
+    ∷ (nat_le (2 ^ 63) capacity, BadLayout)
+    ∷ (is_too_long (capacity + total_extent names (pushed_names items)), TooLong) ∷ [])
+
+-- the causes to refuse to put a view behind or in front of a text
+abbrev pub join_causes : List Slot → ℕ → ℕ → List Cause
+join_causes names target src =
+    (is_no_name names target || is_no_name names src, NoName)
+    ∷ (not (is_of Text (held names target)) || not (is_of View (held names src)), WrongKind)
+    ∷ (is_too_long (readable (held names target) + readable (held names src)), TooLong) ∷ []
+
+-- all four kinds
+abbrev pub any_kind : List Kind
+any_kind = Part ∷ View ∷ Text ∷ Parts ∷ []
+
+-- the causes to refuse a command, in the order of their numbers
+abbrev pub causes : List Slot → Cmd → List Cause
+causes names (NewMut dst capacity align) = free_name names dst ((is_bad_layout capacity align, BadLayout) ∷ [])
+causes names (Zeroed dst len align) = free_name names dst ((is_bad_layout len align, BadLayout) ∷ [])
+causes names (Adopt dst bytes) = free_name names dst []
+causes names (Static dst text) = free_name names dst []
+causes names (FromBytes dst bytes) = free_name names dst []
+causes names (Put target bytes) =
+    one_of (Part ∷ Parts ∷ []) names target ((nat_lt (writable (held names target)) (length bytes.items), OutOfRange) ∷ [])
+causes names (Fill target byte n) =
+    one_of (Part ∷ Parts ∷ []) names target ((nat_lt (writable (held names target)) n, OutOfRange) ∷ [])
+causes names (SetLen target n) =
+    one_of (Part ∷ Parts ∷ []) names target ((nat_lt (slot_capacity (held names target)) n, OutOfRange) ∷ [])
+causes names (Truncate target n) = one_of (Part ∷ []) names target []
+causes names (Clear target) = one_of (Part ∷ []) names target []
+causes names (Overwrite target bytes) =
+    one_of (Part ∷ Parts ∷ []) names target ((not (length bytes.items == readable (held names target)), OutOfRange) ∷ [])
+causes names (Freeze src dst) = moved (Part ∷ Parts ∷ []) names src dst []
+causes names (Recover src dst) = moved (View ∷ []) names src dst ((is_fixed_view (held names src), Declined) ∷ [])
+causes names (Clone src dst) = lent (View ∷ Text ∷ []) names src dst []
+causes names (Slice src dst lo hi) =
+    lent (View ∷ []) names src dst ((not (range_fits lo hi (readable (held names src))), OutOfRange) ∷ [])
+causes names (Split src dst at) =
+    lent (View ∷ Text ∷ []) names src dst ((nat_lt (readable (held names src)) at, OutOfRange) ∷ [])
+causes names (Advance target n) = one_of any_kind names target ((nat_lt (readable (held names target)) n, OutOfRange) ∷ [])
+causes names (Take target n) = one_of any_kind names target ((nat_lt (readable (held names target)) n, OutOfRange) ∷ [])
+causes names (Gather dst sources) = gather_causes View names dst sources.items
+causes names (GatherMut dst sources) = gather_causes Part names dst sources.items
+causes names (Append target src) = join_causes names target src
+causes names (Prepend target src) = join_causes names target src
+causes names (Coalesce src dst) = moved (Text ∷ Parts ∷ []) names src dst ((is_too_large (held names src), BadLayout) ∷ [])
+causes names (Build dst capacity items) = build_causes names dst capacity items.items
+causes names (Encode src dst) =
+    lent (View ∷ []) names src dst ((is_too_long (length (view_written (view_held (held names src)))), Codec fault.TooLong) ∷ [])
+causes names (Decode src dst range) = lent (View ∷ Text ∷ []) names src dst []
+causes names (Drop target) = one_of any_kind names target []
+causes names (Show target) = one_of any_kind names target []
+
+-- the first cause that stands
+abbrev pub first_cause : List Cause → Option Refusal
+first_cause [] = None
+first_cause (cause ∷ others) = if cause.0 then Some cause.1 else first_cause others
+
+-- the command is refused for this; where there is none, only for want of memory, for a fault of what it reads, or as
+-- declined by a view that may be shared
+abbrev pub refusal_for : List Slot → Cmd → Option Refusal
+refusal_for names command = first_cause (causes names command)
