@@ -1,5 +1,5 @@
 -- What names hold, and what a command makes of it.
-use Rattle.std.specs.Prelude.{◌≡◌, ℕ, Bool, true, false, ◌-◌, ◌<◌, ◌^◌, ◌==◌, ◌&&◌, not, nat_le, nat_lt, List, [], ◌∷◌, length, map, slice_index_or, unwrap_or}
+use Rattle.std.specs.Prelude.{◌≡◌, ℕ, Bool, true, false, ◌-◌, ◌<◌, ◌^◌, ◌==◌, ◌&&◌, not, nat_le, nat_lt, Option, Some, None, List, [], ◌∷◌, length, map, slice_index_or, unwrap_or}
 use Rattle.std.specs.List.{list_any}
 use Rattle.iobufs_core.specs.Part.{Part as PartValue, empty_part, part_capacity, part_copied, part_drained, part_frozen, part_put, part_overwritten, part_truncated, part_with_len}
 use Rattle.iobufs_core.specs.Spelling.{spell}
@@ -243,13 +243,24 @@ extent slot = readable slot
 abbrev pub shown_piece : Piece → List ℕ × ℕ
 shown_piece piece = (piece.bytes.items, piece.spare)
 
+-- the kind of what is held, and its pieces: one of a part or a view, the chunks of a text, and each of several parts
+abbrev pub kind_of : Slot → Option Kind
+kind_of Free = None
+kind_of (Part part) = Some kind.Part
+kind_of (View view) = Some kind.View
+kind_of (Text text) = Some kind.Text
+kind_of (Parts parts) = Some kind.Parts
+
+abbrev pub pieces_of : Slot → List (List ℕ × ℕ)
+pieces_of Free = []
+pieces_of (Part part) = (part.filled, part.spare) ∷ []
+pieces_of (View view) = (view.bytes, 0) ∷ []
+pieces_of (Text text) = map (λ chunk. (chunk, 0)) (text_chunks text)
+pieces_of (Parts parts) = map (λ part. (part.filled, part.spare)) parts
+
 -- what is held is shown as this kind, by these pieces
 abbrev pub Shows : Slot → Kind → List (List ℕ × ℕ) → Type 0
-Shows (Part part) kind.Part pieces = pieces ≡ (part.filled, part.spare) ∷ []
-Shows (View view) kind.View pieces = pieces ≡ (view.bytes, 0) ∷ []
-Shows (Parts parts) kind.Parts pieces = pieces ≡ map (λ part. (part.filled, part.spare)) parts
-Shows (Text text) kind.Text pieces = pieces ≡ map (λ chunk. (chunk, 0)) (text_chunks text)
-Shows _ _ pieces = ⊥
+Shows slot kind pieces = (kind_of slot ≡ Some kind) × (pieces ≡ pieces_of slot)
 
 -- the reply shows what is held
 abbrev pub IsShown : Slot → Reply → Type 0

@@ -1,5 +1,6 @@
 // Named buffers, and the commands on them.
 ghost use Rattle.std.specs.Prelude.{◌≡◌, length, replicate, IfOk, IsOkUnless, OnErr};
+ghost use Rattle.iobufs_run.specs.Choices.{NoOtherChoices};
 ghost use Rattle.iobufs_run.specs.Run.{Run, Step, changed as changed_by, outcome as outcome_of, reply_of};
 ghost use Rattle.iobufs_run.specs.Slots.{AreSlots, IsSlot, held};
 
@@ -223,3 +224,10 @@ impl Table {
         Ok(replies)
     }
 }
+
+/// Does nothing. Its contract is a law: two steps of the same command on the same names, neither of them refused for
+/// want of memory, have the same reply and leave the same names, unless the command is `Adopt` or recovers a native
+/// view.
+pub fn choices_law()
+    ensures { NoOtherChoices }
+{}
