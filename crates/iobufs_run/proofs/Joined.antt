@@ -1,12 +1,18 @@
 -- A view that is taken from its name to be put behind or in front of a text, and comes back.
-use Rattle.std.proofs.Common.{◌≡◌, ◌≢◌, ℕ, ◌<◌, true, false, List, length, arith, ap, sym, subst, ◌∙◌, None, get_or-set_other}
+use Rattle.std.proofs.Common.{◌≡◌, ◌≢◌, ℕ, ◌<◌, true, false, List, [], ◌∷◌, length, arith, ap, sym, subst, ◌∙◌, None, get_or-set_other}
 use Rattle.std.specs.Prelude.{slice_set, slice_index_or, IsTrue, not, ◌==◌, ◌&&◌}
 use Rattle.std.proofs.lemmas.Bool.Decides.{nat_tests}
 use Rattle.std.proofs.lemmas.List.{set-get_or, get_or_default, length-set}
 use Rattle.iobufs_core.specs.View.{View as ViewValue}
 use Rattle.iobufs_run.specs.declared.table.Slot.{Slot}
 use Rattle.iobufs_run.specs.declared.table.Slot.TheVariants.{Free, View}
+use Rattle.iobufs_run.specs.declared.table.End.{End}
+use Rattle.iobufs_run.specs.declared.table.End.TheVariants.{Front, Back}
+use Rattle.iobufs_run.specs.declared.command.Reply.TheVariants.{Refused}
+use Rattle.iobufs_run.specs.declared.command.Refusal.TheVariants.{Memory}
 use Rattle.iobufs_run.specs.Slots.{held, is_text, readable}
+use Rattle.iobufs_run.specs.Run.{joining, MayFree, Step}
+use Rattle.iobufs_run.proofs.Freed.{MayFree-none}
 use Rattle.iobufs_run.specs.Causes.{first_cause, join_causes}
 use Rattle.iobufs_run.proofs.Gathered.{put_back}
 
@@ -60,3 +66,10 @@ back_again names target src view back free kept d e new none took refused is =
     ∙ ap (λ (v : ViewValue). slice_set (slice_set (slice_set names src Free) target (slice_index_or (slice_set names src Free) target e)) src (View v)) refused.0
     ∙ restored names target src view e inside.1 at in
     (both_some (readable (held names src)) (readable (held names target)) some some', all)
+
+-- ---- the command, by its end
+
+pub joined_memory : (end : End) (old new : List Slot) (target src : ℕ) → first_cause (join_causes old target src) ≡ None
+    → IsTrue (not (readable (held old src) == 0) && not (readable (held old target) == 0)) → new ≡ old → Step old (joining end target src) (Refused Memory) new
+joined_memory Back old new target src none some same = (none, some, subst (MayFree (src ∷ []) old) (sym same) (MayFree-none (src ∷ []) old))
+joined_memory Front old new target src none some same = (none, some, subst (MayFree (src ∷ []) old) (sym same) (MayFree-none (src ∷ []) old))

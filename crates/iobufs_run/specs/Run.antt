@@ -16,7 +16,9 @@ use Rattle.iobufs_core.specs.declared.codec.base.RangeCfg.{RangeCfg}
 use Rattle.iobufs.specs.Building.{built, empty_building, finished}
 use Rattle.iobufs.specs.Parts.{kept_parts}
 use Rattle.iobufs_run.specs.Causes.{is_listed, pushed_names, refusal_for}
-use Rattle.iobufs_run.specs.Slots.{held, is_parts, is_static_view, is_empty_range, is_in_pieces, is_native_view, readable, bytes_held, view_held, part_held, marked_held, slot_put, slot_frozen, slot_sliced, slot_split_front, slot_rest, slot_advanced, slot_copied, slot_appended, slot_prepended, slot_coalesced, view_encoded, slot_read, IsShown, slot_with_len, slot_truncated, slot_overwritten, slot_recovered}
+use Rattle.iobufs_run.specs.Slots.{held, is_parts, is_static_view, is_empty_range, is_in_pieces, is_native_view, readable, bytes_held, view_held, part_held, marked_held, slot_put, slot_frozen, slot_sliced, slot_split_front, slot_rest, slot_advanced, slot_copied, slot_joined, slot_coalesced, view_encoded, slot_read, IsShown, slot_with_len, slot_truncated, slot_overwritten, slot_recovered}
+use Rattle.iobufs_run.specs.declared.table.End.{End}
+use Rattle.iobufs_run.specs.declared.table.End.TheVariants.{Front, Back}
 use Rattle.iobufs_run.specs.declared.table.Slot.{Slot}
 use Rattle.iobufs_run.specs.declared.table.Slot.TheVariants.{Free, Part, View, Text, Parts}
 use Rattle.iobufs_run.specs.declared.command.Cmd.{Cmd}
@@ -184,8 +186,8 @@ Does old (Gather dst sources) =
     Gives Done (slice_set (all_freed old sources.items) dst (Text (joined (map (λ src. view_held (held old src)) sources.items))))
 Does old (GatherMut dst sources) =
     Gives Done (slice_set (all_freed old sources.items) dst (Parts (kept_parts (map (λ src. part_held (held old src)) sources.items))))
-Does old (Append target src) = Gives Done (moved_to old src target (slot_appended (held old target) (held old src)))
-Does old (Prepend target src) = Gives Done (moved_to old src target (slot_prepended (held old target) (held old src)))
+Does old (Append target src) = Gives Done (moved_to old src target (slot_joined Back (held old target) (held old src)))
+Does old (Prepend target src) = Gives Done (moved_to old src target (slot_joined Front (held old target) (held old src)))
 Does old (Coalesce src dst) = Gives Done (moved_to old src dst (slot_coalesced (held old src)))
 Does old (Build dst capacity items) =
     Gives Done (slice_set (all_freed old (pushed_names items.items)) dst (Text (finished (built (empty_building capacity) (map (item_held old) items.items)))))
@@ -242,6 +244,11 @@ changed (Encode src dst) = (dst, dst)
 changed (Decode src dst range) = (src, dst)
 changed (Drop target) = (target, target)
 changed (Show target) = (target, target)
+
+-- the command that puts a view at this end of a text
+abbrev pub joining : End → ℕ → ℕ → Cmd
+joining Back target src = Append target src
+joining Front target src = Prepend target src
 
 -- the reply of a command that only says whether it is done
 abbrev pub outcome : Result (Unit {0}) Refusal → Reply

@@ -11,6 +11,8 @@ use Rattle.iobufs_core.specs.View.{View as ViewValue, IsView, view_advanced, vie
 use Rattle.iobufs_core.specs.MarkedText.{MarkedText, IsMarked, default_text, of_view, text_len, text_advanced, text_append, text_prepend, text_split_front, text_rest, text_chunks, text_coalesced, is_single}
 use Rattle.iobufs_run.specs.declared.table.Slot.{Slot}
 use Rattle.iobufs_run.specs.declared.table.Slot.TheVariants.{Free, Part, View, Text, Parts}
+use Rattle.iobufs_run.specs.declared.table.End.{End}
+use Rattle.iobufs_run.specs.declared.table.End.TheVariants.{Front, Back}
 use Rattle.iobufs_run.specs.declared.command.Piece.{Piece}
 use Rattle.iobufs_run.specs.declared.command.Kind.{Kind}
 use Rattle.iobufs_run.specs.declared.command.Kind.TheVariants as kind
@@ -199,14 +201,11 @@ slot_read (View view) taken = View (record { bytes = (view_left (of_view view) t
 slot_read (Text text) taken = Text (view_left text taken)
 slot_read slot taken = slot
 
--- a text behind which, or in front of which, a view is put
-abbrev pub slot_appended : Slot → Slot → Slot
-slot_appended (Text text) slot = Text (text_append text (view_held slot))
-slot_appended other slot = other
-
-abbrev pub slot_prepended : Slot → Slot → Slot
-slot_prepended (Text text) slot = Text (text_prepend text (view_held slot))
-slot_prepended other slot = other
+-- a text at an end of which a view is put
+abbrev pub slot_joined : End → Slot → Slot → Slot
+slot_joined Back (Text text) slot = Text (text_append text (view_held slot))
+slot_joined Front (Text text) slot = Text (text_prepend text (view_held slot))
+slot_joined end other slot = other
 
 -- a text as one piece, and parts as one
 abbrev pub slot_coalesced : Slot → Slot

@@ -5,6 +5,7 @@ ghost use Rattle.iobufs_run.specs.Run.{Run, Step, changed as changed_by, outcome
 ghost use Rattle.iobufs_run.specs.Slots.{AreSlots, IsSlot, held};
 
 mod build;
+mod causes;
 mod gather;
 mod made;
 mod parts;
@@ -34,6 +35,13 @@ pub enum Slot {
 /// Buffers under the names 0, 1, and so on.
 pub struct Table {
     slots: Vec<Slot>,
+}
+
+// An end of a text.
+#[derive(Clone, Copy)]
+enum End {
+    Front,
+    Back,
 }
 
 // Written out, so that what a caller proves about a table that it drops names no field.
@@ -109,8 +117,8 @@ fn done(alloc: Global, slots: &mut [Slot], cmd: &Cmd) -> Reply
         Cmd::GatherMut { dst, sources } => {
             reply(gather::gather_mut(alloc, slots, *dst, sources))
         }
-        Cmd::Append { target, src } => reply(texts::append(alloc, slots, *target, *src)),
-        Cmd::Prepend { target, src } => reply(texts::prepend(alloc, slots, *target, *src)),
+        Cmd::Append { target, src } => reply(texts::join(alloc, slots, *target, *src, End::Back)),
+        Cmd::Prepend { target, src } => reply(texts::join(alloc, slots, *target, *src, End::Front)),
         Cmd::Coalesce { src, dst } => reply(texts::coalesce(alloc, slots, *src, *dst)),
         Cmd::Build {
             dst,

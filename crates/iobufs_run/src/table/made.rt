@@ -7,8 +7,9 @@ ghost use Rattle.iobufs_run.specs.Run.{Step, outcome};
 ghost use Rattle.iobufs_run.specs.Slots.{is_empty_range, is_static_view as static_view, is_text as text, is_view as view, readable as readable_bytes, slot_sliced, view_encoded, view_held};
 
 use super::Slot;
-use super::slots::{hold, is_free, is_text, is_view};
-use crate::command::Refusal;
+use super::causes::{free_name, lent};
+use super::slots::hold;
+use crate::command::{Kind, Refusal};
 use bytes::Bytes;
 use iobufs::bufs::IoBufs;
 use iobufs::builder::EncodeExt;
@@ -20,12 +21,7 @@ use std::ops::Bound;
 pub(super) fn of_static(slots: &mut [Slot], dst: usize, text: &'static [u8]) -> Result<(), Refusal>
     ensures { Step slots.old (Cmd.Static dst text.entry) (outcome result) slots.new }
 {
-    if dst >= slots.len() {
-        return Err(Refusal::NoName);
-    }
-    if !is_free(&slots[dst]) {
-        return Err(Refusal::InUse);
-    }
+    free_name(slots, dst)?;
     hold(slots, dst, Slot::View(IoBuf::from(text)));
     Ok(())
 }
@@ -49,12 +45,7 @@ pub(super) fn of_bytes(
 ) -> Result<(), Refusal>
     ensures { Step slots.old (Cmd.FromBytes dst bytes.now) (outcome result) slots.new }
 {
-    if dst >= slots.len() {
-        return Err(Refusal::NoName);
-    }
-    if !is_free(&slots[dst]) {
-        return Err(Refusal::InUse);
-    }
+    free_name(slots, dst)?;
     let copy = copied(alloc, bytes.as_slice())?;
     hold(slots, dst, Slot::View(IoBuf::from(copy)));
     Ok(())
@@ -75,15 +66,7 @@ fn cloned(slot: &Slot) -> Result<Slot, AllocError>
 pub(super) fn clone(slots: &mut [Slot], src: usize, dst: usize) -> Result<(), Refusal>
     ensures { Step slots.old (Cmd.Clone src dst) (outcome result) slots.new }
 {
-    if src >= slots.len() || dst >= slots.len() {
-        return Err(Refusal::NoName);
-    }
-    if !is_view(&slots[src]) && !is_text(&slots[src]) {
-        return Err(Refusal::WrongKind);
-    }
-    if !is_free(&slots[dst]) {
-        return Err(Refusal::InUse);
-    }
+    lent(&[Kind::View, Kind::Text], slots, src, dst)?;
     let clone = cloned(&slots[src])?;
     hold(slots, dst, clone);
     Ok(())
@@ -122,15 +105,7 @@ pub(super) fn slice(
 ) -> Result<(), Refusal>
     ensures { Step slots.old (Cmd.Slice src dst lo hi) (outcome result) slots.new }
 {
-    if src >= slots.len() || dst >= slots.len() {
-        return Err(Refusal::NoName);
-    }
-    if !is_view(&slots[src]) {
-        return Err(Refusal::WrongKind);
-    }
-    if !is_free(&slots[dst]) {
-        return Err(Refusal::InUse);
-    }
+    lent(&[Kind::View], slots, src, dst)?;
     if !fits(&slots[src], lo, hi) {
         return Err(Refusal::OutOfRange);
     }
@@ -161,15 +136,7 @@ pub(super) fn encode(
 ) -> Result<(), Refusal>
     ensures { Step slots.old (Cmd.Encode src dst) (outcome result) slots.new }
 {
-    if src >= slots.len() || dst >= slots.len() {
-        return Err(Refusal::NoName);
-    }
-    if !is_view(&slots[src]) {
-        return Err(Refusal::WrongKind);
-    }
-    if !is_free(&slots[dst]) {
-        return Err(Refusal::InUse);
-    }
+    lent(&[Kind::View], slots, src, dst)?;
     let text = encoded(alloc, &slots[src])?;
     hold(slots, dst, Slot::Text(text));
     Ok(())

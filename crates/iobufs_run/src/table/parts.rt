@@ -2,11 +2,12 @@
 ghost use Rattle.std.specs.Prelude.{◌≡◌, ◌⊎◌, false, length, IfNone, IfOk, IfSome, IsOk, IsOkUnless, IsTrue};
 ghost use Rattle.iobufs_run.specs.declared.command.Cmd.{Cmd};
 ghost use Rattle.iobufs_run.specs.Run.{Step, outcome};
-ghost use Rattle.iobufs_run.specs.Slots.{is_fixed_view as fixed_view, is_native_view as native_view, is_part as part, is_parts as parts, is_view as view, readable as readable_bytes, slot_capacity, slot_frozen, slot_recovered, writable as room};
+ghost use Rattle.iobufs_run.specs.Slots.{is_fixed_view as fixed_view, is_native_view as native_view, is_part as part, is_parts as parts, is_view as view, readable as readable_bytes, slot_frozen, slot_recovered};
 
 use super::Slot;
-use super::slots::{hold, is_free, is_part, is_parts, is_view, readable};
-use crate::command::Refusal;
+use super::causes::{free_name, known, moved, within};
+use super::slots::hold;
+use crate::command::{Kind, Refusal};
 use iobufs_core::buf::IoBufMut;
 use iobufs_core::codec::BufMut;
 use std::alloc::{AllocError, Global};
@@ -21,12 +22,7 @@ pub(super) fn new_mut(
 ) -> Result<(), Refusal>
     ensures { Step slots.old (Cmd.NewMut dst capacity align) (outcome result) slots.new }
 {
-    if dst >= slots.len() {
-        return Err(Refusal::NoName);
-    }
-    if !is_free(&slots[dst]) {
-        return Err(Refusal::InUse);
-    }
+    free_name(slots, dst)?;
     let part = IoBufMut::with_alignment(alloc, capacity, align)?;
     hold(slots, dst, Slot::Part(part));
     Ok(())
@@ -41,12 +37,7 @@ pub(super) fn zeroed(
 ) -> Result<(), Refusal>
     ensures { Step slots.old (Cmd.Zeroed dst len align) (outcome result) slots.new }
 {
-    if dst >= slots.len() {
-        return Err(Refusal::NoName);
-    }
-    if !is_free(&slots[dst]) {
-        return Err(Refusal::InUse);
-    }
+    free_name(slots, dst)?;
     let part = IoBufMut::zeroed_with_alignment(alloc, len, align)?;
     hold(slots, dst, Slot::Part(part));
     Ok(())
@@ -71,44 +62,26 @@ pub(super) fn adopt(
 ) -> Result<(), Refusal>
     ensures { Step slots.old (Cmd.Adopt dst bytes.now) (outcome result) slots.new }
 {
-    if dst >= slots.len() {
-        return Err(Refusal::NoName);
-    }
-    if !is_free(&slots[dst]) {
-        return Err(Refusal::InUse);
-    }
+    free_name(slots, dst)?;
     let part = IoBufMut::from(copied(alloc, bytes.as_slice())?);
     hold(slots, dst, Slot::Part(part));
     Ok(())
 }
 
-// How many bytes fit.
-fn writable(slot: &Slot) -> usize
-    ensures { result ≡ room slot.now }
-{
-    match slot {
-        Slot::Part(part) => part.remaining_mut(),
-        Slot::Parts(parts) => parts.remaining_mut(),
-        _ => 0,
-    }
-}
-
 pub(super) fn put(slots: &mut [Slot], target: usize, bytes: &Vec<u8>) -> Result<(), Refusal>
     ensures { Step slots.old (Cmd.Put target bytes.now) (outcome result) slots.new }
 {
-    if target >= slots.len() {
-        return Err(Refusal::NoName);
-    }
-    if !is_part(&slots[target]) && !is_parts(&slots[target]) {
-        return Err(Refusal::WrongKind);
-    }
-    if writable(&slots[target]) < bytes.len() {
-        return Err(Refusal::OutOfRange);
-    }
+    known(slots, target)?;
     match &mut slots[target] {
-        Slot::Part(part) => part.put_slice(bytes.as_slice()),
-        Slot::Parts(parts) => parts.put_slice(bytes.as_slice()),
-        _ => {}
+        Slot::Part(part) => {
+            within(bytes.len(), part.remaining_mut())?;
+            part.put_slice(bytes.as_slice());
+        }
+        Slot::Parts(parts) => {
+            within(bytes.len(), parts.remaining_mut())?;
+            parts.put_slice(bytes.as_slice());
+        }
+        _ => return Err(Refusal::WrongKind),
     }
     Ok(())
 }
@@ -116,50 +89,35 @@ pub(super) fn put(slots: &mut [Slot], target: usize, bytes: &Vec<u8>) -> Result<
 pub(super) fn fill(slots: &mut [Slot], target: usize, byte: u8, n: usize) -> Result<(), Refusal>
     ensures { Step slots.old (Cmd.Fill target byte n) (outcome result) slots.new }
 {
-    if target >= slots.len() {
-        return Err(Refusal::NoName);
-    }
-    if !is_part(&slots[target]) && !is_parts(&slots[target]) {
-        return Err(Refusal::WrongKind);
-    }
-    if writable(&slots[target]) < n {
-        return Err(Refusal::OutOfRange);
-    }
+    known(slots, target)?;
     match &mut slots[target] {
-        Slot::Part(part) => part.put_bytes(byte, n),
-        Slot::Parts(parts) => parts.put_bytes(byte, n),
-        _ => {}
+        Slot::Part(part) => {
+            within(n, part.remaining_mut())?;
+            part.put_bytes(byte, n);
+        }
+        Slot::Parts(parts) => {
+            within(n, parts.remaining_mut())?;
+            parts.put_bytes(byte, n);
+        }
+        _ => return Err(Refusal::WrongKind),
     }
     Ok(())
-}
-
-// How many bytes fit, counted from the first readable one.
-fn capacity(slot: &Slot) -> usize
-    ensures { result ≡ slot_capacity slot.now }
-{
-    match slot {
-        Slot::Part(part) => part.capacity(),
-        Slot::Parts(parts) => parts.capacity(),
-        _ => 0,
-    }
 }
 
 pub(super) fn set_len(slots: &mut [Slot], target: usize, n: usize) -> Result<(), Refusal>
     ensures { Step slots.old (Cmd.SetLen target n) (outcome result) slots.new }
 {
-    if target >= slots.len() {
-        return Err(Refusal::NoName);
-    }
-    if !is_part(&slots[target]) && !is_parts(&slots[target]) {
-        return Err(Refusal::WrongKind);
-    }
-    if capacity(&slots[target]) < n {
-        return Err(Refusal::OutOfRange);
-    }
+    known(slots, target)?;
     match &mut slots[target] {
-        Slot::Part(part) => part.set_len(n),
-        Slot::Parts(parts) => parts.set_len(n),
-        _ => {}
+        Slot::Part(part) => {
+            within(n, part.capacity())?;
+            part.set_len(n);
+        }
+        Slot::Parts(parts) => {
+            within(n, parts.capacity())?;
+            parts.set_len(n);
+        }
+        _ => return Err(Refusal::WrongKind),
     }
     Ok(())
 }
@@ -167,9 +125,7 @@ pub(super) fn set_len(slots: &mut [Slot], target: usize, n: usize) -> Result<(),
 pub(super) fn truncate(slots: &mut [Slot], target: usize, n: usize) -> Result<(), Refusal>
     ensures { Step slots.old (Cmd.Truncate target n) (outcome result) slots.new }
 {
-    if target >= slots.len() {
-        return Err(Refusal::NoName);
-    }
+    known(slots, target)?;
     let Slot::Part(part) = &mut slots[target] else {
         return Err(Refusal::WrongKind);
     };
@@ -180,9 +136,7 @@ pub(super) fn truncate(slots: &mut [Slot], target: usize, n: usize) -> Result<()
 pub(super) fn clear(slots: &mut [Slot], target: usize) -> Result<(), Refusal>
     ensures { Step slots.old (Cmd.Clear target) (outcome result) slots.new }
 {
-    if target >= slots.len() {
-        return Err(Refusal::NoName);
-    }
+    known(slots, target)?;
     let Slot::Part(part) = &mut slots[target] else {
         return Err(Refusal::WrongKind);
     };
@@ -193,19 +147,14 @@ pub(super) fn clear(slots: &mut [Slot], target: usize) -> Result<(), Refusal>
 pub(super) fn overwrite(slots: &mut [Slot], target: usize, bytes: &Vec<u8>) -> Result<(), Refusal>
     ensures { Step slots.old (Cmd.Overwrite target bytes.now) (outcome result) slots.new }
 {
-    if target >= slots.len() {
-        return Err(Refusal::NoName);
-    }
-    if !is_part(&slots[target]) && !is_parts(&slots[target]) {
-        return Err(Refusal::WrongKind);
-    }
-    if bytes.len() != readable(&slots[target]) {
-        return Err(Refusal::OutOfRange);
-    }
+    known(slots, target)?;
     match &mut slots[target] {
-        Slot::Part(part) => part.as_mut().copy_from_slice(bytes.as_slice()),
-        Slot::Parts(parts) => parts.copy_from_slice(bytes.as_slice()),
-        _ => {}
+        Slot::Part(part) if part.len() == bytes.len() => {
+            part.as_mut().copy_from_slice(bytes.as_slice())
+        }
+        Slot::Parts(parts) if parts.len() == bytes.len() => parts.copy_from_slice(bytes.as_slice()),
+        Slot::Part(_) | Slot::Parts(_) => return Err(Refusal::OutOfRange),
+        _ => return Err(Refusal::WrongKind),
     }
     Ok(())
 }
@@ -233,15 +182,7 @@ pub(super) fn freeze(
 ) -> Result<(), Refusal>
     ensures { Step slots.old (Cmd.Freeze src dst) (outcome result) slots.new }
 {
-    if src >= slots.len() || dst >= slots.len() {
-        return Err(Refusal::NoName);
-    }
-    if !is_part(&slots[src]) && !is_parts(&slots[src]) {
-        return Err(Refusal::WrongKind);
-    }
-    if dst != src && !is_free(&slots[dst]) {
-        return Err(Refusal::InUse);
-    }
+    moved(&[Kind::Part, Kind::Parts], slots, src, dst)?;
     let frozen = freeze_slot(alloc, &mut slots[src])?;
     hold(slots, dst, frozen);
     Ok(())
@@ -273,15 +214,7 @@ pub(super) fn recover(
 ) -> Result<(), Refusal>
     ensures { Step slots.old (Cmd.Recover src dst) (outcome result) slots.new }
 {
-    if src >= slots.len() || dst >= slots.len() {
-        return Err(Refusal::NoName);
-    }
-    if !is_view(&slots[src]) {
-        return Err(Refusal::WrongKind);
-    }
-    if src != dst && !is_free(&slots[dst]) {
-        return Err(Refusal::InUse);
-    }
+    moved(&[Kind::View], slots, src, dst)?;
     let Some(part) = recover_slot(alloc, &mut slots[src]) else {
         return Err(Refusal::Declined);
     };

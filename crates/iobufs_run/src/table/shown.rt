@@ -6,6 +6,7 @@ ghost use Rattle.iobufs_run.specs.Slots.{Shows, shown_piece};
 ghost use Rattle.iobufs_core.specs.MarkedText.{text_chunks};
 
 use super::Slot;
+use super::causes::known;
 use crate::command::{Kind, Piece, Refusal, Reply};
 use iobufs::bufs::IoBufs;
 use iobufs::bufs_mut::IoBufsMut;
@@ -74,9 +75,7 @@ fn shown(alloc: Global, slot: &Slot) -> Result<(Kind, Vec<Piece>), Refusal>
 pub(super) fn show(alloc: Global, slots: &[Slot], target: usize) -> Result<Reply, Refusal>
     ensures { Step slots.now (Cmd.Show target) (reply_of result) slots.now }
 {
-    if target >= slots.len() {
-        return Err(Refusal::NoName);
-    }
+    known(slots, target)?;
     let (kind, pieces) = shown(alloc, &slots[target])?;
     Ok(Reply::Shown { kind, pieces })
 }

@@ -5,9 +5,8 @@ ghost use Rattle.iobufs_run.specs.Run.{Step, outcome};
 ghost use Rattle.iobufs_run.specs.Slots.{is_free as free, is_part as part, is_view as view, is_text as text, is_parts as parts, is_of as of, readable as readable_bytes};
 
 use super::Slot;
+use super::causes::in_use;
 use crate::command::{Kind, Refusal};
-use iobufs::bufs::IoBufs;
-use iobufs::bufs_mut::IoBufsMut;
 use iobufs_core::buf::{IoBuf, IoBufMut};
 use std::mem;
 
@@ -103,43 +102,10 @@ pub(super) fn take_view(slot: &mut Slot) -> Option<IoBuf>
     }
 }
 
-/// Takes the parts out of a slot.
-pub(super) fn take_parts(slot: &mut Slot) -> Option<IoBufsMut>
-    ensures some { IfSome result (λ parts. (slot.old ≡ Slot.Parts parts) × (slot.new ≡ Slot.Free)) }
-    ensures none { IfNone result ((parts slot.old ≡ false) × (slot.new ≡ slot.old)) }
-{
-    match mem::replace(slot, Slot::Free) {
-        Slot::Parts(parts) => Some(parts),
-        other => {
-            *slot = other;
-            None
-        }
-    }
-}
-
-/// Takes the text out of a slot.
-pub(super) fn take_text(slot: &mut Slot) -> Option<IoBufs>
-    ensures some { IfSome result (λ text. (slot.old ≡ Slot.Text text) × (slot.new ≡ Slot.Free)) }
-    ensures none { IfNone result ((text slot.old ≡ false) × (slot.new ≡ slot.old)) }
-{
-    match mem::replace(slot, Slot::Free) {
-        Slot::Text(text) => Some(text),
-        other => {
-            *slot = other;
-            None
-        }
-    }
-}
-
 pub(super) fn free(slots: &mut [Slot], target: usize) -> Result<(), Refusal>
     ensures { Step slots.old (Cmd.Drop target) (outcome result) slots.new }
 {
-    if target >= slots.len() {
-        return Err(Refusal::NoName);
-    }
-    if is_free(&slots[target]) {
-        return Err(Refusal::WrongKind);
-    }
+    in_use(slots, target)?;
     hold(slots, target, Slot::Free);
     Ok(())
 }

@@ -2,40 +2,31 @@
 ghost use Rattle.std.specs.Prelude.{◌≡◌, ◌≢◌, ◌⊎◌, ◌+◌, ◌^◌, ◌<◌, false, length, IfOk, IfErr, IsTrue, OnOk, MatchResult, Some, None};
 ghost use Rattle.iobufs_run.specs.declared.command.Cmd.{Cmd};
 ghost use Rattle.iobufs_run.specs.Causes.{first_cause, join_causes};
-ghost use Rattle.iobufs_run.specs.Run.{Step, outcome};
-ghost use Rattle.iobufs_run.specs.Slots.{is_text as text, is_parts as parts, is_in_pieces as in_pieces, is_too_large as too_large, readable as readable_bytes, slot_appended, slot_coalesced, slot_prepended};
+ghost use Rattle.iobufs_run.specs.Run.{Step, joining as joining_at, outcome};
+ghost use Rattle.iobufs_run.specs.Slots.{is_text as text, is_parts as parts, is_in_pieces as in_pieces, is_too_large as too_large, readable as readable_bytes, slot_coalesced, slot_joined};
 
-use super::Slot;
-use super::slots::{hold, is_free, is_parts, is_text, is_view, readable, take_view};
-use crate::command::Refusal;
+use super::causes::{known, moved};
+use super::slots::{hold, is_text, is_view, readable, take_view};
+use super::{End, Slot};
+use crate::command::{Kind, Refusal};
 use iobufs_core::buf::IoBuf;
 use std::alloc::Global;
 use std::mem;
 
-// Puts a view behind the text that a slot holds; it comes back where memory is refused.
-fn append_to(alloc: Global, slot: &mut Slot, piece: IoBuf) -> Result<(), IoBuf>
+// Puts a view at an end of the text that a slot holds; it comes back where memory is refused.
+fn join_to(alloc: Global, slot: &mut Slot, piece: IoBuf, end: End) -> Result<(), IoBuf>
     requires kind { IsTrue (text slot.old) }
     requires fits { readable_bytes slot.old + length piece.bytes < 2 ^ 64 }
-    ensures ok { OnOk result (slot.new ≡ slot_appended slot.old (Slot.View piece)) }
+    ensures ok { OnOk result (slot.new ≡ slot_joined end slot.old (Slot.View piece)) }
     ensures err { IfErr result (λ back. (back ≡ piece) × (slot.new ≡ slot.old) × (0 < length piece.bytes) × (0 < readable_bytes slot.old)) }
 {
     let Slot::Text(text) = slot else {
         unreachable!()
     };
-    text.append(alloc, piece).map_err(|refused| refused.value)
-}
-
-// The same in front of the text.
-fn prepend_to(alloc: Global, slot: &mut Slot, piece: IoBuf) -> Result<(), IoBuf>
-    requires kind { IsTrue (text slot.old) }
-    requires fits { readable_bytes slot.old + length piece.bytes < 2 ^ 64 }
-    ensures ok { OnOk result (slot.new ≡ slot_prepended slot.old (Slot.View piece)) }
-    ensures err { IfErr result (λ back. (back ≡ piece) × (slot.new ≡ slot.old) × (0 < length piece.bytes) × (0 < readable_bytes slot.old)) }
-{
-    let Slot::Text(text) = slot else {
-        unreachable!()
-    };
-    text.prepend(alloc, piece).map_err(|refused| refused.value)
+    match end {
+        End::Back => text.append(alloc, piece).map_err(|refused| refused.value),
+        End::Front => text.prepend(alloc, piece).map_err(|refused| refused.value),
+    }
 }
 
 // The first cause to refuse a joining of a text and a view.
@@ -43,9 +34,8 @@ fn joining(slots: &[Slot], target: usize, src: usize) -> Result<(), Refusal>
     ensures causes { MatchResult result (λ _. first_cause (join_causes slots.now target src) ≡ None) (λ refusal. first_cause (join_causes slots.now target src) ≡ Some refusal) }
     ensures known { IfErr result (λ refusal. refusal ≢ Refusal.Memory) }
 {
-    if target >= slots.len() || src >= slots.len() {
-        return Err(Refusal::NoName);
-    }
+    known(slots, target)?;
+    known(slots, src)?;
     if !is_text(&slots[target]) || !is_view(&slots[src]) {
         return Err(Refusal::WrongKind);
     }
@@ -58,38 +48,21 @@ fn joining(slots: &[Slot], target: usize, src: usize) -> Result<(), Refusal>
     Ok(())
 }
 
-pub(super) fn append(
+/// `Append` and `Prepend`, by the end of the text.
+pub(super) fn join(
     alloc: Global,
     slots: &mut [Slot],
     target: usize,
     src: usize,
+    end: End,
 ) -> Result<(), Refusal>
-    ensures { Step slots.old (Cmd.Append target src) (outcome result) slots.new }
+    ensures { Step slots.old (joining_at end target src) (outcome result) slots.new }
 {
     joining(slots, target, src)?;
     let Some(piece) = take_view(&mut slots[src]) else {
         unreachable!()
     };
-    if let Err(piece) = append_to(alloc, &mut slots[target], piece) {
-        hold(slots, src, Slot::View(piece));
-        return Err(Refusal::Memory);
-    }
-    Ok(())
-}
-
-pub(super) fn prepend(
-    alloc: Global,
-    slots: &mut [Slot],
-    target: usize,
-    src: usize,
-) -> Result<(), Refusal>
-    ensures { Step slots.old (Cmd.Prepend target src) (outcome result) slots.new }
-{
-    joining(slots, target, src)?;
-    let Some(piece) = take_view(&mut slots[src]) else {
-        unreachable!()
-    };
-    if let Err(piece) = prepend_to(alloc, &mut slots[target], piece) {
+    if let Err(piece) = join_to(alloc, &mut slots[target], piece, end) {
         hold(slots, src, Slot::View(piece));
         return Err(Refusal::Memory);
     }
@@ -119,15 +92,7 @@ pub(super) fn coalesce(
 ) -> Result<(), Refusal>
     ensures { Step slots.old (Cmd.Coalesce src dst) (outcome result) slots.new }
 {
-    if src >= slots.len() || dst >= slots.len() {
-        return Err(Refusal::NoName);
-    }
-    if !is_text(&slots[src]) && !is_parts(&slots[src]) {
-        return Err(Refusal::WrongKind);
-    }
-    if dst != src && !is_free(&slots[dst]) {
-        return Err(Refusal::InUse);
-    }
+    moved(&[Kind::Text, Kind::Parts], slots, src, dst)?;
     if is_too_large(&slots[src]) {
         return Err(Refusal::BadLayout);
     }

@@ -6,8 +6,9 @@ ghost use Rattle.iobufs_run.specs.Run.{Step, outcome, reply_of};
 ghost use Rattle.iobufs_run.specs.Slots.{bytes_held, is_free as free, is_view as view, is_text as text, is_static_view as static_view, readable as readable_bytes, marked_held, slot_copied, slot_read, slot_split_front, slot_rest};
 
 use super::Slot;
-use super::slots::{hold, is_free, is_text, is_view, readable};
-use crate::command::{Refusal, Reply};
+use super::causes::{in_use, lent, within};
+use super::slots::{hold, readable};
+use crate::command::{Kind, Refusal, Reply};
 use bytes::Bytes;
 use iobufs_core::buf::IoBuf;
 use iobufs_core::codec::{Buf, Error, RangeCfg, Read};
@@ -37,18 +38,8 @@ pub(super) fn split(
 ) -> Result<(), Refusal>
     ensures { Step slots.old (Cmd.Split src dst at) (outcome result) slots.new }
 {
-    if src >= slots.len() || dst >= slots.len() {
-        return Err(Refusal::NoName);
-    }
-    if !is_view(&slots[src]) && !is_text(&slots[src]) {
-        return Err(Refusal::WrongKind);
-    }
-    if !is_free(&slots[dst]) {
-        return Err(Refusal::InUse);
-    }
-    if readable(&slots[src]) < at {
-        return Err(Refusal::OutOfRange);
-    }
+    lent(&[Kind::View, Kind::Text], slots, src, dst)?;
+    within(at, readable(&slots[src]))?;
     let front = split_slot(alloc, &mut slots[src], at)?;
     hold(slots, dst, front);
     Ok(())
@@ -57,17 +48,10 @@ pub(super) fn split(
 pub(super) fn advance(slots: &mut [Slot], target: usize, n: usize) -> Result<(), Refusal>
     ensures { Step slots.old (Cmd.Advance target n) (outcome result) slots.new }
 {
-    if target >= slots.len() {
-        return Err(Refusal::NoName);
-    }
-    if is_free(&slots[target]) {
-        return Err(Refusal::WrongKind);
-    }
-    if readable(&slots[target]) < n {
-        return Err(Refusal::OutOfRange);
-    }
+    in_use(slots, target)?;
+    within(n, readable(&slots[target]))?;
     match &mut slots[target] {
-        Slot::Free => {}
+        Slot::Free => unreachable!(),
         Slot::Part(part) => part.advance(n),
         Slot::View(view) => view.advance(n),
         Slot::Text(text) => text.advance(n),
@@ -106,15 +90,8 @@ pub(super) fn take(
 ) -> Result<Reply, Refusal>
     ensures { Step slots.old (Cmd.Take target n) (reply_of result) slots.new }
 {
-    if target >= slots.len() {
-        return Err(Refusal::NoName);
-    }
-    if is_free(&slots[target]) {
-        return Err(Refusal::WrongKind);
-    }
-    if readable(&slots[target]) < n {
-        return Err(Refusal::OutOfRange);
-    }
+    in_use(slots, target)?;
+    within(n, readable(&slots[target]))?;
     let bytes = take_slot(alloc, &mut slots[target], n)?;
     Ok(Reply::Bytes(bytes))
 }
@@ -142,15 +119,7 @@ pub(super) fn decode(
 ) -> Result<(), Refusal>
     ensures { Step slots.old (Cmd.Decode src dst range.now) (outcome result) slots.new }
 {
-    if src >= slots.len() || dst >= slots.len() {
-        return Err(Refusal::NoName);
-    }
-    if !is_view(&slots[src]) && !is_text(&slots[src]) {
-        return Err(Refusal::WrongKind);
-    }
-    if !is_free(&slots[dst]) {
-        return Err(Refusal::InUse);
-    }
+    lent(&[Kind::View, Kind::Text], slots, src, dst)?;
     let view = read_slot(alloc, &mut slots[src], range)?;
     hold(slots, dst, Slot::View(view));
     Ok(())
