@@ -166,7 +166,7 @@ pub enum Item {
 }
 
 /// The answer to a command.
-#[derive(Drop)]
+#[derive(Debug, PartialEq, Eq, Drop)]
 pub enum Reply {
     Done,
     Bytes(Bytes),
@@ -184,7 +184,7 @@ pub enum Kind {
 }
 
 /// One piece of what is shown: its bytes, and the room behind them.
-#[derive(Drop)]
+#[derive(Debug, PartialEq, Eq, Drop)]
 pub struct Piece {
     pub bytes: Vec<u8>,
     pub spare: usize,
