@@ -4,6 +4,7 @@
 mod buf;
 #[cfg(test)]
 mod buf_tests;
+mod input;
 mod owner;
 #[cfg(test)]
 mod owner_tests;
@@ -13,24 +14,36 @@ mod serve;
 mod words;
 
 pub use serve::serve;
-use std::io::{BufReader, BufWriter, Write};
+use std::io::{BufWriter, Write};
 use std::process::ExitCode;
 use std::{env, io};
 
-// The standard streams are read and written in blocks.
+// The standard streams are read and written in blocks. An argument that is not UTF-8 is another argument.
 fn run(rt: &HostRuntime) -> io::Result<u8> {
     let alloc = rt.alloc();
+    let arguments = match env::args(rt) {
+        Ok(arguments) => arguments,
+        Err(error) if error.kind() == io::ErrorKind::InvalidData => {
+            return Ok(serve::tell_usage(&mut rt.stderr()));
+        }
+        Err(error) => return Err(error),
+    };
     let mut words = Vec::new(alloc);
-    for word in env::args(rt)?.skip(1) {
+    for word in arguments.skip(1) {
         words.push(word)?;
     }
     let mut args = Vec::new(alloc);
     for word in &words {
         args.push(word.as_str())?;
     }
-    let input = BufReader::new(alloc, rt.reader())?;
     let mut output = BufWriter::new(alloc, rt.stdout())?;
-    Ok(serve(alloc, args.as_slice(), input, &mut output, &mut rt.stderr()))
+    Ok(serve(
+        alloc,
+        args.as_slice(),
+        rt.reader(),
+        &mut output,
+        &mut rt.stderr(),
+    ))
 }
 
 fn main(rt: HostRuntime) -> ExitCode {

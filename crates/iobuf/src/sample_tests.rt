@@ -2,136 +2,3022 @@
 // original's buffers (30 seeds, 100 lines each), the last ones by hand; the answers come from a driver that carries them
 // out by the original's own calls. Together they reach every command, every kind of buffer, and every refusal but those
 // for sums of lengths that no memory can hold.
-use crate::buf_tests::assert_serves;
+use crate::buf_tests::assert_answers;
+use std::test::Fail;
 
 #[test]
-fn the_original_answers_the_same(rt: HostRuntime) {
-    for (input, output) in [
-        (
-            "new 0 6 2\nput 0 46\nput 0 f5c1\nshow 0\nshow 0\nnew 4 2 1\nshow 2\nshow 4\nbytes 12 908fafafcc525214\nshow 12\nshow 12\nencode 12 13\nshow 13\nput 0 39\nnew 14 17 1\nadvance 0 3\nshow 0\nprepend 13 12\ntake 14 0\nzeroed 10 6 1\nshow 6\nput 0 9d44\nshow 0\nstatic 3 25 25\nappend 13 3\nshow 13\nshow 3\nput 14 ec68\nshow 14\nshow 14\nstatic 12 26 26\nshow 16\nshow 16\nprepend 13 12\noverwrite 10 5b6da95685e2\nshow 10\nshow 10\ngather 5\nshow 5\nput 4 67\nshow 16\nshow 16\nfill 4 225 0\nput 14 111e91476b6bb56179\nnew 7 18 1\nshow 7\nfill 0 55 0\nnew 11 4 1\nbytes 6 f62a53\ndecode 9 3 0 1024\nput 10 -\nshow 10\nslice 6 1 e3 e3\nshow 6\nshow 6\ncoalesce 5 5\nshow 5\nput 4 a9\nshow 4\nshow 4\nnew 8 1 1\nput 8 -\nput 7 6ffb\nput 11 ee401e6d\nshow 11\nshow 11\nappend 13 5\nshow 13\nshow 5\nencode 6 1\nadvance 1 1\nshow 1\nshow 1\ntruncate 4 1\nshow 1\nsetlen 14 17\nput 8 -\nshow 8\nshow 8\ncoalesce 13 2\nshow 2\ndecode 11 9 0 1024\nput 11 -\nshow 11\nclone 1 3\nshow 1\nput 11 -\nshow 11\nshow 11\ntake 1 1\nshow 1\nshow 1\nfreeze 14 14\nshow 14\nadvance 3 3\nshow 3\nshow 3\nsplit 6 15 1\nshow 15\ndrop 7\n",
-            "ok\nok\nok\npart 46f5c1+3\npart 46f5c1+3\nok\nrefused N2 WrongKind\npart -+2\nok\nview 908fafafcc525214\nview 908fafafcc525214\nok\ntext 08 908fafafcc525214\nok\nok\nok\npart 39+2\nok\nbytes -\nok\nrefused N2 WrongKind\nok\npart 399d44+0\nok\nok\ntext 908fafafcc525214 08 908fafafcc525214\nrefused N2 WrongKind\nok\npart ec68+15\npart ec68+15\nok\nrefused N1 NoName\nrefused N1 NoName\nok\nok\npart 5b6da95685e2+0\npart 5b6da95685e2+0\nok\ntext\nok\nrefused N1 NoName\nrefused N1 NoName\nok\nok\nok\npart -+18\nok\nok\nok\nrefused N2 WrongKind\nok\npart 5b6da95685e2+0\nrefused N4 OutOfRange\nview f62a53\nview f62a53\nok\nview -\nok\npart 67a9+0\npart 67a9+0\nok\nok\nok\nok\npart ee401e6d+0\npart ee401e6d+0\nok\ntext 908fafafcc525214 08 908fafafcc525214\nrefused N2 WrongKind\nok\nok\ntext f62a53\ntext f62a53\nok\ntext f62a53\nok\nok\npart -+1\npart -+1\nok\nview 908fafafcc52521408908fafafcc525214\nrefused N2 WrongKind\nok\npart ee401e6d+0\nok\ntext f62a53\nok\npart ee401e6d+0\npart ee401e6d+0\nbytes f6\ntext 2a53\ntext 2a53\nok\nview ec68111e91476b6bb56179000000000000\nok\ntext\ntext\nok\nview f6\nok\n",
-        ),
-        (
-            "static 3 9 21\nshow 9\nshow 9\nnew 14 21 1\nshow 14\nshow 16\nput 14 6a87b7505ae1a09ed321d7c7a60d81fe\nshow 14\nbytes 9 84\nshow 16\ngather 4 9 3\nstatic 11 18 23\nshow 11\nshow 16\nstatic 13 12 18\nshow 13\nbytes 3 -\nput 14 21ca\nshow 14\ngather 8\nnew 0 12 64\nput 0 0b1a56bc0679\nshow 0\nshow 0\nput 0 9291\nstatic 12 24 26\nshow 16\nshow 12\nput 0 -\nput 11 63\nstatic 10 17 18\nshow 16\nshow 10\nzeroed 2 5 1\nshow 5\nshow 2\nfreeze 14 14\nshow 14\nshow 14\nsplit 3 6 0\nshow 6\nshow 6\ngathermut 15 0 2\nshow 15\nfreeze 15 15\nadvance 13 1\nshow 13\nclone 6 0\nshow 0\ndrop 11\nshow 11\nclone 4 9\nshow 4\ndrop 8\nshow 8\ngather 5 6 12 10 14 13 0 3\nshow 6\ndrop 4\nshow 4\ncoalesce 9 4\nshow 4\nshow 4\nsplit 4 7 14\nsplit 4 13 0\nshow 13\nstatic 7 20 24\nshow 16\ntake 15 13\nzeroed 11 8 1\nshow 11\nput 11 -\nshow 11\nput 11 -\nshow 11\nshow 11\ngathermut 12\nput 12 -\nstatic 3 3 7\nshow 3\nshow 3\nput 11 -\nshow 11\nstatic 6 2 5\nshow 6\nsplit 5 10 25\nshow 5\nshow 5\nsplit 4 2 13\nshow 2\nslice 4 8 e0 i0\nshow 8\nshow 4\nstatic 1 20 26\nappend 10 3\nshow 3\nshow 3\nslice 4 14 i0 e0\nshow 14\nclear 11\nappend 5 14\n",
-            "ok\nrefused N2 WrongKind\nrefused N2 WrongKind\nok\npart -+21\nrefused N1 NoName\nok\npart 6a87b7505ae1a09ed321d7c7a60d81fe+5\nok\nrefused N1 NoName\nok\nok\nview 7374757677\nrefused N1 NoName\nok\nview 6d6e6f707172\nok\nok\npart 6a87b7505ae1a09ed321d7c7a60d81fe21ca+3\nok\nok\nok\npart 0b1a56bc0679+6\npart 0b1a56bc0679+6\nok\nok\nrefused N1 NoName\nview 797a\nok\nrefused N2 WrongKind\nok\nrefused N1 NoName\nview 72\nok\nrefused N2 WrongKind\npart 0000000000+0\nok\nview 6a87b7505ae1a09ed321d7c7a60d81fe21ca\nview 6a87b7505ae1a09ed321d7c7a60d81fe21ca\nok\nview -\nview -\nok\nparts 0b1a56bc06799291+4 0000000000+0\nok\nok\nview 6e6f707172\nok\nview -\nok\nrefused N2 WrongKind\nok\ntext 84 6a6b6c6d6e6f707172737475\nok\nrefused N2 WrongKind\nok\nrefused N2 WrongKind\nok\nrefused N2 WrongKind\nok\nview 846a6b6c6d6e6f707172737475\nview 846a6b6c6d6e6f707172737475\nrefused N4 OutOfRange\nok\nview -\nok\nrefused N1 NoName\nbytes 0b1a56bc067992910000000000\nok\npart 0000000000000000+0\nok\npart 0000000000000000+0\nok\npart 0000000000000000+0\npart 0000000000000000+0\nok\nok\nok\nview 64656667\nview 64656667\nok\npart 0000000000000000+0\nok\nview 636465\nok\ntext 72\ntext 72\nok\nview 846a6b6c6d6e6f707172737475\nrefused N4 OutOfRange\nrefused N2 WrongKind\nview -\nok\nok\nrefused N2 WrongKind\nrefused N2 WrongKind\nok\nview -\nok\nok\n",
-        ),
-        (
-            "static 4 15 15\nshow 4\nrecover 4 7\nzeroed 2 2 1\nshow 2\nstatic 14 15 15\nshow 15\nstatic 9 4 22\nfill 2 4 1\nshow 4\nput 7 -\nshow 7\nnew 6 9 0\nshow 6\nput 2 -\nshow 2\nshow 2\nstatic 1 20 22\nshow 1\nzeroed 11 8 1\nput 2 -\nshow 2\nfill 7 43 0\nput 2 -\nshow 2\nshow 2\nbytes 13 481cbf\nshow 13\nstatic 3 19 25\nput 7 -\nput 7 -\nshow 7\nshow 7\nsetlen 7 0\nsplit 9 6 18\ndrop 14\nfill 2 81 1\nstatic 15 16 20\nshow 16\nshow 15\nput 2 -\nshow 2\nfreeze 2 10\nshow 10\nfreeze 7 14\nshow 7\ndrop 3\nput 11 -\nshow 11\nshow 11\nstatic 0 6 21\ndrop 15\nshow 15\nshow 15\nnew 2 14 3\nshow 14\nnew 12 19 3\nshow 16\nshow 12\nput 11 -\nshow 11\nstatic 2 26 26\nshow 16\nshow 16\ndrop 0\nshow 0\nshow 0\nput 11 -\nshow 11\nnew 5 19 64\nshow 5\nencode 14 7\ndrop 14\nshow 14\ntake 5 0\nshow 0\nrecover 1 1\nput 11 -\nshow 11\nshow 11\nnew 14 5 0\nbuild 3 7 i8acbcc p6 p13 i7856 i-\nshow 3\nput 11 -\nnew 14 13 2\nappend 3 9\nput 11 -\nshow 11\nshow 11\nnew 0 10 8\nshow 10\nshow 10\nadvance 2 0\nadvance 3 26\nshow 3\nclone 2 6\nshow 6\ntruncate 5 0\nput 0 704dac8b10c00b17\ngather 9 6 2 1 10\n",
-            "ok\nview -\nok\nok\npart 0000+0\nok\nrefused N2 WrongKind\nok\nrefused N4 OutOfRange\nrefused N2 WrongKind\nok\npart -+0\nrefused N5 BadLayout\nrefused N2 WrongKind\nok\npart 0000+0\npart 0000+0\nok\nview 7576\nok\nok\npart 0000+0\nok\nok\npart 0000+0\npart 0000+0\nok\nview 481cbf\nok\nok\nok\npart -+0\npart -+0\nok\nok\nok\nrefused N4 OutOfRange\nok\nrefused N1 NoName\nview 71727374\nok\npart 0000+0\nok\nview 0000\nok\nrefused N2 WrongKind\nok\nok\npart 0000000000000000+0\npart 0000000000000000+0\nok\nok\nrefused N2 WrongKind\nrefused N2 WrongKind\nrefused N5 BadLayout\nview -\nrefused N5 BadLayout\nrefused N1 NoName\nrefused N2 WrongKind\nok\npart 0000000000000000+0\nok\nrefused N1 NoName\nrefused N1 NoName\nok\nrefused N2 WrongKind\nrefused N2 WrongKind\nok\npart 0000000000000000+0\nok\npart -+19\nok\nok\nrefused N2 WrongKind\nbytes -\nrefused N2 WrongKind\nrefused N7 Declined\nok\npart 0000000000000000+0\npart 0000000000000000+0\nrefused N5 BadLayout\nok\ntext 8acbcc 65666768696a6b6c6d6e6f70717273747576 481cbf 7856\nok\nok\nok\nok\npart 0000000000000000+0\npart 0000000000000000+0\nok\nview 0000\nview 0000\nok\nok\ntext\nok\nview -\nok\nok\nok\n",
-        ),
-        (
-            "new 1 15 3\nbytes 4 22f9bc3829513be486\nstatic 7 13 16\nshow 13\nshow 7\nstatic 12 14 20\nshow 12\nsplit 4 5 9\nshow 4\nbytes 14 -\nshow 14\nshow 14\nnew 11 6 1\nshow 11\nnew 15 17 8\nshow 15\nnew 1 14 0\nclone 12 10\nshow 12\nnew 6 19 2\nshow 16\ngather 1 10 7\nput 11 dd5a79\nshow 11\nzeroed 7 5 1\nbytes 13 cf29eaf62223b71f\nfill 9 238 1\nadvance 3 0\nshow 3\nshow 3\ntake 12 5\nshow 12\nshow 5\nput 11 8f\nput 15 e585c393df1ea45e61062af7658629\nstatic 10 9 10\nshow 10\nshow 9\nrecover 10 10\nshow 10\nappend 1 12\nrecover 5 12\nshow 12\nsetlen 15 8\nshow 8\nshow 15\ntake 6 0\nshow 0\nadvance 4 0\nshow 4\ngather 3 5 10 14 4 13\nshow 3\nput 7 -\nput 11 cf\ngathermut 0 6 11\nshow 6\nshow 6\nadvance 0 5\nput 7 -\nshow 7\nshow 7\nput 0 d3ece50315a45f\nstatic 2 23 26\nshow 16\nput 15 4a7b06790b3ef2\nshow 15\nzeroed 10 3 1\nshow 10\nshow 3\nput 10 -\nshow 10\nput 7 -\nput 15 a52f\nnew 11 19 1\nshow 16\nshow 11\nstatic 14 26 26\nshow 14\nshow 14\nrecover 14 14\nshow 14\ngather 4 2\nshow 2\nshow 2\nclone 1 5\nshow 5\nshow 5\ndrop 1\nshow 1\ndrop 0\nshow 0\nput 15 -\nshow 15\nstatic 0 24 24\nshow 0\nshow 16\nsetlen 10 1\nshow 1\nprepend 5 0\nshow 0\n",
-            "refused N5 BadLayout\nok\nok\nrefused N2 WrongKind\nview 6e6f70\nok\nview 6f7071727374\nok\nview -\nok\nview -\nview -\nok\npart -+6\nok\npart -+17\nrefused N5 BadLayout\nok\nview 6f7071727374\nok\nrefused N1 NoName\nok\nok\npart dd5a79+3\nok\nok\nrefused N2 WrongKind\nrefused N2 WrongKind\nrefused N2 WrongKind\nrefused N2 WrongKind\nbytes 6f70717273\nview 74\nview 22f9bc3829513be486\nok\nok\nok\nview 6a\nrefused N2 WrongKind\nrefused N7 Declined\nview 6a\nok\nrefused N7 Declined\nrefused N2 WrongKind\nok\nrefused N2 WrongKind\npart e585c393df1ea45e+9\nbytes -\nrefused N2 WrongKind\nok\nview -\nok\ntext 22f9bc3829513be486 6a cf29eaf62223b71f\nok\nok\nok\nrefused N2 WrongKind\nrefused N2 WrongKind\nok\nok\npart 0000000000+0\npart 0000000000+0\nok\nok\nrefused N1 NoName\nok\npart e585c393df1ea45e4a7b06790b3ef2+2\nok\npart 000000+0\ntext 22f9bc3829513be486 6a cf29eaf62223b71f\nok\npart 000000+0\nok\nok\nok\nrefused N1 NoName\npart -+19\nok\nview -\nview -\nok\npart -+0\nok\nrefused N2 WrongKind\nrefused N2 WrongKind\nok\ntext 6f7071727374 6e6f70 74\ntext 6f7071727374 6e6f70 74\nok\nrefused N2 WrongKind\nok\nrefused N2 WrongKind\nok\npart e585c393df1ea45e4a7b06790b3ef2a52f+0\nok\nview -\nrefused N1 NoName\nok\nrefused N2 WrongKind\nok\nrefused N2 WrongKind\n",
-        ),
-        (
-            "bytes 11 45c544\nshow 11\nsplit 11 13 0\nshow 11\nshow 13\nnew 8 15 64\nshow 15\nput 8 dfc9\nshow 8\nshow 8\nbuild 10 3 p11 i93 p13 i- ieb\nshow 10\nnew 7 11 3\nshow 11\nput 8 e57a5a4e78ee5967\nfill 8 162 3\nnew 12 3 3\nshow 12\nshow 3\nstatic 7 3 22\nshow 7\nshow 3\nnew 5 0 2\nshow 5\nshow 0\nput 5 -\nshow 5\nshow 5\nstatic 0 7 11\nbytes 13 -\nshow 13\nshow 13\nfill 8 134 2\nshow 8\nshow 16\nnew 4 4 1\nnew 15 0 1\nfill 5 90 0\nshow 16\nput 15 -\nshow 15\nshow 15\nnew 6 2 1\nshow 6\nshow 6\ngathermut 9 5 4 15\nshow 9\ndecode 13 12 0 0\nshow 13\nput 8 -\nshow 8\nput 6 cc97\nshow 6\nshow 6\nput 9 aa1b0a\nshow 9\nshow 9\nput 8 -\nshow 8\nput 9 09\nshow 9\nput 6 -\nshow 6\nnew 5 13 0\nshow 13\nadvance 9 1\nshow 9\nshow 9\ntake 7 2\nbytes 15 53\nshow 15\nshow 15\ntake 7 14\nshow 14\nput 9 -\nshow 9\nshow 9\nstatic 2 24 25\nshow 2\nshow 2\nadvance 7 2\nshow 2\nshow 2\ndrop 15\nnew 14 9 1\nshow 9\nclone 13 5\nshow 5\nshow 13\nrecover 0 0\nshow 0\nencode 13 12\nshow 13\nshow 12\nappend 12 13\nshow 12\nshow 13\nfreeze 14 14\nshow 14\ngathermut 15\n",
-            "ok\nview 45c544\nok\nview 45c544\nview -\nok\nrefused N2 WrongKind\nok\npart dfc9+13\npart dfc9+13\nok\ntext 45c544 93eb\nrefused N5 BadLayout\nrefused N2 WrongKind\nok\nok\nrefused N5 BadLayout\nrefused N2 WrongKind\nrefused N2 WrongKind\nok\nview 6465666768696a6b6c6d6e6f70717273747576\nrefused N2 WrongKind\nok\npart -+0\nrefused N2 WrongKind\nok\npart -+0\npart -+0\nok\nok\nview -\nview -\nok\npart dfc9e57a5a4e78ee5967a2a2a28686+0\nrefused N1 NoName\nok\nok\nok\nrefused N1 NoName\nok\npart -+0\npart -+0\nok\npart -+2\npart -+2\nok\nparts -+4\nrefused N8 C1 EndOfBuffer\nview -\nok\npart dfc9e57a5a4e78ee5967a2a2a28686+0\nok\npart cc97+0\npart cc97+0\nok\nparts aa1b0a+1\nparts aa1b0a+1\nok\npart dfc9e57a5a4e78ee5967a2a2a28686+0\nok\nparts aa1b0a09+0\nok\npart cc97+0\nrefused N5 BadLayout\nview -\nok\nparts 1b0a09+0\nparts 1b0a09+0\nbytes 6465\nok\nview 53\nview 53\nbytes 666768696a6b6c6d6e6f70717273\nrefused N2 WrongKind\nok\nparts 1b0a09+0\nparts 1b0a09+0\nok\nview 79\nview 79\nok\nview 79\nview 79\nok\nok\nparts 1b0a09+0\nok\nview -\nview -\nrefused N7 Declined\nview 68696a6b\nok\nview -\ntext 00\nok\ntext 00\nrefused N2 WrongKind\nok\nview -\nok\n",
-        ),
-        (
-            "new 0 6 1\nstatic 5 22 22\nput 0 14bd\nshow 0\nshow 0\nput 0 c471\nshow 0\nshow 0\nput 0 1465\nput 0 -\nshow 0\nfill 0 60 1\nshow 16\nshow 16\ndrop 0\nshow 0\nnew 4 16 1\nshow 16\nshow 4\nput 4 0a\nshow 4\nnew 11 21 1\nshow 16\nrecover 5 5\nbytes 14 92a7a0\nshow 14\nshow 14\ngathermut 3 4 5 11\nshow 3\nnew 2 1 8\nshow 2\nfill 3 31 18\nbytes 1 c79eb51ce38573a6e7\nshow 1\nshow 1\nput 2 17\nshow 16\ngathermut 4 2\nshow 2\nnew 5 21 2\nshow 16\nzeroed 0 5 1\nclear 5\nshow 5\nbytes 11 828b77ce\nshow 11\nshow 11\nnew 10 23 1\nstatic 2 4 16\nshow 4\nshow 4\nnew 13 1 2\ngathermut 6\nshow 6\nshow 6\nsplit 1 7 0\nshow 7\nshow 1\nadvance 13 0\nshow 0\nshow 13\ndecode 2 15 0 1024\nshow 15\nfreeze 10 8\nshow 10\nshow 10\nput 5 14f1f83b6d98e14eec094400dc8cd1ca7df22cc3\nshow 5\nstatic 15 25 25\nbytes 10 2b92\ndrop 10\ntake 1 9\nstatic 12 1 15\ndrop 15\nshow 15\nshow 15\ngathermut 9 5 13 0\nshow 9\nshow 5\ndrop 4\nput 3 e1b063466eb63831119d009bea\nadvance 3 7\ngather 5 1 8 7 2 11 14 12\nshow 5\nshow 1\nput 6 -\nshow 6\nshow 6\nput 9 -\nbytes 14 089efb88\nshow 14\nshow 14\nnew 8 17 1\nshow 16\nzeroed 7 2 1\nput 6 -\nshow 6\nshow 6\nnew 4 7 8\nshow 4\n",
-            "ok\nok\nok\npart 14bd+4\npart 14bd+4\nok\npart 14bdc471+2\npart 14bdc471+2\nok\nok\npart 14bdc4711465+0\nrefused N4 OutOfRange\nrefused N1 NoName\nrefused N1 NoName\nok\nrefused N2 WrongKind\nok\nrefused N1 NoName\npart -+16\nok\npart 0a+15\nok\nrefused N1 NoName\nok\nok\nview 92a7a0\nview 92a7a0\nok\nparts 0a+15 -+21\nok\npart -+1\nok\nok\nview c79eb51ce38573a6e7\nview c79eb51ce38573a6e7\nok\nrefused N1 NoName\nok\nrefused N2 WrongKind\nok\nrefused N1 NoName\nok\nok\npart -+21\nok\nview 828b77ce\nview 828b77ce\nok\nok\nparts 17+0\nparts 17+0\nok\nok\nparts -+0\nparts -+0\nok\nview -\nview c79eb51ce38573a6e7\nok\npart 0000000000+0\npart -+1\nrefused N8 C1 EndOfBuffer\nrefused N2 WrongKind\nok\nrefused N2 WrongKind\nrefused N2 WrongKind\nok\npart 14f1f83b6d98e14eec094400dc8cd1ca7df22cc3+1\nok\nok\nok\nbytes c79eb51ce38573a6e7\nok\nok\nrefused N2 WrongKind\nrefused N2 WrongKind\nok\nparts 14f1f83b6d98e14eec094400dc8cd1ca7df22cc3+1 -+1 0000000000+0\nrefused N2 WrongKind\nok\nok\nok\nok\ntext 65666768696a6b6c6d6e6f70 828b77ce 92a7a0 62636465666768696a6b6c6d6e6f\nrefused N2 WrongKind\nok\nparts -+0\nparts -+0\nok\nok\nview 089efb88\nview 089efb88\nok\nrefused N1 NoName\nok\nok\nparts -+0\nparts -+0\nok\npart -+7\n",
-        ),
-        (
-            "gathermut 12\nput 12 -\nbytes 11 -\nnew 6 14 2\nshow 6\nadvance 11 0\nput 6 65\nput 6 c62fd6362ff6edc60d6889\nstatic 5 0 9\nshow 0\nput 6 89f5\nput 12 -\nshow 12\nshow 12\nsplit 5 10 7\nshow 5\nsplit 5 9 1\nbytes 0 d85600dbb2ace7fae9\nsplit 10 4 0\nstatic 8 26 26\nshow 16\nshow 16\nencode 0 13\noverwrite 6 b05cade3b8837590edcf5dc0f72aee\ndrop 11\nshow 11\nshow 11\nput 16 dc1bfe\nshow 16\nfreeze 6 2\nshow 6\nshow 2\nrecover 8 7\nshow 8\nfreeze 12 12\nshow 12\nshow 12\nput 7 -\nshow 7\nshow 7\nprepend 13 5\nstatic 15 15 22\nshow 15\nshow 15\nbuild 5 3 i- p0 i822b\nshow 5\ngathermut 3 7\nshow 7\nshow 7\ncoalesce 12 1\ndecode 15 7 0 1024\nshow 7\nshow 7\ngathermut 11\nshow 11\ntake 13 11\nshow 13\nslice 4 0 e0 e0\nshow 4\nbytes 8 c1b9c0\nslice 9 0 e0 i0\nshow 9\nshow 9\ndrop 10\nshow 10\nrecover 1 14\nshow 1\nshow 1\nfreeze 3 3\nput 14 -\nshow 14\nadvance 14 0\nstatic 6 11 23\nshow 6\nshow 6\nzeroed 12 5 1\nsplit 11 10 0\nshow 11\ndecode 0 10 0 0\nshow 10\nshow 10\nadvance 0 0\nshow 0\nshow 0\nprepend 13 2\nshow 13\nnew 10 4 3\nnew 7 0 8\nprepend 13 6\nshow 13\ntake 11 0\nshow 11\nslice 9 1 u e0\nbytes 10 fee269ca\nshow 10\nadvance 11 0\nshow 11\nnew 2 23 1\nshow 16\nshow 2\n",
-            "ok\nok\nok\nok\npart -+14\nok\nok\nok\nok\nrefused N2 WrongKind\nok\nok\nparts -+0\nparts -+0\nok\nview 6869\nok\nok\nok\nok\nrefused N1 NoName\nrefused N1 NoName\nok\nrefused N4 OutOfRange\nok\nrefused N2 WrongKind\nrefused N2 WrongKind\nrefused N1 NoName\nrefused N1 NoName\nok\nrefused N2 WrongKind\nview 65c62fd6362ff6edc60d688989f5\nok\nrefused N2 WrongKind\nok\ntext\ntext\nok\npart -+0\npart -+0\nok\nok\nview 70717273747576\nview 70717273747576\nok\ntext d85600dbb2ace7fae9 822b\nok\nrefused N2 WrongKind\nrefused N2 WrongKind\nok\nrefused N8 C1 EndOfBuffer\nrefused N2 WrongKind\nrefused N2 WrongKind\nok\nparts -+0\nbytes 6909d85600dbb2ace7fae9\ntext\nrefused N4 OutOfRange\nview -\nok\nok\nview 68\nview 68\nok\nrefused N2 WrongKind\nok\nrefused N2 WrongKind\nrefused N2 WrongKind\nok\nok\npart -+0\nok\nok\nview 6c6d6e6f7071727374757677\nview 6c6d6e6f7071727374757677\nok\nrefused N2 WrongKind\nparts -+0\nrefused N8 C1 EndOfBuffer\nrefused N2 WrongKind\nrefused N2 WrongKind\nok\nview -\nview -\nok\ntext 65c62fd6362ff6edc60d688989f5\nrefused N5 BadLayout\nok\nok\ntext 6c6d6e6f7071727374757677 65c62fd6362ff6edc60d688989f5\nbytes -\nparts -+0\nok\nok\nview fee269ca\nok\nparts -+0\nok\nrefused N1 NoName\npart -+23\n",
-        ),
-        (
-            "new 6 3 8\ngathermut 7\nshow 7\nzeroed 13 1 1\nstatic 3 5 16\nshow 5\nshow 3\nzeroed 11 5 1\nshow 11\nshow 11\ntruncate 6 0\nput 7 -\nshow 7\nput 6 -\nshow 6\nshow 6\nput 13 -\nshow 13\nadvance 3 11\nshow 3\nshow 3\nrecover 3 12\nshow 3\nshow 3\nput 13 -\nshow 13\nput 11 -\nput 7 -\nstatic 9 15 26\nnew 1 16 8\nput 1 7f22f68f02dcc5ce7f0511\nshow 1\nshow 1\nbytes 0 -\nput 7 -\nshow 7\nnew 10 18 3\nshow 16\nnew 8 5 1\nshow 8\ntake 7 0\nshow 7\nshow 0\ndrop 11\nstatic 10 6 24\ndrop 1\nshow 1\nput 7 -\nshow 7\nshow 7\nstatic 1 16 19\nshow 1\nput 13 -\ndecode 9 5 0 1024\nshow 5\nadvance 7 0\ntake 7 0\nput 13 -\nshow 13\nencode 1 5\nshow 1\nput 6 8a86\nshow 6\nshow 6\nbytes 3 d5efdc\nshow 3\ndecode 1 11 0 18446744073709551615\ntake 13 1\nshow 1\ngathermut 4 13 8 6 12\nshow 4\nshow 13\nnew 6 21 3\nshow 6\nput 7 -\nshow 7\nshow 7\nfill 4 117 2\nshow 16\nshow 16\nstatic 6 23 25\nnew 15 8 3\nshow 8\nshow 8\nsplit 6 2 2\nshow 2\nadvance 4 4\nshow 4\nshow 4\nencode 9 12\nshow 12\nappend 5 2\nshow 2\nshow 5\nsplit 6 2 0\ndrop 4\ngather 13 0 1 9 3 2 3 10\nshow 13\nshow 13\nput 7 -\n",
-            "ok\nok\nparts -+0\nok\nok\nrefused N2 WrongKind\nview 666768696a6b6c6d6e6f70\nok\npart 0000000000+0\npart 0000000000+0\nok\nok\nparts -+0\nok\npart -+3\npart -+3\nok\npart 00+0\nok\nview -\nview -\nok\nrefused N2 WrongKind\nrefused N2 WrongKind\nok\npart 00+0\nok\nok\nok\nok\nok\npart 7f22f68f02dcc5ce7f0511+5\npart 7f22f68f02dcc5ce7f0511+5\nok\nok\nparts -+0\nrefused N5 BadLayout\nrefused N1 NoName\nok\npart -+5\nbytes -\nparts -+0\nview -\nok\nok\nok\nrefused N2 WrongKind\nok\nparts -+0\nparts -+0\nok\nview 717273\nok\nrefused N8 C1 EndOfBuffer\nrefused N2 WrongKind\nok\nbytes -\nok\npart 00+0\nok\nview 717273\nok\npart 8a86+1\npart 8a86+1\nok\nview d5efdc\nrefused N8 C1 EndOfBuffer\nbytes 00\nview 717273\nok\nparts -+5 8a86+1\nrefused N2 WrongKind\nrefused N5 BadLayout\nrefused N2 WrongKind\nok\nparts -+0\nparts -+0\nok\nrefused N1 NoName\nrefused N1 NoName\nok\nrefused N5 BadLayout\nrefused N2 WrongKind\nrefused N2 WrongKind\nok\nview 7879\nok\nparts -+3 -+1\nparts -+3 -+1\nok\ntext 0b 707172737475767778797a\nok\nrefused N2 WrongKind\ntext 03 717273 7879\nok\nok\nrefused N3 InUse\nrefused N2 WrongKind\nrefused N2 WrongKind\nok\n",
-        ),
-        (
-            "new 10 4 64\nnew 4 6 8\nput 4 -\nshow 4\nzeroed 0 1 1\nshow 0\nshow 1\nput 10 c3dd\nshow 10\nput 4 002654ba\nshow 4\nnew 9 8 1\nshow 8\nshow 8\nnew 13 16 8\nshow 16\nput 9 28\nshow 9\nbytes 3 d5ed285f56b661ae\nshow 3\nshow 3\nstatic 6 0 22\nshow 6\nbytes 14 -\nshow 14\nshow 14\nput 10 a6\nshow 10\nshow 10\nzeroed 15 5 1\nshow 5\nrecover 3 3\nshow 3\nshow 3\ngathermut 8 13 9 15\nshow 13\nput 10 -\nshow 10\ntake 8 1\nshow 1\nnew 13 6 64\nput 8 ffe517f8f7ede97f58faf511d4f6501d2711\nzeroed 5 0 1\nshow 0\nshow 5\nput 4 35b6\nrecover 14 9\nshow 14\nsplit 3 14 8\nshow 14\nshow 14\nput 4 -\nshow 4\nbuild 1 4 i9617 p6 p14\nput 10 26\nshow 10\nshow 10\nadvance 8 16\nshow 8\ngathermut 11 10 9 5 13 0 4\nnew 5 9 3\nput 8 6b\nstatic 1 15 23\nshow 1\nzeroed 10 0 1\nshow 0\nshow 10\nnew 6 23 1\nshow 6\nput 11 d6\nshow 11\nnew 2 11 3\nshow 2\nshow 2\nfill 11 120 0\nshow 11\nshow 11\nput 11 e301f99bfe\nshow 11\nshow 11\nzeroed 5 2 1\nput 5 -\nshow 5\nshow 5\nzeroed 13 2 1\nshow 2\nshow 13\nnew 15 4 1\nshow 4\nfill 13 255 0\ndecode 1 2 0 5\ngather 12 3\nshow 12\ntake 15 0\nshow 0\nshow 15\nbuild 9 9 i03 i6db688 i73ca i52 iee\nshow 9\nshow 9\nput 6 c4297542902e7a823e49\n",
-            "ok\nok\nok\npart -+6\nok\npart 00+0\nrefused N2 WrongKind\nok\npart c3dd+2\nok\npart 002654ba+2\nok\nrefused N2 WrongKind\nrefused N2 WrongKind\nok\nrefused N1 NoName\nok\npart 28+7\nok\nview d5ed285f56b661ae\nview d5ed285f56b661ae\nok\nview 6162636465666768696a6b6c6d6e6f70717273747576\nok\nview -\nview -\nok\npart c3dda6+1\npart c3dda6+1\nok\nrefused N2 WrongKind\nrefused N7 Declined\nview d5ed285f56b661ae\nview d5ed285f56b661ae\nok\nrefused N2 WrongKind\nok\npart c3dda6+1\nbytes 28\nrefused N2 WrongKind\nok\nok\nok\npart 00+0\npart -+0\nok\nok\nrefused N2 WrongKind\nok\nview d5ed285f56b661ae\nview d5ed285f56b661ae\nok\npart 002654ba35b6+0\nok\nok\npart c3dda626+0\npart c3dda626+0\nok\nparts 2711+5 0000000000+0\nok\nrefused N5 BadLayout\nok\nrefused N3 InUse\ntext 9617 6162636465666768696a6b6c6d6e6f70717273747576 d5ed285f56b661ae\nok\nrefused N2 WrongKind\npart -+0\nok\npart -+23\nok\nparts c3dda626+0 d6+5 00+0 002654ba35b6+0\nrefused N5 BadLayout\nrefused N2 WrongKind\nrefused N2 WrongKind\nok\nparts c3dda626+0 d6+5 00+0 002654ba35b6+0\nparts c3dda626+0 d6+5 00+0 002654ba35b6+0\nok\nparts c3dda626+0 d6e301f99bfe+0 00+0 002654ba35b6+0\nparts c3dda626+0 d6e301f99bfe+0 00+0 002654ba35b6+0\nok\nok\npart 0000+0\npart 0000+0\nok\nrefused N2 WrongKind\npart 0000+0\nok\nrefused N2 WrongKind\nok\nrefused N8 C3 InvalidLength 2966\nok\ntext\nbytes -\nrefused N2 WrongKind\npart -+4\nok\ntext 036db68873ca52ee\ntext 036db68873ca52ee\nok\n",
-        ),
-        (
-            "static 10 3 19\nzeroed 14 1 1\nstatic 12 18 18\nshow 12\nshow 12\nnew 13 19 3\nshow 16\nput 14 -\nput 14 -\nnew 13 8 8\nput 13 3558cfbf\nshow 13\nshow 13\ngather 3 12 10\nshow 12\nzeroed 8 5 1\nshow 5\nfill 14 98 0\nshow 16\nzeroed 15 4 1\nput 15 -\nput 15 -\ndecode 3 2 0 5\ngathermut 10\nshow 10\ngathermut 11 14 8\nshow 11\nput 10 -\nshow 10\nshow 10\nnew 6 19 0\nnew 2 7 3\nshow 2\nshow 7\nnew 2 5 0\nshow 2\nshow 5\ngathermut 0 13 15\nshow 0\ncoalesce 3 3\nbytes 6 6fc329999800e96f\nclone 3 1\nput 10 -\nshow 10\nput 11 -\nnew 9 19 1\nshow 16\nnew 8 11 0\nshow 8\nstatic 14 19 26\nshow 14\nadvance 3 4\nencode 1 4\nshow 4\nshow 4\nappend 4 6\nshow 6\nshow 6\ngathermut 6 9\ndrop 11\nput 6 102b1e0f88e26cbaea5d\nshow 6\nfill 0 208 3\nshow 16\nshow 0\nput 10 -\nput 0 4e\nshow 0\nshow 0\nfill 0 171 1\nshow 16\nshow 16\nput 10 -\nshow 10\ncoalesce 0 13\nshow 0\nshow 13\nput 10 -\nnew 9 16 8\nnew 2 10 3\nshow 2\nshow 10\ndrop 4\nzeroed 7 8 1\nput 13 -\nstatic 0 14 18\nshow 14\nsplit 0 11 5\nshow 11\nshow 11\ndecode 0 5 0 0\nshow 0\nshow 0\nnew 2 9 1\nshow 9\nshow 2\nnew 6 20 8\nput 13 47\nshow 16\nclear 13\n",
-            "ok\nok\nok\nview -\nview -\nrefused N5 BadLayout\nrefused N1 NoName\nok\nok\nok\nok\npart 3558cfbf+4\npart 3558cfbf+4\nok\nrefused N2 WrongKind\nok\nrefused N2 WrongKind\nok\nrefused N1 NoName\nok\nok\nok\nrefused N8 C3 InvalidLength 100\nok\nparts -+0\nok\nparts 00+0 0000000000+0\nok\nparts -+0\nparts -+0\nrefused N5 BadLayout\nrefused N5 BadLayout\nrefused N2 WrongKind\nrefused N2 WrongKind\nrefused N5 BadLayout\nrefused N2 WrongKind\nrefused N2 WrongKind\nok\nparts 3558cfbf+4 00000000+0\nok\nok\nok\nok\nparts -+0\nok\nok\nrefused N1 NoName\nrefused N5 BadLayout\nrefused N2 WrongKind\nok\nview 7475767778797a\nok\nok\ntext 10 6465666768696a6b6c6d6e6f70717273\ntext 10 6465666768696a6b6c6d6e6f70717273\nok\nrefused N2 WrongKind\nrefused N2 WrongKind\nok\nok\nok\nparts 102b1e0f88e26cbaea5d+9\nok\nrefused N1 NoName\nparts 3558cfbfd0d0d0+1 00000000+0\nok\nok\nparts 3558cfbfd0d0d04e+0 00000000+0\nparts 3558cfbfd0d0d04e+0 00000000+0\nrefused N4 OutOfRange\nrefused N1 NoName\nrefused N1 NoName\nok\nparts -+0\nok\nrefused N2 WrongKind\npart 3558cfbfd0d0d04e00000000+0\nok\nok\nrefused N5 BadLayout\nrefused N2 WrongKind\nparts -+0\nok\nok\nok\nok\nview 7475767778797a\nrefused N4 OutOfRange\nrefused N2 WrongKind\nrefused N2 WrongKind\nrefused N8 C3 InvalidLength 111\nview 6f707172\nview 6f707172\nok\npart -+16\npart -+9\nrefused N3 InUse\nrefused N4 OutOfRange\nrefused N1 NoName\nok\n",
-        ),
-        (
-            "zeroed 0 2 1\nshow 2\nzeroed 15 7 1\nshow 15\nshow 15\nput 0 -\nshow 0\nshow 0\nput 0 -\nshow 0\nnew 1 23 64\nfill 2 236 0\nshow 2\nput 15 -\nput 1 7b38746e9db27d\nshow 1\nshow 1\nnew 4 9 0\nshow 4\nshow 9\nput 1 041f179295fa32fef2d8203e\nfill 1 52 4\nbytes 14 bb9e62d1f313\nfill 1 181 1\nstatic 4 15 20\nput 1 -\nshow 1\nshow 1\nnew 5 16 64\nshow 16\nshow 5\nstatic 10 5 6\nshow 5\nshow 5\nput 15 -\nshow 15\nshow 15\nput 5 26dfd92ac57e2bcbbbc4\nput 1 -\nbytes 8 e55004\ngather 11 8 10 4 14\nshow 8\nshow 11\nnew 3 2 0\nshow 3\ngathermut 12 5 15 1 0\nput 12 86a18aab\nshow 12\nshow 12\nsetlen 12 42\nshow 16\nshow 12\nbytes 14 590f19b793e5c2d96c\nnew 2 14 3\nshow 2\nshow 14\nbytes 0 f6ca263008e495a8\nshow 0\nshow 0\nfill 12 165 0\nshow 12\nshow 12\nsplit 0 4 8\nshow 0\nnew 2 20 64\nshow 2\nshow 2\nbytes 8 -\nshow 8\nput 2 22b9cb51c6908c4f8051d0607762\nfill 2 74 1\nshow 2\nclone 4 13\nshow 4\nshow 13\nput 12 b37b\nshow 12\nfill 12 55 4\nshow 12\nshow 16\nbytes 7 353d57\nshow 7\nclone 7 15\ncoalesce 12 9\nrecover 4 4\nnew 1 6 64\nshow 1\nshow 6\nput 2 76b2ce8b\nshow 2\nput 1 a43c9811\nshow 1\nshow 1\nbuild 3 3 p8 p4 p0\nshow 3\ndecode 7 10 0 0\nshow 10\nencode 14 10\ncoalesce 11 11\nshow 11\n",
-            "ok\nrefused N2 WrongKind\nok\npart 00000000000000+0\npart 00000000000000+0\nok\npart 0000+0\npart 0000+0\nok\npart 0000+0\nok\nrefused N2 WrongKind\nrefused N2 WrongKind\nok\nok\npart 7b38746e9db27d+16\npart 7b38746e9db27d+16\nrefused N5 BadLayout\nrefused N2 WrongKind\nrefused N2 WrongKind\nok\nok\nok\nrefused N4 OutOfRange\nok\nok\npart 7b38746e9db27d041f179295fa32fef2d8203e34343434+0\npart 7b38746e9db27d041f179295fa32fef2d8203e34343434+0\nok\nrefused N1 NoName\npart -+16\nok\npart -+16\npart -+16\nok\npart 00000000000000+0\npart 00000000000000+0\nok\nok\nok\nok\nrefused N2 WrongKind\ntext e55004 66 7071727374 bb9e62d1f313\nrefused N5 BadLayout\nrefused N2 WrongKind\nok\nok\nparts 26dfd92ac57e2bcbbbc486a18aab+2 00000000000000+0 7b38746e9db27d041f179295fa32fef2d8203e34343434+0 0000+0\nparts 26dfd92ac57e2bcbbbc486a18aab+2 00000000000000+0 7b38746e9db27d041f179295fa32fef2d8203e34343434+0 0000+0\nok\nrefused N1 NoName\nparts 26dfd92ac57e2bcbbbc486a18aab0000+0 00000000000000+0 7b38746e9db27d041f179295fa32fef2d8203e+4 -+2\nok\nrefused N5 BadLayout\nrefused N2 WrongKind\nview 590f19b793e5c2d96c\nok\nview f6ca263008e495a8\nview f6ca263008e495a8\nok\nparts 26dfd92ac57e2bcbbbc486a18aab0000+0 00000000000000+0 7b38746e9db27d041f179295fa32fef2d8203e+4 -+2\nparts 26dfd92ac57e2bcbbbc486a18aab0000+0 00000000000000+0 7b38746e9db27d041f179295fa32fef2d8203e+4 -+2\nok\nview -\nok\npart -+20\npart -+20\nok\nview -\nok\nok\npart 22b9cb51c6908c4f8051d06077624a+5\nok\nview f6ca263008e495a8\nview f6ca263008e495a8\nok\nparts 26dfd92ac57e2bcbbbc486a18aab0000+0 00000000000000+0 7b38746e9db27d041f179295fa32fef2d8203eb37b+2 -+2\nok\nparts 26dfd92ac57e2bcbbbc486a18aab0000+0 00000000000000+0 7b38746e9db27d041f179295fa32fef2d8203eb37b3737+0 3737+0\nrefused N1 NoName\nok\nview 353d57\nok\nok\nrefused N7 Declined\nok\npart -+6\nrefused N2 WrongKind\nok\npart 22b9cb51c6908c4f8051d06077624a76b2ce8b+1\nok\npart a43c9811+2\npart a43c9811+2\nok\ntext f6ca263008e495a8\nrefused N8 C3 InvalidLength 53\nrefused N2 WrongKind\nok\nok\nview e55004667071727374bb9e62d1f313\n",
-        ),
-        (
-            "new 3 7 3\nshow 7\nshow 3\nstatic 10 10 15\nadvance 10 6\nshow 6\nstatic 3 8 16\nbytes 4 5d7f\nshow 4\nshow 4\nnew 7 1 8\nshow 1\nshow 7\nfreeze 7 7\nshow 7\nshow 7\nstatic 15 21 22\nshow 15\nbytes 0 c157b8343cf68a63\nshow 0\nshow 0\nstatic 2 13 14\nshow 13\nshow 2\nnew 8 15 8\nshow 8\nstatic 11 22 22\ndrop 10\nput 8 ffe709a30886f0ea7e43\nshow 8\nnew 6 21 1\ntruncate 6 1\nshow 1\nshow 6\nput 6 631c64ec25f77a58ec5964be\nencode 6 10\ndrop 3\nnew 14 12 0\nshow 14\nnew 3 2 64\nput 6 c8e6add022c8d8ddc9\nrecover 7 14\nshow 14\ndrop 3\nbuild 3 2 p15 p0 p4\nshow 2\nshow 2\nstatic 1 22 24\nnew 10 6 1\nshow 6\nsetlen 10 1\nshow 10\nshow 10\nstatic 7 25 26\nshow 16\nfill 6 194 1\nshow 6\nshow 6\nsplit 3 9 11\nshow 9\nshow 9\nslice 7 12 e1 i0\nshow 7\ndecode 11 12 0 1024\ngathermut 15 8 10 14 6\nshow 15\nshow 15\nput 15 -\nshow 15\nshow 15\ndrop 2\nsplit 7 10 2\nshow 10\nnew 4 11 2\nslice 7 2 e1 i1\nshow 7\nsetlen 15 15\nshow 15\nput 15 077ff74c4527f5005ed126c7af767c\nshow 15\nput 4 94\nnew 8 0 1\nnew 13 1 64\nput 8 -\nfreeze 8 12\nshow 12\nshow 12\nencode 11 8\nslice 11 10 i1 e0\nput 15 -\ndrop 4\nshow 4\ngather 6\nshow 6\ndrop 3\ngather 2 11 7 1 12\nshow 11\ndrop 9\ngathermut 5 13\nput 5 09\n",
-            "refused N5 BadLayout\nrefused N2 WrongKind\nrefused N2 WrongKind\nok\nrefused N4 OutOfRange\nrefused N2 WrongKind\nok\nok\nview 5d7f\nview 5d7f\nok\nrefused N2 WrongKind\npart -+1\nok\nview -\nview -\nok\nview 76\nok\nview c157b8343cf68a63\nview c157b8343cf68a63\nok\nrefused N2 WrongKind\nview 6e\nok\npart -+15\nok\nok\nok\npart ffe709a30886f0ea7e43+5\nok\nok\nrefused N2 WrongKind\npart -+21\nok\nrefused N2 WrongKind\nok\nrefused N5 BadLayout\nrefused N2 WrongKind\nok\nok\nok\npart -+0\nok\nok\nview 6e\nview 6e\nok\nok\npart 631c64ec25f77a58ec5964bec8e6add022c8d8ddc9+0\nok\npart 00+5\npart 00+5\nok\nrefused N1 NoName\nrefused N4 OutOfRange\npart 631c64ec25f77a58ec5964bec8e6add022c8d8ddc9+0\npart 631c64ec25f77a58ec5964bec8e6add022c8d8ddc9+0\nok\ntext 76 c157b8343cf68a63 5d7f\ntext 76 c157b8343cf68a63 5d7f\nrefused N4 OutOfRange\nview 7a\nrefused N8 C1 EndOfBuffer\nok\nparts ffe709a30886f0ea7e43+5 00+5 631c64ec25f77a58ec5964bec8e6add022c8d8ddc9+0\nparts ffe709a30886f0ea7e43+5 00+5 631c64ec25f77a58ec5964bec8e6add022c8d8ddc9+0\nok\nparts ffe709a30886f0ea7e43+5 00+5 631c64ec25f77a58ec5964bec8e6add022c8d8ddc9+0\nparts ffe709a30886f0ea7e43+5 00+5 631c64ec25f77a58ec5964bec8e6add022c8d8ddc9+0\nok\nrefused N4 OutOfRange\nrefused N2 WrongKind\nok\nrefused N4 OutOfRange\nview 7a\nok\nparts ffe709a30886f0ea7e430000000000+0 -+6 -+21\nok\nparts ffe709a30886f0ea7e430000000000+0 077ff74c4527+0 f5005ed126c7af767c+12\nok\nok\nok\nok\nok\nview -\nview -\nok\nrefused N4 OutOfRange\nok\nok\nrefused N2 WrongKind\nok\ntext\nok\nok\nrefused N2 WrongKind\nok\nok\nok\n",
-        ),
-        (
-            "new 4 2 1\nzeroed 15 3 1\nbytes 6 bb656d\nshow 6\nshow 6\nput 15 -\nput 15 -\nshow 15\nstatic 8 10 18\nshow 10\nput 4 -\nnew 2 4 8\nstatic 5 0 16\nshow 5\nput 4 5e\nshow 4\nstatic 14 18 22\nshow 16\nshow 14\nstatic 13 10 23\nshow 13\nshow 10\nput 2 -\nput 4 d6\nshow 4\nshow 4\nput 15 -\nput 4 -\nshow 4\nstatic 12 13 15\ngather 10 5 13 6 14\nshow 5\nshow 5\nput 2 -\nshow 2\nshow 2\nput 4 -\nshow 4\nshow 4\nput 15 -\nput 4 -\nshow 4\nshow 4\nadvance 10 12\nshow 12\nput 15 -\nshow 15\nshow 15\nstatic 11 1 23\nadvance 2 0\nshow 2\nshow 2\nput 4 -\nshow 4\nshow 4\nput 4 -\nshow 4\nshow 4\nnew 9 16 1\nshow 16\nshow 16\nput 15 -\nshow 15\nbytes 13 70fe\nshow 13\nclone 12 1\nstatic 0 3 6\nshow 3\nshow 3\nzeroed 14 4 1\nshow 4\nput 9 9cf6\ngather 3 11 0 12 1 13 8\nshow 3\nput 14 -\nshow 14\nshow 14\nfreeze 4 11\nshow 11\nshow 11\nstatic 1 14 16\nnew 8 6 2\nshow 8\nshow 8\nsetlen 8 7\nput 9 cda21536080cf4ebe6554a\nprepend 3 1\nshow 3\nshow 1\nbytes 1 -\nshow 1\nshow 1\nput 15 -\nshow 15\nshow 15\noverwrite 14 9e9df226\nshow 14\nadvance 9 13\ntake 3 7\ngathermut 4 15 9 2 8 14\n",
-            "ok\nok\nok\nview bb656d\nview bb656d\nok\nok\npart 000000+0\nok\nrefused N2 WrongKind\nok\nok\nok\nview 6162636465666768696a6b6c6d6e6f70\nok\npart 5e+1\nok\nrefused N1 NoName\nview 73747576\nok\nview 6b6c6d6e6f7071727374757677\nrefused N2 WrongKind\nok\nok\npart 5ed6+0\npart 5ed6+0\nok\nok\npart 5ed6+0\nok\nok\nrefused N2 WrongKind\nrefused N2 WrongKind\nok\npart -+4\npart -+4\nok\npart 5ed6+0\npart 5ed6+0\nok\nok\npart 5ed6+0\npart 5ed6+0\nok\nview 6e6f\nok\npart 000000+0\npart 000000+0\nok\nok\npart -+4\npart -+4\nok\npart 5ed6+0\npart 5ed6+0\nok\npart 5ed6+0\npart 5ed6+0\nok\nrefused N1 NoName\nrefused N1 NoName\nok\npart 000000+0\nok\nview 70fe\nok\nok\nrefused N2 WrongKind\nrefused N2 WrongKind\nok\npart 5ed6+0\nok\nok\ntext 62636465666768696a6b6c6d6e6f7071727374757677 646566 6e6f 6e6f 70fe 6b6c6d6e6f707172\nok\npart 00000000+0\npart 00000000+0\nok\nview 5ed6\nview 5ed6\nok\nok\npart -+6\npart -+6\nrefused N4 OutOfRange\nok\nok\ntext 6f70 62636465666768696a6b6c6d6e6f7071727374757677 646566 6e6f 6e6f 70fe 6b6c6d6e6f707172\nrefused N2 WrongKind\nok\nview -\nview -\nok\npart 000000+0\npart 000000+0\nok\npart 9e9df226+0\nok\nbytes 6f706263646566\nok\n",
-        ),
-        (
-            "new 14 18 1\nshow 14\nshow 16\nput 14 039de46949dec05c4bf1fca3f813c2e93609\nshow 14\nput 14 -\nshow 14\nnew 8 10 1\nshow 10\nshow 8\nnew 4 5 1\nshow 5\nshow 5\nstatic 13 19 26\nstatic 9 7 21\nshow 7\nshow 9\nnew 6 15 1\nshow 15\nshow 6\nsetlen 4 0\nshow 4\nstatic 1 8 24\nshow 1\nstatic 15 25 25\nzeroed 2 5 1\nsetlen 8 7\nstatic 11 9 21\nshow 9\nshow 11\nslice 1 7 u e16\nshow 7\nshow 7\nadvance 9 11\nshow 9\nshow 11\ngathermut 5 8 4 14 2 6\nput 5 f0cc9c330a0b1b\nshow 5\nput 5 a134b5\nshow 5\nshow 5\nnew 12 20 8\nshow 16\nshow 12\nput 5 3bc4e1\nshow 5\nshow 5\nzeroed 10 0 1\nput 5 d9\nshow 5\nbytes 0 02302cfd008274\nshow 0\nbytes 3 919180\nshow 16\ndrop 11\nshow 11\nnew 8 12 1\nshow 8\nrecover 3 3\nshow 3\ntake 5 26\nshow 5\ndecode 3 4 0 18446744073709551615\nshow 3\nnew 6 7 64\ndrop 1\nshow 1\nshow 1\nfill 6 211 0\nshow 16\nstatic 14 13 26\nshow 13\noverwrite 6 -\nshow 6\nput 6 cff4b49eba018e\ndecode 14 1 0 1024\nshow 1\nshow 14\ntake 10 0\nshow 0\nfreeze 8 1\nshow 1\ndrop 14\nsplit 13 2 7\nshow 2\nshow 2\ndrop 13\nshow 13\nencode 0 4\nshow 0\nadvance 5 1\ntake 6 7\nshow 6\nsplit 4 13 2\nshow 4\nshow 13\nbuild 11 6 i- ic8 p2 i632006\nshow 6\ndecode 11 14 0 18446744073709551615\n",
-            "ok\npart -+18\nrefused N1 NoName\nok\npart 039de46949dec05c4bf1fca3f813c2e93609+0\nok\npart 039de46949dec05c4bf1fca3f813c2e93609+0\nok\nrefused N2 WrongKind\npart -+10\nok\nrefused N2 WrongKind\nrefused N2 WrongKind\nok\nok\nrefused N2 WrongKind\nview 68696a6b6c6d6e6f707172737475\nok\nrefused N2 WrongKind\npart -+15\nok\npart -+5\nok\nview 696a6b6c6d6e6f707172737475767778\nok\nok\nok\nok\nview 68696a6b6c6d6e6f707172737475\nview 6a6b6c6d6e6f707172737475\nok\nview 696a6b6c6d6e6f707172737475767778\nview 696a6b6c6d6e6f707172737475767778\nok\nview 737475\nview 6a6b6c6d6e6f707172737475\nok\nok\nparts 00000000000000f0cc9c+0 330a0b1b+1 039de46949dec05c4bf1fca3f813c2e93609+0 0000000000+0 -+15\nok\nparts 00000000000000f0cc9c+0 330a0b1ba1+0 039de46949dec05c4bf1fca3f813c2e93609+0 0000000000+0 34b5+13\nparts 00000000000000f0cc9c+0 330a0b1ba1+0 039de46949dec05c4bf1fca3f813c2e93609+0 0000000000+0 34b5+13\nok\nrefused N1 NoName\npart -+20\nok\nparts 00000000000000f0cc9c+0 330a0b1ba1+0 039de46949dec05c4bf1fca3f813c2e93609+0 0000000000+0 34b53bc4e1+10\nparts 00000000000000f0cc9c+0 330a0b1ba1+0 039de46949dec05c4bf1fca3f813c2e93609+0 0000000000+0 34b53bc4e1+10\nok\nok\nparts 00000000000000f0cc9c+0 330a0b1ba1+0 039de46949dec05c4bf1fca3f813c2e93609+0 0000000000+0 34b53bc4e1d9+9\nok\nview 02302cfd008274\nok\nrefused N1 NoName\nok\nrefused N2 WrongKind\nok\npart -+12\nrefused N7 Declined\nview 919180\nbytes 00000000000000f0cc9c330a0b1ba1039de46949dec05c4bf1fc\nparts a3f813c2e93609+0 0000000000+0 34b53bc4e1d9+9\nrefused N8 C1 EndOfBuffer\nview 919180\nok\nok\nrefused N2 WrongKind\nrefused N2 WrongKind\nok\nrefused N1 NoName\nok\nview 7475767778797a\nok\npart -+7\nok\nrefused N8 C1 EndOfBuffer\nrefused N2 WrongKind\nview 6e6f707172737475767778797a\nbytes -\nview 02302cfd008274\nok\nview -\nok\nok\nview 7475767778797a\nview 7475767778797a\nok\nrefused N2 WrongKind\nok\nview 02302cfd008274\nok\nbytes cff4b49eba018e\npart -+0\nok\ntext 302cfd008274\ntext 07 02\nok\npart -+0\nrefused N8 C1 EndOfBuffer\n",
-        ),
-        (
-            "bytes 8 47\nshow 16\nshow 16\nbytes 0 21779ef90c1b95610d\nshow 0\nnew 4 11 0\nshow 4\nshow 4\nnew 14 5 3\nshow 14\nshow 14\nclone 8 11\nshow 11\nshow 11\nstatic 1 3 18\nstatic 10 18 26\nshow 16\nshow 16\nzeroed 4 4 1\nshow 4\nput 4 -\nshow 4\nshow 4\nfill 4 67 1\nshow 4\nshow 16\nnew 7 19 3\nshow 7\nshow 7\ntruncate 4 1\nshow 1\nshow 1\nfill 4 160 1\nrecover 0 14\nshow 14\nshow 0\nbytes 5 d1\nnew 6 20 1\nnew 15 2 64\nshow 2\noverwrite 4 d030\nshow 4\nshow 4\ngathermut 9 15 6\nshow 9\nshow 15\nput 9 907e478e71e27c2a054c45874b20\nshow 9\nshow 9\nnew 6 20 1\nshow 16\nnew 2 20 1\nshow 2\nput 6 564a5839836a9c418eb19f\nstatic 13 7 17\nclone 13 12\nshow 12\ndrop 5\ntake 9 7\nshow 7\nput 4 -\nshow 4\nfreeze 6 3\nshow 3\nshow 6\ndrop 0\ngather 5 11 3 12 13\nzeroed 3 5 1\nshow 5\nnew 6 17 64\nshow 16\nput 3 -\nshow 3\nshow 3\nencode 10 13\nshow 10\nshow 13\nsplit 9 14 8\ndrop 6\nshow 6\ngather 11 10 8 1\nshow 10\nshow 11\nput 2 f87270c6e17081ed242a8269e201\nshow 2\nput 3 -\nshow 3\nshow 3\nstatic 15 11 11\nshow 15\nshow 15\nnew 12 17 2\nshow 16\nput 3 f6\nshow 3\ntake 15 0\nshow 15\nshow 15\nsplit 5 10 1\nshow 10\n",
-            "ok\nrefused N1 NoName\nrefused N1 NoName\nok\nview 21779ef90c1b95610d\nrefused N5 BadLayout\nrefused N2 WrongKind\nrefused N2 WrongKind\nrefused N5 BadLayout\nrefused N2 WrongKind\nrefused N2 WrongKind\nok\nview 47\nview 47\nok\nok\nrefused N1 NoName\nrefused N1 NoName\nok\npart 00000000+0\nok\npart 00000000+0\npart 00000000+0\nrefused N4 OutOfRange\npart 00000000+0\nrefused N1 NoName\nrefused N5 BadLayout\nrefused N2 WrongKind\nrefused N2 WrongKind\nok\nview 6465666768696a6b6c6d6e6f707172\nview 6465666768696a6b6c6d6e6f707172\nok\nrefused N7 Declined\nrefused N2 WrongKind\nview 21779ef90c1b95610d\nok\nok\nok\nrefused N2 WrongKind\nok\npart d030+2\npart d030+2\nok\nparts -+2 -+20\nrefused N2 WrongKind\nok\nparts 907e+0 478e71e27c2a054c45874b20+8\nparts 907e+0 478e71e27c2a054c45874b20+8\nok\nrefused N1 NoName\nok\npart -+20\nok\nok\nok\nview 68696a6b6c6d6e6f7071\nok\nbytes 907e478e71e27c\nrefused N2 WrongKind\nok\npart d030+2\nok\nview 564a5839836a9c418eb19f\nrefused N2 WrongKind\nok\nok\nok\ntext 47 564a5839836a9c418eb19f 68696a6b6c6d6e6f7071 68696a6b6c6d6e6f7071\nok\nrefused N1 NoName\nok\npart 0000000000+0\npart 0000000000+0\nok\nview 737475767778797a\ntext 08 737475767778797a\nrefused N2 WrongKind\nok\nrefused N2 WrongKind\nok\nrefused N2 WrongKind\ntext 737475767778797a 47 6465666768696a6b6c6d6e6f707172\nok\npart f87270c6e17081ed242a8269e201+6\nok\npart 0000000000+0\npart 0000000000+0\nok\nview -\nview -\nok\nrefused N1 NoName\nrefused N4 OutOfRange\npart 0000000000+0\nbytes -\nview -\nview -\nok\ntext 47\n",
-        ),
-        (
-            "new 9 3 1\nput 9 f3\nput 9 -\nshow 9\nshow 9\nnew 7 4 3\nshow 7\nzeroed 15 4 1\nnew 1 19 3\nput 15 -\nshow 15\nshow 15\nstatic 6 19 21\nshow 6\nshow 16\nstatic 5 2 12\nput 9 91ff\nshow 9\nshow 9\nput 15 -\nshow 15\nshow 15\nstatic 4 26 26\nshow 16\nnew 12 15 1\nnew 7 12 8\nshow 7\ngathermut 1 15 12 7 9\nshow 15\nshow 1\ncoalesce 1 1\nstatic 12 15 25\nshow 12\nbytes 9 445ac55f27c433fa\nshow 9\nsetlen 1 0\nshow 1\nnew 15 19 3\nshow 16\nput 1 6f3aa51012\nput 1 5687\nshow 16\nfill 1 157 0\nput 1 -\nnew 11 8 1\nput 11 6bc9249207703c57\nput 1 -\nzeroed 10 2 1\nshow 2\nshow 10\ndecode 5 0 0 5\nshow 0\nshow 5\ndrop 11\nshow 11\nshow 11\ndrop 1\nshow 1\nshow 1\nbytes 11 25\nshow 16\nshow 11\nput 10 -\nshow 10\nnew 15 5 64\nshow 15\nstatic 2 13 13\nrecover 12 12\nshow 12\nshow 12\nzeroed 7 7 1\nshow 7\ntake 11 1\nshow 1\nshow 1\nclone 4 0\nshow 4\ndrop 0\nrecover 11 14\noverwrite 10 9f48\nshow 10\nshow 10\ngathermut 1 10 14 7 15\nshow 10\nshow 1\nput 1 a95005a149\nshow 1\nput 1 -\nshow 1\nfill 1 113 1\nshow 16\nput 1 -\nput 1 -\nfill 1 121 0\nshow 16\nshow 1\nnew 15 22 0\nshow 16\nshow 15\ndecode 12 7 0 1024\n",
-            "ok\nok\nok\npart f3+2\npart f3+2\nrefused N5 BadLayout\nrefused N2 WrongKind\nok\nrefused N5 BadLayout\nok\npart 00000000+0\npart 00000000+0\nok\nview 7475\nrefused N1 NoName\nok\nok\npart f391ff+0\npart f391ff+0\nok\npart 00000000+0\npart 00000000+0\nok\nrefused N1 NoName\nok\nok\npart -+12\nok\nrefused N2 WrongKind\nparts 00000000+0 -+15 -+12 f391ff+0\nok\nok\nview 70717273747576777879\nok\nview 445ac55f27c433fa\nok\npart -+7\nrefused N5 BadLayout\nrefused N1 NoName\nok\nok\nrefused N1 NoName\nok\nok\nok\nok\nok\nok\nrefused N2 WrongKind\npart 0000+0\nrefused N8 C3 InvalidLength 99\nrefused N2 WrongKind\nview 636465666768696a6b6c\nok\nrefused N2 WrongKind\nrefused N2 WrongKind\nok\nrefused N2 WrongKind\nrefused N2 WrongKind\nok\nrefused N1 NoName\nview 25\nok\npart 0000+0\nok\npart -+5\nok\nrefused N7 Declined\nview 70717273747576777879\nview 70717273747576777879\nok\npart 00000000000000+0\nbytes 25\nrefused N2 WrongKind\nrefused N2 WrongKind\nok\nview -\nok\nok\nok\npart 9f48+0\npart 9f48+0\nok\nrefused N2 WrongKind\nparts 9f48+0 00000000000000+0 -+5\nok\nparts 9f48+0 00000000000000+0 a95005a149+0\nok\nparts 9f48+0 00000000000000+0 a95005a149+0\nrefused N4 OutOfRange\nrefused N1 NoName\nok\nok\nok\nrefused N1 NoName\nparts 9f48+0 00000000000000+0 a95005a149+0\nrefused N5 BadLayout\nrefused N1 NoName\nrefused N2 WrongKind\nrefused N8 C1 EndOfBuffer\n",
-        ),
-        (
-            "new 8 18 64\nshow 16\ndrop 8\nshow 8\nzeroed 8 8 1\nshow 8\nshow 8\nput 8 -\nnew 7 22 1\nput 8 -\nstatic 11 19 22\nshow 16\nshow 11\nzeroed 9 2 1\ndecode 11 2 0 1024\nput 8 -\nput 7 7a7e2b25d99553\nput 2 -\nshow 2\nshow 2\nstatic 4 7 13\nshow 7\nshow 7\nput 8 -\nput 7 95ae0014cc9577740991\nshow 7\nput 7 ea0fb765bd\nshow 7\nbytes 0 7202f2195ee7\nshow 0\nshow 0\nstatic 1 10 23\nshow 1\nstatic 14 1 19\nshow 1\nshow 14\nzeroed 6 2 1\nshow 2\nslice 11 10 e1 e2\nshow 10\nshow 10\ngathermut 5 7 9 6 8\nshow 7\nfill 5 159 0\nshow 16\nshow 16\nfill 5 166 1\nshow 5\nshow 5\ngather 15 0 1 4 11 14 10\nfill 5 159 0\nnew 14 3 1\nshow 3\nput 5 -\nbytes 4 -\nput 5 -\nshow 5\nshow 5\nstatic 6 1 23\nshow 6\nput 5 -\nclone 4 7\nshow 4\nshow 4\nbytes 11 0cdf78c6d21ccc4c93\nput 5 6f\nput 5 -\nshow 5\nnew 8 15 0\nshow 15\nshow 8\nput 14 3e\nfill 14 130 1\nshow 14\nshow 16\nnew 2 1 8\nput 14 2a\nsetlen 2 2\nshow 2\nshow 2\nstatic 0 14 25\nprepend 15 6\nshow 6\nput 14 bc\nshow 14\nshow 14\nnew 8 4 64\nfreeze 2 2\nencode 2 9\ncoalesce 9 10\nshow 10\nappend 15 7\nfreeze 14 14\nprepend 15 4\nshow 15\ndrop 11\nshow 11\nput 5 -\nshow 5\nclone 15 9\n",
-            "ok\nrefused N1 NoName\nok\nrefused N2 WrongKind\nok\npart 0000000000000000+0\npart 0000000000000000+0\nok\nok\nok\nok\nrefused N1 NoName\nview 747576\nok\nrefused N8 C1 EndOfBuffer\nok\nok\nrefused N2 WrongKind\nrefused N2 WrongKind\nrefused N2 WrongKind\nok\npart 7a7e2b25d99553+15\npart 7a7e2b25d99553+15\nok\nok\npart 7a7e2b25d9955395ae0014cc9577740991+5\nok\npart 7a7e2b25d9955395ae0014cc9577740991ea0fb765bd+0\nok\nview 7202f2195ee7\nview 7202f2195ee7\nok\nview 6b6c6d6e6f7071727374757677\nok\nview 6b6c6d6e6f7071727374757677\nview 62636465666768696a6b6c6d6e6f70717273\nok\nrefused N2 WrongKind\nok\nview -\nview -\nok\nrefused N2 WrongKind\nok\nrefused N1 NoName\nrefused N1 NoName\nrefused N4 OutOfRange\nparts 7a7e2b25d9955395ae0014cc9577740991ea0fb765bd+0 0000+0 0000+0 0000000000000000+0\nparts 7a7e2b25d9955395ae0014cc9577740991ea0fb765bd+0 0000+0 0000+0 0000000000000000+0\nok\nok\nok\nrefused N2 WrongKind\nok\nok\nok\nparts 7a7e2b25d9955395ae0014cc9577740991ea0fb765bd+0 0000+0 0000+0 0000000000000000+0\nparts 7a7e2b25d9955395ae0014cc9577740991ea0fb765bd+0 0000+0 0000+0 0000000000000000+0\nok\nview 62636465666768696a6b6c6d6e6f7071727374757677\nok\nok\nview -\nview -\nok\nrefused N4 OutOfRange\nok\nparts 7a7e2b25d9955395ae0014cc9577740991ea0fb765bd+0 0000+0 0000+0 0000000000000000+0\nrefused N5 BadLayout\ntext 7202f2195ee7 6b6c6d6e6f7071727374757677 68696a6b6c6d 747576 62636465666768696a6b6c6d6e6f70717273\nrefused N2 WrongKind\nok\nok\npart 3e82+1\nrefused N1 NoName\nok\nok\nrefused N4 OutOfRange\npart -+1\npart -+1\nok\nok\nrefused N2 WrongKind\nrefused N4 OutOfRange\npart 3e822a+0\npart 3e822a+0\nok\nok\nok\nok\nview 00\nok\nok\nok\ntext 62636465666768696a6b6c6d6e6f7071727374757677 7202f2195ee7 6b6c6d6e6f7071727374757677 68696a6b6c6d 747576 62636465666768696a6b6c6d6e6f70717273\nok\nrefused N2 WrongKind\nok\nparts 7a7e2b25d9955395ae0014cc9577740991ea0fb765bd+0 0000+0 0000+0 0000000000000000+0\nok\n",
-        ),
-        (
-            "static 9 25 25\nnew 2 13 3\nshow 13\nnew 14 13 1\nshow 14\nbytes 12 b9\nshow 12\nshow 12\nput 14 24\nshow 14\nbuild 1 2 i- p9\nshow 2\nnew 0 18 1\nshow 16\nshow 0\nstatic 13 9 15\nshow 9\nshow 9\nput 0 cf07159cf466ee1c959057a5a83e344bca\nshow 0\nstatic 7 1 23\nbytes 9 bc\nrecover 9 9\nshow 9\nshow 9\nadvance 0 0\nshow 0\nshow 0\nput 14 00af\nshow 14\nnew 10 17 64\ndrop 1\nshow 1\nbytes 5 083c5c375ef1e84b\nshow 5\nshow 5\nstatic 8 5 22\ngathermut 4 14 0 10\nfreeze 4 4\nshow 4\nshow 4\nbytes 0 f4a506d6b8cf4ba250\nclone 4 14\ncoalesce 4 1\nshow 4\ndrop 13\nshow 13\nshow 13\nnew 2 11 2\nshow 11\ndecode 7 6 0 1024\nnew 6 13 3\nshow 6\nshow 13\nsplit 8 11 0\nshow 11\ndrop 12\nshow 12\nshow 12\nappend 14 9\nsplit 0 15 9\nshow 0\nshow 15\ngathermut 3 2\nadvance 0 0\nshow 0\nnew 6 4 0\nshow 6\ntake 14 21\nshow 16\nshow 16\ngathermut 4\nfreeze 4 4\nfreeze 3 2\ngather 6 15 1 11 7 5 0 8\nshow 6\nshow 15\ndrop 6\nzeroed 3 8 1\nshow 3\ntake 4 0\nshow 0\nshow 4\nput 3 -\nadvance 3 2\nshow 2\nbytes 0 7a99\nshow 0\nbuild 15 0\nshow 0\ndrop 2\nappend 14 0\nshow 14\nshow 14\nbytes 11 14376f\nnew 5 19 1\nnew 13 19 8\nnew 1 22 64\nput 1 22ee\nshow 1\n",
-            "ok\nrefused N5 BadLayout\nrefused N2 WrongKind\nok\npart -+13\nok\nview b9\nview b9\nok\npart 24+12\nok\nrefused N2 WrongKind\nok\nrefused N1 NoName\npart -+18\nok\nrefused N2 WrongKind\nrefused N2 WrongKind\nok\npart cf07159cf466ee1c959057a5a83e344bca+1\nok\nok\nrefused N7 Declined\nview bc\nview bc\nok\npart cf07159cf466ee1c959057a5a83e344bca+1\npart cf07159cf466ee1c959057a5a83e344bca+1\nok\npart 2400af+10\nok\nok\nrefused N2 WrongKind\nok\nview 083c5c375ef1e84b\nview 083c5c375ef1e84b\nok\nok\nok\ntext 2400af cf07159cf466ee1c959057a5a83e344bca\ntext 2400af cf07159cf466ee1c959057a5a83e344bca\nok\nok\nok\nrefused N2 WrongKind\nok\nrefused N2 WrongKind\nrefused N2 WrongKind\nok\nrefused N2 WrongKind\nrefused N8 C1 EndOfBuffer\nrefused N5 BadLayout\nrefused N2 WrongKind\nrefused N2 WrongKind\nok\nview -\nok\nrefused N2 WrongKind\nrefused N2 WrongKind\nok\nok\nview -\nview f4a506d6b8cf4ba250\nok\nok\nview -\nrefused N5 BadLayout\nrefused N2 WrongKind\nbytes 2400afcf07159cf466ee1c959057a5a83e344bcabc\nrefused N1 NoName\nrefused N1 NoName\nok\nok\nok\nok\ntext f4a506d6b8cf4ba250 2400afcf07159cf466ee1c959057a5a83e344bca 62636465666768696a6b6c6d6e6f7071727374757677 083c5c375ef1e84b 666768696a6b6c6d6e6f70717273747576\nrefused N2 WrongKind\nok\nok\npart 0000000000000000+0\nbytes -\nrefused N2 WrongKind\ntext\nok\nok\ntext\nok\nview 7a99\nok\nview 7a99\nok\nok\ntext 7a99\ntext 7a99\nok\nok\nok\nok\nok\npart 22ee+20\n",
-        ),
-        (
-            "new 3 5 1\nshow 3\ndrop 3\nnew 9 2 0\nbytes 12 -\nshow 12\nshow 12\nzeroed 5 7 1\nshow 7\nclone 12 1\nput 5 -\nstatic 6 2 2\nshow 6\nclone 1 3\nshow 3\nshow 3\nfill 5 214 0\nshow 16\nstatic 7 11 17\ntruncate 5 7\nshow 5\nshow 7\nput 5 -\nput 5 -\nput 5 -\nnew 14 10 1\nnew 15 12 2\nput 4 8d1f2e\nshow 4\nstatic 11 18 24\nshow 11\nshow 16\nput 15 c8733ccb68ddc8d1e7f649\nadvance 16 0\nnew 8 9 3\nbuild 0 5 p7 ia8fb p1 p11\nshow 5\nrecover 3 8\nput 14 57fad6e17cb304\nshow 14\nshow 14\nput 15 -\nbytes 9 -\nshow 9\nnew 10 11 8\nbytes 7 2405\nshow 16\nrecover 6 3\ncoalesce 0 1\nshow 1\nshow 0\nslice 1 0 i14 e14\ndecode 9 4 0 0\nsplit 1 2 0\nslice 9 13 e0 e1\ntake 3 0\nshow 0\nput 15 -\nshow 15\ntake 14 0\nshow 14\nshow 0\nsetlen 15 1\nslice 1 4 i0 e14\nshow 1\ndecode 9 11 0 1024\nshow 11\nput 8 -\nshow 8\nshow 8\nsplit 4 13 2\nshow 13\nshow 13\ndrop 7\nshow 7\nshow 7\nbuild 11 4 i64 i- i- p12\ntake 11 1\nshow 1\nshow 11\nput 10 a725f18b29ce0a731494f4\nstatic 6 25 26\nfreeze 10 10\nshow 10\ndrop 0\nshow 0\ngathermut 12 5 8 3 15 3\nshow 5\nshow 5\nbuild 7 1\nsplit 9 0 0\nshow 0\nshow 9\ndrop 13\nshow 13\nshow 13\ngather 13 9 1 4 0 10 6 2\nbytes 1 1beb91ab101357b7\nshow 1\nbuild 12 8 p1 ic496 i- ic4523d\n",
-            "ok\npart -+5\nok\nrefused N5 BadLayout\nok\nview -\nview -\nok\nrefused N2 WrongKind\nok\nok\nok\nview -\nok\nview -\nview -\nok\nrefused N1 NoName\nok\nok\npart 00000000000000+0\nview 6c6d6e6f7071\nok\nok\nok\nok\nok\nrefused N2 WrongKind\nrefused N2 WrongKind\nok\nview 737475767778\nrefused N1 NoName\nok\nrefused N1 NoName\nrefused N5 BadLayout\nok\npart 00000000000000+0\nok\nok\npart 57fad6e17cb304+3\npart 57fad6e17cb304+3\nok\nok\nview -\nok\nok\nrefused N1 NoName\nok\nok\nview 6c6d6e6f7071a8fb737475767778\nrefused N2 WrongKind\nok\nrefused N8 C1 EndOfBuffer\nok\nrefused N4 OutOfRange\nbytes -\nview -\nok\npart c8733ccb68ddc8d1e7f649+1\nbytes -\npart 57fad6e17cb304+3\nview -\nok\nok\nview 6c6d6e6f7071a8fb737475767778\nrefused N8 C1 EndOfBuffer\nrefused N2 WrongKind\nok\npart -+0\npart -+0\nok\nview 6c6d\nview 6c6d\nok\nrefused N2 WrongKind\nrefused N2 WrongKind\nok\nbytes 64\nview 6c6d6e6f7071a8fb737475767778\ntext\nok\nok\nok\nview a725f18b29ce0a731494f4\nok\nrefused N2 WrongKind\nrefused N3 InUse\npart 00000000000000+0\npart 00000000000000+0\nok\nok\nview -\nview -\nok\nrefused N2 WrongKind\nrefused N2 WrongKind\nok\nok\nview 1beb91ab101357b7\nok\n",
-        ),
-        (
-            "new 14 13 1\nshow 13\nshow 13\nput 14 17\nshow 16\nnew 5 9 64\nnew 15 16 2\nshow 15\nshow 15\nfreeze 5 5\nput 15 1812d7ba0d\nput 15 84bc23\nnew 12 20 1\nshow 16\nshow 16\nput 15 6531\nzeroed 7 6 1\nshow 7\nshow 6\nstatic 6 11 23\nshow 6\ndecode 6 13 0 0\nput 15 -\nshow 15\nput 7 -\nbytes 0 -\nbytes 10 d3043e\nshow 10\nshow 10\nput 7 -\nzeroed 11 5 1\ndrop 10\nshow 10\nshow 10\nfreeze 11 11\nshow 11\nshow 11\nclone 11 13\nshow 13\nshow 13\nnew 9 0 1\nshow 9\nshow 0\nstatic 4 1 5\nshow 1\ntruncate 14 0\ndecode 6 1 0 18446744073709551615\nshow 6\nprepend 8 13\nshow 13\nshow 13\nadvance 4 3\nshow 4\nput 15 00ad9a6ec2\nput 14 a25153a6534ad433af8ab960\nshow 14\nshow 14\nnew 8 8 1\nfill 8 236 0\nencode 4 10\nnew 3 7 1\nshow 7\ndrop 15\nshow 15\nfreeze 12 15\nshow 12\nput 7 -\nnew 12 9 64\nshow 12\nshow 9\nfill 14 140 0\nshow 14\ngathermut 2 7 14 3 12 8 9\nnew 8 19 1\nshow 16\ngather 3 11 13 4 6 5 0 15\nshow 11\nnew 5 12 1\nshow 5\nshow 5\nclone 10 12\ntake 3 23\nclone 10 4\ndrop 10\nput 2 8039b98ed7\nshow 2\nnew 10 4 1\nshow 4\nshow 4\noverwrite 2 9babb3e8e3f4d9d1b352fa495e54379092237001d5583d\nshow 2\nshow 2\nclone 12 9\ndrop 3\nshow 3\nshow 3\nput 5 d26e3298ae4745\nfreeze 8 11\nput 10 018e55\nnew 8 2 8\n",
-            "ok\nrefused N2 WrongKind\nrefused N2 WrongKind\nok\nrefused N1 NoName\nok\nok\npart -+16\npart -+16\nok\nok\nok\nok\nrefused N1 NoName\nrefused N1 NoName\nok\nok\npart 000000000000+0\nrefused N2 WrongKind\nok\nview 6c6d6e6f7071727374757677\nrefused N8 C3 InvalidLength 108\nok\npart 1812d7ba0d84bc236531+6\nok\nok\nok\nview d3043e\nview d3043e\nok\nok\nok\nrefused N2 WrongKind\nrefused N2 WrongKind\nok\nview 0000000000\nview 0000000000\nok\nview 0000000000\nview 0000000000\nok\npart -+0\nview -\nok\nrefused N2 WrongKind\nok\nrefused N8 C1 EndOfBuffer\nview 6c6d6e6f7071727374757677\nrefused N2 WrongKind\nview 0000000000\nview 0000000000\nok\nview 65\nok\nok\npart a25153a6534ad433af8ab960+1\npart a25153a6534ad433af8ab960+1\nok\nok\nok\nok\npart 000000000000+0\nok\nrefused N2 WrongKind\nok\nrefused N2 WrongKind\nok\nok\npart -+9\npart -+0\nok\npart a25153a6534ad433af8ab960+1\nok\nok\nrefused N1 NoName\nok\nrefused N2 WrongKind\nok\npart -+12\npart -+12\nok\nbytes 00000000000000000000656c6d6e6f7071727374757677\nok\nok\nok\nparts 000000000000+0 a25153a6534ad433af8ab96080+0 39b98ed7+3 -+9 -+8\nok\ntext 01 65\ntext 01 65\nok\nparts 9babb3e8e3f4+0 d9d1b352fa495e543790922370+0 01d5583d+3 -+9 -+8\nparts 9babb3e8e3f4+0 d9d1b352fa495e543790922370+0 01d5583d+3 -+9 -+8\nok\nok\nrefused N2 WrongKind\nrefused N2 WrongKind\nok\nok\nok\nok\n",
-        ),
-        (
-            "static 11 14 26\nshow 14\nshow 14\nnew 7 4 2\nshow 7\nshow 4\nput 7 a1ee748e\nshow 7\nshow 7\nput 7 -\nshow 7\ncoalesce 2 8\nstatic 5 4 7\nshow 4\nshow 4\nsplit 11 3 0\nshow 11\nput 7 -\nshow 7\nshow 7\nnew 15 8 64\nshow 15\nshow 8\nfreeze 7 4\nshow 4\nshow 7\nstatic 13 0 5\nshow 13\nshow 0\nstatic 0 22 25\nshow 0\ndrop 0\ndrop 11\nshow 11\nput 15 b30bcb\nput 15 c218e81b\nnew 12 7 1\nput 12 -\nshow 12\nshow 12\nzeroed 8 4 1\nshow 4\nshow 8\ndecode 3 7 0 1024\nshow 7\nshow 7\nput 8 -\nzeroed 6 2 1\nshow 6\nshow 6\nput 15 -\nbytes 9 94a910f85d180c4a\nclone 5 11\nshow 11\nshow 5\nbytes 7 1bf911\nstatic 0 0 9\nshow 0\ndrop 5\nshow 5\nslice 3 2 e1 u\nshow 2\nbuild 14 4 i- ida0b i18 i95\nadvance 14 0\nshow 14\nadvance 13 5\nput 12 abb7786c\nshow 12\ncoalesce 14 5\nshow 14\ndrop 11\ntake 7 0\nshow 7\nshow 0\nsplit 4 10 4\nshow 10\nshow 10\ndrop 3\nshow 3\nzeroed 1 0 1\nshow 1\ngather 3 10 5 9 7 0 13 4\nshow 3\nshow 10\nput 12 e9e2bf\nshow 12\nnew 10 14 8\nshow 10\nstatic 13 4 16\nshow 4\nshow 4\ngather 0 13\nshow 13\nnew 13 2 1\nshow 13\nshow 2\nzeroed 2 8 1\ndrop 1\nshow 1\nshow 1\n",
-            "ok\nrefused N2 WrongKind\nrefused N2 WrongKind\nok\npart -+4\nrefused N2 WrongKind\nok\npart a1ee748e+0\npart a1ee748e+0\nok\npart a1ee748e+0\nrefused N2 WrongKind\nok\nrefused N2 WrongKind\nrefused N2 WrongKind\nok\nview 6f707172737475767778797a\nok\npart a1ee748e+0\npart a1ee748e+0\nok\npart -+8\nrefused N2 WrongKind\nok\nview a1ee748e\nrefused N2 WrongKind\nok\nview 6162636465\nrefused N2 WrongKind\nok\nview 777879\nok\nok\nrefused N2 WrongKind\nok\nok\nok\nok\npart -+7\npart -+7\nok\nview a1ee748e\npart 00000000+0\nrefused N8 C1 EndOfBuffer\nrefused N2 WrongKind\nrefused N2 WrongKind\nok\nok\npart 0000+0\npart 0000+0\nok\nok\nok\nview 656667\nview 656667\nok\nok\nview 616263646566676869\nok\nrefused N2 WrongKind\nrefused N4 OutOfRange\nrefused N2 WrongKind\nok\nok\ntext da0b1895\nok\nok\npart abb7786c+3\nok\nrefused N2 WrongKind\nok\nbytes -\nview 1bf911\nview 616263646566676869\nok\nview a1ee748e\nview a1ee748e\nok\nrefused N2 WrongKind\nok\npart -+0\nok\ntext a1ee748e da0b1895 94a910f85d180c4a 1bf911 616263646566676869\nrefused N2 WrongKind\nok\npart abb7786ce9e2bf+0\nok\npart -+14\nok\nrefused N2 WrongKind\nrefused N2 WrongKind\nok\nrefused N2 WrongKind\nok\npart -+2\nrefused N2 WrongKind\nok\nok\nrefused N2 WrongKind\nrefused N2 WrongKind\n",
-        ),
-        (
-            "new 12 19 1\nshow 12\nshow 16\ngathermut 0\nshow 0\nnew 8 9 0\nshow 8\nput 12 d6f018c0f2596dbcb441538098e294\nstatic 14 9 11\nshow 14\nshow 14\nnew 4 9 2\nshow 9\nshow 9\nnew 8 6 1\nshow 6\nshow 6\nfill 12 19 1\nput 12 3032\nshow 16\nshow 16\nput 4 63\ntake 0 0\nput 8 6d8aa6\nbytes 1 e6abe4b13806\nrecover 14 6\nshow 14\nnew 6 8 0\nshow 8\nshow 8\nstatic 15 11 14\nshow 15\nshow 11\nput 8 06\nshow 8\nput 4 95\nshow 4\nshow 16\nnew 5 1 8\nshow 1\nshow 1\nnew 3 20 8\nencode 14 9\nshow 14\nshow 9\nadvance 2 0\nshow 0\nadvance 9 1\nput 8 7d\ndecode 14 7 0 1024\nsplit 14 6 0\nshow 6\nshow 14\nbytes 13 fa\nshow 13\nfreeze 8 8\nappend 9 15\ntake 9 5\nshow 9\nshow 9\nsetlen 5 2\nshow 5\nfreeze 12 10\nshow 12\nnew 12 9 1\nfill 5 60 0\nshow 5\nshow 5\nfreeze 0 15\nshow 0\nshow 0\nnew 7 20 0\nshow 16\nshow 16\nbuild 7 7 p10 i71 ia6f3d6\nshow 7\nput 4 59\nshow 4\nshow 16\nsetlen 4 3\nshow 3\ntake 13 1\nshow 13\ngather 11 13 14 6 1 8\nshow 11\ndrop 7\nput 5 -\nshow 5\nshow 5\nstatic 7 9 17\nshow 7\nput 5 -\nshow 5\nshow 5\nnew 0 13 1\nshow 0\ndecode 15 6 1 1024\ndrop 0\nshow 0\nshow 0\n",
-            "ok\npart -+19\nrefused N1 NoName\nok\nparts -+0\nrefused N5 BadLayout\nrefused N2 WrongKind\nok\nok\nview 6a6b\nview 6a6b\nok\nrefused N2 WrongKind\nrefused N2 WrongKind\nok\nrefused N2 WrongKind\nrefused N2 WrongKind\nok\nok\nrefused N1 NoName\nrefused N1 NoName\nok\nbytes -\nok\nok\nrefused N7 Declined\nview 6a6b\nrefused N5 BadLayout\npart 6d8aa6+3\npart 6d8aa6+3\nok\nview 6c6d6e\nrefused N2 WrongKind\nok\npart 6d8aa606+2\nok\npart 6395+7\nrefused N1 NoName\nok\nview e6abe4b13806\nview e6abe4b13806\nok\nok\nview 6a6b\ntext 02 6a6b\nrefused N2 WrongKind\nparts -+0\nok\nok\nrefused N8 C1 EndOfBuffer\nok\nview -\nview 6a6b\nok\nview fa\nok\nok\nbytes 6a6b6c6d6e\ntext\ntext\nrefused N4 OutOfRange\npart -+1\nok\nrefused N2 WrongKind\nok\nok\npart -+1\npart -+1\nok\nrefused N2 WrongKind\nrefused N2 WrongKind\nrefused N5 BadLayout\nrefused N1 NoName\nrefused N1 NoName\nok\ntext d6f018c0f2596dbcb441538098e294133032 71a6f3d6\nok\npart 639559+6\nrefused N1 NoName\nok\npart -+20\nbytes fa\nview -\nok\ntext 6a6b e6abe4b13806 6d8aa6067d\nok\nok\npart -+1\npart -+1\nok\nview 6a6b6c6d6e6f7071\nok\npart -+1\npart -+1\nok\npart -+13\nrefused N8 C1 EndOfBuffer\nok\nrefused N2 WrongKind\nrefused N2 WrongKind\n",
-        ),
-        (
-            "bytes 5 3e0b1e89a6\ndrop 5\nshow 5\nzeroed 0 8 1\nput 0 -\nput 0 -\nshow 0\nput 0 -\nshow 0\nshow 0\nput 0 -\nshow 0\nshow 0\nstatic 4 17 26\nzeroed 12 4 1\nshow 12\nshow 12\nzeroed 15 5 1\nshow 15\nbytes 9 3e20f47c91e4\nstatic 13 16 25\nshow 16\nshow 16\nfill 0 215 0\nput 15 -\nstatic 3 12 22\nshow 3\nshow 12\ngather 6 13 3 9 4\nshow 6\nshow 6\nput 12 -\nshow 12\nshow 12\ntake 15 5\nshow 15\nnew 2 16 2\nput 0 -\nnew 3 20 1\nfreeze 2 2\nshow 2\nput 12 -\nshow 12\nshow 12\nput 15 -\nshow 15\nshow 15\nput 15 -\nshow 15\nput 0 -\nshow 0\nshow 0\nbytes 13 dc6802d4802d23e9\nput 12 -\nshow 12\nnew 9 7 64\nshow 7\nfill 9 189 5\nshow 9\nshow 16\nstatic 10 8 25\nshow 10\nshow 10\nappend 6 13\nzeroed 13 2 1\nshow 13\nsetlen 13 0\nshow 13\nshow 0\ndrop 9\nbytes 4 b819428a6bb1126c8b\ngather 8 4\nshow 8\nshow 8\nclone 6 6\ngather 11 2\nshow 11\nshow 2\nclone 10 2\ntake 13 0\ndrop 10\nshow 10\nshow 10\ngathermut 5 12 13 15 0 3\nclone 2 13\nput 5 3a80936e50a5f22d9cebc6aa0a\nshow 5\nshow 5\nsplit 8 12 4\ndrop 8\nzeroed 10 0 1\nshow 0\nput 5 692a6e\nshow 5\nshow 5\nput 10 -\nfill 10 25 1\nshow 16\nshow 10\nzeroed 4 5 1\n",
-            "ok\nok\nrefused N2 WrongKind\nok\nok\nok\npart 0000000000000000+0\nok\npart 0000000000000000+0\npart 0000000000000000+0\nok\npart 0000000000000000+0\npart 0000000000000000+0\nok\nok\npart 00000000+0\npart 00000000+0\nok\npart 0000000000+0\nok\nok\nrefused N1 NoName\nrefused N1 NoName\nok\nok\nok\nview 6d6e6f70717273747576\npart 00000000+0\nok\ntext 717273747576777879 6d6e6f70717273747576 3e20f47c91e4 72737475767778797a\ntext 717273747576777879 6d6e6f70717273747576 3e20f47c91e4 72737475767778797a\nok\npart 00000000+0\npart 00000000+0\nbytes 0000000000\npart -+0\nok\nok\nok\nok\nview -\nok\npart 00000000+0\npart 00000000+0\nok\npart -+0\npart -+0\nok\npart -+0\nok\npart 0000000000000000+0\npart 0000000000000000+0\nok\nok\npart 00000000+0\nok\nrefused N2 WrongKind\nok\npart bdbdbdbdbd+2\nrefused N1 NoName\nok\nview 696a6b6c6d6e6f70717273747576777879\nview 696a6b6c6d6e6f70717273747576777879\nok\nok\npart 0000+0\nok\npart -+2\npart 0000000000000000+0\nok\nok\nok\ntext b819428a6bb1126c8b\ntext b819428a6bb1126c8b\nrefused N3 InUse\nok\ntext\nrefused N2 WrongKind\nok\nbytes -\nok\nrefused N2 WrongKind\nrefused N2 WrongKind\nok\nok\nok\nparts 00000000+0 3a80+0 0000000000000000+0 936e50a5f22d9cebc6aa0a+9\nparts 00000000+0 3a80+0 0000000000000000+0 936e50a5f22d9cebc6aa0a+9\nok\nok\nok\nrefused N2 WrongKind\nok\nparts 00000000+0 3a80+0 0000000000000000+0 936e50a5f22d9cebc6aa0a692a6e+6\nparts 00000000+0 3a80+0 0000000000000000+0 936e50a5f22d9cebc6aa0a692a6e+6\nok\nrefused N4 OutOfRange\nrefused N1 NoName\npart -+0\nok\n",
-        ),
-        (
-            "new 5 18 1\nsetlen 5 12\nshow 5\nnew 8 2 64\nput 8 eb\nput 8 -\nbytes 6 -\nbytes 9 c291e76fd1b57439\nput 8 -\ndrop 5\nclone 9 10\nzeroed 0 1 1\nshow 1\nbytes 4 bfce8968c7\nshow 4\nshow 4\nstatic 15 21 24\nshow 15\ndrop 0\nsplit 10 1 2\nshow 10\nshow 1\nencode 1 14\nshow 14\nshow 14\nzeroed 12 4 1\nshow 4\nsplit 7 7 0\nshow 7\ndrop 4\nshow 4\nnew 4 11 3\nput 8 8e\nbytes 5 21508bd5162a52f8\nput 12 -\nshow 12\nshow 12\nadvance 14 0\nshow 14\ncoalesce 14 13\nslice 15 3 i3 i3\nshow 3\nsplit 13 3 1\nshow 3\ndrop 3\nshow 3\nfreeze 12 12\nshow 12\ndrop 9\nshow 9\ndecode 13 3 0 5\nshow 3\nfill 8 175 1\nshow 8\nput 8 -\nshow 8\nshow 8\nput 8 -\nnew 2 22 2\nslice 1 0 e3 u\nshow 0\nfreeze 8 8\nshow 8\nshow 8\ndrop 1\nshow 1\nnew 14 8 2\nadvance 14 0\nshow 0\nshow 0\nadvance 2 0\nshow 2\nfreeze 14 3\ndrop 5\nshow 5\nput 2 f15b42d78b61e98c81\nshow 2\nnew 4 2 3\nshow 4\nencode 6 4\nappend 4 12\nshow 12\nadvance 6 0\nshow 6\nstatic 9 23 23\nshow 9\nput 2 f3e8aca9a55a38\nshow 2\nclear 2\nshow 2\ngather 14 6 9 8 15 3 10\nnew 9 20 8\nshow 9\nshow 16\ngather 0 13\nshow 0\ndrop 9\nbytes 9 367fc8160f72\nshow 9\nbytes 5 b33f505d3e79\n",
-            "ok\nok\npart 000000000000000000000000+6\nok\nok\nok\nok\nok\nok\nok\nok\nok\nrefused N2 WrongKind\nok\nview bfce8968c7\nview bfce8968c7\nok\nview 767778\nok\nok\nview e76fd1b57439\nview c291\nok\ntext 02 c291\ntext 02 c291\nok\nview bfce8968c7\nrefused N2 WrongKind\nrefused N2 WrongKind\nok\nrefused N2 WrongKind\nrefused N5 BadLayout\nok\nok\nok\npart 00000000+0\npart 00000000+0\nok\ntext 02 c291\nok\nrefused N4 OutOfRange\nrefused N2 WrongKind\nok\nview 02\nok\nrefused N2 WrongKind\nok\nview 00000000\nok\nrefused N2 WrongKind\nrefused N8 C1 EndOfBuffer\nrefused N2 WrongKind\nrefused N4 OutOfRange\npart eb8e+0\nok\npart eb8e+0\npart eb8e+0\nok\nok\nrefused N4 OutOfRange\nrefused N2 WrongKind\nok\nview eb8e\nview eb8e\nok\nrefused N2 WrongKind\nok\nok\nrefused N2 WrongKind\nrefused N2 WrongKind\nok\npart -+22\nok\nok\nrefused N2 WrongKind\nok\npart f15b42d78b61e98c81+13\nrefused N5 BadLayout\nrefused N2 WrongKind\nok\nok\nrefused N2 WrongKind\nok\nview -\nok\nview -\nok\npart f15b42d78b61e98c81f3e8aca9a55a38+6\nok\npart -+22\nok\nok\npart -+20\nrefused N1 NoName\nok\ntext c291\nok\nok\nview 367fc8160f72\nok\n",
-        ),
-        (
-            "new 0 15 8\nshow 15\nshow 15\nstatic 12 23 23\nshow 16\nstatic 2 4 22\nshow 4\nshow 4\nbytes 7 7103a4a3f8a806d145\nshow 7\nsetlen 0 4\nstatic 15 19 20\nshow 15\nshow 16\nput 0 ed2faf620298\nshow 0\nshow 0\nzeroed 14 0 1\nshow 14\nshow 0\nput 14 -\nshow 14\nstatic 4 25 25\nshow 16\nshow 16\nfill 0 139 4\nshow 16\nstatic 1 4 14\nshow 4\nshow 1\nput 14 -\nshow 14\nshow 14\nbytes 10 01ffab4b81c8145e0b\nshow 10\ngathermut 11 0 14\nshow 0\nshow 0\nfill 11 176 2\nshow 11\nput 11 -\nshow 11\nfreeze 11 11\nbytes 9 ecc8\ndrop 4\nshow 4\nshow 4\nnew 4 13 0\nshow 13\nshow 4\nrecover 7 7\nstatic 14 20 25\ndrop 14\nshow 14\nshow 14\ngather 8 7 1 15 2\nshow 7\nadvance 10 9\nnew 6 13 8\nshow 6\nshow 13\nsplit 8 4 38\nnew 5 3 1\nput 6 15\nshow 15\nfill 5 198 1\nshow 16\nshow 16\nprepend 11 10\nnew 15 19 64\nshow 16\nnew 1 22 3\nshow 16\nshow 1\nnew 10 5 1\nput 15 7f7f393c5a66bddaa13736\nshow 15\nnew 7 23 1\nshow 7\ndrop 15\ndecode 9 13 0 18446744073709551615\ndecode 8 15 0 18446744073709551615\ndrop 5\nshow 5\nfill 6 240 1\nput 10 6e03\nput 6 -\nshow 6\nshow 6\nput 10 -\nput 10 63\nshow 10\nnew 5 7 3\ngather 1 12 9\nshow 12\nshow 12\ndrop 1\nshow 1\nnew 0 14 3\nshow 14\n",
-            "ok\nrefused N2 WrongKind\nrefused N2 WrongKind\nok\nrefused N1 NoName\nok\nrefused N2 WrongKind\nrefused N2 WrongKind\nok\nview 7103a4a3f8a806d145\nok\nok\nview 74\nrefused N1 NoName\nok\npart 00000000ed2faf620298+5\npart 00000000ed2faf620298+5\nok\npart -+0\npart 00000000ed2faf620298+5\nok\npart -+0\nok\nrefused N1 NoName\nrefused N1 NoName\nok\nrefused N1 NoName\nok\nview -\nview 65666768696a6b6c6d6e\nok\npart -+0\npart -+0\nok\nview 01ffab4b81c8145e0b\nok\nrefused N2 WrongKind\nrefused N2 WrongKind\nrefused N4 OutOfRange\nparts 00000000ed2faf6202988b8b8b8b+1\nok\nparts 00000000ed2faf6202988b8b8b8b+1\nok\nok\nok\nrefused N2 WrongKind\nrefused N2 WrongKind\nrefused N5 BadLayout\nrefused N2 WrongKind\nrefused N2 WrongKind\nrefused N7 Declined\nok\nok\nrefused N2 WrongKind\nrefused N2 WrongKind\nok\nrefused N2 WrongKind\nok\nok\npart -+13\nrefused N2 WrongKind\nok\nok\nok\nrefused N2 WrongKind\nok\nrefused N1 NoName\nrefused N1 NoName\nok\nok\nrefused N1 NoName\nrefused N5 BadLayout\nrefused N1 NoName\nrefused N2 WrongKind\nok\nok\npart 7f7f393c5a66bddaa13736+8\nok\npart -+23\nok\nrefused N8 C1 EndOfBuffer\nrefused N8 C1 EndOfBuffer\nok\nrefused N2 WrongKind\nok\nok\nok\npart 15f0+11\npart 15f0+11\nok\nok\npart 6e0363+2\nrefused N5 BadLayout\nok\nrefused N2 WrongKind\nrefused N2 WrongKind\nok\nrefused N2 WrongKind\nrefused N5 BadLayout\nrefused N2 WrongKind\n",
-        ),
-        (
-            "gathermut 13\nshow 13\nput 13 -\nshow 13\nstatic 12 26 26\nstatic 3 11 24\nshow 11\nstatic 0 10 12\nshow 0\nput 13 -\nfill 13 83 0\nnew 15 11 2\nfreeze 13 2\nshow 13\nshow 2\nbytes 8 -\nshow 8\nput 15 6d08d08ede127698c745d3\nbytes 13 -\nbytes 5 c3bc7cae7ce8\nshow 5\nput 15 -\nput 15 -\nshow 15\nput 15 -\nshow 15\nnew 14 4 3\nshow 4\nshow 4\ndrop 13\nstatic 1 13 23\nshow 1\nshow 1\ndrop 2\nshow 2\nshow 2\nstatic 13 16 23\nput 15 -\nshow 15\nshow 15\nput 15 -\nshow 15\nshow 15\nput 15 -\nshow 15\nshow 15\nput 7 -\nbytes 10 7287\ndrop 10\nshow 10\nshow 10\nfreeze 15 11\nshow 11\nshow 15\ndrop 13\nshow 13\nshow 13\nstatic 10 14 19\ndrop 12\nshow 12\nnew 2 18 1\nshow 2\nfill 2 236 11\nstatic 13 14 15\nshow 13\nshow 14\ndrop 5\nnew 7 3 1\nshow 7\nshow 7\nsetlen 2 0\nshow 0\nshow 0\nslice 10 5 i5 e1\nput 7 067c\nshow 7\nshow 7\nput 7 -\nshow 7\nshow 7\nsplit 8 15 0\nshow 8\nshow 15\ndrop 0\nshow 0\nfreeze 2 0\nshow 2\nshow 2\ndrop 13\nshow 13\nshow 13\nput 7 -\nshow 7\nshow 7\nnew 9 12 8\nput 9 ec\nshow 9\nshow 9\nsetlen 9 2\nshow 9\n",
-            "ok\nparts -+0\nok\nparts -+0\nok\nok\nrefused N2 WrongKind\nok\nview 6b6c\nok\nok\nok\nok\nrefused N2 WrongKind\ntext\nok\nview -\nok\nok\nok\nview c3bc7cae7ce8\nok\nok\npart 6d08d08ede127698c745d3+0\nok\npart 6d08d08ede127698c745d3+0\nrefused N5 BadLayout\nrefused N2 WrongKind\nrefused N2 WrongKind\nok\nok\nview 6e6f7071727374757677\nview 6e6f7071727374757677\nok\nrefused N2 WrongKind\nrefused N2 WrongKind\nok\nok\npart 6d08d08ede127698c745d3+0\npart 6d08d08ede127698c745d3+0\nok\npart 6d08d08ede127698c745d3+0\npart 6d08d08ede127698c745d3+0\nok\npart 6d08d08ede127698c745d3+0\npart 6d08d08ede127698c745d3+0\nrefused N2 WrongKind\nok\nok\nrefused N2 WrongKind\nrefused N2 WrongKind\nok\nview 6d08d08ede127698c745d3\nrefused N2 WrongKind\nok\nrefused N2 WrongKind\nrefused N2 WrongKind\nok\nok\nrefused N2 WrongKind\nok\npart -+18\nok\nok\nview 6f\nrefused N2 WrongKind\nok\nok\npart -+3\npart -+3\nok\nview 6b6c\nview 6b6c\nrefused N4 OutOfRange\nok\npart 067c+1\npart 067c+1\nok\npart 067c+1\npart 067c+1\nok\nview -\nview -\nok\nrefused N2 WrongKind\nok\nrefused N2 WrongKind\nrefused N2 WrongKind\nok\nrefused N2 WrongKind\nrefused N2 WrongKind\nok\npart 067c+1\npart 067c+1\nok\nok\npart ec+11\npart ec+11\nok\npart ec00+10\n",
-        ),
-        (
-            "static 8 20 25\nshow 8\nshow 16\nrecover 8 3\nnew 9 15 8\nshow 9\nnew 10 20 1\nshow 16\nput 10 -\nshow 10\nbytes 12 9015189ada7f00\nshow 12\nnew 3 9 1\nshow 9\nput 9 55bd130e6bbec3aeda1414d66f21bc\nshow 9\nsetlen 10 14\nshow 10\nbytes 4 -\nshow 4\nshow 4\nput 10 31b4be\nshow 10\nput 10 52f195\nshow 10\nshow 10\nput 3 d164\nshow 3\nslice 8 11 e0 e4\nput 10 -\nshow 10\nnew 7 12 64\nput 10 -\nshow 10\nput 3 9e97f28c41240e\nshow 3\nput 9 -\nshow 9\nshow 9\nnew 15 4 2\nencode 11 0\nshow 11\nadvance 3 9\nshow 3\nsplit 11 14 3\nshow 14\nshow 14\noverwrite 7 -\nshow 7\nshow 7\nclone 12 13\nput 9 -\ndrop 0\nfill 10 105 0\nslice 11 2 e0 u\nshow 11\ngathermut 5 15 9 7\nshow 15\nshow 15\nput 5 01dceba7f3df4348bb2a69fa24d84a\nadvance 5 23\nput 3 -\nshow 3\nshow 3\nadvance 11 0\nshow 11\nencode 11 15\nslice 8 0 e4 i3\nshow 8\nshow 8\nadvance 5 7\nshow 7\nput 3 -\nshow 3\nrecover 14 1\nshow 14\nshow 14\nadvance 11 0\nshow 11\nnew 0 11 1\nshow 0\nnew 6 22 2\nshow 16\nsplit 12 2 0\nshow 12\nshow 2\ngathermut 7 0 6 10\nappend 15 4\nshow 4\nshow 15\ndrop 8\nsplit 14 9 0\nshow 14\nshow 9\nprepend 15 11\nshow 15\nshow 11\ngather 8 2 12 14 13 9\nshow 2\nshow 8\n",
-            "ok\nview 7576777879\nrefused N1 NoName\nrefused N7 Declined\nok\npart -+15\nok\nrefused N1 NoName\nok\npart -+20\nok\nview 9015189ada7f00\nok\npart -+15\nok\npart 55bd130e6bbec3aeda1414d66f21bc+0\nok\npart 0000000000000000000000000000+6\nok\nview -\nview -\nok\npart 000000000000000000000000000031b4be+3\nok\npart 000000000000000000000000000031b4be52f195+0\npart 000000000000000000000000000031b4be52f195+0\nok\npart d164+7\nok\nok\npart 000000000000000000000000000031b4be52f195+0\nok\nok\npart 000000000000000000000000000031b4be52f195+0\nok\npart d1649e97f28c41240e+0\nok\npart 55bd130e6bbec3aeda1414d66f21bc+0\npart 55bd130e6bbec3aeda1414d66f21bc+0\nok\nok\nview 767778\nok\npart -+0\nok\nview 767778\nview 767778\nok\npart -+12\npart -+12\nok\nok\nok\nok\nrefused N4 OutOfRange\nview -\nok\nrefused N2 WrongKind\nrefused N2 WrongKind\nok\nok\nok\npart -+0\npart -+0\nok\nview -\nok\nrefused N4 OutOfRange\nview 7576777879\nview 7576777879\nok\nrefused N2 WrongKind\nok\npart -+0\nrefused N7 Declined\nview 767778\nview 767778\nok\nview -\nok\npart -+11\nok\nrefused N1 NoName\nok\nview 9015189ada7f00\nview -\nok\nok\nrefused N2 WrongKind\ntext 00\nok\nok\nview 767778\nview -\nok\ntext 00\nrefused N2 WrongKind\nok\nrefused N2 WrongKind\ntext 9015189ada7f00 767778 9015189ada7f00\n",
-        ),
-        (
-            "new 10 13 1\nnew 14 3 2\nfill 14 107 4\nshow 14\nput 14 22a555\nput 14 -\nstatic 0 5 23\nshow 5\nshow 5\nsetlen 14 3\nshow 14\nshow 14\nput 10 -\nshow 10\nshow 10\ndecode 0 3 0 5\nshow 0\nshow 3\nput 10 346e04\nnew 2 8 2\nshow 8\nbytes 11 0b3bb5a0c756\nshow 11\nshow 11\nput 14 -\nshow 14\nstatic 5 4 20\nput 2 f013a45dc67c\nshow 2\nput 10 3e77\nshow 10\nsplit 11 3 0\nnew 1 19 0\nshow 16\nput 2 1d\nshow 2\nshow 2\nbytes 7 158b\ngather 6 0 11 3 7 5\nencode 12 5\nshow 5\nshow 12\nstatic 1 12 18\nshow 1\nshow 12\nput 2 73\nshow 2\nnew 13 0 8\nput 14 -\nshow 14\nput 14 -\nshow 14\nshow 14\nadvance 14 0\nshow 0\nzeroed 12 8 1\nshow 12\nshow 12\nput 2 f3\nshow 2\nshow 2\nput 12 -\nshow 12\nshow 12\nnew 4 4 1\nsplit 1 5 0\nshow 5\nbuild 7 7 p1 p5 i13 i226d38\nshow 7\nput 12 -\nput 14 -\nstatic 15 24 25\nshow 15\nshow 15\nadvance 15 0\nbytes 9 3fa1f5df8e\nshow 9\nfreeze 14 14\nshow 14\nshow 14\ngathermut 11 2 4 12 13 10\nshow 11\nshow 2\nput 11 1e4bf0184949c60f69273cfb\nnew 3 21 64\nshow 3\nzeroed 13 2 1\nshow 2\nshow 2\nzeroed 4 2 1\nshow 2\nshow 4\nstatic 0 8 9\nbuild 12 0\nshow 12\nfreeze 3 3\nshow 3\ncoalesce 11 11\nshow 11\nshow 11\n",
-            "ok\nok\nrefused N4 OutOfRange\npart -+3\nok\nok\nok\nrefused N2 WrongKind\nrefused N2 WrongKind\nok\npart 22a555+0\npart 22a555+0\nok\npart -+13\npart -+13\nrefused N8 C3 InvalidLength 102\nview 666768696a6b6c6d6e6f7071727374757677\nrefused N2 WrongKind\nok\nok\nrefused N2 WrongKind\nok\nview 0b3bb5a0c756\nview 0b3bb5a0c756\nok\npart 22a555+0\nok\nok\npart f013a45dc67c+2\nok\npart 346e043e77+8\nok\nrefused N5 BadLayout\nrefused N1 NoName\nok\npart f013a45dc67c1d+1\npart f013a45dc67c1d+1\nok\nok\nrefused N2 WrongKind\nrefused N2 WrongKind\nrefused N2 WrongKind\nok\nview 6d6e6f707172\nrefused N2 WrongKind\nok\npart f013a45dc67c1d73+0\nok\nok\npart 22a555+0\nok\npart 22a555+0\npart 22a555+0\nok\nrefused N2 WrongKind\nok\npart 0000000000000000+0\npart 0000000000000000+0\nrefused N4 OutOfRange\npart f013a45dc67c1d73+0\npart f013a45dc67c1d73+0\nok\npart 0000000000000000+0\npart 0000000000000000+0\nok\nok\nview -\nok\ntext 6d6e6f707172 13226d38\nok\nok\nok\nview 79\nview 79\nok\nok\nview 3fa1f5df8e\nok\nview 22a555\nview 22a555\nok\nparts f013a45dc67c1d73+0 -+4 0000000000000000+0 346e043e77+8\nrefused N2 WrongKind\nok\nok\npart -+21\nok\nrefused N2 WrongKind\nrefused N2 WrongKind\nok\nrefused N2 WrongKind\npart 0000+0\nok\nok\ntext\nok\nview -\nok\npart f013a45dc67c1d731e4bf0180000000000000000346e043e774949c60f69273cfb+0\npart f013a45dc67c1d731e4bf0180000000000000000346e043e774949c60f69273cfb+0\n",
-        ),
-        (
-            "static 15 1 9\nshow 15\nbytes 1 3c5a96ffc5bc77a8\nshow 1\nshow 1\nzeroed 9 4 1\nput 9 -\nshow 9\nput 9 -\nshow 9\nshow 9\nput 9 -\nnew 3 15 1\nshow 3\nshow 3\nput 9 -\nshow 9\nshow 9\ndecode 1 5 0 18446744073709551615\nshow 5\nput 3 739ad631\nshow 3\nput 3 1faf09abeda9a4\nshow 3\nnew 12 2 1\nshow 2\nnew 11 6 1\nshow 11\nnew 5 22 1\nnew 0 16 8\nshow 0\nput 9 -\nshow 9\nnew 8 8 1\nshow 8\nput 0 18c1016c072e837e9171e33b78dffc\nshow 0\nput 3 a3c2\nbytes 7 682c1e82d0ed261541\nshow 7\ndecode 7 2 0 5\nshow 7\nshow 7\ntake 8 0\nshow 8\nshow 8\ngather 14 15\nshow 14\nnew 10 18 3\nshow 16\nappend 14 7\nshow 7\nstatic 2 18 18\nshow 16\nshow 2\nfreeze 12 6\nshow 12\nfreeze 0 13\nshow 13\nprepend 14 2\nnew 2 10 2\nshow 10\nshow 10\nnew 12 5 1\nfreeze 12 15\nshow 15\nclear 11\nshow 11\nprepend 14 1\nshow 1\nshow 14\ngather 12\nnew 10 19 64\nput 10 ea48404c5d2df81186\nencode 6 7\nshow 7\ngather 1 6 13 15\nshow 1\nshow 6\ndrop 7\nbuild 4 5 i- i4dc41e if9\nshow 5\nshow 5\ndrop 1\nshow 1\nshow 1\nclone 14 13\nshow 13\ndrop 13\nshow 13\nshow 13\nfreeze 10 13\ncoalesce 4 6\ngathermut 1 8 3 2 11 5 9\nshow 8\nshow 8\ngather 0 13 6\nshow 0\nnew 5 10 0\nnew 8 13 3\n",
-            "ok\nview 6263646566676869\nok\nview 3c5a96ffc5bc77a8\nview 3c5a96ffc5bc77a8\nok\nok\npart 00000000+0\nok\npart 00000000+0\npart 00000000+0\nok\nok\npart -+15\npart -+15\nok\npart 00000000+0\npart 00000000+0\nrefused N8 C1 EndOfBuffer\nrefused N2 WrongKind\nok\npart 739ad631+11\nok\npart 739ad6311faf09abeda9a4+4\nok\nrefused N2 WrongKind\nok\npart -+6\nok\nok\npart -+16\nok\npart 00000000+0\nok\npart -+8\nok\npart 18c1016c072e837e9171e33b78dffc+1\nok\nok\nview 682c1e82d0ed261541\nrefused N8 C3 InvalidLength 104\nview 682c1e82d0ed261541\nview 682c1e82d0ed261541\nbytes -\npart -+8\npart -+8\nok\ntext 6263646566676869\nrefused N5 BadLayout\nrefused N1 NoName\nok\nrefused N2 WrongKind\nok\nrefused N1 NoName\nview -\nok\nrefused N2 WrongKind\nok\nview 18c1016c072e837e9171e33b78dffc\nok\nok\nrefused N2 WrongKind\nrefused N2 WrongKind\nok\nok\nview -\nok\npart -+6\nok\nrefused N2 WrongKind\ntext 3c5a96ffc5bc77a8 6263646566676869 682c1e82d0ed261541\nok\nok\nok\nok\ntext 00\nok\ntext 18c1016c072e837e9171e33b78dffc\nrefused N2 WrongKind\nok\nok\npart -+22\npart -+22\nok\nrefused N2 WrongKind\nrefused N2 WrongKind\nok\ntext 3c5a96ffc5bc77a8 6263646566676869 682c1e82d0ed261541\nok\nrefused N2 WrongKind\nrefused N2 WrongKind\nok\nok\nok\nrefused N2 WrongKind\nrefused N2 WrongKind\nok\ntext ea48404c5d2df81186 4dc41ef9\nrefused N5 BadLayout\nrefused N5 BadLayout\n",
-        ),
-        (
-            "new 8 8 2\nshow 8\nstatic 3 24 25\nshow 16\nput 8 d7ecdcdb35\nshow 8\nzeroed 7 7 1\nshow 7\nencode 3 4\nput 7 -\nshow 7\nput 7 -\nstatic 13 7 20\nnew 14 17 2\nshow 14\nshow 16\nstatic 5 9 21\nshow 5\nzeroed 6 4 1\nshow 4\nclone 4 10\ncoalesce 4 0\nshow 4\nshow 4\nappend 10 0\nshow 0\nsetlen 14 13\nshow 13\nnew 12 14 0\nfreeze 7 7\nstatic 12 14 18\nshow 12\nshow 12\nencode 13 1\nshow 1\nshow 13\nput 6 -\ndecode 12 0 0 18446744073709551615\nshow 0\nshow 0\nnew 15 10 3\nshow 10\nrecover 5 5\ntake 8 3\nshow 8\nshow 8\nfreeze 6 15\nshow 15\nshow 15\nnew 2 1 1\nshow 2\nshow 1\ncoalesce 1 0\nclone 5 1\ndrop 15\nput 2 -\nshow 2\nsetlen 2 2\nshow 2\nshow 2\nencode 3 4\nshow 3\nshow 4\ncoalesce 10 10\ndrop 1\nshow 1\nadvance 5 0\ndrop 3\nshow 3\nshow 3\nsplit 0 6 10\nshow 0\nshow 6\nfreeze 14 14\nshow 14\ndrop 14\nshow 14\nshow 14\nclone 10 11\nshow 11\ndrop 6\nshow 6\nput 2 -\nshow 2\nput 2 -\nshow 2\nslice 0 15 u i4\nfreeze 8 8\nshow 8\ndrop 8\nshow 8\nshow 8\nencode 5 6\nrecover 12 12\nshow 12\nbuild 14 1\nshow 14\nshow 1\nclone 12 9\nshow 12\n",
-            "ok\npart -+8\nok\nrefused N1 NoName\nok\npart d7ecdcdb35+3\nok\npart 00000000000000+0\nok\nok\npart 00000000000000+0\nok\nok\nok\npart -+17\nrefused N1 NoName\nok\nview 6a6b6c6d6e6f707172737475\nok\ntext 01 79\nok\nok\nrefused N2 WrongKind\nrefused N2 WrongKind\nok\nrefused N2 WrongKind\nok\nview 68696a6b6c6d6e6f7071727374\nrefused N5 BadLayout\nok\nok\nview 6f707172\nview 6f707172\nok\ntext 0d 68696a6b6c6d6e6f7071727374\nview 68696a6b6c6d6e6f7071727374\nok\nrefused N8 C1 EndOfBuffer\nrefused N2 WrongKind\nrefused N2 WrongKind\nrefused N5 BadLayout\ntext 01 79 0179\nrefused N7 Declined\nbytes d7ecdc\npart db35+3\npart db35+3\nok\nview 00000000\nview 00000000\nok\npart -+1\ntext 0d 68696a6b6c6d6e6f7071727374\nok\nok\nok\nok\npart -+1\nrefused N4 OutOfRange\npart -+1\npart -+1\nok\nview 79\ntext 01 79\nok\nok\nrefused N2 WrongKind\nok\nok\nrefused N2 WrongKind\nrefused N2 WrongKind\nok\nview 71727374\nview 0d68696a6b6c6d6e6f70\nok\nview 00000000000000000000000000\nok\nrefused N2 WrongKind\nrefused N2 WrongKind\nok\nview 01790179\nok\nrefused N2 WrongKind\nok\npart -+1\nok\npart -+1\nrefused N4 OutOfRange\nok\nview db35\nok\nrefused N2 WrongKind\nrefused N2 WrongKind\nok\nrefused N7 Declined\nview 6f707172\nok\ntext\nrefused N2 WrongKind\nok\nview 6f707172\n",
-        ),
-        (
-            "bytes 0 8400\ndecode 0 1 0 1024\nbytes 2 80808080808080808080\ndecode 2 1 0 1024\nshow 2\nnew 1 4611686018427387904 1\nzeroed 1 4611686018427387904 8\nshow 1\n",
-            "ok\nrefused N8 C2 InvalidVarint\nok\nrefused N8 C2 InvalidVarint\nview 80808080808080808080\nrefused N9 Memory\nrefused N9 Memory\nrefused N2 WrongKind\n",
-        ),
+fn the_original_answers_the_same(rt: HostRuntime) -> Result<(), Fail> {
+    for rows in [
+        "new 0 6 2 -> ok\n\
+         put 0 46 -> ok\n\
+         put 0 f5c1 -> ok\n\
+         show 0 -> part 46f5c1+3\n\
+         show 0 -> part 46f5c1+3\n\
+         new 4 2 1 -> ok\n\
+         show 2 -> refused N2 WrongKind\n\
+         show 4 -> part -+2\n\
+         bytes 12 908fafafcc525214 -> ok\n\
+         show 12 -> view 908fafafcc525214\n\
+         show 12 -> view 908fafafcc525214\n\
+         encode 12 13 -> ok\n\
+         show 13 -> text 08 908fafafcc525214\n\
+         put 0 39 -> ok\n\
+         new 14 17 1 -> ok\n\
+         advance 0 3 -> ok\n\
+         show 0 -> part 39+2\n\
+         prepend 13 12 -> ok\n\
+         take 14 0 -> bytes -\n\
+         zeroed 10 6 1 -> ok\n\
+         show 6 -> refused N2 WrongKind\n\
+         put 0 9d44 -> ok\n\
+         show 0 -> part 399d44+0\n\
+         static 3 25 25 -> ok\n\
+         append 13 3 -> ok\n\
+         show 13 -> text 908fafafcc525214 08 908fafafcc525214\n\
+         show 3 -> refused N2 WrongKind\n\
+         put 14 ec68 -> ok\n\
+         show 14 -> part ec68+15\n\
+         show 14 -> part ec68+15\n\
+         static 12 26 26 -> ok\n\
+         show 16 -> refused N1 NoName\n\
+         show 16 -> refused N1 NoName\n\
+         prepend 13 12 -> ok\n\
+         overwrite 10 5b6da95685e2 -> ok\n\
+         show 10 -> part 5b6da95685e2+0\n\
+         show 10 -> part 5b6da95685e2+0\n\
+         gather 5 -> ok\n\
+         show 5 -> text\n\
+         put 4 67 -> ok\n\
+         show 16 -> refused N1 NoName\n\
+         show 16 -> refused N1 NoName\n\
+         fill 4 225 0 -> ok\n\
+         put 14 111e91476b6bb56179 -> ok\n\
+         new 7 18 1 -> ok\n\
+         show 7 -> part -+18\n\
+         fill 0 55 0 -> ok\n\
+         new 11 4 1 -> ok\n\
+         bytes 6 f62a53 -> ok\n\
+         decode 9 3 0 1024 -> refused N2 WrongKind\n\
+         put 10 - -> ok\n\
+         show 10 -> part 5b6da95685e2+0\n\
+         slice 6 1 e3 e3 -> refused N4 OutOfRange\n\
+         show 6 -> view f62a53\n\
+         show 6 -> view f62a53\n\
+         coalesce 5 5 -> ok\n\
+         show 5 -> view -\n\
+         put 4 a9 -> ok\n\
+         show 4 -> part 67a9+0\n\
+         show 4 -> part 67a9+0\n\
+         new 8 1 1 -> ok\n\
+         put 8 - -> ok\n\
+         put 7 6ffb -> ok\n\
+         put 11 ee401e6d -> ok\n\
+         show 11 -> part ee401e6d+0\n\
+         show 11 -> part ee401e6d+0\n\
+         append 13 5 -> ok\n\
+         show 13 -> text 908fafafcc525214 08 908fafafcc525214\n\
+         show 5 -> refused N2 WrongKind\n\
+         encode 6 1 -> ok\n\
+         advance 1 1 -> ok\n\
+         show 1 -> text f62a53\n\
+         show 1 -> text f62a53\n\
+         truncate 4 1 -> ok\n\
+         show 1 -> text f62a53\n\
+         setlen 14 17 -> ok\n\
+         put 8 - -> ok\n\
+         show 8 -> part -+1\n\
+         show 8 -> part -+1\n\
+         coalesce 13 2 -> ok\n\
+         show 2 -> view 908fafafcc52521408908fafafcc525214\n\
+         decode 11 9 0 1024 -> refused N2 WrongKind\n\
+         put 11 - -> ok\n\
+         show 11 -> part ee401e6d+0\n\
+         clone 1 3 -> ok\n\
+         show 1 -> text f62a53\n\
+         put 11 - -> ok\n\
+         show 11 -> part ee401e6d+0\n\
+         show 11 -> part ee401e6d+0\n\
+         take 1 1 -> bytes f6\n\
+         show 1 -> text 2a53\n\
+         show 1 -> text 2a53\n\
+         freeze 14 14 -> ok\n\
+         show 14 -> view ec68111e91476b6bb56179000000000000\n\
+         advance 3 3 -> ok\n\
+         show 3 -> text\n\
+         show 3 -> text\n\
+         split 6 15 1 -> ok\n\
+         show 15 -> view f6\n\
+         drop 7 -> ok\n",
+        "static 3 9 21 -> ok\n\
+         show 9 -> refused N2 WrongKind\n\
+         show 9 -> refused N2 WrongKind\n\
+         new 14 21 1 -> ok\n\
+         show 14 -> part -+21\n\
+         show 16 -> refused N1 NoName\n\
+         put 14 6a87b7505ae1a09ed321d7c7a60d81fe -> ok\n\
+         show 14 -> part 6a87b7505ae1a09ed321d7c7a60d81fe+5\n\
+         bytes 9 84 -> ok\n\
+         show 16 -> refused N1 NoName\n\
+         gather 4 9 3 -> ok\n\
+         static 11 18 23 -> ok\n\
+         show 11 -> view 7374757677\n\
+         show 16 -> refused N1 NoName\n\
+         static 13 12 18 -> ok\n\
+         show 13 -> view 6d6e6f707172\n\
+         bytes 3 - -> ok\n\
+         put 14 21ca -> ok\n\
+         show 14 -> part 6a87b7505ae1a09ed321d7c7a60d81fe21ca+3\n\
+         gather 8 -> ok\n\
+         new 0 12 64 -> ok\n\
+         put 0 0b1a56bc0679 -> ok\n\
+         show 0 -> part 0b1a56bc0679+6\n\
+         show 0 -> part 0b1a56bc0679+6\n\
+         put 0 9291 -> ok\n\
+         static 12 24 26 -> ok\n\
+         show 16 -> refused N1 NoName\n\
+         show 12 -> view 797a\n\
+         put 0 - -> ok\n\
+         put 11 63 -> refused N2 WrongKind\n\
+         static 10 17 18 -> ok\n\
+         show 16 -> refused N1 NoName\n\
+         show 10 -> view 72\n\
+         zeroed 2 5 1 -> ok\n\
+         show 5 -> refused N2 WrongKind\n\
+         show 2 -> part 0000000000+0\n\
+         freeze 14 14 -> ok\n\
+         show 14 -> view 6a87b7505ae1a09ed321d7c7a60d81fe21ca\n\
+         show 14 -> view 6a87b7505ae1a09ed321d7c7a60d81fe21ca\n\
+         split 3 6 0 -> ok\n\
+         show 6 -> view -\n\
+         show 6 -> view -\n\
+         gathermut 15 0 2 -> ok\n\
+         show 15 -> parts 0b1a56bc06799291+4 0000000000+0\n\
+         freeze 15 15 -> ok\n\
+         advance 13 1 -> ok\n\
+         show 13 -> view 6e6f707172\n\
+         clone 6 0 -> ok\n\
+         show 0 -> view -\n\
+         drop 11 -> ok\n\
+         show 11 -> refused N2 WrongKind\n\
+         clone 4 9 -> ok\n\
+         show 4 -> text 84 6a6b6c6d6e6f707172737475\n\
+         drop 8 -> ok\n\
+         show 8 -> refused N2 WrongKind\n\
+         gather 5 6 12 10 14 13 0 3 -> ok\n\
+         show 6 -> refused N2 WrongKind\n\
+         drop 4 -> ok\n\
+         show 4 -> refused N2 WrongKind\n\
+         coalesce 9 4 -> ok\n\
+         show 4 -> view 846a6b6c6d6e6f707172737475\n\
+         show 4 -> view 846a6b6c6d6e6f707172737475\n\
+         split 4 7 14 -> refused N4 OutOfRange\n\
+         split 4 13 0 -> ok\n\
+         show 13 -> view -\n\
+         static 7 20 24 -> ok\n\
+         show 16 -> refused N1 NoName\n\
+         take 15 13 -> bytes 0b1a56bc067992910000000000\n\
+         zeroed 11 8 1 -> ok\n\
+         show 11 -> part 0000000000000000+0\n\
+         put 11 - -> ok\n\
+         show 11 -> part 0000000000000000+0\n\
+         put 11 - -> ok\n\
+         show 11 -> part 0000000000000000+0\n\
+         show 11 -> part 0000000000000000+0\n\
+         gathermut 12 -> ok\n\
+         put 12 - -> ok\n\
+         static 3 3 7 -> ok\n\
+         show 3 -> view 64656667\n\
+         show 3 -> view 64656667\n\
+         put 11 - -> ok\n\
+         show 11 -> part 0000000000000000+0\n\
+         static 6 2 5 -> ok\n\
+         show 6 -> view 636465\n\
+         split 5 10 25 -> ok\n\
+         show 5 -> text 72\n\
+         show 5 -> text 72\n\
+         split 4 2 13 -> ok\n\
+         show 2 -> view 846a6b6c6d6e6f707172737475\n\
+         slice 4 8 e0 i0 -> refused N4 OutOfRange\n\
+         show 8 -> refused N2 WrongKind\n\
+         show 4 -> view -\n\
+         static 1 20 26 -> ok\n\
+         append 10 3 -> ok\n\
+         show 3 -> refused N2 WrongKind\n\
+         show 3 -> refused N2 WrongKind\n\
+         slice 4 14 i0 e0 -> ok\n\
+         show 14 -> view -\n\
+         clear 11 -> ok\n\
+         append 5 14 -> ok\n",
+        "static 4 15 15 -> ok\n\
+         show 4 -> view -\n\
+         recover 4 7 -> ok\n\
+         zeroed 2 2 1 -> ok\n\
+         show 2 -> part 0000+0\n\
+         static 14 15 15 -> ok\n\
+         show 15 -> refused N2 WrongKind\n\
+         static 9 4 22 -> ok\n\
+         fill 2 4 1 -> refused N4 OutOfRange\n\
+         show 4 -> refused N2 WrongKind\n\
+         put 7 - -> ok\n\
+         show 7 -> part -+0\n\
+         new 6 9 0 -> refused N5 BadLayout\n\
+         show 6 -> refused N2 WrongKind\n\
+         put 2 - -> ok\n\
+         show 2 -> part 0000+0\n\
+         show 2 -> part 0000+0\n\
+         static 1 20 22 -> ok\n\
+         show 1 -> view 7576\n\
+         zeroed 11 8 1 -> ok\n\
+         put 2 - -> ok\n\
+         show 2 -> part 0000+0\n\
+         fill 7 43 0 -> ok\n\
+         put 2 - -> ok\n\
+         show 2 -> part 0000+0\n\
+         show 2 -> part 0000+0\n\
+         bytes 13 481cbf -> ok\n\
+         show 13 -> view 481cbf\n\
+         static 3 19 25 -> ok\n\
+         put 7 - -> ok\n\
+         put 7 - -> ok\n\
+         show 7 -> part -+0\n\
+         show 7 -> part -+0\n\
+         setlen 7 0 -> ok\n\
+         split 9 6 18 -> ok\n\
+         drop 14 -> ok\n\
+         fill 2 81 1 -> refused N4 OutOfRange\n\
+         static 15 16 20 -> ok\n\
+         show 16 -> refused N1 NoName\n\
+         show 15 -> view 71727374\n\
+         put 2 - -> ok\n\
+         show 2 -> part 0000+0\n\
+         freeze 2 10 -> ok\n\
+         show 10 -> view 0000\n\
+         freeze 7 14 -> ok\n\
+         show 7 -> refused N2 WrongKind\n\
+         drop 3 -> ok\n\
+         put 11 - -> ok\n\
+         show 11 -> part 0000000000000000+0\n\
+         show 11 -> part 0000000000000000+0\n\
+         static 0 6 21 -> ok\n\
+         drop 15 -> ok\n\
+         show 15 -> refused N2 WrongKind\n\
+         show 15 -> refused N2 WrongKind\n\
+         new 2 14 3 -> refused N5 BadLayout\n\
+         show 14 -> view -\n\
+         new 12 19 3 -> refused N5 BadLayout\n\
+         show 16 -> refused N1 NoName\n\
+         show 12 -> refused N2 WrongKind\n\
+         put 11 - -> ok\n\
+         show 11 -> part 0000000000000000+0\n\
+         static 2 26 26 -> ok\n\
+         show 16 -> refused N1 NoName\n\
+         show 16 -> refused N1 NoName\n\
+         drop 0 -> ok\n\
+         show 0 -> refused N2 WrongKind\n\
+         show 0 -> refused N2 WrongKind\n\
+         put 11 - -> ok\n\
+         show 11 -> part 0000000000000000+0\n\
+         new 5 19 64 -> ok\n\
+         show 5 -> part -+19\n\
+         encode 14 7 -> ok\n\
+         drop 14 -> ok\n\
+         show 14 -> refused N2 WrongKind\n\
+         take 5 0 -> bytes -\n\
+         show 0 -> refused N2 WrongKind\n\
+         recover 1 1 -> refused N7 Declined\n\
+         put 11 - -> ok\n\
+         show 11 -> part 0000000000000000+0\n\
+         show 11 -> part 0000000000000000+0\n\
+         new 14 5 0 -> refused N5 BadLayout\n\
+         build 3 7 i8acbcc p6 p13 i7856 i- -> ok\n\
+         show 3 -> text 8acbcc 65666768696a6b6c6d6e6f70717273747576 481cbf 7856\n\
+         put 11 - -> ok\n\
+         new 14 13 2 -> ok\n\
+         append 3 9 -> ok\n\
+         put 11 - -> ok\n\
+         show 11 -> part 0000000000000000+0\n\
+         show 11 -> part 0000000000000000+0\n\
+         new 0 10 8 -> ok\n\
+         show 10 -> view 0000\n\
+         show 10 -> view 0000\n\
+         advance 2 0 -> ok\n\
+         advance 3 26 -> ok\n\
+         show 3 -> text\n\
+         clone 2 6 -> ok\n\
+         show 6 -> view -\n\
+         truncate 5 0 -> ok\n\
+         put 0 704dac8b10c00b17 -> ok\n\
+         gather 9 6 2 1 10 -> ok\n",
+        "new 1 15 3 -> refused N5 BadLayout\n\
+         bytes 4 22f9bc3829513be486 -> ok\n\
+         static 7 13 16 -> ok\n\
+         show 13 -> refused N2 WrongKind\n\
+         show 7 -> view 6e6f70\n\
+         static 12 14 20 -> ok\n\
+         show 12 -> view 6f7071727374\n\
+         split 4 5 9 -> ok\n\
+         show 4 -> view -\n\
+         bytes 14 - -> ok\n\
+         show 14 -> view -\n\
+         show 14 -> view -\n\
+         new 11 6 1 -> ok\n\
+         show 11 -> part -+6\n\
+         new 15 17 8 -> ok\n\
+         show 15 -> part -+17\n\
+         new 1 14 0 -> refused N5 BadLayout\n\
+         clone 12 10 -> ok\n\
+         show 12 -> view 6f7071727374\n\
+         new 6 19 2 -> ok\n\
+         show 16 -> refused N1 NoName\n\
+         gather 1 10 7 -> ok\n\
+         put 11 dd5a79 -> ok\n\
+         show 11 -> part dd5a79+3\n\
+         zeroed 7 5 1 -> ok\n\
+         bytes 13 cf29eaf62223b71f -> ok\n\
+         fill 9 238 1 -> refused N2 WrongKind\n\
+         advance 3 0 -> refused N2 WrongKind\n\
+         show 3 -> refused N2 WrongKind\n\
+         show 3 -> refused N2 WrongKind\n\
+         take 12 5 -> bytes 6f70717273\n\
+         show 12 -> view 74\n\
+         show 5 -> view 22f9bc3829513be486\n\
+         put 11 8f -> ok\n\
+         put 15 e585c393df1ea45e61062af7658629 -> ok\n\
+         static 10 9 10 -> ok\n\
+         show 10 -> view 6a\n\
+         show 9 -> refused N2 WrongKind\n\
+         recover 10 10 -> refused N7 Declined\n\
+         show 10 -> view 6a\n\
+         append 1 12 -> ok\n\
+         recover 5 12 -> refused N7 Declined\n\
+         show 12 -> refused N2 WrongKind\n\
+         setlen 15 8 -> ok\n\
+         show 8 -> refused N2 WrongKind\n\
+         show 15 -> part e585c393df1ea45e+9\n\
+         take 6 0 -> bytes -\n\
+         show 0 -> refused N2 WrongKind\n\
+         advance 4 0 -> ok\n\
+         show 4 -> view -\n\
+         gather 3 5 10 14 4 13 -> ok\n\
+         show 3 -> text 22f9bc3829513be486 6a cf29eaf62223b71f\n\
+         put 7 - -> ok\n\
+         put 11 cf -> ok\n\
+         gathermut 0 6 11 -> ok\n\
+         show 6 -> refused N2 WrongKind\n\
+         show 6 -> refused N2 WrongKind\n\
+         advance 0 5 -> ok\n\
+         put 7 - -> ok\n\
+         show 7 -> part 0000000000+0\n\
+         show 7 -> part 0000000000+0\n\
+         put 0 d3ece50315a45f -> ok\n\
+         static 2 23 26 -> ok\n\
+         show 16 -> refused N1 NoName\n\
+         put 15 4a7b06790b3ef2 -> ok\n\
+         show 15 -> part e585c393df1ea45e4a7b06790b3ef2+2\n\
+         zeroed 10 3 1 -> ok\n\
+         show 10 -> part 000000+0\n\
+         show 3 -> text 22f9bc3829513be486 6a cf29eaf62223b71f\n\
+         put 10 - -> ok\n\
+         show 10 -> part 000000+0\n\
+         put 7 - -> ok\n\
+         put 15 a52f -> ok\n\
+         new 11 19 1 -> ok\n\
+         show 16 -> refused N1 NoName\n\
+         show 11 -> part -+19\n\
+         static 14 26 26 -> ok\n\
+         show 14 -> view -\n\
+         show 14 -> view -\n\
+         recover 14 14 -> ok\n\
+         show 14 -> part -+0\n\
+         gather 4 2 -> ok\n\
+         show 2 -> refused N2 WrongKind\n\
+         show 2 -> refused N2 WrongKind\n\
+         clone 1 5 -> ok\n\
+         show 5 -> text 6f7071727374 6e6f70 74\n\
+         show 5 -> text 6f7071727374 6e6f70 74\n\
+         drop 1 -> ok\n\
+         show 1 -> refused N2 WrongKind\n\
+         drop 0 -> ok\n\
+         show 0 -> refused N2 WrongKind\n\
+         put 15 - -> ok\n\
+         show 15 -> part e585c393df1ea45e4a7b06790b3ef2a52f+0\n\
+         static 0 24 24 -> ok\n\
+         show 0 -> view -\n\
+         show 16 -> refused N1 NoName\n\
+         setlen 10 1 -> ok\n\
+         show 1 -> refused N2 WrongKind\n\
+         prepend 5 0 -> ok\n\
+         show 0 -> refused N2 WrongKind\n",
+        "bytes 11 45c544 -> ok\n\
+         show 11 -> view 45c544\n\
+         split 11 13 0 -> ok\n\
+         show 11 -> view 45c544\n\
+         show 13 -> view -\n\
+         new 8 15 64 -> ok\n\
+         show 15 -> refused N2 WrongKind\n\
+         put 8 dfc9 -> ok\n\
+         show 8 -> part dfc9+13\n\
+         show 8 -> part dfc9+13\n\
+         build 10 3 p11 i93 p13 i- ieb -> ok\n\
+         show 10 -> text 45c544 93eb\n\
+         new 7 11 3 -> refused N5 BadLayout\n\
+         show 11 -> refused N2 WrongKind\n\
+         put 8 e57a5a4e78ee5967 -> ok\n\
+         fill 8 162 3 -> ok\n\
+         new 12 3 3 -> refused N5 BadLayout\n\
+         show 12 -> refused N2 WrongKind\n\
+         show 3 -> refused N2 WrongKind\n\
+         static 7 3 22 -> ok\n\
+         show 7 -> view 6465666768696a6b6c6d6e6f70717273747576\n\
+         show 3 -> refused N2 WrongKind\n\
+         new 5 0 2 -> ok\n\
+         show 5 -> part -+0\n\
+         show 0 -> refused N2 WrongKind\n\
+         put 5 - -> ok\n\
+         show 5 -> part -+0\n\
+         show 5 -> part -+0\n\
+         static 0 7 11 -> ok\n\
+         bytes 13 - -> ok\n\
+         show 13 -> view -\n\
+         show 13 -> view -\n\
+         fill 8 134 2 -> ok\n\
+         show 8 -> part dfc9e57a5a4e78ee5967a2a2a28686+0\n\
+         show 16 -> refused N1 NoName\n\
+         new 4 4 1 -> ok\n\
+         new 15 0 1 -> ok\n\
+         fill 5 90 0 -> ok\n\
+         show 16 -> refused N1 NoName\n\
+         put 15 - -> ok\n\
+         show 15 -> part -+0\n\
+         show 15 -> part -+0\n\
+         new 6 2 1 -> ok\n\
+         show 6 -> part -+2\n\
+         show 6 -> part -+2\n\
+         gathermut 9 5 4 15 -> ok\n\
+         show 9 -> parts -+4\n\
+         decode 13 12 0 0 -> refused N8 C1 EndOfBuffer\n\
+         show 13 -> view -\n\
+         put 8 - -> ok\n\
+         show 8 -> part dfc9e57a5a4e78ee5967a2a2a28686+0\n\
+         put 6 cc97 -> ok\n\
+         show 6 -> part cc97+0\n\
+         show 6 -> part cc97+0\n\
+         put 9 aa1b0a -> ok\n\
+         show 9 -> parts aa1b0a+1\n\
+         show 9 -> parts aa1b0a+1\n\
+         put 8 - -> ok\n\
+         show 8 -> part dfc9e57a5a4e78ee5967a2a2a28686+0\n\
+         put 9 09 -> ok\n\
+         show 9 -> parts aa1b0a09+0\n\
+         put 6 - -> ok\n\
+         show 6 -> part cc97+0\n\
+         new 5 13 0 -> refused N5 BadLayout\n\
+         show 13 -> view -\n\
+         advance 9 1 -> ok\n\
+         show 9 -> parts 1b0a09+0\n\
+         show 9 -> parts 1b0a09+0\n\
+         take 7 2 -> bytes 6465\n\
+         bytes 15 53 -> ok\n\
+         show 15 -> view 53\n\
+         show 15 -> view 53\n\
+         take 7 14 -> bytes 666768696a6b6c6d6e6f70717273\n\
+         show 14 -> refused N2 WrongKind\n\
+         put 9 - -> ok\n\
+         show 9 -> parts 1b0a09+0\n\
+         show 9 -> parts 1b0a09+0\n\
+         static 2 24 25 -> ok\n\
+         show 2 -> view 79\n\
+         show 2 -> view 79\n\
+         advance 7 2 -> ok\n\
+         show 2 -> view 79\n\
+         show 2 -> view 79\n\
+         drop 15 -> ok\n\
+         new 14 9 1 -> ok\n\
+         show 9 -> parts 1b0a09+0\n\
+         clone 13 5 -> ok\n\
+         show 5 -> view -\n\
+         show 13 -> view -\n\
+         recover 0 0 -> refused N7 Declined\n\
+         show 0 -> view 68696a6b\n\
+         encode 13 12 -> ok\n\
+         show 13 -> view -\n\
+         show 12 -> text 00\n\
+         append 12 13 -> ok\n\
+         show 12 -> text 00\n\
+         show 13 -> refused N2 WrongKind\n\
+         freeze 14 14 -> ok\n\
+         show 14 -> view -\n\
+         gathermut 15 -> ok\n",
+        "new 0 6 1 -> ok\n\
+         static 5 22 22 -> ok\n\
+         put 0 14bd -> ok\n\
+         show 0 -> part 14bd+4\n\
+         show 0 -> part 14bd+4\n\
+         put 0 c471 -> ok\n\
+         show 0 -> part 14bdc471+2\n\
+         show 0 -> part 14bdc471+2\n\
+         put 0 1465 -> ok\n\
+         put 0 - -> ok\n\
+         show 0 -> part 14bdc4711465+0\n\
+         fill 0 60 1 -> refused N4 OutOfRange\n\
+         show 16 -> refused N1 NoName\n\
+         show 16 -> refused N1 NoName\n\
+         drop 0 -> ok\n\
+         show 0 -> refused N2 WrongKind\n\
+         new 4 16 1 -> ok\n\
+         show 16 -> refused N1 NoName\n\
+         show 4 -> part -+16\n\
+         put 4 0a -> ok\n\
+         show 4 -> part 0a+15\n\
+         new 11 21 1 -> ok\n\
+         show 16 -> refused N1 NoName\n\
+         recover 5 5 -> ok\n\
+         bytes 14 92a7a0 -> ok\n\
+         show 14 -> view 92a7a0\n\
+         show 14 -> view 92a7a0\n\
+         gathermut 3 4 5 11 -> ok\n\
+         show 3 -> parts 0a+15 -+21\n\
+         new 2 1 8 -> ok\n\
+         show 2 -> part -+1\n\
+         fill 3 31 18 -> ok\n\
+         bytes 1 c79eb51ce38573a6e7 -> ok\n\
+         show 1 -> view c79eb51ce38573a6e7\n\
+         show 1 -> view c79eb51ce38573a6e7\n\
+         put 2 17 -> ok\n\
+         show 16 -> refused N1 NoName\n\
+         gathermut 4 2 -> ok\n\
+         show 2 -> refused N2 WrongKind\n\
+         new 5 21 2 -> ok\n\
+         show 16 -> refused N1 NoName\n\
+         zeroed 0 5 1 -> ok\n\
+         clear 5 -> ok\n\
+         show 5 -> part -+21\n\
+         bytes 11 828b77ce -> ok\n\
+         show 11 -> view 828b77ce\n\
+         show 11 -> view 828b77ce\n\
+         new 10 23 1 -> ok\n\
+         static 2 4 16 -> ok\n\
+         show 4 -> parts 17+0\n\
+         show 4 -> parts 17+0\n\
+         new 13 1 2 -> ok\n\
+         gathermut 6 -> ok\n\
+         show 6 -> parts -+0\n\
+         show 6 -> parts -+0\n\
+         split 1 7 0 -> ok\n\
+         show 7 -> view -\n\
+         show 1 -> view c79eb51ce38573a6e7\n\
+         advance 13 0 -> ok\n\
+         show 0 -> part 0000000000+0\n\
+         show 13 -> part -+1\n\
+         decode 2 15 0 1024 -> refused N8 C1 EndOfBuffer\n\
+         show 15 -> refused N2 WrongKind\n\
+         freeze 10 8 -> ok\n\
+         show 10 -> refused N2 WrongKind\n\
+         show 10 -> refused N2 WrongKind\n\
+         put 5 14f1f83b6d98e14eec094400dc8cd1ca7df22cc3 -> ok\n\
+         show 5 -> part 14f1f83b6d98e14eec094400dc8cd1ca7df22cc3+1\n\
+         static 15 25 25 -> ok\n\
+         bytes 10 2b92 -> ok\n\
+         drop 10 -> ok\n\
+         take 1 9 -> bytes c79eb51ce38573a6e7\n\
+         static 12 1 15 -> ok\n\
+         drop 15 -> ok\n\
+         show 15 -> refused N2 WrongKind\n\
+         show 15 -> refused N2 WrongKind\n\
+         gathermut 9 5 13 0 -> ok\n\
+         show 9 -> parts 14f1f83b6d98e14eec094400dc8cd1ca7df22cc3+1 -+1 0000000000+0\n\
+         show 5 -> refused N2 WrongKind\n\
+         drop 4 -> ok\n\
+         put 3 e1b063466eb63831119d009bea -> ok\n\
+         advance 3 7 -> ok\n\
+         gather 5 1 8 7 2 11 14 12 -> ok\n\
+         show 5 -> text 65666768696a6b6c6d6e6f70 828b77ce 92a7a0 62636465666768696a6b6c6d6e6f\n\
+         show 1 -> refused N2 WrongKind\n\
+         put 6 - -> ok\n\
+         show 6 -> parts -+0\n\
+         show 6 -> parts -+0\n\
+         put 9 - -> ok\n\
+         bytes 14 089efb88 -> ok\n\
+         show 14 -> view 089efb88\n\
+         show 14 -> view 089efb88\n\
+         new 8 17 1 -> ok\n\
+         show 16 -> refused N1 NoName\n\
+         zeroed 7 2 1 -> ok\n\
+         put 6 - -> ok\n\
+         show 6 -> parts -+0\n\
+         show 6 -> parts -+0\n\
+         new 4 7 8 -> ok\n\
+         show 4 -> part -+7\n",
+        "gathermut 12 -> ok\n\
+         put 12 - -> ok\n\
+         bytes 11 - -> ok\n\
+         new 6 14 2 -> ok\n\
+         show 6 -> part -+14\n\
+         advance 11 0 -> ok\n\
+         put 6 65 -> ok\n\
+         put 6 c62fd6362ff6edc60d6889 -> ok\n\
+         static 5 0 9 -> ok\n\
+         show 0 -> refused N2 WrongKind\n\
+         put 6 89f5 -> ok\n\
+         put 12 - -> ok\n\
+         show 12 -> parts -+0\n\
+         show 12 -> parts -+0\n\
+         split 5 10 7 -> ok\n\
+         show 5 -> view 6869\n\
+         split 5 9 1 -> ok\n\
+         bytes 0 d85600dbb2ace7fae9 -> ok\n\
+         split 10 4 0 -> ok\n\
+         static 8 26 26 -> ok\n\
+         show 16 -> refused N1 NoName\n\
+         show 16 -> refused N1 NoName\n\
+         encode 0 13 -> ok\n\
+         overwrite 6 b05cade3b8837590edcf5dc0f72aee -> refused N4 OutOfRange\n\
+         drop 11 -> ok\n\
+         show 11 -> refused N2 WrongKind\n\
+         show 11 -> refused N2 WrongKind\n\
+         put 16 dc1bfe -> refused N1 NoName\n\
+         show 16 -> refused N1 NoName\n\
+         freeze 6 2 -> ok\n\
+         show 6 -> refused N2 WrongKind\n\
+         show 2 -> view 65c62fd6362ff6edc60d688989f5\n\
+         recover 8 7 -> ok\n\
+         show 8 -> refused N2 WrongKind\n\
+         freeze 12 12 -> ok\n\
+         show 12 -> text\n\
+         show 12 -> text\n\
+         put 7 - -> ok\n\
+         show 7 -> part -+0\n\
+         show 7 -> part -+0\n\
+         prepend 13 5 -> ok\n\
+         static 15 15 22 -> ok\n\
+         show 15 -> view 70717273747576\n\
+         show 15 -> view 70717273747576\n\
+         build 5 3 i- p0 i822b -> ok\n\
+         show 5 -> text d85600dbb2ace7fae9 822b\n\
+         gathermut 3 7 -> ok\n\
+         show 7 -> refused N2 WrongKind\n\
+         show 7 -> refused N2 WrongKind\n\
+         coalesce 12 1 -> ok\n\
+         decode 15 7 0 1024 -> refused N8 C1 EndOfBuffer\n\
+         show 7 -> refused N2 WrongKind\n\
+         show 7 -> refused N2 WrongKind\n\
+         gathermut 11 -> ok\n\
+         show 11 -> parts -+0\n\
+         take 13 11 -> bytes 6909d85600dbb2ace7fae9\n\
+         show 13 -> text\n\
+         slice 4 0 e0 e0 -> refused N4 OutOfRange\n\
+         show 4 -> view -\n\
+         bytes 8 c1b9c0 -> ok\n\
+         slice 9 0 e0 i0 -> ok\n\
+         show 9 -> view 68\n\
+         show 9 -> view 68\n\
+         drop 10 -> ok\n\
+         show 10 -> refused N2 WrongKind\n\
+         recover 1 14 -> ok\n\
+         show 1 -> refused N2 WrongKind\n\
+         show 1 -> refused N2 WrongKind\n\
+         freeze 3 3 -> ok\n\
+         put 14 - -> ok\n\
+         show 14 -> part -+0\n\
+         advance 14 0 -> ok\n\
+         static 6 11 23 -> ok\n\
+         show 6 -> view 6c6d6e6f7071727374757677\n\
+         show 6 -> view 6c6d6e6f7071727374757677\n\
+         zeroed 12 5 1 -> ok\n\
+         split 11 10 0 -> refused N2 WrongKind\n\
+         show 11 -> parts -+0\n\
+         decode 0 10 0 0 -> refused N8 C1 EndOfBuffer\n\
+         show 10 -> refused N2 WrongKind\n\
+         show 10 -> refused N2 WrongKind\n\
+         advance 0 0 -> ok\n\
+         show 0 -> view -\n\
+         show 0 -> view -\n\
+         prepend 13 2 -> ok\n\
+         show 13 -> text 65c62fd6362ff6edc60d688989f5\n\
+         new 10 4 3 -> refused N5 BadLayout\n\
+         new 7 0 8 -> ok\n\
+         prepend 13 6 -> ok\n\
+         show 13 -> text 6c6d6e6f7071727374757677 65c62fd6362ff6edc60d688989f5\n\
+         take 11 0 -> bytes -\n\
+         show 11 -> parts -+0\n\
+         slice 9 1 u e0 -> ok\n\
+         bytes 10 fee269ca -> ok\n\
+         show 10 -> view fee269ca\n\
+         advance 11 0 -> ok\n\
+         show 11 -> parts -+0\n\
+         new 2 23 1 -> ok\n\
+         show 16 -> refused N1 NoName\n\
+         show 2 -> part -+23\n",
+        "new 6 3 8 -> ok\n\
+         gathermut 7 -> ok\n\
+         show 7 -> parts -+0\n\
+         zeroed 13 1 1 -> ok\n\
+         static 3 5 16 -> ok\n\
+         show 5 -> refused N2 WrongKind\n\
+         show 3 -> view 666768696a6b6c6d6e6f70\n\
+         zeroed 11 5 1 -> ok\n\
+         show 11 -> part 0000000000+0\n\
+         show 11 -> part 0000000000+0\n\
+         truncate 6 0 -> ok\n\
+         put 7 - -> ok\n\
+         show 7 -> parts -+0\n\
+         put 6 - -> ok\n\
+         show 6 -> part -+3\n\
+         show 6 -> part -+3\n\
+         put 13 - -> ok\n\
+         show 13 -> part 00+0\n\
+         advance 3 11 -> ok\n\
+         show 3 -> view -\n\
+         show 3 -> view -\n\
+         recover 3 12 -> ok\n\
+         show 3 -> refused N2 WrongKind\n\
+         show 3 -> refused N2 WrongKind\n\
+         put 13 - -> ok\n\
+         show 13 -> part 00+0\n\
+         put 11 - -> ok\n\
+         put 7 - -> ok\n\
+         static 9 15 26 -> ok\n\
+         new 1 16 8 -> ok\n\
+         put 1 7f22f68f02dcc5ce7f0511 -> ok\n\
+         show 1 -> part 7f22f68f02dcc5ce7f0511+5\n\
+         show 1 -> part 7f22f68f02dcc5ce7f0511+5\n\
+         bytes 0 - -> ok\n\
+         put 7 - -> ok\n\
+         show 7 -> parts -+0\n\
+         new 10 18 3 -> refused N5 BadLayout\n\
+         show 16 -> refused N1 NoName\n\
+         new 8 5 1 -> ok\n\
+         show 8 -> part -+5\n\
+         take 7 0 -> bytes -\n\
+         show 7 -> parts -+0\n\
+         show 0 -> view -\n\
+         drop 11 -> ok\n\
+         static 10 6 24 -> ok\n\
+         drop 1 -> ok\n\
+         show 1 -> refused N2 WrongKind\n\
+         put 7 - -> ok\n\
+         show 7 -> parts -+0\n\
+         show 7 -> parts -+0\n\
+         static 1 16 19 -> ok\n\
+         show 1 -> view 717273\n\
+         put 13 - -> ok\n\
+         decode 9 5 0 1024 -> refused N8 C1 EndOfBuffer\n\
+         show 5 -> refused N2 WrongKind\n\
+         advance 7 0 -> ok\n\
+         take 7 0 -> bytes -\n\
+         put 13 - -> ok\n\
+         show 13 -> part 00+0\n\
+         encode 1 5 -> ok\n\
+         show 1 -> view 717273\n\
+         put 6 8a86 -> ok\n\
+         show 6 -> part 8a86+1\n\
+         show 6 -> part 8a86+1\n\
+         bytes 3 d5efdc -> ok\n\
+         show 3 -> view d5efdc\n\
+         decode 1 11 0 18446744073709551615 -> refused N8 C1 EndOfBuffer\n\
+         take 13 1 -> bytes 00\n\
+         show 1 -> view 717273\n\
+         gathermut 4 13 8 6 12 -> ok\n\
+         show 4 -> parts -+5 8a86+1\n\
+         show 13 -> refused N2 WrongKind\n\
+         new 6 21 3 -> refused N5 BadLayout\n\
+         show 6 -> refused N2 WrongKind\n\
+         put 7 - -> ok\n\
+         show 7 -> parts -+0\n\
+         show 7 -> parts -+0\n\
+         fill 4 117 2 -> ok\n\
+         show 16 -> refused N1 NoName\n\
+         show 16 -> refused N1 NoName\n\
+         static 6 23 25 -> ok\n\
+         new 15 8 3 -> refused N5 BadLayout\n\
+         show 8 -> refused N2 WrongKind\n\
+         show 8 -> refused N2 WrongKind\n\
+         split 6 2 2 -> ok\n\
+         show 2 -> view 7879\n\
+         advance 4 4 -> ok\n\
+         show 4 -> parts -+3 -+1\n\
+         show 4 -> parts -+3 -+1\n\
+         encode 9 12 -> ok\n\
+         show 12 -> text 0b 707172737475767778797a\n\
+         append 5 2 -> ok\n\
+         show 2 -> refused N2 WrongKind\n\
+         show 5 -> text 03 717273 7879\n\
+         split 6 2 0 -> ok\n\
+         drop 4 -> ok\n\
+         gather 13 0 1 9 3 2 3 10 -> refused N3 InUse\n\
+         show 13 -> refused N2 WrongKind\n\
+         show 13 -> refused N2 WrongKind\n\
+         put 7 - -> ok\n",
+        "new 10 4 64 -> ok\n\
+         new 4 6 8 -> ok\n\
+         put 4 - -> ok\n\
+         show 4 -> part -+6\n\
+         zeroed 0 1 1 -> ok\n\
+         show 0 -> part 00+0\n\
+         show 1 -> refused N2 WrongKind\n\
+         put 10 c3dd -> ok\n\
+         show 10 -> part c3dd+2\n\
+         put 4 002654ba -> ok\n\
+         show 4 -> part 002654ba+2\n\
+         new 9 8 1 -> ok\n\
+         show 8 -> refused N2 WrongKind\n\
+         show 8 -> refused N2 WrongKind\n\
+         new 13 16 8 -> ok\n\
+         show 16 -> refused N1 NoName\n\
+         put 9 28 -> ok\n\
+         show 9 -> part 28+7\n\
+         bytes 3 d5ed285f56b661ae -> ok\n\
+         show 3 -> view d5ed285f56b661ae\n\
+         show 3 -> view d5ed285f56b661ae\n\
+         static 6 0 22 -> ok\n\
+         show 6 -> view 6162636465666768696a6b6c6d6e6f70717273747576\n\
+         bytes 14 - -> ok\n\
+         show 14 -> view -\n\
+         show 14 -> view -\n\
+         put 10 a6 -> ok\n\
+         show 10 -> part c3dda6+1\n\
+         show 10 -> part c3dda6+1\n\
+         zeroed 15 5 1 -> ok\n\
+         show 5 -> refused N2 WrongKind\n\
+         recover 3 3 -> refused N7 Declined\n\
+         show 3 -> view d5ed285f56b661ae\n\
+         show 3 -> view d5ed285f56b661ae\n\
+         gathermut 8 13 9 15 -> ok\n\
+         show 13 -> refused N2 WrongKind\n\
+         put 10 - -> ok\n\
+         show 10 -> part c3dda6+1\n\
+         take 8 1 -> bytes 28\n\
+         show 1 -> refused N2 WrongKind\n\
+         new 13 6 64 -> ok\n\
+         put 8 ffe517f8f7ede97f58faf511d4f6501d2711 -> ok\n\
+         zeroed 5 0 1 -> ok\n\
+         show 0 -> part 00+0\n\
+         show 5 -> part -+0\n\
+         put 4 35b6 -> ok\n\
+         recover 14 9 -> ok\n\
+         show 14 -> refused N2 WrongKind\n\
+         split 3 14 8 -> ok\n\
+         show 14 -> view d5ed285f56b661ae\n\
+         show 14 -> view d5ed285f56b661ae\n\
+         put 4 - -> ok\n\
+         show 4 -> part 002654ba35b6+0\n\
+         build 1 4 i9617 p6 p14 -> ok\n\
+         put 10 26 -> ok\n\
+         show 10 -> part c3dda626+0\n\
+         show 10 -> part c3dda626+0\n\
+         advance 8 16 -> ok\n\
+         show 8 -> parts 2711+5 0000000000+0\n\
+         gathermut 11 10 9 5 13 0 4 -> ok\n\
+         new 5 9 3 -> refused N5 BadLayout\n\
+         put 8 6b -> ok\n\
+         static 1 15 23 -> refused N3 InUse\n\
+         show 1 -> text 9617 6162636465666768696a6b6c6d6e6f70717273747576 d5ed285f56b661ae\n\
+         zeroed 10 0 1 -> ok\n\
+         show 0 -> refused N2 WrongKind\n\
+         show 10 -> part -+0\n\
+         new 6 23 1 -> ok\n\
+         show 6 -> part -+23\n\
+         put 11 d6 -> ok\n\
+         show 11 -> parts c3dda626+0 d6+5 00+0 002654ba35b6+0\n\
+         new 2 11 3 -> refused N5 BadLayout\n\
+         show 2 -> refused N2 WrongKind\n\
+         show 2 -> refused N2 WrongKind\n\
+         fill 11 120 0 -> ok\n\
+         show 11 -> parts c3dda626+0 d6+5 00+0 002654ba35b6+0\n\
+         show 11 -> parts c3dda626+0 d6+5 00+0 002654ba35b6+0\n\
+         put 11 e301f99bfe -> ok\n\
+         show 11 -> parts c3dda626+0 d6e301f99bfe+0 00+0 002654ba35b6+0\n\
+         show 11 -> parts c3dda626+0 d6e301f99bfe+0 00+0 002654ba35b6+0\n\
+         zeroed 5 2 1 -> ok\n\
+         put 5 - -> ok\n\
+         show 5 -> part 0000+0\n\
+         show 5 -> part 0000+0\n\
+         zeroed 13 2 1 -> ok\n\
+         show 2 -> refused N2 WrongKind\n\
+         show 13 -> part 0000+0\n\
+         new 15 4 1 -> ok\n\
+         show 4 -> refused N2 WrongKind\n\
+         fill 13 255 0 -> ok\n\
+         decode 1 2 0 5 -> refused N8 C3 InvalidLength 2966\n\
+         gather 12 3 -> ok\n\
+         show 12 -> text\n\
+         take 15 0 -> bytes -\n\
+         show 0 -> refused N2 WrongKind\n\
+         show 15 -> part -+4\n\
+         build 9 9 i03 i6db688 i73ca i52 iee -> ok\n\
+         show 9 -> text 036db68873ca52ee\n\
+         show 9 -> text 036db68873ca52ee\n\
+         put 6 c4297542902e7a823e49 -> ok\n",
+        "static 10 3 19 -> ok\n\
+         zeroed 14 1 1 -> ok\n\
+         static 12 18 18 -> ok\n\
+         show 12 -> view -\n\
+         show 12 -> view -\n\
+         new 13 19 3 -> refused N5 BadLayout\n\
+         show 16 -> refused N1 NoName\n\
+         put 14 - -> ok\n\
+         put 14 - -> ok\n\
+         new 13 8 8 -> ok\n\
+         put 13 3558cfbf -> ok\n\
+         show 13 -> part 3558cfbf+4\n\
+         show 13 -> part 3558cfbf+4\n\
+         gather 3 12 10 -> ok\n\
+         show 12 -> refused N2 WrongKind\n\
+         zeroed 8 5 1 -> ok\n\
+         show 5 -> refused N2 WrongKind\n\
+         fill 14 98 0 -> ok\n\
+         show 16 -> refused N1 NoName\n\
+         zeroed 15 4 1 -> ok\n\
+         put 15 - -> ok\n\
+         put 15 - -> ok\n\
+         decode 3 2 0 5 -> refused N8 C3 InvalidLength 100\n\
+         gathermut 10 -> ok\n\
+         show 10 -> parts -+0\n\
+         gathermut 11 14 8 -> ok\n\
+         show 11 -> parts 00+0 0000000000+0\n\
+         put 10 - -> ok\n\
+         show 10 -> parts -+0\n\
+         show 10 -> parts -+0\n\
+         new 6 19 0 -> refused N5 BadLayout\n\
+         new 2 7 3 -> refused N5 BadLayout\n\
+         show 2 -> refused N2 WrongKind\n\
+         show 7 -> refused N2 WrongKind\n\
+         new 2 5 0 -> refused N5 BadLayout\n\
+         show 2 -> refused N2 WrongKind\n\
+         show 5 -> refused N2 WrongKind\n\
+         gathermut 0 13 15 -> ok\n\
+         show 0 -> parts 3558cfbf+4 00000000+0\n\
+         coalesce 3 3 -> ok\n\
+         bytes 6 6fc329999800e96f -> ok\n\
+         clone 3 1 -> ok\n\
+         put 10 - -> ok\n\
+         show 10 -> parts -+0\n\
+         put 11 - -> ok\n\
+         new 9 19 1 -> ok\n\
+         show 16 -> refused N1 NoName\n\
+         new 8 11 0 -> refused N5 BadLayout\n\
+         show 8 -> refused N2 WrongKind\n\
+         static 14 19 26 -> ok\n\
+         show 14 -> view 7475767778797a\n\
+         advance 3 4 -> ok\n\
+         encode 1 4 -> ok\n\
+         show 4 -> text 10 6465666768696a6b6c6d6e6f70717273\n\
+         show 4 -> text 10 6465666768696a6b6c6d6e6f70717273\n\
+         append 4 6 -> ok\n\
+         show 6 -> refused N2 WrongKind\n\
+         show 6 -> refused N2 WrongKind\n\
+         gathermut 6 9 -> ok\n\
+         drop 11 -> ok\n\
+         put 6 102b1e0f88e26cbaea5d -> ok\n\
+         show 6 -> parts 102b1e0f88e26cbaea5d+9\n\
+         fill 0 208 3 -> ok\n\
+         show 16 -> refused N1 NoName\n\
+         show 0 -> parts 3558cfbfd0d0d0+1 00000000+0\n\
+         put 10 - -> ok\n\
+         put 0 4e -> ok\n\
+         show 0 -> parts 3558cfbfd0d0d04e+0 00000000+0\n\
+         show 0 -> parts 3558cfbfd0d0d04e+0 00000000+0\n\
+         fill 0 171 1 -> refused N4 OutOfRange\n\
+         show 16 -> refused N1 NoName\n\
+         show 16 -> refused N1 NoName\n\
+         put 10 - -> ok\n\
+         show 10 -> parts -+0\n\
+         coalesce 0 13 -> ok\n\
+         show 0 -> refused N2 WrongKind\n\
+         show 13 -> part 3558cfbfd0d0d04e00000000+0\n\
+         put 10 - -> ok\n\
+         new 9 16 8 -> ok\n\
+         new 2 10 3 -> refused N5 BadLayout\n\
+         show 2 -> refused N2 WrongKind\n\
+         show 10 -> parts -+0\n\
+         drop 4 -> ok\n\
+         zeroed 7 8 1 -> ok\n\
+         put 13 - -> ok\n\
+         static 0 14 18 -> ok\n\
+         show 14 -> view 7475767778797a\n\
+         split 0 11 5 -> refused N4 OutOfRange\n\
+         show 11 -> refused N2 WrongKind\n\
+         show 11 -> refused N2 WrongKind\n\
+         decode 0 5 0 0 -> refused N8 C3 InvalidLength 111\n\
+         show 0 -> view 6f707172\n\
+         show 0 -> view 6f707172\n\
+         new 2 9 1 -> ok\n\
+         show 9 -> part -+16\n\
+         show 2 -> part -+9\n\
+         new 6 20 8 -> refused N3 InUse\n\
+         put 13 47 -> refused N4 OutOfRange\n\
+         show 16 -> refused N1 NoName\n\
+         clear 13 -> ok\n",
+        "zeroed 0 2 1 -> ok\n\
+         show 2 -> refused N2 WrongKind\n\
+         zeroed 15 7 1 -> ok\n\
+         show 15 -> part 00000000000000+0\n\
+         show 15 -> part 00000000000000+0\n\
+         put 0 - -> ok\n\
+         show 0 -> part 0000+0\n\
+         show 0 -> part 0000+0\n\
+         put 0 - -> ok\n\
+         show 0 -> part 0000+0\n\
+         new 1 23 64 -> ok\n\
+         fill 2 236 0 -> refused N2 WrongKind\n\
+         show 2 -> refused N2 WrongKind\n\
+         put 15 - -> ok\n\
+         put 1 7b38746e9db27d -> ok\n\
+         show 1 -> part 7b38746e9db27d+16\n\
+         show 1 -> part 7b38746e9db27d+16\n\
+         new 4 9 0 -> refused N5 BadLayout\n\
+         show 4 -> refused N2 WrongKind\n\
+         show 9 -> refused N2 WrongKind\n\
+         put 1 041f179295fa32fef2d8203e -> ok\n\
+         fill 1 52 4 -> ok\n\
+         bytes 14 bb9e62d1f313 -> ok\n\
+         fill 1 181 1 -> refused N4 OutOfRange\n\
+         static 4 15 20 -> ok\n\
+         put 1 - -> ok\n\
+         show 1 -> part 7b38746e9db27d041f179295fa32fef2d8203e34343434+0\n\
+         show 1 -> part 7b38746e9db27d041f179295fa32fef2d8203e34343434+0\n\
+         new 5 16 64 -> ok\n\
+         show 16 -> refused N1 NoName\n\
+         show 5 -> part -+16\n\
+         static 10 5 6 -> ok\n\
+         show 5 -> part -+16\n\
+         show 5 -> part -+16\n\
+         put 15 - -> ok\n\
+         show 15 -> part 00000000000000+0\n\
+         show 15 -> part 00000000000000+0\n\
+         put 5 26dfd92ac57e2bcbbbc4 -> ok\n\
+         put 1 - -> ok\n\
+         bytes 8 e55004 -> ok\n\
+         gather 11 8 10 4 14 -> ok\n\
+         show 8 -> refused N2 WrongKind\n\
+         show 11 -> text e55004 66 7071727374 bb9e62d1f313\n\
+         new 3 2 0 -> refused N5 BadLayout\n\
+         show 3 -> refused N2 WrongKind\n\
+         gathermut 12 5 15 1 0 -> ok\n\
+         put 12 86a18aab -> ok\n\
+         show 12 -> parts 26dfd92ac57e2bcbbbc486a18aab+2 00000000000000+0 7b38746e9db27d041f179295fa32fef2d8203e34343434+0 0000+0\n\
+         show 12 -> parts 26dfd92ac57e2bcbbbc486a18aab+2 00000000000000+0 7b38746e9db27d041f179295fa32fef2d8203e34343434+0 0000+0\n\
+         setlen 12 42 -> ok\n\
+         show 16 -> refused N1 NoName\n\
+         show 12 -> parts 26dfd92ac57e2bcbbbc486a18aab0000+0 00000000000000+0 7b38746e9db27d041f179295fa32fef2d8203e+4 -+2\n\
+         bytes 14 590f19b793e5c2d96c -> ok\n\
+         new 2 14 3 -> refused N5 BadLayout\n\
+         show 2 -> refused N2 WrongKind\n\
+         show 14 -> view 590f19b793e5c2d96c\n\
+         bytes 0 f6ca263008e495a8 -> ok\n\
+         show 0 -> view f6ca263008e495a8\n\
+         show 0 -> view f6ca263008e495a8\n\
+         fill 12 165 0 -> ok\n\
+         show 12 -> parts 26dfd92ac57e2bcbbbc486a18aab0000+0 00000000000000+0 7b38746e9db27d041f179295fa32fef2d8203e+4 -+2\n\
+         show 12 -> parts 26dfd92ac57e2bcbbbc486a18aab0000+0 00000000000000+0 7b38746e9db27d041f179295fa32fef2d8203e+4 -+2\n\
+         split 0 4 8 -> ok\n\
+         show 0 -> view -\n\
+         new 2 20 64 -> ok\n\
+         show 2 -> part -+20\n\
+         show 2 -> part -+20\n\
+         bytes 8 - -> ok\n\
+         show 8 -> view -\n\
+         put 2 22b9cb51c6908c4f8051d0607762 -> ok\n\
+         fill 2 74 1 -> ok\n\
+         show 2 -> part 22b9cb51c6908c4f8051d06077624a+5\n\
+         clone 4 13 -> ok\n\
+         show 4 -> view f6ca263008e495a8\n\
+         show 13 -> view f6ca263008e495a8\n\
+         put 12 b37b -> ok\n\
+         show 12 -> parts 26dfd92ac57e2bcbbbc486a18aab0000+0 00000000000000+0 7b38746e9db27d041f179295fa32fef2d8203eb37b+2 -+2\n\
+         fill 12 55 4 -> ok\n\
+         show 12 -> parts 26dfd92ac57e2bcbbbc486a18aab0000+0 00000000000000+0 7b38746e9db27d041f179295fa32fef2d8203eb37b3737+0 3737+0\n\
+         show 16 -> refused N1 NoName\n\
+         bytes 7 353d57 -> ok\n\
+         show 7 -> view 353d57\n\
+         clone 7 15 -> ok\n\
+         coalesce 12 9 -> ok\n\
+         recover 4 4 -> refused N7 Declined\n\
+         new 1 6 64 -> ok\n\
+         show 1 -> part -+6\n\
+         show 6 -> refused N2 WrongKind\n\
+         put 2 76b2ce8b -> ok\n\
+         show 2 -> part 22b9cb51c6908c4f8051d06077624a76b2ce8b+1\n\
+         put 1 a43c9811 -> ok\n\
+         show 1 -> part a43c9811+2\n\
+         show 1 -> part a43c9811+2\n\
+         build 3 3 p8 p4 p0 -> ok\n\
+         show 3 -> text f6ca263008e495a8\n\
+         decode 7 10 0 0 -> refused N8 C3 InvalidLength 53\n\
+         show 10 -> refused N2 WrongKind\n\
+         encode 14 10 -> ok\n\
+         coalesce 11 11 -> ok\n\
+         show 11 -> view e55004667071727374bb9e62d1f313\n",
+        "new 3 7 3 -> refused N5 BadLayout\n\
+         show 7 -> refused N2 WrongKind\n\
+         show 3 -> refused N2 WrongKind\n\
+         static 10 10 15 -> ok\n\
+         advance 10 6 -> refused N4 OutOfRange\n\
+         show 6 -> refused N2 WrongKind\n\
+         static 3 8 16 -> ok\n\
+         bytes 4 5d7f -> ok\n\
+         show 4 -> view 5d7f\n\
+         show 4 -> view 5d7f\n\
+         new 7 1 8 -> ok\n\
+         show 1 -> refused N2 WrongKind\n\
+         show 7 -> part -+1\n\
+         freeze 7 7 -> ok\n\
+         show 7 -> view -\n\
+         show 7 -> view -\n\
+         static 15 21 22 -> ok\n\
+         show 15 -> view 76\n\
+         bytes 0 c157b8343cf68a63 -> ok\n\
+         show 0 -> view c157b8343cf68a63\n\
+         show 0 -> view c157b8343cf68a63\n\
+         static 2 13 14 -> ok\n\
+         show 13 -> refused N2 WrongKind\n\
+         show 2 -> view 6e\n\
+         new 8 15 8 -> ok\n\
+         show 8 -> part -+15\n\
+         static 11 22 22 -> ok\n\
+         drop 10 -> ok\n\
+         put 8 ffe709a30886f0ea7e43 -> ok\n\
+         show 8 -> part ffe709a30886f0ea7e43+5\n\
+         new 6 21 1 -> ok\n\
+         truncate 6 1 -> ok\n\
+         show 1 -> refused N2 WrongKind\n\
+         show 6 -> part -+21\n\
+         put 6 631c64ec25f77a58ec5964be -> ok\n\
+         encode 6 10 -> refused N2 WrongKind\n\
+         drop 3 -> ok\n\
+         new 14 12 0 -> refused N5 BadLayout\n\
+         show 14 -> refused N2 WrongKind\n\
+         new 3 2 64 -> ok\n\
+         put 6 c8e6add022c8d8ddc9 -> ok\n\
+         recover 7 14 -> ok\n\
+         show 14 -> part -+0\n\
+         drop 3 -> ok\n\
+         build 3 2 p15 p0 p4 -> ok\n\
+         show 2 -> view 6e\n\
+         show 2 -> view 6e\n\
+         static 1 22 24 -> ok\n\
+         new 10 6 1 -> ok\n\
+         show 6 -> part 631c64ec25f77a58ec5964bec8e6add022c8d8ddc9+0\n\
+         setlen 10 1 -> ok\n\
+         show 10 -> part 00+5\n\
+         show 10 -> part 00+5\n\
+         static 7 25 26 -> ok\n\
+         show 16 -> refused N1 NoName\n\
+         fill 6 194 1 -> refused N4 OutOfRange\n\
+         show 6 -> part 631c64ec25f77a58ec5964bec8e6add022c8d8ddc9+0\n\
+         show 6 -> part 631c64ec25f77a58ec5964bec8e6add022c8d8ddc9+0\n\
+         split 3 9 11 -> ok\n\
+         show 9 -> text 76 c157b8343cf68a63 5d7f\n\
+         show 9 -> text 76 c157b8343cf68a63 5d7f\n\
+         slice 7 12 e1 i0 -> refused N4 OutOfRange\n\
+         show 7 -> view 7a\n\
+         decode 11 12 0 1024 -> refused N8 C1 EndOfBuffer\n\
+         gathermut 15 8 10 14 6 -> ok\n\
+         show 15 -> parts ffe709a30886f0ea7e43+5 00+5 631c64ec25f77a58ec5964bec8e6add022c8d8ddc9+0\n\
+         show 15 -> parts ffe709a30886f0ea7e43+5 00+5 631c64ec25f77a58ec5964bec8e6add022c8d8ddc9+0\n\
+         put 15 - -> ok\n\
+         show 15 -> parts ffe709a30886f0ea7e43+5 00+5 631c64ec25f77a58ec5964bec8e6add022c8d8ddc9+0\n\
+         show 15 -> parts ffe709a30886f0ea7e43+5 00+5 631c64ec25f77a58ec5964bec8e6add022c8d8ddc9+0\n\
+         drop 2 -> ok\n\
+         split 7 10 2 -> refused N4 OutOfRange\n\
+         show 10 -> refused N2 WrongKind\n\
+         new 4 11 2 -> ok\n\
+         slice 7 2 e1 i1 -> refused N4 OutOfRange\n\
+         show 7 -> view 7a\n\
+         setlen 15 15 -> ok\n\
+         show 15 -> parts ffe709a30886f0ea7e430000000000+0 -+6 -+21\n\
+         put 15 077ff74c4527f5005ed126c7af767c -> ok\n\
+         show 15 -> parts ffe709a30886f0ea7e430000000000+0 077ff74c4527+0 f5005ed126c7af767c+12\n\
+         put 4 94 -> ok\n\
+         new 8 0 1 -> ok\n\
+         new 13 1 64 -> ok\n\
+         put 8 - -> ok\n\
+         freeze 8 12 -> ok\n\
+         show 12 -> view -\n\
+         show 12 -> view -\n\
+         encode 11 8 -> ok\n\
+         slice 11 10 i1 e0 -> refused N4 OutOfRange\n\
+         put 15 - -> ok\n\
+         drop 4 -> ok\n\
+         show 4 -> refused N2 WrongKind\n\
+         gather 6 -> ok\n\
+         show 6 -> text\n\
+         drop 3 -> ok\n\
+         gather 2 11 7 1 12 -> ok\n\
+         show 11 -> refused N2 WrongKind\n\
+         drop 9 -> ok\n\
+         gathermut 5 13 -> ok\n\
+         put 5 09 -> ok\n",
+        "new 4 2 1 -> ok\n\
+         zeroed 15 3 1 -> ok\n\
+         bytes 6 bb656d -> ok\n\
+         show 6 -> view bb656d\n\
+         show 6 -> view bb656d\n\
+         put 15 - -> ok\n\
+         put 15 - -> ok\n\
+         show 15 -> part 000000+0\n\
+         static 8 10 18 -> ok\n\
+         show 10 -> refused N2 WrongKind\n\
+         put 4 - -> ok\n\
+         new 2 4 8 -> ok\n\
+         static 5 0 16 -> ok\n\
+         show 5 -> view 6162636465666768696a6b6c6d6e6f70\n\
+         put 4 5e -> ok\n\
+         show 4 -> part 5e+1\n\
+         static 14 18 22 -> ok\n\
+         show 16 -> refused N1 NoName\n\
+         show 14 -> view 73747576\n\
+         static 13 10 23 -> ok\n\
+         show 13 -> view 6b6c6d6e6f7071727374757677\n\
+         show 10 -> refused N2 WrongKind\n\
+         put 2 - -> ok\n\
+         put 4 d6 -> ok\n\
+         show 4 -> part 5ed6+0\n\
+         show 4 -> part 5ed6+0\n\
+         put 15 - -> ok\n\
+         put 4 - -> ok\n\
+         show 4 -> part 5ed6+0\n\
+         static 12 13 15 -> ok\n\
+         gather 10 5 13 6 14 -> ok\n\
+         show 5 -> refused N2 WrongKind\n\
+         show 5 -> refused N2 WrongKind\n\
+         put 2 - -> ok\n\
+         show 2 -> part -+4\n\
+         show 2 -> part -+4\n\
+         put 4 - -> ok\n\
+         show 4 -> part 5ed6+0\n\
+         show 4 -> part 5ed6+0\n\
+         put 15 - -> ok\n\
+         put 4 - -> ok\n\
+         show 4 -> part 5ed6+0\n\
+         show 4 -> part 5ed6+0\n\
+         advance 10 12 -> ok\n\
+         show 12 -> view 6e6f\n\
+         put 15 - -> ok\n\
+         show 15 -> part 000000+0\n\
+         show 15 -> part 000000+0\n\
+         static 11 1 23 -> ok\n\
+         advance 2 0 -> ok\n\
+         show 2 -> part -+4\n\
+         show 2 -> part -+4\n\
+         put 4 - -> ok\n\
+         show 4 -> part 5ed6+0\n\
+         show 4 -> part 5ed6+0\n\
+         put 4 - -> ok\n\
+         show 4 -> part 5ed6+0\n\
+         show 4 -> part 5ed6+0\n\
+         new 9 16 1 -> ok\n\
+         show 16 -> refused N1 NoName\n\
+         show 16 -> refused N1 NoName\n\
+         put 15 - -> ok\n\
+         show 15 -> part 000000+0\n\
+         bytes 13 70fe -> ok\n\
+         show 13 -> view 70fe\n\
+         clone 12 1 -> ok\n\
+         static 0 3 6 -> ok\n\
+         show 3 -> refused N2 WrongKind\n\
+         show 3 -> refused N2 WrongKind\n\
+         zeroed 14 4 1 -> ok\n\
+         show 4 -> part 5ed6+0\n\
+         put 9 9cf6 -> ok\n\
+         gather 3 11 0 12 1 13 8 -> ok\n\
+         show 3 -> text 62636465666768696a6b6c6d6e6f7071727374757677 646566 6e6f 6e6f 70fe 6b6c6d6e6f707172\n\
+         put 14 - -> ok\n\
+         show 14 -> part 00000000+0\n\
+         show 14 -> part 00000000+0\n\
+         freeze 4 11 -> ok\n\
+         show 11 -> view 5ed6\n\
+         show 11 -> view 5ed6\n\
+         static 1 14 16 -> ok\n\
+         new 8 6 2 -> ok\n\
+         show 8 -> part -+6\n\
+         show 8 -> part -+6\n\
+         setlen 8 7 -> refused N4 OutOfRange\n\
+         put 9 cda21536080cf4ebe6554a -> ok\n\
+         prepend 3 1 -> ok\n\
+         show 3 -> text 6f70 62636465666768696a6b6c6d6e6f7071727374757677 646566 6e6f 6e6f 70fe 6b6c6d6e6f707172\n\
+         show 1 -> refused N2 WrongKind\n\
+         bytes 1 - -> ok\n\
+         show 1 -> view -\n\
+         show 1 -> view -\n\
+         put 15 - -> ok\n\
+         show 15 -> part 000000+0\n\
+         show 15 -> part 000000+0\n\
+         overwrite 14 9e9df226 -> ok\n\
+         show 14 -> part 9e9df226+0\n\
+         advance 9 13 -> ok\n\
+         take 3 7 -> bytes 6f706263646566\n\
+         gathermut 4 15 9 2 8 14 -> ok\n",
+        "new 14 18 1 -> ok\n\
+         show 14 -> part -+18\n\
+         show 16 -> refused N1 NoName\n\
+         put 14 039de46949dec05c4bf1fca3f813c2e93609 -> ok\n\
+         show 14 -> part 039de46949dec05c4bf1fca3f813c2e93609+0\n\
+         put 14 - -> ok\n\
+         show 14 -> part 039de46949dec05c4bf1fca3f813c2e93609+0\n\
+         new 8 10 1 -> ok\n\
+         show 10 -> refused N2 WrongKind\n\
+         show 8 -> part -+10\n\
+         new 4 5 1 -> ok\n\
+         show 5 -> refused N2 WrongKind\n\
+         show 5 -> refused N2 WrongKind\n\
+         static 13 19 26 -> ok\n\
+         static 9 7 21 -> ok\n\
+         show 7 -> refused N2 WrongKind\n\
+         show 9 -> view 68696a6b6c6d6e6f707172737475\n\
+         new 6 15 1 -> ok\n\
+         show 15 -> refused N2 WrongKind\n\
+         show 6 -> part -+15\n\
+         setlen 4 0 -> ok\n\
+         show 4 -> part -+5\n\
+         static 1 8 24 -> ok\n\
+         show 1 -> view 696a6b6c6d6e6f707172737475767778\n\
+         static 15 25 25 -> ok\n\
+         zeroed 2 5 1 -> ok\n\
+         setlen 8 7 -> ok\n\
+         static 11 9 21 -> ok\n\
+         show 9 -> view 68696a6b6c6d6e6f707172737475\n\
+         show 11 -> view 6a6b6c6d6e6f707172737475\n\
+         slice 1 7 u e16 -> ok\n\
+         show 7 -> view 696a6b6c6d6e6f707172737475767778\n\
+         show 7 -> view 696a6b6c6d6e6f707172737475767778\n\
+         advance 9 11 -> ok\n\
+         show 9 -> view 737475\n\
+         show 11 -> view 6a6b6c6d6e6f707172737475\n\
+         gathermut 5 8 4 14 2 6 -> ok\n\
+         put 5 f0cc9c330a0b1b -> ok\n\
+         show 5 -> parts 00000000000000f0cc9c+0 330a0b1b+1 039de46949dec05c4bf1fca3f813c2e93609+0 0000000000+0 -+15\n\
+         put 5 a134b5 -> ok\n\
+         show 5 -> parts 00000000000000f0cc9c+0 330a0b1ba1+0 039de46949dec05c4bf1fca3f813c2e93609+0 0000000000+0 34b5+13\n\
+         show 5 -> parts 00000000000000f0cc9c+0 330a0b1ba1+0 039de46949dec05c4bf1fca3f813c2e93609+0 0000000000+0 34b5+13\n\
+         new 12 20 8 -> ok\n\
+         show 16 -> refused N1 NoName\n\
+         show 12 -> part -+20\n\
+         put 5 3bc4e1 -> ok\n\
+         show 5 -> parts 00000000000000f0cc9c+0 330a0b1ba1+0 039de46949dec05c4bf1fca3f813c2e93609+0 0000000000+0 34b53bc4e1+10\n\
+         show 5 -> parts 00000000000000f0cc9c+0 330a0b1ba1+0 039de46949dec05c4bf1fca3f813c2e93609+0 0000000000+0 34b53bc4e1+10\n\
+         zeroed 10 0 1 -> ok\n\
+         put 5 d9 -> ok\n\
+         show 5 -> parts 00000000000000f0cc9c+0 330a0b1ba1+0 039de46949dec05c4bf1fca3f813c2e93609+0 0000000000+0 34b53bc4e1d9+9\n\
+         bytes 0 02302cfd008274 -> ok\n\
+         show 0 -> view 02302cfd008274\n\
+         bytes 3 919180 -> ok\n\
+         show 16 -> refused N1 NoName\n\
+         drop 11 -> ok\n\
+         show 11 -> refused N2 WrongKind\n\
+         new 8 12 1 -> ok\n\
+         show 8 -> part -+12\n\
+         recover 3 3 -> refused N7 Declined\n\
+         show 3 -> view 919180\n\
+         take 5 26 -> bytes 00000000000000f0cc9c330a0b1ba1039de46949dec05c4bf1fc\n\
+         show 5 -> parts a3f813c2e93609+0 0000000000+0 34b53bc4e1d9+9\n\
+         decode 3 4 0 18446744073709551615 -> refused N8 C1 EndOfBuffer\n\
+         show 3 -> view 919180\n\
+         new 6 7 64 -> ok\n\
+         drop 1 -> ok\n\
+         show 1 -> refused N2 WrongKind\n\
+         show 1 -> refused N2 WrongKind\n\
+         fill 6 211 0 -> ok\n\
+         show 16 -> refused N1 NoName\n\
+         static 14 13 26 -> ok\n\
+         show 13 -> view 7475767778797a\n\
+         overwrite 6 - -> ok\n\
+         show 6 -> part -+7\n\
+         put 6 cff4b49eba018e -> ok\n\
+         decode 14 1 0 1024 -> refused N8 C1 EndOfBuffer\n\
+         show 1 -> refused N2 WrongKind\n\
+         show 14 -> view 6e6f707172737475767778797a\n\
+         take 10 0 -> bytes -\n\
+         show 0 -> view 02302cfd008274\n\
+         freeze 8 1 -> ok\n\
+         show 1 -> view -\n\
+         drop 14 -> ok\n\
+         split 13 2 7 -> ok\n\
+         show 2 -> view 7475767778797a\n\
+         show 2 -> view 7475767778797a\n\
+         drop 13 -> ok\n\
+         show 13 -> refused N2 WrongKind\n\
+         encode 0 4 -> ok\n\
+         show 0 -> view 02302cfd008274\n\
+         advance 5 1 -> ok\n\
+         take 6 7 -> bytes cff4b49eba018e\n\
+         show 6 -> part -+0\n\
+         split 4 13 2 -> ok\n\
+         show 4 -> text 302cfd008274\n\
+         show 13 -> text 07 02\n\
+         build 11 6 i- ic8 p2 i632006 -> ok\n\
+         show 6 -> part -+0\n\
+         decode 11 14 0 18446744073709551615 -> refused N8 C1 EndOfBuffer\n",
+        "bytes 8 47 -> ok\n\
+         show 16 -> refused N1 NoName\n\
+         show 16 -> refused N1 NoName\n\
+         bytes 0 21779ef90c1b95610d -> ok\n\
+         show 0 -> view 21779ef90c1b95610d\n\
+         new 4 11 0 -> refused N5 BadLayout\n\
+         show 4 -> refused N2 WrongKind\n\
+         show 4 -> refused N2 WrongKind\n\
+         new 14 5 3 -> refused N5 BadLayout\n\
+         show 14 -> refused N2 WrongKind\n\
+         show 14 -> refused N2 WrongKind\n\
+         clone 8 11 -> ok\n\
+         show 11 -> view 47\n\
+         show 11 -> view 47\n\
+         static 1 3 18 -> ok\n\
+         static 10 18 26 -> ok\n\
+         show 16 -> refused N1 NoName\n\
+         show 16 -> refused N1 NoName\n\
+         zeroed 4 4 1 -> ok\n\
+         show 4 -> part 00000000+0\n\
+         put 4 - -> ok\n\
+         show 4 -> part 00000000+0\n\
+         show 4 -> part 00000000+0\n\
+         fill 4 67 1 -> refused N4 OutOfRange\n\
+         show 4 -> part 00000000+0\n\
+         show 16 -> refused N1 NoName\n\
+         new 7 19 3 -> refused N5 BadLayout\n\
+         show 7 -> refused N2 WrongKind\n\
+         show 7 -> refused N2 WrongKind\n\
+         truncate 4 1 -> ok\n\
+         show 1 -> view 6465666768696a6b6c6d6e6f707172\n\
+         show 1 -> view 6465666768696a6b6c6d6e6f707172\n\
+         fill 4 160 1 -> ok\n\
+         recover 0 14 -> refused N7 Declined\n\
+         show 14 -> refused N2 WrongKind\n\
+         show 0 -> view 21779ef90c1b95610d\n\
+         bytes 5 d1 -> ok\n\
+         new 6 20 1 -> ok\n\
+         new 15 2 64 -> ok\n\
+         show 2 -> refused N2 WrongKind\n\
+         overwrite 4 d030 -> ok\n\
+         show 4 -> part d030+2\n\
+         show 4 -> part d030+2\n\
+         gathermut 9 15 6 -> ok\n\
+         show 9 -> parts -+2 -+20\n\
+         show 15 -> refused N2 WrongKind\n\
+         put 9 907e478e71e27c2a054c45874b20 -> ok\n\
+         show 9 -> parts 907e+0 478e71e27c2a054c45874b20+8\n\
+         show 9 -> parts 907e+0 478e71e27c2a054c45874b20+8\n\
+         new 6 20 1 -> ok\n\
+         show 16 -> refused N1 NoName\n\
+         new 2 20 1 -> ok\n\
+         show 2 -> part -+20\n\
+         put 6 564a5839836a9c418eb19f -> ok\n\
+         static 13 7 17 -> ok\n\
+         clone 13 12 -> ok\n\
+         show 12 -> view 68696a6b6c6d6e6f7071\n\
+         drop 5 -> ok\n\
+         take 9 7 -> bytes 907e478e71e27c\n\
+         show 7 -> refused N2 WrongKind\n\
+         put 4 - -> ok\n\
+         show 4 -> part d030+2\n\
+         freeze 6 3 -> ok\n\
+         show 3 -> view 564a5839836a9c418eb19f\n\
+         show 6 -> refused N2 WrongKind\n\
+         drop 0 -> ok\n\
+         gather 5 11 3 12 13 -> ok\n\
+         zeroed 3 5 1 -> ok\n\
+         show 5 -> text 47 564a5839836a9c418eb19f 68696a6b6c6d6e6f7071 68696a6b6c6d6e6f7071\n\
+         new 6 17 64 -> ok\n\
+         show 16 -> refused N1 NoName\n\
+         put 3 - -> ok\n\
+         show 3 -> part 0000000000+0\n\
+         show 3 -> part 0000000000+0\n\
+         encode 10 13 -> ok\n\
+         show 10 -> view 737475767778797a\n\
+         show 13 -> text 08 737475767778797a\n\
+         split 9 14 8 -> refused N2 WrongKind\n\
+         drop 6 -> ok\n\
+         show 6 -> refused N2 WrongKind\n\
+         gather 11 10 8 1 -> ok\n\
+         show 10 -> refused N2 WrongKind\n\
+         show 11 -> text 737475767778797a 47 6465666768696a6b6c6d6e6f707172\n\
+         put 2 f87270c6e17081ed242a8269e201 -> ok\n\
+         show 2 -> part f87270c6e17081ed242a8269e201+6\n\
+         put 3 - -> ok\n\
+         show 3 -> part 0000000000+0\n\
+         show 3 -> part 0000000000+0\n\
+         static 15 11 11 -> ok\n\
+         show 15 -> view -\n\
+         show 15 -> view -\n\
+         new 12 17 2 -> ok\n\
+         show 16 -> refused N1 NoName\n\
+         put 3 f6 -> refused N4 OutOfRange\n\
+         show 3 -> part 0000000000+0\n\
+         take 15 0 -> bytes -\n\
+         show 15 -> view -\n\
+         show 15 -> view -\n\
+         split 5 10 1 -> ok\n\
+         show 10 -> text 47\n",
+        "new 9 3 1 -> ok\n\
+         put 9 f3 -> ok\n\
+         put 9 - -> ok\n\
+         show 9 -> part f3+2\n\
+         show 9 -> part f3+2\n\
+         new 7 4 3 -> refused N5 BadLayout\n\
+         show 7 -> refused N2 WrongKind\n\
+         zeroed 15 4 1 -> ok\n\
+         new 1 19 3 -> refused N5 BadLayout\n\
+         put 15 - -> ok\n\
+         show 15 -> part 00000000+0\n\
+         show 15 -> part 00000000+0\n\
+         static 6 19 21 -> ok\n\
+         show 6 -> view 7475\n\
+         show 16 -> refused N1 NoName\n\
+         static 5 2 12 -> ok\n\
+         put 9 91ff -> ok\n\
+         show 9 -> part f391ff+0\n\
+         show 9 -> part f391ff+0\n\
+         put 15 - -> ok\n\
+         show 15 -> part 00000000+0\n\
+         show 15 -> part 00000000+0\n\
+         static 4 26 26 -> ok\n\
+         show 16 -> refused N1 NoName\n\
+         new 12 15 1 -> ok\n\
+         new 7 12 8 -> ok\n\
+         show 7 -> part -+12\n\
+         gathermut 1 15 12 7 9 -> ok\n\
+         show 15 -> refused N2 WrongKind\n\
+         show 1 -> parts 00000000+0 -+15 -+12 f391ff+0\n\
+         coalesce 1 1 -> ok\n\
+         static 12 15 25 -> ok\n\
+         show 12 -> view 70717273747576777879\n\
+         bytes 9 445ac55f27c433fa -> ok\n\
+         show 9 -> view 445ac55f27c433fa\n\
+         setlen 1 0 -> ok\n\
+         show 1 -> part -+7\n\
+         new 15 19 3 -> refused N5 BadLayout\n\
+         show 16 -> refused N1 NoName\n\
+         put 1 6f3aa51012 -> ok\n\
+         put 1 5687 -> ok\n\
+         show 16 -> refused N1 NoName\n\
+         fill 1 157 0 -> ok\n\
+         put 1 - -> ok\n\
+         new 11 8 1 -> ok\n\
+         put 11 6bc9249207703c57 -> ok\n\
+         put 1 - -> ok\n\
+         zeroed 10 2 1 -> ok\n\
+         show 2 -> refused N2 WrongKind\n\
+         show 10 -> part 0000+0\n\
+         decode 5 0 0 5 -> refused N8 C3 InvalidLength 99\n\
+         show 0 -> refused N2 WrongKind\n\
+         show 5 -> view 636465666768696a6b6c\n\
+         drop 11 -> ok\n\
+         show 11 -> refused N2 WrongKind\n\
+         show 11 -> refused N2 WrongKind\n\
+         drop 1 -> ok\n\
+         show 1 -> refused N2 WrongKind\n\
+         show 1 -> refused N2 WrongKind\n\
+         bytes 11 25 -> ok\n\
+         show 16 -> refused N1 NoName\n\
+         show 11 -> view 25\n\
+         put 10 - -> ok\n\
+         show 10 -> part 0000+0\n\
+         new 15 5 64 -> ok\n\
+         show 15 -> part -+5\n\
+         static 2 13 13 -> ok\n\
+         recover 12 12 -> refused N7 Declined\n\
+         show 12 -> view 70717273747576777879\n\
+         show 12 -> view 70717273747576777879\n\
+         zeroed 7 7 1 -> ok\n\
+         show 7 -> part 00000000000000+0\n\
+         take 11 1 -> bytes 25\n\
+         show 1 -> refused N2 WrongKind\n\
+         show 1 -> refused N2 WrongKind\n\
+         clone 4 0 -> ok\n\
+         show 4 -> view -\n\
+         drop 0 -> ok\n\
+         recover 11 14 -> ok\n\
+         overwrite 10 9f48 -> ok\n\
+         show 10 -> part 9f48+0\n\
+         show 10 -> part 9f48+0\n\
+         gathermut 1 10 14 7 15 -> ok\n\
+         show 10 -> refused N2 WrongKind\n\
+         show 1 -> parts 9f48+0 00000000000000+0 -+5\n\
+         put 1 a95005a149 -> ok\n\
+         show 1 -> parts 9f48+0 00000000000000+0 a95005a149+0\n\
+         put 1 - -> ok\n\
+         show 1 -> parts 9f48+0 00000000000000+0 a95005a149+0\n\
+         fill 1 113 1 -> refused N4 OutOfRange\n\
+         show 16 -> refused N1 NoName\n\
+         put 1 - -> ok\n\
+         put 1 - -> ok\n\
+         fill 1 121 0 -> ok\n\
+         show 16 -> refused N1 NoName\n\
+         show 1 -> parts 9f48+0 00000000000000+0 a95005a149+0\n\
+         new 15 22 0 -> refused N5 BadLayout\n\
+         show 16 -> refused N1 NoName\n\
+         show 15 -> refused N2 WrongKind\n\
+         decode 12 7 0 1024 -> refused N8 C1 EndOfBuffer\n",
+        "new 8 18 64 -> ok\n\
+         show 16 -> refused N1 NoName\n\
+         drop 8 -> ok\n\
+         show 8 -> refused N2 WrongKind\n\
+         zeroed 8 8 1 -> ok\n\
+         show 8 -> part 0000000000000000+0\n\
+         show 8 -> part 0000000000000000+0\n\
+         put 8 - -> ok\n\
+         new 7 22 1 -> ok\n\
+         put 8 - -> ok\n\
+         static 11 19 22 -> ok\n\
+         show 16 -> refused N1 NoName\n\
+         show 11 -> view 747576\n\
+         zeroed 9 2 1 -> ok\n\
+         decode 11 2 0 1024 -> refused N8 C1 EndOfBuffer\n\
+         put 8 - -> ok\n\
+         put 7 7a7e2b25d99553 -> ok\n\
+         put 2 - -> refused N2 WrongKind\n\
+         show 2 -> refused N2 WrongKind\n\
+         show 2 -> refused N2 WrongKind\n\
+         static 4 7 13 -> ok\n\
+         show 7 -> part 7a7e2b25d99553+15\n\
+         show 7 -> part 7a7e2b25d99553+15\n\
+         put 8 - -> ok\n\
+         put 7 95ae0014cc9577740991 -> ok\n\
+         show 7 -> part 7a7e2b25d9955395ae0014cc9577740991+5\n\
+         put 7 ea0fb765bd -> ok\n\
+         show 7 -> part 7a7e2b25d9955395ae0014cc9577740991ea0fb765bd+0\n\
+         bytes 0 7202f2195ee7 -> ok\n\
+         show 0 -> view 7202f2195ee7\n\
+         show 0 -> view 7202f2195ee7\n\
+         static 1 10 23 -> ok\n\
+         show 1 -> view 6b6c6d6e6f7071727374757677\n\
+         static 14 1 19 -> ok\n\
+         show 1 -> view 6b6c6d6e6f7071727374757677\n\
+         show 14 -> view 62636465666768696a6b6c6d6e6f70717273\n\
+         zeroed 6 2 1 -> ok\n\
+         show 2 -> refused N2 WrongKind\n\
+         slice 11 10 e1 e2 -> ok\n\
+         show 10 -> view -\n\
+         show 10 -> view -\n\
+         gathermut 5 7 9 6 8 -> ok\n\
+         show 7 -> refused N2 WrongKind\n\
+         fill 5 159 0 -> ok\n\
+         show 16 -> refused N1 NoName\n\
+         show 16 -> refused N1 NoName\n\
+         fill 5 166 1 -> refused N4 OutOfRange\n\
+         show 5 -> parts 7a7e2b25d9955395ae0014cc9577740991ea0fb765bd+0 0000+0 0000+0 0000000000000000+0\n\
+         show 5 -> parts 7a7e2b25d9955395ae0014cc9577740991ea0fb765bd+0 0000+0 0000+0 0000000000000000+0\n\
+         gather 15 0 1 4 11 14 10 -> ok\n\
+         fill 5 159 0 -> ok\n\
+         new 14 3 1 -> ok\n\
+         show 3 -> refused N2 WrongKind\n\
+         put 5 - -> ok\n\
+         bytes 4 - -> ok\n\
+         put 5 - -> ok\n\
+         show 5 -> parts 7a7e2b25d9955395ae0014cc9577740991ea0fb765bd+0 0000+0 0000+0 0000000000000000+0\n\
+         show 5 -> parts 7a7e2b25d9955395ae0014cc9577740991ea0fb765bd+0 0000+0 0000+0 0000000000000000+0\n\
+         static 6 1 23 -> ok\n\
+         show 6 -> view 62636465666768696a6b6c6d6e6f7071727374757677\n\
+         put 5 - -> ok\n\
+         clone 4 7 -> ok\n\
+         show 4 -> view -\n\
+         show 4 -> view -\n\
+         bytes 11 0cdf78c6d21ccc4c93 -> ok\n\
+         put 5 6f -> refused N4 OutOfRange\n\
+         put 5 - -> ok\n\
+         show 5 -> parts 7a7e2b25d9955395ae0014cc9577740991ea0fb765bd+0 0000+0 0000+0 0000000000000000+0\n\
+         new 8 15 0 -> refused N5 BadLayout\n\
+         show 15 -> text 7202f2195ee7 6b6c6d6e6f7071727374757677 68696a6b6c6d 747576 62636465666768696a6b6c6d6e6f70717273\n\
+         show 8 -> refused N2 WrongKind\n\
+         put 14 3e -> ok\n\
+         fill 14 130 1 -> ok\n\
+         show 14 -> part 3e82+1\n\
+         show 16 -> refused N1 NoName\n\
+         new 2 1 8 -> ok\n\
+         put 14 2a -> ok\n\
+         setlen 2 2 -> refused N4 OutOfRange\n\
+         show 2 -> part -+1\n\
+         show 2 -> part -+1\n\
+         static 0 14 25 -> ok\n\
+         prepend 15 6 -> ok\n\
+         show 6 -> refused N2 WrongKind\n\
+         put 14 bc -> refused N4 OutOfRange\n\
+         show 14 -> part 3e822a+0\n\
+         show 14 -> part 3e822a+0\n\
+         new 8 4 64 -> ok\n\
+         freeze 2 2 -> ok\n\
+         encode 2 9 -> ok\n\
+         coalesce 9 10 -> ok\n\
+         show 10 -> view 00\n\
+         append 15 7 -> ok\n\
+         freeze 14 14 -> ok\n\
+         prepend 15 4 -> ok\n\
+         show 15 -> text 62636465666768696a6b6c6d6e6f7071727374757677 7202f2195ee7 6b6c6d6e6f7071727374757677 68696a6b6c6d 747576 62636465666768696a6b6c6d6e6f70717273\n\
+         drop 11 -> ok\n\
+         show 11 -> refused N2 WrongKind\n\
+         put 5 - -> ok\n\
+         show 5 -> parts 7a7e2b25d9955395ae0014cc9577740991ea0fb765bd+0 0000+0 0000+0 0000000000000000+0\n\
+         clone 15 9 -> ok\n",
+        "static 9 25 25 -> ok\n\
+         new 2 13 3 -> refused N5 BadLayout\n\
+         show 13 -> refused N2 WrongKind\n\
+         new 14 13 1 -> ok\n\
+         show 14 -> part -+13\n\
+         bytes 12 b9 -> ok\n\
+         show 12 -> view b9\n\
+         show 12 -> view b9\n\
+         put 14 24 -> ok\n\
+         show 14 -> part 24+12\n\
+         build 1 2 i- p9 -> ok\n\
+         show 2 -> refused N2 WrongKind\n\
+         new 0 18 1 -> ok\n\
+         show 16 -> refused N1 NoName\n\
+         show 0 -> part -+18\n\
+         static 13 9 15 -> ok\n\
+         show 9 -> refused N2 WrongKind\n\
+         show 9 -> refused N2 WrongKind\n\
+         put 0 cf07159cf466ee1c959057a5a83e344bca -> ok\n\
+         show 0 -> part cf07159cf466ee1c959057a5a83e344bca+1\n\
+         static 7 1 23 -> ok\n\
+         bytes 9 bc -> ok\n\
+         recover 9 9 -> refused N7 Declined\n\
+         show 9 -> view bc\n\
+         show 9 -> view bc\n\
+         advance 0 0 -> ok\n\
+         show 0 -> part cf07159cf466ee1c959057a5a83e344bca+1\n\
+         show 0 -> part cf07159cf466ee1c959057a5a83e344bca+1\n\
+         put 14 00af -> ok\n\
+         show 14 -> part 2400af+10\n\
+         new 10 17 64 -> ok\n\
+         drop 1 -> ok\n\
+         show 1 -> refused N2 WrongKind\n\
+         bytes 5 083c5c375ef1e84b -> ok\n\
+         show 5 -> view 083c5c375ef1e84b\n\
+         show 5 -> view 083c5c375ef1e84b\n\
+         static 8 5 22 -> ok\n\
+         gathermut 4 14 0 10 -> ok\n\
+         freeze 4 4 -> ok\n\
+         show 4 -> text 2400af cf07159cf466ee1c959057a5a83e344bca\n\
+         show 4 -> text 2400af cf07159cf466ee1c959057a5a83e344bca\n\
+         bytes 0 f4a506d6b8cf4ba250 -> ok\n\
+         clone 4 14 -> ok\n\
+         coalesce 4 1 -> ok\n\
+         show 4 -> refused N2 WrongKind\n\
+         drop 13 -> ok\n\
+         show 13 -> refused N2 WrongKind\n\
+         show 13 -> refused N2 WrongKind\n\
+         new 2 11 2 -> ok\n\
+         show 11 -> refused N2 WrongKind\n\
+         decode 7 6 0 1024 -> refused N8 C1 EndOfBuffer\n\
+         new 6 13 3 -> refused N5 BadLayout\n\
+         show 6 -> refused N2 WrongKind\n\
+         show 13 -> refused N2 WrongKind\n\
+         split 8 11 0 -> ok\n\
+         show 11 -> view -\n\
+         drop 12 -> ok\n\
+         show 12 -> refused N2 WrongKind\n\
+         show 12 -> refused N2 WrongKind\n\
+         append 14 9 -> ok\n\
+         split 0 15 9 -> ok\n\
+         show 0 -> view -\n\
+         show 15 -> view f4a506d6b8cf4ba250\n\
+         gathermut 3 2 -> ok\n\
+         advance 0 0 -> ok\n\
+         show 0 -> view -\n\
+         new 6 4 0 -> refused N5 BadLayout\n\
+         show 6 -> refused N2 WrongKind\n\
+         take 14 21 -> bytes 2400afcf07159cf466ee1c959057a5a83e344bcabc\n\
+         show 16 -> refused N1 NoName\n\
+         show 16 -> refused N1 NoName\n\
+         gathermut 4 -> ok\n\
+         freeze 4 4 -> ok\n\
+         freeze 3 2 -> ok\n\
+         gather 6 15 1 11 7 5 0 8 -> ok\n\
+         show 6 -> text f4a506d6b8cf4ba250 2400afcf07159cf466ee1c959057a5a83e344bca 62636465666768696a6b6c6d6e6f7071727374757677 083c5c375ef1e84b 666768696a6b6c6d6e6f70717273747576\n\
+         show 15 -> refused N2 WrongKind\n\
+         drop 6 -> ok\n\
+         zeroed 3 8 1 -> ok\n\
+         show 3 -> part 0000000000000000+0\n\
+         take 4 0 -> bytes -\n\
+         show 0 -> refused N2 WrongKind\n\
+         show 4 -> text\n\
+         put 3 - -> ok\n\
+         advance 3 2 -> ok\n\
+         show 2 -> text\n\
+         bytes 0 7a99 -> ok\n\
+         show 0 -> view 7a99\n\
+         build 15 0 -> ok\n\
+         show 0 -> view 7a99\n\
+         drop 2 -> ok\n\
+         append 14 0 -> ok\n\
+         show 14 -> text 7a99\n\
+         show 14 -> text 7a99\n\
+         bytes 11 14376f -> ok\n\
+         new 5 19 1 -> ok\n\
+         new 13 19 8 -> ok\n\
+         new 1 22 64 -> ok\n\
+         put 1 22ee -> ok\n\
+         show 1 -> part 22ee+20\n",
+        "new 3 5 1 -> ok\n\
+         show 3 -> part -+5\n\
+         drop 3 -> ok\n\
+         new 9 2 0 -> refused N5 BadLayout\n\
+         bytes 12 - -> ok\n\
+         show 12 -> view -\n\
+         show 12 -> view -\n\
+         zeroed 5 7 1 -> ok\n\
+         show 7 -> refused N2 WrongKind\n\
+         clone 12 1 -> ok\n\
+         put 5 - -> ok\n\
+         static 6 2 2 -> ok\n\
+         show 6 -> view -\n\
+         clone 1 3 -> ok\n\
+         show 3 -> view -\n\
+         show 3 -> view -\n\
+         fill 5 214 0 -> ok\n\
+         show 16 -> refused N1 NoName\n\
+         static 7 11 17 -> ok\n\
+         truncate 5 7 -> ok\n\
+         show 5 -> part 00000000000000+0\n\
+         show 7 -> view 6c6d6e6f7071\n\
+         put 5 - -> ok\n\
+         put 5 - -> ok\n\
+         put 5 - -> ok\n\
+         new 14 10 1 -> ok\n\
+         new 15 12 2 -> ok\n\
+         put 4 8d1f2e -> refused N2 WrongKind\n\
+         show 4 -> refused N2 WrongKind\n\
+         static 11 18 24 -> ok\n\
+         show 11 -> view 737475767778\n\
+         show 16 -> refused N1 NoName\n\
+         put 15 c8733ccb68ddc8d1e7f649 -> ok\n\
+         advance 16 0 -> refused N1 NoName\n\
+         new 8 9 3 -> refused N5 BadLayout\n\
+         build 0 5 p7 ia8fb p1 p11 -> ok\n\
+         show 5 -> part 00000000000000+0\n\
+         recover 3 8 -> ok\n\
+         put 14 57fad6e17cb304 -> ok\n\
+         show 14 -> part 57fad6e17cb304+3\n\
+         show 14 -> part 57fad6e17cb304+3\n\
+         put 15 - -> ok\n\
+         bytes 9 - -> ok\n\
+         show 9 -> view -\n\
+         new 10 11 8 -> ok\n\
+         bytes 7 2405 -> ok\n\
+         show 16 -> refused N1 NoName\n\
+         recover 6 3 -> ok\n\
+         coalesce 0 1 -> ok\n\
+         show 1 -> view 6c6d6e6f7071a8fb737475767778\n\
+         show 0 -> refused N2 WrongKind\n\
+         slice 1 0 i14 e14 -> ok\n\
+         decode 9 4 0 0 -> refused N8 C1 EndOfBuffer\n\
+         split 1 2 0 -> ok\n\
+         slice 9 13 e0 e1 -> refused N4 OutOfRange\n\
+         take 3 0 -> bytes -\n\
+         show 0 -> view -\n\
+         put 15 - -> ok\n\
+         show 15 -> part c8733ccb68ddc8d1e7f649+1\n\
+         take 14 0 -> bytes -\n\
+         show 14 -> part 57fad6e17cb304+3\n\
+         show 0 -> view -\n\
+         setlen 15 1 -> ok\n\
+         slice 1 4 i0 e14 -> ok\n\
+         show 1 -> view 6c6d6e6f7071a8fb737475767778\n\
+         decode 9 11 0 1024 -> refused N8 C1 EndOfBuffer\n\
+         show 11 -> refused N2 WrongKind\n\
+         put 8 - -> ok\n\
+         show 8 -> part -+0\n\
+         show 8 -> part -+0\n\
+         split 4 13 2 -> ok\n\
+         show 13 -> view 6c6d\n\
+         show 13 -> view 6c6d\n\
+         drop 7 -> ok\n\
+         show 7 -> refused N2 WrongKind\n\
+         show 7 -> refused N2 WrongKind\n\
+         build 11 4 i64 i- i- p12 -> ok\n\
+         take 11 1 -> bytes 64\n\
+         show 1 -> view 6c6d6e6f7071a8fb737475767778\n\
+         show 11 -> text\n\
+         put 10 a725f18b29ce0a731494f4 -> ok\n\
+         static 6 25 26 -> ok\n\
+         freeze 10 10 -> ok\n\
+         show 10 -> view a725f18b29ce0a731494f4\n\
+         drop 0 -> ok\n\
+         show 0 -> refused N2 WrongKind\n\
+         gathermut 12 5 8 3 15 3 -> refused N3 InUse\n\
+         show 5 -> part 00000000000000+0\n\
+         show 5 -> part 00000000000000+0\n\
+         build 7 1 -> ok\n\
+         split 9 0 0 -> ok\n\
+         show 0 -> view -\n\
+         show 9 -> view -\n\
+         drop 13 -> ok\n\
+         show 13 -> refused N2 WrongKind\n\
+         show 13 -> refused N2 WrongKind\n\
+         gather 13 9 1 4 0 10 6 2 -> ok\n\
+         bytes 1 1beb91ab101357b7 -> ok\n\
+         show 1 -> view 1beb91ab101357b7\n\
+         build 12 8 p1 ic496 i- ic4523d -> ok\n",
+        "new 14 13 1 -> ok\n\
+         show 13 -> refused N2 WrongKind\n\
+         show 13 -> refused N2 WrongKind\n\
+         put 14 17 -> ok\n\
+         show 16 -> refused N1 NoName\n\
+         new 5 9 64 -> ok\n\
+         new 15 16 2 -> ok\n\
+         show 15 -> part -+16\n\
+         show 15 -> part -+16\n\
+         freeze 5 5 -> ok\n\
+         put 15 1812d7ba0d -> ok\n\
+         put 15 84bc23 -> ok\n\
+         new 12 20 1 -> ok\n\
+         show 16 -> refused N1 NoName\n\
+         show 16 -> refused N1 NoName\n\
+         put 15 6531 -> ok\n\
+         zeroed 7 6 1 -> ok\n\
+         show 7 -> part 000000000000+0\n\
+         show 6 -> refused N2 WrongKind\n\
+         static 6 11 23 -> ok\n\
+         show 6 -> view 6c6d6e6f7071727374757677\n\
+         decode 6 13 0 0 -> refused N8 C3 InvalidLength 108\n\
+         put 15 - -> ok\n\
+         show 15 -> part 1812d7ba0d84bc236531+6\n\
+         put 7 - -> ok\n\
+         bytes 0 - -> ok\n\
+         bytes 10 d3043e -> ok\n\
+         show 10 -> view d3043e\n\
+         show 10 -> view d3043e\n\
+         put 7 - -> ok\n\
+         zeroed 11 5 1 -> ok\n\
+         drop 10 -> ok\n\
+         show 10 -> refused N2 WrongKind\n\
+         show 10 -> refused N2 WrongKind\n\
+         freeze 11 11 -> ok\n\
+         show 11 -> view 0000000000\n\
+         show 11 -> view 0000000000\n\
+         clone 11 13 -> ok\n\
+         show 13 -> view 0000000000\n\
+         show 13 -> view 0000000000\n\
+         new 9 0 1 -> ok\n\
+         show 9 -> part -+0\n\
+         show 0 -> view -\n\
+         static 4 1 5 -> ok\n\
+         show 1 -> refused N2 WrongKind\n\
+         truncate 14 0 -> ok\n\
+         decode 6 1 0 18446744073709551615 -> refused N8 C1 EndOfBuffer\n\
+         show 6 -> view 6c6d6e6f7071727374757677\n\
+         prepend 8 13 -> refused N2 WrongKind\n\
+         show 13 -> view 0000000000\n\
+         show 13 -> view 0000000000\n\
+         advance 4 3 -> ok\n\
+         show 4 -> view 65\n\
+         put 15 00ad9a6ec2 -> ok\n\
+         put 14 a25153a6534ad433af8ab960 -> ok\n\
+         show 14 -> part a25153a6534ad433af8ab960+1\n\
+         show 14 -> part a25153a6534ad433af8ab960+1\n\
+         new 8 8 1 -> ok\n\
+         fill 8 236 0 -> ok\n\
+         encode 4 10 -> ok\n\
+         new 3 7 1 -> ok\n\
+         show 7 -> part 000000000000+0\n\
+         drop 15 -> ok\n\
+         show 15 -> refused N2 WrongKind\n\
+         freeze 12 15 -> ok\n\
+         show 12 -> refused N2 WrongKind\n\
+         put 7 - -> ok\n\
+         new 12 9 64 -> ok\n\
+         show 12 -> part -+9\n\
+         show 9 -> part -+0\n\
+         fill 14 140 0 -> ok\n\
+         show 14 -> part a25153a6534ad433af8ab960+1\n\
+         gathermut 2 7 14 3 12 8 9 -> ok\n\
+         new 8 19 1 -> ok\n\
+         show 16 -> refused N1 NoName\n\
+         gather 3 11 13 4 6 5 0 15 -> ok\n\
+         show 11 -> refused N2 WrongKind\n\
+         new 5 12 1 -> ok\n\
+         show 5 -> part -+12\n\
+         show 5 -> part -+12\n\
+         clone 10 12 -> ok\n\
+         take 3 23 -> bytes 00000000000000000000656c6d6e6f7071727374757677\n\
+         clone 10 4 -> ok\n\
+         drop 10 -> ok\n\
+         put 2 8039b98ed7 -> ok\n\
+         show 2 -> parts 000000000000+0 a25153a6534ad433af8ab96080+0 39b98ed7+3 -+9 -+8\n\
+         new 10 4 1 -> ok\n\
+         show 4 -> text 01 65\n\
+         show 4 -> text 01 65\n\
+         overwrite 2 9babb3e8e3f4d9d1b352fa495e54379092237001d5583d -> ok\n\
+         show 2 -> parts 9babb3e8e3f4+0 d9d1b352fa495e543790922370+0 01d5583d+3 -+9 -+8\n\
+         show 2 -> parts 9babb3e8e3f4+0 d9d1b352fa495e543790922370+0 01d5583d+3 -+9 -+8\n\
+         clone 12 9 -> ok\n\
+         drop 3 -> ok\n\
+         show 3 -> refused N2 WrongKind\n\
+         show 3 -> refused N2 WrongKind\n\
+         put 5 d26e3298ae4745 -> ok\n\
+         freeze 8 11 -> ok\n\
+         put 10 018e55 -> ok\n\
+         new 8 2 8 -> ok\n",
+        "static 11 14 26 -> ok\n\
+         show 14 -> refused N2 WrongKind\n\
+         show 14 -> refused N2 WrongKind\n\
+         new 7 4 2 -> ok\n\
+         show 7 -> part -+4\n\
+         show 4 -> refused N2 WrongKind\n\
+         put 7 a1ee748e -> ok\n\
+         show 7 -> part a1ee748e+0\n\
+         show 7 -> part a1ee748e+0\n\
+         put 7 - -> ok\n\
+         show 7 -> part a1ee748e+0\n\
+         coalesce 2 8 -> refused N2 WrongKind\n\
+         static 5 4 7 -> ok\n\
+         show 4 -> refused N2 WrongKind\n\
+         show 4 -> refused N2 WrongKind\n\
+         split 11 3 0 -> ok\n\
+         show 11 -> view 6f707172737475767778797a\n\
+         put 7 - -> ok\n\
+         show 7 -> part a1ee748e+0\n\
+         show 7 -> part a1ee748e+0\n\
+         new 15 8 64 -> ok\n\
+         show 15 -> part -+8\n\
+         show 8 -> refused N2 WrongKind\n\
+         freeze 7 4 -> ok\n\
+         show 4 -> view a1ee748e\n\
+         show 7 -> refused N2 WrongKind\n\
+         static 13 0 5 -> ok\n\
+         show 13 -> view 6162636465\n\
+         show 0 -> refused N2 WrongKind\n\
+         static 0 22 25 -> ok\n\
+         show 0 -> view 777879\n\
+         drop 0 -> ok\n\
+         drop 11 -> ok\n\
+         show 11 -> refused N2 WrongKind\n\
+         put 15 b30bcb -> ok\n\
+         put 15 c218e81b -> ok\n\
+         new 12 7 1 -> ok\n\
+         put 12 - -> ok\n\
+         show 12 -> part -+7\n\
+         show 12 -> part -+7\n\
+         zeroed 8 4 1 -> ok\n\
+         show 4 -> view a1ee748e\n\
+         show 8 -> part 00000000+0\n\
+         decode 3 7 0 1024 -> refused N8 C1 EndOfBuffer\n\
+         show 7 -> refused N2 WrongKind\n\
+         show 7 -> refused N2 WrongKind\n\
+         put 8 - -> ok\n\
+         zeroed 6 2 1 -> ok\n\
+         show 6 -> part 0000+0\n\
+         show 6 -> part 0000+0\n\
+         put 15 - -> ok\n\
+         bytes 9 94a910f85d180c4a -> ok\n\
+         clone 5 11 -> ok\n\
+         show 11 -> view 656667\n\
+         show 5 -> view 656667\n\
+         bytes 7 1bf911 -> ok\n\
+         static 0 0 9 -> ok\n\
+         show 0 -> view 616263646566676869\n\
+         drop 5 -> ok\n\
+         show 5 -> refused N2 WrongKind\n\
+         slice 3 2 e1 u -> refused N4 OutOfRange\n\
+         show 2 -> refused N2 WrongKind\n\
+         build 14 4 i- ida0b i18 i95 -> ok\n\
+         advance 14 0 -> ok\n\
+         show 14 -> text da0b1895\n\
+         advance 13 5 -> ok\n\
+         put 12 abb7786c -> ok\n\
+         show 12 -> part abb7786c+3\n\
+         coalesce 14 5 -> ok\n\
+         show 14 -> refused N2 WrongKind\n\
+         drop 11 -> ok\n\
+         take 7 0 -> bytes -\n\
+         show 7 -> view 1bf911\n\
+         show 0 -> view 616263646566676869\n\
+         split 4 10 4 -> ok\n\
+         show 10 -> view a1ee748e\n\
+         show 10 -> view a1ee748e\n\
+         drop 3 -> ok\n\
+         show 3 -> refused N2 WrongKind\n\
+         zeroed 1 0 1 -> ok\n\
+         show 1 -> part -+0\n\
+         gather 3 10 5 9 7 0 13 4 -> ok\n\
+         show 3 -> text a1ee748e da0b1895 94a910f85d180c4a 1bf911 616263646566676869\n\
+         show 10 -> refused N2 WrongKind\n\
+         put 12 e9e2bf -> ok\n\
+         show 12 -> part abb7786ce9e2bf+0\n\
+         new 10 14 8 -> ok\n\
+         show 10 -> part -+14\n\
+         static 13 4 16 -> ok\n\
+         show 4 -> refused N2 WrongKind\n\
+         show 4 -> refused N2 WrongKind\n\
+         gather 0 13 -> ok\n\
+         show 13 -> refused N2 WrongKind\n\
+         new 13 2 1 -> ok\n\
+         show 13 -> part -+2\n\
+         show 2 -> refused N2 WrongKind\n\
+         zeroed 2 8 1 -> ok\n\
+         drop 1 -> ok\n\
+         show 1 -> refused N2 WrongKind\n\
+         show 1 -> refused N2 WrongKind\n",
+        "new 12 19 1 -> ok\n\
+         show 12 -> part -+19\n\
+         show 16 -> refused N1 NoName\n\
+         gathermut 0 -> ok\n\
+         show 0 -> parts -+0\n\
+         new 8 9 0 -> refused N5 BadLayout\n\
+         show 8 -> refused N2 WrongKind\n\
+         put 12 d6f018c0f2596dbcb441538098e294 -> ok\n\
+         static 14 9 11 -> ok\n\
+         show 14 -> view 6a6b\n\
+         show 14 -> view 6a6b\n\
+         new 4 9 2 -> ok\n\
+         show 9 -> refused N2 WrongKind\n\
+         show 9 -> refused N2 WrongKind\n\
+         new 8 6 1 -> ok\n\
+         show 6 -> refused N2 WrongKind\n\
+         show 6 -> refused N2 WrongKind\n\
+         fill 12 19 1 -> ok\n\
+         put 12 3032 -> ok\n\
+         show 16 -> refused N1 NoName\n\
+         show 16 -> refused N1 NoName\n\
+         put 4 63 -> ok\n\
+         take 0 0 -> bytes -\n\
+         put 8 6d8aa6 -> ok\n\
+         bytes 1 e6abe4b13806 -> ok\n\
+         recover 14 6 -> refused N7 Declined\n\
+         show 14 -> view 6a6b\n\
+         new 6 8 0 -> refused N5 BadLayout\n\
+         show 8 -> part 6d8aa6+3\n\
+         show 8 -> part 6d8aa6+3\n\
+         static 15 11 14 -> ok\n\
+         show 15 -> view 6c6d6e\n\
+         show 11 -> refused N2 WrongKind\n\
+         put 8 06 -> ok\n\
+         show 8 -> part 6d8aa606+2\n\
+         put 4 95 -> ok\n\
+         show 4 -> part 6395+7\n\
+         show 16 -> refused N1 NoName\n\
+         new 5 1 8 -> ok\n\
+         show 1 -> view e6abe4b13806\n\
+         show 1 -> view e6abe4b13806\n\
+         new 3 20 8 -> ok\n\
+         encode 14 9 -> ok\n\
+         show 14 -> view 6a6b\n\
+         show 9 -> text 02 6a6b\n\
+         advance 2 0 -> refused N2 WrongKind\n\
+         show 0 -> parts -+0\n\
+         advance 9 1 -> ok\n\
+         put 8 7d -> ok\n\
+         decode 14 7 0 1024 -> refused N8 C1 EndOfBuffer\n\
+         split 14 6 0 -> ok\n\
+         show 6 -> view -\n\
+         show 14 -> view 6a6b\n\
+         bytes 13 fa -> ok\n\
+         show 13 -> view fa\n\
+         freeze 8 8 -> ok\n\
+         append 9 15 -> ok\n\
+         take 9 5 -> bytes 6a6b6c6d6e\n\
+         show 9 -> text\n\
+         show 9 -> text\n\
+         setlen 5 2 -> refused N4 OutOfRange\n\
+         show 5 -> part -+1\n\
+         freeze 12 10 -> ok\n\
+         show 12 -> refused N2 WrongKind\n\
+         new 12 9 1 -> ok\n\
+         fill 5 60 0 -> ok\n\
+         show 5 -> part -+1\n\
+         show 5 -> part -+1\n\
+         freeze 0 15 -> ok\n\
+         show 0 -> refused N2 WrongKind\n\
+         show 0 -> refused N2 WrongKind\n\
+         new 7 20 0 -> refused N5 BadLayout\n\
+         show 16 -> refused N1 NoName\n\
+         show 16 -> refused N1 NoName\n\
+         build 7 7 p10 i71 ia6f3d6 -> ok\n\
+         show 7 -> text d6f018c0f2596dbcb441538098e294133032 71a6f3d6\n\
+         put 4 59 -> ok\n\
+         show 4 -> part 639559+6\n\
+         show 16 -> refused N1 NoName\n\
+         setlen 4 3 -> ok\n\
+         show 3 -> part -+20\n\
+         take 13 1 -> bytes fa\n\
+         show 13 -> view -\n\
+         gather 11 13 14 6 1 8 -> ok\n\
+         show 11 -> text 6a6b e6abe4b13806 6d8aa6067d\n\
+         drop 7 -> ok\n\
+         put 5 - -> ok\n\
+         show 5 -> part -+1\n\
+         show 5 -> part -+1\n\
+         static 7 9 17 -> ok\n\
+         show 7 -> view 6a6b6c6d6e6f7071\n\
+         put 5 - -> ok\n\
+         show 5 -> part -+1\n\
+         show 5 -> part -+1\n\
+         new 0 13 1 -> ok\n\
+         show 0 -> part -+13\n\
+         decode 15 6 1 1024 -> refused N8 C1 EndOfBuffer\n\
+         drop 0 -> ok\n\
+         show 0 -> refused N2 WrongKind\n\
+         show 0 -> refused N2 WrongKind\n",
+        "bytes 5 3e0b1e89a6 -> ok\n\
+         drop 5 -> ok\n\
+         show 5 -> refused N2 WrongKind\n\
+         zeroed 0 8 1 -> ok\n\
+         put 0 - -> ok\n\
+         put 0 - -> ok\n\
+         show 0 -> part 0000000000000000+0\n\
+         put 0 - -> ok\n\
+         show 0 -> part 0000000000000000+0\n\
+         show 0 -> part 0000000000000000+0\n\
+         put 0 - -> ok\n\
+         show 0 -> part 0000000000000000+0\n\
+         show 0 -> part 0000000000000000+0\n\
+         static 4 17 26 -> ok\n\
+         zeroed 12 4 1 -> ok\n\
+         show 12 -> part 00000000+0\n\
+         show 12 -> part 00000000+0\n\
+         zeroed 15 5 1 -> ok\n\
+         show 15 -> part 0000000000+0\n\
+         bytes 9 3e20f47c91e4 -> ok\n\
+         static 13 16 25 -> ok\n\
+         show 16 -> refused N1 NoName\n\
+         show 16 -> refused N1 NoName\n\
+         fill 0 215 0 -> ok\n\
+         put 15 - -> ok\n\
+         static 3 12 22 -> ok\n\
+         show 3 -> view 6d6e6f70717273747576\n\
+         show 12 -> part 00000000+0\n\
+         gather 6 13 3 9 4 -> ok\n\
+         show 6 -> text 717273747576777879 6d6e6f70717273747576 3e20f47c91e4 72737475767778797a\n\
+         show 6 -> text 717273747576777879 6d6e6f70717273747576 3e20f47c91e4 72737475767778797a\n\
+         put 12 - -> ok\n\
+         show 12 -> part 00000000+0\n\
+         show 12 -> part 00000000+0\n\
+         take 15 5 -> bytes 0000000000\n\
+         show 15 -> part -+0\n\
+         new 2 16 2 -> ok\n\
+         put 0 - -> ok\n\
+         new 3 20 1 -> ok\n\
+         freeze 2 2 -> ok\n\
+         show 2 -> view -\n\
+         put 12 - -> ok\n\
+         show 12 -> part 00000000+0\n\
+         show 12 -> part 00000000+0\n\
+         put 15 - -> ok\n\
+         show 15 -> part -+0\n\
+         show 15 -> part -+0\n\
+         put 15 - -> ok\n\
+         show 15 -> part -+0\n\
+         put 0 - -> ok\n\
+         show 0 -> part 0000000000000000+0\n\
+         show 0 -> part 0000000000000000+0\n\
+         bytes 13 dc6802d4802d23e9 -> ok\n\
+         put 12 - -> ok\n\
+         show 12 -> part 00000000+0\n\
+         new 9 7 64 -> ok\n\
+         show 7 -> refused N2 WrongKind\n\
+         fill 9 189 5 -> ok\n\
+         show 9 -> part bdbdbdbdbd+2\n\
+         show 16 -> refused N1 NoName\n\
+         static 10 8 25 -> ok\n\
+         show 10 -> view 696a6b6c6d6e6f70717273747576777879\n\
+         show 10 -> view 696a6b6c6d6e6f70717273747576777879\n\
+         append 6 13 -> ok\n\
+         zeroed 13 2 1 -> ok\n\
+         show 13 -> part 0000+0\n\
+         setlen 13 0 -> ok\n\
+         show 13 -> part -+2\n\
+         show 0 -> part 0000000000000000+0\n\
+         drop 9 -> ok\n\
+         bytes 4 b819428a6bb1126c8b -> ok\n\
+         gather 8 4 -> ok\n\
+         show 8 -> text b819428a6bb1126c8b\n\
+         show 8 -> text b819428a6bb1126c8b\n\
+         clone 6 6 -> refused N3 InUse\n\
+         gather 11 2 -> ok\n\
+         show 11 -> text\n\
+         show 2 -> refused N2 WrongKind\n\
+         clone 10 2 -> ok\n\
+         take 13 0 -> bytes -\n\
+         drop 10 -> ok\n\
+         show 10 -> refused N2 WrongKind\n\
+         show 10 -> refused N2 WrongKind\n\
+         gathermut 5 12 13 15 0 3 -> ok\n\
+         clone 2 13 -> ok\n\
+         put 5 3a80936e50a5f22d9cebc6aa0a -> ok\n\
+         show 5 -> parts 00000000+0 3a80+0 0000000000000000+0 936e50a5f22d9cebc6aa0a+9\n\
+         show 5 -> parts 00000000+0 3a80+0 0000000000000000+0 936e50a5f22d9cebc6aa0a+9\n\
+         split 8 12 4 -> ok\n\
+         drop 8 -> ok\n\
+         zeroed 10 0 1 -> ok\n\
+         show 0 -> refused N2 WrongKind\n\
+         put 5 692a6e -> ok\n\
+         show 5 -> parts 00000000+0 3a80+0 0000000000000000+0 936e50a5f22d9cebc6aa0a692a6e+6\n\
+         show 5 -> parts 00000000+0 3a80+0 0000000000000000+0 936e50a5f22d9cebc6aa0a692a6e+6\n\
+         put 10 - -> ok\n\
+         fill 10 25 1 -> refused N4 OutOfRange\n\
+         show 16 -> refused N1 NoName\n\
+         show 10 -> part -+0\n\
+         zeroed 4 5 1 -> ok\n",
+        "new 5 18 1 -> ok\n\
+         setlen 5 12 -> ok\n\
+         show 5 -> part 000000000000000000000000+6\n\
+         new 8 2 64 -> ok\n\
+         put 8 eb -> ok\n\
+         put 8 - -> ok\n\
+         bytes 6 - -> ok\n\
+         bytes 9 c291e76fd1b57439 -> ok\n\
+         put 8 - -> ok\n\
+         drop 5 -> ok\n\
+         clone 9 10 -> ok\n\
+         zeroed 0 1 1 -> ok\n\
+         show 1 -> refused N2 WrongKind\n\
+         bytes 4 bfce8968c7 -> ok\n\
+         show 4 -> view bfce8968c7\n\
+         show 4 -> view bfce8968c7\n\
+         static 15 21 24 -> ok\n\
+         show 15 -> view 767778\n\
+         drop 0 -> ok\n\
+         split 10 1 2 -> ok\n\
+         show 10 -> view e76fd1b57439\n\
+         show 1 -> view c291\n\
+         encode 1 14 -> ok\n\
+         show 14 -> text 02 c291\n\
+         show 14 -> text 02 c291\n\
+         zeroed 12 4 1 -> ok\n\
+         show 4 -> view bfce8968c7\n\
+         split 7 7 0 -> refused N2 WrongKind\n\
+         show 7 -> refused N2 WrongKind\n\
+         drop 4 -> ok\n\
+         show 4 -> refused N2 WrongKind\n\
+         new 4 11 3 -> refused N5 BadLayout\n\
+         put 8 8e -> ok\n\
+         bytes 5 21508bd5162a52f8 -> ok\n\
+         put 12 - -> ok\n\
+         show 12 -> part 00000000+0\n\
+         show 12 -> part 00000000+0\n\
+         advance 14 0 -> ok\n\
+         show 14 -> text 02 c291\n\
+         coalesce 14 13 -> ok\n\
+         slice 15 3 i3 i3 -> refused N4 OutOfRange\n\
+         show 3 -> refused N2 WrongKind\n\
+         split 13 3 1 -> ok\n\
+         show 3 -> view 02\n\
+         drop 3 -> ok\n\
+         show 3 -> refused N2 WrongKind\n\
+         freeze 12 12 -> ok\n\
+         show 12 -> view 00000000\n\
+         drop 9 -> ok\n\
+         show 9 -> refused N2 WrongKind\n\
+         decode 13 3 0 5 -> refused N8 C1 EndOfBuffer\n\
+         show 3 -> refused N2 WrongKind\n\
+         fill 8 175 1 -> refused N4 OutOfRange\n\
+         show 8 -> part eb8e+0\n\
+         put 8 - -> ok\n\
+         show 8 -> part eb8e+0\n\
+         show 8 -> part eb8e+0\n\
+         put 8 - -> ok\n\
+         new 2 22 2 -> ok\n\
+         slice 1 0 e3 u -> refused N4 OutOfRange\n\
+         show 0 -> refused N2 WrongKind\n\
+         freeze 8 8 -> ok\n\
+         show 8 -> view eb8e\n\
+         show 8 -> view eb8e\n\
+         drop 1 -> ok\n\
+         show 1 -> refused N2 WrongKind\n\
+         new 14 8 2 -> ok\n\
+         advance 14 0 -> ok\n\
+         show 0 -> refused N2 WrongKind\n\
+         show 0 -> refused N2 WrongKind\n\
+         advance 2 0 -> ok\n\
+         show 2 -> part -+22\n\
+         freeze 14 3 -> ok\n\
+         drop 5 -> ok\n\
+         show 5 -> refused N2 WrongKind\n\
+         put 2 f15b42d78b61e98c81 -> ok\n\
+         show 2 -> part f15b42d78b61e98c81+13\n\
+         new 4 2 3 -> refused N5 BadLayout\n\
+         show 4 -> refused N2 WrongKind\n\
+         encode 6 4 -> ok\n\
+         append 4 12 -> ok\n\
+         show 12 -> refused N2 WrongKind\n\
+         advance 6 0 -> ok\n\
+         show 6 -> view -\n\
+         static 9 23 23 -> ok\n\
+         show 9 -> view -\n\
+         put 2 f3e8aca9a55a38 -> ok\n\
+         show 2 -> part f15b42d78b61e98c81f3e8aca9a55a38+6\n\
+         clear 2 -> ok\n\
+         show 2 -> part -+22\n\
+         gather 14 6 9 8 15 3 10 -> ok\n\
+         new 9 20 8 -> ok\n\
+         show 9 -> part -+20\n\
+         show 16 -> refused N1 NoName\n\
+         gather 0 13 -> ok\n\
+         show 0 -> text c291\n\
+         drop 9 -> ok\n\
+         bytes 9 367fc8160f72 -> ok\n\
+         show 9 -> view 367fc8160f72\n\
+         bytes 5 b33f505d3e79 -> ok\n",
+        "new 0 15 8 -> ok\n\
+         show 15 -> refused N2 WrongKind\n\
+         show 15 -> refused N2 WrongKind\n\
+         static 12 23 23 -> ok\n\
+         show 16 -> refused N1 NoName\n\
+         static 2 4 22 -> ok\n\
+         show 4 -> refused N2 WrongKind\n\
+         show 4 -> refused N2 WrongKind\n\
+         bytes 7 7103a4a3f8a806d145 -> ok\n\
+         show 7 -> view 7103a4a3f8a806d145\n\
+         setlen 0 4 -> ok\n\
+         static 15 19 20 -> ok\n\
+         show 15 -> view 74\n\
+         show 16 -> refused N1 NoName\n\
+         put 0 ed2faf620298 -> ok\n\
+         show 0 -> part 00000000ed2faf620298+5\n\
+         show 0 -> part 00000000ed2faf620298+5\n\
+         zeroed 14 0 1 -> ok\n\
+         show 14 -> part -+0\n\
+         show 0 -> part 00000000ed2faf620298+5\n\
+         put 14 - -> ok\n\
+         show 14 -> part -+0\n\
+         static 4 25 25 -> ok\n\
+         show 16 -> refused N1 NoName\n\
+         show 16 -> refused N1 NoName\n\
+         fill 0 139 4 -> ok\n\
+         show 16 -> refused N1 NoName\n\
+         static 1 4 14 -> ok\n\
+         show 4 -> view -\n\
+         show 1 -> view 65666768696a6b6c6d6e\n\
+         put 14 - -> ok\n\
+         show 14 -> part -+0\n\
+         show 14 -> part -+0\n\
+         bytes 10 01ffab4b81c8145e0b -> ok\n\
+         show 10 -> view 01ffab4b81c8145e0b\n\
+         gathermut 11 0 14 -> ok\n\
+         show 0 -> refused N2 WrongKind\n\
+         show 0 -> refused N2 WrongKind\n\
+         fill 11 176 2 -> refused N4 OutOfRange\n\
+         show 11 -> parts 00000000ed2faf6202988b8b8b8b+1\n\
+         put 11 - -> ok\n\
+         show 11 -> parts 00000000ed2faf6202988b8b8b8b+1\n\
+         freeze 11 11 -> ok\n\
+         bytes 9 ecc8 -> ok\n\
+         drop 4 -> ok\n\
+         show 4 -> refused N2 WrongKind\n\
+         show 4 -> refused N2 WrongKind\n\
+         new 4 13 0 -> refused N5 BadLayout\n\
+         show 13 -> refused N2 WrongKind\n\
+         show 4 -> refused N2 WrongKind\n\
+         recover 7 7 -> refused N7 Declined\n\
+         static 14 20 25 -> ok\n\
+         drop 14 -> ok\n\
+         show 14 -> refused N2 WrongKind\n\
+         show 14 -> refused N2 WrongKind\n\
+         gather 8 7 1 15 2 -> ok\n\
+         show 7 -> refused N2 WrongKind\n\
+         advance 10 9 -> ok\n\
+         new 6 13 8 -> ok\n\
+         show 6 -> part -+13\n\
+         show 13 -> refused N2 WrongKind\n\
+         split 8 4 38 -> ok\n\
+         new 5 3 1 -> ok\n\
+         put 6 15 -> ok\n\
+         show 15 -> refused N2 WrongKind\n\
+         fill 5 198 1 -> ok\n\
+         show 16 -> refused N1 NoName\n\
+         show 16 -> refused N1 NoName\n\
+         prepend 11 10 -> ok\n\
+         new 15 19 64 -> ok\n\
+         show 16 -> refused N1 NoName\n\
+         new 1 22 3 -> refused N5 BadLayout\n\
+         show 16 -> refused N1 NoName\n\
+         show 1 -> refused N2 WrongKind\n\
+         new 10 5 1 -> ok\n\
+         put 15 7f7f393c5a66bddaa13736 -> ok\n\
+         show 15 -> part 7f7f393c5a66bddaa13736+8\n\
+         new 7 23 1 -> ok\n\
+         show 7 -> part -+23\n\
+         drop 15 -> ok\n\
+         decode 9 13 0 18446744073709551615 -> refused N8 C1 EndOfBuffer\n\
+         decode 8 15 0 18446744073709551615 -> refused N8 C1 EndOfBuffer\n\
+         drop 5 -> ok\n\
+         show 5 -> refused N2 WrongKind\n\
+         fill 6 240 1 -> ok\n\
+         put 10 6e03 -> ok\n\
+         put 6 - -> ok\n\
+         show 6 -> part 15f0+11\n\
+         show 6 -> part 15f0+11\n\
+         put 10 - -> ok\n\
+         put 10 63 -> ok\n\
+         show 10 -> part 6e0363+2\n\
+         new 5 7 3 -> refused N5 BadLayout\n\
+         gather 1 12 9 -> ok\n\
+         show 12 -> refused N2 WrongKind\n\
+         show 12 -> refused N2 WrongKind\n\
+         drop 1 -> ok\n\
+         show 1 -> refused N2 WrongKind\n\
+         new 0 14 3 -> refused N5 BadLayout\n\
+         show 14 -> refused N2 WrongKind\n",
+        "gathermut 13 -> ok\n\
+         show 13 -> parts -+0\n\
+         put 13 - -> ok\n\
+         show 13 -> parts -+0\n\
+         static 12 26 26 -> ok\n\
+         static 3 11 24 -> ok\n\
+         show 11 -> refused N2 WrongKind\n\
+         static 0 10 12 -> ok\n\
+         show 0 -> view 6b6c\n\
+         put 13 - -> ok\n\
+         fill 13 83 0 -> ok\n\
+         new 15 11 2 -> ok\n\
+         freeze 13 2 -> ok\n\
+         show 13 -> refused N2 WrongKind\n\
+         show 2 -> text\n\
+         bytes 8 - -> ok\n\
+         show 8 -> view -\n\
+         put 15 6d08d08ede127698c745d3 -> ok\n\
+         bytes 13 - -> ok\n\
+         bytes 5 c3bc7cae7ce8 -> ok\n\
+         show 5 -> view c3bc7cae7ce8\n\
+         put 15 - -> ok\n\
+         put 15 - -> ok\n\
+         show 15 -> part 6d08d08ede127698c745d3+0\n\
+         put 15 - -> ok\n\
+         show 15 -> part 6d08d08ede127698c745d3+0\n\
+         new 14 4 3 -> refused N5 BadLayout\n\
+         show 4 -> refused N2 WrongKind\n\
+         show 4 -> refused N2 WrongKind\n\
+         drop 13 -> ok\n\
+         static 1 13 23 -> ok\n\
+         show 1 -> view 6e6f7071727374757677\n\
+         show 1 -> view 6e6f7071727374757677\n\
+         drop 2 -> ok\n\
+         show 2 -> refused N2 WrongKind\n\
+         show 2 -> refused N2 WrongKind\n\
+         static 13 16 23 -> ok\n\
+         put 15 - -> ok\n\
+         show 15 -> part 6d08d08ede127698c745d3+0\n\
+         show 15 -> part 6d08d08ede127698c745d3+0\n\
+         put 15 - -> ok\n\
+         show 15 -> part 6d08d08ede127698c745d3+0\n\
+         show 15 -> part 6d08d08ede127698c745d3+0\n\
+         put 15 - -> ok\n\
+         show 15 -> part 6d08d08ede127698c745d3+0\n\
+         show 15 -> part 6d08d08ede127698c745d3+0\n\
+         put 7 - -> refused N2 WrongKind\n\
+         bytes 10 7287 -> ok\n\
+         drop 10 -> ok\n\
+         show 10 -> refused N2 WrongKind\n\
+         show 10 -> refused N2 WrongKind\n\
+         freeze 15 11 -> ok\n\
+         show 11 -> view 6d08d08ede127698c745d3\n\
+         show 15 -> refused N2 WrongKind\n\
+         drop 13 -> ok\n\
+         show 13 -> refused N2 WrongKind\n\
+         show 13 -> refused N2 WrongKind\n\
+         static 10 14 19 -> ok\n\
+         drop 12 -> ok\n\
+         show 12 -> refused N2 WrongKind\n\
+         new 2 18 1 -> ok\n\
+         show 2 -> part -+18\n\
+         fill 2 236 11 -> ok\n\
+         static 13 14 15 -> ok\n\
+         show 13 -> view 6f\n\
+         show 14 -> refused N2 WrongKind\n\
+         drop 5 -> ok\n\
+         new 7 3 1 -> ok\n\
+         show 7 -> part -+3\n\
+         show 7 -> part -+3\n\
+         setlen 2 0 -> ok\n\
+         show 0 -> view 6b6c\n\
+         show 0 -> view 6b6c\n\
+         slice 10 5 i5 e1 -> refused N4 OutOfRange\n\
+         put 7 067c -> ok\n\
+         show 7 -> part 067c+1\n\
+         show 7 -> part 067c+1\n\
+         put 7 - -> ok\n\
+         show 7 -> part 067c+1\n\
+         show 7 -> part 067c+1\n\
+         split 8 15 0 -> ok\n\
+         show 8 -> view -\n\
+         show 15 -> view -\n\
+         drop 0 -> ok\n\
+         show 0 -> refused N2 WrongKind\n\
+         freeze 2 0 -> ok\n\
+         show 2 -> refused N2 WrongKind\n\
+         show 2 -> refused N2 WrongKind\n\
+         drop 13 -> ok\n\
+         show 13 -> refused N2 WrongKind\n\
+         show 13 -> refused N2 WrongKind\n\
+         put 7 - -> ok\n\
+         show 7 -> part 067c+1\n\
+         show 7 -> part 067c+1\n\
+         new 9 12 8 -> ok\n\
+         put 9 ec -> ok\n\
+         show 9 -> part ec+11\n\
+         show 9 -> part ec+11\n\
+         setlen 9 2 -> ok\n\
+         show 9 -> part ec00+10\n",
+        "static 8 20 25 -> ok\n\
+         show 8 -> view 7576777879\n\
+         show 16 -> refused N1 NoName\n\
+         recover 8 3 -> refused N7 Declined\n\
+         new 9 15 8 -> ok\n\
+         show 9 -> part -+15\n\
+         new 10 20 1 -> ok\n\
+         show 16 -> refused N1 NoName\n\
+         put 10 - -> ok\n\
+         show 10 -> part -+20\n\
+         bytes 12 9015189ada7f00 -> ok\n\
+         show 12 -> view 9015189ada7f00\n\
+         new 3 9 1 -> ok\n\
+         show 9 -> part -+15\n\
+         put 9 55bd130e6bbec3aeda1414d66f21bc -> ok\n\
+         show 9 -> part 55bd130e6bbec3aeda1414d66f21bc+0\n\
+         setlen 10 14 -> ok\n\
+         show 10 -> part 0000000000000000000000000000+6\n\
+         bytes 4 - -> ok\n\
+         show 4 -> view -\n\
+         show 4 -> view -\n\
+         put 10 31b4be -> ok\n\
+         show 10 -> part 000000000000000000000000000031b4be+3\n\
+         put 10 52f195 -> ok\n\
+         show 10 -> part 000000000000000000000000000031b4be52f195+0\n\
+         show 10 -> part 000000000000000000000000000031b4be52f195+0\n\
+         put 3 d164 -> ok\n\
+         show 3 -> part d164+7\n\
+         slice 8 11 e0 e4 -> ok\n\
+         put 10 - -> ok\n\
+         show 10 -> part 000000000000000000000000000031b4be52f195+0\n\
+         new 7 12 64 -> ok\n\
+         put 10 - -> ok\n\
+         show 10 -> part 000000000000000000000000000031b4be52f195+0\n\
+         put 3 9e97f28c41240e -> ok\n\
+         show 3 -> part d1649e97f28c41240e+0\n\
+         put 9 - -> ok\n\
+         show 9 -> part 55bd130e6bbec3aeda1414d66f21bc+0\n\
+         show 9 -> part 55bd130e6bbec3aeda1414d66f21bc+0\n\
+         new 15 4 2 -> ok\n\
+         encode 11 0 -> ok\n\
+         show 11 -> view 767778\n\
+         advance 3 9 -> ok\n\
+         show 3 -> part -+0\n\
+         split 11 14 3 -> ok\n\
+         show 14 -> view 767778\n\
+         show 14 -> view 767778\n\
+         overwrite 7 - -> ok\n\
+         show 7 -> part -+12\n\
+         show 7 -> part -+12\n\
+         clone 12 13 -> ok\n\
+         put 9 - -> ok\n\
+         drop 0 -> ok\n\
+         fill 10 105 0 -> ok\n\
+         slice 11 2 e0 u -> refused N4 OutOfRange\n\
+         show 11 -> view -\n\
+         gathermut 5 15 9 7 -> ok\n\
+         show 15 -> refused N2 WrongKind\n\
+         show 15 -> refused N2 WrongKind\n\
+         put 5 01dceba7f3df4348bb2a69fa24d84a -> ok\n\
+         advance 5 23 -> ok\n\
+         put 3 - -> ok\n\
+         show 3 -> part -+0\n\
+         show 3 -> part -+0\n\
+         advance 11 0 -> ok\n\
+         show 11 -> view -\n\
+         encode 11 15 -> ok\n\
+         slice 8 0 e4 i3 -> refused N4 OutOfRange\n\
+         show 8 -> view 7576777879\n\
+         show 8 -> view 7576777879\n\
+         advance 5 7 -> ok\n\
+         show 7 -> refused N2 WrongKind\n\
+         put 3 - -> ok\n\
+         show 3 -> part -+0\n\
+         recover 14 1 -> refused N7 Declined\n\
+         show 14 -> view 767778\n\
+         show 14 -> view 767778\n\
+         advance 11 0 -> ok\n\
+         show 11 -> view -\n\
+         new 0 11 1 -> ok\n\
+         show 0 -> part -+11\n\
+         new 6 22 2 -> ok\n\
+         show 16 -> refused N1 NoName\n\
+         split 12 2 0 -> ok\n\
+         show 12 -> view 9015189ada7f00\n\
+         show 2 -> view -\n\
+         gathermut 7 0 6 10 -> ok\n\
+         append 15 4 -> ok\n\
+         show 4 -> refused N2 WrongKind\n\
+         show 15 -> text 00\n\
+         drop 8 -> ok\n\
+         split 14 9 0 -> ok\n\
+         show 14 -> view 767778\n\
+         show 9 -> view -\n\
+         prepend 15 11 -> ok\n\
+         show 15 -> text 00\n\
+         show 11 -> refused N2 WrongKind\n\
+         gather 8 2 12 14 13 9 -> ok\n\
+         show 2 -> refused N2 WrongKind\n\
+         show 8 -> text 9015189ada7f00 767778 9015189ada7f00\n",
+        "new 10 13 1 -> ok\n\
+         new 14 3 2 -> ok\n\
+         fill 14 107 4 -> refused N4 OutOfRange\n\
+         show 14 -> part -+3\n\
+         put 14 22a555 -> ok\n\
+         put 14 - -> ok\n\
+         static 0 5 23 -> ok\n\
+         show 5 -> refused N2 WrongKind\n\
+         show 5 -> refused N2 WrongKind\n\
+         setlen 14 3 -> ok\n\
+         show 14 -> part 22a555+0\n\
+         show 14 -> part 22a555+0\n\
+         put 10 - -> ok\n\
+         show 10 -> part -+13\n\
+         show 10 -> part -+13\n\
+         decode 0 3 0 5 -> refused N8 C3 InvalidLength 102\n\
+         show 0 -> view 666768696a6b6c6d6e6f7071727374757677\n\
+         show 3 -> refused N2 WrongKind\n\
+         put 10 346e04 -> ok\n\
+         new 2 8 2 -> ok\n\
+         show 8 -> refused N2 WrongKind\n\
+         bytes 11 0b3bb5a0c756 -> ok\n\
+         show 11 -> view 0b3bb5a0c756\n\
+         show 11 -> view 0b3bb5a0c756\n\
+         put 14 - -> ok\n\
+         show 14 -> part 22a555+0\n\
+         static 5 4 20 -> ok\n\
+         put 2 f013a45dc67c -> ok\n\
+         show 2 -> part f013a45dc67c+2\n\
+         put 10 3e77 -> ok\n\
+         show 10 -> part 346e043e77+8\n\
+         split 11 3 0 -> ok\n\
+         new 1 19 0 -> refused N5 BadLayout\n\
+         show 16 -> refused N1 NoName\n\
+         put 2 1d -> ok\n\
+         show 2 -> part f013a45dc67c1d+1\n\
+         show 2 -> part f013a45dc67c1d+1\n\
+         bytes 7 158b -> ok\n\
+         gather 6 0 11 3 7 5 -> ok\n\
+         encode 12 5 -> refused N2 WrongKind\n\
+         show 5 -> refused N2 WrongKind\n\
+         show 12 -> refused N2 WrongKind\n\
+         static 1 12 18 -> ok\n\
+         show 1 -> view 6d6e6f707172\n\
+         show 12 -> refused N2 WrongKind\n\
+         put 2 73 -> ok\n\
+         show 2 -> part f013a45dc67c1d73+0\n\
+         new 13 0 8 -> ok\n\
+         put 14 - -> ok\n\
+         show 14 -> part 22a555+0\n\
+         put 14 - -> ok\n\
+         show 14 -> part 22a555+0\n\
+         show 14 -> part 22a555+0\n\
+         advance 14 0 -> ok\n\
+         show 0 -> refused N2 WrongKind\n\
+         zeroed 12 8 1 -> ok\n\
+         show 12 -> part 0000000000000000+0\n\
+         show 12 -> part 0000000000000000+0\n\
+         put 2 f3 -> refused N4 OutOfRange\n\
+         show 2 -> part f013a45dc67c1d73+0\n\
+         show 2 -> part f013a45dc67c1d73+0\n\
+         put 12 - -> ok\n\
+         show 12 -> part 0000000000000000+0\n\
+         show 12 -> part 0000000000000000+0\n\
+         new 4 4 1 -> ok\n\
+         split 1 5 0 -> ok\n\
+         show 5 -> view -\n\
+         build 7 7 p1 p5 i13 i226d38 -> ok\n\
+         show 7 -> text 6d6e6f707172 13226d38\n\
+         put 12 - -> ok\n\
+         put 14 - -> ok\n\
+         static 15 24 25 -> ok\n\
+         show 15 -> view 79\n\
+         show 15 -> view 79\n\
+         advance 15 0 -> ok\n\
+         bytes 9 3fa1f5df8e -> ok\n\
+         show 9 -> view 3fa1f5df8e\n\
+         freeze 14 14 -> ok\n\
+         show 14 -> view 22a555\n\
+         show 14 -> view 22a555\n\
+         gathermut 11 2 4 12 13 10 -> ok\n\
+         show 11 -> parts f013a45dc67c1d73+0 -+4 0000000000000000+0 346e043e77+8\n\
+         show 2 -> refused N2 WrongKind\n\
+         put 11 1e4bf0184949c60f69273cfb -> ok\n\
+         new 3 21 64 -> ok\n\
+         show 3 -> part -+21\n\
+         zeroed 13 2 1 -> ok\n\
+         show 2 -> refused N2 WrongKind\n\
+         show 2 -> refused N2 WrongKind\n\
+         zeroed 4 2 1 -> ok\n\
+         show 2 -> refused N2 WrongKind\n\
+         show 4 -> part 0000+0\n\
+         static 0 8 9 -> ok\n\
+         build 12 0 -> ok\n\
+         show 12 -> text\n\
+         freeze 3 3 -> ok\n\
+         show 3 -> view -\n\
+         coalesce 11 11 -> ok\n\
+         show 11 -> part f013a45dc67c1d731e4bf0180000000000000000346e043e774949c60f69273cfb+0\n\
+         show 11 -> part f013a45dc67c1d731e4bf0180000000000000000346e043e774949c60f69273cfb+0\n",
+        "static 15 1 9 -> ok\n\
+         show 15 -> view 6263646566676869\n\
+         bytes 1 3c5a96ffc5bc77a8 -> ok\n\
+         show 1 -> view 3c5a96ffc5bc77a8\n\
+         show 1 -> view 3c5a96ffc5bc77a8\n\
+         zeroed 9 4 1 -> ok\n\
+         put 9 - -> ok\n\
+         show 9 -> part 00000000+0\n\
+         put 9 - -> ok\n\
+         show 9 -> part 00000000+0\n\
+         show 9 -> part 00000000+0\n\
+         put 9 - -> ok\n\
+         new 3 15 1 -> ok\n\
+         show 3 -> part -+15\n\
+         show 3 -> part -+15\n\
+         put 9 - -> ok\n\
+         show 9 -> part 00000000+0\n\
+         show 9 -> part 00000000+0\n\
+         decode 1 5 0 18446744073709551615 -> refused N8 C1 EndOfBuffer\n\
+         show 5 -> refused N2 WrongKind\n\
+         put 3 739ad631 -> ok\n\
+         show 3 -> part 739ad631+11\n\
+         put 3 1faf09abeda9a4 -> ok\n\
+         show 3 -> part 739ad6311faf09abeda9a4+4\n\
+         new 12 2 1 -> ok\n\
+         show 2 -> refused N2 WrongKind\n\
+         new 11 6 1 -> ok\n\
+         show 11 -> part -+6\n\
+         new 5 22 1 -> ok\n\
+         new 0 16 8 -> ok\n\
+         show 0 -> part -+16\n\
+         put 9 - -> ok\n\
+         show 9 -> part 00000000+0\n\
+         new 8 8 1 -> ok\n\
+         show 8 -> part -+8\n\
+         put 0 18c1016c072e837e9171e33b78dffc -> ok\n\
+         show 0 -> part 18c1016c072e837e9171e33b78dffc+1\n\
+         put 3 a3c2 -> ok\n\
+         bytes 7 682c1e82d0ed261541 -> ok\n\
+         show 7 -> view 682c1e82d0ed261541\n\
+         decode 7 2 0 5 -> refused N8 C3 InvalidLength 104\n\
+         show 7 -> view 682c1e82d0ed261541\n\
+         show 7 -> view 682c1e82d0ed261541\n\
+         take 8 0 -> bytes -\n\
+         show 8 -> part -+8\n\
+         show 8 -> part -+8\n\
+         gather 14 15 -> ok\n\
+         show 14 -> text 6263646566676869\n\
+         new 10 18 3 -> refused N5 BadLayout\n\
+         show 16 -> refused N1 NoName\n\
+         append 14 7 -> ok\n\
+         show 7 -> refused N2 WrongKind\n\
+         static 2 18 18 -> ok\n\
+         show 16 -> refused N1 NoName\n\
+         show 2 -> view -\n\
+         freeze 12 6 -> ok\n\
+         show 12 -> refused N2 WrongKind\n\
+         freeze 0 13 -> ok\n\
+         show 13 -> view 18c1016c072e837e9171e33b78dffc\n\
+         prepend 14 2 -> ok\n\
+         new 2 10 2 -> ok\n\
+         show 10 -> refused N2 WrongKind\n\
+         show 10 -> refused N2 WrongKind\n\
+         new 12 5 1 -> ok\n\
+         freeze 12 15 -> ok\n\
+         show 15 -> view -\n\
+         clear 11 -> ok\n\
+         show 11 -> part -+6\n\
+         prepend 14 1 -> ok\n\
+         show 1 -> refused N2 WrongKind\n\
+         show 14 -> text 3c5a96ffc5bc77a8 6263646566676869 682c1e82d0ed261541\n\
+         gather 12 -> ok\n\
+         new 10 19 64 -> ok\n\
+         put 10 ea48404c5d2df81186 -> ok\n\
+         encode 6 7 -> ok\n\
+         show 7 -> text 00\n\
+         gather 1 6 13 15 -> ok\n\
+         show 1 -> text 18c1016c072e837e9171e33b78dffc\n\
+         show 6 -> refused N2 WrongKind\n\
+         drop 7 -> ok\n\
+         build 4 5 i- i4dc41e if9 -> ok\n\
+         show 5 -> part -+22\n\
+         show 5 -> part -+22\n\
+         drop 1 -> ok\n\
+         show 1 -> refused N2 WrongKind\n\
+         show 1 -> refused N2 WrongKind\n\
+         clone 14 13 -> ok\n\
+         show 13 -> text 3c5a96ffc5bc77a8 6263646566676869 682c1e82d0ed261541\n\
+         drop 13 -> ok\n\
+         show 13 -> refused N2 WrongKind\n\
+         show 13 -> refused N2 WrongKind\n\
+         freeze 10 13 -> ok\n\
+         coalesce 4 6 -> ok\n\
+         gathermut 1 8 3 2 11 5 9 -> ok\n\
+         show 8 -> refused N2 WrongKind\n\
+         show 8 -> refused N2 WrongKind\n\
+         gather 0 13 6 -> ok\n\
+         show 0 -> text ea48404c5d2df81186 4dc41ef9\n\
+         new 5 10 0 -> refused N5 BadLayout\n\
+         new 8 13 3 -> refused N5 BadLayout\n",
+        "new 8 8 2 -> ok\n\
+         show 8 -> part -+8\n\
+         static 3 24 25 -> ok\n\
+         show 16 -> refused N1 NoName\n\
+         put 8 d7ecdcdb35 -> ok\n\
+         show 8 -> part d7ecdcdb35+3\n\
+         zeroed 7 7 1 -> ok\n\
+         show 7 -> part 00000000000000+0\n\
+         encode 3 4 -> ok\n\
+         put 7 - -> ok\n\
+         show 7 -> part 00000000000000+0\n\
+         put 7 - -> ok\n\
+         static 13 7 20 -> ok\n\
+         new 14 17 2 -> ok\n\
+         show 14 -> part -+17\n\
+         show 16 -> refused N1 NoName\n\
+         static 5 9 21 -> ok\n\
+         show 5 -> view 6a6b6c6d6e6f707172737475\n\
+         zeroed 6 4 1 -> ok\n\
+         show 4 -> text 01 79\n\
+         clone 4 10 -> ok\n\
+         coalesce 4 0 -> ok\n\
+         show 4 -> refused N2 WrongKind\n\
+         show 4 -> refused N2 WrongKind\n\
+         append 10 0 -> ok\n\
+         show 0 -> refused N2 WrongKind\n\
+         setlen 14 13 -> ok\n\
+         show 13 -> view 68696a6b6c6d6e6f7071727374\n\
+         new 12 14 0 -> refused N5 BadLayout\n\
+         freeze 7 7 -> ok\n\
+         static 12 14 18 -> ok\n\
+         show 12 -> view 6f707172\n\
+         show 12 -> view 6f707172\n\
+         encode 13 1 -> ok\n\
+         show 1 -> text 0d 68696a6b6c6d6e6f7071727374\n\
+         show 13 -> view 68696a6b6c6d6e6f7071727374\n\
+         put 6 - -> ok\n\
+         decode 12 0 0 18446744073709551615 -> refused N8 C1 EndOfBuffer\n\
+         show 0 -> refused N2 WrongKind\n\
+         show 0 -> refused N2 WrongKind\n\
+         new 15 10 3 -> refused N5 BadLayout\n\
+         show 10 -> text 01 79 0179\n\
+         recover 5 5 -> refused N7 Declined\n\
+         take 8 3 -> bytes d7ecdc\n\
+         show 8 -> part db35+3\n\
+         show 8 -> part db35+3\n\
+         freeze 6 15 -> ok\n\
+         show 15 -> view 00000000\n\
+         show 15 -> view 00000000\n\
+         new 2 1 1 -> ok\n\
+         show 2 -> part -+1\n\
+         show 1 -> text 0d 68696a6b6c6d6e6f7071727374\n\
+         coalesce 1 0 -> ok\n\
+         clone 5 1 -> ok\n\
+         drop 15 -> ok\n\
+         put 2 - -> ok\n\
+         show 2 -> part -+1\n\
+         setlen 2 2 -> refused N4 OutOfRange\n\
+         show 2 -> part -+1\n\
+         show 2 -> part -+1\n\
+         encode 3 4 -> ok\n\
+         show 3 -> view 79\n\
+         show 4 -> text 01 79\n\
+         coalesce 10 10 -> ok\n\
+         drop 1 -> ok\n\
+         show 1 -> refused N2 WrongKind\n\
+         advance 5 0 -> ok\n\
+         drop 3 -> ok\n\
+         show 3 -> refused N2 WrongKind\n\
+         show 3 -> refused N2 WrongKind\n\
+         split 0 6 10 -> ok\n\
+         show 0 -> view 71727374\n\
+         show 6 -> view 0d68696a6b6c6d6e6f70\n\
+         freeze 14 14 -> ok\n\
+         show 14 -> view 00000000000000000000000000\n\
+         drop 14 -> ok\n\
+         show 14 -> refused N2 WrongKind\n\
+         show 14 -> refused N2 WrongKind\n\
+         clone 10 11 -> ok\n\
+         show 11 -> view 01790179\n\
+         drop 6 -> ok\n\
+         show 6 -> refused N2 WrongKind\n\
+         put 2 - -> ok\n\
+         show 2 -> part -+1\n\
+         put 2 - -> ok\n\
+         show 2 -> part -+1\n\
+         slice 0 15 u i4 -> refused N4 OutOfRange\n\
+         freeze 8 8 -> ok\n\
+         show 8 -> view db35\n\
+         drop 8 -> ok\n\
+         show 8 -> refused N2 WrongKind\n\
+         show 8 -> refused N2 WrongKind\n\
+         encode 5 6 -> ok\n\
+         recover 12 12 -> refused N7 Declined\n\
+         show 12 -> view 6f707172\n\
+         build 14 1 -> ok\n\
+         show 14 -> text\n\
+         show 1 -> refused N2 WrongKind\n\
+         clone 12 9 -> ok\n\
+         show 12 -> view 6f707172\n",
+        "bytes 0 8400 -> ok\n\
+         decode 0 1 0 1024 -> refused N8 C2 InvalidVarint\n\
+         bytes 2 80808080808080808080 -> ok\n\
+         decode 2 1 0 1024 -> refused N8 C2 InvalidVarint\n\
+         show 2 -> view 80808080808080808080\n\
+         new 1 4611686018427387904 1 -> refused N9 Memory\n\
+         zeroed 1 4611686018427387904 8 -> refused N9 Memory\n\
+         show 1 -> refused N2 WrongKind\n",
     ] {
-        assert_serves(&rt, &["buf"], input.as_bytes(), output, "", 0);
+        assert_answers(&rt, "buf", rows)?;
     }
+    Ok(())
 }

@@ -3,6 +3,7 @@ ghost use Rattle.std.specs.Prelude.{Ok, ◌≡◌, IfOk};
 
 use crate::buf::line as buf_line;
 use crate::buf::reply::Line as ReplyToCommand;
+use crate::input::Input;
 use crate::owner::line::{self as owner_line, Line};
 use crate::owner::reply::{FreedLine, HandleLine, RecordLine, ReplyLine};
 use crate::words::LineError;
@@ -11,7 +12,7 @@ use iobufs_owner::owner::Machine;
 use iobufs_run::table::Table;
 use std::alloc::Global;
 use std::io;
-use std::io::{BufRead, Write};
+use std::io::{Read, Write};
 
 const USAGE: &[u8] = b"usage: iobuf buf or iobuf owner\n";
 
@@ -43,8 +44,8 @@ impl From<BufError> for Stop {
 
 /// Runs the program on the words behind its name, and gives its status: 0 at the end of the input, 2 for a line
 /// that is no command and for other words, 3 where reading, writing or memory failed. A fault in writing to
-/// `errors` changes nothing.
-pub fn serve<R: BufRead + Drop, W: Write, E: Write>(
+/// `errors` changes nothing. Replies are sent off before more input is waited for.
+pub fn serve<R: Read + Drop, W: Write, E: Write>(
     alloc: Global,
     args: &[&str],
     input: R,
@@ -54,10 +55,7 @@ pub fn serve<R: BufRead + Drop, W: Write, E: Write>(
     let served = match args {
         ["buf"] => serve_buffers(alloc, input, output),
         ["owner"] => serve_machine(alloc, input, output),
-        _ => {
-            let _ = errors.write_all(USAGE);
-            return 2;
-        }
+        _ => return tell_usage(errors),
     };
     let flushed = output.flush().map_err(|_| Stop::CannotContinue);
     match flushed.and(served) {
@@ -73,6 +71,12 @@ pub fn serve<R: BufRead + Drop, W: Write, E: Write>(
     }
 }
 
+/// Tells which words the program takes, and gives the status for others.
+pub fn tell_usage<E: Write>(errors: &mut E) -> u8 {
+    let _ = errors.write_all(USAGE);
+    2
+}
+
 // What a line of this number says, or why the program stops at it.
 fn said<T>(line: Result<T, LineError>, number: u64) -> Result<T, Stop>
     ensures { IfOk result (λ said. line ≡ Ok said) }
@@ -85,41 +89,45 @@ fn said<T>(line: Result<T, LineError>, number: u64) -> Result<T, Stop>
 }
 
 // Answers each line of the input by a table of named buffers.
-fn serve_buffers<R: BufRead + Drop, W: Write>(
+fn serve_buffers<R: Read + Drop, W: Write>(
     alloc: Global,
     input: R,
     output: &mut W,
 ) -> Result<(), Stop> {
     let mut table = Table::new(alloc, NAMES)?;
-    let mut number = 0u64;
-    for text in input.lines(alloc) {
-        number = number.saturating_add(1);
-        let cmd = said(buf_line::command(alloc, text?.as_str()), number)?;
+    let mut input = Input::new(alloc, input)?;
+    for number in 1..u64::MAX {
+        if !input.read_line(output)? {
+            break;
+        }
+        let cmd = said(buf_line::command(alloc, input.text()?), number)?;
         writeln!(output, "{}", ReplyToCommand(&table.apply(&cmd)))?;
     }
     Ok(())
 }
 
 // Answers each line of the input by an owner machine, which the first line asks for.
-fn serve_machine<R: BufRead + Drop, W: Write>(
+fn serve_machine<R: Read + Drop, W: Write>(
     alloc: Global,
     input: R,
     output: &mut W,
 ) -> Result<(), Stop> {
     let mut machine = None;
-    let mut number = 0u64;
-    for text in input.lines(alloc) {
-        number = number.saturating_add(1);
-        let text = text?;
+    let mut input = Input::new(alloc, input)?;
+    for number in 1..u64::MAX {
+        if !input.read_line(output)? {
+            break;
+        }
+        let text = input.text()?;
         match &mut machine {
             None => {
-                let setup = said(owner_line::first_line(alloc, text.as_str()), number)?;
+                let setup = said(owner_line::first_line(alloc, text), number)?;
                 let (parties, ceiling) = (setup.parties, setup.ceiling);
                 machine = Some(Machine::new(alloc, parties, ceiling, setup.format)?);
                 writeln!(output, "ok")?;
             }
             Some(machine) => {
-                let line = said(owner_line::further_line(alloc, text.as_str()), number)?;
+                let line = said(owner_line::further_line(alloc, text), number)?;
                 answer(machine, line, output)?;
             }
         }
