@@ -70,9 +70,6 @@ fn take_slot(alloc: Global, slot: &mut Slot, n: usize) -> Result<Bytes, Refusal>
     ensures memory { IsOkUnless result Refusal.Memory }
     ensures nothing { n ≡ 0 → IsOk result }
 {
-    if n == 0 {
-        return Ok(Bytes::new());
-    }
     match slot {
         Slot::Free => unreachable!(),
         Slot::Part(part) => Ok(part.copy_to_bytes(alloc, n)?),
