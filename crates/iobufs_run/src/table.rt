@@ -1,5 +1,5 @@
 // Named buffers, and the commands on them.
-ghost use Rattle.std.specs.Prelude.{◌≡◌, length, replicate, IfOk, IsOkUnless, OnErr};
+ghost use Rattle.std.specs.Prelude.{◌≡◌, length, replicate, IfOk, IsOk, IsOkUnless, OnErr};
 ghost use Rattle.iobufs_run.specs.Choices.{NoOtherChoices};
 ghost use Rattle.iobufs_run.specs.Run.{Run, Step, changed as changed_by, outcome as outcome_of, reply_of};
 ghost use Rattle.iobufs_run.specs.Slots.{AreSlots, IsSlot, held};
@@ -199,6 +199,7 @@ impl Table {
         ensures ok { IfOk result (λ table. table ≡ replicate n Slot.Free) }
         ensures slots { IfOk result AreSlots }
         ensures err { IsOkUnless result BufError.Memory }
+        ensures none { n ≡ 0 → IsOk result }
     {
         let mut slots = Vec::with_capacity(alloc, n)?;
         for _ in 0..n {
@@ -222,6 +223,7 @@ impl Table {
         ensures err { OnErr result (self.new ≡ self.old) }
         ensures slots { AreSlots self.new }
         ensures memory { IsOkUnless result BufError.Memory }
+        ensures none { length cmds.now ≡ 0 → IsOk result }
     {
         let alloc = *self.slots.allocator();
         let mut replies = Vec::with_capacity(alloc, cmds.len())?;
