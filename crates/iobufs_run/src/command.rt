@@ -1,6 +1,6 @@
 // The commands, and what is answered to them.
 use bytes::Bytes;
-use iobufs_core::codec::{BufError, Error, RangeCfg};
+use iobufs_core::codec::{BufError, Error, RangeCfg, Refused};
 use std::alloc::AllocError;
 use std::fmt;
 use std::ops::Bound;
@@ -278,5 +278,16 @@ impl From<Error> for Refusal {
             Error::Memory => Refusal::Memory,
             error => Refusal::Codec(error),
         }
+    }
+}
+
+impl<T: Drop> From<Refused<T>> for Refusal {
+    ghost use Rattle.std.specs.Prelude.{◌≡◌};
+    ghost use Rattle.iobufs_run.specs.Refusals.{refusal_of};
+
+    ghost from_gives = { λ refused refusal. refusal ≡ refusal_of refused.cause };
+
+    fn from(refused: Refused<T>) -> Refusal {
+        Refusal::from(refused.cause)
     }
 }

@@ -143,10 +143,8 @@ fn push(slots: &mut [Slot], name: usize, builder: &mut Builder) -> Result<(), Re
     let Some(view) = take_view(&mut slots[name]) else {
         unreachable!()
     };
-    match builder.push(view) {
-        Ok(()) => Ok(()),
-        Err(refused) => Err(Refusal::from(refused.cause)),
-    }
+    builder.push(view)?;
+    Ok(())
 }
 
 // Puts the bytes of an item, or pushes the view that it names.

@@ -109,9 +109,7 @@ fn take_views(alloc: Global, slots: &mut [Slot], sources: &[usize]) -> Result<Io
         let Some(piece) = take_view(&mut slots[*src]) else {
             unreachable!()
         };
-        if let Err(refused) = text.append(alloc, piece) {
-            return Err(Refusal::from(refused.cause));
-        }
+        text.append(alloc, piece)?;
     }
     Ok(text)
 }

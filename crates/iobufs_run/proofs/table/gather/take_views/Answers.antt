@@ -1,4 +1,5 @@
 use Rattle.std.proofs.Common.{◌+◌, ap, sym, refl, subst, ◌∙◌}
+use Rattle.std.proofs.lemmas.Result.{err_from_is_err_and}
 use Rattle.iobufs_run.specs.Refusals.{refusal_of}
 use Rattle.iobufs_run.specs.Run.{MayFree}
 use Rattle.iobufs_run.specs.Slots.{held, is_view, view_held}
@@ -14,8 +15,8 @@ unreachable-requires c =
     let view = ap is_view read.0 ∙ read.1 in
     cc
 
-pub returns-in-Err-clause-err : goal.returns-in-Err-clause-err
-returns-in-Err-clause-err c =
+pub returns-in_err-append-clause-err : goal.returns-in_err-append-clause-err
+returns-in_err-append-clause-err c =
     let inv = c.loop-src.invariant in
     let old = c.args.slots.now in
     let sources = c.args.sources.now in
@@ -23,9 +24,10 @@ returns-in-Err-clause-err c =
     let took = c.in-Some.ensures.some in
     let read = source_read is_view old c.loop-src.slots sources i c.index-slots-src.result refl c.requires.once c.requires.views inv.freed c.loop-src-test.true in
     let fits = source_fits old sources i c.loop-src.text c.in-Some.piece c.requires.fits inv.text (sym read.0 ∙ took.0) c.loop-src-test.true in
-    let cause = c.in-Err.ensures.memory fits in
+    let cause = c.in_err-append.ensures.memory fits in
     let freed = freed_more old c.loop-src.slots sources i c.take_view.new.slot inv.freed c.loop-src-test.true took.1 in
-    (c.from.ensures ∙ ap refusal_of cause, subst (MayFree sources old) (sym freed) (MayFree-front sources (i + 1) old))
+    let refused = err_from_is_err_and c.from_residual.result c.from_residual.ensures.1 in
+    rw refused.1 (refused.2 ∙ ap refusal_of cause, subst (MayFree sources old) (sym freed) (MayFree-front sources (i + 1) old))
 
 pub loop-src-preserved : goal.loop-src-preserved
 loop-src-preserved c =
@@ -37,5 +39,5 @@ loop-src-preserved c =
     let read = source_read is_view old c.loop-src.slots sources i c.index-slots-src.result refl c.requires.once c.requires.views inv.freed c.loop-src-test.true in
     let piece = ap view_held (sym took.0 ∙ read.0) in record {
       freed = freed_more old c.loop-src.slots sources i c.take_view.new.slot inv.freed c.loop-src-test.true took.1;
-      text = text_more (λ src. view_held (held old src)) sources i c.loop-src.text c.append.new.self c.in-Some.piece inv.text c.in_default-append.ensures.done piece c.loop-src-test.true;
+      text = text_more (λ src. view_held (held old src)) sources i c.loop-src.text c.append.new.self c.in-Some.piece inv.text c.in_ok-append.ensures.done piece c.loop-src-test.true;
     }
