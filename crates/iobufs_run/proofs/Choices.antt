@@ -1,14 +1,14 @@
 -- No command leaves another choice open.
-use Rattle.std.proofs.Common.{◌≡◌, ℕ, zero, suc, ◌+◌, ◌/◌, ◌%◌, ◌≤◌, ◌⊎◌, inl, inr, Bool, true, false, nat_lt, IsTrue, Some, None, Ok, Err, List, ◌∷◌, ◌++◌, length, take, drop, arith, ap, sym, refl, ◌∙◌}
-use Rattle.std.proofs.lemmas.Bool.Decides.{nat_tests}
-use Rattle.std.proofs.lemmas.List.{take-append-drop}
+use Rattle.std.proofs.Common.{◌≡◌, ◌≢◌, ℕ, ◌⊎◌, inl, inr, Bool, true, false, IsTrue, Some, None, Ok, Err, List, length, ap, sym, refl, ◌∙◌}
 use Rattle.iobufs_core.specs.MarkedText.{MarkedText, taken_view}
-use Rattle.iobufs_core.specs.Spelling.{spell, spell_within, IsSpelledAt}
+use Rattle.iobufs_core.specs.Spelling.{spell}
 use Rattle.iobufs_core.specs.View.{View as ViewValue}
-use Rattle.iobufs_core.specs.Ranges.{in_range}
 use Rattle.iobufs_core.specs.Wire.{IsViewRead}
 use Rattle.iobufs_core.specs.declared.codec.base.Error.TheVariants as fault
 use Rattle.iobufs_core.specs.declared.codec.base.RangeCfg.{RangeCfg}
+use Rattle.iobufs_core.specs.declared.codec.base.Error.{Error}
+use Rattle.iobufs_core.specs.ReadLaws.{views_alike}
+use Rattle.iobufs_core.specs.Spelled.{spelled_as_one}
 use Rattle.iobufs_run.specs.declared.table.Slot.{Slot}
 use Rattle.iobufs_run.specs.declared.table.Slot.TheVariants.{View}
 use Rattle.iobufs_run.specs.declared.command.Cmd.{Cmd}
@@ -31,87 +31,37 @@ not_both b holds fails = cc
 
 -- ---- reading a view
 
-same_tail : (more n m : ℕ) (x y : List ℕ) → ((k l : ℕ) → spell_within more k ++ x ≡ spell_within more l ++ y → k ≡ l) → (small less : Bool) → nat_lt n 128 ≡ small → nat_lt m 128 ≡ less
-    → spell_within (suc more) n ++ x ≡ spell_within (suc more) m ++ y → n ≡ m
-same_tail more n m x y next true true small less e =
-    let e' : n ∷ x ≡ m ∷ y = rw (small, less) at e in
-    cc
-same_tail more n m x y next true false small less e =
-    let e' : n ∷ x ≡ (128 + m % 128) ∷ (spell_within more (m / 128) ++ y) = rw (small, less) at e in
-    let head : n ≡ 128 + m % 128 = cc in
-    absurd (grind (arith, nat_tests))
-same_tail more n m x y next false true small less e =
-    let e' : (128 + n % 128) ∷ (spell_within more (n / 128) ++ x) ≡ m ∷ y = rw (small, less) at e in
-    let head : 128 + n % 128 ≡ m = cc in
-    absurd (grind (arith, nat_tests))
-same_tail more n m x y next false false small less e =
-    let e' : (128 + n % 128) ∷ (spell_within more (n / 128) ++ x) ≡ (128 + m % 128) ∷ (spell_within more (m / 128) ++ y) = rw (small, less) at e in
-    let head : 128 + n % 128 ≡ 128 + m % 128 = cc in
-    let tail : spell_within more (n / 128) ++ x ≡ spell_within more (m / 128) ++ y = cc in
-    let high = next (n / 128) (m / 128) tail in
-    omega (arith, head, high)
-
-same_length : (more n m : ℕ) (x y : List ℕ) → spell_within more n ++ x ≡ spell_within more m ++ y → n ≡ m
-same_length zero n m x y e = cc
-same_length (suc more) n m x y e = same_tail more n m x y (λ k l. same_length more k l x y) (nat_lt n 128) (nat_lt m 128) refl refl e
-
-begins : (text front : List ℕ) → take (length front) text ≡ front → front ++ drop (length front) text ≡ text
-begins text front is = ap (λ (xs : List ℕ). xs ++ drop (length front) text) (sym is) ∙ take-append-drop (length front) text
-
--- the text begins with no two spellings
-same_spelled : (text : List ℕ) (n m : ℕ) → IsSpelledAt text n → IsSpelledAt text m → n ≡ m
-unfolding spell
-same_spelled text n m one two =
-    same_length 9 n m (drop (length (spell n)) text) (drop (length (spell m)) text) (begins text (spell n) one.1 ∙ sym (begins text (spell m) two.1))
-
 read_same : (text : MarkedText) (range : RangeCfg) (view other : ViewValue) → IsViewRead text range (Ok view) → IsViewRead text range (Ok other) → view ≡ other
 read_same text range view other d e =
-    let same = same_spelled text.bytes d.0 e.0 d.1.0.0 e.1.0.0 in
+    let same = spelled_as_one text.bytes d.0 e.0 d.1.0.0 e.1.0.0 in
     d.2 ∙ ap (λ (n : ℕ). taken_view text (length (spell n)) n) same ∙ sym e.2
 
-in_and_out : (text : List ℕ) (range : RangeCfg) (n m : ℕ) → IsSpelledAt text n → in_range range n ≡ true → IsSpelledAt text m → in_range range m ≡ false → ⊥
-in_and_out text range n m one inside two outside =
-    let same = same_spelled text n m one two in
-    true_not_false (sym inside ∙ ap (in_range range) same ∙ outside)
+-- a fault that reading meets is another than want of memory
+pub record IsMet (text : MarkedText) (range : RangeCfg) (r : Refusal) : Type 0 where
+  pub error : Error
+  pub told : r ≡ Codec error
+  pub known : error ≢ fault.Memory
+  pub met : IsViewRead text range (Err error)
 
--- a text that ends too early has no length that isn't a length, and none that is out of range
-end_not_invalid : (text : MarkedText) (range : RangeCfg) → IsViewRead text range (Err fault.EndOfBuffer) → IsViewRead text range (Err fault.InvalidVarint) → ⊥
-end_not_invalid text range (inl ended) invalid = invalid.1 ended.1
-end_not_invalid text range (inr short) invalid = invalid.0 short.0 short.1.0
-
-end_not_outside : (text : MarkedText) (range : RangeCfg) (n : ℕ) → IsViewRead text range (Err fault.EndOfBuffer) → IsViewRead text range (Err (fault.InvalidLength n)) → ⊥
-end_not_outside text range n (inl ended) outside = ended.0 n outside.0
-end_not_outside text range n (inr short) outside = in_and_out text.bytes range short.0 n short.1.0 short.1.1 outside.0 outside.1
+fault_met : (text : MarkedText) (range : RangeCfg) (r : Refusal) → IsFault text range r → IsMet text range r
+fault_met text range (Codec fault.EndOfBuffer) f = record { error = fault.EndOfBuffer; told = refl; known = λ e. cc; met = f }
+fault_met text range (Codec fault.InvalidVarint) f = record { error = fault.InvalidVarint; told = refl; known = λ e. cc; met = f }
+fault_met text range (Codec (fault.InvalidLength n)) f = record { error = fault.InvalidLength n; told = refl; known = λ e. cc; met = f }
+fault_met text range r f = absurd f
 
 fault_same : (text : MarkedText) (range : RangeCfg) (r q : Refusal) → IsFault text range r → IsFault text range q → r ≡ q
-fault_same text range (Codec fault.EndOfBuffer) (Codec fault.EndOfBuffer) f g = refl
-fault_same text range (Codec fault.EndOfBuffer) (Codec fault.InvalidVarint) f g = absurd (end_not_invalid text range f g)
-fault_same text range (Codec fault.EndOfBuffer) (Codec (fault.InvalidLength n)) f g = absurd (end_not_outside text range n f g)
-fault_same text range (Codec fault.InvalidVarint) (Codec fault.EndOfBuffer) f g = absurd (end_not_invalid text range g f)
-fault_same text range (Codec fault.InvalidVarint) (Codec fault.InvalidVarint) f g = refl
-fault_same text range (Codec fault.InvalidVarint) (Codec (fault.InvalidLength n)) f g = absurd (f.0 n g.0)
-fault_same text range (Codec (fault.InvalidLength n)) (Codec fault.EndOfBuffer) f g = absurd (end_not_outside text range n g f)
-fault_same text range (Codec (fault.InvalidLength n)) (Codec fault.InvalidVarint) f g = absurd (g.0 n f.0)
-fault_same text range (Codec (fault.InvalidLength n)) (Codec (fault.InvalidLength m)) f g =
-    ap (λ (k : ℕ). Codec (fault.InvalidLength k)) (same_spelled text.bytes n m f.0 g.0)
-fault_same text range (Codec fault.EndOfBuffer) q f g = absurd g
-fault_same text range (Codec fault.InvalidVarint) q f g = absurd g
-fault_same text range (Codec (fault.InvalidLength n)) q f g = absurd g
-fault_same text range r q f g = absurd f
-
-ended_not_read : (text : MarkedText) (range : RangeCfg) (view : ViewValue) → IsViewRead text range (Err fault.EndOfBuffer) → IsViewRead text range (Ok view) → ⊥
-ended_not_read text range view (inl ended) d = ended.0 d.0 d.1.0.0
-ended_not_read text range view (inr short) d =
-    let same = same_spelled text.bytes short.0 d.0 short.1.0 d.1.0.0 in
-    let enough : length (spell short.0) + short.0 ≤ length text.bytes = rw same d.1.1 in
-    let few = short.2 in
-    absurd (omega arith)
+fault_same text range r q f g =
+    let one = fault_met text range r f in
+    let two = fault_met text range q g in
+    elim (views_alike text text range (Err one.error) (Err two.error) refl one.met two.met) [
+      | inl same ↦ one.told ∙ ap (λ (error : Error). Codec error) same ∙ sym two.told
+      | inr wanted ↦ elim wanted [ inl memory ↦ absurd (one.known memory) | inr memory ↦ absurd (two.known memory) ]
+    ]
 
 fault_not_read : (text : MarkedText) (range : RangeCfg) (r : Refusal) (view : ViewValue) → IsFault text range r → IsViewRead text range (Ok view) → ⊥
-fault_not_read text range (Codec fault.EndOfBuffer) view f d = ended_not_read text range view f d
-fault_not_read text range (Codec fault.InvalidVarint) view f d = f.0 d.0 d.1.0.0
-fault_not_read text range (Codec (fault.InvalidLength n)) view f d = in_and_out text.bytes range d.0 n d.1.0.0 d.1.0.1 f.0 f.1
-fault_not_read text range r view f d = absurd f
+fault_not_read text range r view f d =
+    let one = fault_met text range r f in
+    one.known (views_alike text text range (Err one.error) (Ok view) refl one.met d)
 
 -- ---- commands that are done
 
