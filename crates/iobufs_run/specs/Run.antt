@@ -5,7 +5,7 @@
 --     Does               what a command that is done leaves, and its reply
 --     Step, Run          one command; any list of them
 --     changed            the names whose buffers may be others after a command
-use Rattle.std.specs.Prelude.{◌≡◌, ◌⊎◌, ℕ, ◌==◌, ◌&&◌, ◌||◌, not, List, [], ◌∷◌, map, length, take, replicate, slice_set, None, Some, IsTrue, Result, Ok, Err}
+use Rattle.std.specs.Prelude.{◌≡◌, ◌⊎◌, ℕ, ◌==◌, ◌&&◌, not, List, [], ◌∷◌, map, length, take, replicate, slice_set, None, Some, IsTrue, Result, Ok, Err}
 use Rattle.iobufs_core.specs.Part.{empty_part}
 use Rattle.iobufs_core.specs.Items.{Item as Written, put_item, push_item}
 use Rattle.iobufs_core.specs.MarkedText.{MarkedText, joined}
@@ -16,7 +16,7 @@ use Rattle.iobufs_core.specs.declared.codec.base.RangeCfg.{RangeCfg}
 use Rattle.iobufs.specs.Building.{built, empty_building, finished}
 use Rattle.iobufs.specs.Parts.{kept_parts}
 use Rattle.iobufs_run.specs.Causes.{is_listed, pushed_names, refusal_for}
-use Rattle.iobufs_run.specs.Slots.{held, is_parts, is_static_view, is_empty_range, is_in_pieces, is_native_view, readable, bytes_held, view_held, part_held, marked_held, slot_put, slot_frozen, slot_sliced, slot_split_front, slot_rest, slot_advanced, slot_copied, slot_joined, slot_coalesced, view_encoded, slot_read, IsShown, slot_with_len, slot_truncated, slot_overwritten, slot_recovered}
+use Rattle.iobufs_run.specs.Slots.{held, is_static_view, is_empty_range, is_in_pieces, is_native_view, readable, bytes_held, view_held, part_held, marked_held, slot_put, slot_frozen, slot_sliced, slot_split_front, slot_rest, slot_advanced, slot_copied, slot_joined, slot_coalesced, view_encoded, slot_read, IsShown, slot_with_len, slot_truncated, slot_overwritten, slot_recovered}
 use Rattle.iobufs_run.specs.declared.table.End.{End}
 use Rattle.iobufs_run.specs.declared.table.End.TheVariants.{Front, Back}
 use Rattle.iobufs_run.specs.declared.table.Slot.{Slot}
@@ -81,7 +81,7 @@ MayWantMemory names (SetLen target n) = ⊥
 MayWantMemory names (Truncate target n) = ⊥
 MayWantMemory names (Clear target) = ⊥
 MayWantMemory names (Overwrite target bytes) = ⊥
-MayWantMemory names (Freeze src dst) = IsTrue (is_parts (held names src) || not (readable (held names src) == 0))
+MayWantMemory names (Freeze src dst) = IsTrue (not (readable (held names src) == 0))
 MayWantMemory names (Recover src dst) = ⊥
 MayWantMemory names (Clone src dst) = Unit {0}
 MayWantMemory names (Slice src dst lo hi) =

@@ -213,10 +213,10 @@ slot_coalesced (Text text) = View (record { bytes = (text_coalesced text).bytes;
 slot_coalesced (Parts parts) = Part (parts_coalesced parts)
 slot_coalesced slot = slot
 
--- a text in several pieces or several parts, and whether no storage has room for all of its bytes
+-- a text in several pieces, or several parts that hold bytes; and whether no storage has room for all of its bytes
 abbrev pub is_in_pieces : Slot → Bool
 is_in_pieces (Text text) = not (is_single text)
-is_in_pieces (Parts parts) = nat_lt 1 (length parts)
+is_in_pieces (Parts parts) = nat_lt 1 (length parts) && not (length (parts_filled parts) == 0)
 is_in_pieces _ = false
 
 abbrev pub is_too_large : Slot → Bool

@@ -165,7 +165,7 @@ fn freeze_slot(alloc: Global, slot: &mut Slot) -> Result<Slot, Refusal>
     ensures ok { IfOk result (λ frozen. frozen ≡ slot_frozen slot.old) }
     ensures free { slot.new ≡ Slot.Free }
     ensures err { IsOkUnless result Refusal.Memory }
-    ensures empty { IsTrue (part slot.old) → readable_bytes slot.old ≡ 0 → IsOk result }
+    ensures empty { readable_bytes slot.old ≡ 0 → IsOk result }
 {
     match mem::replace(slot, Slot::Free) {
         Slot::Part(part) => Ok(Slot::View(part.freeze()?)),
