@@ -112,14 +112,14 @@ pub(super) fn advance(parts: &mut VecDeque<IoBufMut>, n: usize)
     drop_spent(parts);
 }
 
-// What stays when the first `n` bytes were copied out: of two or three parts, a first one that held just these goes.
+// What stays when the first `n` bytes were copied out: a first part that held just these goes.
 pub(super) fn advance_copied(parts: &mut VecDeque<IoBufMut>, n: usize)
     requires { 1 < length parts.old.items }
     ensures rest { parts_or_default parts.new.items ≡ parts_copied parts.old.items n }
     ensures have_capacity { HaveCapacity parts.old.items → HaveCapacity parts.new.items }
     ensures fits { parts_capacity parts.new.items ≤ parts_capacity parts.old.items }
 {
-    if n != 0 && parts.len() <= 3 && n == parts[0].len() {
+    if n != 0 && n == parts[0].len() {
         parts.pop_front();
         return;
     }
