@@ -11,6 +11,7 @@ pub struct Input<R> {
 }
 
 impl<R: Read + Drop> Input<R> {
+    /// Lines of a reader, through a buffer of its own.
     pub fn new(alloc: Global, reader: R) -> io::Result<Input<R>> {
         Ok(Input {
             reader: BufReader::new(alloc, reader)?,

@@ -11,6 +11,8 @@ mod owner_tests;
 #[cfg(test)]
 mod sample_tests;
 mod serve;
+#[cfg(test)]
+mod serve_tests;
 mod words;
 
 pub use serve::serve;

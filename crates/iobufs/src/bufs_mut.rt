@@ -144,6 +144,7 @@ impl IoBufsMut {
         }
     }
 
+    /// Whether no byte is readable (`IoBufsMut::is_empty`).
     pub fn is_empty(&self) -> bool
         ensures { result ≡ (length (parts_filled self.now) == 0) }
     {

@@ -88,6 +88,7 @@ impl IoBufs {
         *self = text;
     }
 
+    /// The number of bytes (`IoBufs::len`).
     pub fn len(&self) -> usize
         ensures value { result ≡ text_len self.now }
         ensures marked { IsMarked self.now }
@@ -96,6 +97,7 @@ impl IoBufs {
         *len
     }
 
+    /// Whether there are no bytes (`IoBufs::is_empty`).
     pub fn is_empty(&self) -> bool
         ensures { result ≡ (text_len self.now == 0) }
     {

@@ -103,12 +103,14 @@ impl IoBuf {
         }
     }
 
+    /// Whether there are no bytes (`IoBuf::is_empty`).
     pub fn is_empty(&self) -> bool
         ensures { result ≡ (length self.now.bytes == 0) }
     {
         self.len() == 0
     }
 
+    /// The bytes (`AsRef`).
     pub fn as_ref(&self) -> &[u8]
         ensures { result.now ≡ self.now.bytes }
     {

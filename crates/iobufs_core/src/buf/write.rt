@@ -188,6 +188,7 @@ impl IoBufMut {
         self.storage.len() - self.start
     }
 
+    /// Whether no byte is readable (`IoBufMut::is_empty`).
     pub fn is_empty(&self) -> bool
         ensures { result ≡ (length self.now.filled == 0) }
     {
@@ -201,6 +202,7 @@ impl IoBufMut {
         self.limit - self.start
     }
 
+    /// The readable bytes (`AsRef`).
     pub fn as_ref(&self) -> &[u8]
         ensures { result.now ≡ self.now.filled }
     {
@@ -233,6 +235,7 @@ impl IoBufMut {
         }
     }
 
+    /// Keeps no byte, and the room of all (`IoBufMut::clear`).
     pub fn clear(&mut self)
         ensures { self.new ≡ part_truncated self.old 0 }
     {
