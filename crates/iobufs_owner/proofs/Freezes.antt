@@ -16,9 +16,10 @@ use Rattle.iobufs_owner.specs.State.{State, Tables, owner_of, owned_by, handle_a
 use Rattle.iobufs_owner.specs.World.{Held, reading, read_held, read_handle}
 use Rattle.iobufs_owner.specs.Sound.{IsSound}
 use Rattle.iobufs_owner.specs.Moves as move
-use Rattle.iobufs_owner.specs.Moves.{Outcome, IsTaken, entries, refused, done, edited, frozen, promoted, next_record, dead, block_freed, both_freed, replaced, lend_of, Lends}
+use Rattle.iobufs_owner.specs.Moves.{Outcome, refused, done, edited, frozen, promoted, next_record, dead, block_freed, both_freed, replaced, lend_of, Lends}
 use Rattle.iobufs_owner.specs.Steps as world
 use Rattle.iobufs_owner.specs.Steps.{NoRoom, Denied, free_in, free_of, held_set}
+use Rattle.iobufs_owner.proofs.Sizes.{IsAnswered, entries}
 use Rattle.iobufs_owner.proofs.Keeps.{calls-read-kept}
 use Rattle.iobufs_owner.proofs.Kept.{owner-empty, owner-counted}
 use Rattle.iobufs_owner.proofs.Lent.{lend-tells}
@@ -61,7 +62,7 @@ nothing-reads s h x (Counted r) k l w =
 nothing-entries : (s : State) (h : ℕ) (x : Handle) (w : Word) → entries (edited (move.freed_with s x w) h (move.detached 0)) ≡ entries s
 nothing-entries s h x Empty = rw length-set refl
 nothing-entries s h x (Descriptor v) = rw length-set refl
-nothing-entries s h x (Counted r) = let a = length-set s.handles h (Some (move.detached 0)) in let b = length-set s.tables.records r (record { count = (record_at s.tables r).count; block = (record_at s.tables r).block; live = false }) in omega (arith, a, b)
+nothing-entries s h x (Counted r) = let a = length-set s.handles h (Some (move.detached 0)) in let b = length-set s.tables.records r (record { count = (record_at s.tables r).count; block = (record_at s.tables r).block; live = false }) in cc (a, b)
 
 -- ---- a handle whose descriptor becomes a record
 
@@ -76,7 +77,7 @@ promoted-reads s h b n x y z k at e =
 pub recorded-owner : (g : Tables) (n b : ℕ) (y : Handle) → y.word ≡ Counted (length g.records) → owner_of (recorded g n b) y ≡ Some b
 recorded-owner g n b y e = owner-counted (recorded g n b) y (length g.records) e ∙ ap (λ (v : Record). Some v.block) (recorded-new g n b)
 
-freeze-promoted : (s t : State) (h v : ℕ) (x : Handle) (memory : Bool) (reply : Reply) → IsSound s → Lends s h Mut x → x.word ≡ Descriptor v → IsTaken s (cond memory (done (edited (promoted s x 1) h (frozen x (Counted (next_record s))))) (refused s Memory)) reply t → Denied (reading s) memory reply (reading t) ⊎ NoRoom (reading s) reply (reading t) ⊎ ((reply ≡ Done) × (reading t ≡ held_set (reading s) h (record { kind = View; block = owner_of s.tables x; place = x.ptr; len = x.len })))
+freeze-promoted : (s t : State) (h v : ℕ) (x : Handle) (memory : Bool) (reply : Reply) → IsSound s → Lends s h Mut x → x.word ≡ Descriptor v → IsAnswered s (cond memory (done (edited (promoted s x 1) h (frozen x (Counted (next_record s))))) (refused s Memory)) reply t → Denied (reading s) memory reply (reading t) ⊎ NoRoom (reading s) reply (reading t) ⊎ ((reply ≡ Done) × (reading t ≡ held_set (reading s) h (record { kind = View; block = owner_of s.tables x; place = x.ptr; len = x.len })))
 freeze-promoted s t h v x true reply k l w i =
     let d = described-at s h x v k l.at w in
     let y : Handle = frozen x (Counted (length s.tables.records)) in
@@ -86,7 +87,7 @@ freeze-promoted s t h v x true reply k l w i =
     elim (grown-taken s (edited (promoted s x 1) h y) t (held_set (reading s) h (record { kind = View; block = owner_of s.tables x; place = x.ptr; len = x.len })) Done reply (promoted-reads s h (owned_by s.tables x) 1 x y (record { kind = View; block = owner_of s.tables x; place = x.ptr; len = x.len }) k l.at z) i) [ inl a ↦ inr (inl a) | inr a ↦ inr (inr a) ]
 freeze-promoted s t h v x false reply k l w i = inl (refl, refused-taken s t Memory reply i)
 
-freeze-described : (s t : State) (h v : ℕ) (x : Handle) (memory : Bool) (reply : Reply) (u : Bool) → IsSound s → Lends s h Mut x → x.word ≡ Descriptor v → nat_lt (x.cap - x.len) (2 ^ s.tables.tail_bits) ≡ u → IsTaken s (cond u (done (edited s h (frozen x (Descriptor (retailed s.tables v (x.cap - x.len)))))) (cond memory (done (edited (promoted s x 1) h (frozen x (Counted (next_record s))))) (refused s Memory))) reply t → Denied (reading s) memory reply (reading t) ⊎ NoRoom (reading s) reply (reading t) ⊎ ((reply ≡ Done) × (reading t ≡ held_set (reading s) h (record { kind = View; block = owner_of s.tables x; place = x.ptr; len = x.len })))
+freeze-described : (s t : State) (h v : ℕ) (x : Handle) (memory : Bool) (reply : Reply) (u : Bool) → IsSound s → Lends s h Mut x → x.word ≡ Descriptor v → nat_lt (x.cap - x.len) (2 ^ s.tables.tail_bits) ≡ u → IsAnswered s (cond u (done (edited s h (frozen x (Descriptor (retailed s.tables v (x.cap - x.len)))))) (cond memory (done (edited (promoted s x 1) h (frozen x (Counted (next_record s))))) (refused s Memory))) reply t → Denied (reading s) memory reply (reading t) ⊎ NoRoom (reading s) reply (reading t) ⊎ ((reply ≡ Done) × (reading t ≡ held_set (reading s) h (record { kind = View; block = owner_of s.tables x; place = x.ptr; len = x.len })))
 freeze-described s t h v x memory reply true k l w e i =
     let d = described-at s h x v k l.at w in
     let y : Handle = frozen x (Descriptor (retailed s.tables v (x.cap - x.len))) in
@@ -94,14 +95,14 @@ freeze-described s t h v x memory reply true k l w e i =
     inr (inr (edit-taken s t h y (record { kind = View; block = owner_of s.tables x; place = x.ptr; len = x.len }) reply (rw o refl) i))
 freeze-described s t h v x memory reply false k l w e i = freeze-promoted s t h v x memory reply k l w i
 
-freeze-word : (s t : State) (h : ℕ) (x : Handle) (memory : Bool) (reply : Reply) (w : Word) → IsSound s → Lends s h Mut x → x.word ≡ w → IsTaken s (move.freeze_by s h memory x w) reply t → Denied (reading s) memory reply (reading t) ⊎ NoRoom (reading s) reply (reading t) ⊎ ((reply ≡ Done) × (reading t ≡ held_set (reading s) h (record { kind = View; block = owner_of s.tables x; place = x.ptr; len = x.len })))
+freeze-word : (s t : State) (h : ℕ) (x : Handle) (memory : Bool) (reply : Reply) (w : Word) → IsSound s → Lends s h Mut x → x.word ≡ w → IsAnswered s (move.freeze_by s h memory x w) reply t → Denied (reading s) memory reply (reading t) ⊎ NoRoom (reading s) reply (reading t) ⊎ ((reply ≡ Done) × (reading t ≡ held_set (reading s) h (record { kind = View; block = owner_of s.tables x; place = x.ptr; len = x.len })))
 freeze-word s t h x memory reply Empty k l w i =
     inr (inr (edit-taken s t h (frozen x Empty) (record { kind = View; block = owner_of s.tables x; place = x.ptr; len = x.len }) reply (rw (owner-empty s.tables (frozen x Empty) refl, owner-empty s.tables x w) refl) i))
 freeze-word s t h x memory reply (Descriptor v) k l w i = freeze-described s t h v x memory reply (nat_lt (x.cap - x.len) (2 ^ s.tables.tail_bits)) k l w refl i
 freeze-word s t h x memory reply (Counted r) k l w i =
     inr (inr (edit-taken s t h (frozen x (Counted r)) (record { kind = View; block = owner_of s.tables x; place = x.ptr; len = x.len }) reply (rw (owner-counted s.tables (frozen x (Counted r)) r refl, owner-counted s.tables x r w) refl) i))
 
-freeze-lent : (s t : State) (h : ℕ) (memory : Bool) (reply : Reply) (r : Result Handle Refusal) → IsSound s → lend_of s h Mut ≡ r → IsTaken s (move.freeze_lent s h memory r) reply t → world.FreezeIs (reading s) h memory (read_lent s.tables r) reply (reading t)
+freeze-lent : (s t : State) (h : ℕ) (memory : Bool) (reply : Reply) (r : Result Handle Refusal) → IsSound s → lend_of s h Mut ≡ r → IsAnswered s (move.freeze_lent s h memory r) reply t → world.FreezeIs (reading s) h memory (read_lent s.tables r) reply (reading t)
 freeze-lent s t h memory reply (Err why) k e i = refused-taken s t why reply i
 freeze-lent s t h memory reply (Ok x) k e i =
     let l = lend-tells s h Mut x e in
@@ -109,5 +110,5 @@ freeze-lent s t h memory reply (Ok x) k e i =
     (λ _ i. done-taken s (edited (move.freed_with s x x.word) h (move.detached 0)) t (held_set (free_of (reading s) (owner_of s.tables x)) h (world.detached 0)) reply (nothing-entries s h x x.word) (nothing-reads s h x x.word k l refl) i)
     (λ _ i. freeze-word s t h x memory reply x.word k l refl i) i
 
-pub freeze-steps : (s t : State) (h : ℕ) (memory : Bool) (reply : Reply) → IsSound s → IsTaken s (move.freeze_of s h memory) reply t → world.FreezeIs (reading s) h memory (world.alone_of (reading s) h Mut) reply (reading t)
+pub freeze-steps : (s t : State) (h : ℕ) (memory : Bool) (reply : Reply) → IsSound s → IsAnswered s (move.freeze_of s h memory) reply t → world.FreezeIs (reading s) h memory (world.alone_of (reading s) h Mut) reply (reading t)
 freeze-steps s t h memory reply k i = rw (alone-reads s h Mut) (freeze-lent s t h memory reply (lend_of s h Mut) k refl i)

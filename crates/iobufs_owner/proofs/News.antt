@@ -14,9 +14,10 @@ use Rattle.iobufs_owner.specs.Sound.{IsSound}
 use Rattle.iobufs_owner.specs.Places.{IsGoodPlace}
 use Rattle.iobufs_owner.specs.Word.{word_of}
 use Rattle.iobufs_owner.specs.Moves as move
-use Rattle.iobufs_owner.specs.Moves.{Outcome, IsTaken, refused, block_of, first_handle, whole_view, described_of, recorded_of, with_block, with_record, next_record}
+use Rattle.iobufs_owner.specs.Moves.{Outcome, refused, block_of, first_handle, whole_view, described_of, recorded_of, with_block, with_record, next_record}
 use Rattle.iobufs_owner.specs.Steps as world
 use Rattle.iobufs_owner.specs.Steps.{NoRoom, Makes, Refuses, block_more, native_block, external_block}
+use Rattle.iobufs_owner.proofs.Sizes.{IsAnswered}
 use Rattle.iobufs_owner.proofs.Keeps.{calls-read-kept}
 use Rattle.iobufs_owner.proofs.Kept.{owner-counted}
 use Rattle.iobufs_owner.proofs.Frames.{grown, grown-keeps, handles-kept}
@@ -46,39 +47,39 @@ recorded-reads s b k good =
     rw (block-reads s b k good, hs, cs) refl
 
 -- the handle on a block that a record counts
-recorded-made : (s t : State) (b : Block) (x : Handle) (reply : Reply) → IsSound s → IsGoodPlace s.tables.blocks b.base b.size b.align → x.word ≡ Counted (length s.tables.records) → IsTaken s (recorded_of s b x) reply t → NoRoom (reading s) reply (reading t) ⊎ Makes (block_more (reading s) b) (record { kind = x.kind; block = Some (length s.tables.blocks); place = x.ptr; len = x.len }) reply (reading t)
+recorded-made : (s t : State) (b : Block) (x : Handle) (reply : Reply) → IsSound s → IsGoodPlace s.tables.blocks b.base b.size b.align → x.word ≡ Counted (length s.tables.records) → IsAnswered s (recorded_of s b x) reply t → NoRoom (reading s) reply (reading t) ⊎ Makes (block_more (reading s) b) (record { kind = x.kind; block = Some (length s.tables.blocks); place = x.ptr; len = x.len }) reply (reading t)
 recorded-made s t b x reply k good w i =
     let g' : Tables = both s.tables b in
     let o : owner_of g' x ≡ Some (length s.tables.blocks) = owner-counted g' x (length s.tables.records) w ∙ ap (λ (v : Record). Some v.block) (recorded-new (grown s.tables b) 1 (length s.tables.blocks)) in
     let z : read_held g' x ≡ record { kind = x.kind; block = Some (length s.tables.blocks); place = x.ptr; len = x.len } = ap (λ (o : Option ℕ). record { kind = x.kind; block = o; place = x.ptr; len = x.len }) o in
     made-taken s (with_record (with_block s b) 1 (length s.tables.blocks)) t (block_more (reading s) b) x (length s.tables.blocks) (record { kind = x.kind; block = Some (length s.tables.blocks); place = x.ptr; len = x.len }) reply (recorded-reads s b k good) z i
 
-new-placed : (s t : State) (base size log : ℕ) (o : Outcome) (reply : Reply) → IsSound s → IsGoodPlace s.tables.blocks base size (2 ^ log) → move.placed s base size log o → IsTaken s o reply t → NoRoom (reading s) reply (reading t) ⊎ Makes (block_more (reading s) (native_block base size (2 ^ log))) (record { kind = Mut; block = Some (length s.tables.blocks); place = base; len = 0 }) reply (reading t)
+new-placed : (s t : State) (base size log : ℕ) (o : Outcome) (reply : Reply) → IsSound s → IsGoodPlace s.tables.blocks base size (2 ^ log) → move.placed s base size log o → IsAnswered s o reply t → NoRoom (reading s) reply (reading t) ⊎ Makes (block_more (reading s) (native_block base size (2 ^ log))) (record { kind = Mut; block = Some (length s.tables.blocks); place = base; len = 0 }) reply (reading t)
 new-placed s t base size log o reply k good (inl (room, e)) i =
     let b : Block = block_of base size (2 ^ log) false in
     let w : ℕ = word_of s.tables.align_bits s.tables.tail_bits size log 0 in
     let x : Handle = first_handle (block_of base size (2 ^ log) false) (Descriptor w) in
     let own = first-owner s.tables b log w k.blocks.places good room refl in
     let z : read_held (grown s.tables b) x ≡ record { kind = Mut; block = Some (length s.tables.blocks); place = base; len = 0 } = ap (λ (o : Option ℕ). record { kind = Mut; block = o; place = base; len = 0 }) own in
-    made-taken s (with_block s b) t (block_more (reading s) b) x (length s.tables.blocks) (record { kind = Mut; block = Some (length s.tables.blocks); place = base; len = 0 }) reply (described-reads s b k good) z (subst (λ (o : Outcome). IsTaken s o reply t) e i)
+    made-taken s (with_block s b) t (block_more (reading s) b) x (length s.tables.blocks) (record { kind = Mut; block = Some (length s.tables.blocks); place = base; len = 0 }) reply (described-reads s b k good) z (subst (λ (o : Outcome). IsAnswered s o reply t) e i)
 new-placed s t base size log o reply k good (inr (never, e)) i =
-    recorded-made s t (block_of base size (2 ^ log) false) (first_handle (block_of base size (2 ^ log) false) (Counted (next_record s))) reply k good refl (subst (λ (o : Outcome). IsTaken s o reply t) e i)
+    recorded-made s t (block_of base size (2 ^ log) false) (first_handle (block_of base size (2 ^ log) false) (Counted (next_record s))) reply k good refl (subst (λ (o : Outcome). IsAnswered s o reply t) e i)
 
-new-good : (s t : State) (base size align : ℕ) (memory : Bool) (o : Outcome) (reply : Reply) → IsSound s → IsGoodPlace s.tables.blocks base size align → MatchBool memory ((log : ℕ) × (align ≡ 2 ^ log) × move.placed s base size log o) (o ≡ refused s Memory) → IsTaken s o reply t → MatchBool memory (NoRoom (reading s) reply (reading t) ⊎ Makes (block_more (reading s) (native_block base size align)) (record { kind = Mut; block = Some (length s.tables.blocks); place = base; len = 0 }) reply (reading t)) (Refuses (reading s) Memory reply (reading t))
+new-good : (s t : State) (base size align : ℕ) (memory : Bool) (o : Outcome) (reply : Reply) → IsSound s → IsGoodPlace s.tables.blocks base size align → MatchBool memory ((log : ℕ) × (align ≡ 2 ^ log) × move.placed s base size log o) (o ≡ refused s Memory) → IsAnswered s o reply t → MatchBool memory (NoRoom (reading s) reply (reading t) ⊎ Makes (block_more (reading s) (native_block base size align)) (record { kind = Mut; block = Some (length s.tables.blocks); place = base; len = 0 }) reply (reading t)) (Refuses (reading s) Memory reply (reading t))
 new-good s t base size align true o reply k good (log, e, p) i =
     subst (λ (a : ℕ). NoRoom (reading s) reply (reading t) ⊎ Makes (block_more (reading s) (native_block base size a)) (record { kind = Mut; block = Some (length s.tables.blocks); place = base; len = 0 }) reply (reading t)) (sym e)
     (new-placed s t base size log o reply k (subst (λ (a : ℕ). IsGoodPlace s.tables.blocks base size a) e good) p i)
-new-good s t base size align false o reply k good e i = refused-taken s t Memory reply (subst (λ (o : Outcome). IsTaken s o reply t) e i)
+new-good s t base size align false o reply k good e i = refused-taken s t Memory reply (subst (λ (o : Outcome). IsAnswered s o reply t) e i)
 
-pub new-steps : (s t : State) (base size align : ℕ) (memory : Bool) (o : Outcome) (reply : Reply) → IsSound s → move.IsNew s base size align memory o → IsTaken s o reply t → world.NewIs (reading s) (native_block base size align) (record { kind = Mut; block = Some (length s.tables.blocks); place = base; len = 0 }) memory reply (reading t)
-new-steps s t base size align memory o reply k (inl (bad, e)) i = inl (bad, refused-taken s t BadPlace reply (subst (λ (o : Outcome). IsTaken s o reply t) e i))
+pub new-steps : (s t : State) (base size align : ℕ) (memory : Bool) (o : Outcome) (reply : Reply) → IsSound s → move.IsNew s base size align memory o → IsAnswered s o reply t → world.NewIs (reading s) (native_block base size align) (record { kind = Mut; block = Some (length s.tables.blocks); place = base; len = 0 }) memory reply (reading t)
+new-steps s t base size align memory o reply k (inl (bad, e)) i = inl (bad, refused-taken s t BadPlace reply (subst (λ (o : Outcome). IsAnswered s o reply t) e i))
 new-steps s t base size align memory o reply k (inr (good, p)) i = inr (good, new-good s t base size align memory o reply k good p i)
 
-external-good : (s t : State) (base size : ℕ) (memory : Bool) (reply : Reply) → IsSound s → IsGoodPlace s.tables.blocks base size 1 → IsTaken s (move.external_of s base size memory) reply t → MatchBool memory (NoRoom (reading s) reply (reading t) ⊎ Makes (block_more (reading s) (external_block base size)) (record { kind = View; block = Some (length s.tables.blocks); place = base; len = size }) reply (reading t)) (Refuses (reading s) Memory reply (reading t))
+external-good : (s t : State) (base size : ℕ) (memory : Bool) (reply : Reply) → IsSound s → IsGoodPlace s.tables.blocks base size 1 → IsAnswered s (move.external_of s base size memory) reply t → MatchBool memory (NoRoom (reading s) reply (reading t) ⊎ Makes (block_more (reading s) (external_block base size)) (record { kind = View; block = Some (length s.tables.blocks); place = base; len = size }) reply (reading t)) (Refuses (reading s) Memory reply (reading t))
 external-good s t base size true reply k good i =
     recorded-made s t (block_of base size 1 true) (whole_view (block_of base size 1 true) (Counted (next_record s))) reply k good refl i
 external-good s t base size false reply k good i = refused-taken s t Memory reply i
 
-pub external-steps : (s t : State) (base size : ℕ) (memory : Bool) (o : Outcome) (reply : Reply) → IsSound s → move.IsExternal s base size memory o → IsTaken s o reply t → world.NewIs (reading s) (external_block base size) (record { kind = View; block = Some (length s.tables.blocks); place = base; len = size }) memory reply (reading t)
-external-steps s t base size memory o reply k (inl (bad, e)) i = inl (bad, refused-taken s t BadPlace reply (subst (λ (o : Outcome). IsTaken s o reply t) e i))
-external-steps s t base size memory o reply k (inr (good, e)) i = inr (good, external-good s t base size memory reply k good (subst (λ (o : Outcome). IsTaken s o reply t) e i))
+pub external-steps : (s t : State) (base size : ℕ) (memory : Bool) (o : Outcome) (reply : Reply) → IsSound s → move.IsExternal s base size memory o → IsAnswered s o reply t → world.NewIs (reading s) (external_block base size) (record { kind = View; block = Some (length s.tables.blocks); place = base; len = size }) memory reply (reading t)
+external-steps s t base size memory o reply k (inl (bad, e)) i = inl (bad, refused-taken s t BadPlace reply (subst (λ (o : Outcome). IsAnswered s o reply t) e i))
+external-steps s t base size memory o reply k (inr (good, e)) i = inr (good, external-good s t base size memory reply k good (subst (λ (o : Outcome). IsAnswered s o reply t) e i))

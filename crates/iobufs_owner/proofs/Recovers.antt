@@ -13,9 +13,10 @@ use Rattle.iobufs_owner.specs.State.{State, owner_of, handle_at, record_at, bloc
 use Rattle.iobufs_owner.specs.World.{World, reading, read_held, read_handle, holders, is_block}
 use Rattle.iobufs_owner.specs.Sound.{IsSound}
 use Rattle.iobufs_owner.specs.Moves as move
-use Rattle.iobufs_owner.specs.Moves.{Outcome, IsTaken, entries, refused, done, declined, edited, thawed, lend_of, Lends, is_lent, is_unique}
+use Rattle.iobufs_owner.specs.Moves.{Outcome, refused, done, declined, edited, thawed, lend_of, Lends, is_lent, is_unique}
 use Rattle.iobufs_owner.specs.Steps as world
 use Rattle.iobufs_owner.specs.Steps.{Declines, MayRecover, held_set}
+use Rattle.iobufs_owner.proofs.Sizes.{IsAnswered, entries, grows-never}
 use Rattle.iobufs_owner.proofs.Kept.{owner-empty, owner-counted}
 use Rattle.iobufs_owner.proofs.Lent.{lend-tells}
 use Rattle.iobufs_owner.proofs.Frames.{is-eqb}
@@ -31,14 +32,14 @@ Recovers s h x o reply next =
     (MayRecover (reading s) (read_held s.tables x) o × (reply ≡ Done) × (next ≡ held_set (reading s) h (record { kind = Mut; block = owner_of s.tables x; place = x.ptr; len = x.len })))
     ⊎ ((MayRecover (reading s) (read_held s.tables x) o → ⊥) × Declines (reading s) reply next)
 
-recover-empty : (s t : State) (h : ℕ) (x : Handle) (reply : Reply) (v : Bool) → nat_eq x.len 0 ≡ v → x.word ≡ Empty → IsTaken s (cond v (done (edited s h (thawed x 0 Empty))) (declined s)) reply t → Recovers s h x None reply (reading t)
+recover-empty : (s t : State) (h : ℕ) (x : Handle) (reply : Reply) (v : Bool) → nat_eq x.len 0 ≡ v → x.word ≡ Empty → IsAnswered s (cond v (done (edited s h (thawed x 0 Empty))) (declined s)) reply t → Recovers s h x None reply (reading t)
 recover-empty s t h x reply true e w i =
     let q = edit-taken s t h (thawed x 0 Empty) (record { kind = Mut; block = owner_of s.tables x; place = x.ptr; len = x.len }) reply (rw (owner-empty s.tables (thawed x 0 Empty) refl, owner-empty s.tables x w) refl) i in
     inl (eq-true x.len 0 e, q.0, q.1)
 recover-empty s t h x reply false e w i =
     inr (λ z. (let q = is-eqb x.len 0 z in cc), declined-taken s t reply i)
 
-recover-counted : (s t : State) (h : ℕ) (x : Handle) (r : ℕ) (reply : Reply) (u v : Bool) → IsSound s → Lends s h View x → x.word ≡ Counted r → (block_at s.tables (record_at s.tables r).block).external ≡ u → nat_eq (record_at s.tables r).count 1 ≡ v → IsTaken s (cond u (declined s) (cond v (done (edited s h (thawed x ((block_at s.tables (record_at s.tables r).block).base + (block_at s.tables (record_at s.tables r).block).size - x.ptr) (Counted r)))) (declined s))) reply t → Recovers s h x (Some (record_at s.tables r).block) reply (reading t)
+recover-counted : (s t : State) (h : ℕ) (x : Handle) (r : ℕ) (reply : Reply) (u v : Bool) → IsSound s → Lends s h View x → x.word ≡ Counted r → (block_at s.tables (record_at s.tables r).block).external ≡ u → nat_eq (record_at s.tables r).count 1 ≡ v → IsAnswered s (cond u (declined s) (cond v (done (edited s h (thawed x ((block_at s.tables (record_at s.tables r).block).base + (block_at s.tables (record_at s.tables r).block).size - x.ptr) (Counted r)))) (declined s))) reply t → Recovers s h x (Some (record_at s.tables r).block) reply (reading t)
 recover-counted s t h x r reply true v k l w e f i = inr (λ m. (let q = m.0 in cc), declined-taken s t reply i)
 recover-counted s t h x r reply false true k l w e f i =
     let c = counted-at s h x r k l.at w in
@@ -50,7 +51,7 @@ recover-counted s t h x r reply false false k l w e f i =
     let c = counted-at s h x r k l.at w in
     inr (λ m. (let q = is-eqb (record_at s.tables r).count 1 ((k.counted r c.live).counts c.shown ∙ m.1) in cc), declined-taken s t reply i)
 
-recover-word : (s t : State) (h : ℕ) (x : Handle) (reply : Reply) (w : Word) → IsSound s → Lends s h View x → x.word ≡ w → IsTaken s (move.recover_by s h x w) reply t → Recovers s h x (owner_of s.tables x) reply (reading t)
+recover-word : (s t : State) (h : ℕ) (x : Handle) (reply : Reply) (w : Word) → IsSound s → Lends s h View x → x.word ≡ w → IsAnswered s (move.recover_by s h x w) reply t → Recovers s h x (owner_of s.tables x) reply (reading t)
 recover-word s t h x reply Empty k l w i = subst (λ (o : Option ℕ). Recovers s h x o reply (reading t)) (sym (owner-empty s.tables x w)) (recover-empty s t h x reply (nat_eq x.len 0) refl w i)
 recover-word s t h x reply (Descriptor v) k l w i =
     let d = described-at s h x v k l.at w in
@@ -61,21 +62,21 @@ recover-word s t h x reply (Descriptor v) k l w i =
 recover-word s t h x reply (Counted r) k l w i =
     subst (λ (o : Option ℕ). Recovers s h x o reply (reading t)) (sym (owner-counted s.tables x r w)) (recover-counted s t h x r reply (block_at s.tables (record_at s.tables r).block).external (nat_eq (record_at s.tables r).count 1) k l w refl refl i)
 
-recover-lent : (s t : State) (h : ℕ) (reply : Reply) (r : Result Handle Refusal) → IsSound s → lend_of s h View ≡ r → IsTaken s (move.recover_lent s h r) reply t → world.RecoverIs (reading s) h (read_lent s.tables r) reply (reading t)
+recover-lent : (s t : State) (h : ℕ) (reply : Reply) (r : Result Handle Refusal) → IsSound s → lend_of s h View ≡ r → IsAnswered s (move.recover_lent s h r) reply t → world.RecoverIs (reading s) h (read_lent s.tables r) reply (reading t)
 recover-lent s t h reply (Err why) k e i = refused-taken s t why reply i
 recover-lent s t h reply (Ok x) k e i = recover-word s t h x reply x.word k (lend-tells s h View x e) refl i
 
-pub recover-steps : (s t : State) (h : ℕ) (reply : Reply) → IsSound s → IsTaken s (move.recover_of s h) reply t → world.RecoverIs (reading s) h (world.alone_of (reading s) h View) reply (reading t)
+pub recover-steps : (s t : State) (h : ℕ) (reply : Reply) → IsSound s → IsAnswered s (move.recover_of s h) reply t → world.RecoverIs (reading s) h (world.alone_of (reading s) h View) reply (reading t)
 recover-steps s t h reply k i = rw (alone-reads s h View) (recover-lent s t h reply (lend_of s h View) k refl i)
 
 -- ---- IsUnique
 
-same-taken : (s t : State) (answer reply : Reply) → IsTaken s (record { reply = answer; state = s }) reply t → (reply ≡ answer) × (reading t ≡ reading s)
+same-taken : (s t : State) (answer reply : Reply) → IsAnswered s (record { reply = answer; state = s }) reply t → (reply ≡ answer) × (reading t ≡ reading s)
 same-taken s t answer reply (inl (e, f)) = (e, ap reading f)
-same-taken s t answer reply (inr (l, e, f)) = absurd (omega (arith, l))
+same-taken s t answer reply (inr (l, e, f)) = absurd (grows-never s s refl l)
 
 -- what is answered, by the block and by whether the handle is borrowed
-unique-answers : (s t : State) (h b : ℕ) (x : Handle) (reply : Reply) (u : Bool) → is_unique s.tables x x.word ≡ nat_eq (holders (reading s) b) 1 → IsTaken s (move.unique_lent s (cond u (Err Borrowed) (Ok x))) reply t → world.UniqueIs (reading s) (cond u (Err Borrowed) (Ok b)) reply (reading t)
+unique-answers : (s t : State) (h b : ℕ) (x : Handle) (reply : Reply) (u : Bool) → is_unique s.tables x x.word ≡ nat_eq (holders (reading s) b) 1 → IsAnswered s (move.unique_lent s (cond u (Err Borrowed) (Ok x))) reply t → world.UniqueIs (reading s) (cond u (Err Borrowed) (Ok b)) reply (reading t)
 unique-answers s t h b x reply true e i = refused-taken s t Borrowed reply i
 unique-answers s t h b x reply false e i = let q = same-taken s t (Unique (is_unique s.tables x x.word)) reply i in (q.0 ∙ ap Unique e, q.1)
 
@@ -87,7 +88,7 @@ is-unique-counted s h r x Mut k at w e =
     let one = alone-at s h x (record_at s.tables r).block k at (alone-written s.tables (record_at s.tables r).block x r w e ∙ ap (is_block (record_at s.tables r).block) (owner-counted s.tables x r w) ∙ is-eqb (record_at s.tables r).block (record_at s.tables r).block refl) in
     sym (is-eqb (holders (reading s) (record_at s.tables r).block) 1 one)
 
-unique-word : (s t : State) (h : ℕ) (x : Handle) (reply : Reply) (w : Word) → IsSound s → handle_at s h ≡ Some x → x.word ≡ w → IsTaken s (move.unique_lent s (cond (move.is_empty w) (Err WrongKind) (cond (is_lent h s.calls) (Err Borrowed) (Ok x)))) reply t → world.UniqueIs (reading s) (world.with_block (reading s) h (owner_of s.tables x)) reply (reading t)
+unique-word : (s t : State) (h : ℕ) (x : Handle) (reply : Reply) (w : Word) → IsSound s → handle_at s h ≡ Some x → x.word ≡ w → IsAnswered s (move.unique_lent s (cond (move.is_empty w) (Err WrongKind) (cond (is_lent h s.calls) (Err Borrowed) (Ok x)))) reply t → world.UniqueIs (reading s) (world.with_block (reading s) h (owner_of s.tables x)) reply (reading t)
 unique-word s t h x reply Empty k at w i = rw (owner-empty s.tables x w) (refused-taken s t WrongKind reply i)
 unique-word s t h x reply (Descriptor v) k at w i =
     let d = described-at s h x v k at w in
@@ -98,11 +99,11 @@ unique-word s t h x reply (Counted r) k at w i =
     subst (λ (o : Option ℕ). world.UniqueIs (reading s) (world.with_block (reading s) h o) reply (reading t)) (sym (owner-counted s.tables x r w))
     (rw (shared-reads s.tables h s.calls) (unique-answers s t h (record_at s.tables r).block x reply (is_lent h s.calls) (ap (is_unique s.tables x) w ∙ is-unique-counted s h r x x.kind k at w refl) i))
 
-unique-found : (s t : State) (h : ℕ) (reply : Reply) (o : Option Handle) → IsSound s → handle_at s h ≡ o → IsTaken s (move.unique_lent s (move.owning_found s h o)) reply t → world.UniqueIs (reading s) (world.block_found (reading s) h (read_handle s.tables o)) reply (reading t)
+unique-found : (s t : State) (h : ℕ) (reply : Reply) (o : Option Handle) → IsSound s → handle_at s h ≡ o → IsAnswered s (move.unique_lent s (move.owning_found s h o)) reply t → world.UniqueIs (reading s) (world.block_found (reading s) h (read_handle s.tables o)) reply (reading t)
 unique-found s t h reply None k at i = refused-taken s t NoHandle reply i
 unique-found s t h reply (Some x) k at i = unique-word s t h x reply x.word k at refl i
 
-pub unique-steps : (s t : State) (h : ℕ) (reply : Reply) → IsSound s → IsTaken s (move.unique_of s h) reply t → world.UniqueIs (reading s) (world.block_of (reading s) h) reply (reading t)
+pub unique-steps : (s t : State) (h : ℕ) (reply : Reply) → IsSound s → IsAnswered s (move.unique_of s h) reply t → world.UniqueIs (reading s) (world.block_of (reading s) h) reply (reading t)
 unique-steps s t h reply k i = rw (held-reads s h) (unique-found s t h reply (handle_at s h) k refl i)
 
 -- the question changes nothing

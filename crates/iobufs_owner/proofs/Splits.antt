@@ -12,9 +12,10 @@ use Rattle.iobufs_owner.specs.State.{State, Tables, owner_of, owned_by, record_a
 use Rattle.iobufs_owner.specs.World.{World, Held, reading, read_held, read_handle, is_block}
 use Rattle.iobufs_owner.specs.Sound.{IsSound}
 use Rattle.iobufs_owner.specs.Moves as move
-use Rattle.iobufs_owner.specs.Moves.{IsTaken, refused, made, edited, part, counted, with_count, promoted, next_record, lend_of, Lends}
+use Rattle.iobufs_owner.specs.Moves.{refused, made, edited, part, counted, with_count, promoted, next_record, lend_of, Lends}
 use Rattle.iobufs_owner.specs.Steps as world
 use Rattle.iobufs_owner.specs.Steps.{NoRoom, Denied, Makes, Refuses, IsOver, held_set, part_of}
+use Rattle.iobufs_owner.proofs.Sizes.{IsAnswered}
 use Rattle.iobufs_owner.proofs.Keeps.{calls-read-kept}
 use Rattle.iobufs_owner.proofs.Kept.{owner-empty, owner-counted}
 use Rattle.iobufs_owner.proofs.Lent.{lend-tells}
@@ -45,7 +46,7 @@ counted-reads s h r n y z k e =
     let cs = calls-read-kept s (counted s.tables r n) s.calls q k.calls_fit in
     rw (map-set (read_handle (counted s.tables r n)) s.handles h (Some y), hs, cs, e) refl
 
-split-described : (s t : State) (h at v : ℕ) (x : Handle) (memory : Bool) (reply : Reply) → IsSound s → Lends s h View x → x.word ≡ Descriptor v → IsTaken s (move.split_by s h at memory x (Descriptor v)) reply t → Denied (reading s) memory reply (reading t) ⊎ NoRoom (reading s) reply (reading t) ⊎ Makes (held_set (reading s) h (part_of (read_held s.tables x) at x.len)) (part_of (read_held s.tables x) 0 at) reply (reading t)
+split-described : (s t : State) (h at v : ℕ) (x : Handle) (memory : Bool) (reply : Reply) → IsSound s → Lends s h View x → x.word ≡ Descriptor v → IsAnswered s (move.split_by s h at memory x (Descriptor v)) reply t → Denied (reading s) memory reply (reading t) ⊎ NoRoom (reading s) reply (reading t) ⊎ Makes (held_set (reading s) h (part_of (read_held s.tables x) at x.len)) (part_of (read_held s.tables x) 0 at) reply (reading t)
 split-described s t h at v x true reply k l w i =
     let d = described-at s h x v k l.at w in
     let n : owned_by s.tables x ≡ d.0 = rw d.3.owner refl in
@@ -59,7 +60,7 @@ split-described s t h at v x true reply k l w i =
     inr (made-taken s (edited (promoted s x 2) h back) t (held_set (reading s) h (part_of (read_held s.tables x) at x.len)) front (origin_at s h) (part_of (read_held s.tables x) 0 at) reply (promoted-reads s h (owned_by s.tables x) 2 x back (part_of (read_held s.tables x) at x.len) k l.at zb) zf i)
 split-described s t h at v x false reply k l w i = inl (refl, refused-taken s t Memory reply i)
 
-split-counted : (s t : State) (h at r : ℕ) (x : Handle) (memory : Bool) (reply : Reply) (u : Bool) → IsSound s → Lends s h View x → x.word ≡ Counted r → nat_lt s.ceiling (record_at s.tables r).count ≡ u → IsTaken s (cond u (refused s Ceiling) (move.split_with (with_count s r ((record_at s.tables r).count + 1)) h at x (Counted r))) reply t → Splits s h at x memory (Some (record_at s.tables r).block) reply (reading t)
+split-counted : (s t : State) (h at r : ℕ) (x : Handle) (memory : Bool) (reply : Reply) (u : Bool) → IsSound s → Lends s h View x → x.word ≡ Counted r → nat_lt s.ceiling (record_at s.tables r).count ≡ u → IsAnswered s (cond u (refused s Ceiling) (move.split_with (with_count s r ((record_at s.tables r).count + 1)) h at x (Counted r))) reply t → Splits s h at x memory (Some (record_at s.tables r).block) reply (reading t)
 split-counted s t h at r x memory reply true k l w e i =
     let c = counted-at s h x r k l.at w in
     let n = (k.counted r c.live).counts c.shown in
@@ -82,7 +83,7 @@ split-counted s t h at r x memory reply false k l w e i =
       room-or-made _ _ _ (made-taken s (edited (with_count s r ((record_at s.tables r).count + 1)) h back) t (held_set (reading s) h (part_of (read_held s.tables x) at x.len)) front (origin_at s h) (part_of (read_held s.tables x) 0 at) reply (counted-reads s h r ((record_at s.tables r).count + 1) back (part_of (read_held s.tables x) at x.len) k zb) zf i),
     )
 
-split-word : (s t : State) (h at : ℕ) (x : Handle) (memory : Bool) (reply : Reply) (w : Word) → IsSound s → Lends s h View x → x.word ≡ w → IsTaken s (move.split_by s h at memory x w) reply t → Splits s h at x memory (owner_of s.tables x) reply (reading t)
+split-word : (s t : State) (h at : ℕ) (x : Handle) (memory : Bool) (reply : Reply) (w : Word) → IsSound s → Lends s h View x → x.word ≡ w → IsAnswered s (move.split_by s h at memory x w) reply t → Splits s h at x memory (owner_of s.tables x) reply (reading t)
 split-word s t h at x memory reply Empty k l w i =
     let back : Handle = part x at x.len Empty in
     let front : Handle = part x 0 at Empty in
@@ -100,7 +101,7 @@ split-word s t h at x memory reply (Descriptor v) k l w i =
 split-word s t h at x memory reply (Counted r) k l w i =
     subst (λ (o : Option ℕ). Splits s h at x memory o reply (reading t)) (sym (owner-counted s.tables x r w)) (split-counted s t h at r x memory reply (nat_lt s.ceiling (record_at s.tables r).count) k l w refl i)
 
-split-lent : (s t : State) (h at : ℕ) (memory : Bool) (reply : Reply) (r : Result Handle Refusal) → IsSound s → lend_of s h View ≡ r → IsTaken s (move.split_lent s h at memory r) reply t → world.SplitIs (reading s) h at memory (read_lent s.tables r) reply (reading t)
+split-lent : (s t : State) (h at : ℕ) (memory : Bool) (reply : Reply) (r : Result Handle Refusal) → IsSound s → lend_of s h View ≡ r → IsAnswered s (move.split_lent s h at memory r) reply t → world.SplitIs (reading s) h at memory (read_lent s.tables r) reply (reading t)
 split-lent s t h at memory reply (Err why) k e i = refused-taken s t why reply i
 split-lent s t h at memory reply (Ok x) k e i =
     let l = lend-tells s h View x e in
@@ -112,5 +113,5 @@ split-lent s t h at memory reply (Ok x) k e i =
     (λ _ i. made-taken s (edited s h (move.detached 0)) t (held_set (reading s) h (world.detached 0)) x (origin_at s h) (read_held s.tables x) reply (reads-edited s h (move.detached 0) (world.detached 0) (reads-detached s.tables 0)) refl i)
     (λ _ i. split-word s t h at x memory reply x.word k l refl i) i) i) i
 
-pub split-steps : (s t : State) (h at : ℕ) (memory : Bool) (reply : Reply) → IsSound s → IsTaken s (move.split_of s h at memory) reply t → world.SplitIs (reading s) h at memory (world.alone_of (reading s) h View) reply (reading t)
+pub split-steps : (s t : State) (h at : ℕ) (memory : Bool) (reply : Reply) → IsSound s → IsAnswered s (move.split_of s h at memory) reply t → world.SplitIs (reading s) h at memory (world.alone_of (reading s) h View) reply (reading t)
 split-steps s t h at memory reply k i = rw (alone-reads s h View) (split-lent s t h at memory reply (lend_of s h View) k refl i)

@@ -14,11 +14,12 @@ use Rattle.std.specs.declared.alloc.AllocError.{AllocError}
 use Rattle.std.specs.Result.{result_unwrap_or}
 use Rattle.std.proofs.lemmas.Bool.Decides.{nat_tests}
 use Rattle.iobufs_owner.specs.declared.owner.types.Reply.{Reply}
-use Rattle.iobufs_owner.specs.State.{State, call_at}
+use Rattle.iobufs_owner.specs.State.{State, Seen, call_at}
 use Rattle.iobufs_owner.specs.World.{reading, read_call}
 use Rattle.iobufs_owner.specs.Sound.{IsSound}
-use Rattle.iobufs_owner.specs.Moves.{Outcome, Took, IsTaken, IsBegun, IsMoved, IsMovedAt, Moves, refused, gone_on}
+use Rattle.iobufs_owner.specs.Moves.{Outcome, Took, IsBegun, IsMoved, IsMovedAt, Moves, refused, gone_on}
 use Rattle.iobufs_owner.specs.Steps.{Refuses, Begins, ActsAt, Steps}
+use Rattle.iobufs_owner.proofs.Sizes.{IsAnswered, answered}
 use Rattle.iobufs_owner.proofs.Shown.{get_or-read}
 use Rattle.iobufs_owner.proofs.Taken.{refused-taken, static-steps, put-steps, advance-steps}
 use Rattle.iobufs_owner.proofs.Recovers.{recover-steps, unique-steps}
@@ -28,10 +29,10 @@ use Rattle.iobufs_owner.proofs.News.{new-steps, external-steps}
 use Rattle.iobufs_owner.proofs.Drops.{drop-steps}
 use Rattle.iobufs_owner.proofs.Goings.{clone-steps, slice-steps, loaded-goes, ready-goes, add-goes, subtract-goes, release-goes}
 
-by-outcome : (s t : State) (o u : Outcome) (reply : Reply) → o ≡ u → IsTaken s o reply t → IsTaken s u reply t
-by-outcome s t o u reply e i = subst (λ (o : Outcome). IsTaken s o reply t) e i
+by-outcome : (s t : State) (o u : Outcome) (reply : Reply) → o ≡ u → IsAnswered s o reply t → IsAnswered s u reply t
+by-outcome s t o u reply e i = subst (λ (o : Outcome). IsAnswered s o reply t) e i
 
-pub begins : (s t : State) (p : ℕ) (call : Call) (memory : Bool) (o : Outcome) (reply : Reply) → IsSound s → IsBegun s p call memory o → IsTaken s o reply t → Begins (reading s) p call memory reply (reading t)
+pub begins : (s t : State) (p : ℕ) (call : Call) (memory : Bool) (o : Outcome) (reply : Reply) → IsSound s → IsBegun s p call memory o → IsAnswered s o reply t → Begins (reading s) p call memory reply (reading t)
 unfolding IsBegun Begins
 begins s t p (New base size align) memory o reply k b i = new-steps s t base size align memory o reply k b i
 begins s t p (External base size) memory o reply k b i = external-steps s t base size memory o reply k b i
@@ -46,7 +47,7 @@ begins s t p (Clone h) memory o reply k b i = clone-steps s t p h reply k (by-ou
 begins s t p (Slice h lo hi) memory o reply k b i = slice-steps s t p h lo hi reply k (by-outcome s t o _ reply b i)
 begins s t p (Drop h) memory o reply k b i = drop-steps s t p h reply k (by-outcome s t o _ reply b i)
 
-acts : (s t : State) (p : ℕ) (act : Act) (c : Option Pending) (o : Outcome) (reply : Reply) → IsSound s → call_at s p ≡ c → IsMovedAt s p act c o → IsTaken s o reply t → ActsAt (reading s) p act (read_call s.tables c) reply (reading t)
+acts : (s t : State) (p : ℕ) (act : Act) (c : Option Pending) (o : Outcome) (reply : Reply) → IsSound s → call_at s p ≡ c → IsMovedAt s p act c o → IsAnswered s o reply t → ActsAt (reading s) p act (read_call s.tables c) reply (reading t)
 acts s t p (Begin call memory) None o reply k n b i = begins s t p call memory o reply k b i
 acts s t p (Begin call memory) (Some (Loaded part w)) o reply k n b i = refused-taken s t Busy reply (by-outcome s t o _ reply b i)
 acts s t p (Begin call memory) (Some (Ready part w r)) o reply k n b i = refused-taken s t Busy reply (by-outcome s t o _ reply b i)
@@ -60,13 +61,13 @@ acts s t p (Go memory) (Some (Add part r)) o reply k n b i = add-goes s t p part
 acts s t p (Go memory) (Some (Subtract r)) o reply k n b i = subtract-goes s t p r memory reply k n (by-outcome s t o _ reply b i)
 acts s t p (Go memory) (Some (Release r v)) o reply k n b i = release-goes s t p r v memory reply k n (by-outcome s t o _ reply b i)
 
-by-party : (s t : State) (step : Step) (o : Outcome) (reply : Reply) (v : Bool) → IsSound s → MatchBool v (IsMovedAt s step.party step.act (call_at s step.party) o) (o ≡ refused s Idle) → IsTaken s o reply t → MatchBool v (ActsAt (reading s) step.party step.act (read_call s.tables (call_at s step.party)) reply (reading t)) (Refuses (reading s) Idle reply (reading t))
+by-party : (s t : State) (step : Step) (o : Outcome) (reply : Reply) (v : Bool) → IsSound s → MatchBool v (IsMovedAt s step.party step.act (call_at s step.party) o) (o ≡ refused s Idle) → IsAnswered s o reply t → MatchBool v (ActsAt (reading s) step.party step.act (read_call s.tables (call_at s step.party)) reply (reading t)) (Refuses (reading s) Idle reply (reading t))
 by-party s t step o reply true k m i = acts s t step.party step.act (call_at s step.party) o reply k refl m i
 by-party s t step o reply false k m i = refused-taken s t Idle reply (by-outcome s t o _ reply m i)
 
-pub steps-of : (s t : State) (step : Step) (reply : Reply) → IsSound s → Moves s step reply t → Steps (reading s) step reply (reading t)
-steps-of s t step reply k (o, m, i) =
-    rw (length-map, get_or-read (read_call s.tables) s.calls step.party None) (by-party s t step o reply (nat_lt step.party (length s.calls)) k m i)
+pub steps-of : (m n : Seen) (step : Step) (reply : Reply) → IsSound m.state → Moves m step reply n → Steps (reading m.state) step reply (reading n.state)
+steps-of m n step reply k (o, f, i) =
+    rw (length-map, get_or-read (read_call m.state.tables) m.state.calls step.party None) (by-party m.state n.state step o reply (nat_lt step.party (length m.state.calls)) k f (answered m o reply n.state i))
 
 -- ---- what is refused before a call is looked at
 
@@ -96,8 +97,3 @@ goes-at s p (Go memory) m (Some c) d e n = let a : c ≡ d = cc in let b : memor
 
 pub moved-goes : (s : State) (step : Step) (memory : Bool) (d : Pending) → step.party < length s.calls → step.act ≡ Go memory → call_at s step.party ≡ Some d → IsMoved s step (gone_on s step.party d memory)
 moved-goes s step memory d l a n = let e : nat_lt step.party (length s.calls) ≡ true = grind (arith, nat_tests) in rw e (goes-at s step.party step.act memory (call_at s step.party) d a n)
-
--- a result as a reply
-pub taken-of : (s : State) (o : Outcome) (result : Result Reply AllocError) (t : State) → Took s o result t → IsTaken s o (result_unwrap_or result (Refused Room)) t
-taken-of s o (Ok reply) t i = inl i
-taken-of s o (Err e) t (l, f) = inr (l, refl, f)

@@ -14,9 +14,10 @@ use Rattle.iobufs_owner.specs.State.{State, Tables, owner_of, handle_at}
 use Rattle.iobufs_owner.specs.World.{World, Held, reading, read_held, read_handle}
 use Rattle.iobufs_owner.specs.Sound.{IsSound}
 use Rattle.iobufs_owner.specs.Moves as move
-use Rattle.iobufs_owner.specs.Moves.{Outcome, IsTaken, entries, refused, done, declined, edited, made, with_handle, lend_of, Lends, is_lent}
+use Rattle.iobufs_owner.specs.Moves.{Outcome, refused, done, declined, edited, made, with_handle, lend_of, Lends, is_lent}
 use Rattle.iobufs_owner.specs.Steps as world
 use Rattle.iobufs_owner.specs.Steps.{Refuses, NoRoom, Denied, Makes, Declines, held_set, held_more}
+use Rattle.iobufs_owner.proofs.Sizes.{IsAnswered, entries, grows-never}
 use Rattle.iobufs_owner.proofs.Counts.{reading-set, reading-append}
 use Rattle.iobufs_owner.proofs.Kept.{owner-empty}
 use Rattle.iobufs_owner.proofs.Lent.{lend-tells}
@@ -25,26 +26,26 @@ use Rattle.iobufs_owner.proofs.Edits.{owner-put, owner-advanced, within}
 
 -- ---- outcomes
 
-pub refused-taken : (s t : State) (why : Refusal) (reply : Reply) → IsTaken s (refused s why) reply t → Refuses (reading s) why reply (reading t)
+pub refused-taken : (s t : State) (why : Refusal) (reply : Reply) → IsAnswered s (refused s why) reply t → Refuses (reading s) why reply (reading t)
 refused-taken s t why reply (inl (e, f)) = (e, ap reading f)
-refused-taken s t why reply (inr (l, e, f)) = absurd (omega (arith, l))
+refused-taken s t why reply (inr (l, e, f)) = absurd (grows-never s s refl l)
 
-pub declined-taken : (s t : State) (reply : Reply) → IsTaken s (declined s) reply t → Declines (reading s) reply (reading t)
+pub declined-taken : (s t : State) (reply : Reply) → IsAnswered s (declined s) reply t → Declines (reading s) reply (reading t)
 declined-taken s t reply (inl (e, f)) = (e, ap reading f)
-declined-taken s t reply (inr (l, e, f)) = absurd (omega (arith, l))
+declined-taken s t reply (inr (l, e, f)) = absurd (grows-never s s refl l)
 
 -- a change that adds no entry
-pub done-taken : (s u t : State) (w : World) (reply : Reply) → entries u ≡ entries s → reading u ≡ w → IsTaken s (done u) reply t → (reply ≡ Done) × (reading t ≡ w)
+pub done-taken : (s u t : State) (w : World) (reply : Reply) → entries u ≡ entries s → reading u ≡ w → IsAnswered s (done u) reply t → (reply ≡ Done) × (reading t ≡ w)
 done-taken s u t w reply n r (inl (e, f)) = (e, ap reading f ∙ r)
-done-taken s u t w reply n r (inr (l, e, f)) = absurd (omega (arith, l, n))
+done-taken s u t w reply n r (inr (l, e, f)) = absurd (grows-never s u n l)
 
 -- a change that may add one
-pub grown-taken : (s u t : State) (w : World) (answer reply : Reply) → reading u ≡ w → IsTaken s (record { reply = answer; state = u }) reply t → NoRoom (reading s) reply (reading t) ⊎ ((reply ≡ answer) × (reading t ≡ w))
+pub grown-taken : (s u t : State) (w : World) (answer reply : Reply) → reading u ≡ w → IsAnswered s (record { reply = answer; state = u }) reply t → NoRoom (reading s) reply (reading t) ⊎ ((reply ≡ answer) × (reading t ≡ w))
 grown-taken s u t w answer reply r (inl (e, f)) = inr (e, ap reading f ∙ r)
 grown-taken s u t w answer reply r (inr (l, e, f)) = inl (e, ap reading f)
 
 -- one handle more than u has
-pub made-taken : (s u t : State) (w : World) (x : Handle) (n : ℕ) (y : Held) (reply : Reply) → reading u ≡ w → read_held u.tables x ≡ y → IsTaken s (made u x n) reply t → NoRoom (reading s) reply (reading t) ⊎ Makes w y reply (reading t)
+pub made-taken : (s u t : State) (w : World) (x : Handle) (n : ℕ) (y : Held) (reply : Reply) → reading u ≡ w → read_held u.tables x ≡ y → IsAnswered s (made u x n) reply t → NoRoom (reading s) reply (reading t) ⊎ Makes w y reply (reading t)
 made-taken s u t w x n y reply r e (inl (i, f)) =
     inr (i ∙ ap Made (sym (ap (λ (w : World). length w.handles) (sym r) ∙ length-map u.handles (read_handle u.tables))), ap reading f ∙ reading-append u (Some x) ∙ ap (λ (w : World). held_more w (read_held u.tables x)) r ∙ ap (held_more w) e)
 made-taken s u t w x n y reply r e (inr (l, i, f)) = inl (i, ap reading f)
@@ -56,7 +57,7 @@ pub reads-edited : (s : State) (h : ℕ) (y : Handle) (z : Held) → read_held s
 reads-edited s h y z e = reading-set s h (Some y) ∙ ap (held_set (reading s) h) e
 
 -- a handle is changed
-pub edit-taken : (s t : State) (h : ℕ) (y : Handle) (z : Held) (reply : Reply) → read_held s.tables y ≡ z → IsTaken s (done (edited s h y)) reply t → (reply ≡ Done) × (reading t ≡ held_set (reading s) h z)
+pub edit-taken : (s t : State) (h : ℕ) (y : Handle) (z : Held) (reply : Reply) → read_held s.tables y ≡ z → IsAnswered s (done (edited s h y)) reply t → (reply ≡ Done) × (reading t ≡ held_set (reading s) h z)
 edit-taken s t h y z reply e i = done-taken s (edited s h y) t (held_set (reading s) h z) reply (entries-edited s h y) (reads-edited s h y z e) i
 
 -- what a handle without block shows
@@ -68,7 +69,7 @@ reads-detached g len = reads-empty g (move.detached len) refl
 
 -- ---- tests
 
-pub by-test : (P Q : Type 0) (s t : State) (a b : Outcome) (reply : Reply) (v : Bool) → (v ≡ true → IsTaken s a reply t → P) → (v ≡ false → IsTaken s b reply t → Q) → IsTaken s (cond v a b) reply t → MatchBool v P Q
+pub by-test : (P Q : Type 0) (s t : State) (a b : Outcome) (reply : Reply) (v : Bool) → (v ≡ true → IsAnswered s a reply t → P) → (v ≡ false → IsAnswered s b reply t → Q) → IsAnswered s (cond v a b) reply t → MatchBool v P Q
 by-test P Q s t a b reply true f g i = f refl i
 by-test P Q s t a b reply false f g i = g refl i
 
@@ -83,12 +84,12 @@ eq-true m n e = grind (arith, nat_tests, e)
 
 -- ---- Static
 
-pub static-steps : (s t : State) (len : ℕ) (reply : Reply) → IsTaken s (move.static_of s len) reply t → NoRoom (reading s) reply (reading t) ⊎ Makes (reading s) (world.detached len) reply (reading t)
+pub static-steps : (s t : State) (len : ℕ) (reply : Reply) → IsAnswered s (move.static_of s len) reply t → NoRoom (reading s) reply (reading t) ⊎ Makes (reading s) (world.detached len) reply (reading t)
 static-steps s t len reply i = made-taken s s t (reading s) (move.detached len) 0 (world.detached len) reply refl (reads-detached s.tables len) i
 
 -- ---- Put
 
-put-lent : (s t : State) (h n : ℕ) (reply : Reply) (r : Result Handle Refusal) → IsSound s → lend_of s h Mut ≡ r → IsTaken s (move.put_lent s h n r) reply t → world.PutIs (reading s) h n (read_lent s.tables r) reply (reading t)
+put-lent : (s t : State) (h n : ℕ) (reply : Reply) (r : Result Handle Refusal) → IsSound s → lend_of s h Mut ≡ r → IsAnswered s (move.put_lent s h n r) reply t → world.PutIs (reading s) h n (read_lent s.tables r) reply (reading t)
 put-lent s t h n reply (Err why) k e i = refused-taken s t why reply i
 put-lent s t h n reply (Ok x) k e i =
     let l = lend-tells s h Mut x e in
@@ -97,7 +98,7 @@ put-lent s t h n reply (Ok x) k e i =
     (λ _ i. refused-taken s t OutOfRange reply i)
     (λ _ i. edit-taken s t h (record x { len = x.len + n }) (record { kind = x.kind; block = owner_of s.tables x; place = x.ptr; len = x.len + n }) reply (rw o refl) i) i)
 
-pub put-steps : (s t : State) (h n : ℕ) (reply : Reply) → IsSound s → IsTaken s (move.put_of s h n) reply t → world.PutIs (reading s) h n (world.alone_of (reading s) h Mut) reply (reading t)
+pub put-steps : (s t : State) (h n : ℕ) (reply : Reply) → IsSound s → IsAnswered s (move.put_of s h n) reply t → world.PutIs (reading s) h n (world.alone_of (reading s) h Mut) reply (reading t)
 put-steps s t h n reply k i = rw (alone-reads s h Mut) (put-lent s t h n reply (lend_of s h Mut) k refl i)
 
 -- ---- Advance
@@ -115,7 +116,7 @@ any-tells s h x e =
     ] in
     by (handle_at s h) refl e
 
-advance-lent : (s t : State) (h n : ℕ) (reply : Reply) (r : Result Handle Refusal) → IsSound s → move.any_of s h ≡ r → IsTaken s (move.advance_lent s h n r) reply t → world.AdvanceIs (reading s) h n (read_lent s.tables r) reply (reading t)
+advance-lent : (s t : State) (h n : ℕ) (reply : Reply) (r : Result Handle Refusal) → IsSound s → move.any_of s h ≡ r → IsAnswered s (move.advance_lent s h n r) reply t → world.AdvanceIs (reading s) h n (read_lent s.tables r) reply (reading t)
 advance-lent s t h n reply (Err why) k e i = refused-taken s t why reply i
 advance-lent s t h n reply (Ok x) k e i =
     let l = any-tells s h x e in
@@ -124,5 +125,5 @@ advance-lent s t h n reply (Ok x) k e i =
     (λ v i. let o = owner-advanced s.tables x n (lt-false x.len n v) (within s h x k l.at) in
     edit-taken s t h (move.advanced x n) (record { kind = x.kind; block = owner_of s.tables x; place = x.ptr + n; len = x.len - n }) reply (rw o refl) i) i
 
-pub advance-steps : (s t : State) (h n : ℕ) (reply : Reply) → IsSound s → IsTaken s (move.advance_of s h n) reply t → world.AdvanceIs (reading s) h n (world.any_of (reading s) h) reply (reading t)
+pub advance-steps : (s t : State) (h n : ℕ) (reply : Reply) → IsSound s → IsAnswered s (move.advance_of s h n) reply t → world.AdvanceIs (reading s) h n (world.any_of (reading s) h) reply (reading t)
 advance-steps s t h n reply k i = rw (any-reads s h) (advance-lent s t h n reply (move.any_of s h) k refl i)

@@ -64,8 +64,8 @@ pub(super) fn detached() -> Handle
 impl Machine {
     /// The handle of this number, where it was given and isn't gone.
     pub(super) fn find(&self, h: usize) -> Option<Handle>
-        ensures value { result ≡ handle_at self.now h }
-        ensures sound { IsSound self.now }
+        ensures value { result ≡ handle_at self.now.state h }
+        ensures sound { IsSound self.now.state }
     {
         if h < self.handles.len() {
             self.handles[h]
@@ -76,9 +76,9 @@ impl Machine {
 
     /// The handle, for a call that must have it alone.
     pub(super) fn lend(&self, h: usize, kind: Kind) -> Result<Handle, Refusal>
-        ensures value { result ≡ lend_of self.now h kind }
-        ensures sound { IsSound self.now }
-        ensures lends { IfOk result (Lends self.now h kind) }
+        ensures value { result ≡ lend_of self.now.state h kind }
+        ensures sound { IsSound self.now.state }
+        ensures lends { IfOk result (Lends self.now.state h kind) }
         ensures ends { IfOk result (λ x. x.ptr + x.len < 2 ^ 64) }
     {
         let Some(x) = self.find(h) else {
@@ -95,9 +95,9 @@ impl Machine {
 
     /// The same where either kind may be given.
     pub(super) fn lend_any(&self, h: usize) -> Result<Handle, Refusal>
-        ensures value { result ≡ any_of self.now h }
-        ensures sound { IsSound self.now }
-        ensures lends { IfOk result (λ x. Lends self.now h x.kind x) }
+        ensures value { result ≡ any_of self.now.state h }
+        ensures sound { IsSound self.now.state }
+        ensures lends { IfOk result (λ x. Lends self.now.state h x.kind x) }
     {
         let Some(x) = self.find(h) else {
             return Err(Refusal::NoHandle);
@@ -110,9 +110,9 @@ impl Machine {
 
     /// The same for a handle that has a block.
     pub(super) fn lend_owning(&self, h: usize) -> Result<Handle, Refusal>
-        ensures value { result ≡ owning_of self.now h }
-        ensures sound { IsSound self.now }
-        ensures lends { IfOk result (λ x. Lends self.now h x.kind x) }
+        ensures value { result ≡ owning_of self.now.state h }
+        ensures sound { IsSound self.now.state }
+        ensures lends { IfOk result (λ x. Lends self.now.state h x.kind x) }
     {
         let Some(x) = self.find(h) else {
             return Err(Refusal::NoHandle);
@@ -128,34 +128,34 @@ impl Machine {
 
     /// The record of this number.
     pub(super) fn record(&self, r: usize) -> Record
-        requires { r < length self.now.tables.records }
-        ensures { result ≡ record_at self.now.tables r }
+        requires { r < length self.now.state.tables.records }
+        ensures { result ≡ record_at self.now.state.tables r }
     {
         self.records[r]
     }
 
     /// The block of this number.
     pub(super) fn block(&self, b: usize) -> Block
-        requires { b < length self.now.tables.blocks }
-        ensures { result ≡ block_at self.now.tables b }
+        requires { b < length self.now.state.tables.blocks }
+        ensures { result ≡ block_at self.now.state.tables b }
     {
         self.blocks[b]
     }
 
     /// The number of the block that a handle was made on, 0 where there was none.
     pub(super) fn origin(&self, h: usize) -> usize
-        requires { h < length self.now.handles }
-        ensures { result ≡ origin_at self.now h }
+        requires { h < length self.now.state.handles }
+        ensures { result ≡ origin_at self.now.state h }
     {
         self.origins[h]
     }
 
     /// The number of the block of a handle with a descriptor.
     pub(super) fn owned(&self, h: usize, x: Handle, word: u64) -> usize
-        requires at { handle_at self.now h ≡ Some x }
+        requires at { handle_at self.now.state h ≡ Some x }
         requires word { x.word ≡ Descriptor word }
-        ensures owner { owner_of self.now.tables x ≡ Some result }
-        ensures number { result ≡ owned_by self.now.tables x }
+        ensures owner { owner_of self.now.state.tables x ≡ Some result }
+        ensures number { result ≡ owned_by self.now.state.tables x }
     {
         self.origins[h]
     }

@@ -1,8 +1,8 @@
-use Rattle.std.proofs.Common.{◌≡◌, Option, Some, None, sym, subst}
+use Rattle.std.proofs.Common.{◌≡◌, Option, Some, None, sym, subst, ap}
 use Rattle.iobufs_owner.specs.declared.owner.types.Pending.{Pending}
 use Rattle.iobufs_owner.specs.declared.owner.types.Pending.TheVariants.{Add}
 use Rattle.iobufs_owner.specs.Inside.{state_of}
-use Rattle.iobufs_owner.specs.State.{State, call_at}
+use Rattle.iobufs_owner.specs.State.{State, Seen, call_at}
 use Rattle.iobufs_owner.proofs.Edits.{counted-at, live-inside}
 use Rattle.iobufs_owner.proofs.Kept.{at-some}
 use Rattle.iobufs_owner.proofs.Shares.{IsQuiet, quiet-none, quiet-add, sound-called, adding}
@@ -10,12 +10,12 @@ use Rattle.iobufs_owner.proofs.owner.Machine.add.Goals as goal
 
 pub record-record-requires : goal.record-record-requires
 record-record-requires c =
-    let a = adding c.args.self.now c.args.party c.args.range c.args.r c.find.ensures.sound c.requires in
-    live-inside c.args.self.now.tables.records c.args.r (counted-at c.args.self.now c.args.range.handle a.0 c.args.r c.find.ensures.sound a.1.shares.at a.1.word).live
+    let a = adding c.args.self.now.state c.args.party c.args.range c.args.r c.find.ensures.sound c.requires in
+    live-inside c.args.self.now.state.tables.records c.args.r (counted-at c.args.self.now.state c.args.range.handle a.0 c.args.r c.find.ensures.sound a.1.shares.at a.1.word).live
 
 pub invariant_of-self : goal.invariant_of-self
 invariant_of-self c =
     let s : State = state_of c.self.inside in
     let k = c.self.invariant in
-    let at = subst (λ (s : State). call_at s c.args.party ≡ Some (Add c.args.range c.args.r)) (sym c.self.view_is) c.requires in
+    let at = subst (λ (s : State). call_at s c.args.party ≡ Some (Add c.args.range c.args.r)) (sym (ap (λ (m : Seen). m.state) c.self.view_is)) c.requires in
     record { sound = sound-called s c.args.party None k.sound (at-some s.calls c.args.party (Add c.args.range c.args.r) at) (subst (λ (o : Option Pending). IsQuiet s o) (sym at) (quiet-add s c.args.range c.args.r)) (quiet-none s) tt; block_room = k.block_room; record_room = k.record_room }

@@ -1,9 +1,9 @@
-use Rattle.std.proofs.Common.{◌<◌, length, sym, subst, arith}
+use Rattle.std.proofs.Common.{◌<◌, length, sym, subst, arith, ap}
 use Rattle.std.proofs.lemmas.List.{get_or_read}
 use Rattle.iobufs_owner.specs.declared.owner.types.Kind.TheVariants.{View}
 use Rattle.iobufs_owner.specs.Inside.{state_of}
 use Rattle.iobufs_owner.specs.Moves.{Lends}
-use Rattle.iobufs_owner.specs.State.{State}
+use Rattle.iobufs_owner.specs.State.{State, Seen}
 use Rattle.iobufs_owner.proofs.Kept.{at-some}
 use Rattle.iobufs_owner.proofs.Split.{sound-split_empty}
 use Rattle.iobufs_owner.proofs.owner.Machine.split_empty.Goals as goal
@@ -12,7 +12,7 @@ pub invariant_of-self-2 : goal.invariant_of-self-2
 invariant_of-self-2 c =
     let s : State = state_of c.self.inside in
     let k = c.self.invariant in
-    let t = subst (λ (s : State). Lends s c.args.h View c.args.x) (sym c.self.view_is) c.requires.lent in
+    let t = subst (λ (s : State). Lends s c.args.h View c.args.x) (sym (ap (λ (m : Seen). m.state) c.self.view_is)) c.requires.lent in
     let l : c.args.h < length c.self.inside.origins.items = (let m = at-some s.handles c.args.h c.args.x t.at in let q = k.sound.size.origins in omega arith) in
-    let org = get_or_read c.self.inside.origins.items c.args.h c.index-origin.result.now l (rw c.in_ok-reserve-2.ensures.items at c.index-origin.ensures) 0 in
-    record { sound = rw (c.put_last.ensures.items, c.in_ok-reserve.ensures.items, c.part.ensures, c.part-2.ensures, c.put_last-2.ensures.items, c.in_ok-reserve-2.ensures.items, org) (sound-split_empty s c.args.h _ c.args.at c.args.x k.sound t c.requires.word c.requires.within (omega arith)); block_room = k.block_room; record_room = k.record_room }
+    let org = get_or_read c.self.inside.origins.items c.args.h c.index-origin.result.now l (rw c.in_ok-room_for_handle.ensures.origins at c.index-origin.ensures) 0 in
+    record { sound = rw (c.push_reserved.ensures.items, c.in_ok-room_for_handle.ensures.handles, c.part.ensures, c.part-2.ensures, c.push_reserved-2.ensures.items, c.in_ok-room_for_handle.ensures.origins, org) (sound-split_empty s c.args.h _ c.args.at c.args.x k.sound t c.requires.word c.requires.within (omega (arith, c.in_ok-room_for_handle.ensures.few))); block_room = k.block_room; record_room = k.record_room }
