@@ -61,12 +61,12 @@ loaded-as : (s t : State) (p : ℕ) (k : Share) (w : ℕ) (x : Handle) (memory :
 loaded-as s t p k w x true reply i y =
     let e = recorded-keeps s.tables 2 (block_held s k.handle) in
     elim (grown-taken s (called (with_record s 2 (block_held s k.handle)) p (Some (Ready k w (next_record s)))) t (call_set (reading s) p (Some (Sharing k.handle k.lo k.hi 2))) More reply (called-kept s (recorded s.tables 2 (block_held s k.handle)) p (Some (Ready k w (next_record s))) i e refl) y) [
-      | inl a ↦ inr (inr (inl (refl, a)))
+      | inl a ↦ inr (inr (inl (refl, refl, a)))
       | inr a ↦ inr (inl (2, omega arith, omega arith, a))
     ]
 loaded-as s t p k w x false reply i y =
     let a = reply-taken s (called s p None) t (call_set (reading s) p None) (Refused Memory) reply refl (called-reads s p None) y in
-    inl (refl, a.0, a.1)
+    inl (refl, refl, a.0, a.1)
 
 pub loaded-goes : (s t : State) (p : ℕ) (k : Share) (w : ℕ) (memory : Bool) (reply : Reply) → IsSound s → call_at s p ≡ Some (Loaded k w) → IsAnswered s (gone_on s p (Loaded k w) memory) reply t → Goes (reading s) p (Sharing k.handle k.lo k.hi 3) memory reply (reading t)
 unfolding Goes gone_on
@@ -96,7 +96,7 @@ race-as s t p k w r x memory reply (Descriptor u) i a e y =
           let front : Handle = part x k.lo k.hi (Counted r) in
           let of = owner-counted s.tables front r refl ∙ ap Some a.same ∙ sym ow in
           let never : IsOver (reading s) (owner_of s.tables x) → ⊥ = subst (λ (o : Option ℕ). IsOver (reading s) o → ⊥) (sym ow) (λ z. omega (arith, z, one, c)) in
-          inr (inr (inr (inr (never, made-taken s (called (edited s k.handle (by_record x r)) p None) t (call_set (reading s) p None) front (record_at s.tables r).block (part_of (read_held s.tables x) k.lo k.hi) reply (shown-reads s p k w r x i a) (ap (λ (b : Option ℕ). record { kind = View; block = b; place = x.ptr + k.lo; len = k.hi - k.lo }) of) y')))))
+          inr (inr (inr (inr (never, omega arith, made-taken s (called (edited s k.handle (by_record x r)) p None) t (call_set (reading s) p None) front (record_at s.tables r).block (part_of (read_held s.tables x) k.lo k.hi) reply (shown-reads s p k w r x i a) (ap (λ (b : Option ℕ). record { kind = View; block = b; place = x.ptr + k.lo; len = k.hi - k.lo }) of) y')))))
       | inr z ↦ absurd (let q = sym e ∙ z.1 in cc)
     ]
 race-as s t p k w r x memory reply (Counted winner) i a e y =
@@ -127,7 +127,7 @@ add-as s t p k r x memory reply false i a e y =
     let front : Handle = part x k.lo k.hi (Counted r) in
     let of = owner-counted g' front r refl ∙ ap Some (counted-block s.tables r ((record_at s.tables r).count + 1) r) ∙ sym (owner-counted s.tables x r a.word) in
     let never : IsOver (reading s) (owner_of s.tables x) → ⊥ = subst (λ (o : Option ℕ). IsOver (reading s) o → ⊥) (sym (owner-counted s.tables x r a.word)) (λ z. omega (arith, z, n, m)) in
-    inr (inr (inr (inr (never, made-taken s (called (with_count s r ((record_at s.tables r).count + 1)) p None) t (call_set (reading s) p None) front (record_at (counted s.tables r ((record_at s.tables r).count + 1)) r).block (part_of (read_held s.tables x) k.lo k.hi) reply (called-kept s (counted s.tables r ((record_at s.tables r).count + 1)) p None i (counted-keeps s.tables r ((record_at s.tables r).count + 1)) refl) (ap (λ (b : Option ℕ). record { kind = View; block = b; place = x.ptr + k.lo; len = k.hi - k.lo }) of) y))))
+    inr (inr (inr (inr (never, omega arith, made-taken s (called (with_count s r ((record_at s.tables r).count + 1)) p None) t (call_set (reading s) p None) front (record_at (counted s.tables r ((record_at s.tables r).count + 1)) r).block (part_of (read_held s.tables x) k.lo k.hi) reply (called-kept s (counted s.tables r ((record_at s.tables r).count + 1)) p None i (counted-keeps s.tables r ((record_at s.tables r).count + 1)) refl) (ap (λ (b : Option ℕ). record { kind = View; block = b; place = x.ptr + k.lo; len = k.hi - k.lo }) of) y))))
 
 pub add-goes : (s t : State) (p : ℕ) (k : Share) (r : ℕ) (memory : Bool) (reply : Reply) → IsSound s → call_at s p ≡ Some (Add k r) → IsAnswered s (gone_on s p (Add k r) memory) reply t → Goes (reading s) p (Sharing k.handle k.lo k.hi 1) memory reply (reading t)
 unfolding Goes gone_on

@@ -1,5 +1,5 @@
 -- SplitTo, read as a step of the world.
-use Rattle.std.proofs.Common.{◌≡◌, ◌⊎◌, inl, inr, ℕ, ◌+◌, ◌-◌, Bool, true, false, cond, nat_lt, nat_eq, length, Option, Some, Result, Ok, Err, ap, sym, ◌∙◌, subst, refl, arith}
+use Rattle.std.proofs.Common.{◌≡◌, ◌⊎◌, inl, inr, ℕ, ◌+◌, ◌-◌, Bool, true, false, cond, nat_lt, nat_eq, length, Option, Some, Result, Ok, Err, ap, sym, ◌∙◌, subst, refl, arith, IsSome}
 use Rattle.std.proofs.lemmas.List.{map-set}
 use Rattle.iobufs_owner.specs.declared.owner.types.Handle.{Handle}
 use Rattle.iobufs_owner.specs.declared.owner.types.Kind.TheVariants.{View}
@@ -32,7 +32,7 @@ abbrev Splits : State → (h at : ℕ) → Handle → Bool → Option ℕ → Re
 Splits s h at x memory o reply next =
     (IsOver (reading s) o × Refuses (reading s) Ceiling reply next)
     ⊎ ((IsOver (reading s) o → ⊥)
-    × (Denied (reading s) memory reply next ⊎ NoRoom (reading s) reply next
+    × (Denied (reading s) o memory reply next ⊎ NoRoom (reading s) reply next
     ⊎ Makes (held_set (reading s) h (part_of (read_held s.tables x) at x.len)) (part_of (read_held s.tables x) 0 at) reply next))
 
 room-or-made : (P Q R : Type 0) → Q ⊎ R → P ⊎ Q ⊎ R
@@ -46,7 +46,7 @@ counted-reads s h r n y z k e =
     let cs = calls-read-kept s (counted s.tables r n) s.calls q k.calls_fit in
     rw (map-set (read_handle (counted s.tables r n)) s.handles h (Some y), hs, cs, e) refl
 
-split-described : (s t : State) (h at v : ℕ) (x : Handle) (memory : Bool) (reply : Reply) → IsSound s → Lends s h View x → x.word ≡ Descriptor v → IsAnswered s (move.split_by s h at memory x (Descriptor v)) reply t → Denied (reading s) memory reply (reading t) ⊎ NoRoom (reading s) reply (reading t) ⊎ Makes (held_set (reading s) h (part_of (read_held s.tables x) at x.len)) (part_of (read_held s.tables x) 0 at) reply (reading t)
+split-described : (s t : State) (h at v : ℕ) (x : Handle) (memory : Bool) (reply : Reply) → IsSound s → Lends s h View x → x.word ≡ Descriptor v → IsAnswered s (move.split_by s h at memory x (Descriptor v)) reply t → Denied (reading s) (owner_of s.tables x) memory reply (reading t) ⊎ NoRoom (reading s) reply (reading t) ⊎ Makes (held_set (reading s) h (part_of (read_held s.tables x) at x.len)) (part_of (read_held s.tables x) 0 at) reply (reading t)
 split-described s t h at v x true reply k l w i =
     let d = described-at s h x v k l.at w in
     let n : owned_by s.tables x ≡ d.0 = rw d.3.owner refl in
@@ -58,7 +58,9 @@ split-described s t h at v x true reply k l w i =
     let zb : read_held g' back ≡ part_of (read_held s.tables x) at x.len = ap (λ (b : Option ℕ). record { kind = View; block = b; place = x.ptr + at; len = x.len - at }) ob in
     let zf : read_held g' front ≡ part_of (read_held s.tables x) 0 at = ap (λ (b : Option ℕ). record { kind = View; block = b; place = x.ptr + 0; len = at - 0 }) of in
     inr (made-taken s (edited (promoted s x 2) h back) t (held_set (reading s) h (part_of (read_held s.tables x) at x.len)) front (origin_at s h) (part_of (read_held s.tables x) 0 at) reply (promoted-reads s h (owned_by s.tables x) 2 x back (part_of (read_held s.tables x) at x.len) k l.at zb) zf i)
-split-described s t h at v x false reply k l w i = inl (refl, refused-taken s t Memory reply i)
+split-described s t h at v x false reply k l w i =
+    let d = described-at s h x v k l.at w in
+    inl (subst IsSome (sym d.3.owner) refl, refl, refused-taken s t Memory reply i)
 
 split-counted : (s t : State) (h at r : ℕ) (x : Handle) (memory : Bool) (reply : Reply) (u : Bool) → IsSound s → Lends s h View x → x.word ≡ Counted r → nat_lt s.ceiling (record_at s.tables r).count ≡ u → IsAnswered s (cond u (refused s Ceiling) (move.split_with (with_count s r ((record_at s.tables r).count + 1)) h at x (Counted r))) reply t → Splits s h at x memory (Some (record_at s.tables r).block) reply (reading t)
 split-counted s t h at r x memory reply true k l w e i =
@@ -97,7 +99,7 @@ split-word s t h at x memory reply (Descriptor v) k l w i =
     let one = alone-at s h x d.0 k l.at (alone-described s.tables d.0 x v w ∙ ap (is_block d.0) d.3.owner ∙ is-eqb d.0 d.0 refl) in
     let c = k.size.ceiling in
     subst (λ (o : Option ℕ). Splits s h at x memory o reply (reading t)) (sym d.3.owner)
-    (inr (λ z. omega (arith, z, one, c), split-described s t h at v x memory reply k l w i))
+    (inr (λ z. omega (arith, z, one, c), subst (λ (o : Option ℕ). Denied (reading s) o memory reply (reading t) ⊎ NoRoom (reading s) reply (reading t) ⊎ Makes (held_set (reading s) h (part_of (read_held s.tables x) at x.len)) (part_of (read_held s.tables x) 0 at) reply (reading t)) d.3.owner (split-described s t h at v x memory reply k l w i)))
 split-word s t h at x memory reply (Counted r) k l w i =
     subst (λ (o : Option ℕ). Splits s h at x memory o reply (reading t)) (sym (owner-counted s.tables x r w)) (split-counted s t h at r x memory reply (nat_lt s.ceiling (record_at s.tables r).count) k l w refl i)
 
