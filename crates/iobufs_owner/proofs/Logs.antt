@@ -61,7 +61,7 @@ is_logged-append : (q : ℕ) (log : List ℕ) (r : ℕ) → is_logged q (log ++ 
 is_logged-append q [] r = elim (q == r) as (λ v. (v || false) ≡ (false || v)) [ true ↦ refl | false ↦ refl ]
 is_logged-append q (x ∷ log) r = rw (is_logged-append q log r) (elim (q == x) as (λ v. (v || (is_logged q log || (q == r))) ≡ ((v || is_logged q log) || (q == r))) [ true ↦ refl | false ↦ refl ])
 
-logged-at : (log : List ℕ) (i d : ℕ) → i < length log → is_logged (get_or log i d) log ≡ true
+pub logged-at : (log : List ℕ) (i d : ℕ) → i < length log → is_logged (get_or log i d) log ≡ true
 logged-at [] i d l = absurd (omega arith)
 logged-at (r ∷ log) zero d l = rw (is-eqb r r refl) refl
 logged-at (r ∷ log) (suc i) d l = rw (logged-at log i d (omega arith)) (or-all (get_or log i d == r))
