@@ -17,7 +17,7 @@ use Rattle.iobufs_owner.specs.State.{State, Tables, owner_of, handle_at, call_at
 use Rattle.iobufs_owner.specs.World.{World, Held, Sharing, Dropping, reading, read_held, read_handle, read_call, is_block}
 use Rattle.iobufs_owner.specs.Sound.{IsSound, FitsCall, hidden}
 use Rattle.iobufs_owner.specs.Moves as move
-use Rattle.iobufs_owner.specs.Moves.{Outcome, called, ended, more, done, edited, part, shared, made, counted, with_count, with_record, record_freed, both_freed, next_record, block_held, dead, ready_of, race_of, add_of, subtract_of, release_of, gone_on}
+use Rattle.iobufs_owner.specs.Moves.{Outcome, called, ended, more, done, edited, part, shared, made, counted, with_count, with_record, record_freed, both_freed, next_record, loaded_block, dead, ready_of, race_of, add_of, subtract_of, release_of, gone_on}
 use Rattle.iobufs_owner.specs.Steps as world
 use Rattle.iobufs_owner.specs.Steps.{NoRoom, Makes, IsOver, GoesOn, SharesOn, Goes, call_set, free_in, part_of, held_set}
 use Rattle.iobufs_owner.proofs.Sizes.{IsAnswered, entries, grows-never}
@@ -59,8 +59,8 @@ GoesAs s p k left memory o reply next = SharesOn (reading s) p k.handle k.lo k.h
 
 loaded-as : (s t : State) (p : ℕ) (k : Share) (w : ℕ) (x : Handle) (memory : Bool) (reply : Reply) → IsSound s → IsAnswered s (ready_of s p k w memory) reply t → GoesAs s p k 3 memory (Some x) reply (reading t)
 loaded-as s t p k w x true reply i y =
-    let e = recorded-keeps s.tables 2 (block_held s k.handle) in
-    elim (grown-taken s (called (with_record s 2 (block_held s k.handle)) p (Some (Ready k w (next_record s)))) t (call_set (reading s) p (Some (Sharing k.handle k.lo k.hi 2))) More reply (called-kept s (recorded s.tables 2 (block_held s k.handle)) p (Some (Ready k w (next_record s))) i e refl) y) [
+    let e = recorded-keeps s.tables 2 (loaded_block s k.handle w) in
+    elim (grown-taken s (called (with_record s 2 (loaded_block s k.handle w)) p (Some (Ready k w (next_record s)))) t (call_set (reading s) p (Some (Sharing k.handle k.lo k.hi 2))) More reply (called-kept s (recorded s.tables 2 (loaded_block s k.handle w)) p (Some (Ready k w (next_record s))) i e refl) y) [
       | inl a ↦ inr (inr (inl (refl, refl, a)))
       | inr a ↦ inr (inl (2, omega arith, omega arith, a))
     ]

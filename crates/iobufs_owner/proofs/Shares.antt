@@ -7,7 +7,7 @@ use Rattle.std.proofs.lemmas.Bool.Decides.{nat_tests, eqb_tells}
 use Rattle.iobufs_owner.specs.State.{State, Tables, owner_of, record_at, block_at, handle_at, call_at}
 use Rattle.iobufs_owner.specs.World.{holds, holders, users, still_holds, drops, is_block, reading, read_handle, read_call, tally}
 use Rattle.iobufs_owner.specs.Sound.{IsSound, Fits, FitsWord, FitsCall, FitsRecord, Shares, Promised, IsDescribed, LiesIn, alone, describes, hidden, readies, releases}
-use Rattle.iobufs_owner.specs.Moves.{held_found, block_held, borrows_it, counted, with_count, called, with_record, record_freed, dead, edited, with_handle, part}
+use Rattle.iobufs_owner.specs.Moves.{loaded_found, loaded_block, borrows_it, counted, with_count, called, with_record, record_freed, dead, edited, with_handle, part}
 use Rattle.iobufs_owner.specs.declared.owner.types.Record.{Record}
 use Rattle.iobufs_owner.specs.declared.owner.types.Handle.{Handle}
 use Rattle.iobufs_owner.specs.declared.owner.types.Share.{Share}
@@ -608,14 +608,14 @@ sound-added-call s p r k x i at h low few =
     sound-called s1 p None one (at-some s.calls p (Add k r) at) (subst (λ (c : Option Pending). IsQuiet s1 c) (sym at) (quiet-add s1 k r)) (quiet-none s1) tt
 
 -- the block of a loaded call
-pub held-loading : (s : State) (p : ℕ) (k : Share) (w : ℕ) → IsSound s → call_at s p ≡ Some (Loaded k w) → (x : Handle) × IsLoading s k w x (block_held s k.handle)
+pub held-loading : (s : State) (p : ℕ) (k : Share) (w : ℕ) → IsSound s → call_at s p ≡ Some (Loaded k w) → (x : Handle) × IsLoading s k w x (loaded_block s k.handle w)
 held-loading s p k w i at =
     let l = loading s p k w i at in
-    let e : block_held s k.handle ≡ l.1 = ap (λ (o : Option Handle). held_found s o) l.2.shares.at ∙ ap (λ (o : Option ℕ). unwrap_or o 0) l.2.promised.owner in
+    let e : loaded_block s k.handle w ≡ l.1 = ap (λ (o : Option Handle). loaded_found s w o) l.2.shares.at ∙ ap (λ (o : Option ℕ). unwrap_or o 0) l.2.promised.says.owner in
     (l.0, subst (λ (n : ℕ). IsLoading s k w l.0 n) (sym e) l.2)
 
-pub origin-held : (s : State) (p : ℕ) (k : Share) (w n : ℕ) → IsSound s → call_at s p ≡ Some (Loaded k w) → n ≡ get_or s.origins k.handle n → n ≡ block_held s k.handle
+pub origin-held : (s : State) (p : ℕ) (k : Share) (w n : ℕ) → IsSound s → call_at s p ≡ Some (Loaded k w) → n ≡ get_or s.origins k.handle n → n ≡ loaded_block s k.handle w
 origin-held s p k w n i at e =
     let l = held-loading s p k w i at in
     let m : k.handle < length s.origins = (let q = at-some s.handles k.handle l.0 l.1.shares.at in let z = i.size.origins in omega arith) in
-    get_or_read s.origins k.handle n m e 0 ∙ i.made_on k.handle (block_held s k.handle) l.0 l.1.shares.at l.1.promised.owner
+    get_or_read s.origins k.handle n m e 0 ∙ i.made_on k.handle (loaded_block s k.handle w) l.0 l.1.shares.at l.1.promised.owner

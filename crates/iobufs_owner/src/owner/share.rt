@@ -5,7 +5,7 @@ ghost use Rattle.iobufs_owner.specs.declared.owner.types.Word.TheVariants.{Empty
 ghost use Rattle.iobufs_owner.specs.declared.owner.types.Pending.TheVariants.{Loaded, Ready, Add};
 ghost use Rattle.iobufs_owner.specs.declared.owner.types.Reply.TheVariants.{More};
 ghost use Rattle.iobufs_owner.specs.Moves as move;
-ghost use Rattle.iobufs_owner.specs.Moves.{Took, called, edited, record_freed, shared, with_count, share_by, clone_of, slice_of, ready_of, race_of, add_of, block_held};
+ghost use Rattle.iobufs_owner.specs.Moves.{Took, called, edited, record_freed, shared, with_count, share_by, clone_of, slice_of, ready_of, race_of, add_of};
 ghost use Rattle.iobufs_owner.specs.Sound.{IsSound, Shares};
 ghost use Rattle.iobufs_owner.specs.State.{handle_at, call_at, record_at};
 
@@ -132,7 +132,7 @@ impl Machine {
     /// The number of the block that a loaded descriptor describes.
     fn loaded_block(&self, party: usize, range: Share, word: u64) -> usize
         requires { call_at self.now.state party ≡ Some (Loaded range word) }
-        ensures { result ≡ block_held self.now.state range.handle }
+        ensures { result ≡ move.loaded_block self.now.state range.handle word }
     {
         self.origins[range.handle]
     }

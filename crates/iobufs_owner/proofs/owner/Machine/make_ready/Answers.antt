@@ -2,7 +2,7 @@ use Rattle.std.proofs.Common.{◌≡◌, Option, Some, None, length, length-appe
 use Rattle.iobufs_owner.specs.declared.owner.types.Pending.{Pending}
 use Rattle.iobufs_owner.specs.declared.owner.types.Pending.TheVariants.{Loaded}
 use Rattle.iobufs_owner.specs.Inside.{state_of}
-use Rattle.iobufs_owner.specs.Moves.{block_held}
+use Rattle.iobufs_owner.specs.Moves.{loaded_block}
 use Rattle.iobufs_owner.specs.State.{State, Seen, call_at}
 use Rattle.iobufs_owner.proofs.Kept.{at-some}
 use Rattle.iobufs_owner.proofs.Shares.{IsQuiet, quiet-none, quiet-loaded, sound-called, held-loading, sound-readied}
@@ -21,10 +21,10 @@ invariant_of-self-2 c =
     let k = c.self.invariant in
     let at = subst (λ (s : State). call_at s c.args.party ≡ Some (Loaded c.args.range c.args.word)) (sym (ap (λ (m : Seen). m.state) c.self.view_is)) c.requires in
     let l = held-loading s c.args.party c.args.range c.args.word k.sound at in
-    let b = subst (λ (s : State). c.loaded_block-block.result ≡ block_held s c.args.range.handle) (sym (ap (λ (m : Seen). m.state) c.self.view_is)) c.loaded_block-block.ensures in
+    let b = subst (λ (s : State). c.loaded_block-block.result ≡ loaded_block s c.args.range.handle c.args.word) (sym (ap (λ (m : Seen). m.state) c.self.view_is)) c.loaded_block-block.ensures in
     let r : c.len-r.result ≡ length c.self.inside.records.items = omega (arith, c.len-r.ensures, c.in_ok-room_for_record.ensures.len) in
     record {
-      sound = rw (c.push_reserved.ensures.items, c.in_ok-room_for_record.ensures.records, c.in_ok-room_for_record.ensures.freed, r, b) (sound-readied s c.args.party c.args.range c.args.word (block_held s c.args.range.handle) l.0 k.sound at l.1 (omega (arith, c.in_ok-room_for_record.ensures.few)));
+      sound = rw (c.push_reserved.ensures.items, c.in_ok-room_for_record.ensures.records, c.in_ok-room_for_record.ensures.freed, r, b) (sound-readied s c.args.party c.args.range c.args.word (loaded_block s c.args.range.handle c.args.word) l.0 k.sound at l.1 (omega (arith, c.in_ok-room_for_record.ensures.few)));
       block_room = k.block_room;
       record_room = rw (c.push_reserved.ensures.items, c.in_ok-room_for_record.ensures.records, length-append) (omega (arith, c.in_ok-room_for_record.ensures.freed_room));
     }
