@@ -1,5 +1,5 @@
 -- New and External, read as steps of the world.
-use Rattle.std.proofs.Common.{◌≡◌, ◌⊎◌, inl, inr, ℕ, ◌^◌, Bool, true, false, [], ◌∷◌, ◌++◌, length, map, Option, Some, ap, sym, ◌∙◌, subst, refl, MatchBool}
+use Rattle.std.proofs.Common.{◌≡◌, ◌⊎◌, inl, inr, ℕ, ◌^◌, Bool, true, false, cond, [], ◌∷◌, ◌++◌, length, map, Option, Some, ap, sym, ◌∙◌, subst, refl, MatchBool}
 use Rattle.std.proofs.lemmas.List.{map-append}
 use Rattle.iobufs_owner.specs.declared.owner.types.Block.{Block}
 use Rattle.iobufs_owner.specs.declared.owner.types.Handle.{Handle}
@@ -12,7 +12,7 @@ use Rattle.iobufs_owner.specs.State.{State, Tables, owner_of}
 use Rattle.iobufs_owner.specs.World.{reading, read_held, is_freed}
 use Rattle.iobufs_owner.specs.Sound.{IsSound}
 use Rattle.iobufs_owner.specs.Places.{IsGoodPlace}
-use Rattle.iobufs_owner.specs.Word.{word_of}
+use Rattle.iobufs_owner.specs.Word.{HasRoom, word_of}
 use Rattle.iobufs_owner.specs.Moves as move
 use Rattle.iobufs_owner.specs.Moves.{Outcome, refused, block_of, first_handle, whole_view, described_of, recorded_of, with_block, with_record, next_record}
 use Rattle.iobufs_owner.specs.Steps as world
@@ -24,6 +24,7 @@ use Rattle.iobufs_owner.proofs.Frames.{grown, grown-keeps, handles-kept}
 use Rattle.iobufs_owner.proofs.Logs.{fresh-log}
 use Rattle.iobufs_owner.proofs.Made.{other-base, first-owner}
 use Rattle.iobufs_owner.proofs.Recorded.{recorded-new, both, both-keeps}
+use Rattle.iobufs_owner.proofs.Words.{fits-room, fits-true}
 use Rattle.iobufs_owner.proofs.Taken.{refused-taken, made-taken}
 
 -- one block more isn't freed
@@ -54,21 +55,26 @@ recorded-made s t b x reply k good w i =
     let z : read_held g' x ≡ record { kind = x.kind; block = Some (length s.tables.blocks); place = x.ptr; len = x.len } = ap (λ (o : Option ℕ). record { kind = x.kind; block = o; place = x.ptr; len = x.len }) o in
     made-taken s (with_record (with_block s b) 1 (length s.tables.blocks)) t (block_more (reading s) b) x (length s.tables.blocks) (record { kind = x.kind; block = Some (length s.tables.blocks); place = x.ptr; len = x.len }) reply (recorded-reads s b k good) z i
 
-new-placed : (s t : State) (base size log : ℕ) (o : Outcome) (reply : Reply) → IsSound s → IsGoodPlace s.tables.blocks base size (2 ^ log) → move.placed s base size log o → IsAnswered s o reply t → NoRoom (reading s) reply (reading t) ⊎ Makes (block_more (reading s) (native_block base size (2 ^ log))) (record { kind = Mut; block = Some (length s.tables.blocks); place = base; len = 0 }) reply (reading t)
-new-placed s t base size log o reply k good (inl (room, e)) i =
+new-placed : (s t : State) (base size log : ℕ) (o : Outcome) (reply : Reply) → IsSound s → IsGoodPlace s.tables.blocks base size (2 ^ log) → (v : Bool) → move.fits_in s.tables size log 0 ≡ v → o ≡ cond v (described_of s (block_of base size (2 ^ log) false) (word_of s.tables.align_bits s.tables.tail_bits size log 0)) (recorded_of s (block_of base size (2 ^ log) false) (first_handle (block_of base size (2 ^ log) false) (Counted (next_record s)))) → IsAnswered s o reply t → NoRoom (reading s) reply (reading t) ⊎ Makes (block_more (reading s) (native_block base size (2 ^ log))) (record { kind = Mut; block = Some (length s.tables.blocks); place = base; len = 0 }) reply (reading t)
+new-placed s t base size log o reply k good true f e i =
+    let room = fits-room s.tables.align_bits s.tables.tail_bits s.tables.size_bits size log 0 f in
     let b : Block = block_of base size (2 ^ log) false in
     let w : ℕ = word_of s.tables.align_bits s.tables.tail_bits size log 0 in
     let x : Handle = first_handle (block_of base size (2 ^ log) false) (Descriptor w) in
     let own = first-owner s.tables b log w k.blocks.places good room refl in
     let z : read_held (grown s.tables b) x ≡ record { kind = Mut; block = Some (length s.tables.blocks); place = base; len = 0 } = ap (λ (o : Option ℕ). record { kind = Mut; block = o; place = base; len = 0 }) own in
     made-taken s (with_block s b) t (block_more (reading s) b) x (length s.tables.blocks) (record { kind = Mut; block = Some (length s.tables.blocks); place = base; len = 0 }) reply (described-reads s b k good) z (subst (λ (o : Outcome). IsAnswered s o reply t) e i)
-new-placed s t base size log o reply k good (inr (never, e)) i =
+new-placed s t base size log o reply k good false f e i =
     recorded-made s t (block_of base size (2 ^ log) false) (first_handle (block_of base size (2 ^ log) false) (Counted (next_record s))) reply k good refl (subst (λ (o : Outcome). IsAnswered s o reply t) e i)
 
-new-good : (s t : State) (base size align : ℕ) (memory : Bool) (o : Outcome) (reply : Reply) → IsSound s → IsGoodPlace s.tables.blocks base size align → MatchBool memory ((log : ℕ) × (align ≡ 2 ^ log) × move.placed s base size log o) (o ≡ refused s Memory) → IsAnswered s o reply t → MatchBool memory (NoRoom (reading s) reply (reading t) ⊎ Makes (block_more (reading s) (native_block base size align)) (record { kind = Mut; block = Some (length s.tables.blocks); place = base; len = 0 }) reply (reading t)) (Refuses (reading s) Memory reply (reading t))
+-- a word that describes the block
+pub described-placed : (s : State) (base size align log w : ℕ) → align ≡ 2 ^ log → HasRoom s.tables.align_bits s.tables.tail_bits s.tables.size_bits size log 0 → w ≡ word_of s.tables.align_bits s.tables.tail_bits size log 0 → described_of s (block_of base size align false) w ≡ move.placed s base size log
+described-placed s base size align log w e room is = rw (e, is, fits-true s.tables.align_bits s.tables.tail_bits s.tables.size_bits size log 0 room) refl
+
+new-good : (s t : State) (base size align : ℕ) (memory : Bool) (o : Outcome) (reply : Reply) → IsSound s → IsGoodPlace s.tables.blocks base size align → MatchBool memory ((log : ℕ) × (align ≡ 2 ^ log) × (o ≡ move.placed s base size log)) (o ≡ refused s Memory) → IsAnswered s o reply t → MatchBool memory (NoRoom (reading s) reply (reading t) ⊎ Makes (block_more (reading s) (native_block base size align)) (record { kind = Mut; block = Some (length s.tables.blocks); place = base; len = 0 }) reply (reading t)) (Refuses (reading s) Memory reply (reading t))
 new-good s t base size align true o reply k good (log, e, p) i =
     subst (λ (a : ℕ). NoRoom (reading s) reply (reading t) ⊎ Makes (block_more (reading s) (native_block base size a)) (record { kind = Mut; block = Some (length s.tables.blocks); place = base; len = 0 }) reply (reading t)) (sym e)
-    (new-placed s t base size log o reply k (subst (λ (a : ℕ). IsGoodPlace s.tables.blocks base size a) e good) p i)
+    (new-placed s t base size log o reply k (subst (λ (a : ℕ). IsGoodPlace s.tables.blocks base size a) e good) (move.fits_in s.tables size log 0) refl p i)
 new-good s t base size align false o reply k good e i = refused-taken s t Memory reply (subst (λ (o : Outcome). IsAnswered s o reply t) e i)
 
 pub new-steps : (s t : State) (base size align : ℕ) (memory : Bool) (o : Outcome) (reply : Reply) → IsSound s → move.IsNew s base size align memory o → IsAnswered s o reply t → world.NewIs (reading s) (native_block base size align) (record { kind = Mut; block = Some (length s.tables.blocks); place = base; len = 0 }) memory reply (reading t)
