@@ -135,3 +135,7 @@ fits-false a t s size log tail n =
       | false ↦ λ e. refl
     ] in
     by (fits a t s size log tail) refl
+
+pub fits-iff : (a t s size log tail : ℕ) (v : Bool) → ((v ≡ true) ↔ HasRoom a t s size log tail) → v ≡ fits a t s size log tail
+fits-iff a t s size log tail true i = sym (fits-true a t s size log tail (i.0 refl))
+fits-iff a t s size log tail false i = sym (fits-false a t s size log tail (λ r. (let e = i.1 r in absurd (cc))))
