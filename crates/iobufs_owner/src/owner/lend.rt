@@ -1,35 +1,33 @@
 //! Handles as a call asks for them: there, of the right kind, and not borrowed.
-ghost use Rattle.std.specs.Prelude.{◌≡◌, ℕ, ◌+◌, ◌^◌, ◌<◌, ◌≤◌, length, IfOk, Some};
+ghost use Rattle.std.specs.Prelude.{◌≡◌, ℕ, ◌+◌, ◌-◌, ◌^◌, ◌<◌, ◌≤◌, length, slice_index_or, slice_set, vec_capacity, IfOk, IfSome, Some};
 ghost use Rattle.iobufs_owner.specs.declared.owner.types.Word.TheVariants.{Descriptor};
 ghost use Rattle.iobufs_owner.specs.Moves as move;
-ghost use Rattle.iobufs_owner.specs.Moves.{borrows_it, is_lent, lend_of, any_of, owning_of, Lends};
+ghost use Rattle.iobufs_owner.specs.Moves.{is_lent, lend_of, any_of, owning_of, Lends};
 ghost use Rattle.iobufs_owner.specs.Sound.{IsSound};
 ghost use Rattle.iobufs_owner.specs.State.{handle_at, origin_at, record_at, block_at, owner_of, owned_by};
 
-use crate::owner::{Block, Handle, Kind, Machine, Pending, Record, Refusal, Word};
+use crate::owner::{Block, Handle, Kind, Machine, Record, Refusal, Word};
 
-/// Whether a call borrows the handle.
-fn borrows(call: &Option<Pending>, h: usize) -> bool
-    ensures { result ≡ borrows_it h call.now }
+/// One borrow more of a handle.
+pub(super) fn borrow_more(borrows: &mut Vec<usize>, h: usize)
+    requires known { h < length borrows.old.items }
+    requires few { slice_index_or borrows.old.items h 0 < 2 ^ 63 }
+    ensures items { borrows.new.items
+        ≡ slice_set borrows.old.items h (slice_index_or borrows.old.items h 0 + 1) }
+    ensures capacity { vec_capacity borrows.new ≡ vec_capacity borrows.old }
 {
-    match call {
-        Some(Pending::Loaded(share, _) | Pending::Ready(share, _, _) | Pending::Add(share, _)) => {
-            share.handle == h
-        }
-        _ => false,
-    }
+    borrows[h] += 1;
 }
 
-/// Whether one of the calls borrows the handle.
-fn lent(calls: &[Option<Pending>], h: usize) -> bool
-    ensures { result ≡ is_lent h calls.now }
+/// One borrow less of a handle.
+pub(super) fn borrow_less(borrows: &mut Vec<usize>, h: usize)
+    requires known { h < length borrows.old.items }
+    requires some { 0 < slice_index_or borrows.old.items h 0 }
+    ensures items { borrows.new.items
+        ≡ slice_set borrows.old.items h (slice_index_or borrows.old.items h 0 - 1) }
+    ensures capacity { vec_capacity borrows.new ≡ vec_capacity borrows.old }
 {
-    for call in calls {
-        if borrows(call, h) {
-            return true;
-        }
-    }
-    false
+    borrows[h] -= 1;
 }
 
 /// The bytes `lo` to `hi` of a view as a view, which owns what the word says.
@@ -62,9 +60,18 @@ pub(super) fn detached() -> Handle
 }
 
 impl Machine {
+    /// Whether an unfinished call borrows the handle.
+    fn is_lent(&self, h: usize) -> bool
+        requires { h < length self.now.state.handles }
+        ensures { result ≡ is_lent h self.now.state.calls }
+    {
+        self.borrows[h] != 0
+    }
+
     /// The handle of this number, where it was given and isn't gone.
     pub(super) fn find(&self, h: usize) -> Option<Handle>
         ensures value { result ≡ handle_at self.now.state h }
+        ensures known { IfSome result (λ _. h < length self.now.state.handles) }
         ensures sound { IsSound self.now.state }
     {
         if h < self.handles.len() {
@@ -87,7 +94,7 @@ impl Machine {
         if x.kind != kind {
             return Err(Refusal::WrongKind);
         }
-        if lent(&self.calls, h) {
+        if self.is_lent(h) {
             return Err(Refusal::Borrowed);
         }
         Ok(x)
@@ -102,7 +109,7 @@ impl Machine {
         let Some(x) = self.find(h) else {
             return Err(Refusal::NoHandle);
         };
-        if lent(&self.calls, h) {
+        if self.is_lent(h) {
             return Err(Refusal::Borrowed);
         }
         Ok(x)
@@ -120,7 +127,7 @@ impl Machine {
         if let Word::Empty = x.word {
             return Err(Refusal::WrongKind);
         }
-        if lent(&self.calls, h) {
+        if self.is_lent(h) {
             return Err(Refusal::Borrowed);
         }
         Ok(x)

@@ -130,7 +130,7 @@ impl Machine {
     pub(super) fn add_detached(&mut self, len: u64) -> Result<Reply, AllocError>
         ensures { Took self.old (made self.old.state (detached len) 0) result self.new }
     {
-        room_for_handle(&mut self.handles, &mut self.origins)?;
+        room_for_handle(&mut self.handles, &mut self.origins, &mut self.borrows)?;
         let h = self.handles.len();
         self.handles.push_reserved(Some(Handle {
             kind: Kind::View,
@@ -140,6 +140,7 @@ impl Machine {
             word: Word::Empty,
         }));
         self.origins.push_reserved(0);
+        self.borrows.push_reserved(0);
         Ok(Reply::Made(h))
     }
 
@@ -149,7 +150,7 @@ impl Machine {
         ensures { Took self.old (described_of self.old.state block word) result self.new }
     {
         room_for_block(&mut self.blocks, &mut self.freed_blocks)?;
-        room_for_handle(&mut self.handles, &mut self.origins)?;
+        room_for_handle(&mut self.handles, &mut self.origins, &mut self.borrows)?;
         let h = self.handles.len();
         self.origins.push_reserved(self.blocks.len());
         self.blocks.push_reserved(block);
@@ -160,6 +161,7 @@ impl Machine {
             cap: block.size,
             word: Word::Descriptor(word),
         }));
+        self.borrows.push_reserved(0);
         Ok(Reply::Made(h))
     }
 
@@ -173,7 +175,7 @@ impl Machine {
     {
         room_for_block(&mut self.blocks, &mut self.freed_blocks)?;
         room_for_record(&mut self.records, &mut self.freed_records)?;
-        room_for_handle(&mut self.handles, &mut self.origins)?;
+        room_for_handle(&mut self.handles, &mut self.origins, &mut self.borrows)?;
         let h = self.handles.len();
         let number = self.blocks.len();
         self.blocks.push_reserved(block);
@@ -184,6 +186,7 @@ impl Machine {
         });
         self.handles.push_reserved(Some(x));
         self.origins.push_reserved(number);
+        self.borrows.push_reserved(0);
         Ok(Reply::Made(h))
     }
 }

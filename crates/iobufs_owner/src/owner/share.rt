@@ -9,7 +9,7 @@ ghost use Rattle.iobufs_owner.specs.Moves.{Took, called, edited, record_freed, s
 ghost use Rattle.iobufs_owner.specs.Sound.{IsSound, Shares};
 ghost use Rattle.iobufs_owner.specs.State.{handle_at, call_at, record_at};
 
-use crate::owner::lend::part;
+use crate::owner::lend::{borrow_less, borrow_more, part};
 use crate::owner::room::{room_for_handle, room_for_record};
 use crate::owner::{Handle, Kind, Machine, Pending, Record, Refusal, Reply, Share, Word};
 use std::alloc::AllocError;
@@ -95,11 +95,12 @@ impl Machine {
         requires word { x.word ≡ Empty }
         ensures { Took self.old (move.made self.old.state (move.part x range.lo range.hi Empty) 0) result self.new }
     {
-        room_for_handle(&mut self.handles, &mut self.origins)?;
+        room_for_handle(&mut self.handles, &mut self.origins, &mut self.borrows)?;
         let new = self.handles.len();
         self.handles
             .push_reserved(Some(part(x, range.lo, range.hi, Word::Empty)));
         self.origins.push_reserved(0);
+        self.borrows.push_reserved(0);
         Ok(Reply::Made(new))
     }
 
@@ -112,6 +113,7 @@ impl Machine {
         ensures reply { result ≡ More }
         ensures state { self.new.state ≡ called self.old.state party (Some (Loaded range word)) }
     {
+        borrow_more(&mut self.borrows, range.handle);
         self.calls[party] = Some(Pending::Loaded(range, word));
         Reply::More
     }
@@ -125,6 +127,7 @@ impl Machine {
         ensures reply { result ≡ More }
         ensures state { self.new.state ≡ called self.old.state party (Some (Add range r)) }
     {
+        borrow_more(&mut self.borrows, range.handle);
         self.calls[party] = Some(Pending::Add(range, r));
         Reply::More
     }
@@ -149,6 +152,7 @@ impl Machine {
         ensures { Took self.old (ready_of self.old.state party range word memory) result self.new }
     {
         if !memory {
+            borrow_less(&mut self.borrows, range.handle);
             self.calls[party] = None;
             return Ok(Reply::Refused(Refusal::Memory));
         }
@@ -202,7 +206,7 @@ impl Machine {
             result self.new }
     {
         let block = self.record(r).block;
-        room_for_handle(&mut self.handles, &mut self.origins)?;
+        room_for_handle(&mut self.handles, &mut self.origins, &mut self.borrows)?;
         let new = self.handles.len();
         self.handles[range.handle] = Some(Handle {
             word: Word::Record(r),
@@ -211,6 +215,8 @@ impl Machine {
         self.handles
             .push_reserved(Some(part(x, range.lo, range.hi, Word::Record(r))));
         self.origins.push_reserved(block);
+        self.borrows.push_reserved(0);
+        borrow_less(&mut self.borrows, range.handle);
         self.calls[party] = None;
         Ok(Reply::Made(new))
     }
@@ -251,6 +257,7 @@ impl Machine {
         };
         let record = self.record(r);
         if record.count > self.ceiling {
+            borrow_less(&mut self.borrows, range.handle);
             self.calls[party] = None;
             return Ok(Reply::Refused(Refusal::Ceiling));
         }
@@ -273,7 +280,7 @@ impl Machine {
             result self.new }
     {
         let record = self.record(r);
-        room_for_handle(&mut self.handles, &mut self.origins)?;
+        room_for_handle(&mut self.handles, &mut self.origins, &mut self.borrows)?;
         let new = self.handles.len();
         self.records[r] = Record {
             count: record.count + 1,
@@ -282,6 +289,8 @@ impl Machine {
         self.handles
             .push_reserved(Some(part(x, range.lo, range.hi, Word::Record(r))));
         self.origins.push_reserved(record.block);
+        self.borrows.push_reserved(0);
+        borrow_less(&mut self.borrows, range.handle);
         self.calls[party] = None;
         Ok(Reply::Made(new))
     }

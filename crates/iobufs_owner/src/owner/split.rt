@@ -42,12 +42,13 @@ impl Machine {
         ensures { Took self.old
             (made (edited self.old.state h (move.detached 0)) x (origin_at self.old.state h)) result self.new }
     {
-        room_for_handle(&mut self.handles, &mut self.origins)?;
+        room_for_handle(&mut self.handles, &mut self.origins, &mut self.borrows)?;
         let new = self.handles.len();
         let origin = self.origins[h];
         self.handles[h] = Some(detached());
         self.handles.push_reserved(Some(x));
         self.origins.push_reserved(origin);
+        self.borrows.push_reserved(0);
         Ok(Reply::Made(new))
     }
 
@@ -59,13 +60,14 @@ impl Machine {
         requires ends { x.ptr + x.len < 2 ^ 64 }
         ensures { Took self.old (move.split_with self.old.state h at x Empty) result self.new }
     {
-        room_for_handle(&mut self.handles, &mut self.origins)?;
+        room_for_handle(&mut self.handles, &mut self.origins, &mut self.borrows)?;
         let new = self.handles.len();
         let origin = self.origins[h];
         self.handles[h] = Some(part(x, at, x.len, Word::Empty));
         self.handles
             .push_reserved(Some(part(x, 0, at, Word::Empty)));
         self.origins.push_reserved(origin);
+        self.borrows.push_reserved(0);
         Ok(Reply::Made(new))
     }
 
@@ -89,7 +91,7 @@ impl Machine {
         }
         let block = self.owned(h, x, word);
         room_for_record(&mut self.records, &mut self.freed_records)?;
-        room_for_handle(&mut self.handles, &mut self.origins)?;
+        room_for_handle(&mut self.handles, &mut self.origins, &mut self.borrows)?;
         let new = self.handles.len();
         let r = self.records.len();
         let origin = self.origins[h];
@@ -102,6 +104,7 @@ impl Machine {
         self.handles
             .push_reserved(Some(part(x, 0, at, Word::Record(r))));
         self.origins.push_reserved(origin);
+        self.borrows.push_reserved(0);
         Ok(Reply::Made(new))
     }
 
@@ -117,7 +120,7 @@ impl Machine {
         if record.count > self.ceiling {
             return Ok(Reply::Refused(Refusal::Ceiling));
         }
-        room_for_handle(&mut self.handles, &mut self.origins)?;
+        room_for_handle(&mut self.handles, &mut self.origins, &mut self.borrows)?;
         let new = self.handles.len();
         let origin = self.origins[h];
         self.records[r] = Record {
@@ -128,6 +131,7 @@ impl Machine {
         self.handles
             .push_reserved(Some(part(x, 0, at, Word::Record(r))));
         self.origins.push_reserved(origin);
+        self.borrows.push_reserved(0);
         Ok(Reply::Made(new))
     }
 }

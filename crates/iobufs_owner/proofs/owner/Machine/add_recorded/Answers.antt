@@ -5,6 +5,7 @@ use Rattle.iobufs_owner.specs.Places.{IsGoodPlace}
 use Rattle.iobufs_owner.specs.Moves.{next_record}
 use Rattle.iobufs_owner.specs.declared.owner.types.Word.TheVariants.{Record as Counted}
 use Rattle.iobufs_owner.proofs.Recorded.{sound-recorded}
+use Rattle.iobufs_owner.proofs.Borrows.{kept-pushed, counts-pushed}
 use Rattle.iobufs_owner.proofs.owner.Machine.add_recorded.Goals as goal
 
 pub invariant_of-self-2 : goal.invariant_of-self-2
@@ -18,4 +19,6 @@ invariant_of-self-2 c =
       sound = rw (c.push_reserved-3.ensures.items, c.in_ok-room_for_handle.ensures.handles, c.push_reserved-2.ensures.items, c.in_ok-room_for_record.ensures.records, c.push_reserved.ensures.items, c.in_ok-room_for_block.ensures.blocks, c.push_reserved-4.ensures.items, c.in_ok-room_for_handle.ensures.origins, c.in_ok-room_for_block.ensures.freed, c.in_ok-room_for_record.ensures.freed, n) (sound-recorded s c.args.block c.args.x k.sound good word c.requires.lies c.requires.native (omega (arith, c.in_ok-room_for_block.ensures.few, c.in_ok-room_for_handle.ensures.few, c.in_ok-room_for_record.ensures.few)) (omega (arith, c.in_ok-room_for_block.ensures.few, c.in_ok-room_for_handle.ensures.few, c.in_ok-room_for_record.ensures.few)) (omega (arith, c.in_ok-room_for_block.ensures.few, c.in_ok-room_for_handle.ensures.few, c.in_ok-room_for_record.ensures.few)));
       block_room = rw (c.push_reserved.ensures.items, c.in_ok-room_for_block.ensures.blocks, length-append) (omega (arith, c.in_ok-room_for_block.ensures.freed_room));
       record_room = rw (c.push_reserved-2.ensures.items, c.in_ok-room_for_record.ensures.records, length-append) (omega (arith, c.in_ok-room_for_record.ensures.freed_room));
+      borrows_kept = rw (c.push_reserved-5.ensures.items, c.in_ok-room_for_handle.ensures.borrows, c.push_reserved-3.ensures.items, c.in_ok-room_for_handle.ensures.handles) (kept-pushed _ _ _ k.borrows_kept);
+      borrowed = rw (c.push_reserved-5.ensures.items, c.in_ok-room_for_handle.ensures.borrows) (counts-pushed c.self.inside.borrows.items c.self.inside.calls.items k.borrowed);
     }

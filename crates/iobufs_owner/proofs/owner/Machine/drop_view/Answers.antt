@@ -1,10 +1,13 @@
-use Rattle.std.proofs.Common.{◌≡◌, ◌<◌, None, length, nat_eq, sym, refl, subst, ap}
+use Rattle.std.proofs.Common.{◌≡◌, ◌<◌, None, length, nat_eq, sym, refl, subst, ap, Some, arith, ◌∙◌}
+use Rattle.std.proofs.Math.ListN.{length-set}
 use Rattle.iobufs_owner.specs.declared.owner.types.Kind.TheVariants.{View}
 use Rattle.iobufs_owner.specs.Inside.{state_of}
-use Rattle.iobufs_owner.specs.Moves.{Lends, after_count}
+use Rattle.iobufs_owner.specs.Moves.{borrows_it, Lends, after_count}
 use Rattle.iobufs_owner.specs.State.{State, Seen, call_at, record_at}
 use Rattle.iobufs_owner.proofs.Edits.{counted-at}
 use Rattle.iobufs_owner.proofs.Dropped.{sound-dropping, drop-after}
+use Rattle.iobufs_owner.proofs.Borrows.{counts-same, after-quiet}
+use Rattle.iobufs_owner.proofs.Kept.{at-some}
 use Rattle.iobufs_owner.proofs.owner.Machine.drop_view.Goals as goal
 
 pub invariant_of-self : goal.invariant_of-self
@@ -17,4 +20,4 @@ invariant_of-self c =
     let e = subst (λ (s : State). c.record-record.result ≡ record_at s.tables c.args.r) (sym (ap (λ (m : Seen). m.state) c.self.view_is)) c.record-record.ensures in
     let f = counted-at s c.args.h c.args.x c.args.r k.sound t.at c.requires.word in
     let d = drop-after s c.args.h c.args.r c.args.x (nat_eq (record_at s.tables c.args.r).count 1) k.sound t.at c.requires.word f.live f.shown refl in
-    record { sound = rw (c.after_count-next.ensures, e) (sound-dropping s c.args.party c.args.h c.args.r c.args.x (after_count (record_at s.tables c.args.r).count c.args.r) k.sound t.at c.requires.word t.kind_is t.free idle there d); block_room = k.block_room; record_room = k.record_room }
+    record { sound = rw (c.after_count-next.ensures, e) (sound-dropping s c.args.party c.args.h c.args.r c.args.x (after_count (record_at s.tables c.args.r).count c.args.r) k.sound t.at c.requires.word t.kind_is t.free idle there d); block_room = k.block_room; record_room = k.record_room; borrows_kept = rw length-set k.borrows_kept; borrowed = rw c.after_count-next.ensures (counts-same c.self.inside.borrows.items c.self.inside.calls.items c.args.party (Some (after_count c.record-record.result.count c.args.r)) there (λ h. ap (borrows_it h) idle ∙ sym (after-quiet h c.record-record.result.count c.args.r)) k.borrowed) }

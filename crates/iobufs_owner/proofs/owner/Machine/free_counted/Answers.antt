@@ -35,4 +35,6 @@ invariant_of-self c =
       sound = rw (c.push_reserved.ensures.items, c.push_reserved-2.ensures.items, e2, e1) (sound-freed_counted s c.args.h c.args.x c.args.r c.args.rest k.sound t.at t.free t.kind_is c.requires.word c.requires.rest);
       block_room = omega (arith, k.block_room, c.push_reserved.ensures.capacity);
       record_room = rw length-set (omega (arith, k.record_room, c.push_reserved-2.ensures.capacity));
+      borrows_kept = rw length-set k.borrows_kept;
+      borrowed = k.borrowed;
     }

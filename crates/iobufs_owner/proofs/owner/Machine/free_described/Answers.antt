@@ -1,4 +1,5 @@
 use Rattle.std.proofs.Common.{◌≡◌, ℕ, ◌∙◌, sym, ap, subst, arith}
+use Rattle.std.proofs.Math.ListN.{length-set}
 use Rattle.iobufs_owner.specs.Inside.{state_of}
 use Rattle.iobufs_owner.specs.Moves.{Lends}
 use Rattle.iobufs_owner.specs.State.{State, Seen, end_of, tail_in}
@@ -52,4 +53,6 @@ invariant_of-self c =
       sound = rw (c.push_reserved.ensures.items, e, c.unpack-fields.ensures.size, c.unpack-fields.ensures.align) (sound-freed_described s c.args.h c.args.x c.args.word c.args.rest k.sound t.at t.free c.requires.word c.requires.rest);
       block_room = omega (arith, k.block_room, c.push_reserved.ensures.capacity);
       record_room = k.record_room;
+      borrows_kept = rw length-set k.borrows_kept;
+      borrowed = k.borrowed;
     }

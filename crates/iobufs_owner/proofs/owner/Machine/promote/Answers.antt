@@ -1,4 +1,5 @@
 use Rattle.std.proofs.Common.{◌≡◌, Some, length, length-append, sym, subst, arith, ap}
+use Rattle.std.proofs.Math.ListN.{length-set}
 use Rattle.iobufs_owner.specs.declared.owner.types.Kind.TheVariants.{Mut}
 use Rattle.iobufs_owner.specs.Inside.{state_of}
 use Rattle.iobufs_owner.specs.Moves.{Lends}
@@ -17,4 +18,6 @@ invariant_of-self-2 c =
       sound = rw (c.frozen.ensures, c.push_reserved.ensures.items, c.in_ok-room_for_record.ensures.records, c.in_ok-room_for_record.ensures.freed, r) (sound-promoted-frozen s c.args.h c.args.x c.args.word c.owned-block.result k.sound t c.requires.word o (omega (arith, c.in_ok-room_for_record.ensures.few)));
       block_room = k.block_room;
       record_room = rw (c.push_reserved.ensures.items, c.in_ok-room_for_record.ensures.records, length-append) (omega (arith, c.in_ok-room_for_record.ensures.freed_room));
+      borrows_kept = rw length-set k.borrows_kept;
+      borrowed = k.borrowed;
     }

@@ -6,6 +6,7 @@ use Rattle.iobufs_owner.specs.Moves.{Lends}
 use Rattle.iobufs_owner.specs.State.{State, Seen, owner_of}
 use Rattle.iobufs_owner.proofs.Kept.{at-some}
 use Rattle.iobufs_owner.proofs.Split.{sound-split_described}
+use Rattle.iobufs_owner.proofs.Borrows.{kept-set-pushed, counts-pushed}
 use Rattle.iobufs_owner.proofs.owner.Machine.split_described.Goals as goal
 
 pub invariant_of-self-2 : goal.invariant_of-self-2
@@ -21,4 +22,6 @@ invariant_of-self-2 c =
       sound = rw (c.push_reserved-2.ensures.items, c.in_ok-room_for_handle.ensures.handles, c.part.ensures, c.part-2.ensures, c.push_reserved.ensures.items, c.in_ok-room_for_record.ensures.records, c.push_reserved-3.ensures.items, c.in_ok-room_for_handle.ensures.origins, org, c.in_ok-room_for_record.ensures.freed, r) (sound-split_described s c.args.h c.args.word c.owned-block.result c.args.at c.args.x k.sound t c.requires.word o c.requires.within (omega (arith, c.in_ok-room_for_handle.ensures.few, c.in_ok-room_for_record.ensures.few)) (omega (arith, c.in_ok-room_for_handle.ensures.few, c.in_ok-room_for_record.ensures.few)));
       block_room = k.block_room;
       record_room = rw (c.push_reserved.ensures.items, c.in_ok-room_for_record.ensures.records, length-append) (omega (arith, c.in_ok-room_for_record.ensures.freed_room));
+      borrows_kept = rw (c.push_reserved-4.ensures.items, c.in_ok-room_for_handle.ensures.borrows, c.push_reserved-2.ensures.items, c.in_ok-room_for_handle.ensures.handles) (kept-set-pushed _ _ _ _ _ k.borrows_kept);
+      borrowed = rw (c.push_reserved-4.ensures.items, c.in_ok-room_for_handle.ensures.borrows) (counts-pushed c.self.inside.borrows.items c.self.inside.calls.items k.borrowed);
     }
