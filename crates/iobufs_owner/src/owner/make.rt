@@ -30,28 +30,28 @@ fn is_place(base: u64, size: u64, align: u64) -> bool
     }
 }
 
-/// Whether a range touches none of the blocks.
-fn is_free(blocks: &[Block], base: u64, size: u64) -> bool
-    requires ends { base + size < 2 ^ 64 }
-    requires all_end { All (λ b. b.base + b.size < 2 ^ 64) blocks.now }
-    ensures yes { result ≡ true → All (λ b. ApartFrom b base size) blocks.now }
-    ensures no { result ≡ false → All (λ b. ApartFrom b base size) blocks.now → ⊥ }
-{
-    for b in blocks {
-        if b.base + b.size > base && base + size > b.base {
-            return false;
+impl Machine {
+    /// Whether a range touches none of the blocks. Of those that begin before its end only the last can reach into it.
+    fn is_free(&self, base: u64, size: u64) -> bool
+        requires { base + size < 2 ^ 64 }
+        ensures yes { result ≡ true → All (λ b. ApartFrom b base size) self.now.state.tables.blocks }
+        ensures no { result ≡ false → All (λ b. ApartFrom b base size) self.now.state.tables.blocks → ⊥ }
+    {
+        match self.places.range(..base + size).next_back() {
+            None => true,
+            Some((_, number)) => {
+                let last = self.blocks[*number];
+                last.base + last.size <= base
+            }
         }
     }
-    true
-}
 
-impl Machine {
     /// Whether a new block may lie here.
     fn is_good_place(&self, base: u64, size: u64, align: u64) -> bool
         ensures yes { result ≡ true → IsGoodPlace self.now.state.tables.blocks base size align }
         ensures no { result ≡ false → IsGoodPlace self.now.state.tables.blocks base size align → ⊥ }
     {
-        is_place(base, size, align) && is_free(&self.blocks, base, size)
+        is_place(base, size, align) && self.is_free(base, size)
     }
 
     /// A new block with a writable handle, which holds it by a descriptor where its fields fit, else by a record.
@@ -151,8 +151,10 @@ impl Machine {
     {
         room_for_block(&mut self.blocks, &mut self.freed_blocks)?;
         room_for_handle(&mut self.handles, &mut self.origins, &mut self.borrows)?;
+        let number = self.blocks.len();
+        self.places.insert(block.base, number)?;
         let h = self.handles.len();
-        self.origins.push_reserved(self.blocks.len());
+        self.origins.push_reserved(number);
         self.blocks.push_reserved(block);
         self.handles.push_reserved(Some(Handle {
             kind: Kind::Mut,
@@ -176,8 +178,9 @@ impl Machine {
         room_for_block(&mut self.blocks, &mut self.freed_blocks)?;
         room_for_record(&mut self.records, &mut self.freed_records)?;
         room_for_handle(&mut self.handles, &mut self.origins, &mut self.borrows)?;
-        let h = self.handles.len();
         let number = self.blocks.len();
+        self.places.insert(block.base, number)?;
+        let h = self.handles.len();
         self.blocks.push_reserved(block);
         self.records.push_reserved(Record {
             count: 1,

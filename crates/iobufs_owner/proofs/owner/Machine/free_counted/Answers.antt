@@ -36,5 +36,6 @@ invariant_of-self c =
       block_room = omega (arith, k.block_room, c.push_reserved.ensures.capacity);
       record_room = rw length-set (omega (arith, k.record_room, c.push_reserved-2.ensures.capacity));
       borrows_kept = rw length-set k.borrows_kept;
+      places = k.places;
       borrowed = k.borrowed;
     }

@@ -54,5 +54,6 @@ invariant_of-self c =
       block_room = omega (arith, k.block_room, c.push_reserved.ensures.capacity);
       record_room = k.record_room;
       borrows_kept = rw length-set k.borrows_kept;
+      places = k.places;
       borrowed = k.borrowed;
     }

@@ -17,7 +17,7 @@ invariant_of-self c =
     let s : State = state_of c.self.inside in
     let k = c.self.invariant in
     let at = subst (λ (s : State). call_at s c.args.party ≡ Some (Loaded c.args.range c.args.word)) (sym (ap (λ (m : Seen). m.state) c.self.view_is)) c.requires in
-    record { sound = sound-called s c.args.party None k.sound (at-some s.calls c.args.party (Loaded c.args.range c.args.word) at) (subst (λ (o : Option Pending). IsQuiet s o) (sym at) (quiet-loaded s c.args.range c.args.word)) (quiet-none s) tt; block_room = k.block_room; record_room = k.record_room; borrows_kept = rw (c.borrow_less.ensures.items, length-set) k.borrows_kept; borrowed = rw c.borrow_less.ensures.items (counts-less c.self.inside.borrows.items c.self.inside.calls.items c.args.party c.args.range.handle (Some (Loaded c.args.range c.args.word)) (let l = at-some s.handles c.args.range.handle _ (held-loading s c.args.party c.args.range c.args.word k.sound at).1.shares.at in let q = k.borrows_kept in omega (arith, l, q)) (at-some s.calls c.args.party (Loaded c.args.range c.args.word) at) at (λ j. refl) k.borrowed) }
+    record { sound = sound-called s c.args.party None k.sound (at-some s.calls c.args.party (Loaded c.args.range c.args.word) at) (subst (λ (o : Option Pending). IsQuiet s o) (sym at) (quiet-loaded s c.args.range c.args.word)) (quiet-none s) tt; block_room = k.block_room; record_room = k.record_room; borrows_kept = rw (c.borrow_less.ensures.items, length-set) k.borrows_kept; places = k.places; borrowed = rw c.borrow_less.ensures.items (counts-less c.self.inside.borrows.items c.self.inside.calls.items c.args.party c.args.range.handle (Some (Loaded c.args.range c.args.word)) (let l = at-some s.handles c.args.range.handle _ (held-loading s c.args.party c.args.range c.args.word k.sound at).1.shares.at in let q = k.borrows_kept in omega (arith, l, q)) (at-some s.calls c.args.party (Loaded c.args.range c.args.word) at) at (λ j. refl) k.borrowed) }
 
 pub invariant_of-self-2 : goal.invariant_of-self-2
 invariant_of-self-2 c =
@@ -32,6 +32,7 @@ invariant_of-self-2 c =
       block_room = k.block_room;
       record_room = rw (c.push_reserved.ensures.items, c.in_ok-room_for_record.ensures.records, length-append) (omega (arith, c.in_ok-room_for_record.ensures.freed_room));
       borrows_kept = k.borrows_kept;
+      places = k.places;
       borrowed = counts-same c.self.inside.borrows.items c.self.inside.calls.items c.args.party (Some (Ready c.args.range c.args.word c.len-r.result)) (at-some s.calls c.args.party (Loaded c.args.range c.args.word) at) (λ h. ap (borrows_it h) at) k.borrowed;
     }
 

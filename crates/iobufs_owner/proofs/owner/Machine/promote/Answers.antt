@@ -19,5 +19,6 @@ invariant_of-self-2 c =
       block_room = k.block_room;
       record_room = rw (c.push_reserved.ensures.items, c.in_ok-room_for_record.ensures.records, length-append) (omega (arith, c.in_ok-room_for_record.ensures.freed_room));
       borrows_kept = rw length-set k.borrows_kept;
+      places = k.places;
       borrowed = k.borrowed;
     }

@@ -23,5 +23,6 @@ invariant_of-self-2 c =
       block_room = k.block_room;
       record_room = rw (c.push_reserved.ensures.items, c.in_ok-room_for_record.ensures.records, length-append) (omega (arith, c.in_ok-room_for_record.ensures.freed_room));
       borrows_kept = rw (c.push_reserved-4.ensures.items, c.in_ok-room_for_handle.ensures.borrows, c.push_reserved-2.ensures.items, c.in_ok-room_for_handle.ensures.handles) (kept-set-pushed _ _ _ _ _ k.borrows_kept);
+      places = k.places;
       borrowed = rw (c.push_reserved-4.ensures.items, c.in_ok-room_for_handle.ensures.borrows) (counts-pushed c.self.inside.borrows.items c.self.inside.calls.items k.borrowed);
     }
