@@ -269,18 +269,17 @@ fn ample_memory(rt: HostRuntime) -> Result<(), Fail> {
 }
 
 // A block is made, filled, frozen, cloned by another party and dropped twice.
-fn life(n: usize) -> [Step; 10] {
-    let h = 2 * n;
+fn life(base: u64, first: usize, second: usize) -> [Step; 10] {
     [
-        begin(0, Call::New(64 * (n as u64 + 1), 64, 8)),
-        begin(0, Call::Put(h, 24)),
-        begin(0, Call::Freeze(h)),
-        begin(1, Call::Clone(h)),
+        begin(0, Call::New(base, 64, 8)),
+        begin(0, Call::Put(first, 24)),
+        begin(0, Call::Freeze(first)),
+        begin(1, Call::Clone(first)),
         go(1),
         go(1),
-        begin(0, Call::Drop(h)),
+        begin(0, Call::Drop(first)),
         go(0),
-        begin(1, Call::Drop(h + 1)),
+        begin(1, Call::Drop(second)),
         go(1),
     ]
 }
@@ -289,8 +288,8 @@ fn life(n: usize) -> [Step; 10] {
 #[test]
 fn long_run(rt: HostRuntime) -> Result<(), Fail> {
     let mut steps = Vec::new(rt.alloc());
-    for n in 0..40 {
-        steps.extend_from_slice(&life(n))?;
+    for n in 0..40_usize {
+        steps.extend_from_slice(&life(64 * (n as u64 + 1), 2 * n, 2 * n + 1))?;
     }
     let mut listed = Machine::new(rt.alloc(), 2, 9, FORMAT_64)?;
     let replies = listed.run(rt.alloc(), &steps)?;
