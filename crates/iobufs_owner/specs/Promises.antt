@@ -5,8 +5,9 @@ use Rattle.iobufs_owner.specs.declared.owner.types.Word.TheVariants.{Descriptor}
 use Rattle.iobufs_owner.specs.State as state
 use Rattle.iobufs_owner.specs.State.{State, handle_at, record_at, block_at, owner_of, triple}
 use Rattle.iobufs_owner.specs.Sound.{hidden, is_descriptor, is_logged}
-use Rattle.iobufs_owner.specs.Moves.{is_mut}
-use Rattle.iobufs_owner.specs.World.{holders, users, reading, is_freed}
+use Rattle.iobufs_owner.specs.Kinds.{is_mut}
+use Rattle.iobufs_owner.specs.World.{holders, users}
+use Rattle.iobufs_owner.specs.Reading.{reading, is_freed}
 
 -- a live record that isn't one of an unfinished promotion
 pub record IsPublished (s : State) (r : ℕ) : Type 0 where

@@ -5,10 +5,10 @@ use Rattle.iobufs_owner.specs.State.{State, Seen}
 use Rattle.iobufs_owner.specs.Places.{IsGoodPlace}
 use Rattle.iobufs_owner.specs.Moves.{next_record}
 use Rattle.iobufs_owner.specs.declared.owner.types.Word.TheVariants.{Record as Counted}
-use Rattle.iobufs_owner.proofs.Recorded.{sound-recorded}
-use Rattle.iobufs_owner.proofs.Borrows.{kept-pushed, counts-pushed}
-use Rattle.iobufs_owner.proofs.Finds.{known-more, known-same}
-use Rattle.iobufs_owner.proofs.Made.{other-base}
+use Rattle.iobufs_owner.proofs.Soundness.NewRecord.{sound-recorded}
+use Rattle.iobufs_owner.proofs.Soundness.Borrows.{kept-pushed, counts-pushed}
+use Rattle.iobufs_owner.proofs.Soundness.Finds.{known-more, known-same}
+use Rattle.iobufs_owner.proofs.Soundness.New.{other-base}
 use Rattle.iobufs_owner.proofs.owner.Machine.add_recorded.Goals as goal
 
 pub invariant_of-self-2 : goal.invariant_of-self-2

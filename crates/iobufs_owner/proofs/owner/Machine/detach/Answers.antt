@@ -4,7 +4,7 @@ use Rattle.iobufs_owner.specs.declared.owner.types.Kind.TheVariants.{Mut}
 use Rattle.iobufs_owner.specs.Inside.{state_of}
 use Rattle.iobufs_owner.specs.Moves.{Lends}
 use Rattle.iobufs_owner.specs.State.{State, Seen}
-use Rattle.iobufs_owner.proofs.Edits.{sound-detached_empty}
+use Rattle.iobufs_owner.proofs.Soundness.Edits.{sound-detached_empty}
 use Rattle.iobufs_owner.proofs.owner.Machine.detach.Goals as goal
 
 pub invariant_of-self : goal.invariant_of-self

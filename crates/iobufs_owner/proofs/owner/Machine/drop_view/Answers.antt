@@ -4,10 +4,10 @@ use Rattle.iobufs_owner.specs.declared.owner.types.Kind.TheVariants.{View}
 use Rattle.iobufs_owner.specs.Inside.{state_of}
 use Rattle.iobufs_owner.specs.Moves.{borrows_it, Lends, after_count}
 use Rattle.iobufs_owner.specs.State.{State, Seen, call_at, record_at}
-use Rattle.iobufs_owner.proofs.Edits.{counted-at}
-use Rattle.iobufs_owner.proofs.Dropped.{sound-dropping, drop-after}
-use Rattle.iobufs_owner.proofs.Borrows.{counts-same, after-quiet}
-use Rattle.iobufs_owner.proofs.Kept.{at-some}
+use Rattle.iobufs_owner.proofs.Soundness.Edits.{counted-at}
+use Rattle.iobufs_owner.proofs.Soundness.Drop.{sound-dropping, drop-after}
+use Rattle.iobufs_owner.proofs.Soundness.Borrows.{counts-same, after-quiet}
+use Rattle.iobufs_owner.proofs.Soundness.Kept.{at-some}
 use Rattle.iobufs_owner.proofs.owner.Machine.drop_view.Goals as goal
 
 pub invariant_of-self : goal.invariant_of-self

@@ -4,8 +4,8 @@ use Rattle.iobufs_owner.specs.declared.owner.types.Kind.TheVariants.{Mut}
 use Rattle.iobufs_owner.specs.Inside.{state_of}
 use Rattle.iobufs_owner.specs.Moves.{Lends}
 use Rattle.iobufs_owner.specs.State.{State, Seen, record_at, block_at}
-use Rattle.iobufs_owner.proofs.Edits.{counted-at}
-use Rattle.iobufs_owner.proofs.Freed.{counted-ends, sound-freed_counted}
+use Rattle.iobufs_owner.proofs.Soundness.Edits.{counted-at}
+use Rattle.iobufs_owner.proofs.Soundness.BlockFreed.{counted-ends, sound-freed_counted}
 use Rattle.iobufs_owner.proofs.owner.Machine.free_counted.Goals as goal
 
 pub push_reserved-requires : goal.push_reserved-requires

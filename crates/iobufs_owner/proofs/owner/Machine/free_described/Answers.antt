@@ -3,7 +3,7 @@ use Rattle.std.proofs.Math.ListN.{length-set}
 use Rattle.iobufs_owner.specs.Inside.{state_of}
 use Rattle.iobufs_owner.specs.Moves.{Lends}
 use Rattle.iobufs_owner.specs.State.{State, Seen, end_of, tail_in}
-use Rattle.iobufs_owner.proofs.Freed.{described-ends, sound-freed_described}
+use Rattle.iobufs_owner.proofs.Soundness.BlockFreed.{described-ends, sound-freed_described}
 use Rattle.iobufs_owner.proofs.owner.Machine.free_described.Goals as goal
 
 pub unpack-fields-requires : goal.unpack-fields-requires

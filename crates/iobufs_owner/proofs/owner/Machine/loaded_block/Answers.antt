@@ -3,7 +3,7 @@ use Rattle.iobufs_owner.specs.declared.owner.types.Pending.TheVariants.{Loaded}
 use Rattle.iobufs_owner.specs.Inside.{state_of}
 use Rattle.iobufs_owner.specs.Moves.{loaded_block}
 use Rattle.iobufs_owner.specs.State.{State, Seen, call_at}
-use Rattle.iobufs_owner.proofs.Shares.{origin-held}
+use Rattle.iobufs_owner.proofs.Soundness.Share.{origin-held}
 use Rattle.iobufs_owner.proofs.owner.Machine.loaded_block.Goals as goal
 
 pub returns : goal.returns

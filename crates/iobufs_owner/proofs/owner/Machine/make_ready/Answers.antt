@@ -5,11 +5,11 @@ use Rattle.iobufs_owner.specs.declared.owner.types.Pending.TheVariants.{Loaded, 
 use Rattle.iobufs_owner.specs.Inside.{state_of}
 use Rattle.iobufs_owner.specs.Moves.{borrows_it, loaded_block}
 use Rattle.iobufs_owner.specs.State.{State, Seen, call_at}
-use Rattle.iobufs_owner.proofs.Kept.{at-some}
-use Rattle.iobufs_owner.proofs.Shares.{IsQuiet, quiet-none, quiet-loaded, sound-called, held-loading, sound-readied}
-use Rattle.iobufs_owner.proofs.Frames.{is-eqb}
-use Rattle.iobufs_owner.proofs.Borrows.{counts-less, some-borrowed}
-use Rattle.iobufs_owner.proofs.Borrows.{counts-same}
+use Rattle.iobufs_owner.proofs.Soundness.Kept.{at-some}
+use Rattle.iobufs_owner.proofs.Soundness.Share.{IsQuiet, quiet-none, quiet-loaded, sound-called, held-loading, sound-readied}
+use Rattle.iobufs_owner.proofs.Soundness.Frames.{is-eqb}
+use Rattle.iobufs_owner.proofs.Soundness.Borrows.{counts-less, some-borrowed}
+use Rattle.iobufs_owner.proofs.Soundness.Borrows.{counts-same}
 use Rattle.iobufs_owner.proofs.owner.Machine.make_ready.Goals as goal
 
 pub invariant_of-self : goal.invariant_of-self

@@ -2,7 +2,7 @@ use Rattle.std.proofs.Common.{◌≡◌, ℕ, inl, inr, refl, ap, subst, false}
 use Rattle.iobufs_owner.specs.Moves.{refused, block_of, described_of, placed}
 use Rattle.iobufs_owner.specs.Inside.{state_of}
 use Rattle.iobufs_owner.specs.State.{State, Seen}
-use Rattle.iobufs_owner.proofs.News.{described-placed}
+use Rattle.iobufs_owner.proofs.WorldSteps.New.{described-placed}
 use Rattle.iobufs_owner.specs.declared.owner.types.Refusal.TheVariants.{BadPlace, Memory}
 use Rattle.iobufs_owner.proofs.owner.Machine.new_block.Goals as goal
 

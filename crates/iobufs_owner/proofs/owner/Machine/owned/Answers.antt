@@ -1,7 +1,7 @@
 use Rattle.std.proofs.Common.{◌≡◌, ℕ, Option, Some, sym, ap, subst, unwrap_or}
 use Rattle.iobufs_owner.specs.Inside.{state_of}
 use Rattle.iobufs_owner.specs.State.{State, Seen, handle_at, owner_of}
-use Rattle.iobufs_owner.proofs.Edits.{owned-at}
+use Rattle.iobufs_owner.proofs.Soundness.Edits.{owned-at}
 use Rattle.iobufs_owner.proofs.owner.Machine.owned.Goals as goal
 
 pub returns-clause-owner : goal.returns-clause-owner

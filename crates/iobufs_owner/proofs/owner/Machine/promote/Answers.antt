@@ -4,7 +4,7 @@ use Rattle.iobufs_owner.specs.declared.owner.types.Kind.TheVariants.{Mut}
 use Rattle.iobufs_owner.specs.Inside.{state_of}
 use Rattle.iobufs_owner.specs.Moves.{Lends}
 use Rattle.iobufs_owner.specs.State.{State, Seen, owner_of}
-use Rattle.iobufs_owner.proofs.Recorded.{sound-promoted-frozen}
+use Rattle.iobufs_owner.proofs.Soundness.NewRecord.{sound-promoted-frozen}
 use Rattle.iobufs_owner.proofs.owner.Machine.promote.Goals as goal
 
 pub invariant_of-self-2 : goal.invariant_of-self-2

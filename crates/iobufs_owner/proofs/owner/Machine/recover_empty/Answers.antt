@@ -4,7 +4,7 @@ use Rattle.iobufs_owner.specs.declared.owner.types.Kind.TheVariants.{View}
 use Rattle.iobufs_owner.specs.Inside.{state_of}
 use Rattle.iobufs_owner.specs.Moves.{Lends}
 use Rattle.iobufs_owner.specs.State.{State, Seen}
-use Rattle.iobufs_owner.proofs.Edits.{sound-thawed_empty}
+use Rattle.iobufs_owner.proofs.Soundness.Edits.{sound-thawed_empty}
 use Rattle.iobufs_owner.proofs.owner.Machine.recover_empty.Goals as goal
 
 pub invariant_of-self : goal.invariant_of-self

@@ -3,10 +3,10 @@ use Rattle.iobufs_owner.specs.Inside.{state_of}
 use Rattle.iobufs_owner.specs.Moves.{part}
 use Rattle.iobufs_owner.specs.Sound.{Shares}
 use Rattle.iobufs_owner.specs.State.{State, Seen}
-use Rattle.iobufs_owner.proofs.Kept.{sound-detached}
-use Rattle.iobufs_owner.proofs.Edits.{empty-at}
+use Rattle.iobufs_owner.proofs.Soundness.Kept.{sound-detached}
+use Rattle.iobufs_owner.proofs.Soundness.Edits.{empty-at}
 use Rattle.iobufs_owner.specs.declared.owner.types.Word.TheVariants.{Empty}
-use Rattle.iobufs_owner.proofs.Borrows.{kept-pushed, counts-pushed}
+use Rattle.iobufs_owner.proofs.Soundness.Borrows.{kept-pushed, counts-pushed}
 use Rattle.iobufs_owner.proofs.owner.Machine.share_empty.Goals as goal
 
 pub invariant_of-self-2 : goal.invariant_of-self-2

@@ -5,10 +5,10 @@ use Rattle.iobufs_owner.specs.declared.owner.types.Kind.TheVariants.{View}
 use Rattle.iobufs_owner.specs.Inside.{state_of}
 use Rattle.iobufs_owner.specs.Moves.{Lends}
 use Rattle.iobufs_owner.specs.State.{State, Seen, record_at}
-use Rattle.iobufs_owner.proofs.Kept.{at-some}
-use Rattle.iobufs_owner.proofs.Edits.{counted-at, count-small}
-use Rattle.iobufs_owner.proofs.Split.{sound-split_counted}
-use Rattle.iobufs_owner.proofs.Borrows.{kept-set-pushed, counts-pushed}
+use Rattle.iobufs_owner.proofs.Soundness.Kept.{at-some}
+use Rattle.iobufs_owner.proofs.Soundness.Edits.{counted-at, count-small}
+use Rattle.iobufs_owner.proofs.Soundness.SplitTo.{sound-split_counted}
+use Rattle.iobufs_owner.proofs.Soundness.Borrows.{kept-set-pushed, counts-pushed}
 use Rattle.iobufs_owner.proofs.owner.Machine.split_counted.Goals as goal
 
 pub overflow_add-record : goal.overflow_add-record

@@ -4,9 +4,9 @@ use Rattle.iobufs_owner.specs.declared.owner.types.Kind.TheVariants.{View}
 use Rattle.iobufs_owner.specs.Inside.{state_of}
 use Rattle.iobufs_owner.specs.Moves.{Lends}
 use Rattle.iobufs_owner.specs.State.{State, Seen}
-use Rattle.iobufs_owner.proofs.Kept.{at-some}
-use Rattle.iobufs_owner.proofs.Split.{sound-split_empty}
-use Rattle.iobufs_owner.proofs.Borrows.{kept-set-pushed, counts-pushed}
+use Rattle.iobufs_owner.proofs.Soundness.Kept.{at-some}
+use Rattle.iobufs_owner.proofs.Soundness.SplitTo.{sound-split_empty}
+use Rattle.iobufs_owner.proofs.Soundness.Borrows.{kept-set-pushed, counts-pushed}
 use Rattle.iobufs_owner.proofs.owner.Machine.split_empty.Goals as goal
 
 pub invariant_of-self-2 : goal.invariant_of-self-2

@@ -1,9 +1,9 @@
 use Rattle.std.proofs.Common.{ap, subst}
 use Rattle.iobufs_owner.specs.State.{Seen}
 use Rattle.iobufs_owner.specs.Sound.{IsSound}
-use Rattle.iobufs_owner.proofs.Promised.{promises-of}
-use Rattle.iobufs_owner.proofs.Sizes.{taken-of}
-use Rattle.iobufs_owner.proofs.Stepping.{steps-of}
+use Rattle.iobufs_owner.proofs.Soundness.Promised.{promises-of}
+use Rattle.iobufs_owner.proofs.WorldSteps.Sizes.{taken-of}
+use Rattle.iobufs_owner.proofs.WorldSteps.Step.{steps-of}
 use Rattle.iobufs_owner.proofs.owner.Machine.step.Goals as goal
 
 pub returns-clause-steps : goal.returns-clause-steps

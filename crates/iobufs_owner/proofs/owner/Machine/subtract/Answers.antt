@@ -6,9 +6,9 @@ use Rattle.iobufs_owner.specs.Inside.{state_of}
 use Rattle.iobufs_owner.specs.State.{State, Seen, call_at, record_at}
 use Rattle.iobufs_owner.specs.Moves.{borrows_it, called, with_count}
 use Rattle.iobufs_owner.specs.Sound.{IsSound}
-use Rattle.iobufs_owner.proofs.Subtracted.{afterwards-one, afterwards-none, sound-subtracted, letting-go}
-use Rattle.iobufs_owner.proofs.Borrows.{counts-same}
-use Rattle.iobufs_owner.proofs.Kept.{at-some}
+use Rattle.iobufs_owner.proofs.Soundness.Subtract.{afterwards-one, afterwards-none, sound-subtracted, letting-go}
+use Rattle.iobufs_owner.proofs.Soundness.Borrows.{counts-same}
+use Rattle.iobufs_owner.proofs.Soundness.Kept.{at-some}
 use Rattle.iobufs_owner.proofs.owner.Machine.subtract.Goals as goal
 
 pub overflow_sub-record : goal.overflow_sub-record

@@ -1,0 +1,140 @@
+-- Each change of the tables keeps the machine sound.
+use Rattle.std.proofs.Common.{◌≡◌, ◌≢◌, ◌⊎◌, inl, inr, ℕ, zero, suc, ◌^◌, ◌<◌, sym, Bool, true, false, List, [], ◌∷◌, ◌++◌, length, get_or, set, ◌∙◌, refl, arith, Option, Some, None, length-append}
+use Rattle.std.proofs.Math.ListN.{length-set}
+use Rattle.std.proofs.lemmas.List.Elements.{All-push, All-set}
+use Rattle.std.proofs.lemmas.List.{get_or_append_left, get_or-set_other, get_or-set_same}
+use Rattle.std.proofs.Math.Seq.{get_or-append_seam}
+use Rattle.std.proofs.lemmas.Bool.Decides.{eqb_tells}
+use Rattle.iobufs_owner.specs.Moves.{is_lent, with_handle, edited}
+use Rattle.iobufs_owner.proofs.Soundness.Keeps.{keeps-self, calls-kept}
+use Rattle.iobufs_owner.specs.State.{State, Tables, owner_of, record_at, handle_at, origin_at}
+use Rattle.iobufs_owner.specs.World.{holds, holders, users, tally}
+use Rattle.iobufs_owner.specs.Reading.{reading, read_handle}
+use Rattle.iobufs_owner.specs.Sound.{IsSound, FitsWord, Fits, alone, describes, LogsBlocks}
+use Rattle.iobufs_owner.specs.declared.owner.types.Block.{Block}
+use Rattle.iobufs_owner.specs.declared.owner.types.Freed.{Freed}
+use Rattle.iobufs_owner.specs.declared.owner.types.Handle.{Handle}
+use Rattle.iobufs_owner.specs.declared.owner.types.Word.TheVariants.{Empty, Record as Counted}
+use Rattle.iobufs_owner.proofs.Soundness.Counts.{count-append, count-set, holders-more, users-more, holders-changed, users-changed}
+
+-- a handle without block owns none
+pub owner-empty : (g : Tables) (x : Handle) → x.word ≡ Empty → owner_of g x ≡ None
+unfolding owner_of
+owner-empty g x e = rw e refl
+
+pub owner-counted : (g : Tables) (x : Handle) (r : ℕ) → x.word ≡ Counted r → owner_of g x ≡ Some (record_at g r).block
+unfolding owner_of
+owner-counted g x r e = rw e refl
+
+pub at-some : {X : Type 0} (xs : List (Option X)) (i : ℕ) (x : X) → get_or xs i None ≡ Some x → i < length xs
+at-some [] i x e = absurd (cc)
+at-some (y ∷ xs) zero x e = omega arith
+at-some (y ∷ xs) (suc i) x e = omega (arith, at-some xs i x e)
+
+pub append-at : {X : Type 0} (xs : List (Option X)) (y : Option X) (i : ℕ) (x : X) → get_or xs i None ≡ Some x → get_or (xs ++ y ∷ []) i None ≡ Some x
+append-at xs y i x e = get_or_append_left xs (y ∷ []) None i (at-some xs i x e) ∙ e
+
+pub set-at : {X : Type 0} (xs : List (Option X)) (h i : ℕ) (y : Option X) (x : X) → i ≢ h → get_or xs i None ≡ Some x → get_or (set xs h y) i None ≡ Some x
+set-at xs h i y x ne e = get_or-set_other xs h i y None ne ∙ e
+
+-- ---- facts that a change leaves
+
+-- the log of freed blocks, where blocks keep their users
+pub block-log-kept : (bs : List Block) (log : List Freed) (used used' : ℕ → ℕ) → ((b : ℕ) → used' b ≡ used b) → LogsBlocks bs log used → LogsBlocks bs log used'
+block-log-kept bs log used used' e k = record {
+  freed = λ b l. rw e (k.freed b l);
+  known = k.known;
+  once = k.once;
+  many = k.many;
+}
+
+-- one handle more, of another number than the others
+pub at-more : (hs : List (Option Handle)) (y : Handle) (i : ℕ) (x : Handle) → get_or (hs ++ Some y ∷ []) i None ≡ Some x → ((i ≡ length hs) × (x ≡ y)) ⊎ ((i < length hs) × (get_or hs i None ≡ Some x))
+at-more [] y zero x e = inl (refl, cc)
+at-more [] y (suc i) x e = absurd (cc)
+at-more (z ∷ hs) y zero x e = inr (omega arith, e)
+at-more (z ∷ hs) y (suc i) x e =
+    elim (at-more hs y i x e) [ inl w ↦ inl (let n = w.0 in omega arith, w.1) | inr w ↦ inr (let n = w.0 in omega arith, w.1) ]
+
+-- a handle in another's place
+pub at-set : (hs : List (Option Handle)) (h i : ℕ) (o : Option Handle) (x : Handle) → h < length hs → get_or (set hs h o) i None ≡ Some x → ((i ≡ h) × (o ≡ Some x)) ⊎ ((i ≢ h) × (get_or hs i None ≡ Some x))
+at-set hs h i o x l e =
+    elim (eqb_tells i h) [
+      | inl z ↦ inl (z.1, (let q = rw z.1 at e in sym (get_or-set_same hs h o None l) ∙ q))
+      | inr z ↦ inr (z.1, sym (get_or-set_other hs h i o None z.1) ∙ e)
+    ]
+
+-- what the origins say, after a handle more and after a handle changed
+pub made-on-more : (s : State) (g : Tables) (y : Handle) (n : ℕ) → IsSound s → ((i : ℕ) (x : Handle) → handle_at s i ≡ Some x → owner_of g x ≡ owner_of s.tables x) → ((b : ℕ) → owner_of g y ≡ Some b → n ≡ b) → (h b : ℕ) (x : Handle) → get_or (s.handles ++ Some y ∷ []) h None ≡ Some x → owner_of g x ≡ Some b → get_or (s.origins ++ n ∷ []) h 0 ≡ b
+made-on-more s g y n k old new h b x at o =
+    let same = k.size.origins in
+    elim (at-more s.handles y h x at) [
+      | inl w ↦ rw (w.0, ← same) (get_or-append_seam s.origins n [] 0 ∙ new b (rw (← w.1) o))
+      | inr w ↦ (let l : h < length s.origins = (let q = w.0 in omega arith) in get_or_append_left s.origins (n ∷ []) 0 h l ∙ k.made_on h b x w.1 (sym (old h x w.1) ∙ o))
+    ]
+
+pub made-on-set : (s : State) (g : Tables) (h : ℕ) (o : Option Handle) → IsSound s → h < length s.handles → ((i : ℕ) (x : Handle) → handle_at s i ≡ Some x → owner_of g x ≡ owner_of s.tables x) → ((b : ℕ) (x : Handle) → o ≡ Some x → owner_of g x ≡ Some b → origin_at s h ≡ b) → (i b : ℕ) (x : Handle) → get_or (set s.handles h o) i None ≡ Some x → owner_of g x ≡ Some b → origin_at s i ≡ b
+made-on-set s g h o k l old new i b x at own =
+    elim (at-set s.handles h i o x l at) [
+      | inl w ↦ rw w.0 (new b x w.1 own)
+      | inr w ↦ k.made_on i b x w.1 (sym (old i x w.1) ∙ own)
+    ]
+
+-- a handle without block more
+pub sound-detached : (s : State) (x : Handle) (n : ℕ) → IsSound s → x.word ≡ Empty → FitsWord s.tables s.calls x x.word → length s.handles < 2 ^ 32 → IsSound (with_handle s x n)
+sound-detached s x m k e f l =
+    let next : State = with_handle s x m in
+    let o = owner-empty s.tables x e in
+    let hold : (b : ℕ) → holds b (read_handle s.tables (Some x)) ≡ false = λ b. rw o refl in
+    let n : (b : ℕ) → holders (reading next) b ≡ holders (reading s) b = λ b. rw (holders-more s (Some x) b, hold) (omega arith) in
+    let u : (b : ℕ) → users (reading next) b ≡ users (reading s) b = λ b. rw (users-more s (Some x) b, hold) (omega arith) in
+    let a : (b : ℕ) → tally (alone s.tables b) (s.handles ++ Some x ∷ []) ≡ tally (alone s.tables b) s.handles = λ b. rw count-append (rw o (omega arith)) in
+    let d : (b : ℕ) → tally (describes s.tables b) (s.handles ++ Some x ∷ []) ≡ tally (describes s.tables b) s.handles = λ b. rw count-append (rw o (omega arith)) in
+    let size = k.size in
+    record {
+      size = record { wide = size.wide; ceiling = size.ceiling; few_blocks = size.few_blocks; few_records = size.few_records; few_handles = rw length-append (omega arith); few_calls = size.few_calls; origins = rw (length-append, size.origins) (rw length-append refl) };
+      blocks = k.blocks;
+      fit = All-push (Fits s.tables s.calls) s.handles (Some x) k.fit f;
+      calls_fit = calls-kept s next refl (keeps-self s.tables) (λ r t. t) (λ i y b a. append-at s.handles (Some x) i y a) k.fit (λ i y a. at-some s.handles i y a) (λ b l. n b) (λ r live. (k.counted r live).known) k.calls_fit;
+      one_release = k.one_release;
+      counted = λ r live. let c = k.counted r live in record { known = c.known; one_maker = c.one_maker; counts = λ h. rw n (c.counts h); fresh = c.fresh; used = rw u c.used; undescribed = λ h. rw d (c.undescribed h) };
+      one_record = k.one_record;
+      sole = λ b h. rw n (k.sole b (rw a at h));
+      capped = λ b. rw n (k.capped b);
+      known_users = λ b h. k.known_users b (rw u at h);
+      made_on = made-on-more s s.tables x m k (λ i y at. refl) (λ b own. absurd (let q = sym o ∙ own in cc));
+      block_log = block-log-kept s.tables.blocks s.freed_blocks (users (reading s)) (users (reading next)) u k.block_log;
+      record_log = k.record_log;
+    }
+
+-- where a change makes a handle that must be alone, its block has one holder; else there are no more such handles than before
+pub alone-edited : {P : Type 0} (g : Tables) (hs : List (Option Handle)) (h : ℕ) (y : Handle) (b : ℕ) → h < length hs → (0 < tally (alone g b) hs → P) → (alone g b (Some y) ≡ true → P) → 0 < tally (alone g b) (set hs h (Some y)) → P
+alone-edited {P} g hs h y b l old new p =
+    let e = count-set (alone g b) hs h (Some y) None l in
+    let by : (v : Bool) → alone g b (Some y) ≡ v → P = λ v. elim v as (λ v. alone g b (Some y) ≡ v → P) [ true ↦ new | false ↦ λ f. old (let e2 = rw f at e in omega (arith, e2, p)) ] in
+    by (alone g b (Some y)) refl
+
+-- a handle is changed, and holds what it held
+pub sound-edited : (s : State) (h : ℕ) (x y : Handle) → IsSound s → handle_at s h ≡ Some x → is_lent h s.calls ≡ false → owner_of s.tables y ≡ owner_of s.tables x → ((b : ℕ) → describes s.tables b (Some y) ≡ describes s.tables b (Some x)) → ((b : ℕ) → alone s.tables b (Some y) ≡ true → holders (reading s) b ≡ 1) → FitsWord s.tables s.calls y y.word → IsSound (edited s h y)
+sound-edited s h x y k at free o same only f =
+    let next : State = edited s h y in
+    let l = at-some s.handles h x at in
+    let n : (b : ℕ) → holders (reading next) b ≡ holders (reading s) b = λ b. let e = rw (at, o) at (holders-changed s h (Some y) b l) in omega (arith, e) in
+    let u : (b : ℕ) → users (reading next) b ≡ users (reading s) b = λ b. let e = rw (at, o) at (users-changed s h (Some y) b l) in omega (arith, e) in
+    let d : (b : ℕ) → tally (describes s.tables b) (set s.handles h (Some y)) ≡ tally (describes s.tables b) s.handles = λ b. let e = rw (at, same b) at (count-set (describes s.tables b) s.handles h (Some y) None l) in omega (arith, e) in
+    let size = k.size in
+    record {
+      size = record { wide = size.wide; ceiling = size.ceiling; few_blocks = size.few_blocks; few_records = size.few_records; few_handles = rw length-set size.few_handles; few_calls = size.few_calls; origins = rw length-set size.origins };
+      blocks = k.blocks;
+      fit = All-set (Fits s.tables s.calls) s.handles h (Some y) f k.fit;
+      calls_fit = calls-kept s next refl (keeps-self s.tables) (λ r t. t) (λ i z b a. set-at s.handles h i (Some y) z (λ e. let q = rw e at b in absurd (cc)) a) k.fit (λ i z a. at-some s.handles i z a) (λ b l. n b) (λ r live. (k.counted r live).known) k.calls_fit;
+      one_release = k.one_release;
+      counted = λ r live. let c = k.counted r live in record { known = c.known; one_maker = c.one_maker; counts = λ e. rw n (c.counts e); fresh = c.fresh; used = rw u c.used; undescribed = λ e. rw d (c.undescribed e) };
+      one_record = k.one_record;
+      sole = λ b p. rw n (alone-edited s.tables s.handles h y b l (k.sole b) (only b) p);
+      capped = λ b. rw n (k.capped b);
+      known_users = λ b e. k.known_users b (rw u at e);
+      made_on = made-on-set s s.tables h (Some y) k l (λ i z at. refl) (λ b z e own. k.made_on h b x at (sym o ∙ (let q : y ≡ z = cc in rw q own)));
+      block_log = block-log-kept s.tables.blocks s.freed_blocks (users (reading s)) (users (reading next)) u k.block_log;
+      record_log = k.record_log;
+    }
