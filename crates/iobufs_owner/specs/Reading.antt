@@ -1,5 +1,5 @@
 -- How the machine's tables are read as a world.
-use Rattle.std.specs.Prelude.{ℕ, ◌==◌, ◌&&◌, Bool, true, false, List, Option, None, Some, map}
+use Rattle.std.specs.Prelude.{◌==◌, ◌&&◌, Bool, false, List, Option, None, Some, map}
 use Rattle.std.specs.List.{list_any}
 use Rattle.iobufs_owner.specs.declared.owner.types.Block.{Block}
 use Rattle.iobufs_owner.specs.declared.owner.types.Handle.{Handle}

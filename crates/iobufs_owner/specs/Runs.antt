@@ -6,7 +6,7 @@ use Rattle.iobufs_owner.specs.declared.owner.types.Refusal.TheVariants.{Busy, Id
 use Rattle.iobufs_owner.specs.declared.owner.types.Reply.{Reply}
 use Rattle.iobufs_owner.specs.declared.owner.types.Reply.TheVariants.{Made, More, Done, Declined, Unique, Refused}
 use Rattle.iobufs_owner.specs.State.{Seen}
-use Rattle.iobufs_owner.specs.World.{World, Unfinished, Sharing, Dropping, going_at}
+use Rattle.iobufs_owner.specs.World.{Unfinished, Sharing, Dropping}
 use Rattle.iobufs_owner.specs.Reading.{reading}
 use Rattle.iobufs_owner.specs.Moves.{Moves}
 use Rattle.iobufs_owner.specs.Steps.{Steps}

@@ -1,11 +1,9 @@
 -- A sound machine keeps what is promised.
-use Rattle.std.proofs.Common.{◌≡◌, ℕ, ◌+◌, ◌<◌, ◌≤◌, ◌==◌, ◌||◌, Bool, true, false, not, nat_eq, List, [], ◌∷◌, length, get_or, Option, Some, None, ap, sym, ◌∙◌, subst, refl, arith, All}
-use Rattle.std.proofs.lemmas.Bool.Decides.{nat_tests}
+use Rattle.std.proofs.Common.{◌≡◌, ℕ, ◌<◌, Bool, true, false, not, List, [], ◌∷◌, length, get_or, Option, Some, None, ap, sym, ◌∙◌, refl, arith, All}
 use Rattle.std.proofs.lemmas.List.Elements.{All-head, All-tail, All-get_or, All-from_get_or}
 use Rattle.iobufs_owner.specs.declared.owner.types.Handle.{Handle}
 use Rattle.iobufs_owner.specs.declared.owner.types.Pending.{Pending}
-use Rattle.iobufs_owner.specs.declared.owner.types.Word.TheVariants.{Descriptor}
-use Rattle.iobufs_owner.specs.State.{State, handle_at, record_at, block_at, owner_of}
+use Rattle.iobufs_owner.specs.State.{State, handle_at, record_at, owner_of}
 use Rattle.iobufs_owner.specs.World.{holders, users, tally}
 use Rattle.iobufs_owner.specs.Reading.{reading}
 use Rattle.iobufs_owner.specs.Sound.{IsSound, is_logged}

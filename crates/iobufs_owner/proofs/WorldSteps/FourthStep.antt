@@ -1,6 +1,6 @@
 -- A call ends with its fourth taken step at the latest.
-use Rattle.std.proofs.Common.{◌≡◌, ◌≢◌, ◌⊎◌, inl, inr, ℕ, ◌+◌, ◌-◌, ◌<◌, ◌≤◌, ◌==◌, ◌||◌, Bool, true, false, cond, nat_lt, nat_eq, List, [], ◌∷◌, length, get_or, set, Option, Some, None, Result, Ok, Err, ap, sym, ◌∙◌, subst, refl, arith, IsSome, MatchBool, MatchOption}
-use Rattle.std.proofs.lemmas.Bool.Decides.{nat_tests, eqb_tells}
+use Rattle.std.proofs.Common.{◌≡◌, ◌≢◌, ◌⊎◌, inl, inr, ℕ, ◌+◌, ◌-◌, ◌<◌, ◌≤◌, ◌||◌, Bool, true, false, cond, nat_lt, nat_eq, List, [], ◌∷◌, length, get_or, set, Option, Some, None, Result, Ok, Err, ap, sym, ◌∙◌, subst, refl, arith, MatchBool, MatchOption}
+use Rattle.std.proofs.lemmas.Bool.Decides.{eqb_tells}
 use Rattle.std.proofs.lemmas.List.{get_or-set_same, get_or-set_other}
 use Rattle.iobufs_owner.specs.declared.owner.types.Call.{Call}
 use Rattle.iobufs_owner.specs.declared.owner.types.Call.TheVariants.{New, External, Static, Put, Advance, Freeze, TryIntoMut, SplitTo, IsUnique, Clone, Slice, Drop}

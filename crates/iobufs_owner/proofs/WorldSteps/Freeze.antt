@@ -1,5 +1,5 @@
 -- Freeze, read as a step of the world.
-use Rattle.std.proofs.Common.{◌≡◌, ◌⊎◌, inl, inr, ℕ, ◌-◌, ◌^◌, ◌<◌, Bool, true, false, cond, nat_lt, nat_eq, length, set, Option, Some, Result, Ok, Err, ap, sym, ◌∙◌, subst, refl, arith, IsSome}
+use Rattle.std.proofs.Common.{◌≡◌, ◌⊎◌, inl, inr, ℕ, ◌-◌, ◌^◌, ◌<◌, Bool, true, false, cond, nat_lt, nat_eq, length, set, Option, Some, Result, Ok, Err, ap, sym, ◌∙◌, subst, refl, IsSome}
 use Rattle.std.proofs.Math.ListN.{length-set}
 use Rattle.std.proofs.lemmas.List.{map-set}
 use Rattle.iobufs_owner.specs.declared.owner.types.Handle.{Handle}

@@ -1,5 +1,5 @@
 -- A step by the tables is a step of the world.
-use Rattle.std.proofs.Common.{◌≡◌, inl, inr, ℕ, ◌<◌, ◌≤◌, arith, Result, Ok, Err, Bool, true, false, nat_lt, length, Option, Some, None, subst, refl, MatchBool}
+use Rattle.std.proofs.Common.{◌≡◌, ℕ, ◌<◌, ◌≤◌, arith, Bool, true, false, nat_lt, length, Option, Some, None, subst, refl, MatchBool}
 use Rattle.std.proofs.lemmas.List.{length-map}
 use Rattle.iobufs_owner.specs.declared.owner.types.Call.{Call}
 use Rattle.iobufs_owner.specs.declared.owner.types.Call.TheVariants.{New, External, Static, Put, Advance, Freeze, TryIntoMut, SplitTo, IsUnique, Clone, Slice, Drop}
@@ -8,16 +8,13 @@ use Rattle.iobufs_owner.specs.declared.owner.types.Act.TheVariants.{Begin, Go}
 use Rattle.iobufs_owner.specs.declared.owner.types.Pending.{Pending}
 use Rattle.iobufs_owner.specs.declared.owner.types.Pending.TheVariants.{Loaded, Ready, Add, Subtract, Release}
 use Rattle.iobufs_owner.specs.declared.owner.types.Step.{Step}
-use Rattle.iobufs_owner.specs.declared.owner.types.Refusal.TheVariants.{Busy, Idle, Room}
-use Rattle.iobufs_owner.specs.declared.owner.types.Reply.TheVariants.{Refused}
-use Rattle.std.specs.declared.alloc.AllocError.{AllocError}
-use Rattle.std.specs.Result.{result_unwrap_or}
+use Rattle.iobufs_owner.specs.declared.owner.types.Refusal.TheVariants.{Busy, Idle}
 use Rattle.std.proofs.lemmas.Bool.Decides.{nat_tests}
 use Rattle.iobufs_owner.specs.declared.owner.types.Reply.{Reply}
 use Rattle.iobufs_owner.specs.State.{State, Seen, call_at}
 use Rattle.iobufs_owner.specs.Reading.{reading, read_call}
 use Rattle.iobufs_owner.specs.Sound.{IsSound}
-use Rattle.iobufs_owner.specs.Moves.{Outcome, Took, IsBegun, IsMoved, IsMovedAt, Moves, refused, gone_on}
+use Rattle.iobufs_owner.specs.Moves.{Outcome, IsBegun, IsMoved, IsMovedAt, Moves, refused, gone_on}
 use Rattle.iobufs_owner.specs.Steps.{Refuses, Begins, ActsAt, Steps}
 use Rattle.iobufs_owner.proofs.WorldSteps.Sizes.{IsAnswered, answered}
 use Rattle.iobufs_owner.proofs.WorldSteps.Shown.{get_or-read}

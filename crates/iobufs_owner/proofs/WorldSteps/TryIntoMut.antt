@@ -1,5 +1,5 @@
 -- TryIntoMut and IsUnique, read as steps of the world.
-use Rattle.std.proofs.Common.{◌≡◌, ◌⊎◌, inl, inr, ℕ, ◌+◌, ◌-◌, Bool, true, false, cond, nat_eq, Option, Some, None, Result, Ok, Err, ap, sym, ◌∙◌, subst, refl, arith}
+use Rattle.std.proofs.Common.{◌≡◌, ◌⊎◌, inl, inr, ℕ, ◌+◌, ◌-◌, Bool, true, false, cond, nat_eq, Option, Some, None, Result, Ok, Err, ap, sym, ◌∙◌, subst, refl}
 use Rattle.iobufs_owner.specs.declared.owner.types.Handle.{Handle}
 use Rattle.iobufs_owner.specs.declared.owner.types.Kind.{Kind}
 use Rattle.iobufs_owner.specs.declared.owner.types.Kind.TheVariants.{View, Mut}
@@ -17,7 +17,7 @@ use Rattle.iobufs_owner.specs.Moves as move
 use Rattle.iobufs_owner.specs.Moves.{Outcome, refused, done, declined, edited, thawed, lend_of, Lends, is_lent, is_unique}
 use Rattle.iobufs_owner.specs.Steps as world
 use Rattle.iobufs_owner.specs.Steps.{Declines, MayRecover, held_set}
-use Rattle.iobufs_owner.proofs.WorldSteps.Sizes.{IsAnswered, entries, grows-never}
+use Rattle.iobufs_owner.proofs.WorldSteps.Sizes.{IsAnswered, grows-never}
 use Rattle.iobufs_owner.proofs.Soundness.Kept.{owner-empty, owner-counted}
 use Rattle.iobufs_owner.proofs.WorldSteps.Lent.{lend-tells}
 use Rattle.iobufs_owner.proofs.Soundness.Frames.{is-eqb}

@@ -1,4 +1,3 @@
-use Rattle.iobufs_owner.specs.Word.{HasRoom}
 use Rattle.iobufs_owner.proofs.Words.{zeros-of, fits-iff}
 use Rattle.iobufs_owner.proofs.format.Format.fits.Goals as goal
 

@@ -9,7 +9,6 @@ use Rattle.iobufs_owner.proofs.Soundness.Kept.{at-some}
 use Rattle.iobufs_owner.proofs.Soundness.Share.{IsQuiet, quiet-none, quiet-add, sound-called, adding}
 use Rattle.iobufs_owner.proofs.Soundness.Frames.{is-eqb}
 use Rattle.iobufs_owner.proofs.Soundness.Borrows.{counts-less, some-borrowed}
-use Rattle.iobufs_owner.specs.Moves.{borrows_it}
 use Rattle.iobufs_owner.proofs.owner.Machine.add.Goals as goal
 
 pub record-record-requires : goal.record-record-requires

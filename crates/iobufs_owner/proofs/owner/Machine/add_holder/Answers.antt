@@ -1,4 +1,4 @@
-use Rattle.std.proofs.Common.{◌≡◌, ◌≤◌, Some, sym, subst, arith, ap, None, refl, length-append, ◌∷◌, ◌++◌, []}
+use Rattle.std.proofs.Common.{◌≡◌, ◌≤◌, Some, sym, subst, arith, ap, refl, length-append, ◌∷◌, ◌++◌, []}
 use Rattle.std.proofs.Math.ListN.{length-set}
 use Rattle.iobufs_owner.specs.declared.owner.types.Pending.TheVariants.{Add}
 use Rattle.iobufs_owner.specs.Inside.{state_of}
@@ -8,7 +8,6 @@ use Rattle.iobufs_owner.proofs.Soundness.Share.{adding-at, sound-added-call}
 use Rattle.iobufs_owner.proofs.Soundness.Frames.{is-eqb}
 use Rattle.iobufs_owner.proofs.Soundness.Borrows.{counts-less, some-borrowed, counts-pushed, kept-pushed}
 use Rattle.iobufs_owner.proofs.Soundness.Kept.{at-some}
-use Rattle.iobufs_owner.specs.Moves.{borrows_it}
 use Rattle.iobufs_owner.proofs.owner.Machine.add_holder.Goals as goal
 
 pub overflow_add-record : goal.overflow_add-record

@@ -1,4 +1,4 @@
-use Rattle.std.proofs.Common.{◌≡◌, ◌<◌, None, length, nat_eq, sym, refl, subst, ap, Some, arith, ◌∙◌}
+use Rattle.std.proofs.Common.{◌≡◌, ◌<◌, None, length, nat_eq, sym, refl, subst, ap, Some, ◌∙◌}
 use Rattle.std.proofs.Math.ListN.{length-set}
 use Rattle.iobufs_owner.specs.declared.owner.types.Kind.TheVariants.{View}
 use Rattle.iobufs_owner.specs.Inside.{state_of}
@@ -7,7 +7,6 @@ use Rattle.iobufs_owner.specs.State.{State, Seen, call_at, record_at}
 use Rattle.iobufs_owner.proofs.Soundness.Edits.{counted-at}
 use Rattle.iobufs_owner.proofs.Soundness.Drop.{sound-dropping, drop-after}
 use Rattle.iobufs_owner.proofs.Soundness.Borrows.{counts-same, after-quiet}
-use Rattle.iobufs_owner.proofs.Soundness.Kept.{at-some}
 use Rattle.iobufs_owner.proofs.owner.Machine.drop_view.Goals as goal
 
 pub invariant_of-self : goal.invariant_of-self

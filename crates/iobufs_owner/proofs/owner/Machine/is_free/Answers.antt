@@ -1,11 +1,9 @@
-use Rattle.std.proofs.Common.{◌≡◌, ◌<◌, ◌≤◌, ◌+◌, ℕ, Some, length, All, IsSome, sym, subst, ap, arith, refl}
+use Rattle.std.proofs.Common.{◌≤◌, ◌+◌, ℕ, All, sym, subst, ap, arith}
 use Rattle.std.proofs.lemmas.Bool.Decides.{nat_tests}
 use Rattle.std.proofs.lemmas.List.{get_or_read}
-use Rattle.std.specs.BTreeMap.{get}
-use Rattle.std.specs.Ordering.{nat_cmp}
 use Rattle.iobufs_owner.specs.Inside.{state_of}
 use Rattle.iobufs_owner.specs.Places.{ApartFrom}
-use Rattle.iobufs_owner.specs.State.{State, Seen, block_at}
+use Rattle.iobufs_owner.specs.State.{State, Seen}
 use Rattle.iobufs_owner.proofs.Soundness.Finds.{below, not-after, free-none, free-last, ends-small, no_block}
 use Rattle.iobufs_owner.proofs.owner.Machine.is_free.Goals as goal
 

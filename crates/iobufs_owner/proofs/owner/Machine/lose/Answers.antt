@@ -1,4 +1,4 @@
-use Rattle.std.proofs.Common.{◌≡◌, Some, sym, subst, arith, ap, None}
+use Rattle.std.proofs.Common.{◌≡◌, Some, sym, subst, arith, ap}
 use Rattle.std.proofs.Math.ListN.{length-set}
 use Rattle.iobufs_owner.specs.declared.owner.types.Pending.TheVariants.{Ready, Add}
 use Rattle.iobufs_owner.specs.Inside.{state_of}

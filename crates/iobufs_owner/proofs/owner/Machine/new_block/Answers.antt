@@ -1,4 +1,4 @@
-use Rattle.std.proofs.Common.{◌≡◌, ℕ, inl, inr, refl, ap, subst, false}
+use Rattle.std.proofs.Common.{◌≡◌, inl, inr, refl, ap, subst, false}
 use Rattle.iobufs_owner.specs.Moves.{refused, block_of, described_of, placed}
 use Rattle.iobufs_owner.specs.Inside.{state_of}
 use Rattle.iobufs_owner.specs.State.{State, Seen}

@@ -8,7 +8,6 @@ use Rattle.iobufs_owner.specs.State.{State, Seen, call_at}
 use Rattle.iobufs_owner.proofs.Soundness.Share.{IsQuiet, quiet-none, quiet-add, sound-called}
 use Rattle.iobufs_owner.proofs.Soundness.Borrows.{counts-more, few-borrowed}
 use Rattle.iobufs_owner.proofs.Soundness.Kept.{at-some}
-use Rattle.iobufs_owner.specs.Moves.{borrows_it}
 use Rattle.iobufs_owner.proofs.owner.Machine.will_add.Goals as goal
 
 pub invariant_of-self : goal.invariant_of-self

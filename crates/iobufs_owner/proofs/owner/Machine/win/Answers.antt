@@ -1,4 +1,4 @@
-use Rattle.std.proofs.Common.{◌≡◌, Some, sym, subst, arith, ap, None, refl, length-append, ◌∷◌, ◌++◌, []}
+use Rattle.std.proofs.Common.{◌≡◌, Some, sym, subst, arith, ap, refl, length-append, ◌∷◌, ◌++◌, []}
 use Rattle.std.proofs.Math.ListN.{length-set}
 use Rattle.iobufs_owner.specs.declared.owner.types.Pending.TheVariants.{Ready}
 use Rattle.iobufs_owner.specs.Inside.{state_of}
@@ -7,7 +7,6 @@ use Rattle.iobufs_owner.proofs.Soundness.Share.{sound-won}
 use Rattle.iobufs_owner.proofs.Soundness.Frames.{is-eqb}
 use Rattle.iobufs_owner.proofs.Soundness.Borrows.{counts-less, some-borrowed, counts-pushed, kept-set-pushed}
 use Rattle.iobufs_owner.proofs.Soundness.Kept.{at-some}
-use Rattle.iobufs_owner.specs.Moves.{borrows_it}
 use Rattle.iobufs_owner.proofs.owner.Machine.win.Goals as goal
 
 pub invariant_of-self-2 : goal.invariant_of-self-2
