@@ -8,7 +8,7 @@ use Rattle.iobufs_owner.specs.State.{State, Tables, owner_of, record_at, block_a
 use Rattle.iobufs_owner.specs.Word.{IsWord}
 use Rattle.iobufs_owner.specs.World.{World, holds, is_block, holders, users, tally}
 use Rattle.iobufs_owner.specs.Reading.{reading, read_handle}
-use Rattle.iobufs_owner.specs.Sound.{IsSound, Fits, FitsCall, LiesIn, LeavesBehind, alone, describes, hidden, readies}
+use Rattle.iobufs_owner.specs.Sound.{IsDescribed, IsSound, Fits, FitsCall, LiesIn, LeavesBehind, alone, describes, hidden, readies}
 use Rattle.iobufs_owner.specs.Moves.{is_lent, detached, replaced, block_freed, both_freed, dead, IsLoose}
 use Rattle.iobufs_owner.specs.declared.owner.types.Block.{Block}
 use Rattle.iobufs_owner.specs.declared.owner.types.Freed.{Freed}
@@ -23,7 +23,7 @@ use Rattle.iobufs_owner.proofs.Soundness.Keeps.{keeps-self, call-kept, lent-by, 
 use Rattle.iobufs_owner.proofs.Soundness.Kept.{at-some, made-on-set, block-log-kept, owner-empty, owner-counted}
 use Rattle.iobufs_owner.proofs.Words.{word-log}
 use Rattle.iobufs_owner.proofs.Soundness.Frames.{not-eqb, is-eqb, handles-kept, alone-kept, describes-kept, holders-tables, users-tables}
-use Rattle.iobufs_owner.proofs.Soundness.Edits.{word-at, tail-says, behind-as, lies-as, fits-at, alone-at, described-at, counted-at, live-inside, no_block, owner-described, size-says, alone-described, describes-described, alone-written}
+use Rattle.iobufs_owner.proofs.Soundness.Edits.{word-fits, word-at, tail-says, behind-as, lies-as, fits-at, alone-at, described-at, counted-at, live-inside, no_block, owner-described, size-says, alone-described, describes-described, alone-written}
 use Rattle.iobufs_owner.proofs.Soundness.Holders.{held_by, still_by, drops_by, holders-as, users-as, held-at, alone-few, lets_go, drops-split, owner-used}
 use Rattle.iobufs_owner.proofs.Soundness.Logs.{block-log-freed, record-log-dead, block-log-room, record-log-room}
 use Rattle.iobufs_owner.proofs.Soundness.RecordFreed.{dead-block, dead-count, dead-other, dead-keeps, dead-live}
@@ -146,7 +146,7 @@ with-here true x base b bs t h e = let i : 0 ≡ b = cc in rw (← i) (t refl)
 with-here false x base b bs t h e = with-later x base b bs (block_with base bs) h e
 
 -- the block that is found by a base has it
-with-base : (base b : ℕ) (bs : List Block) → block_with base bs ≡ Some b → (get_or bs b no_block).base ≡ base
+pub with-base : (base b : ℕ) (bs : List Block) → block_with base bs ≡ Some b → (get_or bs b no_block).base ≡ base
 with-base base b [] e = absurd (cc)
 with-base base b (x ∷ bs) e = with-here (x.base == base) x base b bs (λ t. grind (arith, nat_tests, t)) (λ c i. with-base base c bs i) e
 
@@ -371,4 +371,25 @@ sound-gone_empty s h x k at free xw =
       made_on = made-on-set s g h None k l (λ i z a. refl) (λ c z i own. absurd (cc));
       block_log = block-log-kept g.blocks s.freed_blocks (users (reading s)) (users (reading next)) um k.block_log;
       record_log = k.record_log;
+    }
+
+-- ---- what a descriptor says, whether its handle has it still or not
+
+pub record SaysEnds (g : Tables) (x : Handle) (w : ℕ) : Type 0 where
+  pub word : IsWord g.align_bits g.tail_bits g.size_bits w
+  pub view : x.kind ≡ View → x.ptr + x.len + tail_in g w < 2 ^ 64
+  pub room : x.kind ≡ Mut → x.ptr + x.cap < 2 ^ 64
+  pub below : size_in g w ≤ end_of x (tail_in g w)
+
+pub says-ends : (s : State) (x : Handle) (w b log tail : ℕ) → IsSound s → IsDescribed s.tables x w b log tail → SaysEnds s.tables x w
+says-ends s x w b log tail k d =
+    let g : Tables = s.tables in
+    let says = tail-says g x w b log tail d in
+    let size = size-says g x w b log tail d in
+    let ends = (k.blocks.places b no_block d.known).ends in
+    record {
+      word = word-fits s x w b log tail k d;
+      view = λ e. let behind = behind-as (block_at g b) x tail View e d.behind in rw says (omega (arith, behind, ends));
+      room = λ e. let lies = lies-as (block_at g b) x Mut e d.lies in omega (arith, lies.1, ends);
+      below = rw says (ends-below (block_at g b) x tail (size_in g w) x.kind refl size d.lies d.behind);
     }

@@ -10,8 +10,12 @@ use Rattle.std.specs.declared.cmp.Ordering.TheVariants.{Less, Equal, Greater}
 use Rattle.iobufs_owner.specs.declared.owner.types.Block.{Block}
 use Rattle.iobufs_owner.specs.Inside.{KnowsPlaces}
 use Rattle.iobufs_owner.specs.Places.{IsPlace, ApartFrom}
-use Rattle.iobufs_owner.specs.Sound.{ArePlaced}
-use Rattle.iobufs_owner.specs.State.{Tables, block_at}
+use Rattle.iobufs_owner.specs.declared.owner.types.Handle.{Handle}
+use Rattle.iobufs_owner.specs.declared.owner.types.Word.TheVariants.{Descriptor}
+use Rattle.iobufs_owner.specs.Sound.{ArePlaced, IsDescribed}
+use Rattle.iobufs_owner.specs.State.{Tables, block_at, base_by}
+use Rattle.iobufs_owner.proofs.Soundness.BlockFreed.{with-base}
+use Rattle.iobufs_owner.proofs.Soundness.Edits.{owner-described}
 use Rattle.iobufs_owner.proofs.Soundness.Frames.{is-eqb, not-eqb}
 use Rattle.iobufs_owner.proofs.Soundness.Logs.{below-or}
 use Rattle.iobufs_owner.proofs.WorldSteps.Taken.{lt-true, lt-false}
@@ -107,3 +111,7 @@ known-none places e = record { complete = λ b l. absurd (omega arith); exact = 
 
 pub known-same : (places next : BTreeMap ℕ ℕ) (blocks : List Block) → next.entries ≡ places.entries → KnowsPlaces places blocks → KnowsPlaces next blocks
 known-same places next blocks e k = record { complete = λ b l. rw e (k.complete b l); exact = λ base b f. k.exact base b (rw e at f) }
+
+-- the block that a descriptor describes is found by the base that it gives
+pub finds : (g : Tables) (places : BTreeMap ℕ ℕ) (x : Handle) (w b log tail : ℕ) → KnowsPlaces places g.blocks → x.word ≡ Descriptor w → IsDescribed g x w b log tail → get nat_cmp places (base_by g x w) ≡ Some b
+finds g places x w b log tail k i d = subst (λ n. get nat_cmp places n ≡ Some b) (with-base (base_by g x w) b g.blocks (sym (owner-described g x w i) ∙ d.owner)) (k.complete b d.known)

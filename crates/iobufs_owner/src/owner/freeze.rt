@@ -25,7 +25,7 @@ fn frozen(x: Handle, word: Word) -> Handle
 }
 
 /// Where the block ends under a descriptor with this tail.
-fn end(x: Handle, tail: u64) -> u64
+pub(super) fn end(x: Handle, tail: u64) -> u64
     requires behind_view { x.kind ≡ View → x.ptr + x.len + tail < 2 ^ 64 }
     requires behind_room { x.kind ≡ Mut → x.ptr + x.cap < 2 ^ 64 }
     ensures { result ≡ end_of x tail }

@@ -3,9 +3,10 @@ ghost use Rattle.std.specs.Prelude.{◌≡◌, ℕ, ◌+◌, ◌-◌, ◌^◌, �
 ghost use Rattle.iobufs_owner.specs.declared.owner.types.Word.TheVariants.{Descriptor};
 ghost use Rattle.iobufs_owner.specs.Moves as move;
 ghost use Rattle.iobufs_owner.specs.Moves.{is_lent, lend_of, any_of, owning_of, Lends};
-ghost use Rattle.iobufs_owner.specs.Sound.{IsSound};
-ghost use Rattle.iobufs_owner.specs.State.{handle_at, origin_at, record_at, block_at, owner_of, owned_by};
+ghost use Rattle.iobufs_owner.specs.Sound.{IsSound, IsDescribed};
+ghost use Rattle.iobufs_owner.specs.State.{handle_at, record_at, block_at, owner_of, owned_by};
 
+use crate::owner::freeze::end;
 use crate::owner::{Block, Handle, Kind, Machine, Record, Refusal, Word};
 
 /// One borrow more of a handle.
@@ -149,12 +150,19 @@ impl Machine {
         self.blocks[b]
     }
 
-    /// The number of the block that a handle was made on, 0 where there was none.
-    pub(super) fn origin(&self, h: usize) -> usize
-        requires { h < length self.now.state.handles }
-        ensures { result ≡ origin_at self.now.state h }
+    /// The number of the block that a descriptor of this handle describes: the one at the base that both give.
+    pub(super) fn described(&self, x: Handle, word: u64) -> usize
+        requires word { x.word ≡ Descriptor word }
+        requires says { (b : ℕ) × (log : ℕ) × (tail : ℕ)
+            × IsDescribed self.now.state.tables x word b log tail }
+        ensures { owner_of self.now.state.tables x ≡ Some result }
     {
-        self.origins[h]
+        let fields = self.format.unpack(word);
+        let base = end(x, fields.tail) - fields.size;
+        match self.places.get(&base) {
+            Some(number) => *number,
+            None => unreachable!(),
+        }
     }
 
     /// The number of the block of a handle with a descriptor.
@@ -164,6 +172,8 @@ impl Machine {
         ensures owner { owner_of self.now.state.tables x ≡ Some result }
         ensures number { result ≡ owned_by self.now.state.tables x }
     {
-        self.origins[h]
+        // A look at a field tells the prover what the machine keeps true.
+        let _ = &self.format;
+        self.described(x, word)
     }
 }

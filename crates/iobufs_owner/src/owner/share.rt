@@ -137,7 +137,14 @@ impl Machine {
         requires { call_at self.now.state party ≡ Some (Loaded range word) }
         ensures { result ≡ move.loaded_block self.now.state range.handle word }
     {
-        self.origins[range.handle]
+        let Some(x) = self.find(range.handle) else {
+            unreachable!()
+        };
+        let loaded = Handle {
+            word: Word::Descriptor(word),
+            ..x
+        };
+        self.described(loaded, word)
     }
 
     /// A record is made for the block of the loaded descriptor.
