@@ -19,7 +19,7 @@ use Rattle.iobufs_owner.specs.declared.owner.types.Word.{Word}
 use Rattle.iobufs_owner.specs.declared.owner.types.Word.TheVariants.{Record as Counted}
 use Rattle.iobufs_owner.proofs.Soundness.Counts.{count-append, count-some, count-map, count-less, holders-more, users-more}
 use Rattle.iobufs_owner.proofs.Soundness.Keeps.{Keeps, all-fit-kept, calls-fit-kept, calls-read-kept, releases-kept, owner-kept}
-use Rattle.iobufs_owner.proofs.Soundness.Kept.{at-some, append-at, owner-counted, made-on-more}
+use Rattle.iobufs_owner.proofs.Soundness.Kept.{at-some, append-at, owner-counted}
 use Rattle.iobufs_owner.proofs.Soundness.Frames.{handles-kept, alone-kept, describes-kept, holders-tables, users-tables, not-eqb, is-eqb}
 use Rattle.iobufs_owner.proofs.Soundness.Edits.{fits-at, counted-at, live-inside, alone-shared, describes-counted}
 use Rattle.iobufs_owner.proofs.Soundness.Holders.{alone-holds}
@@ -85,12 +85,12 @@ counted-same g r n l = rw (get_or-set_same g.records r (record { count = n; bloc
 pub counted-other : (g : Tables) (r n q : ℕ) → q ≢ r → (record_at (counted g r n) q).count ≡ (record_at g q).count
 counted-other g r n q ne = rw (get_or-set_other g.records r q (record { count = n; block = (record_at g r).block; live = (record_at g r).live }) (record { count = 0; block = 0; live = false }) ne) refl
 
-pub sound-added : (s : State) (h r o : ℕ) (x y : Handle) → IsSound s → handle_at s h ≡ Some x → x.kind ≡ View → x.word ≡ Counted r → y.kind ≡ View → y.word ≡ Counted r → LiesIn (block_at s.tables (record_at s.tables r).block) y View → (record_at s.tables r).count ≤ s.ceiling → o ≡ (record_at s.tables r).block → length s.handles < 2 ^ 32 → IsSound (with_handle (with_count s r ((record_at s.tables r).count + 1)) y o)
-sound-added s h r org x y k at xv xw yv yw lies low on few =
+pub sound-added : (s : State) (h r : ℕ) (x y : Handle) → IsSound s → handle_at s h ≡ Some x → x.kind ≡ View → x.word ≡ Counted r → y.kind ≡ View → y.word ≡ Counted r → LiesIn (block_at s.tables (record_at s.tables r).block) y View → (record_at s.tables r).count ≤ s.ceiling → length s.handles < 2 ^ 32 → IsSound (with_handle (with_count s r ((record_at s.tables r).count + 1)) y)
+sound-added s h r x y k at xv xw yv yw lies low few =
     let g : Tables = s.tables in
     let n : ℕ = (record_at s.tables r).count + 1 in
     let g' : Tables = counted s.tables r ((record_at s.tables r).count + 1) in
-    let next : State = with_handle (with_count s r ((record_at s.tables r).count + 1)) y org in
+    let next : State = with_handle (with_count s r ((record_at s.tables r).count + 1)) y in
     let b : ℕ = (record_at s.tables r).block in
     let fx = counted-at s h x r k at xw in
     let e = counted-keeps g r n in
@@ -108,7 +108,7 @@ sound-added s h r org x y k at xv xw yv yw lies low on few =
     let inside = live-inside g.records r fx.live in
     let size = k.size in
     record {
-      size = record { wide = size.wide; ceiling = size.ceiling; few_blocks = size.few_blocks; few_records = rw length-set size.few_records; few_handles = rw length-append (omega arith); few_calls = size.few_calls; origins = rw (length-append, size.origins) (rw length-append refl) };
+      size = record { wide = size.wide; ceiling = size.ceiling; few_blocks = size.few_blocks; few_records = rw length-set size.few_records; few_handles = rw length-append (omega arith); few_calls = size.few_calls };
       blocks = (let p = k.blocks in record { places = p.places; apart = p.apart });
       fit = All-push (Fits g' s.calls) s.handles (Some y) (all-fit-kept g g' s.calls s.handles e live k.fit) (subst (λ (v : Word). FitsWord g' s.calls y v) (sym yw) (record {
         live = live r fx.live;
@@ -140,7 +140,6 @@ sound-added s h r org x y k at xv xw yv yw lies low on few =
         | inr i ↦ rw (hm, i.0) (omega (arith, k.capped c))
       ];
       known_users = λ c t. let u = rw um at t in elim (eqb_tells c b) [ inl i ↦ rw i.1 me.known | inr i ↦ k.known_users c (let v = rw i.0 at u in omega (arith, v)) ];
-      made_on = made-on-more s g' y org k (λ i z a. owner-kept g g' s.calls z e (fits-at s i z k a)) (λ c own. on ∙ (let q = sym o ∙ own in cc));
       block_log = block-log-alike g.blocks s.freed_blocks (users (reading s)) (users (reading next)) (λ c t. elim (eqb_tells c b) [ inl i ↦ rw (i.1, um, is-eqb b b refl) (sym (more-some (users (reading s) b) me.used)) | inr i ↦ rw (um, i.0) (ap (λ m. nat_eq m 0) (omega arith)) ]) k.block_log;
       record_log = record-log-counted g.records s.freed_records r (record { count = n; block = (record_at g r).block; live = (record_at g r).live }) inside refl k.record_log;
     }

@@ -20,7 +20,7 @@ use Rattle.iobufs_owner.specs.declared.owner.types.Pending.TheVariants.{Loaded, 
 use Rattle.iobufs_owner.specs.declared.owner.types.Word.TheVariants.{Empty, Descriptor, Record as Counted}
 use Rattle.iobufs_owner.proofs.Soundness.Counts.{count-set, count-some, count-two, count-find, count-sum, holders-changed, users-changed}
 use Rattle.iobufs_owner.proofs.Soundness.Keeps.{keeps-self, call-kept, lent-by, names, fits-kept, owner-kept, live-of, calls-read-kept, releases-kept}
-use Rattle.iobufs_owner.proofs.Soundness.Kept.{at-some, made-on-set, block-log-kept, owner-empty, owner-counted}
+use Rattle.iobufs_owner.proofs.Soundness.Kept.{at-some, block-log-kept, owner-empty, owner-counted}
 use Rattle.iobufs_owner.proofs.Words.{word-log}
 use Rattle.iobufs_owner.proofs.Soundness.Frames.{not-eqb, is-eqb, handles-kept, alone-kept, describes-kept, holders-tables, users-tables}
 use Rattle.iobufs_owner.proofs.Soundness.Edits.{word-fits, word-at, tail-says, behind-as, lies-as, fits-at, alone-at, described-at, counted-at, live-inside, no_block, owner-described, size-says, alone-described, describes-described, alone-written}
@@ -85,7 +85,7 @@ only s h b x k at o one =
       ];
     }
 
--- a call that has made a record borrows a handle of the record's block
+-- a call that has made a record a handle of the record's block
 pub ready-borrows : (s : State) (q i : ℕ) (c : Option Pending) → i < length s.calls → call_at s i ≡ c → readies q c ≡ true → FitsCall s c → (h : ℕ) × (x : Handle) × (handle_at s h ≡ Some x) × (owner_of s.tables x ≡ Some (record_at s.tables q).block) × (is_lent h s.calls ≡ true)
 ready-borrows s q i None l at t f = absurd (cc)
 ready-borrows s q i (Some (Loaded part w)) l at t f = absurd (cc)
@@ -186,7 +186,7 @@ sound-freed_described s h x w o k at free xw is =
     let apart : (q : ℕ) → (record_at g q).live ≡ true → (record_at g q).block ≢ b = λ q t e. (let z = unready s h b q k me free e in let u = rw e at ((k.counted q t).undescribed z) in omega (arith, u, some)) in
     let size = k.size in
     subst (λ (f : Freed). IsSound (replaced (block_freed s f) h o)) (sym (recovered-is s h x w b k at xw ox)) (record {
-      size = record { wide = size.wide; ceiling = size.ceiling; few_blocks = size.few_blocks; few_records = size.few_records; few_handles = rw length-set size.few_handles; few_calls = size.few_calls; origins = rw length-set size.origins };
+      size = record { wide = size.wide; ceiling = size.ceiling; few_blocks = size.few_blocks; few_records = size.few_records; few_handles = rw length-set size.few_handles; few_calls = size.few_calls };
       blocks = k.blocks;
       fit = All-set (Fits g s.calls) s.handles h o n.fits k.fit;
       calls_fit = All-from_get_or (FitsCall next) s.calls None (λ i li. call-kept s next (call_at s i) (record {
@@ -203,7 +203,6 @@ sound-freed_described s h x w o k at free xw is =
       sole = λ c t. let ne : c ≢ b = λ e. (let z = rw e at t in omega (arith, z, lonely)) in hn c ne ∙ k.sole c (omega (arith, t, am c));
       capped = λ c. omega (arith, hm c, k.capped c);
       known_users = λ c t. k.known_users c (omega (arith, t, um c));
-      made_on = made-on-set s g h o k l (λ i z a. refl) (λ c z i own. absurd (n.owner c z i own));
       block_log = block-log-freed g s.freed_blocks b (users (reading s)) (users (reading next)) k.blocks d.3.known (let u = me.users in omega (arith, u)) none (λ c ne. ap (λ m. nat_eq m 0) (un c ne)) k.block_log;
       record_log = k.record_log;
     })
@@ -262,7 +261,7 @@ sound-freed_counted s h x r o k at free xm xw is =
     let apart : (q : ℕ) → (record_at g q).live ≡ true → q ≢ r → (record_at g q).block ≢ b = λ q t ne i. ne (k.one_record q r t f.live (unready s h b q k me free i) f.shown i) in
     let size = k.size in
     record {
-      size = record { wide = size.wide; ceiling = size.ceiling; few_blocks = size.few_blocks; few_records = rw length-set size.few_records; few_handles = rw length-set size.few_handles; few_calls = size.few_calls; origins = rw length-set size.origins };
+      size = record { wide = size.wide; ceiling = size.ceiling; few_blocks = size.few_blocks; few_records = rw length-set size.few_records; few_handles = rw length-set size.few_handles; few_calls = size.few_calls };
       blocks = (let p = k.blocks in record { places = p.places; apart = p.apart });
       fit = All-from_get_or (Fits g' s.calls) (set s.handles h o) None (λ i li. elim (eqb_tells i h) [
         | inl z ↦ rw (z.1, get_or-set_same s.handles h o None l) n.fits
@@ -286,7 +285,6 @@ sound-freed_counted s h x r o k at free xm xw is =
       sole = λ c t. let ne : c ≢ b = λ e. (let z = rw e at t in omega (arith, z, lonely)) in hn c ne ∙ k.sole c (omega (arith, t, am c));
       capped = λ c. omega (arith, hm c, k.capped c);
       known_users = λ c t. k.known_users c (omega (arith, t, um c));
-      made_on = made-on-set s g' h o k l (λ i z a. owner-kept g g' s.calls z e (fits-at s i z k a)) (λ c z i own. absurd (n.owner c z i own));
       block_log = block-log-freed g s.freed_blocks b (users (reading s)) (users (reading next)) k.blocks f.known (let u = me.users in omega (arith, u)) none (λ c ne. ap (λ m. nat_eq m 0) (un c ne)) k.block_log;
       record_log = record-log-dead g.records s.freed_records r (record { count = (record_at g r).count; block = (record_at g r).block; live = false }) inside refl f.live k.record_log;
     }
@@ -351,7 +349,7 @@ sound-gone_empty s h x k at free xw =
     let am : (c : ℕ) → tally (alone g c) (set s.handles h None) ≤ tally (alone g c) s.handles = λ c. let m = count-set (alone g c) s.handles h None None l in omega (arith, m) in
     let size = k.size in
     record {
-      size = record { wide = size.wide; ceiling = size.ceiling; few_blocks = size.few_blocks; few_records = size.few_records; few_handles = rw length-set size.few_handles; few_calls = size.few_calls; origins = rw length-set size.origins };
+      size = record { wide = size.wide; ceiling = size.ceiling; few_blocks = size.few_blocks; few_records = size.few_records; few_handles = rw length-set size.few_handles; few_calls = size.few_calls };
       blocks = k.blocks;
       fit = All-set (Fits g s.calls) s.handles h None tt k.fit;
       calls_fit = All-from_get_or (FitsCall next) s.calls None (λ i li. call-kept s next (call_at s i) (record {
@@ -368,7 +366,6 @@ sound-gone_empty s h x k at free xw =
       sole = λ c t. rw hm (k.sole c (omega (arith, t, am c)));
       capped = λ c. rw hm (k.capped c);
       known_users = λ c t. k.known_users c (rw um at t);
-      made_on = made-on-set s g h None k l (λ i z a. refl) (λ c z i own. absurd (cc));
       block_log = block-log-kept g.blocks s.freed_blocks (users (reading s)) (users (reading next)) um k.block_log;
       record_log = k.record_log;
     }

@@ -16,7 +16,7 @@ use Rattle.iobufs_owner.specs.declared.owner.types.Pending.TheVariants.{Loaded, 
 use Rattle.iobufs_owner.specs.declared.owner.types.Word.TheVariants.{Record as Counted}
 use Rattle.iobufs_owner.proofs.Soundness.Counts.{count-set, count-find}
 use Rattle.iobufs_owner.proofs.Soundness.Keeps.{keeps-self, call-kept, fits-calls, lent-by}
-use Rattle.iobufs_owner.proofs.Soundness.Kept.{at-some, owner-counted, made-on-set, block-log-kept}
+use Rattle.iobufs_owner.proofs.Soundness.Kept.{at-some, owner-counted, block-log-kept}
 use Rattle.iobufs_owner.proofs.Soundness.Frames.{not-eqb, is-eqb}
 use Rattle.iobufs_owner.proofs.WorldSteps.Shown.{get_or-read}
 use Rattle.iobufs_owner.proofs.Soundness.AddHolder.{release-elsewhere}
@@ -69,7 +69,7 @@ sound-dropping s p h r x c k at word view free none lp d =
     let dm : (b : ℕ) → tally (describes g b) (set s.handles h None) ≤ tally (describes g b) s.handles = λ b. omega (arith, count-set (describes g b) s.handles h None None l) in
     let size = k.size in
     record {
-      size = record { wide = size.wide; ceiling = size.ceiling; few_blocks = size.few_blocks; few_records = size.few_records; few_handles = rw length-set size.few_handles; few_calls = rw length-set size.few_calls; origins = rw length-set size.origins };
+      size = record { wide = size.wide; ceiling = size.ceiling; few_blocks = size.few_blocks; few_records = size.few_records; few_handles = rw length-set size.few_handles; few_calls = rw length-set size.few_calls };
       blocks = k.blocks;
       fit = All-from_get_or (Fits g (set s.calls p (Some c))) (set s.handles h None) None (λ i li. elim (eqb_tells i h) [
         | inl z ↦ rw (z.1, get_or-set_same s.handles h None None l) tt
@@ -94,7 +94,6 @@ sound-dropping s p h r x c k at word view free none lp d =
       sole = λ b t. rw hm (k.sole b (omega (arith, am b)));
       capped = λ b. rw hm (k.capped b);
       known_users = λ b t. k.known_users b (rw um at t);
-      made_on = made-on-set s g h None k l (λ i z a. refl) (λ d z i own. absurd (cc));
       block_log = block-log-kept g.blocks s.freed_blocks (users (reading s)) (users (reading next)) um k.block_log;
       record_log = k.record_log;
     }

@@ -330,14 +330,6 @@ pub same-some : (o : Option ℕ) (v : ℕ) (P : Type 0) (w : ℕ) → o ≡ Some
 same-some None v P w e s = absurd (cc)
 same-some (Some u) v P w e s = let q : u ≡ v = cc in sym q ∙ s.1
 
--- the origin of a handle with a descriptor is its block
-pub owned-at : (s : State) (h : ℕ) (x : Handle) (w n : ℕ) → IsSound s → handle_at s h ≡ Some x → x.word ≡ Descriptor w → n ≡ get_or s.origins h n → owner_of s.tables x ≡ Some n
-owned-at s h x w n k at i e =
-    let d = described-at s h x w k at i in
-    let l : h < length s.origins = (let m = at-some s.handles h x at in let q = k.size.origins in omega arith) in
-    let o : n ≡ get_or s.origins h 0 = get_or_read s.origins h n l e 0 in
-    d.3.owner ∙ ap Some (sym (k.made_on h d.0 x at d.3.owner) ∙ sym o)
-
 -- a count never comes near the end of its type
 pub count-small : (s : State) (r : ℕ) → IsSound s → (record_at s.tables r).live ≡ true → hidden s.calls r ≡ 0 → (record_at s.tables r).count ≤ 2 ^ 33
 count-small s r k live z =

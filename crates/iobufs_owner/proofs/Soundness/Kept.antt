@@ -7,7 +7,7 @@ use Rattle.std.proofs.Math.Seq.{get_or-append_seam}
 use Rattle.std.proofs.lemmas.Bool.Decides.{eqb_tells}
 use Rattle.iobufs_owner.specs.Moves.{is_lent, with_handle, edited}
 use Rattle.iobufs_owner.proofs.Soundness.Keeps.{keeps-self, calls-kept}
-use Rattle.iobufs_owner.specs.State.{State, Tables, owner_of, record_at, handle_at, origin_at}
+use Rattle.iobufs_owner.specs.State.{State, Tables, owner_of, record_at, handle_at}
 use Rattle.iobufs_owner.specs.World.{holds, holders, users, tally}
 use Rattle.iobufs_owner.specs.Reading.{reading, read_handle}
 use Rattle.iobufs_owner.specs.Sound.{IsSound, FitsWord, Fits, alone, describes, LogsBlocks}
@@ -64,26 +64,10 @@ at-set hs h i o x l e =
       | inr z ↦ inr (z.1, sym (get_or-set_other hs h i o None z.1) ∙ e)
     ]
 
--- what the origins say, after a handle more and after a handle changed
-pub made-on-more : (s : State) (g : Tables) (y : Handle) (n : ℕ) → IsSound s → ((i : ℕ) (x : Handle) → handle_at s i ≡ Some x → owner_of g x ≡ owner_of s.tables x) → ((b : ℕ) → owner_of g y ≡ Some b → n ≡ b) → (h b : ℕ) (x : Handle) → get_or (s.handles ++ Some y ∷ []) h None ≡ Some x → owner_of g x ≡ Some b → get_or (s.origins ++ n ∷ []) h 0 ≡ b
-made-on-more s g y n k old new h b x at o =
-    let same = k.size.origins in
-    elim (at-more s.handles y h x at) [
-      | inl w ↦ rw (w.0, ← same) (get_or-append_seam s.origins n [] 0 ∙ new b (rw (← w.1) o))
-      | inr w ↦ (let l : h < length s.origins = (let q = w.0 in omega arith) in get_or_append_left s.origins (n ∷ []) 0 h l ∙ k.made_on h b x w.1 (sym (old h x w.1) ∙ o))
-    ]
-
-pub made-on-set : (s : State) (g : Tables) (h : ℕ) (o : Option Handle) → IsSound s → h < length s.handles → ((i : ℕ) (x : Handle) → handle_at s i ≡ Some x → owner_of g x ≡ owner_of s.tables x) → ((b : ℕ) (x : Handle) → o ≡ Some x → owner_of g x ≡ Some b → origin_at s h ≡ b) → (i b : ℕ) (x : Handle) → get_or (set s.handles h o) i None ≡ Some x → owner_of g x ≡ Some b → origin_at s i ≡ b
-made-on-set s g h o k l old new i b x at own =
-    elim (at-set s.handles h i o x l at) [
-      | inl w ↦ rw w.0 (new b x w.1 own)
-      | inr w ↦ k.made_on i b x w.1 (sym (old i x w.1) ∙ own)
-    ]
-
 -- a handle without block more
-pub sound-detached : (s : State) (x : Handle) (n : ℕ) → IsSound s → x.word ≡ Empty → FitsWord s.tables s.calls x x.word → length s.handles < 2 ^ 32 → IsSound (with_handle s x n)
-sound-detached s x m k e f l =
-    let next : State = with_handle s x m in
+pub sound-detached : (s : State) (x : Handle) → IsSound s → x.word ≡ Empty → FitsWord s.tables s.calls x x.word → length s.handles < 2 ^ 32 → IsSound (with_handle s x)
+sound-detached s x k e f l =
+    let next : State = with_handle s x in
     let o = owner-empty s.tables x e in
     let hold : (b : ℕ) → holds b (read_handle s.tables (Some x)) ≡ false = λ b. rw o refl in
     let n : (b : ℕ) → holders (reading next) b ≡ holders (reading s) b = λ b. rw (holders-more s (Some x) b, hold) (omega arith) in
@@ -92,7 +76,7 @@ sound-detached s x m k e f l =
     let d : (b : ℕ) → tally (describes s.tables b) (s.handles ++ Some x ∷ []) ≡ tally (describes s.tables b) s.handles = λ b. rw count-append (rw o (omega arith)) in
     let size = k.size in
     record {
-      size = record { wide = size.wide; ceiling = size.ceiling; few_blocks = size.few_blocks; few_records = size.few_records; few_handles = rw length-append (omega arith); few_calls = size.few_calls; origins = rw (length-append, size.origins) (rw length-append refl) };
+      size = record { wide = size.wide; ceiling = size.ceiling; few_blocks = size.few_blocks; few_records = size.few_records; few_handles = rw length-append (omega arith); few_calls = size.few_calls };
       blocks = k.blocks;
       fit = All-push (Fits s.tables s.calls) s.handles (Some x) k.fit f;
       calls_fit = calls-kept s next refl (keeps-self s.tables) (λ r t. t) (λ i y b a. append-at s.handles (Some x) i y a) k.fit (λ i y a. at-some s.handles i y a) (λ b l. n b) (λ r live. (k.counted r live).known) k.calls_fit;
@@ -102,7 +86,6 @@ sound-detached s x m k e f l =
       sole = λ b h. rw n (k.sole b (rw a at h));
       capped = λ b. rw n (k.capped b);
       known_users = λ b h. k.known_users b (rw u at h);
-      made_on = made-on-more s s.tables x m k (λ i y at. refl) (λ b own. absurd (let q = sym o ∙ own in cc));
       block_log = block-log-kept s.tables.blocks s.freed_blocks (users (reading s)) (users (reading next)) u k.block_log;
       record_log = k.record_log;
     }
@@ -124,7 +107,7 @@ sound-edited s h x y k at free o same only f =
     let d : (b : ℕ) → tally (describes s.tables b) (set s.handles h (Some y)) ≡ tally (describes s.tables b) s.handles = λ b. let e = rw (at, same b) at (count-set (describes s.tables b) s.handles h (Some y) None l) in omega (arith, e) in
     let size = k.size in
     record {
-      size = record { wide = size.wide; ceiling = size.ceiling; few_blocks = size.few_blocks; few_records = size.few_records; few_handles = rw length-set size.few_handles; few_calls = size.few_calls; origins = rw length-set size.origins };
+      size = record { wide = size.wide; ceiling = size.ceiling; few_blocks = size.few_blocks; few_records = size.few_records; few_handles = rw length-set size.few_handles; few_calls = size.few_calls };
       blocks = k.blocks;
       fit = All-set (Fits s.tables s.calls) s.handles h (Some y) f k.fit;
       calls_fit = calls-kept s next refl (keeps-self s.tables) (λ r t. t) (λ i z b a. set-at s.handles h i (Some y) z (λ e. let q = rw e at b in absurd (cc)) a) k.fit (λ i z a. at-some s.handles i z a) (λ b l. n b) (λ r live. (k.counted r live).known) k.calls_fit;
@@ -134,7 +117,6 @@ sound-edited s h x y k at free o same only f =
       sole = λ b p. rw n (alone-edited s.tables s.handles h y b l (k.sole b) (only b) p);
       capped = λ b. rw n (k.capped b);
       known_users = λ b e. k.known_users b (rw u at e);
-      made_on = made-on-set s s.tables h (Some y) k l (λ i z at. refl) (λ b z e own. k.made_on h b x at (sym o ∙ (let q : y ≡ z = cc in rw q own)));
       block_log = block-log-kept s.tables.blocks s.freed_blocks (users (reading s)) (users (reading next)) u k.block_log;
       record_log = k.record_log;
     }

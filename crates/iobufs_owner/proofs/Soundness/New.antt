@@ -15,7 +15,7 @@ use Rattle.iobufs_owner.specs.declared.owner.types.Handle.{Handle}
 use Rattle.iobufs_owner.specs.declared.owner.types.Word.TheVariants.{Descriptor}
 use Rattle.iobufs_owner.proofs.Words.{unpack-size}
 use Rattle.iobufs_owner.proofs.Soundness.Keeps.{all-fit-kept, calls-kept, owner-kept}
-use Rattle.iobufs_owner.proofs.Soundness.Kept.{at-some, append-at, made-on-more}
+use Rattle.iobufs_owner.proofs.Soundness.Kept.{at-some, append-at}
 use Rattle.iobufs_owner.proofs.Soundness.Counts.{count-append, holders-more, users-more, holders-le-users}
 use Rattle.iobufs_owner.proofs.Soundness.Frames.{grown, grown-keeps, with-fresh, handles-kept, alone-kept, describes-kept, holders-tables, users-tables, not-eqb, is-eqb}
 use Rattle.iobufs_owner.proofs.Soundness.Edits.{no_block, fits-at}
@@ -55,13 +55,13 @@ placed-more g b k good = record {
   apart = λ c d h l. made-apart g b k.apart good.apart c d h (rw length-append at l);
 }
 
-pub sound-made : (s : State) (b : Block) (log w : ℕ) → IsSound s → IsGoodPlace s.tables.blocks b.base b.size b.align → b.external ≡ false → b.align ≡ 2 ^ log → HasRoom s.tables.align_bits s.tables.tail_bits s.tables.size_bits b.size log 0 → w ≡ word_of s.tables.align_bits s.tables.tail_bits b.size log 0 → length s.tables.blocks < 2 ^ 32 → length s.handles < 2 ^ 32 → IsSound (with_handle (with_block s b) (first_handle b (Descriptor w)) (length s.tables.blocks))
+pub sound-made : (s : State) (b : Block) (log w : ℕ) → IsSound s → IsGoodPlace s.tables.blocks b.base b.size b.align → b.external ≡ false → b.align ≡ 2 ^ log → HasRoom s.tables.align_bits s.tables.tail_bits s.tables.size_bits b.size log 0 → w ≡ word_of s.tables.align_bits s.tables.tail_bits b.size log 0 → length s.tables.blocks < 2 ^ 32 → length s.handles < 2 ^ 32 → IsSound (with_handle (with_block s b) (first_handle b (Descriptor w)))
 sound-made s b log w k good native al room is few fewer =
     let g : Tables = s.tables in
     let n : ℕ = length s.tables.blocks in
     let g' : Tables = grown s.tables b in
     let x : Handle = first_handle b (Descriptor w) in
-    let next : State = with_handle (with_block s b) (first_handle b (Descriptor w)) (length s.tables.blocks) in
+    let next : State = with_handle (with_block s b) (first_handle b (Descriptor w)) in
     let o : owner_of g' x ≡ Some n = first-owner g b log w k.blocks.places good room is in
     let e = grown-keeps g b in
     let hs = handles-kept g g' s.calls s.handles e k.fit in
@@ -75,7 +75,7 @@ sound-made s b log w k good native al room is few fewer =
     let one : users (reading next) n ≡ 1 = (let u = rw (is-eqb n n refl) at (um n) in omega (arith, u, unused)) in
     let size = k.size in
     record {
-      size = record { wide = size.wide; ceiling = size.ceiling; few_blocks = rw length-append (omega arith); few_records = size.few_records; few_handles = rw length-append (omega arith); few_calls = size.few_calls; origins = rw (length-append, size.origins) (rw length-append refl) };
+      size = record { wide = size.wide; ceiling = size.ceiling; few_blocks = rw length-append (omega arith); few_records = size.few_records; few_handles = rw length-append (omega arith); few_calls = size.few_calls };
       blocks = placed-more g b k.blocks good;
       fit = All-push (Fits g' s.calls) s.handles (Some x) (all-fit-kept g g' s.calls s.handles e (λ r t. t) k.fit) (
         n,
@@ -111,7 +111,6 @@ sound-made s b log w k good native al room is few fewer =
         | inl i ↦ (let q = i.1 in omega arith)
         | inr i ↦ (let q = rw i.0 at p in omega (arith, k.known_users c (omega (arith, q))))
       ]);
-      made_on = made-on-more s g' x n k (λ i y a. owner-kept g g' s.calls y e (fits-at s i y k a)) (λ c own. let q = sym o ∙ own in cc);
       block_log = block-log-more g b s.freed_blocks (users (reading s)) (users (reading next)) other one (λ c l. rw (um, not-eqb c n (omega arith)) (omega arith)) k.block_log;
       record_log = k.record_log;
     }

@@ -32,7 +32,7 @@ pub sound-fresh : (a t z ceiling parties : ℕ) → 1 + a + t + z ≤ 64 → 0 <
 sound-fresh a t z c n wide some few =
     let s : State = fresh a t z c n in
     record {
-      size = record { wide = wide; ceiling = some; few_blocks = omega arith; few_records = omega arith; few_handles = omega arith; few_calls = rw length-replicate few; origins = refl };
+      size = record { wide = wide; ceiling = some; few_blocks = omega arith; few_records = omega arith; few_handles = omega arith; few_calls = rw length-replicate few };
       blocks = record { places = All-nil (λ (b : Block). IsPlace b.base b.size b.align); apart = λ b d h l. absurd (omega arith) };
       fit = All-nil (Fits s.tables s.calls);
       calls_fit = All-replicate (FitsCall s) n None tt;
@@ -42,7 +42,6 @@ sound-fresh a t z c n wide some few =
       sole = λ b h. absurd (omega arith);
       capped = λ b. omega (arith, no-users a t z c n b, holders-le-users (reading s) b);
       known_users = λ b h. absurd (omega (arith, no-users a t z c n b));
-      made_on = λ h b x e o. absurd (cc);
       block_log = record { freed = λ b h. absurd (omega arith); known = All-nil (λ (f : Freed). _); once = λ i j d h l. absurd (omega arith); many = refl };
       record_log = record { exact = λ r l. absurd (omega arith); known = All-nil (λ (r : ℕ). _); once = λ i j d h l. absurd (omega arith); many = refl };
     }

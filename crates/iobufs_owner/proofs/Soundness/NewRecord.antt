@@ -21,7 +21,7 @@ use Rattle.iobufs_owner.specs.declared.owner.types.Pending.TheVariants.{Loaded, 
 use Rattle.iobufs_owner.specs.declared.owner.types.Word.{Word}
 use Rattle.iobufs_owner.specs.declared.owner.types.Word.TheVariants.{Descriptor, Record as Counted}
 use Rattle.iobufs_owner.proofs.Soundness.Keeps.{Keeps, all-fit-kept, calls-kept, calls-read-kept, releases-kept, owner-kept}
-use Rattle.iobufs_owner.proofs.Soundness.Kept.{at-some, append-at, set-at, made-on-more, made-on-set, owner-counted, block-log-kept}
+use Rattle.iobufs_owner.proofs.Soundness.Kept.{at-some, append-at, set-at, owner-counted, block-log-kept}
 use Rattle.iobufs_owner.proofs.Soundness.Counts.{count-append, count-set, count-find, holders-more, users-more, holders-changed, users-changed, holders-le-users}
 use Rattle.iobufs_owner.proofs.Soundness.Frames.{grown, grown-keeps, handles-kept, alone-kept, describes-kept, holders-tables, users-tables, not-eqb, is-eqb}
 use Rattle.iobufs_owner.proofs.Soundness.Edits.{lies-as, fits-at, live-inside, described-at, alone-at, alone-described, describes-described, describes-counted, alone-shared}
@@ -95,13 +95,13 @@ both-keeps g b =
 no-alone : (g : Tables) (c n : ℕ) (x : Handle) → owner_of g x ≡ Some n → c ≢ n → alone g c (Some x) ≡ false
 no-alone g c n x o ne = rw (o, not-eqb c n ne) refl
 
-pub sound-recorded : (s : State) (b : Block) (x : Handle) → IsSound s → IsGoodPlace s.tables.blocks b.base b.size b.align → x.word ≡ Counted (length s.tables.records) → LiesIn b x x.kind → (x.kind ≡ Mut → b.external ≡ false) → length s.tables.blocks < 2 ^ 32 → length s.tables.records < 2 ^ 32 → length s.handles < 2 ^ 32 → IsSound (with_handle (with_record (with_block s b) 1 (length s.tables.blocks)) x (length s.tables.blocks))
+pub sound-recorded : (s : State) (b : Block) (x : Handle) → IsSound s → IsGoodPlace s.tables.blocks b.base b.size b.align → x.word ≡ Counted (length s.tables.records) → LiesIn b x x.kind → (x.kind ≡ Mut → b.external ≡ false) → length s.tables.blocks < 2 ^ 32 → length s.tables.records < 2 ^ 32 → length s.handles < 2 ^ 32 → IsSound (with_handle (with_record (with_block s b) 1 (length s.tables.blocks)) x)
 sound-recorded s b x k good xw lies native few few' fewer =
     let g : Tables = s.tables in
     let n : ℕ = length s.tables.blocks in
     let r : ℕ = length s.tables.records in
     let g' : Tables = both s.tables b in
-    let next : State = with_handle (with_record (with_block s b) 1 (length s.tables.blocks)) x (length s.tables.blocks) in
+    let next : State = with_handle (with_record (with_block s b) 1 (length s.tables.blocks)) x in
     let new : record_at g' r ≡ record { count = 1; block = length s.tables.blocks; live = true } = recorded-new (grown s.tables b) 1 (length s.tables.blocks) in
     let new-block : (record_at g' r).block ≡ n = ap (λ (v : Record). v.block) new in
     let o : owner_of g' x ≡ Some n = owner-counted g' x r xw ∙ ap Some new-block in
@@ -122,7 +122,7 @@ sound-recorded s b x k good xw lies native few few' fewer =
     let shown = unhidden-next s k in
     let size = k.size in
     record {
-      size = record { wide = size.wide; ceiling = size.ceiling; few_blocks = rw length-append (omega arith); few_records = rw length-append (omega arith); few_handles = rw length-append (omega arith); few_calls = size.few_calls; origins = rw (length-append, size.origins) (rw length-append refl) };
+      size = record { wide = size.wide; ceiling = size.ceiling; few_blocks = rw length-append (omega arith); few_records = rw length-append (omega arith); few_handles = rw length-append (omega arith); few_calls = size.few_calls };
       blocks = (let p = placed-more g b k.blocks good in record { places = p.places; apart = p.apart });
       fit = All-push (Fits g' s.calls) s.handles (Some x) (all-fit-kept g g' s.calls s.handles e live k.fit) (subst (λ (v : Word). FitsWord g' s.calls x v) (sym xw) (record {
         live = ap (λ (v : Record). v.live) new;
@@ -162,7 +162,6 @@ sound-recorded s b x k good xw lies native few few' fewer =
         | inl i ↦ (let q = i.1 in omega arith)
         | inr i ↦ (let q = rw i.0 at p in omega (arith, k.known_users c (omega (arith, q))))
       ]);
-      made_on = made-on-more s g' x n k (λ i y a. owner-kept g g' s.calls y e (fits-at s i y k a)) (λ c own. let q = sym o ∙ own in cc);
       block_log = block-log-more g b s.freed_blocks (users (reading s)) (users (reading next)) other one (λ c l. rw (um, not-eqb c n (omega arith)) (omega arith)) k.block_log;
       record_log = record-log-more g.records s.freed_records (record { count = 1; block = length s.tables.blocks; live = true }) refl k.record_log;
     }
@@ -204,7 +203,7 @@ sound-promoted s h x y w b k at free xw ox kb yw yv lies few =
     let size = k.size in
     let lie : LiesIn (block_at g' (record_at g' r).block) y y.kind = rw (new-block) (subst (λ (q : Kind). LiesIn (block_at g b) y q) (sym yv) lies) in
     record {
-      size = record { wide = size.wide; ceiling = size.ceiling; few_blocks = size.few_blocks; few_records = rw length-append (omega arith); few_handles = rw length-set size.few_handles; few_calls = size.few_calls; origins = rw length-set size.origins };
+      size = record { wide = size.wide; ceiling = size.ceiling; few_blocks = size.few_blocks; few_records = rw length-append (omega arith); few_handles = rw length-set size.few_handles; few_calls = size.few_calls };
       blocks = (let p = k.blocks in record { places = p.places; apart = p.apart });
       fit = All-set (Fits g' s.calls) s.handles h (Some y) (subst (λ (v : Word). FitsWord g' s.calls y v) (sym yw) (record {
         live = ap (λ (v : Record). v.live) new;
@@ -233,7 +232,6 @@ sound-promoted s h x y w b k at free xw ox kb yw yv lies few =
       sole = λ c t. hm c ∙ k.sole c (omega (arith, t, am c));
       capped = λ c. rw hm (k.capped c);
       known_users = λ c t. k.known_users c (rw um at t);
-      made_on = made-on-set s g' h (Some y) k l (λ i z a. owner-kept g g' s.calls z e (fits-at s i z k a)) (λ c z i own. k.made_on h c x at (ox ∙ sym oy ∙ (let q : y ≡ z = cc in rw q own)));
       block_log = block-log-kept g.blocks s.freed_blocks (users (reading s)) (users (reading next)) um k.block_log;
       record_log = record-log-more g.records s.freed_records (record { count = 1; block = b; live = true }) refl k.record_log;
     }

@@ -147,7 +147,7 @@ sound-released s p r v k at =
     let none : users (reading next) b ≡ 0 = (let z = rw (is-eqb b b refl, last.users) at (um b) in omega (arith, z)) in
     let size = k.size in
     record {
-      size = record { wide = size.wide; ceiling = size.ceiling; few_blocks = size.few_blocks; few_records = rw length-set size.few_records; few_handles = size.few_handles; few_calls = rw length-set size.few_calls; origins = size.origins };
+      size = record { wide = size.wide; ceiling = size.ceiling; few_blocks = size.few_blocks; few_records = rw length-set size.few_records; few_handles = size.few_handles; few_calls = rw length-set size.few_calls };
       blocks = (let q = k.blocks in record { places = q.places; apart = q.apart });
       fit = All-from_get_or (Fits g' (set s.calls p None)) s.handles None (λ i li. fit-released s p r (get_or s.handles i None) hid last.none i refl (k.fit i None li));
       calls_fit = All-from_get_or (FitsCall next) (set s.calls p None) None (λ i li.
@@ -184,7 +184,6 @@ sound-released s p r v k at =
         | inr i ↦ rw (hm c i.1) (k.capped c)
       ];
       known_users = λ c t. k.known_users c (omega (arith, um c));
-      made_on = λ h d y a o. k.made_on h d y a (sym (owner-kept g g' s.calls y e (fits-at s h y k a)) ∙ o);
       block_log = block-log-freed g s.freed_blocks b (users (reading s)) (users (reading next)) k.blocks me.known me.used none (λ c ne. let z = rw (not-eqb c b ne) at (um c) in ap (λ m. nat_eq m 0) (omega (arith, z))) k.block_log;
       record_log = record-log-dead g.records s.freed_records r (record { count = (record_at g r).count; block = (record_at g r).block; live = false }) inside refl f.0 k.record_log;
     }

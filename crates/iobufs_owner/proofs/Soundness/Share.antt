@@ -19,7 +19,7 @@ use Rattle.iobufs_owner.specs.declared.owner.types.Word.{Word}
 use Rattle.iobufs_owner.specs.declared.owner.types.Word.TheVariants.{Empty, Descriptor, Record as Counted}
 use Rattle.iobufs_owner.proofs.Soundness.Counts.{count-set, count-some, count-two}
 use Rattle.iobufs_owner.proofs.Soundness.Keeps.{Keeps, keeps-self, names, call-kept, calls-read-kept, releases-kept, owner-kept, fits-kept, fits-calls, live-of, shares-kept, promised-kept, described-kept}
-use Rattle.iobufs_owner.proofs.Soundness.Kept.{at-some, made-on-set, owner-counted, block-log-kept}
+use Rattle.iobufs_owner.proofs.Soundness.Kept.{at-some, owner-counted, block-log-kept}
 use Rattle.iobufs_owner.proofs.Soundness.Frames.{handles-kept, alone-kept, describes-kept, holders-tables, users-tables, not-eqb, is-eqb}
 use Rattle.iobufs_owner.proofs.Soundness.Edits.{fits-at, described-at, counted-at, alone-at, live-inside, lies-as, alone-described, describes-described, describes-counted, alone-shared}
 use Rattle.iobufs_owner.proofs.Soundness.Holders.{describes-few, owner-used}
@@ -98,7 +98,7 @@ sound-called s p c k l q r f =
     let leaves = λ (o : Option Pending). call-kept s next o (record { tables = keeps-self g; live = λ n _ t. t; hidden = λ n _. hid n; handle = λ i x _ a. a; owner = λ i x a. refl; holders = λ n v _. hm (record_at g n).block }) in
     let size = k.size in
     record {
-      size = record { wide = size.wide; ceiling = size.ceiling; few_blocks = size.few_blocks; few_records = size.few_records; few_handles = size.few_handles; few_calls = rw length-set size.few_calls; origins = size.origins };
+      size = record { wide = size.wide; ceiling = size.ceiling; few_blocks = size.few_blocks; few_records = size.few_records; few_handles = size.few_handles; few_calls = rw length-set size.few_calls };
       blocks = k.blocks;
       fit = All-from_get_or (Fits g (set s.calls p c)) s.handles None (λ i li. fit-called g s.calls (set s.calls p c) (λ n. omega (arith, hid n)) (get_or s.handles i None) (k.fit i None li));
       calls_fit = All-from_get_or (FitsCall next) (set s.calls p c) None (λ i li.
@@ -113,7 +113,6 @@ sound-called s p c k l q r f =
       sole = λ b t. rw hm (k.sole b t);
       capped = λ b. rw hm (k.capped b);
       known_users = λ b t. k.known_users b (rw um at t);
-      made_on = k.made_on;
       block_log = block-log-kept g.blocks s.freed_blocks (users (reading s)) (users (reading next)) um k.block_log;
       record_log = k.record_log;
     }
@@ -176,7 +175,7 @@ sound-readied s p part w b x k at ld few =
     let leaves = λ (o : Option Pending). call-kept s next o (record { tables = e; live = λ n _ t. live n t; hidden = λ n t. old n (live-inside g.records n t); handle = λ i y _ a. a; owner = λ i y a. owner-kept g g' s.calls y e (fits-at s i y k a); holders = λ n v _. hm (record_at g n).block }) in
     let size = k.size in
     record {
-      size = record { wide = size.wide; ceiling = size.ceiling; few_blocks = size.few_blocks; few_records = rw length-append (omega arith); few_handles = size.few_handles; few_calls = rw length-set size.few_calls; origins = size.origins };
+      size = record { wide = size.wide; ceiling = size.ceiling; few_blocks = size.few_blocks; few_records = rw length-append (omega arith); few_handles = size.few_handles; few_calls = rw length-set size.few_calls };
       blocks = (let q = k.blocks in record { places = q.places; apart = q.apart });
       fit = All-from_get_or (Fits g' (set s.calls p c)) s.handles None (λ i li. fit-readied s 2 b (set s.calls p c) old (get_or s.handles i None) (k.fit i None li));
       calls_fit = All-from_get_or (FitsCall next) (set s.calls p c) None (λ i li.
@@ -209,7 +208,6 @@ sound-readied s p part w b x k at ld few =
       sole = λ d t. rw hm (k.sole d (rw (alone-kept g g' s.calls d s.handles e k.fit) at t));
       capped = λ d. rw hm (k.capped d);
       known_users = λ d t. k.known_users d (rw um at t);
-      made_on = λ h d y a o. k.made_on h d y a (sym (owner-kept g g' s.calls y e (fits-at s h y k a)) ∙ o);
       block_log = block-log-kept g.blocks s.freed_blocks (users (reading s)) (users (reading next)) um k.block_log;
       record_log = record-log-more g.records s.freed_records (record { count = 2; block = b; live = true }) refl k.record_log;
     }
@@ -339,7 +337,7 @@ sound-shown s p r w part x k atp at word =
     let old : (q : ℕ) → q ≢ r → hidden (set s.calls p None) q ≡ 0 → hidden s.calls q ≡ 0 = λ q ne z. (let u = rw (not-eqb q r ne) at (hid q) in omega (arith, u)) in
     let size = k.size in
     record {
-      size = record { wide = size.wide; ceiling = size.ceiling; few_blocks = size.few_blocks; few_records = rw length-set size.few_records; few_handles = rw length-set size.few_handles; few_calls = rw length-set size.few_calls; origins = rw length-set size.origins };
+      size = record { wide = size.wide; ceiling = size.ceiling; few_blocks = size.few_blocks; few_records = rw length-set size.few_records; few_handles = rw length-set size.few_handles; few_calls = rw length-set size.few_calls };
       blocks = (let q = k.blocks in record { places = q.places; apart = q.apart });
       fit = All-from_get_or (Fits g' (set s.calls p None)) (set s.handles h (Some y)) None (λ i li. elim (eqb_tells i h) [
         | inl z ↦ rw (z.1, get_or-set_same s.handles h (Some y) None l) (record {
@@ -396,7 +394,6 @@ sound-shown s p r w part x k atp at word =
       sole = λ c t. hm c ∙ k.sole c (omega (arith, am c));
       capped = λ c. rw hm (k.capped c);
       known_users = λ c t. k.known_users c (rw um at t);
-      made_on = made-on-set s g' h (Some y) k l (λ i z a. owner-kept g g' s.calls z e (fits-at s i z k a)) (λ d z i own. k.made_on h d x at (o ∙ sym oy ∙ (let q : y ≡ z = cc in rw q own)));
       block_log = block-log-kept g.blocks s.freed_blocks (users (reading s)) (users (reading next)) um k.block_log;
       record_log = record-log-counted g.records s.freed_records r (record { count = 1; block = (record_at g r).block; live = (record_at g r).live }) (live-inside g.records r f.4) refl k.record_log;
     }
@@ -417,7 +414,7 @@ twice g r l two =
     let same : record { count = (record_at (counted g r 1) r).count + 1; block = (record_at (counted g r 1) r).block; live = (record_at (counted g r 1) r).live } ≡ record_at g r = ap (λ (n : ℕ). record { count = n + 1; block = (record_at (counted g r 1) r).block; live = (record_at (counted g r 1) r).live }) c ∙ ap (λ (n : ℕ). record { count = 2; block = n; live = (record_at (counted g r 1) r).live }) b ∙ ap (λ (n : Bool). record { count = 2; block = (record_at g r).block; live = n }) v ∙ ap (λ (n : ℕ). record { count = n; block = (record_at g r).block; live = (record_at g r).live }) (sym two) in
     ap (λ (rs : List Record). record g { records = rs }) (set-set g.records r (record { count = 1; block = (record_at g r).block; live = (record_at g r).live }) (record { count = (record_at (counted g r 1) r).count + 1; block = (record_at (counted g r 1) r).block; live = (record_at (counted g r 1) r).live }) ∙ set-get g.records r (record { count = (record_at (counted g r 1) r).count + 1; block = (record_at (counted g r 1) r).block; live = (record_at (counted g r 1) r).live }) no_record l same)
 
-pub sound-won : (s : State) (p r w : ℕ) (k : Share) (x : Handle) → IsSound s → call_at s p ≡ Some (Ready k w r) → handle_at s k.handle ≡ Some x → x.word ≡ Descriptor w → length s.handles < 2 ^ 32 → IsSound (with_handle (called (edited s k.handle (by_record x r)) p None) (part x k.lo k.hi (Counted r)) (record_at s.tables r).block)
+pub sound-won : (s : State) (p r w : ℕ) (k : Share) (x : Handle) → IsSound s → call_at s p ≡ Some (Ready k w r) → handle_at s k.handle ≡ Some x → x.word ≡ Descriptor w → length s.handles < 2 ^ 32 → IsSound (with_handle (called (edited s k.handle (by_record x r)) p None) (part x k.lo k.hi (Counted r)))
 sound-won s p r w part' x k at atx xw few =
     let g : Tables = s.tables in
     let f : FitsCall s (Some (Ready part' w r)) = subst (λ (c : Option Pending). FitsCall s c) at (k.calls_fit p None (at-some s.calls p (Ready part' w r) at)) in
@@ -440,8 +437,8 @@ sound-won s p r w part' x k at atx xw few =
     let front : Handle = part x part'.lo part'.hi (Counted r) in
     let liesf : LiesIn (block_at g f.1) front View = (omega (arith, lies.0), omega (arith, lies.1, order, within), refl) in
     let ceiling = k.size.ceiling in
-    let added = sound-added s1 part'.handle r (record_at s.tables r).block y front one at1 sh.view refl refl refl (subst (λ (n : ℕ). LiesIn (block_at g n) front View) (sym f.5 ∙ sym block1) liesf) (omega (arith, count1, ceiling)) (sym block1) (rw length-set few) in
-    subst (λ (g : Tables). IsSound (record s { tables = g; handles = set s.handles part'.handle (Some (by_record x r)) ++ Some (part x part'.lo part'.hi (Counted r)) ∷ []; origins = s.origins ++ (record_at s.tables r).block ∷ []; calls = set s.calls p None })) (twice s.tables r inside two) added
+    let added = sound-added s1 part'.handle r y front one at1 sh.view refl refl refl (subst (λ (n : ℕ). LiesIn (block_at g n) front View) (sym f.5 ∙ sym block1) liesf) (omega (arith, count1, ceiling)) (rw length-set few) in
+    subst (λ (g : Tables). IsSound (record s { tables = g; handles = set s.handles part'.handle (Some (by_record x r)) ++ Some (part x part'.lo part'.hi (Counted r)) ∷ []; calls = set s.calls p None })) (twice s.tables r inside two) added
 
 -- ---- the race is lost: the record is freed, and the call will add to the winner's
 
@@ -524,7 +521,7 @@ sound-lost s p r w winner part' x k at atx xw =
     let rel : (d : ℕ) → tally (releases g' d) (set s.calls p c) ≡ tally (releases g d) s.calls = λ d. count-calls (releases g' d) s.calls p c None l (ap (releases g' d) at) refl ∙ releases-kept s g' d s.calls e k.calls_fit in
     let size = k.size in
     record {
-      size = record { wide = size.wide; ceiling = size.ceiling; few_blocks = size.few_blocks; few_records = rw length-set size.few_records; few_handles = size.few_handles; few_calls = rw length-set size.few_calls; origins = size.origins };
+      size = record { wide = size.wide; ceiling = size.ceiling; few_blocks = size.few_blocks; few_records = rw length-set size.few_records; few_handles = size.few_handles; few_calls = rw length-set size.few_calls };
       blocks = (let q = k.blocks in record { places = q.places; apart = q.apart });
       fit = All-from_get_or (Fits g' (set s.calls p c)) s.handles None (λ i li. fit-lost s r (set s.calls p c) hidr less (get_or s.handles i None) (k.fit i None li));
       calls_fit = All-from_get_or (FitsCall next) (set s.calls p c) None (λ i li.
@@ -553,7 +550,6 @@ sound-lost s p r w winner part' x k at atx xw =
       sole = λ d t. rw hm (k.sole d (rw (alone-kept g g' s.calls d s.handles e k.fit) at t));
       capped = λ d. rw hm (k.capped d);
       known_users = λ d t. k.known_users d (rw um at t);
-      made_on = λ h d y a o. k.made_on h d y a (sym (owner-kept g g' s.calls y e (fits-at s h y k a)) ∙ o);
       block_log = block-log-kept g.blocks s.freed_blocks (users (reading s)) (users (reading next)) um k.block_log;
       record_log = record-log-dead g.records s.freed_records r (record { count = (record_at g r).count; block = (record_at g r).block; live = false }) inside refl f.4 k.record_log;
     }
@@ -596,7 +592,7 @@ pub racing-at : (s : State) (p : ℕ) (k : Share) (w r : ℕ) (x : Handle) → I
 racing-at s p k w r x i at h = let a = racing s p k w r i at in subst (λ (y : Handle). IsRacing s k w r y) (some-same a.0 x (sym a.1.shares.at ∙ h)) a.1
 
 -- a finished addition
-pub sound-added-call : (s : State) (p r : ℕ) (k : Share) (x : Handle) → IsSound s → call_at s p ≡ Some (Add k r) → handle_at s k.handle ≡ Some x → (record_at s.tables r).count ≤ s.ceiling → length s.handles < 2 ^ 32 → IsSound (with_handle (called (with_count s r ((record_at s.tables r).count + 1)) p None) (part x k.lo k.hi (Counted r)) (record_at s.tables r).block)
+pub sound-added-call : (s : State) (p r : ℕ) (k : Share) (x : Handle) → IsSound s → call_at s p ≡ Some (Add k r) → handle_at s k.handle ≡ Some x → (record_at s.tables r).count ≤ s.ceiling → length s.handles < 2 ^ 32 → IsSound (with_handle (called (with_count s r ((record_at s.tables r).count + 1)) p None) (part x k.lo k.hi (Counted r)))
 sound-added-call s p r k x i at h low few =
     let a = adding-at s p k r x i at h in
     let c = counted-at s k.handle x r i h a.word in
@@ -604,8 +600,8 @@ sound-added-call s p r k x i at h low few =
     let order = a.shares.order in
     let within = a.shares.within in
     let y : Handle = part x k.lo k.hi (Counted r) in
-    let one = sound-added s k.handle r (record_at s.tables r).block x y i h a.shares.view a.word refl refl (omega (arith, lies.0), omega (arith, lies.1, order, within), refl) low refl few in
-    let s1 : State = with_handle (with_count s r ((record_at s.tables r).count + 1)) (part x k.lo k.hi (Counted r)) (record_at s.tables r).block in
+    let one = sound-added s k.handle r x y i h a.shares.view a.word refl refl (omega (arith, lies.0), omega (arith, lies.1, order, within), refl) low few in
+    let s1 : State = with_handle (with_count s r ((record_at s.tables r).count + 1)) (part x k.lo k.hi (Counted r)) in
     sound-called s1 p None one (at-some s.calls p (Add k r) at) (subst (λ (c : Option Pending). IsQuiet s1 c) (sym at) (quiet-add s1 k r)) (quiet-none s1) tt
 
 -- the block of a loaded call
@@ -614,9 +610,3 @@ held-loading s p k w i at =
     let l = loading s p k w i at in
     let e : loaded_block s k.handle w ≡ l.1 = ap (λ (o : Option Handle). loaded_found s w o) l.2.shares.at ∙ ap (λ (o : Option ℕ). unwrap_or o 0) l.2.promised.says.owner in
     (l.0, subst (λ (n : ℕ). IsLoading s k w l.0 n) (sym e) l.2)
-
-pub origin-held : (s : State) (p : ℕ) (k : Share) (w n : ℕ) → IsSound s → call_at s p ≡ Some (Loaded k w) → n ≡ get_or s.origins k.handle n → n ≡ loaded_block s k.handle w
-origin-held s p k w n i at e =
-    let l = held-loading s p k w i at in
-    let m : k.handle < length s.origins = (let q = at-some s.handles k.handle l.0 l.1.shares.at in let z = i.size.origins in omega arith) in
-    get_or_read s.origins k.handle n m e 0 ∙ i.made_on k.handle (loaded_block s k.handle w) l.0 l.1.shares.at l.1.promised.owner

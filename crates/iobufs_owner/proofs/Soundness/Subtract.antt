@@ -167,7 +167,7 @@ sound-subtracted s p r k at =
     let fewer : holders (reading next) b + 1 ≡ holders (reading s) b = (let t = rw (is-eqb b b refl) at (hm b) in omega (arith, t)) in
     let size = k.size in
     record {
-      size = record { wide = size.wide; ceiling = size.ceiling; few_blocks = size.few_blocks; few_records = rw length-set size.few_records; few_handles = size.few_handles; few_calls = rw length-set size.few_calls; origins = size.origins };
+      size = record { wide = size.wide; ceiling = size.ceiling; few_blocks = size.few_blocks; few_records = rw length-set size.few_records; few_handles = size.few_handles; few_calls = rw length-set size.few_calls };
       blocks = (let q = k.blocks in record { places = q.places; apart = q.apart });
       fit = All-from_get_or (Fits g' (set s.calls p y)) s.handles None (λ i li. fit-counted s r (n - 1) (set s.calls p y) (λ q. omega (arith, hid q)) (get_or s.handles i None) (k.fit i None li));
       calls_fit = All-from_get_or (FitsCall next) (set s.calls p y) None (λ i li.
@@ -202,7 +202,6 @@ sound-subtracted s p r k at =
       sole = λ c t. let u = rw (alone-kept g g' s.calls c s.handles e k.fit) at t in same c (λ i. absurd (let w = rw i at u in omega (arith, w, lonely))) ∙ k.sole c u;
       capped = λ c. omega (arith, hm c, k.capped c);
       known_users = λ c t. elim (eqb_tells c b) [ inl i ↦ rw i.1 me.known | inr i ↦ k.known_users c (rw (m.others c i.1) at t) ];
-      made_on = λ h d z a o. k.made_on h d z a (sym (owner-kept g g' s.calls z e (fits-at s h z k a)) ∙ o);
       block_log = block-log-alike g.blocks s.freed_blocks (users (reading s)) (users (reading next)) (λ c t. elim (eqb_tells c b) [
         | inl i ↦ rw i.1 (sym (both-some (users (reading s) b) (users (reading next) b) me.used some))
         | inr i ↦ ap (λ n. nat_eq n 0) (m.others c i.1)

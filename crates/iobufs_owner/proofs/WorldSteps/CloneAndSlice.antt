@@ -98,7 +98,7 @@ race-as s t p k w r x memory reply (Descriptor u) i a e y =
           let front : Handle = part x k.lo k.hi (Counted r) in
           let of = owner-counted s.tables front r refl ∙ ap Some a.same ∙ sym ow in
           let never : IsOver (reading s) (owner_of s.tables x) → ⊥ = subst (λ (o : Option ℕ). IsOver (reading s) o → ⊥) (sym ow) (λ z. omega (arith, z, one, c)) in
-          inr (inr (inr (inr (never, omega arith, made-taken s (called (edited s k.handle (by_record x r)) p None) t (call_set (reading s) p None) front (record_at s.tables r).block (part_of (read_held s.tables x) k.lo k.hi) reply (shown-reads s p k w r x i a) (ap (λ (b : Option ℕ). record { kind = View; block = b; place = x.ptr + k.lo; len = k.hi - k.lo }) of) y')))))
+          inr (inr (inr (inr (never, omega arith, made-taken s (called (edited s k.handle (by_record x r)) p None) t (call_set (reading s) p None) front (part_of (read_held s.tables x) k.lo k.hi) reply (shown-reads s p k w r x i a) (ap (λ (b : Option ℕ). record { kind = View; block = b; place = x.ptr + k.lo; len = k.hi - k.lo }) of) y')))))
       | inr z ↦ absurd (let q = sym e ∙ z.1 in cc)
     ]
 race-as s t p k w r x memory reply (Counted winner) i a e y =
@@ -129,7 +129,7 @@ add-as s t p k r x memory reply false i a e y =
     let front : Handle = part x k.lo k.hi (Counted r) in
     let of = owner-counted g' front r refl ∙ ap Some (counted-block s.tables r ((record_at s.tables r).count + 1) r) ∙ sym (owner-counted s.tables x r a.word) in
     let never : IsOver (reading s) (owner_of s.tables x) → ⊥ = subst (λ (o : Option ℕ). IsOver (reading s) o → ⊥) (sym (owner-counted s.tables x r a.word)) (λ z. omega (arith, z, n, m)) in
-    inr (inr (inr (inr (never, omega arith, made-taken s (called (with_count s r ((record_at s.tables r).count + 1)) p None) t (call_set (reading s) p None) front (record_at (counted s.tables r ((record_at s.tables r).count + 1)) r).block (part_of (read_held s.tables x) k.lo k.hi) reply (called-kept s (counted s.tables r ((record_at s.tables r).count + 1)) p None i (counted-keeps s.tables r ((record_at s.tables r).count + 1)) refl) (ap (λ (b : Option ℕ). record { kind = View; block = b; place = x.ptr + k.lo; len = k.hi - k.lo }) of) y))))
+    inr (inr (inr (inr (never, omega arith, made-taken s (called (with_count s r ((record_at s.tables r).count + 1)) p None) t (call_set (reading s) p None) front (part_of (read_held s.tables x) k.lo k.hi) reply (called-kept s (counted s.tables r ((record_at s.tables r).count + 1)) p None i (counted-keeps s.tables r ((record_at s.tables r).count + 1)) refl) (ap (λ (b : Option ℕ). record { kind = View; block = b; place = x.ptr + k.lo; len = k.hi - k.lo }) of) y))))
 
 pub add-goes : (s t : State) (p : ℕ) (k : Share) (r : ℕ) (memory : Bool) (reply : Reply) → IsSound s → call_at s p ≡ Some (Add k r) → IsAnswered s (gone_on s p (Add k r) memory) reply t → Goes (reading s) p (Sharing k.handle k.lo k.hi 1) memory reply (reading t)
 unfolding Goes gone_on
@@ -210,7 +210,7 @@ begun-word s t p h lo hi x reply Empty k at e y =
     let front : Handle = part x lo hi Empty in
     let of = owner-empty s.tables front refl ∙ sym n in
     subst (λ (o : Option ℕ). Begun s p h lo hi x o reply (reading t)) (sym n)
-    (made-taken s s t (reading s) front 0 (part_of (read_held s.tables x) lo hi) reply refl (ap (λ (b : Option ℕ). record { kind = View; block = b; place = x.ptr + lo; len = hi - lo }) of) y)
+    (made-taken s s t (reading s) front (part_of (read_held s.tables x) lo hi) reply refl (ap (λ (b : Option ℕ). record { kind = View; block = b; place = x.ptr + lo; len = hi - lo }) of) y)
 begun-word s t p h lo hi x reply (Descriptor w) k at e y =
     let d = described-at s h x w k at e in
     let k' : Share = record { handle = h; lo = lo; hi = hi } in
@@ -231,10 +231,10 @@ clone-steps s t p h reply k i = rw (view-reads s h) (clone-lent s t p h reply (m
 slice-lent : (s t : State) (p h lo hi : ℕ) (reply : Reply) (r : Result Handle Refusal) → IsSound s → move.view_of s h ≡ r → IsAnswered s (move.slice_lent s p h lo hi r) reply t → world.SliceIs (reading s) p h lo hi (read_lent s.tables r) reply (reading t)
 slice-lent s t p h lo hi reply (Err why) k e i = refused-taken s t why reply i
 slice-lent s t p h lo hi reply (Ok x) k e i =
-    by-test _ _ s t (move.refused s OutOfRange) (cond (nat_eq lo hi) (made s (move.detached 0) 0) (move.share_by s p (record { handle = h; lo = lo; hi = hi }) x x.word)) reply (nat_lt hi lo || nat_lt x.len hi)
+    by-test _ _ s t (move.refused s OutOfRange) (cond (nat_eq lo hi) (made s (move.detached 0)) (move.share_by s p (record { handle = h; lo = lo; hi = hi }) x x.word)) reply (nat_lt hi lo || nat_lt x.len hi)
     (λ _ i. refused-taken s t OutOfRange reply i)
-    (λ _ i. by-test _ _ s t (made s (move.detached 0) 0) (move.share_by s p (record { handle = h; lo = lo; hi = hi }) x x.word) reply (nat_eq lo hi)
-    (λ _ i. made-taken s s t (reading s) (move.detached 0) 0 (world.detached 0) reply refl (reads-detached s.tables 0) i)
+    (λ _ i. by-test _ _ s t (made s (move.detached 0)) (move.share_by s p (record { handle = h; lo = lo; hi = hi }) x x.word) reply (nat_eq lo hi)
+    (λ _ i. made-taken s s t (reading s) (move.detached 0) (world.detached 0) reply refl (reads-detached s.tables 0) i)
     (λ _ i. begun-word s t p h lo hi x reply x.word k (view-tells s h x e) refl i) i) i
 
 pub slice-steps : (s t : State) (p h lo hi : ℕ) (reply : Reply) → IsSound s → IsAnswered s (move.slice_of s p h lo hi) reply t → world.SliceIs (reading s) p h lo hi (world.view_of (reading s) h) reply (reading t)

@@ -53,7 +53,7 @@ recorded-made s t b x reply k good w i =
     let g' : Tables = both s.tables b in
     let o : owner_of g' x ≡ Some (length s.tables.blocks) = owner-counted g' x (length s.tables.records) w ∙ ap (λ (v : Record). Some v.block) (recorded-new (grown s.tables b) 1 (length s.tables.blocks)) in
     let z : read_held g' x ≡ record { kind = x.kind; block = Some (length s.tables.blocks); place = x.ptr; len = x.len } = ap (λ (o : Option ℕ). record { kind = x.kind; block = o; place = x.ptr; len = x.len }) o in
-    made-taken s (with_record (with_block s b) 1 (length s.tables.blocks)) t (block_more (reading s) b) x (length s.tables.blocks) (record { kind = x.kind; block = Some (length s.tables.blocks); place = x.ptr; len = x.len }) reply (recorded-reads s b k good) z i
+    made-taken s (with_record (with_block s b) 1 (length s.tables.blocks)) t (block_more (reading s) b) x (record { kind = x.kind; block = Some (length s.tables.blocks); place = x.ptr; len = x.len }) reply (recorded-reads s b k good) z i
 
 new-placed : (s t : State) (base size log : ℕ) (o : Outcome) (reply : Reply) → IsSound s → IsGoodPlace s.tables.blocks base size (2 ^ log) → (v : Bool) → move.fits_in s.tables size log 0 ≡ v → o ≡ cond v (described_of s (block_of base size (2 ^ log) false) (word_of s.tables.align_bits s.tables.tail_bits size log 0)) (recorded_of s (block_of base size (2 ^ log) false) (first_handle (block_of base size (2 ^ log) false) (Counted (next_record s)))) → IsAnswered s o reply t → NoRoom (reading s) reply (reading t) ⊎ Makes (block_more (reading s) (native_block base size (2 ^ log))) (record { kind = Mut; block = Some (length s.tables.blocks); place = base; len = 0 }) reply (reading t)
 new-placed s t base size log o reply k good true f e i =
@@ -63,7 +63,7 @@ new-placed s t base size log o reply k good true f e i =
     let x : Handle = first_handle (block_of base size (2 ^ log) false) (Descriptor w) in
     let own = first-owner s.tables b log w k.blocks.places good room refl in
     let z : read_held (grown s.tables b) x ≡ record { kind = Mut; block = Some (length s.tables.blocks); place = base; len = 0 } = ap (λ (o : Option ℕ). record { kind = Mut; block = o; place = base; len = 0 }) own in
-    made-taken s (with_block s b) t (block_more (reading s) b) x (length s.tables.blocks) (record { kind = Mut; block = Some (length s.tables.blocks); place = base; len = 0 }) reply (described-reads s b k good) z (subst (λ (o : Outcome). IsAnswered s o reply t) e i)
+    made-taken s (with_block s b) t (block_more (reading s) b) x (record { kind = Mut; block = Some (length s.tables.blocks); place = base; len = 0 }) reply (described-reads s b k good) z (subst (λ (o : Outcome). IsAnswered s o reply t) e i)
 new-placed s t base size log o reply k good false f e i =
     recorded-made s t (block_of base size (2 ^ log) false) (first_handle (block_of base size (2 ^ log) false) (Counted (next_record s))) reply k good refl (subst (λ (o : Outcome). IsAnswered s o reply t) e i)
 

@@ -8,7 +8,7 @@ use Rattle.iobufs_owner.specs.declared.owner.types.Word.TheVariants.{Empty, Desc
 use Rattle.iobufs_owner.specs.declared.owner.types.Refusal.{Refusal}
 use Rattle.iobufs_owner.specs.declared.owner.types.Refusal.TheVariants.{OutOfRange, Memory, Ceiling}
 use Rattle.iobufs_owner.specs.declared.owner.types.Reply.{Reply}
-use Rattle.iobufs_owner.specs.State.{State, Tables, owner_of, owned_by, record_at, origin_at}
+use Rattle.iobufs_owner.specs.State.{State, Tables, owner_of, owned_by, record_at}
 use Rattle.iobufs_owner.specs.World.{World, Held, is_block}
 use Rattle.iobufs_owner.specs.Reading.{reading, read_held, read_handle}
 use Rattle.iobufs_owner.specs.Sound.{IsSound}
@@ -58,7 +58,7 @@ split-described s t h at v x true reply k l w i =
     let of = recorded-owner s.tables 2 (owned_by s.tables x) front refl ∙ ap Some n ∙ sym d.3.owner in
     let zb : read_held g' back ≡ part_of (read_held s.tables x) at x.len = ap (λ (b : Option ℕ). record { kind = View; block = b; place = x.ptr + at; len = x.len - at }) ob in
     let zf : read_held g' front ≡ part_of (read_held s.tables x) 0 at = ap (λ (b : Option ℕ). record { kind = View; block = b; place = x.ptr + 0; len = at - 0 }) of in
-    inr (made-taken s (edited (promoted s x 2) h back) t (held_set (reading s) h (part_of (read_held s.tables x) at x.len)) front (origin_at s h) (part_of (read_held s.tables x) 0 at) reply (promoted-reads s h (owned_by s.tables x) 2 x back (part_of (read_held s.tables x) at x.len) k l.at zb) zf i)
+    inr (made-taken s (edited (promoted s x 2) h back) t (held_set (reading s) h (part_of (read_held s.tables x) at x.len)) front (part_of (read_held s.tables x) 0 at) reply (promoted-reads s h (owned_by s.tables x) 2 x back (part_of (read_held s.tables x) at x.len) k l.at zb) zf i)
 split-described s t h at v x false reply k l w i =
     let d = described-at s h x v k l.at w in
     inl (subst IsSome (sym d.3.owner) refl, refl, refused-taken s t Memory reply i)
@@ -83,7 +83,7 @@ split-counted s t h at r x memory reply false k l w e i =
     let zf : read_held g' front ≡ part_of (read_held s.tables x) 0 at = ap (λ (b : Option ℕ). record { kind = View; block = b; place = x.ptr + 0; len = at - 0 }) of in
     inr (
       λ z. omega (arith, z, n, m),
-      room-or-made _ _ _ (made-taken s (edited (with_count s r ((record_at s.tables r).count + 1)) h back) t (held_set (reading s) h (part_of (read_held s.tables x) at x.len)) front (origin_at s h) (part_of (read_held s.tables x) 0 at) reply (counted-reads s h r ((record_at s.tables r).count + 1) back (part_of (read_held s.tables x) at x.len) k zb) zf i),
+      room-or-made _ _ _ (made-taken s (edited (with_count s r ((record_at s.tables r).count + 1)) h back) t (held_set (reading s) h (part_of (read_held s.tables x) at x.len)) front (part_of (read_held s.tables x) 0 at) reply (counted-reads s h r ((record_at s.tables r).count + 1) back (part_of (read_held s.tables x) at x.len) k zb) zf i),
     )
 
 split-word : (s t : State) (h at : ℕ) (x : Handle) (memory : Bool) (reply : Reply) (w : Word) → IsSound s → Lends s h View x → x.word ≡ w → IsAnswered s (move.split_by s h at memory x w) reply t → Splits s h at x memory (owner_of s.tables x) reply (reading t)
@@ -94,7 +94,7 @@ split-word s t h at x memory reply Empty k l w i =
     let zb : read_held s.tables back ≡ part_of (read_held s.tables x) at x.len = ap (λ (b : Option ℕ). record { kind = View; block = b; place = x.ptr + at; len = x.len - at }) (owner-empty s.tables back refl ∙ sym n) in
     let zf : read_held s.tables front ≡ part_of (read_held s.tables x) 0 at = ap (λ (b : Option ℕ). record { kind = View; block = b; place = x.ptr + 0; len = at - 0 }) (owner-empty s.tables front refl ∙ sym n) in
     subst (λ (o : Option ℕ). Splits s h at x memory o reply (reading t)) (sym n)
-    (inr (λ z. z, room-or-made _ _ _ (made-taken s (edited s h back) t (held_set (reading s) h (part_of (read_held s.tables x) at x.len)) front (origin_at s h) (part_of (read_held s.tables x) 0 at) reply (reads-edited s h back (part_of (read_held s.tables x) at x.len) zb) zf i)))
+    (inr (λ z. z, room-or-made _ _ _ (made-taken s (edited s h back) t (held_set (reading s) h (part_of (read_held s.tables x) at x.len)) front (part_of (read_held s.tables x) 0 at) reply (reads-edited s h back (part_of (read_held s.tables x) at x.len) zb) zf i)))
 split-word s t h at x memory reply (Descriptor v) k l w i =
     let d = described-at s h x v k l.at w in
     let one = alone-at s h x d.0 k l.at (alone-described s.tables d.0 x v w ∙ ap (is_block d.0) d.3.owner ∙ is-eqb d.0 d.0 refl) in
@@ -108,12 +108,12 @@ split-lent : (s t : State) (h at : ℕ) (memory : Bool) (reply : Reply) (r : Res
 split-lent s t h at memory reply (Err why) k e i = refused-taken s t why reply i
 split-lent s t h at memory reply (Ok x) k e i =
     let l = lend-tells s h View x e in
-    by-test _ _ s t (refused s OutOfRange) (cond (nat_eq at 0) (made s (move.detached 0) 0) (cond (nat_eq at x.len) (made (edited s h (move.detached 0)) x (origin_at s h)) (move.split_by s h at memory x x.word))) reply (nat_lt x.len at)
+    by-test _ _ s t (refused s OutOfRange) (cond (nat_eq at 0) (made s (move.detached 0)) (cond (nat_eq at x.len) (made (edited s h (move.detached 0)) x) (move.split_by s h at memory x x.word))) reply (nat_lt x.len at)
     (λ _ i. refused-taken s t OutOfRange reply i)
-    (λ _ i. by-test _ _ s t (made s (move.detached 0) 0) (cond (nat_eq at x.len) (made (edited s h (move.detached 0)) x (origin_at s h)) (move.split_by s h at memory x x.word)) reply (nat_eq at 0)
-    (λ _ i. made-taken s s t (reading s) (move.detached 0) 0 (world.detached 0) reply refl (reads-detached s.tables 0) i)
-    (λ _ i. by-test _ _ s t (made (edited s h (move.detached 0)) x (origin_at s h)) (move.split_by s h at memory x x.word) reply (nat_eq at x.len)
-    (λ _ i. made-taken s (edited s h (move.detached 0)) t (held_set (reading s) h (world.detached 0)) x (origin_at s h) (read_held s.tables x) reply (reads-edited s h (move.detached 0) (world.detached 0) (reads-detached s.tables 0)) refl i)
+    (λ _ i. by-test _ _ s t (made s (move.detached 0)) (cond (nat_eq at x.len) (made (edited s h (move.detached 0)) x) (move.split_by s h at memory x x.word)) reply (nat_eq at 0)
+    (λ _ i. made-taken s s t (reading s) (move.detached 0) (world.detached 0) reply refl (reads-detached s.tables 0) i)
+    (λ _ i. by-test _ _ s t (made (edited s h (move.detached 0)) x) (move.split_by s h at memory x x.word) reply (nat_eq at x.len)
+    (λ _ i. made-taken s (edited s h (move.detached 0)) t (held_set (reading s) h (world.detached 0)) x (read_held s.tables x) reply (reads-edited s h (move.detached 0) (world.detached 0) (reads-detached s.tables 0)) refl i)
     (λ _ i. split-word s t h at x memory reply x.word k l refl i) i) i) i
 
 pub split-steps : (s t : State) (h at : ℕ) (memory : Bool) (reply : Reply) → IsSound s → IsAnswered s (move.split_of s h at memory) reply t → world.SplitIs (reading s) h at memory (world.alone_of (reading s) h View) reply (reading t)

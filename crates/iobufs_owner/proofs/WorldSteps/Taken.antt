@@ -46,10 +46,10 @@ grown-taken s u t w answer reply r (inl (e, f)) = inr (e, ap reading f ∙ r)
 grown-taken s u t w answer reply r (inr (l, e, f)) = inl (e, ap reading f)
 
 -- one handle more than u has
-pub made-taken : (s u t : State) (w : World) (x : Handle) (n : ℕ) (y : Held) (reply : Reply) → reading u ≡ w → read_held u.tables x ≡ y → IsAnswered s (made u x n) reply t → NoRoom (reading s) reply (reading t) ⊎ Makes w y reply (reading t)
-made-taken s u t w x n y reply r e (inl (i, f)) =
+pub made-taken : (s u t : State) (w : World) (x : Handle) (y : Held) (reply : Reply) → reading u ≡ w → read_held u.tables x ≡ y → IsAnswered s (made u x) reply t → NoRoom (reading s) reply (reading t) ⊎ Makes w y reply (reading t)
+made-taken s u t w x y reply r e (inl (i, f)) =
     inr (i ∙ ap Made (sym (ap (λ (w : World). length w.handles) (sym r) ∙ length-map u.handles (read_handle u.tables))), ap reading f ∙ reading-append u (Some x) ∙ ap (λ (w : World). held_more w (read_held u.tables x)) r ∙ ap (held_more w) e)
-made-taken s u t w x n y reply r e (inr (l, i, f)) = inl (i, ap reading f)
+made-taken s u t w x y reply r e (inr (l, i, f)) = inl (i, ap reading f)
 
 entries-edited : (s : State) (h : ℕ) (y : Handle) → entries (edited s h y) ≡ entries s
 entries-edited s h y = rw length-set refl
@@ -86,7 +86,7 @@ eq-true m n e = grind (arith, nat_tests, e)
 -- ---- Static
 
 pub static-steps : (s t : State) (len : ℕ) (reply : Reply) → IsAnswered s (move.static_of s len) reply t → NoRoom (reading s) reply (reading t) ⊎ Makes (reading s) (world.detached len) reply (reading t)
-static-steps s t len reply i = made-taken s s t (reading s) (move.detached len) 0 (world.detached len) reply refl (reads-detached s.tables len) i
+static-steps s t len reply i = made-taken s s t (reading s) (move.detached len) (world.detached len) reply refl (reads-detached s.tables len) i
 
 -- ---- Put
 

@@ -128,9 +128,9 @@ impl Machine {
 
     /// A view of so many bytes without block, as the next handle.
     pub(super) fn add_detached(&mut self, len: u64) -> Result<Reply, AllocError>
-        ensures { Took self.old (made self.old.state (detached len) 0) result self.new }
+        ensures { Took self.old (made self.old.state (detached len)) result self.new }
     {
-        room_for_handle(&mut self.handles, &mut self.origins, &mut self.borrows)?;
+        room_for_handle(&mut self.handles, &mut self.borrows)?;
         let h = self.handles.len();
         self.handles.push_reserved(Some(Handle {
             kind: Kind::View,
@@ -139,7 +139,6 @@ impl Machine {
             cap: 0,
             word: Word::Empty,
         }));
-        self.origins.push_reserved(0);
         self.borrows.push_reserved(0);
         Ok(Reply::Made(h))
     }
@@ -150,11 +149,10 @@ impl Machine {
         ensures { Took self.old (described_of self.old.state block word) result self.new }
     {
         room_for_block(&mut self.blocks, &mut self.freed_blocks)?;
-        room_for_handle(&mut self.handles, &mut self.origins, &mut self.borrows)?;
+        room_for_handle(&mut self.handles, &mut self.borrows)?;
         let number = self.blocks.len();
         self.places.insert(block.base, number)?;
         let h = self.handles.len();
-        self.origins.push_reserved(number);
         self.blocks.push_reserved(block);
         self.handles.push_reserved(Some(Handle {
             kind: Kind::Mut,
@@ -177,7 +175,7 @@ impl Machine {
     {
         room_for_block(&mut self.blocks, &mut self.freed_blocks)?;
         room_for_record(&mut self.records, &mut self.freed_records)?;
-        room_for_handle(&mut self.handles, &mut self.origins, &mut self.borrows)?;
+        room_for_handle(&mut self.handles, &mut self.borrows)?;
         let number = self.blocks.len();
         self.places.insert(block.base, number)?;
         let h = self.handles.len();
@@ -188,7 +186,6 @@ impl Machine {
             live: true,
         });
         self.handles.push_reserved(Some(x));
-        self.origins.push_reserved(number);
         self.borrows.push_reserved(0);
         Ok(Reply::Made(h))
     }

@@ -36,22 +36,17 @@ fn room_in_log<T>(log: &mut Vec<T>, entries: usize) -> Result<(), AllocError>
 /// Room for one handle more.
 pub(super) fn room_for_handle(
     handles: &mut Vec<Option<Handle>>,
-    origins: &mut Vec<usize>,
     borrows: &mut Vec<usize>,
 ) -> Result<(), AllocError>
-    requires origins { length origins.old.items ≡ length handles.old.items }
-    requires borrows { length borrows.old.items ≡ length handles.old.items }
+    requires { length borrows.old.items ≡ length handles.old.items }
     ensures handles { handles.new.items ≡ handles.old.items }
-    ensures origins { origins.new.items ≡ origins.old.items }
     ensures borrows { borrows.new.items ≡ borrows.old.items }
     ensures room { OnOk result (vec_len handles.new < vec_capacity handles.new) }
-    ensures origin_room { OnOk result (vec_len origins.new < vec_capacity origins.new) }
     ensures borrow_room { OnOk result (vec_len borrows.new < vec_capacity borrows.new) }
     ensures few { OnOk result (length handles.old.items < 2 ^ 32) }
-    ensures full { OnErr result (IsFull (min (vec_capacity handles.old) (min (vec_capacity origins.old) (vec_capacity borrows.old))) (length handles.old.items)) }
+    ensures full { OnErr result (IsFull (min (vec_capacity handles.old) (vec_capacity borrows.old)) (length handles.old.items)) }
 {
     room_for_one(handles)?;
-    room_for_one(origins)?;
     room_for_one(borrows)
 }
 

@@ -93,13 +93,12 @@ impl Machine {
     fn share_empty(&mut self, range: Share, x: Handle) -> Result<Reply, AllocError>
         requires fits { Shares self.old.state range x }
         requires word { x.word ≡ Empty }
-        ensures { Took self.old (move.made self.old.state (move.part x range.lo range.hi Empty) 0) result self.new }
+        ensures { Took self.old (move.made self.old.state (move.part x range.lo range.hi Empty)) result self.new }
     {
-        room_for_handle(&mut self.handles, &mut self.origins, &mut self.borrows)?;
+        room_for_handle(&mut self.handles, &mut self.borrows)?;
         let new = self.handles.len();
         self.handles
             .push_reserved(Some(part(x, range.lo, range.hi, Word::Empty)));
-        self.origins.push_reserved(0);
         self.borrows.push_reserved(0);
         Ok(Reply::Made(new))
     }
@@ -212,8 +211,7 @@ impl Machine {
             (shared (edited self.old.state range.handle (record x { word = Counted r })) party range x r)
             result self.new }
     {
-        let block = self.record(r).block;
-        room_for_handle(&mut self.handles, &mut self.origins, &mut self.borrows)?;
+        room_for_handle(&mut self.handles, &mut self.borrows)?;
         let new = self.handles.len();
         self.handles[range.handle] = Some(Handle {
             word: Word::Record(r),
@@ -221,7 +219,6 @@ impl Machine {
         });
         self.handles
             .push_reserved(Some(part(x, range.lo, range.hi, Word::Record(r))));
-        self.origins.push_reserved(block);
         self.borrows.push_reserved(0);
         borrow_less(&mut self.borrows, range.handle);
         self.calls[party] = None;
@@ -287,7 +284,7 @@ impl Machine {
             result self.new }
     {
         let record = self.record(r);
-        room_for_handle(&mut self.handles, &mut self.origins, &mut self.borrows)?;
+        room_for_handle(&mut self.handles, &mut self.borrows)?;
         let new = self.handles.len();
         self.records[r] = Record {
             count: record.count + 1,
@@ -295,7 +292,6 @@ impl Machine {
         };
         self.handles
             .push_reserved(Some(part(x, range.lo, range.hi, Word::Record(r))));
-        self.origins.push_reserved(record.block);
         self.borrows.push_reserved(0);
         borrow_less(&mut self.borrows, range.handle);
         self.calls[party] = None;

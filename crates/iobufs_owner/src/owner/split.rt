@@ -4,7 +4,6 @@ ghost use Rattle.iobufs_owner.specs.declared.owner.types.Kind.TheVariants.{View}
 ghost use Rattle.iobufs_owner.specs.declared.owner.types.Word.TheVariants.{Empty, Descriptor, Record as Counted};
 ghost use Rattle.iobufs_owner.specs.Moves as move;
 ghost use Rattle.iobufs_owner.specs.Moves.{Lends, Took, edited, made, split_by, split_of};
-ghost use Rattle.iobufs_owner.specs.State.{origin_at};
 
 use crate::owner::lend::{detached, part};
 use crate::owner::room::{room_for_handle, room_for_record};
@@ -40,14 +39,12 @@ impl Machine {
     fn move_whole(&mut self, h: usize, x: Handle) -> Result<Reply, AllocError>
         requires { Lends self.old.state h View x }
         ensures { Took self.old
-            (made (edited self.old.state h (move.detached 0)) x (origin_at self.old.state h)) result self.new }
+            (made (edited self.old.state h (move.detached 0)) x) result self.new }
     {
-        room_for_handle(&mut self.handles, &mut self.origins, &mut self.borrows)?;
+        room_for_handle(&mut self.handles, &mut self.borrows)?;
         let new = self.handles.len();
-        let origin = self.origins[h];
         self.handles[h] = Some(detached());
         self.handles.push_reserved(Some(x));
-        self.origins.push_reserved(origin);
         self.borrows.push_reserved(0);
         Ok(Reply::Made(new))
     }
@@ -60,13 +57,11 @@ impl Machine {
         requires ends { x.ptr + x.len < 2 ^ 64 }
         ensures { Took self.old (move.split_with self.old.state h at x Empty) result self.new }
     {
-        room_for_handle(&mut self.handles, &mut self.origins, &mut self.borrows)?;
+        room_for_handle(&mut self.handles, &mut self.borrows)?;
         let new = self.handles.len();
-        let origin = self.origins[h];
         self.handles[h] = Some(part(x, at, x.len, Word::Empty));
         self.handles
             .push_reserved(Some(part(x, 0, at, Word::Empty)));
-        self.origins.push_reserved(origin);
         self.borrows.push_reserved(0);
         Ok(Reply::Made(new))
     }
@@ -91,10 +86,9 @@ impl Machine {
         }
         let block = self.owned(h, x, word);
         room_for_record(&mut self.records, &mut self.freed_records)?;
-        room_for_handle(&mut self.handles, &mut self.origins, &mut self.borrows)?;
+        room_for_handle(&mut self.handles, &mut self.borrows)?;
         let new = self.handles.len();
         let r = self.records.len();
-        let origin = self.origins[h];
         self.records.push_reserved(Record {
             count: 2,
             block,
@@ -103,7 +97,6 @@ impl Machine {
         self.handles[h] = Some(part(x, at, x.len, Word::Record(r)));
         self.handles
             .push_reserved(Some(part(x, 0, at, Word::Record(r))));
-        self.origins.push_reserved(origin);
         self.borrows.push_reserved(0);
         Ok(Reply::Made(new))
     }
@@ -120,9 +113,8 @@ impl Machine {
         if record.count > self.ceiling {
             return Ok(Reply::Refused(Refusal::Ceiling));
         }
-        room_for_handle(&mut self.handles, &mut self.origins, &mut self.borrows)?;
+        room_for_handle(&mut self.handles, &mut self.borrows)?;
         let new = self.handles.len();
-        let origin = self.origins[h];
         self.records[r] = Record {
             count: record.count + 1,
             ..record
@@ -130,7 +122,6 @@ impl Machine {
         self.handles[h] = Some(part(x, at, x.len, Word::Record(r)));
         self.handles
             .push_reserved(Some(part(x, 0, at, Word::Record(r))));
-        self.origins.push_reserved(origin);
         self.borrows.push_reserved(0);
         Ok(Reply::Made(new))
     }

@@ -19,19 +19,19 @@ invariant_of-self-2 c =
     let word = subst (λ (s : State). c.args.x.word ≡ Counted (next_record s)) (sym (ap (λ (m : Seen). m.state) c.self.view_is)) c.requires.word in
     let n : c.len-number.result ≡ length c.self.inside.blocks.items = omega (arith, c.len-number.ensures, c.in_ok-room_for_block.ensures.len) in
     record {
-      sound = rw (c.push_reserved-3.ensures.items, c.in_ok-room_for_handle.ensures.handles, c.push_reserved-2.ensures.items, c.in_ok-room_for_record.ensures.records, c.push_reserved.ensures.items, c.in_ok-room_for_block.ensures.blocks, c.push_reserved-4.ensures.items, c.in_ok-room_for_handle.ensures.origins, c.in_ok-room_for_block.ensures.freed, c.in_ok-room_for_record.ensures.freed, n) (sound-recorded s c.args.block c.args.x k.sound good word c.requires.lies c.requires.native (omega (arith, c.in_ok-room_for_block.ensures.few, c.in_ok-room_for_handle.ensures.few, c.in_ok-room_for_record.ensures.few)) (omega (arith, c.in_ok-room_for_block.ensures.few, c.in_ok-room_for_handle.ensures.few, c.in_ok-room_for_record.ensures.few)) (omega (arith, c.in_ok-room_for_block.ensures.few, c.in_ok-room_for_handle.ensures.few, c.in_ok-room_for_record.ensures.few)));
+      sound = rw (c.push_reserved-3.ensures.items, c.in_ok-room_for_handle.ensures.handles, c.push_reserved-2.ensures.items, c.in_ok-room_for_record.ensures.records, c.push_reserved.ensures.items, c.in_ok-room_for_block.ensures.blocks, c.in_ok-room_for_block.ensures.freed, c.in_ok-room_for_record.ensures.freed, n) (sound-recorded s c.args.block c.args.x k.sound good word c.requires.lies c.requires.native (omega (arith, c.in_ok-room_for_block.ensures.few, c.in_ok-room_for_handle.ensures.few, c.in_ok-room_for_record.ensures.few)) (omega (arith, c.in_ok-room_for_block.ensures.few, c.in_ok-room_for_handle.ensures.few, c.in_ok-room_for_record.ensures.few)) (omega (arith, c.in_ok-room_for_block.ensures.few, c.in_ok-room_for_handle.ensures.few, c.in_ok-room_for_record.ensures.few)));
       block_room = rw (c.push_reserved.ensures.items, c.in_ok-room_for_block.ensures.blocks, length-append) (omega (arith, c.in_ok-room_for_block.ensures.freed_room));
       record_room = rw (c.push_reserved-2.ensures.items, c.in_ok-room_for_record.ensures.records, length-append) (omega (arith, c.in_ok-room_for_record.ensures.freed_room));
-      borrows_kept = rw (c.push_reserved-5.ensures.items, c.in_ok-room_for_handle.ensures.borrows, c.push_reserved-3.ensures.items, c.in_ok-room_for_handle.ensures.handles) (kept-pushed _ _ _ k.borrows_kept);
+      borrows_kept = rw (c.push_reserved-4.ensures.items, c.in_ok-room_for_handle.ensures.borrows, c.push_reserved-3.ensures.items, c.in_ok-room_for_handle.ensures.handles) (kept-pushed _ _ _ k.borrows_kept);
       places = rw (c.push_reserved.ensures.items, c.in_ok-room_for_block.ensures.blocks) (known-more c.self.inside.places _ c.self.inside.blocks.items c.args.block c.len-number.result k.places (other-base c.self.inside.blocks.items c.args.block k.sound.blocks.places good) n c.in_ok-insert.ensures.updates.0);
-      borrowed = rw (c.push_reserved-5.ensures.items, c.in_ok-room_for_handle.ensures.borrows) (counts-pushed c.self.inside.borrows.items c.self.inside.calls.items k.borrowed);
+      borrowed = rw (c.push_reserved-4.ensures.items, c.in_ok-room_for_handle.ensures.borrows) (counts-pushed c.self.inside.borrows.items c.self.inside.calls.items k.borrowed);
     }
 
 pub invariant_of-self-in_err-insert : goal.invariant_of-self-in_err-insert
 invariant_of-self-in_err-insert c =
     let k = c.self.invariant in
     record {
-      sound = rw (c.in_ok-room_for_block.ensures.blocks, c.in_ok-room_for_block.ensures.freed, c.in_ok-room_for_handle.ensures.handles, c.in_ok-room_for_handle.ensures.origins, c.in_ok-room_for_record.ensures.records, c.in_ok-room_for_record.ensures.freed) k.sound;
+      sound = rw (c.in_ok-room_for_block.ensures.blocks, c.in_ok-room_for_block.ensures.freed, c.in_ok-room_for_handle.ensures.handles, c.in_ok-room_for_record.ensures.records, c.in_ok-room_for_record.ensures.freed) k.sound;
       block_room = rw c.in_ok-room_for_block.ensures.blocks (omega (arith, k.block_room, c.in_ok-room_for_block.ensures.capacity));
       record_room = rw c.in_ok-room_for_record.ensures.records (omega (arith, k.record_room, c.in_ok-room_for_record.ensures.capacity));
       borrows_kept = rw (c.in_ok-room_for_handle.ensures.borrows, c.in_ok-room_for_handle.ensures.handles) k.borrows_kept;
@@ -42,4 +42,4 @@ invariant_of-self-in_err-insert c =
 pub returns-in_err-insert : goal.returns-in_err-insert
 returns-in_err-insert c =
     let p = err_from_is_err_and c.from_residual-in_err-insert.result c.from_residual-in_err-insert.ensures.1 in
-    rw p.1 (inr (inl (rw length-append (omega arith))), rw (c.in_ok-room_for_block.ensures.blocks, c.in_ok-room_for_block.ensures.freed, c.in_ok-room_for_handle.ensures.handles, c.in_ok-room_for_handle.ensures.origins, c.in_ok-room_for_record.ensures.records, c.in_ok-room_for_record.ensures.freed) (ap (λ (m : Seen). m.state) c.self.view_is))
+    rw p.1 (inr (inl (rw length-append (omega arith))), rw (c.in_ok-room_for_block.ensures.blocks, c.in_ok-room_for_block.ensures.freed, c.in_ok-room_for_handle.ensures.handles, c.in_ok-room_for_record.ensures.records, c.in_ok-room_for_record.ensures.freed) (ap (λ (m : Seen). m.state) c.self.view_is))

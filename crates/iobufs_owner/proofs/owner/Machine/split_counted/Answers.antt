@@ -28,6 +28,4 @@ invariant_of-self-2 c =
     let t = subst (λ (s : State). Lends s c.args.h View c.args.x) (sym (ap (λ (m : Seen). m.state) c.self.view_is)) c.requires.lent in
     let e = subst (λ (s : State). c.record-record.result ≡ record_at s.tables c.args.r) (sym (ap (λ (m : Seen). m.state) c.self.view_is)) c.record-record.ensures in
     let low = rw e at c.if-record-self.false in
-    let l : c.args.h < length c.self.inside.origins.items = (let m = at-some s.handles c.args.h c.args.x t.at in let q = k.sound.size.origins in omega arith) in
-    let org = get_or_read c.self.inside.origins.items c.args.h c.index-origin.result.now l (rw c.in_ok-room_for_handle.ensures.origins at c.index-origin.ensures) 0 in
-    record { sound = rw (e, c.push_reserved.ensures.items, c.in_ok-room_for_handle.ensures.handles, c.part.ensures, c.part-2.ensures, c.push_reserved-2.ensures.items, c.in_ok-room_for_handle.ensures.origins, org) (sound-split_counted s c.args.h c.args.r c.args.at c.args.x k.sound t c.requires.word c.requires.within low (omega (arith, c.in_ok-room_for_handle.ensures.few))); block_room = k.block_room; record_room = rw length-set k.record_room; borrows_kept = rw (c.push_reserved-3.ensures.items, c.in_ok-room_for_handle.ensures.borrows, c.push_reserved.ensures.items, c.in_ok-room_for_handle.ensures.handles) (kept-set-pushed _ _ _ _ _ k.borrows_kept); places = k.places; borrowed = rw (c.push_reserved-3.ensures.items, c.in_ok-room_for_handle.ensures.borrows) (counts-pushed c.self.inside.borrows.items c.self.inside.calls.items k.borrowed) }
+    record { sound = rw (e, c.push_reserved.ensures.items, c.in_ok-room_for_handle.ensures.handles, c.part.ensures, c.part-2.ensures) (sound-split_counted s c.args.h c.args.r c.args.at c.args.x k.sound t c.requires.word c.requires.within low (omega (arith, c.in_ok-room_for_handle.ensures.few))); block_room = k.block_room; record_room = rw length-set k.record_room; borrows_kept = rw (c.push_reserved-2.ensures.items, c.in_ok-room_for_handle.ensures.borrows, c.push_reserved.ensures.items, c.in_ok-room_for_handle.ensures.handles) (kept-set-pushed _ _ _ _ _ k.borrows_kept); places = k.places; borrowed = rw (c.push_reserved-2.ensures.items, c.in_ok-room_for_handle.ensures.borrows) (counts-pushed c.self.inside.borrows.items c.self.inside.calls.items k.borrowed) }

@@ -16,13 +16,11 @@ invariant_of-self-2 c =
     let t = subst (λ (s : State). Lends s c.args.h View c.args.x) (sym (ap (λ (m : Seen). m.state) c.self.view_is)) c.requires.lent in
     let o = subst (λ (s : State). owner_of s.tables c.args.x ≡ Some c.owned-block.result) (sym (ap (λ (m : Seen). m.state) c.self.view_is)) c.owned-block.ensures.owner in
     let r : c.len-r.result ≡ length c.self.inside.records.items = omega (arith, c.len-r.ensures, c.in_ok-room_for_record.ensures.len) in
-    let l : c.args.h < length c.self.inside.origins.items = (let m = at-some s.handles c.args.h c.args.x t.at in let q = k.sound.size.origins in omega arith) in
-    let org = get_or_read c.self.inside.origins.items c.args.h c.index-origin.result.now l (rw c.in_ok-room_for_handle.ensures.origins at c.index-origin.ensures) 0 in
     record {
-      sound = rw (c.push_reserved-2.ensures.items, c.in_ok-room_for_handle.ensures.handles, c.part.ensures, c.part-2.ensures, c.push_reserved.ensures.items, c.in_ok-room_for_record.ensures.records, c.push_reserved-3.ensures.items, c.in_ok-room_for_handle.ensures.origins, org, c.in_ok-room_for_record.ensures.freed, r) (sound-split_described s c.args.h c.args.word c.owned-block.result c.args.at c.args.x k.sound t c.requires.word o c.requires.within (omega (arith, c.in_ok-room_for_handle.ensures.few, c.in_ok-room_for_record.ensures.few)) (omega (arith, c.in_ok-room_for_handle.ensures.few, c.in_ok-room_for_record.ensures.few)));
+      sound = rw (c.push_reserved-2.ensures.items, c.in_ok-room_for_handle.ensures.handles, c.part.ensures, c.part-2.ensures, c.push_reserved.ensures.items, c.in_ok-room_for_record.ensures.records, c.in_ok-room_for_record.ensures.freed, r) (sound-split_described s c.args.h c.args.word c.owned-block.result c.args.at c.args.x k.sound t c.requires.word o c.requires.within (omega (arith, c.in_ok-room_for_handle.ensures.few, c.in_ok-room_for_record.ensures.few)) (omega (arith, c.in_ok-room_for_handle.ensures.few, c.in_ok-room_for_record.ensures.few)));
       block_room = k.block_room;
       record_room = rw (c.push_reserved.ensures.items, c.in_ok-room_for_record.ensures.records, length-append) (omega (arith, c.in_ok-room_for_record.ensures.freed_room));
-      borrows_kept = rw (c.push_reserved-4.ensures.items, c.in_ok-room_for_handle.ensures.borrows, c.push_reserved-2.ensures.items, c.in_ok-room_for_handle.ensures.handles) (kept-set-pushed _ _ _ _ _ k.borrows_kept);
+      borrows_kept = rw (c.push_reserved-3.ensures.items, c.in_ok-room_for_handle.ensures.borrows, c.push_reserved-2.ensures.items, c.in_ok-room_for_handle.ensures.handles) (kept-set-pushed _ _ _ _ _ k.borrows_kept);
       places = k.places;
-      borrowed = rw (c.push_reserved-4.ensures.items, c.in_ok-room_for_handle.ensures.borrows) (counts-pushed c.self.inside.borrows.items c.self.inside.calls.items k.borrowed);
+      borrowed = rw (c.push_reserved-3.ensures.items, c.in_ok-room_for_handle.ensures.borrows) (counts-pushed c.self.inside.borrows.items c.self.inside.calls.items k.borrowed);
     }
