@@ -18,10 +18,10 @@ use Rattle.iobufs_owner.specs.declared.owner.types.Pending.TheVariants.{Release}
 use Rattle.iobufs_owner.specs.declared.owner.types.Word.{Word}
 use Rattle.iobufs_owner.specs.declared.owner.types.Word.TheVariants.{Record as Counted}
 use Rattle.iobufs_owner.proofs.Soundness.Counts.{count-append, count-some, count-map, count-less, holders-more, users-more}
-use Rattle.iobufs_owner.proofs.Soundness.Keeps.{Keeps, all-fit-kept, calls-fit-kept, calls-read-kept, releases-kept, owner-kept}
+use Rattle.iobufs_owner.proofs.Soundness.Keeps.{Keeps, all-fit-kept, calls-fit-kept, calls-read-kept, releases-kept}
 use Rattle.iobufs_owner.proofs.Soundness.Kept.{at-some, append-at, owner-counted}
 use Rattle.iobufs_owner.proofs.Soundness.Frames.{handles-kept, alone-kept, describes-kept, holders-tables, users-tables, not-eqb, is-eqb}
-use Rattle.iobufs_owner.proofs.Soundness.Edits.{fits-at, counted-at, live-inside, alone-shared, describes-counted}
+use Rattle.iobufs_owner.proofs.Soundness.Edits.{counted-at, live-inside, alone-shared, describes-counted}
 use Rattle.iobufs_owner.proofs.Soundness.Holders.{alone-holds}
 use Rattle.iobufs_owner.proofs.Soundness.Logs.{block-log-alike, record-log-counted}
 

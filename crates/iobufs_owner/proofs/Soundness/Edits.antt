@@ -22,7 +22,7 @@ use Rattle.iobufs_owner.proofs.Soundness.Kept.{sound-edited, at-some, owner-empt
 use Rattle.iobufs_owner.proofs.WorldSteps.Lent.{owner-same, base-mut}
 use Rattle.iobufs_owner.proofs.Soundness.Counts.{count-some, holders-few}
 use Rattle.std.proofs.lemmas.Nat.{pow_pos}
-use Rattle.std.proofs.lemmas.List.{get_or_read, length-map}
+use Rattle.std.proofs.lemmas.List.{length-map}
 use Rattle.std.proofs.lemmas.Bool.Decides.{nat_tests}
 
 pub fits-at : (s : State) (h : ℕ) (x : Handle) → IsSound s → handle_at s h ≡ Some x → FitsWord s.tables s.calls x x.word

@@ -1,5 +1,5 @@
 -- A new block with its first handle keeps the machine sound.
-use Rattle.std.proofs.Common.{◌≡◌, ◌≢◌, ℕ, ◌+◌, ◌^◌, ◌<◌, ◌==◌, ◌&&◌, inl, inr, Bool, true, false, cond, List, [], ◌∷◌, ◌++◌, length, sym, ◌∙◌, refl, arith, All, Some, length-append}
+use Rattle.std.proofs.Common.{◌≡◌, ◌≢◌, ℕ, ◌+◌, ◌^◌, ◌<◌, ◌==◌, ◌&&◌, inl, inr, Bool, true, false, cond, List, [], ◌∷◌, ◌++◌, length, refl, arith, All, Some, length-append}
 use Rattle.std.proofs.lemmas.List.Elements.{All-push}
 use Rattle.std.proofs.Math.Seq.{get_or-append_seam}
 use Rattle.std.proofs.lemmas.Bool.Decides.{eqb_tells}
@@ -14,11 +14,11 @@ use Rattle.iobufs_owner.specs.declared.owner.types.Block.{Block}
 use Rattle.iobufs_owner.specs.declared.owner.types.Handle.{Handle}
 use Rattle.iobufs_owner.specs.declared.owner.types.Word.TheVariants.{Descriptor}
 use Rattle.iobufs_owner.proofs.Words.{unpack-size}
-use Rattle.iobufs_owner.proofs.Soundness.Keeps.{all-fit-kept, calls-kept, owner-kept}
+use Rattle.iobufs_owner.proofs.Soundness.Keeps.{all-fit-kept, calls-kept}
 use Rattle.iobufs_owner.proofs.Soundness.Kept.{at-some, append-at}
 use Rattle.iobufs_owner.proofs.Soundness.Counts.{count-append, holders-more, users-more, holders-le-users}
 use Rattle.iobufs_owner.proofs.Soundness.Frames.{grown, grown-keeps, with-fresh, handles-kept, alone-kept, describes-kept, holders-tables, users-tables, not-eqb, is-eqb}
-use Rattle.iobufs_owner.proofs.Soundness.Edits.{no_block, fits-at}
+use Rattle.iobufs_owner.proofs.Soundness.Edits.{no_block}
 use Rattle.iobufs_owner.proofs.Soundness.Logs.{below-or, block-log-more}
 
 -- no earlier block has the base of a good place

@@ -1,9 +1,8 @@
 -- Splitting a view keeps the machine sound.
-use Rattle.std.proofs.Common.{◌≡◌, ℕ, zero, suc, ◌+◌, ◌^◌, ◌<◌, ◌≤◌, true, inl, inr, List, [], ◌∷◌, ◌++◌, length, get_or, set, sym, ◌∙◌, ap, subst, refl, arith, Option, Some, None, length-append}
+use Rattle.std.proofs.Common.{◌≡◌, ℕ, zero, suc, ◌+◌, ◌^◌, ◌<◌, ◌≤◌, true, List, [], ◌∷◌, ◌++◌, length, set, sym, ◌∙◌, ap, subst, refl, arith, Option, Some, None, length-append}
 use Rattle.std.proofs.Math.ListN.{length-set}
 use Rattle.std.proofs.lemmas.List.Elements.{All-push, All-set}
-use Rattle.std.proofs.lemmas.List.{set-set, get_or-set_same, get_or_append_left}
-use Rattle.std.proofs.Math.Seq.{get_or-append_seam}
+use Rattle.std.proofs.lemmas.List.{set-set, get_or-set_same}
 use Rattle.iobufs_owner.specs.State.{State, Tables, owner_of, record_at, block_at, handle_at}
 use Rattle.iobufs_owner.specs.World.{holders, users, tally}
 use Rattle.iobufs_owner.specs.Reading.{reading}
@@ -15,7 +14,7 @@ use Rattle.iobufs_owner.specs.declared.owner.types.Kind.TheVariants.{View}
 use Rattle.iobufs_owner.specs.declared.owner.types.Word.TheVariants.{Empty, Descriptor, Record as Counted}
 use Rattle.iobufs_owner.proofs.Soundness.Counts.{count-append, count-set, holders-more, users-more, holders-changed, users-changed}
 use Rattle.iobufs_owner.proofs.Soundness.Keeps.{keeps-self, calls-kept}
-use Rattle.iobufs_owner.proofs.Soundness.Kept.{at-some, append-at, set-at, at-more, sound-edited, sound-detached, owner-empty, owner-counted, block-log-kept}
+use Rattle.iobufs_owner.proofs.Soundness.Kept.{at-some, append-at, set-at, sound-edited, sound-detached, owner-empty, owner-counted, block-log-kept}
 use Rattle.iobufs_owner.proofs.Soundness.Edits.{fits-at, counted-at, empty-at, described-at, lies-as, describes-counted, alone-shared}
 use Rattle.iobufs_owner.proofs.Soundness.NewRecord.{recorded, recorded-new, sound-promoted}
 use Rattle.iobufs_owner.proofs.Soundness.AddHolder.{sound-added}

@@ -1,10 +1,8 @@
-use Rattle.std.proofs.Common.{◌<◌, length, sym, subst, arith, ap}
-use Rattle.std.proofs.lemmas.List.{get_or_read}
+use Rattle.std.proofs.Common.{sym, subst, arith, ap}
 use Rattle.iobufs_owner.specs.declared.owner.types.Kind.TheVariants.{View}
 use Rattle.iobufs_owner.specs.Inside.{state_of}
 use Rattle.iobufs_owner.specs.Moves.{Lends}
 use Rattle.iobufs_owner.specs.State.{State, Seen}
-use Rattle.iobufs_owner.proofs.Soundness.Kept.{at-some}
 use Rattle.iobufs_owner.proofs.Soundness.SplitTo.{sound-moved}
 use Rattle.iobufs_owner.proofs.Soundness.Borrows.{kept-set-pushed, counts-pushed}
 use Rattle.iobufs_owner.proofs.owner.Machine.move_whole.Goals as goal
