@@ -69,14 +69,6 @@ log-small a t s word size log tail w room is =
     let same : log ≡ w.log = (sym one) ∙ ap (λ x. bit_and (x / 2) (2 ^ a - 1)) (sym is ∙ w.is) ∙ two in
     rw same w.small
 
--- different fields, different words
-pub word-same : (a t s size log tail size' log' tail' : ℕ) → HasRoom a t s size log tail → HasRoom a t s size' log' tail' → word_of a t size log tail ≡ word_of a t size' log' tail' → (size ≡ size') × (log ≡ log') × (tail ≡ tail')
-word-same a t s size log tail size' log' tail' r r' e = (
-  sym (unpack-size a t size log tail r.log_fits r.tail_fits) ∙ ap (λ x. x / 2 ^ (1 + a + t)) e ∙ unpack-size a t size' log' tail' r'.log_fits r'.tail_fits,
-  sym (unpack-log a t size log tail r.log_fits) ∙ ap (λ x. bit_and (x / 2) (2 ^ a - 1)) e ∙ unpack-log a t size' log' tail' r'.log_fits,
-  sym (unpack-tail a t size log tail r.log_fits r.tail_fits) ∙ ap (λ x. bit_and (x / 2 ^ (1 + a)) (2 ^ t - 1)) e ∙ unpack-tail a t size' log' tail' r'.log_fits r'.tail_fits,
-)
-
 pub log-below : (align log : ℕ) → align < 2 ^ 64 → align ≡ 2 ^ log → log < 64
 log-below align log fits is =
     let z = bit_at-trailing_zeros w64 (2 ^ log) (pow_pos log) (rw is at fits) in

@@ -307,12 +307,6 @@ pub record BlockBehind (s : State) (x : Handle) (r : ℕ) : Type 0 where
   pub ends : (block_at s.tables (record_at s.tables r).block).base + (block_at s.tables (record_at s.tables r).block).size < 2 ^ 64
   pub behind : x.ptr ≤ (block_at s.tables (record_at s.tables r).block).base + (block_at s.tables (record_at s.tables r).block).size
 
-pub block-behind : (s : State) (h : ℕ) (x : Handle) (r : ℕ) → IsSound s → Lends s h View x → x.word ≡ Counted r → BlockBehind s x r
-block-behind s h x r k t i =
-    let f = counted-at s h x r k t.at i in
-    let lies = lies-as (block_at s.tables (record_at s.tables r).block) x View t.kind_is f.lies in
-    record { inside = live-inside s.tables.records r f.live; known = f.known; ends = (k.blocks.places (record_at s.tables r).block no_block f.known).ends; behind = omega (arith, lies.1) }
-
 -- a descriptor is a word of the format, and its tail leads to the end of the block
 pub word-at : (s : State) (h : ℕ) (x : Handle) (w : ℕ) → IsSound s → handle_at s h ≡ Some x → x.word ≡ Descriptor w → IsWord s.tables.align_bits s.tables.tail_bits s.tables.size_bits w
 word-at s h x w k at i = let d = described-at s h x w k at i in word-fits s x w d.0 d.1 d.2 k d.3

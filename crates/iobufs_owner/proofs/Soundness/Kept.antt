@@ -47,22 +47,6 @@ block-log-kept bs log used used' e k = record {
   many = k.many;
 }
 
--- one handle more, of another number than the others
-pub at-more : (hs : List (Option Handle)) (y : Handle) (i : ℕ) (x : Handle) → get_or (hs ++ Some y ∷ []) i None ≡ Some x → ((i ≡ length hs) × (x ≡ y)) ⊎ ((i < length hs) × (get_or hs i None ≡ Some x))
-at-more [] y zero x e = inl (refl, cc)
-at-more [] y (suc i) x e = absurd (cc)
-at-more (z ∷ hs) y zero x e = inr (omega arith, e)
-at-more (z ∷ hs) y (suc i) x e =
-    elim (at-more hs y i x e) [ inl w ↦ inl (let n = w.0 in omega arith, w.1) | inr w ↦ inr (let n = w.0 in omega arith, w.1) ]
-
--- a handle in another's place
-pub at-set : (hs : List (Option Handle)) (h i : ℕ) (o : Option Handle) (x : Handle) → h < length hs → get_or (set hs h o) i None ≡ Some x → ((i ≡ h) × (o ≡ Some x)) ⊎ ((i ≢ h) × (get_or hs i None ≡ Some x))
-at-set hs h i o x l e =
-    elim (eqb_tells i h) [
-      | inl z ↦ inl (z.1, (let q = rw z.1 at e in sym (get_or-set_same hs h o None l) ∙ q))
-      | inr z ↦ inr (z.1, sym (get_or-set_other hs h i o None z.1) ∙ e)
-    ]
-
 -- a handle without block more
 pub sound-detached : (s : State) (x : Handle) → IsSound s → x.word ≡ Empty → FitsWord s.tables s.calls x x.word → length s.handles < 2 ^ 32 → IsSound (with_handle s x)
 sound-detached s x k e f l =

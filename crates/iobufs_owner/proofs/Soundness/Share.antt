@@ -588,9 +588,6 @@ adding s p k r i at =
 pub adding-at : (s : State) (p : ℕ) (k : Share) (r : ℕ) (x : Handle) → IsSound s → call_at s p ≡ Some (Add k r) → handle_at s k.handle ≡ Some x → IsAdding s k r x
 adding-at s p k r x i at h = let a = adding s p k r i at in subst (λ (y : Handle). IsAdding s k r y) (some-same a.0 x (sym a.1.shares.at ∙ h)) a.1
 
-pub racing-at : (s : State) (p : ℕ) (k : Share) (w r : ℕ) (x : Handle) → IsSound s → call_at s p ≡ Some (Ready k w r) → handle_at s k.handle ≡ Some x → IsRacing s k w r x
-racing-at s p k w r x i at h = let a = racing s p k w r i at in subst (λ (y : Handle). IsRacing s k w r y) (some-same a.0 x (sym a.1.shares.at ∙ h)) a.1
-
 -- a finished addition
 pub sound-added-call : (s : State) (p r : ℕ) (k : Share) (x : Handle) → IsSound s → call_at s p ≡ Some (Add k r) → handle_at s k.handle ≡ Some x → (record_at s.tables r).count ≤ s.ceiling → length s.handles < 2 ^ 32 → IsSound (with_handle (called (with_count s r ((record_at s.tables r).count + 1)) p None) (part x k.lo k.hi (Counted r)))
 sound-added-call s p r k x i at h low few =
