@@ -1,11 +1,12 @@
-use Rattle.std.proofs.Common.{Option, Some, None, SomeIff, ◌≡◌, ℕ, ◌+◌, ◌-◌, ◌*◌, ◌/◌, ◌%◌, ◌^◌, ◌<◌, ◌≤◌, ◌↔◌, sym, ◌∙◌, ap, refl, arith, bit_or, bit_and}
+use Rattle.std.proofs.Common.{Bool, true, false, ◌&&◌, nat_lt, Option, Some, None, SomeIff, ◌≡◌, ℕ, ◌+◌, ◌-◌, ◌*◌, ◌/◌, ◌%◌, ◌^◌, ◌<◌, ◌≤◌, ◌↔◌, sym, ◌∙◌, ap, refl, arith, bit_or, bit_and}
+use Rattle.std.proofs.lemmas.Bool.Decides.{nat_tests}
 use Rattle.std.proofs.lemmas.Nat.{pow-add, pow_pos, or_shifted, shr_high, mod_low, and_mask, shl_whole, one_shl, shr_split, mod_below, mul-add-lt, shr-shr}
 use Rattle.std.proofs.lemmas.Nat.Bits.{bit_at-trailing_zeros, bit_at-pow_other}
 use Rattle.std.proofs.Math.Nat.{div-eq_of_lt}
 use Rattle.std.specs.Int.{trailing_zeros, Width}
 use mir.Val.{bits}
 use mir.Syntax.{w64}
-use Rattle.iobufs_owner.specs.Word.{word_of, HasRoom, IsWord, size_in, tail_in, log_in, retailed}
+use Rattle.iobufs_owner.specs.Word.{fits, word_of, HasRoom, IsWord, size_in, tail_in, log_in, retailed}
 
 -- the trailing zeros of a power of two are its logarithm
 pub zeros_pow : (w : Width) (k : ℕ) → 2 ^ k < 2 ^ bits w → trailing_zeros w (2 ^ k) ≡ k
@@ -68,14 +69,6 @@ log-small a t s word size log tail w room is =
     let same : log ≡ w.log = (sym one) ∙ ap (λ x. bit_and (x / 2) (2 ^ a - 1)) (sym is ∙ w.is) ∙ two in
     rw same w.small
 
--- different fields, different words
-pub word-same : (a t s size log tail size' log' tail' : ℕ) → HasRoom a t s size log tail → HasRoom a t s size' log' tail' → word_of a t size log tail ≡ word_of a t size' log' tail' → (size ≡ size') × (log ≡ log') × (tail ≡ tail')
-word-same a t s size log tail size' log' tail' r r' e = (
-  sym (unpack-size a t size log tail r.log_fits r.tail_fits) ∙ ap (λ x. x / 2 ^ (1 + a + t)) e ∙ unpack-size a t size' log' tail' r'.log_fits r'.tail_fits,
-  sym (unpack-log a t size log tail r.log_fits) ∙ ap (λ x. bit_and (x / 2) (2 ^ a - 1)) e ∙ unpack-log a t size' log' tail' r'.log_fits,
-  sym (unpack-tail a t size log tail r.log_fits r.tail_fits) ∙ ap (λ x. bit_and (x / 2 ^ (1 + a)) (2 ^ t - 1)) e ∙ unpack-tail a t size' log' tail' r'.log_fits r'.tail_fits,
-)
-
 pub log-below : (align log : ℕ) → align < 2 ^ 64 → align ≡ 2 ^ log → log < 64
 log-below align log fits is =
     let z = bit_at-trailing_zeros w64 (2 ^ log) (pow_pos log) (rw is at fits) in
@@ -104,3 +97,37 @@ word-log a t s word size log tail room is = let e = unpack-log a t size log tail
 -- a word with another tail
 pub retailed-is : (a t s word size log tail n : ℕ) → HasRoom a t s size log tail → word ≡ word_of a t size log tail → retailed a t word n ≡ word_of a t size log n
 retailed-is a t s word size log tail n room is = rw (word-size a t s word size log tail room is, word-log a t s word size log tail room is) refl
+
+-- ---- whether the fields have room
+
+pub fits-true : (a t s size log tail : ℕ) → HasRoom a t s size log tail → fits a t s size log tail ≡ true
+fits-true a t s size log tail r =
+    let p : nat_lt 0 size ≡ true = (let z = r.some in grind (arith, nat_tests)) in
+    let q : nat_lt log (2 ^ a) ≡ true = (let z = r.log_fits in grind (arith, nat_tests)) in
+    let u : nat_lt tail (2 ^ t) ≡ true = (let z = r.tail_fits in grind (arith, nat_tests)) in
+    let v : nat_lt size (2 ^ s) ≡ true = (let z = r.size_fits in grind (arith, nat_tests)) in
+    rw (p, q, u, v) refl
+
+all-four : (p q u v : Bool) → (p && q && u && v) ≡ true → (p ≡ true) × (q ≡ true) × (u ≡ true) × (v ≡ true)
+all-four true true true true e = (refl, refl, refl, refl)
+all-four true true true false e = absurd (cc)
+all-four true true false v e = absurd (cc)
+all-four true false u v e = absurd (cc)
+all-four false q u v e = absurd (cc)
+
+pub fits-room : (a t s size log tail : ℕ) → fits a t s size log tail ≡ true → HasRoom a t s size log tail
+fits-room a t s size log tail e =
+    let z = all-four (nat_lt 0 size) (nat_lt log (2 ^ a)) (nat_lt tail (2 ^ t)) (nat_lt size (2 ^ s)) e in
+    record { some = grind (arith, nat_tests, z.0); log_fits = grind (arith, nat_tests, z.1); tail_fits = grind (arith, nat_tests, z.2); size_fits = grind (arith, nat_tests, z.3) }
+
+pub fits-false : (a t s size log tail : ℕ) → (HasRoom a t s size log tail → ⊥) → fits a t s size log tail ≡ false
+fits-false a t s size log tail n =
+    let by : (v : Bool) → fits a t s size log tail ≡ v → v ≡ false = λ v. elim v as (λ v. fits a t s size log tail ≡ v → v ≡ false) [
+      | true ↦ λ e. absurd (n (fits-room a t s size log tail e))
+      | false ↦ λ e. refl
+    ] in
+    by (fits a t s size log tail) refl
+
+pub fits-iff : (a t s size log tail : ℕ) (v : Bool) → ((v ≡ true) ↔ HasRoom a t s size log tail) → v ≡ fits a t s size log tail
+fits-iff a t s size log tail true i = sym (fits-true a t s size log tail (i.0 refl))
+fits-iff a t s size log tail false i = sym (fits-false a t s size log tail (λ r. (let e = i.1 r in absurd (cc))))

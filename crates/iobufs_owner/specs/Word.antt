@@ -1,6 +1,6 @@
 -- Descriptor words: a size, an alignment and a tail in one number, of a format with a, t and s bits for alignment, tail
 -- and size.
-use Rattle.std.specs.Prelude.{◌≡◌, ℕ, ◌+◌, ◌*◌, ◌/◌, ◌%◌, ◌^◌, ◌<◌}
+use Rattle.std.specs.Prelude.{◌≡◌, ℕ, ◌+◌, ◌*◌, ◌/◌, ◌%◌, ◌^◌, ◌<◌, ◌&&◌, nat_lt, Bool}
 
 -- an alignment is a power of two
 abbrev pub IsPowerOfTwo : ℕ → Type 0
@@ -16,6 +16,10 @@ pub record HasRoom (a t s : ℕ) (size log tail : ℕ) : Type 0 where
   pub log_fits : log < 2 ^ a
   pub tail_fits : tail < 2 ^ t
   pub size_fits : size < 2 ^ s
+
+-- whether they have
+abbrev pub fits : (a t s : ℕ) (size log tail : ℕ) → Bool
+fits a t s size log tail = nat_lt 0 size && nat_lt log (2 ^ a) && nat_lt tail (2 ^ t) && nat_lt size (2 ^ s)
 
 -- a word of the format: that of some fields that have room
 pub record IsWord (a t s : ℕ) (word : ℕ) : Type 0 where

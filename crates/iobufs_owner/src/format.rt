@@ -1,6 +1,6 @@
 //! Descriptor words: a size, an alignment and a tail in one number.
 ghost use Rattle.std.specs.Prelude.{◌≡◌, ℕ, ◌+◌, ◌^◌, ◌<◌, ◌≤◌, ◌↔◌, SomeIff, IfSome, IsTrue, MatchOption};
-ghost use Rattle.iobufs_owner.specs.Word.{IsPowerOfTwo, word_of, HasRoom, IsWord, size_in, tail_in, log_in, retailed};
+ghost use Rattle.iobufs_owner.specs.Word.{IsPowerOfTwo, fits, word_of, HasRoom, IsWord, size_in, tail_in, log_in, retailed};
 
 /// How many bits of a word hold the alignment, the tail and the size. Below them a word has one bit that is always set.
 #[derive(Clone, Copy, Debug, Drop)]
@@ -84,6 +84,15 @@ impl Format {
             && fits(size, self.size_bits)
     }
 
+    /// Whether the fields have room in a word, where the size isn't 0.
+    pub fn fits(&self, size: u64, align: u64, tail: u64) -> bool
+        requires { IsPowerOfTwo align }
+        ensures { (log : ℕ) → align ≡ 2 ^ log → result
+            ≡ fits self.now.align_bits self.now.tail_bits self.now.size_bits size log tail }
+    {
+        self.has_room(size, align.trailing_zeros(), tail)
+    }
+
     /// The word of these fields, or `None` where one has no room or the size is 0.
     pub fn pack(&self, size: u64, align: u64, tail: u64) -> Option<u64>
         requires { IsPowerOfTwo align }
@@ -153,6 +162,8 @@ mod tests {
         assert_eq!(rt; FORMAT_64.pack(64, 1, 1 << 17), None);
         assert_eq!(rt; FORMAT_64.pack(0, 1, 0), None);
         assert_eq!(rt; FORMAT_32.pack(64, 2, 0), None);
+        assert!(rt; FORMAT_64.fits(64, 1, (1 << 17) - 1));
+        assert!(rt; !FORMAT_64.fits(64, 1, 1 << 17));
     }
 
     #[test]

@@ -9,8 +9,8 @@ use crate::owner::{Handle, Kind, Machine, Refusal, Reply, Word};
 impl Machine {
     /// A writable handle is filled by `n` bytes.
     pub(super) fn put(&mut self, h: usize, n: u64) -> Reply
-        ensures reply { result ≡ (put_of self.old h n).reply }
-        ensures state { self.new ≡ (put_of self.old h n).state }
+        ensures reply { result ≡ (put_of self.old.state h n).reply }
+        ensures state { self.new.state ≡ (put_of self.old.state h n).state }
     {
         let x = match self.lend(h, Kind::Mut) {
             Ok(x) => x,
@@ -28,8 +28,8 @@ impl Machine {
 
     /// `n` bytes go from the front of a handle.
     pub(super) fn advance(&mut self, h: usize, n: u64) -> Reply
-        ensures reply { result ≡ (advance_of self.old h n).reply }
-        ensures state { self.new ≡ (advance_of self.old h n).state }
+        ensures reply { result ≡ (advance_of self.old.state h n).reply }
+        ensures state { self.new.state ≡ (advance_of self.old.state h n).state }
     {
         let x = match self.lend_any(h) {
             Ok(x) => x,
@@ -50,8 +50,8 @@ impl Machine {
 
     /// A view that holds its block alone becomes writable.
     pub(super) fn recover(&mut self, h: usize) -> Reply
-        ensures reply { result ≡ (recover_of self.old h).reply }
-        ensures state { self.new ≡ (recover_of self.old h).state }
+        ensures reply { result ≡ (recover_of self.old.state h).reply }
+        ensures state { self.new.state ≡ (recover_of self.old.state h).state }
     {
         let x = match self.lend(h, Kind::View) {
             Ok(x) => x,
@@ -66,10 +66,10 @@ impl Machine {
 
     /// A view without block becomes writable where it is empty.
     fn recover_empty(&mut self, h: usize, x: Handle) -> Reply
-        requires lent { Lends self.old h View x }
+        requires lent { Lends self.old.state h View x }
         requires word { x.word ≡ Empty }
-        ensures reply { result ≡ (recover_by self.old h x Empty).reply }
-        ensures state { self.new ≡ (recover_by self.old h x Empty).state }
+        ensures reply { result ≡ (recover_by self.old.state h x Empty).reply }
+        ensures state { self.new.state ≡ (recover_by self.old.state h x Empty).state }
     {
         if x.len != 0 {
             return Reply::Declined;
@@ -85,10 +85,10 @@ impl Machine {
 
     /// A view with a descriptor becomes writable to the end of its block.
     fn recover_described(&mut self, h: usize, x: Handle, word: u64) -> Reply
-        requires lent { Lends self.old h View x }
+        requires lent { Lends self.old.state h View x }
         requires word { x.word ≡ Descriptor word }
-        ensures reply { result ≡ (recover_by self.old h x (Descriptor word)).reply }
-        ensures state { self.new ≡ (recover_by self.old h x (Descriptor word)).state }
+        ensures reply { result ≡ (recover_by self.old.state h x (Descriptor word)).reply }
+        ensures state { self.new.state ≡ (recover_by self.old.state h x (Descriptor word)).state }
     {
         let tail = self.format.unpack(word).tail;
         let whole = self.format.with_tail(word, 0).unwrap();
@@ -103,10 +103,10 @@ impl Machine {
 
     /// A view with a record becomes writable to the end of its block where it is the only one that the record counts.
     fn recover_counted(&mut self, h: usize, x: Handle, r: usize) -> Reply
-        requires lent { Lends self.old h View x }
+        requires lent { Lends self.old.state h View x }
         requires word { x.word ≡ Counted r }
-        ensures reply { result ≡ (recover_by self.old h x (Counted r)).reply }
-        ensures state { self.new ≡ (recover_by self.old h x (Counted r)).state }
+        ensures reply { result ≡ (recover_by self.old.state h x (Counted r)).reply }
+        ensures state { self.new.state ≡ (recover_by self.old.state h x (Counted r)).state }
     {
         let record = self.record(r);
         let block = self.block(record.block);
@@ -127,7 +127,7 @@ impl Machine {
 
     /// Whether a handle holds its block alone.
     pub(super) fn unique(&self, h: usize) -> Reply
-        ensures { result ≡ (unique_of self.now h).reply }
+        ensures { result ≡ (unique_of self.now.state h).reply }
     {
         let x = match self.lend_owning(h) {
             Ok(x) => x,

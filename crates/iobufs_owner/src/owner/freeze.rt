@@ -8,7 +8,7 @@ ghost use Rattle.iobufs_owner.specs.Moves.{Lends, IsLoose, Took, done, edited, r
 ghost use Rattle.iobufs_owner.specs.State.{recovered, end_of};
 
 use crate::owner::lend::detached;
-use crate::owner::make::{MOST, put_last, reserve_log};
+use crate::owner::room::room_for_record;
 use crate::owner::{Freed, Handle, Kind, Machine, Record, Refusal, Reply, Word};
 use std::alloc::AllocError;
 
@@ -25,7 +25,7 @@ fn frozen(x: Handle, word: Word) -> Handle
 }
 
 /// Where the block ends under a descriptor with this tail.
-fn end(x: Handle, tail: u64) -> u64
+pub(super) fn end(x: Handle, tail: u64) -> u64
     requires behind_view { x.kind ≡ View → x.ptr + x.len + tail < 2 ^ 64 }
     requires behind_room { x.kind ≡ Mut → x.ptr + x.cap < 2 ^ 64 }
     ensures { result ≡ end_of x tail }
@@ -39,7 +39,7 @@ fn end(x: Handle, tail: u64) -> u64
 impl Machine {
     /// A writable handle becomes a view; an empty one lets its block go.
     pub(super) fn freeze(&mut self, h: usize, memory: bool) -> Result<Reply, AllocError>
-        ensures { Took self.old (freeze_of self.old h memory) result self.new }
+        ensures { Took self.old (freeze_of self.old.state h memory) result self.new }
     {
         let x = match self.lend(h, Kind::Mut) {
             Ok(x) => x,
@@ -57,9 +57,9 @@ impl Machine {
 
     /// An empty writable handle is detached, and what it owned is freed.
     fn freeze_nothing(&mut self, h: usize, x: Handle) -> Reply
-        requires { Lends self.old h Mut x }
+        requires { Lends self.old.state h Mut x }
         ensures reply { result ≡ Done }
-        ensures state { self.new ≡ edited (move.freed_with self.old x x.word) h (move.detached 0) }
+        ensures state { self.new.state ≡ edited (move.freed_with self.old.state x x.word) h (move.detached 0) }
     {
         match x.word {
             Word::Empty => self.detach(h, x),
@@ -71,39 +71,36 @@ impl Machine {
 
     /// A handle without block becomes the detached view.
     fn detach(&mut self, h: usize, x: Handle)
-        requires lent { Lends self.old h Mut x }
+        requires lent { Lends self.old.state h Mut x }
         requires word { x.word ≡ Empty }
-        ensures { self.new ≡ edited self.old h (move.detached 0) }
+        ensures { self.new.state ≡ edited self.old.state h (move.detached 0) }
     {
         self.handles[h] = Some(detached());
     }
 
     /// A handle with a descriptor is replaced, and its block is freed, as the word and the handle describe it.
     pub(super) fn free_described(&mut self, h: usize, x: Handle, word: u64, rest: Option<Handle>)
-        requires lent { Lends self.old h x.kind x }
+        requires lent { Lends self.old.state h x.kind x }
         requires word { x.word ≡ Descriptor word }
         requires rest { IsLoose rest }
-        ensures { self.new ≡ replaced (block_freed self.old (recovered self.old.tables x word)) h rest }
+        ensures { self.new.state ≡ replaced (block_freed self.old.state (recovered self.old.state.tables x word)) h rest }
     {
         let fields = self.format.unpack(word);
         let base = end(x, fields.tail) - fields.size;
         self.handles[h] = rest;
-        put_last(
-            &mut self.freed_blocks,
-            Freed {
-                base,
-                size: fields.size,
-                align: fields.align,
-            },
-        );
+        self.freed_blocks.push_reserved(Freed {
+            base,
+            size: fields.size,
+            align: fields.align,
+        });
     }
 
     /// A writable handle with a record is replaced, and its record and block are freed.
     pub(super) fn free_counted(&mut self, h: usize, x: Handle, r: usize, rest: Option<Handle>)
-        requires lent { Lends self.old h Mut x }
+        requires lent { Lends self.old.state h Mut x }
         requires word { x.word ≡ Counted r }
         requires rest { IsLoose rest }
-        ensures { self.new ≡ replaced (both_freed self.old r) h rest }
+        ensures { self.new.state ≡ replaced (both_freed self.old.state r) h rest }
     {
         let record = self.record(r);
         let block = self.block(record.block);
@@ -112,23 +109,20 @@ impl Machine {
             live: false,
             ..record
         };
-        put_last(
-            &mut self.freed_blocks,
-            Freed {
-                base: block.base,
-                size: block.size,
-                align: block.align,
-            },
-        );
-        put_last(&mut self.freed_records, r);
+        self.freed_blocks.push_reserved(Freed {
+            base: block.base,
+            size: block.size,
+            align: block.align,
+        });
+        self.freed_records.push_reserved(r);
     }
 
     /// A writable handle without block becomes a view.
     fn freeze_empty(&mut self, h: usize, x: Handle) -> Reply
-        requires lent { Lends self.old h Mut x }
+        requires lent { Lends self.old.state h Mut x }
         requires word { x.word ≡ Empty }
         ensures reply { result ≡ Done }
-        ensures state { self.new ≡ edited self.old h (move.frozen x Empty) }
+        ensures state { self.new.state ≡ edited self.old.state h (move.frozen x Empty) }
     {
         self.handles[h] = Some(frozen(x, Word::Empty));
         Reply::Done
@@ -136,10 +130,10 @@ impl Machine {
 
     /// A writable handle with a record becomes a view.
     fn freeze_counted(&mut self, h: usize, x: Handle, r: usize) -> Reply
-        requires lent { Lends self.old h Mut x }
+        requires lent { Lends self.old.state h Mut x }
         requires word { x.word ≡ Counted r }
         ensures reply { result ≡ Done }
-        ensures state { self.new ≡ edited self.old h (move.frozen x (Counted r)) }
+        ensures state { self.new.state ≡ edited self.old.state h (move.frozen x (Counted r)) }
     {
         self.handles[h] = Some(frozen(x, Word::Record(r)));
         Reply::Done
@@ -154,9 +148,9 @@ impl Machine {
         x: Handle,
         word: u64,
     ) -> Result<Reply, AllocError>
-        requires lent { Lends self.old h Mut x }
+        requires lent { Lends self.old.state h Mut x }
         requires word { x.word ≡ Descriptor word }
-        ensures { Took self.old (freeze_by self.old h memory x (Descriptor word)) result self.new }
+        ensures { Took self.old (freeze_by self.old.state h memory x (Descriptor word)) result self.new }
     {
         if let Some(tailed) = self.format.with_tail(word, x.cap - x.len) {
             self.handles[h] = Some(frozen(x, Word::Descriptor(tailed)));
@@ -170,27 +164,20 @@ impl Machine {
 
     /// A record takes the place of a writable handle's descriptor, and the handle becomes a view.
     fn promote(&mut self, h: usize, x: Handle, word: u64) -> Result<Reply, AllocError>
-        requires lent { Lends self.old h Mut x }
+        requires lent { Lends self.old.state h Mut x }
         requires word { x.word ≡ Descriptor word }
         ensures { Took self.old
-            (done (edited (promoted self.old x 1) h (move.frozen x (Counted (next_record self.old)))))
+            (done (edited (promoted self.old.state x 1) h (move.frozen x (Counted (next_record self.old.state)))))
             result self.new }
     {
         let block = self.owned(h, x, word);
-        if self.records.len() >= MOST {
-            return Err(AllocError);
-        }
-        self.records.reserve(1)?;
-        reserve_log(&mut self.freed_records, self.records.len() + 1)?;
+        room_for_record(&mut self.records, &mut self.freed_records)?;
         let r = self.records.len();
-        put_last(
-            &mut self.records,
-            Record {
-                count: 1,
-                block,
-                live: true,
-            },
-        );
+        self.records.push_reserved(Record {
+            count: 1,
+            block,
+            live: true,
+        });
         self.handles[h] = Some(frozen(x, Word::Record(r)));
         Ok(Reply::Done)
     }

@@ -1,35 +1,34 @@
 //! Handles as a call asks for them: there, of the right kind, and not borrowed.
-ghost use Rattle.std.specs.Prelude.{◌≡◌, ℕ, ◌+◌, ◌^◌, ◌<◌, ◌≤◌, length, IfOk, Some};
+ghost use Rattle.std.specs.Prelude.{◌≡◌, ℕ, ◌+◌, ◌-◌, ◌^◌, ◌<◌, ◌≤◌, length, slice_index_or, slice_set, vec_capacity, IfOk, IfSome, Some};
 ghost use Rattle.iobufs_owner.specs.declared.owner.types.Word.TheVariants.{Descriptor};
 ghost use Rattle.iobufs_owner.specs.Moves as move;
-ghost use Rattle.iobufs_owner.specs.Moves.{borrows_it, is_lent, lend_of, any_of, owning_of, Lends};
-ghost use Rattle.iobufs_owner.specs.Sound.{IsSound};
-ghost use Rattle.iobufs_owner.specs.State.{handle_at, origin_at, record_at, block_at, owner_of, owned_by};
+ghost use Rattle.iobufs_owner.specs.Moves.{is_lent, lend_of, any_of, owning_of, Lends};
+ghost use Rattle.iobufs_owner.specs.Sound.{IsSound, IsDescribed};
+ghost use Rattle.iobufs_owner.specs.State.{handle_at, record_at, block_at, owner_of, owned_by};
 
-use crate::owner::{Block, Handle, Kind, Machine, Pending, Record, Refusal, Word};
+use crate::owner::freeze::end;
+use crate::owner::{Block, Handle, Kind, Machine, Record, Refusal, Word};
 
-/// Whether a call borrows the handle.
-fn borrows(call: &Option<Pending>, h: usize) -> bool
-    ensures { result ≡ borrows_it h call.now }
+/// One borrow more of a handle.
+pub(super) fn borrow_more(borrows: &mut Vec<usize>, h: usize)
+    requires known { h < length borrows.old.items }
+    requires few { slice_index_or borrows.old.items h 0 < 2 ^ 63 }
+    ensures items { borrows.new.items
+        ≡ slice_set borrows.old.items h (slice_index_or borrows.old.items h 0 + 1) }
+    ensures capacity { vec_capacity borrows.new ≡ vec_capacity borrows.old }
 {
-    match call {
-        Some(Pending::Loaded(share, _) | Pending::Ready(share, _, _) | Pending::Add(share, _)) => {
-            share.handle == h
-        }
-        _ => false,
-    }
+    borrows[h] += 1;
 }
 
-/// Whether one of the calls borrows the handle.
-fn lent(calls: &[Option<Pending>], h: usize) -> bool
-    ensures { result ≡ is_lent h calls.now }
+/// One borrow less of a handle.
+pub(super) fn borrow_less(borrows: &mut Vec<usize>, h: usize)
+    requires known { h < length borrows.old.items }
+    requires some { 0 < slice_index_or borrows.old.items h 0 }
+    ensures items { borrows.new.items
+        ≡ slice_set borrows.old.items h (slice_index_or borrows.old.items h 0 - 1) }
+    ensures capacity { vec_capacity borrows.new ≡ vec_capacity borrows.old }
 {
-    for call in calls {
-        if borrows(call, h) {
-            return true;
-        }
-    }
-    false
+    borrows[h] -= 1;
 }
 
 /// The bytes `lo` to `hi` of a view as a view, which owns what the word says.
@@ -62,10 +61,19 @@ pub(super) fn detached() -> Handle
 }
 
 impl Machine {
+    /// Whether an unfinished call borrows the handle.
+    fn is_lent(&self, h: usize) -> bool
+        requires { h < length self.now.state.handles }
+        ensures { result ≡ is_lent h self.now.state.calls }
+    {
+        self.borrows[h] != 0
+    }
+
     /// The handle of this number, where it was given and isn't gone.
     pub(super) fn find(&self, h: usize) -> Option<Handle>
-        ensures value { result ≡ handle_at self.now h }
-        ensures sound { IsSound self.now }
+        ensures value { result ≡ handle_at self.now.state h }
+        ensures known { IfSome result (λ _. h < length self.now.state.handles) }
+        ensures sound { IsSound self.now.state }
     {
         if h < self.handles.len() {
             self.handles[h]
@@ -76,9 +84,9 @@ impl Machine {
 
     /// The handle, for a call that must have it alone.
     pub(super) fn lend(&self, h: usize, kind: Kind) -> Result<Handle, Refusal>
-        ensures value { result ≡ lend_of self.now h kind }
-        ensures sound { IsSound self.now }
-        ensures lends { IfOk result (Lends self.now h kind) }
+        ensures value { result ≡ lend_of self.now.state h kind }
+        ensures sound { IsSound self.now.state }
+        ensures lends { IfOk result (Lends self.now.state h kind) }
         ensures ends { IfOk result (λ x. x.ptr + x.len < 2 ^ 64) }
     {
         let Some(x) = self.find(h) else {
@@ -87,7 +95,7 @@ impl Machine {
         if x.kind != kind {
             return Err(Refusal::WrongKind);
         }
-        if lent(&self.calls, h) {
+        if self.is_lent(h) {
             return Err(Refusal::Borrowed);
         }
         Ok(x)
@@ -95,14 +103,14 @@ impl Machine {
 
     /// The same where either kind may be given.
     pub(super) fn lend_any(&self, h: usize) -> Result<Handle, Refusal>
-        ensures value { result ≡ any_of self.now h }
-        ensures sound { IsSound self.now }
-        ensures lends { IfOk result (λ x. Lends self.now h x.kind x) }
+        ensures value { result ≡ any_of self.now.state h }
+        ensures sound { IsSound self.now.state }
+        ensures lends { IfOk result (λ x. Lends self.now.state h x.kind x) }
     {
         let Some(x) = self.find(h) else {
             return Err(Refusal::NoHandle);
         };
-        if lent(&self.calls, h) {
+        if self.is_lent(h) {
             return Err(Refusal::Borrowed);
         }
         Ok(x)
@@ -110,9 +118,9 @@ impl Machine {
 
     /// The same for a handle that has a block.
     pub(super) fn lend_owning(&self, h: usize) -> Result<Handle, Refusal>
-        ensures value { result ≡ owning_of self.now h }
-        ensures sound { IsSound self.now }
-        ensures lends { IfOk result (λ x. Lends self.now h x.kind x) }
+        ensures value { result ≡ owning_of self.now.state h }
+        ensures sound { IsSound self.now.state }
+        ensures lends { IfOk result (λ x. Lends self.now.state h x.kind x) }
     {
         let Some(x) = self.find(h) else {
             return Err(Refusal::NoHandle);
@@ -120,7 +128,7 @@ impl Machine {
         if let Word::Empty = x.word {
             return Err(Refusal::WrongKind);
         }
-        if lent(&self.calls, h) {
+        if self.is_lent(h) {
             return Err(Refusal::Borrowed);
         }
         Ok(x)
@@ -128,35 +136,44 @@ impl Machine {
 
     /// The record of this number.
     pub(super) fn record(&self, r: usize) -> Record
-        requires { r < length self.now.tables.records }
-        ensures { result ≡ record_at self.now.tables r }
+        requires { r < length self.now.state.tables.records }
+        ensures { result ≡ record_at self.now.state.tables r }
     {
         self.records[r]
     }
 
     /// The block of this number.
     pub(super) fn block(&self, b: usize) -> Block
-        requires { b < length self.now.tables.blocks }
-        ensures { result ≡ block_at self.now.tables b }
+        requires { b < length self.now.state.tables.blocks }
+        ensures { result ≡ block_at self.now.state.tables b }
     {
         self.blocks[b]
     }
 
-    /// The number of the block that a handle was made on, 0 where there was none.
-    pub(super) fn origin(&self, h: usize) -> usize
-        requires { h < length self.now.handles }
-        ensures { result ≡ origin_at self.now h }
+    /// The number of the block that a descriptor of this handle describes: the one at the base that both give.
+    pub(super) fn described(&self, x: Handle, word: u64) -> usize
+        requires word { x.word ≡ Descriptor word }
+        requires says { (b : ℕ) × (log : ℕ) × (tail : ℕ)
+            × IsDescribed self.now.state.tables x word b log tail }
+        ensures { owner_of self.now.state.tables x ≡ Some result }
     {
-        self.origins[h]
+        let fields = self.format.unpack(word);
+        let base = end(x, fields.tail) - fields.size;
+        match self.places.get(&base) {
+            Some(number) => *number,
+            None => unreachable!(),
+        }
     }
 
     /// The number of the block of a handle with a descriptor.
     pub(super) fn owned(&self, h: usize, x: Handle, word: u64) -> usize
-        requires at { handle_at self.now h ≡ Some x }
+        requires at { handle_at self.now.state h ≡ Some x }
         requires word { x.word ≡ Descriptor word }
-        ensures owner { owner_of self.now.tables x ≡ Some result }
-        ensures number { result ≡ owned_by self.now.tables x }
+        ensures owner { owner_of self.now.state.tables x ≡ Some result }
+        ensures number { result ≡ owned_by self.now.state.tables x }
     {
-        self.origins[h]
+        // A look at a field tells the prover what the machine keeps true.
+        let _ = &self.format;
+        self.described(x, word)
     }
 }

@@ -6,30 +6,9 @@ ghost use Rattle.iobufs_owner.specs.Moves.{Outcome, Took, CanDescribe, IsNew, Is
 ghost use Rattle.iobufs_owner.specs.Places.{IsPlace, ApartFrom, IsGoodPlace};
 ghost use Rattle.iobufs_owner.specs.Sound.{LiesIn};
 
+use crate::owner::room::{room_for_block, room_for_handle, room_for_record};
 use crate::owner::{Block, Handle, Kind, Machine, Record, Refusal, Reply, Word};
 use std::alloc::AllocError;
-
-/// A table may have this many entries.
-pub(super) const MOST: usize = 1 << 32;
-
-/// One element more, where there is room for it.
-pub(super) fn put_last<T: Drop>(list: &mut Vec<T>, value: T)
-    requires { vec_len list.old < vec_capacity list.old }
-    ensures items { list.new.items ≡ list.old.items ++ value ∷ [] }
-    ensures len { vec_len list.new ≡ vec_len list.old + 1 }
-    ensures capacity { vec_capacity list.old ≤ vec_capacity list.new }
-{
-    let _ = list.push(value);
-}
-
-/// Room in a log for so many entries in all.
-pub(super) fn reserve_log<T>(log: &mut Vec<T>, entries: usize) -> Result<(), AllocError>
-    ensures items { log.new.items ≡ log.old.items }
-    ensures capacity { vec_capacity log.old ≤ vec_capacity log.new }
-    ensures room { OnOk result (entries ≤ vec_capacity log.new) }
-{
-    log.reserve(entries.saturating_sub(log.len()))
-}
 
 /// Whether a block may lie here.
 fn is_place(base: u64, size: u64, align: u64) -> bool
@@ -51,28 +30,28 @@ fn is_place(base: u64, size: u64, align: u64) -> bool
     }
 }
 
-/// Whether a range touches none of the blocks.
-fn is_free(blocks: &[Block], base: u64, size: u64) -> bool
-    requires ends { base + size < 2 ^ 64 }
-    requires all_end { All (λ b. b.base + b.size < 2 ^ 64) blocks.now }
-    ensures yes { result ≡ true → All (λ b. ApartFrom b base size) blocks.now }
-    ensures no { result ≡ false → All (λ b. ApartFrom b base size) blocks.now → ⊥ }
-{
-    for b in blocks {
-        if b.base + b.size > base && base + size > b.base {
-            return false;
+impl Machine {
+    /// Whether a range touches none of the blocks. Of those that begin before its end only the last can reach into it.
+    fn is_free(&self, base: u64, size: u64) -> bool
+        requires { base + size < 2 ^ 64 }
+        ensures yes { result ≡ true → All (λ b. ApartFrom b base size) self.now.state.tables.blocks }
+        ensures no { result ≡ false → All (λ b. ApartFrom b base size) self.now.state.tables.blocks → ⊥ }
+    {
+        match self.places.range(..base + size).next_back() {
+            None => true,
+            Some((_, number)) => {
+                let last = self.blocks[*number];
+                last.base + last.size <= base
+            }
         }
     }
-    true
-}
 
-impl Machine {
     /// Whether a new block may lie here.
     fn is_good_place(&self, base: u64, size: u64, align: u64) -> bool
-        ensures yes { result ≡ true → IsGoodPlace self.now.tables.blocks base size align }
-        ensures no { result ≡ false → IsGoodPlace self.now.tables.blocks base size align → ⊥ }
+        ensures yes { result ≡ true → IsGoodPlace self.now.state.tables.blocks base size align }
+        ensures no { result ≡ false → IsGoodPlace self.now.state.tables.blocks base size align → ⊥ }
     {
-        is_place(base, size, align) && is_free(&self.blocks, base, size)
+        is_place(base, size, align) && self.is_free(base, size)
     }
 
     /// A new block with a writable handle, which holds it by a descriptor where its fields fit, else by a record.
@@ -84,7 +63,7 @@ impl Machine {
         memory: bool,
     ) -> Result<Reply, AllocError>
         ensures { (o : Outcome)
-            × IsNew self.old base size align memory o
+            × IsNew self.old.state base size align memory o
             × Took self.old o result self.new }
     {
         if !self.is_good_place(base, size, align) {
@@ -122,7 +101,7 @@ impl Machine {
         memory: bool,
     ) -> Result<Reply, AllocError>
         ensures { (o : Outcome)
-            × IsExternal self.old base size memory o
+            × IsExternal self.old.state base size memory o
             × Took self.old o result self.new }
     {
         if !self.is_good_place(base, size, 1) {
@@ -149,86 +128,65 @@ impl Machine {
 
     /// A view of so many bytes without block, as the next handle.
     pub(super) fn add_detached(&mut self, len: u64) -> Result<Reply, AllocError>
-        ensures { Took self.old (made self.old (detached len) 0) result self.new }
+        ensures { Took self.old (made self.old.state (detached len)) result self.new }
     {
-        if self.handles.len() >= MOST {
-            return Err(AllocError);
-        }
-        self.handles.reserve(1)?;
-        self.origins.reserve(1)?;
+        room_for_handle(&mut self.handles, &mut self.borrows)?;
         let h = self.handles.len();
-        put_last(
-            &mut self.handles,
-            Some(Handle {
-                kind: Kind::View,
-                ptr: 0,
-                len,
-                cap: 0,
-                word: Word::Empty,
-            }),
-        );
-        put_last(&mut self.origins, 0);
+        self.handles.push_reserved(Some(Handle {
+            kind: Kind::View,
+            ptr: 0,
+            len,
+            cap: 0,
+            word: Word::Empty,
+        }));
+        self.borrows.push_reserved(0);
         Ok(Reply::Made(h))
     }
 
     /// A writable handle on a new block, which a descriptor describes.
     fn add_described(&mut self, block: Block, word: u64) -> Result<Reply, AllocError>
-        requires { CanDescribe self.old block word }
-        ensures { Took self.old (described_of self.old block word) result self.new }
+        requires { CanDescribe self.old.state block word }
+        ensures { Took self.old (described_of self.old.state block word) result self.new }
     {
-        if self.blocks.len() >= MOST || self.handles.len() >= MOST {
-            return Err(AllocError);
-        }
-        self.blocks.reserve(1)?;
-        reserve_log(&mut self.freed_blocks, self.blocks.len() + 1)?;
-        self.handles.reserve(1)?;
-        self.origins.reserve(1)?;
+        room_for_block(&mut self.blocks, &mut self.freed_blocks)?;
+        room_for_handle(&mut self.handles, &mut self.borrows)?;
+        let number = self.blocks.len();
+        self.places.insert(block.base, number)?;
         let h = self.handles.len();
-        put_last(&mut self.origins, self.blocks.len());
-        put_last(&mut self.blocks, block);
-        put_last(
-            &mut self.handles,
-            Some(Handle {
-                kind: Kind::Mut,
-                ptr: block.base,
-                len: 0,
-                cap: block.size,
-                word: Word::Descriptor(word),
-            }),
-        );
+        self.blocks.push_reserved(block);
+        self.handles.push_reserved(Some(Handle {
+            kind: Kind::Mut,
+            ptr: block.base,
+            len: 0,
+            cap: block.size,
+            word: Word::Descriptor(word),
+        }));
+        self.borrows.push_reserved(0);
         Ok(Reply::Made(h))
     }
 
     /// A handle on a new block, which a new record counts.
     fn add_recorded(&mut self, block: Block, x: Handle) -> Result<Reply, AllocError>
-        requires place { IsGoodPlace self.old.tables.blocks block.base block.size block.align }
-        requires word { x.word ≡ Counted (next_record self.old) }
+        requires place { IsGoodPlace self.old.state.tables.blocks block.base block.size block.align }
+        requires word { x.word ≡ Counted (next_record self.old.state) }
         requires lies { LiesIn block x x.kind }
         requires native { x.kind ≡ Mut → block.external ≡ false }
-        ensures { Took self.old (recorded_of self.old block x) result self.new }
+        ensures { Took self.old (recorded_of self.old.state block x) result self.new }
     {
-        if self.blocks.len() >= MOST || self.records.len() >= MOST || self.handles.len() >= MOST {
-            return Err(AllocError);
-        }
-        self.blocks.reserve(1)?;
-        reserve_log(&mut self.freed_blocks, self.blocks.len() + 1)?;
-        self.records.reserve(1)?;
-        reserve_log(&mut self.freed_records, self.records.len() + 1)?;
-        self.handles.reserve(1)?;
-        self.origins.reserve(1)?;
-        let h = self.handles.len();
+        room_for_block(&mut self.blocks, &mut self.freed_blocks)?;
+        room_for_record(&mut self.records, &mut self.freed_records)?;
+        room_for_handle(&mut self.handles, &mut self.borrows)?;
         let number = self.blocks.len();
-        put_last(&mut self.blocks, block);
-        put_last(
-            &mut self.records,
-            Record {
-                count: 1,
-                block: number,
-                live: true,
-            },
-        );
-        put_last(&mut self.handles, Some(x));
-        put_last(&mut self.origins, number);
+        self.places.insert(block.base, number)?;
+        let h = self.handles.len();
+        self.blocks.push_reserved(block);
+        self.records.push_reserved(Record {
+            count: 1,
+            block: number,
+            live: true,
+        });
+        self.handles.push_reserved(Some(x));
+        self.borrows.push_reserved(0);
         Ok(Reply::Made(h))
     }
 }

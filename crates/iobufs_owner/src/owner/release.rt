@@ -8,7 +8,6 @@ ghost use Rattle.iobufs_owner.specs.Moves as move;
 ghost use Rattle.iobufs_owner.specs.Moves.{Lends, called, gone, drop_of, subtract_of, release_of};
 ghost use Rattle.iobufs_owner.specs.State.{call_at, record_at};
 
-use crate::owner::make::put_last;
 use crate::owner::{Freed, Handle, Kind, Machine, Pending, Record, Reply, Word};
 
 /// What a drop does next that loaded this count.
@@ -25,10 +24,10 @@ fn after_count(count: u64, r: usize) -> Pending
 impl Machine {
     /// A drop begins: the handle is gone. What it holds alone is freed at once, but for a view with a record.
     pub(super) fn drop_handle(&mut self, party: usize, h: usize) -> Reply
-        requires there { party < length self.old.calls }
-        requires idle { call_at self.old party ≡ None }
-        ensures reply { result ≡ (drop_of self.old party h).reply }
-        ensures state { self.new ≡ (drop_of self.old party h).state }
+        requires there { party < length self.old.state.calls }
+        requires idle { call_at self.old.state party ≡ None }
+        ensures reply { result ≡ (drop_of self.old.state party h).reply }
+        ensures state { self.new.state ≡ (drop_of self.old.state party h).state }
     {
         let x = match self.lend_any(h) {
             Ok(x) => x,
@@ -46,10 +45,10 @@ impl Machine {
 
     /// A handle without block is gone.
     fn drop_empty(&mut self, h: usize, x: Handle) -> Reply
-        requires lent { Lends self.old h x.kind x }
+        requires lent { Lends self.old.state h x.kind x }
         requires word { x.word ≡ Empty }
         ensures reply { result ≡ Done }
-        ensures state { self.new ≡ gone self.old h }
+        ensures state { self.new.state ≡ gone self.old.state h }
     {
         self.handles[h] = None;
         Reply::Done
@@ -57,12 +56,12 @@ impl Machine {
 
     /// A handle with a record is gone: a writable one frees record and block, a view loads the count.
     fn drop_counted(&mut self, party: usize, h: usize, x: Handle, r: usize) -> Reply
-        requires there { party < length self.old.calls }
-        requires idle { call_at self.old party ≡ None }
-        requires lent { Lends self.old h x.kind x }
+        requires there { party < length self.old.state.calls }
+        requires idle { call_at self.old.state party ≡ None }
+        requires lent { Lends self.old.state h x.kind x }
         requires word { x.word ≡ Counted r }
-        ensures reply { result ≡ (move.drop_counted self.old party h r x.kind).reply }
-        ensures state { self.new ≡ (move.drop_counted self.old party h r x.kind).state }
+        ensures reply { result ≡ (move.drop_counted self.old.state party h r x.kind).reply }
+        ensures state { self.new.state ≡ (move.drop_counted self.old.state party h r x.kind).state }
     {
         match x.kind {
             Kind::Mut => {
@@ -75,14 +74,14 @@ impl Machine {
 
     /// A view with a record is gone; its drop loads the count.
     fn drop_view(&mut self, party: usize, h: usize, x: Handle, r: usize) -> Reply
-        requires there { party < length self.old.calls }
-        requires idle { call_at self.old party ≡ None }
-        requires lent { Lends self.old h View x }
+        requires there { party < length self.old.state.calls }
+        requires idle { call_at self.old.state party ≡ None }
+        requires lent { Lends self.old.state h View x }
         requires word { x.word ≡ Counted r }
         ensures reply { result ≡ More }
-        ensures state { self.new
-            ≡ called (gone self.old h) party
-            (Some (move.after_count (record_at self.old.tables r).count r)) }
+        ensures state { self.new.state
+            ≡ called (gone self.old.state h) party
+            (Some (move.after_count (record_at self.old.state.tables r).count r)) }
     {
         let record = self.record(r);
         let next = after_count(record.count, r);
@@ -93,9 +92,9 @@ impl Machine {
 
     /// A drop lets go; who saw the count at 1 will free.
     pub(super) fn subtract(&mut self, party: usize, r: usize) -> Reply
-        requires { call_at self.old party ≡ Some (Subtract r) }
-        ensures reply { result ≡ (subtract_of self.old party r).reply }
-        ensures state { self.new ≡ (subtract_of self.old party r).state }
+        requires { call_at self.old.state party ≡ Some (Subtract r) }
+        ensures reply { result ≡ (subtract_of self.old.state party r).reply }
+        ensures state { self.new.state ≡ (subtract_of self.old.state party r).state }
     {
         let record = self.record(r);
         self.records[r] = Record {
@@ -112,9 +111,9 @@ impl Machine {
 
     /// The last step of a drop: record and block are freed.
     pub(super) fn release(&mut self, party: usize, r: usize, let_go: bool) -> Reply
-        requires { call_at self.old party ≡ Some (Release r let_go) }
-        ensures reply { result ≡ (release_of self.old party r).reply }
-        ensures state { self.new ≡ (release_of self.old party r).state }
+        requires { call_at self.old.state party ≡ Some (Release r let_go) }
+        ensures reply { result ≡ (release_of self.old.state party r).reply }
+        ensures state { self.new.state ≡ (release_of self.old.state party r).state }
     {
         let record = self.record(r);
         let block = self.block(record.block);
@@ -122,15 +121,12 @@ impl Machine {
             live: false,
             ..record
         };
-        put_last(
-            &mut self.freed_blocks,
-            Freed {
-                base: block.base,
-                size: block.size,
-                align: block.align,
-            },
-        );
-        put_last(&mut self.freed_records, r);
+        self.freed_blocks.push_reserved(Freed {
+            base: block.base,
+            size: block.size,
+            align: block.align,
+        });
+        self.freed_records.push_reserved(r);
         self.calls[party] = None;
         Reply::Done
     }

@@ -5,22 +5,22 @@ ghost use Rattle.iobufs_owner.specs.declared.owner.types.Word.TheVariants.{Empty
 ghost use Rattle.iobufs_owner.specs.declared.owner.types.Pending.TheVariants.{Loaded, Ready, Add};
 ghost use Rattle.iobufs_owner.specs.declared.owner.types.Reply.TheVariants.{More};
 ghost use Rattle.iobufs_owner.specs.Moves as move;
-ghost use Rattle.iobufs_owner.specs.Moves.{Took, called, edited, record_freed, shared, with_count, share_by, clone_of, slice_of, ready_of, race_of, add_of, block_held};
+ghost use Rattle.iobufs_owner.specs.Moves.{Took, called, edited, record_freed, shared, with_count, share_by, clone_of, slice_of, ready_of, race_of, add_of};
 ghost use Rattle.iobufs_owner.specs.Sound.{IsSound, Shares};
 ghost use Rattle.iobufs_owner.specs.State.{handle_at, call_at, record_at};
 
-use crate::owner::lend::part;
-use crate::owner::make::{MOST, put_last, reserve_log};
+use crate::owner::lend::{borrow_less, borrow_more, part};
+use crate::owner::room::{room_for_handle, room_for_record};
 use crate::owner::{Handle, Kind, Machine, Pending, Record, Refusal, Reply, Share, Word};
 use std::alloc::AllocError;
 
 impl Machine {
     /// The view, for a call that shares it.
     fn view(&self, h: usize) -> Result<Handle, Refusal>
-        ensures value { result ≡ move.view_of self.now h }
-        ensures at { IfOk result (λ x. handle_at self.now h ≡ Some x) }
+        ensures value { result ≡ move.view_of self.now.state h }
+        ensures at { IfOk result (λ x. handle_at self.now.state h ≡ Some x) }
         ensures kind { IfOk result (λ x. x.kind ≡ View) }
-        ensures sound { IsSound self.now }
+        ensures sound { IsSound self.now.state }
     {
         let Some(x) = self.find(h) else {
             return Err(Refusal::NoHandle);
@@ -33,9 +33,9 @@ impl Machine {
 
     /// A clone begins.
     pub(super) fn clone_view(&mut self, party: usize, h: usize) -> Result<Reply, AllocError>
-        requires there { party < length self.old.calls }
-        requires idle { call_at self.old party ≡ None }
-        ensures { Took self.old (clone_of self.old party h) result self.new }
+        requires there { party < length self.old.state.calls }
+        requires idle { call_at self.old.state party ≡ None }
+        ensures { Took self.old (clone_of self.old.state party h) result self.new }
     {
         let x = match self.view(h) {
             Ok(x) => x,
@@ -57,9 +57,9 @@ impl Machine {
         lo: u64,
         hi: u64,
     ) -> Result<Reply, AllocError>
-        requires there { party < length self.old.calls }
-        requires idle { call_at self.old party ≡ None }
-        ensures { Took self.old (slice_of self.old party h lo hi) result self.new }
+        requires there { party < length self.old.state.calls }
+        requires idle { call_at self.old.state party ≡ None }
+        ensures { Took self.old (slice_of self.old.state party h lo hi) result self.new }
     {
         let x = match self.view(h) {
             Ok(x) => x,
@@ -77,10 +77,10 @@ impl Machine {
 
     /// The word is loaded: a view without block is shared at once.
     fn share(&mut self, party: usize, range: Share, x: Handle) -> Result<Reply, AllocError>
-        requires there { party < length self.old.calls }
-        requires idle { call_at self.old party ≡ None }
-        requires fits { Shares self.old range x }
-        ensures { Took self.old (share_by self.old party range x x.word) result self.new }
+        requires there { party < length self.old.state.calls }
+        requires idle { call_at self.old.state party ≡ None }
+        requires fits { Shares self.old.state range x }
+        ensures { Took self.old (share_by self.old.state party range x x.word) result self.new }
     {
         match x.word {
             Word::Empty => self.share_empty(range, x),
@@ -91,56 +91,59 @@ impl Machine {
 
     /// A part of a view without block is a new view.
     fn share_empty(&mut self, range: Share, x: Handle) -> Result<Reply, AllocError>
-        requires fits { Shares self.old range x }
+        requires fits { Shares self.old.state range x }
         requires word { x.word ≡ Empty }
-        ensures { Took self.old (move.made self.old (move.part x range.lo range.hi Empty) 0) result self.new }
+        ensures { Took self.old (move.made self.old.state (move.part x range.lo range.hi Empty)) result self.new }
     {
-        if self.handles.len() >= MOST {
-            return Err(AllocError);
-        }
-        self.handles.reserve(1)?;
-        self.origins.reserve(1)?;
+        room_for_handle(&mut self.handles, &mut self.borrows)?;
         let new = self.handles.len();
-        put_last(
-            &mut self.handles,
-            Some(part(x, range.lo, range.hi, Word::Empty)),
-        );
-        put_last(&mut self.origins, 0);
+        self.handles
+            .push_reserved(Some(part(x, range.lo, range.hi, Word::Empty)));
+        self.borrows.push_reserved(0);
         Ok(Reply::Made(new))
     }
 
     /// A descriptor was loaded.
     fn load(&mut self, party: usize, range: Share, x: Handle, word: u64) -> Reply
-        requires there { party < length self.old.calls }
-        requires idle { call_at self.old party ≡ None }
-        requires fits { Shares self.old range x }
+        requires there { party < length self.old.state.calls }
+        requires idle { call_at self.old.state party ≡ None }
+        requires fits { Shares self.old.state range x }
         requires word { x.word ≡ Descriptor word }
         ensures reply { result ≡ More }
-        ensures state { self.new ≡ called self.old party (Some (Loaded range word)) }
+        ensures state { self.new.state ≡ called self.old.state party (Some (Loaded range word)) }
     {
+        borrow_more(&mut self.borrows, range.handle);
         self.calls[party] = Some(Pending::Loaded(range, word));
         Reply::More
     }
 
     /// A record's number was loaded.
     fn will_add(&mut self, party: usize, range: Share, x: Handle, r: usize) -> Reply
-        requires there { party < length self.old.calls }
-        requires idle { call_at self.old party ≡ None }
-        requires fits { Shares self.old range x }
+        requires there { party < length self.old.state.calls }
+        requires idle { call_at self.old.state party ≡ None }
+        requires fits { Shares self.old.state range x }
         requires word { x.word ≡ Counted r }
         ensures reply { result ≡ More }
-        ensures state { self.new ≡ called self.old party (Some (Add range r)) }
+        ensures state { self.new.state ≡ called self.old.state party (Some (Add range r)) }
     {
+        borrow_more(&mut self.borrows, range.handle);
         self.calls[party] = Some(Pending::Add(range, r));
         Reply::More
     }
 
     /// The number of the block that a loaded descriptor describes.
     fn loaded_block(&self, party: usize, range: Share, word: u64) -> usize
-        requires { call_at self.now party ≡ Some (Loaded range word) }
-        ensures { result ≡ block_held self.now range.handle }
+        requires { call_at self.now.state party ≡ Some (Loaded range word) }
+        ensures { result ≡ move.loaded_block self.now.state range.handle word }
     {
-        self.origins[range.handle]
+        let Some(x) = self.find(range.handle) else {
+            unreachable!()
+        };
+        let loaded = Handle {
+            word: Word::Descriptor(word),
+            ..x
+        };
+        self.described(loaded, word)
     }
 
     /// A record is made for the block of the loaded descriptor.
@@ -151,28 +154,22 @@ impl Machine {
         word: u64,
         memory: bool,
     ) -> Result<Reply, AllocError>
-        requires { call_at self.old party ≡ Some (Loaded range word) }
-        ensures { Took self.old (ready_of self.old party range word memory) result self.new }
+        requires { call_at self.old.state party ≡ Some (Loaded range word) }
+        ensures { Took self.old (ready_of self.old.state party range word memory) result self.new }
     {
         if !memory {
+            borrow_less(&mut self.borrows, range.handle);
             self.calls[party] = None;
             return Ok(Reply::Refused(Refusal::Memory));
         }
         let block = self.loaded_block(party, range, word);
-        if self.records.len() >= MOST {
-            return Err(AllocError);
-        }
-        self.records.reserve(1)?;
-        reserve_log(&mut self.freed_records, self.records.len() + 1)?;
+        room_for_record(&mut self.records, &mut self.freed_records)?;
         let r = self.records.len();
-        put_last(
-            &mut self.records,
-            Record {
-                count: 2,
-                block,
-                live: true,
-            },
-        );
+        self.records.push_reserved(Record {
+            count: 2,
+            block,
+            live: true,
+        });
         self.calls[party] = Some(Pending::Ready(range, word, r));
         Ok(Reply::More)
     }
@@ -185,8 +182,8 @@ impl Machine {
         word: u64,
         r: usize,
     ) -> Result<Reply, AllocError>
-        requires { call_at self.old party ≡ Some (Ready range word r) }
-        ensures { Took self.old (race_of self.old party range word r) result self.new }
+        requires { call_at self.old.state party ≡ Some (Ready range word r) }
+        ensures { Took self.old (race_of self.old.state party range word r) result self.new }
     {
         let Some(x) = self.find(range.handle) else {
             unreachable!()
@@ -207,29 +204,23 @@ impl Machine {
         r: usize,
         x: Handle,
     ) -> Result<Reply, AllocError>
-        requires call { call_at self.old party ≡ Some (Ready range word r) }
-        requires at { handle_at self.old range.handle ≡ Some x }
+        requires call { call_at self.old.state party ≡ Some (Ready range word r) }
+        requires at { handle_at self.old.state range.handle ≡ Some x }
         requires word { x.word ≡ Descriptor word }
         ensures { Took self.old
-            (shared (edited self.old range.handle (record x { word = Counted r })) party range x r)
+            (shared (edited self.old.state range.handle (record x { word = Counted r })) party range x r)
             result self.new }
     {
-        let block = self.record(r).block;
-        if self.handles.len() >= MOST {
-            return Err(AllocError);
-        }
-        self.handles.reserve(1)?;
-        self.origins.reserve(1)?;
+        room_for_handle(&mut self.handles, &mut self.borrows)?;
         let new = self.handles.len();
         self.handles[range.handle] = Some(Handle {
             word: Word::Record(r),
             ..x
         });
-        put_last(
-            &mut self.handles,
-            Some(part(x, range.lo, range.hi, Word::Record(r))),
-        );
-        put_last(&mut self.origins, block);
+        self.handles
+            .push_reserved(Some(part(x, range.lo, range.hi, Word::Record(r))));
+        self.borrows.push_reserved(0);
+        borrow_less(&mut self.borrows, range.handle);
         self.calls[party] = None;
         Ok(Reply::Made(new))
     }
@@ -244,32 +235,33 @@ impl Machine {
         x: Handle,
         winner: usize,
     ) -> Reply
-        requires call { call_at self.old party ≡ Some (Ready range word r) }
-        requires at { handle_at self.old range.handle ≡ Some x }
+        requires call { call_at self.old.state party ≡ Some (Ready range word r) }
+        requires at { handle_at self.old.state range.handle ≡ Some x }
         requires word { x.word ≡ Counted winner }
         ensures reply { result ≡ More }
-        ensures state { self.new ≡ called (record_freed self.old r) party (Some (Add range winner)) }
+        ensures state { self.new.state ≡ called (record_freed self.old.state r) party (Some (Add range winner)) }
     {
         let record = self.record(r);
         self.records[r] = Record {
             live: false,
             ..record
         };
-        put_last(&mut self.freed_records, r);
+        self.freed_records.push_reserved(r);
         self.calls[party] = Some(Pending::Add(range, winner));
         Reply::More
     }
 
     /// One holder more, unless the count is above the ceiling.
     pub(super) fn add(&mut self, party: usize, range: Share, r: usize) -> Result<Reply, AllocError>
-        requires { call_at self.old party ≡ Some (Add range r) }
-        ensures { Took self.old (add_of self.old party range r) result self.new }
+        requires { call_at self.old.state party ≡ Some (Add range r) }
+        ensures { Took self.old (add_of self.old.state party range r) result self.new }
     {
         let Some(x) = self.find(range.handle) else {
             unreachable!()
         };
         let record = self.record(r);
         if record.count > self.ceiling {
+            borrow_less(&mut self.borrows, range.handle);
             self.calls[party] = None;
             return Ok(Reply::Refused(Refusal::Ceiling));
         }
@@ -284,29 +276,24 @@ impl Machine {
         r: usize,
         x: Handle,
     ) -> Result<Reply, AllocError>
-        requires call { call_at self.old party ≡ Some (Add range r) }
-        requires at { handle_at self.old range.handle ≡ Some x }
-        requires low { (record_at self.old.tables r).count ≤ self.old.ceiling }
+        requires call { call_at self.old.state party ≡ Some (Add range r) }
+        requires at { handle_at self.old.state range.handle ≡ Some x }
+        requires low { (record_at self.old.state.tables r).count ≤ self.old.state.ceiling }
         ensures { Took self.old
-            (shared (with_count self.old r ((record_at self.old.tables r).count + 1)) party range x r)
+            (shared (with_count self.old.state r ((record_at self.old.state.tables r).count + 1)) party range x r)
             result self.new }
     {
         let record = self.record(r);
-        if self.handles.len() >= MOST {
-            return Err(AllocError);
-        }
-        self.handles.reserve(1)?;
-        self.origins.reserve(1)?;
+        room_for_handle(&mut self.handles, &mut self.borrows)?;
         let new = self.handles.len();
         self.records[r] = Record {
             count: record.count + 1,
             ..record
         };
-        put_last(
-            &mut self.handles,
-            Some(part(x, range.lo, range.hi, Word::Record(r))),
-        );
-        put_last(&mut self.origins, record.block);
+        self.handles
+            .push_reserved(Some(part(x, range.lo, range.hi, Word::Record(r))));
+        self.borrows.push_reserved(0);
+        borrow_less(&mut self.borrows, range.handle);
         self.calls[party] = None;
         Ok(Reply::Made(new))
     }

@@ -4,17 +4,16 @@ ghost use Rattle.iobufs_owner.specs.declared.owner.types.Kind.TheVariants.{View}
 ghost use Rattle.iobufs_owner.specs.declared.owner.types.Word.TheVariants.{Empty, Descriptor, Record as Counted};
 ghost use Rattle.iobufs_owner.specs.Moves as move;
 ghost use Rattle.iobufs_owner.specs.Moves.{Lends, Took, edited, made, split_by, split_of};
-ghost use Rattle.iobufs_owner.specs.State.{origin_at};
 
 use crate::owner::lend::{detached, part};
-use crate::owner::make::{MOST, put_last, reserve_log};
+use crate::owner::room::{room_for_handle, room_for_record};
 use crate::owner::{Handle, Kind, Machine, Record, Refusal, Reply, Word};
 use std::alloc::AllocError;
 
 impl Machine {
     /// The first `at` bytes of a view become a view of their own, the rest stays.
     pub(super) fn split(&mut self, h: usize, at: u64, memory: bool) -> Result<Reply, AllocError>
-        ensures { Took self.old (split_of self.old h at memory) result self.new }
+        ensures { Took self.old (split_of self.old.state h at memory) result self.new }
     {
         let x = match self.lend(h, Kind::View) {
             Ok(x) => x,
@@ -38,41 +37,32 @@ impl Machine {
 
     /// The whole view goes to a new number, and a detached one is left.
     fn move_whole(&mut self, h: usize, x: Handle) -> Result<Reply, AllocError>
-        requires { Lends self.old h View x }
+        requires { Lends self.old.state h View x }
         ensures { Took self.old
-            (made (edited self.old h (move.detached 0)) x (origin_at self.old h)) result self.new }
+            (made (edited self.old.state h (move.detached 0)) x) result self.new }
     {
-        if self.handles.len() >= MOST {
-            return Err(AllocError);
-        }
-        self.handles.reserve(1)?;
-        self.origins.reserve(1)?;
+        room_for_handle(&mut self.handles, &mut self.borrows)?;
         let new = self.handles.len();
-        let origin = self.origins[h];
         self.handles[h] = Some(detached());
-        put_last(&mut self.handles, Some(x));
-        put_last(&mut self.origins, origin);
+        self.handles.push_reserved(Some(x));
+        self.borrows.push_reserved(0);
         Ok(Reply::Made(new))
     }
 
     /// A view without block is split.
     fn split_empty(&mut self, h: usize, at: u64, x: Handle) -> Result<Reply, AllocError>
-        requires lent { Lends self.old h View x }
+        requires lent { Lends self.old.state h View x }
         requires word { x.word ≡ Empty }
         requires within { at ≤ x.len }
         requires ends { x.ptr + x.len < 2 ^ 64 }
-        ensures { Took self.old (move.split_with self.old h at x Empty) result self.new }
+        ensures { Took self.old (move.split_with self.old.state h at x Empty) result self.new }
     {
-        if self.handles.len() >= MOST {
-            return Err(AllocError);
-        }
-        self.handles.reserve(1)?;
-        self.origins.reserve(1)?;
+        room_for_handle(&mut self.handles, &mut self.borrows)?;
         let new = self.handles.len();
-        let origin = self.origins[h];
         self.handles[h] = Some(part(x, at, x.len, Word::Empty));
-        put_last(&mut self.handles, Some(part(x, 0, at, Word::Empty)));
-        put_last(&mut self.origins, origin);
+        self.handles
+            .push_reserved(Some(part(x, 0, at, Word::Empty)));
+        self.borrows.push_reserved(0);
         Ok(Reply::Made(new))
     }
 
@@ -85,66 +75,54 @@ impl Machine {
         x: Handle,
         word: u64,
     ) -> Result<Reply, AllocError>
-        requires lent { Lends self.old h View x }
+        requires lent { Lends self.old.state h View x }
         requires word { x.word ≡ Descriptor word }
         requires within { at ≤ x.len }
         requires ends { x.ptr + x.len < 2 ^ 64 }
-        ensures { Took self.old (split_by self.old h at memory x (Descriptor word)) result self.new }
+        ensures { Took self.old (split_by self.old.state h at memory x (Descriptor word)) result self.new }
     {
         if !memory {
             return Ok(Reply::Refused(Refusal::Memory));
         }
         let block = self.owned(h, x, word);
-        if self.records.len() >= MOST || self.handles.len() >= MOST {
-            return Err(AllocError);
-        }
-        self.records.reserve(1)?;
-        reserve_log(&mut self.freed_records, self.records.len() + 1)?;
-        self.handles.reserve(1)?;
-        self.origins.reserve(1)?;
+        room_for_record(&mut self.records, &mut self.freed_records)?;
+        room_for_handle(&mut self.handles, &mut self.borrows)?;
         let new = self.handles.len();
         let r = self.records.len();
-        let origin = self.origins[h];
-        put_last(
-            &mut self.records,
-            Record {
-                count: 2,
-                block,
-                live: true,
-            },
-        );
+        self.records.push_reserved(Record {
+            count: 2,
+            block,
+            live: true,
+        });
         self.handles[h] = Some(part(x, at, x.len, Word::Record(r)));
-        put_last(&mut self.handles, Some(part(x, 0, at, Word::Record(r))));
-        put_last(&mut self.origins, origin);
+        self.handles
+            .push_reserved(Some(part(x, 0, at, Word::Record(r))));
+        self.borrows.push_reserved(0);
         Ok(Reply::Made(new))
     }
 
     /// A view with a record is split: the record counts one more.
     fn split_counted(&mut self, h: usize, at: u64, x: Handle, r: usize) -> Result<Reply, AllocError>
-        requires lent { Lends self.old h View x }
+        requires lent { Lends self.old.state h View x }
         requires word { x.word ≡ Counted r }
         requires within { at ≤ x.len }
         requires ends { x.ptr + x.len < 2 ^ 64 }
-        ensures { Took self.old (split_by self.old h at true x (Counted r)) result self.new }
+        ensures { Took self.old (split_by self.old.state h at true x (Counted r)) result self.new }
     {
         let record = self.record(r);
         if record.count > self.ceiling {
             return Ok(Reply::Refused(Refusal::Ceiling));
         }
-        if self.handles.len() >= MOST {
-            return Err(AllocError);
-        }
-        self.handles.reserve(1)?;
-        self.origins.reserve(1)?;
+        room_for_handle(&mut self.handles, &mut self.borrows)?;
         let new = self.handles.len();
-        let origin = self.origins[h];
         self.records[r] = Record {
             count: record.count + 1,
             ..record
         };
         self.handles[h] = Some(part(x, at, x.len, Word::Record(r)));
-        put_last(&mut self.handles, Some(part(x, 0, at, Word::Record(r))));
-        put_last(&mut self.origins, origin);
+        self.handles
+            .push_reserved(Some(part(x, 0, at, Word::Record(r))));
+        self.borrows.push_reserved(0);
         Ok(Reply::Made(new))
     }
 }

@@ -221,3 +221,88 @@ fn tails_and_other_calls(rt: HostRuntime) -> Result<(), Fail> {
     assert_eq!(rt; machine.calls(), [None].as_slice());
     Ok(())
 }
+
+// With ample memory no step wants room: splits at both ends and inside, with and without block, and a slice that makes the
+// first record.
+#[test]
+fn ample_memory(rt: HostRuntime) -> Result<(), Fail> {
+    let mut machine = Machine::new(rt.alloc(), 1, 9, FORMAT_64)?;
+    let rows = [
+        (begin(0, Call::Static(5)), Reply::Made(0)),
+        (begin(0, Call::SplitTo(0, 2)), Reply::Made(1)),
+        (begin(0, Call::SplitTo(1, 2)), Reply::Made(2)),
+        (begin(0, Call::SplitTo(0, 0)), Reply::Made(3)),
+        (begin(0, Call::New(64, 16, 1)), Reply::Made(4)),
+        (begin(0, Call::Put(4, 16)), Reply::Done),
+        (begin(0, Call::Freeze(4)), Reply::Done),
+        (begin(0, Call::Slice(4, 3, 9)), Reply::More),
+        (go(0), Reply::More),
+        (go(0), Reply::Made(5)),
+        (begin(0, Call::SplitTo(4, 16)), Reply::Made(6)),
+        (begin(0, Call::SplitTo(6, 7)), Reply::Made(7)),
+        (begin(0, Call::Clone(7)), Reply::More),
+        (go(0), Reply::Made(8)),
+        (begin(0, Call::Clone(0)), Reply::Made(9)),
+        (begin(0, Call::Slice(7, 2, 2)), Reply::Made(10)),
+        (begin(0, Call::External(512, 4)), Reply::Made(11)),
+    ];
+    shows(&rt, &mut machine, &rows);
+    let handles = [
+        Some(view(2, 3, Word::Empty)),
+        Some(view(0, 0, Word::Empty)),
+        Some(view(0, 2, Word::Empty)),
+        Some(view(0, 0, Word::Empty)),
+        Some(view(0, 0, Word::Empty)),
+        Some(view(67, 6, Word::Record(0))),
+        Some(view(71, 9, Word::Record(0))),
+        Some(view(64, 7, Word::Record(0))),
+        Some(view(64, 7, Word::Record(0))),
+        Some(view(2, 3, Word::Empty)),
+        Some(view(0, 0, Word::Empty)),
+        Some(view(512, 4, Word::Record(1))),
+    ];
+    assert_eq!(rt; machine.handles(), handles.as_slice());
+    for made in 12..40 {
+        assert_eq!(rt; machine.step(begin(0, Call::Static(1))), Reply::Made(made));
+    }
+    Ok(())
+}
+
+// A block is made, filled, frozen, cloned by another party and dropped twice.
+fn life(base: u64, first: usize, second: usize) -> [Step; 10] {
+    [
+        begin(0, Call::New(base, 64, 8)),
+        begin(0, Call::Put(first, 24)),
+        begin(0, Call::Freeze(first)),
+        begin(1, Call::Clone(first)),
+        go(1),
+        go(1),
+        begin(0, Call::Drop(first)),
+        go(0),
+        begin(1, Call::Drop(second)),
+        go(1),
+    ]
+}
+
+// A long list answers what its steps do one by one.
+#[test]
+fn long_run(rt: HostRuntime) -> Result<(), Fail> {
+    let mut steps = Vec::new(rt.alloc());
+    for n in 0..40_usize {
+        steps.extend_from_slice(&life(64 * (n as u64 + 1), 2 * n, 2 * n + 1))?;
+    }
+    let mut listed = Machine::new(rt.alloc(), 2, 9, FORMAT_64)?;
+    let replies = listed.run(rt.alloc(), &steps)?;
+    let mut single = Machine::new(rt.alloc(), 2, 9, FORMAT_64)?;
+    for (step, reply) in steps.iter().zip(&replies) {
+        assert_eq!(rt; single.step(*step), *reply, "at {step:?}");
+    }
+    assert_eq!(rt; replies.len(), 400);
+    assert_eq!(rt; replies[390], Reply::Made(78));
+    assert_eq!(rt; replies[399], Reply::Done);
+    assert_eq!(rt; listed.handles(), single.handles());
+    assert_eq!(rt; listed.records(), single.records());
+    assert_eq!(rt; listed.freed_blocks(), single.freed_blocks());
+    assert_eq!(rt; listed.freed_blocks().len(), 40);
+    Ok(())
+}

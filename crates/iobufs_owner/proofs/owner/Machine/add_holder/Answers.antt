@@ -1,19 +1,22 @@
-use Rattle.std.proofs.Common.{◌≡◌, ◌≤◌, Some, sym, subst, arith}
+use Rattle.std.proofs.Common.{◌≡◌, ◌≤◌, Some, sym, subst, arith, ap, refl, length-append, ◌∷◌, ◌++◌, []}
 use Rattle.std.proofs.Math.ListN.{length-set}
 use Rattle.iobufs_owner.specs.declared.owner.types.Pending.TheVariants.{Add}
 use Rattle.iobufs_owner.specs.Inside.{state_of}
-use Rattle.iobufs_owner.specs.State.{State, handle_at, call_at, record_at}
-use Rattle.iobufs_owner.proofs.Edits.{counted-at, count-small, end-small}
-use Rattle.iobufs_owner.proofs.Shares.{adding-at, sound-added-call}
+use Rattle.iobufs_owner.specs.State.{State, Seen, handle_at, call_at, record_at}
+use Rattle.iobufs_owner.proofs.Soundness.Edits.{counted-at, count-small, end-small}
+use Rattle.iobufs_owner.proofs.Soundness.Share.{adding-at, sound-added-call}
+use Rattle.iobufs_owner.proofs.Soundness.Frames.{is-eqb}
+use Rattle.iobufs_owner.proofs.Soundness.Borrows.{counts-less, some-borrowed, counts-pushed, kept-pushed}
+use Rattle.iobufs_owner.proofs.Soundness.Kept.{at-some}
 use Rattle.iobufs_owner.proofs.owner.Machine.add_holder.Goals as goal
 
 pub overflow_add-record : goal.overflow_add-record
 overflow_add-record c =
     let s : State = state_of c.self.inside in
     let k = c.self.invariant in
-    let at = subst (λ (s : State). call_at s c.args.party ≡ Some (Add c.args.range c.args.r)) (sym c.self.view_is) c.requires.call in
-    let found = subst (λ (s : State). handle_at s c.args.range.handle ≡ Some c.args.x) (sym c.self.view_is) c.requires.at in
-    let e = subst (λ (s : State). c.record-record.result ≡ record_at s.tables c.args.r) (sym c.self.view_is) c.record-record.ensures in
+    let at = subst (λ (s : State). call_at s c.args.party ≡ Some (Add c.args.range c.args.r)) (sym (ap (λ (m : Seen). m.state) c.self.view_is)) c.requires.call in
+    let found = subst (λ (s : State). handle_at s c.args.range.handle ≡ Some c.args.x) (sym (ap (λ (m : Seen). m.state) c.self.view_is)) c.requires.at in
+    let e = subst (λ (s : State). c.record-record.result ≡ record_at s.tables c.args.r) (sym (ap (λ (m : Seen). m.state) c.self.view_is)) c.record-record.ensures in
     let a = adding-at s c.args.party c.args.range c.args.r c.args.x k.sound at found in
     let f = counted-at s c.args.range.handle c.args.x c.args.r k.sound found a.word in
     let m = count-small s c.args.r k.sound f.live f.shown in
@@ -23,15 +26,32 @@ pub part-requires-clause-ends : goal.part-requires-clause-ends
 part-requires-clause-ends c =
     let s : State = state_of c.self.inside in
     let k = c.self.invariant in
-    let found = subst (λ (s : State). handle_at s c.args.range.handle ≡ Some c.args.x) (sym c.self.view_is) c.requires.at in
+    let found = subst (λ (s : State). handle_at s c.args.range.handle ≡ Some c.args.x) (sym (ap (λ (m : Seen). m.state) c.self.view_is)) c.requires.at in
     end-small s c.args.range.handle c.args.x k.sound found
 
 pub invariant_of-self-2 : goal.invariant_of-self-2
 invariant_of-self-2 c =
     let s : State = state_of c.self.inside in
     let k = c.self.invariant in
-    let at = subst (λ (s : State). call_at s c.args.party ≡ Some (Add c.args.range c.args.r)) (sym c.self.view_is) c.requires.call in
-    let found = subst (λ (s : State). handle_at s c.args.range.handle ≡ Some c.args.x) (sym c.self.view_is) c.requires.at in
-    let e = subst (λ (s : State). c.record-record.result ≡ record_at s.tables c.args.r) (sym c.self.view_is) c.record-record.ensures in
-    let low = subst (λ (s : State). (record_at s.tables c.args.r).count ≤ s.ceiling) (sym c.self.view_is) c.requires.low in
-    record { sound = rw (e, c.put_last.ensures.items, c.in_ok-reserve.ensures.items, c.part.ensures, c.put_last-2.ensures.items, c.in_ok-reserve-2.ensures.items, e) (sound-added-call s c.args.party c.args.r c.args.range c.args.x k.sound at found low (omega arith)); block_room = k.block_room; record_room = rw length-set k.record_room }
+    let at = subst (λ (s : State). call_at s c.args.party ≡ Some (Add c.args.range c.args.r)) (sym (ap (λ (m : Seen). m.state) c.self.view_is)) c.requires.call in
+    let found = subst (λ (s : State). handle_at s c.args.range.handle ≡ Some c.args.x) (sym (ap (λ (m : Seen). m.state) c.self.view_is)) c.requires.at in
+    let e = subst (λ (s : State). c.record-record.result ≡ record_at s.tables c.args.r) (sym (ap (λ (m : Seen). m.state) c.self.view_is)) c.record-record.ensures in
+    let low = subst (λ (s : State). (record_at s.tables c.args.r).count ≤ s.ceiling) (sym (ap (λ (m : Seen). m.state) c.self.view_is)) c.requires.low in
+    record { sound = rw (e, c.push_reserved.ensures.items, c.in_ok-room_for_handle.ensures.handles, c.part.ensures) (sound-added-call s c.args.party c.args.r c.args.range c.args.x k.sound at found low (omega (arith, c.in_ok-room_for_handle.ensures.few))); block_room = k.block_room; record_room = rw length-set k.record_room; borrows_kept = rw (c.borrow_less.ensures.items, c.push_reserved-2.ensures.items, c.in_ok-room_for_handle.ensures.borrows, c.push_reserved.ensures.items, c.in_ok-room_for_handle.ensures.handles, length-set) (kept-pushed _ _ _ k.borrows_kept); places = k.places; borrowed = rw (c.borrow_less.ensures.items, c.push_reserved-2.ensures.items, c.in_ok-room_for_handle.ensures.borrows) (counts-less (c.self.inside.borrows.items ++ 0 ∷ []) c.self.inside.calls.items c.args.party c.args.range.handle (Some (Add c.args.range c.args.r)) (let l = at-some s.handles c.args.range.handle c.args.x found in let q = k.borrows_kept in let e = length-append c.self.inside.borrows.items (0 ∷ []) in omega (arith, l, q, e)) (at-some s.calls c.args.party (Add c.args.range c.args.r) at) at (λ j. refl) (counts-pushed c.self.inside.borrows.items c.self.inside.calls.items k.borrowed)) }
+
+pub borrow_less-requires-clause-some : goal.borrow_less-requires-clause-some
+borrow_less-requires-clause-some c =
+    let s : State = state_of c.self.inside in
+    let k = c.self.invariant in
+    let at = subst (λ (s : State). call_at s c.args.party ≡ Some (Add c.args.range c.args.r)) (sym (ap (λ (m : Seen). m.state) c.self.view_is)) c.requires.call in
+    rw (c.push_reserved-2.ensures.items, c.in_ok-room_for_handle.ensures.borrows) (some-borrowed (c.self.inside.borrows.items ++ 0 ∷ []) c.self.inside.calls.items c.args.party c.args.range.handle (Some (Add c.args.range c.args.r)) (at-some s.calls c.args.party (Add c.args.range c.args.r) at) at (is-eqb c.args.range.handle c.args.range.handle refl) (counts-pushed c.self.inside.borrows.items c.self.inside.calls.items k.borrowed))
+
+pub borrow_less-requires-clause-known : goal.borrow_less-requires-clause-known
+borrow_less-requires-clause-known c =
+    let s : State = state_of c.self.inside in
+    let k = c.self.invariant in
+    let found = subst (λ (s : State). handle_at s c.args.range.handle ≡ Some c.args.x) (sym (ap (λ (m : Seen). m.state) c.self.view_is)) c.requires.at in
+    let l = at-some s.handles c.args.range.handle c.args.x found in
+    let q = k.borrows_kept in
+    let e = length-append c.self.inside.borrows.items (0 ∷ []) in
+    rw (c.push_reserved-2.ensures.items, c.in_ok-room_for_handle.ensures.borrows) (omega (arith, l, q, e))

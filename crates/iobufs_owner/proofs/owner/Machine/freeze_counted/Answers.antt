@@ -1,14 +1,15 @@
-use Rattle.std.proofs.Common.{sym, subst}
+use Rattle.std.proofs.Common.{sym, subst, ap}
+use Rattle.std.proofs.Math.ListN.{length-set}
 use Rattle.iobufs_owner.specs.declared.owner.types.Kind.TheVariants.{Mut}
 use Rattle.iobufs_owner.specs.Inside.{state_of}
 use Rattle.iobufs_owner.specs.Moves.{Lends}
-use Rattle.iobufs_owner.specs.State.{State}
-use Rattle.iobufs_owner.proofs.Edits.{sound-frozen_counted}
+use Rattle.iobufs_owner.specs.State.{State, Seen}
+use Rattle.iobufs_owner.proofs.Soundness.Edits.{sound-frozen_counted}
 use Rattle.iobufs_owner.proofs.owner.Machine.freeze_counted.Goals as goal
 
 pub invariant_of-self : goal.invariant_of-self
 invariant_of-self c =
     let s : State = state_of c.self.inside in
     let k = c.self.invariant in
-    let t = subst (λ (s : State). Lends s c.args.h Mut c.args.x) (sym c.self.view_is) c.requires.lent in
-    record { sound = rw c.frozen.ensures (sound-frozen_counted s c.args.h c.args.x c.args.r k.sound t c.requires.word); block_room = k.block_room; record_room = k.record_room }
+    let t = subst (λ (s : State). Lends s c.args.h Mut c.args.x) (sym (ap (λ (m : Seen). m.state) c.self.view_is)) c.requires.lent in
+    record { sound = rw c.frozen.ensures (sound-frozen_counted s c.args.h c.args.x c.args.r k.sound t c.requires.word); block_room = k.block_room; record_room = k.record_room; borrows_kept = rw length-set k.borrows_kept; places = k.places; borrowed = k.borrowed }

@@ -1,14 +1,23 @@
-use Rattle.std.proofs.Common.{◌≡◌, Some, sym, subst}
-use Rattle.iobufs_owner.specs.declared.owner.types.Pending.TheVariants.{Loaded}
-use Rattle.iobufs_owner.specs.Inside.{state_of}
-use Rattle.iobufs_owner.specs.Moves.{block_held}
-use Rattle.iobufs_owner.specs.State.{State, call_at}
-use Rattle.iobufs_owner.proofs.Shares.{origin-held}
+use Rattle.std.proofs.Common.{◌≡◌, ◌∙◌, ℕ, Option, sym, subst, ap, unwrap_or}
+use Rattle.iobufs_owner.specs.declared.owner.types.Handle.{Handle}
+use Rattle.iobufs_owner.specs.declared.owner.types.Word.TheVariants.{Descriptor}
+use Rattle.iobufs_owner.specs.Moves.{loaded_found}
+use Rattle.iobufs_owner.specs.Sound.{IsDescribed}
+use Rattle.iobufs_owner.proofs.Soundness.Share.{loading}
 use Rattle.iobufs_owner.proofs.owner.Machine.loaded_block.Goals as goal
+
+pub unreachable-requires : goal.unreachable-requires
+unreachable-requires c =
+    let l = loading c.args.self.now.state c.args.party c.args.range c.args.word c.find.ensures.sound c.requires in
+    c.in_default.not-Some l.0 (c.find.ensures.value ∙ l.2.shares.at)
+
+pub described-requires-clause-says : goal.described-requires-clause-says
+described-requires-clause-says c =
+    let l = loading c.args.self.now.state c.args.party c.args.range c.args.word c.find.ensures.sound c.requires in
+    let q : l.0 ≡ c.in-Some.x = (let z = sym l.2.shares.at ∙ sym c.find.ensures.value ∙ c.in-Some.is in cc) in
+    subst (λ (x : Handle). (b : ℕ) × (log : ℕ) × (tail : ℕ) × IsDescribed c.args.self.now.state.tables (record x { word = Descriptor c.args.word }) c.args.word b log tail) q (l.1, l.2.promised.log, l.2.promised.tail, l.2.promised.says)
 
 pub returns : goal.returns
 returns c =
-    let s : State = state_of c.self.inside in
-    let k = c.self.invariant in
-    let at = subst (λ (s : State). call_at s c.args.party ≡ Some (Loaded c.args.range c.args.word)) (sym c.self.view_is) c.requires in
-    subst (λ (s : State). c.index.result.now ≡ block_held s c.args.range.handle) c.self.view_is (origin-held s c.args.party c.args.range c.args.word c.index.result.now k.sound at c.index.ensures)
+    let e = sym c.find.ensures.value ∙ c.in-Some.is in
+    sym (ap (λ (o : Option Handle). loaded_found c.args.self.now.state c.args.word o) e ∙ ap (λ (o : Option ℕ). unwrap_or o 0) c.described.ensures)

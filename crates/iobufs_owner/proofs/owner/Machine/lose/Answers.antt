@@ -1,17 +1,20 @@
-use Rattle.std.proofs.Common.{◌≡◌, Some, sym, subst, arith}
+use Rattle.std.proofs.Common.{◌≡◌, Some, sym, subst, arith, ap}
 use Rattle.std.proofs.Math.ListN.{length-set}
-use Rattle.iobufs_owner.specs.declared.owner.types.Pending.TheVariants.{Ready}
+use Rattle.iobufs_owner.specs.declared.owner.types.Pending.TheVariants.{Ready, Add}
 use Rattle.iobufs_owner.specs.Inside.{state_of}
-use Rattle.iobufs_owner.specs.State.{State, handle_at, call_at, record_at}
-use Rattle.iobufs_owner.proofs.Freed.{counted-ends}
-use Rattle.iobufs_owner.proofs.Shares.{racing, sound-lost}
+use Rattle.iobufs_owner.specs.State.{State, Seen, handle_at, call_at, record_at}
+use Rattle.iobufs_owner.proofs.Soundness.BlockFreed.{counted-ends}
+use Rattle.iobufs_owner.proofs.Soundness.Share.{racing, sound-lost}
+use Rattle.iobufs_owner.proofs.Soundness.Borrows.{counts-same}
+use Rattle.iobufs_owner.proofs.Soundness.Kept.{at-some}
+use Rattle.iobufs_owner.specs.Moves.{borrows_it}
 use Rattle.iobufs_owner.proofs.owner.Machine.lose.Goals as goal
 
-pub put_last-requires : goal.put_last-requires
-put_last-requires c =
+pub push_reserved-requires : goal.push_reserved-requires
+push_reserved-requires c =
     let s : State = state_of c.self.inside in
     let k = c.self.invariant in
-    let at = subst (λ (s : State). call_at s c.args.party ≡ Some (Ready c.args.range c.args.word c.args.r)) (sym c.self.view_is) c.requires.call in
+    let at = subst (λ (s : State). call_at s c.args.party ≡ Some (Ready c.args.range c.args.word c.args.r)) (sym (ap (λ (m : Seen). m.state) c.self.view_is)) c.requires.call in
     let e = counted-ends s c.args.r k.sound (racing s c.args.party c.args.range c.args.word c.args.r k.sound at).1.live in
     omega (arith, e.record_log, k.record_room)
 
@@ -19,7 +22,7 @@ pub invariant_of-self : goal.invariant_of-self
 invariant_of-self c =
     let s : State = state_of c.self.inside in
     let k = c.self.invariant in
-    let at = subst (λ (s : State). call_at s c.args.party ≡ Some (Ready c.args.range c.args.word c.args.r)) (sym c.self.view_is) c.requires.call in
-    let found = subst (λ (s : State). handle_at s c.args.range.handle ≡ Some c.args.x) (sym c.self.view_is) c.requires.at in
-    let e = subst (λ (s : State). c.record-record.result ≡ record_at s.tables c.args.r) (sym c.self.view_is) c.record-record.ensures in
-    record { sound = rw (e, c.put_last.ensures.items) (sound-lost s c.args.party c.args.r c.args.word c.args.winner c.args.range c.args.x k.sound at found c.requires.word); block_room = k.block_room; record_room = rw length-set (omega (arith, k.record_room, c.put_last.ensures.capacity)) }
+    let at = subst (λ (s : State). call_at s c.args.party ≡ Some (Ready c.args.range c.args.word c.args.r)) (sym (ap (λ (m : Seen). m.state) c.self.view_is)) c.requires.call in
+    let found = subst (λ (s : State). handle_at s c.args.range.handle ≡ Some c.args.x) (sym (ap (λ (m : Seen). m.state) c.self.view_is)) c.requires.at in
+    let e = subst (λ (s : State). c.record-record.result ≡ record_at s.tables c.args.r) (sym (ap (λ (m : Seen). m.state) c.self.view_is)) c.record-record.ensures in
+    record { sound = rw (e, c.push_reserved.ensures.items) (sound-lost s c.args.party c.args.r c.args.word c.args.winner c.args.range c.args.x k.sound at found c.requires.word); block_room = k.block_room; record_room = rw length-set (omega (arith, k.record_room, c.push_reserved.ensures.capacity)); borrows_kept = k.borrows_kept; places = k.places; borrowed = counts-same c.self.inside.borrows.items c.self.inside.calls.items c.args.party (Some (Add c.args.range c.args.winner)) (at-some s.calls c.args.party (Ready c.args.range c.args.word c.args.r) at) (λ h. ap (borrows_it h) at) k.borrowed }

@@ -1,24 +1,24 @@
-use Rattle.std.proofs.Common.{◌≡◌, ◌<◌, Some, length, length-append, sym, subst, arith}
-use Rattle.std.proofs.lemmas.List.{get_or_read}
+use Rattle.std.proofs.Common.{◌≡◌, Some, length, length-append, sym, subst, arith, ap}
 use Rattle.iobufs_owner.specs.declared.owner.types.Kind.TheVariants.{View}
 use Rattle.iobufs_owner.specs.Inside.{state_of}
 use Rattle.iobufs_owner.specs.Moves.{Lends}
-use Rattle.iobufs_owner.specs.State.{State, owner_of}
-use Rattle.iobufs_owner.proofs.Kept.{at-some}
-use Rattle.iobufs_owner.proofs.Split.{sound-split_described}
+use Rattle.iobufs_owner.specs.State.{State, Seen, owner_of}
+use Rattle.iobufs_owner.proofs.Soundness.SplitTo.{sound-split_described}
+use Rattle.iobufs_owner.proofs.Soundness.Borrows.{kept-set-pushed, counts-pushed}
 use Rattle.iobufs_owner.proofs.owner.Machine.split_described.Goals as goal
 
 pub invariant_of-self-2 : goal.invariant_of-self-2
 invariant_of-self-2 c =
     let s : State = state_of c.self.inside in
     let k = c.self.invariant in
-    let t = subst (λ (s : State). Lends s c.args.h View c.args.x) (sym c.self.view_is) c.requires.lent in
-    let o = subst (λ (s : State). owner_of s.tables c.args.x ≡ Some c.owned-block.result) (sym c.self.view_is) c.owned-block.ensures.owner in
-    let r : c.len-r.result ≡ length c.self.inside.records.items = omega (arith, c.len-r.ensures, c.in_ok-reserve.ensures.len) in
-    let l : c.args.h < length c.self.inside.origins.items = (let m = at-some s.handles c.args.h c.args.x t.at in let q = k.sound.size.origins in omega arith) in
-    let org = get_or_read c.self.inside.origins.items c.args.h c.index-origin.result.now l (rw c.in_ok-reserve-3.ensures.items at c.index-origin.ensures) 0 in
+    let t = subst (λ (s : State). Lends s c.args.h View c.args.x) (sym (ap (λ (m : Seen). m.state) c.self.view_is)) c.requires.lent in
+    let o = subst (λ (s : State). owner_of s.tables c.args.x ≡ Some c.owned-block.result) (sym (ap (λ (m : Seen). m.state) c.self.view_is)) c.owned-block.ensures.owner in
+    let r : c.len-r.result ≡ length c.self.inside.records.items = omega (arith, c.len-r.ensures, c.in_ok-room_for_record.ensures.len) in
     record {
-      sound = rw (c.put_last-2.ensures.items, c.in_ok-reserve-2.ensures.items, c.part.ensures, c.part-2.ensures, c.put_last.ensures.items, c.in_ok-reserve.ensures.items, c.put_last-3.ensures.items, c.in_ok-reserve-3.ensures.items, org, c.in_ok-reserve_log.ensures.items, r) (sound-split_described s c.args.h c.args.word c.owned-block.result c.args.at c.args.x k.sound t c.requires.word o c.requires.within (omega arith) (omega arith));
+      sound = rw (c.push_reserved-2.ensures.items, c.in_ok-room_for_handle.ensures.handles, c.part.ensures, c.part-2.ensures, c.push_reserved.ensures.items, c.in_ok-room_for_record.ensures.records, c.in_ok-room_for_record.ensures.freed, r) (sound-split_described s c.args.h c.args.word c.owned-block.result c.args.at c.args.x k.sound t c.requires.word o c.requires.within (omega (arith, c.in_ok-room_for_handle.ensures.few, c.in_ok-room_for_record.ensures.few)) (omega (arith, c.in_ok-room_for_handle.ensures.few, c.in_ok-room_for_record.ensures.few)));
       block_room = k.block_room;
-      record_room = rw (c.put_last.ensures.items, c.in_ok-reserve.ensures.items, length-append) (omega (arith, c.in_ok-reserve_log.ensures.room, c.len-2.ensures, c.in_ok-reserve.ensures.len));
+      record_room = rw (c.push_reserved.ensures.items, c.in_ok-room_for_record.ensures.records, length-append) (omega (arith, c.in_ok-room_for_record.ensures.freed_room));
+      borrows_kept = rw (c.push_reserved-3.ensures.items, c.in_ok-room_for_handle.ensures.borrows, c.push_reserved-2.ensures.items, c.in_ok-room_for_handle.ensures.handles) (kept-set-pushed _ _ _ _ _ k.borrows_kept);
+      places = k.places;
+      borrowed = rw (c.push_reserved-3.ensures.items, c.in_ok-room_for_handle.ensures.borrows) (counts-pushed c.self.inside.borrows.items c.self.inside.calls.items k.borrowed);
     }

@@ -1,18 +1,15 @@
-use Rattle.std.proofs.Common.{◌<◌, length, sym, subst, arith}
-use Rattle.std.proofs.lemmas.List.{get_or_read}
+use Rattle.std.proofs.Common.{sym, subst, arith, ap}
 use Rattle.iobufs_owner.specs.declared.owner.types.Kind.TheVariants.{View}
 use Rattle.iobufs_owner.specs.Inside.{state_of}
 use Rattle.iobufs_owner.specs.Moves.{Lends}
-use Rattle.iobufs_owner.specs.State.{State}
-use Rattle.iobufs_owner.proofs.Kept.{at-some}
-use Rattle.iobufs_owner.proofs.Split.{sound-split_empty}
+use Rattle.iobufs_owner.specs.State.{State, Seen}
+use Rattle.iobufs_owner.proofs.Soundness.SplitTo.{sound-split_empty}
+use Rattle.iobufs_owner.proofs.Soundness.Borrows.{kept-set-pushed, counts-pushed}
 use Rattle.iobufs_owner.proofs.owner.Machine.split_empty.Goals as goal
 
 pub invariant_of-self-2 : goal.invariant_of-self-2
 invariant_of-self-2 c =
     let s : State = state_of c.self.inside in
     let k = c.self.invariant in
-    let t = subst (λ (s : State). Lends s c.args.h View c.args.x) (sym c.self.view_is) c.requires.lent in
-    let l : c.args.h < length c.self.inside.origins.items = (let m = at-some s.handles c.args.h c.args.x t.at in let q = k.sound.size.origins in omega arith) in
-    let org = get_or_read c.self.inside.origins.items c.args.h c.index-origin.result.now l (rw c.in_ok-reserve-2.ensures.items at c.index-origin.ensures) 0 in
-    record { sound = rw (c.put_last.ensures.items, c.in_ok-reserve.ensures.items, c.part.ensures, c.part-2.ensures, c.put_last-2.ensures.items, c.in_ok-reserve-2.ensures.items, org) (sound-split_empty s c.args.h _ c.args.at c.args.x k.sound t c.requires.word c.requires.within (omega arith)); block_room = k.block_room; record_room = k.record_room }
+    let t = subst (λ (s : State). Lends s c.args.h View c.args.x) (sym (ap (λ (m : Seen). m.state) c.self.view_is)) c.requires.lent in
+    record { sound = rw (c.push_reserved.ensures.items, c.in_ok-room_for_handle.ensures.handles, c.part.ensures, c.part-2.ensures) (sound-split_empty s c.args.h c.args.at c.args.x k.sound t c.requires.word c.requires.within (omega (arith, c.in_ok-room_for_handle.ensures.few))); block_room = k.block_room; record_room = k.record_room; borrows_kept = rw (c.push_reserved-2.ensures.items, c.in_ok-room_for_handle.ensures.borrows, c.push_reserved.ensures.items, c.in_ok-room_for_handle.ensures.handles) (kept-set-pushed _ _ _ _ _ k.borrows_kept); places = k.places; borrowed = rw (c.push_reserved-2.ensures.items, c.in_ok-room_for_handle.ensures.borrows) (counts-pushed c.self.inside.borrows.items c.self.inside.calls.items k.borrowed) }

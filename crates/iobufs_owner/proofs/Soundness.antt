@@ -1,0 +1,22 @@
+-- What keeps the machine sound, call by call.
+pub mod Counts
+pub mod Keeps
+pub mod Frames
+pub mod Kept
+pub mod Edits
+pub mod Logs
+pub mod Holders
+pub mod Borrows
+pub mod New
+pub mod NewRecord
+pub mod AddHolder
+pub mod SplitTo
+pub mod RecordFreed
+pub mod BlockFreed
+pub mod Share
+pub mod NewMachine
+pub mod Release
+pub mod Subtract
+pub mod Drop
+pub mod Promised
+pub mod Finds

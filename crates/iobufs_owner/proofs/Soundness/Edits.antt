@@ -1,0 +1,333 @@
+-- Handles that change and hold what they held keep the machine sound.
+use Rattle.std.proofs.Common.{◌≡◌, inl, inr, ℕ, ◌+◌, ◌-◌, ◌%◌, ◌^◌, ◌<◌, ◌≤◌, ◌&&◌, ◌||◌, zero, suc, get_or, List, [], ◌∷◌, Bool, true, false, Option, Some, None, SomeIff, sym, ◌∙◌, ap, subst, refl, arith, length}
+use Rattle.std.proofs.lemmas.Bool.Decides.{leb_tells}
+use Rattle.std.proofs.Math.Nat.{mod-eq_of_lt}
+use Rattle.iobufs_owner.specs.declared.owner.types.Handle.{Handle}
+use Rattle.iobufs_owner.specs.declared.owner.types.Kind.TheVariants.{View, Mut}
+use Rattle.iobufs_owner.specs.declared.owner.types.Record.{Record}
+use Rattle.iobufs_owner.specs.declared.owner.types.Kind.{Kind}
+use Rattle.iobufs_owner.specs.declared.owner.types.Block.{Block}
+use Rattle.iobufs_owner.specs.declared.owner.types.Pending.{Pending}
+use Rattle.iobufs_owner.specs.declared.owner.types.Word.{Word}
+use Rattle.iobufs_owner.specs.declared.owner.types.Word.TheVariants.{Empty, Descriptor, Record as Counted}
+use Rattle.iobufs_owner.specs.Word.{HasRoom, IsWord, word_of}
+use Rattle.iobufs_owner.specs.State.{State, Tables, owner_of, base_by, block_with, handle_at, record_at, block_at, size_in, tail_in, retailed}
+use Rattle.iobufs_owner.specs.Moves.{is_lent, edited, detached, advanced, frozen, thawed, Lends}
+use Rattle.iobufs_owner.specs.Kinds.{is_mut}
+use Rattle.iobufs_owner.specs.World.{holders, is_block}
+use Rattle.iobufs_owner.specs.Reading.{reading, read_handle, read_call}
+use Rattle.iobufs_owner.specs.Sound.{IsSound, FitsWord, IsDescribed, IsCounted, LiesIn, LeavesBehind, alone, describes, is_descriptor, hidden}
+use Rattle.iobufs_owner.proofs.Words.{word-size, word-tail, retailed-is, log-below}
+use Rattle.iobufs_owner.proofs.Soundness.Kept.{sound-edited, at-some, owner-empty, owner-counted}
+use Rattle.iobufs_owner.proofs.WorldSteps.Lent.{owner-same, base-mut}
+use Rattle.iobufs_owner.proofs.Soundness.Counts.{count-some, holders-few}
+use Rattle.std.proofs.lemmas.Nat.{pow_pos}
+use Rattle.std.proofs.lemmas.List.{length-map}
+use Rattle.std.proofs.lemmas.Bool.Decides.{nat_tests}
+
+pub fits-at : (s : State) (h : ℕ) (x : Handle) → IsSound s → handle_at s h ≡ Some x → FitsWord s.tables s.calls x x.word
+fits-at s h x k at =
+    let f = k.fit h None (at-some s.handles h x at) in
+    rw at at f
+
+-- a handle that is alone has one holder
+pub alone-at : (s : State) (h : ℕ) (x : Handle) (b : ℕ) → IsSound s → handle_at s h ≡ Some x → alone s.tables b (Some x) ≡ true → holders (reading s) b ≡ 1
+alone-at s h x b k at e = k.sole b (count-some (alone s.tables b) s.handles h None (at-some s.handles h x at) (rw at e))
+
+pub live-inside : (rs : List Record) (r : ℕ) → (get_or rs r (record { count = 0; block = 0; live = false })).live ≡ true → r < length rs
+live-inside [] r e = absurd (cc)
+live-inside (v ∷ rs) zero e = omega arith
+live-inside (v ∷ rs) (suc r) e = omega (arith, live-inside rs r e)
+
+-- ---- what a descriptor says
+
+pub owner-described : (g : Tables) (x : Handle) (w : ℕ) → x.word ≡ Descriptor w → owner_of g x ≡ block_with (base_by g x w) g.blocks
+unfolding owner_of
+owner-described g x w e = rw e refl
+
+-- the same base under another descriptor
+pub owner-redescribed : (g : Tables) (x y : Handle) (w v : ℕ) → x.word ≡ Descriptor w → y.word ≡ Descriptor v → base_by g y v ≡ base_by g x w → owner_of g y ≡ owner_of g x
+owner-redescribed g x y w v ex ey e =
+    owner-described g y v ey ∙ ap (λ n. block_with n g.blocks) e ∙ sym (owner-described g x w ex)
+
+pub size-says : (g : Tables) (x : Handle) (w b log tail : ℕ) → IsDescribed g x w b log tail → size_in g w ≡ (block_at g b).size
+size-says g x w b log tail d = word-size g.align_bits g.tail_bits g.size_bits w (block_at g b).size log tail d.room d.word
+
+pub tail-says : (g : Tables) (x : Handle) (w b log tail : ℕ) → IsDescribed g x w b log tail → tail_in g w ≡ tail
+tail-says g x w b log tail d = word-tail g.align_bits g.tail_bits g.size_bits w (block_at g b).size log tail d.room d.word
+
+-- the same descriptor with another tail
+pub room-again : (g : Tables) (x : Handle) (w b log tail n : ℕ) → IsDescribed g x w b log tail → n < 2 ^ g.tail_bits → HasRoom g.align_bits g.tail_bits g.size_bits (block_at g b).size log n
+room-again g x w b log tail n d l = record { some = d.room.some; log_fits = d.room.log_fits; tail_fits = l; size_fits = d.room.size_fits }
+
+pub word-again : (g : Tables) (x : Handle) (w b log tail n : ℕ) → IsDescribed g x w b log tail → retailed g w n ≡ word_of g.align_bits g.tail_bits (block_at g b).size log n
+word-again g x w b log tail n d = retailed-is g.align_bits g.tail_bits g.size_bits w (block_at g b).size log tail n d.room d.word
+
+pub described-again : (g : Tables) (x y : Handle) (w b log tail n : ℕ) → IsDescribed g x w b log tail → n < 2 ^ g.tail_bits → owner_of g y ≡ owner_of g x → LiesIn (block_at g b) y y.kind → LeavesBehind (block_at g b) y n y.kind → IsDescribed g y (retailed g w n) b log n
+described-again g x y w b log tail n d l o lies behind = record {
+  known = d.known;
+  room = room-again g x w b log tail n d l;
+  word = word-again g x w b log tail n d;
+  align = d.align;
+  native = d.native;
+  owner = o ∙ d.owner;
+  lies = lies;
+  behind = behind;
+}
+
+abbrev pub no_block : Block
+no_block = record { base = 0; size = 0; align = 0; external = false }
+
+-- an alignment that divides an address above 0 is at most that address
+pub align-small : (base align : ℕ) → 0 < base → base < 2 ^ 64 → base % align ≡ 0 → align < 2 ^ 64
+align-small base align p q e = elim (leb_tells align base) [ inl l ↦ (let m = l.1 in omega arith) | inr l ↦ absurd (let z = mod-eq_of_lt l.1 in omega (arith, z, e)) ]
+
+pub word-fits : (s : State) (x : Handle) (w b log tail : ℕ) → IsSound s → IsDescribed s.tables x w b log tail → IsWord s.tables.align_bits s.tables.tail_bits s.tables.size_bits w
+word-fits s x w b log tail k d =
+    let place = k.blocks.places b (record { base = 0; size = 0; align = 0; external = false }) d.known in
+    record { size = (block_at s.tables b).size; log = log; tail = tail; small = log-below (2 ^ log) log (align-small (block_at s.tables b).base (2 ^ log) place.above (let z = place.ends in omega arith) (rw (← d.align) place.aligned)) refl; room = d.room; is = d.word }
+
+-- what lies in its block ends where addresses end
+end-kind : (b : Block) (x : Handle) (kind : Kind) → b.base + b.size < 2 ^ 64 → LiesIn b x kind → x.ptr + x.len < 2 ^ 64
+end-kind b x View e (low, high, cap) = omega arith
+end-kind b x Mut e (low, high, in') = omega arith
+
+end-by : (s : State) (x : Handle) (w : Word) → IsSound s → FitsWord s.tables s.calls x w → x.ptr + x.len < 2 ^ 64
+end-by s x Empty k f = f.1
+end-by s x (Descriptor w) k (b, log, tail, d) = end-kind (block_at s.tables b) x x.kind (k.blocks.places b no_block d.known).ends d.lies
+end-by s x (Counted r) k f = end-kind (block_at s.tables (record_at s.tables r).block) x x.kind (k.blocks.places (record_at s.tables r).block no_block f.known).ends f.lies
+
+pub end-small : (s : State) (h : ℕ) (x : Handle) → IsSound s → handle_at s h ≡ Some x → x.ptr + x.len < 2 ^ 64
+end-small s h x k at = end-by s x x.word k (fits-at s h x k at)
+
+-- ---- Put
+
+put-fits : (s : State) (x : Handle) (n : ℕ) (w : Word) → x.kind ≡ Mut → n ≤ x.cap - x.len → owner_of s.tables (record x { len = x.len + n }) ≡ owner_of s.tables x → FitsWord s.tables s.calls x w → FitsWord s.tables s.calls (record x { len = x.len + n }) w
+put-fits s x n Empty m l o f = let z = f.2 m in (f.0, omega (arith, f.0, f.1), λ _. omega (arith, f.0))
+put-fits s x n (Descriptor w) m l o (b, log, tail, d) =
+    let lies = rw m at d.lies in
+    (b, log, tail, record { known = d.known; room = d.room; word = d.word; align = d.align; native = d.native; owner = o ∙ d.owner; lies = rw m (lies.0, lies.1, omega (arith, lies.2)); behind = rw m (rw m at d.behind) })
+put-fits s x n (Counted r) m l o f =
+    let lies = rw m at f.lies in
+    record { live = f.live; known = f.known; shown = f.shown; lies = rw m (lies.0, lies.1, omega (arith, lies.2)); native = f.native }
+
+pub owner-put : (g : Tables) (x : Handle) (n : ℕ) → x.kind ≡ Mut → owner_of g (record x { len = x.len + n }) ≡ owner_of g x
+owner-put g x n m = owner-same g x (record x { len = x.len + n }) refl (base-mut g x (record x { len = x.len + n }) m m refl)
+
+pub sound-put : (s : State) (h : ℕ) (x : Handle) (n : ℕ) → IsSound s → Lends s h Mut x → n ≤ x.cap - x.len → IsSound (edited s h (record x { len = x.len + n }))
+sound-put s h x n k t l =
+    let y : Handle = record x { len = x.len + n } in
+    let o = owner-put s.tables x n t.kind_is in
+    sound-edited s h x y k t.at t.free o (λ b. rw o refl) (λ b a. alone-at s h x b k t.at (rw o at a)) (put-fits s x n x.word t.kind_is l o (fits-at s h x k t.at))
+
+-- ---- Advance
+
+pub and-no : (v : Bool) → (v && false) ≡ false
+and-no true = refl
+and-no false = refl
+
+pub and-yes : (v : Bool) → (v && true) ≡ v
+and-yes true = refl
+and-yes false = refl
+
+within-by : (g : Tables) (calls : List (Option Pending)) (x : Handle) (w : Word) → FitsWord g calls x w → x.kind ≡ Mut → x.len ≤ x.cap
+within-by g calls x Empty f m = let z = f.2 m in omega arith
+within-by g calls x (Descriptor w) (b, log, tail, d) m = (rw m at d.lies).2
+within-by g calls x (Counted r) f m = (rw m at f.lies).2
+
+-- a writable handle has no more bytes than room
+pub within : (s : State) (h : ℕ) (x : Handle) → IsSound s → handle_at s h ≡ Some x → x.kind ≡ Mut → x.len ≤ x.cap
+within s h x k at m = within-by s.tables s.calls x x.word (fits-at s h x k at) m
+
+base-kind : (g : Tables) (x : Handle) (n : ℕ) (kind : Kind) → n ≤ x.len → (kind ≡ Mut → x.len ≤ x.cap) → (w : ℕ) → x.kind ≡ kind → base_by g (advanced x n) w ≡ base_by g x w
+base-kind g x n View l c w e = rw e (omega arith)
+base-kind g x n Mut l c w e = let z = c refl in rw e (omega arith)
+
+pub owner-advanced : (g : Tables) (x : Handle) (n : ℕ) → n ≤ x.len → (x.kind ≡ Mut → x.len ≤ x.cap) → owner_of g (advanced x n) ≡ owner_of g x
+owner-advanced g x n l c = owner-same g x (advanced x n) refl (λ w. base-kind g x n x.kind l c w refl)
+
+advance-lies : (b : Block) (x : Handle) (n : ℕ) (kind : Kind) → n ≤ x.len → LiesIn b x kind → LiesIn b (advanced x n) kind
+advance-lies b x n View l (low, high, cap) = (omega arith, omega arith, omega arith)
+advance-lies b x n Mut l (low, high, in') = (omega arith, omega arith, omega arith)
+
+advance-behind : (b : Block) (x : Handle) (n tail : ℕ) (kind : Kind) → n ≤ x.len → LeavesBehind b x tail kind → LeavesBehind b (advanced x n) tail kind
+advance-behind b x n tail View l e = omega (arith, e)
+advance-behind b x n tail Mut l e = e
+
+advance-fits : (g : Tables) (calls : List (Option Pending)) (x : Handle) (n : ℕ) (w : Word) → n ≤ x.len → owner_of g (advanced x n) ≡ owner_of g x → FitsWord g calls x w → FitsWord g calls (advanced x n) w
+advance-fits g calls x n Empty l o f = (omega (arith, f.0), omega (arith, f.1), λ m. let z = f.2 m in omega arith)
+advance-fits g calls x n (Descriptor w) l o (b, log, tail, d) =
+    (b, log, tail, record { known = d.known; room = d.room; word = d.word; align = d.align; native = d.native; owner = o ∙ d.owner; lies = advance-lies (block_at g b) x n x.kind l d.lies; behind = advance-behind (block_at g b) x n tail x.kind l d.behind })
+advance-fits g calls x n (Counted r) l o f =
+    record { live = f.live; known = f.known; shown = f.shown; lies = advance-lies (block_at g (record_at g r).block) x n x.kind l f.lies; native = f.native }
+
+pub sound-advanced : (s : State) (h : ℕ) (x : Handle) (n : ℕ) → IsSound s → handle_at s h ≡ Some x → is_lent h s.calls ≡ false → n ≤ x.len → IsSound (edited s h (advanced x n))
+sound-advanced s h x n k at free l =
+    let o = owner-advanced s.tables x n l (within s h x k at) in
+    sound-edited s h x (advanced x n) k at free o (λ b. rw o refl) (λ b a. alone-at s h x b k at (rw o at a)) (advance-fits s.tables s.calls x n x.word l o (fits-at s h x k at))
+
+-- ---- Freeze, where the handle keeps what it owns by
+
+pub base-frozen : (g : Tables) (x : Handle) (w b log tail : ℕ) → x.kind ≡ Mut → x.len ≤ x.cap → IsDescribed g x w b log tail → x.cap - x.len < 2 ^ g.tail_bits → base_by g (frozen x (Descriptor (retailed g w (x.cap - x.len)))) (retailed g w (x.cap - x.len)) ≡ base_by g x w
+base-frozen g x w b log tail m c d l =
+    let n : ℕ = x.cap - x.len in
+    let room = room-again g x w b log tail (x.cap - x.len) d l in
+    let word = word-again g x w b log tail (x.cap - x.len) d in
+    let size = word-size g.align_bits g.tail_bits g.size_bits (retailed g w (x.cap - x.len)) (block_at g b).size log (x.cap - x.len) room word in
+    let back = word-tail g.align_bits g.tail_bits g.size_bits (retailed g w (x.cap - x.len)) (block_at g b).size log (x.cap - x.len) room word in
+    let old = size-says g x w b log tail d in
+    rw (size, back, m, old) (omega arith)
+
+-- the facts of a descriptor
+pub described-at : (s : State) (h : ℕ) (x : Handle) (w : ℕ) → IsSound s → handle_at s h ≡ Some x → x.word ≡ Descriptor w → (b : ℕ) × (log : ℕ) × (tail : ℕ) × IsDescribed s.tables x w b log tail
+described-at s h x w k at i = subst (λ (v : Word). FitsWord s.tables s.calls x v) i (fits-at s h x k at)
+
+pub counted-at : (s : State) (h : ℕ) (x : Handle) (r : ℕ) → IsSound s → handle_at s h ≡ Some x → x.word ≡ Counted r → IsCounted s.tables s.calls x r
+counted-at s h x r k at i = subst (λ (v : Word). FitsWord s.tables s.calls x v) i (fits-at s h x k at)
+
+pub empty-at : (s : State) (h : ℕ) (x : Handle) → IsSound s → handle_at s h ≡ Some x → x.word ≡ Empty → FitsWord s.tables s.calls x Empty
+empty-at s h x k at i = subst (λ (v : Word). FitsWord s.tables s.calls x v) i (fits-at s h x k at)
+
+pub lies-as : (b : Block) (x : Handle) (kind : Kind) → x.kind ≡ kind → LiesIn b x x.kind → LiesIn b x kind
+lies-as b x kind e l = subst (λ (q : Kind). LiesIn b x q) e l
+
+pub behind-as : (b : Block) (x : Handle) (tail : ℕ) (kind : Kind) → x.kind ≡ kind → LeavesBehind b x tail x.kind → LeavesBehind b x tail kind
+behind-as b x tail kind e l = subst (λ (q : Kind). LeavesBehind b x tail q) e l
+
+-- which handles are descriptors, and which must be alone
+pub alone-described : (g : Tables) (c : ℕ) (x : Handle) (w : ℕ) → x.word ≡ Descriptor w → alone g c (Some x) ≡ is_block c (owner_of g x)
+alone-described g c x w e = ap (λ (v : Word). is_block c (owner_of g x) && (is_descriptor v || is_mut x.kind)) e ∙ and-yes (is_block c (owner_of g x))
+
+pub describes-described : (g : Tables) (c : ℕ) (x : Handle) (w : ℕ) → x.word ≡ Descriptor w → describes g c (Some x) ≡ is_block c (owner_of g x)
+describes-described g c x w e = ap (λ (v : Word). is_block c (owner_of g x) && is_descriptor v) e ∙ and-yes (is_block c (owner_of g x))
+
+pub describes-counted : (g : Tables) (c : ℕ) (x : Handle) (r : ℕ) → x.word ≡ Counted r → describes g c (Some x) ≡ false
+describes-counted g c x r e = ap (λ (v : Word). is_block c (owner_of g x) && is_descriptor v) e ∙ and-no (is_block c (owner_of g x))
+
+pub alone-shared : (g : Tables) (c : ℕ) (x : Handle) (r : ℕ) → x.word ≡ Counted r → x.kind ≡ View → alone g c (Some x) ≡ false
+alone-shared g c x r e v =
+    ap (λ (v : Word). is_block c (owner_of g x) && (is_descriptor v || is_mut x.kind)) e ∙ ap (λ (q : Kind). is_block c (owner_of g x) && is_mut q) v ∙ and-no (is_block c (owner_of g x))
+
+pub alone-written : (g : Tables) (c : ℕ) (x : Handle) (r : ℕ) → x.word ≡ Counted r → x.kind ≡ Mut → alone g c (Some x) ≡ is_block c (owner_of g x)
+alone-written g c x r e v =
+    ap (λ (v : Word). is_block c (owner_of g x) && (is_descriptor v || is_mut x.kind)) e ∙ ap (λ (q : Kind). is_block c (owner_of g x) && is_mut q) v ∙ and-yes (is_block c (owner_of g x))
+
+pub block-tells : (c b : ℕ) (o : Option ℕ) → o ≡ Some b → is_block c o ≡ true → c ≡ b
+block-tells c b None e t = absurd (cc)
+block-tells c b (Some d) e t = let z : d ≡ b = cc in let y : c ≡ d = grind (arith, nat_tests, t) in y ∙ z
+
+-- a handle by a descriptor, with another descriptor for the same block
+pub sound-redescribed : (s : State) (h : ℕ) (x y : Handle) (w b log tail n : ℕ) → IsSound s → handle_at s h ≡ Some x → is_lent h s.calls ≡ false → x.word ≡ Descriptor w → IsDescribed s.tables x w b log tail → n < 2 ^ s.tables.tail_bits → y.word ≡ Descriptor (retailed s.tables w n) → base_by s.tables y (retailed s.tables w n) ≡ base_by s.tables x w → LiesIn (block_at s.tables b) y y.kind → LeavesBehind (block_at s.tables b) y n y.kind → IsSound (edited s h y)
+sound-redescribed s h x y w b log tail n k at free xw d l yw base lies behind =
+    let o = owner-redescribed s.tables x y w (retailed s.tables w n) xw yw base in
+    sound-edited s h x y k at free o (λ c. describes-described s.tables c y (retailed s.tables w n) yw ∙ ap (is_block c) o ∙ sym (describes-described s.tables c x w xw)) (λ c a. alone-at s h x c k at (alone-described s.tables c x w xw ∙ ap (is_block c) (sym o) ∙ sym (alone-described s.tables c y (retailed s.tables w n) yw) ∙ a)) (subst (λ (v : Word). FitsWord s.tables s.calls y v) (sym yw) (b, log, n, described-again s.tables x y w b log tail n d l o lies behind))
+
+pub sound-frozen_described : (s : State) (h : ℕ) (x : Handle) (w : ℕ) → IsSound s → Lends s h Mut x → x.word ≡ Descriptor w → x.cap - x.len < 2 ^ s.tables.tail_bits → IsSound (edited s h (frozen x (Descriptor (retailed s.tables w (x.cap - x.len)))))
+sound-frozen_described s h x w k t i l =
+    let g : Tables = s.tables in
+    let d = described-at s h x w k t.at i in
+    let b : ℕ = d.0 in
+    let c = within s h x k t.at t.kind_is in
+    let lies = lies-as (block_at g b) x Mut t.kind_is d.3.lies in
+    sound-redescribed s h x (frozen x (Descriptor (retailed s.tables w (x.cap - x.len)))) w d.0 d.1 d.2 (x.cap - x.len) k t.at t.free i d.3 l refl
+    (base-frozen g x w d.0 d.1 d.2 t.kind_is c d.3 l)
+    (omega (arith, lies.0), omega (arith, lies.1, c), refl)
+    (omega (arith, lies.1, c))
+
+pub sound-frozen_counted : (s : State) (h : ℕ) (x : Handle) (r : ℕ) → IsSound s → Lends s h Mut x → x.word ≡ Counted r → IsSound (edited s h (frozen x (Counted r)))
+sound-frozen_counted s h x r k t i =
+    let y : Handle = frozen x (Counted r) in
+    let f = counted-at s h x r k t.at i in
+    let lies = lies-as (block_at s.tables (record_at s.tables r).block) x Mut t.kind_is f.lies in
+    let o : owner_of s.tables y ≡ owner_of s.tables x = owner-counted s.tables y r refl ∙ sym (owner-counted s.tables x r i) in
+    sound-edited s h x y k t.at t.free o (λ c. describes-counted s.tables c y r refl ∙ sym (describes-counted s.tables c x r i)) (λ c a. absurd (let q = sym (alone-shared s.tables c y r refl refl) ∙ a in cc))
+    (record { live = f.live; known = f.known; shown = f.shown; lies = (lies.0, omega (arith, lies.1, lies.2), refl); native = λ m. absurd (cc) })
+
+pub sound-frozen_empty : (s : State) (h : ℕ) (x : Handle) → IsSound s → Lends s h Mut x → x.word ≡ Empty → IsSound (edited s h (frozen x Empty))
+sound-frozen_empty s h x k t i =
+    let y : Handle = frozen x Empty in
+    let f = empty-at s h x k t.at i in
+    let oy = owner-empty s.tables y refl in
+    sound-edited s h x y k t.at t.free (oy ∙ sym (owner-empty s.tables x i)) (λ c. rw (oy, owner-empty s.tables x i) refl) (λ c a. absurd (let q = rw oy at a in cc)) (refl, f.1, λ m. absurd (cc))
+
+-- a handle without block becomes the detached view
+pub sound-detached_empty : (s : State) (h : ℕ) (x : Handle) (kind : Kind) → IsSound s → Lends s h kind x → x.word ≡ Empty → IsSound (edited s h (detached 0))
+sound-detached_empty s h x kind k t i =
+    let y : Handle = detached 0 in
+    let oy = owner-empty s.tables y refl in
+    sound-edited s h x y k t.at t.free (oy ∙ sym (owner-empty s.tables x i)) (λ c. rw (oy, owner-empty s.tables x i) refl) (λ c a. absurd (let q = rw oy at a in cc)) (refl, omega arith, λ m. refl)
+
+-- ---- TryIntoMut
+
+pub sound-thawed_empty : (s : State) (h : ℕ) (x : Handle) → IsSound s → Lends s h View x → x.word ≡ Empty → x.len ≡ 0 → IsSound (edited s h (thawed x 0 Empty))
+sound-thawed_empty s h x k t i z =
+    let y : Handle = thawed x 0 Empty in
+    let f = empty-at s h x k t.at i in
+    let oy = owner-empty s.tables y refl in
+    sound-edited s h x y k t.at t.free (oy ∙ sym (owner-empty s.tables x i)) (λ c. rw (oy, owner-empty s.tables x i) refl) (λ c a. absurd (let q = rw oy at a in cc)) (refl, f.1, λ m. z)
+
+pub base-thawed : (g : Tables) (x : Handle) (w b log tail : ℕ) → x.kind ≡ View → IsDescribed g x w b log tail → base_by g (thawed x (x.len + tail_in g w) (Descriptor (retailed g w 0))) (retailed g w 0) ≡ base_by g x w
+base-thawed g x w b log tail m d =
+    let room = room-again g x w b log tail 0 d (pow_pos g.tail_bits) in
+    let word = word-again g x w b log tail 0 d in
+    let size = word-size g.align_bits g.tail_bits g.size_bits (retailed g w 0) (block_at g b).size log 0 room word in
+    let old = size-says g x w b log tail d in
+    rw (size, m, old) (omega arith)
+
+pub sound-thawed_described : (s : State) (h : ℕ) (x : Handle) (w : ℕ) → IsSound s → Lends s h View x → x.word ≡ Descriptor w → IsSound (edited s h (thawed x (x.len + tail_in s.tables w) (Descriptor (retailed s.tables w 0))))
+sound-thawed_described s h x w k t i =
+    let g : Tables = s.tables in
+    let d = described-at s h x w k t.at i in
+    let lies = lies-as (block_at g d.0) x View t.kind_is d.3.lies in
+    let behind = behind-as (block_at g d.0) x d.2 View t.kind_is d.3.behind in
+    let tail = tail-says g x w d.0 d.1 d.2 d.3 in
+    sound-redescribed s h x (thawed x (x.len + tail_in s.tables w) (Descriptor (retailed s.tables w 0))) w d.0 d.1 d.2 0 k t.at t.free i d.3 (pow_pos g.tail_bits) refl
+    (base-thawed g x w d.0 d.1 d.2 t.kind_is d.3)
+    (lies.0, rw tail (omega (arith, behind)), omega arith)
+    refl
+
+pub sound-thawed_counted : (s : State) (h : ℕ) (x : Handle) (r : ℕ) → IsSound s → Lends s h View x → x.word ≡ Counted r → (block_at s.tables (record_at s.tables r).block).external ≡ false → (record_at s.tables r).count ≡ 1 → IsSound (edited s h (thawed x ((block_at s.tables (record_at s.tables r).block).base + (block_at s.tables (record_at s.tables r).block).size - x.ptr) (Counted r)))
+sound-thawed_counted s h x r k t i native one =
+    let bl : Block = block_at s.tables (record_at s.tables r).block in
+    let y : Handle = thawed x (bl.base + bl.size - x.ptr) (Counted r) in
+    let f = counted-at s h x r k t.at i in
+    let lies = lies-as (block_at s.tables (record_at s.tables r).block) x View t.kind_is f.lies in
+    let oy = owner-counted s.tables y r refl in
+    let o : owner_of s.tables y ≡ owner_of s.tables x = oy ∙ sym (owner-counted s.tables x r i) in
+    let n : holders (reading s) (record_at s.tables r).block ≡ 1 = sym ((k.counted r f.live).counts f.shown) ∙ one in
+    sound-edited s h x y k t.at t.free o (λ c. describes-counted s.tables c y r refl ∙ sym (describes-counted s.tables c x r i))
+    (λ c a. rw (block-tells c (record_at s.tables r).block (owner_of s.tables y) oy (sym (alone-written s.tables c y r refl refl) ∙ a)) n)
+    (record { live = f.live; known = f.known; shown = f.shown; lies = (lies.0, omega (arith, lies.0, lies.1), omega (arith, lies.0, lies.1)); native = λ m. native })
+
+-- ---- what a thawed view finds
+
+pub record BlockBehind (s : State) (x : Handle) (r : ℕ) : Type 0 where
+  pub inside : r < length s.tables.records
+  pub known : (record_at s.tables r).block < length s.tables.blocks
+  pub ends : (block_at s.tables (record_at s.tables r).block).base + (block_at s.tables (record_at s.tables r).block).size < 2 ^ 64
+  pub behind : x.ptr ≤ (block_at s.tables (record_at s.tables r).block).base + (block_at s.tables (record_at s.tables r).block).size
+
+-- a descriptor is a word of the format, and its tail leads to the end of the block
+pub word-at : (s : State) (h : ℕ) (x : Handle) (w : ℕ) → IsSound s → handle_at s h ≡ Some x → x.word ≡ Descriptor w → IsWord s.tables.align_bits s.tables.tail_bits s.tables.size_bits w
+word-at s h x w k at i = let d = described-at s h x w k at i in word-fits s x w d.0 d.1 d.2 k d.3
+
+pub tail-small : (s : State) (h : ℕ) (x : Handle) (w : ℕ) → IsSound s → Lends s h View x → x.word ≡ Descriptor w → x.len + tail_in s.tables w < 2 ^ 64
+tail-small s h x w k t i =
+    let d = described-at s h x w k t.at i in
+    let behind = behind-as (block_at s.tables d.0) x d.2 View t.kind_is d.3.behind in
+    let tail = tail-says s.tables x w d.0 d.1 d.2 d.3 in
+    let ends = (k.blocks.places d.0 no_block d.3.known).ends in
+    rw tail (omega (arith, behind, ends))
+
+-- the value of a `Some`
+pub same-some : (o : Option ℕ) (v : ℕ) (P : Type 0) (w : ℕ) → o ≡ Some v → SomeIff o P w → v ≡ w
+same-some None v P w e s = absurd (cc)
+same-some (Some u) v P w e s = let q : u ≡ v = cc in sym q ∙ s.1
+
+-- a count never comes near the end of its type
+pub count-small : (s : State) (r : ℕ) → IsSound s → (record_at s.tables r).live ≡ true → hidden s.calls r ≡ 0 → (record_at s.tables r).count ≤ 2 ^ 33
+count-small s r k live z =
+    let b : ℕ = (record_at s.tables r).block in
+    let c = (k.counted r live).counts z in
+    let size = k.size in
+    omega (arith, c, holders-few (reading s) b, length-map s.handles (read_handle s.tables), length-map s.calls (read_call s.tables), size.few_handles, size.few_calls)

@@ -1,0 +1,181 @@
+-- What tables keep for those who speak of them.
+use Rattle.std.proofs.Common.{◌≡◌, ℕ, zero, suc, ◌<◌, ◌≤◌, ◌==◌, ◌||◌, Bool, true, false, List, [], ◌∷◌, length, get_or, map, sym, ◌∙◌, ap, refl, arith, All, Option, Some, None}
+use Rattle.std.proofs.lemmas.List.Elements.{All-head, All-tail, All-weaker}
+use Rattle.std.proofs.lemmas.Bool.Decides.{nat_tests}
+use Rattle.iobufs_owner.specs.State.{State, Tables, owner_of, owner_by, base_by, record_at, block_at, handle_at, block_with}
+use Rattle.iobufs_owner.specs.World.{holders, tally}
+use Rattle.iobufs_owner.specs.Reading.{reading, read_call}
+use Rattle.iobufs_owner.specs.Moves.{borrows_it, is_lent}
+use Rattle.iobufs_owner.specs.Sound.{FitsWord, Fits, FitsCall, Shares, Promised, IsDescribed, hidden, releases}
+use Rattle.iobufs_owner.specs.declared.owner.types.Handle.{Handle}
+use Rattle.iobufs_owner.specs.declared.owner.types.Share.{Share}
+use Rattle.iobufs_owner.specs.declared.owner.types.Pending.{Pending}
+use Rattle.iobufs_owner.specs.declared.owner.types.Pending.TheVariants.{Loaded, Ready, Add, Subtract, Release}
+use Rattle.iobufs_owner.specs.declared.owner.types.Word.{Word}
+use Rattle.iobufs_owner.specs.declared.owner.types.Word.TheVariants.{Empty, Descriptor, Record as Counted}
+
+-- tables that keep what live handles and calls speak of: the bits, each block, the block of each live record
+pub record Keeps (g k : Tables) : Type 0 where
+  pub align_bits : k.align_bits ≡ g.align_bits
+  pub tail_bits : k.tail_bits ≡ g.tail_bits
+  pub size_bits : k.size_bits ≡ g.size_bits
+  pub longer : length g.blocks ≤ length k.blocks
+  pub blocks : (b : ℕ) → b < length g.blocks → block_at k b ≡ block_at g b
+  pub with' : (base b : ℕ) → block_with base g.blocks ≡ Some b → block_with base k.blocks ≡ Some b
+  pub records : (r : ℕ) → (record_at g r).live ≡ true → (record_at k r).block ≡ (record_at g r).block
+
+pub keeps-self : (g : Tables) → Keeps g g
+keeps-self g = record { align_bits = refl; tail_bits = refl; size_bits = refl; longer = omega arith; blocks = λ b h. refl; with' = λ base b h. h; records = λ r h. refl }
+
+pub owner-kept : (g k : Tables) (calls : List (Option Pending)) (x : Handle) → Keeps g k → FitsWord g calls x x.word → owner_of k x ≡ owner_of g x
+unfolding owner_of
+owner-kept g k calls x e f =
+    let by : (w : Word) → x.word ≡ w → FitsWord g calls x w → owner_by k x w ≡ owner_by g x w =
+    λ w. elim w as (λ w. x.word ≡ w → FitsWord g calls x w → owner_by k x w ≡ owner_by g x w) [
+      | Empty ↦ λ i f. refl
+      | Descriptor w ↦ λ i (b, log, tail, d).
+          let o : owner_by g x (Descriptor w) ≡ Some b = rw i at d.owner in
+          rw (e.align_bits, e.tail_bits) (e.with' (base_by g x w) b o ∙ sym o)
+      | Counted r ↦ λ i f. ap Some (e.records r f.live)
+    ] in
+    by x.word refl f
+
+pub described-kept : (g k : Tables) (x : Handle) (w b log tail : ℕ) → owner_of k x ≡ owner_of g x → Keeps g k → IsDescribed g x w b log tail → IsDescribed k x w b log tail
+described-kept g k x w b log tail o e d =
+    let same = e.blocks b d.known in
+    let longer = e.longer in
+    let known = d.known in
+    record {
+      known = omega arith;
+      room = rw (e.align_bits, e.tail_bits, e.size_bits, same) d.room;
+      word = rw (e.align_bits, e.tail_bits, same) d.word;
+      align = rw same d.align;
+      native = rw same d.native;
+      owner = o ∙ d.owner;
+      lies = rw same d.lies;
+      behind = rw same d.behind;
+    }
+
+pub live-of : (g : Tables) (calls : List (Option Pending)) (x : Handle) (w : Word) (r : ℕ) → w ≡ Counted r → FitsWord g calls x w → (record_at g r).live ≡ true
+live-of g calls x Empty r i f = absurd (cc)
+live-of g calls x (Descriptor w) r i f = absurd (cc)
+live-of g calls x (Counted q) r i f = let e : q ≡ r = cc in rw e at f.live
+
+-- a handle fits tables that keep what it speaks of
+pub fits-kept : (g k : Tables) (calls : List (Option Pending)) (x : Handle) (w : Word) → owner_of k x ≡ owner_of g x → Keeps g k → ((r : ℕ) → w ≡ Counted r → (record_at k r).live ≡ true) → FitsWord g calls x w → FitsWord k calls x w
+fits-kept g k calls x Empty o e l f = f
+fits-kept g k calls x (Descriptor w) o e l (b, log, tail, d) =
+    (b, log, tail, described-kept g k x w b log tail o e d)
+fits-kept g k calls x (Counted r) o e l f =
+    let b = e.records r f.live in
+    let same = e.blocks (record_at g r).block f.known in
+    let longer = e.longer in
+    let known = f.known in
+    record { live = l r refl; known = rw b (omega arith); shown = f.shown; lies = rw (b, same) f.lies; native = λ m. rw (b, same) (f.native m) }
+
+pub all-fit-kept : (g k : Tables) (calls : List (Option Pending)) (hs : List (Option Handle)) → Keeps g k → ((r : ℕ) → (record_at g r).live ≡ true → (record_at k r).live ≡ true) → All (Fits g calls) hs → All (Fits k calls) hs
+all-fit-kept g k calls hs e l f =
+    All-weaker (Fits g calls) (Fits k calls) (λ o. elim o as (λ o. Fits g calls o → Fits k calls o) [ None ↦ λ t. t | Some x ↦ λ t. fits-kept g k calls x x.word (owner-kept g k calls x e t) e (λ r i. l r (live-of g calls x x.word r i t)) t ]) hs f
+
+-- ---- unfinished calls
+
+-- whether a call counts on a record
+abbrev pub names : ℕ → Option Pending → Bool
+names r None = false
+names r (Some (Loaded part w)) = false
+names r (Some (Ready part w q)) = q == r
+names r (Some (Add part q)) = false
+names r (Some (Subtract q)) = q == r
+names r (Some (Release q let_go)) = q == r
+
+-- what a call asks of a change: the handle that it borrows stays, hidden records stay hidden, its block keeps its holders
+pub record Leaves (s t : State) (c : Option Pending) : Type 0 where
+  pub tables : Keeps s.tables t.tables
+  pub live : (r : ℕ) → names r c ≡ true → (record_at s.tables r).live ≡ true → (record_at t.tables r).live ≡ true
+  pub hidden : (r : ℕ) → (record_at s.tables r).live ≡ true → hidden t.calls r ≡ hidden s.calls r
+  pub handle : (i : ℕ) (x : Handle) → borrows_it i c ≡ true → handle_at s i ≡ Some x → handle_at t i ≡ Some x
+  pub owner : (i : ℕ) (x : Handle) → handle_at s i ≡ Some x → owner_of t.tables x ≡ owner_of s.tables x
+  pub holders : (r : ℕ) (let_go : Bool) → c ≡ Some (Release r let_go) → holders (reading t) (record_at s.tables r).block ≡ holders (reading s) (record_at s.tables r).block
+
+or-true : (b : Bool) → (b || true) ≡ true
+or-true true = refl
+or-true false = refl
+
+pub same-eqb : (n : ℕ) → (n == n) ≡ true
+same-eqb n = grind (arith, nat_tests)
+
+pub shares-kept : (s t : State) (part : Share) (x : Handle) → (handle_at s part.handle ≡ Some x → handle_at t part.handle ≡ Some x) → Shares s part x → Shares t part x
+shares-kept s t part x at h = record { at = at h.at; view = h.view; order = h.order; within = h.within }
+
+pub promised-kept : (g k : Tables) (x : Handle) (w b : ℕ) → Keeps g k → owner_of k x ≡ owner_of g x → Promised g x w b → Promised k x w b
+promised-kept g k x w b e o p =
+    let y : Handle = record x { word = Descriptor w } in
+    let calls : List (Option Pending) = [] in
+    let oy : owner_of k y ≡ owner_of g y = owner-kept g k calls y e (b, p.log, p.tail, p.says) in
+    record { log = p.log; tail = p.tail; says = described-kept g k y w b p.log p.tail oy e p.says; owner = o ∙ p.owner; now' = p.now' }
+
+pub call-kept : (s t : State) (c : Option Pending) → Leaves s t c → FitsCall s c → FitsCall t c
+call-kept s t None l f = f
+call-kept s t (Some (Loaded part w)) l (x, b, h, p) =
+    (x, b, shares-kept s t part x (l.handle part.handle x (same-eqb part.handle)) h, promised-kept s.tables t.tables x w b l.tables (l.owner part.handle x h.at) p)
+call-kept s t (Some (Ready part w r)) l (x, b, h, p, live, block) =
+    (x, b, shares-kept s t part x (l.handle part.handle x (same-eqb part.handle)) h, promised-kept s.tables t.tables x w b l.tables (l.owner part.handle x h.at) p, l.live r (same-eqb r) live, l.tables.records r live ∙ block)
+call-kept s t (Some (Add part r)) l (x, h, w) = (x, shares-kept s t part x (l.handle part.handle x (same-eqb part.handle)) h, w)
+call-kept s t (Some (Subtract r)) l (live, hid) = (l.live r (same-eqb r) live, l.hidden r live ∙ hid)
+call-kept s t (Some (Release r let_go)) l (live, hid, n) =
+    (l.live r (same-eqb r) live, l.hidden r live ∙ hid, rw (l.tables.records r live) (l.holders r let_go refl ∙ n))
+
+-- a call of the list borrows what the list borrows
+pub lent-by : (i : ℕ) (cs : List (Option Pending)) (p : ℕ) (d : Option Pending) → p < length cs → borrows_it i (get_or cs p d) ≡ true → is_lent i cs ≡ true
+lent-by i [] p d h e = absurd (omega arith)
+lent-by i (c ∷ cs) zero d h e = rw e refl
+lent-by i (c ∷ cs) (suc p) d h e = rw (lent-by i cs p d (omega arith) e) (or-true (borrows_it i c))
+
+-- where no handle that is lent changes, and nothing else does for calls, each call fits as before
+pub calls-fit-kept : (s t : State) → t.calls ≡ s.calls → Keeps s.tables t.tables → ((r : ℕ) → (record_at s.tables r).live ≡ true → (record_at t.tables r).live ≡ true) → ((i : ℕ) (x : Handle) → is_lent i s.calls ≡ true → handle_at s i ≡ Some x → handle_at t i ≡ Some x) → All (Fits s.tables s.calls) s.handles → ((i : ℕ) (x : Handle) → handle_at s i ≡ Some x → i < length s.handles) → ((p : ℕ) (d : Option Pending) (r : ℕ) (let_go : Bool) → p < length s.calls → get_or s.calls p d ≡ Some (Release r let_go) → holders (reading t) (record_at s.tables r).block ≡ holders (reading s) (record_at s.tables r).block) → All (FitsCall s) s.calls → All (FitsCall t) s.calls
+calls-fit-kept s t same e live at fit inside n f p d h =
+    let c : Option Pending = get_or s.calls p d in
+    call-kept s t c (record {
+      tables = e;
+      live = λ r _ t. live r t;
+      hidden = λ r _. rw same refl;
+      handle = λ i x b a. at i x (lent-by i s.calls p d h b) a;
+      owner = λ i x a. owner-kept s.tables t.tables s.calls x e (rw a at (fit i None (inside i x a)));
+      holders = λ r let_go i. n p d r let_go h i;
+    }) (f p d h)
+
+-- the same where holders of blocks stay
+pub calls-kept : (s t : State) → t.calls ≡ s.calls → Keeps s.tables t.tables → ((r : ℕ) → (record_at s.tables r).live ≡ true → (record_at t.tables r).live ≡ true) → ((i : ℕ) (x : Handle) → is_lent i s.calls ≡ true → handle_at s i ≡ Some x → handle_at t i ≡ Some x) → All (Fits s.tables s.calls) s.handles → ((i : ℕ) (x : Handle) → handle_at s i ≡ Some x → i < length s.handles) → ((b : ℕ) → b < length s.tables.blocks → holders (reading t) b ≡ holders (reading s) b) → ((r : ℕ) → (record_at s.tables r).live ≡ true → (record_at s.tables r).block < length s.tables.blocks) → All (FitsCall s) s.calls → All (FitsCall t) s.calls
+calls-kept s t same e live at fit inside n known f =
+    calls-fit-kept s t same e live at fit inside (λ p d r let_go h i. n (record_at s.tables r).block (known r (let g = rw i at (f p d h) in g.0))) f
+
+-- what calls are read as, and which of them release a block
+pub call-read-kept : (s : State) (k : Tables) (c : Option Pending) → Keeps s.tables k → FitsCall s c → read_call k c ≡ read_call s.tables c
+call-read-kept s k None e f = refl
+call-read-kept s k (Some (Loaded part w)) e f = refl
+call-read-kept s k (Some (Ready part w r)) e f = refl
+call-read-kept s k (Some (Add part r)) e f = refl
+call-read-kept s k (Some (Subtract r)) e f = rw (e.records r f.0) refl
+call-read-kept s k (Some (Release r let_go)) e f = rw (e.records r f.0) refl
+
+pub calls-read-kept : (s : State) (k : Tables) (cs : List (Option Pending)) → Keeps s.tables k → All (FitsCall s) cs → map (read_call k) cs ≡ map (read_call s.tables) cs
+calls-read-kept s k [] e f = refl
+calls-read-kept s k (c ∷ cs) e f = rw (call-read-kept s k c e (All-head (FitsCall s) c cs f), calls-read-kept s k cs e (All-tail (FitsCall s) c cs f)) refl
+
+release-kept : (s : State) (k : Tables) (b : ℕ) (c : Option Pending) → Keeps s.tables k → FitsCall s c → releases k b c ≡ releases s.tables b c
+release-kept s k b None e f = refl
+release-kept s k b (Some (Loaded part w)) e f = refl
+release-kept s k b (Some (Ready part w r)) e f = refl
+release-kept s k b (Some (Add part r)) e f = refl
+release-kept s k b (Some (Subtract r)) e f = refl
+release-kept s k b (Some (Release r let_go)) e f = rw (e.records r f.0) refl
+
+pub releases-kept : (s : State) (k : Tables) (b : ℕ) (cs : List (Option Pending)) → Keeps s.tables k → All (FitsCall s) cs → tally (releases k b) cs ≡ tally (releases s.tables b) cs
+releases-kept s k b [] e f = refl
+releases-kept s k b (c ∷ cs) e f = rw (release-kept s k b c e (All-head (FitsCall s) c cs f), releases-kept s k b cs e (All-tail (FitsCall s) c cs f)) refl
+
+-- a handle fits calls that hide no more records
+pub fits-calls : (g : Tables) (cs ds : List (Option Pending)) (x : Handle) (w : Word) → ((r : ℕ) → hidden ds r ≤ hidden cs r) → FitsWord g cs x w → FitsWord g ds x w
+fits-calls g cs ds x Empty e f = f
+fits-calls g cs ds x (Descriptor w) e f = f
+fits-calls g cs ds x (Counted r) e f = record { live = f.live; known = f.known; shown = (let n = e r in let z = f.shown in omega arith); lies = f.lies; native = f.native }

@@ -1,0 +1,47 @@
+-- A new machine is sound.
+use Rattle.std.proofs.Common.{◌≡◌, ℕ, zero, suc, ◌+◌, ◌≤◌, ◌<◌, ◌^◌, Bool, false, List, ◌∷◌, replicate, get_or, map, ap, refl, arith, Option, None}
+use Rattle.std.proofs.lemmas.List.{length-replicate}
+use Rattle.std.proofs.lemmas.List.Elements.{All-replicate, All-nil}
+use Rattle.iobufs_owner.specs.declared.owner.types.Block.{Block}
+use Rattle.iobufs_owner.specs.declared.owner.types.Freed.{Freed}
+use Rattle.iobufs_owner.specs.State.{State, Tables, fresh}
+use Rattle.iobufs_owner.proofs.Soundness.Counts.{holders-le-users}
+use Rattle.iobufs_owner.specs.World.{Unfinished, users, drops, tally}
+use Rattle.iobufs_owner.specs.Reading.{reading, read_call}
+use Rattle.iobufs_owner.specs.Places.{IsPlace}
+use Rattle.iobufs_owner.specs.Sound.{IsSound, Fits, FitsCall, releases}
+
+tally-none : {X : Type 0} (p : Option X → Bool) (n : ℕ) → p None ≡ false → tally p (replicate n None) ≡ 0
+tally-none p zero e = refl
+tally-none p (suc n) e = rw e (omega (arith, tally-none p n e))
+
+pub none-at : {X : Type 0} (n p : ℕ) → get_or {A = Option X} (replicate n None) p None ≡ None
+none-at zero p = refl
+none-at (suc n) zero = refl
+none-at (suc n) (suc p) = none-at n p
+
+calls-none : (g : Tables) (n : ℕ) → map (read_call g) (replicate n None) ≡ replicate n None
+calls-none g zero = refl
+calls-none g (suc n) = ap (λ (cs : List (Option Unfinished)). None ∷ cs) (calls-none g n)
+
+no-users : (a t z c n b : ℕ) → users (reading (fresh a t z c n)) b ≡ 0
+unfolding users
+no-users a t z c n b = rw (calls-none (fresh a t z c n).tables n) (omega (arith, tally-none (drops b) n refl))
+
+pub sound-fresh : (a t z ceiling parties : ℕ) → 1 + a + t + z ≤ 64 → 0 < ceiling → parties ≤ 2 ^ 32 → IsSound (fresh a t z ceiling parties)
+sound-fresh a t z c n wide some few =
+    let s : State = fresh a t z c n in
+    record {
+      size = record { wide = wide; ceiling = some; few_blocks = omega arith; few_records = omega arith; few_handles = omega arith; few_calls = rw length-replicate few };
+      blocks = record { places = All-nil (λ (b : Block). IsPlace b.base b.size b.align); apart = λ b d h l. absurd (omega arith) };
+      fit = All-nil (Fits s.tables s.calls);
+      calls_fit = All-replicate (FitsCall s) n None tt;
+      one_release = λ b. rw (tally-none (releases s.tables b) n refl) (omega arith);
+      counted = λ r live. absurd (cc);
+      one_record = λ q r lq. absurd (cc);
+      sole = λ b h. absurd (omega arith);
+      capped = λ b. omega (arith, no-users a t z c n b, holders-le-users (reading s) b);
+      known_users = λ b h. absurd (omega (arith, no-users a t z c n b));
+      block_log = record { freed = λ b h. absurd (omega arith); known = All-nil (λ (f : Freed). _); once = λ i j d h l. absurd (omega arith); many = refl };
+      record_log = record { exact = λ r l. absurd (omega arith); known = All-nil (λ (r : ℕ). _); once = λ i j d h l. absurd (omega arith); many = refl };
+    }

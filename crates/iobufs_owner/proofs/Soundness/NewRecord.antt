@@ -1,0 +1,245 @@
+-- A new record keeps the machine sound: for a new block, and in the place of a descriptor.
+use Rattle.std.proofs.Common.{◌≡◌, ◌≢◌, ℕ, ◌+◌, ◌^◌, ◌<◌, ◌≤◌, ◌==◌, ◌⊎◌, inl, inr, Bool, true, false, cond, [], ◌∷◌, ◌++◌, length, get_or, set, sym, ◌∙◌, ap, subst, refl, arith, Option, Some, None, length-append}
+use Rattle.std.proofs.Math.ListN.{length-set}
+use Rattle.std.proofs.lemmas.List.Elements.{All-push, All-set}
+use Rattle.std.proofs.lemmas.List.{get_or_append_left}
+use Rattle.std.proofs.Math.Seq.{get_or-append_seam}
+use Rattle.std.proofs.lemmas.Bool.Decides.{nat_tests, eqb_tells}
+use Rattle.iobufs_owner.specs.State.{State, Tables, owner_of, record_at, block_at, handle_at}
+use Rattle.iobufs_owner.specs.World.{holders, users, is_block, tally}
+use Rattle.iobufs_owner.specs.Reading.{reading}
+use Rattle.iobufs_owner.specs.Sound.{IsSound, Fits, FitsWord, FitsCall, FitsRecord, LiesIn, alone, describes, hidden, readies}
+use Rattle.iobufs_owner.specs.Moves.{with_block, with_record, with_handle, edited, next_record, frozen, Lends, is_lent}
+use Rattle.iobufs_owner.specs.Places.{IsGoodPlace}
+use Rattle.iobufs_owner.specs.declared.owner.types.Block.{Block}
+use Rattle.iobufs_owner.specs.declared.owner.types.Record.{Record}
+use Rattle.iobufs_owner.specs.declared.owner.types.Handle.{Handle}
+use Rattle.iobufs_owner.specs.declared.owner.types.Kind.{Kind}
+use Rattle.iobufs_owner.specs.declared.owner.types.Kind.TheVariants.{View, Mut}
+use Rattle.iobufs_owner.specs.declared.owner.types.Pending.{Pending}
+use Rattle.iobufs_owner.specs.declared.owner.types.Pending.TheVariants.{Loaded, Ready, Add, Subtract, Release}
+use Rattle.iobufs_owner.specs.declared.owner.types.Word.{Word}
+use Rattle.iobufs_owner.specs.declared.owner.types.Word.TheVariants.{Descriptor, Record as Counted}
+use Rattle.iobufs_owner.proofs.Soundness.Keeps.{Keeps, all-fit-kept, calls-kept, calls-read-kept, releases-kept, owner-kept}
+use Rattle.iobufs_owner.proofs.Soundness.Kept.{at-some, append-at, set-at, owner-counted, block-log-kept}
+use Rattle.iobufs_owner.proofs.Soundness.Counts.{count-append, count-set, count-find, holders-more, users-more, holders-changed, users-changed, holders-le-users}
+use Rattle.iobufs_owner.proofs.Soundness.Frames.{grown, grown-keeps, handles-kept, alone-kept, describes-kept, holders-tables, users-tables, not-eqb, is-eqb}
+use Rattle.iobufs_owner.proofs.Soundness.Edits.{lies-as, fits-at, live-inside, described-at, alone-at, alone-described, describes-described, describes-counted, alone-shared}
+use Rattle.iobufs_owner.proofs.Soundness.Holders.{describes-few}
+use Rattle.iobufs_owner.proofs.Soundness.Logs.{no_record, below-or, block-log-more, record-log-more}
+use Rattle.iobufs_owner.proofs.Soundness.New.{other-base, placed-more}
+
+-- ---- one record more
+
+abbrev pub recorded : Tables → ℕ → ℕ → Tables
+recorded g n b = record g { records = g.records ++ record { count = n; block = b; live = true } ∷ [] }
+
+pub recorded-old : (g : Tables) (n b r : ℕ) → r < length g.records → record_at (recorded g n b) r ≡ record_at g r
+recorded-old g n b r l = get_or_append_left g.records (record { count = n; block = b; live = true } ∷ []) no_record r l
+
+pub recorded-new : (g : Tables) (n b : ℕ) → record_at (recorded g n b) (length g.records) ≡ record { count = n; block = b; live = true }
+recorded-new g n b = get_or-append_seam g.records (record { count = n; block = b; live = true }) [] no_record
+
+pub recorded-keeps : (g : Tables) (n b : ℕ) → Keeps g (recorded g n b)
+recorded-keeps g n b = record {
+  align_bits = refl;
+  tail_bits = refl;
+  size_bits = refl;
+  longer = omega arith;
+  blocks = λ c h. refl;
+  with' = λ base c e. e;
+  records = λ r e. ap (λ (v : Record). v.block) (recorded-old g n b r (live-inside g.records r e));
+}
+
+pub recorded-live : (g : Tables) (n b r : ℕ) → (record_at g r).live ≡ true → (record_at (recorded g n b) r).live ≡ true
+recorded-live g n b r e = ap (λ (v : Record). v.live) (recorded-old g n b r (live-inside g.records r e)) ∙ e
+
+-- a live record is an old one or the new one
+pub recorded-either : (g : Tables) (n b r : ℕ) → (record_at (recorded g n b) r).live ≡ true → ((r < length g.records) × (record_at (recorded g n b) r ≡ record_at g r)) ⊎ (r ≡ length g.records)
+recorded-either g n b r e =
+    let l = live-inside (recorded g n b).records r e in
+    elim (below-or r (length g.records) (rw length-append at l)) [ inl m ↦ inl (m, recorded-old g n b r m) | inr m ↦ inr m ]
+
+-- an unpublished record is live
+ready-live : (s : State) (r : ℕ) (c : Option Pending) → readies r c ≡ true → FitsCall s c → (record_at s.tables r).live ≡ true
+ready-live s r None t f = absurd (cc)
+ready-live s r (Some (Loaded part w)) t f = absurd (cc)
+ready-live s r (Some (Ready part w q)) t (x, b, h, p, live, block) =
+    let e : r ≡ q = grind (arith, nat_tests, t) in
+    ap (λ (n : ℕ). (record_at s.tables n).live) e ∙ live
+ready-live s r (Some (Add part q)) t f = absurd (cc)
+ready-live s r (Some (Subtract q)) t f = absurd (cc)
+ready-live s r (Some (Release q v)) t f = absurd (cc)
+
+-- a number that isn't given yet is no unpublished record
+pub unhidden-next : (s : State) → IsSound s → hidden s.calls (next_record s) ≡ 0
+unhidden-next s k =
+    elim (eqb_tells (hidden s.calls (next_record s)) 0) [
+      | inl z ↦ z.1
+      | inr z ↦ absurd (let w = count-find (readies (next_record s)) None s.calls (let n = z.1 in omega arith) in
+          let l = live-inside s.tables.records (next_record s) (ready-live s (next_record s) (get_or s.calls w.0 None) w.2 (k.calls_fit w.0 None w.1)) in
+          omega arith)
+    ]
+
+-- ---- a new block that a new record counts
+
+abbrev pub both : Tables → Block → Tables
+both g b = recorded (grown g b) 1 (length g.blocks)
+
+pub both-keeps : (g : Tables) (b : Block) → Keeps g (both g b)
+both-keeps g b =
+    let one = grown-keeps g b in
+    let two = recorded-keeps (grown g b) 1 (length g.blocks) in
+    record { align_bits = refl; tail_bits = refl; size_bits = refl; longer = one.longer; blocks = one.blocks; with' = one.with'; records = two.records }
+
+no-alone : (g : Tables) (c n : ℕ) (x : Handle) → owner_of g x ≡ Some n → c ≢ n → alone g c (Some x) ≡ false
+no-alone g c n x o ne = rw (o, not-eqb c n ne) refl
+
+pub sound-recorded : (s : State) (b : Block) (x : Handle) → IsSound s → IsGoodPlace s.tables.blocks b.base b.size b.align → x.word ≡ Counted (length s.tables.records) → LiesIn b x x.kind → (x.kind ≡ Mut → b.external ≡ false) → length s.tables.blocks < 2 ^ 32 → length s.tables.records < 2 ^ 32 → length s.handles < 2 ^ 32 → IsSound (with_handle (with_record (with_block s b) 1 (length s.tables.blocks)) x)
+sound-recorded s b x k good xw lies native few few' fewer =
+    let g : Tables = s.tables in
+    let n : ℕ = length s.tables.blocks in
+    let r : ℕ = length s.tables.records in
+    let g' : Tables = both s.tables b in
+    let next : State = with_handle (with_record (with_block s b) 1 (length s.tables.blocks)) x in
+    let new : record_at g' r ≡ record { count = 1; block = length s.tables.blocks; live = true } = recorded-new (grown s.tables b) 1 (length s.tables.blocks) in
+    let new-block : (record_at g' r).block ≡ n = ap (λ (v : Record). v.block) new in
+    let o : owner_of g' x ≡ Some n = owner-counted g' x r xw ∙ ap Some new-block in
+    let e = both-keeps g b in
+    let live : (q : ℕ) → (record_at g q).live ≡ true → (record_at g' q).live ≡ true = λ q t. recorded-live (grown s.tables b) 1 n q t in
+    let hs = handles-kept g g' s.calls s.handles e k.fit in
+    let cs = calls-read-kept s g' s.calls e k.calls_fit in
+    let other = other-base g.blocks b k.blocks.places good in
+    let at : block_at g' n ≡ b = get_or-append_seam g.blocks b [] _ in
+    let hm : (c : ℕ) → holders (reading next) c ≡ holders (reading s) c + cond (c == n) 1 0 = λ c. rw (holders-more (record s { tables = both s.tables b }) (Some x) c, holders-tables s (both s.tables b) c hs cs, o) refl in
+    let um : (c : ℕ) → users (reading next) c ≡ users (reading s) c + cond (c == n) 1 0 = λ c. rw (users-more (record s { tables = both s.tables b }) (Some x) c, users-tables s (both s.tables b) c hs cs, o) refl in
+    let am : (c : ℕ) → c ≢ n → tally (alone g' c) (s.handles ++ Some x ∷ []) ≡ tally (alone g c) s.handles = λ c ne. rw (count-append (alone g' c) s.handles (Some x), alone-kept g g' s.calls c s.handles e k.fit, no-alone g' c n x o ne) (omega arith) in
+    let dm : (c : ℕ) → tally (describes g' c) (s.handles ++ Some x ∷ []) ≡ tally (describes g c) s.handles = λ c. rw (count-append (describes g' c) s.handles (Some x), describes-kept g g' s.calls c s.handles e k.fit, describes-counted g' c x r xw) (omega arith) in
+    let unused : users (reading s) n ≡ 0 = grind (arith, k.known_users n) in
+    let unheld : holders (reading s) n ≡ 0 = omega (arith, unused, holders-le-users (reading s) n) in
+    let one : users (reading next) n ≡ 1 = (let u = rw (is-eqb n n refl) at (um n) in omega (arith, u, unused)) in
+    let held : holders (reading next) n ≡ 1 = (let u = rw (is-eqb n n refl) at (hm n) in omega (arith, u, unheld)) in
+    let shown = unhidden-next s k in
+    let size = k.size in
+    record {
+      size = record { wide = size.wide; ceiling = size.ceiling; few_blocks = rw length-append (omega arith); few_records = rw length-append (omega arith); few_handles = rw length-append (omega arith); few_calls = size.few_calls };
+      blocks = (let p = placed-more g b k.blocks good in record { places = p.places; apart = p.apart });
+      fit = All-push (Fits g' s.calls) s.handles (Some x) (all-fit-kept g g' s.calls s.handles e live k.fit) (subst (λ (v : Word). FitsWord g' s.calls x v) (sym xw) (record {
+        live = ap (λ (v : Record). v.live) new;
+        known = rw new-block (rw length-append (omega arith));
+        shown = shown;
+        lies = rw (new-block, at) lies;
+        native = λ m. rw (new-block, at) (native m);
+      }));
+      calls_fit = calls-kept s next refl e live (λ i y _ a. append-at s.handles (Some x) i y a) k.fit (λ i y a. at-some s.handles i y a) (λ c l. rw (hm, not-eqb c n (omega arith)) (omega arith)) (λ q t. (k.counted q t).known) k.calls_fit;
+      one_release = λ c. rw (releases-kept s g' c s.calls e k.calls_fit) (k.one_release c);
+      counted = λ q t. elim (recorded-either (grown s.tables b) 1 n q t) [
+        | inl w ↦ (let c = k.counted q (ap (λ (v : Record). v.live) (sym w.1) ∙ t) in
+            let known = c.known in
+            let ne = not-eqb (record_at g q).block n (omega arith) in
+            subst (λ (v : Record). FitsRecord next q v) (sym w.1) (record { known = rw length-append (omega arith); one_maker = c.one_maker; counts = λ z. rw (hm, ne) (omega (arith, c.counts z)); fresh = c.fresh; used = rw (um, ne) (omega (arith, c.used)); undescribed = λ z. rw dm (c.undescribed z) }))
+        | inr i ↦ subst (λ (q : ℕ). FitsRecord next q (record_at g' q)) (sym i) (subst (λ (v : Record). FitsRecord next r v) (sym new) (record { known = rw length-append (omega arith); one_maker = omega (arith, shown); counts = λ z. sym held; fresh = λ z. absurd (omega (arith, z, shown)); used = omega (arith, one); undescribed = λ z. rw dm (omega (arith, describes-few s n, unheld)) }))
+      ];
+      one_record = λ p q tp tq hp hq i. elim (recorded-either (grown s.tables b) 1 n p tp) [
+        | inl w ↦ elim (recorded-either (grown s.tables b) 1 n q tq) [
+          | inl u ↦ k.one_record p q (ap (λ (v : Record). v.live) (sym w.1) ∙ tp) (ap (λ (v : Record). v.live) (sym u.1) ∙ tq) hp hq (ap (λ (v : Record). v.block) (sym w.1) ∙ i ∙ ap (λ (v : Record). v.block) u.1)
+          | inr u ↦ absurd (let c = (k.counted p (ap (λ (v : Record). v.live) (sym w.1) ∙ tp)).known in let z = ap (λ (v : Record). v.block) (sym w.1) ∙ i ∙ ap (λ (m : ℕ). (record_at g' m).block) u ∙ new-block in omega (arith, c, z))
+        ]
+        | inr w ↦ elim (recorded-either (grown s.tables b) 1 n q tq) [
+          | inl u ↦ absurd (let c = (k.counted q (ap (λ (v : Record). v.live) (sym u.1) ∙ tq)).known in let z = ap (λ (v : Record). v.block) (sym u.1) ∙ sym i ∙ ap (λ (m : ℕ). (record_at g' m).block) w ∙ new-block in omega (arith, c, z))
+          | inr u ↦ w ∙ sym u
+        ]
+      ];
+      sole = λ c h. elim (eqb_tells c n) [
+        | inl i ↦ rw i.1 held
+        | inr i ↦ rw (hm, i.0) (omega (arith, k.sole c (rw (am c i.1) at h)))
+      ];
+      capped = λ c. elim (eqb_tells c n) [
+        | inl i ↦ rw (i.1, held) (omega arith)
+        | inr i ↦ rw (hm, i.0) (omega (arith, k.capped c))
+      ];
+      known_users = λ c h. let p = rw um at h in rw length-append (elim (eqb_tells c n) [
+        | inl i ↦ (let q = i.1 in omega arith)
+        | inr i ↦ (let q = rw i.0 at p in omega (arith, k.known_users c (omega (arith, q))))
+      ]);
+      block_log = block-log-more g b s.freed_blocks (users (reading s)) (users (reading next)) other one (λ c l. rw (um, not-eqb c n (omega arith)) (omega arith)) k.block_log;
+      record_log = record-log-more g.records s.freed_records (record { count = 1; block = length s.tables.blocks; live = true }) refl k.record_log;
+    }
+
+-- ---- a new record in the place of a handle's descriptor
+
+-- nothing but its own call borrows a handle that is had alone
+pub sound-promoted : (s : State) (h : ℕ) (x y : Handle) (w b : ℕ) → IsSound s → handle_at s h ≡ Some x → is_lent h s.calls ≡ false → x.word ≡ Descriptor w → owner_of s.tables x ≡ Some b → b < length s.tables.blocks → y.word ≡ Counted (length s.tables.records) → y.kind ≡ View → LiesIn (block_at s.tables b) y View → length s.tables.records < 2 ^ 32 → IsSound (edited (with_record s 1 b) h y)
+sound-promoted s h x y w b k at free xw ox kb yw yv lies few =
+    let g : Tables = s.tables in
+    let r : ℕ = length s.tables.records in
+    let g' : Tables = recorded s.tables 1 b in
+    let next : State = edited (with_record s 1 b) h y in
+    let l = at-some s.handles h x at in
+    let new : record_at g' r ≡ record { count = 1; block = b; live = true } = recorded-new s.tables 1 b in
+    let new-block : (record_at g' r).block ≡ b = ap (λ (v : Record). v.block) new in
+    let e = recorded-keeps g 1 b in
+    let live : (q : ℕ) → (record_at g q).live ≡ true → (record_at g' q).live ≡ true = λ q t. recorded-live g 1 b q t in
+    let ox' : owner_of g' x ≡ Some b = owner-kept g g' s.calls x e (fits-at s h x k at) ∙ ox in
+    let oy : owner_of g' y ≡ Some b = owner-counted g' y r yw ∙ ap Some new-block in
+    let hs = handles-kept g g' s.calls s.handles e k.fit in
+    let cs = calls-read-kept s g' s.calls e k.calls_fit in
+    let hm : (c : ℕ) → holders (reading next) c ≡ holders (reading s) c = λ c. let n = rw (at, ox', oy) at (holders-changed (record s { tables = recorded s.tables 1 b }) h (Some y) c l) in let m = holders-tables s g' c hs cs in omega (arith, n, m) in
+    let um : (c : ℕ) → users (reading next) c ≡ users (reading s) c = λ c. let n = rw (at, ox', oy) at (users-changed (record s { tables = recorded s.tables 1 b }) h (Some y) c l) in let m = users-tables s g' c hs cs in omega (arith, n, m) in
+    let dm : (c : ℕ) → tally (describes g' c) (set s.handles h (Some y)) + cond (c == b) 1 0 ≡ tally (describes g c) s.handles = λ c.
+    let n = count-set (describes g' c) s.handles h (Some y) None l in
+    let nx : ◌≡◌ {A = ℕ} (cond (describes g' c (get_or s.handles h None)) 1 0) (cond (c == b) 1 0) = ap (λ (o : Option Handle). cond {A = ℕ} (describes g' c o) 1 0) at ∙ ap (λ (v : Bool). cond {A = ℕ} v 1 0) (describes-described g' c x w xw ∙ ap (is_block c) ox') in
+    let ny : ◌≡◌ {A = ℕ} (cond (describes g' c (Some y)) 1 0) 0 = ap (λ (v : Bool). cond {A = ℕ} v 1 0) (describes-counted g' c y r yw) in
+    omega (arith, n, nx, ny, describes-kept g g' s.calls c s.handles e k.fit) in
+    let am : (c : ℕ) → tally (alone g' c) (set s.handles h (Some y)) ≤ tally (alone g c) s.handles = λ c.
+    let n = count-set (alone g' c) s.handles h (Some y) None l in
+    let ny : ◌≡◌ {A = ℕ} (cond (alone g' c (Some y)) 1 0) 0 = ap (λ (v : Bool). cond {A = ℕ} v 1 0) (alone-shared g' c y r yw yv) in
+    omega (arith, n, ny, alone-kept g g' s.calls c s.handles e k.fit) in
+    let one : holders (reading s) b ≡ 1 = alone-at s h x b k at (alone-described g b x w xw ∙ ap (is_block b) ox ∙ is-eqb b b refl) in
+    let some : 0 < tally (describes g b) s.handles = (let z = rw (is-eqb b b refl) at (dm b) in omega (arith, z)) in
+    let gone : tally (describes g' b) (set s.handles h (Some y)) ≡ 0 = (let z = rw (is-eqb b b refl) at (dm b) in omega (arith, z, describes-few s b, one)) in
+    let apart : (q : ℕ) → (record_at g q).live ≡ true → hidden s.calls q ≡ 0 → (record_at g q).block ≢ b = λ q t z i. (let u = rw i at ((k.counted q t).undescribed z) in omega (arith, u, some)) in
+    let shown = unhidden-next s k in
+    let size = k.size in
+    let lie : LiesIn (block_at g' (record_at g' r).block) y y.kind = rw (new-block) (subst (λ (q : Kind). LiesIn (block_at g b) y q) (sym yv) lies) in
+    record {
+      size = record { wide = size.wide; ceiling = size.ceiling; few_blocks = size.few_blocks; few_records = rw length-append (omega arith); few_handles = rw length-set size.few_handles; few_calls = size.few_calls };
+      blocks = (let p = k.blocks in record { places = p.places; apart = p.apart });
+      fit = All-set (Fits g' s.calls) s.handles h (Some y) (subst (λ (v : Word). FitsWord g' s.calls y v) (sym yw) (record {
+        live = ap (λ (v : Record). v.live) new;
+        known = rw new-block kb;
+        shown = shown;
+        lies = lie;
+        native = λ m. absurd (let q = sym yv ∙ m in cc);
+      })) (all-fit-kept g g' s.calls s.handles e live k.fit);
+      calls_fit = calls-kept s next refl e live (λ i z b a. set-at s.handles h i (Some y) z (λ e. let q = rw e at b in absurd (cc)) a) k.fit (λ i z a. at-some s.handles i z a) (λ c _. hm c) (λ q t. (k.counted q t).known) k.calls_fit;
+      one_release = λ c. rw (releases-kept s g' c s.calls e k.calls_fit) (k.one_release c);
+      counted = λ q t. elim (recorded-either g 1 b q t) [
+        | inl v ↦ (let c = k.counted q (ap (λ (v : Record). v.live) (sym v.1) ∙ t) in
+            subst (λ (v : Record). FitsRecord next q v) (sym v.1) (record { known = c.known; one_maker = c.one_maker; counts = λ z. rw hm (c.counts z); fresh = c.fresh; used = rw um c.used; undescribed = λ z. omega (arith, dm (record_at g q).block, c.undescribed z) }))
+        | inr i ↦ subst (λ (q : ℕ). FitsRecord next q (record_at g' q)) (sym i) (subst (λ (v : Record). FitsRecord next r v) (sym new) (record { known = kb; one_maker = omega (arith, shown); counts = λ z. rw hm (sym one); fresh = λ z. absurd (omega (arith, z, shown)); used = rw um (omega (arith, one, holders-le-users (reading s) b)); undescribed = λ z. gone }))
+      ];
+      one_record = λ p q tp tq hp hq i. elim (recorded-either g 1 b p tp) [
+        | inl v ↦ elim (recorded-either g 1 b q tq) [
+          | inl u ↦ k.one_record p q (ap (λ (v : Record). v.live) (sym v.1) ∙ tp) (ap (λ (v : Record). v.live) (sym u.1) ∙ tq) hp hq (ap (λ (v : Record). v.block) (sym v.1) ∙ i ∙ ap (λ (v : Record). v.block) u.1)
+          | inr u ↦ absurd (apart p (ap (λ (v : Record). v.live) (sym v.1) ∙ tp) hp (ap (λ (v : Record). v.block) (sym v.1) ∙ i ∙ ap (λ (m : ℕ). (record_at g' m).block) u ∙ new-block))
+        ]
+        | inr v ↦ elim (recorded-either g 1 b q tq) [
+          | inl u ↦ absurd (apart q (ap (λ (v : Record). v.live) (sym u.1) ∙ tq) hq (ap (λ (v : Record). v.block) (sym u.1) ∙ sym i ∙ ap (λ (m : ℕ). (record_at g' m).block) v ∙ new-block))
+          | inr u ↦ v ∙ sym u
+        ]
+      ];
+      sole = λ c t. hm c ∙ k.sole c (omega (arith, t, am c));
+      capped = λ c. rw hm (k.capped c);
+      known_users = λ c t. k.known_users c (rw um at t);
+      block_log = block-log-kept g.blocks s.freed_blocks (users (reading s)) (users (reading next)) um k.block_log;
+      record_log = record-log-more g.records s.freed_records (record { count = 1; block = b; live = true }) refl k.record_log;
+    }
+
+pub sound-promoted-frozen : (s : State) (h : ℕ) (x : Handle) (w b : ℕ) → IsSound s → Lends s h Mut x → x.word ≡ Descriptor w → owner_of s.tables x ≡ Some b → length s.tables.records < 2 ^ 32 → IsSound (edited (with_record s 1 b) h (frozen x (Counted (length s.tables.records))))
+sound-promoted-frozen s h x w b k t i o few =
+    let d = described-at s h x w k t.at i in
+    let same : d.0 ≡ b = (let q = sym d.3.owner ∙ o in cc) in
+    let kb = subst (λ (n : ℕ). n < length s.tables.blocks) same d.3.known in
+    let lies = subst (λ (n : ℕ). LiesIn (block_at s.tables n) x Mut) same (lies-as (block_at s.tables d.0) x Mut t.kind_is d.3.lies) in
+    sound-promoted s h x (frozen x (Counted (length s.tables.records))) w b k t.at t.free i o kb refl refl (lies.0, omega (arith, lies.1, lies.2), refl) few

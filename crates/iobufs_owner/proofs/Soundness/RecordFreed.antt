@@ -1,0 +1,39 @@
+-- Records that are freed.
+use Rattle.std.proofs.Common.{◌≡◌, ◌≢◌, inl, inr, ℕ, ◌<◌, true, false, length, sym, ◌∙◌, ap, refl, arith}
+use Rattle.std.proofs.lemmas.List.{get_or-set_same, get_or-set_other}
+use Rattle.std.proofs.lemmas.Bool.Decides.{eqb_tells}
+use Rattle.iobufs_owner.specs.State.{Tables, record_at}
+use Rattle.iobufs_owner.specs.Moves.{dead}
+use Rattle.iobufs_owner.specs.declared.owner.types.Record.{Record}
+use Rattle.iobufs_owner.proofs.Soundness.Keeps.{Keeps}
+use Rattle.iobufs_owner.proofs.Soundness.AddHolder.{field-set}
+
+pub dead-block : (g : Tables) (r q : ℕ) → (record_at (dead g r) q).block ≡ (record_at g q).block
+dead-block g r q = field-set (λ (v : Record). v.block) g.records r q _ _ refl
+
+pub dead-count : (g : Tables) (r q : ℕ) → (record_at (dead g r) q).count ≡ (record_at g q).count
+dead-count g r q = field-set (λ (v : Record). v.count) g.records r q _ _ refl
+
+pub dead-other : (g : Tables) (r q : ℕ) → q ≢ r → (record_at (dead g r) q).live ≡ (record_at g q).live
+dead-other g r q ne = ap (λ (v : Record). v.live) (get_or-set_other g.records r q (record { count = (record_at g r).count; block = (record_at g r).block; live = false }) (record { count = 0; block = 0; live = false }) ne)
+
+pub dead-same : (g : Tables) (r : ℕ) → r < length g.records → (record_at (dead g r) r).live ≡ false
+dead-same g r l = ap (λ (v : Record). v.live) (get_or-set_same g.records r (record { count = (record_at g r).count; block = (record_at g r).block; live = false }) (record { count = 0; block = 0; live = false }) l)
+
+pub dead-keeps : (g : Tables) (r : ℕ) → Keeps g (dead g r)
+dead-keeps g r = record {
+  align_bits = refl;
+  tail_bits = refl;
+  size_bits = refl;
+  longer = omega arith;
+  blocks = λ b h. refl;
+  with' = λ base b e. e;
+  records = λ q e. dead-block g r q;
+}
+
+-- what is live afterwards was live, and is another record
+pub dead-live : (g : Tables) (r q : ℕ) → r < length g.records → (record_at (dead g r) q).live ≡ true → ((record_at g q).live ≡ true) × (q ≢ r)
+dead-live g r q l e = elim (eqb_tells q r) [
+  | inl i ↦ absurd (let z = rw i.1 at e in let y = dead-same g r l in cc)
+  | inr i ↦ (sym (dead-other g r q i.1) ∙ e, i.1)
+]

@@ -1,0 +1,195 @@
+-- The last step of a drop: record and block are freed.
+use Rattle.std.proofs.Common.{◌≡◌, ◌≢◌, inl, inr, ℕ, ◌+◌, ◌<◌, ◌==◌, Bool, true, false, cond, length, get_or, set, map, sym, ◌∙◌, ap, subst, refl, arith, Option, Some, None, nat_eq}
+use Rattle.std.proofs.Math.ListN.{length-set}
+use Rattle.std.proofs.lemmas.List.Elements.{All-from_get_or}
+use Rattle.std.proofs.lemmas.List.{get_or-set_same, get_or-set_other, map-set, length-map}
+use Rattle.std.proofs.lemmas.Bool.Decides.{nat_tests, eqb_tells}
+use Rattle.iobufs_owner.specs.State.{State, Tables, owner_of, record_at, handle_at, call_at}
+use Rattle.iobufs_owner.specs.World.{holds, holders, users, Dropping, still_holds, drops, tally}
+use Rattle.iobufs_owner.specs.Reading.{reading, read_handle, read_call}
+use Rattle.iobufs_owner.specs.Moves.{dead, both_freed, called}
+use Rattle.iobufs_owner.specs.Sound.{IsSound, Fits, FitsCall, alone, describes, hidden, readies, releases}
+use Rattle.iobufs_owner.specs.declared.owner.types.Handle.{Handle}
+use Rattle.iobufs_owner.specs.declared.owner.types.Pending.{Pending}
+use Rattle.iobufs_owner.specs.declared.owner.types.Pending.TheVariants.{Loaded, Ready, Add, Subtract, Release}
+use Rattle.iobufs_owner.proofs.Soundness.Counts.{count-set, count-some, count-less, count-most, count-two, count-find, count-sum, holders-le-users}
+use Rattle.iobufs_owner.proofs.Soundness.Keeps.{names, call-kept, calls-read-kept, releases-kept, owner-kept, fits-kept, fits-calls, live-of}
+use Rattle.iobufs_owner.proofs.WorldSteps.Shown.{get_or-read}
+use Rattle.iobufs_owner.proofs.Soundness.Kept.{at-some, owner-counted}
+use Rattle.iobufs_owner.proofs.Soundness.Frames.{handles-kept, alone-kept, describes-kept, not-eqb, is-eqb}
+use Rattle.iobufs_owner.proofs.Soundness.Edits.{fits-at, live-inside, and-no}
+use Rattle.iobufs_owner.proofs.Soundness.Holders.{held_by, still_by, drops_by, holders-as, users-as, alone-holds, lets_go, drops-split, go-releases}
+use Rattle.iobufs_owner.proofs.Soundness.Logs.{block-log-freed, record-log-dead}
+use Rattle.iobufs_owner.proofs.Soundness.RecordFreed.{dead-block, dead-count, dead-other, dead-keeps, dead-live}
+
+abbrev pub released : State → ℕ → ℕ → State
+released s p r = called (both_freed s r) p None
+
+-- a drop that releases is the last user of its block
+pub record Last (s : State) (b : ℕ) : Type 0 where
+  pub none : tally (λ (o : Option Handle). holds b (read_handle s.tables o)) s.handles ≡ 0
+  pub one : tally (λ (c : Option Pending). drops b (read_call s.tables c)) s.calls ≡ 1
+  pub users : users (reading s) b ≡ 1
+
+pub release-last : (s : State) (p r : ℕ) (v : Bool) → IsSound s → call_at s p ≡ Some (Release r v) → Last s (record_at s.tables r).block
+release-last s p r v k at =
+    let b : ℕ = (record_at s.tables r).block in
+    let l = at-some s.calls p (Release r v) at in
+    let f = rw at at (k.calls_fit p None l) in
+    let h = holders-as s b in
+    let n = f.2 in
+    let u = users-as s b in
+    let split = count-sum (drops_by s b) (still_by s b) (lets_go s.tables b) s.calls (drops-split s.tables b) in
+    let ones = k.one_release b in
+    let here = count-some (releases s.tables b) s.calls p None l (rw at (is-eqb b b refl)) in
+    let by : (w : Bool) → v ≡ w → Last s b = λ w. elim w as (λ w. v ≡ w → Last s b) [
+      | true ↦ λ e. (let n1 = rw e at n in
+          let go = count-most (releases s.tables b) (lets_go s.tables b) s.calls (go-releases s.tables b) in
+          let some = count-some (lets_go s.tables b) s.calls p None l (rw (at, e, is-eqb b b refl) refl) in
+          record { none = omega arith; one = omega arith; users = omega arith })
+      | false ↦ λ e. (let n1 = rw e at n in
+          let some = count-some (still_by s b) s.calls p None l (rw (at, e) (is-eqb b b refl)) in
+          let go = count-less (releases s.tables b) (lets_go s.tables b) s.calls p None (go-releases s.tables b) l (rw at (is-eqb b b refl)) (rw (at, e) (and-no (b == b))) in
+          record { none = omega arith; one = omega arith; users = omega arith })
+    ] in
+    by v refl
+
+none-holds : (s : State) (b i : ℕ) (x : Handle) → tally (held_by s b) s.handles ≡ 0 → handle_at s i ≡ Some x → owner_of s.tables x ≢ Some b
+none-holds s b i x z at o =
+    let t = count-some (held_by s b) s.handles i None (at-some s.handles i x at) (rw (at, o) (is-eqb b b refl)) in
+    omega arith
+
+fit-released : (s : State) (p r : ℕ) (o : Option Handle) → ((q : ℕ) → hidden (set s.calls p None) q ≡ hidden s.calls q) → tally (held_by s (record_at s.tables r).block) s.handles ≡ 0 → (i : ℕ) → get_or s.handles i None ≡ o → Fits s.tables s.calls o → Fits (dead s.tables r) (set s.calls p None) o
+fit-released s p r None hid none i at f = tt
+fit-released s p r (Some x) hid none i at f =
+    let e = dead-keeps s.tables r in
+    fits-calls (dead s.tables r) s.calls (set s.calls p None) x x.word (λ q. omega (arith, hid q))
+    (fits-kept s.tables (dead s.tables r) s.calls x x.word (owner-kept s.tables (dead s.tables r) s.calls x e f) e
+    (λ q w. dead-other s.tables r q (λ y. none-holds s (record_at s.tables r).block i x none at (owner-counted s.tables x q w ∙ ap (λ (n : ℕ). Some (record_at s.tables n).block) y)) ∙ live-of s.tables s.calls x x.word q w f) f)
+
+still-other : (b c : ℕ) (v : Bool) → c ≢ b → still_holds c (Some (Dropping b v 1)) ≡ false
+still-other b c true ne = refl
+still-other b c false ne = not-eqb c b ne
+
+users-released : (s : State) (p r : ℕ) (v : Bool) (c : ℕ) → call_at s p ≡ Some (Release r v) → p < length s.calls → map (read_handle (dead s.tables r)) s.handles ≡ map (read_handle s.tables) s.handles → map (read_call (dead s.tables r)) s.calls ≡ map (read_call s.tables) s.calls → users (reading (released s p r)) c + cond (c == (record_at s.tables r).block) 1 0 ≡ users (reading s) c
+unfolding users
+users-released s p r v c at l hs cs =
+    let n = rw (get_or-read (read_call s.tables) s.calls p None, at) at (count-set (drops c) (map (read_call s.tables) s.calls) p None None (rw length-map l)) in
+    rw (hs, map-set (read_call (dead s.tables r)) s.calls p None, cs) (omega (arith, n))
+
+holders-released : (s : State) (p r : ℕ) (v : Bool) (c : ℕ) → call_at s p ≡ Some (Release r v) → p < length s.calls → map (read_handle (dead s.tables r)) s.handles ≡ map (read_handle s.tables) s.handles → map (read_call (dead s.tables r)) s.calls ≡ map (read_call s.tables) s.calls → c ≢ (record_at s.tables r).block → holders (reading (released s p r)) c ≡ holders (reading s) c
+unfolding holders
+holders-released s p r v c at l hs cs ne =
+    let n = rw (get_or-read (read_call s.tables) s.calls p None, at) at (count-set (still_holds c) (map (read_call s.tables) s.calls) p None None (rw length-map l)) in
+    let m = rw (still-other (record_at s.tables r).block c v ne) at n in
+    rw (hs, map-set (read_call (dead s.tables r)) s.calls p None, cs) (omega (arith, m))
+
+-- no other call counts on the record, or drops the block
+other-drops : (s : State) (p r i : ℕ) (v : Bool) (b : ℕ) → call_at s p ≡ Some (Release r v) → (record_at s.tables r).block ≡ b → tally (drops_by s b) s.calls ≡ 1 → i ≢ p → i < length s.calls → drops_by s b (call_at s i) ≡ true → ⊥
+other-drops s p r i v b at eb one ne l t =
+    let two = count-two (drops_by s b) s.calls i p None ne l (at-some s.calls p (Release r v) at) t (rw at (is-eqb b (record_at s.tables r).block (sym eb))) in
+    omega (arith, two, one)
+
+other-names : (s : State) (r i : ℕ) (c : Option Pending) → call_at s i ≡ c → i < length s.calls → hidden s.calls r ≡ 0 → (drops_by s (record_at s.tables r).block c ≡ true → ⊥) → names r c ≡ true → ⊥
+other-names s r i None at l hid never t = cc
+other-names s r i (Some (Loaded part w)) at l hid never t = cc
+other-names s r i (Some (Ready part w q)) at l hid never t =
+    let e : q ≡ r = grind (arith, nat_tests, t) in
+    let some = count-some (readies r) s.calls i None l (rw at (is-eqb r q (sym e))) in
+    omega (arith, some, hid)
+other-names s r i (Some (Add part q)) at l hid never t = cc
+other-names s r i (Some (Subtract q)) at l hid never t =
+    let e : q ≡ r = grind (arith, nat_tests, t) in
+    never (is-eqb (record_at s.tables r).block (record_at s.tables q).block (ap (λ (n : ℕ). (record_at s.tables n).block) (sym e)))
+other-names s r i (Some (Release q w)) at l hid never t =
+    let e : q ≡ r = grind (arith, nat_tests, t) in
+    never (is-eqb (record_at s.tables r).block (record_at s.tables q).block (ap (λ (n : ℕ). (record_at s.tables n).block) (sym e)))
+
+-- a hidden record is one of a handle's block
+hidden-held : (s : State) (q i : ℕ) (c : Option Pending) → call_at s i ≡ c → readies q c ≡ true → FitsCall s c → (h : ℕ) × (x : Handle) × (handle_at s h ≡ Some x) × (owner_of s.tables x ≡ Some (record_at s.tables q).block)
+hidden-held s q i None at t f = absurd (cc)
+hidden-held s q i (Some (Loaded part w)) at t f = absurd (cc)
+hidden-held s q i (Some (Ready part w z)) at t (x, b, h, p, live, block) =
+    let e : q ≡ z = grind (arith, nat_tests, t) in
+    (part.handle, x, h.at, p.owner ∙ ap Some (sym block ∙ ap (λ (n : ℕ). (record_at s.tables n).block) (sym e)))
+hidden-held s q i (Some (Add part z)) at t f = absurd (cc)
+hidden-held s q i (Some (Subtract z)) at t f = absurd (cc)
+hidden-held s q i (Some (Release z w)) at t f = absurd (cc)
+
+other-block : (s : State) (r q : ℕ) → IsSound s → (record_at s.tables r).live ≡ true → hidden s.calls r ≡ 0 → tally (held_by s (record_at s.tables r).block) s.handles ≡ 0 → (record_at s.tables q).live ≡ true → q ≢ r → (record_at s.tables q).block ≢ (record_at s.tables r).block
+other-block s r q k lr hr none lq ne e =
+    elim (eqb_tells (hidden s.calls q) 0) [
+      | inl z ↦ ne (k.one_record q r lq lr z.1 hr e)
+      | inr z ↦ (let w = count-find (readies q) None s.calls (let n = z.1 in omega arith) in
+          let y = hidden-held s q w.0 (call_at s w.0) refl w.2 (k.calls_fit w.0 None w.1) in
+          none-holds s (record_at s.tables r).block y.0 y.1 none y.2 (y.3 ∙ ap Some e))
+    ]
+
+pub sound-released : (s : State) (p r : ℕ) (v : Bool) → IsSound s → call_at s p ≡ Some (Release r v) → IsSound (released s p r)
+sound-released s p r v k at =
+    let g : Tables = s.tables in
+    let g' : Tables = dead s.tables r in
+    let b : ℕ = (record_at s.tables r).block in
+    let next : State = released s p r in
+    let l = at-some s.calls p (Release r v) at in
+    let f : FitsCall s (Some (Release r v)) = subst (λ (c : Option Pending). FitsCall s c) at (k.calls_fit p None l) in
+    let last = release-last s p r v k at in
+    let me = k.counted r f.0 in
+    let inside = live-inside g.records r f.0 in
+    let e = dead-keeps g r in
+    let hs = handles-kept g g' s.calls s.handles e k.fit in
+    let cs = calls-read-kept s g' s.calls e k.calls_fit in
+    let hid : (q : ℕ) → hidden (set s.calls p None) q ≡ hidden s.calls q = λ q. let c = rw at at (count-set (readies q) s.calls p None None l) in omega (arith, c) in
+    let um : (c : ℕ) → users (reading next) c + cond (c == b) 1 0 ≡ users (reading s) c = λ c. users-released s p r v c at l hs cs in
+    let hm : (c : ℕ) → c ≢ b → holders (reading next) c ≡ holders (reading s) c = λ c ne. holders-released s p r v c at l hs cs ne in
+    let am : (c : ℕ) → tally (alone g' c) s.handles ≡ tally (alone g c) s.handles = λ c. alone-kept g g' s.calls c s.handles e k.fit in
+    let dm : (c : ℕ) → tally (describes g' c) s.handles ≡ tally (describes g c) s.handles = λ c. describes-kept g g' s.calls c s.handles e k.fit in
+    let none : users (reading next) b ≡ 0 = (let z = rw (is-eqb b b refl, last.users) at (um b) in omega (arith, z)) in
+    let size = k.size in
+    record {
+      size = record { wide = size.wide; ceiling = size.ceiling; few_blocks = size.few_blocks; few_records = rw length-set size.few_records; few_handles = size.few_handles; few_calls = rw length-set size.few_calls };
+      blocks = (let q = k.blocks in record { places = q.places; apart = q.apart });
+      fit = All-from_get_or (Fits g' (set s.calls p None)) s.handles None (λ i li. fit-released s p r (get_or s.handles i None) hid last.none i refl (k.fit i None li));
+      calls_fit = All-from_get_or (FitsCall next) (set s.calls p None) None (λ i li.
+          let lo : i < length s.calls = (let z = rw length-set at li in z) in
+          elim (eqb_tells i p) [
+            | inl z ↦ rw (z.1, get_or-set_same s.calls p None None l) tt
+            | inr z ↦ rw (get_or-set_other s.calls p i None None z.1) (call-kept s next (call_at s i) (record {
+              tables = e;
+              live = λ q n t. dead-other g r q (λ y. other-names s r i (call_at s i) refl lo f.1 (other-drops s p r i v b at refl last.one z.1 lo) (rw y at n)) ∙ t;
+              hidden = λ q _. hid q;
+              handle = λ j x y a. a;
+              owner = λ j x a. owner-kept g g' s.calls x e (fits-at s j x k a);
+              holders = λ q w y. hm (record_at g q).block (λ j. other-drops s p r i v b at refl last.one z.1 lo (rw y (is-eqb b (record_at g q).block (sym j))));
+            }) (k.calls_fit i None lo))
+          ]);
+      one_release = λ c. let n = count-set (releases g' c) s.calls p None None l in let m = releases-kept s g' c s.calls e k.calls_fit in omega (arith, n, m, k.one_release c);
+      counted = λ q t.
+          let d = dead-live g r q inside t in
+          let cq = k.counted q d.0 in
+          let nb = other-block s r q k f.0 f.1 last.none d.0 d.1 in
+          let same = rw (not-eqb (record_at g q).block b nb) at (um (record_at g q).block) in
+          record {
+            known = rw (dead-block g r q) cq.known;
+            one_maker = rw (hid q) cq.one_maker;
+            counts = λ z. rw (dead-count g r q, dead-block g r q, hm (record_at g q).block nb) (cq.counts (sym (hid q) ∙ z));
+            fresh = λ z. rw (dead-count g r q) (cq.fresh (sym (hid q) ∙ z));
+            used = rw (dead-block g r q) (omega (arith, same, cq.used));
+            undescribed = λ z. rw (dead-block g r q, dm) (cq.undescribed (sym (hid q) ∙ z));
+          };
+      one_record = λ q q' tq tq' hq hq' i. k.one_record q q' (dead-live g r q inside tq).0 (dead-live g r q' inside tq').0 (sym (hid q) ∙ hq) (sym (hid q') ∙ hq') (sym (dead-block g r q) ∙ i ∙ dead-block g r q');
+      sole = λ c t. let u = rw am at t in hm c (λ i. absurd (let w = rw i at u in omega (arith, w, count-most (held_by s b) (alone g b) s.handles (alone-holds g b), last.none))) ∙ k.sole c u;
+      capped = λ c. elim (eqb_tells c b) [
+        | inl i ↦ rw i.1 (omega (arith, holders-le-users (reading next) b, none))
+        | inr i ↦ rw (hm c i.1) (k.capped c)
+      ];
+      known_users = λ c t. k.known_users c (omega (arith, um c));
+      block_log = block-log-freed g s.freed_blocks b (users (reading s)) (users (reading next)) k.blocks me.known me.used none (λ c ne. let z = rw (not-eqb c b ne) at (um c) in ap (λ m. nat_eq m 0) (omega (arith, z))) k.block_log;
+      record_log = record-log-dead g.records s.freed_records r (record { count = (record_at g r).count; block = (record_at g r).block; live = false }) inside refl f.0 k.record_log;
+    }
+
+-- a drop that releases has a live record
+pub releasing : (s : State) (p r : ℕ) (v : Bool) → IsSound s → call_at s p ≡ Some (Release r v) → (record_at s.tables r).live ≡ true
+releasing s p r v k at =
+    let f : FitsCall s (Some (Release r v)) = subst (λ (c : Option Pending). FitsCall s c) at (k.calls_fit p None (at-some s.calls p (Release r v) at)) in
+    f.0

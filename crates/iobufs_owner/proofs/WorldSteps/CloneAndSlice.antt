@@ -1,0 +1,241 @@
+-- The further steps of calls, read as steps of the world.
+use Rattle.std.proofs.Common.{◌≡◌, ◌≢◌, ◌⊎◌, inl, inr, ℕ, ◌+◌, ◌-◌, ◌<◌, ◌≤◌, Bool, true, false, cond, nat_lt, nat_eq, get_or, map, ◌||◌, Option, Some, None, Result, Ok, Err, MatchOption, ap, sym, ◌∙◌, subst, refl, arith}
+use Rattle.std.proofs.Math.ListN.{length-set}
+use Rattle.std.proofs.lemmas.List.{length-map, map-set}
+use Rattle.iobufs_owner.specs.declared.owner.types.Handle.{Handle}
+use Rattle.iobufs_owner.specs.declared.owner.types.Share.{Share}
+use Rattle.iobufs_owner.specs.declared.owner.types.Kind.TheVariants.{View}
+use Rattle.iobufs_owner.specs.declared.owner.types.Pending.{Pending}
+use Rattle.iobufs_owner.specs.declared.owner.types.Pending.TheVariants.{Loaded, Ready, Add, Subtract, Release}
+use Rattle.iobufs_owner.specs.declared.owner.types.Word.{Word}
+use Rattle.iobufs_owner.specs.declared.owner.types.Word.TheVariants.{Empty, Descriptor, Record as Counted}
+use Rattle.iobufs_owner.specs.declared.owner.types.Refusal.{Refusal}
+use Rattle.iobufs_owner.specs.declared.owner.types.Refusal.TheVariants.{Idle, WrongKind, OutOfRange, Memory, Ceiling}
+use Rattle.iobufs_owner.specs.declared.owner.types.Reply.{Reply}
+use Rattle.iobufs_owner.specs.declared.owner.types.Reply.TheVariants.{More, Done, Refused}
+use Rattle.iobufs_owner.specs.State.{State, Tables, owner_of, handle_at, call_at, record_at}
+use Rattle.iobufs_owner.specs.World.{World, Held, Sharing, Dropping, is_block}
+use Rattle.iobufs_owner.specs.Reading.{reading, read_held, read_handle, read_call}
+use Rattle.iobufs_owner.specs.Sound.{IsSound, FitsCall, hidden}
+use Rattle.iobufs_owner.specs.Kinds.{same_kind}
+use Rattle.iobufs_owner.specs.Moves as move
+use Rattle.iobufs_owner.specs.Moves.{Outcome, called, ended, more, done, edited, part, shared, made, counted, with_count, with_record, record_freed, both_freed, next_record, loaded_block, dead, ready_of, race_of, add_of, subtract_of, release_of, gone_on}
+use Rattle.iobufs_owner.specs.Steps as world
+use Rattle.iobufs_owner.specs.Steps.{NoRoom, Makes, IsOver, GoesOn, SharesOn, Goes, call_set, free_in, part_of, held_set}
+use Rattle.iobufs_owner.proofs.WorldSteps.Sizes.{IsAnswered, entries, grows-never}
+use Rattle.iobufs_owner.proofs.Soundness.Keeps.{Keeps, calls-read-kept}
+use Rattle.iobufs_owner.proofs.Soundness.Kept.{at-some, owner-empty, owner-counted}
+use Rattle.iobufs_owner.proofs.Soundness.Frames.{handles-kept, is-eqb}
+use Rattle.iobufs_owner.proofs.WorldSteps.Shown.{get_or-read, held-reads, view-reads, read_lent}
+use Rattle.iobufs_owner.proofs.Soundness.Edits.{described-at, counted-at, alone-at, alone-described}
+use Rattle.iobufs_owner.proofs.Soundness.Logs.{freed-more}
+use Rattle.iobufs_owner.proofs.Soundness.NewRecord.{recorded, recorded-keeps}
+use Rattle.iobufs_owner.proofs.Soundness.AddHolder.{counted-keeps, counted-block}
+use Rattle.iobufs_owner.proofs.Soundness.RecordFreed.{dead-keeps}
+use Rattle.iobufs_owner.proofs.Soundness.Share.{by_record, set-get, held-loading, IsRacing, racing, IsAdding, adding}
+use Rattle.iobufs_owner.proofs.Soundness.Subtract.{letting-go}
+use Rattle.iobufs_owner.proofs.WorldSteps.Taken.{refused-taken, by-test, reads-detached, grown-taken, made-taken, lt-true, lt-false, eq-true}
+
+-- ---- outcomes
+
+-- a call that goes on or ends, where no entry is added
+pub reply-taken : (s u t : State) (w : World) (answer reply : Reply) → entries u ≡ entries s → reading u ≡ w → IsAnswered s (record { reply = answer; state = u }) reply t → (reply ≡ answer) × (reading t ≡ w)
+reply-taken s u t w answer reply n r (inl (e, f)) = (e, ap reading f ∙ r)
+reply-taken s u t w answer reply n r (inr (l, e, f)) = absurd (grows-never s u n l)
+
+called-reads : (s : State) (p : ℕ) (c : Option Pending) → reading (called s p c) ≡ call_set (reading s) p (read_call s.tables c)
+called-reads s p c = rw (map-set (read_call s.tables) s.calls p c) refl
+
+-- the same where the tables change and keep what is spoken of
+called-kept : (s : State) (g : Tables) (p : ℕ) (c : Option Pending) → IsSound s → Keeps s.tables g → g.blocks ≡ s.tables.blocks → reading (called (record s { tables = g }) p c) ≡ call_set (reading s) p (read_call g c)
+called-kept s g p c k e b =
+    let hs = handles-kept s.tables g s.calls s.handles e k.fit in
+    let cs = calls-read-kept s g s.calls e k.calls_fit in
+    rw (map-set (read_call g) s.calls p c, hs, cs, b) refl
+
+-- ---- clones and slices
+
+-- what the world says, with the handle
+abbrev GoesAs : State → ℕ → Share → ℕ → Bool → Option Handle → Reply → World → Type 0
+GoesAs s p k left memory o reply next = SharesOn (reading s) p k.handle k.lo k.hi left memory (read_handle s.tables o) reply next
+
+loaded-as : (s t : State) (p : ℕ) (k : Share) (w : ℕ) (x : Handle) (memory : Bool) (reply : Reply) → IsSound s → IsAnswered s (ready_of s p k w memory) reply t → GoesAs s p k 3 memory (Some x) reply (reading t)
+loaded-as s t p k w x true reply i y =
+    let e = recorded-keeps s.tables 2 (loaded_block s k.handle w) in
+    elim (grown-taken s (called (with_record s 2 (loaded_block s k.handle w)) p (Some (Ready k w (next_record s)))) t (call_set (reading s) p (Some (Sharing k.handle k.lo k.hi 2))) More reply (called-kept s (recorded s.tables 2 (loaded_block s k.handle w)) p (Some (Ready k w (next_record s))) i e refl) y) [
+      | inl a ↦ inr (inr (inl (refl, refl, a)))
+      | inr a ↦ inr (inl (2, omega arith, omega arith, a))
+    ]
+loaded-as s t p k w x false reply i y =
+    let a = reply-taken s (called s p None) t (call_set (reading s) p None) (Refused Memory) reply refl (called-reads s p None) y in
+    inl (refl, refl, a.0, a.1)
+
+pub loaded-goes : (s t : State) (p : ℕ) (k : Share) (w : ℕ) (memory : Bool) (reply : Reply) → IsSound s → call_at s p ≡ Some (Loaded k w) → IsAnswered s (gone_on s p (Loaded k w) memory) reply t → Goes (reading s) p (Sharing k.handle k.lo k.hi 3) memory reply (reading t)
+unfolding Goes gone_on
+loaded-goes s t p k w memory reply i at y =
+    let l = held-loading s p k w i at in
+    subst (λ (o : Option Held). SharesOn (reading s) p k.handle k.lo k.hi 3 memory o reply (reading t)) (sym (held-reads s k.handle ∙ ap (read_handle s.tables) l.1.shares.at)) (loaded-as s t p k w l.0 memory reply i y)
+
+-- the handle whose descriptor becomes a record shows the same
+shown-reads : (s : State) (p : ℕ) (k : Share) (w r : ℕ) (x : Handle) → IsSound s → IsRacing s k w r x → reading (called (edited s k.handle (by_record x r)) p None) ≡ call_set (reading s) p None
+shown-reads s p k w r x i a =
+    let o : owner_of s.tables (by_record x r) ≡ owner_of s.tables x = owner-counted s.tables (by_record x r) r refl ∙ ap Some a.same ∙ sym a.promised.owner in
+    let l = at-some s.handles k.handle x a.shares.at in
+    let e : read_handle s.tables (Some (by_record x r)) ≡ get_or (map (read_handle s.tables) s.handles) k.handle None = ap (λ (b : Option ℕ). Some (record { kind = x.kind; block = b; place = x.ptr; len = x.len })) o ∙ sym (get_or-read (read_handle s.tables) s.handles k.handle None ∙ ap (read_handle s.tables) a.shares.at) in
+    let m = set-get (map (read_handle s.tables) s.handles) k.handle (read_handle s.tables (Some (by_record x r))) None (rw length-map l) e in
+    rw (map-set (read_call s.tables) s.calls p None, map-set (read_handle s.tables) s.handles k.handle (Some (by_record x r)), m) refl
+
+race-as : (s t : State) (p : ℕ) (k : Share) (w r : ℕ) (x : Handle) (memory : Bool) (reply : Reply) (v : Word) → IsSound s → IsRacing s k w r x → x.word ≡ v → IsAnswered s (move.race_by s p k w r x v) reply t → GoesAs s p k 2 memory (Some x) reply (reading t)
+race-as s t p k w r x memory reply Empty i a e y = elim a.promised.now' [ inl z ↦ absurd (let q = sym e ∙ z in cc) | inr z ↦ absurd (let q = sym e ∙ z.1 in cc) ]
+race-as s t p k w r x memory reply (Descriptor u) i a e y =
+    elim a.promised.now' [
+      | inl z ↦ (let q = sym e ∙ z in
+          let same : u ≡ w = cc in
+          let ow = a.promised.owner in
+          let one = alone-at s k.handle x a.block i a.shares.at (alone-described s.tables a.block x u e ∙ ap (is_block a.block) ow ∙ is-eqb a.block a.block refl) in
+          let c = i.size.ceiling in
+          let y' = subst (λ (b : Bool). IsAnswered s (cond b (shared (edited s k.handle (record x { word = Counted r })) p k x r) (move.refused s Idle)) reply t) (is-eqb u w same) y in
+          let front : Handle = part x k.lo k.hi (Counted r) in
+          let of = owner-counted s.tables front r refl ∙ ap Some a.same ∙ sym ow in
+          let never : IsOver (reading s) (owner_of s.tables x) → ⊥ = subst (λ (o : Option ℕ). IsOver (reading s) o → ⊥) (sym ow) (λ z. omega (arith, z, one, c)) in
+          inr (inr (inr (inr (never, omega arith, made-taken s (called (edited s k.handle (by_record x r)) p None) t (call_set (reading s) p None) front (part_of (read_held s.tables x) k.lo k.hi) reply (shown-reads s p k w r x i a) (ap (λ (b : Option ℕ). record { kind = View; block = b; place = x.ptr + k.lo; len = k.hi - k.lo }) of) y')))))
+      | inr z ↦ absurd (let q = sym e ∙ z.1 in cc)
+    ]
+race-as s t p k w r x memory reply (Counted winner) i a e y =
+    let q = dead-keeps s.tables r in
+    let n = length-set s.tables.records r (record { count = (record_at s.tables r).count; block = (record_at s.tables r).block; live = false }) in
+    let z = reply-taken s (called (record_freed s r) p (Some (Add k winner))) t (call_set (reading s) p (Some (Sharing k.handle k.lo k.hi 1))) More reply (cc n) (called-kept s (dead s.tables r) p (Some (Add k winner)) i q refl) y in
+    inr (inl (1, omega arith, omega arith, z))
+
+pub ready-goes : (s t : State) (p : ℕ) (k : Share) (w r : ℕ) (memory : Bool) (reply : Reply) → IsSound s → call_at s p ≡ Some (Ready k w r) → IsAnswered s (gone_on s p (Ready k w r) memory) reply t → Goes (reading s) p (Sharing k.handle k.lo k.hi 2) memory reply (reading t)
+unfolding Goes gone_on
+ready-goes s t p k w r memory reply i at y =
+    let a = racing s p k w r i at in
+    let y' = subst (λ (o : Option Handle). IsAnswered s (move.race_found s p k w r o) reply t) a.1.shares.at y in
+    subst (λ (o : Option Held). SharesOn (reading s) p k.handle k.lo k.hi 2 memory o reply (reading t)) (sym (held-reads s k.handle ∙ ap (read_handle s.tables) a.1.shares.at)) (race-as s t p k w r a.0 memory reply a.0.word i a.1 refl y')
+
+add-as : (s t : State) (p : ℕ) (k : Share) (r : ℕ) (x : Handle) (memory : Bool) (reply : Reply) (v : Bool) → IsSound s → IsAdding s k r x → nat_lt s.ceiling (record_at s.tables r).count ≡ v → IsAnswered s (cond v (ended s p Ceiling) (shared (with_count s r ((record_at s.tables r).count + 1)) p k x r)) reply t → GoesAs s p k 1 memory (Some x) reply (reading t)
+add-as s t p k r x memory reply true i a e y =
+    let c = counted-at s k.handle x r i a.shares.at a.word in
+    let n = (i.counted r c.live).counts c.shown in
+    let m = lt-true s.ceiling (record_at s.tables r).count e in
+    let z = reply-taken s (called s p None) t (call_set (reading s) p None) (Refused Ceiling) reply refl (called-reads s p None) y in
+    inr (inr (inr (inl (subst (λ (o : Option ℕ). IsOver (reading s) o) (sym (owner-counted s.tables x r a.word)) (rw (← n) m), z.0, z.1))))
+add-as s t p k r x memory reply false i a e y =
+    let c = counted-at s k.handle x r i a.shares.at a.word in
+    let n = (i.counted r c.live).counts c.shown in
+    let m = lt-false s.ceiling (record_at s.tables r).count e in
+    let g' : Tables = counted s.tables r ((record_at s.tables r).count + 1) in
+    let front : Handle = part x k.lo k.hi (Counted r) in
+    let of = owner-counted g' front r refl ∙ ap Some (counted-block s.tables r ((record_at s.tables r).count + 1) r) ∙ sym (owner-counted s.tables x r a.word) in
+    let never : IsOver (reading s) (owner_of s.tables x) → ⊥ = subst (λ (o : Option ℕ). IsOver (reading s) o → ⊥) (sym (owner-counted s.tables x r a.word)) (λ z. omega (arith, z, n, m)) in
+    inr (inr (inr (inr (never, omega arith, made-taken s (called (with_count s r ((record_at s.tables r).count + 1)) p None) t (call_set (reading s) p None) front (part_of (read_held s.tables x) k.lo k.hi) reply (called-kept s (counted s.tables r ((record_at s.tables r).count + 1)) p None i (counted-keeps s.tables r ((record_at s.tables r).count + 1)) refl) (ap (λ (b : Option ℕ). record { kind = View; block = b; place = x.ptr + k.lo; len = k.hi - k.lo }) of) y))))
+
+pub add-goes : (s t : State) (p : ℕ) (k : Share) (r : ℕ) (memory : Bool) (reply : Reply) → IsSound s → call_at s p ≡ Some (Add k r) → IsAnswered s (gone_on s p (Add k r) memory) reply t → Goes (reading s) p (Sharing k.handle k.lo k.hi 1) memory reply (reading t)
+unfolding Goes gone_on
+add-goes s t p k r memory reply i at y =
+    let a = adding s p k r i at in
+    let y' = subst (λ (o : Option Handle). IsAnswered s (move.add_found s p k r o) reply t) a.1.shares.at y in
+    subst (λ (o : Option Held). SharesOn (reading s) p k.handle k.lo k.hi 1 memory o reply (reading t)) (sym (held-reads s k.handle ∙ ap (read_handle s.tables) a.1.shares.at)) (add-as s t p k r a.0 memory reply (nat_lt s.ceiling (record_at s.tables r).count) i a.1 refl y')
+
+-- ---- drops
+
+subtract-as : (s t : State) (p r : ℕ) (memory : Bool) (reply : Reply) (v : Bool) → IsSound s → (record_at s.tables r).live ≡ true → hidden s.calls r ≡ 0 → 0 < (record_at s.tables r).count → nat_eq (record_at s.tables r).count 1 ≡ v → IsAnswered s (cond v (more (with_count s r ((record_at s.tables r).count - 1)) p (Release r true)) (done (called (with_count s r ((record_at s.tables r).count - 1)) p None))) reply t → Goes (reading s) p (Dropping (record_at s.tables r).block false 2) memory reply (reading t)
+unfolding Goes
+subtract-as s t p r memory reply true i live shown some e y =
+    let m : ℕ = (record_at s.tables r).count - 1 in
+    let n = (i.counted r live).counts shown in
+    let one = eq-true (record_at s.tables r).count 1 e in
+    let l = length-set s.tables.records r (record { count = (record_at s.tables r).count - 1; block = (record_at s.tables r).block; live = (record_at s.tables r).live }) in
+    let b = counted-block s.tables r ((record_at s.tables r).count - 1) r in
+    let z = reply-taken s (called (with_count s r ((record_at s.tables r).count - 1)) p (Some (Release r true))) t (call_set (reading s) p (Some (Dropping (record_at s.tables r).block true 1))) More reply (cc (l)) (called-kept s (counted s.tables r ((record_at s.tables r).count - 1)) p (Some (Release r true)) i (counted-keeps s.tables r ((record_at s.tables r).count - 1)) refl ∙ ap (λ (b : ℕ). call_set (reading s) p (Some (Dropping b true 1))) b) y in
+    inr (inl (sym n ∙ one, omega arith, z))
+subtract-as s t p r memory reply false i live shown some e y =
+    let n = (i.counted r live).counts shown in
+    let ne : (record_at s.tables r).count ≢ 1 = λ z. (let q = is-eqb (record_at s.tables r).count 1 z in cc) in
+    let l = length-set s.tables.records r (record { count = (record_at s.tables r).count - 1; block = (record_at s.tables r).block; live = (record_at s.tables r).live }) in
+    let z = reply-taken s (called (with_count s r ((record_at s.tables r).count - 1)) p None) t (call_set (reading s) p None) Done reply (cc (l)) (called-kept s (counted s.tables r ((record_at s.tables r).count - 1)) p None i (counted-keeps s.tables r ((record_at s.tables r).count - 1)) refl) y in
+    inl (omega (arith, n, ne, some), z.0, z.1)
+
+pub subtract-goes : (s t : State) (p r : ℕ) (memory : Bool) (reply : Reply) → IsSound s → call_at s p ≡ Some (Subtract r) → IsAnswered s (gone_on s p (Subtract r) memory) reply t → Goes (reading s) p (Dropping (record_at s.tables r).block false 2) memory reply (reading t)
+unfolding gone_on
+subtract-goes s t p r memory reply i at y =
+    let a = letting-go s p r i at in
+    subtract-as s t p r memory reply (nat_eq (record_at s.tables r).count 1) i a.live a.shown a.some refl y
+
+released-reads : (s : State) (p r : ℕ) → IsSound s → (record_at s.tables r).live ≡ true → reading (called (both_freed s r) p None) ≡ free_in (call_set (reading s) p None) (record_at s.tables r).block
+released-reads s p r k live =
+    let e = dead-keeps s.tables r in
+    let hs = handles-kept s.tables (dead s.tables r) s.calls s.handles e k.fit in
+    let cs = calls-read-kept s (dead s.tables r) s.calls e k.calls_fit in
+    rw (freed-more s.tables s.freed_blocks (record_at s.tables r).block k.blocks (k.counted r live).known, map-set (read_call (dead s.tables r)) s.calls p None, hs, cs) refl
+
+pub release-goes : (s t : State) (p r : ℕ) (v memory : Bool) (reply : Reply) → IsSound s → call_at s p ≡ Some (Release r v) → IsAnswered s (gone_on s p (Release r v) memory) reply t → Goes (reading s) p (Dropping (record_at s.tables r).block v 1) memory reply (reading t)
+unfolding Goes gone_on
+release-goes s t p r true memory reply i at y =
+    let f : FitsCall s (Some (Release r true)) = subst (λ (c : Option Pending). FitsCall s c) at (i.calls_fit p None (at-some s.calls p (Release r true) at)) in
+    let l = length-set s.tables.records r (record { count = (record_at s.tables r).count; block = (record_at s.tables r).block; live = false }) in
+    let z = reply-taken s (called (both_freed s r) p None) t (free_in (call_set (reading s) p None) (record_at s.tables r).block) Done reply (cc (l)) (released-reads s p r i f.0) y in
+    (f.2, z.0, z.1)
+release-goes s t p r false memory reply i at y =
+    let f : FitsCall s (Some (Release r false)) = subst (λ (c : Option Pending). FitsCall s c) at (i.calls_fit p None (at-some s.calls p (Release r false) at)) in
+    let l = length-set s.tables.records r (record { count = (record_at s.tables r).count; block = (record_at s.tables r).block; live = false }) in
+    let z = reply-taken s (called (both_freed s r) p None) t (free_in (call_set (reading s) p None) (record_at s.tables r).block) Done reply (cc (l)) (released-reads s p r i f.0) y in
+    inr (inr (f.2, z.0, z.1))
+
+-- ---- a clone or a slice begins
+
+view-is : (y x : Handle) (v : Bool) → cond v (Ok y) (Err WrongKind) ≡ Ok x → Some y ≡ Some x
+view-is y x true e = cc
+view-is y x false e = absurd (cc)
+
+view-tells : (s : State) (h : ℕ) (x : Handle) → move.view_of s h ≡ Ok x → handle_at s h ≡ Some x
+view-tells s h x e =
+    let by : (o : Option Handle) → move.view_found o ≡ Ok x → o ≡ Some x =
+    λ o. elim o as (λ o. move.view_found o ≡ Ok x → o ≡ Some x) [
+      | None ↦ λ i. absurd (cc)
+      | Some y ↦ λ i. view-is y x (same_kind y.kind View) i
+    ] in
+    by (handle_at s h) e
+
+-- what the world says, by the block
+abbrev Begun : State → (p h lo hi : ℕ) → Handle → Option ℕ → Reply → World → Type 0
+Begun s p h lo hi x o reply next =
+    MatchOption o (NoRoom (reading s) reply next ⊎ Makes (reading s) (part_of (read_held s.tables x) lo hi) reply next)
+    (λ _. (left : ℕ) × (0 < left) × (left ≤ 3) × GoesOn (reading s) p (Sharing h lo hi left) reply next)
+
+begun-word : (s t : State) (p h lo hi : ℕ) (x : Handle) (reply : Reply) (w : Word) → IsSound s → handle_at s h ≡ Some x → x.word ≡ w → IsAnswered s (move.share_by s p (record { handle = h; lo = lo; hi = hi }) x w) reply t → Begun s p h lo hi x (owner_of s.tables x) reply (reading t)
+begun-word s t p h lo hi x reply Empty k at e y =
+    let n = owner-empty s.tables x e in
+    let front : Handle = part x lo hi Empty in
+    let of = owner-empty s.tables front refl ∙ sym n in
+    subst (λ (o : Option ℕ). Begun s p h lo hi x o reply (reading t)) (sym n)
+    (made-taken s s t (reading s) front (part_of (read_held s.tables x) lo hi) reply refl (ap (λ (b : Option ℕ). record { kind = View; block = b; place = x.ptr + lo; len = hi - lo }) of) y)
+begun-word s t p h lo hi x reply (Descriptor w) k at e y =
+    let d = described-at s h x w k at e in
+    let k' : Share = record { handle = h; lo = lo; hi = hi } in
+    let z = reply-taken s (called s p (Some (Loaded k' w))) t (call_set (reading s) p (Some (Sharing h lo hi 3))) More reply refl (called-reads s p (Some (Loaded k' w))) y in
+    subst (λ (o : Option ℕ). Begun s p h lo hi x o reply (reading t)) (sym d.3.owner) (3, omega arith, omega arith, z)
+begun-word s t p h lo hi x reply (Counted r) k at e y =
+    let k' : Share = record { handle = h; lo = lo; hi = hi } in
+    let z = reply-taken s (called s p (Some (Add k' r))) t (call_set (reading s) p (Some (Sharing h lo hi 1))) More reply refl (called-reads s p (Some (Add k' r))) y in
+    subst (λ (o : Option ℕ). Begun s p h lo hi x o reply (reading t)) (sym (owner-counted s.tables x r e)) (1, omega arith, omega arith, z)
+
+clone-lent : (s t : State) (p h : ℕ) (reply : Reply) (r : Result Handle Refusal) → IsSound s → move.view_of s h ≡ r → IsAnswered s (move.clone_lent s p h r) reply t → world.CloneIs (reading s) p h (read_lent s.tables r) reply (reading t)
+clone-lent s t p h reply (Err why) k e i = refused-taken s t why reply i
+clone-lent s t p h reply (Ok x) k e i = begun-word s t p h 0 x.len x reply x.word k (view-tells s h x e) refl i
+
+pub clone-steps : (s t : State) (p h : ℕ) (reply : Reply) → IsSound s → IsAnswered s (move.clone_of s p h) reply t → world.CloneIs (reading s) p h (world.view_of (reading s) h) reply (reading t)
+clone-steps s t p h reply k i = rw (view-reads s h) (clone-lent s t p h reply (move.view_of s h) k refl i)
+
+slice-lent : (s t : State) (p h lo hi : ℕ) (reply : Reply) (r : Result Handle Refusal) → IsSound s → move.view_of s h ≡ r → IsAnswered s (move.slice_lent s p h lo hi r) reply t → world.SliceIs (reading s) p h lo hi (read_lent s.tables r) reply (reading t)
+slice-lent s t p h lo hi reply (Err why) k e i = refused-taken s t why reply i
+slice-lent s t p h lo hi reply (Ok x) k e i =
+    by-test _ _ s t (move.refused s OutOfRange) (cond (nat_eq lo hi) (made s (move.detached 0)) (move.share_by s p (record { handle = h; lo = lo; hi = hi }) x x.word)) reply (nat_lt hi lo || nat_lt x.len hi)
+    (λ _ i. refused-taken s t OutOfRange reply i)
+    (λ _ i. by-test _ _ s t (made s (move.detached 0)) (move.share_by s p (record { handle = h; lo = lo; hi = hi }) x x.word) reply (nat_eq lo hi)
+    (λ _ i. made-taken s s t (reading s) (move.detached 0) (world.detached 0) reply refl (reads-detached s.tables 0) i)
+    (λ _ i. begun-word s t p h lo hi x reply x.word k (view-tells s h x e) refl i) i) i
+
+pub slice-steps : (s t : State) (p h lo hi : ℕ) (reply : Reply) → IsSound s → IsAnswered s (move.slice_of s p h lo hi) reply t → world.SliceIs (reading s) p h lo hi (world.view_of (reading s) h) reply (reading t)
+slice-steps s t p h lo hi reply k i = rw (view-reads s h) (slice-lent s t p h lo hi reply (move.view_of s h) k refl i)

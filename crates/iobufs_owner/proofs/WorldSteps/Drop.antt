@@ -1,0 +1,88 @@
+-- A drop begins, read as a step of the world.
+use Rattle.std.proofs.Common.{◌≡◌, ◌⊎◌, inl, inr, ℕ, ◌<◌, ◌≤◌, Bool, true, false, cond, nat_eq, length, set, Option, Some, None, Result, Ok, Err, MatchOption, ap, sym, ◌∙◌, subst, refl, arith}
+use Rattle.std.proofs.Math.ListN.{length-set}
+use Rattle.std.proofs.lemmas.List.{map-set}
+use Rattle.iobufs_owner.specs.declared.owner.types.Handle.{Handle}
+use Rattle.iobufs_owner.specs.declared.owner.types.Freed.{Freed}
+use Rattle.iobufs_owner.specs.declared.owner.types.Kind.{Kind}
+use Rattle.iobufs_owner.specs.declared.owner.types.Kind.TheVariants.{View, Mut}
+use Rattle.iobufs_owner.specs.declared.owner.types.Pending.{Pending}
+use Rattle.iobufs_owner.specs.declared.owner.types.Pending.TheVariants.{Subtract, Release}
+use Rattle.iobufs_owner.specs.declared.owner.types.Word.{Word}
+use Rattle.iobufs_owner.specs.declared.owner.types.Word.TheVariants.{Empty, Descriptor, Record as Counted}
+use Rattle.iobufs_owner.specs.declared.owner.types.Refusal.{Refusal}
+use Rattle.iobufs_owner.specs.declared.owner.types.Reply.{Reply}
+use Rattle.iobufs_owner.specs.declared.owner.types.Reply.TheVariants.{More, Done}
+use Rattle.iobufs_owner.specs.State.{State, owner_of, handle_at, record_at, block_at, triple}
+use Rattle.iobufs_owner.specs.World.{World, Dropping, holders, is_block}
+use Rattle.iobufs_owner.specs.Reading.{reading, read_handle, read_call}
+use Rattle.iobufs_owner.specs.Sound.{IsSound}
+use Rattle.iobufs_owner.specs.Moves as move
+use Rattle.iobufs_owner.specs.Moves.{done, more, called, gone, replaced, block_freed, both_freed, after_count, Lends}
+use Rattle.iobufs_owner.specs.Steps as world
+use Rattle.iobufs_owner.specs.Steps.{GoesOn, free_in, held_gone, call_set}
+use Rattle.iobufs_owner.proofs.WorldSteps.Sizes.{IsAnswered}
+use Rattle.iobufs_owner.proofs.Soundness.Kept.{owner-empty, owner-counted}
+use Rattle.iobufs_owner.proofs.Soundness.Frames.{is-eqb}
+use Rattle.iobufs_owner.proofs.WorldSteps.Shown.{any-reads, read_lent}
+use Rattle.iobufs_owner.proofs.Soundness.Edits.{described-at, counted-at, alone-at, alone-described, alone-written}
+use Rattle.iobufs_owner.proofs.Soundness.BlockFreed.{recovered-is}
+use Rattle.iobufs_owner.proofs.WorldSteps.Freeze.{freed-reads, both-reads}
+use Rattle.iobufs_owner.proofs.WorldSteps.Taken.{refused-taken, done-taken, any-tells}
+use Rattle.iobufs_owner.proofs.WorldSteps.CloneAndSlice.{reply-taken}
+
+-- what the world says, by the block
+abbrev Begun : State → (p h : ℕ) → Option ℕ → Reply → World → Type 0
+Begun s p h o reply next =
+    MatchOption o ((reply ≡ Done) × (next ≡ held_gone (reading s) h))
+    (λ b. ((holders (reading s) b ≡ 1) × (reply ≡ Done) × (next ≡ free_in (held_gone (reading s) h) b))
+    ⊎ ((left : ℕ) × (0 < left) × (left ≤ 2) × GoesOn (held_gone (reading s) h) p (Dropping b false left) reply next))
+
+gone-entries : (s : State) (h : ℕ) → length (set s.handles h None) ≡ length s.handles
+gone-entries s h = length-set s.handles h None
+
+drop-reads : (s : State) (p h : ℕ) (c : Pending) → reading (called (gone s h) p (Some c)) ≡ call_set (held_gone (reading s) h) p (read_call s.tables (Some c))
+drop-reads s p h c = rw (map-set (read_handle s.tables) s.handles h None, map-set (read_call s.tables) s.calls p (Some c)) refl
+
+-- beside others it will subtract, alone it will free
+drop-viewed : (s t : State) (p h r : ℕ) (reply : Reply) (v : Bool) → IsAnswered s (more (gone s h) p (cond v (Release r false) (Subtract r))) reply t → (left : ℕ) × (0 < left) × (left ≤ 2) × GoesOn (held_gone (reading s) h) p (Dropping (record_at s.tables r).block false left) reply (reading t)
+drop-viewed s t p h r reply true i =
+    let l = gone-entries s h in
+    (1, omega arith, omega arith, reply-taken s (called (gone s h) p (Some (Release r false))) t (call_set (held_gone (reading s) h) p (Some (Dropping (record_at s.tables r).block false 1))) More reply (cc (l)) (drop-reads s p h (Release r false)) i)
+drop-viewed s t p h r reply false i =
+    let l = gone-entries s h in
+    (2, omega arith, omega arith, reply-taken s (called (gone s h) p (Some (Subtract r))) t (call_set (held_gone (reading s) h) p (Some (Dropping (record_at s.tables r).block false 2))) More reply (cc (l)) (drop-reads s p h (Subtract r)) i)
+
+drop-kind : (s t : State) (p h r : ℕ) (x : Handle) (reply : Reply) (kind : Kind) → IsSound s → handle_at s h ≡ Some x → x.word ≡ Counted r → x.kind ≡ kind → IsAnswered s (move.drop_counted s p h r kind) reply t → Begun s p h (Some (record_at s.tables r).block) reply (reading t)
+drop-kind s t p h r x reply View k at w e i = inr (drop-viewed s t p h r reply (nat_eq (record_at s.tables r).count 1) i)
+drop-kind s t p h r x reply Mut k at w e i =
+    let b : ℕ = (record_at s.tables r).block in
+    let c = counted-at s h x r k at w in
+    let one = alone-at s h x b k at (alone-written s.tables b x r w e ∙ ap (is_block b) (owner-counted s.tables x r w) ∙ is-eqb b b refl) in
+    let l = gone-entries s h in
+    let m = length-set s.tables.records r (record { count = (record_at s.tables r).count; block = (record_at s.tables r).block; live = false }) in
+    let z = done-taken s (gone (both_freed s r) h) t (free_in (held_gone (reading s) h) (record_at s.tables r).block) reply (cc (l, m)) (both-reads s h r None k c.live) i in
+    inl (one, z.0, z.1)
+
+drop-word : (s t : State) (p h : ℕ) (x : Handle) (reply : Reply) (w : Word) → IsSound s → handle_at s h ≡ Some x → x.word ≡ w → IsAnswered s (move.drop_by s p h x w) reply t → Begun s p h (owner_of s.tables x) reply (reading t)
+drop-word s t p h x reply Empty k at w i =
+    let l = gone-entries s h in
+    subst (λ (o : Option ℕ). Begun s p h o reply (reading t)) (sym (owner-empty s.tables x w))
+    (done-taken s (gone s h) t (held_gone (reading s) h) reply (cc (l)) (rw (map-set (read_handle s.tables) s.handles h None) refl) i)
+drop-word s t p h x reply (Descriptor v) k at w i =
+    let d = described-at s h x v k at w in
+    let b : ℕ = d.0 in
+    let one = alone-at s h x d.0 k at (alone-described s.tables d.0 x v w ∙ ap (is_block d.0) d.3.owner ∙ is-eqb d.0 d.0 refl) in
+    let l = gone-entries s h in
+    let i' = subst (λ (f : Freed). IsAnswered s (done (gone (block_freed s f) h)) reply t) (recovered-is s h x v d.0 k at w d.3.owner) i in
+    let z = done-taken s (gone (block_freed s (triple (block_at s.tables d.0))) h) t (free_in (held_gone (reading s) h) d.0) reply (cc (l)) (freed-reads s h d.0 None k d.3.known) i' in
+    subst (λ (o : Option ℕ). Begun s p h o reply (reading t)) (sym d.3.owner) (inl (one, z.0, z.1))
+drop-word s t p h x reply (Counted r) k at w i =
+    subst (λ (o : Option ℕ). Begun s p h o reply (reading t)) (sym (owner-counted s.tables x r w)) (drop-kind s t p h r x reply x.kind k at w refl i)
+
+drop-lent : (s t : State) (p h : ℕ) (reply : Reply) (r : Result Handle Refusal) → IsSound s → move.any_of s h ≡ r → IsAnswered s (move.drop_lent s p h r) reply t → world.DropIs (reading s) p h (read_lent s.tables r) reply (reading t)
+drop-lent s t p h reply (Err why) k e i = refused-taken s t why reply i
+drop-lent s t p h reply (Ok x) k e i = drop-word s t p h x reply x.word k (any-tells s h x e).at refl i
+
+pub drop-steps : (s t : State) (p h : ℕ) (reply : Reply) → IsSound s → IsAnswered s (move.drop_of s p h) reply t → world.DropIs (reading s) p h (world.any_of (reading s) h) reply (reading t)
+drop-steps s t p h reply k i = rw (any-reads s h) (drop-lent s t p h reply (move.any_of s h) k refl i)

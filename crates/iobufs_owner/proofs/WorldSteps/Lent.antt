@@ -1,0 +1,43 @@
+-- What lending a handle tells, and when a changed handle holds what it held.
+use Rattle.std.proofs.Common.{◌≡◌, ℕ, ◌+◌, Bool, true, false, cond, Option, Some, None, Ok, Err, ap, sym, ◌∙◌, refl, arith}
+use Rattle.iobufs_owner.specs.declared.owner.types.Handle.{Handle}
+use Rattle.iobufs_owner.specs.declared.owner.types.Kind.{Kind}
+use Rattle.iobufs_owner.specs.declared.owner.types.Kind.TheVariants.{View, Mut}
+use Rattle.iobufs_owner.specs.declared.owner.types.Word.{Word}
+use Rattle.iobufs_owner.specs.declared.owner.types.Word.TheVariants.{Empty, Descriptor, Record as Counted}
+use Rattle.iobufs_owner.specs.declared.owner.types.Refusal.TheVariants.{WrongKind, Borrowed}
+use Rattle.iobufs_owner.specs.State.{State, Tables, owner_of, owner_by, base_by, block_with, handle_at}
+use Rattle.iobufs_owner.specs.Moves.{lend_of, lend_found, is_lent, Lends}
+use Rattle.iobufs_owner.specs.Kinds.{same_kind}
+
+pub same-kind : (a b : Kind) → same_kind a b ≡ true → a ≡ b
+same-kind View View e = refl
+same-kind View Mut e = absurd (cc)
+same-kind Mut View e = absurd (cc)
+same-kind Mut Mut e = refl
+
+free-of : (s : State) (h : ℕ) (kind : Kind) (x y : Handle) (v u : Bool) → same_kind y.kind kind ≡ v → is_lent h s.calls ≡ u → cond v (cond u (Err Borrowed) (Ok y)) (Err WrongKind) ≡ Ok x → (y ≡ x) × (y.kind ≡ kind) × (is_lent h s.calls ≡ false)
+free-of s h kind x y true true e f i = absurd (cc)
+free-of s h kind x y true false e f i = (cc, same-kind y.kind kind e, f)
+free-of s h kind x y false u e f i = absurd (cc)
+
+pub lend-tells : (s : State) (h : ℕ) (kind : Kind) (x : Handle) → lend_of s h kind ≡ Ok x → Lends s h kind x
+lend-tells s h kind x e =
+    let by : (o : Option Handle) → handle_at s h ≡ o → lend_found s h kind o ≡ Ok x → Lends s h kind x =
+    λ o. elim o as (λ o. handle_at s h ≡ o → lend_found s h kind o ≡ Ok x → Lends s h kind x) [
+      | None ↦ λ at i. absurd (cc)
+      | Some y ↦ λ at i.
+          let t = free-of s h kind x y (same_kind y.kind kind) (is_lent h s.calls) refl refl i in
+          record { at = at ∙ ap Some t.0; kind_is = ap (λ (x : Handle). x.kind) (sym t.0) ∙ t.1; free = t.2 }
+    ] in
+    by (handle_at s h) refl e
+
+-- a handle with the same word and the same base under each descriptor holds the same
+pub owner-same : (g : Tables) (x y : Handle) → y.word ≡ x.word → ((w : ℕ) → base_by g y w ≡ base_by g x w) → owner_of g y ≡ owner_of g x
+unfolding owner_of
+owner-same g x y e b =
+    let by : (v : Word) → owner_by g y v ≡ owner_by g x v = λ v. elim v as (λ v. owner_by g y v ≡ owner_by g x v) [ Empty ↦ refl | Descriptor w ↦ ap (λ n. block_with n g.blocks) (b w) | Counted r ↦ refl ] in
+    rw e (by x.word)
+
+pub base-mut : (g : Tables) (x y : Handle) → x.kind ≡ Mut → y.kind ≡ Mut → y.ptr + y.cap ≡ x.ptr + x.cap → (w : ℕ) → base_by g y w ≡ base_by g x w
+base-mut g x y p q e w = rw (p, q) (omega (arith, e))

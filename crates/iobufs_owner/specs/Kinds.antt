@@ -1,0 +1,14 @@
+-- Whether handles read or write.
+use Rattle.std.specs.Prelude.{Bool, true, false}
+use Rattle.iobufs_owner.specs.declared.owner.types.Kind.{Kind}
+use Rattle.iobufs_owner.specs.declared.owner.types.Kind.TheVariants.{View, Mut}
+
+abbrev pub same_kind : Kind → Kind → Bool
+same_kind View View = true
+same_kind View Mut = false
+same_kind Mut View = false
+same_kind Mut Mut = true
+
+abbrev pub is_mut : Kind → Bool
+is_mut View = false
+is_mut Mut = true

@@ -1,0 +1,41 @@
+-- How the machine's tables are read as a world.
+use Rattle.std.specs.Prelude.{◌==◌, ◌&&◌, Bool, false, List, Option, None, Some, map}
+use Rattle.std.specs.List.{list_any}
+use Rattle.iobufs_owner.specs.declared.owner.types.Block.{Block}
+use Rattle.iobufs_owner.specs.declared.owner.types.Handle.{Handle}
+use Rattle.iobufs_owner.specs.declared.owner.types.Pending.{Pending}
+use Rattle.iobufs_owner.specs.declared.owner.types.Pending.TheVariants.{Loaded, Ready, Add, Subtract, Release}
+use Rattle.iobufs_owner.specs.declared.owner.types.Freed.{Freed}
+use Rattle.iobufs_owner.specs.State.{State, Tables, owner_of, record_at}
+use Rattle.iobufs_owner.specs.World.{World, Held, Unfinished, Sharing, Dropping}
+
+abbrev pub same_freed : Block → Freed → Bool
+same_freed b f = (b.base == f.base) && (b.size == f.size) && (b.align == f.align)
+
+-- whether the log has the block's triple
+abbrev pub is_freed : Block → List Freed → Bool
+is_freed b log = list_any (same_freed b) log
+
+abbrev pub read_held : Tables → Handle → Held
+read_held g x = record { kind = x.kind; block = owner_of g x; place = x.ptr; len = x.len }
+
+abbrev pub read_handle : Tables → Option Handle → Option Held
+read_handle g None = None
+read_handle g (Some x) = Some (read_held g x)
+
+abbrev pub read_call : Tables → Option Pending → Option Unfinished
+read_call g None = None
+read_call g (Some (Loaded k w)) = Some (Sharing k.handle k.lo k.hi 3)
+read_call g (Some (Ready k w r)) = Some (Sharing k.handle k.lo k.hi 2)
+read_call g (Some (Add k r)) = Some (Sharing k.handle k.lo k.hi 1)
+read_call g (Some (Subtract r)) = Some (Dropping (record_at g r).block false 2)
+read_call g (Some (Release r let_go)) = Some (Dropping (record_at g r).block let_go 1)
+
+abbrev pub reading : State → World
+reading s = record {
+  ceiling = s.ceiling;
+  blocks = s.tables.blocks;
+  freed = map (λ b. is_freed b s.freed_blocks) s.tables.blocks;
+  handles = map (read_handle s.tables) s.handles;
+  calls = map (read_call s.tables) s.calls;
+}
