@@ -10,6 +10,8 @@ mod owner;
 mod owner_tests;
 #[cfg(test)]
 mod sample_tests;
+#[cfg(test)]
+mod schedule_tests;
 mod serve;
 #[cfg(test)]
 mod serve_tests;
