@@ -1,9 +1,8 @@
 -- Each change of the tables keeps the machine sound.
-use Rattle.std.proofs.Common.{◌≡◌, ◌≢◌, ◌⊎◌, inl, inr, ℕ, zero, suc, ◌^◌, ◌<◌, sym, Bool, true, false, List, [], ◌∷◌, ◌++◌, length, get_or, set, ◌∙◌, refl, arith, Option, Some, None, length-append}
+use Rattle.std.proofs.Common.{◌≡◌, ◌≢◌, ℕ, zero, suc, ◌^◌, ◌<◌, Bool, true, false, List, [], ◌∷◌, ◌++◌, length, get_or, set, ◌∙◌, refl, arith, Option, Some, None, length-append}
 use Rattle.std.proofs.Math.ListN.{length-set}
 use Rattle.std.proofs.lemmas.List.Elements.{All-push, All-set}
-use Rattle.std.proofs.lemmas.List.{get_or_append_left, get_or-set_other, get_or-set_same}
-use Rattle.std.proofs.lemmas.Bool.Decides.{eqb_tells}
+use Rattle.std.proofs.lemmas.List.{get_or_append_left, get_or-set_other}
 use Rattle.iobufs_owner.specs.Moves.{is_lent, with_handle, edited}
 use Rattle.iobufs_owner.proofs.Soundness.Keeps.{keeps-self, calls-kept}
 use Rattle.iobufs_owner.specs.State.{State, Tables, owner_of, record_at, handle_at}

@@ -1,4 +1,4 @@
-use Rattle.std.proofs.Common.{◌≡◌, ◌-◌, Option, Some, sym, subst, ap, None, true}
+use Rattle.std.proofs.Common.{◌≡◌, ◌-◌, Option, Some, sym, subst, ap, None}
 use Rattle.std.proofs.Math.ListN.{length-set}
 use Rattle.iobufs_owner.specs.declared.owner.types.Pending.{Pending}
 use Rattle.iobufs_owner.specs.declared.owner.types.Pending.TheVariants.{Subtract, Release}
