@@ -1,5 +1,5 @@
 -- How the machine's tables are read as a world.
-use Rattle.std.specs.Prelude.{◌==◌, ◌&&◌, Bool, false, List, Option, None, Some, map}
+use Rattle.std.specs.Prelude.{ℕ, ◌==◌, ◌&&◌, nat_eq, Bool, false, List, Option, None, Some, map}
 use Rattle.std.specs.List.{list_any}
 use Rattle.iobufs_owner.specs.declared.owner.types.Block.{Block}
 use Rattle.iobufs_owner.specs.declared.owner.types.Handle.{Handle}
@@ -23,13 +23,18 @@ abbrev pub read_handle : Tables → Option Handle → Option Held
 read_handle g None = None
 read_handle g (Some x) = Some (read_held g x)
 
+-- Whether the drop that frees this record has let go. The last holder may free without lowering the count, and counts till
+-- then; a drop that lowers it to 0 has let go.
+abbrev pub has_let_go : Tables → ℕ → Bool
+has_let_go g r = nat_eq (record_at g r).count 0
+
 abbrev pub read_call : Tables → Option Pending → Option Unfinished
 read_call g None = None
 read_call g (Some (Loaded k w)) = Some (Sharing k.handle k.lo k.hi 3)
 read_call g (Some (Ready k w r)) = Some (Sharing k.handle k.lo k.hi 2)
 read_call g (Some (Add k r)) = Some (Sharing k.handle k.lo k.hi 1)
 read_call g (Some (Subtract r)) = Some (Dropping (record_at g r).block false 2)
-read_call g (Some (Release r let_go)) = Some (Dropping (record_at g r).block let_go 1)
+read_call g (Some (Release r)) = Some (Dropping (record_at g r).block (has_let_go g r) 1)
 
 abbrev pub reading : State → World
 reading s = record {

@@ -1,12 +1,12 @@
 -- One holder more of a counted block keeps the machine sound.
-use Rattle.std.proofs.Common.{◌≡◌, ◌≢◌, inl, inr, ℕ, zero, suc, ◌+◌, ◌^◌, ◌<◌, ◌≤◌, ◌==◌, Bool, true, false, cond, List, [], ◌∷◌, ◌++◌, length, get_or, set, sym, ◌∙◌, ap, subst, refl, arith, Option, Some, None, nat_eq, length-append}
+use Rattle.std.proofs.Common.{◌≡◌, ◌≢◌, inl, inr, ℕ, zero, suc, ◌+◌, ◌^◌, ◌<◌, ◌≤◌, ◌==◌, Bool, true, false, cond, List, [], ◌∷◌, ◌++◌, length, get_or, set, sym, ◌∙◌, ap, subst, refl, arith, All, Option, Some, None, nat_eq, length-append}
 use Rattle.std.proofs.Math.ListN.{length-set}
 use Rattle.std.proofs.lemmas.List.Elements.{All-push}
 use Rattle.std.proofs.lemmas.List.{get_or-set_same, get_or-set_other}
 use Rattle.std.proofs.lemmas.Bool.Decides.{nat_tests, eqb_tells}
 use Rattle.iobufs_owner.specs.State.{State, Tables, owner_of, record_at, block_at, handle_at}
 use Rattle.iobufs_owner.specs.World.{holds, holders, users, still_holds, tally}
-use Rattle.iobufs_owner.specs.Reading.{reading, read_handle, read_call}
+use Rattle.iobufs_owner.specs.Reading.{reading, read_handle, read_call, has_let_go}
 use Rattle.iobufs_owner.specs.Sound.{IsSound, Fits, FitsWord, LiesIn, alone, describes}
 use Rattle.iobufs_owner.specs.Moves.{counted, with_count, with_handle}
 use Rattle.iobufs_owner.specs.declared.owner.types.Record.{Record}
@@ -18,11 +18,11 @@ use Rattle.iobufs_owner.specs.declared.owner.types.Pending.TheVariants.{Release}
 use Rattle.iobufs_owner.specs.declared.owner.types.Word.{Word}
 use Rattle.iobufs_owner.specs.declared.owner.types.Word.TheVariants.{Record as Counted}
 use Rattle.iobufs_owner.proofs.Soundness.Counts.{count-append, count-some, count-map, count-less, holders-more, users-more}
-use Rattle.iobufs_owner.proofs.Soundness.Keeps.{Keeps, all-fit-kept, calls-fit-kept, calls-read-kept, releases-kept}
+use Rattle.iobufs_owner.proofs.Soundness.Keeps.{Keeps, KeepsLetGo, all-fit-kept, calls-fit-kept, calls-read-kept, releases-kept}
 use Rattle.iobufs_owner.proofs.Soundness.Kept.{at-some, append-at, owner-counted}
 use Rattle.iobufs_owner.proofs.Soundness.Frames.{handles-kept, alone-kept, describes-kept, holders-tables, users-tables, not-eqb, is-eqb}
 use Rattle.iobufs_owner.proofs.Soundness.Edits.{counted-at, live-inside, alone-shared, describes-counted}
-use Rattle.iobufs_owner.proofs.Soundness.Holders.{alone-holds}
+use Rattle.iobufs_owner.proofs.Soundness.Holders.{alone-holds, held_by, held-at, holders-as}
 use Rattle.iobufs_owner.proofs.Soundness.Logs.{block-log-alike, record-log-counted}
 
 -- a write that keeps a field keeps it everywhere
@@ -52,6 +52,10 @@ counted-keeps g r n = record {
   records = λ q e. counted-block g r n q;
 }
 
+-- where the count of that record stays 0, or stays another, each drop has let go as before
+pub counted-let_go : (g : Tables) (r n q : ℕ) → nat_eq n 0 ≡ has_let_go g r → has_let_go (counted g r n) q ≡ has_let_go g q
+counted-let_go g r n q e = field-set (λ (v : Record). nat_eq v.count 0) g.records r q _ _ e
+
 -- a shared view beside those that must be alone
 alone-less : (s : State) (h : ℕ) (x : Handle) (b : ℕ) → handle_at s h ≡ Some x → owner_of s.tables x ≡ Some b → alone s.tables b (Some x) ≡ false → tally (alone s.tables b) s.handles < holders (reading s) b
 unfolding holders
@@ -62,22 +66,30 @@ alone-less s h x b at o f =
     omega (arith, m, t)
 
 -- a handle holds the block, so a drop that releases is one of another block
-pub release-elsewhere : (s : State) (h b p q : ℕ) (x : Handle) (d : Option Pending) (let_go : Bool) → handle_at s h ≡ Some x → owner_of s.tables x ≡ Some b → p < length s.calls → get_or s.calls p d ≡ Some (Release q let_go) → holders (reading s) (record_at s.tables q).block ≡ cond let_go 0 1 → (record_at s.tables q).block ≢ b
+pub release-elsewhere : (s : State) (h b p q : ℕ) (x : Handle) (d : Option Pending) → handle_at s h ≡ Some x → owner_of s.tables x ≡ Some b → p < length s.calls → get_or s.calls p d ≡ Some (Release q) → holders (reading s) (record_at s.tables q).block ≡ cond (has_let_go s.tables q) 0 1 → (record_at s.tables q).block ≢ b
 unfolding holders
-release-elsewhere s h b p q x d let_go at o l i n e =
+release-elsewhere s h b p q x d at o l i n e =
     let m = count-map (holds b) (read_handle s.tables) s.handles in
     let one = count-some (λ (o : Option Handle). holds b (read_handle s.tables o)) s.handles h None (at-some s.handles h x at) (rw (at, o) (is-eqb b b refl)) in
     let mc = count-map (still_holds b) (read_call s.tables) s.calls in
-    let two : let_go ≡ false → 0 < tally (λ (c : Option Pending). still_holds b (read_call s.tables c)) s.calls = λ f. count-some (λ (c : Option Pending). still_holds b (read_call s.tables c)) s.calls p d l (rw (i, f) (is-eqb b (record_at s.tables q).block (sym e))) in
+    let two : has_let_go s.tables q ≡ false → 0 < tally (λ (c : Option Pending). still_holds b (read_call s.tables c)) s.calls = λ f. count-some (λ (c : Option Pending). still_holds b (read_call s.tables c)) s.calls p d l (rw (i, f) (is-eqb b (record_at s.tables q).block (sym e))) in
     let n' = rw e at n in
-    let by : (v : Bool) → let_go ≡ v → ⊥ = λ v. elim v as (λ v. let_go ≡ v → ⊥) [
+    let by : (v : Bool) → has_let_go s.tables q ≡ v → ⊥ = λ v. elim v as (λ v. has_let_go s.tables q ≡ v → ⊥) [
       | true ↦ λ f. (let z = rw f at n' in omega (arith, z, m, one))
       | false ↦ λ f. (let z = rw f at n' in omega (arith, z, m, one, mc, two f))
     ] in
-    by let_go refl
+    by (has_let_go s.tables q) refl
 
 pub more-some : (m : ℕ) → 0 < m → nat_eq m 0 ≡ nat_eq (m + 1) 0
 more-some m h = grind (arith, nat_tests)
+
+-- the count of a handle's record isn't 0, and no more is it with a holder more
+pub counted-more : (s : State) (h : ℕ) (x : Handle) (r : ℕ) → IsSound s → handle_at s h ≡ Some x → x.word ≡ Counted r → nat_eq ((record_at s.tables r).count + 1) 0 ≡ has_let_go s.tables r
+counted-more s h x r k at w =
+    let b : ℕ = (record_at s.tables r).block in
+    let f = counted-at s h x r k at w in
+    let held = count-some (held_by s b) s.handles h None (at-some s.handles h x at) (held-at s h x b at (owner-counted s.tables x r w)) in
+    sym (more-some (record_at s.tables r).count (omega (arith, (k.counted r f.live).counts f.shown, holders-as s b, held)))
 
 pub counted-same : (g : Tables) (r n : ℕ) → r < length g.records → (record_at (counted g r n) r).count ≡ n
 counted-same g r n l = rw (get_or-set_same g.records r (record { count = n; block = (record_at g r).block; live = (record_at g r).live }) (record { count = 0; block = 0; live = false }) l) refl
@@ -97,8 +109,9 @@ sound-added s h r x y k at xv xw yv yw lies low few =
     let live : (q : ℕ) → (record_at g q).live ≡ true → (record_at g' q).live ≡ true = λ q t. counted-live g r n q ∙ t in
     let ox : owner_of g x ≡ Some b = owner-counted g x r xw in
     let o : owner_of g' y ≡ Some b = owner-counted g' y r yw ∙ ap Some (counted-block g r n r) in
+    let gone : All (KeepsLetGo g g') s.calls = λ i d l q j t. counted-let_go g r n q (counted-more s h x r k at xw) in
     let hs = handles-kept g g' s.calls s.handles e k.fit in
-    let cs = calls-read-kept s g' s.calls e k.calls_fit in
+    let cs = calls-read-kept s g' s.calls e gone k.calls_fit in
     let hm : (c : ℕ) → holders (reading next) c ≡ holders (reading s) c + cond (c == b) 1 0 = λ c. rw (holders-more (with_count s r ((record_at s.tables r).count + 1)) (Some y) c, holders-tables s g' c hs cs, o) refl in
     let um : (c : ℕ) → users (reading next) c ≡ users (reading s) c + cond (c == b) 1 0 = λ c. rw (users-more (with_count s r ((record_at s.tables r).count + 1)) (Some y) c, users-tables s g' c hs cs, o) refl in
     let am : (c : ℕ) → tally (alone g' c) (s.handles ++ Some y ∷ []) ≡ tally (alone g c) s.handles = λ c. rw (count-append (alone g' c) s.handles (Some y), alone-kept g g' s.calls c s.handles e k.fit, alone-shared g' c y r yw yv) (omega arith) in
@@ -117,7 +130,7 @@ sound-added s h r x y k at xv xw yv yw lies low few =
         lies = rw (counted-block g r n r) (subst (λ (q : Kind). LiesIn (block_at g b) y q) (sym yv) lies);
         native = λ m. absurd (let q = sym yv ∙ m in cc);
       }));
-      calls_fit = calls-fit-kept s next refl e live (λ i z l a. append-at s.handles (Some y) i z a) k.fit (λ i z a. at-some s.handles i z a) (λ p d q v l i. let f = rw i at (k.calls_fit p d l) in rw (hm, not-eqb (record_at g q).block b (release-elsewhere s h b p q x d v at ox l i f.2)) (omega arith)) k.calls_fit;
+      calls_fit = calls-fit-kept s next refl e live (λ i z l a. append-at s.handles (Some y) i z a) k.fit (λ i z a. at-some s.handles i z a) gone (λ p d q l i. let f = rw i at (k.calls_fit p d l) in rw (hm, not-eqb (record_at g q).block b (release-elsewhere s h b p q x d at ox l i f.2)) (omega arith)) k.calls_fit;
       one_release = λ c. rw (releases-kept s g' c s.calls e k.calls_fit) (k.one_release c);
       counted = λ q l.
           let lq : (record_at g q).live ≡ true = sym (counted-live g r n q) ∙ l in

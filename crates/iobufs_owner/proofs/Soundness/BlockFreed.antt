@@ -1,5 +1,5 @@
 -- A handle that holds its block alone lets it go, and the block is freed at once.
-use Rattle.std.proofs.Common.{◌≡◌, ◌≢◌, inl, inr, ℕ, suc, ◌+◌, ◌^◌, ◌<◌, ◌≤◌, ◌==◌, Bool, true, false, cond, List, [], ◌∷◌, length, get_or, set, sym, ◌∙◌, ap, subst, refl, arith, Option, Some, None, option_map, nat_eq, add-one}
+use Rattle.std.proofs.Common.{◌≡◌, ◌≢◌, inl, inr, ℕ, suc, ◌+◌, ◌^◌, ◌<◌, ◌≤◌, ◌==◌, ◌&&◌, Bool, true, false, cond, List, [], ◌∷◌, length, get_or, set, sym, ◌∙◌, ap, subst, refl, arith, Option, Some, None, option_map, nat_eq, add-one}
 use Rattle.std.proofs.Math.ListN.{length-set}
 use Rattle.std.proofs.lemmas.List.Elements.{All-set, All-from_get_or}
 use Rattle.std.proofs.lemmas.List.{get_or-set_same, get_or-set_other}
@@ -7,7 +7,7 @@ use Rattle.std.proofs.lemmas.Bool.Decides.{nat_tests, eqb_tells}
 use Rattle.iobufs_owner.specs.State.{State, Tables, owner_of, record_at, block_at, handle_at, call_at, base_by, block_with, end_of, size_in, tail_in, recovered, triple}
 use Rattle.iobufs_owner.specs.Word.{IsWord}
 use Rattle.iobufs_owner.specs.World.{World, holds, is_block, holders, users, tally}
-use Rattle.iobufs_owner.specs.Reading.{reading, read_handle}
+use Rattle.iobufs_owner.specs.Reading.{reading, read_handle, has_let_go}
 use Rattle.iobufs_owner.specs.Sound.{IsDescribed, IsSound, Fits, FitsCall, LiesIn, LeavesBehind, alone, describes, hidden, readies}
 use Rattle.iobufs_owner.specs.Moves.{is_lent, detached, replaced, block_freed, both_freed, dead, IsLoose}
 use Rattle.iobufs_owner.specs.declared.owner.types.Block.{Block}
@@ -26,7 +26,7 @@ use Rattle.iobufs_owner.proofs.Soundness.Frames.{not-eqb, is-eqb, handles-kept, 
 use Rattle.iobufs_owner.proofs.Soundness.Edits.{word-fits, word-at, tail-says, behind-as, lies-as, fits-at, alone-at, described-at, counted-at, live-inside, no_block, owner-described, size-says, alone-described, describes-described, alone-written}
 use Rattle.iobufs_owner.proofs.Soundness.Holders.{held_by, still_by, drops_by, holders-as, users-as, held-at, alone-few, lets_go, drops-split, owner-used}
 use Rattle.iobufs_owner.proofs.Soundness.Logs.{block-log-freed, record-log-dead, block-log-room, record-log-room}
-use Rattle.iobufs_owner.proofs.Soundness.RecordFreed.{dead-block, dead-count, dead-other, dead-keeps, dead-live}
+use Rattle.iobufs_owner.proofs.Soundness.RecordFreed.{dead-block, dead-count, dead-other, dead-keeps, dead-let_go, dead-live}
 
 -- ---- what holds nothing
 
@@ -45,14 +45,17 @@ loose g calls o (inr e) =
 
 -- ---- the only holder of a block
 
+none-left : (b c : ℕ) (n : ℕ → ℕ) (v : Bool) → ((b == c) && v) ≡ true → n c ≡ cond v 0 1 → n b ≡ 0
+none-left b c n true t e = let same : b ≡ c = grind (arith, nat_tests, t) in rw same e
+none-left b c n false t e = absurd (grind (arith, nat_tests, t))
+
 let-go-call : (s : State) (b i : ℕ) (c : Option Pending) → call_at s i ≡ c → lets_go s.tables b c ≡ true → FitsCall s c → holders (reading s) b ≡ 0
 let-go-call s b i None at t f = absurd (cc)
 let-go-call s b i (Some (Loaded part w)) at t f = absurd (cc)
 let-go-call s b i (Some (Ready part w q)) at t f = absurd (cc)
 let-go-call s b i (Some (Add part q)) at t f = absurd (cc)
 let-go-call s b i (Some (Subtract q)) at t f = absurd (cc)
-let-go-call s b i (Some (Release q true)) at t f = let e : b ≡ (record_at s.tables q).block = grind (arith, nat_tests, t) in rw e f.2
-let-go-call s b i (Some (Release q false)) at t f = absurd (grind (arith, nat_tests, t))
+let-go-call s b i (Some (Release q)) at t f = none-left b (record_at s.tables q).block (holders (reading s)) (has_let_go s.tables q) t f.2
 
 -- what is known where one handle is the only holder
 pub record Only (s : State) (h b : ℕ) : Type 0 where
@@ -94,7 +97,7 @@ ready-borrows s q i (Some (Ready part w z)) l at t (x, b, h, p, live, block) =
     (part.handle, x, h.at, p.owner ∙ ap Some (sym block ∙ ap (λ (n : ℕ). (record_at s.tables n).block) (sym e)), lent-by part.handle s.calls i None l (rw at (is-eqb part.handle part.handle refl)))
 ready-borrows s q i (Some (Add part z)) l at t f = absurd (cc)
 ready-borrows s q i (Some (Subtract z)) l at t f = absurd (cc)
-ready-borrows s q i (Some (Release z w)) l at t f = absurd (cc)
+ready-borrows s q i (Some (Release z)) l at t f = absurd (cc)
 
 -- where the only holder isn't borrowed, no unpublished record is of its block
 pub unready : (s : State) (h b q : ℕ) → IsSound s → Only s h b → is_lent h s.calls ≡ false → (record_at s.tables q).block ≡ b → hidden s.calls q ≡ 0
@@ -110,8 +113,8 @@ unready s h b q k one free e =
     ]
 
 -- no call drops the block
-undropped : (s : State) (h b i : ℕ) (r : ℕ) (v : Bool) → Only s h b → i < length s.calls → call_at s i ≡ Some (Release r v) → (record_at s.tables r).block ≢ b
-undropped s h b i r v one l at e =
+undropped : (s : State) (h b i r : ℕ) → Only s h b → i < length s.calls → call_at s i ≡ Some (Release r) → (record_at s.tables r).block ≢ b
+undropped s h b i r one l at e =
     let t = count-some (drops_by s b) s.calls i None l (rw at (is-eqb b (record_at s.tables r).block (sym e))) in
     let n = one.dropped in
     omega (arith, t, n)
@@ -191,11 +194,12 @@ sound-freed_described s h x w o k at free xw is =
       fit = All-set (Fits g s.calls) s.handles h o n.fits k.fit;
       calls_fit = All-from_get_or (FitsCall next) s.calls None (λ i li. call-kept s next (call_at s i) (record {
         tables = keeps-self g;
+        let_go = λ q j t. refl;
         live = λ q _ t. t;
         hidden = λ q _. refl;
         handle = λ j y b a. get_or-set_other s.handles h j o None (λ e. let q = rw e at (lent-by j s.calls i None li b) in absurd (cc)) ∙ a;
         owner = λ j y a. refl;
-        holders = λ q v e. hn (record_at g q).block (undropped s h b i q v me li e);
+        holders = λ q e. hn (record_at g q).block (undropped s h b i q me li e);
       }) (k.calls_fit i None li));
       one_release = k.one_release;
       counted = λ q t. let c = k.counted q t in let ne = apart q t in record { known = c.known; one_maker = c.one_maker; counts = λ z. rw (hn (record_at g q).block ne) (c.counts z); fresh = c.fresh; used = rw (un (record_at g q).block ne) c.used; undescribed = λ z. omega (arith, dm (record_at g q).block, c.undescribed z) };
@@ -220,9 +224,9 @@ other-names s h b r i (Some (Add part q)) one e z l at t = cc
 other-names s h b r i (Some (Subtract q)) one e z l at t =
     let same : q ≡ r = grind (arith, nat_tests, t) in
     undropped' s h b i q one l at (ap (λ (n : ℕ). (record_at s.tables n).block) same ∙ e)
-other-names s h b r i (Some (Release q v)) one e z l at t =
+other-names s h b r i (Some (Release q)) one e z l at t =
     let same : q ≡ r = grind (arith, nat_tests, t) in
-    undropped s h b i q v one l at (ap (λ (n : ℕ). (record_at s.tables n).block) same ∙ e)
+    undropped s h b i q one l at (ap (λ (n : ℕ). (record_at s.tables n).block) same ∙ e)
 
 fit-dead : (s : State) (r h : ℕ) (i : ℕ) (o : Option Handle) → Only s h (record_at s.tables r).block → i ≢ h → get_or s.handles i None ≡ o → Fits s.tables s.calls o → Fits (dead s.tables r) s.calls o
 fit-dead s r h i None one ne at f = tt
@@ -247,7 +251,7 @@ sound-freed_counted s h x r o k at free xm xw is =
     let e = dead-keeps g r in
     let ox' : owner_of g' x ≡ Some b = owner-kept g g' s.calls x e (fits-at s h x k at) ∙ ox in
     let hs = handles-kept g g' s.calls s.handles e k.fit in
-    let cs = calls-read-kept s g' s.calls e k.calls_fit in
+    let cs = calls-read-kept s g' s.calls e (λ i d l q j t. dead-let_go g r q) k.calls_fit in
     let mid : State = record s { tables = dead s.tables r } in
     let hm : (c : ℕ) → holders (reading next) c + cond (c == b) 1 0 ≡ holders (reading s) c = λ c. let m = rw (at, ox', n.holds c) at (holders-changed mid h o c l) in let a = holders-alike (reading next) (reading (record mid { handles = set s.handles h o })) c refl refl in let t = holders-tables s g' c hs cs in omega (arith, m, a, t) in
     let um : (c : ℕ) → users (reading next) c + cond (c == b) 1 0 ≡ users (reading s) c = λ c. let m = rw (at, ox', n.holds c) at (users-changed mid h o c l) in let a = users-alike (reading next) (reading (record mid { handles = set s.handles h o })) c refl refl in let t = users-tables s g' c hs cs in omega (arith, m, a, t) in
@@ -269,11 +273,12 @@ sound-freed_counted s h x r o k at free xm xw is =
       ]);
       calls_fit = All-from_get_or (FitsCall next) s.calls None (λ i li. call-kept s next (call_at s i) (record {
         tables = e;
+        let_go = λ q j t. dead-let_go g r q;
         live = λ q m t. dead-other g r q (λ y. other-names s h b r i (call_at s i) me refl f.shown li refl (rw y at m)) ∙ t;
         hidden = λ q _. refl;
         handle = λ j y b a. get_or-set_other s.handles h j o None (λ e. let q = rw e at (lent-by j s.calls i None li b) in absurd (cc)) ∙ a;
         owner = λ j y a. owner-kept g g' s.calls y e (fits-at s j y k a);
-        holders = λ q v e. hn (record_at g q).block (undropped s h b i q v me li e);
+        holders = λ q e. hn (record_at g q).block (undropped s h b i q me li e);
       }) (k.calls_fit i None li));
       one_release = λ c. rw (releases-kept s g' c s.calls e k.calls_fit) (k.one_release c);
       counted = λ q t.
@@ -354,11 +359,12 @@ sound-gone_empty s h x k at free xw =
       fit = All-set (Fits g s.calls) s.handles h None tt k.fit;
       calls_fit = All-from_get_or (FitsCall next) s.calls None (λ i li. call-kept s next (call_at s i) (record {
         tables = keeps-self g;
+        let_go = λ q j t. refl;
         live = λ q _ t. t;
         hidden = λ q _. refl;
         handle = λ j y b a. get_or-set_other s.handles h j None None (λ e. let q = rw e at (lent-by j s.calls i None li b) in absurd (cc)) ∙ a;
         owner = λ j y a. refl;
-        holders = λ q v e. hm (record_at g q).block;
+        holders = λ q e. hm (record_at g q).block;
       }) (k.calls_fit i None li));
       one_release = k.one_release;
       counted = λ q t. let c = k.counted q t in record { known = c.known; one_maker = c.one_maker; counts = λ z. rw hm (c.counts z); fresh = c.fresh; used = rw um c.used; undescribed = λ z. omega (arith, dm (record_at g q).block, c.undescribed z) };

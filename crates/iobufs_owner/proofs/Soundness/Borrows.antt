@@ -79,7 +79,7 @@ pub kept-set-pushed : (bs : List ℕ) (hs : List (Option Handle)) (h : ℕ) (x y
 kept-set-pushed bs hs h x y e = omega (arith, e, length-append bs (0 ∷ []), length-append (set hs h y) (x ∷ []), length-set hs h y)
 
 -- a drop borrows no handle
-after-by : (h r : ℕ) (v : Bool) → borrows_it h (Some (cond v (Release r false) (Subtract r))) ≡ false
+after-by : (h r : ℕ) (v : Bool) → borrows_it h (Some (cond v (Release r) (Subtract r))) ≡ false
 after-by h r true = refl
 after-by h r false = refl
 

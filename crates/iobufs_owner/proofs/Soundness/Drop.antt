@@ -6,7 +6,7 @@ use Rattle.std.proofs.lemmas.List.{get_or-set_same, get_or-set_other, map-set, l
 use Rattle.std.proofs.lemmas.Bool.Decides.{nat_tests, eqb_tells}
 use Rattle.iobufs_owner.specs.State.{State, Tables, owner_of, record_at, handle_at, call_at}
 use Rattle.iobufs_owner.specs.World.{Dropping, holds, holders, users, still_holds, drops, tally}
-use Rattle.iobufs_owner.specs.Reading.{reading, read_handle, read_call}
+use Rattle.iobufs_owner.specs.Reading.{reading, read_handle, read_call, has_let_go}
 use Rattle.iobufs_owner.specs.Moves.{is_lent, gone, called}
 use Rattle.iobufs_owner.specs.Sound.{IsSound, Fits, FitsCall, alone, describes, hidden, readies, releases}
 use Rattle.iobufs_owner.specs.declared.owner.types.Handle.{Handle}
@@ -85,7 +85,8 @@ sound-dropping s p h r x c k at word view free none lp d =
               hidden = λ q _. hid q;
               handle = λ j y b a. get_or-set_other s.handles h j None None (λ e. let q = rw e at (lent-by j s.calls i None lo b) in absurd (cc)) ∙ a;
               owner = λ j y a. refl;
-              holders = λ q v e. hm (record_at g q).block;
+              let_go = λ q j t. refl;
+              holders = λ q e. hm (record_at g q).block;
             }) (k.calls_fit i None lo))
           ]);
       one_release = λ b. let n = count-set (releases g b) s.calls p (Some c) None lp in omega (arith, n, d.first b);
@@ -115,24 +116,25 @@ release-of s h b i x (Some (Loaded part w)) at o l e f t = absurd (cc)
 release-of s h b i x (Some (Ready part w q)) at o l e f t = absurd (cc)
 release-of s h b i x (Some (Add part q)) at o l e f t = absurd (cc)
 release-of s h b i x (Some (Subtract q)) at o l e f t = absurd (cc)
-release-of s h b i x (Some (Release q v)) at o l e f t =
-    release-elsewhere s h b i q x None v at o l e f.2 (grind (arith, nat_tests, t))
+release-of s h b i x (Some (Release q)) at o l e f t =
+    release-elsewhere s h b i q x None at o l e f.2 (grind (arith, nat_tests, t))
 
 -- alone it will release
-pub drop-release : (s : State) (h r : ℕ) (x : Handle) → IsSound s → handle_at s h ≡ Some x → x.word ≡ Counted r → (record_at s.tables r).live ≡ true → hidden s.calls r ≡ 0 → (record_at s.tables r).count ≡ 1 → IsDrop s r (Release r false)
+pub drop-release : (s : State) (h r : ℕ) (x : Handle) → IsSound s → handle_at s h ≡ Some x → x.word ≡ Counted r → (record_at s.tables r).live ≡ true → hidden s.calls r ≡ 0 → (record_at s.tables r).count ≡ 1 → IsDrop s r (Release r)
 drop-release s h r x k at word live z one =
     let b : ℕ = (record_at s.tables r).block in
     let o = owner-counted s.tables x r word in
     let n = (k.counted r live).counts z in
+    let still : has_let_go s.tables r ≡ false = not-eqb (record_at s.tables r).count 0 (omega (arith, one)) in
     let none : tally (releases s.tables b) s.calls ≡ 0 = elim (eqb_tells (tally (releases s.tables b) s.calls) 0) [
       | inl i ↦ i.1
       | inr i ↦ absurd (let w = count-find (releases s.tables b) None s.calls (let m = i.1 in omega arith) in release-of s h b w.0 x (call_at s w.0) at o w.1 refl (k.calls_fit w.0 None w.1) w.2)
     ] in
     record {
       left = 1;
-      reads = refl;
+      reads = rw still refl;
       hides = λ q. refl;
-      fits = λ t e hid m. (ap (λ (g : Tables). (record_at g r).live) e ∙ live, hid r ∙ z, ap (λ (g : Tables). holders (reading t) (record_at g r).block) e ∙ m ∙ sym n ∙ one);
+      fits = λ t e hid m. (ap (λ (g : Tables). (record_at g r).live) e ∙ live, hid r ∙ z, rw (ap (λ (g : Tables). has_let_go g r) e ∙ still) (ap (λ (g : Tables). holders (reading t) (record_at g r).block) e ∙ m ∙ sym n ∙ one));
       first = λ c. elim (eqb_tells c b) [
         | inl i ↦ rw (i.1, none, is-eqb b b refl) (omega arith)
         | inr i ↦ rw (not-eqb c b i.1) (omega (arith, k.one_release c))
@@ -140,6 +142,6 @@ drop-release s h r x k at word live z one =
     }
 
 -- the call of a drop, by the count that was loaded
-pub drop-after : (s : State) (h r : ℕ) (x : Handle) (v : Bool) → IsSound s → handle_at s h ≡ Some x → x.word ≡ Counted r → (record_at s.tables r).live ≡ true → hidden s.calls r ≡ 0 → nat_eq (record_at s.tables r).count 1 ≡ v → IsDrop s r (cond v (Release r false) (Subtract r))
+pub drop-after : (s : State) (h r : ℕ) (x : Handle) (v : Bool) → IsSound s → handle_at s h ≡ Some x → x.word ≡ Counted r → (record_at s.tables r).live ≡ true → hidden s.calls r ≡ 0 → nat_eq (record_at s.tables r).count 1 ≡ v → IsDrop s r (cond v (Release r) (Subtract r))
 drop-after s h r x true k at word live z e = drop-release s h r x k at word live z (grind (arith, nat_tests, e))
 drop-after s h r x false k at word live z e = drop-subtract s r k live z

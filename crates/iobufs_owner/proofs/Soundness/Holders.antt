@@ -1,8 +1,8 @@
 -- Holders and users as counts over the machine's own lists.
 use Rattle.std.proofs.Common.{◌≡◌, ℕ, ◌+◌, ◌<◌, ◌≤◌, ◌==◌, ◌&&◌, ◌||◌, Bool, true, false, cond, get_or, refl, arith, Option, Some, None}
 use Rattle.iobufs_owner.specs.State.{State, Tables, owner_of, record_at, handle_at}
-use Rattle.iobufs_owner.specs.World.{holds, holders, users, still_holds, drops, tally}
-use Rattle.iobufs_owner.specs.Reading.{reading, read_handle, read_call}
+use Rattle.iobufs_owner.specs.World.{Dropping, holds, holders, users, still_holds, drops, tally}
+use Rattle.iobufs_owner.specs.Reading.{reading, read_handle, read_call, has_let_go}
 use Rattle.iobufs_owner.specs.Sound.{alone, describes, is_descriptor, releases}
 use Rattle.iobufs_owner.specs.Kinds.{is_mut}
 use Rattle.iobufs_owner.specs.declared.owner.types.Handle.{Handle}
@@ -65,7 +65,11 @@ lets_go g b (Some (Loaded h w)) = false
 lets_go g b (Some (Ready h w q)) = false
 lets_go g b (Some (Add h q)) = false
 lets_go g b (Some (Subtract q)) = false
-lets_go g b (Some (Release q v)) = (b == (record_at g q).block) && v
+lets_go g b (Some (Release q)) = (b == (record_at g q).block) && has_let_go g q
+
+dropping-split : (b c : ℕ) (v : Bool) → cond (b == c) 1 0 ≡ cond (still_holds b (Some (Dropping c v 1))) 1 0 + cond ((b == c) && v) 1 0
+dropping-split b c true = elim (b == c) as (λ v. cond v 1 0 ≡ 0 + cond (v && true) 1 0) [ true ↦ refl | false ↦ refl ]
+dropping-split b c false = elim (b == c) as (λ v. cond v 1 0 ≡ cond v 1 0 + cond (v && false) 1 0) [ true ↦ refl | false ↦ refl ]
 
 pub drops-split : (g : Tables) (b : ℕ) (c : Option Pending) → cond (drops b (read_call g c)) 1 0 ≡ cond (still_holds b (read_call g c)) 1 0 + cond (lets_go g b c) 1 0
 drops-split g b None = refl
@@ -73,8 +77,7 @@ drops-split g b (Some (Loaded h w)) = refl
 drops-split g b (Some (Ready h w q)) = refl
 drops-split g b (Some (Add h q)) = refl
 drops-split g b (Some (Subtract q)) = omega arith
-drops-split g b (Some (Release q true)) = elim (b == (record_at g q).block) as (λ v. cond v 1 0 ≡ 0 + cond (v && true) 1 0) [ true ↦ refl | false ↦ refl ]
-drops-split g b (Some (Release q false)) = elim (b == (record_at g q).block) as (λ v. cond v 1 0 ≡ cond v 1 0 + cond (v && false) 1 0) [ true ↦ refl | false ↦ refl ]
+drops-split g b (Some (Release q)) = dropping-split b (record_at g q).block (has_let_go g q)
 
 first-and : (a b : Bool) → (a && b) ≡ true → a ≡ true
 first-and true b e = refl
@@ -86,4 +89,4 @@ go-releases g b (Some (Loaded h w)) e = e
 go-releases g b (Some (Ready h w q)) e = e
 go-releases g b (Some (Add h q)) e = e
 go-releases g b (Some (Subtract q)) e = e
-go-releases g b (Some (Release q v)) e = first-and (b == (record_at g q).block) v e
+go-releases g b (Some (Release q)) e = first-and (b == (record_at g q).block) (has_let_go g q) e

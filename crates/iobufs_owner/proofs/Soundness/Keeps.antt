@@ -4,7 +4,7 @@ use Rattle.std.proofs.lemmas.List.Elements.{All-head, All-tail, All-weaker}
 use Rattle.std.proofs.lemmas.Bool.Decides.{nat_tests}
 use Rattle.iobufs_owner.specs.State.{State, Tables, owner_of, owner_by, base_by, record_at, block_at, handle_at, block_with}
 use Rattle.iobufs_owner.specs.World.{holders, tally}
-use Rattle.iobufs_owner.specs.Reading.{reading, read_call}
+use Rattle.iobufs_owner.specs.Reading.{reading, read_call, has_let_go}
 use Rattle.iobufs_owner.specs.Moves.{borrows_it, is_lent}
 use Rattle.iobufs_owner.specs.Sound.{FitsWord, Fits, FitsCall, Shares, Promised, IsDescribed, hidden, releases}
 use Rattle.iobufs_owner.specs.declared.owner.types.Handle.{Handle}
@@ -86,16 +86,22 @@ names r (Some (Loaded part w)) = false
 names r (Some (Ready part w q)) = q == r
 names r (Some (Add part q)) = false
 names r (Some (Subtract q)) = q == r
-names r (Some (Release q let_go)) = q == r
+names r (Some (Release q)) = q == r
 
--- what a call asks of a change: the handle that it borrows stays, hidden records stay hidden, its block keeps its holders
+-- whether the call, where it frees a live record, has let go is the same by other tables
+abbrev pub KeepsLetGo : Tables → Tables → Option Pending → Type 0
+KeepsLetGo g k c = (r : ℕ) → c ≡ Some (Release r) → (record_at g r).live ≡ true → has_let_go k r ≡ has_let_go g r
+
+-- what a call asks of a change: the handle that it borrows stays, hidden records stay hidden, its block keeps its holders,
+-- and it has let go where it had
 pub record Leaves (s t : State) (c : Option Pending) : Type 0 where
   pub tables : Keeps s.tables t.tables
   pub live : (r : ℕ) → names r c ≡ true → (record_at s.tables r).live ≡ true → (record_at t.tables r).live ≡ true
   pub hidden : (r : ℕ) → (record_at s.tables r).live ≡ true → hidden t.calls r ≡ hidden s.calls r
   pub handle : (i : ℕ) (x : Handle) → borrows_it i c ≡ true → handle_at s i ≡ Some x → handle_at t i ≡ Some x
   pub owner : (i : ℕ) (x : Handle) → handle_at s i ≡ Some x → owner_of t.tables x ≡ owner_of s.tables x
-  pub holders : (r : ℕ) (let_go : Bool) → c ≡ Some (Release r let_go) → holders (reading t) (record_at s.tables r).block ≡ holders (reading s) (record_at s.tables r).block
+  pub let_go : KeepsLetGo s.tables t.tables c
+  pub holders : (r : ℕ) → c ≡ Some (Release r) → holders (reading t) (record_at s.tables r).block ≡ holders (reading s) (record_at s.tables r).block
 
 or-true : (b : Bool) → (b || true) ≡ true
 or-true true = refl
@@ -122,8 +128,8 @@ call-kept s t (Some (Ready part w r)) l (x, b, h, p, live, block) =
     (x, b, shares-kept s t part x (l.handle part.handle x (same-eqb part.handle)) h, promised-kept s.tables t.tables x w b l.tables (l.owner part.handle x h.at) p, l.live r (same-eqb r) live, l.tables.records r live ∙ block)
 call-kept s t (Some (Add part r)) l (x, h, w) = (x, shares-kept s t part x (l.handle part.handle x (same-eqb part.handle)) h, w)
 call-kept s t (Some (Subtract r)) l (live, hid) = (l.live r (same-eqb r) live, l.hidden r live ∙ hid)
-call-kept s t (Some (Release r let_go)) l (live, hid, n) =
-    (l.live r (same-eqb r) live, l.hidden r live ∙ hid, rw (l.tables.records r live) (l.holders r let_go refl ∙ n))
+call-kept s t (Some (Release r)) l (live, hid, n) =
+    (l.live r (same-eqb r) live, l.hidden r live ∙ hid, rw (l.tables.records r live, l.let_go r refl live) (l.holders r refl ∙ n))
 
 -- a call of the list borrows what the list borrows
 pub lent-by : (i : ℕ) (cs : List (Option Pending)) (p : ℕ) (d : Option Pending) → p < length cs → borrows_it i (get_or cs p d) ≡ true → is_lent i cs ≡ true
@@ -132,8 +138,8 @@ lent-by i (c ∷ cs) zero d h e = rw e refl
 lent-by i (c ∷ cs) (suc p) d h e = rw (lent-by i cs p d (omega arith) e) (or-true (borrows_it i c))
 
 -- where no handle that is lent changes, and nothing else does for calls, each call fits as before
-pub calls-fit-kept : (s t : State) → t.calls ≡ s.calls → Keeps s.tables t.tables → ((r : ℕ) → (record_at s.tables r).live ≡ true → (record_at t.tables r).live ≡ true) → ((i : ℕ) (x : Handle) → is_lent i s.calls ≡ true → handle_at s i ≡ Some x → handle_at t i ≡ Some x) → All (Fits s.tables s.calls) s.handles → ((i : ℕ) (x : Handle) → handle_at s i ≡ Some x → i < length s.handles) → ((p : ℕ) (d : Option Pending) (r : ℕ) (let_go : Bool) → p < length s.calls → get_or s.calls p d ≡ Some (Release r let_go) → holders (reading t) (record_at s.tables r).block ≡ holders (reading s) (record_at s.tables r).block) → All (FitsCall s) s.calls → All (FitsCall t) s.calls
-calls-fit-kept s t same e live at fit inside n f p d h =
+pub calls-fit-kept : (s t : State) → t.calls ≡ s.calls → Keeps s.tables t.tables → ((r : ℕ) → (record_at s.tables r).live ≡ true → (record_at t.tables r).live ≡ true) → ((i : ℕ) (x : Handle) → is_lent i s.calls ≡ true → handle_at s i ≡ Some x → handle_at t i ≡ Some x) → All (Fits s.tables s.calls) s.handles → ((i : ℕ) (x : Handle) → handle_at s i ≡ Some x → i < length s.handles) → All (KeepsLetGo s.tables t.tables) s.calls → ((p : ℕ) (d : Option Pending) (r : ℕ) → p < length s.calls → get_or s.calls p d ≡ Some (Release r) → holders (reading t) (record_at s.tables r).block ≡ holders (reading s) (record_at s.tables r).block) → All (FitsCall s) s.calls → All (FitsCall t) s.calls
+calls-fit-kept s t same e live at fit inside a n f p d h =
     let c : Option Pending = get_or s.calls p d in
     call-kept s t c (record {
       tables = e;
@@ -141,26 +147,27 @@ calls-fit-kept s t same e live at fit inside n f p d h =
       hidden = λ r _. rw same refl;
       handle = λ i x b a. at i x (lent-by i s.calls p d h b) a;
       owner = λ i x a. owner-kept s.tables t.tables s.calls x e (rw a at (fit i None (inside i x a)));
-      holders = λ r let_go i. n p d r let_go h i;
+      let_go = a p d h;
+      holders = λ r i. n p d r h i;
     }) (f p d h)
 
 -- the same where holders of blocks stay
-pub calls-kept : (s t : State) → t.calls ≡ s.calls → Keeps s.tables t.tables → ((r : ℕ) → (record_at s.tables r).live ≡ true → (record_at t.tables r).live ≡ true) → ((i : ℕ) (x : Handle) → is_lent i s.calls ≡ true → handle_at s i ≡ Some x → handle_at t i ≡ Some x) → All (Fits s.tables s.calls) s.handles → ((i : ℕ) (x : Handle) → handle_at s i ≡ Some x → i < length s.handles) → ((b : ℕ) → b < length s.tables.blocks → holders (reading t) b ≡ holders (reading s) b) → ((r : ℕ) → (record_at s.tables r).live ≡ true → (record_at s.tables r).block < length s.tables.blocks) → All (FitsCall s) s.calls → All (FitsCall t) s.calls
-calls-kept s t same e live at fit inside n known f =
-    calls-fit-kept s t same e live at fit inside (λ p d r let_go h i. n (record_at s.tables r).block (known r (let g = rw i at (f p d h) in g.0))) f
+pub calls-kept : (s t : State) → t.calls ≡ s.calls → Keeps s.tables t.tables → ((r : ℕ) → (record_at s.tables r).live ≡ true → (record_at t.tables r).live ≡ true) → ((i : ℕ) (x : Handle) → is_lent i s.calls ≡ true → handle_at s i ≡ Some x → handle_at t i ≡ Some x) → All (Fits s.tables s.calls) s.handles → ((i : ℕ) (x : Handle) → handle_at s i ≡ Some x → i < length s.handles) → All (KeepsLetGo s.tables t.tables) s.calls → ((b : ℕ) → b < length s.tables.blocks → holders (reading t) b ≡ holders (reading s) b) → ((r : ℕ) → (record_at s.tables r).live ≡ true → (record_at s.tables r).block < length s.tables.blocks) → All (FitsCall s) s.calls → All (FitsCall t) s.calls
+calls-kept s t same e live at fit inside a n known f =
+    calls-fit-kept s t same e live at fit inside a (λ p d r h i. n (record_at s.tables r).block (known r (let g = rw i at (f p d h) in g.0))) f
 
 -- what calls are read as, and which of them release a block
-pub call-read-kept : (s : State) (k : Tables) (c : Option Pending) → Keeps s.tables k → FitsCall s c → read_call k c ≡ read_call s.tables c
-call-read-kept s k None e f = refl
-call-read-kept s k (Some (Loaded part w)) e f = refl
-call-read-kept s k (Some (Ready part w r)) e f = refl
-call-read-kept s k (Some (Add part r)) e f = refl
-call-read-kept s k (Some (Subtract r)) e f = rw (e.records r f.0) refl
-call-read-kept s k (Some (Release r let_go)) e f = rw (e.records r f.0) refl
+pub call-read-kept : (s : State) (k : Tables) (c : Option Pending) → Keeps s.tables k → KeepsLetGo s.tables k c → FitsCall s c → read_call k c ≡ read_call s.tables c
+call-read-kept s k None e a f = refl
+call-read-kept s k (Some (Loaded part w)) e a f = refl
+call-read-kept s k (Some (Ready part w r)) e a f = refl
+call-read-kept s k (Some (Add part r)) e a f = refl
+call-read-kept s k (Some (Subtract r)) e a f = rw (e.records r f.0) refl
+call-read-kept s k (Some (Release r)) e a f = rw (e.records r f.0, a r refl f.0) refl
 
-pub calls-read-kept : (s : State) (k : Tables) (cs : List (Option Pending)) → Keeps s.tables k → All (FitsCall s) cs → map (read_call k) cs ≡ map (read_call s.tables) cs
-calls-read-kept s k [] e f = refl
-calls-read-kept s k (c ∷ cs) e f = rw (call-read-kept s k c e (All-head (FitsCall s) c cs f), calls-read-kept s k cs e (All-tail (FitsCall s) c cs f)) refl
+pub calls-read-kept : (s : State) (k : Tables) (cs : List (Option Pending)) → Keeps s.tables k → All (KeepsLetGo s.tables k) cs → All (FitsCall s) cs → map (read_call k) cs ≡ map (read_call s.tables) cs
+calls-read-kept s k [] e a f = refl
+calls-read-kept s k (c ∷ cs) e a f = rw (call-read-kept s k c e (All-head (KeepsLetGo s.tables k) c cs a) (All-head (FitsCall s) c cs f), calls-read-kept s k cs e (All-tail (KeepsLetGo s.tables k) c cs a) (All-tail (FitsCall s) c cs f)) refl
 
 release-kept : (s : State) (k : Tables) (b : ℕ) (c : Option Pending) → Keeps s.tables k → FitsCall s c → releases k b c ≡ releases s.tables b c
 release-kept s k b None e f = refl
@@ -168,7 +175,7 @@ release-kept s k b (Some (Loaded part w)) e f = refl
 release-kept s k b (Some (Ready part w r)) e f = refl
 release-kept s k b (Some (Add part r)) e f = refl
 release-kept s k b (Some (Subtract r)) e f = refl
-release-kept s k b (Some (Release r let_go)) e f = rw (e.records r f.0) refl
+release-kept s k b (Some (Release r)) e f = rw (e.records r f.0) refl
 
 pub releases-kept : (s : State) (k : Tables) (b : ℕ) (cs : List (Option Pending)) → Keeps s.tables k → All (FitsCall s) cs → tally (releases k b) cs ≡ tally (releases s.tables b) cs
 releases-kept s k b [] e f = refl

@@ -1,9 +1,8 @@
 -- Each change of the tables keeps the machine sound.
-use Rattle.std.proofs.Common.{◌≡◌, ◌≢◌, ◌⊎◌, inl, inr, ℕ, zero, suc, ◌^◌, ◌<◌, sym, Bool, true, false, List, [], ◌∷◌, ◌++◌, length, get_or, set, ◌∙◌, refl, arith, Option, Some, None, length-append}
+use Rattle.std.proofs.Common.{◌≡◌, ◌≢◌, ℕ, zero, suc, ◌^◌, ◌<◌, Bool, true, false, List, [], ◌∷◌, ◌++◌, length, get_or, set, ◌∙◌, refl, arith, Option, Some, None, length-append}
 use Rattle.std.proofs.Math.ListN.{length-set}
 use Rattle.std.proofs.lemmas.List.Elements.{All-push, All-set}
-use Rattle.std.proofs.lemmas.List.{get_or_append_left, get_or-set_other, get_or-set_same}
-use Rattle.std.proofs.lemmas.Bool.Decides.{eqb_tells}
+use Rattle.std.proofs.lemmas.List.{get_or_append_left, get_or-set_other}
 use Rattle.iobufs_owner.specs.Moves.{is_lent, with_handle, edited}
 use Rattle.iobufs_owner.proofs.Soundness.Keeps.{keeps-self, calls-kept}
 use Rattle.iobufs_owner.specs.State.{State, Tables, owner_of, record_at, handle_at}
@@ -62,7 +61,7 @@ sound-detached s x k e f l =
       size = record { wide = size.wide; ceiling = size.ceiling; few_blocks = size.few_blocks; few_records = size.few_records; few_handles = rw length-append (omega arith); few_calls = size.few_calls };
       blocks = k.blocks;
       fit = All-push (Fits s.tables s.calls) s.handles (Some x) k.fit f;
-      calls_fit = calls-kept s next refl (keeps-self s.tables) (λ r t. t) (λ i y b a. append-at s.handles (Some x) i y a) k.fit (λ i y a. at-some s.handles i y a) (λ b l. n b) (λ r live. (k.counted r live).known) k.calls_fit;
+      calls_fit = calls-kept s next refl (keeps-self s.tables) (λ r t. t) (λ i y b a. append-at s.handles (Some x) i y a) k.fit (λ i y a. at-some s.handles i y a) (λ i d l q j t. refl) (λ b l. n b) (λ r live. (k.counted r live).known) k.calls_fit;
       one_release = k.one_release;
       counted = λ r live. let c = k.counted r live in record { known = c.known; one_maker = c.one_maker; counts = λ h. rw n (c.counts h); fresh = c.fresh; used = rw u c.used; undescribed = λ h. rw d (c.undescribed h) };
       one_record = k.one_record;
@@ -93,7 +92,7 @@ sound-edited s h x y k at free o same only f =
       size = record { wide = size.wide; ceiling = size.ceiling; few_blocks = size.few_blocks; few_records = size.few_records; few_handles = rw length-set size.few_handles; few_calls = size.few_calls };
       blocks = k.blocks;
       fit = All-set (Fits s.tables s.calls) s.handles h (Some y) f k.fit;
-      calls_fit = calls-kept s next refl (keeps-self s.tables) (λ r t. t) (λ i z b a. set-at s.handles h i (Some y) z (λ e. let q = rw e at b in absurd (cc)) a) k.fit (λ i z a. at-some s.handles i z a) (λ b l. n b) (λ r live. (k.counted r live).known) k.calls_fit;
+      calls_fit = calls-kept s next refl (keeps-self s.tables) (λ r t. t) (λ i z b a. set-at s.handles h i (Some y) z (λ e. let q = rw e at b in absurd (cc)) a) k.fit (λ i z a. at-some s.handles i z a) (λ i d l q j t. refl) (λ b l. n b) (λ r live. (k.counted r live).known) k.calls_fit;
       one_release = k.one_release;
       counted = λ r live. let c = k.counted r live in record { known = c.known; one_maker = c.one_maker; counts = λ e. rw n (c.counts e); fresh = c.fresh; used = rw u c.used; undescribed = λ e. rw d (c.undescribed e) };
       one_record = k.one_record;

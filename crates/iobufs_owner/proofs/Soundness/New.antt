@@ -92,7 +92,7 @@ sound-made s b log w k good native al room is few fewer =
           behind = refl;
         },
       );
-      calls_fit = calls-kept s next refl e (λ r t. t) (λ i y b a. append-at s.handles (Some x) i y a) k.fit (λ i y a. at-some s.handles i y a) (λ c l. rw (hm, not-eqb c n (omega arith)) (omega arith)) (λ r live. (k.counted r live).known) k.calls_fit;
+      calls_fit = calls-kept s next refl e (λ r t. t) (λ i y b a. append-at s.handles (Some x) i y a) k.fit (λ i y a. at-some s.handles i y a) (λ i d l q j t. refl) (λ c l. rw (hm, not-eqb c n (omega arith)) (omega arith)) (λ r live. (k.counted r live).known) k.calls_fit;
       one_release = k.one_release;
       counted = λ r live. let c = k.counted r live in
           let ne = not-eqb (record_at g r).block n (let q = c.known in omega arith) in

@@ -1,5 +1,5 @@
 -- A new record keeps the machine sound: for a new block, and in the place of a descriptor.
-use Rattle.std.proofs.Common.{◌≡◌, ◌≢◌, ℕ, ◌+◌, ◌^◌, ◌<◌, ◌≤◌, ◌==◌, ◌⊎◌, inl, inr, Bool, true, false, cond, [], ◌∷◌, ◌++◌, length, get_or, set, sym, ◌∙◌, ap, subst, refl, arith, Option, Some, None, length-append}
+use Rattle.std.proofs.Common.{◌≡◌, ◌≢◌, ℕ, ◌+◌, ◌^◌, ◌<◌, ◌≤◌, ◌==◌, ◌⊎◌, inl, inr, Bool, true, false, cond, [], ◌∷◌, ◌++◌, length, get_or, set, sym, ◌∙◌, ap, subst, refl, arith, Option, Some, None, nat_eq, length-append}
 use Rattle.std.proofs.Math.ListN.{length-set}
 use Rattle.std.proofs.lemmas.List.Elements.{All-push, All-set}
 use Rattle.std.proofs.lemmas.List.{get_or_append_left}
@@ -7,7 +7,7 @@ use Rattle.std.proofs.Math.Seq.{get_or-append_seam}
 use Rattle.std.proofs.lemmas.Bool.Decides.{nat_tests, eqb_tells}
 use Rattle.iobufs_owner.specs.State.{State, Tables, owner_of, record_at, block_at, handle_at}
 use Rattle.iobufs_owner.specs.World.{holders, users, is_block, tally}
-use Rattle.iobufs_owner.specs.Reading.{reading}
+use Rattle.iobufs_owner.specs.Reading.{reading, has_let_go}
 use Rattle.iobufs_owner.specs.Sound.{IsSound, Fits, FitsWord, FitsCall, FitsRecord, LiesIn, alone, describes, hidden, readies}
 use Rattle.iobufs_owner.specs.Moves.{with_block, with_record, with_handle, edited, next_record, frozen, Lends, is_lent}
 use Rattle.iobufs_owner.specs.Places.{IsGoodPlace}
@@ -51,6 +51,9 @@ recorded-keeps g n b = record {
   records = λ r e. ap (λ (v : Record). v.block) (recorded-old g n b r (live-inside g.records r e));
 }
 
+pub recorded-let_go : (g : Tables) (n b r : ℕ) → (record_at g r).live ≡ true → has_let_go (recorded g n b) r ≡ has_let_go g r
+recorded-let_go g n b r e = ap (λ (v : Record). nat_eq v.count 0) (recorded-old g n b r (live-inside g.records r e))
+
 pub recorded-live : (g : Tables) (n b r : ℕ) → (record_at g r).live ≡ true → (record_at (recorded g n b) r).live ≡ true
 recorded-live g n b r e = ap (λ (v : Record). v.live) (recorded-old g n b r (live-inside g.records r e)) ∙ e
 
@@ -69,7 +72,7 @@ ready-live s r (Some (Ready part w q)) t (x, b, h, p, live, block) =
     ap (λ (n : ℕ). (record_at s.tables n).live) e ∙ live
 ready-live s r (Some (Add part q)) t f = absurd (cc)
 ready-live s r (Some (Subtract q)) t f = absurd (cc)
-ready-live s r (Some (Release q v)) t f = absurd (cc)
+ready-live s r (Some (Release q)) t f = absurd (cc)
 
 -- a number that isn't given yet is no unpublished record
 pub unhidden-next : (s : State) → IsSound s → hidden s.calls (next_record s) ≡ 0
@@ -108,7 +111,7 @@ sound-recorded s b x k good xw lies native few few' fewer =
     let e = both-keeps g b in
     let live : (q : ℕ) → (record_at g q).live ≡ true → (record_at g' q).live ≡ true = λ q t. recorded-live (grown s.tables b) 1 n q t in
     let hs = handles-kept g g' s.calls s.handles e k.fit in
-    let cs = calls-read-kept s g' s.calls e k.calls_fit in
+    let cs = calls-read-kept s g' s.calls e (λ i d l q j t. recorded-let_go (grown g b) 1 n q t) k.calls_fit in
     let other = other-base g.blocks b k.blocks.places good in
     let at : block_at g' n ≡ b = get_or-append_seam g.blocks b [] _ in
     let hm : (c : ℕ) → holders (reading next) c ≡ holders (reading s) c + cond (c == n) 1 0 = λ c. rw (holders-more (record s { tables = both s.tables b }) (Some x) c, holders-tables s (both s.tables b) c hs cs, o) refl in
@@ -131,7 +134,7 @@ sound-recorded s b x k good xw lies native few few' fewer =
         lies = rw (new-block, at) lies;
         native = λ m. rw (new-block, at) (native m);
       }));
-      calls_fit = calls-kept s next refl e live (λ i y _ a. append-at s.handles (Some x) i y a) k.fit (λ i y a. at-some s.handles i y a) (λ c l. rw (hm, not-eqb c n (omega arith)) (omega arith)) (λ q t. (k.counted q t).known) k.calls_fit;
+      calls_fit = calls-kept s next refl e live (λ i y _ a. append-at s.handles (Some x) i y a) k.fit (λ i y a. at-some s.handles i y a) (λ i d l q j t. recorded-let_go (grown g b) 1 n q t) (λ c l. rw (hm, not-eqb c n (omega arith)) (omega arith)) (λ q t. (k.counted q t).known) k.calls_fit;
       one_release = λ c. rw (releases-kept s g' c s.calls e k.calls_fit) (k.one_release c);
       counted = λ q t. elim (recorded-either (grown s.tables b) 1 n q t) [
         | inl w ↦ (let c = k.counted q (ap (λ (v : Record). v.live) (sym w.1) ∙ t) in
@@ -183,7 +186,7 @@ sound-promoted s h x y w b k at free xw ox kb yw yv lies few =
     let ox' : owner_of g' x ≡ Some b = owner-kept g g' s.calls x e (fits-at s h x k at) ∙ ox in
     let oy : owner_of g' y ≡ Some b = owner-counted g' y r yw ∙ ap Some new-block in
     let hs = handles-kept g g' s.calls s.handles e k.fit in
-    let cs = calls-read-kept s g' s.calls e k.calls_fit in
+    let cs = calls-read-kept s g' s.calls e (λ i d l q j t. recorded-let_go g 1 b q t) k.calls_fit in
     let hm : (c : ℕ) → holders (reading next) c ≡ holders (reading s) c = λ c. let n = rw (at, ox', oy) at (holders-changed (record s { tables = recorded s.tables 1 b }) h (Some y) c l) in let m = holders-tables s g' c hs cs in omega (arith, n, m) in
     let um : (c : ℕ) → users (reading next) c ≡ users (reading s) c = λ c. let n = rw (at, ox', oy) at (users-changed (record s { tables = recorded s.tables 1 b }) h (Some y) c l) in let m = users-tables s g' c hs cs in omega (arith, n, m) in
     let dm : (c : ℕ) → tally (describes g' c) (set s.handles h (Some y)) + cond (c == b) 1 0 ≡ tally (describes g c) s.handles = λ c.
@@ -212,7 +215,7 @@ sound-promoted s h x y w b k at free xw ox kb yw yv lies few =
         lies = lie;
         native = λ m. absurd (let q = sym yv ∙ m in cc);
       })) (all-fit-kept g g' s.calls s.handles e live k.fit);
-      calls_fit = calls-kept s next refl e live (λ i z b a. set-at s.handles h i (Some y) z (λ e. let q = rw e at b in absurd (cc)) a) k.fit (λ i z a. at-some s.handles i z a) (λ c _. hm c) (λ q t. (k.counted q t).known) k.calls_fit;
+      calls_fit = calls-kept s next refl e live (λ i z b a. set-at s.handles h i (Some y) z (λ e. let q = rw e at b in absurd (cc)) a) k.fit (λ i z a. at-some s.handles i z a) (λ i d l q j t. recorded-let_go g 1 b q t) (λ c _. hm c) (λ q t. (k.counted q t).known) k.calls_fit;
       one_release = λ c. rw (releases-kept s g' c s.calls e k.calls_fit) (k.one_release c);
       counted = λ q t. elim (recorded-either g 1 b q t) [
         | inl v ↦ (let c = k.counted q (ap (λ (v : Record). v.live) (sym v.1) ∙ t) in

@@ -1,8 +1,9 @@
 -- Records that are freed.
-use Rattle.std.proofs.Common.{◌≡◌, ◌≢◌, inl, inr, ℕ, ◌<◌, true, false, length, sym, ◌∙◌, ap, refl, arith}
+use Rattle.std.proofs.Common.{◌≡◌, ◌≢◌, inl, inr, ℕ, ◌<◌, true, false, length, sym, ◌∙◌, ap, refl, arith, nat_eq}
 use Rattle.std.proofs.lemmas.List.{get_or-set_same, get_or-set_other}
 use Rattle.std.proofs.lemmas.Bool.Decides.{eqb_tells}
 use Rattle.iobufs_owner.specs.State.{Tables, record_at}
+use Rattle.iobufs_owner.specs.Reading.{has_let_go}
 use Rattle.iobufs_owner.specs.Moves.{dead}
 use Rattle.iobufs_owner.specs.declared.owner.types.Record.{Record}
 use Rattle.iobufs_owner.proofs.Soundness.Keeps.{Keeps}
@@ -30,6 +31,9 @@ dead-keeps g r = record {
   with' = λ base b e. e;
   records = λ q e. dead-block g r q;
 }
+
+pub dead-let_go : (g : Tables) (r q : ℕ) → has_let_go (dead g r) q ≡ has_let_go g q
+dead-let_go g r q = ap (λ (n : ℕ). nat_eq n 0) (dead-count g r q)
 
 -- what is live afterwards was live, and is another record
 pub dead-live : (g : Tables) (r q : ℕ) → r < length g.records → (record_at (dead g r) q).live ≡ true → ((record_at g q).live ≡ true) × (q ≢ r)

@@ -6,7 +6,7 @@ use Rattle.std.proofs.lemmas.List.{get_or-set_same, get_or-set_other, map-set, l
 use Rattle.std.proofs.lemmas.Bool.Decides.{nat_tests, eqb_tells}
 use Rattle.iobufs_owner.specs.State.{State, Tables, owner_of, record_at, handle_at, call_at}
 use Rattle.iobufs_owner.specs.World.{holds, holders, users, Dropping, still_holds, drops, tally}
-use Rattle.iobufs_owner.specs.Reading.{reading, read_handle, read_call}
+use Rattle.iobufs_owner.specs.Reading.{reading, read_handle, read_call, has_let_go}
 use Rattle.iobufs_owner.specs.Moves.{dead, both_freed, called}
 use Rattle.iobufs_owner.specs.Sound.{IsSound, Fits, FitsCall, alone, describes, hidden, readies, releases}
 use Rattle.iobufs_owner.specs.declared.owner.types.Handle.{Handle}
@@ -20,7 +20,7 @@ use Rattle.iobufs_owner.proofs.Soundness.Frames.{handles-kept, alone-kept, descr
 use Rattle.iobufs_owner.proofs.Soundness.Edits.{fits-at, live-inside, and-no}
 use Rattle.iobufs_owner.proofs.Soundness.Holders.{held_by, still_by, drops_by, holders-as, users-as, alone-holds, lets_go, drops-split, go-releases}
 use Rattle.iobufs_owner.proofs.Soundness.Logs.{block-log-freed, record-log-dead}
-use Rattle.iobufs_owner.proofs.Soundness.RecordFreed.{dead-block, dead-count, dead-other, dead-keeps, dead-live}
+use Rattle.iobufs_owner.proofs.Soundness.RecordFreed.{dead-block, dead-count, dead-other, dead-keeps, dead-let_go, dead-live}
 
 abbrev pub released : State → ℕ → ℕ → State
 released s p r = called (both_freed s r) p None
@@ -31,10 +31,10 @@ pub record Last (s : State) (b : ℕ) : Type 0 where
   pub one : tally (λ (c : Option Pending). drops b (read_call s.tables c)) s.calls ≡ 1
   pub users : users (reading s) b ≡ 1
 
-pub release-last : (s : State) (p r : ℕ) (v : Bool) → IsSound s → call_at s p ≡ Some (Release r v) → Last s (record_at s.tables r).block
-release-last s p r v k at =
+pub release-last : (s : State) (p r : ℕ) → IsSound s → call_at s p ≡ Some (Release r) → Last s (record_at s.tables r).block
+release-last s p r k at =
     let b : ℕ = (record_at s.tables r).block in
-    let l = at-some s.calls p (Release r v) at in
+    let l = at-some s.calls p (Release r) at in
     let f = rw at at (k.calls_fit p None l) in
     let h = holders-as s b in
     let n = f.2 in
@@ -42,7 +42,7 @@ release-last s p r v k at =
     let split = count-sum (drops_by s b) (still_by s b) (lets_go s.tables b) s.calls (drops-split s.tables b) in
     let ones = k.one_release b in
     let here = count-some (releases s.tables b) s.calls p None l (rw at (is-eqb b b refl)) in
-    let by : (w : Bool) → v ≡ w → Last s b = λ w. elim w as (λ w. v ≡ w → Last s b) [
+    let by : (w : Bool) → has_let_go s.tables r ≡ w → Last s b = λ w. elim w as (λ w. has_let_go s.tables r ≡ w → Last s b) [
       | true ↦ λ e. (let n1 = rw e at n in
           let go = count-most (releases s.tables b) (lets_go s.tables b) s.calls (go-releases s.tables b) in
           let some = count-some (lets_go s.tables b) s.calls p None l (rw (at, e, is-eqb b b refl) refl) in
@@ -52,7 +52,7 @@ release-last s p r v k at =
           let go = count-less (releases s.tables b) (lets_go s.tables b) s.calls p None (go-releases s.tables b) l (rw at (is-eqb b b refl)) (rw (at, e) (and-no (b == b))) in
           record { none = omega arith; one = omega arith; users = omega arith })
     ] in
-    by v refl
+    by (has_let_go s.tables r) refl
 
 none-holds : (s : State) (b i : ℕ) (x : Handle) → tally (held_by s b) s.handles ≡ 0 → handle_at s i ≡ Some x → owner_of s.tables x ≢ Some b
 none-holds s b i x z at o =
@@ -71,23 +71,23 @@ still-other : (b c : ℕ) (v : Bool) → c ≢ b → still_holds c (Some (Droppi
 still-other b c true ne = refl
 still-other b c false ne = not-eqb c b ne
 
-users-released : (s : State) (p r : ℕ) (v : Bool) (c : ℕ) → call_at s p ≡ Some (Release r v) → p < length s.calls → map (read_handle (dead s.tables r)) s.handles ≡ map (read_handle s.tables) s.handles → map (read_call (dead s.tables r)) s.calls ≡ map (read_call s.tables) s.calls → users (reading (released s p r)) c + cond (c == (record_at s.tables r).block) 1 0 ≡ users (reading s) c
+users-released : (s : State) (p r c : ℕ) → call_at s p ≡ Some (Release r) → p < length s.calls → map (read_handle (dead s.tables r)) s.handles ≡ map (read_handle s.tables) s.handles → map (read_call (dead s.tables r)) s.calls ≡ map (read_call s.tables) s.calls → users (reading (released s p r)) c + cond (c == (record_at s.tables r).block) 1 0 ≡ users (reading s) c
 unfolding users
-users-released s p r v c at l hs cs =
+users-released s p r c at l hs cs =
     let n = rw (get_or-read (read_call s.tables) s.calls p None, at) at (count-set (drops c) (map (read_call s.tables) s.calls) p None None (rw length-map l)) in
     rw (hs, map-set (read_call (dead s.tables r)) s.calls p None, cs) (omega (arith, n))
 
-holders-released : (s : State) (p r : ℕ) (v : Bool) (c : ℕ) → call_at s p ≡ Some (Release r v) → p < length s.calls → map (read_handle (dead s.tables r)) s.handles ≡ map (read_handle s.tables) s.handles → map (read_call (dead s.tables r)) s.calls ≡ map (read_call s.tables) s.calls → c ≢ (record_at s.tables r).block → holders (reading (released s p r)) c ≡ holders (reading s) c
+holders-released : (s : State) (p r c : ℕ) → call_at s p ≡ Some (Release r) → p < length s.calls → map (read_handle (dead s.tables r)) s.handles ≡ map (read_handle s.tables) s.handles → map (read_call (dead s.tables r)) s.calls ≡ map (read_call s.tables) s.calls → c ≢ (record_at s.tables r).block → holders (reading (released s p r)) c ≡ holders (reading s) c
 unfolding holders
-holders-released s p r v c at l hs cs ne =
+holders-released s p r c at l hs cs ne =
     let n = rw (get_or-read (read_call s.tables) s.calls p None, at) at (count-set (still_holds c) (map (read_call s.tables) s.calls) p None None (rw length-map l)) in
-    let m = rw (still-other (record_at s.tables r).block c v ne) at n in
+    let m = rw (still-other (record_at s.tables r).block c (has_let_go s.tables r) ne) at n in
     rw (hs, map-set (read_call (dead s.tables r)) s.calls p None, cs) (omega (arith, m))
 
 -- no other call counts on the record, or drops the block
-other-drops : (s : State) (p r i : ℕ) (v : Bool) (b : ℕ) → call_at s p ≡ Some (Release r v) → (record_at s.tables r).block ≡ b → tally (drops_by s b) s.calls ≡ 1 → i ≢ p → i < length s.calls → drops_by s b (call_at s i) ≡ true → ⊥
-other-drops s p r i v b at eb one ne l t =
-    let two = count-two (drops_by s b) s.calls i p None ne l (at-some s.calls p (Release r v) at) t (rw at (is-eqb b (record_at s.tables r).block (sym eb))) in
+other-drops : (s : State) (p r i b : ℕ) → call_at s p ≡ Some (Release r) → (record_at s.tables r).block ≡ b → tally (drops_by s b) s.calls ≡ 1 → i ≢ p → i < length s.calls → drops_by s b (call_at s i) ≡ true → ⊥
+other-drops s p r i b at eb one ne l t =
+    let two = count-two (drops_by s b) s.calls i p None ne l (at-some s.calls p (Release r) at) t (rw at (is-eqb b (record_at s.tables r).block (sym eb))) in
     omega (arith, two, one)
 
 other-names : (s : State) (r i : ℕ) (c : Option Pending) → call_at s i ≡ c → i < length s.calls → hidden s.calls r ≡ 0 → (drops_by s (record_at s.tables r).block c ≡ true → ⊥) → names r c ≡ true → ⊥
@@ -101,7 +101,7 @@ other-names s r i (Some (Add part q)) at l hid never t = cc
 other-names s r i (Some (Subtract q)) at l hid never t =
     let e : q ≡ r = grind (arith, nat_tests, t) in
     never (is-eqb (record_at s.tables r).block (record_at s.tables q).block (ap (λ (n : ℕ). (record_at s.tables n).block) (sym e)))
-other-names s r i (Some (Release q w)) at l hid never t =
+other-names s r i (Some (Release q)) at l hid never t =
     let e : q ≡ r = grind (arith, nat_tests, t) in
     never (is-eqb (record_at s.tables r).block (record_at s.tables q).block (ap (λ (n : ℕ). (record_at s.tables n).block) (sym e)))
 
@@ -114,7 +114,7 @@ hidden-held s q i (Some (Ready part w z)) at t (x, b, h, p, live, block) =
     (part.handle, x, h.at, p.owner ∙ ap Some (sym block ∙ ap (λ (n : ℕ). (record_at s.tables n).block) (sym e)))
 hidden-held s q i (Some (Add part z)) at t f = absurd (cc)
 hidden-held s q i (Some (Subtract z)) at t f = absurd (cc)
-hidden-held s q i (Some (Release z w)) at t f = absurd (cc)
+hidden-held s q i (Some (Release z)) at t f = absurd (cc)
 
 other-block : (s : State) (r q : ℕ) → IsSound s → (record_at s.tables r).live ≡ true → hidden s.calls r ≡ 0 → tally (held_by s (record_at s.tables r).block) s.handles ≡ 0 → (record_at s.tables q).live ≡ true → q ≢ r → (record_at s.tables q).block ≢ (record_at s.tables r).block
 other-block s r q k lr hr none lq ne e =
@@ -125,23 +125,23 @@ other-block s r q k lr hr none lq ne e =
           none-holds s (record_at s.tables r).block y.0 y.1 none y.2 (y.3 ∙ ap Some e))
     ]
 
-pub sound-released : (s : State) (p r : ℕ) (v : Bool) → IsSound s → call_at s p ≡ Some (Release r v) → IsSound (released s p r)
-sound-released s p r v k at =
+pub sound-released : (s : State) (p r : ℕ) → IsSound s → call_at s p ≡ Some (Release r) → IsSound (released s p r)
+sound-released s p r k at =
     let g : Tables = s.tables in
     let g' : Tables = dead s.tables r in
     let b : ℕ = (record_at s.tables r).block in
     let next : State = released s p r in
-    let l = at-some s.calls p (Release r v) at in
-    let f : FitsCall s (Some (Release r v)) = subst (λ (c : Option Pending). FitsCall s c) at (k.calls_fit p None l) in
-    let last = release-last s p r v k at in
+    let l = at-some s.calls p (Release r) at in
+    let f : FitsCall s (Some (Release r)) = subst (λ (c : Option Pending). FitsCall s c) at (k.calls_fit p None l) in
+    let last = release-last s p r k at in
     let me = k.counted r f.0 in
     let inside = live-inside g.records r f.0 in
     let e = dead-keeps g r in
     let hs = handles-kept g g' s.calls s.handles e k.fit in
-    let cs = calls-read-kept s g' s.calls e k.calls_fit in
+    let cs = calls-read-kept s g' s.calls e (λ i d l q j t. dead-let_go g r q) k.calls_fit in
     let hid : (q : ℕ) → hidden (set s.calls p None) q ≡ hidden s.calls q = λ q. let c = rw at at (count-set (readies q) s.calls p None None l) in omega (arith, c) in
-    let um : (c : ℕ) → users (reading next) c + cond (c == b) 1 0 ≡ users (reading s) c = λ c. users-released s p r v c at l hs cs in
-    let hm : (c : ℕ) → c ≢ b → holders (reading next) c ≡ holders (reading s) c = λ c ne. holders-released s p r v c at l hs cs ne in
+    let um : (c : ℕ) → users (reading next) c + cond (c == b) 1 0 ≡ users (reading s) c = λ c. users-released s p r c at l hs cs in
+    let hm : (c : ℕ) → c ≢ b → holders (reading next) c ≡ holders (reading s) c = λ c ne. holders-released s p r c at l hs cs ne in
     let am : (c : ℕ) → tally (alone g' c) s.handles ≡ tally (alone g c) s.handles = λ c. alone-kept g g' s.calls c s.handles e k.fit in
     let dm : (c : ℕ) → tally (describes g' c) s.handles ≡ tally (describes g c) s.handles = λ c. describes-kept g g' s.calls c s.handles e k.fit in
     let none : users (reading next) b ≡ 0 = (let z = rw (is-eqb b b refl, last.users) at (um b) in omega (arith, z)) in
@@ -156,11 +156,12 @@ sound-released s p r v k at =
             | inl z ↦ rw (z.1, get_or-set_same s.calls p None None l) tt
             | inr z ↦ rw (get_or-set_other s.calls p i None None z.1) (call-kept s next (call_at s i) (record {
               tables = e;
-              live = λ q n t. dead-other g r q (λ y. other-names s r i (call_at s i) refl lo f.1 (other-drops s p r i v b at refl last.one z.1 lo) (rw y at n)) ∙ t;
+              live = λ q n t. dead-other g r q (λ y. other-names s r i (call_at s i) refl lo f.1 (other-drops s p r i b at refl last.one z.1 lo) (rw y at n)) ∙ t;
               hidden = λ q _. hid q;
               handle = λ j x y a. a;
               owner = λ j x a. owner-kept g g' s.calls x e (fits-at s j x k a);
-              holders = λ q w y. hm (record_at g q).block (λ j. other-drops s p r i v b at refl last.one z.1 lo (rw y (is-eqb b (record_at g q).block (sym j))));
+              let_go = λ q j t. dead-let_go g r q;
+              holders = λ q y. hm (record_at g q).block (λ j. other-drops s p r i b at refl last.one z.1 lo (rw y (is-eqb b (record_at g q).block (sym j))));
             }) (k.calls_fit i None lo))
           ]);
       one_release = λ c. let n = count-set (releases g' c) s.calls p None None l in let m = releases-kept s g' c s.calls e k.calls_fit in omega (arith, n, m, k.one_release c);
@@ -189,7 +190,7 @@ sound-released s p r v k at =
     }
 
 -- a drop that releases has a live record
-pub releasing : (s : State) (p r : ℕ) (v : Bool) → IsSound s → call_at s p ≡ Some (Release r v) → (record_at s.tables r).live ≡ true
-releasing s p r v k at =
-    let f : FitsCall s (Some (Release r v)) = subst (λ (c : Option Pending). FitsCall s c) at (k.calls_fit p None (at-some s.calls p (Release r v) at)) in
+pub releasing : (s : State) (p r : ℕ) → IsSound s → call_at s p ≡ Some (Release r) → (record_at s.tables r).live ≡ true
+releasing s p r k at =
+    let f : FitsCall s (Some (Release r)) = subst (λ (c : Option Pending). FitsCall s c) at (k.calls_fit p None (at-some s.calls p (Release r) at)) in
     f.0

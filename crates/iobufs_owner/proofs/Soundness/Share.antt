@@ -1,12 +1,12 @@
 -- Clones and slices keep the machine sound.
-use Rattle.std.proofs.Common.{◌≡◌, ◌≢◌, inl, inr, ℕ, zero, suc, ◌+◌, ◌^◌, ◌<◌, ◌≤◌, ◌==◌, Bool, true, false, cond, List, [], ◌∷◌, ◌++◌, length, get_or, set, map, sym, ◌∙◌, ap, subst, refl, arith, All, Option, Some, None, unwrap_or, length-append}
+use Rattle.std.proofs.Common.{◌≡◌, ◌≢◌, inl, inr, ℕ, zero, suc, ◌+◌, ◌^◌, ◌<◌, ◌≤◌, ◌==◌, Bool, true, false, cond, List, [], ◌∷◌, ◌++◌, length, get_or, set, map, sym, ◌∙◌, ap, subst, refl, arith, All, Option, Some, None, unwrap_or, nat_eq, length-append}
 use Rattle.std.proofs.Math.ListN.{length-set}
 use Rattle.std.proofs.lemmas.List.Elements.{All-from_get_or}
 use Rattle.std.proofs.lemmas.List.{get_or-set_same, get_or-set_other, map-set, length-map, set-set}
 use Rattle.std.proofs.lemmas.Bool.Decides.{nat_tests, eqb_tells}
 use Rattle.iobufs_owner.specs.State.{State, Tables, owner_of, record_at, block_at, handle_at, call_at}
 use Rattle.iobufs_owner.specs.World.{holds, holders, users, still_holds, drops, is_block, tally}
-use Rattle.iobufs_owner.specs.Reading.{reading, read_handle, read_call}
+use Rattle.iobufs_owner.specs.Reading.{reading, read_handle, read_call, has_let_go}
 use Rattle.iobufs_owner.specs.Sound.{IsSound, Fits, FitsWord, FitsCall, FitsRecord, Shares, Promised, IsDescribed, LiesIn, alone, describes, hidden, readies, releases}
 use Rattle.iobufs_owner.specs.Moves.{loaded_found, loaded_block, borrows_it, counted, with_count, called, with_record, record_freed, dead, edited, with_handle, part}
 use Rattle.iobufs_owner.specs.declared.owner.types.Record.{Record}
@@ -18,15 +18,15 @@ use Rattle.iobufs_owner.specs.declared.owner.types.Pending.TheVariants.{Loaded, 
 use Rattle.iobufs_owner.specs.declared.owner.types.Word.{Word}
 use Rattle.iobufs_owner.specs.declared.owner.types.Word.TheVariants.{Empty, Descriptor, Record as Counted}
 use Rattle.iobufs_owner.proofs.Soundness.Counts.{count-set, count-some, count-two}
-use Rattle.iobufs_owner.proofs.Soundness.Keeps.{Keeps, keeps-self, names, call-kept, calls-read-kept, releases-kept, owner-kept, fits-kept, fits-calls, live-of, shares-kept, promised-kept, described-kept}
+use Rattle.iobufs_owner.proofs.Soundness.Keeps.{Keeps, KeepsLetGo, keeps-self, names, call-kept, calls-read-kept, releases-kept, owner-kept, fits-kept, fits-calls, live-of, shares-kept, promised-kept, described-kept}
 use Rattle.iobufs_owner.proofs.Soundness.Kept.{at-some, owner-counted, block-log-kept}
 use Rattle.iobufs_owner.proofs.Soundness.Frames.{handles-kept, alone-kept, describes-kept, holders-tables, users-tables, not-eqb, is-eqb}
 use Rattle.iobufs_owner.proofs.Soundness.Edits.{fits-at, described-at, counted-at, alone-at, live-inside, lies-as, alone-described, describes-described, describes-counted, alone-shared}
 use Rattle.iobufs_owner.proofs.Soundness.Holders.{describes-few, owner-used}
 use Rattle.iobufs_owner.proofs.Soundness.Logs.{no_record, record-log-more, record-log-counted, record-log-dead}
-use Rattle.iobufs_owner.proofs.Soundness.NewRecord.{recorded, recorded-new, recorded-keeps, recorded-live, recorded-either, unhidden-next}
-use Rattle.iobufs_owner.proofs.Soundness.AddHolder.{sound-added, counted-keeps, counted-block, counted-live, counted-same, counted-other}
-use Rattle.iobufs_owner.proofs.Soundness.RecordFreed.{dead-block, dead-count, dead-other, dead-keeps, dead-live}
+use Rattle.iobufs_owner.proofs.Soundness.NewRecord.{recorded, recorded-new, recorded-keeps, recorded-let_go, recorded-live, recorded-either, unhidden-next}
+use Rattle.iobufs_owner.proofs.Soundness.AddHolder.{sound-added, counted-keeps, counted-let_go, counted-block, counted-live, counted-same, counted-other}
+use Rattle.iobufs_owner.proofs.Soundness.RecordFreed.{dead-block, dead-count, dead-other, dead-keeps, dead-let_go, dead-live}
 use Rattle.iobufs_owner.proofs.Soundness.BlockFreed.{holders-alike, users-alike}
 use Rattle.iobufs_owner.proofs.WorldSteps.Shown.{get_or-read}
 
@@ -95,7 +95,7 @@ sound-called s p c k l q r f =
     let um : (b : ℕ) → users (reading next) b ≡ users (reading s) b = λ b. (called-holders s p c b l q r).1 in
     let hid : (n : ℕ) → hidden (set s.calls p c) n ≡ hidden s.calls n = λ n. count-calls (readies n) s.calls p c None l (q.readies n) (r.readies n) in
     let rel : (b : ℕ) → tally (releases g b) (set s.calls p c) ≡ tally (releases g b) s.calls = λ b. count-calls (releases g b) s.calls p c None l (q.releases b) (r.releases b) in
-    let leaves = λ (o : Option Pending). call-kept s next o (record { tables = keeps-self g; live = λ n _ t. t; hidden = λ n _. hid n; handle = λ i x _ a. a; owner = λ i x a. refl; holders = λ n v _. hm (record_at g n).block }) in
+    let leaves = λ (o : Option Pending). call-kept s next o (record { tables = keeps-self g; let_go = λ q j t. refl; live = λ n _ t. t; hidden = λ n _. hid n; handle = λ i x _ a. a; owner = λ i x a. refl; holders = λ n _. hm (record_at g n).block }) in
     let size = k.size in
     record {
       size = record { wide = size.wide; ceiling = size.ceiling; few_blocks = size.few_blocks; few_records = size.few_records; few_handles = size.few_handles; few_calls = rw length-set size.few_calls };
@@ -157,7 +157,7 @@ sound-readied s p part w b x k at ld few =
     let known : b < length g.blocks = ld.promised.says.known in
     let live : (q : ℕ) → (record_at g q).live ≡ true → (record_at g' q).live ≡ true = λ q t. recorded-live g 2 b q t in
     let hs = handles-kept g g' s.calls s.handles e k.fit in
-    let cs = calls-read-kept s g' s.calls e k.calls_fit in
+    let cs = calls-read-kept s g' s.calls e (λ i d l q j t. recorded-let_go g 2 b q t) k.calls_fit in
     let mid : State = with_record s 2 b in
     let qold : IsQuiet mid (call_at s p) = subst (λ (c : Option Pending). IsQuiet mid c) (sym at) (quiet-loaded mid part w) in
     let both : (d : ℕ) → (holders (reading next) d ≡ holders (reading s) d) × (users (reading next) d ≡ users (reading s) d) = λ d.
@@ -172,7 +172,7 @@ sound-readied s p part w b x k at ld few =
     let old : (q : ℕ) → q < length g.records → hidden (set s.calls p c) q ≡ hidden s.calls q = λ q m. (let n = rw (not-eqb q (length s.tables.records) (omega arith)) at (hid q) in omega (arith, n)) in
     let one : hidden (set s.calls p c) r ≡ 1 = (let n = rw (is-eqb (length s.tables.records) (length s.tables.records) refl) at (hid r) in let z = unhidden-next s k in omega (arith, n, z)) in
     let rel : (d : ℕ) → tally (releases g' d) (set s.calls p c) ≡ tally (releases g d) s.calls = λ d. count-calls (releases g' d) s.calls p c None l (ap (releases g' d) at) refl ∙ releases-kept s g' d s.calls e k.calls_fit in
-    let leaves = λ (o : Option Pending). call-kept s next o (record { tables = e; live = λ n _ t. live n t; hidden = λ n t. old n (live-inside g.records n t); handle = λ i y _ a. a; owner = λ i y a. owner-kept g g' s.calls y e (fits-at s i y k a); holders = λ n v _. hm (record_at g n).block }) in
+    let leaves = λ (o : Option Pending). call-kept s next o (record { tables = e; let_go = λ q j t. recorded-let_go g 2 b q t; live = λ n _ t. live n t; hidden = λ n t. old n (live-inside g.records n t); handle = λ i y _ a. a; owner = λ i y a. owner-kept g g' s.calls y e (fits-at s i y k a); holders = λ n _. hm (record_at g n).block }) in
     let size = k.size in
     record {
       size = record { wide = size.wide; ceiling = size.ceiling; few_blocks = size.few_blocks; few_records = rw length-append (omega arith); few_handles = size.few_handles; few_calls = rw length-set size.few_calls };
@@ -251,22 +251,26 @@ share-shown s p h r x b part z y d at l fit o bl sh pr =
       )
     ]
 
+-- the count of the shown record isn't 0 before and after
+shown-let_go : (g : Tables) (r : ℕ) → (record_at g r).count ≡ 2 → nat_eq 1 0 ≡ has_let_go g r
+shown-let_go g r e = rw e refl
+
 -- the call of another party, where the word of handle h has become a record
-call-shown : (s : State) (p h r i : ℕ) (x : Handle) (b : ℕ) (c : Option Pending) → handle_at s h ≡ Some x → (w : ℕ) → x.word ≡ Descriptor w → h < length s.handles → All (Fits s.tables s.calls) s.handles → owner_of s.tables x ≡ Some b → (record_at s.tables r).block ≡ b → ((q : ℕ) → hidden (set s.calls p None) q ≤ hidden s.calls q) → ((q : ℕ) → holders (reading (shown s p h r x)) q ≡ holders (reading s) q) → FitsCall s c → FitsCall (shown s p h r x) c
-call-shown s p h r i x b None at w word l fit o bl hid n f = tt
-call-shown s p h r i x b (Some (Loaded part z)) at w word l fit o bl hid n (y, d, sh, pr) =
+call-shown : (s : State) (p h r i : ℕ) (x : Handle) (b : ℕ) (c : Option Pending) → handle_at s h ≡ Some x → (w : ℕ) → x.word ≡ Descriptor w → h < length s.handles → All (Fits s.tables s.calls) s.handles → owner_of s.tables x ≡ Some b → (record_at s.tables r).block ≡ b → (record_at s.tables r).count ≡ 2 → ((q : ℕ) → hidden (set s.calls p None) q ≤ hidden s.calls q) → ((q : ℕ) → holders (reading (shown s p h r x)) q ≡ holders (reading s) q) → FitsCall s c → FitsCall (shown s p h r x) c
+call-shown s p h r i x b None at w word l fit o bl two hid n f = tt
+call-shown s p h r i x b (Some (Loaded part z)) at w word l fit o bl two hid n (y, d, sh, pr) =
     let u = share-shown s p h r x b part z y d at l fit o bl sh pr in (u.0, d, u.1, u.2)
-call-shown s p h r i x b (Some (Ready part z q)) at w word l fit o bl hid n (y, d, sh, pr, live, block) =
+call-shown s p h r i x b (Some (Ready part z q)) at w word l fit o bl two hid n (y, d, sh, pr, live, block) =
     let u = share-shown s p h r x b part z y d at l fit o bl sh pr in (u.0, d, u.1, u.2, counted-live s.tables r 1 q ∙ live, counted-block s.tables r 1 q ∙ block)
-call-shown s p h r i x b (Some (Add part q)) at w word l fit o bl hid n (y, sh, yw) =
+call-shown s p h r i x b (Some (Add part q)) at w word l fit o bl two hid n (y, sh, yw) =
     elim (eqb_tells part.handle h) [
       | inl j ↦ absurd (let yx : y ≡ x = some-same y x (sym sh.at ∙ ap (λ n. get_or s.handles n None) j.1 ∙ at) in
           let v = ap (λ (y : Handle). y.word) yx in cc)
       | inr j ↦ (y, shares-kept s (shown s p h r x) part y (λ a. get_or-set_other s.handles h part.handle (Some (by_record x r)) None j.1 ∙ a) sh, yw)
     ]
-call-shown s p h r i x b (Some (Subtract q)) at w word l fit o bl hid n f = (counted-live s.tables r 1 q ∙ f.0, (let z = hid q in let y = f.1 in omega arith))
-call-shown s p h r i x b (Some (Release q v)) at w word l fit o bl hid n f =
-    (counted-live s.tables r 1 q ∙ f.0, (let z = hid q in let y = f.1 in omega arith), rw (counted-block s.tables r 1 q, n) f.2)
+call-shown s p h r i x b (Some (Subtract q)) at w word l fit o bl two hid n f = (counted-live s.tables r 1 q ∙ f.0, (let z = hid q in let y = f.1 in omega arith))
+call-shown s p h r i x b (Some (Release q)) at w word l fit o bl two hid n f =
+    (counted-live s.tables r 1 q ∙ f.0, (let z = hid q in let y = f.1 in omega arith), rw (counted-block s.tables r 1 q, counted-let_go s.tables r 1 q (shown-let_go s.tables r two), n) f.2)
 
 holders-shown : (s : State) (p h r : ℕ) (x : Handle) (part : Share) (w b c : ℕ) → handle_at s h ≡ Some x → h < length s.handles → call_at s p ≡ Some (Ready part w r) → p < length s.calls → owner_of s.tables x ≡ Some b → owner_of (counted s.tables r 1) (by_record x r) ≡ Some b → map (read_handle (counted s.tables r 1)) s.handles ≡ map (read_handle s.tables) s.handles → map (read_call (counted s.tables r 1)) s.calls ≡ map (read_call s.tables) s.calls → holders (reading (shown s p h r x)) c ≡ holders (reading s) c
 unfolding holders
@@ -312,7 +316,8 @@ sound-shown s p r w part x k atp at word =
     let ox : owner_of g' x ≡ Some b = owner-kept g g' s.calls x e (fits-at s h x k at) ∙ o in
     let oy : owner_of g' y ≡ Some b = owner-counted g' y r refl ∙ ap Some (counted-block g r 1 r ∙ f.5) in
     let hs = handles-kept g g' s.calls s.handles e k.fit in
-    let cs = calls-read-kept s g' s.calls e k.calls_fit in
+    let two : (record_at s.tables r).count ≡ 2 = (let a = count-some (readies r) s.calls p None lp (ap (readies r) atp ∙ is-eqb r r refl) in let m = (k.counted r f.4).one_maker in (k.counted r f.4).fresh (omega (arith, a, m))) in
+    let cs = calls-read-kept s g' s.calls e (λ i d l q j t. counted-let_go g r 1 q (shown-let_go g r two)) k.calls_fit in
     let hm : (c : ℕ) → holders (reading next) c ≡ holders (reading s) c = λ c. holders-shown s p h r x part w b c at l atp lp o oy hs cs in
     let um : (c : ℕ) → users (reading next) c ≡ users (reading s) c = λ c. users-shown s p h r x part w b c at l atp lp o oy hs cs in
     let hid : (q : ℕ) → hidden (set s.calls p None) q + cond (q == r) 1 0 ≡ hidden s.calls q = λ q. let c = rw atp at (count-set (readies q) s.calls p None None lp) in omega (arith, c) in
@@ -353,7 +358,7 @@ sound-shown s p r w part x k atp at word =
           let lo : i < length s.calls = (let z = rw length-set at li in z) in
           elim (eqb_tells i p) [
             | inl z ↦ rw (z.1, get_or-set_same s.calls p None None lp) tt
-            | inr z ↦ rw (get_or-set_other s.calls p i None None z.1) (call-shown s p h r i x b (call_at s i) at w word l k.fit o f.5 less hm (k.calls_fit i None lo))
+            | inr z ↦ rw (get_or-set_other s.calls p i None None z.1) (call-shown s p h r i x b (call_at s i) at w word l k.fit o f.5 two less hm (k.calls_fit i None lo))
           ]);
       one_release = λ c. let n = count-set (releases g' c) s.calls p None None lp in let m = releases-kept s g' c s.calls e k.calls_fit in omega (arith, n, m, k.one_release c);
       counted = λ q t.
@@ -456,7 +461,7 @@ not-mine s p r i k w (Some (Subtract q)) sd at ne l e f hid t =
     let z = ap (λ (n : ℕ). hidden s.calls n) same in
     let y = f.1 in
     omega (arith, z, y, hid)
-not-mine s p r i k w (Some (Release q v)) sd at ne l e f hid t =
+not-mine s p r i k w (Some (Release q)) sd at ne l e f hid t =
     let same : q ≡ r = grind (arith, nat_tests, t) in
     let z = ap (λ (n : ℕ). hidden s.calls n) same in
     let y = f.1 in
@@ -478,7 +483,8 @@ record LeavesBut (s t : State) (r : ℕ) (c : Option Pending) : Type 0 where
   pub hidden : (q : ℕ) → q ≢ r → hidden t.calls q ≡ hidden s.calls q
   pub handle : (i : ℕ) (x : Handle) → borrows_it i c ≡ true → handle_at s i ≡ Some x → handle_at t i ≡ Some x
   pub owner : (i : ℕ) (x : Handle) → handle_at s i ≡ Some x → owner_of t.tables x ≡ owner_of s.tables x
-  pub holders : (q : ℕ) (let_go : Bool) → c ≡ Some (Release q let_go) → holders (reading t) (record_at s.tables q).block ≡ holders (reading s) (record_at s.tables q).block
+  pub let_go : KeepsLetGo s.tables t.tables c
+  pub holders : (q : ℕ) → c ≡ Some (Release q) → holders (reading t) (record_at s.tables q).block ≡ holders (reading s) (record_at s.tables q).block
 
 call-kept' : (s t : State) (r : ℕ) (c : Option Pending) → LeavesBut s t r c → (names r c ≡ true → ⊥) → FitsCall s c → FitsCall t c
 call-kept' s t r None l never f = f
@@ -488,8 +494,8 @@ call-kept' s t r (Some (Ready part w q)) l never (x, b, h, p, live, block) =
     (x, b, shares-kept s t part x (l.handle part.handle x (is-eqb part.handle part.handle refl)) h, promised-kept s.tables t.tables x w b l.tables (l.owner part.handle x h.at) p, l.live q (is-eqb q q refl) live, l.tables.records q live ∙ block)
 call-kept' s t r (Some (Add part q)) l never (x, h, w) = (x, shares-kept s t part x (l.handle part.handle x (is-eqb part.handle part.handle refl)) h, w)
 call-kept' s t r (Some (Subtract q)) l never (live, hid) = (l.live q (is-eqb q q refl) live, l.hidden q (λ e. never (is-eqb q r e)) ∙ hid)
-call-kept' s t r (Some (Release q let_go)) l never (live, hid, n) =
-    (l.live q (is-eqb q q refl) live, l.hidden q (λ e. never (is-eqb q r e)) ∙ hid, rw (l.tables.records q live) (l.holders q let_go refl ∙ n))
+call-kept' s t r (Some (Release q)) l never (live, hid, n) =
+    (l.live q (is-eqb q q refl) live, l.hidden q (λ e. never (is-eqb q r e)) ∙ hid, rw (l.tables.records q live, l.let_go q refl live) (l.holders q refl ∙ n))
 
 pub sound-lost : (s : State) (p r w winner : ℕ) (k : Share) (x : Handle) → IsSound s → call_at s p ≡ Some (Ready k w r) → handle_at s k.handle ≡ Some x → x.word ≡ Counted winner → IsSound (called (record_freed s r) p (Some (Add k winner)))
 sound-lost s p r w winner part' x k at atx xw =
@@ -504,7 +510,7 @@ sound-lost s p r w winner part' x k at atx xw =
     let inside = live-inside g.records r f.4 in
     let e = dead-keeps g r in
     let hs = handles-kept g g' s.calls s.handles e k.fit in
-    let cs = calls-read-kept s g' s.calls e k.calls_fit in
+    let cs = calls-read-kept s g' s.calls e (λ i d l q j t. dead-let_go g r q) k.calls_fit in
     let hidr : hidden s.calls r ≡ 1 = (let a = count-some (readies r) s.calls p None l (ap (readies r) at ∙ is-eqb r r refl) in let m = (k.counted r f.4).one_maker in omega (arith, a, m)) in
     let mid : State = record s { tables = dead s.tables r } in
     let both : (d : ℕ) → (holders (reading next) d ≡ holders (reading s) d) × (users (reading next) d ≡ users (reading s) d) = λ d.
@@ -534,7 +540,8 @@ sound-lost s p r w winner part' x k at atx xw =
               hidden = λ q ne. old q ne;
               handle = λ j y _ a. a;
               owner = λ j y a. owner-kept g g' s.calls y e (fits-at s j y k a);
-              holders = λ q v _. hm (record_at g q).block;
+              let_go = λ q j t. dead-let_go g r q;
+              holders = λ q _. hm (record_at g q).block;
             }) (λ y. not-mine s p r i part' w (call_at s i) k at z.1 lo refl (k.calls_fit i None lo) hidr y) (k.calls_fit i None lo))
           ]);
       one_release = λ d. rw rel (k.one_release d);

@@ -125,7 +125,7 @@ sound-moved s h x k t few =
       size = record { wide = size.wide; ceiling = size.ceiling; few_blocks = size.few_blocks; few_records = size.few_records; few_handles = rw (length-append, length-set) (omega arith); few_calls = size.few_calls };
       blocks = k.blocks;
       fit = All-push (Fits g s.calls) (set s.handles h (Some (detached 0))) (Some x) (All-set (Fits g s.calls) s.handles h (Some (detached 0)) (refl, omega arith, λ m. refl) k.fit) (fits-at s h x k t.at);
-      calls_fit = calls-kept s next refl (keeps-self g) (λ r t. t) (λ i z b a. append-at (set s.handles h (Some (detached 0))) (Some x) i z (set-at s.handles h i (Some (detached 0)) z (λ e. let q = rw e at b in let u = t.free in cc) a)) k.fit (λ i z a. at-some s.handles i z a) (λ c _. hm c) (λ q t. (k.counted q t).known) k.calls_fit;
+      calls_fit = calls-kept s next refl (keeps-self g) (λ r t. t) (λ i z b a. append-at (set s.handles h (Some (detached 0))) (Some x) i z (set-at s.handles h i (Some (detached 0)) z (λ e. let q = rw e at b in let u = t.free in cc) a)) k.fit (λ i z a. at-some s.handles i z a) (λ i d l q j t. refl) (λ c _. hm c) (λ q t. (k.counted q t).known) k.calls_fit;
       one_release = k.one_release;
       counted = λ r live. let c = k.counted r live in record { known = c.known; one_maker = c.one_maker; counts = λ e. rw hm (c.counts e); fresh = c.fresh; used = rw um c.used; undescribed = λ e. rw dm (c.undescribed e) };
       one_record = k.one_record;

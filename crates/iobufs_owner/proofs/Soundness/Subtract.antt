@@ -1,17 +1,17 @@
 -- A drop lets go: the count shrinks by one.
-use Rattle.std.proofs.Common.{◌≡◌, ◌≢◌, inl, inr, ℕ, ◌+◌, ◌-◌, ◌<◌, ◌≤◌, ◌==◌, Bool, true, false, cond, length, get_or, set, map, sym, ◌∙◌, ap, subst, refl, arith, Option, Some, None, nat_eq}
+use Rattle.std.proofs.Common.{◌≡◌, ◌≢◌, inl, inr, ℕ, ◌+◌, ◌-◌, ◌<◌, ◌≤◌, ◌==◌, Bool, true, false, cond, length, get_or, set, map, sym, ◌∙◌, ap, subst, refl, arith, All, Option, Some, None, nat_eq}
 use Rattle.std.proofs.Math.ListN.{length-set}
 use Rattle.std.proofs.lemmas.List.Elements.{All-from_get_or}
 use Rattle.std.proofs.lemmas.List.{get_or-set_same, get_or-set_other, map-set, length-map}
 use Rattle.std.proofs.lemmas.Bool.Decides.{nat_tests, eqb_tells}
 use Rattle.iobufs_owner.specs.State.{State, Tables, record_at, call_at}
 use Rattle.iobufs_owner.specs.World.{Unfinished, holders, users, still_holds, drops, tally}
-use Rattle.iobufs_owner.specs.Reading.{reading, read_handle, read_call}
+use Rattle.iobufs_owner.specs.Reading.{reading, read_handle, read_call, has_let_go}
 use Rattle.iobufs_owner.specs.Sound.{IsSound, Fits, FitsCall, alone, describes, hidden, readies, releases}
 use Rattle.iobufs_owner.specs.declared.owner.types.Pending.{Pending}
 use Rattle.iobufs_owner.specs.declared.owner.types.Pending.TheVariants.{Loaded, Ready, Add, Subtract, Release}
 use Rattle.iobufs_owner.proofs.Soundness.Counts.{count-set, count-some, count-find, count-most, count-two, holders-le-users}
-use Rattle.iobufs_owner.proofs.Soundness.Keeps.{call-kept, calls-read-kept, releases-kept, owner-kept}
+use Rattle.iobufs_owner.proofs.Soundness.Keeps.{KeepsLetGo, call-kept, calls-read-kept, releases-kept, owner-kept}
 use Rattle.iobufs_owner.proofs.Soundness.Kept.{at-some}
 use Rattle.iobufs_owner.proofs.Soundness.Frames.{handles-kept, alone-kept, describes-kept, not-eqb, is-eqb}
 use Rattle.iobufs_owner.proofs.WorldSteps.Shown.{get_or-read}
@@ -24,7 +24,7 @@ use Rattle.iobufs_owner.proofs.Soundness.Share.{fit-counted}
 
 -- what the call goes on to
 abbrev pub afterwards : ℕ → ℕ → Option Pending
-afterwards r n = cond (n == 1) (Some (Release r true)) None
+afterwards r n = cond (n == 1) (Some (Release r)) None
 
 abbrev pub subtracted : State → ℕ → ℕ → State
 subtracted s p r = called (with_count s r ((record_at s.tables r).count - 1)) p (afterwards r (record_at s.tables r).count)
@@ -36,38 +36,47 @@ none-release s p r i (Some (Loaded part w)) k at l e f t = cc
 none-release s p r i (Some (Ready part w q)) k at l e f t = cc
 none-release s p r i (Some (Add part q)) k at l e f t = cc
 none-release s p r i (Some (Subtract q)) k at l e f t = cc
-none-release s p r i (Some (Release q v)) k at l e f t =
+none-release s p r i (Some (Release q)) k at l e f t =
     let b : ℕ = (record_at s.tables r).block in
     let lp = at-some s.calls p (Subtract r) at in
     let same : b ≡ (record_at s.tables q).block = grind (arith, nat_tests, t) in
     let h = holders-as s b in
     let one = count-some (still_by s b) s.calls p None lp (rw at (is-eqb b b refl)) in
     let n = rw (← same) at f.2 in
-    let by : (w : Bool) → v ≡ w → ⊥ = λ w. elim w as (λ w. v ≡ w → ⊥) [
+    let by : (w : Bool) → has_let_go s.tables q ≡ w → ⊥ = λ w. elim w as (λ w. has_let_go s.tables q ≡ w → ⊥) [
       | true ↦ λ z. (let m = rw z at n in omega (arith, m, h, one))
       | false ↦ λ z. (let m = rw z at n in
           let two = count-two (still_by s b) s.calls p i None (λ j. let q = sym at ∙ ap (λ (n : ℕ). call_at s n) j ∙ e in cc) lp l (rw at (is-eqb b b refl)) (rw (e, z) (is-eqb b (record_at s.tables q).block same)) in
           omega (arith, m, h, two))
     ] in
-    by v refl
+    by (has_let_go s.tables q) refl
 
-after-still : (g : Tables) (b r n : ℕ) → still_holds b (read_call g (afterwards r n)) ≡ false
-after-still g b r n = elim (n == 1) as (λ v. still_holds b (read_call g (cond v (Some (Release r true)) None)) ≡ false) [ true ↦ refl | false ↦ refl ]
+-- so another count for that block's record leaves each call that frees a record as it was
+pub counted-drops : (s : State) (p r n : ℕ) → IsSound s → call_at s p ≡ Some (Subtract r) → All (KeepsLetGo s.tables (counted s.tables r n)) s.calls
+counted-drops s p r n k at =
+    All-from_get_or (KeepsLetGo s.tables (counted s.tables r n)) s.calls None (λ i l q e live. ap (λ (m : ℕ). nat_eq m 0) (counted-other s.tables r n q (λ same. none-release s p r i (call_at s i) k at l refl (k.calls_fit i None l) (rw e (is-eqb (record_at s.tables r).block (record_at s.tables q).block (ap (λ (m : ℕ). (record_at s.tables m).block) (sym same)))))))
+
+-- it is the last holder's drop that goes on, and its record counts none then
+pub gone-after : (g : Tables) (r : ℕ) → r < length g.records → (record_at g r).count ≡ 1 → has_let_go (counted g r ((record_at g r).count - 1)) r ≡ true
+gone-after g r inside one = is-eqb (record_at (counted g r ((record_at g r).count - 1)) r).count 0 (counted-same g r ((record_at g r).count - 1) inside ∙ omega (arith, one))
+
+after-still : (g : Tables) (b r n : ℕ) → (n ≡ 1 → has_let_go g r ≡ true) → still_holds b (read_call g (afterwards r n)) ≡ false
+after-still g b r n gone = elim (eqb_tells n 1) [ inl i ↦ rw (i.0, gone i.1) refl | inr i ↦ rw i.0 refl ]
 
 after-readies : (q r n : ℕ) → readies q (afterwards r n) ≡ false
-after-readies q r n = elim (n == 1) as (λ v. readies q (cond v (Some (Release r true)) None) ≡ false) [ true ↦ refl | false ↦ refl ]
+after-readies q r n = elim (n == 1) as (λ v. readies q (cond v (Some (Release r)) None) ≡ false) [ true ↦ refl | false ↦ refl ]
 
 after-drops : (g : Tables) (b r n : ℕ) → (record_at g r).block ≢ b → drops b (read_call g (afterwards r n)) ≡ false
-after-drops g b r n ne = elim (n == 1) as (λ v. drops b (read_call g (cond v (Some (Release r true)) None)) ≡ false) [ true ↦ not-eqb b (record_at g r).block (λ e. ne (sym e)) | false ↦ refl ]
+after-drops g b r n ne = elim (n == 1) as (λ v. drops b (read_call g (cond v (Some (Release r)) None)) ≡ false) [ true ↦ not-eqb b (record_at g r).block (λ e. ne (sym e)) | false ↦ refl ]
 
 record After (s t : State) (b : ℕ) : Type 0 where
   pub holders : (c : ℕ) → holders (reading t) c + cond (c == b) 1 0 ≡ holders (reading s) c
   pub others : (c : ℕ) → c ≢ b → users (reading t) c ≡ users (reading s) c
   pub least : users (reading s) b ≤ users (reading t) b + 1
 
-after : (s : State) (p r : ℕ) → call_at s p ≡ Some (Subtract r) → p < length s.calls → map (read_handle (counted s.tables r ((record_at s.tables r).count - 1))) s.handles ≡ map (read_handle s.tables) s.handles → map (read_call (counted s.tables r ((record_at s.tables r).count - 1))) s.calls ≡ map (read_call s.tables) s.calls → After s (subtracted s p r) (record_at s.tables r).block
+after : (s : State) (p r : ℕ) → call_at s p ≡ Some (Subtract r) → p < length s.calls → r < length s.tables.records → map (read_handle (counted s.tables r ((record_at s.tables r).count - 1))) s.handles ≡ map (read_handle s.tables) s.handles → map (read_call (counted s.tables r ((record_at s.tables r).count - 1))) s.calls ≡ map (read_call s.tables) s.calls → After s (subtracted s p r) (record_at s.tables r).block
 unfolding holders users
-after s p r at l hs cs =
+after s p r at l inside hs cs =
     let n : ℕ = (record_at s.tables r).count in
     let b : ℕ = (record_at s.tables r).block in
     let g' : Tables = counted s.tables r ((record_at s.tables r).count - 1) in
@@ -77,7 +86,7 @@ after s p r at l hs cs =
     let h : (c : ℕ) → tally (still_holds c) (set (map (read_call s.tables) s.calls) p a) + cond (c == b) 1 0 ≡ tally (still_holds c) (map (read_call s.tables) s.calls) = λ c.
     let m = count-set (still_holds c) (map (read_call s.tables) s.calls) p a None (rw length-map l) in
     let mx : ◌≡◌ {A = ℕ} (cond (still_holds c (get_or (map (read_call s.tables) s.calls) p None)) 1 0) (cond (c == b) 1 0) = rw (get_or-read (read_call s.tables) s.calls p None, at) refl in
-    let my : ◌≡◌ {A = ℕ} (cond (still_holds c a) 1 0) 0 = rw (after-still g' c r n) refl in
+    let my : ◌≡◌ {A = ℕ} (cond (still_holds c a) 1 0) 0 = rw (after-still g' c r n (gone-after s.tables r inside)) refl in
     omega (arith, m, mx, my) in
     let dr : (c : ℕ) → tally (drops c) (set (map (read_call s.tables) s.calls) p a) + cond (c == b) 1 0 ≡ tally (drops c) (map (read_call s.tables) s.calls) + cond (drops c a) 1 0 = λ c.
     let m = count-set (drops c) (map (read_call s.tables) s.calls) p a None (rw length-map l) in
@@ -97,7 +106,7 @@ at-most true = omega arith
 at-most false = omega arith
 
 after-releases : (g : Tables) (b r n : ℕ) → (record_at g r).block ≢ b → releases g b (afterwards r n) ≡ false
-after-releases g b r n ne = elim (n == 1) as (λ v. releases g b (cond v (Some (Release r true)) None) ≡ false) [ true ↦ not-eqb b (record_at g r).block (λ e. ne (sym e)) | false ↦ refl ]
+after-releases g b r n ne = elim (n == 1) as (λ v. releases g b (cond v (Some (Release r)) None) ≡ false) [ true ↦ not-eqb b (record_at g r).block (λ e. ne (sym e)) | false ↦ refl ]
 
 used-after : (s : State) (p r n : ℕ) → n ≡ (record_at s.tables r).count → p < length s.calls → users (reading s) (record_at s.tables r).block ≤ users (reading (subtracted s p r)) (record_at s.tables r).block + 1 → n ≡ holders (reading s) (record_at s.tables r).block → holders (reading s) (record_at s.tables r).block ≤ users (reading s) (record_at s.tables r).block → 0 < n → 0 < users (reading (subtracted s p r)) (record_at s.tables r).block
 used-after s p r n en lp least is le pos =
@@ -114,9 +123,9 @@ fits-after : (s : State) (p r : ℕ) → IsSound s → (record_at s.tables r).li
 fits-after s p r k live z hid fewer is =
     let m : ℕ = (record_at s.tables r).count - 1 in
     elim (eqb_tells (record_at s.tables r).count 1) [
-      | inl i ↦ subst (λ (v : Bool). FitsCall (subtracted s p r) (cond v (Some (Release r true)) None)) (sym i.0)
-          (counted-live s.tables r m r ∙ live, hid r ∙ z, ap (λ c. holders (reading (subtracted s p r)) c) (counted-block s.tables r m r) ∙ (let one = i.1 in omega arith))
-      | inr i ↦ subst (λ (v : Bool). FitsCall (subtracted s p r) (cond v (Some (Release r true)) None)) (sym i.0) tt
+      | inl i ↦ subst (λ (v : Bool). FitsCall (subtracted s p r) (cond v (Some (Release r)) None)) (sym i.0)
+          (counted-live s.tables r m r ∙ live, hid r ∙ z, rw (gone-after s.tables r (live-inside s.tables.records r live) i.1) (ap (λ c. holders (reading (subtracted s p r)) c) (counted-block s.tables r m r) ∙ (let one = i.1 in omega arith)))
+      | inr i ↦ subst (λ (v : Bool). FitsCall (subtracted s p r) (cond v (Some (Release r)) None)) (sym i.0) tt
     ]
 
 one-after : (s : State) (p r c : ℕ) → p < length s.calls → tally (releases (counted s.tables r ((record_at s.tables r).count - 1)) c) s.calls ≡ tally (releases s.tables c) s.calls → tally (releases s.tables c) s.calls ≤ 1 → tally (releases s.tables (record_at s.tables r).block) s.calls ≡ 0 → call_at s p ≡ Some (Subtract r) → tally (releases (counted s.tables r ((record_at s.tables r).count - 1)) c) (set s.calls p (afterwards r (record_at s.tables r).count)) ≤ 1
@@ -143,8 +152,9 @@ sound-subtracted s p r k at =
     let me = k.counted r f.0 in
     let e = counted-keeps g r (n - 1) in
     let hs = handles-kept g g' s.calls s.handles e k.fit in
-    let cs = calls-read-kept s g' s.calls e k.calls_fit in
-    let m = after s p r at lp hs cs in
+    let gone = counted-drops s p r (n - 1) k at in
+    let cs = calls-read-kept s g' s.calls e gone k.calls_fit in
+    let m = after s p r at lp (live-inside g.records r f.0) hs cs in
     let hm = m.holders in
     let is : n ≡ holders (reading s) b = me.counts f.1 in
     let h = holders-as s b in
@@ -180,7 +190,8 @@ sound-subtracted s p r k at =
               hidden = λ q _. hid q;
               handle = λ j x b a. a;
               owner = λ j x a. owner-kept g g' s.calls x e (fits-at s j x k a);
-              holders = λ q v j. same (record_at g q).block (λ w. none-release s p r i (call_at s i) k at lo refl (k.calls_fit i None lo) (rw j (is-eqb b (record_at g q).block (sym w))));
+              let_go = gone i None lo;
+              holders = λ q j. same (record_at g q).block (λ w. none-release s p r i (call_at s i) k at lo refl (k.calls_fit i None lo) (rw j (is-eqb b (record_at g q).block (sym w))));
             }) (k.calls_fit i None lo))
           ]);
       one_release = λ c. one-after s p r c lp (releases-kept s g' c s.calls e k.calls_fit) (k.one_release c) none at;
@@ -225,7 +236,7 @@ letting-go s p r k at =
     let n = (k.counted r f.0).counts f.1 in
     record { live = f.0; shown = f.1; some = omega (arith, h, one, n) }
 
-pub afterwards-one : (r n : ℕ) → n ≡ 1 → afterwards r n ≡ Some (Release r true)
+pub afterwards-one : (r n : ℕ) → n ≡ 1 → afterwards r n ≡ Some (Release r)
 afterwards-one r n e = rw (is-eqb n 1 e) refl
 
 pub afterwards-none : (r n : ℕ) → n ≢ 1 → afterwards r n ≡ None

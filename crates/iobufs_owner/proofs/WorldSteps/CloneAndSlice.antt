@@ -1,5 +1,5 @@
 -- The further steps of calls, read as steps of the world.
-use Rattle.std.proofs.Common.{◌≡◌, ◌≢◌, ◌⊎◌, inl, inr, ℕ, ◌+◌, ◌-◌, ◌<◌, ◌≤◌, Bool, true, false, cond, nat_lt, nat_eq, get_or, map, ◌||◌, Option, Some, None, Result, Ok, Err, MatchOption, ap, sym, ◌∙◌, subst, refl, arith}
+use Rattle.std.proofs.Common.{◌≡◌, ◌≢◌, ◌⊎◌, inl, inr, ℕ, ◌+◌, ◌-◌, ◌<◌, ◌≤◌, Bool, true, false, cond, nat_lt, nat_eq, get_or, map, ◌||◌, Option, Some, None, Result, Ok, Err, MatchOption, ap, sym, ◌∙◌, subst, refl, arith, All}
 use Rattle.std.proofs.Math.ListN.{length-set}
 use Rattle.std.proofs.lemmas.List.{length-map, map-set}
 use Rattle.iobufs_owner.specs.declared.owner.types.Handle.{Handle}
@@ -14,8 +14,8 @@ use Rattle.iobufs_owner.specs.declared.owner.types.Refusal.TheVariants.{Idle, Wr
 use Rattle.iobufs_owner.specs.declared.owner.types.Reply.{Reply}
 use Rattle.iobufs_owner.specs.declared.owner.types.Reply.TheVariants.{More, Done, Refused}
 use Rattle.iobufs_owner.specs.State.{State, Tables, owner_of, handle_at, call_at, record_at}
-use Rattle.iobufs_owner.specs.World.{World, Held, Sharing, Dropping, is_block}
-use Rattle.iobufs_owner.specs.Reading.{reading, read_held, read_handle, read_call}
+use Rattle.iobufs_owner.specs.World.{World, Held, Sharing, Dropping, holders, is_block}
+use Rattle.iobufs_owner.specs.Reading.{reading, read_held, read_handle, read_call, has_let_go}
 use Rattle.iobufs_owner.specs.Sound.{IsSound, FitsCall, hidden}
 use Rattle.iobufs_owner.specs.Kinds.{same_kind}
 use Rattle.iobufs_owner.specs.Moves as move
@@ -23,17 +23,17 @@ use Rattle.iobufs_owner.specs.Moves.{Outcome, called, ended, more, done, edited,
 use Rattle.iobufs_owner.specs.Steps as world
 use Rattle.iobufs_owner.specs.Steps.{NoRoom, Makes, IsOver, GoesOn, SharesOn, Goes, call_set, free_in, part_of, held_set}
 use Rattle.iobufs_owner.proofs.WorldSteps.Sizes.{IsAnswered, entries, grows-never}
-use Rattle.iobufs_owner.proofs.Soundness.Keeps.{Keeps, calls-read-kept}
+use Rattle.iobufs_owner.proofs.Soundness.Keeps.{Keeps, KeepsLetGo, calls-read-kept}
 use Rattle.iobufs_owner.proofs.Soundness.Kept.{at-some, owner-empty, owner-counted}
 use Rattle.iobufs_owner.proofs.Soundness.Frames.{handles-kept, is-eqb}
 use Rattle.iobufs_owner.proofs.WorldSteps.Shown.{get_or-read, held-reads, view-reads, read_lent}
-use Rattle.iobufs_owner.proofs.Soundness.Edits.{described-at, counted-at, alone-at, alone-described}
+use Rattle.iobufs_owner.proofs.Soundness.Edits.{described-at, counted-at, alone-at, live-inside, alone-described}
 use Rattle.iobufs_owner.proofs.Soundness.Logs.{freed-more}
-use Rattle.iobufs_owner.proofs.Soundness.NewRecord.{recorded, recorded-keeps}
-use Rattle.iobufs_owner.proofs.Soundness.AddHolder.{counted-keeps, counted-block}
-use Rattle.iobufs_owner.proofs.Soundness.RecordFreed.{dead-keeps}
+use Rattle.iobufs_owner.proofs.Soundness.NewRecord.{recorded, recorded-keeps, recorded-let_go}
+use Rattle.iobufs_owner.proofs.Soundness.AddHolder.{counted-keeps, counted-let_go, counted-more, counted-block}
+use Rattle.iobufs_owner.proofs.Soundness.RecordFreed.{dead-keeps, dead-let_go}
 use Rattle.iobufs_owner.proofs.Soundness.Share.{by_record, set-get, held-loading, IsRacing, racing, IsAdding, adding}
-use Rattle.iobufs_owner.proofs.Soundness.Subtract.{letting-go}
+use Rattle.iobufs_owner.proofs.Soundness.Subtract.{letting-go, counted-drops, gone-after}
 use Rattle.iobufs_owner.proofs.WorldSteps.Taken.{refused-taken, by-test, reads-detached, grown-taken, made-taken, lt-true, lt-false, eq-true}
 
 -- ---- outcomes
@@ -47,10 +47,10 @@ called-reads : (s : State) (p : ℕ) (c : Option Pending) → reading (called s 
 called-reads s p c = rw (map-set (read_call s.tables) s.calls p c) refl
 
 -- the same where the tables change and keep what is spoken of
-called-kept : (s : State) (g : Tables) (p : ℕ) (c : Option Pending) → IsSound s → Keeps s.tables g → g.blocks ≡ s.tables.blocks → reading (called (record s { tables = g }) p c) ≡ call_set (reading s) p (read_call g c)
-called-kept s g p c k e b =
+called-kept : (s : State) (g : Tables) (p : ℕ) (c : Option Pending) → IsSound s → Keeps s.tables g → All (KeepsLetGo s.tables g) s.calls → g.blocks ≡ s.tables.blocks → reading (called (record s { tables = g }) p c) ≡ call_set (reading s) p (read_call g c)
+called-kept s g p c k e a b =
     let hs = handles-kept s.tables g s.calls s.handles e k.fit in
-    let cs = calls-read-kept s g s.calls e k.calls_fit in
+    let cs = calls-read-kept s g s.calls e a k.calls_fit in
     rw (map-set (read_call g) s.calls p c, hs, cs, b) refl
 
 -- ---- clones and slices
@@ -62,7 +62,7 @@ GoesAs s p k left memory o reply next = SharesOn (reading s) p k.handle k.lo k.h
 loaded-as : (s t : State) (p : ℕ) (k : Share) (w : ℕ) (x : Handle) (memory : Bool) (reply : Reply) → IsSound s → IsAnswered s (ready_of s p k w memory) reply t → GoesAs s p k 3 memory (Some x) reply (reading t)
 loaded-as s t p k w x true reply i y =
     let e = recorded-keeps s.tables 2 (loaded_block s k.handle w) in
-    elim (grown-taken s (called (with_record s 2 (loaded_block s k.handle w)) p (Some (Ready k w (next_record s)))) t (call_set (reading s) p (Some (Sharing k.handle k.lo k.hi 2))) More reply (called-kept s (recorded s.tables 2 (loaded_block s k.handle w)) p (Some (Ready k w (next_record s))) i e refl) y) [
+    elim (grown-taken s (called (with_record s 2 (loaded_block s k.handle w)) p (Some (Ready k w (next_record s)))) t (call_set (reading s) p (Some (Sharing k.handle k.lo k.hi 2))) More reply (called-kept s (recorded s.tables 2 (loaded_block s k.handle w)) p (Some (Ready k w (next_record s))) i e (λ n d l q j t. recorded-let_go s.tables 2 (loaded_block s k.handle w) q t) refl) y) [
       | inl a ↦ inr (inr (inl (refl, refl, a)))
       | inr a ↦ inr (inl (2, omega arith, omega arith, a))
     ]
@@ -104,7 +104,7 @@ race-as s t p k w r x memory reply (Descriptor u) i a e y =
 race-as s t p k w r x memory reply (Counted winner) i a e y =
     let q = dead-keeps s.tables r in
     let n = length-set s.tables.records r (record { count = (record_at s.tables r).count; block = (record_at s.tables r).block; live = false }) in
-    let z = reply-taken s (called (record_freed s r) p (Some (Add k winner))) t (call_set (reading s) p (Some (Sharing k.handle k.lo k.hi 1))) More reply (cc n) (called-kept s (dead s.tables r) p (Some (Add k winner)) i q refl) y in
+    let z = reply-taken s (called (record_freed s r) p (Some (Add k winner))) t (call_set (reading s) p (Some (Sharing k.handle k.lo k.hi 1))) More reply (cc n) (called-kept s (dead s.tables r) p (Some (Add k winner)) i q (λ n d l v j t. dead-let_go s.tables r v) refl) y in
     inr (inl (1, omega arith, omega arith, z))
 
 pub ready-goes : (s t : State) (p : ℕ) (k : Share) (w r : ℕ) (memory : Bool) (reply : Reply) → IsSound s → call_at s p ≡ Some (Ready k w r) → IsAnswered s (gone_on s p (Ready k w r) memory) reply t → Goes (reading s) p (Sharing k.handle k.lo k.hi 2) memory reply (reading t)
@@ -124,12 +124,13 @@ add-as s t p k r x memory reply true i a e y =
 add-as s t p k r x memory reply false i a e y =
     let c = counted-at s k.handle x r i a.shares.at a.word in
     let n = (i.counted r c.live).counts c.shown in
+    let still = counted-more s k.handle x r i a.shares.at a.word in
     let m = lt-false s.ceiling (record_at s.tables r).count e in
     let g' : Tables = counted s.tables r ((record_at s.tables r).count + 1) in
     let front : Handle = part x k.lo k.hi (Counted r) in
     let of = owner-counted g' front r refl ∙ ap Some (counted-block s.tables r ((record_at s.tables r).count + 1) r) ∙ sym (owner-counted s.tables x r a.word) in
     let never : IsOver (reading s) (owner_of s.tables x) → ⊥ = subst (λ (o : Option ℕ). IsOver (reading s) o → ⊥) (sym (owner-counted s.tables x r a.word)) (λ z. omega (arith, z, n, m)) in
-    inr (inr (inr (inr (never, omega arith, made-taken s (called (with_count s r ((record_at s.tables r).count + 1)) p None) t (call_set (reading s) p None) front (part_of (read_held s.tables x) k.lo k.hi) reply (called-kept s (counted s.tables r ((record_at s.tables r).count + 1)) p None i (counted-keeps s.tables r ((record_at s.tables r).count + 1)) refl) (ap (λ (b : Option ℕ). record { kind = View; block = b; place = x.ptr + k.lo; len = k.hi - k.lo }) of) y))))
+    inr (inr (inr (inr (never, omega arith, made-taken s (called (with_count s r ((record_at s.tables r).count + 1)) p None) t (call_set (reading s) p None) front (part_of (read_held s.tables x) k.lo k.hi) reply (called-kept s (counted s.tables r ((record_at s.tables r).count + 1)) p None i (counted-keeps s.tables r ((record_at s.tables r).count + 1)) (λ n d l q j t. counted-let_go s.tables r ((record_at s.tables r).count + 1) q still) refl) (ap (λ (b : Option ℕ). record { kind = View; block = b; place = x.ptr + k.lo; len = k.hi - k.lo }) of) y))))
 
 pub add-goes : (s t : State) (p : ℕ) (k : Share) (r : ℕ) (memory : Bool) (reply : Reply) → IsSound s → call_at s p ≡ Some (Add k r) → IsAnswered s (gone_on s p (Add k r) memory) reply t → Goes (reading s) p (Sharing k.handle k.lo k.hi 1) memory reply (reading t)
 unfolding Goes gone_on
@@ -140,48 +141,50 @@ add-goes s t p k r memory reply i at y =
 
 -- ---- drops
 
-subtract-as : (s t : State) (p r : ℕ) (memory : Bool) (reply : Reply) (v : Bool) → IsSound s → (record_at s.tables r).live ≡ true → hidden s.calls r ≡ 0 → 0 < (record_at s.tables r).count → nat_eq (record_at s.tables r).count 1 ≡ v → IsAnswered s (cond v (more (with_count s r ((record_at s.tables r).count - 1)) p (Release r true)) (done (called (with_count s r ((record_at s.tables r).count - 1)) p None))) reply t → Goes (reading s) p (Dropping (record_at s.tables r).block false 2) memory reply (reading t)
+subtract-as : (s t : State) (p r : ℕ) (memory : Bool) (reply : Reply) (v : Bool) → IsSound s → call_at s p ≡ Some (Subtract r) → (record_at s.tables r).live ≡ true → hidden s.calls r ≡ 0 → 0 < (record_at s.tables r).count → nat_eq (record_at s.tables r).count 1 ≡ v → IsAnswered s (cond v (more (with_count s r ((record_at s.tables r).count - 1)) p (Release r)) (done (called (with_count s r ((record_at s.tables r).count - 1)) p None))) reply t → Goes (reading s) p (Dropping (record_at s.tables r).block false 2) memory reply (reading t)
 unfolding Goes
-subtract-as s t p r memory reply true i live shown some e y =
+subtract-as s t p r memory reply true i at live shown some e y =
     let m : ℕ = (record_at s.tables r).count - 1 in
     let n = (i.counted r live).counts shown in
     let one = eq-true (record_at s.tables r).count 1 e in
     let l = length-set s.tables.records r (record { count = (record_at s.tables r).count - 1; block = (record_at s.tables r).block; live = (record_at s.tables r).live }) in
     let b = counted-block s.tables r ((record_at s.tables r).count - 1) r in
-    let z = reply-taken s (called (with_count s r ((record_at s.tables r).count - 1)) p (Some (Release r true))) t (call_set (reading s) p (Some (Dropping (record_at s.tables r).block true 1))) More reply (cc (l)) (called-kept s (counted s.tables r ((record_at s.tables r).count - 1)) p (Some (Release r true)) i (counted-keeps s.tables r ((record_at s.tables r).count - 1)) refl ∙ ap (λ (b : ℕ). call_set (reading s) p (Some (Dropping b true 1))) b) y in
+    let gone = gone-after s.tables r (live-inside s.tables.records r live) one in
+    let z = reply-taken s (called (with_count s r ((record_at s.tables r).count - 1)) p (Some (Release r))) t (call_set (reading s) p (Some (Dropping (record_at s.tables r).block true 1))) More reply (cc (l)) (called-kept s (counted s.tables r ((record_at s.tables r).count - 1)) p (Some (Release r)) i (counted-keeps s.tables r ((record_at s.tables r).count - 1)) (counted-drops s p r ((record_at s.tables r).count - 1) i at) refl ∙ ap (λ (v : Bool). call_set (reading s) p (Some (Dropping (record_at (counted s.tables r ((record_at s.tables r).count - 1)) r).block v 1))) gone ∙ ap (λ (b : ℕ). call_set (reading s) p (Some (Dropping b true 1))) b) y in
     inr (inl (sym n ∙ one, omega arith, z))
-subtract-as s t p r memory reply false i live shown some e y =
+subtract-as s t p r memory reply false i at live shown some e y =
     let n = (i.counted r live).counts shown in
     let ne : (record_at s.tables r).count ≢ 1 = λ z. (let q = is-eqb (record_at s.tables r).count 1 z in cc) in
     let l = length-set s.tables.records r (record { count = (record_at s.tables r).count - 1; block = (record_at s.tables r).block; live = (record_at s.tables r).live }) in
-    let z = reply-taken s (called (with_count s r ((record_at s.tables r).count - 1)) p None) t (call_set (reading s) p None) Done reply (cc (l)) (called-kept s (counted s.tables r ((record_at s.tables r).count - 1)) p None i (counted-keeps s.tables r ((record_at s.tables r).count - 1)) refl) y in
+    let z = reply-taken s (called (with_count s r ((record_at s.tables r).count - 1)) p None) t (call_set (reading s) p None) Done reply (cc (l)) (called-kept s (counted s.tables r ((record_at s.tables r).count - 1)) p None i (counted-keeps s.tables r ((record_at s.tables r).count - 1)) (counted-drops s p r ((record_at s.tables r).count - 1) i at) refl) y in
     inl (omega (arith, n, ne, some), z.0, z.1)
 
 pub subtract-goes : (s t : State) (p r : ℕ) (memory : Bool) (reply : Reply) → IsSound s → call_at s p ≡ Some (Subtract r) → IsAnswered s (gone_on s p (Subtract r) memory) reply t → Goes (reading s) p (Dropping (record_at s.tables r).block false 2) memory reply (reading t)
 unfolding gone_on
 subtract-goes s t p r memory reply i at y =
     let a = letting-go s p r i at in
-    subtract-as s t p r memory reply (nat_eq (record_at s.tables r).count 1) i a.live a.shown a.some refl y
+    subtract-as s t p r memory reply (nat_eq (record_at s.tables r).count 1) i at a.live a.shown a.some refl y
 
 released-reads : (s : State) (p r : ℕ) → IsSound s → (record_at s.tables r).live ≡ true → reading (called (both_freed s r) p None) ≡ free_in (call_set (reading s) p None) (record_at s.tables r).block
 released-reads s p r k live =
     let e = dead-keeps s.tables r in
     let hs = handles-kept s.tables (dead s.tables r) s.calls s.handles e k.fit in
-    let cs = calls-read-kept s (dead s.tables r) s.calls e k.calls_fit in
+    let cs = calls-read-kept s (dead s.tables r) s.calls e (λ i d l q j t. dead-let_go s.tables r q) k.calls_fit in
     rw (freed-more s.tables s.freed_blocks (record_at s.tables r).block k.blocks (k.counted r live).known, map-set (read_call (dead s.tables r)) s.calls p None, hs, cs) refl
 
-pub release-goes : (s t : State) (p r : ℕ) (v memory : Bool) (reply : Reply) → IsSound s → call_at s p ≡ Some (Release r v) → IsAnswered s (gone_on s p (Release r v) memory) reply t → Goes (reading s) p (Dropping (record_at s.tables r).block v 1) memory reply (reading t)
-unfolding Goes gone_on
-release-goes s t p r true memory reply i at y =
-    let f : FitsCall s (Some (Release r true)) = subst (λ (c : Option Pending). FitsCall s c) at (i.calls_fit p None (at-some s.calls p (Release r true) at)) in
+-- the last step of a drop, by whether it has let go
+frees : (w next : World) (p b : ℕ) (v memory : Bool) (reply : Reply) → holders w b ≡ cond v 0 1 → (reply ≡ Done) × (next ≡ free_in (call_set w p None) b) → Goes w p (Dropping b v 1) memory reply next
+unfolding Goes
+frees w next p b true memory reply n z = (n, z.0, z.1)
+frees w next p b false memory reply n z = inr (inr (n, z.0, z.1))
+
+pub release-goes : (s t : State) (p r : ℕ) (memory : Bool) (reply : Reply) → IsSound s → call_at s p ≡ Some (Release r) → IsAnswered s (gone_on s p (Release r) memory) reply t → Goes (reading s) p (Dropping (record_at s.tables r).block (has_let_go s.tables r) 1) memory reply (reading t)
+unfolding gone_on
+release-goes s t p r memory reply i at y =
+    let f : FitsCall s (Some (Release r)) = subst (λ (c : Option Pending). FitsCall s c) at (i.calls_fit p None (at-some s.calls p (Release r) at)) in
     let l = length-set s.tables.records r (record { count = (record_at s.tables r).count; block = (record_at s.tables r).block; live = false }) in
     let z = reply-taken s (called (both_freed s r) p None) t (free_in (call_set (reading s) p None) (record_at s.tables r).block) Done reply (cc (l)) (released-reads s p r i f.0) y in
-    (f.2, z.0, z.1)
-release-goes s t p r false memory reply i at y =
-    let f : FitsCall s (Some (Release r false)) = subst (λ (c : Option Pending). FitsCall s c) at (i.calls_fit p None (at-some s.calls p (Release r false) at)) in
-    let l = length-set s.tables.records r (record { count = (record_at s.tables r).count; block = (record_at s.tables r).block; live = false }) in
-    let z = reply-taken s (called (both_freed s r) p None) t (free_in (call_set (reading s) p None) (record_at s.tables r).block) Done reply (cc (l)) (released-reads s p r i f.0) y in
-    inr (inr (f.2, z.0, z.1))
+    frees (reading s) (reading t) p (record_at s.tables r).block (has_let_go s.tables r) memory reply f.2 z
 
 -- ---- a clone or a slice begins
 

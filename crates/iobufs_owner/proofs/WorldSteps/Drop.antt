@@ -1,5 +1,6 @@
 -- A drop begins, read as a step of the world.
 use Rattle.std.proofs.Common.{◌≡◌, ◌⊎◌, inl, inr, ℕ, ◌<◌, ◌≤◌, Bool, true, false, cond, nat_eq, length, set, Option, Some, None, Result, Ok, Err, MatchOption, ap, sym, ◌∙◌, subst, refl, arith}
+use Rattle.std.proofs.lemmas.Bool.Decides.{nat_tests}
 use Rattle.std.proofs.Math.ListN.{length-set}
 use Rattle.std.proofs.lemmas.List.{map-set}
 use Rattle.iobufs_owner.specs.declared.owner.types.Handle.{Handle}
@@ -15,7 +16,7 @@ use Rattle.iobufs_owner.specs.declared.owner.types.Reply.{Reply}
 use Rattle.iobufs_owner.specs.declared.owner.types.Reply.TheVariants.{More, Done}
 use Rattle.iobufs_owner.specs.State.{State, owner_of, handle_at, record_at, block_at, triple}
 use Rattle.iobufs_owner.specs.World.{World, Dropping, holders, is_block}
-use Rattle.iobufs_owner.specs.Reading.{reading, read_handle, read_call}
+use Rattle.iobufs_owner.specs.Reading.{reading, read_handle, read_call, has_let_go}
 use Rattle.iobufs_owner.specs.Sound.{IsSound}
 use Rattle.iobufs_owner.specs.Moves as move
 use Rattle.iobufs_owner.specs.Moves.{done, more, called, gone, replaced, block_freed, both_freed, after_count, Lends}
@@ -45,16 +46,17 @@ drop-reads : (s : State) (p h : ℕ) (c : Pending) → reading (called (gone s h
 drop-reads s p h c = rw (map-set (read_handle s.tables) s.handles h None, map-set (read_call s.tables) s.calls p (Some c)) refl
 
 -- beside others it will subtract, alone it will free
-drop-viewed : (s t : State) (p h r : ℕ) (reply : Reply) (v : Bool) → IsAnswered s (more (gone s h) p (cond v (Release r false) (Subtract r))) reply t → (left : ℕ) × (0 < left) × (left ≤ 2) × GoesOn (held_gone (reading s) h) p (Dropping (record_at s.tables r).block false left) reply (reading t)
-drop-viewed s t p h r reply true i =
+drop-viewed : (s t : State) (p h r : ℕ) (reply : Reply) (v : Bool) → nat_eq (record_at s.tables r).count 1 ≡ v → IsAnswered s (more (gone s h) p (cond v (Release r) (Subtract r))) reply t → (left : ℕ) × (0 < left) × (left ≤ 2) × GoesOn (held_gone (reading s) h) p (Dropping (record_at s.tables r).block false left) reply (reading t)
+drop-viewed s t p h r reply true e i =
+    let still : has_let_go s.tables r ≡ false = grind (arith, nat_tests, e) in
     let l = gone-entries s h in
-    (1, omega arith, omega arith, reply-taken s (called (gone s h) p (Some (Release r false))) t (call_set (held_gone (reading s) h) p (Some (Dropping (record_at s.tables r).block false 1))) More reply (cc (l)) (drop-reads s p h (Release r false)) i)
-drop-viewed s t p h r reply false i =
+    (1, omega arith, omega arith, reply-taken s (called (gone s h) p (Some (Release r))) t (call_set (held_gone (reading s) h) p (Some (Dropping (record_at s.tables r).block false 1))) More reply (cc (l)) (drop-reads s p h (Release r) ∙ ap (λ (v : Bool). call_set (held_gone (reading s) h) p (Some (Dropping (record_at s.tables r).block v 1))) still) i)
+drop-viewed s t p h r reply false e i =
     let l = gone-entries s h in
     (2, omega arith, omega arith, reply-taken s (called (gone s h) p (Some (Subtract r))) t (call_set (held_gone (reading s) h) p (Some (Dropping (record_at s.tables r).block false 2))) More reply (cc (l)) (drop-reads s p h (Subtract r)) i)
 
 drop-kind : (s t : State) (p h r : ℕ) (x : Handle) (reply : Reply) (kind : Kind) → IsSound s → handle_at s h ≡ Some x → x.word ≡ Counted r → x.kind ≡ kind → IsAnswered s (move.drop_counted s p h r kind) reply t → Begun s p h (Some (record_at s.tables r).block) reply (reading t)
-drop-kind s t p h r x reply View k at w e i = inr (drop-viewed s t p h r reply (nat_eq (record_at s.tables r).count 1) i)
+drop-kind s t p h r x reply View k at w e i = inr (drop-viewed s t p h r reply (nat_eq (record_at s.tables r).count 1) refl i)
 drop-kind s t p h r x reply Mut k at w e i =
     let b : ℕ = (record_at s.tables r).block in
     let c = counted-at s h x r k at w in

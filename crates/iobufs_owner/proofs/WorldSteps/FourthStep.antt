@@ -263,7 +263,7 @@ near-call g (Some (Loaded k w)) = (omega arith, omega arith)
 near-call g (Some (Ready k w r)) = (omega arith, omega arith)
 near-call g (Some (Add k r)) = (omega arith, omega arith)
 near-call g (Some (Subtract r)) = (omega arith, omega arith)
-near-call g (Some (Release r let_go)) = (omega arith, omega arith)
+near-call g (Some (Release r)) = (omega arith, omega arith)
 
 pub near-start : (s : State) (p : ℕ) → IsNear (reading s) p (taken_of (going_at (reading s) p)) (going_at (reading s) p)
 near-start s p =

@@ -28,9 +28,9 @@ use Rattle.iobufs_owner.proofs.Soundness.Frames.{handles-kept}
 use Rattle.iobufs_owner.proofs.WorldSteps.Shown.{alone-reads, read_lent}
 use Rattle.iobufs_owner.proofs.Soundness.Edits.{described-at, counted-at, within, owner-redescribed, base-frozen}
 use Rattle.iobufs_owner.proofs.Soundness.Logs.{freed-more}
-use Rattle.iobufs_owner.proofs.Soundness.RecordFreed.{dead-keeps}
+use Rattle.iobufs_owner.proofs.Soundness.RecordFreed.{dead-keeps, dead-let_go}
 use Rattle.iobufs_owner.proofs.Soundness.BlockFreed.{recovered-is}
-use Rattle.iobufs_owner.proofs.Soundness.NewRecord.{recorded, recorded-keeps, recorded-new}
+use Rattle.iobufs_owner.proofs.Soundness.NewRecord.{recorded, recorded-keeps, recorded-let_go, recorded-new}
 use Rattle.iobufs_owner.proofs.WorldSteps.Taken.{refused-taken, done-taken, grown-taken, edit-taken, reads-detached, lt-true, by-test}
 
 -- ---- a handle that lets its block go
@@ -44,7 +44,7 @@ pub both-reads : (s : State) (h r : ℕ) (o : Option Handle) → IsSound s → (
 both-reads s h r o k live =
     let e = dead-keeps s.tables r in
     let hs = handles-kept s.tables (dead s.tables r) s.calls s.handles e k.fit in
-    let cs = calls-read-kept s (dead s.tables r) s.calls e k.calls_fit in
+    let cs = calls-read-kept s (dead s.tables r) s.calls e (λ i d l q j t. dead-let_go s.tables r q) k.calls_fit in
     rw (freed-more s.tables s.freed_blocks (record_at s.tables r).block k.blocks (k.counted r live).known, map-set (read_handle (dead s.tables r)) s.handles h o, hs, cs) refl
 
 -- what stands after an empty handle is frozen
@@ -71,7 +71,7 @@ pub promoted-reads : (s : State) (h b n : ℕ) (x y : Handle) (z : Held) → IsS
 promoted-reads s h b n x y z k at e =
     let q = recorded-keeps s.tables n b in
     let hs = handles-kept s.tables (recorded s.tables n b) s.calls s.handles q k.fit in
-    let cs = calls-read-kept s (recorded s.tables n b) s.calls q k.calls_fit in
+    let cs = calls-read-kept s (recorded s.tables n b) s.calls q (λ i d l v j t. recorded-let_go s.tables n b v t) k.calls_fit in
     rw (map-set (read_handle (recorded s.tables n b)) s.handles h (Some y), hs, cs, e) refl
 
 -- a handle with the new record is one of its block

@@ -23,7 +23,7 @@ use Rattle.iobufs_owner.proofs.Soundness.Kept.{owner-counted}
 use Rattle.iobufs_owner.proofs.Soundness.Frames.{grown, grown-keeps, handles-kept}
 use Rattle.iobufs_owner.proofs.Soundness.Logs.{fresh-log}
 use Rattle.iobufs_owner.proofs.Soundness.New.{other-base, first-owner}
-use Rattle.iobufs_owner.proofs.Soundness.NewRecord.{recorded-new, both, both-keeps}
+use Rattle.iobufs_owner.proofs.Soundness.NewRecord.{recorded-new, recorded-let_go, both, both-keeps}
 use Rattle.iobufs_owner.proofs.Words.{fits-room, fits-true}
 use Rattle.iobufs_owner.proofs.WorldSteps.Taken.{refused-taken, made-taken}
 
@@ -37,14 +37,14 @@ described-reads : (s : State) (b : Block) → IsSound s → IsGoodPlace s.tables
 described-reads s b k good =
     let e = grown-keeps s.tables b in
     let hs = handles-kept s.tables (grown s.tables b) s.calls s.handles e k.fit in
-    let cs = calls-read-kept s (grown s.tables b) s.calls e k.calls_fit in
+    let cs = calls-read-kept s (grown s.tables b) s.calls e (λ i d l q j t. refl) k.calls_fit in
     rw (block-reads s b k good, hs, cs) refl
 
 recorded-reads : (s : State) (b : Block) → IsSound s → IsGoodPlace s.tables.blocks b.base b.size b.align → reading (with_record (with_block s b) 1 (length s.tables.blocks)) ≡ block_more (reading s) b
 recorded-reads s b k good =
     let e = both-keeps s.tables b in
     let hs = handles-kept s.tables (both s.tables b) s.calls s.handles e k.fit in
-    let cs = calls-read-kept s (both s.tables b) s.calls e k.calls_fit in
+    let cs = calls-read-kept s (both s.tables b) s.calls e (λ i d l q j t. recorded-let_go (grown s.tables b) 1 (length s.tables.blocks) q t) k.calls_fit in
     rw (block-reads s b k good, hs, cs) refl
 
 -- the handle on a block that a record counts

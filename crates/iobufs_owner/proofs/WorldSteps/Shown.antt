@@ -34,7 +34,7 @@ borrow-reads g h (Some (Loaded k w)) = refl
 borrow-reads g h (Some (Ready k w r)) = refl
 borrow-reads g h (Some (Add k r)) = refl
 borrow-reads g h (Some (Subtract r)) = refl
-borrow-reads g h (Some (Release r let_go)) = refl
+borrow-reads g h (Some (Release r)) = refl
 
 pub shared-reads : (g : Tables) (h : ℕ) (cs : List (Option Pending)) → is_shared h (map (read_call g) cs) ≡ is_lent h cs
 shared-reads g h [] = refl

@@ -10,7 +10,7 @@ use Rattle.iobufs_owner.specs.declared.owner.types.Refusal.TheVariants.{OutOfRan
 use Rattle.iobufs_owner.specs.declared.owner.types.Reply.{Reply}
 use Rattle.iobufs_owner.specs.State.{State, Tables, owner_of, owned_by, record_at}
 use Rattle.iobufs_owner.specs.World.{World, Held, is_block}
-use Rattle.iobufs_owner.specs.Reading.{reading, read_held, read_handle}
+use Rattle.iobufs_owner.specs.Reading.{reading, read_held, read_handle, has_let_go}
 use Rattle.iobufs_owner.specs.Sound.{IsSound}
 use Rattle.iobufs_owner.specs.Moves as move
 use Rattle.iobufs_owner.specs.Moves.{refused, made, edited, part, counted, with_count, promoted, next_record, lend_of, Lends}
@@ -24,7 +24,7 @@ use Rattle.iobufs_owner.proofs.Soundness.Frames.{handles-kept, is-eqb}
 use Rattle.iobufs_owner.proofs.WorldSteps.Shown.{alone-reads, read_lent}
 use Rattle.iobufs_owner.proofs.Soundness.Edits.{described-at, counted-at, alone-at, alone-described}
 use Rattle.iobufs_owner.proofs.Soundness.NewRecord.{recorded}
-use Rattle.iobufs_owner.proofs.Soundness.AddHolder.{counted-keeps, counted-block}
+use Rattle.iobufs_owner.proofs.Soundness.AddHolder.{counted-keeps, counted-let_go, counted-more, counted-block}
 use Rattle.iobufs_owner.proofs.WorldSteps.Freeze.{promoted-reads, recorded-owner}
 use Rattle.iobufs_owner.proofs.WorldSteps.Taken.{refused-taken, made-taken, reads-edited, reads-detached, by-test, lt-true, lt-false}
 
@@ -40,11 +40,11 @@ room-or-made : (P Q R : Type 0) → Q ⊎ R → P ⊎ Q ⊎ R
 room-or-made P Q R (inl q) = inr (inl q)
 room-or-made P Q R (inr r) = inr (inr r)
 
-pub counted-reads : (s : State) (h r n : ℕ) (y : Handle) (z : Held) → IsSound s → read_held (counted s.tables r n) y ≡ z → reading (edited (with_count s r n) h y) ≡ held_set (reading s) h z
-counted-reads s h r n y z k e =
+pub counted-reads : (s : State) (h r n : ℕ) (y : Handle) (z : Held) → IsSound s → nat_eq n 0 ≡ has_let_go s.tables r → read_held (counted s.tables r n) y ≡ z → reading (edited (with_count s r n) h y) ≡ held_set (reading s) h z
+counted-reads s h r n y z k same e =
     let q = counted-keeps s.tables r n in
     let hs = handles-kept s.tables (counted s.tables r n) s.calls s.handles q k.fit in
-    let cs = calls-read-kept s (counted s.tables r n) s.calls q k.calls_fit in
+    let cs = calls-read-kept s (counted s.tables r n) s.calls q (λ i d l v j t. counted-let_go s.tables r n v same) k.calls_fit in
     rw (map-set (read_handle (counted s.tables r n)) s.handles h (Some y), hs, cs, e) refl
 
 split-described : (s t : State) (h at v : ℕ) (x : Handle) (memory : Bool) (reply : Reply) → IsSound s → Lends s h View x → x.word ≡ Descriptor v → IsAnswered s (move.split_by s h at memory x (Descriptor v)) reply t → Denied (reading s) (owner_of s.tables x) memory reply (reading t) ⊎ NoRoom (reading s) reply (reading t) ⊎ Makes (held_set (reading s) h (part_of (read_held s.tables x) at x.len)) (part_of (read_held s.tables x) 0 at) reply (reading t)
@@ -83,7 +83,7 @@ split-counted s t h at r x memory reply false k l w e i =
     let zf : read_held g' front ≡ part_of (read_held s.tables x) 0 at = ap (λ (b : Option ℕ). record { kind = View; block = b; place = x.ptr + 0; len = at - 0 }) of in
     inr (
       λ z. omega (arith, z, n, m),
-      room-or-made _ _ _ (made-taken s (edited (with_count s r ((record_at s.tables r).count + 1)) h back) t (held_set (reading s) h (part_of (read_held s.tables x) at x.len)) front (part_of (read_held s.tables x) 0 at) reply (counted-reads s h r ((record_at s.tables r).count + 1) back (part_of (read_held s.tables x) at x.len) k zb) zf i),
+      room-or-made _ _ _ (made-taken s (edited (with_count s r ((record_at s.tables r).count + 1)) h back) t (held_set (reading s) h (part_of (read_held s.tables x) at x.len)) front (part_of (read_held s.tables x) 0 at) reply (counted-reads s h r ((record_at s.tables r).count + 1) back (part_of (read_held s.tables x) at x.len) k (counted-more s h x r k l.at w) zb) zf i),
     )
 
 split-word : (s t : State) (h at : ℕ) (x : Handle) (memory : Bool) (reply : Reply) (w : Word) → IsSound s → Lends s h View x → x.word ≡ w → IsAnswered s (move.split_by s h at memory x w) reply t → Splits s h at x memory (owner_of s.tables x) reply (reading t)

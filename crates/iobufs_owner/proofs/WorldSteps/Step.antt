@@ -50,13 +50,13 @@ acts s t p (Begin call memory) (Some (Loaded part w)) o reply k n b i = refused-
 acts s t p (Begin call memory) (Some (Ready part w r)) o reply k n b i = refused-taken s t Busy reply (by-outcome s t o _ reply b i)
 acts s t p (Begin call memory) (Some (Add part r)) o reply k n b i = refused-taken s t Busy reply (by-outcome s t o _ reply b i)
 acts s t p (Begin call memory) (Some (Subtract r)) o reply k n b i = refused-taken s t Busy reply (by-outcome s t o _ reply b i)
-acts s t p (Begin call memory) (Some (Release r v)) o reply k n b i = refused-taken s t Busy reply (by-outcome s t o _ reply b i)
+acts s t p (Begin call memory) (Some (Release r)) o reply k n b i = refused-taken s t Busy reply (by-outcome s t o _ reply b i)
 acts s t p (Go memory) None o reply k n b i = refused-taken s t Idle reply (by-outcome s t o _ reply b i)
 acts s t p (Go memory) (Some (Loaded part w)) o reply k n b i = loaded-goes s t p part w memory reply k n (by-outcome s t o _ reply b i)
 acts s t p (Go memory) (Some (Ready part w r)) o reply k n b i = ready-goes s t p part w r memory reply k n (by-outcome s t o _ reply b i)
 acts s t p (Go memory) (Some (Add part r)) o reply k n b i = add-goes s t p part r memory reply k n (by-outcome s t o _ reply b i)
 acts s t p (Go memory) (Some (Subtract r)) o reply k n b i = subtract-goes s t p r memory reply k n (by-outcome s t o _ reply b i)
-acts s t p (Go memory) (Some (Release r v)) o reply k n b i = release-goes s t p r v memory reply k n (by-outcome s t o _ reply b i)
+acts s t p (Go memory) (Some (Release r)) o reply k n b i = release-goes s t p r memory reply k n (by-outcome s t o _ reply b i)
 
 by-party : (s t : State) (step : Step) (o : Outcome) (reply : Reply) (v : Bool) → IsSound s → MatchBool v (IsMovedAt s step.party step.act (call_at s step.party) o) (o ≡ refused s Idle) → IsAnswered s o reply t → MatchBool v (ActsAt (reading s) step.party step.act (read_call s.tables (call_at s step.party)) reply (reading t)) (Refuses (reading s) Idle reply (reading t))
 by-party s t step o reply true k m i = acts s t step.party step.act (call_at s step.party) o reply k refl m i

@@ -15,7 +15,7 @@ fn after_count(count: u64, r: usize) -> Pending
     ensures { result ≡ move.after_count count r }
 {
     if count == 1 {
-        Pending::Release(r, false)
+        Pending::Release(r)
     } else {
         Pending::Subtract(r)
     }
@@ -102,7 +102,7 @@ impl Machine {
             ..record
         };
         if record.count == 1 {
-            self.calls[party] = Some(Pending::Release(r, true));
+            self.calls[party] = Some(Pending::Release(r));
             return Reply::More;
         }
         self.calls[party] = None;
@@ -110,8 +110,8 @@ impl Machine {
     }
 
     /// The last step of a drop: record and block are freed.
-    pub(super) fn release(&mut self, party: usize, r: usize, let_go: bool) -> Reply
-        requires { call_at self.old.state party ≡ Some (Release r let_go) }
+    pub(super) fn release(&mut self, party: usize, r: usize) -> Reply
+        requires { call_at self.old.state party ≡ Some (Release r) }
         ensures reply { result ≡ (release_of self.old.state party r).reply }
         ensures state { self.new.state ≡ (release_of self.old.state party r).state }
     {

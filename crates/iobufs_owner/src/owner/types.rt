@@ -77,8 +77,8 @@ pub enum Pending {
     Add(Share, usize),
     /// A drop subtracts its holder from the record of this number.
     Subtract(usize),
-    /// A drop frees the record of this number and its block; whether the drop has subtracted.
-    Release(usize, bool),
+    /// A drop frees the record of this number and its block. A count of 0 says that it has let go; a count of 1 is its own.
+    Release(usize),
 }
 
 /// A block that was freed.

@@ -1,4 +1,4 @@
-use Rattle.std.proofs.Common.{◌≡◌, ◌-◌, Option, Some, sym, subst, ap, None, true}
+use Rattle.std.proofs.Common.{◌≡◌, ◌-◌, Option, Some, sym, subst, ap, None}
 use Rattle.std.proofs.Math.ListN.{length-set}
 use Rattle.iobufs_owner.specs.declared.owner.types.Pending.{Pending}
 use Rattle.iobufs_owner.specs.declared.owner.types.Pending.TheVariants.{Subtract, Release}
@@ -27,7 +27,7 @@ invariant_of-self c =
     let at = subst (λ (s : State). call_at s c.args.party ≡ Some (Subtract c.args.r)) (sym (ap (λ (m : Seen). m.state) c.self.view_is)) c.requires in
     let e = subst (λ (s : State). c.record-record.result ≡ record_at s.tables c.args.r) (sym (ap (λ (m : Seen). m.state) c.self.view_is)) c.record-record.ensures in
     let one = rw e at c.if-record-eq1.true in
-    record { sound = rw e (subst (λ (o : Option Pending). IsSound (called (with_count s c.args.r ((record_at s.tables c.args.r).count - 1)) c.args.party o)) (afterwards-one c.args.r (record_at s.tables c.args.r).count one) (sound-subtracted s c.args.party c.args.r k.sound at)); block_room = k.block_room; record_room = rw length-set k.record_room; borrows_kept = k.borrows_kept; places = k.places; borrowed = counts-same c.self.inside.borrows.items c.self.inside.calls.items c.args.party (Some (Release c.args.r true)) (at-some s.calls c.args.party (Subtract c.args.r) at) (λ h. ap (borrows_it h) at) k.borrowed }
+    record { sound = rw e (subst (λ (o : Option Pending). IsSound (called (with_count s c.args.r ((record_at s.tables c.args.r).count - 1)) c.args.party o)) (afterwards-one c.args.r (record_at s.tables c.args.r).count one) (sound-subtracted s c.args.party c.args.r k.sound at)); block_room = k.block_room; record_room = rw length-set k.record_room; borrows_kept = k.borrows_kept; places = k.places; borrowed = counts-same c.self.inside.borrows.items c.self.inside.calls.items c.args.party (Some (Release c.args.r)) (at-some s.calls c.args.party (Subtract c.args.r) at) (λ h. ap (borrows_it h) at) k.borrowed }
 
 pub invariant_of-self-2 : goal.invariant_of-self-2
 invariant_of-self-2 c =
