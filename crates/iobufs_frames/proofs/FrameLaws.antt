@@ -1,0 +1,363 @@
+-- The frames of a text: there is one list of them, and it grows with the text at its end alone.
+use Rattle.std.proofs.Common.{◌≡◌, ◌⊎◌, inl, inr, ℕ, ◌+◌, ◌-◌, ◌^◌, ◌<◌, ◌≤◌, Bool, true, false, Option, None, Some, Result, Ok, Err, IfOk, OnOk, List, [], ◌∷◌, ◌++◌, length, take, drop, ap, sym, subst, ◌∙◌, refl, arith, append_assoc, length-append, take-add}
+use Rattle.std.specs.Prelude.{nat_lt}
+use Rattle.std.proofs.Math.Seq.{take-append-add}
+use Rattle.std.proofs.lemmas.Bool.{ltb-true, ltb-false}
+use Rattle.std.proofs.lemmas.Bool.Decides.{nat_tests}
+use Rattle.std.proofs.lemmas.Grind.{common_steps}
+use Rattle.std.proofs.lemmas.List.{append_cancel_left, append-nil, map-append, length-drop, length-take, length-take-le, take-append-drop, take_at, take-append-le}
+use Rattle.iobufs_core.specs.Ranges.{in_range}
+use Rattle.iobufs_core.specs.Spelled.{length-spell, none_high, spelled, spelled_as_one, spelled_before, spelled_front}
+use Rattle.iobufs_core.specs.Spelling.{spell, IsSpelledAt, IsSpelling, AreHigh, HasNoLength, IsOpen}
+use Rattle.iobufs_core.specs.View.{View}
+use Rattle.iobufs_core.specs.MarkedText.{MarkedText, taken_view, text_append, text_rest, text_right}
+use Rattle.iobufs_core.specs.ReadBytes.{bytes-taken_view}
+use Rattle.iobufs_core.specs.Wire.{HasView, IsViewRead, bytes_written, view_written}
+use Rattle.iobufs_core.specs.declared.codec.base.Error.{Error}
+use Rattle.iobufs_core.specs.declared.codec.base.Error.TheVariants.{EndOfBuffer, InvalidVarint, InvalidLength, Memory, BadLayout, TooLong}
+use Rattle.iobufs_core.specs.declared.codec.base.RangeCfg.{RangeCfg}
+use Rattle.iobufs.specs.JoinedLaws.{bytes-append}
+use Rattle.iobufs_frames.specs.Frames.{frames_written, AreAdmitted, AreMoved, HasNoFrame, IsFramed, IsNext, IsFirst, bodies, found_of}
+use Rattle.iobufs_frames.specs.declared.End.{End}
+use Rattle.iobufs_frames.specs.declared.End.TheVariants.{Open, Bad}
+
+-- ---- why no frame stands in front
+
+-- the front is bad
+IsBad : RangeCfg → List ℕ → Error → Type 0
+IsBad range bytes error =
+    ((error ≡ InvalidVarint) × HasNoLength bytes × (IsOpen bytes → ⊥))
+    ⊎ ((n : ℕ) × (error ≡ InvalidLength n) × IsSpelledAt bytes n × (in_range range n ≡ false))
+
+bad : (range : RangeCfg) (bytes : List ℕ) (error : Error) → HasNoFrame range bytes (Bad error) → IsBad range bytes error
+unfolding IsBad
+bad range bytes EndOfBuffer h = absurd h
+bad range bytes InvalidVarint h = inl (refl, h.0, h.1)
+bad range bytes (InvalidLength n) h = inr (n, refl, h.0, h.1)
+bad range bytes Memory h = absurd h
+bad range bytes BadLayout h = absurd h
+bad range bytes TooLong h = absurd h
+
+-- a length in the range and one outside it are two
+not_both : (range : RangeCfg) (bytes : List ℕ) (m n : ℕ) → IsSpelledAt bytes m → in_range range m ≡ true → IsSpelledAt bytes n → in_range range n ≡ false → ⊥
+not_both range bytes m n p inside q outside =
+    let same : m ≡ n = spelled_as_one bytes m n p q in
+    let both : true ≡ false = sym inside ∙ ap (in_range range) same ∙ outside in cc
+
+-- open and bad are two
+open_or_bad : (range : RangeCfg) (bytes : List ℕ) (error : Error) → HasNoFrame range bytes Open → HasNoFrame range bytes (Bad error) → ⊥
+unfolding IsBad
+open_or_bad range bytes error p q =
+    elim (bad range bytes error q) [
+      | inl none ↦ elim p [ inl opened ↦ none.2 opened.1 | inr short ↦ none.1 short.0 short.1.0 ]
+      | inr out ↦ elim p [
+        | inl opened ↦ opened.0 out.0 out.2
+        | inr short ↦ not_both range bytes short.0 out.0 short.1.0 short.1.1 out.2 out.3
+      ]
+    ]
+
+one_bad : (range : RangeCfg) (bytes : List ℕ) (a b : Error) → HasNoFrame range bytes (Bad a) → HasNoFrame range bytes (Bad b) → a ≡ b
+unfolding IsBad
+one_bad range bytes a b p q =
+    elim (bad range bytes a p) [
+      | inl none ↦ elim (bad range bytes b q) [ inl nor ↦ none.0 ∙ sym nor.0 | inr out ↦ absurd (none.1 out.0 out.2) ]
+      | inr out ↦ elim (bad range bytes b q) [
+        | inl none ↦ absurd (none.1 out.0 out.2)
+        | inr too ↦ out.1 ∙ ap InvalidLength (spelled_as_one bytes out.0 too.0 out.2 too.2) ∙ sym too.1
+      ]
+    ]
+
+one_end : (range : RangeCfg) (bytes : List ℕ) (a b : End) → HasNoFrame range bytes a → HasNoFrame range bytes b → a ≡ b
+one_end range bytes Open Open p q = refl
+one_end range bytes Open (Bad b) p q = absurd (open_or_bad range bytes b p q)
+one_end range bytes (Bad a) Open p q = absurd (open_or_bad range bytes a q p)
+one_end range bytes (Bad a) (Bad b) p q = ap Bad (one_bad range bytes a b p q)
+
+-- ---- a frame in front
+
+-- its length is spelled there, and there are its bytes
+spelled_in_front : (body more : List ℕ) → length body < 2 ^ 64 → IsSpelledAt (bytes_written body ++ more) (length body)
+spelled_in_front body more small =
+    subst (λ (xs : List ℕ). IsSpelledAt xs (length body)) (sym (append_assoc (spell (length body)) body more)) (spelled_before (length body) (body ++ more) small)
+
+length-in_front : (body more : List ℕ) → length (spell (length body)) + length body ≤ length (bytes_written body ++ more)
+length-in_front body more = omega (arith, length-append (bytes_written body) more, length-append (spell (length body)) body)
+
+-- it is there
+stands : (range : RangeCfg) (body more : List ℕ) (end : End) → length body < 2 ^ 64 → in_range range (length body) ≡ true
+    → HasNoFrame range (bytes_written body ++ more) end → ⊥
+unfolding IsBad
+stands range body more Open small inside h =
+    let at = spelled_in_front body more small in
+    elim h [
+      | inl opened ↦ opened.0 (length body) at
+      | inr short ↦
+          let same : short.0 ≡ length body = spelled_as_one (bytes_written body ++ more) short.0 (length body) short.1.0 at in
+          let sum : length (spell short.0) + short.0 ≡ length (spell (length body)) + length body = ap (λ k. length (spell k) + k) same in
+          let less = short.2 in
+          let long = length-in_front body more in absurd (omega arith)
+    ]
+stands range body more (Bad error) small inside h =
+    let at = spelled_in_front body more small in
+    elim (bad range (bytes_written body ++ more) error h) [
+      | inl none ↦ none.1 (length body) at
+      | inr out ↦ not_both range (bytes_written body ++ more) (length body) out.0 at inside out.2 out.3
+    ]
+
+-- two frames in front are one
+one_front : (a b x y : List ℕ) → length a < 2 ^ 64 → length b < 2 ^ 64 → bytes_written a ++ x ≡ bytes_written b ++ y → (a ≡ b) × (x ≡ y)
+one_front a b x y p q e =
+    let at = spelled_in_front a x p in
+    let at' : IsSpelledAt (bytes_written a ++ x) (length b) = subst (λ (xs : List ℕ). IsSpelledAt xs (length b)) (sym e) (spelled_in_front b y q) in
+    let same : length a ≡ length b = spelled_as_one (bytes_written a ++ x) (length a) (length b) at at' in
+    let whole : spell (length a) ++ (a ++ x) ≡ spell (length a) ++ (b ++ y) =
+    sym (append_assoc (spell (length a)) a x) ∙ e ∙ append_assoc (spell (length b)) b y ∙ ap (λ k. spell k ++ (b ++ y)) (sym same) in
+    let behind : a ++ x ≡ b ++ y = append_cancel_left (spell (length a)) (a ++ x) (b ++ y) whole in
+    let first : a ≡ b = sym (take_at a x (length a) refl) ∙ ap (take (length a)) behind ∙ take_at b y (length a) (sym same) in
+    (first, append_cancel_left a x y (behind ∙ ap (λ xs. xs ++ y) (sym first)))
+
+-- ---- one list of frames
+
+pub framed_once : (range : RangeCfg) (text : List ℕ) (fs gs : List (List ℕ)) (a b : End) (x y : List ℕ)
+    → text ≡ frames_written fs ++ x → AreAdmitted range fs → HasNoFrame range x a
+    → text ≡ frames_written gs ++ y → AreAdmitted range gs → HasNoFrame range y b
+    → (fs ≡ gs) × (a ≡ b) × (x ≡ y)
+framed_once range text [] [] a b x y e p h e' q h' =
+    let same : x ≡ y = sym e ∙ e' in
+    (refl, one_end range y a b (subst (λ (xs : List ℕ). HasNoFrame range xs a) same h) h', same)
+framed_once range text [] (g ∷ gs) a b x y e p h e' q h' =
+    let front : x ≡ bytes_written g ++ (frames_written gs ++ y) = sym e ∙ e' ∙ append_assoc (bytes_written g) (frames_written gs) y in
+    absurd (stands range g (frames_written gs ++ y) a q.0 q.1 (subst (λ (xs : List ℕ). HasNoFrame range xs a) front h))
+framed_once range text (f ∷ fs) [] a b x y e p h e' q h' =
+    let front : y ≡ bytes_written f ++ (frames_written fs ++ x) = sym e' ∙ e ∙ append_assoc (bytes_written f) (frames_written fs) x in
+    absurd (stands range f (frames_written fs ++ x) b p.0 p.1 (subst (λ (xs : List ℕ). HasNoFrame range xs b) front h'))
+framed_once range text (f ∷ fs) (g ∷ gs) a b x y e p h e' q h' =
+    let left : text ≡ bytes_written f ++ (frames_written fs ++ x) = e ∙ append_assoc (bytes_written f) (frames_written fs) x in
+    let right : text ≡ bytes_written g ++ (frames_written gs ++ y) = e' ∙ append_assoc (bytes_written g) (frames_written gs) y in
+    let (first, behind) = one_front f g (frames_written fs ++ x) (frames_written gs ++ y) p.0 q.0 (sym left ∙ right) in
+    let (others, ends, rests) = framed_once range (frames_written fs ++ x) fs gs a b x y refl p.2 h behind q.2 h' in
+    (ap (λ body. body ∷ fs) first ∙ ap (λ more. g ∷ more) others, ends, rests)
+
+-- ---- a text that grows
+
+-- what is in front of a spelling's last byte has the top bit set
+before_last : (front : List ℕ) (c : ℕ) (behind : List ℕ) (n : ℕ) → IsSpelling (front ++ c ∷ behind) n → AreHigh front
+before_last [] c behind n is = tt
+before_last (b ∷ []) c behind n is = (is.0, tt)
+before_last (b ∷ d ∷ front) c behind n is = (is.0, before_last (d ∷ front) c behind is.2 is.5)
+
+before_end : (front behind : List ℕ) (n : ℕ) → 0 < length behind → IsSpelling (front ++ behind) n → AreHigh front
+before_end front [] n some is = absurd (omega arith)
+before_end front (c ∷ behind) n some is = before_last front c behind n is
+
+within_or_beyond : (m k : ℕ) (t : Bool) → nat_lt m k ≡ t → (k ≤ m) ⊎ (m < k)
+within_or_beyond m k true e = inr (ltb-true m k e)
+within_or_beyond m k false e = inl (ltb-false m k e)
+
+take_beyond : (k : ℕ) (xs ys : List ℕ) → length xs < k → take k (xs ++ ys) ≡ xs ++ take (k - length xs) ys
+take_beyond k xs ys beyond =
+    let sum : k ≡ length xs + (k - length xs) = omega arith in
+    ap (λ m. take m (xs ++ ys)) sum ∙ take-append-add xs ys (k - length xs)
+
+high_front : (xs ys : List ℕ) → AreHigh (xs ++ ys) → AreHigh xs
+high_front [] ys high = tt
+high_front (b ∷ bs) ys high = (high.0, high_front bs ys high.1)
+
+take_whole_length : (k : ℕ) (xs : List ℕ) → length (take k xs) ≡ k → k ≤ length xs
+take_whole_length k xs e = omega (arith, length-take k xs)
+
+-- a length that is spelled in front still is where more bytes follow
+spelled_later : (bytes more : List ℕ) (n : ℕ) → IsSpelledAt bytes n → IsSpelledAt (bytes ++ more) n
+spelled_later bytes more n at =
+    let long : length (spell n) ≤ length bytes = take_whole_length (length (spell n)) bytes (ap (λ (xs : List ℕ). length xs) at.1) in
+    (at.0, take-append-le (length (spell n)) bytes more long ∙ at.1)
+
+-- where no length is spelled, nor may one have begun, more bytes behind spell none
+no_length_later : (bytes more : List ℕ) → HasNoLength bytes → (IsOpen bytes → ⊥) → HasNoLength (bytes ++ more)
+no_length_later bytes more none closed n at =
+    let k = length (spell n) in
+    elim (within_or_beyond (length bytes) k (nat_lt (length bytes) k) refl) [
+      | inl within ↦ none n (at.0, sym (take-append-le k bytes more within) ∙ at.1)
+      | inr beyond ↦
+          let is : IsSpelling (take k (bytes ++ more)) n = spelled_front (bytes ++ more) n at in
+          let split : take k (bytes ++ more) ≡ bytes ++ take (k - length bytes) more = take_beyond k bytes more beyond in
+          let short = length-spell n in
+          let long : length (take k (bytes ++ more)) ≡ k = ap (λ (xs : List ℕ). length xs) at.1 in
+          let some : 0 < length (take (k - length bytes) more) =
+          omega (arith, long, ap (λ (xs : List ℕ). length xs) split, length-append bytes (take (k - length bytes) more)) in
+          closed (omega arith, before_end bytes (take (k - length bytes) more) n some (subst (λ (xs : List ℕ). IsSpelling xs n) split is))
+    ]
+
+still_closed : (bytes more : List ℕ) → (IsOpen bytes → ⊥) → IsOpen (bytes ++ more) → ⊥
+still_closed bytes more closed opened =
+    closed (let less = opened.0 in omega (arith, length-append bytes more), high_front bytes more opened.1)
+
+-- a bad front stays bad, whatever follows
+pub stays_bad : (range : RangeCfg) (bytes more : List ℕ) (error : Error) → HasNoFrame range bytes (Bad error) → HasNoFrame range (bytes ++ more) (Bad error)
+stays_bad range bytes more EndOfBuffer h = absurd h
+stays_bad range bytes more InvalidVarint h = (no_length_later bytes more h.0 h.1, still_closed bytes more h.1)
+stays_bad range bytes more (InvalidLength n) h = (spelled_later bytes more n h.0, h.1)
+stays_bad range bytes more Memory h = absurd h
+stays_bad range bytes more BadLayout h = absurd h
+stays_bad range bytes more TooLong h = absurd h
+
+-- ---- one frame taken
+
+bytes-rest : (t : MarkedText) (n : ℕ) → (text_rest t n).bytes ≡ drop n t.bytes
+unfolding text_right
+bytes-rest t n = grind (arith, nat_tests, common_steps)
+
+-- what is read is the frame in front
+front_taken : (range : RangeCfg) (t : MarkedText) (view : View) (n : ℕ) → HasView t range n → view ≡ taken_view t (length (spell n)) n
+    → (length view.bytes ≡ n) × (t.bytes ≡ bytes_written view.bytes ++ drop (length (bytes_written view.bytes)) t.bytes)
+front_taken range t view n has is =
+    let k = length (spell n) in
+    let behind = drop k t.bytes in
+    let taken : view.bytes ≡ take n behind = ap (λ (v : View). v.bytes) is ∙ bytes-taken_view t k n in
+    let within = has.1 in
+    let left : n ≤ length behind = omega (arith, length-drop k t.bytes) in
+    let len : length view.bytes ≡ n = ap (λ (xs : List ℕ). length xs) taken ∙ length-take-le n behind left in
+    let long : k + n ≡ length (bytes_written view.bytes) =
+    let spelled : k ≡ length (spell (length view.bytes)) = ap (λ m. length (spell m)) (sym len) in omega (arith, length-append (spell (length view.bytes)) view.bytes) in
+    let front : take (k + n) t.bytes ≡ bytes_written view.bytes =
+    take-add k n t.bytes ∙ ap (λ xs. xs ++ take n behind) has.0.0.1 ∙ ap (λ xs. spell n ++ xs) (sym taken) ∙ ap (λ m. spell m ++ view.bytes) (sym len) in
+    let whole : t.bytes ≡ take (k + n) t.bytes ++ drop (k + n) t.bytes = sym (take-append-drop (k + n) t.bytes) in
+    (len, whole ∙ ap (λ xs. xs ++ drop (k + n) t.bytes) front ∙ ap (λ m. bytes_written view.bytes ++ drop m t.bytes) long)
+
+next_by_reading : (range : RangeCfg) (t new : MarkedText) (read : Result View Error) → IsViewRead t range read
+    → IfOk read (λ view. new ≡ text_rest t (length (view_written view))) → IsNext range t.bytes (found_of read) new.bytes
+next_by_reading range t new (Ok view) h left =
+    let (len, whole) = front_taken range t view h.0 h.1 h.2 in (
+      let small = h.1.0.0.0 in omega arith,
+      ap (in_range range) len ∙ h.1.0.1,
+      whole ∙ ap (λ xs. bytes_written view.bytes ++ xs) (sym (ap (λ (x : MarkedText). x.bytes) left ∙ bytes-rest t (length (view_written view)))),
+    )
+next_by_reading range t new (Err EndOfBuffer) h left = h
+next_by_reading range t new (Err InvalidVarint) h left = h
+next_by_reading range t new (Err (InvalidLength n)) h left = h
+next_by_reading range t new (Err Memory) h left = tt
+next_by_reading range t new (Err BadLayout) h left = h
+next_by_reading range t new (Err TooLong) h left = h
+
+pub next_is : (range : RangeCfg) (t new : MarkedText) (read : Result View Error) (result : Result (Option View) Error) → result ≡ found_of read → IsViewRead t range read
+    → IfOk read (λ view. new ≡ text_rest t (length (view_written view))) → IsNext range t.bytes result new.bytes
+next_is range t new read result e h left = subst (λ r. IsNext range t.bytes r new.bytes) (sym e) (next_by_reading range t new read h left)
+
+-- a text without a frame in front has none
+none_in_front : (range : RangeCfg) (old : List ℕ) (end now : End) (frames : List (List ℕ)) (rest : List ℕ) → HasNoFrame range old now
+    → IsFramed range old frames end rest → (frames ≡ []) × (end ≡ now)
+none_in_front range old end now [] rest h is =
+    (refl, one_end range rest end now is.ends (subst (λ (xs : List ℕ). HasNoFrame range xs now) is.whole h))
+none_in_front range old end now (f ∷ fs) rest h is =
+    let front : old ≡ bytes_written f ++ (frames_written fs ++ rest) = is.whole ∙ append_assoc (bytes_written f) (frames_written fs) rest in
+    let admitted = is.admitted in
+    absurd (stands range f (frames_written fs ++ rest) now admitted.0 admitted.1 (subst (λ (xs : List ℕ). HasNoFrame range xs now) front h))
+
+first_taken : (range : RangeCfg) (old new : List ℕ) (view : View) (end : End) (frames : List (List ℕ)) (rest : List ℕ)
+    → length view.bytes < 2 ^ 64 → in_range range (length view.bytes) ≡ true → old ≡ bytes_written view.bytes ++ new
+    → IsFramed range old frames end rest → IsFirst range frames end rest (Ok (Some view)) new
+first_taken range old new view end [] rest small inside e is =
+    absurd (stands range view.bytes new end small inside (subst (λ (xs : List ℕ). HasNoFrame range xs end) (sym is.whole ∙ e) is.ends))
+first_taken range old new view end (f ∷ fs) rest small inside e is =
+    let admitted = is.admitted in
+    let whole : old ≡ bytes_written f ++ (frames_written fs ++ rest) = is.whole ∙ append_assoc (bytes_written f) (frames_written fs) rest in
+    let (same, behind) = one_front view.bytes f new (frames_written fs ++ rest) small admitted.0 (sym e ∙ whole) in
+    (fs, ap (λ body. body ∷ fs) (sym same), record { whole = behind; admitted = admitted.2; ends = is.ends })
+
+-- what is taken of a text is the first of its frames, and the answer without one is by its end
+pub first_of_next : (range : RangeCfg) (old new : List ℕ) (result : Result (Option View) Error) → IsNext range old result new
+    → (frames : List (List ℕ)) (end : End) (rest : List ℕ) → IsFramed range old frames end rest → IsFirst range frames end rest result new
+first_of_next range old new (Ok (Some view)) h frames end rest is = first_taken range old new view end frames rest h.0 h.1 h.2 is
+first_of_next range old new (Ok None) h frames end rest is = none_in_front range old end Open frames rest h is
+first_of_next range old new (Err EndOfBuffer) h frames end rest is = absurd h
+first_of_next range old new (Err InvalidVarint) h frames end rest is = none_in_front range old end (Bad InvalidVarint) frames rest h is
+first_of_next range old new (Err (InvalidLength n)) h frames end rest is = none_in_front range old end (Bad (InvalidLength n)) frames rest h is
+first_of_next range old new (Err Memory) h frames end rest is = tt
+first_of_next range old new (Err BadLayout) h frames end rest is = none_in_front range old end (Bad BadLayout) frames rest h is
+first_of_next range old new (Err TooLong) h frames end rest is = none_in_front range old end (Bad TooLong) frames rest h is
+
+-- ---- bytes put behind
+
+pub fed : {Nothing Refusal : Type 0} (old new : MarkedText) (piece : View) (result : Result Nothing Refusal) → OnOk result (new ≡ text_append old piece) → OnOk result (new.bytes ≡ old.bytes ++ piece.bytes)
+fed old new piece (Ok done) is = ap (λ (t : MarkedText). t.bytes) is ∙ bytes-append old piece
+fed old new piece (Err refused) is = tt
+
+-- ---- frames found one behind the other
+
+written-append : (fs gs : List (List ℕ)) → frames_written (fs ++ gs) ≡ frames_written fs ++ frames_written gs
+written-append [] gs = refl
+written-append (f ∷ fs) gs = ap (λ xs. bytes_written f ++ xs) (written-append fs gs) ∙ sym (append_assoc (bytes_written f) (frames_written fs) (frames_written gs))
+
+one_more : (range : RangeCfg) (fs : List (List ℕ)) (body : List ℕ) → length body < 2 ^ 64 → in_range range (length body) ≡ true → AreAdmitted range fs → AreAdmitted range (fs ++ body ∷ [])
+one_more range [] body small inside fine = (small, inside, tt)
+one_more range (f ∷ fs) body small inside fine = (fine.0, fine.1, one_more range fs body small inside fine.2)
+
+some_byte : (xs : List ℕ) (n : ℕ) → IsSpelling xs n → 0 < length xs
+some_byte [] n is = absurd is
+some_byte (x ∷ xs) n is = omega arith
+
+spelling_long : (n : ℕ) → n < 2 ^ 64 → 0 < length (spell n)
+spelling_long n small = some_byte (spell n) n (spelled n small)
+
+shorter : (body old new : List ℕ) → length body < 2 ^ 64 → old ≡ bytes_written body ++ new → length new < length old
+shorter body old new small e =
+    let some = spelling_long (length body) small in
+    omega (arith, ap (λ (xs : List ℕ). length xs) e, length-append (bytes_written body) new, length-append (spell (length body)) body)
+
+moved_body : (range : RangeCfg) (old new : List ℕ) (body : View) (views more : List View) → IsNext range old (Ok (Some body)) new → more ≡ views ++ body ∷ []
+    → AreMoved range (bodies views) old (bodies more) new × (length new < length old)
+moved_body range old new body views more h e =
+    let listed : bodies more ≡ bodies views ++ body.bytes ∷ [] = ap bodies e ∙ map-append (λ (v : View). v.bytes) views (body ∷ []) in
+    let written : frames_written (bodies more) ≡ frames_written (bodies views) ++ bytes_written body.bytes =
+    ap frames_written listed ∙ written-append (bodies views) (body.bytes ∷ []) ∙ ap (λ xs. frames_written (bodies views) ++ xs) (append-nil (bytes_written body.bytes)) in (
+      (
+        ap (λ xs. frames_written (bodies views) ++ xs) h.2 ∙ sym (append_assoc (frames_written (bodies views)) (bytes_written body.bytes) new) ∙ ap (λ xs. xs ++ new) (sym written),
+        λ fine. subst (AreAdmitted range) (sym listed) (one_more range (bodies views) body.bytes h.0 h.1 fine),
+      ),
+      shorter body.bytes old new h.0 h.2,
+    )
+
+pub moved_one : (range : RangeCfg) (old new : List ℕ) (body : View) (found : Option View) (views more : List View) → found ≡ Some body → IsNext range old (Ok found) new → more ≡ views ++ body ∷ []
+    → AreMoved range (bodies views) old (bodies more) new × (length new < length old)
+moved_one range old new body found views more is h e = moved_body range old new body views more (subst (λ (o : Option View). IsNext range old (Ok o) new) is h) e
+
+-- frames go over behind others that went over
+pub moved_on : (range : RangeCfg) (fs gs hs : List (List ℕ)) (x y z : List ℕ) → AreMoved range fs x gs y → AreMoved range gs y hs z → AreMoved range fs x hs z
+moved_on range fs gs hs x y z p q = (p.0 ∙ q.0, λ fine. q.1 (p.1 fine))
+
+pub none_moved : (range : RangeCfg) (fs : List (List ℕ)) (x : List ℕ) → AreMoved range fs x fs x
+none_moved range fs x = (refl, λ fine. fine)
+
+-- ---- a text in pieces
+
+-- before anything was fed there is no frame, and an open front
+pub start : (range : RangeCfg) (views : List View) (rest : List ℕ) → views ≡ [] → rest ≡ [] → IsFramed range [] (bodies views) Open rest
+start range views rest none empty =
+    record {
+      whole = ap (λ vs. frames_written (bodies vs)) (sym none) ∙ sym (append-nil (frames_written (bodies views))) ∙ ap (λ xs. frames_written (bodies views) ++ xs) (sym empty);
+      admitted = subst (λ (vs : List View). AreAdmitted range (bodies vs)) (sym none) tt;
+      ends = subst (λ (xs : List ℕ). HasNoFrame range xs Open) (sym empty) (inl (none_high [] tt, (omega arith, tt)));
+    }
+
+-- a piece behind a bad front changes the rest alone
+pub fed_bad : (range : RangeCfg) (text piece rest new : List ℕ) (frames : List (List ℕ)) (end : End) (error : Error) → IsFramed range text frames end rest → end ≡ Bad error
+    → new ≡ rest ++ piece → IsFramed range (text ++ piece) frames end new
+fed_bad range text piece rest new frames end error is bad e =
+    record {
+      whole = ap (λ xs. xs ++ piece) is.whole ∙ append_assoc (frames_written frames) rest piece ∙ ap (λ xs. frames_written frames ++ xs) (sym e);
+      admitted = is.admitted;
+      ends =
+          subst (λ (xs : List ℕ). HasNoFrame range xs end) (sym e)
+          (subst (λ (d : End). HasNoFrame range (rest ++ piece) d) (sym bad) (stays_bad range rest piece error (subst (λ (d : End). HasNoFrame range rest d) bad is.ends)));
+    }
+
+-- the frames of what is left behind a piece stand behind those of before
+pub fed_open : (range : RangeCfg) (text piece rest new left : List ℕ) (frames more : List (List ℕ)) (old end : End) → IsFramed range text frames old rest
+    → new ≡ rest ++ piece → AreMoved range frames new more left → HasNoFrame range left end → IsFramed range (text ++ piece) more end left
+fed_open range text piece rest new left frames more old end is e moved ends =
+    record {
+      whole =
+          ap (λ xs. xs ++ piece) is.whole ∙ append_assoc (frames_written frames) rest piece ∙ ap (λ xs. frames_written frames ++ xs) (sym e) ∙ moved.0;
+      admitted = moved.1 is.admitted;
+      ends = ends;
+    }

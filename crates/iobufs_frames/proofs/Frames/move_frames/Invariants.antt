@@ -1,0 +1,10 @@
+use Rattle.std.proofs.Common.{length}
+use Rattle.iobufs_frames.specs.Frames.{AreMoved, bodies}
+use Rattle.iobufs_frames.proofs.Frames.move_frames.Given as goal
+
+-- the frames that went over so far stand behind those of before
+abbrev pub invariant-loop-end : goal.invariant-loop-end
+invariant-loop-end l = AreMoved l.range (bodies l.fn.found.items) l.fn.self.bytes (bodies l.found.items) l.self.bytes
+
+abbrev pub decreases-loop-end : goal.decreases-loop-end
+decreases-loop-end l = length l.self.bytes

@@ -1,0 +1,16 @@
+use Rattle.std.proofs.Common.{subst}
+use Rattle.iobufs_core.specs.MarkedText.{MarkedText}
+use Rattle.iobufs_frames.specs.Frames.{IsNext}
+use Rattle.iobufs_frames.proofs.FrameLaws.{first_of_next, next_is}
+use Rattle.iobufs_frames.proofs.Frames.next.Goals as goal
+
+-- src/lib.rt:73:5
+pub returns-clause-next : goal.returns-clause-next
+returns-clause-next c =
+    subst (λ (t : MarkedText). IsNext c.args.range.now t.bytes c.found.result c.read_cfg.new.buf.bytes) c.self.view_is
+    (next_is c.args.range.now c.self.inside.rest c.read_cfg.new.buf c.read_cfg.result c.found.result c.found.ensures c.read_cfg.ensures.answer c.read_cfg.ensures.rest)
+
+-- src/lib.rt:73:5
+pub returns-clause-first : goal.returns-clause-first
+returns-clause-first c =
+    first_of_next c.args.range.now c.args.self.now.bytes c.read_cfg.new.buf.bytes c.found.result (returns-clause-next c)

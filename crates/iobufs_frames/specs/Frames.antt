@@ -1,0 +1,71 @@
+-- The frames of a text. A frame is its length as it is spelled, and behind it so many bytes, its body.
+--     frames_written  frames, one behind the other
+--     AreAdmitted     the lengths are in the range
+--     HasNoFrame      no whole frame stands in front, and why
+--     IsFramed        a text is these frames and a rest in front of which none stands
+use Rattle.std.specs.Prelude.{◌≡◌, ◌⊎◌, ℕ, ◌+◌, ◌^◌, ◌<◌, true, Option, None, Some, Result, Ok, Err, List, [], ◌∷◌, ◌++◌, map, flat_map, length}
+use Rattle.iobufs_core.specs.Ranges.{in_range}
+use Rattle.iobufs_core.specs.Spelling.{spell}
+use Rattle.iobufs_core.specs.View.{View}
+use Rattle.iobufs_core.specs.Wire.{IsLengthRead, bytes_written}
+use Rattle.iobufs_core.specs.declared.codec.base.Error.{Error}
+use Rattle.iobufs_core.specs.declared.codec.base.Error.TheVariants.{EndOfBuffer, Memory}
+use Rattle.iobufs_core.specs.declared.codec.base.RangeCfg.{RangeCfg}
+use Rattle.iobufs_frames.specs.declared.End.{End}
+use Rattle.iobufs_frames.specs.declared.End.TheVariants.{Open, Bad}
+
+-- bodies behind their lengths, in order
+abbrev pub frames_written : List (List ℕ) → List ℕ
+frames_written [] = []
+frames_written (body ∷ bodies) = bytes_written body ++ frames_written bodies
+
+-- each length is in the range, and below 2 ^ 64
+abbrev pub AreAdmitted : RangeCfg → List (List ℕ) → Type 0
+AreAdmitted range [] = Unit {0}
+AreAdmitted range (body ∷ bodies) = (length body < 2 ^ 64) × (in_range range (length body) ≡ true) × AreAdmitted range bodies
+
+-- No whole frame stands in front. It is open where its length may go on, or where there are fewer bytes behind the length
+-- than it says; it is bad where no length is spelled there, or one outside the range.
+abbrev pub HasNoFrame : RangeCfg → List ℕ → End → Type 0
+HasNoFrame range bytes Open =
+    IsLengthRead bytes range (Err EndOfBuffer) ⊎ ((n : ℕ) × IsLengthRead bytes range (Ok n) × (length bytes < length (spell n) + n))
+HasNoFrame range bytes (Bad EndOfBuffer) = ⊥
+HasNoFrame range bytes (Bad error) = IsLengthRead bytes range (Err error)
+
+-- The frames of a text, why no further one stands behind them, and what is behind them
+pub record IsFramed (range : RangeCfg) (text : List ℕ) (frames : List (List ℕ)) (end : End) (rest : List ℕ) : Type 0 where
+  pub whole : text ≡ frames_written frames ++ rest
+  pub admitted : AreAdmitted range frames
+  pub ends : HasNoFrame range rest end
+
+-- the bytes of views, view by view
+abbrev pub bodies : List View → List (List ℕ)
+bodies views = map (λ view. view.bytes) views
+
+-- the answer by what reading a view answers: none where that ends with the text
+abbrev pub found_of : Result View Error → Result (Option View) Error
+found_of (Ok view) = Ok (Some view)
+found_of (Err EndOfBuffer) = Ok None
+found_of (Err error) = Err error
+
+-- What taking one frame answers of a text, and the text that it leaves
+abbrev pub IsNext : RangeCfg → List ℕ → Result (Option View) Error → List ℕ → Type 0
+IsNext range old (Ok (Some body)) new = (length body.bytes < 2 ^ 64) × (in_range range (length body.bytes) ≡ true) × (old ≡ bytes_written body.bytes ++ new)
+IsNext range old (Ok None) new = HasNoFrame range old Open
+IsNext range old (Err Memory) new = Unit {0}
+IsNext range old (Err error) new = HasNoFrame range old (Bad error)
+
+-- the same of the frames of the text: the first is taken; where there is none, the answer is by the end
+abbrev pub IsFirst : RangeCfg → List (List ℕ) → End → List ℕ → Result (Option View) Error → List ℕ → Type 0
+IsFirst range frames end rest (Ok (Some taken)) new = (others : List (List ℕ)) × (frames ≡ taken.bytes ∷ others) × IsFramed range new others end rest
+IsFirst range frames end rest (Ok None) new = (frames ≡ []) × (end ≡ Open)
+IsFirst range frames end rest (Err Memory) new = Unit {0}
+IsFirst range frames end rest (Err error) new = (frames ≡ []) × (end ≡ Bad error)
+
+-- frames went over from the front of a text behind others
+abbrev pub AreMoved : RangeCfg → List (List ℕ) → List ℕ → List (List ℕ) → List ℕ → Type 0
+AreMoved range frames text more rest = (frames_written frames ++ text ≡ frames_written more ++ rest) × (AreAdmitted range frames → AreAdmitted range more)
+
+-- all bytes of these views, in order
+abbrev pub joined_bytes : List View → List ℕ
+joined_bytes views = flat_map (λ view. view.bytes) views

@@ -1,0 +1,201 @@
+// Frames on a text that comes in pieces: a body behind its length, one behind the other.
+#![tactic(auto)]
+
+ghost use Rattle.std.specs.Prelude.{◌≡◌, ◌⊎◌, ℕ, ◌+◌, ◌^◌, ◌<◌, ◌≤◌, List, ◌++◌, length, OnOk, OnErr, IfOk, IfErr, IsOk, IsErrAnd, IsOkUnless, IfNone, IfSome};
+ghost use Rattle.iobufs_frames.specs.Frames.{AreMoved, HasNoFrame, IsFirst, IsFramed, IsNext, bodies, found_of, joined_bytes};
+
+use iobufs::bufs::IoBufs;
+use iobufs_core::buf::IoBuf;
+use iobufs_core::codec::{BufError, Error, RangeCfg, Read, Refused};
+use std::alloc::Global;
+use std::marker::Model;
+
+/// Why no further frame stands behind the frames of a text.
+#[derive(Clone, Copy, Debug, PartialEq, Eq)]
+pub enum End {
+    /// More bytes may make one whole.
+    Open,
+    /// No bytes behind will: `Error::InvalidVarint`, or `Error::InvalidLength`.
+    Bad(Error),
+}
+
+/// A text that is fed at its end, and of which whole frames are taken from the front. A frame is a view as
+/// `IoBuf::write` puts it: its length and its bytes.
+pub struct Frames {
+    rest: IoBufs,
+}
+
+// Written out, so that what a caller proves about frames that it drops names no field.
+impl Drop for Frames {
+    fn drop(self) {
+        let Frames { rest: _ } = self;
+    }
+}
+
+impl Model for Frames {
+    ghost use Rattle.iobufs_core.specs.MarkedText.{MarkedText};
+
+    ghost Value = { MarkedText };
+
+    ghost view = { λ frames. frames.rest };
+}
+
+impl Default for Frames {
+    ghost use Rattle.std.specs.Prelude.{◌≡◌};
+    ghost use Rattle.iobufs_core.specs.MarkedText.{default_text};
+
+    ghost is_default = { λ frames. frames ≡ default_text };
+
+    fn default() -> Frames {
+        Frames {
+            rest: IoBufs::default(),
+        }
+    }
+}
+
+// A frame that ends behind the text isn't there yet.
+fn found(read: Result<IoBuf, Error>) -> Result<Option<IoBuf>, Error>
+    ensures { result ≡ found_of read }
+{
+    match read {
+        Ok(body) => Ok(Some(body)),
+        Err(Error::EndOfBuffer) => Ok(None),
+        Err(error) => Err(error),
+    }
+}
+
+impl Frames {
+    /// The bytes that were fed and not taken.
+    pub fn rest(&self) -> &IoBufs
+        ensures { result.now ≡ self.now }
+    {
+        &self.rest
+    }
+
+    /// Puts bytes behind the rest, as `IoBufs::append` does.
+    pub fn feed(&mut self, alloc: Global, piece: IoBuf) -> Result<(), Refused<IoBuf>>
+        ensures done { OnOk result (self.new.bytes ≡ self.old.bytes ++ piece.bytes) }
+        ensures refused { OnErr result (self.new ≡ self.old) }
+        ensures handed_back { IfErr result (λ refused. refused.value ≡ piece) }
+        ensures too_long { 2 ^ 64 ≤ length self.old.bytes + length piece.bytes → IsErrAnd result (λ refused. refused.cause ≡ BufError.TooLong) }
+        ensures memory { length self.old.bytes + length piece.bytes < 2 ^ 64 → IfErr result (λ refused. refused.cause ≡ BufError.Memory) }
+        ensures nothing { length piece.bytes ≡ 0 → IsOk result }
+        ensures onto_nothing { length self.old.bytes ≡ 0 → IsOk result }
+    {
+        self.rest.append(alloc, piece)
+    }
+
+    /// Takes the whole frame in front; none where more bytes may make one whole. `Error::InvalidVarint` and
+    /// `Error::InvalidLength` where no bytes behind will, `Error::Memory` where there is no memory to take it. All
+    /// but a taken frame leave the rest as it was.
+    pub fn next(&mut self, alloc: Global, range: &RangeCfg) -> Result<Option<IoBuf>, Error>
+        ensures next { IsNext range.now self.old.bytes result self.new.bytes }
+        ensures same { IfOk result (λ found. IfNone found (self.new ≡ self.old)) }
+        ensures refused { OnErr result (self.new ≡ self.old) }
+        ensures first { (frames : List (List ℕ)) (end : End) (rest : List ℕ) → IsFramed range.now self.old.bytes frames end rest
+            → IsFirst range.now frames end rest result self.new.bytes }
+    {
+        found(IoBuf::read_cfg(alloc, &mut self.rest, range))
+    }
+
+    fn into_rest(self) -> IoBufs
+        ensures { result ≡ self }
+    {
+        let Frames { rest } = self;
+        rest
+    }
+
+    // Moves the frame in front behind those that were found; where there is none, says why.
+    fn move_frame(
+        &mut self,
+        alloc: Global,
+        range: &RangeCfg,
+        found: &mut Vec<IoBuf>,
+    ) -> Result<Option<End>, BufError>
+        ensures moved { IfOk result (λ end. IfNone end (AreMoved range.now (bodies found.old.items) self.old.bytes (bodies found.new.items) self.new.bytes)) }
+        ensures shorter { IfOk result (λ end. IfNone end (length self.new.bytes < length self.old.bytes)) }
+        ensures ends { IfOk result (λ end. IfSome end (HasNoFrame range.now self.old.bytes)) }
+        ensures same { IfOk result (λ end. IfSome end (λ _. (self.new ≡ self.old) × (found.new.items ≡ found.old.items))) }
+        ensures memory { IsOkUnless result BufError.Memory }
+    {
+        match self.next(alloc, range) {
+            Ok(Some(body)) => {
+                found.push(body)?;
+                Ok(None)
+            }
+            Ok(None) => Ok(Some(End::Open)),
+            Err(Error::Memory) => Err(BufError::Memory),
+            Err(error) => Ok(Some(End::Bad(error))),
+        }
+    }
+
+    // Moves all whole frames in front behind those that were found, and says why there is no further one.
+    fn move_frames(
+        &mut self,
+        alloc: Global,
+        range: &RangeCfg,
+        found: &mut Vec<IoBuf>,
+    ) -> Result<End, BufError>
+        ensures moved { OnOk result (AreMoved range.now (bodies found.old.items) self.old.bytes (bodies found.new.items) self.new.bytes) }
+        ensures ends { IfOk result (HasNoFrame range.now self.new.bytes) }
+        ensures memory { IsOkUnless result BufError.Memory }
+    {
+        loop {
+            if let Some(end) = self.move_frame(alloc, range, found)? {
+                return Ok(end);
+            }
+        }
+    }
+
+    // Puts a piece behind the rest, and moves the frames that it makes whole, unless the front was bad before.
+    fn feed_and_move(
+        &mut self,
+        alloc: Global,
+        range: &RangeCfg,
+        found: &mut Vec<IoBuf>,
+        stop: End,
+        piece: IoBuf,
+    ) -> Result<End, BufError>
+        ensures framed { IfOk result (λ end. (text : List ℕ) → IsFramed range.now text (bodies found.old.items) stop self.old.bytes
+            → IsFramed range.now (text ++ piece.bytes) (bodies found.new.items) end self.new.bytes) }
+        ensures memory { length self.old.bytes + length piece.bytes < 2 ^ 64 → IsOkUnless result BufError.Memory }
+        ensures causes { IfErr result (λ cause. (cause ≡ BufError.Memory) ⊎ (cause ≡ BufError.TooLong)) }
+    {
+        self.feed(alloc, piece)?;
+        match stop {
+            End::Open => self.move_frames(alloc, range, found),
+            End::Bad(_) => Ok(stop),
+        }
+    }
+
+    /// The frames of a text that comes in pieces, taken as soon as each is whole. `BufError::TooLong` only where the
+    /// text is longer than `usize::MAX`. A refusal gives the pieces up.
+    pub fn run(alloc: Global, pieces: Vec<IoBuf>, range: &RangeCfg) -> Result<Run, BufError>
+        ensures framed { IfOk result (λ run. IsFramed range.now (joined_bytes pieces.items) (bodies run.frames.items) run.stop run.rest.bytes) }
+        ensures memory { length (joined_bytes pieces.items) < 2 ^ 64 → IsOkUnless result BufError.Memory }
+        ensures causes { IfErr result (λ cause. (cause ≡ BufError.Memory) ⊎ (cause ≡ BufError.TooLong)) }
+    {
+        let mut frames = Frames::default();
+        let mut found = Vec::new(alloc);
+        let mut stop = End::Open;
+        for piece in pieces {
+            stop = frames.feed_and_move(alloc, range, &mut found, stop, piece)?;
+        }
+        Ok(Run {
+            frames: found,
+            stop,
+            rest: frames.into_rest(),
+        })
+    }
+}
+
+/// What stands in a text that came in pieces.
+#[derive(Drop)]
+pub struct Run {
+    /// The bodies of its frames, in order.
+    pub frames: Vec<IoBuf>,
+    /// Why no further one stands behind them.
+    pub stop: End,
+    /// What is behind them.
+    pub rest: IoBufs,
+}
