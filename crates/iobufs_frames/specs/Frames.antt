@@ -69,3 +69,9 @@ AreMoved range frames text more rest = (frames_written frames ++ text ≡ frames
 -- all bytes of these views, in order
 abbrev pub joined_bytes : List View → List ℕ
 joined_bytes views = flat_map (λ view. view.bytes) views
+
+-- a text has one list of frames, one end and one rest
+abbrev pub HaveOneReading : Type 0
+HaveOneReading =
+    (range : RangeCfg) (text : List ℕ) (frames others : List (List ℕ)) (end stop : End) (rest left : List ℕ)
+    → IsFramed range text frames end rest → IsFramed range text others stop left → (frames ≡ others) × (end ≡ stop) × (rest ≡ left)

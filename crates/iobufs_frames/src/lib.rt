@@ -2,7 +2,7 @@
 #![tactic(auto)]
 
 ghost use Rattle.std.specs.Prelude.{◌≡◌, ◌⊎◌, ℕ, ◌+◌, ◌^◌, ◌<◌, ◌≤◌, List, ◌++◌, length, OnOk, OnErr, IfOk, IfErr, IsOk, IsErrAnd, IsOkUnless, IfNone, IfSome};
-ghost use Rattle.iobufs_frames.specs.Frames.{AreMoved, HasNoFrame, IsFirst, IsFramed, IsNext, bodies, found_of, joined_bytes};
+ghost use Rattle.iobufs_frames.specs.Frames.{AreMoved, HasNoFrame, HaveOneReading, IsFirst, IsFramed, IsNext, bodies, found_of, joined_bytes};
 
 use iobufs::bufs::IoBufs;
 use iobufs_core::buf::IoBuf;
@@ -199,3 +199,9 @@ pub struct Run {
     /// What is behind them.
     pub rest: IoBufs,
 }
+
+/// Does nothing. Its contract is a law: a text has one list of frames, one end and one rest in a range. So what
+/// `Frames::run` answers depends on the joined text alone, however it was cut.
+pub fn frames_law()
+    ensures { HaveOneReading }
+{}

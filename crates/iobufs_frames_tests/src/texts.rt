@@ -1,0 +1,123 @@
+// Texts of frames, and where they are cut.
+use iobufs_core::buf::IoBuf;
+use iobufs_core::codec::{Buf, Error, RangeCfg};
+use iobufs_frames::{End, Frames, Run};
+use std::alloc::Global;
+use std::process::Abort;
+use std::test::Fail;
+
+const ANY: RangeCfg = RangeCfg { lo: 0, hi: 1024 };
+
+const SHORT: RangeCfg = RangeCfg { lo: 0, hi: 2 };
+
+// Two frames, and behind them bytes that spell no length.
+const TEXT: &[u8] = b"\x02ab\x03cde\x84\x00";
+
+fn views(alloc: Global, pieces: &[&'static [u8]]) -> Result<Vec<IoBuf>, Fail> {
+    let mut views = Vec::with_capacity(alloc, pieces.len())?;
+    for piece in pieces {
+        views.push(IoBuf::from(*piece))?;
+    }
+    Ok(views)
+}
+
+// The run has these frames, this end and this rest.
+fn assert_run(rt: &impl Abort, run: &Run, frames: &[&[u8]], stop: End, rest: &[u8], at: usize) {
+    assert_eq!(rt; run.frames.len(), frames.len(), "at {at}");
+    for (found, wanted) in run.frames.iter().zip(frames) {
+        assert_eq!(rt; found.as_ref(), *wanted, "at {at}");
+    }
+    assert_eq!(rt; run.stop, stop, "at {at}");
+    assert_eq!(rt; run.rest.len(), rest.len(), "at {at}");
+    for (i, byte) in rest.iter().enumerate() {
+        assert_eq!(rt; run.rest.byte_at(i), Some(*byte), "at {at}");
+    }
+}
+
+// A text in pieces has these frames, this end and this rest.
+fn assert_frames(
+    rt: &(impl Abort + AllocGlobal),
+    pieces: &[&'static [u8]],
+    range: &RangeCfg,
+    frames: &[&[u8]],
+    stop: End,
+    rest: &[u8],
+) -> Result<(), Fail> {
+    let run = Frames::run(rt.alloc(), views(rt.alloc(), pieces)?, range)?;
+    assert_run(rt, &run, frames, stop, rest, 0);
+    Ok(())
+}
+
+#[test]
+fn no_piece(rt: HostRuntime) -> Result<(), Fail> {
+    assert_frames(&rt, &[], &ANY, &[], End::Open, b"")
+}
+
+#[test]
+fn two_empty_frames(rt: HostRuntime) -> Result<(), Fail> {
+    assert_frames(&rt, &[b"\0\0"], &ANY, &[b"", b""], End::Open, b"")
+}
+
+#[test]
+fn frames_that_lie_across_pieces(rt: HostRuntime) -> Result<(), Fail> {
+    let pieces = [b"\x02".as_slice(), b"ab\x03", b"c", b"de\x84", b"\x00"];
+    let bad = End::Bad(Error::InvalidVarint);
+    assert_frames(&rt, &pieces, &ANY, &[b"ab", b"cde"], bad, b"\x84\x00")
+}
+
+#[test]
+fn the_same_in_one_piece(rt: HostRuntime) -> Result<(), Fail> {
+    let bad = End::Bad(Error::InvalidVarint);
+    assert_frames(&rt, &[TEXT], &ANY, &[b"ab", b"cde"], bad, b"\x84\x00")
+}
+
+#[test]
+fn a_length_outside_the_range(rt: HostRuntime) -> Result<(), Fail> {
+    let bad = End::Bad(Error::InvalidLength(3));
+    assert_frames(&rt, &[TEXT], &SHORT, &[b"ab"], bad, b"\x03cde\x84\x00")
+}
+
+#[test]
+fn a_length_that_goes_on(rt: HostRuntime) -> Result<(), Fail> {
+    let pieces = [b"\x02a".as_slice(), b"b\x84"];
+    assert_frames(&rt, &pieces, &ANY, &[b"ab"], End::Open, b"\x84")
+}
+
+#[test]
+fn every_cut_into_two_and_three_pieces(rt: HostRuntime) -> Result<(), Fail> {
+    let bad = End::Bad(Error::InvalidVarint);
+    for first in 0..TEXT.len() + 1 {
+        for second in first..TEXT.len() + 1 {
+            let pieces = [&TEXT[..first], &TEXT[first..second], &TEXT[second..]];
+            let run = Frames::run(rt.alloc(), views(rt.alloc(), &pieces)?, &ANY)?;
+            let at = first * 100 + second;
+            assert_run(&rt, &run, &[b"ab", b"cde"], bad, b"\x84\x00", at);
+        }
+    }
+    Ok(())
+}
+
+// Frames are there one by one, and what is open is there when it is whole.
+#[test]
+fn frame_by_frame(rt: HostRuntime) -> Result<(), Fail> {
+    let alloc = rt.alloc();
+    let mut frames = Frames::default();
+    assert!(rt;
+        frames
+            .feed(alloc, IoBuf::from(b"\x01a\x02b".as_slice()))
+            .is_ok()
+    );
+    match frames.next(alloc, &ANY)? {
+        Some(body) => assert_eq!(rt; body.as_ref(), b"a".as_slice()),
+        None => return Err(Fail::new("no frame")),
+    }
+    assert!(rt; frames.next(alloc, &ANY)?.is_none());
+    assert_eq!(rt; frames.rest().len(), 2);
+    assert!(rt; frames.feed(alloc, IoBuf::from(b"c".as_slice())).is_ok());
+    match frames.next(alloc, &ANY)? {
+        Some(body) => assert_eq!(rt; body.as_ref(), b"bc".as_slice()),
+        None => return Err(Fail::new("no frame")),
+    }
+    assert!(rt; frames.rest().is_empty());
+    Ok(())
+}
