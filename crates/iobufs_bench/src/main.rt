@@ -5,6 +5,7 @@ mod codec;
 mod lists;
 mod run;
 mod single;
+mod streams;
 mod texts;
 mod workloads;
 
@@ -12,7 +13,7 @@ use run::{Run, Stop};
 use std::process::ExitCode;
 use std::time::Instant;
 use std::{env, io};
-use workloads::{NAMES, run_named};
+use workloads::{NAMES, STREAMS, run_named};
 
 // What is asked for: times or sums, of all workloads where none is named.
 #[derive(Drop)]
@@ -30,7 +31,7 @@ fn requested(rt: &HostRuntime) -> Result<Request, Stop> {
             is_sums = true;
             continue;
         }
-        match NAMES.iter().find(|name| **name == word) {
+        match NAMES.iter().chain(&STREAMS).find(|name| **name == word) {
             Some(name) => names.push(*name)?,
             None => return Err(Stop::NoName),
         }

@@ -1,6 +1,6 @@
 // The workloads by their names.
 use crate::run::{Run, Stop};
-use crate::{codec, lists, single, texts};
+use crate::{codec, lists, single, streams, texts};
 
 /// All of them, in the order in which they are run.
 pub static NAMES: [&str; 76] = [
@@ -82,6 +82,10 @@ pub static NAMES: [&str; 76] = [
     "frames_there_and_back_take",
 ];
 
+/// Those that are run only where they are named: streams of frames in pieces of so many bytes, which have nothing of the
+/// original to stand beside.
+pub static STREAMS: [&str; 4] = ["stream_1", "stream_17", "stream_1448", "stream_65536"];
+
 // A text or list, and how many pieces it has.
 enum Shape {
     Text(usize),
@@ -123,6 +127,10 @@ fn run_wire(rt: &HostRuntime, name: &str) -> Result<Run, Stop> {
         "decode16k_chunks1024_take" => codec::decoding(rt, 16, 16384, 1024, true),
         "frames_there_and_back" => codec::there_and_back(rt, false),
         "frames_there_and_back_take" => codec::there_and_back(rt, true),
+        "stream_1" => streams::stream(rt, 1),
+        "stream_17" => streams::stream(rt, 17),
+        "stream_1448" => streams::stream(rt, 1448),
+        "stream_65536" => streams::stream(rt, 65536),
         _ => run_sized(rt, name),
     }
 }
