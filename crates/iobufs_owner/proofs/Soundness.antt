@@ -13,6 +13,7 @@ pub mod AddHolder
 pub mod SplitTo
 pub mod RecordFreed
 pub mod BlockFreed
+pub mod Demote
 pub mod Share
 pub mod NewMachine
 pub mod Release

@@ -4,6 +4,7 @@ pub mod Shown
 pub mod Sizes
 pub mod Taken
 pub mod TryIntoMut
+pub mod Demote
 pub mod Freeze
 pub mod SplitTo
 pub mod New

@@ -213,7 +213,7 @@ sound-freed_described s h x w o k at free xw is =
 
 -- ---- by a record
 
-other-names : (s : State) (h b r i : ℕ) (c : Option Pending) → Only s h b → (record_at s.tables r).block ≡ b → hidden s.calls r ≡ 0 → i < length s.calls → call_at s i ≡ c → names r c ≡ true → ⊥
+pub other-names : (s : State) (h b r i : ℕ) (c : Option Pending) → Only s h b → (record_at s.tables r).block ≡ b → hidden s.calls r ≡ 0 → i < length s.calls → call_at s i ≡ c → names r c ≡ true → ⊥
 other-names s h b r i None one e z l at t = cc
 other-names s h b r i (Some (Loaded part w)) one e z l at t = cc
 other-names s h b r i (Some (Ready part w q)) one e z l at t =
@@ -228,7 +228,7 @@ other-names s h b r i (Some (Release q)) one e z l at t =
     let same : q ≡ r = grind (arith, nat_tests, t) in
     undropped s h b i q one l at (ap (λ (n : ℕ). (record_at s.tables n).block) same ∙ e)
 
-fit-dead : (s : State) (r h : ℕ) (i : ℕ) (o : Option Handle) → Only s h (record_at s.tables r).block → i ≢ h → get_or s.handles i None ≡ o → Fits s.tables s.calls o → Fits (dead s.tables r) s.calls o
+pub fit-dead : (s : State) (r h : ℕ) (i : ℕ) (o : Option Handle) → Only s h (record_at s.tables r).block → i ≢ h → get_or s.handles i None ≡ o → Fits s.tables s.calls o → Fits (dead s.tables r) s.calls o
 fit-dead s r h i None one ne at f = tt
 fit-dead s r h i (Some x) one ne at f =
     let e = dead-keeps s.tables r in

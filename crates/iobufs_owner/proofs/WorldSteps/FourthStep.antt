@@ -3,7 +3,7 @@ use Rattle.std.proofs.Common.{◌≡◌, ◌≢◌, ◌⊎◌, inl, inr, ℕ, �
 use Rattle.std.proofs.lemmas.Bool.Decides.{eqb_tells}
 use Rattle.std.proofs.lemmas.List.{get_or-set_same, get_or-set_other}
 use Rattle.iobufs_owner.specs.declared.owner.types.Call.{Call}
-use Rattle.iobufs_owner.specs.declared.owner.types.Call.TheVariants.{New, External, Static, Put, Advance, Freeze, TryIntoMut, SplitTo, IsUnique, Clone, Slice, Drop}
+use Rattle.iobufs_owner.specs.declared.owner.types.Call.TheVariants.{New, External, Static, Put, Advance, Freeze, TryIntoMut, SplitTo, IsUnique, Demote, Clone, Slice, Drop}
 use Rattle.iobufs_owner.specs.declared.owner.types.Act.{Act}
 use Rattle.iobufs_owner.specs.declared.owner.types.Act.TheVariants.{Begin, Go}
 use Rattle.iobufs_owner.specs.declared.owner.types.Block.{Block}
@@ -113,6 +113,11 @@ unique-call : (w next : World) (p : ℕ) (r : Result ℕ Refusal) (reply : Reply
 unique-call w next p (Err why) reply r = refuses w next p None why reply r
 unique-call w next p (Ok b) reply (e, f) = stays w w next p None (Unique (nat_eq (holders w b) 1)) reply refl (λ z. absurd (cc)) e f
 
+demote-call : (w next : World) (p : ℕ) (r : Result ℕ Refusal) (reply : Reply) → world.DemoteIs w r reply next → Changes w p None reply next
+demote-call w next p (Err why) reply r = refuses w next p None why reply r
+demote-call w next p (Ok b) reply (inl (native, one, e, f)) = stays w w next p None Done reply refl (λ z. absurd (cc)) e f
+demote-call w next p (Ok b) reply (inr (e, f)) = stays w w next p None Declined reply refl (λ z. absurd (cc)) e f
+
 -- ---- calls of several steps
 
 goes-on : (w u next : World) (p : ℕ) (o : Option Unfinished) (c : Unfinished) (reply : Reply) → p < length w.calls → u.calls ≡ w.calls → 0 < left_of c → IsLess o c → GoesOn u p c reply next → Changes w p o reply next
@@ -155,6 +160,7 @@ begun w next p (Freeze h) memory reply l r = freeze-call w next p h memory (worl
 begun w next p (TryIntoMut h) memory reply l r = recover-call w next p h (world.alone_of w h View) reply r
 begun w next p (SplitTo h at) memory reply l r = split-call w next p h at memory (world.alone_of w h View) reply r
 begun w next p (IsUnique h) memory reply l r = unique-call w next p (world.block_of w h) reply r
+begun w next p (Demote h) memory reply l r = demote-call w next p (world.view_block_of w h) reply r
 begun w next p (Clone h) memory reply l r = clone-call w next p h (world.view_of w h) reply l r
 begun w next p (Slice h lo hi) memory reply l r = slice-call w next p h lo hi (world.view_of w h) reply l r
 begun w next p (Drop h) memory reply l r = drop-call w next p h (world.any_of w h) reply l r

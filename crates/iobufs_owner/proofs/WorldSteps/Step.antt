@@ -2,7 +2,7 @@
 use Rattle.std.proofs.Common.{◌≡◌, ℕ, ◌<◌, ◌≤◌, arith, Bool, true, false, nat_lt, length, Option, Some, None, subst, refl, MatchBool}
 use Rattle.std.proofs.lemmas.List.{length-map}
 use Rattle.iobufs_owner.specs.declared.owner.types.Call.{Call}
-use Rattle.iobufs_owner.specs.declared.owner.types.Call.TheVariants.{New, External, Static, Put, Advance, Freeze, TryIntoMut, SplitTo, IsUnique, Clone, Slice, Drop}
+use Rattle.iobufs_owner.specs.declared.owner.types.Call.TheVariants.{New, External, Static, Put, Advance, Freeze, TryIntoMut, SplitTo, IsUnique, Demote, Clone, Slice, Drop}
 use Rattle.iobufs_owner.specs.declared.owner.types.Act.{Act}
 use Rattle.iobufs_owner.specs.declared.owner.types.Act.TheVariants.{Begin, Go}
 use Rattle.iobufs_owner.specs.declared.owner.types.Pending.{Pending}
@@ -20,6 +20,7 @@ use Rattle.iobufs_owner.proofs.WorldSteps.Sizes.{IsAnswered, answered}
 use Rattle.iobufs_owner.proofs.WorldSteps.Shown.{get_or-read}
 use Rattle.iobufs_owner.proofs.WorldSteps.Taken.{refused-taken, static-steps, put-steps, advance-steps}
 use Rattle.iobufs_owner.proofs.WorldSteps.TryIntoMut.{recover-steps, unique-steps}
+use Rattle.iobufs_owner.proofs.WorldSteps.Demote.{demote-steps}
 use Rattle.iobufs_owner.proofs.WorldSteps.Freeze.{freeze-steps}
 use Rattle.iobufs_owner.proofs.WorldSteps.SplitTo.{split-steps}
 use Rattle.iobufs_owner.proofs.WorldSteps.New.{new-steps, external-steps}
@@ -40,6 +41,7 @@ begins s t p (Freeze h) memory o reply k b i = freeze-steps s t h memory reply k
 begins s t p (TryIntoMut h) memory o reply k b i = recover-steps s t h reply k (by-outcome s t o _ reply b i)
 begins s t p (SplitTo h at) memory o reply k b i = split-steps s t h at memory reply k (by-outcome s t o _ reply b i)
 begins s t p (IsUnique h) memory o reply k b i = unique-steps s t h reply k (by-outcome s t o _ reply b i)
+begins s t p (Demote h) memory o reply k b i = demote-steps s t h o reply k b i
 begins s t p (Clone h) memory o reply k b i = clone-steps s t p h reply k (by-outcome s t o _ reply b i)
 begins s t p (Slice h lo hi) memory o reply k b i = slice-steps s t p h lo hi reply k (by-outcome s t o _ reply b i)
 begins s t p (Drop h) memory o reply k b i = drop-steps s t p h reply k (by-outcome s t o _ reply b i)

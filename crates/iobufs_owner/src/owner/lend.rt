@@ -1,8 +1,9 @@
 //! Handles as a call asks for them: there, of the right kind, and not borrowed.
 ghost use Rattle.std.specs.Prelude.{◌≡◌, ℕ, ◌+◌, ◌-◌, ◌^◌, ◌<◌, ◌≤◌, length, slice_index_or, slice_set, vec_capacity, IfOk, IfSome, Some};
+ghost use Rattle.iobufs_owner.specs.declared.owner.types.Kind.TheVariants.{View};
 ghost use Rattle.iobufs_owner.specs.declared.owner.types.Word.TheVariants.{Descriptor};
 ghost use Rattle.iobufs_owner.specs.Moves as move;
-ghost use Rattle.iobufs_owner.specs.Moves.{is_lent, lend_of, any_of, owning_of, Lends};
+ghost use Rattle.iobufs_owner.specs.Moves.{is_lent, lend_of, any_of, owning_of, owning_view_of, Lends};
 ghost use Rattle.iobufs_owner.specs.Sound.{IsSound, IsDescribed};
 ghost use Rattle.iobufs_owner.specs.State.{handle_at, record_at, block_at, owner_of, owned_by};
 
@@ -132,6 +133,21 @@ impl Machine {
             return Err(Refusal::Borrowed);
         }
         Ok(x)
+    }
+
+    /// The same for a view that has a block.
+    pub(super) fn lend_owning_view(&self, h: usize) -> Result<Handle, Refusal>
+        ensures value { result ≡ owning_view_of self.now.state h }
+        ensures sound { IsSound self.now.state }
+        ensures lends { IfOk result (Lends self.now.state h View) }
+    {
+        let Some(x) = self.find(h) else {
+            return Err(Refusal::NoHandle);
+        };
+        if x.kind != Kind::View {
+            return Err(Refusal::WrongKind);
+        }
+        self.lend_owning(h)
     }
 
     /// The record of this number.

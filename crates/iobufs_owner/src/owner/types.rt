@@ -110,6 +110,9 @@ pub enum Call {
     SplitTo(usize, u64),
     /// Whether a handle holds its block alone.
     IsUnique(usize),
+    /// A view that alone holds a block by a record holds it by a descriptor again, where the block is not from outside and
+    /// its fields have room in a word; the record is freed.
+    Demote(usize),
     /// Another view of the same bytes, in several steps where the view has a block.
     Clone(usize),
     /// A view of the bytes from the first number to the second, in several steps where it has any and a block.
@@ -165,7 +168,7 @@ pub enum Reply {
     /// The call is unfinished.
     More,
     Done,
-    /// A view that may not become writable; nothing has changed.
+    /// A view that may not become writable, or that keeps the word it has; nothing has changed.
     Declined,
     /// Whether the handle is the only holder of its block.
     Unique(bool),

@@ -1,0 +1,250 @@
+-- A descriptor in the place of a record that counts one view keeps the machine sound.
+use Rattle.std.proofs.Common.{◌≡◌, ◌≢◌, inl, inr, ℕ, zero, suc, ◌+◌, ◌^◌, ◌<◌, ◌≤◌, ◌==◌, ◌&&◌, Bool, true, false, not, cond, List, [], ◌∷◌, length, get_or, set, sym, ◌∙◌, ap, refl, arith, Option, Some, None, nat_eq}
+use Rattle.std.proofs.Math.ListN.{length-set}
+use Rattle.std.proofs.lemmas.List.Elements.{All-from_get_or}
+use Rattle.std.proofs.lemmas.List.{get_or-set_same, get_or-set_other}
+use Rattle.std.proofs.lemmas.Bool.Decides.{nat_tests, eqb_tells}
+use Rattle.iobufs_owner.specs.Word.{IsPowerOfTwo, HasRoom, word_of}
+use Rattle.iobufs_owner.specs.State.{State, Tables, owner_of, record_at, block_at, handle_at, call_at, base_by, block_with}
+use Rattle.iobufs_owner.specs.World.{is_block, holders, users, tally}
+use Rattle.iobufs_owner.specs.Reading.{reading}
+use Rattle.iobufs_owner.specs.Sound.{IsSound, ArePlaced, Fits, FitsCall, IsDescribed, alone, describes, hidden}
+use Rattle.iobufs_owner.specs.Moves.{is_lent, edited, dead, record_freed, fits_in, tail_of, may_demote, described, demote_counted, declined, Lends, IsDemotedBy}
+use Rattle.iobufs_owner.specs.declared.owner.types.Block.{Block}
+use Rattle.iobufs_owner.specs.declared.owner.types.Handle.{Handle}
+use Rattle.iobufs_owner.specs.declared.owner.types.Kind.TheVariants.{View}
+use Rattle.iobufs_owner.specs.declared.owner.types.Pending.{Pending}
+use Rattle.iobufs_owner.specs.declared.owner.types.Pending.TheVariants.{Loaded, Ready, Add, Subtract, Release}
+use Rattle.iobufs_owner.specs.declared.owner.types.Word.{Word}
+use Rattle.iobufs_owner.specs.declared.owner.types.Word.TheVariants.{Empty, Descriptor, Record as Counted}
+use Rattle.iobufs_owner.specs.declared.owner.types.Reply.TheVariants.{Declined, Done}
+use Rattle.iobufs_owner.proofs.Words.{word-size, word-tail, fits-room, fits-true}
+use Rattle.iobufs_owner.proofs.Soundness.Counts.{count-set, holders-changed, users-changed}
+use Rattle.iobufs_owner.proofs.Soundness.Keeps.{call-kept, lent-by, names, owner-kept, calls-read-kept, releases-kept, same-eqb}
+use Rattle.iobufs_owner.proofs.Soundness.Kept.{at-some, block-log-kept, owner-counted}
+use Rattle.iobufs_owner.proofs.Soundness.Frames.{not-eqb, is-eqb, handles-kept, alone-kept, describes-kept, holders-tables, users-tables}
+use Rattle.iobufs_owner.proofs.Soundness.Edits.{fits-at, counted-at, lies-as, live-inside, no_block, owner-described, alone-described, describes-described, describes-counted, alone-shared}
+use Rattle.iobufs_owner.proofs.Soundness.Logs.{bases, record-log-dead}
+use Rattle.iobufs_owner.proofs.Soundness.RecordFreed.{dead-block, dead-count, dead-other, dead-keeps, dead-let_go, dead-live}
+use Rattle.iobufs_owner.proofs.Soundness.BlockFreed.{Only, only, unready, holders-alike, users-alike, other-names, fit-dead, counted-ends}
+
+-- ---- what counts one is named once
+
+-- whether a call speaks of the record
+abbrev pub speaks_of : ℕ → Option Pending → Bool
+speaks_of r None = false
+speaks_of r (Some (Loaded part w)) = false
+speaks_of r (Some (Ready part w q)) = q == r
+speaks_of r (Some (Add part q)) = q == r
+speaks_of r (Some (Subtract q)) = q == r
+speaks_of r (Some (Release q)) = q == r
+
+-- no call speaks of the record, and no handle but this one goes by it
+pub record NamedOnce (s : State) (h r : ℕ) : Type 0 where
+  pub calls : (i : ℕ) → i < length s.calls → speaks_of r (call_at s i) ≡ true → ⊥
+  pub handles : (i : ℕ) (y : Handle) → handle_at s i ≡ Some y → y.word ≡ Counted r → i ≡ h
+
+silent : (s : State) (h b r i : ℕ) (c : Option Pending) → Only s h b → is_lent h s.calls ≡ false → (record_at s.tables r).block ≡ b → hidden s.calls r ≡ 0 → i < length s.calls → call_at s i ≡ c → FitsCall s c → speaks_of r c ≡ true → ⊥
+silent s h b r i None one free e z l at f t = cc
+silent s h b r i (Some (Loaded part w)) one free e z l at f t = cc
+silent s h b r i (Some (Ready part w q)) one free e z l at f t = other-names s h b r i (Some (Ready part w q)) one e z l at t
+silent s h b r i (Some (Add part q)) one free e z l at (x, sh, xw) t =
+    let same : q ≡ r = grind (arith, nat_tests, t) in
+    let j : part.handle ≡ h = one.handle part.handle x sh.at (owner-counted s.tables x q xw ∙ ap (λ (n : ℕ). Some (record_at s.tables n).block) same ∙ ap Some e) in
+    let lent = lent-by part.handle s.calls i None l (rw at (same-eqb part.handle)) in
+    let u = ap (λ (n : ℕ). is_lent n s.calls) j in
+    cc
+silent s h b r i (Some (Subtract q)) one free e z l at f t = other-names s h b r i (Some (Subtract q)) one e z l at t
+silent s h b r i (Some (Release q)) one free e z l at f t = other-names s h b r i (Some (Release q)) one e z l at t
+
+-- A drop that hasn't let go, and another handle, would be a holder more than the one that the record counts; a clone or
+-- slice that is to be counted there borrows the handle.
+pub named-once : (s : State) (h r : ℕ) (x : Handle) → IsSound s → handle_at s h ≡ Some x → is_lent h s.calls ≡ false → x.word ≡ Counted r → (record_at s.tables r).count ≡ 1 → NamedOnce s h r
+named-once s h r x k at free xw one =
+    let f = counted-at s h x r k at xw in
+    let me = only s h (record_at s.tables r).block x k at (owner-counted s.tables x r xw) (sym ((k.counted r f.live).counts f.shown) ∙ one) in
+    record {
+      calls = λ i l t. silent s h (record_at s.tables r).block r i (call_at s i) me free refl f.shown l refl (k.calls_fit i None l) t;
+      handles = λ i y a yw. me.handle i y a (owner-counted s.tables y r yw);
+    }
+
+names-speak : (r : ℕ) (c : Option Pending) → names r c ≡ true → speaks_of r c ≡ true
+names-speak r None t = t
+names-speak r (Some (Loaded part w)) t = t
+names-speak r (Some (Ready part w q)) t = t
+names-speak r (Some (Add part q)) t = absurd (cc)
+names-speak r (Some (Subtract q)) t = t
+names-speak r (Some (Release q)) t = t
+
+-- ---- when a record may go
+
+pub record MayDemote (g : Tables) (x : Handle) (r log : ℕ) : Type 0 where
+  pub one : (record_at g r).count ≡ 1
+  pub native : (block_at g (record_at g r).block).external ≡ false
+  pub room : HasRoom g.align_bits g.tail_bits g.size_bits (block_at g (record_at g r).block).size log (tail_of (block_at g (record_at g r).block) x)
+
+all-three : (p q u : Bool) → (p && not q && u) ≡ true → (p ≡ true) × (q ≡ false) × (u ≡ true)
+all-three true false true e = (refl, refl, refl)
+all-three true false false e = absurd (cc)
+all-three true true u e = absurd (cc)
+all-three false q u e = absurd (cc)
+
+pub may-tells : (g : Tables) (x : Handle) (r log : ℕ) → may_demote g x r log ≡ true → MayDemote g x r log
+may-tells g x r log e =
+    let b : Block = block_at g (record_at g r).block in
+    let z = all-three (nat_eq (record_at g r).count 1) b.external (fits_in g b.size log (tail_of b x)) e in
+    record { one = grind (arith, nat_tests, z.0); native = z.1; room = fits-room g.align_bits g.tail_bits g.size_bits b.size log (tail_of b x) z.2 }
+
+pub may-true : (g : Tables) (x : Handle) (r log : ℕ) → MayDemote g x r log → may_demote g x r log ≡ true
+may-true g x r log m =
+    let b : Block = block_at g (record_at g r).block in
+    rw (m.one, m.native, fits-true g.align_bits g.tail_bits g.size_bits b.size log (tail_of b x) m.room) refl
+
+pub may-false : (g : Tables) (x : Handle) (r log : ℕ) → (MayDemote g x r log → ⊥) → may_demote g x r log ≡ false
+may-false g x r log n =
+    let by : (v : Bool) → may_demote g x r log ≡ v → v ≡ false = λ v. elim v as (λ v. may_demote g x r log ≡ v → v ≡ false) [
+      | true ↦ λ e. absurd (n (may-tells g x r log e))
+      | false ↦ λ e. refl
+    ] in
+    by (may_demote g x r log) refl
+
+-- ---- the block that the descriptor says
+
+found-first : (bs : List Block) (b : ℕ) → b < length bs → ((c : ℕ) → c < b → (get_or bs c no_block).base ≢ (get_or bs b no_block).base) → block_with (get_or bs b no_block).base bs ≡ Some b
+found-first [] b l ne = absurd (omega arith)
+found-first (x ∷ bs) zero l ne = rw (is-eqb x.base x.base refl) refl
+found-first (x ∷ bs) (suc b) l ne = rw (not-eqb x.base (get_or bs b no_block).base (ne 0 (omega arith)), found-first bs b (omega arith) (λ c m. ne (suc c) (omega arith))) (ap Some (omega arith))
+
+-- a block is the one with its base
+found-by-base : (g : Tables) (b : ℕ) → ArePlaced g → b < length g.blocks → block_with (block_at g b).base g.blocks ≡ Some b
+found-by-base g b k l = found-first g.blocks b l (λ c m. bases g c b k (omega arith) l (omega arith))
+
+-- the handle goes by the descriptor, and holds what it held
+pub owner-demoted : (s : State) (h r log : ℕ) (x : Handle) → IsSound s → Lends s h View x → x.word ≡ Counted r → MayDemote s.tables x r log → owner_of (dead s.tables r) (described s.tables x r log) ≡ Some (record_at s.tables r).block
+owner-demoted s h r log x k t xw m =
+    let g : Tables = s.tables in
+    let b : ℕ = (record_at s.tables r).block in
+    let bl : Block = block_at s.tables (record_at s.tables r).block in
+    let y : Handle = described s.tables x r log in
+    let w : ℕ = word_of g.align_bits g.tail_bits bl.size log (tail_of bl x) in
+    let f = counted-at s h x r k t.at xw in
+    let lies = lies-as bl x View t.kind_is f.lies in
+    let size = word-size g.align_bits g.tail_bits g.size_bits w bl.size log (tail_of bl x) m.room refl in
+    let tail = word-tail g.align_bits g.tail_bits g.size_bits w bl.size log (tail_of bl x) m.room refl in
+    let base : base_by (dead s.tables r) y w ≡ bl.base = rw (t.kind_is, size, tail) (omega (arith, lies.0, lies.1)) in
+    owner-described (dead s.tables r) y w refl ∙ ap (λ (n : ℕ). block_with n g.blocks) base ∙ found-by-base g b k.blocks f.known
+
+pub described-demoted : (s : State) (h r log : ℕ) (x : Handle) → IsSound s → Lends s h View x → x.word ≡ Counted r → (block_at s.tables (record_at s.tables r).block).align ≡ 2 ^ log → MayDemote s.tables x r log → IsDescribed (dead s.tables r) (described s.tables x r log) (word_of s.tables.align_bits s.tables.tail_bits (block_at s.tables (record_at s.tables r).block).size log (tail_of (block_at s.tables (record_at s.tables r).block) x)) (record_at s.tables r).block log (tail_of (block_at s.tables (record_at s.tables r).block) x)
+described-demoted s h r log x k t xw align m =
+    let bl : Block = block_at s.tables (record_at s.tables r).block in
+    let f = counted-at s h x r k t.at xw in
+    let lies = lies-as bl x View t.kind_is f.lies in
+    record {
+      known = f.known;
+      room = m.room;
+      word = refl;
+      align = align;
+      native = m.native;
+      owner = owner-demoted s h r log x k t xw m;
+      lies = rw t.kind_is (lies.0, lies.1, lies.2);
+      behind = rw t.kind_is (omega (arith, lies.0, lies.1));
+    }
+
+-- ---- Demote
+
+pub sound-demoted : (s : State) (h r log : ℕ) (x : Handle) → IsSound s → Lends s h View x → x.word ≡ Counted r → (block_at s.tables (record_at s.tables r).block).align ≡ 2 ^ log → MayDemote s.tables x r log → IsSound (edited (record_freed s r) h (described s.tables x r log))
+sound-demoted s h r log x k t xw align may =
+    let g : Tables = s.tables in
+    let g' : Tables = dead s.tables r in
+    let b : ℕ = (record_at s.tables r).block in
+    let y : Handle = described s.tables x r log in
+    let tail : ℕ = tail_of (block_at s.tables (record_at s.tables r).block) x in
+    let w : ℕ = word_of s.tables.align_bits s.tables.tail_bits (block_at s.tables (record_at s.tables r).block).size log (tail_of (block_at s.tables (record_at s.tables r).block) x) in
+    let next : State = edited (record_freed s r) h (described s.tables x r log) in
+    let f = counted-at s h x r k t.at xw in
+    let at = t.at in
+    let free = t.free in
+    let l = at-some s.handles h x at in
+    let inside = live-inside g.records r f.live in
+    let one : holders (reading s) b ≡ 1 = sym ((k.counted r f.live).counts f.shown) ∙ may.one in
+    let ox : owner_of g x ≡ Some b = owner-counted g x r xw in
+    let me = only s h b x k at ox one in
+    let alone-named = named-once s h r x k at free xw may.one in
+    let e = dead-keeps g r in
+    let ox' : owner_of g' x ≡ Some b = owner-kept g g' s.calls x e (fits-at s h x k at) ∙ ox in
+    let oy : owner_of g' y ≡ Some b = owner-demoted s h r log x k t xw may in
+    let hs = handles-kept g g' s.calls s.handles e k.fit in
+    let cs = calls-read-kept s g' s.calls e (λ i d l q j t. dead-let_go g r q) k.calls_fit in
+    let mid : State = record s { tables = dead s.tables r } in
+    let hm : (c : ℕ) → holders (reading next) c ≡ holders (reading s) c = λ c. let n = rw (at, ox', oy) at (holders-changed mid h (Some y) c l) in let a = holders-alike (reading next) (reading (record mid { handles = set s.handles h (Some y) })) c refl refl in let m = holders-tables s g' c hs cs in omega (arith, n, a, m) in
+    let um : (c : ℕ) → users (reading next) c ≡ users (reading s) c = λ c. let n = rw (at, ox', oy) at (users-changed mid h (Some y) c l) in let a = users-alike (reading next) (reading (record mid { handles = set s.handles h (Some y) })) c refl refl in let m = users-tables s g' c hs cs in omega (arith, n, a, m) in
+    let dm : (c : ℕ) → tally (describes g' c) (set s.handles h (Some y)) ≡ tally (describes g c) s.handles + cond (c == b) 1 0 = λ c.
+    let n = count-set (describes g' c) s.handles h (Some y) None l in
+    let nx : ◌≡◌ {A = ℕ} (cond (describes g' c (get_or s.handles h None)) 1 0) 0 = ap (λ (o : Option Handle). cond {A = ℕ} (describes g' c o) 1 0) at ∙ ap (λ (v : Bool). cond {A = ℕ} v 1 0) (describes-counted g' c x r xw) in
+    let ny : ◌≡◌ {A = ℕ} (cond (describes g' c (Some y)) 1 0) (cond (c == b) 1 0) = ap (λ (v : Bool). cond {A = ℕ} v 1 0) (describes-described g' c y w refl ∙ ap (is_block c) oy) in
+    omega (arith, n, nx, ny, describes-kept g g' s.calls c s.handles e k.fit) in
+    let am : (c : ℕ) → tally (alone g' c) (set s.handles h (Some y)) ≡ tally (alone g c) s.handles + cond (c == b) 1 0 = λ c.
+    let n = count-set (alone g' c) s.handles h (Some y) None l in
+    let nx : ◌≡◌ {A = ℕ} (cond (alone g' c (get_or s.handles h None)) 1 0) 0 = ap (λ (o : Option Handle). cond {A = ℕ} (alone g' c o) 1 0) at ∙ ap (λ (v : Bool). cond {A = ℕ} v 1 0) (alone-shared g' c x r xw t.kind_is) in
+    let ny : ◌≡◌ {A = ℕ} (cond (alone g' c (Some y)) 1 0) (cond (c == b) 1 0) = ap (λ (v : Bool). cond {A = ℕ} v 1 0) (alone-described g' c y w refl ∙ ap (is_block c) oy) in
+    omega (arith, n, nx, ny, alone-kept g g' s.calls c s.handles e k.fit) in
+    let apart : (q : ℕ) → (record_at g q).live ≡ true → q ≢ r → (record_at g q).block ≢ b = λ q t ne i. ne (k.one_record q r t f.live (unready s h b q k me free i) f.shown i) in
+    let size = k.size in
+    record {
+      size = record { wide = size.wide; ceiling = size.ceiling; few_blocks = size.few_blocks; few_records = rw length-set size.few_records; few_handles = rw length-set size.few_handles; few_calls = size.few_calls };
+      blocks = (let p = k.blocks in record { places = p.places; apart = p.apart });
+      fit = All-from_get_or (Fits g' s.calls) (set s.handles h (Some y)) None (λ i li. elim (eqb_tells i h) [
+        | inl z ↦ rw (z.1, get_or-set_same s.handles h (Some y) None l) (b, log, tail, described-demoted s h r log x k t xw align may)
+        | inr z ↦ rw (get_or-set_other s.handles h i (Some y) None z.1) (fit-dead s r h i (get_or s.handles i None) me z.1 refl (k.fit i None (rw length-set at li)))
+      ]);
+      calls_fit = All-from_get_or (FitsCall next) s.calls None (λ i li. call-kept s next (call_at s i) (record {
+        tables = e;
+        let_go = λ q j t. dead-let_go g r q;
+        live = λ q m t. dead-other g r q (λ j. alone-named.calls i li (names-speak r (call_at s i) (rw j at m))) ∙ t;
+        hidden = λ q _. refl;
+        handle = λ j z b a. get_or-set_other s.handles h j (Some y) None (λ e. let q = rw e at (lent-by j s.calls i None li b) in absurd (cc)) ∙ a;
+        owner = λ j z a. owner-kept g g' s.calls z e (fits-at s j z k a);
+        holders = λ q _. hm (record_at g q).block;
+      }) (k.calls_fit i None li));
+      one_release = λ c. rw (releases-kept s g' c s.calls e k.calls_fit) (k.one_release c);
+      counted = λ q t.
+          let d = dead-live g r q inside t in
+          let c = k.counted q d.0 in
+          let ne = apart q d.0 d.1 in
+          record { known = rw (dead-block g r q) c.known; one_maker = c.one_maker; counts = λ z. rw (dead-count g r q, dead-block g r q, hm (record_at g q).block) (c.counts z); fresh = λ z. rw (dead-count g r q) (c.fresh z); used = rw (dead-block g r q, um (record_at g q).block) c.used; undescribed = λ z. rw (dead-block g r q) (let n = rw (not-eqb (record_at g q).block b ne) at (dm (record_at g q).block) in omega (arith, n, c.undescribed z)) };
+      one_record = λ p q tp tq hp hq i. k.one_record p q (dead-live g r p inside tp).0 (dead-live g r q inside tq).0 hp hq (sym (dead-block g r p) ∙ i ∙ dead-block g r q);
+      sole = λ c t. elim (eqb_tells c b) [
+        | inl i ↦ rw i.1 (hm b ∙ one)
+        | inr i ↦ hm c ∙ k.sole c (let n = rw i.0 at (am c) in omega (arith, n, t))
+      ];
+      capped = λ c. rw hm (k.capped c);
+      known_users = λ c t. k.known_users c (rw um at t);
+      block_log = block-log-kept g.blocks s.freed_blocks (users (reading s)) (users (reading next)) um k.block_log;
+      record_log = record-log-dead g.records s.freed_records r (record { count = (record_at g r).count; block = (record_at g r).block; live = false }) inside refl f.live k.record_log;
+    }
+
+-- ---- what the call finds
+
+pub record Demoting (s : State) (x : Handle) (r : ℕ) : Type 0 where
+  pub inside : r < length s.tables.records
+  pub reaches : x.ptr + x.len ≤ (block_at s.tables (record_at s.tables r).block).base + (block_at s.tables (record_at s.tables r).block).size
+  pub power : IsPowerOfTwo (block_at s.tables (record_at s.tables r).block).align
+  pub log_room : length s.freed_records < length s.tables.records
+
+pub demoting : (s : State) (h r : ℕ) (x : Handle) → IsSound s → Lends s h View x → x.word ≡ Counted r → Demoting s x r
+demoting s h r x k t xw =
+    let f = counted-at s h x r k t.at xw in
+    let ends = counted-ends s r k f.live in
+    let lies = lies-as (block_at s.tables (record_at s.tables r).block) x View t.kind_is f.lies in
+    record { inside = ends.inside; reaches = lies.1; power = (k.blocks.places (record_at s.tables r).block no_block f.known).power; log_room = ends.record_log }
+
+pub keeps-record : (s : State) (h r log : ℕ) (x : Handle) → (MayDemote s.tables x r log → ⊥) → (Declined ≡ (demote_counted s h x r log).reply) × (s ≡ (demote_counted s h x r log).state)
+keeps-record s h r log x n = rw (may-false s.tables x r log n) (refl, refl)
+
+pub frees-record : (s : State) (h r log : ℕ) (x : Handle) → MayDemote s.tables x r log → (Done ≡ (demote_counted s h x r log).reply) × (edited (record_freed s r) h (described s.tables x r log) ≡ (demote_counted s h x r log).state)
+frees-record s h r log x m = rw (may-true s.tables x r log m) (refl, refl)
+
+pub keeps-word : (s : State) (h : ℕ) (x : Handle) (w : Word) → ((r : ℕ) → w ≡ Counted r → ⊥) → IsDemotedBy s h x w (declined s)
+keeps-word s h x Empty n = refl
+keeps-word s h x (Descriptor v) n = refl
+keeps-word s h x (Counted r) n = absurd (n r refl)

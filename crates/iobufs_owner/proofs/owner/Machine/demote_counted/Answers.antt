@@ -1,0 +1,91 @@
+use Rattle.std.proofs.Common.{◌≡◌, arith, ap, sym, ◌∙◌, subst}
+use Rattle.std.proofs.Math.ListN.{length-set}
+use Rattle.iobufs_owner.specs.declared.owner.types.Block.{Block}
+use Rattle.iobufs_owner.specs.declared.owner.types.Record.{Record}
+use Rattle.iobufs_owner.specs.declared.owner.types.Kind.TheVariants.{View}
+use Rattle.iobufs_owner.specs.Inside.{state_of}
+use Rattle.iobufs_owner.specs.Moves.{Lends}
+use Rattle.iobufs_owner.specs.Sound.{IsSound}
+use Rattle.iobufs_owner.specs.State.{State, Seen, block_at}
+use Rattle.iobufs_owner.proofs.Soundness.Demote.{MayDemote, demoting, sound-demoted, keeps-record, frees-record}
+use Rattle.iobufs_owner.proofs.owner.Machine.demote_counted.Goals.{then-record-ne1-via-then-record-ne1, then-record-ne1-via-else-record-ne1+then-block}
+use Rattle.iobufs_owner.proofs.owner.Machine.demote_counted.Goals as goal
+
+pub returns-then-record-ne1 : goal.returns-then-record-ne1
+returns-then-record-ne1 c =
+    let s : State = c.args.self.now.state in
+    let k = subst IsSound (ap (λ (m : Seen). m.state) c.self.view_is) c.self.invariant.sound in
+    let d = demoting s c.args.h c.args.r c.args.x k c.requires.lent c.requires.word in
+    let never : MayDemote s.tables c.args.x c.args.r d.power.0 → ⊥ = λ m. elim c.then-record-ne1.branch [
+      | then-record-ne1-via-then-record-ne1 w ↦ w.if-record-ne1.true (ap (λ (v : Record). v.count) c.record-record.ensures ∙ m.one)
+      | then-record-ne1-via-else-record-ne1+then-block w ↦ (let q = sym w.if-block.true ∙ ap (λ (b : Block). b.external) c.block-block.ensures ∙ ap (λ (v : Record). (block_at s.tables v.block).external) c.record-record.ensures ∙ m.native in cc)
+    ] in
+    let z = keeps-record s c.args.h c.args.r d.power.0 c.args.x never in
+    (d.power.0, d.power.1, z.0, z.1)
+
+pub overflow_sub-tail : goal.overflow_sub-tail
+overflow_sub-tail c =
+    let s : State = c.args.self.now.state in
+    let k = subst IsSound (ap (λ (m : Seen). m.state) c.self.view_is) c.self.invariant.sound in
+    let d = demoting s c.args.h c.args.r c.args.x k c.requires.lent c.requires.word in
+    rw (c.block-block.ensures, c.record-record.ensures) (omega (arith, d.reaches))
+
+pub overflow_sub-tail-2 : goal.overflow_sub-tail-2
+overflow_sub-tail-2 c =
+    let s : State = c.args.self.now.state in
+    let k = subst IsSound (ap (λ (m : Seen). m.state) c.self.view_is) c.self.invariant.sound in
+    let d = demoting s c.args.h c.args.r c.args.x k c.requires.lent c.requires.word in
+    rw (c.block-block.ensures, c.record-record.ensures) (omega (arith, d.reaches))
+
+pub pack-requires : goal.pack-requires
+pack-requires c =
+    let s : State = c.args.self.now.state in
+    let k = subst IsSound (ap (λ (m : Seen). m.state) c.self.view_is) c.self.invariant.sound in
+    rw (c.block-block.ensures, c.record-record.ensures) (demoting s c.args.h c.args.r c.args.x k c.requires.lent c.requires.word).power
+
+pub returns-in_default : goal.returns-in_default
+returns-in_default c =
+    let s : State = state_of c.self.inside in
+    let v : c.args.self.now.state ≡ s = sym (ap (λ (m : Seen). m.state) c.self.view_is) in
+    let t = subst (λ (s : State). Lends s c.args.h View c.args.x) v c.requires.lent in
+    let d = demoting s c.args.h c.args.r c.args.x c.self.invariant.sound t c.requires.word in
+    let e = rw (c.record-record.ensures, v) at c.block-block.ensures in
+    let never : MayDemote s.tables c.args.x c.args.r d.power.0 → ⊥ = λ m. c.in_default.ensures.sum d.power.0 (rw e d.power.1) (rw e m.room) in
+    let z = keeps-record s c.args.h c.args.r d.power.0 c.args.x never in
+    rw v (d.power.0, d.power.1, z.0, z.1)
+
+pub push_reserved-requires : goal.push_reserved-requires
+push_reserved-requires c =
+    let s : State = state_of c.self.inside in
+    let k = c.self.invariant in
+    let t = subst (λ (s : State). Lends s c.args.h View c.args.x) (sym (ap (λ (m : Seen). m.state) c.self.view_is)) c.requires.lent in
+    let d = demoting s c.args.h c.args.r c.args.x k.sound t c.requires.word in
+    omega (arith, d.log_room, k.record_room)
+
+pub invariant_of-self : goal.invariant_of-self
+invariant_of-self c =
+    let s : State = state_of c.self.inside in
+    let v : c.args.self.now.state ≡ s = sym (ap (λ (m : Seen). m.state) c.self.view_is) in
+    let k = c.self.invariant in
+    let t = subst (λ (s : State). Lends s c.args.h View c.args.x) v c.requires.lent in
+    let d = demoting s c.args.h c.args.r c.args.x k.sound t c.requires.word in
+    let e1 = rw v at c.record-record.ensures in
+    let e = rw (c.record-record.ensures, v) at c.block-block.ensures in
+    let w = c.in-Some.ensures.sum d.power.0 (rw e d.power.1) in
+    let word = rw e at w.1 in
+    let may : MayDemote s.tables c.args.x c.args.r d.power.0 = record { one = rw e1 at c.if-record-ne1.false; native = rw e at c.if-block.false; room = rw e at w.0 } in
+    record { sound = rw (c.push_reserved.ensures.items, e1, word) (sound-demoted s c.args.h c.args.r d.power.0 c.args.x k.sound t c.requires.word d.power.1 may); block_room = k.block_room; record_room = rw length-set (omega (arith, k.record_room, c.push_reserved.ensures.capacity)); borrows_kept = rw length-set k.borrows_kept; places = k.places; borrowed = k.borrowed }
+
+pub returns : goal.returns
+returns c =
+    let s : State = state_of c.self.inside in
+    let v : c.args.self.now.state ≡ s = sym (ap (λ (m : Seen). m.state) c.self.view_is) in
+    let t = subst (λ (s : State). Lends s c.args.h View c.args.x) v c.requires.lent in
+    let d = demoting s c.args.h c.args.r c.args.x c.self.invariant.sound t c.requires.word in
+    let e1 = rw v at c.record-record.ensures in
+    let e = rw (c.record-record.ensures, v) at c.block-block.ensures in
+    let w = c.in-Some.ensures.sum d.power.0 (rw e d.power.1) in
+    let word = rw e at w.1 in
+    let may : MayDemote s.tables c.args.x c.args.r d.power.0 = record { one = rw e1 at c.if-record-ne1.false; native = rw e at c.if-block.false; room = rw e at w.0 } in
+    let z = frees-record s c.args.h c.args.r d.power.0 c.args.x may in
+    rw v (d.power.0, d.power.1, z.0, rw (c.push_reserved.ensures.items, e1, word) z.1)

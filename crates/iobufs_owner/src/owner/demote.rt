@@ -1,0 +1,58 @@
+//! A view goes back from a record to a descriptor. The original has no such call.
+ghost use Rattle.std.specs.Prelude.{◌≡◌, ℕ, ◌^◌};
+ghost use Rattle.iobufs_owner.specs.declared.owner.types.Kind.TheVariants.{View};
+ghost use Rattle.iobufs_owner.specs.declared.owner.types.Word.TheVariants.{Record as Counted};
+ghost use Rattle.iobufs_owner.specs.Moves as move;
+ghost use Rattle.iobufs_owner.specs.Moves.{Outcome, Lends, IsDemoted, owning_view_of};
+ghost use Rattle.iobufs_owner.specs.State.{record_at, block_at};
+
+use crate::owner::{Handle, Machine, Record, Reply, Word};
+
+impl Machine {
+    /// A view's record is freed, where it counts the view alone and a descriptor can stand in its place.
+    pub(super) fn demote(&mut self, h: usize) -> Reply
+        ensures { (o : Outcome)
+            × IsDemoted self.old.state h (owning_view_of self.old.state h) o
+            × (result ≡ o.reply)
+            × (self.new.state ≡ o.state) }
+    {
+        let x = match self.lend_owning_view(h) {
+            Ok(x) => x,
+            Err(why) => return Reply::Refused(why),
+        };
+        match x.word {
+            Word::Record(r) => self.demote_counted(h, x, r),
+            _ => Reply::Declined,
+        }
+    }
+
+    /// The same for a view with a record.
+    fn demote_counted(&mut self, h: usize, x: Handle, r: usize) -> Reply
+        requires lent { Lends self.old.state h View x }
+        requires word { x.word ≡ Counted r }
+        ensures { (log : ℕ)
+            × ((block_at self.old.state.tables (record_at self.old.state.tables r).block).align ≡ 2 ^ log)
+            × (result ≡ (move.demote_counted self.old.state h x r log).reply)
+            × (self.new.state ≡ (move.demote_counted self.old.state h x r log).state) }
+    {
+        let record = self.record(r);
+        let block = self.block(record.block);
+        if record.count != 1 || block.external {
+            return Reply::Declined;
+        }
+        let tail = block.base + block.size - x.ptr - x.len;
+        let Some(word) = self.format.pack(block.size, block.align, tail) else {
+            return Reply::Declined;
+        };
+        self.handles[h] = Some(Handle {
+            word: Word::Descriptor(word),
+            ..x
+        });
+        self.records[r] = Record {
+            live: false,
+            ..record
+        };
+        self.freed_records.push_reserved(r);
+        Reply::Done
+    }
+}
