@@ -3,7 +3,7 @@ use crate::buf_tests::{assert_answers, assert_serves};
 use std::test::Fail;
 
 // Sessions: each line with the reply to it.
-const SESSIONS: [&str; 6] = [
+const SESSIONS: [&str; 7] = [
     // Two parties race for the promotion of one descriptor; the loser's record goes.
     "machine 3 9223372036854775807 64 -> ok\n\
      0 new 64 12 1 -> made 0\n\
@@ -57,14 +57,50 @@ const SESSIONS: [&str; 6] = [
      0 split 0 5 -> made 2\n\
      record 0 -> count 3 block 0 live\n\
      handle 0 -> view 78 10 record 0\n",
-    // A tail that doesn't fit the descriptor asks for a record, and a refusal leaves the handle as it was.
+    // A tail that doesn't fit the descriptor asks for a record, and a refusal leaves the handle as it was. A shorter tail
+    // lets the record go; that of an external block stays.
     "machine 1 9 64 -> ok\n\
      0 new 4096 131073 1 -> made 0\n\
      0 put 0 1 -> done\n\
      0 freeze 0 deny -> refused O8 Memory\n\
      handle 0 -> mut 4096 1 131073 word 2199040032769\n\
      0 freeze 0 -> done\n\
-     record 0 -> count 1 block 0 live\n",
+     record 0 -> count 1 block 0 live\n\
+     0 demote 0 -> declined\n\
+     0 recover 0 -> done\n\
+     0 put 0 1 -> done\n\
+     0 freeze 0 -> done\n\
+     0 demote 0 -> done\n\
+     handle 0 -> view 4096 2 word 2199056809857\n\
+     0 external 8388608 8 -> made 1\n\
+     0 demote 1 -> declined\n\
+     0 static 3 -> made 2\n\
+     0 demote 2 -> refused O4 WrongKind\n\
+     0 demote 9 -> refused O3 NoHandle\n",
+    // A record that counts one view alone gives way to a descriptor, and the next clone makes another record.
+    "machine 1 9 64 -> ok\n\
+     0 new 64 64 8 -> made 0\n\
+     0 put 0 24 -> done\n\
+     0 advance 0 4 -> done\n\
+     0 freeze 0 -> done\n\
+     0 split 0 5 -> made 1\n\
+     0 demote 0 -> declined\n\
+     0 drop 1 -> more\n\
+     0 demote 0 -> refused O1 Busy\n\
+     0 go -> done\n\
+     0 demote 0 -> done\n\
+     handle 0 -> view 73 15 word 1073746951\n\
+     record 0 -> count 1 block 0 freed\n\
+     freed -> blocks records 0\n\
+     0 demote 0 -> declined\n\
+     0 clone 0 -> more\n\
+     0 go -> more\n\
+     0 go -> made 2\n\
+     0 drop 2 -> more\n\
+     0 go -> done\n\
+     0 drop 0 -> more\n\
+     0 go -> done\n\
+     freed -> blocks 64/64/8 records 0 1\n",
     // Static and external views.
     "machine 1 9 64 -> ok\n\
      0 static 5 -> made 0\n\

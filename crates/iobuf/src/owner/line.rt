@@ -89,6 +89,7 @@ fn call(words: &[&str]) -> Result<Call, LineError> {
         ["recover", h] => Ok(Call::TryIntoMut(number(h)?)),
         ["split", h, at] => Ok(Call::SplitTo(number(h)?, size(at)?)),
         ["unique", h] => Ok(Call::IsUnique(number(h)?)),
+        ["demote", h] => Ok(Call::Demote(number(h)?)),
         ["clone", h] => Ok(Call::Clone(number(h)?)),
         ["slice", h, lo, hi] => Ok(Call::Slice(number(h)?, size(lo)?, size(hi)?)),
         ["drop", h] => Ok(Call::Drop(number(h)?)),
