@@ -1,4 +1,4 @@
-// Schedules of two promotions and three drops: who steps, and what is replied.
+// Schedules of promotions, drops and demotions: who steps, and what is replied.
 use iobufs_owner::owner::Act::{self, Begin, Go};
 use iobufs_owner::owner::Reply::{self, Declined, Done, Made, More, Refused};
 use iobufs_owner::owner::{Call, Refusal};
@@ -6,7 +6,7 @@ use iobufs_owner::owner::{Call, Refusal};
 // A step of a party, and the reply to it.
 pub type Row = (usize, Act, Reply);
 
-// Steps on one block, behind the first ones. Parties 0 and 1 clone, parties 2 to 4 drop what there is.
+// Steps on one block, behind the first ones. Parties 0 and 1 clone, parties 2 to 4 drop what there is, or demote.
 #[derive(Clone, Copy)]
 pub struct Schedule {
     pub ceiling: u64,
@@ -25,7 +25,7 @@ pub const FIRST: [Row; 3] = [
     (0, Begin(Call::Freeze(0), true), Done),
 ];
 
-pub const SCHEDULES: [Schedule; 10] = [
+pub const SCHEDULES: [Schedule; 12] = [
     // One promotion after the other, then one drop after the other.
     Schedule {
         ceiling: 9,
@@ -220,6 +220,50 @@ pub const SCHEDULES: [Schedule; 10] = [
             (3, Go(true), Done),
             (4, Begin(Call::TryIntoMut(0), true), Done),
             (4, Begin(Call::Drop(0), true), Done),
+        ],
+        freed_records: &[0],
+    },
+    // A demotion is done once both clones have let go, and not while a clone is unfinished; that makes another record.
+    Schedule {
+        ceiling: 9,
+        rows: &[
+            (0, Begin(Call::Clone(0), true), More),
+            (0, Go(true), More),
+            (0, Go(true), Made(1)),
+            (1, Begin(Call::Clone(0), true), More),
+            (1, Go(true), Made(2)),
+            (2, Begin(Call::Drop(1), true), More),
+            (3, Begin(Call::Drop(2), true), More),
+            (4, Begin(Call::Demote(0), true), Declined),
+            (2, Go(true), Done),
+            (4, Begin(Call::Demote(0), true), Declined),
+            (3, Go(true), Done),
+            (4, Begin(Call::Demote(0), true), Done),
+            (4, Begin(Call::Demote(0), true), Declined),
+            (0, Begin(Call::Clone(0), true), More),
+            (4, Begin(Call::Demote(0), true), Refused(Refusal::Borrowed)),
+            (0, Go(true), More),
+            (0, Go(true), Made(3)),
+            (2, Begin(Call::Drop(3), true), More),
+            (2, Go(true), Done),
+            (3, Begin(Call::Drop(0), true), More),
+            (4, Begin(Call::Demote(0), true), Refused(Refusal::NoHandle)),
+            (3, Go(true), Done),
+        ],
+        freed_records: &[0, 1],
+    },
+    // The clone is demoted once the view that it was made of has let go, and dropped in one step.
+    Schedule {
+        ceiling: 9,
+        rows: &[
+            (0, Begin(Call::Clone(0), true), More),
+            (0, Go(true), More),
+            (0, Go(true), Made(1)),
+            (2, Begin(Call::Drop(0), true), More),
+            (3, Begin(Call::Demote(1), true), Declined),
+            (2, Go(true), Done),
+            (3, Begin(Call::Demote(1), false), Done),
+            (4, Begin(Call::Drop(1), true), Done),
         ],
         freed_records: &[0],
     },
