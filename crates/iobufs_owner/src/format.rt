@@ -84,11 +84,13 @@ impl Format {
             && fits(size, self.size_bits)
     }
 
-    /// Whether the fields have room in a word, where the size isn't 0.
+    /// Whether there is a word of these fields: where `pack` gives one.
     pub fn fits(&self, size: u64, align: u64, tail: u64) -> bool
         requires { IsPowerOfTwo align }
-        ensures { (log : ℕ) → align ≡ 2 ^ log → result
+        ensures value { (log : ℕ) → align ≡ 2 ^ log → result
             ≡ fits self.now.align_bits self.now.tail_bits self.now.size_bits size log tail }
+        ensures room { (log : ℕ) → align ≡ 2 ^ log → IsTrue result
+            ↔ HasRoom self.now.align_bits self.now.tail_bits self.now.size_bits size log tail }
     {
         self.has_room(size, align.trailing_zeros(), tail)
     }

@@ -125,6 +125,74 @@ undropped' s h b i r one l at e =
     let n = one.dropped in
     omega (arith, t, n)
 
+-- ---- a record that counts one is named once
+
+-- whether a call speaks of the record
+abbrev pub speaks_of : ℕ → Option Pending → Bool
+speaks_of r None = false
+speaks_of r (Some (Loaded part w)) = false
+speaks_of r (Some (Ready part w q)) = q == r
+speaks_of r (Some (Add part q)) = q == r
+speaks_of r (Some (Subtract q)) = q == r
+speaks_of r (Some (Release q)) = q == r
+
+-- no call speaks of the record, and no handle but this one goes by it
+pub record NamedOnce (s : State) (h r : ℕ) : Type 0 where
+  pub calls : (i : ℕ) → i < length s.calls → speaks_of r (call_at s i) ≡ true → ⊥
+  pub handles : (i : ℕ) (y : Handle) → handle_at s i ≡ Some y → y.word ≡ Counted r → i ≡ h
+
+silent : (s : State) (h r i : ℕ) (c : Option Pending) → Only s h (record_at s.tables r).block → is_lent h s.calls ≡ false → hidden s.calls r ≡ 0 → i < length s.calls → call_at s i ≡ c → FitsCall s c → speaks_of r c ≡ true → ⊥
+silent s h r i None one free z l at f t = cc
+silent s h r i (Some (Loaded part w)) one free z l at f t = cc
+silent s h r i (Some (Ready part w q)) one free z l at f t =
+    let same : q ≡ r = grind (arith, nat_tests, t) in
+    let some = count-some (readies r) s.calls i None l (rw at (is-eqb r q (sym same))) in
+    omega (arith, some, z)
+silent s h r i (Some (Add part q)) one free z l at (x, sh, xw) t =
+    let same : q ≡ r = grind (arith, nat_tests, t) in
+    let j : part.handle ≡ h = one.handle part.handle x sh.at (owner-counted s.tables x q xw ∙ ap (λ (n : ℕ). Some (record_at s.tables n).block) same) in
+    let lent = lent-by part.handle s.calls i None l (rw at (is-eqb part.handle part.handle refl)) in
+    let u = ap (λ (n : ℕ). is_lent n s.calls) j in
+    cc
+silent s h r i (Some (Subtract q)) one free z l at f t =
+    let same : q ≡ r = grind (arith, nat_tests, t) in
+    undropped' s h (record_at s.tables r).block i q one l at (ap (λ (n : ℕ). (record_at s.tables n).block) same)
+silent s h r i (Some (Release q)) one free z l at f t =
+    let same : q ≡ r = grind (arith, nat_tests, t) in
+    undropped s h (record_at s.tables r).block i q one l at (ap (λ (n : ℕ). (record_at s.tables n).block) same)
+
+-- Another handle, and a drop that hasn't let go, would be a holder more than the one that is counted; a clone or slice that
+-- is to be counted there borrows the handle. So the record can be freed while the block lives on.
+pub named-once : (s : State) (h r : ℕ) (x : Handle) → IsSound s → handle_at s h ≡ Some x → is_lent h s.calls ≡ false → x.word ≡ Counted r → holders (reading s) (record_at s.tables r).block ≡ 1 → NamedOnce s h r
+named-once s h r x k at free xw one =
+    let f = counted-at s h x r k at xw in
+    let me = only s h (record_at s.tables r).block x k at (owner-counted s.tables x r xw) one in
+    record {
+      calls = λ i l t. silent s h r i (call_at s i) me free f.shown l refl (k.calls_fit i None l) t;
+      handles = λ i y a yw. me.handle i y a (owner-counted s.tables y r yw);
+    }
+
+-- what calls count on is among what they speak of
+names-speak : (r : ℕ) (c : Option Pending) → names r c ≡ true → speaks_of r c ≡ true
+names-speak r None t = t
+names-speak r (Some (Loaded part w)) t = t
+names-speak r (Some (Ready part w q)) t = t
+names-speak r (Some (Add part q)) t = absurd (cc)
+names-speak r (Some (Subtract q)) t = t
+names-speak r (Some (Release q)) t = t
+
+-- every other live record that a call counts on stays live
+pub calls-live : (s : State) (h r q i : ℕ) → NamedOnce s h r → i < length s.calls → names q (call_at s i) ≡ true → (record_at s.tables q).live ≡ true → (record_at (dead s.tables r) q).live ≡ true
+calls-live s h r q i once l t live = dead-other s.tables r q (λ e. once.calls i l (names-speak r (call_at s i) (rw e at t))) ∙ live
+
+-- every other handle fits as before
+pub fit-dead : (s : State) (h r i : ℕ) (o : Option Handle) → NamedOnce s h r → i ≢ h → handle_at s i ≡ o → Fits s.tables s.calls o → Fits (dead s.tables r) s.calls o
+fit-dead s h r i None once ne at f = tt
+fit-dead s h r i (Some x) once ne at f =
+    let e = dead-keeps s.tables r in
+    fits-kept s.tables (dead s.tables r) s.calls x x.word (owner-kept s.tables (dead s.tables r) s.calls x e f) e
+    (λ q w. dead-other s.tables r q (λ y. ne (once.handles i x at (w ∙ ap Counted y))) ∙ live-of s.tables s.calls x x.word q w f) f
+
 -- ---- the logs are no part of who holds
 
 pub holders-alike : (v w : World) (b : ℕ) → v.handles ≡ w.handles → v.calls ≡ w.calls → holders v b ≡ holders w b
@@ -213,28 +281,6 @@ sound-freed_described s h x w o k at free xw is =
 
 -- ---- by a record
 
-pub other-names : (s : State) (h b r i : ℕ) (c : Option Pending) → Only s h b → (record_at s.tables r).block ≡ b → hidden s.calls r ≡ 0 → i < length s.calls → call_at s i ≡ c → names r c ≡ true → ⊥
-other-names s h b r i None one e z l at t = cc
-other-names s h b r i (Some (Loaded part w)) one e z l at t = cc
-other-names s h b r i (Some (Ready part w q)) one e z l at t =
-    let same : q ≡ r = grind (arith, nat_tests, t) in
-    let some = count-some (readies r) s.calls i None l (rw at (is-eqb r q (sym same))) in
-    omega (arith, some, z)
-other-names s h b r i (Some (Add part q)) one e z l at t = cc
-other-names s h b r i (Some (Subtract q)) one e z l at t =
-    let same : q ≡ r = grind (arith, nat_tests, t) in
-    undropped' s h b i q one l at (ap (λ (n : ℕ). (record_at s.tables n).block) same ∙ e)
-other-names s h b r i (Some (Release q)) one e z l at t =
-    let same : q ≡ r = grind (arith, nat_tests, t) in
-    undropped s h b i q one l at (ap (λ (n : ℕ). (record_at s.tables n).block) same ∙ e)
-
-pub fit-dead : (s : State) (r h : ℕ) (i : ℕ) (o : Option Handle) → Only s h (record_at s.tables r).block → i ≢ h → get_or s.handles i None ≡ o → Fits s.tables s.calls o → Fits (dead s.tables r) s.calls o
-fit-dead s r h i None one ne at f = tt
-fit-dead s r h i (Some x) one ne at f =
-    let e = dead-keeps s.tables r in
-    fits-kept s.tables (dead s.tables r) s.calls x x.word (owner-kept s.tables (dead s.tables r) s.calls x e f) e
-    (λ q w. dead-other s.tables r q (λ y. ne (one.handle i x at (owner-counted s.tables x q w ∙ ap (λ (n : ℕ). Some (record_at s.tables n).block) y))) ∙ live-of s.tables s.calls x x.word q w f) f
-
 pub sound-freed_counted : (s : State) (h : ℕ) (x : Handle) (r : ℕ) (o : Option Handle) → IsSound s → handle_at s h ≡ Some x → is_lent h s.calls ≡ false → x.kind ≡ Mut → x.word ≡ Counted r → IsLoose o → IsSound (replaced (both_freed s r) h o)
 sound-freed_counted s h x r o k at free xm xw is =
     let g : Tables = s.tables in
@@ -247,6 +293,7 @@ sound-freed_counted s h x r o k at free xm xw is =
     let n = loose g' s.calls o is in
     let one : holders (reading s) b ≡ 1 = alone-at s h x b k at (alone-written g b x r xw xm ∙ rw ox (is-eqb b b refl)) in
     let me = only s h b x k at ox one in
+    let once = named-once s h r x k at free xw one in
     let next : State = replaced (both_freed s r) h o in
     let e = dead-keeps g r in
     let ox' : owner_of g' x ≡ Some b = owner-kept g g' s.calls x e (fits-at s h x k at) ∙ ox in
@@ -269,12 +316,12 @@ sound-freed_counted s h x r o k at free xm xw is =
       blocks = (let p = k.blocks in record { places = p.places; apart = p.apart });
       fit = All-from_get_or (Fits g' s.calls) (set s.handles h o) None (λ i li. elim (eqb_tells i h) [
         | inl z ↦ rw (z.1, get_or-set_same s.handles h o None l) n.fits
-        | inr z ↦ rw (get_or-set_other s.handles h i o None z.1) (fit-dead s r h i (get_or s.handles i None) me z.1 refl (k.fit i None (rw length-set at li)))
+        | inr z ↦ rw (get_or-set_other s.handles h i o None z.1) (fit-dead s h r i (get_or s.handles i None) once z.1 refl (k.fit i None (rw length-set at li)))
       ]);
       calls_fit = All-from_get_or (FitsCall next) s.calls None (λ i li. call-kept s next (call_at s i) (record {
         tables = e;
         let_go = λ q j t. dead-let_go g r q;
-        live = λ q m t. dead-other g r q (λ y. other-names s h b r i (call_at s i) me refl f.shown li refl (rw y at m)) ∙ t;
+        live = λ q m t. calls-live s h r q i once li m t;
         hidden = λ q _. refl;
         handle = λ j y b a. get_or-set_other s.handles h j o None (λ e. let q = rw e at (lent-by j s.calls i None li b) in absurd (cc)) ∙ a;
         owner = λ j y a. owner-kept g g' s.calls y e (fits-at s j y k a);

@@ -5,76 +5,26 @@ use Rattle.std.proofs.lemmas.List.Elements.{All-from_get_or}
 use Rattle.std.proofs.lemmas.List.{get_or-set_same, get_or-set_other}
 use Rattle.std.proofs.lemmas.Bool.Decides.{nat_tests, eqb_tells}
 use Rattle.iobufs_owner.specs.Word.{IsPowerOfTwo, HasRoom, word_of}
-use Rattle.iobufs_owner.specs.State.{State, Tables, owner_of, record_at, block_at, handle_at, call_at, base_by, block_with}
+use Rattle.iobufs_owner.specs.State.{State, Tables, owner_of, record_at, block_at, call_at, base_by, block_with}
 use Rattle.iobufs_owner.specs.World.{is_block, holders, users, tally}
 use Rattle.iobufs_owner.specs.Reading.{reading}
-use Rattle.iobufs_owner.specs.Sound.{IsSound, ArePlaced, Fits, FitsCall, IsDescribed, alone, describes, hidden}
-use Rattle.iobufs_owner.specs.Moves.{is_lent, edited, dead, record_freed, fits_in, tail_of, may_demote, described, demote_counted, declined, Lends, IsDemotedBy}
+use Rattle.iobufs_owner.specs.Sound.{IsSound, ArePlaced, Fits, FitsCall, IsDescribed, alone, describes}
+use Rattle.iobufs_owner.specs.Moves.{edited, dead, record_freed, fits_in, tail_of, may_demote, described, demote_counted, declined, Lends, IsDemotedBy}
 use Rattle.iobufs_owner.specs.declared.owner.types.Block.{Block}
 use Rattle.iobufs_owner.specs.declared.owner.types.Handle.{Handle}
 use Rattle.iobufs_owner.specs.declared.owner.types.Kind.TheVariants.{View}
-use Rattle.iobufs_owner.specs.declared.owner.types.Pending.{Pending}
-use Rattle.iobufs_owner.specs.declared.owner.types.Pending.TheVariants.{Loaded, Ready, Add, Subtract, Release}
 use Rattle.iobufs_owner.specs.declared.owner.types.Word.{Word}
 use Rattle.iobufs_owner.specs.declared.owner.types.Word.TheVariants.{Empty, Descriptor, Record as Counted}
 use Rattle.iobufs_owner.specs.declared.owner.types.Reply.TheVariants.{Declined, Done}
 use Rattle.iobufs_owner.proofs.Words.{word-size, word-tail, fits-room, fits-true}
 use Rattle.iobufs_owner.proofs.Soundness.Counts.{count-set, holders-changed, users-changed}
-use Rattle.iobufs_owner.proofs.Soundness.Keeps.{call-kept, lent-by, names, owner-kept, calls-read-kept, releases-kept, same-eqb}
+use Rattle.iobufs_owner.proofs.Soundness.Keeps.{call-kept, lent-by, owner-kept, calls-read-kept, releases-kept}
 use Rattle.iobufs_owner.proofs.Soundness.Kept.{at-some, block-log-kept, owner-counted}
 use Rattle.iobufs_owner.proofs.Soundness.Frames.{not-eqb, is-eqb, handles-kept, alone-kept, describes-kept, holders-tables, users-tables}
 use Rattle.iobufs_owner.proofs.Soundness.Edits.{fits-at, counted-at, lies-as, live-inside, no_block, owner-described, alone-described, describes-described, describes-counted, alone-shared}
 use Rattle.iobufs_owner.proofs.Soundness.Logs.{bases, record-log-dead}
-use Rattle.iobufs_owner.proofs.Soundness.RecordFreed.{dead-block, dead-count, dead-other, dead-keeps, dead-let_go, dead-live}
-use Rattle.iobufs_owner.proofs.Soundness.BlockFreed.{Only, only, unready, holders-alike, users-alike, other-names, fit-dead, counted-ends}
-
--- ---- what counts one is named once
-
--- whether a call speaks of the record
-abbrev pub speaks_of : ℕ → Option Pending → Bool
-speaks_of r None = false
-speaks_of r (Some (Loaded part w)) = false
-speaks_of r (Some (Ready part w q)) = q == r
-speaks_of r (Some (Add part q)) = q == r
-speaks_of r (Some (Subtract q)) = q == r
-speaks_of r (Some (Release q)) = q == r
-
--- no call speaks of the record, and no handle but this one goes by it
-pub record NamedOnce (s : State) (h r : ℕ) : Type 0 where
-  pub calls : (i : ℕ) → i < length s.calls → speaks_of r (call_at s i) ≡ true → ⊥
-  pub handles : (i : ℕ) (y : Handle) → handle_at s i ≡ Some y → y.word ≡ Counted r → i ≡ h
-
-silent : (s : State) (h b r i : ℕ) (c : Option Pending) → Only s h b → is_lent h s.calls ≡ false → (record_at s.tables r).block ≡ b → hidden s.calls r ≡ 0 → i < length s.calls → call_at s i ≡ c → FitsCall s c → speaks_of r c ≡ true → ⊥
-silent s h b r i None one free e z l at f t = cc
-silent s h b r i (Some (Loaded part w)) one free e z l at f t = cc
-silent s h b r i (Some (Ready part w q)) one free e z l at f t = other-names s h b r i (Some (Ready part w q)) one e z l at t
-silent s h b r i (Some (Add part q)) one free e z l at (x, sh, xw) t =
-    let same : q ≡ r = grind (arith, nat_tests, t) in
-    let j : part.handle ≡ h = one.handle part.handle x sh.at (owner-counted s.tables x q xw ∙ ap (λ (n : ℕ). Some (record_at s.tables n).block) same ∙ ap Some e) in
-    let lent = lent-by part.handle s.calls i None l (rw at (same-eqb part.handle)) in
-    let u = ap (λ (n : ℕ). is_lent n s.calls) j in
-    cc
-silent s h b r i (Some (Subtract q)) one free e z l at f t = other-names s h b r i (Some (Subtract q)) one e z l at t
-silent s h b r i (Some (Release q)) one free e z l at f t = other-names s h b r i (Some (Release q)) one e z l at t
-
--- A drop that hasn't let go, and another handle, would be a holder more than the one that the record counts; a clone or
--- slice that is to be counted there borrows the handle.
-pub named-once : (s : State) (h r : ℕ) (x : Handle) → IsSound s → handle_at s h ≡ Some x → is_lent h s.calls ≡ false → x.word ≡ Counted r → (record_at s.tables r).count ≡ 1 → NamedOnce s h r
-named-once s h r x k at free xw one =
-    let f = counted-at s h x r k at xw in
-    let me = only s h (record_at s.tables r).block x k at (owner-counted s.tables x r xw) (sym ((k.counted r f.live).counts f.shown) ∙ one) in
-    record {
-      calls = λ i l t. silent s h (record_at s.tables r).block r i (call_at s i) me free refl f.shown l refl (k.calls_fit i None l) t;
-      handles = λ i y a yw. me.handle i y a (owner-counted s.tables y r yw);
-    }
-
-names-speak : (r : ℕ) (c : Option Pending) → names r c ≡ true → speaks_of r c ≡ true
-names-speak r None t = t
-names-speak r (Some (Loaded part w)) t = t
-names-speak r (Some (Ready part w q)) t = t
-names-speak r (Some (Add part q)) t = absurd (cc)
-names-speak r (Some (Subtract q)) t = t
-names-speak r (Some (Release q)) t = t
+use Rattle.iobufs_owner.proofs.Soundness.RecordFreed.{dead-block, dead-count, dead-keeps, dead-let_go, dead-live}
+use Rattle.iobufs_owner.proofs.Soundness.BlockFreed.{only, unready, named-once, calls-live, fit-dead, holders-alike, users-alike, counted-ends}
 
 -- ---- when a record may go
 
@@ -169,7 +119,7 @@ sound-demoted s h r log x k t xw align may =
     let one : holders (reading s) b ≡ 1 = sym ((k.counted r f.live).counts f.shown) ∙ may.one in
     let ox : owner_of g x ≡ Some b = owner-counted g x r xw in
     let me = only s h b x k at ox one in
-    let alone-named = named-once s h r x k at free xw may.one in
+    let once = named-once s h r x k at free xw one in
     let e = dead-keeps g r in
     let ox' : owner_of g' x ≡ Some b = owner-kept g g' s.calls x e (fits-at s h x k at) ∙ ox in
     let oy : owner_of g' y ≡ Some b = owner-demoted s h r log x k t xw may in
@@ -195,12 +145,12 @@ sound-demoted s h r log x k t xw align may =
       blocks = (let p = k.blocks in record { places = p.places; apart = p.apart });
       fit = All-from_get_or (Fits g' s.calls) (set s.handles h (Some y)) None (λ i li. elim (eqb_tells i h) [
         | inl z ↦ rw (z.1, get_or-set_same s.handles h (Some y) None l) (b, log, tail, described-demoted s h r log x k t xw align may)
-        | inr z ↦ rw (get_or-set_other s.handles h i (Some y) None z.1) (fit-dead s r h i (get_or s.handles i None) me z.1 refl (k.fit i None (rw length-set at li)))
+        | inr z ↦ rw (get_or-set_other s.handles h i (Some y) None z.1) (fit-dead s h r i (get_or s.handles i None) once z.1 refl (k.fit i None (rw length-set at li)))
       ]);
       calls_fit = All-from_get_or (FitsCall next) s.calls None (λ i li. call-kept s next (call_at s i) (record {
         tables = e;
         let_go = λ q j t. dead-let_go g r q;
-        live = λ q m t. dead-other g r q (λ j. alone-named.calls i li (names-speak r (call_at s i) (rw j at m))) ∙ t;
+        live = λ q m t. calls-live s h r q i once li m t;
         hidden = λ q _. refl;
         handle = λ j z b a. get_or-set_other s.handles h j (Some y) None (λ e. let q = rw e at (lent-by j s.calls i None li b) in absurd (cc)) ∙ a;
         owner = λ j z a. owner-kept g g' s.calls z e (fits-at s j z k a);
