@@ -37,7 +37,9 @@ impl Machine {
     {
         let record = self.record(r);
         let block = self.block(record.block);
-        if record.count != 1 || block.external {
+        let is_sole = record.count == 1;
+        let is_external = block.external;
+        if !is_sole || is_external {
             return Reply::Declined;
         }
         let tail = block.base + block.size - x.ptr - x.len;

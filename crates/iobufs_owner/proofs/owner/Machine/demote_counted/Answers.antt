@@ -1,4 +1,4 @@
-use Rattle.std.proofs.Common.{◌≡◌, arith, ap, sym, ◌∙◌, subst}
+use Rattle.std.proofs.Common.{◌≡◌, inl, inr, arith, ap, sym, ◌∙◌, subst}
 use Rattle.std.proofs.Math.ListN.{length-set}
 use Rattle.iobufs_owner.specs.declared.owner.types.Block.{Block}
 use Rattle.iobufs_owner.specs.declared.owner.types.Record.{Record}
@@ -6,19 +6,20 @@ use Rattle.iobufs_owner.specs.declared.owner.types.Kind.TheVariants.{View}
 use Rattle.iobufs_owner.specs.Inside.{state_of}
 use Rattle.iobufs_owner.specs.Moves.{Lends}
 use Rattle.iobufs_owner.specs.Sound.{IsSound}
-use Rattle.iobufs_owner.specs.State.{State, Seen, block_at}
+use Rattle.iobufs_owner.specs.State.{State, Seen}
 use Rattle.iobufs_owner.proofs.Soundness.Demote.{MayDemote, demoting, sound-demoted, keeps-record, frees-record}
-use Rattle.iobufs_owner.proofs.owner.Machine.demote_counted.Goals.{then-record-ne1-via-then-record-ne1, then-record-ne1-via-else-record-ne1+then-block}
 use Rattle.iobufs_owner.proofs.owner.Machine.demote_counted.Goals as goal
 
-pub returns-then-record-ne1 : goal.returns-then-record-ne1
-returns-then-record-ne1 c =
+pub returns-then-not-is_sole : goal.returns-then-not-is_sole
+returns-then-not-is_sole c =
     let s : State = c.args.self.now.state in
     let k = subst IsSound (ap (λ (m : Seen). m.state) c.self.view_is) c.self.invariant.sound in
     let d = demoting s c.args.h c.args.r c.args.x k c.requires.lent c.requires.word in
-    let never : MayDemote s.tables c.args.x c.args.r d.power.0 → ⊥ = λ m. elim c.then-record-ne1.branch [
-      | then-record-ne1-via-then-record-ne1 w ↦ w.if-record-ne1.true (ap (λ (v : Record). v.count) c.record-record.ensures ∙ m.one)
-      | then-record-ne1-via-else-record-ne1+then-block w ↦ (let q = sym w.if-block.true ∙ ap (λ (b : Block). b.external) c.block-block.ensures ∙ ap (λ (v : Record). (block_at s.tables v.block).external) c.record-record.ensures ∙ m.native in cc)
+    let e1 = c.record-record.ensures in
+    let e = rw e1 at c.block-block.ensures in
+    let never : MayDemote s.tables c.args.x c.args.r d.power.0 → ⊥ = λ m. elim c.then-not-is_sole.either [
+      | inl w ↦ w (ap (λ (v : Record). v.count) e1 ∙ m.one)
+      | inr w ↦ (let q = sym w.1 ∙ ap (λ (b : Block). b.external) e ∙ m.native in cc)
     ] in
     let z = keeps-record s c.args.h c.args.r d.power.0 c.args.x never in
     (d.power.0, d.power.1, z.0, z.1)
@@ -73,7 +74,7 @@ invariant_of-self c =
     let e = rw (c.record-record.ensures, v) at c.block-block.ensures in
     let w = c.in-Some.ensures.sum d.power.0 (rw e d.power.1) in
     let word = rw e at w.1 in
-    let may : MayDemote s.tables c.args.x c.args.r d.power.0 = record { one = rw e1 at c.if-record-ne1.false; native = rw e at c.if-block.false; room = rw e at w.0 } in
+    let may : MayDemote s.tables c.args.x c.args.r d.power.0 = record { one = rw e1 at c.if-not-is_sole.false; native = rw e at c.if-is_external.false; room = rw e at w.0 } in
     record { sound = rw (c.push_reserved.ensures.items, e1, word) (sound-demoted s c.args.h c.args.r d.power.0 c.args.x k.sound t c.requires.word d.power.1 may); block_room = k.block_room; record_room = rw length-set (omega (arith, k.record_room, c.push_reserved.ensures.capacity)); borrows_kept = rw length-set k.borrows_kept; places = k.places; borrowed = k.borrowed }
 
 pub returns : goal.returns
@@ -86,6 +87,6 @@ returns c =
     let e = rw (c.record-record.ensures, v) at c.block-block.ensures in
     let w = c.in-Some.ensures.sum d.power.0 (rw e d.power.1) in
     let word = rw e at w.1 in
-    let may : MayDemote s.tables c.args.x c.args.r d.power.0 = record { one = rw e1 at c.if-record-ne1.false; native = rw e at c.if-block.false; room = rw e at w.0 } in
+    let may : MayDemote s.tables c.args.x c.args.r d.power.0 = record { one = rw e1 at c.if-not-is_sole.false; native = rw e at c.if-is_external.false; room = rw e at w.0 } in
     let z = frees-record s c.args.h c.args.r d.power.0 c.args.x may in
     rw v (d.power.0, d.power.1, z.0, rw (c.push_reserved.ensures.items, e1, word) z.1)
