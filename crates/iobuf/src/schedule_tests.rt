@@ -357,6 +357,7 @@ const DEMOTIONS: [&str; 11] = [
      0 go -> done\n\
      1 demote 1 -> done\n\
      handle 1 -> view 64 3 word 201327745\n\
+     0 split 1 1 deny -> refused O8 Memory\n\
      0 split 1 1 -> made 2\n\
      record 1 -> count 2 block 0 live\n\
      1 demote 1 -> declined\n\

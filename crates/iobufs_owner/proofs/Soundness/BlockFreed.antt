@@ -1,4 +1,4 @@
--- A handle that holds its block alone lets it go, and the block is freed at once.
+-- What follows where a handle holds its block alone; and when it lets the block go, that is freed at once.
 use Rattle.std.proofs.Common.{◌≡◌, ◌≢◌, inl, inr, ℕ, suc, ◌+◌, ◌^◌, ◌<◌, ◌≤◌, ◌==◌, ◌&&◌, Bool, true, false, cond, List, [], ◌∷◌, length, get_or, set, sym, ◌∙◌, ap, subst, refl, arith, Option, Some, None, option_map, nat_eq, add-one}
 use Rattle.std.proofs.Math.ListN.{length-set}
 use Rattle.std.proofs.lemmas.List.Elements.{All-set, All-from_get_or}
