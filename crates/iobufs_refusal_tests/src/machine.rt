@@ -1,0 +1,196 @@
+// The owner machine, whose tables are refused each growth in turn. Two machines take the same steps, so that what a
+// refused step left can be compared with what was there before.
+use crate::word::{Word, ensure, say};
+use iobufs_core::codec::BufError;
+use iobufs_owner::format::FORMAT_64;
+use iobufs_owner::owner::Act::{self, Begin, Go};
+use iobufs_owner::owner::{Call, Machine, Refusal, Reply, Step};
+use std::alloc::Global;
+use std::test::Fail;
+
+// A step of a party that is granted all memory it asks for.
+type Row = (usize, Act);
+
+// How many parties there are.
+const PARTIES: usize = 3;
+
+// The first four handles, after which the table of handles has to grow.
+const FOUR: [Row; 6] = [
+    (0, Begin(Call::New(64, 12, 1), true)),
+    (0, Begin(Call::Put(0, 8), true)),
+    (0, Begin(Call::Freeze(0), true)),
+    (0, Begin(Call::Static(3), true)),
+    (0, Begin(Call::Static(3), true)),
+    (0, Begin(Call::Static(3), true)),
+];
+
+fn new_machine(alloc: Global) -> Result<Machine, BufError> {
+    Machine::new(alloc, PARTIES, 9, FORMAT_64)
+}
+
+// Whether two machines show the same.
+fn is_same(one: &Machine, other: &Machine) -> bool {
+    one.blocks() == other.blocks()
+        && one.records() == other.records()
+        && one.handles() == other.handles()
+        && one.calls() == other.calls()
+        && one.freed_blocks() == other.freed_blocks()
+        && one.freed_records() == other.freed_records()
+}
+
+// A step, which is taken again where a table couldn't grow, and whether that was so.
+fn stepped(machine: &mut Machine, step: Step) -> Result<(Reply, bool), Fail> {
+    match machine.step(step) {
+        Reply::Refused(Refusal::Room) => Ok((machine.step(step), true)),
+        Reply::Refused(_) => Err(Fail::new("refused for another reason")),
+        reply => Ok((reply, false)),
+    }
+}
+
+// Takes steps on two machines. A step that was refused for want of room has left all as it was.
+fn lockstep(rt: &(impl Print + AllocGlobal), steps: &[&[Row]]) -> Result<(), Fail> {
+    let (mut one, mut other) = match (new_machine(rt.alloc()), new_machine(rt.alloc())) {
+        (Ok(one), Ok(other)) => (one, other),
+        _ => return say(rt, Word::Fixture),
+    };
+    let mut word = Word::Whole;
+    for (party, act) in steps.iter().copied().flatten() {
+        let step = Step {
+            party: *party,
+            act: *act,
+        };
+        let mut reply = one.step(step);
+        if reply == Reply::Refused(Refusal::Room) {
+            ensure(is_same(&one, &other), "changed by a refusal")?;
+            reply = one.step(step);
+            word = Word::Refused;
+        }
+        let (same, refused) = stepped(&mut other, step)?;
+        if refused {
+            word = Word::Refused;
+        }
+        ensure(reply == same, "another reply")?;
+        ensure(is_same(&one, &other), "another state")?;
+    }
+    say(rt, word)
+}
+
+#[test]
+fn new(rt: HostRuntime) -> Result<(), Fail> {
+    let (machine, word) = lent!(new_machine(rt.alloc()), BufError::Memory, true);
+    ensure(machine.blocks().is_empty(), "a new machine has a block")?;
+    say(&rt, word)
+}
+
+#[test]
+fn run(rt: HostRuntime) -> Result<(), Fail> {
+    let mut machine = fixture!(rt, new_machine(rt.alloc()));
+    let steps = [Step {
+        party: 0,
+        act: Go(true),
+    }];
+    let (replies, word) = lent!(
+        machine.run(rt.alloc(), &steps),
+        BufError::Memory,
+        machine.blocks().is_empty()
+    );
+    let idle = [Reply::Refused(Refusal::Idle)];
+    ensure(replies.as_slice() == idle.as_slice(), "other replies")?;
+    say(&rt, word)
+}
+
+// Tables of blocks, places, handles and their borrows, and the log of freed blocks.
+#[test]
+fn a_new_block(rt: HostRuntime) -> Result<(), Fail> {
+    lockstep(&rt, &[&[(0, Begin(Call::New(64, 12, 1), true))]])
+}
+
+#[test]
+fn an_external_block(rt: HostRuntime) -> Result<(), Fail> {
+    lockstep(&rt, &[&[(0, Begin(Call::External(64, 12), true))]])
+}
+
+#[test]
+fn a_static_view(rt: HostRuntime) -> Result<(), Fail> {
+    lockstep(&rt, &[&[(0, Begin(Call::Static(3), true))]])
+}
+
+// A block that is too long for a word: its record is made when it is frozen.
+#[test]
+fn a_freeze_with_a_record(rt: HostRuntime) -> Result<(), Fail> {
+    lockstep(
+        &rt,
+        &[&[
+            (0, Begin(Call::New(64, 1 << 40, 1), true)),
+            (0, Begin(Call::Put(0, 8), true)),
+            (0, Begin(Call::Freeze(0), true)),
+        ]],
+    )
+}
+
+// A record is made, and a handle beyond the fourth.
+#[test]
+fn a_split(rt: HostRuntime) -> Result<(), Fail> {
+    lockstep(&rt, &[&FOUR, &[(0, Begin(Call::SplitTo(0, 3), true))]])
+}
+
+#[test]
+fn a_clone(rt: HostRuntime) -> Result<(), Fail> {
+    lockstep(
+        &rt,
+        &[
+            &FOUR,
+            &[
+                (0, Begin(Call::Clone(0), true)),
+                (0, Go(true)),
+                (0, Go(true)),
+            ],
+        ],
+    )
+}
+
+#[test]
+fn a_clone_without_block(rt: HostRuntime) -> Result<(), Fail> {
+    lockstep(&rt, &[&FOUR, &[(0, Begin(Call::Clone(1), true))]])
+}
+
+#[test]
+fn a_slice(rt: HostRuntime) -> Result<(), Fail> {
+    lockstep(
+        &rt,
+        &[
+            &FOUR,
+            &[
+                (0, Begin(Call::Slice(0, 1, 3), true)),
+                (0, Go(true)),
+                (0, Go(true)),
+            ],
+        ],
+    )
+}
+
+// Two promotions of which one is late, and frees its record. The drops free the other and the block.
+#[test]
+fn two_clones_and_three_drops(rt: HostRuntime) -> Result<(), Fail> {
+    lockstep(
+        &rt,
+        &[
+            &FOUR,
+            &[
+                (0, Begin(Call::Clone(0), true)),
+                (1, Begin(Call::Clone(0), true)),
+                (0, Go(true)),
+                (1, Go(true)),
+                (1, Go(true)),
+                (0, Go(true)),
+                (0, Go(true)),
+                (2, Begin(Call::Drop(0), true)),
+                (2, Go(true)),
+                (1, Begin(Call::Drop(4), true)),
+                (1, Go(true)),
+                (0, Begin(Call::Drop(5), true)),
+                (0, Go(true)),
+            ],
+        ],
+    )
+}

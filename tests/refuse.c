@@ -1,0 +1,45 @@
+// Loaded before the program: refuses one request for memory. REFUSE says which, from 1; 0 refuses none. The number of
+// requests goes to the file that REQUESTS names, if it does, when the program ends.
+#define _GNU_SOURCE
+#include <errno.h>
+#include <stdio.h>
+#include <stdlib.h>
+
+static unsigned long requests = 0;
+static long refused = -1;
+extern void *__libc_malloc(size_t);
+extern void *__libc_calloc(size_t, size_t);
+extern void *__libc_realloc(void *, size_t);
+extern void *__libc_memalign(size_t, size_t);
+
+static int refuse(void) {
+    if (refused < 0) {
+        const char *text = getenv("REFUSE");
+        refused = text ? atol(text) : 0;
+    }
+    requests++;
+    if ((long)requests != refused) return 0;
+    errno = ENOMEM;
+    return 1;
+}
+
+void *malloc(size_t n) { return refuse() ? NULL : __libc_malloc(n); }
+void *calloc(size_t a, size_t b) { return refuse() ? NULL : __libc_calloc(a, b); }
+void *realloc(void *p, size_t n) { return refuse() ? NULL : __libc_realloc(p, n); }
+void *aligned_alloc(size_t a, size_t n) { return refuse() ? NULL : __libc_memalign(a, n); }
+int posix_memalign(void **p, size_t a, size_t n) {
+    if (refuse()) return ENOMEM;
+    *p = __libc_memalign(a, n);
+    return *p ? 0 : ENOMEM;
+}
+
+__attribute__((destructor)) static void tell(void) {
+    const char *name = getenv("REQUESTS");
+    if (!name) return;
+    unsigned long all = requests;
+    refused = 0;
+    FILE *file = fopen(name, "w");
+    if (!file) return;
+    fprintf(file, "%lu\n", all);
+    fclose(file);
+}
