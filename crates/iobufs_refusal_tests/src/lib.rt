@@ -48,6 +48,8 @@ mod builder;
 #[cfg(test)]
 mod commands;
 #[cfg(test)]
+mod frames;
+#[cfg(test)]
 mod machine;
 #[cfg(test)]
 mod made;
