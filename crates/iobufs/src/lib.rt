@@ -4,3 +4,7 @@
 pub mod bufs;
 pub mod bufs_mut;
 pub mod builder;
+
+pub use bufs::IoBufs;
+pub use bufs_mut::IoBufsMut;
+pub use builder::{Builder, EncodeExt};

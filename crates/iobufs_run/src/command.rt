@@ -168,25 +168,35 @@ pub enum Item {
 /// The answer to a command.
 #[derive(Debug, PartialEq, Eq, Drop)]
 pub enum Reply {
+    /// The command is done.
     Done,
+    /// The bytes that were taken out.
     Bytes(Bytes),
+    /// What a name holds, piece by piece.
     Shown { kind: Kind, pieces: Vec<Piece> },
+    /// The command wasn't done.
     Refused(Refusal),
 }
 
 /// What a name holds.
 #[derive(Clone, Copy, Debug, PartialEq, Eq)]
 pub enum Kind {
+    /// An `IoBufMut`.
     Part,
+    /// An `IoBuf`.
     View,
+    /// An `IoBufs`.
     Text,
+    /// An `IoBufsMut`.
     Parts,
 }
 
 /// One piece of what is shown: its bytes, and the room behind them.
 #[derive(Debug, PartialEq, Eq, Drop)]
 pub struct Piece {
+    /// Its readable bytes.
     pub bytes: Vec<u8>,
+    /// How many more fit behind them; 0 in a view or a text.
     pub spare: usize,
 }
 

@@ -3,3 +3,6 @@
 
 pub mod command;
 pub mod table;
+
+pub use command::{Cmd, Item, Kind, Piece, Refusal, Reply};
+pub use table::{Slot, Table, choices_law};

@@ -25,10 +25,15 @@ use std::marker::Model;
 /// What a name holds.
 #[derive(Drop)]
 pub enum Slot {
+    /// Nothing.
     Free,
+    /// A writable buffer.
     Part(IoBufMut),
+    /// A read-only buffer.
     View(IoBuf),
+    /// Several read-only buffers as one text.
     Text(IoBufs),
+    /// Several writable buffers in a row.
     Parts(IoBufsMut),
 }
 

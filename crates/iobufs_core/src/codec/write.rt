@@ -34,6 +34,7 @@ pub trait BufMut {
 
     ghost lessens: { (a b : Self) (w : List ℕ) → filled a w b → room a ≡ room b + length w };
 
+    /// Fills one byte in.
     final fn put_u8(&mut self, n: u8)
     where
         Self: Sized,
@@ -43,7 +44,7 @@ pub trait BufMut {
         self.put_slice(&[n]);
     }
 
-    /// Fills a number in, its highest byte first; so do the wider ones.
+    /// Fills two bytes in, the highest of the number first.
     final fn put_u16(&mut self, n: u16)
     where
         Self: Sized,
@@ -53,6 +54,7 @@ pub trait BufMut {
         self.put_slice(&u16::to_be_bytes(n));
     }
 
+    /// Fills four bytes in, the highest of the number first.
     final fn put_u32(&mut self, n: u32)
     where
         Self: Sized,
@@ -62,6 +64,7 @@ pub trait BufMut {
         self.put_slice(&u32::to_be_bytes(n));
     }
 
+    /// Fills eight bytes in, the highest of the number first.
     final fn put_u64(&mut self, n: u64)
     where
         Self: Sized,

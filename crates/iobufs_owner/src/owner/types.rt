@@ -27,7 +27,9 @@ pub struct Record {
 /// Whether a handle reads or writes.
 #[derive(Clone, Copy, Debug, PartialEq, Eq, Drop)]
 pub enum Kind {
+    /// It reads.
     View,
+    /// It reads and writes.
     Mut,
 }
 
@@ -45,6 +47,7 @@ pub enum Word {
 /// A value that may hold a block.
 #[derive(Clone, Copy, Debug, PartialEq, Eq, Drop)]
 pub struct Handle {
+    /// Whether it writes.
     pub kind: Kind,
     /// The address of its first byte.
     pub ptr: u64,
@@ -52,6 +55,7 @@ pub struct Handle {
     pub len: u64,
     /// The bytes from `ptr` to the end of the block, for a writable handle; 0 for a view.
     pub cap: u64,
+    /// What it owns.
     pub word: Word,
 }
 
@@ -84,8 +88,11 @@ pub enum Pending {
 /// A block that was freed.
 #[derive(Clone, Copy, Debug, PartialEq, Eq, Drop)]
 pub struct Freed {
+    /// The address of its first byte.
     pub base: u64,
+    /// Its bytes.
     pub size: u64,
+    /// Its alignment.
     pub align: u64,
 }
 
@@ -124,14 +131,18 @@ pub enum Call {
 /// A party begins a call, or goes on with its unfinished one. The flag says whether memory may be taken.
 #[derive(Clone, Copy, Debug, PartialEq, Eq, Drop)]
 pub enum Act {
+    /// The first step of a call.
     Begin(Call, bool),
+    /// A further step of the unfinished one.
     Go(bool),
 }
 
 /// One atomic access of one party, which goes by its number.
 #[derive(Clone, Copy, Debug, PartialEq, Eq, Drop)]
 pub struct Step {
+    /// The party.
     pub party: usize,
+    /// What it does.
     pub act: Act,
 }
 
@@ -167,10 +178,12 @@ pub enum Reply {
     Made(usize),
     /// The call is unfinished.
     More,
+    /// The call is done.
     Done,
     /// A view that may not become writable, or that keeps the word it has; nothing has changed.
     Declined,
     /// Whether the handle is the only holder of its block.
     Unique(bool),
+    /// The step wasn't taken.
     Refused(Refusal),
 }
