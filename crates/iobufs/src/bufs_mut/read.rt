@@ -1,6 +1,6 @@
 // `IoBufsMut` as bytes that are read from the front.
 ghost use Rattle.std.specs.Prelude.{[], ◌∷◌};
-ghost use Rattle.iobufs.specs.Parts.{parts_chunks, parts_copied, parts_drained, parts_filled};
+ghost use Rattle.iobufs.specs.Parts.{parts_chunks, parts_drained, parts_filled};
 
 use super::{IoBufsMut, Shape, row};
 use bytes::Bytes;
@@ -8,13 +8,13 @@ use iobufs_core::codec::{Buf, BufError};
 use std::alloc::Global;
 
 impl Buf for IoBufsMut {
-    ghost use Rattle.iobufs.specs.DrainLaws.{filled-drained, filled-copied, joined-chunks, full-chunks};
+    ghost use Rattle.iobufs.specs.DrainLaws.{filled-drained, joined-chunks, full-chunks};
 
     ghost text = { parts_filled };
 
     ghost advanced = { parts_drained };
 
-    ghost copied = { parts_copied };
+    ghost copied = { parts_drained };
 
     ghost pieces = { parts_chunks };
 
@@ -38,7 +38,7 @@ impl Buf for IoBufsMut {
         }
     }
 
-    /// Two or three parts keep their room when they are used up; of four or more, those that are go with it.
+    /// A part that is used up keeps its room; with two or more, those that can't hold a byte any more go.
     fn advance(&mut self, n: usize) {
         match &mut self.shape {
             Shape::One(part) => part.advance(n),
@@ -60,21 +60,18 @@ impl Buf for IoBufsMut {
         self.advance(dst.len());
     }
 
-    /// As `advance`, but one part that is used up keeps no room, and of two or three a first one with exactly these
-    /// bytes goes with its room.
+    /// Leaves what `advance` leaves, of one part too.
     #[tactic(auto, using(crate::proofs::PartChunks::reading))]
     fn copy_to_bytes(&mut self, alloc: Global, n: usize) -> Result<Bytes, BufError> {
-        match &mut self.shape {
-            Shape::One(part) => part.copy_to_bytes(alloc, n),
-            Shape::Many(parts) => {
-                let bytes = Bytes::from_vec(row::front(alloc, parts, n)?)?;
-                row::advance_copied(parts, n);
-                if let Some(part) = row::take_single(parts) {
-                    self.shape = Shape::One(part);
-                }
-                Ok(bytes)
-            }
+        if n == 0 {
+            return Ok(Bytes::new());
         }
+        let bytes = match &self.shape {
+            Shape::One(part) => Bytes::copy_from_slice(alloc, &part.as_ref()[..n])?,
+            Shape::Many(parts) => Bytes::from_vec(row::front(alloc, parts, n)?)?,
+        };
+        self.advance(n);
+        Ok(bytes)
     }
 
     #[tactic(auto, using(crate::proofs::PartChunks::reading))]
@@ -87,7 +84,7 @@ impl Buf for IoBufsMut {
 
     ghost drops = { λ parts n h. filled-drained parts n };
 
-    ghost copies = { filled-copied };
+    ghost copies = { λ parts n h. filled-drained parts n };
 
     ghost joins = { joined-chunks };
 

@@ -1,9 +1,8 @@
 // Several parts in a row: what the calls of `IoBufsMut` do to two or more.
-ghost use Rattle.std.specs.Prelude.{◌≡◌, ◌^◌, ◌<◌, ◌≤◌, [], ◌∷◌, length, map, nat_lt, replicate, slice_get, take, IfNone, IfOk, IfSome, IsOk, IsOkUnless};
+ghost use Rattle.std.specs.Prelude.{◌≡◌, ◌^◌, ◌<◌, ◌≤◌, [], ◌∷◌, length, drop, map, replicate, slice_get, take, IfNone, IfOk, IfSome, IsOk, IsOkUnless};
 ghost use Rattle.std.specs.List.{sum_by};
 ghost use Rattle.iobufs_core.specs.Chunks.{first_chunk};
-ghost use Rattle.iobufs_core.specs.Part.{part_capacity};
-ghost use Rattle.iobufs.specs.Parts.{HaveCapacity, parts_capacity, parts_chunks, parts_copied, parts_drained, parts_fill, parts_filled, parts_frozen, parts_or_default, parts_overwritten, parts_shared_out, parts_spare, parts_used_up, parts_with_len, with_capacity};
+ghost use Rattle.iobufs.specs.Parts.{HaveCapacity, parts_capacity, parts_chunks, parts_drained, parts_fill, parts_filled, parts_frozen, parts_or_default, parts_overwritten, parts_shared_out, parts_spare, parts_with_len, with_capacity};
 
 use crate::bufs::IoBufs;
 use iobufs_core::buf::IoBufMut;
@@ -93,80 +92,62 @@ pub(super) fn copy_from_slice(parts: &mut VecDeque<IoBufMut>, src: &[u8])
     }
 }
 
-// Drops the first `n` bytes. Two or three parts keep their room; of four or more, those that are used up go with it.
+// Drops the first `n` bytes, and the parts that can't hold a byte any more.
 #[tactic(auto, using(crate::proofs::DrainShapes::draining))]
 pub(super) fn advance(parts: &mut VecDeque<IoBufMut>, n: usize)
-    requires { 1 < length parts.old.items }
+    requires several { 1 < length parts.old.items }
+    requires have_capacity { HaveCapacity parts.old.items }
     ensures rest { parts_or_default parts.new.items ≡ parts_drained parts.old.items n }
-    ensures have_capacity { HaveCapacity parts.old.items → HaveCapacity parts.new.items }
+    ensures have_capacity { HaveCapacity parts.new.items }
     ensures fits { parts_capacity parts.new.items ≤ parts_capacity parts.old.items }
 {
-    if n == 0 {
-        return;
+    let end = share_out(parts, n);
+    if end > 0 {
+        drop_spent(parts, end);
     }
-    if parts.len() > 3 {
-        use_up(parts, n);
-        return;
-    }
-    share_out(parts, n);
-    drop_spent(parts);
 }
 
-// What stays when the first `n` bytes were copied out: a first part that held just these goes.
-pub(super) fn advance_copied(parts: &mut VecDeque<IoBufMut>, n: usize)
-    requires { 1 < length parts.old.items }
-    ensures rest { parts_or_default parts.new.items ≡ parts_copied parts.old.items n }
-    ensures have_capacity { HaveCapacity parts.old.items → HaveCapacity parts.new.items }
-    ensures fits { parts_capacity parts.new.items ≤ parts_capacity parts.old.items }
-{
-    if n != 0 && n == parts[0].len() {
-        parts.pop_front();
-        return;
-    }
-    advance(parts, n);
-}
-
-// Drops the first `n` bytes, each part its share of them.
-fn share_out(parts: &mut VecDeque<IoBufMut>, n: usize)
-    ensures { parts.new.items ≡ parts_shared_out parts.old.items n }
+// Drops the first `n` bytes, each part its share of them; no part is looked at behind the last byte that goes. Answers
+// a place from which on each part can still hold a byte.
+fn share_out(parts: &mut VecDeque<IoBufMut>, n: usize) -> usize
+    requires { HaveCapacity parts.old.items }
+    ensures shared { parts.new.items ≡ parts_shared_out parts.old.items n }
+    ensures have_capacity { HaveCapacity (drop result parts.new.items) }
+    ensures inside { result ≤ length parts.new.items }
 {
     let mut rest = n;
+    let mut end = 0;
     for i in 0..parts.len() {
+        if rest == 0 {
+            return end;
+        }
         let part = &mut parts[i];
         let share = rest.min(part.len());
         part.advance(share);
+        if part.capacity() == 0 {
+            end = i + 1;
+        }
         rest -= share;
     }
+    end
 }
 
-// Drops the parts that can't hold a byte any more.
-fn drop_spent(parts: &mut VecDeque<IoBufMut>)
+// Drops the parts that can't hold a byte, all of which stand before a place.
+#[inline(never)]
+fn drop_spent(parts: &mut VecDeque<IoBufMut>, end: usize)
+    requires inside { end ≤ length parts.old.items }
+    requires have_capacity { HaveCapacity (drop end parts.old.items) }
     ensures { parts.new.items ≡ with_capacity parts.old.items }
 {
-    parts.retain(
-        |part: &IoBufMut| -> bool
-            ensures { result ≡ nat_lt 0 (part_capacity part.now) }
-        { part.capacity() > 0 },
-    );
-}
-
-// Drops the first `n` bytes, and the parts that are used up on the way.
-fn use_up(parts: &mut VecDeque<IoBufMut>, n: usize)
-    ensures { parts.new.items ≡ parts_used_up parts.old.items n }
-{
-    let mut rest = n;
-    while rest > 0 {
-        let Some(part) = parts.front_mut() else {
-            return;
-        };
-        let len = part.len();
-        if rest < len {
-            part.advance(rest);
-            return;
+    let mut kept = 0;
+    for i in 0..end {
+        let part = parts.pop_front().unwrap();
+        if part.capacity() > 0 {
+            parts.push_back_reserved(part);
+            kept += 1;
         }
-        parts.pop_front();
-        rest -= len;
     }
+    parts.rotate_right(kept);
 }
 
 // Where fewer than two parts are left: the one that is left, or one of capacity 0.
