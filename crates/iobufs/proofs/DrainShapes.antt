@@ -40,6 +40,24 @@ pub drained-able : (parts left : List Part) (n : ℕ) → 1 < length parts → H
 drained-able parts left n several able shared still =
     ap parts_or_default (sym (with_capacity-all left still)) ∙ ap kept_parts shared ∙ sym (drained-several parts n several able)
 
+-- less than the first part holds goes from it alone
+pub shared_out-first : (p : Part) (parts : List Part) (n : ℕ) → n < length p.filled → parts_shared_out (p ∷ parts) n ≡ part_drained p n ∷ parts
+shared_out-first p parts n less =
+    let none : n - length p.filled ≡ 0 = omega arith in
+    ap (λ ps. part_drained p n ∷ ps) (ap (parts_shared_out parts) none ∙ shared_out-none parts)
+
+able-first : (p : Part) (parts : List Part) (n : ℕ) → n < length p.filled → HaveCapacity parts → HaveCapacity (part_drained p n ∷ parts)
+able-first p parts n less able = (omega (arith, length-drop n p.filled), able)
+
+pub drained-first : (parts : List Part) (p q : Part) (n : ℕ) → 1 < length parts → HaveCapacity parts → p ≡ get_or parts 0 p → n < length p.filled → q ≡ part_drained p n → set parts 0 q ≡ parts_drained parts n
+drained-first [] p q n several able first less is = absurd (omega arith)
+drained-first (r ∷ []) p q n several able first less is = absurd (omega arith)
+drained-first (r ∷ s ∷ parts) p q n several able first less is =
+    let here : q ≡ part_drained r n = is ∙ ap (λ x. part_drained x n) first in
+    let inside : n < length r.filled = rw first at less in
+    let shared = shared_out-first r (s ∷ parts) n inside in
+    ap (λ x. x ∷ s ∷ parts) here ∙ drained-able (r ∷ s ∷ parts) (part_drained r n ∷ s ∷ parts) n several able (sym shared) (able-first r (s ∷ parts) n inside able.1)
+
 -- the parts that can hold a byte
 pub able-with_capacity : (parts : List Part) → HaveCapacity (with_capacity parts)
 able-with_capacity [] = tt

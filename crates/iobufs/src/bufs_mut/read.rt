@@ -43,6 +43,9 @@ impl Buf for IoBufsMut {
         match &mut self.shape {
             Shape::One(part) => part.advance(n),
             Shape::Many(parts) => {
+                if row::shorten(parts, n) {
+                    return;
+                }
                 row::advance(parts, n);
                 if let Some(part) = row::take_single(parts) {
                     self.shape = Shape::One(part);

@@ -1,5 +1,5 @@
 // Several parts in a row: what the calls of `IoBufsMut` do to two or more.
-ghost use Rattle.std.specs.Prelude.{◌≡◌, ◌^◌, ◌<◌, ◌≤◌, [], ◌∷◌, length, drop, map, replicate, slice_get, take, IfNone, IfOk, IfSome, IsOk, IsOkUnless};
+ghost use Rattle.std.specs.Prelude.{◌≡◌, ◌^◌, ◌<◌, ◌≤◌, [], ◌∷◌, length, drop, map, replicate, slice_get, take, false, IfNone, IfOk, IfSome, IsOk, IsOkUnless, IsTrue};
 ghost use Rattle.std.specs.List.{sum_by};
 ghost use Rattle.iobufs_core.specs.Chunks.{first_chunk};
 ghost use Rattle.iobufs.specs.Parts.{HaveCapacity, parts_capacity, parts_chunks, parts_drained, parts_fill, parts_filled, parts_frozen, parts_or_default, parts_overwritten, parts_shared_out, parts_spare, parts_with_len, with_capacity};
@@ -42,7 +42,11 @@ pub(super) fn put(parts: &mut VecDeque<IoBufMut>, src: &[u8])
             return;
         }
         let part = &mut parts[i];
-        let n = left.len().min(part.remaining_mut());
+        let room = part.remaining_mut();
+        if room == 0 {
+            continue;
+        }
+        let n = left.len().min(room);
         part.put_slice(&left[..n]);
         left = &left[n..];
     }
@@ -59,7 +63,11 @@ pub(super) fn put_bytes(parts: &mut VecDeque<IoBufMut>, value: u8, n: usize)
             return;
         }
         let part = &mut parts[i];
-        let n = rest.min(part.remaining_mut());
+        let room = part.remaining_mut();
+        if room == 0 {
+            continue;
+        }
+        let n = rest.min(room);
         part.put_bytes(value, n);
         rest -= n;
     }
@@ -92,7 +100,26 @@ pub(super) fn copy_from_slice(parts: &mut VecDeque<IoBufMut>, src: &[u8])
     }
 }
 
+// Drops the first `n` bytes if the first part holds more, and tells whether it does.
+pub(super) fn shorten(parts: &mut VecDeque<IoBufMut>, n: usize) -> bool
+    requires several { 1 < length parts.old.items }
+    requires have_capacity { HaveCapacity parts.old.items }
+    ensures drained { IsTrue result → parts.new.items ≡ parts_drained parts.old.items n }
+    ensures have_capacity { IsTrue result → HaveCapacity parts.new.items }
+    ensures several { IsTrue result → 1 < length parts.new.items }
+    ensures fits { IsTrue result → parts_capacity parts.new.items ≤ parts_capacity parts.old.items }
+    ensures same { result ≡ false → parts.new.items ≡ parts.old.items }
+{
+    let part = &mut parts[0];
+    if n < part.len() {
+        part.advance(n);
+        return true;
+    }
+    false
+}
+
 // Drops the first `n` bytes, and the parts that can't hold a byte any more.
+#[inline(never)]
 #[tactic(auto, using(crate::proofs::DrainShapes::draining))]
 pub(super) fn advance(parts: &mut VecDeque<IoBufMut>, n: usize)
     requires several { 1 < length parts.old.items }
