@@ -1,7 +1,7 @@
 -- Draining several parts, and what it keeps.
-use Rattle.std.proofs.Common.{◌≡◌, ℕ, zero, suc, ◌+◌, ◌-◌, ◌<◌, ◌≤◌, List, [], ◌∷◌, ◌++◌, length, take, drop, refl, sym, ap, ◌∙◌, arith, append-nil, append_assoc, length-drop, take-append-drop, nat_eq, nat_lt, get_or, set}
+use Rattle.std.proofs.Common.{◌≡◌, ℕ, zero, suc, ◌+◌, ◌-◌, ◌<◌, ◌≤◌, List, [], ◌∷◌, ◌++◌, length, take, drop, refl, sym, ap, ◌∙◌, arith, append-nil, append_assoc, length-drop, take-append-drop, take_all, nat_eq, nat_lt, get_or, set}
 use Rattle.std.proofs.lemmas.Bool.{cond_both, cond-true, cond-false, eqb-true, ltb-true, ltb-false, lt-ltb, le-ltb}
-use Rattle.std.proofs.lemmas.List.{drop_at, drop_more, drop-drop, drop-set-add, drop-set-lt, take_at, take_more}
+use Rattle.std.proofs.lemmas.List.{drop_all, drop_at, drop_more, drop-drop, drop-set-add, drop-set-lt, take_at, take_more}
 use Rattle.std.proofs.lemmas.List.Elements.{filter-append}
 use Rattle.std.proofs.lemmas.List.Sums.{sum_by-cons}
 use Rattle.iobufs_core.specs.Part.{Part, part_capacity, part_drained}
@@ -117,14 +117,18 @@ turned-spent all now rest i p l so_far first none =
     is.1 ∙ ap (λ ps. drop (i + 1) all ++ ps) (sym (ap with_capacity met ∙ with_capacity-spent (take i all) p none))
 
 -- and back again, those behind the place being able to
-pub turned-back : (all now new : List Part) (end kept k : ℕ) → now ≡ drop end all ++ with_capacity (take end all) → HaveCapacity (drop end all) → k ≡ length (drop end all) → new ≡ drop k now ++ take k now
+pub turned-back : (all now new : List Part) (end k : ℕ) → now ≡ drop end all ++ with_capacity (take end all) → HaveCapacity (drop end all) → k ≡ length (drop end all) → new ≡ drop k now ++ take k now
     → new ≡ with_capacity all
-turned-back all now new end kept k so_far able e back =
+turned-back all now new end k so_far able e back =
     let front = ap (drop k) so_far ∙ drop_at (drop end all) (with_capacity (take end all)) k (sym e) in
     let rest = ap (take k) so_far ∙ take_at (drop end all) (with_capacity (take end all)) k (sym e) in
     let whole = ap with_capacity (take-append-drop end all) in
     back ∙ (λ i. front i ++ rest i) ∙ ap (λ ps. with_capacity (take end all) ++ ps) (sym (with_capacity-all (drop end all) able))
     ∙ sym (filter-append (λ q. nat_lt 0 (part_capacity q)) (take end all) (drop end all)) ∙ whole
+
+pub turned-none : (all now : List Part) (end : ℕ) → now ≡ drop end all ++ with_capacity (take end all) → HaveCapacity (drop end all) → length now ≡ length (drop end all) → now ≡ with_capacity all
+turned-none all now end so_far able e =
+    turned-back all now now end (length now) so_far able e (sym (ap (λ ps. ps ++ take (length now) now) (drop_all (length now) now (omega arith)) ∙ take_all (length now) now (omega arith)))
 
 -- parts behind a place that can hold a byte
 able-drop : (n : ℕ) (parts : List Part) → HaveCapacity parts → HaveCapacity (drop n parts)

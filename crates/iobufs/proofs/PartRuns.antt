@@ -9,7 +9,7 @@ use Rattle.iobufs.specs.Parts.{HaveCapacity, kept_parts, parts_capacity, parts_o
 use Rattle.iobufs.specs.PartShape.{AreSeveral}
 use Rattle.iobufs.proofs.DrainShapes.{able-with_capacity, capacity-with_capacity, with_capacity-all, with_capacity-push}
 
-default-some : (parts : List Part) → 0 < length parts → parts_or_default parts ≡ parts
+pub default-some : (parts : List Part) → 0 < length parts → parts_or_default parts ≡ parts
 default-some [] some = absurd (omega arith)
 default-some (p ∷ parts) some = refl
 

@@ -1,11 +1,29 @@
 // `IoBufsMut` as bytes that are read from the front.
-ghost use Rattle.std.specs.Prelude.{[], ◌∷◌};
+ghost use Rattle.std.specs.Prelude.{◌≡◌, ◌≤◌, [], ◌∷◌, length};
 ghost use Rattle.iobufs.specs.Parts.{parts_chunks, parts_drained, parts_filled};
 
 use super::{IoBufsMut, Shape, row};
 use bytes::Bytes;
 use iobufs_core::codec::{Buf, BufError};
 use std::alloc::Global;
+
+impl IoBufsMut {
+    // Drops the first `n` bytes, also where whole parts go.
+    #[inline(never)]
+    fn drain(&mut self, n: usize)
+        requires { n ≤ length (parts_filled self.old) }
+        ensures { self.new ≡ parts_drained self.old n }
+    {
+        match &mut self.shape {
+            Shape::One(part) => part.advance(n),
+            Shape::Many(parts) => {
+                if let Some(part) = parts.advance(n) {
+                    self.shape = Shape::One(part);
+                }
+            }
+        }
+    }
+}
 
 impl Buf for IoBufsMut {
     ghost use Rattle.iobufs.specs.DrainLaws.{filled-drained, joined-chunks, full-chunks};
@@ -26,7 +44,7 @@ impl Buf for IoBufsMut {
     fn chunk(&self) -> &[u8] {
         match &self.shape {
             Shape::One(part) => part.as_ref(),
-            Shape::Many(parts) => row::chunk(parts),
+            Shape::Many(parts) => row::chunk(parts.row()),
         }
     }
 
@@ -34,7 +52,7 @@ impl Buf for IoBufsMut {
     fn byte_at(&self, i: usize) -> Option<u8> {
         match &self.shape {
             Shape::One(part) => part.byte_at(i),
-            Shape::Many(parts) => row::byte_at(parts, i),
+            Shape::Many(parts) => row::byte_at(parts.row(), i),
         }
     }
 
@@ -43,12 +61,8 @@ impl Buf for IoBufsMut {
         match &mut self.shape {
             Shape::One(part) => part.advance(n),
             Shape::Many(parts) => {
-                if row::shorten(parts, n) {
-                    return;
-                }
-                row::advance(parts, n);
-                if let Some(part) = row::take_single(parts) {
-                    self.shape = Shape::One(part);
+                if !parts.shorten(n) {
+                    self.drain(n);
                 }
             }
         }
@@ -58,7 +72,7 @@ impl Buf for IoBufsMut {
     fn copy_to_slice(&mut self, dst: &mut [u8]) {
         match &self.shape {
             Shape::One(part) => dst.copy_from_slice(&part.as_ref()[..dst.len()]),
-            Shape::Many(parts) => row::read(parts, dst),
+            Shape::Many(parts) => row::read(parts.row(), dst),
         }
         self.advance(dst.len());
     }
@@ -71,7 +85,7 @@ impl Buf for IoBufsMut {
         }
         let bytes = match &self.shape {
             Shape::One(part) => Bytes::copy_from_slice(alloc, &part.as_ref()[..n])?,
-            Shape::Many(parts) => Bytes::from_vec(row::front(alloc, parts, n)?)?,
+            Shape::Many(parts) => Bytes::from_vec(row::front(alloc, parts.row(), n)?)?,
         };
         self.advance(n);
         Ok(bytes)
@@ -81,7 +95,7 @@ impl Buf for IoBufsMut {
     fn chunks_vectored(&self, alloc: Global, max: usize) -> Result<Vec<&[u8]>, BufError> {
         match &self.shape {
             Shape::One(part) => part.chunks_vectored(alloc, max),
-            Shape::Many(parts) => Ok(row::chunks(alloc, parts, max)?),
+            Shape::Many(parts) => Ok(row::chunks(alloc, parts.row(), max)?),
         }
     }
 

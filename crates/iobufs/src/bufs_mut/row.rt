@@ -1,6 +1,5 @@
 // Several parts in a row: what the calls of `IoBufsMut` do to two or more.
 ghost use Rattle.std.specs.Prelude.{◌≡◌, ◌^◌, ◌<◌, ◌≤◌, [], ◌∷◌, length, drop, map, replicate, slice_get, take, false, IfNone, IfOk, IfSome, IsOk, IsOkUnless, IsTrue};
-ghost use Rattle.std.specs.List.{sum_by};
 ghost use Rattle.iobufs_core.specs.Chunks.{first_chunk};
 ghost use Rattle.iobufs.specs.Parts.{HaveCapacity, parts_capacity, parts_chunks, parts_drained, parts_fill, parts_filled, parts_frozen, parts_or_default, parts_overwritten, parts_shared_out, parts_spare, parts_with_len, with_capacity};
 
@@ -9,27 +8,6 @@ use iobufs_core::buf::IoBufMut;
 use iobufs_core::codec::{Buf, BufError, BufMut};
 use std::alloc::{AllocError, Global};
 use std::collections::VecDeque;
-
-pub(super) fn len(parts: &VecDeque<IoBufMut>) -> usize
-    requires { sum_by (λ part. length part.filled) parts.now.items < 2 ^ 64 }
-    ensures { result ≡ sum_by (λ part. length part.filled) parts.now.items }
-{
-    parts.iter().map(|part| part.len()).sum()
-}
-
-pub(super) fn capacity(parts: &VecDeque<IoBufMut>) -> usize
-    requires { parts_capacity parts.now.items < 2 ^ 64 }
-    ensures { result ≡ parts_capacity parts.now.items }
-{
-    parts.iter().map(|part| part.capacity()).sum()
-}
-
-pub(super) fn room(parts: &VecDeque<IoBufMut>) -> usize
-    requires { parts_spare parts.now.items < 2 ^ 64 }
-    ensures { result ≡ parts_spare parts.now.items }
-{
-    parts.iter().map(|part| part.remaining_mut()).sum()
-}
 
 // Fills the room of the parts in order.
 pub(super) fn put(parts: &mut VecDeque<IoBufMut>, src: &[u8])
@@ -119,7 +97,6 @@ pub(super) fn shorten(parts: &mut VecDeque<IoBufMut>, n: usize) -> bool
 }
 
 // Drops the first `n` bytes, and the parts that can't hold a byte any more.
-#[inline(never)]
 #[tactic(auto, using(crate::proofs::DrainShapes::draining))]
 pub(super) fn advance(parts: &mut VecDeque<IoBufMut>, n: usize)
     requires several { 1 < length parts.old.items }
@@ -174,13 +151,15 @@ fn drop_spent(parts: &mut VecDeque<IoBufMut>, end: usize)
             kept += 1;
         }
     }
-    parts.rotate_right(kept);
+    if kept > 0 {
+        parts.rotate_right(kept);
+    }
 }
 
-// Where fewer than two parts are left: the one that is left, or one of capacity 0.
+// Where fewer than two parts are left: the one that is left, or one of capacity 0, and then none is.
 pub(super) fn take_single(parts: &mut VecDeque<IoBufMut>) -> Option<IoBufMut>
     ensures none { IfNone result ((1 < length parts.old.items) × (parts.new.items ≡ parts.old.items)) }
-    ensures some { IfSome result (λ part. parts_or_default parts.old.items ≡ part ∷ []) }
+    ensures some { IfSome result (λ part. (parts_or_default parts.old.items ≡ part ∷ []) × (parts.new.items ≡ [])) }
 {
     if parts.len() > 1 {
         return None;

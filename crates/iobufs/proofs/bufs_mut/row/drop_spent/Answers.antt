@@ -1,6 +1,6 @@
 use Rattle.std.proofs.Common.{◌≡◌, ◌<◌, ◌∷◌, ◌++◌, ◌+◌, ◌-◌, length, length-drop, deque_len, arith, ap, ◌∙◌}
 use Rattle.std.specs.Option.{option_to_list}
-use Rattle.iobufs.proofs.DrainShapes.{turned-back, turned-kept, turned-spent}
+use Rattle.iobufs.proofs.DrainShapes.{turned-back, turned-none, turned-kept, turned-spent}
 use Rattle.iobufs.proofs.bufs_mut.row.drop_spent.Goals as goal
 use Rattle.iobufs.proofs.bufs_mut.row.drop_spent.Goals.{then-capacity-gt0, else-capacity-gt0}
 
@@ -27,10 +27,18 @@ loop-i-preserved c =
           }
     ]
 
-pub returns : goal.returns
-returns c =
+pub returns-then-kept-gt0 : goal.returns-then-kept-gt0
+returns-then-kept-gt0 c =
     let l = c.loop-i in
     let all = c.args.parts.now.items in
     let end = c.args.end in
     let done : l.i ≡ end = omega arith in
-    turned-back all l.parts.items _ end l.kept (deque_len l.parts - l.kept) (rw done at l.invariant.so_far) c.requires.have_capacity (omega (arith, length-drop end all, l.invariant.counted)) c.rotate_right.ensures.items
+    turned-back all l.parts.items _ end (deque_len l.parts - l.kept) (rw done at l.invariant.so_far) c.requires.have_capacity (omega (arith, length-drop end all, l.invariant.counted)) c.rotate_right.ensures.items
+
+pub returns-else-kept-gt0 : goal.returns-else-kept-gt0
+returns-else-kept-gt0 c =
+    let l = c.loop-i in
+    let all = c.args.parts.now.items in
+    let end = c.args.end in
+    let done : l.i ≡ end = omega arith in
+    turned-none all l.parts.items end (rw done at l.invariant.so_far) c.requires.have_capacity (omega (arith, length-drop end all, l.invariant.counted))
