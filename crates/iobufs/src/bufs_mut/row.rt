@@ -1,6 +1,7 @@
 // Several parts in a row: what the calls of `IoBufsMut` do to two or more.
-ghost use Rattle.std.specs.Prelude.{◌≡◌, ◌^◌, ◌<◌, ◌≤◌, [], ◌∷◌, length, drop, map, replicate, slice_get, take, false, IfNone, IfOk, IfSome, IsOk, IsOkUnless, IsTrue};
+ghost use Rattle.std.specs.Prelude.{◌≡◌, ◌^◌, ◌<◌, ◌≤◌, [], ◌∷◌, length, drop, map, nat_lt, replicate, slice_get, slice_index_or, take, false, IfNone, IfOk, IfSome, IsOk, IsOkUnless, IsTrue};
 ghost use Rattle.iobufs_core.specs.Chunks.{first_chunk};
+ghost use Rattle.iobufs_core.specs.Part.{empty_part};
 ghost use Rattle.iobufs.specs.Parts.{HaveCapacity, parts_capacity, parts_chunks, parts_drained, parts_fill, parts_filled, parts_frozen, parts_or_default, parts_overwritten, parts_shared_out, parts_spare, parts_with_len, with_capacity};
 
 use crate::bufs::IoBufs;
@@ -82,6 +83,7 @@ pub(super) fn copy_from_slice(parts: &mut VecDeque<IoBufMut>, src: &[u8])
 pub(super) fn shorten(parts: &mut VecDeque<IoBufMut>, n: usize) -> bool
     requires several { 1 < length parts.old.items }
     requires have_capacity { HaveCapacity parts.old.items }
+    ensures tells { result ≡ nat_lt n (length (slice_index_or parts.old.items 0 (empty_part 0)).filled) }
     ensures drained { IsTrue result → parts.new.items ≡ parts_drained parts.old.items n }
     ensures have_capacity { IsTrue result → HaveCapacity parts.new.items }
     ensures several { IsTrue result → 1 < length parts.new.items }

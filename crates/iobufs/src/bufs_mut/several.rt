@@ -1,7 +1,7 @@
 // Several parts with their sums.
 ghost use Rattle.std.specs.Option.{option_copied};
-ghost use Rattle.std.specs.Prelude.{◌≡◌, ◌+◌, ◌^◌, ◌<◌, ◌≤◌, ◌++◌, [], ◌∷◌, false, length, replicate, slice_get, IfNone, IfOk, IfSome, IsTrue, OnOk};
-ghost use Rattle.iobufs_core.specs.Part.{part_capacity};
+ghost use Rattle.std.specs.Prelude.{◌≡◌, ◌+◌, ◌^◌, ◌<◌, ◌≤◌, ◌++◌, [], ◌∷◌, false, length, nat_lt, replicate, slice_get, slice_index_or, IfNone, IfOk, IfSome, IsTrue, OnOk};
+ghost use Rattle.iobufs_core.specs.Part.{empty_part, part_capacity};
 ghost use Rattle.iobufs.specs.Parts.{HaveCapacity, parts_capacity, parts_drained, parts_fill, parts_filled, parts_or_default, parts_overwritten, parts_spare, parts_with_len};
 
 use super::row;
@@ -148,6 +148,7 @@ impl Several {
         requires several { 1 < length self.old }
         requires have_capacity { HaveCapacity self.old }
         requires some { n ≤ length (parts_filled self.old) }
+        ensures tells { result ≡ nat_lt n (length (slice_index_or self.old 0 (empty_part 0)).filled) }
         ensures drained { IsTrue result → self.new ≡ parts_drained self.old n }
         ensures have_capacity { IsTrue result → HaveCapacity self.new }
         ensures several { IsTrue result → 1 < length self.new }
