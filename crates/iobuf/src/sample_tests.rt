@@ -1,7 +1,9 @@
 // Lines, and what the original answers to them. The lines were made by a generator that follows the state of the
 // original's buffers (30 seeds, 100 lines each), the last ones by hand; the answers come from a driver that carries them
-// out by the original's own calls. Together they reach every command, every kind of buffer, and every refusal but those
-// for sums of lengths that no memory can hold.
+// out by the original's own calls. Where bytes go out of several parts, it advances each part by the original's call and
+// lets the original's constructor join what is left, since the original's own list keeps room on some shapes alone; 59 of
+// the replies show that. Together the lines reach every command, every kind of buffer, and every refusal but those for
+// sums of lengths that no memory can hold.
 use crate::buf_tests::assert_answers;
 use std::test::Fail;
 
@@ -2008,1006 +2010,1006 @@ fn the_original_answers_the_same(rt: HostRuntime) -> Result<(), Fail> {
          freeze 8 11 -> ok\n\
          put 10 018e55 -> ok\n\
          new 8 2 8 -> ok\n",
-        "static 11 14 26 -> ok\n\
-         show 14 -> refused N2 WrongKind\n\
-         show 14 -> refused N2 WrongKind\n\
-         new 7 4 2 -> ok\n\
-         show 7 -> part -+4\n\
-         show 4 -> refused N2 WrongKind\n\
-         put 7 a1ee748e -> ok\n\
-         show 7 -> part a1ee748e+0\n\
-         show 7 -> part a1ee748e+0\n\
-         put 7 - -> ok\n\
-         show 7 -> part a1ee748e+0\n\
-         coalesce 2 8 -> refused N2 WrongKind\n\
-         static 5 4 7 -> ok\n\
-         show 4 -> refused N2 WrongKind\n\
-         show 4 -> refused N2 WrongKind\n\
-         split 11 3 0 -> ok\n\
-         show 11 -> view 6f707172737475767778797a\n\
-         put 7 - -> ok\n\
-         show 7 -> part a1ee748e+0\n\
-         show 7 -> part a1ee748e+0\n\
-         new 15 8 64 -> ok\n\
-         show 15 -> part -+8\n\
+        "new 14 15 0 -> refused N5 BadLayout\n\
+         bytes 5 0d -> ok\n\
+         show 5 -> view 0d\n\
+         show 5 -> view 0d\n\
+         drop 5 -> ok\n\
+         show 5 -> refused N2 WrongKind\n\
+         show 5 -> refused N2 WrongKind\n\
+         static 4 21 24 -> ok\n\
+         show 4 -> view 767778\n\
+         show 16 -> refused N1 NoName\n\
+         static 15 5 18 -> ok\n\
+         show 15 -> view 666768696a6b6c6d6e6f707172\n\
+         static 0 23 23 -> ok\n\
+         static 11 23 26 -> ok\n\
+         show 11 -> view 78797a\n\
+         drop 0 -> ok\n\
+         show 0 -> refused N2 WrongKind\n\
+         show 0 -> refused N2 WrongKind\n\
+         new 7 5 2 -> ok\n\
+         show 7 -> part -+5\n\
+         put 7 95824b35f2 -> ok\n\
+         new 1 9 3 -> refused N5 BadLayout\n\
+         zeroed 9 8 1 -> ok\n\
          show 8 -> refused N2 WrongKind\n\
-         freeze 7 4 -> ok\n\
-         show 4 -> view a1ee748e\n\
-         show 7 -> refused N2 WrongKind\n\
-         static 13 0 5 -> ok\n\
-         show 13 -> view 6162636465\n\
-         show 0 -> refused N2 WrongKind\n\
-         static 0 22 25 -> ok\n\
-         show 0 -> view 777879\n\
-         drop 0 -> ok\n\
-         drop 11 -> ok\n\
-         show 11 -> refused N2 WrongKind\n\
-         put 15 b30bcb -> ok\n\
-         put 15 c218e81b -> ok\n\
-         new 12 7 1 -> ok\n\
-         put 12 - -> ok\n\
-         show 12 -> part -+7\n\
-         show 12 -> part -+7\n\
-         zeroed 8 4 1 -> ok\n\
-         show 4 -> view a1ee748e\n\
-         show 8 -> part 00000000+0\n\
-         decode 3 7 0 1024 -> refused N8 C1 EndOfBuffer\n\
-         show 7 -> refused N2 WrongKind\n\
-         show 7 -> refused N2 WrongKind\n\
-         put 8 - -> ok\n\
-         zeroed 6 2 1 -> ok\n\
-         show 6 -> part 0000+0\n\
-         show 6 -> part 0000+0\n\
-         put 15 - -> ok\n\
-         bytes 9 94a910f85d180c4a -> ok\n\
-         clone 5 11 -> ok\n\
-         show 11 -> view 656667\n\
-         show 5 -> view 656667\n\
-         bytes 7 1bf911 -> ok\n\
-         static 0 0 9 -> ok\n\
-         show 0 -> view 616263646566676869\n\
-         drop 5 -> ok\n\
-         show 5 -> refused N2 WrongKind\n\
-         slice 3 2 e1 u -> refused N4 OutOfRange\n\
-         show 2 -> refused N2 WrongKind\n\
-         build 14 4 i- ida0b i18 i95 -> ok\n\
-         advance 14 0 -> ok\n\
-         show 14 -> text da0b1895\n\
-         advance 13 5 -> ok\n\
-         put 12 abb7786c -> ok\n\
-         show 12 -> part abb7786c+3\n\
-         coalesce 14 5 -> ok\n\
-         show 14 -> refused N2 WrongKind\n\
-         drop 11 -> ok\n\
-         take 7 0 -> bytes -\n\
-         show 7 -> view 1bf911\n\
-         show 0 -> view 616263646566676869\n\
-         split 4 10 4 -> ok\n\
-         show 10 -> view a1ee748e\n\
-         show 10 -> view a1ee748e\n\
-         drop 3 -> ok\n\
-         show 3 -> refused N2 WrongKind\n\
-         zeroed 1 0 1 -> ok\n\
-         show 1 -> part -+0\n\
-         gather 3 10 5 9 7 0 13 4 -> ok\n\
-         show 3 -> text a1ee748e da0b1895 94a910f85d180c4a 1bf911 616263646566676869\n\
-         show 10 -> refused N2 WrongKind\n\
-         put 12 e9e2bf -> ok\n\
-         show 12 -> part abb7786ce9e2bf+0\n\
-         new 10 14 8 -> ok\n\
-         show 10 -> part -+14\n\
-         static 13 4 16 -> ok\n\
-         show 4 -> refused N2 WrongKind\n\
-         show 4 -> refused N2 WrongKind\n\
-         gather 0 13 -> ok\n\
-         show 13 -> refused N2 WrongKind\n\
-         new 13 2 1 -> ok\n\
-         show 13 -> part -+2\n\
-         show 2 -> refused N2 WrongKind\n\
-         zeroed 2 8 1 -> ok\n\
-         drop 1 -> ok\n\
-         show 1 -> refused N2 WrongKind\n\
-         show 1 -> refused N2 WrongKind\n",
-        "new 12 19 1 -> ok\n\
-         show 12 -> part -+19\n\
-         show 16 -> refused N1 NoName\n\
-         gathermut 0 -> ok\n\
-         show 0 -> parts -+0\n\
-         new 8 9 0 -> refused N5 BadLayout\n\
          show 8 -> refused N2 WrongKind\n\
-         put 12 d6f018c0f2596dbcb441538098e294 -> ok\n\
-         static 14 9 11 -> ok\n\
-         show 14 -> view 6a6b\n\
-         show 14 -> view 6a6b\n\
-         new 4 9 2 -> ok\n\
-         show 9 -> refused N2 WrongKind\n\
-         show 9 -> refused N2 WrongKind\n\
-         new 8 6 1 -> ok\n\
-         show 6 -> refused N2 WrongKind\n\
-         show 6 -> refused N2 WrongKind\n\
-         fill 12 19 1 -> ok\n\
-         put 12 3032 -> ok\n\
-         show 16 -> refused N1 NoName\n\
-         show 16 -> refused N1 NoName\n\
-         put 4 63 -> ok\n\
-         take 0 0 -> bytes -\n\
-         put 8 6d8aa6 -> ok\n\
-         bytes 1 e6abe4b13806 -> ok\n\
-         recover 14 6 -> refused N7 Declined\n\
-         show 14 -> view 6a6b\n\
-         new 6 8 0 -> refused N5 BadLayout\n\
-         show 8 -> part 6d8aa6+3\n\
-         show 8 -> part 6d8aa6+3\n\
-         static 15 11 14 -> ok\n\
-         show 15 -> view 6c6d6e\n\
-         show 11 -> refused N2 WrongKind\n\
-         put 8 06 -> ok\n\
-         show 8 -> part 6d8aa606+2\n\
-         put 4 95 -> ok\n\
-         show 4 -> part 6395+7\n\
-         show 16 -> refused N1 NoName\n\
-         new 5 1 8 -> ok\n\
-         show 1 -> view e6abe4b13806\n\
-         show 1 -> view e6abe4b13806\n\
-         new 3 20 8 -> ok\n\
-         encode 14 9 -> ok\n\
-         show 14 -> view 6a6b\n\
-         show 9 -> text 02 6a6b\n\
-         advance 2 0 -> refused N2 WrongKind\n\
-         show 0 -> parts -+0\n\
-         advance 9 1 -> ok\n\
-         put 8 7d -> ok\n\
-         decode 14 7 0 1024 -> refused N8 C1 EndOfBuffer\n\
-         split 14 6 0 -> ok\n\
-         show 6 -> view -\n\
-         show 14 -> view 6a6b\n\
-         bytes 13 fa -> ok\n\
-         show 13 -> view fa\n\
-         freeze 8 8 -> ok\n\
-         append 9 15 -> ok\n\
-         take 9 5 -> bytes 6a6b6c6d6e\n\
-         show 9 -> text\n\
-         show 9 -> text\n\
-         setlen 5 2 -> refused N4 OutOfRange\n\
-         show 5 -> part -+1\n\
-         freeze 12 10 -> ok\n\
-         show 12 -> refused N2 WrongKind\n\
-         new 12 9 1 -> ok\n\
-         fill 5 60 0 -> ok\n\
-         show 5 -> part -+1\n\
-         show 5 -> part -+1\n\
-         freeze 0 15 -> ok\n\
-         show 0 -> refused N2 WrongKind\n\
-         show 0 -> refused N2 WrongKind\n\
-         new 7 20 0 -> refused N5 BadLayout\n\
-         show 16 -> refused N1 NoName\n\
-         show 16 -> refused N1 NoName\n\
-         build 7 7 p10 i71 ia6f3d6 -> ok\n\
-         show 7 -> text d6f018c0f2596dbcb441538098e294133032 71a6f3d6\n\
-         put 4 59 -> ok\n\
-         show 4 -> part 639559+6\n\
-         show 16 -> refused N1 NoName\n\
-         setlen 4 3 -> ok\n\
-         show 3 -> part -+20\n\
-         take 13 1 -> bytes fa\n\
-         show 13 -> view -\n\
-         gather 11 13 14 6 1 8 -> ok\n\
-         show 11 -> text 6a6b e6abe4b13806 6d8aa6067d\n\
-         drop 7 -> ok\n\
-         put 5 - -> ok\n\
-         show 5 -> part -+1\n\
-         show 5 -> part -+1\n\
-         static 7 9 17 -> ok\n\
-         show 7 -> view 6a6b6c6d6e6f7071\n\
-         put 5 - -> ok\n\
-         show 5 -> part -+1\n\
-         show 5 -> part -+1\n\
-         new 0 13 1 -> ok\n\
-         show 0 -> part -+13\n\
-         decode 15 6 1 1024 -> refused N8 C1 EndOfBuffer\n\
-         drop 0 -> ok\n\
-         show 0 -> refused N2 WrongKind\n\
-         show 0 -> refused N2 WrongKind\n",
-        "bytes 5 3e0b1e89a6 -> ok\n\
-         drop 5 -> ok\n\
-         show 5 -> refused N2 WrongKind\n\
-         zeroed 0 8 1 -> ok\n\
-         put 0 - -> ok\n\
-         put 0 - -> ok\n\
-         show 0 -> part 0000000000000000+0\n\
-         put 0 - -> ok\n\
-         show 0 -> part 0000000000000000+0\n\
-         show 0 -> part 0000000000000000+0\n\
-         put 0 - -> ok\n\
-         show 0 -> part 0000000000000000+0\n\
-         show 0 -> part 0000000000000000+0\n\
-         static 4 17 26 -> ok\n\
-         zeroed 12 4 1 -> ok\n\
-         show 12 -> part 00000000+0\n\
-         show 12 -> part 00000000+0\n\
-         zeroed 15 5 1 -> ok\n\
-         show 15 -> part 0000000000+0\n\
-         bytes 9 3e20f47c91e4 -> ok\n\
-         static 13 16 25 -> ok\n\
-         show 16 -> refused N1 NoName\n\
-         show 16 -> refused N1 NoName\n\
-         fill 0 215 0 -> ok\n\
-         put 15 - -> ok\n\
-         static 3 12 22 -> ok\n\
-         show 3 -> view 6d6e6f70717273747576\n\
-         show 12 -> part 00000000+0\n\
-         gather 6 13 3 9 4 -> ok\n\
-         show 6 -> text 717273747576777879 6d6e6f70717273747576 3e20f47c91e4 72737475767778797a\n\
-         show 6 -> text 717273747576777879 6d6e6f70717273747576 3e20f47c91e4 72737475767778797a\n\
-         put 12 - -> ok\n\
-         show 12 -> part 00000000+0\n\
-         show 12 -> part 00000000+0\n\
-         take 15 5 -> bytes 0000000000\n\
-         show 15 -> part -+0\n\
-         new 2 16 2 -> ok\n\
-         put 0 - -> ok\n\
-         new 3 20 1 -> ok\n\
-         freeze 2 2 -> ok\n\
-         show 2 -> view -\n\
-         put 12 - -> ok\n\
-         show 12 -> part 00000000+0\n\
-         show 12 -> part 00000000+0\n\
-         put 15 - -> ok\n\
-         show 15 -> part -+0\n\
-         show 15 -> part -+0\n\
-         put 15 - -> ok\n\
-         show 15 -> part -+0\n\
-         put 0 - -> ok\n\
-         show 0 -> part 0000000000000000+0\n\
-         show 0 -> part 0000000000000000+0\n\
-         bytes 13 dc6802d4802d23e9 -> ok\n\
-         put 12 - -> ok\n\
-         show 12 -> part 00000000+0\n\
-         new 9 7 64 -> ok\n\
-         show 7 -> refused N2 WrongKind\n\
-         fill 9 189 5 -> ok\n\
-         show 9 -> part bdbdbdbdbd+2\n\
-         show 16 -> refused N1 NoName\n\
-         static 10 8 25 -> ok\n\
-         show 10 -> view 696a6b6c6d6e6f70717273747576777879\n\
-         show 10 -> view 696a6b6c6d6e6f70717273747576777879\n\
-         append 6 13 -> ok\n\
-         zeroed 13 2 1 -> ok\n\
-         show 13 -> part 0000+0\n\
-         setlen 13 0 -> ok\n\
-         show 13 -> part -+2\n\
-         show 0 -> part 0000000000000000+0\n\
-         drop 9 -> ok\n\
-         bytes 4 b819428a6bb1126c8b -> ok\n\
-         gather 8 4 -> ok\n\
-         show 8 -> text b819428a6bb1126c8b\n\
-         show 8 -> text b819428a6bb1126c8b\n\
-         clone 6 6 -> refused N3 InUse\n\
-         gather 11 2 -> ok\n\
-         show 11 -> text\n\
-         show 2 -> refused N2 WrongKind\n\
-         clone 10 2 -> ok\n\
-         take 13 0 -> bytes -\n\
-         drop 10 -> ok\n\
-         show 10 -> refused N2 WrongKind\n\
-         show 10 -> refused N2 WrongKind\n\
-         gathermut 5 12 13 15 0 3 -> ok\n\
-         clone 2 13 -> ok\n\
-         put 5 3a80936e50a5f22d9cebc6aa0a -> ok\n\
-         show 5 -> parts 00000000+0 3a80+0 0000000000000000+0 936e50a5f22d9cebc6aa0a+9\n\
-         show 5 -> parts 00000000+0 3a80+0 0000000000000000+0 936e50a5f22d9cebc6aa0a+9\n\
-         split 8 12 4 -> ok\n\
-         drop 8 -> ok\n\
-         zeroed 10 0 1 -> ok\n\
-         show 0 -> refused N2 WrongKind\n\
-         put 5 692a6e -> ok\n\
-         show 5 -> parts 00000000+0 3a80+0 0000000000000000+0 936e50a5f22d9cebc6aa0a692a6e+6\n\
-         show 5 -> parts 00000000+0 3a80+0 0000000000000000+0 936e50a5f22d9cebc6aa0a692a6e+6\n\
-         put 10 - -> ok\n\
-         fill 10 25 1 -> refused N4 OutOfRange\n\
-         show 16 -> refused N1 NoName\n\
-         show 10 -> part -+0\n\
-         zeroed 4 5 1 -> ok\n",
-        "new 5 18 1 -> ok\n\
-         setlen 5 12 -> ok\n\
-         show 5 -> part 000000000000000000000000+6\n\
-         new 8 2 64 -> ok\n\
-         put 8 eb -> ok\n\
-         put 8 - -> ok\n\
-         bytes 6 - -> ok\n\
-         bytes 9 c291e76fd1b57439 -> ok\n\
-         put 8 - -> ok\n\
-         drop 5 -> ok\n\
-         clone 9 10 -> ok\n\
-         zeroed 0 1 1 -> ok\n\
-         show 1 -> refused N2 WrongKind\n\
-         bytes 4 bfce8968c7 -> ok\n\
-         show 4 -> view bfce8968c7\n\
-         show 4 -> view bfce8968c7\n\
-         static 15 21 24 -> ok\n\
-         show 15 -> view 767778\n\
-         drop 0 -> ok\n\
-         split 10 1 2 -> ok\n\
-         show 10 -> view e76fd1b57439\n\
-         show 1 -> view c291\n\
-         encode 1 14 -> ok\n\
-         show 14 -> text 02 c291\n\
-         show 14 -> text 02 c291\n\
-         zeroed 12 4 1 -> ok\n\
-         show 4 -> view bfce8968c7\n\
-         split 7 7 0 -> refused N2 WrongKind\n\
-         show 7 -> refused N2 WrongKind\n\
-         drop 4 -> ok\n\
-         show 4 -> refused N2 WrongKind\n\
-         new 4 11 3 -> refused N5 BadLayout\n\
-         put 8 8e -> ok\n\
-         bytes 5 21508bd5162a52f8 -> ok\n\
-         put 12 - -> ok\n\
-         show 12 -> part 00000000+0\n\
-         show 12 -> part 00000000+0\n\
-         advance 14 0 -> ok\n\
-         show 14 -> text 02 c291\n\
-         coalesce 14 13 -> ok\n\
-         slice 15 3 i3 i3 -> refused N4 OutOfRange\n\
-         show 3 -> refused N2 WrongKind\n\
-         split 13 3 1 -> ok\n\
-         show 3 -> view 02\n\
-         drop 3 -> ok\n\
-         show 3 -> refused N2 WrongKind\n\
-         freeze 12 12 -> ok\n\
-         show 12 -> view 00000000\n\
-         drop 9 -> ok\n\
-         show 9 -> refused N2 WrongKind\n\
-         decode 13 3 0 5 -> refused N8 C1 EndOfBuffer\n\
-         show 3 -> refused N2 WrongKind\n\
-         fill 8 175 1 -> refused N4 OutOfRange\n\
-         show 8 -> part eb8e+0\n\
-         put 8 - -> ok\n\
-         show 8 -> part eb8e+0\n\
-         show 8 -> part eb8e+0\n\
-         put 8 - -> ok\n\
-         new 2 22 2 -> ok\n\
-         slice 1 0 e3 u -> refused N4 OutOfRange\n\
-         show 0 -> refused N2 WrongKind\n\
-         freeze 8 8 -> ok\n\
-         show 8 -> view eb8e\n\
-         show 8 -> view eb8e\n\
-         drop 1 -> ok\n\
-         show 1 -> refused N2 WrongKind\n\
-         new 14 8 2 -> ok\n\
-         advance 14 0 -> ok\n\
-         show 0 -> refused N2 WrongKind\n\
-         show 0 -> refused N2 WrongKind\n\
-         advance 2 0 -> ok\n\
-         show 2 -> part -+22\n\
-         freeze 14 3 -> ok\n\
-         drop 5 -> ok\n\
-         show 5 -> refused N2 WrongKind\n\
-         put 2 f15b42d78b61e98c81 -> ok\n\
-         show 2 -> part f15b42d78b61e98c81+13\n\
-         new 4 2 3 -> refused N5 BadLayout\n\
-         show 4 -> refused N2 WrongKind\n\
-         encode 6 4 -> ok\n\
-         append 4 12 -> ok\n\
-         show 12 -> refused N2 WrongKind\n\
-         advance 6 0 -> ok\n\
-         show 6 -> view -\n\
-         static 9 23 23 -> ok\n\
-         show 9 -> view -\n\
-         put 2 f3e8aca9a55a38 -> ok\n\
-         show 2 -> part f15b42d78b61e98c81f3e8aca9a55a38+6\n\
-         clear 2 -> ok\n\
-         show 2 -> part -+22\n\
-         gather 14 6 9 8 15 3 10 -> ok\n\
-         new 9 20 8 -> ok\n\
-         show 9 -> part -+20\n\
-         show 16 -> refused N1 NoName\n\
-         gather 0 13 -> ok\n\
-         show 0 -> text c291\n\
-         drop 9 -> ok\n\
-         bytes 9 367fc8160f72 -> ok\n\
-         show 9 -> view 367fc8160f72\n\
-         bytes 5 b33f505d3e79 -> ok\n",
-        "new 0 15 8 -> ok\n\
-         show 15 -> refused N2 WrongKind\n\
-         show 15 -> refused N2 WrongKind\n\
-         static 12 23 23 -> ok\n\
-         show 16 -> refused N1 NoName\n\
-         static 2 4 22 -> ok\n\
-         show 4 -> refused N2 WrongKind\n\
-         show 4 -> refused N2 WrongKind\n\
-         bytes 7 7103a4a3f8a806d145 -> ok\n\
-         show 7 -> view 7103a4a3f8a806d145\n\
-         setlen 0 4 -> ok\n\
-         static 15 19 20 -> ok\n\
-         show 15 -> view 74\n\
-         show 16 -> refused N1 NoName\n\
-         put 0 ed2faf620298 -> ok\n\
-         show 0 -> part 00000000ed2faf620298+5\n\
-         show 0 -> part 00000000ed2faf620298+5\n\
-         zeroed 14 0 1 -> ok\n\
-         show 14 -> part -+0\n\
-         show 0 -> part 00000000ed2faf620298+5\n\
-         put 14 - -> ok\n\
-         show 14 -> part -+0\n\
-         static 4 25 25 -> ok\n\
-         show 16 -> refused N1 NoName\n\
-         show 16 -> refused N1 NoName\n\
-         fill 0 139 4 -> ok\n\
-         show 16 -> refused N1 NoName\n\
-         static 1 4 14 -> ok\n\
-         show 4 -> view -\n\
-         show 1 -> view 65666768696a6b6c6d6e\n\
-         put 14 - -> ok\n\
-         show 14 -> part -+0\n\
-         show 14 -> part -+0\n\
-         bytes 10 01ffab4b81c8145e0b -> ok\n\
-         show 10 -> view 01ffab4b81c8145e0b\n\
-         gathermut 11 0 14 -> ok\n\
-         show 0 -> refused N2 WrongKind\n\
-         show 0 -> refused N2 WrongKind\n\
-         fill 11 176 2 -> refused N4 OutOfRange\n\
-         show 11 -> parts 00000000ed2faf6202988b8b8b8b+1\n\
-         put 11 - -> ok\n\
-         show 11 -> parts 00000000ed2faf6202988b8b8b8b+1\n\
-         freeze 11 11 -> ok\n\
-         bytes 9 ecc8 -> ok\n\
-         drop 4 -> ok\n\
-         show 4 -> refused N2 WrongKind\n\
-         show 4 -> refused N2 WrongKind\n\
-         new 4 13 0 -> refused N5 BadLayout\n\
-         show 13 -> refused N2 WrongKind\n\
-         show 4 -> refused N2 WrongKind\n\
-         recover 7 7 -> refused N7 Declined\n\
-         static 14 20 25 -> ok\n\
-         drop 14 -> ok\n\
-         show 14 -> refused N2 WrongKind\n\
-         show 14 -> refused N2 WrongKind\n\
-         gather 8 7 1 15 2 -> ok\n\
-         show 7 -> refused N2 WrongKind\n\
-         advance 10 9 -> ok\n\
-         new 6 13 8 -> ok\n\
-         show 6 -> part -+13\n\
-         show 13 -> refused N2 WrongKind\n\
-         split 8 4 38 -> ok\n\
-         new 5 3 1 -> ok\n\
-         put 6 15 -> ok\n\
-         show 15 -> refused N2 WrongKind\n\
-         fill 5 198 1 -> ok\n\
-         show 16 -> refused N1 NoName\n\
-         show 16 -> refused N1 NoName\n\
-         prepend 11 10 -> ok\n\
-         new 15 19 64 -> ok\n\
-         show 16 -> refused N1 NoName\n\
-         new 1 22 3 -> refused N5 BadLayout\n\
-         show 16 -> refused N1 NoName\n\
-         show 1 -> refused N2 WrongKind\n\
-         new 10 5 1 -> ok\n\
-         put 15 7f7f393c5a66bddaa13736 -> ok\n\
-         show 15 -> part 7f7f393c5a66bddaa13736+8\n\
-         new 7 23 1 -> ok\n\
-         show 7 -> part -+23\n\
-         drop 15 -> ok\n\
-         decode 9 13 0 18446744073709551615 -> refused N8 C1 EndOfBuffer\n\
-         decode 8 15 0 18446744073709551615 -> refused N8 C1 EndOfBuffer\n\
-         drop 5 -> ok\n\
-         show 5 -> refused N2 WrongKind\n\
-         fill 6 240 1 -> ok\n\
-         put 10 6e03 -> ok\n\
-         put 6 - -> ok\n\
-         show 6 -> part 15f0+11\n\
-         show 6 -> part 15f0+11\n\
-         put 10 - -> ok\n\
-         put 10 63 -> ok\n\
-         show 10 -> part 6e0363+2\n\
-         new 5 7 3 -> refused N5 BadLayout\n\
-         gather 1 12 9 -> ok\n\
-         show 12 -> refused N2 WrongKind\n\
-         show 12 -> refused N2 WrongKind\n\
-         drop 1 -> ok\n\
-         show 1 -> refused N2 WrongKind\n\
-         new 0 14 3 -> refused N5 BadLayout\n\
-         show 14 -> refused N2 WrongKind\n",
-        "gathermut 13 -> ok\n\
-         show 13 -> parts -+0\n\
-         put 13 - -> ok\n\
-         show 13 -> parts -+0\n\
-         static 12 26 26 -> ok\n\
-         static 3 11 24 -> ok\n\
-         show 11 -> refused N2 WrongKind\n\
-         static 0 10 12 -> ok\n\
-         show 0 -> view 6b6c\n\
-         put 13 - -> ok\n\
-         fill 13 83 0 -> ok\n\
-         new 15 11 2 -> ok\n\
-         freeze 13 2 -> ok\n\
-         show 13 -> refused N2 WrongKind\n\
-         show 2 -> text\n\
-         bytes 8 - -> ok\n\
-         show 8 -> view -\n\
-         put 15 6d08d08ede127698c745d3 -> ok\n\
-         bytes 13 - -> ok\n\
-         bytes 5 c3bc7cae7ce8 -> ok\n\
-         show 5 -> view c3bc7cae7ce8\n\
-         put 15 - -> ok\n\
-         put 15 - -> ok\n\
-         show 15 -> part 6d08d08ede127698c745d3+0\n\
-         put 15 - -> ok\n\
-         show 15 -> part 6d08d08ede127698c745d3+0\n\
+         bytes 10 ba107959249b -> ok\n\
+         show 10 -> view ba107959249b\n\
+         show 10 -> view ba107959249b\n\
+         put 7 - -> ok\n\
+         show 7 -> part 95824b35f2+0\n\
+         bytes 3 20fea51abbe0e5a0 -> ok\n\
+         show 3 -> view 20fea51abbe0e5a0\n\
+         new 0 7 0 -> refused N5 BadLayout\n\
+         static 6 8 19 -> ok\n\
          new 14 4 3 -> refused N5 BadLayout\n\
-         show 4 -> refused N2 WrongKind\n\
-         show 4 -> refused N2 WrongKind\n\
-         drop 13 -> ok\n\
-         static 1 13 23 -> ok\n\
-         show 1 -> view 6e6f7071727374757677\n\
-         show 1 -> view 6e6f7071727374757677\n\
-         drop 2 -> ok\n\
-         show 2 -> refused N2 WrongKind\n\
-         show 2 -> refused N2 WrongKind\n\
-         static 13 16 23 -> ok\n\
-         put 15 - -> ok\n\
-         show 15 -> part 6d08d08ede127698c745d3+0\n\
-         show 15 -> part 6d08d08ede127698c745d3+0\n\
-         put 15 - -> ok\n\
-         show 15 -> part 6d08d08ede127698c745d3+0\n\
-         show 15 -> part 6d08d08ede127698c745d3+0\n\
-         put 15 - -> ok\n\
-         show 15 -> part 6d08d08ede127698c745d3+0\n\
-         show 15 -> part 6d08d08ede127698c745d3+0\n\
-         put 7 - -> refused N2 WrongKind\n\
-         bytes 10 7287 -> ok\n\
-         drop 10 -> ok\n\
-         show 10 -> refused N2 WrongKind\n\
-         show 10 -> refused N2 WrongKind\n\
-         freeze 15 11 -> ok\n\
-         show 11 -> view 6d08d08ede127698c745d3\n\
-         show 15 -> refused N2 WrongKind\n\
-         drop 13 -> ok\n\
-         show 13 -> refused N2 WrongKind\n\
-         show 13 -> refused N2 WrongKind\n\
-         static 10 14 19 -> ok\n\
-         drop 12 -> ok\n\
-         show 12 -> refused N2 WrongKind\n\
-         new 2 18 1 -> ok\n\
-         show 2 -> part -+18\n\
-         fill 2 236 11 -> ok\n\
-         static 13 14 15 -> ok\n\
-         show 13 -> view 6f\n\
          show 14 -> refused N2 WrongKind\n\
-         drop 5 -> ok\n\
-         new 7 3 1 -> ok\n\
-         show 7 -> part -+3\n\
-         show 7 -> part -+3\n\
-         setlen 2 0 -> ok\n\
-         show 0 -> view 6b6c\n\
-         show 0 -> view 6b6c\n\
-         slice 10 5 i5 e1 -> refused N4 OutOfRange\n\
-         put 7 067c -> ok\n\
-         show 7 -> part 067c+1\n\
-         show 7 -> part 067c+1\n\
-         put 7 - -> ok\n\
-         show 7 -> part 067c+1\n\
-         show 7 -> part 067c+1\n\
-         split 8 15 0 -> ok\n\
-         show 8 -> view -\n\
-         show 15 -> view -\n\
-         drop 0 -> ok\n\
-         show 0 -> refused N2 WrongKind\n\
-         freeze 2 0 -> ok\n\
-         show 2 -> refused N2 WrongKind\n\
-         show 2 -> refused N2 WrongKind\n\
-         drop 13 -> ok\n\
-         show 13 -> refused N2 WrongKind\n\
-         show 13 -> refused N2 WrongKind\n\
-         put 7 - -> ok\n\
-         show 7 -> part 067c+1\n\
-         show 7 -> part 067c+1\n\
-         new 9 12 8 -> ok\n\
-         put 9 ec -> ok\n\
-         show 9 -> part ec+11\n\
-         show 9 -> part ec+11\n\
-         setlen 9 2 -> ok\n\
-         show 9 -> part ec00+10\n",
-        "static 8 20 25 -> ok\n\
-         show 8 -> view 7576777879\n\
-         show 16 -> refused N1 NoName\n\
-         recover 8 3 -> refused N7 Declined\n\
-         new 9 15 8 -> ok\n\
-         show 9 -> part -+15\n\
-         new 10 20 1 -> ok\n\
-         show 16 -> refused N1 NoName\n\
-         put 10 - -> ok\n\
-         show 10 -> part -+20\n\
-         bytes 12 9015189ada7f00 -> ok\n\
-         show 12 -> view 9015189ada7f00\n\
-         new 3 9 1 -> ok\n\
-         show 9 -> part -+15\n\
-         put 9 55bd130e6bbec3aeda1414d66f21bc -> ok\n\
-         show 9 -> part 55bd130e6bbec3aeda1414d66f21bc+0\n\
-         setlen 10 14 -> ok\n\
-         show 10 -> part 0000000000000000000000000000+6\n\
-         bytes 4 - -> ok\n\
-         show 4 -> view -\n\
-         show 4 -> view -\n\
-         put 10 31b4be -> ok\n\
-         show 10 -> part 000000000000000000000000000031b4be+3\n\
-         put 10 52f195 -> ok\n\
-         show 10 -> part 000000000000000000000000000031b4be52f195+0\n\
-         show 10 -> part 000000000000000000000000000031b4be52f195+0\n\
-         put 3 d164 -> ok\n\
-         show 3 -> part d164+7\n\
-         slice 8 11 e0 e4 -> ok\n\
-         put 10 - -> ok\n\
-         show 10 -> part 000000000000000000000000000031b4be52f195+0\n\
-         new 7 12 64 -> ok\n\
-         put 10 - -> ok\n\
-         show 10 -> part 000000000000000000000000000031b4be52f195+0\n\
-         put 3 9e97f28c41240e -> ok\n\
-         show 3 -> part d1649e97f28c41240e+0\n\
-         put 9 - -> ok\n\
-         show 9 -> part 55bd130e6bbec3aeda1414d66f21bc+0\n\
-         show 9 -> part 55bd130e6bbec3aeda1414d66f21bc+0\n\
-         new 15 4 2 -> ok\n\
-         encode 11 0 -> ok\n\
-         show 11 -> view 767778\n\
-         advance 3 9 -> ok\n\
-         show 3 -> part -+0\n\
-         split 11 14 3 -> ok\n\
-         show 14 -> view 767778\n\
-         show 14 -> view 767778\n\
-         overwrite 7 - -> ok\n\
-         show 7 -> part -+12\n\
-         show 7 -> part -+12\n\
-         clone 12 13 -> ok\n\
-         put 9 - -> ok\n\
-         drop 0 -> ok\n\
-         fill 10 105 0 -> ok\n\
-         slice 11 2 e0 u -> refused N4 OutOfRange\n\
-         show 11 -> view -\n\
-         gathermut 5 15 9 7 -> ok\n\
-         show 15 -> refused N2 WrongKind\n\
-         show 15 -> refused N2 WrongKind\n\
-         put 5 01dceba7f3df4348bb2a69fa24d84a -> ok\n\
-         advance 5 23 -> ok\n\
-         put 3 - -> ok\n\
-         show 3 -> part -+0\n\
-         show 3 -> part -+0\n\
-         advance 11 0 -> ok\n\
-         show 11 -> view -\n\
-         encode 11 15 -> ok\n\
-         slice 8 0 e4 i3 -> refused N4 OutOfRange\n\
-         show 8 -> view 7576777879\n\
-         show 8 -> view 7576777879\n\
-         advance 5 7 -> ok\n\
-         show 7 -> refused N2 WrongKind\n\
-         put 3 - -> ok\n\
-         show 3 -> part -+0\n\
-         recover 14 1 -> refused N7 Declined\n\
-         show 14 -> view 767778\n\
-         show 14 -> view 767778\n\
-         advance 11 0 -> ok\n\
-         show 11 -> view -\n\
-         new 0 11 1 -> ok\n\
-         show 0 -> part -+11\n\
-         new 6 22 2 -> ok\n\
-         show 16 -> refused N1 NoName\n\
-         split 12 2 0 -> ok\n\
-         show 12 -> view 9015189ada7f00\n\
-         show 2 -> view -\n\
-         gathermut 7 0 6 10 -> ok\n\
-         append 15 4 -> ok\n\
-         show 4 -> refused N2 WrongKind\n\
-         show 15 -> text 00\n\
-         drop 8 -> ok\n\
-         split 14 9 0 -> ok\n\
-         show 14 -> view 767778\n\
-         show 9 -> view -\n\
-         prepend 15 11 -> ok\n\
-         show 15 -> text 00\n\
-         show 11 -> refused N2 WrongKind\n\
-         gather 8 2 12 14 13 9 -> ok\n\
-         show 2 -> refused N2 WrongKind\n\
-         show 8 -> text 9015189ada7f00 767778 9015189ada7f00\n",
-        "new 10 13 1 -> ok\n\
-         new 14 3 2 -> ok\n\
-         fill 14 107 4 -> refused N4 OutOfRange\n\
-         show 14 -> part -+3\n\
-         put 14 22a555 -> ok\n\
-         put 14 - -> ok\n\
-         static 0 5 23 -> ok\n\
-         show 5 -> refused N2 WrongKind\n\
-         show 5 -> refused N2 WrongKind\n\
-         setlen 14 3 -> ok\n\
-         show 14 -> part 22a555+0\n\
-         show 14 -> part 22a555+0\n\
-         put 10 - -> ok\n\
-         show 10 -> part -+13\n\
-         show 10 -> part -+13\n\
-         decode 0 3 0 5 -> refused N8 C3 InvalidLength 102\n\
-         show 0 -> view 666768696a6b6c6d6e6f7071727374757677\n\
-         show 3 -> refused N2 WrongKind\n\
-         put 10 346e04 -> ok\n\
-         new 2 8 2 -> ok\n\
-         show 8 -> refused N2 WrongKind\n\
-         bytes 11 0b3bb5a0c756 -> ok\n\
-         show 11 -> view 0b3bb5a0c756\n\
-         show 11 -> view 0b3bb5a0c756\n\
-         put 14 - -> ok\n\
-         show 14 -> part 22a555+0\n\
-         static 5 4 20 -> ok\n\
-         put 2 f013a45dc67c -> ok\n\
-         show 2 -> part f013a45dc67c+2\n\
-         put 10 3e77 -> ok\n\
-         show 10 -> part 346e043e77+8\n\
-         split 11 3 0 -> ok\n\
-         new 1 19 0 -> refused N5 BadLayout\n\
-         show 16 -> refused N1 NoName\n\
-         put 2 1d -> ok\n\
-         show 2 -> part f013a45dc67c1d+1\n\
-         show 2 -> part f013a45dc67c1d+1\n\
-         bytes 7 158b -> ok\n\
-         gather 6 0 11 3 7 5 -> ok\n\
-         encode 12 5 -> refused N2 WrongKind\n\
-         show 5 -> refused N2 WrongKind\n\
-         show 12 -> refused N2 WrongKind\n\
-         static 1 12 18 -> ok\n\
-         show 1 -> view 6d6e6f707172\n\
-         show 12 -> refused N2 WrongKind\n\
-         put 2 73 -> ok\n\
-         show 2 -> part f013a45dc67c1d73+0\n\
-         new 13 0 8 -> ok\n\
-         put 14 - -> ok\n\
-         show 14 -> part 22a555+0\n\
-         put 14 - -> ok\n\
-         show 14 -> part 22a555+0\n\
-         show 14 -> part 22a555+0\n\
-         advance 14 0 -> ok\n\
-         show 0 -> refused N2 WrongKind\n\
-         zeroed 12 8 1 -> ok\n\
-         show 12 -> part 0000000000000000+0\n\
-         show 12 -> part 0000000000000000+0\n\
-         put 2 f3 -> refused N4 OutOfRange\n\
-         show 2 -> part f013a45dc67c1d73+0\n\
-         show 2 -> part f013a45dc67c1d73+0\n\
-         put 12 - -> ok\n\
-         show 12 -> part 0000000000000000+0\n\
-         show 12 -> part 0000000000000000+0\n\
-         new 4 4 1 -> ok\n\
-         split 1 5 0 -> ok\n\
-         show 5 -> view -\n\
-         build 7 7 p1 p5 i13 i226d38 -> ok\n\
-         show 7 -> text 6d6e6f707172 13226d38\n\
-         put 12 - -> ok\n\
-         put 14 - -> ok\n\
-         static 15 24 25 -> ok\n\
-         show 15 -> view 79\n\
-         show 15 -> view 79\n\
-         advance 15 0 -> ok\n\
-         bytes 9 3fa1f5df8e -> ok\n\
-         show 9 -> view 3fa1f5df8e\n\
-         freeze 14 14 -> ok\n\
-         show 14 -> view 22a555\n\
-         show 14 -> view 22a555\n\
-         gathermut 11 2 4 12 13 10 -> ok\n\
-         show 11 -> parts f013a45dc67c1d73+0 -+4 0000000000000000+0 346e043e77+8\n\
-         show 2 -> refused N2 WrongKind\n\
-         put 11 1e4bf0184949c60f69273cfb -> ok\n\
-         new 3 21 64 -> ok\n\
-         show 3 -> part -+21\n\
-         zeroed 13 2 1 -> ok\n\
-         show 2 -> refused N2 WrongKind\n\
-         show 2 -> refused N2 WrongKind\n\
-         zeroed 4 2 1 -> ok\n\
-         show 2 -> refused N2 WrongKind\n\
-         show 4 -> part 0000+0\n\
-         static 0 8 9 -> ok\n\
-         build 12 0 -> ok\n\
-         show 12 -> text\n\
-         freeze 3 3 -> ok\n\
-         show 3 -> view -\n\
-         coalesce 11 11 -> ok\n\
-         show 11 -> part f013a45dc67c1d731e4bf0180000000000000000346e043e774949c60f69273cfb+0\n\
-         show 11 -> part f013a45dc67c1d731e4bf0180000000000000000346e043e774949c60f69273cfb+0\n",
-        "static 15 1 9 -> ok\n\
-         show 15 -> view 6263646566676869\n\
-         bytes 1 3c5a96ffc5bc77a8 -> ok\n\
-         show 1 -> view 3c5a96ffc5bc77a8\n\
-         show 1 -> view 3c5a96ffc5bc77a8\n\
-         zeroed 9 4 1 -> ok\n\
-         put 9 - -> ok\n\
-         show 9 -> part 00000000+0\n\
-         put 9 - -> ok\n\
-         show 9 -> part 00000000+0\n\
-         show 9 -> part 00000000+0\n\
-         put 9 - -> ok\n\
-         new 3 15 1 -> ok\n\
-         show 3 -> part -+15\n\
-         show 3 -> part -+15\n\
-         put 9 - -> ok\n\
-         show 9 -> part 00000000+0\n\
-         show 9 -> part 00000000+0\n\
-         decode 1 5 0 18446744073709551615 -> refused N8 C1 EndOfBuffer\n\
-         show 5 -> refused N2 WrongKind\n\
-         put 3 739ad631 -> ok\n\
-         show 3 -> part 739ad631+11\n\
-         put 3 1faf09abeda9a4 -> ok\n\
-         show 3 -> part 739ad6311faf09abeda9a4+4\n\
-         new 12 2 1 -> ok\n\
-         show 2 -> refused N2 WrongKind\n\
-         new 11 6 1 -> ok\n\
-         show 11 -> part -+6\n\
-         new 5 22 1 -> ok\n\
-         new 0 16 8 -> ok\n\
-         show 0 -> part -+16\n\
-         put 9 - -> ok\n\
-         show 9 -> part 00000000+0\n\
-         new 8 8 1 -> ok\n\
-         show 8 -> part -+8\n\
-         put 0 18c1016c072e837e9171e33b78dffc -> ok\n\
-         show 0 -> part 18c1016c072e837e9171e33b78dffc+1\n\
-         put 3 a3c2 -> ok\n\
-         bytes 7 682c1e82d0ed261541 -> ok\n\
-         show 7 -> view 682c1e82d0ed261541\n\
-         decode 7 2 0 5 -> refused N8 C3 InvalidLength 104\n\
-         show 7 -> view 682c1e82d0ed261541\n\
-         show 7 -> view 682c1e82d0ed261541\n\
-         take 8 0 -> bytes -\n\
-         show 8 -> part -+8\n\
-         show 8 -> part -+8\n\
-         gather 14 15 -> ok\n\
-         show 14 -> text 6263646566676869\n\
-         new 10 18 3 -> refused N5 BadLayout\n\
-         show 16 -> refused N1 NoName\n\
-         append 14 7 -> ok\n\
-         show 7 -> refused N2 WrongKind\n\
-         static 2 18 18 -> ok\n\
-         show 16 -> refused N1 NoName\n\
-         show 2 -> view -\n\
-         freeze 12 6 -> ok\n\
-         show 12 -> refused N2 WrongKind\n\
-         freeze 0 13 -> ok\n\
-         show 13 -> view 18c1016c072e837e9171e33b78dffc\n\
-         prepend 14 2 -> ok\n\
-         new 2 10 2 -> ok\n\
-         show 10 -> refused N2 WrongKind\n\
-         show 10 -> refused N2 WrongKind\n\
-         new 12 5 1 -> ok\n\
-         freeze 12 15 -> ok\n\
-         show 15 -> view -\n\
-         clear 11 -> ok\n\
-         show 11 -> part -+6\n\
-         prepend 14 1 -> ok\n\
-         show 1 -> refused N2 WrongKind\n\
-         show 14 -> text 3c5a96ffc5bc77a8 6263646566676869 682c1e82d0ed261541\n\
-         gather 12 -> ok\n\
-         new 10 19 64 -> ok\n\
-         put 10 ea48404c5d2df81186 -> ok\n\
-         encode 6 7 -> ok\n\
-         show 7 -> text 00\n\
-         gather 1 6 13 15 -> ok\n\
-         show 1 -> text 18c1016c072e837e9171e33b78dffc\n\
-         show 6 -> refused N2 WrongKind\n\
-         drop 7 -> ok\n\
-         build 4 5 i- i4dc41e if9 -> ok\n\
-         show 5 -> part -+22\n\
-         show 5 -> part -+22\n\
-         drop 1 -> ok\n\
-         show 1 -> refused N2 WrongKind\n\
-         show 1 -> refused N2 WrongKind\n\
-         clone 14 13 -> ok\n\
-         show 13 -> text 3c5a96ffc5bc77a8 6263646566676869 682c1e82d0ed261541\n\
-         drop 13 -> ok\n\
-         show 13 -> refused N2 WrongKind\n\
-         show 13 -> refused N2 WrongKind\n\
-         freeze 10 13 -> ok\n\
-         coalesce 4 6 -> ok\n\
-         gathermut 1 8 3 2 11 5 9 -> ok\n\
-         show 8 -> refused N2 WrongKind\n\
-         show 8 -> refused N2 WrongKind\n\
-         gather 0 13 6 -> ok\n\
-         show 0 -> text ea48404c5d2df81186 4dc41ef9\n\
-         new 5 10 0 -> refused N5 BadLayout\n\
-         new 8 13 3 -> refused N5 BadLayout\n",
-        "new 8 8 2 -> ok\n\
-         show 8 -> part -+8\n\
-         static 3 24 25 -> ok\n\
-         show 16 -> refused N1 NoName\n\
-         put 8 d7ecdcdb35 -> ok\n\
-         show 8 -> part d7ecdcdb35+3\n\
-         zeroed 7 7 1 -> ok\n\
-         show 7 -> part 00000000000000+0\n\
-         encode 3 4 -> ok\n\
-         put 7 - -> ok\n\
-         show 7 -> part 00000000000000+0\n\
-         put 7 - -> ok\n\
-         static 13 7 20 -> ok\n\
-         new 14 17 2 -> ok\n\
-         show 14 -> part -+17\n\
-         show 16 -> refused N1 NoName\n\
-         static 5 9 21 -> ok\n\
-         show 5 -> view 6a6b6c6d6e6f707172737475\n\
-         zeroed 6 4 1 -> ok\n\
-         show 4 -> text 01 79\n\
-         clone 4 10 -> ok\n\
-         coalesce 4 0 -> ok\n\
-         show 4 -> refused N2 WrongKind\n\
-         show 4 -> refused N2 WrongKind\n\
-         append 10 0 -> ok\n\
-         show 0 -> refused N2 WrongKind\n\
-         setlen 14 13 -> ok\n\
-         show 13 -> view 68696a6b6c6d6e6f7071727374\n\
-         new 12 14 0 -> refused N5 BadLayout\n\
-         freeze 7 7 -> ok\n\
-         static 12 14 18 -> ok\n\
-         show 12 -> view 6f707172\n\
-         show 12 -> view 6f707172\n\
-         encode 13 1 -> ok\n\
-         show 1 -> text 0d 68696a6b6c6d6e6f7071727374\n\
-         show 13 -> view 68696a6b6c6d6e6f7071727374\n\
-         put 6 - -> ok\n\
-         decode 12 0 0 18446744073709551615 -> refused N8 C1 EndOfBuffer\n\
-         show 0 -> refused N2 WrongKind\n\
-         show 0 -> refused N2 WrongKind\n\
-         new 15 10 3 -> refused N5 BadLayout\n\
-         show 10 -> text 01 79 0179\n\
-         recover 5 5 -> refused N7 Declined\n\
-         take 8 3 -> bytes d7ecdc\n\
-         show 8 -> part db35+3\n\
-         show 8 -> part db35+3\n\
-         freeze 6 15 -> ok\n\
-         show 15 -> view 00000000\n\
-         show 15 -> view 00000000\n\
-         new 2 1 1 -> ok\n\
-         show 2 -> part -+1\n\
-         show 1 -> text 0d 68696a6b6c6d6e6f7071727374\n\
-         coalesce 1 0 -> ok\n\
-         clone 5 1 -> ok\n\
-         drop 15 -> ok\n\
-         put 2 - -> ok\n\
-         show 2 -> part -+1\n\
-         setlen 2 2 -> refused N4 OutOfRange\n\
-         show 2 -> part -+1\n\
-         show 2 -> part -+1\n\
-         encode 3 4 -> ok\n\
-         show 3 -> view 79\n\
-         show 4 -> text 01 79\n\
-         coalesce 10 10 -> ok\n\
-         drop 1 -> ok\n\
-         show 1 -> refused N2 WrongKind\n\
-         advance 5 0 -> ok\n\
+         static 13 4 18 -> ok\n\
+         show 13 -> view 65666768696a6b6c6d6e6f707172\n\
+         split 15 14 4 -> ok\n\
          drop 3 -> ok\n\
          show 3 -> refused N2 WrongKind\n\
          show 3 -> refused N2 WrongKind\n\
-         split 0 6 10 -> ok\n\
-         show 0 -> view 71727374\n\
-         show 6 -> view 0d68696a6b6c6d6e6f70\n\
-         freeze 14 14 -> ok\n\
-         show 14 -> view 00000000000000000000000000\n\
+         bytes 0 fb96 -> ok\n\
+         show 0 -> view fb96\n\
+         drop 0 -> ok\n\
+         show 0 -> refused N2 WrongKind\n\
+         new 1 6 8 -> ok\n\
+         show 6 -> view 696a6b6c6d6e6f70717273\n\
+         show 1 -> part -+6\n\
+         decode 10 3 1 1024 -> refused N8 C3 InvalidLength 2106\n\
+         show 10 -> view ba107959249b\n\
+         show 3 -> refused N2 WrongKind\n\
+         decode 4 2 0 1024 -> refused N8 C1 EndOfBuffer\n\
+         advance 13 9 -> ok\n\
+         show 13 -> view 6e6f707172\n\
+         build 8 3 i9f317a p6 p13 -> ok\n\
+         show 8 -> text 9f317a 696a6b6c6d6e6f70717273 6e6f707172\n\
+         gather 0 4 10 11 14 15 -> ok\n\
+         show 0 -> text 767778 ba107959249b 78797a 66676869 6a6b6c6d6e6f707172\n\
+         put 1 83dc4bc3d518 -> ok\n\
+         show 1 -> part 83dc4bc3d518+0\n\
+         show 1 -> part 83dc4bc3d518+0\n\
+         put 9 - -> ok\n\
+         show 9 -> part 0000000000000000+0\n\
+         show 9 -> part 0000000000000000+0\n\
+         new 13 10 8 -> ok\n\
+         show 10 -> refused N2 WrongKind\n\
+         static 11 14 21 -> ok\n\
+         fill 13 245 5 -> ok\n\
+         show 16 -> refused N1 NoName\n\
+         show 16 -> refused N1 NoName\n\
+         new 3 13 8 -> ok\n\
+         gathermut 10 9 13 1 3 7 -> ok\n\
+         show 10 -> parts 0000000000000000+0 f5f5f5f5f5+5 83dc4bc3d518+0 -+13 95824b35f2+0\n\
+         show 10 -> parts 0000000000000000+0 f5f5f5f5f5+5 83dc4bc3d518+0 -+13 95824b35f2+0\n\
+         gather 2 11 -> ok\n\
+         show 2 -> text 6f707172737475\n\
+         show 11 -> refused N2 WrongKind\n\
+         bytes 13 - -> ok\n\
+         show 13 -> view -\n\
+         zeroed 1 7 1 -> ok\n\
+         bytes 6 2b -> ok\n\
+         show 6 -> view 2b\n\
+         static 14 25 25 -> ok\n\
+         show 14 -> view -\n\
+         put 1 - -> ok\n\
+         put 1 - -> ok\n\
+         take 10 24 -> bytes 0000000000000000f5f5f5f5f583dc4bc3d51895824b35f2\n\
+         put 10 eb492cdf5e660c16c1 -> ok\n\
+         show 10 -> parts eb492cdf5e+0 660c16c1+9\n\
+         show 10 -> parts eb492cdf5e+0 660c16c1+9\n\
+         new 5 7 8 -> ok\n\
+         show 7 -> refused N2 WrongKind\n\
+         put 10 82 -> ok\n\
+         slice 13 7 e0 i0 -> refused N4 OutOfRange\n\
+         show 7 -> refused N2 WrongKind\n\
+         split 0 15 26 -> refused N4 OutOfRange\n\
+         split 13 3 0 -> ok\n\
+         static 4 0 7 -> ok\n\
+         show 4 -> view 61626364656667\n",
+        "static 11 4 16 -> ok\n\
+         gather 7 11 -> ok\n\
+         new 4 4 64 -> ok\n\
+         show 4 -> part -+4\n\
+         put 4 1eb3 -> ok\n\
+         new 15 2 1 -> ok\n\
+         show 15 -> part -+2\n\
+         setlen 4 1 -> ok\n\
+         show 4 -> part 1e+3\n\
+         show 4 -> part 1e+3\n\
+         static 0 18 25 -> ok\n\
+         show 0 -> view 73747576777879\n\
+         split 7 2 2 -> ok\n\
+         show 2 -> text 6566\n\
+         show 2 -> text 6566\n\
+         static 10 5 23 -> ok\n\
+         show 5 -> refused N2 WrongKind\n\
+         new 14 11 3 -> refused N5 BadLayout\n\
+         show 11 -> refused N2 WrongKind\n\
+         show 14 -> refused N2 WrongKind\n\
+         build 12 3 p10 i- p0 i553758 -> ok\n\
+         show 12 -> text 666768696a6b6c6d6e6f7071727374757677 73747576777879 553758\n\
+         put 4 7a -> ok\n\
+         static 3 22 23 -> ok\n\
+         show 3 -> view 77\n\
+         append 2 3 -> ok\n\
+         show 2 -> text 6566 77\n\
+         put 15 5ab9 -> ok\n\
+         show 15 -> part 5ab9+0\n\
+         bytes 9 755dc9355a46eecc -> ok\n\
+         put 4 df -> ok\n\
+         show 4 -> part 1e7adf+1\n\
+         show 4 -> part 1e7adf+1\n\
+         put 4 - -> ok\n\
+         show 4 -> part 1e7adf+1\n\
+         show 4 -> part 1e7adf+1\n\
+         new 2 14 1 -> refused N3 InUse\n\
+         show 14 -> refused N2 WrongKind\n\
+         show 14 -> refused N2 WrongKind\n\
+         static 0 18 18 -> ok\n\
+         show 16 -> refused N1 NoName\n\
+         show 0 -> view -\n\
+         static 11 17 23 -> ok\n\
+         show 11 -> view 727374757677\n\
+         show 16 -> refused N1 NoName\n\
+         decode 11 5 0 1024 -> refused N8 C1 EndOfBuffer\n\
+         show 5 -> refused N2 WrongKind\n\
+         new 1 16 2 -> ok\n\
+         show 1 -> part -+16\n\
+         encode 9 5 -> ok\n\
+         show 5 -> text 08 755dc9355a46eecc\n\
+         drop 12 -> ok\n\
+         new 10 21 64 -> ok\n\
+         show 10 -> part -+21\n\
+         show 16 -> refused N1 NoName\n\
+         build 14 2 i- p11 -> ok\n\
+         show 2 -> text 6566 77\n\
+         show 2 -> text 6566 77\n\
+         drop 14 -> ok\n\
+         advance 5 6 -> ok\n\
+         recover 9 9 -> refused N7 Declined\n\
+         show 9 -> view 755dc9355a46eecc\n\
+         coalesce 5 14 -> ok\n\
+         show 14 -> view 46eecc\n\
+         encode 14 6 -> ok\n\
+         show 14 -> view 46eecc\n\
+         gathermut 5 4 10 15 1 -> ok\n\
+         decode 7 13 0 1024 -> refused N8 C1 EndOfBuffer\n\
+         show 13 -> refused N2 WrongKind\n\
+         show 7 -> text 6768696a6b6c6d6e6f70\n\
+         take 5 5 -> bytes 1e7adf5ab9\n\
+         show 5 -> parts -+1 -+21 -+16\n\
+         show 5 -> parts -+1 -+21 -+16\n\
          drop 14 -> ok\n\
          show 14 -> refused N2 WrongKind\n\
-         show 14 -> refused N2 WrongKind\n\
-         clone 10 11 -> ok\n\
-         show 11 -> view 01790179\n\
+         put 5 62ec4ec8322e60e4ebf942e4cfd38b4a2c0ea6799ef40907069b2f7815c43049daf7e4e3 -> ok\n\
+         show 5 -> parts 62+0 ec4ec8322e60e4ebf942e4cfd38b4a2c0ea6799ef4+0 0907069b2f7815c43049daf7e4e3+2\n\
+         show 5 -> parts 62+0 ec4ec8322e60e4ebf942e4cfd38b4a2c0ea6799ef4+0 0907069b2f7815c43049daf7e4e3+2\n\
+         split 6 13 0 -> ok\n\
          drop 6 -> ok\n\
          show 6 -> refused N2 WrongKind\n\
+         show 6 -> refused N2 WrongKind\n\
+         advance 13 0 -> ok\n\
+         show 0 -> view -\n\
+         zeroed 11 3 1 -> ok\n\
+         decode 13 15 0 0 -> refused N8 C1 EndOfBuffer\n\
+         put 5 - -> ok\n\
+         static 6 1 11 -> ok\n\
+         show 1 -> refused N2 WrongKind\n\
+         put 11 - -> ok\n\
+         show 11 -> part 000000+0\n\
+         fill 11 219 1 -> refused N4 OutOfRange\n\
+         show 16 -> refused N1 NoName\n\
+         static 8 13 23 -> ok\n\
+         show 8 -> view 6e6f7071727374757677\n\
+         freeze 11 3 -> ok\n\
+         show 11 -> refused N2 WrongKind\n\
+         static 12 17 23 -> ok\n\
+         show 12 -> view 727374757677\n\
+         show 16 -> refused N1 NoName\n",
+        "new 3 11 64 -> ok\n\
+         build 13 4 i- iaa6feb -> ok\n\
+         show 4 -> refused N2 WrongKind\n\
+         static 15 14 25 -> ok\n\
+         gather 11 15 -> ok\n\
+         show 15 -> refused N2 WrongKind\n\
+         show 15 -> refused N2 WrongKind\n\
+         setlen 3 3 -> ok\n\
+         show 3 -> part 000000+8\n\
+         put 3 7074f39a0616 -> ok\n\
+         take 11 12 -> refused N4 OutOfRange\n\
+         show 12 -> refused N2 WrongKind\n\
+         put 3 - -> ok\n\
+         static 10 21 26 -> ok\n\
+         show 16 -> refused N1 NoName\n\
+         show 16 -> refused N1 NoName\n\
+         new 5 12 64 -> ok\n\
+         show 12 -> refused N2 WrongKind\n\
+         put 3 c49a -> ok\n\
+         static 0 4 12 -> ok\n\
+         show 0 -> view 65666768696a6b6c\n\
+         show 0 -> view 65666768696a6b6c\n\
+         gather 6 10 -> ok\n\
+         show 6 -> text 767778797a\n\
+         put 3 - -> ok\n\
+         new 15 17 8 -> ok\n\
+         put 15 b0e332f9d216c535b275 -> ok\n\
+         show 15 -> part b0e332f9d216c535b275+7\n\
+         show 15 -> part b0e332f9d216c535b275+7\n\
+         new 4 3 2 -> ok\n\
+         split 0 7 4 -> ok\n\
+         show 0 -> view 696a6b6c\n\
+         gather 1 0 7 -> ok\n\
+         show 1 -> text 696a6b6c 65666768\n\
+         show 1 -> text 696a6b6c 65666768\n\
+         drop 1 -> ok\n\
+         show 1 -> refused N2 WrongKind\n\
+         put 15 b88762 -> ok\n\
+         show 15 -> part b0e332f9d216c535b275b88762+4\n\
+         show 15 -> part b0e332f9d216c535b275b88762+4\n\
+         new 8 13 2 -> ok\n\
+         put 3 - -> ok\n\
+         put 5 ab3a -> ok\n\
+         show 5 -> part ab3a+10\n\
+         bytes 1 ef3bf01b6e065c -> ok\n\
+         show 1 -> view ef3bf01b6e065c\n\
+         drop 15 -> ok\n\
+         new 12 8 1 -> ok\n\
+         show 8 -> part -+13\n\
+         take 11 1 -> bytes 6f\n\
+         show 11 -> text 70717273747576777879\n\
+         build 7 8 p1 i9b if398 i39c8 i- -> ok\n\
+         show 8 -> part -+13\n\
+         show 8 -> part -+13\n\
+         drop 13 -> ok\n\
+         show 13 -> refused N2 WrongKind\n\
+         static 2 4 19 -> ok\n\
+         show 4 -> part -+3\n\
+         show 2 -> view 65666768696a6b6c6d6e6f70717273\n\
+         gathermut 0 4 5 8 3 12 -> ok\n\
+         show 4 -> refused N2 WrongKind\n\
+         bytes 15 fea3 -> ok\n\
+         put 0 7f9047d1fea610879daa1dcd5d7f -> ok\n\
+         bytes 8 bee45de49174 -> ok\n\
+         show 8 -> view bee45de49174\n\
+         show 8 -> view bee45de49174\n\
+         split 6 14 5 -> ok\n\
+         drop 6 -> ok\n\
+         put 0 c7535f -> ok\n\
+         show 0 -> parts 7f9047+0 ab3ad1fea610879daa1dcd5d+0 7fc7535f+9 0000007074f39a0616c49a+0 -+8\n\
+         new 6 16 2 -> ok\n\
+         advance 0 0 -> ok\n\
+         show 0 -> parts 7f9047+0 ab3ad1fea610879daa1dcd5d+0 7fc7535f+9 0000007074f39a0616c49a+0 -+8\n\
+         new 3 10 1 -> ok\n\
+         show 10 -> refused N2 WrongKind\n\
+         slice 8 10 e6 e0 -> refused N4 OutOfRange\n\
+         new 5 13 3 -> refused N5 BadLayout\n\
+         show 5 -> refused N2 WrongKind\n\
+         show 5 -> refused N2 WrongKind\n\
+         put 6 767d6d5bceaf91db579676aa1fbf83d4 -> ok\n\
+         show 6 -> part 767d6d5bceaf91db579676aa1fbf83d4+0\n\
+         show 6 -> part 767d6d5bceaf91db579676aa1fbf83d4+0\n\
+         take 3 0 -> bytes -\n\
+         show 0 -> parts 7f9047+0 ab3ad1fea610879daa1dcd5d+0 7fc7535f+9 0000007074f39a0616c49a+0 -+8\n\
+         decode 11 10 0 5 -> refused N8 C3 InvalidLength 112\n\
+         show 10 -> refused N2 WrongKind\n\
+         advance 0 30 -> ok\n\
+         show 0 -> parts -+9 -+8\n\
+         put 0 563a63d4408f9e4d16ba76be -> ok\n\
+         show 0 -> parts 563a63d4408f9e4d16+0 ba76be+5\n\
+         show 0 -> parts 563a63d4408f9e4d16+0 ba76be+5\n\
+         clone 2 12 -> ok\n\
+         decode 11 10 0 1024 -> refused N8 C1 EndOfBuffer\n\
+         show 10 -> refused N2 WrongKind\n\
+         drop 11 -> ok\n\
+         zeroed 9 0 1 -> ok\n\
+         gather 5 2 -> ok\n\
+         show 5 -> text 65666768696a6b6c6d6e6f70717273\n\
+         show 5 -> text 65666768696a6b6c6d6e6f70717273\n\
+         advance 0 5 -> ok\n",
+        "static 9 4 26 -> ok\n\
+         show 9 -> view 65666768696a6b6c6d6e6f707172737475767778797a\n\
+         new 10 11 3 -> refused N5 BadLayout\n\
+         show 10 -> refused N2 WrongKind\n\
+         show 11 -> refused N2 WrongKind\n\
+         new 11 15 0 -> refused N5 BadLayout\n\
+         show 15 -> refused N2 WrongKind\n\
+         new 5 23 1 -> ok\n\
+         show 5 -> part -+23\n\
+         show 5 -> part -+23\n\
+         zeroed 2 7 1 -> ok\n\
+         show 7 -> refused N2 WrongKind\n\
+         show 7 -> refused N2 WrongKind\n\
+         new 0 5 1 -> ok\n\
+         show 5 -> part -+23\n\
+         static 13 16 24 -> ok\n\
+         bytes 12 c5 -> ok\n\
+         new 15 20 64 -> ok\n\
+         put 2 fe -> refused N4 OutOfRange\n\
+         show 2 -> part 00000000000000+0\n\
+         show 2 -> part 00000000000000+0\n\
+         freeze 2 2 -> ok\n\
+         new 4 4 3 -> refused N5 BadLayout\n\
+         show 4 -> refused N2 WrongKind\n\
+         build 10 7 i7a65cc ic0 ic42c1c p9 -> ok\n\
+         new 11 8 1 -> ok\n\
+         new 4 19 2 -> ok\n\
+         show 4 -> part -+19\n\
+         drop 0 -> ok\n\
+         show 0 -> refused N2 WrongKind\n\
+         new 1 15 64 -> ok\n\
+         show 1 -> part -+15\n\
+         show 15 -> part -+20\n\
+         append 10 13 -> ok\n\
+         show 13 -> refused N2 WrongKind\n\
+         split 7 6 0 -> refused N2 WrongKind\n\
+         static 9 10 12 -> ok\n\
+         show 10 -> text 7a65ccc0c42c1c 65666768696a6b6c6d6e6f707172737475767778797a 7172737475767778\n\
+         put 4 ec15fc3a8bad09f2 -> ok\n\
+         static 3 11 18 -> ok\n\
+         show 11 -> part -+8\n\
+         decode 3 8 0 5 -> refused N8 C3 InvalidLength 108\n\
+         clone 9 8 -> ok\n\
+         show 9 -> view 6b6c\n\
+         overwrite 1 - -> ok\n\
+         show 1 -> part -+15\n\
+         show 1 -> part -+15\n\
+         fill 11 142 1 -> ok\n\
+         show 11 -> part 8e+7\n\
+         show 16 -> refused N1 NoName\n\
+         clone 8 0 -> ok\n\
+         show 8 -> view 6b6c\n\
+         static 14 26 26 -> ok\n\
+         show 16 -> refused N1 NoName\n\
+         drop 15 -> ok\n\
+         show 15 -> refused N2 WrongKind\n\
+         gathermut 6 11 4 1 5 -> ok\n\
+         gather 15 9 3 14 8 12 0 2 -> ok\n\
+         show 15 -> text 6b6c 6c6d6e6f707172 6b6c c5 6b6c 00000000000000\n\
+         show 9 -> refused N2 WrongKind\n\
+         put 6 1fe7d8a5d5ce0c1bf8e89ef62d1937a7f36a96f97e4c454459ecb4 -> ok\n\
+         show 6 -> parts 8e1fe7d8a5d5ce0c+0 ec15fc3a8bad09f21bf8e89ef62d1937a7f36a+0 96f97e4c454459ecb4+6 -+23\n\
+         advance 6 36 -> ok\n\
+         show 6 -> parts -+6 -+23\n\
+         put 6 e4cb549c9971ba4bb5d804 -> ok\n\
+         show 6 -> parts e4cb549c9971+0 ba4bb5d804+18\n\
+         show 6 -> parts e4cb549c9971+0 ba4bb5d804+18\n\
+         put 6 9f1fdf00134dc1d9e8eddbd7be89ec69d6c4 -> ok\n\
+         show 6 -> parts e4cb549c9971+0 ba4bb5d8049f1fdf00134dc1d9e8eddbd7be89ec69d6c4+0\n\
+         show 6 -> parts e4cb549c9971+0 ba4bb5d8049f1fdf00134dc1d9e8eddbd7be89ec69d6c4+0\n\
+         zeroed 7 3 1 -> ok\n\
+         put 6 b9 -> refused N4 OutOfRange\n\
+         show 6 -> parts e4cb549c9971+0 ba4bb5d8049f1fdf00134dc1d9e8eddbd7be89ec69d6c4+0\n\
+         put 6 - -> ok\n\
+         show 6 -> parts e4cb549c9971+0 ba4bb5d8049f1fdf00134dc1d9e8eddbd7be89ec69d6c4+0\n\
+         show 6 -> parts e4cb549c9971+0 ba4bb5d8049f1fdf00134dc1d9e8eddbd7be89ec69d6c4+0\n\
+         put 7 - -> ok\n\
+         show 7 -> part 000000+0\n\
+         new 5 5 1 -> ok\n\
+         put 5 - -> ok\n\
+         show 5 -> part -+5\n\
+         show 5 -> part -+5\n\
+         put 5 510008d66c -> ok\n\
+         show 5 -> part 510008d66c+0\n\
+         show 5 -> part 510008d66c+0\n\
+         bytes 14 4442439adc71c8 -> ok\n\
+         show 14 -> view 4442439adc71c8\n\
+         static 12 12 26 -> ok\n\
+         show 12 -> view 6d6e6f707172737475767778797a\n\
+         show 12 -> view 6d6e6f707172737475767778797a\n\
+         bytes 2 d97d58e4d8 -> ok\n\
+         show 2 -> view d97d58e4d8\n\
+         show 2 -> view d97d58e4d8\n\
+         split 15 13 21 -> ok\n\
+         show 15 -> text\n\
+         show 15 -> text\n\
+         bytes 0 7c933f29 -> ok\n\
+         clone 10 1 -> ok\n\
+         drop 10 -> ok\n\
+         show 10 -> refused N2 WrongKind\n",
+        "gathermut 8 -> ok\n\
+         show 8 -> parts -+0\n\
+         new 11 8 1 -> ok\n\
+         show 8 -> parts -+0\n\
+         show 8 -> parts -+0\n\
+         new 2 1 64 -> ok\n\
+         show 1 -> refused N2 WrongKind\n\
+         advance 1 0 -> refused N2 WrongKind\n\
+         show 1 -> refused N2 WrongKind\n\
+         put 2 34 -> ok\n\
+         show 16 -> refused N1 NoName\n\
          put 2 - -> ok\n\
-         show 2 -> part -+1\n\
-         put 2 - -> ok\n\
-         show 2 -> part -+1\n\
-         slice 0 15 u i4 -> refused N4 OutOfRange\n\
-         freeze 8 8 -> ok\n\
-         show 8 -> view db35\n\
+         static 14 8 23 -> ok\n\
+         show 14 -> view 696a6b6c6d6e6f7071727374757677\n\
+         show 8 -> parts -+0\n\
+         drop 2 -> ok\n\
+         put 8 - -> ok\n\
+         new 12 19 1 -> ok\n\
+         show 16 -> refused N1 NoName\n\
+         bytes 15 6ecf5a2d -> ok\n\
+         put 12 - -> ok\n\
+         show 12 -> part -+19\n\
+         new 0 5 64 -> ok\n\
+         show 0 -> part -+5\n\
+         new 13 13 2 -> ok\n\
+         show 13 -> part -+13\n\
+         show 13 -> part -+13\n\
+         decode 15 9 0 1024 -> refused N8 C1 EndOfBuffer\n\
+         show 9 -> refused N2 WrongKind\n\
+         new 6 16 1 -> ok\n\
+         new 5 23 2 -> ok\n\
+         zeroed 2 5 1 -> ok\n\
+         show 5 -> part -+23\n\
+         new 3 15 2 -> ok\n\
+         show 3 -> part -+15\n\
+         drop 5 -> ok\n\
+         show 5 -> refused N2 WrongKind\n\
+         show 5 -> refused N2 WrongKind\n\
+         decode 14 1 0 1024 -> refused N8 C1 EndOfBuffer\n\
+         take 15 4 -> bytes 6ecf5a2d\n\
+         advance 8 0 -> ok\n\
+         show 8 -> parts -+0\n\
+         show 8 -> parts -+0\n\
+         build 7 5 p15 p14 ia6 i- i9d91f7 -> ok\n\
+         show 7 -> text 696a6b6c6d6e6f7071727374757677 a69d91f7\n\
+         show 7 -> text 696a6b6c6d6e6f7071727374757677 a69d91f7\n\
+         build 15 2 -> ok\n\
+         show 2 -> part 0000000000+0\n\
+         show 15 -> text\n\
+         put 3 3a2d484d160e6e14535ea4bec11ce3 -> ok\n\
+         show 3 -> part 3a2d484d160e6e14535ea4bec11ce3+0\n\
+         show 3 -> part 3a2d484d160e6e14535ea4bec11ce3+0\n\
          drop 8 -> ok\n\
          show 8 -> refused N2 WrongKind\n\
          show 8 -> refused N2 WrongKind\n\
-         encode 5 6 -> ok\n\
-         recover 12 12 -> refused N7 Declined\n\
-         show 12 -> view 6f707172\n\
-         build 14 1 -> ok\n\
-         show 14 -> text\n\
+         gather 1 -> ok\n\
+         freeze 3 4 -> ok\n\
+         show 4 -> view 3a2d484d160e6e14535ea4bec11ce3\n\
+         show 3 -> refused N2 WrongKind\n\
+         coalesce 1 1 -> ok\n\
+         put 11 b53638d8f769be -> ok\n\
+         put 12 6e4a182e3deb6f90 -> ok\n\
+         show 12 -> part 6e4a182e3deb6f90+11\n\
+         freeze 6 8 -> ok\n\
+         show 6 -> refused N2 WrongKind\n\
+         show 6 -> refused N2 WrongKind\n\
+         advance 15 0 -> ok\n\
+         show 15 -> text\n\
+         show 0 -> part -+5\n\
+         split 1 9 0 -> ok\n\
+         show 9 -> view -\n\
+         freeze 11 10 -> ok\n\
+         show 10 -> view b53638d8f769be\n\
+         show 10 -> view b53638d8f769be\n\
+         gathermut 5 0 13 2 12 -> ok\n\
+         show 5 -> parts -+5 -+13 0000000000+0 6e4a182e3deb6f90+11\n\
+         static 3 22 24 -> ok\n\
+         show 3 -> view 7778\n\
+         advance 5 13 -> ok\n\
+         show 13 -> refused N2 WrongKind\n\
+         show 5 -> parts -+5 -+13 -+11\n\
+         static 2 17 22 -> ok\n\
+         show 16 -> refused N1 NoName\n\
+         show 2 -> view 7273747576\n\
+         gather 13 3 10 4 8 9 1 2 -> ok\n\
+         show 3 -> refused N2 WrongKind\n\
+         show 3 -> refused N2 WrongKind\n\
+         new 9 0 3 -> ok\n\
+         show 0 -> refused N2 WrongKind\n\
+         put 5 eadf09259c6f540dcb73937afe2ec72fe56645fb12b92ef3bba1 -> ok\n\
+         show 5 -> parts eadf09259c+0 6f540dcb73937afe2ec72fe566+0 45fb12b92ef3bba1+3\n\
+         show 5 -> parts eadf09259c+0 6f540dcb73937afe2ec72fe566+0 45fb12b92ef3bba1+3\n\
+         advance 5 22 -> ok\n\
+         bytes 8 8684ea1f -> ok\n\
+         static 2 2 22 -> ok\n\
+         show 2 -> view 636465666768696a6b6c6d6e6f70717273747576\n\
+         show 2 -> view 636465666768696a6b6c6d6e6f70717273747576\n\
+         encode 2 14 -> ok\n\
+         show 2 -> view 636465666768696a6b6c6d6e6f70717273747576\n\
+         show 2 -> view 636465666768696a6b6c6d6e6f70717273747576\n",
+        "new 13 9 64 -> ok\n\
+         show 13 -> part -+9\n\
+         show 9 -> refused N2 WrongKind\n\
+         put 13 023593ec -> ok\n\
+         show 13 -> part 023593ec+5\n\
+         show 13 -> part 023593ec+5\n\
+         put 13 372cd9 -> ok\n\
+         put 13 9632 -> ok\n\
+         take 13 1 -> bytes 02\n\
+         put 13 - -> ok\n\
+         new 15 16 8 -> ok\n\
+         show 16 -> refused N1 NoName\n\
+         new 4 17 1 -> ok\n\
+         put 13 - -> ok\n\
+         put 4 ec3cd755e1a8 -> ok\n\
+         put 13 - -> ok\n\
+         show 13 -> part 3593ec372cd99632+0\n\
+         put 13 - -> ok\n\
+         show 13 -> part 3593ec372cd99632+0\n\
+         show 13 -> part 3593ec372cd99632+0\n\
+         put 4 0f70 -> ok\n\
+         show 4 -> part ec3cd755e1a80f70+9\n\
+         show 4 -> part ec3cd755e1a80f70+9\n\
+         put 4 c2f304dbb0f495dd -> ok\n\
+         show 4 -> part ec3cd755e1a80f70c2f304dbb0f495dd+1\n\
+         new 7 10 64 -> ok\n\
+         show 7 -> part -+10\n\
+         bytes 8 07e32ee033 -> ok\n\
+         show 8 -> view 07e32ee033\n\
+         show 8 -> view 07e32ee033\n\
+         put 15 f5dbfdded7ed -> ok\n\
+         put 7 3cab -> ok\n\
+         show 7 -> part 3cab+8\n\
+         show 7 -> part 3cab+8\n\
+         zeroed 12 5 1 -> ok\n\
+         show 12 -> part 0000000000+0\n\
+         show 5 -> refused N2 WrongKind\n\
+         put 15 ead617 -> ok\n\
+         show 15 -> part f5dbfdded7edead617+7\n\
+         put 15 bdc2b3a6a88809 -> ok\n\
+         show 15 -> part f5dbfdded7edead617bdc2b3a6a88809+0\n\
+         show 15 -> part f5dbfdded7edead617bdc2b3a6a88809+0\n\
+         static 9 26 26 -> ok\n\
+         show 9 -> view -\n\
+         put 12 - -> ok\n\
+         show 12 -> part 0000000000+0\n\
+         show 12 -> part 0000000000+0\n\
+         static 2 1 5 -> ok\n\
+         show 2 -> view 62636465\n\
+         put 12 - -> ok\n\
+         put 13 - -> ok\n\
+         static 10 2 9 -> ok\n\
+         show 2 -> view 62636465\n\
+         show 10 -> view 63646566676869\n\
+         gathermut 3 13 12 7 4 15 -> ok\n\
+         show 3 -> parts 3593ec372cd99632+0 0000000000+0 3cab+8 ec3cd755e1a80f70c2f304dbb0f495dd+1 f5dbfdded7edead617bdc2b3a6a88809+0\n\
+         static 5 23 26 -> ok\n\
+         show 16 -> refused N1 NoName\n\
+         new 7 11 1 -> ok\n\
+         show 11 -> refused N2 WrongKind\n\
+         show 11 -> refused N2 WrongKind\n\
+         bytes 13 5d -> ok\n\
+         show 13 -> view 5d\n\
+         new 12 4 64 -> ok\n\
+         split 8 13 5 -> refused N3 InUse\n\
+         build 15 3 ibf p5 -> ok\n\
+         decode 15 1 0 0 -> refused N8 C3 InvalidLength 15423\n\
+         put 3 - -> ok\n\
+         show 3 -> parts 3593ec372cd99632+0 0000000000+0 3cab+8 ec3cd755e1a80f70c2f304dbb0f495dd+1 f5dbfdded7edead617bdc2b3a6a88809+0\n\
+         advance 15 1 -> ok\n\
+         advance 3 47 -> ok\n\
+         advance 3 0 -> ok\n\
+         show 3 -> parts -+8 -+1\n\
+         show 0 -> refused N2 WrongKind\n\
+         advance 3 0 -> ok\n\
+         put 7 9d8bcdf42991 -> ok\n\
+         recover 13 13 -> refused N7 Declined\n\
+         show 13 -> view 5d\n\
+         show 13 -> view 5d\n\
+         advance 7 0 -> ok\n\
+         prepend 15 8 -> ok\n\
+         show 8 -> refused N2 WrongKind\n\
+         show 8 -> refused N2 WrongKind\n\
+         put 3 d634d542c8 -> ok\n\
+         show 3 -> parts d634d542c8+3 -+1\n\
+         put 7 7e34 -> ok\n\
+         put 3 22f554 -> ok\n\
+         advance 12 0 -> ok\n\
+         show 12 -> part -+4\n\
+         show 12 -> part -+4\n\
+         new 11 1 64 -> ok\n\
          show 1 -> refused N2 WrongKind\n\
+         split 15 14 2 -> ok\n\
+         show 14 -> text 07e3\n\
+         show 15 -> text 2ee033 78797a\n\
+         freeze 12 1 -> ok\n\
+         show 1 -> view -\n\
+         show 12 -> refused N2 WrongKind\n\
+         advance 3 0 -> ok\n\
+         show 3 -> parts d634d542c822f554+0 -+1\n",
+        "bytes 6 - -> ok\n\
+         show 6 -> view -\n\
+         show 6 -> view -\n\
+         static 5 20 20 -> ok\n\
+         show 16 -> refused N1 NoName\n\
+         new 14 18 1 -> ok\n\
+         fill 14 21 7 -> ok\n\
+         show 16 -> refused N1 NoName\n\
+         put 14 55066b -> ok\n\
+         show 14 -> part 1515151515151555066b+8\n\
+         gathermut 15 14 -> ok\n\
+         show 15 -> parts 1515151515151555066b+8\n\
+         take 15 10 -> bytes 1515151515151555066b\n\
+         show 15 -> parts -+8\n\
+         bytes 0 bc -> ok\n\
+         show 0 -> view bc\n\
+         show 0 -> view bc\n\
+         put 15 33a5c3f99a915d69 -> ok\n\
+         put 15 - -> ok\n\
+         put 15 - -> ok\n\
+         show 15 -> parts 33a5c3f99a915d69+0\n\
+         show 15 -> parts 33a5c3f99a915d69+0\n\
+         new 10 6 64 -> ok\n\
+         show 6 -> view -\n\
+         show 10 -> part -+6\n\
+         gathermut 14 10 -> ok\n\
+         show 14 -> parts -+6\n\
+         show 14 -> parts -+6\n\
+         new 2 16 1 -> ok\n\
+         show 16 -> refused N1 NoName\n\
+         show 2 -> part -+16\n\
+         drop 14 -> ok\n\
+         show 14 -> refused N2 WrongKind\n\
+         show 14 -> refused N2 WrongKind\n\
+         put 15 - -> ok\n\
+         show 15 -> parts 33a5c3f99a915d69+0\n\
+         show 15 -> parts 33a5c3f99a915d69+0\n\
+         clone 5 13 -> ok\n\
+         show 5 -> view -\n\
+         new 12 22 3 -> refused N5 BadLayout\n\
+         show 16 -> refused N1 NoName\n\
+         advance 15 8 -> ok\n\
+         show 8 -> refused N2 WrongKind\n\
+         put 15 - -> ok\n\
+         put 15 - -> ok\n\
+         show 15 -> parts -+0\n\
+         gathermut 14 2 -> ok\n\
+         show 14 -> parts -+16\n\
+         zeroed 7 2 1 -> ok\n\
+         show 2 -> refused N2 WrongKind\n\
+         drop 5 -> ok\n\
+         show 5 -> refused N2 WrongKind\n\
+         show 5 -> refused N2 WrongKind\n\
+         new 8 7 1 -> ok\n\
+         show 8 -> part -+7\n\
+         static 4 26 26 -> ok\n\
+         new 12 6 1 -> ok\n\
+         advance 8 0 -> ok\n\
+         zeroed 10 2 1 -> ok\n\
+         show 2 -> refused N2 WrongKind\n\
+         put 10 - -> ok\n\
+         show 10 -> part 0000+0\n\
+         slice 13 11 i0 i0 -> refused N4 OutOfRange\n\
+         put 15 - -> ok\n\
+         show 15 -> parts -+0\n\
+         static 11 7 16 -> ok\n\
+         show 11 -> view 68696a6b6c6d6e6f70\n\
+         show 7 -> part 0000+0\n\
+         gathermut 2 8 7 12 10 -> ok\n\
+         new 12 0 64 -> ok\n\
+         advance 15 0 -> ok\n\
+         show 0 -> view bc\n\
+         show 0 -> view bc\n\
+         encode 11 7 -> ok\n\
+         show 7 -> text 09 68696a6b6c6d6e6f70\n\
+         prepend 7 11 -> ok\n\
+         show 7 -> text 68696a6b6c6d6e6f70 09 68696a6b6c6d6e6f70\n\
+         take 13 0 -> bytes -\n\
+         show 13 -> view -\n\
+         show 13 -> view -\n\
+         advance 7 0 -> ok\n\
+         show 7 -> text 68696a6b6c6d6e6f70 09 68696a6b6c6d6e6f70\n\
+         show 0 -> view bc\n\
+         append 7 6 -> ok\n\
+         show 7 -> text 68696a6b6c6d6e6f70 09 68696a6b6c6d6e6f70\n\
+         static 1 20 23 -> ok\n\
+         show 1 -> view 757677\n\
+         show 16 -> refused N1 NoName\n\
+         decode 4 11 0 1024 -> refused N8 C1 EndOfBuffer\n\
+         show 11 -> refused N2 WrongKind\n\
+         build 6 3 i86ae i7c p4 -> ok\n\
+         show 3 -> refused N2 WrongKind\n\
+         coalesce 15 15 -> ok\n\
+         show 15 -> part -+0\n\
+         show 15 -> part -+0\n\
+         slice 13 8 i0 e0 -> ok\n\
+         show 13 -> view -\n\
+         show 8 -> view -\n\
+         new 3 7 64 -> ok\n\
+         show 3 -> part -+7\n",
+        "new 9 7 1 -> ok\n\
+         show 7 -> refused N2 WrongKind\n\
+         show 9 -> part -+7\n\
+         zeroed 2 0 1 -> ok\n\
+         show 2 -> part -+0\n\
+         show 0 -> refused N2 WrongKind\n\
+         setlen 9 6 -> ok\n\
+         new 0 22 2 -> ok\n\
+         static 6 6 16 -> ok\n\
+         zeroed 1 8 1 -> ok\n\
+         new 7 11 8 -> ok\n\
+         show 7 -> part -+11\n\
+         setlen 1 9 -> refused N4 OutOfRange\n\
+         show 9 -> part 000000000000+1\n\
+         show 9 -> part 000000000000+1\n\
+         clone 6 10 -> ok\n\
+         show 6 -> view 6768696a6b6c6d6e6f70\n\
+         show 6 -> view 6768696a6b6c6d6e6f70\n\
+         encode 10 3 -> ok\n\
+         show 3 -> text 0a 6768696a6b6c6d6e6f70\n\
+         show 3 -> text 0a 6768696a6b6c6d6e6f70\n\
+         put 0 59c232c19dc2bcc4f550e0b57108a38ce64f759b58 -> ok\n\
+         show 0 -> part 59c232c19dc2bcc4f550e0b57108a38ce64f759b58+1\n\
+         show 0 -> part 59c232c19dc2bcc4f550e0b57108a38ce64f759b58+1\n\
+         new 13 21 8 -> ok\n\
+         show 16 -> refused N1 NoName\n\
+         advance 7 1 -> refused N4 OutOfRange\n\
+         show 1 -> part 0000000000000000+0\n\
+         show 1 -> part 0000000000000000+0\n\
+         gather 11 6 10 -> ok\n\
+         show 6 -> refused N2 WrongKind\n\
+         setlen 7 2 -> ok\n\
+         new 15 22 1 -> ok\n\
+         split 3 8 8 -> ok\n\
+         advance 8 8 -> ok\n\
+         show 8 -> text\n\
+         advance 8 0 -> ok\n\
+         show 0 -> part 59c232c19dc2bcc4f550e0b57108a38ce64f759b58+1\n\
+         show 0 -> part 59c232c19dc2bcc4f550e0b57108a38ce64f759b58+1\n\
+         put 13 7547caff905e1faa756ff7 -> ok\n\
+         split 8 5 0 -> ok\n\
+         show 8 -> text\n\
+         drop 11 -> ok\n\
+         show 11 -> refused N2 WrongKind\n\
+         show 11 -> refused N2 WrongKind\n\
+         put 9 03 -> ok\n\
+         show 9 -> part 00000000000003+0\n\
+         show 9 -> part 00000000000003+0\n\
+         freeze 0 6 -> ok\n\
+         show 0 -> refused N2 WrongKind\n\
+         show 0 -> refused N2 WrongKind\n\
+         gathermut 4 13 15 7 9 1 2 -> ok\n\
+         take 4 20 -> bytes 7547caff905e1faa756ff7000000000000000003\n\
+         show 16 -> refused N1 NoName\n\
+         put 4 23de7e58f37c5db27f97ef7cbeaa67048c1c8f9796398f7cb2054de12cf6cb5b5ba34a26 -> ok\n\
+         put 4 9c8fe17255 -> ok\n\
+         put 4 - -> ok\n\
+         show 4 -> parts 23de7e58f37c5db27f97+0 ef7cbeaa67048c1c8f9796398f7cb2054de12cf6cb5b+0 5ba34a269c8fe17255+0 0000000000000000+0\n\
+         show 4 -> parts 23de7e58f37c5db27f97+0 ef7cbeaa67048c1c8f9796398f7cb2054de12cf6cb5b+0 5ba34a269c8fe17255+0 0000000000000000+0\n\
+         put 4 - -> ok\n\
+         show 4 -> parts 23de7e58f37c5db27f97+0 ef7cbeaa67048c1c8f9796398f7cb2054de12cf6cb5b+0 5ba34a269c8fe17255+0 0000000000000000+0\n\
+         show 4 -> parts 23de7e58f37c5db27f97+0 ef7cbeaa67048c1c8f9796398f7cb2054de12cf6cb5b+0 5ba34a269c8fe17255+0 0000000000000000+0\n\
+         bytes 0 9c -> ok\n\
+         bytes 13 aec09cb9adddd5 -> ok\n\
+         show 13 -> view aec09cb9adddd5\n\
+         show 13 -> view aec09cb9adddd5\n\
+         static 9 10 20 -> ok\n\
+         show 9 -> view 6b6c6d6e6f7071727374\n\
+         show 9 -> view 6b6c6d6e6f7071727374\n\
+         put 4 - -> ok\n\
+         gather 1 9 0 13 6 -> ok\n\
+         show 9 -> refused N2 WrongKind\n\
+         show 1 -> text 6b6c6d6e6f7071727374 9c aec09cb9adddd5 59c232c19dc2bcc4f550e0b57108a38ce64f759b58\n\
+         drop 3 -> ok\n\
+         show 3 -> refused N2 WrongKind\n\
+         show 3 -> refused N2 WrongKind\n\
+         fill 4 115 1 -> refused N4 OutOfRange\n\
+         show 4 -> parts 23de7e58f37c5db27f97+0 ef7cbeaa67048c1c8f9796398f7cb2054de12cf6cb5b+0 5ba34a269c8fe17255+0 0000000000000000+0\n\
+         show 4 -> parts 23de7e58f37c5db27f97+0 ef7cbeaa67048c1c8f9796398f7cb2054de12cf6cb5b+0 5ba34a269c8fe17255+0 0000000000000000+0\n\
+         bytes 14 57ecae -> ok\n\
+         prepend 1 14 -> ok\n\
+         new 12 6 8 -> ok\n\
+         show 6 -> refused N2 WrongKind\n\
+         show 12 -> part -+6\n\
+         put 12 0f3a -> ok\n\
+         show 12 -> part 0f3a+4\n\
+         split 5 14 0 -> ok\n\
+         drop 5 -> ok\n\
+         show 5 -> refused N2 WrongKind\n\
+         show 5 -> refused N2 WrongKind\n\
+         new 6 12 1 -> ok\n\
+         put 4 - -> ok\n\
+         put 4 - -> ok\n\
+         split 1 3 42 -> ok\n\
+         show 1 -> text\n\
+         show 3 -> text 57ecae 6b6c6d6e6f7071727374 9c aec09cb9adddd5 59c232c19dc2bcc4f550e0b57108a38ce64f759b58\n\
+         drop 1 -> ok\n\
+         show 1 -> refused N2 WrongKind\n\
+         put 4 - -> ok\n\
+         put 6 ad0e56 -> ok\n",
+        "bytes 6 b65c50fcca3de7b1a9 -> ok\n\
+         bytes 4 cd875ccf -> ok\n\
+         take 4 4 -> bytes cd875ccf\n\
+         show 4 -> view -\n\
+         show 4 -> view -\n\
+         bytes 12 aa88aa89c9 -> ok\n\
+         encode 12 8 -> ok\n\
+         prepend 8 4 -> ok\n\
+         show 8 -> text 05 aa88aa89c9\n\
+         show 8 -> text 05 aa88aa89c9\n\
          clone 12 9 -> ok\n\
-         show 12 -> view 6f707172\n",
+         show 12 -> view aa88aa89c9\n\
+         show 9 -> view aa88aa89c9\n\
+         zeroed 11 5 1 -> ok\n\
+         show 11 -> part 0000000000+0\n\
+         new 4 1 8 -> ok\n\
+         show 1 -> refused N2 WrongKind\n\
+         static 15 16 23 -> ok\n\
+         put 11 - -> ok\n\
+         put 4 - -> ok\n\
+         show 4 -> part -+1\n\
+         show 4 -> part -+1\n\
+         put 12 c6e3 -> refused N2 WrongKind\n\
+         new 0 17 0 -> refused N5 BadLayout\n\
+         show 0 -> refused N2 WrongKind\n\
+         truncate 4 0 -> ok\n\
+         show 0 -> refused N2 WrongKind\n\
+         encode 15 7 -> ok\n\
+         put 11 - -> ok\n\
+         show 11 -> part 0000000000+0\n\
+         show 11 -> part 0000000000+0\n\
+         clone 12 5 -> ok\n\
+         prepend 8 12 -> ok\n\
+         show 8 -> text aa88aa89c9 05 aa88aa89c9\n\
+         show 12 -> refused N2 WrongKind\n\
+         put 4 4b -> ok\n\
+         show 4 -> part 4b+0\n\
+         freeze 11 1 -> ok\n\
+         show 11 -> refused N2 WrongKind\n\
+         static 14 23 25 -> ok\n\
+         new 3 0 8 -> ok\n\
+         show 0 -> refused N2 WrongKind\n\
+         show 0 -> refused N2 WrongKind\n\
+         freeze 4 2 -> ok\n\
+         show 2 -> view 4b\n\
+         show 4 -> refused N2 WrongKind\n\
+         new 11 7 1 -> ok\n\
+         show 11 -> part -+7\n\
+         show 7 -> text 07 71727374757677\n\
+         slice 1 13 e4 i0 -> refused N4 OutOfRange\n\
+         show 1 -> view 0000000000\n\
+         show 13 -> refused N2 WrongKind\n\
+         gathermut 10 11 3 -> ok\n\
+         show 11 -> refused N2 WrongKind\n\
+         show 11 -> refused N2 WrongKind\n\
+         put 10 97aae0428fd0 -> ok\n\
+         take 10 6 -> bytes 97aae0428fd0\n\
+         show 6 -> view b65c50fcca3de7b1a9\n\
+         clone 1 3 -> ok\n\
+         show 3 -> view 0000000000\n\
+         drop 15 -> ok\n\
+         setlen 10 1 -> ok\n\
+         show 1 -> view 0000000000\n\
+         show 10 -> parts 00+0\n\
+         advance 10 0 -> ok\n\
+         show 10 -> parts 00+0\n\
+         split 8 11 11 -> ok\n\
+         show 8 -> text\n\
+         show 11 -> text aa88aa89c9 05 aa88aa89c9\n\
+         recover 9 9 -> refused N7 Declined\n\
+         show 9 -> view aa88aa89c9\n\
+         freeze 10 15 -> ok\n\
+         show 10 -> refused N2 WrongKind\n\
+         drop 11 -> ok\n\
+         show 11 -> refused N2 WrongKind\n\
+         decode 9 4 0 1024 -> refused N8 C1 EndOfBuffer\n\
+         show 9 -> view aa88aa89c9\n\
+         show 9 -> view aa88aa89c9\n\
+         slice 9 10 u e4 -> ok\n\
+         show 10 -> view aa88aa89\n\
+         drop 10 -> ok\n\
+         bytes 12 a161a92c9c19fc -> ok\n\
+         drop 6 -> ok\n\
+         show 6 -> refused N2 WrongKind\n\
+         slice 14 11 i1 i2 -> refused N4 OutOfRange\n\
+         show 14 -> view 7879\n\
+         take 7 1 -> bytes 07\n\
+         prepend 15 3 -> ok\n\
+         show 15 -> text 0000000000 00\n\
+         show 3 -> refused N2 WrongKind\n\
+         prepend 15 14 -> ok\n\
+         show 15 -> text 7879 0000000000 00\n\
+         show 14 -> refused N2 WrongKind\n\
+         decode 7 14 0 18446744073709551615 -> refused N8 C1 EndOfBuffer\n\
+         show 14 -> refused N2 WrongKind\n\
+         bytes 16 b2286861daa2 -> refused N1 NoName\n\
+         show 16 -> refused N1 NoName\n\
+         show 16 -> refused N1 NoName\n\
+         new 8 17 64 -> refused N3 InUse\n\
+         show 8 -> text\n",
+        "new 2 7 1 -> ok\n\
+         show 7 -> refused N2 WrongKind\n\
+         new 9 6 1 -> ok\n\
+         show 6 -> refused N2 WrongKind\n\
+         static 12 18 23 -> ok\n\
+         show 16 -> refused N1 NoName\n\
+         show 12 -> view 7374757677\n\
+         put 2 294622 -> ok\n\
+         show 2 -> part 294622+4\n\
+         setlen 2 0 -> ok\n\
+         show 2 -> part -+7\n\
+         show 0 -> refused N2 WrongKind\n\
+         static 4 21 24 -> ok\n\
+         split 4 10 0 -> ok\n\
+         show 4 -> view 767778\n\
+         show 4 -> view 767778\n\
+         new 1 8 1 -> ok\n\
+         new 13 10 1 -> ok\n\
+         show 10 -> view -\n\
+         zeroed 14 1 1 -> ok\n\
+         new 7 21 3 -> refused N5 BadLayout\n\
+         show 16 -> refused N1 NoName\n\
+         show 16 -> refused N1 NoName\n\
+         fill 9 62 5 -> ok\n\
+         show 16 -> refused N1 NoName\n\
+         gathermut 0 2 14 9 1 13 -> ok\n\
+         show 0 -> parts -+7 00+0 3e3e3e3e3e+1 -+8 -+10\n\
+         show 0 -> parts -+7 00+0 3e3e3e3e3e+1 -+8 -+10\n\
+         take 0 3 -> bytes 003e3e\n\
+         new 14 13 3 -> refused N5 BadLayout\n\
+         show 14 -> refused N2 WrongKind\n\
+         build 1 1 i- p12 -> ok\n\
+         new 11 7 2 -> ok\n\
+         show 7 -> refused N2 WrongKind\n\
+         show 7 -> refused N2 WrongKind\n\
+         encode 4 14 -> ok\n\
+         show 4 -> view 767778\n\
+         bytes 8 05b17eddc50cb2 -> ok\n\
+         show 8 -> view 05b17eddc50cb2\n\
+         show 8 -> view 05b17eddc50cb2\n\
+         static 13 20 26 -> ok\n\
+         show 13 -> view 75767778797a\n\
+         new 5 17 2 -> ok\n\
+         show 16 -> refused N1 NoName\n\
+         show 16 -> refused N1 NoName\n\
+         put 0 f3213f32c46d485f0030773cd363d26e3879dfe5b585 -> ok\n\
+         put 5 93e8a84b40fc46 -> ok\n\
+         show 5 -> part 93e8a84b40fc46+10\n\
+         show 5 -> part 93e8a84b40fc46+10\n\
+         setlen 11 1 -> ok\n\
+         show 11 -> part 00+6\n\
+         freeze 11 6 -> ok\n\
+         show 6 -> view 00\n\
+         bytes 3 ffe7dd5b4e8fc06fae -> ok\n\
+         show 3 -> view ffe7dd5b4e8fc06fae\n\
+         show 3 -> view ffe7dd5b4e8fc06fae\n\
+         drop 1 -> ok\n\
+         show 1 -> refused N2 WrongKind\n\
+         gathermut 15 5 -> ok\n\
+         show 5 -> refused N2 WrongKind\n\
+         show 15 -> parts 93e8a84b40fc46+10\n\
+         take 13 6 -> bytes 75767778797a\n\
+         take 0 11 -> bytes f3213f32c46d483e3e3e5f\n\
+         show 11 -> refused N2 WrongKind\n\
+         freeze 15 15 -> ok\n\
+         show 15 -> text 93e8a84b40fc46\n\
+         show 15 -> text 93e8a84b40fc46\n\
+         overwrite 0 65352b8be3ca862effaa500b023c -> ok\n\
+         show 0 -> parts 65352b8be3ca862e+0 ffaa500b023c+4\n\
+         put 0 5c303e -> ok\n\
+         new 1 6 2 -> ok\n\
+         show 1 -> part -+6\n\
+         show 1 -> part -+6\n\
+         clear 1 -> ok\n\
+         show 1 -> part -+6\n\
+         show 1 -> part -+6\n\
+         encode 13 5 -> ok\n\
+         show 13 -> view -\n\
+         show 13 -> view -\n\
+         advance 0 18 -> refused N4 OutOfRange\n\
+         show 16 -> refused N1 NoName\n\
+         recover 10 10 -> ok\n\
+         show 10 -> part -+0\n\
+         show 10 -> part -+0\n\
+         encode 6 7 -> ok\n\
+         show 6 -> view 00\n\
+         show 6 -> view 00\n\
+         drop 15 -> ok\n\
+         show 15 -> refused N2 WrongKind\n\
+         show 15 -> refused N2 WrongKind\n\
+         split 4 15 2 -> ok\n\
+         show 4 -> view 78\n\
+         show 4 -> view 78\n\
+         freeze 1 1 -> ok\n\
+         show 1 -> view -\n\
+         show 1 -> view -\n\
+         put 10 - -> ok\n\
+         take 0 3 -> bytes 65352b\n\
+         show 3 -> view ffe7dd5b4e8fc06fae\n\
+         take 14 4 -> bytes 03767778\n",
         "bytes 0 8400 -> ok\n\
          decode 0 1 0 1024 -> refused N8 C2 InvalidVarint\n\
          bytes 2 80808080808080808080 -> ok\n\

@@ -22,3 +22,4 @@ pub mod PartTurns
 mod BuildLaws
 mod FinishLaws
 mod VisitLaws
+pub mod SumLaws

@@ -52,7 +52,7 @@ several-same ps qs h a = record {
   fits = omega (arith, same-capacity ps qs h, a.fits);
 }
 
-same-fill : (parts : List Part) (w : List ℕ) → HaveSame parts (parts_fill parts w)
+pub same-fill : (parts : List Part) (w : List ℕ) → HaveSame parts (parts_fill parts w)
 same-fill [] w = tt
 same-fill (p ∷ parts) w =
     let n = length-append p.filled (take p.spare w) in
@@ -62,7 +62,7 @@ same-fill (p ∷ parts) w =
 pub several-fill : (parts : List Part) (w : List ℕ) → AreSeveral parts → AreSeveral (parts_fill parts w)
 several-fill parts w h = several-same parts (parts_fill parts w) (same-fill parts w) h
 
-same-with_len : (parts : List Part) (n : ℕ) → HaveSame parts (parts_with_len parts n)
+pub same-with_len : (parts : List Part) (n : ℕ) → HaveSame parts (parts_with_len parts n)
 same-with_len [] n = tt
 same-with_len (p ∷ parts) n =
     let m = min n (part_capacity p) in
@@ -74,7 +74,7 @@ same-with_len (p ∷ parts) n =
 pub several-with_len : (parts : List Part) (n : ℕ) → AreSeveral parts → AreSeveral (parts_with_len parts n)
 several-with_len parts n h = several-same parts (parts_with_len parts n) (same-with_len parts n) h
 
-same-overwritten : (parts : List Part) (w : List ℕ) → HaveSame parts (parts_overwritten parts w)
+pub same-overwritten : (parts : List Part) (w : List ℕ) → HaveSame parts (parts_overwritten parts w)
 same-overwritten [] w = tt
 same-overwritten (p ∷ parts) w =
     let u = take (length p.filled) w in

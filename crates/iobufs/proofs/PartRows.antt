@@ -3,7 +3,7 @@ use Rattle.std.proofs.Common.{◌≡◌, ℕ, List, [], ◌∷◌, refl}
 use Rattle.iobufs_core.specs.MarkedText.{text_glue}
 use Rattle.iobufs_core.specs.View.{native_mark}
 use Rattle.iobufs_core.specs.Part.{Part, empty_part}
-use Rattle.iobufs.specs.Parts.{kept_parts, parts_coalesced, parts_copied, parts_drained, parts_fill, parts_frozen, parts_overwritten, parts_spare, parts_with_len}
+use Rattle.iobufs.specs.Parts.{kept_parts, parts_coalesced, parts_drained, parts_fill, parts_frozen, parts_overwritten, parts_spare, parts_with_len}
 
 -- the bytes `ab` with so much room behind them
 abbrev ab : ℕ → Part
@@ -12,37 +12,44 @@ ab spare = record { filled = 97 ∷ 98 ∷ []; spare = spare }
 abbrev of : List ℕ → ℕ → Part
 of bytes spare = record { filled = bytes; spare = spare }
 
--- of four parts, one that is used up goes with its room
-four_drained : parts_drained (ab 2 ∷ ab 2 ∷ ab 2 ∷ ab 2 ∷ []) 2 ≡ ab 2 ∷ ab 2 ∷ ab 2 ∷ []
+-- of four parts, one that is used up keeps its room
+four_drained : parts_drained (ab 2 ∷ ab 2 ∷ ab 2 ∷ ab 2 ∷ []) 2 ≡ empty_part 2 ∷ ab 2 ∷ ab 2 ∷ ab 2 ∷ []
 four_drained = refl
 
-four_drained-spare : parts_spare (parts_drained (ab 2 ∷ ab 2 ∷ ab 2 ∷ ab 2 ∷ []) 2) ≡ 6
+four_drained-spare : parts_spare (parts_drained (ab 2 ∷ ab 2 ∷ ab 2 ∷ ab 2 ∷ []) 2) ≡ 8
 four_drained-spare = refl
 
--- three parts keep their room
+-- and of three
 three_drained : parts_drained (ab 2 ∷ ab 2 ∷ ab 2 ∷ []) 2 ≡ empty_part 2 ∷ ab 2 ∷ ab 2 ∷ []
 three_drained = refl
 
 three_drained-spare : parts_spare (parts_drained (ab 2 ∷ ab 2 ∷ ab 2 ∷ []) 2) ≡ 6
 three_drained-spare = refl
 
--- of two parts, a first one that is copied out whole goes with its room, else it keeps it
-two_copied : parts_copied (ab 2 ∷ of (99 ∷ 100 ∷ []) 0 ∷ []) 2 ≡ of (99 ∷ 100 ∷ []) 0 ∷ []
-two_copied = refl
+-- of two parts, whether their bytes end with a part or inside it
+two_drained : parts_drained (ab 2 ∷ of (99 ∷ 100 ∷ []) 0 ∷ []) 2 ≡ empty_part 2 ∷ of (99 ∷ 100 ∷ []) 0 ∷ []
+two_drained = refl
 
-two_copied_past : parts_copied (ab 2 ∷ of (99 ∷ 100 ∷ []) 0 ∷ []) 3 ≡ empty_part 2 ∷ of (100 ∷ []) 0 ∷ []
-two_copied_past = refl
+two_drained_past : parts_drained (ab 2 ∷ of (99 ∷ 100 ∷ []) 0 ∷ []) 3 ≡ empty_part 2 ∷ of (100 ∷ []) 0 ∷ []
+two_drained_past = refl
 
--- of four parts, those before the last byte taken go
+-- parts that can't hold a byte any more go, wherever they stand
 four_not_drained : parts_drained (empty_part 4 ∷ ab 1 ∷ of (99 ∷ []) 0 ∷ of (100 ∷ []) 0 ∷ []) 0 ≡ empty_part 4 ∷ ab 1 ∷ of (99 ∷ []) 0 ∷ of (100 ∷ []) 0 ∷ []
 four_not_drained = refl
 
-four_copied : parts_copied (empty_part 4 ∷ ab 1 ∷ of (99 ∷ []) 0 ∷ of (100 ∷ []) 0 ∷ []) 2 ≡ of (99 ∷ []) 0 ∷ of (100 ∷ []) 0 ∷ []
-four_copied = refl
+four_drained_two : parts_drained (empty_part 4 ∷ ab 1 ∷ of (99 ∷ []) 0 ∷ of (100 ∷ []) 0 ∷ []) 2 ≡ empty_part 4 ∷ empty_part 1 ∷ of (99 ∷ []) 0 ∷ of (100 ∷ []) 0 ∷ []
+four_drained_two = refl
 
--- one part that is copied out whole keeps no room
-one_copied : parts_copied (ab 2 ∷ []) 2 ≡ empty_part 0 ∷ []
-one_copied = refl
+four_drained_three : parts_drained (empty_part 4 ∷ empty_part 1 ∷ of (99 ∷ []) 0 ∷ of (100 ∷ []) 0 ∷ []) 1 ≡ empty_part 4 ∷ empty_part 1 ∷ of (100 ∷ []) 0 ∷ []
+four_drained_three = refl
+
+-- where none is left, one that can't hold a byte stands
+two_drained_whole : parts_drained (of (99 ∷ []) 0 ∷ of (100 ∷ []) 0 ∷ []) 2 ≡ empty_part 0 ∷ []
+two_drained_whole = refl
+
+-- one part keeps its room
+one_drained : parts_drained (ab 2 ∷ []) 2 ≡ empty_part 2 ∷ []
+one_drained = refl
 
 -- puts fill the room of the parts in order
 two_filled : parts_fill (ab 1 ∷ of (99 ∷ []) 2 ∷ []) (120 ∷ 121 ∷ 122 ∷ []) ≡ of (97 ∷ 98 ∷ 120 ∷ []) 0 ∷ of (99 ∷ 121 ∷ 122 ∷ []) 0 ∷ []
@@ -53,13 +60,13 @@ two_with_len : parts_with_len (ab 2 ∷ empty_part 4 ∷ []) 5 ≡ of (97 ∷ 98
 two_with_len = refl
 
 -- four parts, one advanced, then filled and frozen
-four_then_filled : parts_fill (parts_drained (ab 2 ∷ ab 2 ∷ ab 2 ∷ ab 2 ∷ []) 2) (120 ∷ 121 ∷ []) ≡ of (97 ∷ 98 ∷ 120 ∷ 121 ∷ []) 0 ∷ ab 2 ∷ ab 2 ∷ []
+four_then_filled : parts_fill (parts_drained (ab 2 ∷ ab 2 ∷ ab 2 ∷ ab 2 ∷ []) 2) (120 ∷ 121 ∷ []) ≡ of (120 ∷ 121 ∷ []) 0 ∷ ab 2 ∷ ab 2 ∷ ab 2 ∷ []
 four_then_filled = refl
 
-three_frozen : parts_frozen (of (97 ∷ 98 ∷ 120 ∷ 121 ∷ []) 0 ∷ ab 2 ∷ ab 2 ∷ [])
-    ≡ record { bytes = 97 ∷ 98 ∷ 120 ∷ 121 ∷ 97 ∷ 98 ∷ 97 ∷ 98 ∷ []; mark = native_mark 4; cuts = (4, native_mark 4) ∷ (6, native_mark 4) ∷ [] }
+four_frozen : parts_frozen (of (120 ∷ 121 ∷ []) 0 ∷ ab 2 ∷ ab 2 ∷ ab 2 ∷ [])
+    ≡ record { bytes = 120 ∷ 121 ∷ 97 ∷ 98 ∷ 97 ∷ 98 ∷ 97 ∷ 98 ∷ []; mark = native_mark 2; cuts = (2, native_mark 4) ∷ (4, native_mark 4) ∷ (6, native_mark 4) ∷ [] }
 unfolding text_glue
-three_frozen = refl
+four_frozen = refl
 
 -- parts without bytes are no pieces
 one_frozen : parts_frozen (empty_part 3 ∷ ab 2 ∷ empty_part 1 ∷ []) ≡ record { bytes = 97 ∷ 98 ∷ []; mark = native_mark 4; cuts = [] }

@@ -1,28 +1,15 @@
 -- Parts taken one by one, as an iterator gives them.
 use Rattle.std.proofs.Common.{◌≡◌, ◌+◌, ◌<◌, ◌≤◌, ◌^◌, List, [], ◌∷◌, ◌++◌, length, length-append, refl, sym, ap, ◌∙◌, arith, nat_lt}
 use Rattle.std.proofs.lemmas.Bool.{cond-true, cond-false, lt-ltb, le-ltb}
-use Rattle.std.proofs.lemmas.List.Elements.{filter-append}
 use Rattle.std.proofs.lemmas.List.Sums.{sum_by-cons, sum_by_push}
 use Rattle.iobufs_core.specs.Part.{Part, part_capacity}
 use Rattle.iobufs_core.specs.declared.codec.base.BufError.TheVariants.{Memory, TooLong}
 use Rattle.iobufs.specs.PartLimits.{IsRowRefusedAt}
 use Rattle.iobufs.specs.Parts.{HaveCapacity, kept_parts, parts_capacity, parts_or_default, with_capacity}
 use Rattle.iobufs.specs.PartShape.{AreSeveral}
-use Rattle.iobufs.proofs.DrainShapes.{able-with_capacity, capacity-with_capacity}
+use Rattle.iobufs.proofs.DrainShapes.{able-with_capacity, capacity-with_capacity, with_capacity-all, with_capacity-push}
 
--- one more part that can hold a byte
-with_capacity-push : (parts : List Part) (p : Part) → 0 < part_capacity p → with_capacity (parts ++ p ∷ []) ≡ with_capacity parts ++ p ∷ []
-with_capacity-push parts p h =
-    filter-append (λ q. nat_lt 0 (part_capacity q)) parts (p ∷ [])
-    ∙ ap (λ ps. with_capacity parts ++ ps) (cond-true (nat_lt 0 (part_capacity p)) (p ∷ []) [] (lt-ltb 0 (part_capacity p) h))
-
--- parts that can all hold a byte are kept
-with_capacity-all : (parts : List Part) → HaveCapacity parts → with_capacity parts ≡ parts
-with_capacity-all [] able = refl
-with_capacity-all (p ∷ parts) able =
-    cond-true (nat_lt 0 (part_capacity p)) (p ∷ with_capacity parts) (with_capacity parts) (lt-ltb 0 (part_capacity p) able.0) ∙ ap (λ ps. p ∷ ps) (with_capacity-all parts able.1)
-
-default-some : (parts : List Part) → 0 < length parts → parts_or_default parts ≡ parts
+pub default-some : (parts : List Part) → 0 < length parts → parts_or_default parts ≡ parts
 default-some [] some = absurd (omega arith)
 default-some (p ∷ parts) some = refl
 

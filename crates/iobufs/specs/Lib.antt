@@ -8,6 +8,7 @@ pub mod FillLaws
 pub mod JoinedLaws
 pub mod PartLimits
 pub mod PartShape
+pub mod PartSums
 pub mod Parts
 pub mod Building
 pub mod BuildingLaws

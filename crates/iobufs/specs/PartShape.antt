@@ -7,7 +7,7 @@ use Rattle.iobufs.specs.declared.bufs_mut.Shape.TheVariants.{One, Many}
 
 abbrev pub shape_parts : Shape → List Part
 shape_parts (One part) = part ∷ []
-shape_parts (Many row) = row.items
+shape_parts (Many row) = row
 
 -- the part that is kept beside no others
 abbrev pub shape_single : Shape → Option Part
@@ -22,4 +22,4 @@ pub record AreSeveral (parts : List Part) : Type 0 where
 
 abbrev pub IsShape : Shape → Type 0
 IsShape (One part) = Unit {0}
-IsShape (Many row) = AreSeveral row.items
+IsShape (Many row) = AreSeveral row

@@ -3,15 +3,15 @@
 --     parts_filled, parts_spare, parts_capacity   the bytes of all, the room of all, and both
 --     kept_parts                                  the parts that can hold a byte
 --     parts_fill                                  bytes written into the room, in order
---     parts_drained, parts_copied                 what stays when bytes are dropped, and when they are copied out
+--     parts_drained                               what stays when bytes are dropped or copied out
 --     parts_with_len, parts_overwritten           so many bytes filled; other bytes written over them
 --     parts_chunks, parts_frozen                  the pieces that a reader sees, and the text that they freeze to
 --     single_part, parts_coalesced                the only part, and all as one part
-use Rattle.std.specs.Prelude.{ℕ, Bool, Option, None, Some, ◌-◌, ◌^◌, ◌<◌, min, ◌==◌, ◌&&◌, not, nat_lt, if◌then◌else◌, List, [], ◌∷◌, length, take, drop, map, filter, flat_map}
+use Rattle.std.specs.Prelude.{ℕ, Option, None, Some, ◌-◌, ◌^◌, ◌<◌, min, ◌==◌, nat_lt, if◌then◌else◌, List, [], ◌∷◌, length, take, drop, map, filter, flat_map}
 use Rattle.std.specs.List.{sum_by}
 use Rattle.iobufs_core.specs.Chunks.{full_chunks}
 use Rattle.iobufs_core.specs.MarkedText.{MarkedText, joined}
-use Rattle.iobufs_core.specs.Part.{Part, empty_part, part_capacity, part_copied, part_drained, part_frozen, part_overwritten, part_put, part_with_len}
+use Rattle.iobufs_core.specs.Part.{Part, empty_part, part_capacity, part_drained, part_frozen, part_overwritten, part_put, part_with_len}
 
 -- the bytes that can be read
 abbrev pub parts_filled : List Part → List ℕ
@@ -57,37 +57,12 @@ abbrev pub parts_shared_out : List Part → ℕ → List Part
 parts_shared_out [] n = []
 parts_shared_out (part ∷ parts) n = part_drained part n ∷ parts_shared_out parts (n - length part.filled)
 
--- from the front, parts that are used up go with their room, until n bytes are gone; the others stay
-abbrev pub parts_used_up : List Part → ℕ → List Part
-parts_used_up [] n = []
-parts_used_up (part ∷ parts) n =
-    if n == 0 then part ∷ parts
-    else if nat_lt n (length part.filled) then part_drained part n ∷ parts
-    else parts_used_up parts (n - length part.filled)
-
--- without the first n bytes, where parts keep their room: with two or more, those that can't hold a byte any more go
-abbrev pub parts_drained_evenly : List Part → ℕ → List Part
-parts_drained_evenly [] n = []
-parts_drained_evenly (part ∷ []) n = part_drained part n ∷ []
-parts_drained_evenly (p ∷ q ∷ parts) n = if n == 0 then p ∷ q ∷ parts else kept_parts (parts_shared_out (p ∷ q ∷ parts) n)
-
--- without the first n bytes: up to three parts keep their room, of four or more those used up go with it
+-- without the first n bytes: each part loses its share of them and keeps its room; with two or more, those that can't
+-- hold a byte any more go
 abbrev pub parts_drained : List Part → ℕ → List Part
-parts_drained (p ∷ q ∷ r ∷ s ∷ parts) n = parts_or_default (parts_used_up (p ∷ q ∷ r ∷ s ∷ parts) n)
-parts_drained parts n = parts_drained_evenly parts n
-
--- the first part holds exactly n bytes, and some
-abbrev pub is_all_of : ℕ → Part → Bool
-is_all_of n part = not (n == 0) && (n == length part.filled)
-
--- what stays when the first n bytes were copied out: as when they are dropped, but one part that is used up keeps no
--- room, and of two or three a first part with exactly these bytes goes with its room
-abbrev pub parts_copied : List Part → ℕ → List Part
-parts_copied [] n = []
-parts_copied (part ∷ []) n = part_copied part n ∷ []
-parts_copied (p ∷ q ∷ []) n = if is_all_of n p then q ∷ [] else parts_drained (p ∷ q ∷ []) n
-parts_copied (p ∷ q ∷ r ∷ []) n = if is_all_of n p then q ∷ r ∷ [] else parts_drained (p ∷ q ∷ r ∷ []) n
-parts_copied (p ∷ q ∷ r ∷ s ∷ parts) n = parts_drained (p ∷ q ∷ r ∷ s ∷ parts) n
+parts_drained [] n = []
+parts_drained (part ∷ []) n = part_drained part n ∷ []
+parts_drained (p ∷ q ∷ parts) n = if n == 0 then p ∷ q ∷ parts else kept_parts (parts_shared_out (p ∷ q ∷ parts) n)
 
 -- n bytes filled, each part as far as its capacity goes; bytes that were not are zero
 abbrev pub parts_with_len : List Part → ℕ → List Part

@@ -11,13 +11,14 @@ ghost use Rattle.iobufs.specs.PartLimits.{IsRowRefusedAt};
 
 mod read;
 mod row;
+mod several;
 mod write;
 
 use crate::bufs::IoBufs;
 use iobufs_core::buf::IoBufMut;
 use iobufs_core::codec::{BufError, BufMut};
+use several::Several;
 use std::alloc::Global;
-use std::collections::VecDeque;
 use std::marker::Model;
 
 /// Writable buffers in a row, read from the front and filled in order (`IoBufsMut`). With two or more, each can hold
@@ -37,7 +38,7 @@ impl Drop for IoBufsMut {
 #[derive(Drop)]
 enum Shape {
     One(IoBufMut),
-    Many(VecDeque<IoBufMut>),
+    Many(Several),
 }
 
 impl Shape {
@@ -61,13 +62,10 @@ impl Shape {
                 if first.capacity() == 0 {
                     return Ok(Shape::One(part));
                 }
-                let mut row = VecDeque::with_capacity(alloc, 4)?;
-                row.push_back_reserved(first);
-                row.push_back_reserved(part);
-                Ok(Shape::Many(row))
+                Ok(Shape::Many(Several::of_two(alloc, first, part)?))
             }
             Shape::Many(mut row) => {
-                row.push_back(part)?;
+                row.push(part)?;
                 Ok(Shape::Many(row))
             }
         }
@@ -140,7 +138,7 @@ impl IoBufsMut {
     {
         match &self.shape {
             Shape::One(part) => part.len(),
-            Shape::Many(parts) => row::len(parts),
+            Shape::Many(parts) => parts.len(),
         }
     }
 
@@ -158,7 +156,7 @@ impl IoBufsMut {
     {
         match &self.shape {
             Shape::One(part) => part.capacity(),
-            Shape::Many(parts) => row::capacity(parts),
+            Shape::Many(parts) => parts.capacity(),
         }
     }
 
@@ -171,7 +169,7 @@ impl IoBufsMut {
     {
         match &mut self.shape {
             Shape::One(part) => part.set_len(n),
-            Shape::Many(parts) => row::set_len(parts, n),
+            Shape::Many(parts) => parts.set_len(n),
         }
     }
 
@@ -183,7 +181,7 @@ impl IoBufsMut {
     {
         match &mut self.shape {
             Shape::One(part) => part.as_mut().copy_from_slice(src),
-            Shape::Many(parts) => row::copy_from_slice(parts, src),
+            Shape::Many(parts) => parts.copy_from_slice(src),
         }
     }
 
@@ -193,7 +191,7 @@ impl IoBufsMut {
     {
         match &self.shape {
             Shape::One(_) => 1,
-            Shape::Many(parts) => parts.len(),
+            Shape::Many(parts) => parts.count(),
         }
     }
 
@@ -248,7 +246,7 @@ impl IoBufsMut {
         let IoBufsMut { shape } = self;
         match shape {
             Shape::One(part) => IoBufs::from_mut(part),
-            Shape::Many(parts) => row::freeze(alloc, parts),
+            Shape::Many(parts) => row::freeze(alloc, parts.into_row()),
         }
     }
 

@@ -5,7 +5,7 @@ use Rattle.iobufs_core.specs.Part.{Part as PartValue, empty_part, part_capacity,
 use Rattle.iobufs_core.specs.Spelling.{spell}
 use Rattle.iobufs_core.specs.Wire.{view_items, view_left}
 use Rattle.iobufs.specs.Building.{built, empty_building, finished}
-use Rattle.iobufs.specs.Parts.{IsParts, parts_filled, parts_spare, parts_fill, parts_frozen, parts_copied, parts_drained, parts_coalesced, parts_capacity, parts_overwritten, parts_with_len}
+use Rattle.iobufs.specs.Parts.{IsParts, parts_filled, parts_spare, parts_fill, parts_frozen, parts_drained, parts_coalesced, parts_capacity, parts_overwritten, parts_with_len}
 use Rattle.std.specs.declared.ops.Bound.{Bound}
 use Rattle.iobufs_core.specs.View.{View as ViewValue, IsView, view_advanced, view_rest, view_slice, view_split_front, start_place, end_place, static_mark, Mark, default_view, bytes_mark, native_mark}
 use Rattle.iobufs_core.specs.MarkedText.{MarkedText, IsMarked, default_text, of_view, text_len, text_advanced, text_append, text_prepend, text_split_front, text_rest, text_chunks, text_coalesced, is_single}
@@ -176,7 +176,7 @@ slot_copied Free n = Free
 slot_copied (Part part) n = Part (part_copied part n)
 slot_copied (View view) n = View (view_rest view n)
 slot_copied (Text text) n = Text (text_rest text n)
-slot_copied (Parts parts) n = Parts (parts_copied parts n)
+slot_copied (Parts parts) n = Parts (parts_drained parts n)
 
 -- the view that is held, the default one where there is none; so the text and the part
 abbrev pub view_held : Slot → ViewValue

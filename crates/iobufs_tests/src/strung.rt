@@ -44,24 +44,28 @@ fn frame<P: BufMut, B: Buf + Drop>(into: &mut P, body: B)
 }
 
 #[test]
-fn four_parts_lose_the_room_that_is_used_up(rt: HostRuntime) -> Result<(), Fail> {
+fn four_parts_keep_their_room(rt: HostRuntime) -> Result<(), Fail> {
     let mut four = parts(
         rt.alloc(),
         &[(b"ab", 2), (b"ab", 2), (b"ab", 2), (b"ab", 2)],
     )?;
     assert!(rt; four.remaining() >= 2);
     four.advance(2);
-    expect(&rt, &four, &[(b"ab", 2), (b"ab", 2), (b"ab", 2)]);
-    assert_eq!(rt; (four.remaining_mut(), four.len()), (6, 6));
+    expect(&rt, &four, &[(b"", 2), (b"ab", 2), (b"ab", 2), (b"ab", 2)]);
+    assert_eq!(rt; (four.remaining_mut(), four.len()), (8, 6));
     assert!(rt; four.remaining_mut() >= 2);
     four.put_slice(b"xy");
-    expect(&rt, &four, &[(b"abxy", 0), (b"ab", 2), (b"ab", 2)]);
+    expect(
+        &rt,
+        &four,
+        &[(b"xy", 0), (b"ab", 2), (b"ab", 2), (b"ab", 2)],
+    );
     let text = four.freeze(rt.alloc())?;
-    assert_eq!(rt; text.chunk_count(), 3);
+    assert_eq!(rt; text.chunk_count(), 4);
     assert_eq!(rt;
-        (text.chunk_at(0), text.chunk_at(1), text.chunk_at(2)),
+        (text.chunk_at(0), text.chunk_at(1), text.chunk_at(3)),
         (
-            Some(b"abxy".as_slice()),
+            Some(b"xy".as_slice()),
             Some(b"ab".as_slice()),
             Some(b"ab".as_slice())
         )
@@ -84,7 +88,7 @@ fn two_parts_are_copied_out(rt: HostRuntime) -> Result<(), Fail> {
     let mut two = parts(rt.alloc(), &[(b"ab", 2), (b"cd", 0)])?;
     assert!(rt; two.remaining() >= 2);
     let _ = two.copy_to_bytes(rt.alloc(), 2)?;
-    expect(&rt, &two, &[(b"cd", 0)]);
+    expect(&rt, &two, &[(b"", 2), (b"cd", 0)]);
 
     let mut two = parts(rt.alloc(), &[(b"ab", 2), (b"cd", 0)])?;
     assert!(rt; two.remaining() >= 3);
@@ -102,7 +106,21 @@ fn four_parts_are_copied_out(rt: HostRuntime) -> Result<(), Fail> {
     assert!(rt; four.remaining() >= 2);
     let copy = four.copy_to_bytes(rt.alloc(), 2)?;
     assert_eq!(rt; copy.as_slice(), b"ab".as_slice());
-    expect(&rt, &four, &[(b"c", 0), (b"d", 0)]);
+    expect(&rt, &four, &[(b"", 4), (b"", 1), (b"c", 0), (b"d", 0)]);
+    assert!(rt; four.remaining() >= 1);
+    let copy = four.copy_to_bytes(rt.alloc(), 1)?;
+    assert_eq!(rt; copy.as_slice(), b"c".as_slice());
+    expect(&rt, &four, &[(b"", 4), (b"", 1), (b"d", 0)]);
+    Ok(())
+}
+
+#[test]
+fn one_part_is_copied_out(rt: HostRuntime) -> Result<(), Fail> {
+    let mut one = parts(rt.alloc(), &[(b"ab", 2)])?;
+    assert!(rt; one.remaining() >= 2);
+    let copy = one.copy_to_bytes(rt.alloc(), 2)?;
+    assert_eq!(rt; copy.as_slice(), b"ab".as_slice());
+    expect(&rt, &one, &[(b"", 2)]);
     Ok(())
 }
 
@@ -157,7 +175,7 @@ fn five_parts_are_read_and_written_over(rt: HostRuntime) -> Result<(), Fail> {
     assert!(rt; five.remaining() >= 4);
     five.copy_to_slice(&mut front);
     assert_eq!(rt; front.as_slice(), b"vwxy".as_slice());
-    expect(&rt, &five, &[(b"z", 2), (b"", 1)]);
+    expect(&rt, &five, &[(b"", 1), (b"", 3), (b"z", 2), (b"", 1)]);
     let whole = five.coalesce(rt.alloc())?;
     assert_eq!(rt; (whole.as_ref(), whole.capacity()), (b"z".as_slice(), 1));
     Ok(())

@@ -1,36 +1,14 @@
 // Several parts in a row: what the calls of `IoBufsMut` do to two or more.
-ghost use Rattle.std.specs.Prelude.{◌≡◌, ◌^◌, ◌<◌, ◌≤◌, [], ◌∷◌, length, map, nat_lt, replicate, slice_get, take, IfNone, IfOk, IfSome, IsOk, IsOkUnless};
-ghost use Rattle.std.specs.List.{sum_by};
+ghost use Rattle.std.specs.Prelude.{◌≡◌, ◌^◌, ◌<◌, ◌≤◌, [], ◌∷◌, length, drop, map, nat_lt, replicate, slice_get, slice_index_or, take, false, IfNone, IfOk, IfSome, IsOk, IsOkUnless, IsTrue};
 ghost use Rattle.iobufs_core.specs.Chunks.{first_chunk};
-ghost use Rattle.iobufs_core.specs.Part.{part_capacity};
-ghost use Rattle.iobufs.specs.Parts.{HaveCapacity, parts_capacity, parts_chunks, parts_copied, parts_drained, parts_fill, parts_filled, parts_frozen, parts_or_default, parts_overwritten, parts_shared_out, parts_spare, parts_used_up, parts_with_len, with_capacity};
+ghost use Rattle.iobufs_core.specs.Part.{empty_part};
+ghost use Rattle.iobufs.specs.Parts.{HaveCapacity, parts_capacity, parts_chunks, parts_drained, parts_fill, parts_filled, parts_frozen, parts_or_default, parts_overwritten, parts_shared_out, parts_spare, parts_with_len, with_capacity};
 
 use crate::bufs::IoBufs;
 use iobufs_core::buf::IoBufMut;
 use iobufs_core::codec::{Buf, BufError, BufMut};
 use std::alloc::{AllocError, Global};
 use std::collections::VecDeque;
-
-pub(super) fn len(parts: &VecDeque<IoBufMut>) -> usize
-    requires { sum_by (λ part. length part.filled) parts.now.items < 2 ^ 64 }
-    ensures { result ≡ sum_by (λ part. length part.filled) parts.now.items }
-{
-    parts.iter().map(|part| part.len()).sum()
-}
-
-pub(super) fn capacity(parts: &VecDeque<IoBufMut>) -> usize
-    requires { parts_capacity parts.now.items < 2 ^ 64 }
-    ensures { result ≡ parts_capacity parts.now.items }
-{
-    parts.iter().map(|part| part.capacity()).sum()
-}
-
-pub(super) fn room(parts: &VecDeque<IoBufMut>) -> usize
-    requires { parts_spare parts.now.items < 2 ^ 64 }
-    ensures { result ≡ parts_spare parts.now.items }
-{
-    parts.iter().map(|part| part.remaining_mut()).sum()
-}
 
 // Fills the room of the parts in order.
 pub(super) fn put(parts: &mut VecDeque<IoBufMut>, src: &[u8])
@@ -43,7 +21,11 @@ pub(super) fn put(parts: &mut VecDeque<IoBufMut>, src: &[u8])
             return;
         }
         let part = &mut parts[i];
-        let n = left.len().min(part.remaining_mut());
+        let room = part.remaining_mut();
+        if room == 0 {
+            continue;
+        }
+        let n = left.len().min(room);
         part.put_slice(&left[..n]);
         left = &left[n..];
     }
@@ -60,7 +42,11 @@ pub(super) fn put_bytes(parts: &mut VecDeque<IoBufMut>, value: u8, n: usize)
             return;
         }
         let part = &mut parts[i];
-        let n = rest.min(part.remaining_mut());
+        let room = part.remaining_mut();
+        if room == 0 {
+            continue;
+        }
+        let n = rest.min(room);
         part.put_bytes(value, n);
         rest -= n;
     }
@@ -93,86 +79,89 @@ pub(super) fn copy_from_slice(parts: &mut VecDeque<IoBufMut>, src: &[u8])
     }
 }
 
-// Drops the first `n` bytes. Two or three parts keep their room; of four or more, those that are used up go with it.
+// Drops the first `n` bytes if the first part holds more, and tells whether it does.
+pub(super) fn shorten(parts: &mut VecDeque<IoBufMut>, n: usize) -> bool
+    requires several { 1 < length parts.old.items }
+    requires have_capacity { HaveCapacity parts.old.items }
+    ensures tells { result ≡ nat_lt n (length (slice_index_or parts.old.items 0 (empty_part 0)).filled) }
+    ensures drained { IsTrue result → parts.new.items ≡ parts_drained parts.old.items n }
+    ensures have_capacity { IsTrue result → HaveCapacity parts.new.items }
+    ensures several { IsTrue result → 1 < length parts.new.items }
+    ensures fits { IsTrue result → parts_capacity parts.new.items ≤ parts_capacity parts.old.items }
+    ensures same { result ≡ false → parts.new.items ≡ parts.old.items }
+{
+    let part = &mut parts[0];
+    if n < part.len() {
+        part.advance(n);
+        return true;
+    }
+    false
+}
+
+// Drops the first `n` bytes, and the parts that can't hold a byte any more.
 #[tactic(auto, using(crate::proofs::DrainShapes::draining))]
 pub(super) fn advance(parts: &mut VecDeque<IoBufMut>, n: usize)
-    requires { 1 < length parts.old.items }
+    requires several { 1 < length parts.old.items }
+    requires have_capacity { HaveCapacity parts.old.items }
     ensures rest { parts_or_default parts.new.items ≡ parts_drained parts.old.items n }
-    ensures have_capacity { HaveCapacity parts.old.items → HaveCapacity parts.new.items }
+    ensures have_capacity { HaveCapacity parts.new.items }
     ensures fits { parts_capacity parts.new.items ≤ parts_capacity parts.old.items }
 {
-    if n == 0 {
-        return;
+    let end = share_out(parts, n);
+    if end > 0 {
+        drop_spent(parts, end);
     }
-    if parts.len() > 3 {
-        use_up(parts, n);
-        return;
-    }
-    share_out(parts, n);
-    drop_spent(parts);
 }
 
-// What stays when the first `n` bytes were copied out: a first part that held just these goes.
-pub(super) fn advance_copied(parts: &mut VecDeque<IoBufMut>, n: usize)
-    requires { 1 < length parts.old.items }
-    ensures rest { parts_or_default parts.new.items ≡ parts_copied parts.old.items n }
-    ensures have_capacity { HaveCapacity parts.old.items → HaveCapacity parts.new.items }
-    ensures fits { parts_capacity parts.new.items ≤ parts_capacity parts.old.items }
-{
-    if n != 0 && n == parts[0].len() {
-        parts.pop_front();
-        return;
-    }
-    advance(parts, n);
-}
-
-// Drops the first `n` bytes, each part its share of them.
-fn share_out(parts: &mut VecDeque<IoBufMut>, n: usize)
-    ensures { parts.new.items ≡ parts_shared_out parts.old.items n }
+// Drops the first `n` bytes, each part its share of them; no part is looked at behind the last byte that goes. Answers
+// a place from which on each part can still hold a byte.
+fn share_out(parts: &mut VecDeque<IoBufMut>, n: usize) -> usize
+    requires { HaveCapacity parts.old.items }
+    ensures shared { parts.new.items ≡ parts_shared_out parts.old.items n }
+    ensures have_capacity { HaveCapacity (drop result parts.new.items) }
+    ensures inside { result ≤ length parts.new.items }
 {
     let mut rest = n;
+    let mut end = 0;
     for i in 0..parts.len() {
+        if rest == 0 {
+            return end;
+        }
         let part = &mut parts[i];
         let share = rest.min(part.len());
         part.advance(share);
+        if part.capacity() == 0 {
+            end = i + 1;
+        }
         rest -= share;
     }
+    end
 }
 
-// Drops the parts that can't hold a byte any more.
-fn drop_spent(parts: &mut VecDeque<IoBufMut>)
+// Drops the parts that can't hold a byte, all of which stand before a place.
+#[inline(never)]
+fn drop_spent(parts: &mut VecDeque<IoBufMut>, end: usize)
+    requires inside { end ≤ length parts.old.items }
+    requires have_capacity { HaveCapacity (drop end parts.old.items) }
     ensures { parts.new.items ≡ with_capacity parts.old.items }
 {
-    parts.retain(
-        |part: &IoBufMut| -> bool
-            ensures { result ≡ nat_lt 0 (part_capacity part.now) }
-        { part.capacity() > 0 },
-    );
-}
-
-// Drops the first `n` bytes, and the parts that are used up on the way.
-fn use_up(parts: &mut VecDeque<IoBufMut>, n: usize)
-    ensures { parts.new.items ≡ parts_used_up parts.old.items n }
-{
-    let mut rest = n;
-    while rest > 0 {
-        let Some(part) = parts.front_mut() else {
-            return;
-        };
-        let len = part.len();
-        if rest < len {
-            part.advance(rest);
-            return;
+    let mut kept = 0;
+    for i in 0..end {
+        let part = parts.pop_front().unwrap();
+        if part.capacity() > 0 {
+            parts.push_back_reserved(part);
+            kept += 1;
         }
-        parts.pop_front();
-        rest -= len;
+    }
+    if kept > 0 {
+        parts.rotate_right(kept);
     }
 }
 
-// Where fewer than two parts are left: the one that is left, or one of capacity 0.
+// Where fewer than two parts are left: the one that is left, or one of capacity 0, and then none is.
 pub(super) fn take_single(parts: &mut VecDeque<IoBufMut>) -> Option<IoBufMut>
     ensures none { IfNone result ((1 < length parts.old.items) × (parts.new.items ≡ parts.old.items)) }
-    ensures some { IfSome result (λ part. parts_or_default parts.old.items ≡ part ∷ []) }
+    ensures some { IfSome result (λ part. (parts_or_default parts.old.items ≡ part ∷ []) × (parts.new.items ≡ [])) }
 {
     if parts.len() > 1 {
         return None;

@@ -2,7 +2,7 @@
 ghost use Rattle.std.specs.Prelude.{List, ℕ};
 ghost use Rattle.iobufs.specs.Parts.{parts_spare};
 
-use super::{IoBufsMut, Shape, row};
+use super::{IoBufsMut, Shape};
 use iobufs_core::codec::BufMut;
 
 impl BufMut for IoBufsMut {
@@ -16,7 +16,7 @@ impl BufMut for IoBufsMut {
     fn remaining_mut(&self) -> usize {
         match &self.shape {
             Shape::One(part) => part.remaining_mut(),
-            Shape::Many(parts) => row::room(parts),
+            Shape::Many(parts) => parts.room(),
         }
     }
 
@@ -24,7 +24,7 @@ impl BufMut for IoBufsMut {
     fn put_slice(&mut self, src: &[u8]) {
         match &mut self.shape {
             Shape::One(part) => part.put_slice(src),
-            Shape::Many(parts) => row::put(parts, src),
+            Shape::Many(parts) => parts.put(src),
         }
     }
 
@@ -32,7 +32,7 @@ impl BufMut for IoBufsMut {
     fn put_bytes(&mut self, value: u8, n: usize) {
         match &mut self.shape {
             Shape::One(part) => part.put_bytes(value, n),
-            Shape::Many(parts) => row::put_bytes(parts, value, n),
+            Shape::Many(parts) => parts.put_bytes(value, n),
         }
     }
 
