@@ -5,7 +5,9 @@ pub mod TakenLaws
 pub mod PlaceLaws
 pub mod KeptLaws
 pub mod ChunkLaws
-pub mod ShapeLaws
+pub mod EndLaws
+pub mod RowLaws
+mod Halves
 pub mod CopyLaws
 pub mod TextLaws
 pub mod ReadLaws

@@ -4,7 +4,7 @@ ghost use Rattle.iobufs_core.specs.Chunks.{first_chunk};
 ghost use Rattle.iobufs_core.specs.MarkedText.{is_single, of_view, taken_view, text_advanced, text_chunks, text_coalesced, text_len, text_rest};
 
 use super::IoBufs;
-use super::place::Place;
+use super::row::Located;
 use bytes::Bytes;
 use iobufs_core::buf::IoBuf;
 use iobufs_core::codec::{Buf, BufError, OwnedBuf, OwnedBytes};
@@ -24,8 +24,7 @@ impl IoBufs {
             self.put(IoBufs::default());
             return;
         }
-        self.shape.drop_front(n);
-        self.len -= n;
+        self.pieces.drop_front(n);
     }
 
     // Bytes from a place on as one buffer: of their piece, or a copy where they span pieces.
@@ -38,15 +37,15 @@ impl IoBufs {
         if n == 0 {
             return Ok(IoBuf::default());
         }
-        let place = self.shape.place_of(skip);
-        let piece = self.shape.piece(place.index);
+        let place = self.pieces.locate(skip);
+        let piece = self.pieces.piece(place.index);
         if n <= piece.len() - place.offset {
             return piece.slice(
                 Bound::Included(place.offset),
                 Bound::Excluded(place.offset + n),
             );
         }
-        match self.shape.copied(alloc, place, n) {
+        match self.pieces.copied(alloc, place, n) {
             Ok(copy) => Ok(copy),
             Err(_) => Err(BufError::Memory),
         }
@@ -58,7 +57,7 @@ impl IoBufs {
         ensures ok { IfOk result (λ bytes. bytes ≡ take n self.now.bytes) }
         ensures memory { IsOkUnless result BufError.Memory }
     {
-        Ok(Bytes::from_vec(self.shape.front(alloc, n)?)?)
+        Ok(Bytes::from_vec(self.pieces.front(alloc, n)?)?)
     }
 
     // What is made of the first piece, which has `n` bytes and goes.
@@ -70,9 +69,7 @@ impl IoBufs {
         ensures err { OnErr result (self.new ≡ self.old) }
         ensures memory { IsOkUnless result BufError.Memory }
     {
-        let made = self.shape.take_first(alloc)?;
-        self.len -= n;
-        Ok(made)
+        self.pieces.take_first(alloc)
     }
 
     /// The text as one piece, with a copy where there are several.
@@ -95,11 +92,12 @@ impl IoBufs {
         ensures bad_layout { 2 ^ 63 ≤ text_len self.now → result ≡ Err BufError.BadLayout }
         ensures memory { text_len self.now < 2 ^ 63 → IsOkUnless result BufError.Memory }
     {
-        let start = Place {
+        let start = Located {
             index: 0,
             offset: 0,
+            probes: 0,
         };
-        self.shape.copied(alloc, start, self.len())
+        self.pieces.copied(alloc, start, self.len())
     }
 }
 
@@ -119,29 +117,28 @@ impl Buf for IoBufs {
     }
 
     fn chunk(&self) -> &[u8] {
-        self.shape.piece(0).as_ref()
+        self.pieces.piece(0).as_ref()
     }
 
     fn byte_at(&self, i: usize) -> Option<u8> {
         if i >= self.len() {
             return None;
         }
-        let place = self.shape.place_of(i);
-        let bytes = self.shape.piece(place.index).as_ref();
+        let place = self.pieces.locate(i);
+        let bytes = self.pieces.piece(place.index).as_ref();
         Some(bytes[place.offset])
     }
 
     fn advance(&mut self, n: usize) {
         if self.is_single() {
-            self.shape.drop_single(n);
-            self.len -= n;
+            self.pieces.drop_single(n);
             return;
         }
         self.drop_front(n);
     }
 
     fn copy_to_slice(&mut self, dst: &mut [u8]) {
-        self.shape.fill(dst);
+        self.pieces.fill(dst);
         let n = dst.len();
         self.advance(n);
     }
@@ -159,7 +156,7 @@ impl Buf for IoBufs {
         if self.len() == 0 {
             return Ok(Vec::new(alloc));
         }
-        Ok(self.shape.chunks(alloc, max)?)
+        Ok(self.pieces.chunks(alloc, max)?)
     }
 
     ghost drops = { bytes-advanced };

@@ -19,7 +19,7 @@ pub invariant_of-self : goal.invariant_of-self
 invariant_of-self c =
     let n = len-kept _ _ c.self.view_is c.self.invariant in
     let one = one-piece c.self.inside _ c.self.view_is c.self.invariant (sym c.is_single.ensures ∙ c.if-is_single.true) in
-    kept-single c.self.inside c.args.n _ c.self.invariant one (omega (arith, c.requires)) c.drop_single.ensures.shaped c.drop_single.ensures.left
+    kept-single c.self.inside c.args.n _ c.self.invariant one (omega (arith, c.requires)) c.drop_single.ensures.piecesd c.drop_single.ensures.left
 
 pub returns-then-is_single : goal.returns-then-is_single
 returns-then-is_single c =

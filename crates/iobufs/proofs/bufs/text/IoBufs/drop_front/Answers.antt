@@ -18,7 +18,7 @@ overflow_sub-self c = omega (arith, len-kept c.self.inside _ c.self.view_is c.se
 pub invariant_of-self : goal.invariant_of-self
 invariant_of-self c =
     let n = len-kept _ _ c.self.view_is c.self.invariant in
-    kept-rest c.self.inside c.args.n _ c.self.invariant c.drop_front.ensures.shaped (omega arith) c.drop_front.ensures.left
+    kept-rest c.self.inside c.args.n _ c.self.invariant c.drop_front.ensures.piecesd (omega arith) c.drop_front.ensures.left
 
 pub returns : goal.returns
 returns c =

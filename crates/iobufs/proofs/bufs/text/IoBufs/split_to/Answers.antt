@@ -23,7 +23,7 @@ invariant_of-result c =
 pub invariant_of-self-2 : goal.invariant_of-self-2
 invariant_of-self-2 c =
     let n = len-kept _ _ c.self.view_is c.self.invariant in
-    kept-rest c.self.inside c.args.at _ c.self.invariant c.split_front.ensures.shaped (omega arith) c.in_ok-front.ensures.left
+    kept-rest c.self.inside c.args.at _ c.self.invariant c.split_front.ensures.piecesd (omega arith) c.in_ok-front.ensures.left
 
 pub returns-clause-front : goal.returns-clause-front
 returns-clause-front c =

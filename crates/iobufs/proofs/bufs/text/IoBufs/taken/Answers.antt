@@ -2,7 +2,7 @@ use Rattle.std.proofs.Common.{◌+◌, sym, ap, ◌∙◌, arith, length, refl}
 use Rattle.std.specs.declared.ops.Bound.TheVariants.{Included, Excluded}
 use Rattle.iobufs_core.specs.View.{View, view_slice}
 use Rattle.iobufs_core.specs.MarkedText.{taken_view}
-use Rattle.iobufs.specs.Shapes.{pieces}
+use Rattle.iobufs.specs.Several.{views}
 use Rattle.iobufs.proofs.TakenLaws.{taken_view-none}
 use Rattle.iobufs.proofs.ReadLaws.{taken-within, taken-across, rest-length, as_view, length-kept}
 use Rattle.iobufs.proofs.bufs.text.IoBufs.taken.Goals as goal
@@ -24,7 +24,7 @@ returns-then-n-len-clause-ok c =
 pub copied-requires-clause-inside : goal.copied-requires-clause-inside
 copied-requires-clause-inside c =
     let n = length-kept c.self.inside _ c.self.view_is in
-    let rest = rest-length (pieces c.self.inside.shape) c.place_of-place.result.index in
+    let rest = rest-length (views c.self.inside.pieces) c.place_of-place.result.index in
     omega (arith, c.requires, c.place_of-place.ensures.sum)
 
 pub returns-in-Ok-clause-ok : goal.returns-in-Ok-clause-ok
