@@ -1,6 +1,6 @@
 -- Pieces with stored end places. An end means nothing by itself: less the base of its row, modulo 2 ^ 64, it is the
 -- number of bytes up to the piece's end. So bytes that come or go in front change the base alone.
-use Rattle.std.specs.Prelude.{◌≡◌, ℕ, ◌+◌, ◌-◌, ◌%◌, ◌^◌, ◌<◌, List, [], ◌∷◌, length, map, get_or}
+use Rattle.std.specs.Prelude.{◌≡◌, ℕ, ◌+◌, ◌-◌, ◌%◌, ◌^◌, ◌<◌, ◌==◌, if◌then◌else◌, List, [], ◌∷◌, length, map, get_or}
 use Rattle.iobufs_core.specs.View.{View, view_advanced}
 use Rattle.iobufs.specs.Pieces.{view_len, AreFull}
 use Rattle.iobufs.specs.Search.{IsRising}
@@ -37,3 +37,7 @@ pub record IsSearch (ends : List ℕ) (place : ℕ) : Type 0 where
 abbrev pub shortened : List Piece → ℕ → List Piece
 shortened [] n = []
 shortened (piece ∷ pieces) n = record { view = view_advanced piece.view n; end = piece.end } ∷ pieces
+
+-- the first bytes of a piece that is cut; none where the place is its first
+abbrev pub cut_piece : View → ℕ → ℕ → List Piece
+cut_piece view end offset = if offset == 0 then [] else record { view = view; end = end } ∷ []

@@ -3,7 +3,7 @@ ghost use Rattle.std.specs.Option.{option_copied};
 ghost use Rattle.std.specs.Prelude.{◌≡◌, ◌+◌, ◌-◌, ◌*◌, ◌^◌, ◌<◌, ◌≤◌, ◌++◌, [], ◌∷◌, nat_lt, length, take, drop, slice_get, IfOk, IfErr, IsOk, OnOk, OnErr, IsOkUnless, IsTrue, IsFalse};
 ghost use Rattle.std.specs.VecDeque.{deque_len, deque_capacity};
 ghost use Rattle.iobufs_core.specs.View.{view_advanced, view_front};
-ghost use Rattle.iobufs.specs.Ends.{shortened, views_in};
+ghost use Rattle.iobufs.specs.Ends.{cut_piece, shortened, views_in};
 ghost use Rattle.iobufs.specs.Pieces.{AreFull, IsPlace, left_pieces, piece_at, piece_start, pieces_bytes, right_pieces, view_len};
 
 use super::search::{Ends, find_end};
@@ -313,16 +313,13 @@ impl Row {
         ensures refused { OnErr result (self.new.views ≡ self.old.views) }
         ensures memory { IsOkUnless result BufError.Memory }
     {
+        let _count = self.count();
         let mut front = VecDeque::with_capacity(alloc, place.index + 1)?;
         let inside = front_of(&self.pieces, place)?;
         let base = self.base;
-        let end = base.wrapping_add(at as u64);
+        self.base = base.wrapping_add(at as u64);
         move_front(&mut self.pieces, &mut front, place.index);
-        if place.offset != 0 {
-            front.push_back_reserved(Piece { view: inside, end });
-            drop_inside(&mut self.pieces, place.offset);
-        }
-        self.base = end;
+        cut(&mut front, &mut self.pieces, inside, place.offset, self.base);
         Ok(Row {
             base,
             pieces: front,
@@ -347,13 +344,7 @@ impl Row {
         let inside = front_of(&self.pieces, place)?;
         let base = self.base.wrapping_add(at as u64);
         move_back(&mut self.pieces, &mut pieces, count);
-        if place.offset != 0 {
-            self.pieces.push_back_reserved(Piece {
-                view: inside,
-                end: base,
-            });
-            drop_inside(&mut pieces, place.offset);
-        }
+        cut(&mut self.pieces, &mut pieces, inside, place.offset, base);
         Ok(mem::replace(self, Row { base, pieces }))
     }
 }
@@ -405,6 +396,26 @@ fn split_first_inside(row: &mut VecDeque<Piece>, at: usize) -> Result<IoBuf, Buf
         Some(first) => split_inside(&mut first.view, at),
         None => unreachable!(),
     }
+}
+
+// Cuts a piece in two: its first bytes go behind the front pieces, and the first of those behind keeps the others.
+fn cut(
+    front: &mut VecDeque<Piece>,
+    behind: &mut VecDeque<Piece>,
+    inside: IoBuf,
+    offset: usize,
+    end: u64,
+)
+    requires room { deque_len front.old < deque_capacity front.old }
+    requires inside { offset < view_len (piece_at (views_in behind.old.items) 0) }
+    ensures front { front.new.items ≡ front.old.items ++ cut_piece inside end offset }
+    ensures behind { behind.new.items ≡ shortened behind.old.items offset }
+{
+    if offset == 0 {
+        return;
+    }
+    front.push_back_reserved(Piece { view: inside, end });
+    drop_inside(behind, offset);
 }
 
 // Moves the first pieces from one row to the end of the other.

@@ -5,10 +5,10 @@ use Rattle.iobufs.proofs.TextLaws.{bytes-kept}
 use Rattle.iobufs.proofs.ReadLaws.{byte-at_place}
 use Rattle.iobufs.proofs.bufs.reader.IoBufsBuf.byte_at.Goals as goal
 
-pub place_of-place-requires : goal.place_of-place-requires
-place_of-place-requires c = omega (arith, ap length (bytes-kept c.self.inside _ c.self.view_is))
+pub locate-place-requires : goal.locate-place-requires
+locate-place-requires c = omega (arith, ap length (bytes-kept c.self.inside _ c.self.view_is))
 
 pub returns : goal.returns
 returns c =
-    ap (λ bytes. Some (get_or bytes c.place_of-place.result.offset 0)) (c.as_ref-bytes.ensures ∙ ap (λ (v : View). v.bytes) c.piece.ensures)
-    ∙ sym (byte-at_place _ _ _ _ c.place_of-place.ensures) ∙ ap (λ bytes. slice_get bytes c.args.i) (bytes-kept c.self.inside _ c.self.view_is)
+    ap (λ bytes. Some (get_or bytes c.locate-place.result.offset 0)) (c.as_ref-bytes.ensures ∙ ap (λ (v : View). v.bytes) c.piece.ensures)
+    ∙ sym (byte-at_place _ _ _ _ c.locate-place.ensures) ∙ ap (λ bytes. slice_get bytes c.args.i) (bytes-kept c.self.inside _ c.self.view_is)
