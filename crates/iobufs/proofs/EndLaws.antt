@@ -157,11 +157,11 @@ row-push b e ps qs v h some fits ends is =
     let z : 0 + length (pieces_bytes (views_in ps)) + view_len v ≡ l = omega arith in
     let stored : from_base b e ≡ 0 + length (pieces_bytes (views_in ps)) + view_len v = ap (from_base b) ends ∙ end-stored b l h.based fits ∙ sym z in
     subst (IsRow b) (sym is) (
-      record {
-        based = h.based;
-        ended = ends-append b 0 ps _ h.ended (omega arith, stored, tt);
-        full = subst AreFull (sym (views-push ps (record { view = v; end = e }))) (full-push (views_in ps) v h.full some);
-      })
+    record {
+      based = h.based;
+      ended = ends-append b 0 ps _ h.ended (omega arith, stored, tt);
+      full = subst AreFull (sym (views-push ps (record { view = v; end = e }))) (full-push (views_in ps) v h.full some);
+    })
 
 pub row-cons : (b c : ℕ) (ps qs : List Piece) (v : View) → IsRow b ps → 0 < view_len v → length (pieces_bytes (views_in ps)) + view_len v < 2 ^ 64 → c ≡ (b + (2 ^ 64 - view_len v)) % 2 ^ 64 → qs ≡ record { view = v; end = b } ∷ ps → IsRow c qs
 row-cons b c ps qs v h some fits base is =
@@ -169,11 +169,11 @@ row-cons b c ps qs v h some fits base is =
     let less : n < 2 ^ 64 = omega arith in
     let first : from_base ((b + (2 ^ 64 - n)) % 2 ^ 64) b ≡ 0 + n = base-before b n h.based less ∙ (omega arith) in
     subst (λ (xs : List Piece). IsRow c xs) (sym is) (subst (λ m. IsRow m (record { view = v; end = b } ∷ ps)) (sym base) (
-      record {
-        based = omega arith;
-        ended = (h.based, first, ends-down b 0 n ps h.based less (omega arith) h.ended);
-        full = (some, h.full);
-      }))
+    record {
+      based = omega arith;
+      ended = (h.based, first, ends-down b 0 n ps h.based less (omega arith) h.ended);
+      full = (some, h.full);
+    }))
 
 pub row-pop : (b : ℕ) (p : Piece) (ps qs : List Piece) → IsRow b qs → qs ≡ p ∷ ps → IsRow p.end ps
 row-pop b p ps qs h is =
@@ -220,11 +220,11 @@ row-shorten b n (p ∷ ps) qs h l is =
     let up = ends-up b (0 + view_len p.view) n ps h.based (omega arith) e.2 in
     let same : 0 + view_len p.view - n ≡ 0 + view_len (view_advanced p.view n) = omega arith in
     subst (λ (xs : List Piece). IsRow ((b + n) % 2 ^ 64) xs) (sym is) (
-      record {
-        based = omega arith;
-        ended = (e.0, here, subst (λ m. AreEnds ((b + n) % 2 ^ 64) m ps) same up);
-        full = (omega arith, h.full.1);
-      })
+    record {
+      based = omega arith;
+      ended = (e.0, here, subst (λ m. AreEnds ((b + n) % 2 ^ 64) m ps) same up);
+      full = (omega arith, h.full.1);
+    })
 
 -- what a search asks of the ends of a row, and of a place in it
 pub row-search : (b place : ℕ) (ps : List Piece) → IsRow b ps → place < length (pieces_bytes (views_in ps)) → IsSearch (ends_from b ps) place

@@ -7,6 +7,8 @@ pub mod KeptLaws
 pub mod ChunkLaws
 pub mod EndLaws
 pub mod RowLaws
+pub mod SeveralLaws
+pub mod LocateLaws
 mod Halves
 pub mod CopyLaws
 pub mod TextLaws

@@ -130,15 +130,13 @@ left-row b at i o e ps moved front inside h place cut fits end before join =
     let shown = views-take i ps in
     let len : view_len inside ≡ o = ap (λ (x : View). view_len x) v ∙ length-take-le o (piece_at (views_in ps) i).bytes (omega (arith, place.inside)) in
     let sum : length (pieces_bytes (views_in (take i ps))) + view_len inside ≡ at = (λ k. length (pieces_bytes (shown k)) + len k) ∙ place.sum in
-    let cut_is : front ≡ take i ps ++ record { view = inside; end = e } ∷ [] = is ∙ ap (λ xs. take i ps ++ xs) (cut-some inside e o some) in
-    (
+    let cut_is : front ≡ take i ps ++ record { view = inside; end = e } ∷ [] = is ∙ ap (λ xs. take i ps ++ xs) (cut-some inside e o some) in (
       row-push b e (take i ps) front inside (row-take b i ps h) (omega arith) (omega arith) (end ∙ ap (λ n. (b + n) % 2 ^ 64) (sym sum)) cut_is,
       views-popped front (take i ps) (record { view = inside; end = e }) cut_is ∙ (λ k. shown k ++ v k ∷ []) ∙ sym (left-at_place (views_in ps) at i o place some),
     ))
     (λ (none : o ≤ 0).
     let z : o ≡ 0 = omega arith in
-    let whole : front ≡ take i ps = is ∙ ap (λ n. take i ps ++ cut_piece inside e n) z ∙ append-nil (take i ps) in
-    (
+    let whole : front ≡ take i ps = is ∙ ap (λ n. take i ps ++ cut_piece inside e n) z ∙ append-nil (take i ps) in (
       subst (IsRow b) (sym whole) (row-take b i ps h),
       ap (λ (xs : List Piece). views_in xs) whole ∙ views-take i ps ∙ sym (left-at_edge (views_in ps) at i o h.full place z),
     ))
@@ -153,10 +151,9 @@ right-row b at i o c ps rest behind h place base left cut =
     let short = inside-dropped ps (drop i ps) at i o place refl in
     let based = h.based in
     let sum : ((b + start) % 2 ^ 64 + o) % 2 ^ 64 ≡ c = (let s = place.sum in omega arith) in
-    let dropped = views-drop i ps ∙ drop-cons vs i default_view index in
-    (
+    let dropped = views-drop i ps ∙ drop-cons vs i default_view index in (
       subst (λ n. IsRow n behind) sum (row-shorten ((b + start) % 2 ^ 64) o (drop i ps) behind (row-drop b i start ps h refl) short is),
       ap (λ (xs : List Piece). views_in xs) is ∙ right-shortened (drop i ps) o short ∙ ap (λ xs. right_pieces xs o) dropped
-      ∙ right_pieces-within o (piece_at vs i) (drop (suc i) vs) place.inside
-      ∙ sym (right-at_place vs at i o place),
+          ∙ right_pieces-within o (piece_at vs i) (drop (suc i) vs) place.inside
+          ∙ sym (right-at_place vs at i o place),
     )

@@ -258,7 +258,7 @@ impl Pieces {
                 self.put(Pieces::Many(row));
                 Ok(())
             }
-            Pieces::Many(row) => row.push_back(piece),
+            Pieces::Many(row) => Ok(row.push_back(piece)?),
         }
     }
 

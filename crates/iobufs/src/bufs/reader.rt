@@ -69,7 +69,8 @@ impl IoBufs {
         ensures err { OnErr result (self.new ≡ self.old) }
         ensures memory { IsOkUnless result BufError.Memory }
     {
-        self.pieces.take_first(alloc)
+        let made = self.pieces.take_first(alloc)?;
+        Ok(made)
     }
 
     /// The text as one piece, with a copy where there are several.

@@ -319,7 +319,13 @@ impl Row {
         let base = self.base;
         self.base = base.wrapping_add(at as u64);
         move_front(&mut self.pieces, &mut front, place.index);
-        cut(&mut front, &mut self.pieces, inside, place.offset, self.base);
+        cut(
+            &mut front,
+            &mut self.pieces,
+            inside,
+            place.offset,
+            self.base,
+        );
         Ok(Row {
             base,
             pieces: front,
@@ -369,7 +375,9 @@ fn front_of(row: &VecDeque<Piece>, place: Located) -> Result<IoBuf, BufError>
     ensures memory { IsOkUnless result BufError.Memory }
 {
     let piece = row.get(place.index).unwrap();
-    piece.view.slice(Bound::Unbounded, Bound::Excluded(place.offset))
+    piece
+        .view
+        .slice(Bound::Unbounded, Bound::Excluded(place.offset))
 }
 
 // Drops bytes of the first piece, which has more.

@@ -174,7 +174,7 @@ impl IoBufs {
             self.put(IoBufs::from(piece));
             return Ok(());
         }
-        if len.checked_add(more).is_none() {
+        if more > usize::MAX - len {
             return Err(Refused {
                 cause: BufError::TooLong,
                 value: piece,
@@ -207,7 +207,7 @@ impl IoBufs {
             self.put(IoBufs::from(piece));
             return Ok(());
         }
-        if len.checked_add(ahead).is_none() {
+        if ahead > usize::MAX - len {
             return Err(Refused {
                 cause: BufError::TooLong,
                 value: piece,

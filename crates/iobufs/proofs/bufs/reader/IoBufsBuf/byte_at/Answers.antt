@@ -11,4 +11,4 @@ locate-place-requires c = omega (arith, ap length (bytes-kept c.self.inside _ c.
 pub returns : goal.returns
 returns c =
     ap (λ bytes. Some (get_or bytes c.locate-place.result.offset 0)) (c.as_ref-bytes.ensures ∙ ap (λ (v : View). v.bytes) c.piece.ensures)
-    ∙ sym (byte-at_place _ _ _ _ c.locate-place.ensures) ∙ ap (λ bytes. slice_get bytes c.args.i) (bytes-kept c.self.inside _ c.self.view_is)
+    ∙ sym (byte-at_place _ _ _ _ c.locate-place.ensures.place) ∙ ap (λ bytes. slice_get bytes c.args.i) (bytes-kept c.self.inside _ c.self.view_is)

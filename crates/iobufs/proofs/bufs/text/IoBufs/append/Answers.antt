@@ -9,7 +9,10 @@ push_back-requires-clause-full c =
     full-kept c.self.inside _ c.self.view_is c.self.invariant (omega arith)
 
 pub invariant_of-self-2 : goal.invariant_of-self-2
-invariant_of-self-2 c = kept-push c.self.inside _ c.args.piece c.self.invariant c.push_back.ensures.pieced c.in_default-push_back.ensures.done c.len-more.ensures.room
+invariant_of-self-2 c = kept-push c.self.inside _ c.args.piece c.self.invariant c.push_back.ensures.pieced c.in_default.ensures.done c.len-more.ensures.room
 
 pub returns-clause-done : goal.returns-clause-done
-returns-clause-done c = ap of_pieces c.in_default-push_back.ensures.done ∙ append-pieces _ _ _ c.self.view_is (omega arith) (omega arith)
+returns-clause-done c = ap of_pieces c.in_default.ensures.done ∙ append-pieces _ _ _ c.self.view_is (omega arith) (omega arith)
+
+pub push_back-requires-clause-fits : goal.push_back-requires-clause-fits
+push_back-requires-clause-fits c = omega (arith, length-kept c.self.inside _ c.self.view_is)

@@ -9,7 +9,10 @@ push_front-requires-clause-full c =
     full-kept c.self.inside _ c.self.view_is c.self.invariant (omega arith)
 
 pub invariant_of-self-2 : goal.invariant_of-self-2
-invariant_of-self-2 c = kept-cons c.self.inside _ c.args.piece c.self.invariant c.push_front.ensures.pieced c.in_default-push_front.ensures.done c.len-ahead.ensures.room
+invariant_of-self-2 c = kept-cons c.self.inside _ c.args.piece c.self.invariant c.push_front.ensures.pieced c.in_default.ensures.done c.len-ahead.ensures.room
 
 pub returns-clause-done : goal.returns-clause-done
-returns-clause-done c = ap of_pieces c.in_default-push_front.ensures.done ∙ prepend-pieces _ _ _ c.self.view_is (omega arith) (omega arith)
+returns-clause-done c = ap of_pieces c.in_default.ensures.done ∙ prepend-pieces _ _ _ c.self.view_is (omega arith) (omega arith)
+
+pub push_front-requires-clause-fits : goal.push_front-requires-clause-fits
+push_front-requires-clause-fits c = omega (arith, length-kept c.self.inside _ c.self.view_is)

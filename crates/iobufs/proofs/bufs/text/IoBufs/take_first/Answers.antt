@@ -1,17 +1,17 @@
 use Rattle.std.proofs.Common.{arith, sym, subst, ap, ◌∙◌, length}
 use Rattle.iobufs.specs.Several.{views}
 use Rattle.iobufs.proofs.ReadLaws.{first-kept, first-rest, first-whole, kept-behind, length-behind}
-use Rattle.iobufs.proofs.TextLaws.{full-kept}
+use Rattle.iobufs.proofs.TextLaws.{length-kept, full-kept}
 use Rattle.iobufs.proofs.bufs.text.IoBufs.take_first.Goals as goal
 
 pub take_first-requires-clause-full : goal.take_first-requires-clause-full
 take_first-requires-clause-full g c =
     let s = c.self.inside in
     let n = c.requires.first ∙ sym (ap length (first-kept s.pieces _ c.self.view_is c.self.invariant.pieced)) in
-    full-kept s _ c.self.view_is c.self.invariant (omega (arith, n, c.requires.some, length-behind (views s.pieces)))
+    full-kept s _ c.self.view_is c.self.invariant (omega (arith, n, c.requires.some, length-behind (views s.pieces), length-kept s _ c.self.view_is))
 
-pub invariant_of-self : goal.invariant_of-self
-invariant_of-self g c = ?
+pub invariant_of-self-2 : goal.invariant_of-self-2
+invariant_of-self-2 g c = kept-behind c.self.inside _ c.self.invariant c.in_ok-made.ensures.pieced c.in_ok-made.ensures.left
 
 pub returns-clause-ok : goal.returns-clause-ok
 returns-clause-ok g c =
@@ -23,5 +23,5 @@ pub returns-clause-rest : goal.returns-clause-rest
 returns-clause-rest g c =
     let s = c.self.inside in
     let n = c.requires.first ∙ sym (ap length (first-kept s.pieces _ c.self.view_is c.self.invariant.pieced)) in
-    let full = full-kept s _ c.self.view_is c.self.invariant (omega (arith, n, c.requires.some, length-behind (views s.pieces))) in
+    let full = full-kept s _ c.self.view_is c.self.invariant (omega (arith, n, c.requires.some, length-behind (views s.pieces), length-kept s _ c.self.view_is)) in
     first-rest (views s.pieces) _ _ c.args.n c.self.view_is full c.requires.some n c.in_ok-made.ensures.left
