@@ -26,6 +26,18 @@ impl Pieces {
         *self = pieces;
     }
 
+    /// The pieces of a row, at least one.
+    pub(super) fn from_row(row: Row) -> Pieces
+        requires some { 0 < length row.views }
+        requires full { AreFull row.views }
+        ensures same { views result ≡ row.views }
+        ensures pieced { IsPieced result }
+    {
+        let mut pieces = Pieces::Many(row);
+        pieces.settle();
+        pieces
+    }
+
     pub(super) fn count(&self) -> usize
         ensures { result ≡ length (views self.now) }
     {

@@ -1,8 +1,8 @@
 // Two or more pieces in a deque, found by where they end.
 ghost use Rattle.std.specs.Option.{option_copied};
-ghost use Rattle.std.specs.Prelude.{◌≡◌, ◌+◌, ◌-◌, ◌*◌, ◌^◌, ◌<◌, ◌≤◌, ◌++◌, [], ◌∷◌, nat_lt, length, take, drop, slice_get, IfOk, IfErr, IsOk, OnOk, OnErr, IsOkUnless, IsTrue, IsFalse};
+ghost use Rattle.std.specs.Prelude.{◌≡◌, ◌+◌, ◌-◌, ◌*◌, ◌^◌, ◌<◌, ◌≤◌, ◌++◌, [], ◌∷◌, ◌==◌, if◌then◌else◌, nat_lt, length, take, drop, slice_get, IfOk, IfErr, IsOk, OnOk, OnErr, IsOkUnless, IsTrue, IsFalse};
 ghost use Rattle.std.specs.VecDeque.{deque_len, deque_capacity};
-ghost use Rattle.iobufs_core.specs.View.{view_advanced, view_front};
+ghost use Rattle.iobufs_core.specs.View.{IsView, view_advanced, view_front};
 ghost use Rattle.iobufs.specs.Ends.{cut_piece, shortened, views_in};
 ghost use Rattle.iobufs.specs.Pieces.{AreFull, IsPlace, left_pieces, piece_at, piece_start, pieces_bytes, right_pieces, view_len};
 
@@ -128,7 +128,20 @@ impl Row {
         Ok(())
     }
 
-    pub(crate) fn push_back_reserved(&mut self, piece: IoBuf)
+    /// Puts a piece behind the others; an empty one changes nothing.
+    pub(crate) fn add(&mut self, piece: IoBuf)
+        requires fits { length (pieces_bytes self.old.views) + length piece.bytes < 2 ^ 64 }
+        requires room { length self.old.views < self.old.room }
+        ensures added { self.new.views ≡ (if length piece.bytes == 0 then self.old.views else self.old.views ++ piece ∷ []) }
+        ensures same_room { self.new.room ≡ self.old.room }
+        ensures view { IsView piece }
+    {
+        if piece.len() != 0 {
+            self.push_back_reserved(piece);
+        }
+    }
+
+    pub(super) fn push_back_reserved(&mut self, piece: IoBuf)
         requires some { 0 < length piece.bytes }
         requires fits { length (pieces_bytes self.old.views) + length piece.bytes < 2 ^ 64 }
         requires room { length self.old.views < self.old.room }

@@ -6,6 +6,7 @@ ghost use Rattle.std.specs.Prelude.{◌≡◌, ℕ, ◌+◌, ◌*◌, ◌<◌, �
 ghost use Rattle.std.specs.Iterator.{IsFinite};
 ghost use Rattle.std.specs.Iterator.Runs.{SomeRun, WholeRun};
 ghost use Rattle.iobufs.specs.Located.{greatest_key, keys_upto};
+ghost use Rattle.iobufs.specs.Pieces.{AreFull, AreViews, of_pieces};
 ghost use Rattle.iobufs.specs.Refusals.{IsRefusedAt};
 ghost use Rattle.iobufs_core.specs.Part.{part_frozen};
 ghost use Rattle.iobufs_core.specs.Recovery.{IsAdopted};
@@ -13,7 +14,7 @@ ghost use Rattle.iobufs_core.specs.View.{View, default_view, bytes_mark, static_
 ghost use Rattle.iobufs_core.specs.MarkedText.{IsMarked, chunk_count as count_of, default_text, is_single, joined, of_view, text_append, text_chunks, text_len, text_prepend, text_rest, text_split_front};
 
 use super::pieces::Pieces;
-use super::row::Located;
+use super::row::{Located, Row};
 use bytes::Bytes;
 use iobufs_core::buf::{IoBuf, IoBufMut};
 use iobufs_core::codec::{BufError, Refused};
@@ -86,6 +87,18 @@ impl IoBufs {
         ensures { self.new ≡ text }
     {
         *self = text;
+    }
+
+    /// The pieces of a row, at least one.
+    pub(crate) fn from_row(row: Row) -> IoBufs
+        requires some { 0 < length row.views }
+        requires full { AreFull row.views }
+        requires roomy { AreViews row.views }
+        ensures { result ≡ of_pieces row.views }
+    {
+        IoBufs {
+            pieces: Pieces::from_row(row),
+        }
     }
 
     /// The number of bytes (`IoBufs::len`).
