@@ -1,5 +1,5 @@
 -- Ends of pieces, counted from a base.
-use Rattle.std.proofs.Common.{◌≡◌, ℕ, ◌+◌, ◌-◌, ◌%◌, ◌^◌, ◌<◌, ◌≤◌, List, [], ◌∷◌, ◌++◌, length, take, drop, map, zero, suc, refl, sym, ap, ◌∙◌, arith, subst, get_or, take_all, append-nil, zero-add, length-append, length-drop, slice_index_or}
+use Rattle.std.proofs.Common.{◌≡◌, ℕ, ◌+◌, ◌-◌, ◌%◌, ◌^◌, ◌<◌, ◌≤◌, List, [], ◌∷◌, ◌++◌, length, take, drop, zero, suc, refl, sym, ap, ◌∙◌, arith, subst, get_or, take_all, append-nil, zero-add, length-append, length-drop, slice_index_or}
 use Rattle.std.proofs.lemmas.List.{length-map, map-append}
 use Rattle.iobufs.proofs.PieceLaws.{AreFull-append}
 use Rattle.iobufs_core.specs.View.{View, view_advanced}

@@ -1,5 +1,5 @@
 -- A width that each probe halves.
-use Rattle.std.proofs.Common.{◌≡◌, ℕ, ◌+◌, ◌-◌, ◌*◌, ◌/◌, ◌^◌, ◌<◌, ◌≤◌, suc, arith, ⊎_elim, ap, sym, ◌∙◌, subst}
+use Rattle.std.proofs.Common.{◌≡◌, ℕ, ◌+◌, ◌-◌, ◌*◌, ◌^◌, ◌<◌, ◌≤◌, arith, ⊎_elim, ap}
 use Rattle.std.proofs.lemmas.Nat.{pow_below, mul-le, pow-add}
 use Rattle.std.proofs.lemmas.Bool.{cases_lt, cases_order}
 

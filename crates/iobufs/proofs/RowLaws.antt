@@ -1,9 +1,8 @@
 -- The pieces of a row, cut at a place.
-use Rattle.std.proofs.Common.{◌≡◌, ℕ, ◌+◌, ◌-◌, ◌%◌, ◌^◌, ◌<◌, ◌≤◌, List, [], ◌∷◌, ◌++◌, length, take, drop, map, zero, suc, refl, sym, ap, ◌∙◌, arith, subst, append-nil, drop-cons, ⊎_elim, length-append, length-take-le, Option, Some, option_to_list, slice_index_or}
+use Rattle.std.proofs.Common.{◌≡◌, ℕ, ◌+◌, ◌-◌, ◌%◌, ◌^◌, ◌<◌, ◌≤◌, List, [], ◌∷◌, ◌++◌, length, take, drop, zero, suc, refl, sym, ap, ◌∙◌, arith, subst, append-nil, drop-cons, ⊎_elim, length-append, length-take-le, Option, Some, option_to_list}
 use Rattle.std.proofs.Math.Seq.{take-append_seam}
 use Rattle.std.proofs.lemmas.List.{map-append}
 use Rattle.iobufs_core.specs.View.{View, default_view, view_front, view_advanced}
-use Rattle.iobufs.specs.FillLaws.{drop_past}
 use Rattle.iobufs.specs.Pieces.{view_len, piece_at, pieces_bytes, piece_start, AreFull, IsPlace, left_pieces, right_pieces}
 use Rattle.std.proofs.lemmas.Bool.{cases_lt}
 use Rattle.iobufs.specs.Ends.{views_in, cut_piece, shortened, IsRow}

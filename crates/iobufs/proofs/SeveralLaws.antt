@@ -1,11 +1,11 @@
 -- One piece or several, after one call.
-use Rattle.std.proofs.Common.{◌≡◌, ℕ, ◌+◌, ◌-◌, ◌<◌, ◌≤◌, List, [], ◌∷◌, ◌++◌, length, drop, suc, sym, ap, ◌∙◌, arith, subst, length-append, length-drop}
+use Rattle.std.proofs.Common.{◌≡◌, ℕ, ◌+◌, ◌-◌, ◌<◌, ◌≤◌, List, [], ◌∷◌, ◌++◌, length, suc, sym, ap, ◌∙◌, arith, subst, length-append, length-drop}
 use Rattle.iobufs_core.specs.View.{View}
 use Rattle.iobufs.specs.Pieces.{view_len, piece_at, pieces_bytes, AreFull, IsPlace, left_pieces, right_pieces}
 use Rattle.iobufs.specs.Several.{views, IsPieced}
 use Rattle.iobufs.specs.declared.bufs.pieces.Pieces.{Pieces}
 use Rattle.iobufs.proofs.PieceLaws.{length-left, left_pieces-past, length-bytes, AreFull-append, AreFull-right, AreFull-left}
-use Rattle.iobufs.proofs.PlaceLaws.{right-at_place, index-of_place}
+use Rattle.iobufs.proofs.PlaceLaws.{right-at_place}
 
 -- in an arm: what is known, by that arm's pieces
 pub pieced-as : {a b : Pieces} → a ≡ b → IsPieced a → IsPieced b

@@ -1,9 +1,8 @@
 -- What a text in several pieces keeps, and what its marked text is.
-use Rattle.std.proofs.Common.{◌≡◌, refl, ℕ, ◌+◌, ◌-◌, ◌<◌, ◌≤◌, false, List, [], ◌∷◌, ◌++◌, length, map, zero, suc, sym, ap, ◌∙◌, arith, tests, append-nil, length-append, subst, nat_eq}
+use Rattle.std.proofs.Common.{◌≡◌, refl, ℕ, ◌<◌, ◌≤◌, false, List, [], ◌∷◌, ◌++◌, length, map, zero, suc, sym, ap, ◌∙◌, arith, tests, subst, nat_eq}
 use Rattle.std.specs.List.{slice_get}
 use Rattle.std.specs.Option.{option_map}
 use Rattle.std.proofs.Common.{Option, None}
-use Rattle.std.proofs.lemmas.List.Concat.{flat_map-append}
 use Rattle.iobufs_core.specs.View.{View, IsView, view_advanced}
 use Rattle.iobufs_core.specs.MarkedText.{MarkedText, of_view, text_len, is_single, chunk_count, text_append, text_prepend, text_rest, text_split_front, text_advanced, text_chunks, IsMarked}
 use Rattle.iobufs.specs.Pieces.{view_len, pieces_bytes, of_pieces, AreFull, IsPieces, AreViews, left_pieces, right_pieces}
@@ -13,7 +12,7 @@ use Rattle.iobufs.specs.declared.bufs.pieces.Pieces.{Pieces}
 use Rattle.iobufs.specs.declared.bufs.pieces.Pieces.TheVariants.{One, Many}
 use Rattle.iobufs.specs.declared.bufs.text.IoBufs.TheInside.{Inside}
 use Rattle.iobufs.proofs.Sides.{not_zero}
-use Rattle.iobufs.proofs.PieceLaws.{bytes-of_pieces, len-of_pieces, of_pieces-one, cuts-of_pieces, is_single-of_pieces, AreFull-from_pieces, rest-of_pieces, split_front-of_pieces, length-left, length-right, advanced-of_view}
+use Rattle.iobufs.proofs.PieceLaws.{bytes-of_pieces, len-of_pieces, of_pieces-one, cuts-of_pieces, is_single-of_pieces, AreFull-from_pieces, rest-of_pieces, split_front-of_pieces, advanced-of_view}
 use Rattle.iobufs.proofs.JoinLaws.{append-push, prepend-cons}
 use Rattle.iobufs.proofs.KeptLaws.{AreViews-right, AreViews-left, AreViews-append, IsMarked-from_views}
 use Rattle.iobufs.proofs.ChunkLaws.{chunks-of_pieces, chunks-of_empty}

@@ -1,7 +1,6 @@
 -- What a text in several pieces keeps true of its fields.
-use Rattle.std.specs.Prelude.{◌<◌, ◌^◌, length}
 use Rattle.iobufs_core.specs.MarkedText.{MarkedText}
-use Rattle.iobufs.specs.Pieces.{of_pieces, pieces_bytes, AreViews}
+use Rattle.iobufs.specs.Pieces.{of_pieces, AreViews}
 use Rattle.iobufs.specs.Several.{views, IsPieced}
 use Rattle.iobufs.specs.declared.bufs.text.IoBufs.TheInside.{Inside}
 

@@ -1,5 +1,5 @@
 -- Where a place stands among the keys of a text: 0 and its cuts.
-use Rattle.std.specs.Prelude.{◌≡◌, ℕ, ◌+◌, nat_le, List, ◌∷◌, length, map, filter}
+use Rattle.std.specs.Prelude.{ℕ, nat_le, List, ◌∷◌, length, map, filter}
 use Rattle.iobufs_core.specs.MarkedText.{MarkedText, key_upto}
 
 abbrev pub keys : MarkedText → List ℕ

@@ -261,17 +261,34 @@ impl Pieces {
         ensures handed_back { IfErr result (λ e. e.value ≡ piece) }
     {
         match self {
-            Pieces::One(first) => {
-                let Ok(mut row) = Row::with_room(alloc, 4) else {
-                    return Err(AllocFailed { value: piece });
-                };
-                row.push_back_reserved(mem::take(first));
-                row.push_back_reserved(piece);
-                self.put(Pieces::Many(row));
-                Ok(())
-            }
+            Pieces::One(_) => self.push_second(alloc, piece),
             Pieces::Many(row) => Ok(row.push_back(piece)?),
         }
+    }
+
+    // The same where there is one piece up to now: a row is made, with room for four.
+    #[inline(never)]
+    fn push_second(&mut self, alloc: Global, piece: IoBuf) -> Result<(), AllocFailed<IoBuf>>
+        requires single { length (views self.old) ≡ 1 }
+        requires pieced { IsPieced self.old }
+        requires full { AreFull (views self.old) }
+        requires some { 0 < length piece.bytes }
+        requires fits { length (pieces_bytes (views self.old)) + length piece.bytes < 2 ^ 64 }
+        ensures pieced { IsPieced self.new }
+        ensures done { OnOk result (views self.new ≡ views self.old ++ piece ∷ []) }
+        ensures refused { OnErr result (views self.new ≡ views self.old) }
+        ensures handed_back { IfErr result (λ e. e.value ≡ piece) }
+    {
+        let Pieces::One(only) = self else {
+            unreachable!()
+        };
+        let Ok(mut row) = Row::with_room(alloc, 4) else {
+            return Err(AllocFailed { value: piece });
+        };
+        row.push_back_reserved(mem::take(only));
+        row.push_back_reserved(piece);
+        self.put(Pieces::Many(row));
+        Ok(())
     }
 
     pub(super) fn push_front(
@@ -289,17 +306,34 @@ impl Pieces {
         ensures handed_back { IfErr result (λ e. e.value ≡ piece) }
     {
         match self {
-            Pieces::One(last) => {
-                let Ok(mut row) = Row::with_room(alloc, 4) else {
-                    return Err(AllocFailed { value: piece });
-                };
-                row.push_back_reserved(piece);
-                row.push_back_reserved(mem::take(last));
-                self.put(Pieces::Many(row));
-                Ok(())
-            }
+            Pieces::One(_) => self.push_first(alloc, piece),
             Pieces::Many(row) => row.push_front(piece),
         }
+    }
+
+    // The same where there is one piece up to now: a row is made, with room for four.
+    #[inline(never)]
+    fn push_first(&mut self, alloc: Global, piece: IoBuf) -> Result<(), AllocFailed<IoBuf>>
+        requires single { length (views self.old) ≡ 1 }
+        requires pieced { IsPieced self.old }
+        requires full { AreFull (views self.old) }
+        requires some { 0 < length piece.bytes }
+        requires fits { length (pieces_bytes (views self.old)) + length piece.bytes < 2 ^ 64 }
+        ensures pieced { IsPieced self.new }
+        ensures done { OnOk result (views self.new ≡ piece ∷ views self.old) }
+        ensures refused { OnErr result (views self.new ≡ views self.old) }
+        ensures handed_back { IfErr result (λ e. e.value ≡ piece) }
+    {
+        let Pieces::One(only) = self else {
+            unreachable!()
+        };
+        let Ok(mut row) = Row::with_room(alloc, 4) else {
+            return Err(AllocFailed { value: piece });
+        };
+        row.push_back_reserved(piece);
+        row.push_back_reserved(mem::take(only));
+        self.put(Pieces::Many(row));
+        Ok(())
     }
 }
 

@@ -1,5 +1,5 @@
 // A text in several pieces, read from the front.
-ghost use Rattle.std.specs.Prelude.{◌≡◌, ◌+◌, ◌<◌, ◌≤◌, ◌^◌, length, take, false, true, IsOk, IfOk, OnOk, OnErr, Err, IsOkUnless};
+ghost use Rattle.std.specs.Prelude.{◌≡◌, ◌+◌, ◌<◌, ◌≤◌, ◌^◌, length, take, slice_get, false, true, IsTrue, IsFalse, IsOk, IfOk, OnOk, OnErr, Err, IsOkUnless};
 ghost use Rattle.iobufs_core.specs.Chunks.{first_chunk};
 ghost use Rattle.iobufs_core.specs.MarkedText.{is_single, of_view, taken_view, text_advanced, text_chunks, text_coalesced, text_len, text_rest};
 
@@ -17,14 +17,75 @@ impl IoBufs {
         requires { n ≤ text_len self.old }
         ensures { self.new ≡ text_rest self.old n }
     {
-        if n == 0 {
+        if n == 0 || self.shorten(n) {
             return;
         }
+        self.drop_pieces(n);
+    }
+
+    // Drops the first bytes where the first piece has more. Else nothing changes.
+    fn shorten(&mut self, n: usize) -> bool
+        requires { n ≤ text_len self.old }
+        ensures rest { IsTrue result → self.new ≡ text_rest self.old n }
+        ensures inside { IsTrue result → n < text_len self.old }
+        ensures same { IsFalse result → self.new ≡ self.old }
+    {
+        if !self.pieces.shorten(n) {
+            return false;
+        }
+        true
+    }
+
+    // Drops bytes where whole pieces go: apart, since what it needs costs at entry.
+    #[inline(never)]
+    fn drop_pieces(&mut self, n: usize)
+        requires some { 0 < n }
+        requires inside { n ≤ text_len self.old }
+        ensures { self.new ≡ text_rest self.old n }
+    {
         if n == self.len() {
             self.put(IoBufs::default());
             return;
         }
         self.pieces.drop_front(n);
+    }
+
+    // The same as `advance`: one piece that is used up keeps its mark.
+    #[inline(never)]
+    fn use_up(&mut self, n: usize)
+        requires { n ≤ text_len self.old }
+        ensures { self.new ≡ text_advanced self.old n }
+    {
+        if self.is_single() {
+            self.pieces.drop_single(n);
+            return;
+        }
+        self.drop_front(n);
+    }
+
+    // A byte behind the first piece.
+    #[inline(never)]
+    fn byte_behind(&self, i: usize) -> Option<u8>
+        ensures { result ≡ slice_get self.now.bytes i }
+    {
+        if i >= self.len() {
+            return None;
+        }
+        let place = self.pieces.locate(i);
+        let bytes = self.pieces.piece(place.index).as_ref();
+        Some(bytes[place.offset])
+    }
+
+    // Copies more than the first piece.
+    #[inline(never)]
+    fn copy_pieces(&mut self, dst: &mut [u8])
+        requires { length dst.old ≤ text_len self.old }
+        ensures bytes { dst.new ≡ take (length dst.old) self.old.bytes }
+        ensures rest { self.new ≡ text_advanced self.old (length dst.old) }
+    {
+        self.pieces.fill(dst);
+        let n = dst.len();
+        self.use_up(n);
     }
 
     // Bytes from a place on as one buffer: of their piece, or a copy where they span pieces.
@@ -80,6 +141,9 @@ impl IoBufs {
         ensures bad_layout { is_single self ≡ false → 2 ^ 63 ≤ text_len self → result ≡ Err BufError.BadLayout }
         ensures memory { text_len self < 2 ^ 63 → IsOkUnless result BufError.Memory }
     {
+        if !self.is_single() {
+            return self.gathered(alloc);
+        }
         match self.try_into_single() {
             Ok(piece) => Ok(piece),
             Err(text) => text.gathered(alloc),
@@ -122,25 +186,27 @@ impl Buf for IoBufs {
     }
 
     fn byte_at(&self, i: usize) -> Option<u8> {
-        if i >= self.len() {
-            return None;
+        match self.chunk().get(i) {
+            Some(byte) => Some(*byte),
+            None => self.byte_behind(i),
         }
-        let place = self.pieces.locate(i);
-        let bytes = self.pieces.piece(place.index).as_ref();
-        Some(bytes[place.offset])
     }
 
     fn advance(&mut self, n: usize) {
-        if self.is_single() {
-            self.pieces.drop_single(n);
+        if self.shorten(n) {
             return;
         }
-        self.drop_front(n);
+        self.use_up(n);
     }
 
     fn copy_to_slice(&mut self, dst: &mut [u8]) {
-        self.pieces.fill(dst);
         let n = dst.len();
+        let chunk = self.chunk();
+        if n > chunk.len() {
+            self.copy_pieces(dst);
+            return;
+        }
+        dst.copy_from_slice(&chunk[..n]);
         self.advance(n);
     }
 

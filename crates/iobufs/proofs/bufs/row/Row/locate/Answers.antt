@@ -1,4 +1,4 @@
-use Rattle.std.proofs.Common.{◌≡◌, ◌-◌, ◌≤◌, ap, sym, ◌∙◌, arith, length, subst}
+use Rattle.std.proofs.Common.{◌-◌, ap, sym, ◌∙◌, arith, length, subst}
 use Rattle.std.proofs.lemmas.List.{length-map}
 use Rattle.iobufs.specs.Ends.{from_base}
 use Rattle.iobufs.specs.declared.bufs.row.Piece.{Piece}

@@ -1,4 +1,4 @@
-use Rattle.std.proofs.Common.{◌-◌, sym, subst}
+use Rattle.std.proofs.Common.{sym, subst}
 use Rattle.iobufs.specs.Ends.{IsRow}
 use Rattle.iobufs.proofs.EndLaws.{row-take}
 use Rattle.iobufs.proofs.bufs.row.Row.pop_back.Goals as goal

@@ -1,4 +1,4 @@
-use Rattle.std.proofs.Common.{◌+◌, ◌-◌, ◌%◌, ◌^◌, sym, subst, ap, ◌∙◌, arith, length}
+use Rattle.std.proofs.Common.{◌+◌, ◌-◌, ◌%◌, ◌^◌, sym, subst, ap, arith, length}
 use Rattle.iobufs.specs.Ends.{IsRow}
 use Rattle.iobufs.specs.Pieces.{pieces_bytes}
 use Rattle.iobufs.specs.RowValues.{ViewRow}

@@ -1,4 +1,4 @@
-use Rattle.std.proofs.Common.{ap, sym, ◌∙◌, arith, length, subst}
+use Rattle.std.proofs.Common.{ap, arith, length, subst}
 use Rattle.iobufs_core.specs.View.{View}
 use Rattle.iobufs.specs.Pieces.{AreFull, piece_at, view_len}
 use Rattle.iobufs.specs.RowValues.{ViewRow}

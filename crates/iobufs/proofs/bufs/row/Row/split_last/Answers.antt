@@ -1,7 +1,7 @@
 use Rattle.std.proofs.Common.{◌+◌, ◌%◌, ◌^◌, length-take-le, ap, sym, ◌∙◌, arith, length, subst}
 use Rattle.iobufs_core.specs.View.{View}
 use Rattle.iobufs.specs.Ends.{IsRow, views_in}
-use Rattle.iobufs.specs.Pieces.{AreFull, pieces_bytes, piece_at, view_len}
+use Rattle.iobufs.specs.Pieces.{AreFull, pieces_bytes}
 use Rattle.iobufs.specs.RowValues.{ViewRow}
 use Rattle.iobufs.proofs.EndLaws.{row-take, row-push}
 use Rattle.iobufs.proofs.RowLaws.{last-left, last-right, last-front, last-behind, last-inside, last-sum, popped, views-popped}

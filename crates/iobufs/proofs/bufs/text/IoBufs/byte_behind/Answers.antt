@@ -3,7 +3,7 @@ use Rattle.std.specs.List.{slice_get}
 use Rattle.iobufs_core.specs.View.{View}
 use Rattle.iobufs.proofs.TextLaws.{bytes-kept}
 use Rattle.iobufs.proofs.ReadLaws.{byte-at_place}
-use Rattle.iobufs.proofs.bufs.reader.IoBufsBuf.byte_at.Goals as goal
+use Rattle.iobufs.proofs.bufs.text.IoBufs.byte_behind.Goals as goal
 
 pub locate-place-requires : goal.locate-place-requires
 locate-place-requires c = omega (arith, ap length (bytes-kept c.self.inside _ c.self.view_is))

@@ -1,6 +1,6 @@
 use Rattle.std.proofs.Common.{arith}
 use Rattle.iobufs.proofs.TextLaws.{length-kept, full-kept, kept-rest, rest-kept}
-use Rattle.iobufs.proofs.bufs.text.IoBufs.drop_front.Goals as goal
+use Rattle.iobufs.proofs.bufs.text.IoBufs.drop_pieces.Goals as goal
 
 pub drop_front-requires-clause-full : goal.drop_front-requires-clause-full
 drop_front-requires-clause-full c =

@@ -1,7 +1,7 @@
 use Rattle.std.proofs.Common.{sym, ◌∙◌, arith}
 use Rattle.iobufs.proofs.TextLaws.{length-kept}
 use Rattle.iobufs.proofs.ReadLaws.{one-piece, one-len, kept-single, advanced-single}
-use Rattle.iobufs.proofs.bufs.reader.IoBufsBuf.advance.Goals as goal
+use Rattle.iobufs.proofs.bufs.text.IoBufs.use_up.Goals as goal
 
 pub drop_single-requires-clause-single : goal.drop_single-requires-clause-single
 drop_single-requires-clause-single c = one-piece c.self.inside _ c.self.view_is c.self.invariant (sym c.is_single.ensures ∙ c.if-is_single.true)
