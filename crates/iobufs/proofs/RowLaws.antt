@@ -1,5 +1,5 @@
 -- The pieces of a row, cut at a place.
-use Rattle.std.proofs.Common.{◌≡◌, ℕ, ◌+◌, ◌-◌, ◌%◌, ◌^◌, ◌<◌, ◌≤◌, List, [], ◌∷◌, ◌++◌, length, take, drop, zero, suc, refl, sym, ap, ◌∙◌, arith, subst, append-nil, drop-cons, ⊎_elim, length-append, length-take-le, Option, Some, option_to_list}
+use Rattle.std.proofs.Common.{◌≡◌, ℕ, ◌+◌, ◌-◌, ◌%◌, ◌^◌, ◌<◌, ◌≤◌, List, [], ◌∷◌, ◌++◌, length, take, drop, map, zero, suc, refl, sym, ap, ◌∙◌, arith, subst, append-nil, drop-cons, ⊎_elim, length-append, length-take-le, Option, Some, option_to_list}
 use Rattle.std.proofs.Math.Seq.{take-append_seam}
 use Rattle.std.proofs.lemmas.List.{map-append}
 use Rattle.iobufs_core.specs.View.{View, default_view, view_front, view_advanced}
@@ -156,3 +156,7 @@ right-row b at i o c ps rest behind h place base left cut =
           ∙ right_pieces-within o (piece_at vs i) (drop (suc i) vs) place.inside
           ∙ sym (right-at_place vs at i o place),
     )
+
+pub bytes-in : (ps : List Piece) → map (λ (p : Piece). p.view.bytes) ps ≡ map (λ (v : View). v.bytes) (views_in ps)
+bytes-in [] = refl
+bytes-in (p ∷ ps) = ap (λ rest. p.view.bytes ∷ rest) (bytes-in ps)

@@ -1,5 +1,5 @@
 // A text in several pieces, read from the front.
-ghost use Rattle.std.specs.Prelude.{◌≡◌, ◌+◌, ◌<◌, ◌≤◌, ◌^◌, length, take, slice_get, false, true, IsTrue, IsFalse, IsOk, IfOk, OnOk, OnErr, Err, IsOkUnless};
+ghost use Rattle.std.specs.Prelude.{◌≡◌, ◌+◌, ◌<◌, ◌≤◌, ◌^◌, length, map, take, slice_get, false, true, IsTrue, IsFalse, IsOk, IfOk, OnOk, OnErr, Err, IsOkUnless};
 ghost use Rattle.iobufs_core.specs.Chunks.{first_chunk};
 ghost use Rattle.iobufs_core.specs.MarkedText.{is_single, of_view, taken_view, text_advanced, text_chunks, text_coalesced, text_len, text_rest};
 
@@ -219,7 +219,12 @@ impl Buf for IoBufs {
         Ok(bytes)
     }
 
-    fn chunks_vectored(&self, alloc: Global, max: usize) -> Result<Vec<&[u8]>, BufError> {
+    fn chunks_vectored(&self, alloc: Global, max: usize) -> Result<Vec<&[u8]>, BufError>
+        ensures ok { IfOk result (λ chunks. map (λ chunk. chunk.now) chunks.items ≡ take max (text_chunks self.now)) }
+        ensures memory { IsOkUnless result BufError.Memory }
+        ensures nothing { max ≡ 0 → IsOk result }
+        ensures empty { text_len self.now ≡ 0 → IsOk result }
+    {
         if self.len() == 0 {
             return Ok(Vec::new(alloc));
         }

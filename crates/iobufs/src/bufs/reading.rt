@@ -1,5 +1,5 @@
 // Copies of the bytes of several pieces, and their chunks.
-ghost use Rattle.std.specs.Prelude.{◌≡◌, ◌+◌, ◌<◌, ◌≤◌, ◌^◌, map, length, take, drop, Err, IfOk, IsOkUnless};
+ghost use Rattle.std.specs.Prelude.{◌≡◌, ◌+◌, ◌<◌, ◌≤◌, ◌^◌, map, length, take, drop, Err, IfOk, IsOk, IsOkUnless};
 ghost use Rattle.iobufs_core.specs.Part.{part_frozen};
 ghost use Rattle.iobufs.specs.Pieces.{piece_at, pieces_bytes, IsPlace};
 ghost use Rattle.iobufs.specs.Several.{views};
@@ -72,7 +72,8 @@ impl Pieces {
 
     /// The bytes of the first pieces, at most `max` of these.
     pub(super) fn chunks(&self, alloc: Global, max: usize) -> Result<Vec<&[u8]>, AllocError>
-        ensures { IfOk result (λ chunks. map (λ chunk. chunk.now) chunks.items ≡ take max (map (λ piece. piece.bytes) (views self.now))) }
+        ensures ok { IfOk result (λ chunks. map (λ chunk. chunk.now) chunks.items ≡ take max (map (λ piece. piece.bytes) (views self.now))) }
+        ensures nothing { max ≡ 0 → IsOk result }
     {
         let mut chunks = Vec::new(alloc);
         for index in 0..self.count().min(max) {

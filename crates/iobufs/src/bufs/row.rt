@@ -1,6 +1,8 @@
 // Two or more pieces in a deque, found by where they end.
+ghost use Rattle.std.specs.Fn.{CalledAt};
+ghost use Rattle.std.specs.List.{FoldsTo};
 ghost use Rattle.std.specs.Option.{option_copied};
-ghost use Rattle.std.specs.Prelude.{◌≡◌, ◌+◌, ◌-◌, ◌*◌, ◌^◌, ◌<◌, ◌≤◌, ◌++◌, [], ◌∷◌, ◌==◌, if◌then◌else◌, nat_lt, length, take, drop, slice_get, IfOk, IfErr, IsOk, OnOk, OnErr, IsOkUnless, IsTrue, IsFalse};
+ghost use Rattle.std.specs.Prelude.{◌≡◌, ◌+◌, ◌-◌, ◌*◌, ◌^◌, ◌<◌, ◌≤◌, ◌++◌, [], ◌∷◌, ◌==◌, if◌then◌else◌, nat_lt, length, map, take, drop, slice_get, IfOk, IfErr, IsOk, OnOk, OnErr, IsOkUnless, IsTrue, IsFalse};
 ghost use Rattle.std.specs.VecDeque.{deque_len, deque_capacity};
 ghost use Rattle.iobufs_core.specs.View.{IsView, view_advanced, view_front};
 ghost use Rattle.iobufs.specs.Ends.{cut_piece, shortened, views_in};
@@ -126,6 +128,17 @@ impl Row {
             });
         }
         Ok(())
+    }
+
+    /// Shows the bytes of each piece, in order.
+    pub(super) fn for_each<F: FnMut(&[u8])>(&self, mut visit: F)
+        requires { F.IsAlwaysCallable visit }
+        ensures { (last : F)
+            × FoldsTo (λ before chunk after. CalledAt F.FnMut before chunk tt after) visit (map (λ view. view.bytes) self.now.views) last }
+    {
+        for piece in &self.pieces {
+            visit(piece.view.as_ref());
+        }
     }
 
     /// Puts a piece behind the others; an empty one changes nothing.

@@ -8,6 +8,7 @@ ghost use Rattle.std.specs.Iterator.Runs.{SomeRun, WholeRun};
 ghost use Rattle.iobufs.specs.Located.{greatest_key, keys_upto};
 ghost use Rattle.iobufs.specs.Pieces.{AreFull, AreViews, of_pieces};
 ghost use Rattle.iobufs.specs.Refusals.{IsRefusedAt};
+ghost use Rattle.iobufs_core.specs.Chunks.{first_chunk};
 ghost use Rattle.iobufs_core.specs.Part.{part_frozen};
 ghost use Rattle.iobufs_core.specs.Recovery.{IsAdopted};
 ghost use Rattle.iobufs_core.specs.View.{View, default_view, bytes_mark, static_mark};
@@ -244,6 +245,7 @@ impl IoBufs {
         ensures memory { IsOkUnless result BufError.Memory }
         ensures nothing { at ≡ 0 → IsOk result }
         ensures whole { at ≡ text_len self.old → IsOk result }
+        ensures first { at ≡ length (first_chunk (text_chunks self.old)) → IsOk result }
     {
         if at == 0 {
             return Ok(IoBufs::default());
@@ -311,10 +313,13 @@ impl IoBufs {
         ensures { (last : F)
             × FoldsTo (λ before chunk after. CalledAt F.FnMut before chunk tt after) visit (text_chunks self.now) last }
     {
-        for i in 0..self.chunk_count() {
-            if let Some(chunk) = self.chunk_at(i) {
-                visit(chunk);
+        match &self.pieces {
+            Pieces::One(piece) => {
+                if piece.len() != 0 {
+                    visit(piece.as_ref());
+                }
             }
+            Pieces::Many(row) => row.for_each(visit),
         }
     }
 }

@@ -1,4 +1,6 @@
-use Rattle.std.proofs.Common.{arith}
+use Rattle.std.proofs.Common.{sym, ap, ◌∙◌, length, arith}
+use Rattle.std.proofs.lemmas.Bool.{false≢true}
+use Rattle.iobufs.proofs.ReadLaws.{first-kept}
 use Rattle.iobufs.proofs.TextLaws.{length-kept, full-kept, kept-front, kept-rest, front-kept, rest-kept}
 use Rattle.iobufs.proofs.bufs.text.IoBufs.split_to.Goals as goal
 
@@ -27,3 +29,7 @@ pub returns-clause-rest : goal.returns-clause-rest
 returns-clause-rest c =
     let n = length-kept c.self.inside _ c.self.view_is in
     rest-kept _ _ c.args.self.now c.args.at c.self.view_is (omega arith) (omega (arith)) c.in_ok-pieces.ensures.left
+
+pub returns-in_err-pieces-clause-first : goal.returns-in_err-pieces-clause-first
+returns-in_err-pieces-clause-first c = λ edge.
+    absurd (false≢true (c.in_err-pieces.ensures.first (edge ∙ sym (ap length (first-kept c.self.inside.pieces _ c.self.view_is c.self.invariant.pieced)))))
