@@ -98,7 +98,7 @@ impl IoBufs {
         if n == 0 {
             return Ok(IoBuf::default());
         }
-        let place = self.pieces.locate(skip);
+        let place = self.pieces.place_of(skip);
         let piece = self.pieces.piece(place.index);
         if n <= piece.len() - place.offset {
             return piece.slice(
