@@ -101,7 +101,7 @@ starts-rise vs i (suc n) f l =
     let s = start-next vs (i + suc n) (omega arith) in
     let e : i + suc (suc n) ≡ suc (i + suc n) = omega arith in rw e (omega arith)
 
-starts-below : (vs : List View) (i j : ℕ) → AreFull vs → i < j → j ≤ length vs → piece_start vs i < piece_start vs j
+pub starts-below : (vs : List View) (i j : ℕ) → AreFull vs → i < j → j ≤ length vs → piece_start vs i < piece_start vs j
 starts-below vs i j f l m =
     let h = starts-rise vs i (j - i - 1) f (omega arith) in
     let e : i + suc (j - i - 1) ≡ j = omega arith in

@@ -1,7 +1,7 @@
 // One piece, or a row of several.
 ghost use Rattle.std.specs.Option.{option_copied};
-ghost use Rattle.std.specs.Prelude.{◌≡◌, ◌+◌, ◌*◌, ◌<◌, ◌≤◌, ◌^◌, ◌++◌, [], ◌∷◌, nat_lt, OnOk, OnErr, IfOk, IfErr, IsOk, IsTrue, IsFalse, IsOkUnless, MatchResult, length, slice_get};
-ghost use Rattle.iobufs_core.specs.View.{view_advanced};
+ghost use Rattle.std.specs.Prelude.{◌≡◌, List, ◌+◌, ◌*◌, ◌<◌, ◌≤◌, ◌^◌, ◌++◌, [], ◌∷◌, nat_lt, OnOk, OnErr, IfOk, IfErr, IsOk, IsTrue, IsFalse, IsOkUnless, MatchResult, length, slice_get};
+ghost use Rattle.iobufs_core.specs.View.{View, view_advanced};
 ghost use Rattle.iobufs.specs.Pieces.{AreFull, IsPlace, behind_first, left_pieces, right_pieces, piece_at, pieces_bytes, view_len};
 ghost use Rattle.iobufs.specs.Several.{views, IsPieced};
 
@@ -218,6 +218,7 @@ impl Pieces {
         ensures refused { OnErr result (views self.new ≡ views self.old) }
         ensures memory { IsOkUnless result BufError.Memory }
         ensures first { at ≡ view_len (piece_at (views self.old) 0) → IsOk result }
+        ensures last { (front : List View) (last : View) → views self.old ≡ front ++ last ∷ [] → at + view_len last ≡ length (pieces_bytes (views self.old)) → IsOk result }
     {
         match self {
             Pieces::One(piece) => Ok(Pieces::One(split_inside(piece, at)?)),
@@ -246,6 +247,7 @@ impl Pieces {
         ensures pieced { IsPieced self.new }
         ensures refused { OnErr result (views self.new ≡ views self.old) }
         ensures memory { IsOkUnless result BufError.Memory }
+        ensures last { (front : List View) (last : View) → views self.old ≡ front ++ last ∷ [] → at + view_len last ≡ length (pieces_bytes (views self.old)) → IsOk result }
     {
         let Pieces::Many(row) = self else {
             unreachable!()

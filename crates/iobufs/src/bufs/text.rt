@@ -2,7 +2,7 @@
 ghost use Rattle.std.specs.Fn.{CalledAt};
 ghost use Rattle.std.specs.List.{FoldsTo};
 ghost use Rattle.std.specs.Option.{option_copied};
-ghost use Rattle.std.specs.Prelude.{◌≡◌, ℕ, ◌+◌, ◌*◌, ◌<◌, ◌≤◌, ◌^◌, ◌==◌, [], length, if◌then◌else◌, false, slice_get, IsOk, IfOk, IfErr, OnOk, OnErr, IsOkUnless, IsErrAnd, MatchOption, MatchResult};
+ghost use Rattle.std.specs.Prelude.{◌≡◌, ℕ, List, ◌∷◌, ◌++◌, ◌+◌, ◌*◌, ◌<◌, ◌≤◌, ◌^◌, ◌==◌, [], length, if◌then◌else◌, false, slice_get, IsOk, IfOk, IfErr, OnOk, OnErr, IsOkUnless, IsErrAnd, MatchOption, MatchResult};
 ghost use Rattle.std.specs.Iterator.{IsFinite};
 ghost use Rattle.std.specs.Iterator.Runs.{SomeRun, WholeRun};
 ghost use Rattle.iobufs.specs.Located.{greatest_key, keys_upto};
@@ -246,6 +246,7 @@ impl IoBufs {
         ensures nothing { at ≡ 0 → IsOk result }
         ensures whole { at ≡ text_len self.old → IsOk result }
         ensures first { at ≡ length (first_chunk (text_chunks self.old)) → IsOk result }
+        ensures last { (front : List (List ℕ)) (chunk : List ℕ) → text_chunks self.old ≡ front ++ chunk ∷ [] → at + length chunk ≡ text_len self.old → IsOk result }
     {
         if at == 0 {
             return Ok(IoBufs::default());

@@ -1,7 +1,9 @@
 use Rattle.std.proofs.Common.{sym, ap, ◌∙◌, length, arith}
 use Rattle.std.proofs.lemmas.Bool.{false≢true}
 use Rattle.iobufs.proofs.ReadLaws.{first-kept}
-use Rattle.iobufs.proofs.TextLaws.{length-kept, full-kept, kept-front, kept-rest, front-kept, rest-kept}
+use Rattle.iobufs.specs.Several.{views}
+use Rattle.iobufs.proofs.SeveralLaws.{last-view}
+use Rattle.iobufs.proofs.TextLaws.{chunks-kept, some_views, length-kept, full-kept, kept-front, kept-rest, front-kept, rest-kept}
 use Rattle.iobufs.proofs.bufs.text.IoBufs.split_to.Goals as goal
 
 pub split_front-requires-clause-full : goal.split_front-requires-clause-full
@@ -33,3 +35,12 @@ returns-clause-rest c =
 pub returns-in_err-pieces-clause-first : goal.returns-in_err-pieces-clause-first
 returns-in_err-pieces-clause-first c = λ edge.
     absurd (false≢true (c.in_err-pieces.ensures.first (edge ∙ sym (ap length (first-kept c.self.inside.pieces _ c.self.view_is c.self.invariant.pieced)))))
+
+pub returns-in_err-pieces-clause-last : goal.returns-in_err-pieces-clause-last
+returns-in_err-pieces-clause-last c = λ front chunk is edge.
+    let s = c.self.inside in
+    let n = length-kept s _ c.self.view_is in
+    let full = full-kept s _ c.self.view_is c.self.invariant (omega (arith, c.if-at-eq0.false, edge)) in
+    let chunks = chunks-kept (views s.pieces) _ c.self.view_is (some_views s.pieces c.self.invariant.pieced) full in
+    let last = last-view (views s.pieces) front chunk (sym chunks ∙ is) in
+    absurd (false≢true (c.in_err-pieces.ensures.last last.0 last.1 last.2 (omega (arith, edge, ap length last.3))))
