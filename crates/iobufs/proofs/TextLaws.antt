@@ -1,5 +1,5 @@
 -- What a text in several pieces keeps, and what its marked text is.
-use Rattle.std.proofs.Common.{◌≡◌, refl, ℕ, ◌<◌, ◌≤◌, false, List, [], ◌∷◌, ◌++◌, length, map, zero, suc, sym, ap, ◌∙◌, arith, tests, subst, nat_eq}
+use Rattle.std.proofs.Common.{Bool, true, IsTrue, IsFalse, ◌≡◌, refl, ℕ, ◌<◌, ◌≤◌, false, List, [], ◌∷◌, ◌++◌, length, map, zero, suc, sym, ap, ◌∙◌, arith, tests, subst, nat_eq}
 use Rattle.std.specs.List.{slice_get}
 use Rattle.std.specs.Option.{option_map}
 use Rattle.std.proofs.Common.{Option, None}
@@ -161,3 +161,7 @@ kept-same s p k h is =
       pieced = h;
       roomy = subst AreViews (sym is) k.roomy;
     }
+
+pub kept-short : (s : Inside) (n : ℕ) (p : Pieces) (short : Bool) → IsKept s → IsPieced p → (IsTrue short → views p ≡ right_pieces (views s.pieces) n) → (IsFalse short → views p ≡ views s.pieces) → IsKept (record { pieces = p })
+kept-short s n p true k h left same = kept-rest s n p k h (left refl)
+kept-short s n p false k h left same = kept-same s p k h (same refl)

@@ -189,22 +189,6 @@ impl Pieces {
         }
     }
 
-    /// The same, without a search where it is the first piece.
-    pub(super) fn place_of(&self, at: usize) -> Located
-        requires some { 0 < length (views self.now) }
-        requires inside { at < length (pieces_bytes (views self.now)) }
-        ensures { IsPlace (views self.now) at result.index result.offset }
-    {
-        if at < self.piece(0).len() {
-            return Located {
-                index: 0,
-                offset: at,
-                probes: 0,
-            };
-        }
-        self.locate(at)
-    }
-
     /// Takes the first `at` bytes, some but not all.
     pub(super) fn split_front(&mut self, alloc: Global, at: usize) -> Result<Pieces, BufError>
         requires pieced { IsPieced self.old }

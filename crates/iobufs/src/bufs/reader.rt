@@ -30,10 +30,7 @@ impl IoBufs {
         ensures inside { IsTrue result → n < text_len self.old }
         ensures same { IsFalse result → self.new ≡ self.old }
     {
-        if !self.pieces.shorten(n) {
-            return false;
-        }
-        true
+        self.pieces.shorten(n)
     }
 
     // Drops bytes where whole pieces go: apart, since what it needs costs at entry.
@@ -50,7 +47,7 @@ impl IoBufs {
         self.pieces.drop_front(n);
     }
 
-    // The same as `advance`: one piece that is used up keeps its mark.
+    // As `advance`, where whole pieces go: an only one that is used up keeps its mark.
     #[inline(never)]
     fn use_up(&mut self, n: usize)
         requires { n ≤ text_len self.old }
@@ -98,7 +95,22 @@ impl IoBufs {
         if n == 0 {
             return Ok(IoBuf::default());
         }
-        let place = self.pieces.place_of(skip);
+        let first = self.pieces.piece(0);
+        if skip < first.len() && n <= first.len() - skip {
+            return first.slice(Bound::Included(skip), Bound::Excluded(skip + n));
+        }
+        self.taken_behind(alloc, skip, n)
+    }
+
+    // The same, where the first piece doesn't hold all of them.
+    #[inline(never)]
+    fn taken_behind(&self, alloc: Global, skip: usize, n: usize) -> Result<IoBuf, BufError>
+        requires some { 0 < n }
+        requires inside { skip + n ≤ text_len self.now }
+        ensures ok { IfOk result (λ view. view ≡ taken_view self.now skip n) }
+        ensures memory { IsOkUnless result BufError.Memory }
+    {
+        let place = self.pieces.locate(skip);
         let piece = self.pieces.piece(place.index);
         if n <= piece.len() - place.offset {
             return piece.slice(
