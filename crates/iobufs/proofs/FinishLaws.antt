@@ -1,16 +1,21 @@
 -- The pieces that a builder finishes to.
-use Rattle.std.proofs.Common.{◌≡◌, ℕ, ◌+◌, ◌-◌, ◌^◌, ◌<◌, ◌≤◌, ◌==◌, if◌then◌else◌, List, [], ◌∷◌, ◌++◌, length, take, drop, fold, refl, sym, ap, ◌∙◌, arith, append_assoc, length-append, length-drop, length-take, take_all, ⊎_elim}
-use Rattle.std.proofs.lemmas.Bool.{cases_lt}
+use Rattle.std.proofs.Common.{false, ◌≡◌, ℕ, ◌+◌, ◌-◌, ◌^◌, ◌<◌, ◌≤◌, ◌==◌, if◌then◌else◌, List, [], ◌∷◌, ◌++◌, length, take, drop, fold, refl, sym, ap, ◌∙◌, arith, append_assoc, length-append, length-drop, length-take, take_all, append-nil, subst, ⊎_elim}
+use Rattle.std.proofs.lemmas.Bool.{cases_lt, false≢true}
 use Rattle.std.proofs.lemmas.Bool.Decides.{nat_tests}
 use Rattle.std.proofs.lemmas.Grind.{common_steps}
 use Rattle.std.proofs.lemmas.List.{drop-drop, nil_from_length}
-use Rattle.iobufs_core.specs.View.{View, default_view, native_mark, view_rest, view_split_front}
-use Rattle.iobufs_core.specs.MarkedText.{MarkedText, default_text, joined, text_append}
+use Rattle.iobufs_core.specs.View.{View, IsView, default_view, native_mark, view_rest, view_split_front}
+use Rattle.iobufs_core.specs.MarkedText.{MarkedText, default_text, of_view, joined, text_append}
 use Rattle.iobufs_core.specs.Items.{Item, put_item, push_item, ArePuts, items_bytes, items_inline, items_pushed}
 use Rattle.iobufs_core.specs.Part.{Part, part_frozen, part_capacity}
 use Rattle.iobufs.specs.Building.{Building, building_bytes, building_items, building_put, built, empty_building, inline_run, room_for_pushes, views_from, finished}
 use Rattle.iobufs.specs.BuildingLaws.{bytes-built, items_bytes-append, put-append, put_nothing, run-bytes}
-use Rattle.iobufs.specs.Pieces.{pieces_bytes}
+use Rattle.iobufs.specs.Pieces.{AreFull, AreViews, of_pieces, pieces_bytes}
+use Rattle.iobufs.proofs.Sides.{not_zero, same_eq}
+use Rattle.iobufs.proofs.PieceLaws.{AreFull-append, length-bytes, of_pieces-one}
+use Rattle.iobufs.proofs.KeptLaws.{AreViews-append}
+use Rattle.iobufs.proofs.JoinLaws.{append-push}
+use Rattle.std.proofs.lemmas.List.Concat.{flat_map-append}
 use Rattle.iobufs.specs.JoinedLaws.{bytes-joined}
 use Rattle.iobufs.specs.Pushes.{items_front, runs_len, building_with}
 use Rattle.iobufs.specs.declared.builder.Push.{Push}
@@ -154,6 +159,64 @@ join-so_far text mid next all rest run left ps more p so_far taken front behind 
     ∙ ap (λ (v : View). fold text_append (text_append (text_append text (view_split_front rest p.run)) p.view) (views_left v more)) behind
     ∙ ap (λ (qs : List Push). fold text_append text (views_left rest qs)) (sym taken)
     ∙ so_far
+
+pub not_empty : (n : ℕ) → false ≡ (n == 0) → 0 < n
+not_empty n e = ⊎_elim (λ h. h) (λ (h : n ≤ 0). let z = same_eq n 0 (omega arith) in absurd (false≢true (e ∙ z))) (cases_lt 0 n)
+
+pub of_pieces-none : of_pieces [] ≡ default_text
+unfolding of_pieces
+of_pieces-none = refl
+
+-- a view behind full views
+pub add-full : (vs ws : List View) (v : View) → ws ≡ (if length v.bytes == 0 then vs else vs ++ v ∷ []) → AreFull vs → AreFull ws
+add-full vs ws v is full =
+    ⊎_elim
+    (λ (h : 0 < length v.bytes). subst AreFull (sym (is ∙ rw (not_zero (length v.bytes) h) refl)) (AreFull-append vs (v ∷ []) full (h, tt)))
+    (λ (h : length v.bytes ≤ 0). subst AreFull (sym (is ∙ rw (same_eq (length v.bytes) 0 (omega arith)) refl)) full)
+    (cases_lt 0 (length v.bytes))
+
+pub add-views : (vs ws : List View) (v : View) → ws ≡ (if length v.bytes == 0 then vs else vs ++ v ∷ []) → AreViews vs → IsView v → AreViews ws
+add-views vs ws v is all view =
+    ⊎_elim
+    (λ (h : 0 < length v.bytes). subst AreViews (sym (is ∙ rw (not_zero (length v.bytes) h) refl)) (AreViews-append vs (v ∷ []) all (view, tt)))
+    (λ (h : length v.bytes ≤ 0). subst AreViews (sym (is ∙ rw (same_eq (length v.bytes) 0 (omega arith)) refl)) all)
+    (cases_lt 0 (length v.bytes))
+
+pub add-text : (vs ws : List View) (v : View) → ws ≡ (if length v.bytes == 0 then vs else vs ++ v ∷ []) → AreFull vs → of_pieces ws ≡ text_append (of_pieces vs) v
+add-text vs ws v is full =
+    ⊎_elim
+    (λ (h : 0 < length v.bytes). let more : ws ≡ vs ++ v ∷ [] = is ∙ rw (not_zero (length v.bytes) h) refl in ap of_pieces more ∙ pushed vs full h)
+    (λ (h : length v.bytes ≤ 0).
+    let z = same_eq (length v.bytes) 0 (omega arith) in
+    let same : ws ≡ vs = is ∙ rw z refl in
+    let kept : text_append (of_pieces vs) v ≡ of_pieces vs = rw z refl in
+    ap of_pieces same ∙ sym kept)
+    (cases_lt 0 (length v.bytes))
+  where
+    pushed : (vs : List View) → AreFull vs → 0 < length v.bytes → of_pieces (vs ++ v ∷ []) ≡ text_append (of_pieces vs) v
+    pushed [] full some =
+        let alone : text_append default_text v ≡ of_view v = rw (not_zero (length v.bytes) some) refl in
+        of_pieces-one v ∙ sym (ap (λ (t : MarkedText). text_append t v) of_pieces-none ∙ alone)
+    pushed (w ∷ ws) full some =
+        let n = length-bytes w ws in
+        sym (append-push w ws v (omega (arith, full.0)) some)
+
+pub add-length : (vs ws : List View) (v : View) → ws ≡ (if length v.bytes == 0 then vs else vs ++ v ∷ []) → (length vs ≤ length ws) × (length ws ≤ length vs + 1) × (length (pieces_bytes ws) ≡ length (pieces_bytes vs) + length v.bytes) × (0 < length v.bytes → 0 < length ws)
+add-length vs ws v is =
+    ⊎_elim
+    (λ (h : 0 < length v.bytes).
+    let e : ws ≡ vs ++ v ∷ [] = is ∙ rw (not_zero (length v.bytes) h) refl in
+    let n = length-append vs (v ∷ []) in
+    let l = ap (λ (xs : List View). length xs) e in
+    let b = ap (λ (xs : List View). length (pieces_bytes xs)) e ∙ ap length (flat_map-append (λ (x : View). x.bytes) vs (v ∷ [])) ∙ length-append (pieces_bytes vs) (v.bytes ++ []) in
+    let z = ap length (append-nil v.bytes) in
+    (omega arith, omega arith, omega arith, λ k. omega arith))
+    (λ (h : length v.bytes ≤ 0).
+    let e : ws ≡ vs = is ∙ rw (same_eq (length v.bytes) 0 (omega arith)) refl in
+    let l = ap (λ (xs : List View). length xs) e in
+    let b = ap (λ (xs : List View). length (pieces_bytes xs)) e in
+    (omega arith, omega arith, omega arith, λ k. absurd (omega arith)))
+    (cases_lt 0 (length v.bytes))
 
 -- the bytes of the pieces are all bytes
 views-bytes : (room : ℕ) (items : List Item) → pieces_bytes (views_from room items) ≡ items_bytes items

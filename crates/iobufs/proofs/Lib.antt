@@ -5,7 +5,11 @@ pub mod TakenLaws
 pub mod PlaceLaws
 pub mod KeptLaws
 pub mod ChunkLaws
-pub mod ShapeLaws
+pub mod EndLaws
+pub mod RowLaws
+pub mod SeveralLaws
+pub mod LocateLaws
+mod Halves
 pub mod CopyLaws
 pub mod TextLaws
 pub mod ReadLaws

@@ -13,17 +13,19 @@ use Rattle.iobufs_core.specs.View.{View, default_view, view_front, view_advanced
 use Rattle.iobufs_core.specs.Part.{part_frozen}
 use Rattle.iobufs_core.specs.MarkedText.{MarkedText, of_view, text_len, is_single, text_advanced, text_chunks, text_coalesced, text_rest, text_right, taken_view}
 use Rattle.iobufs.specs.Pieces.{view_len, pieces_bytes, piece_at, piece_start, of_pieces, behind_first, right_pieces, AreFull, IsPieces, IsPlace, AreViews}
-use Rattle.iobufs.specs.Shapes.{pieces, IsShape}
+use Rattle.iobufs.specs.Several.{views, IsPieced}
 use Rattle.iobufs.specs.Kept.{text_of, IsKept}
-use Rattle.iobufs.specs.declared.bufs.shape.Shape.{Shape}
+use Rattle.iobufs.specs.declared.bufs.pieces.Pieces.{Pieces}
 use Rattle.iobufs.specs.declared.bufs.text.IoBufs.TheInside.{Inside}
 use Rattle.iobufs.proofs.PieceLaws.{bytes-of_pieces, len-of_pieces, right-of_pieces, length-bytes, AreFull-from_pieces, of_pieces-one, front-all, rest-all, right_pieces-past, right_pieces-none}
+use Rattle.std.proofs.Math.Bool.{and-false}
+use Rattle.iobufs.proofs.Sides.{not_eq}
 use Rattle.iobufs.proofs.PlaceLaws.{index-of_place, right-at_place}
 use Rattle.iobufs.proofs.KeptLaws.{IsView-advanced}
 use Rattle.iobufs.proofs.TakenLaws.{taken_view-right, taken_view-within, taken_view-across}
 use Rattle.iobufs.proofs.ChunkLaws.{chunks-of_empty}
 use Rattle.iobufs.proofs.CopyLaws.{bytes-from}
-use Rattle.iobufs.proofs.TextLaws.{bytes-kept, IsPieces-from_shape, some_pieces, chunks-kept, single-kept, advanced-one, rest-kept}
+use Rattle.iobufs.proofs.TextLaws.{length-kept, IsPieces-from_pieced, some_views, chunks-kept, single-kept, advanced-one, rest-kept}
 
 -- the first piece is the first chunk, and a beginning of the text
 first-of : (vs : List View) (t : MarkedText) → of_pieces vs ≡ t → 0 < length vs → (0 < length (pieces_bytes vs) → AreFull vs) → (piece_at vs 0).bytes ≡ first_chunk (text_chunks t)
@@ -36,8 +38,8 @@ first-of (v ∷ vs) t e l f =
     (λ (h : length (pieces_bytes (v ∷ vs)) ≤ 0). nil_from_length v.bytes (omega arith) ∙ sym (ap first_chunk (chunks-of_empty t (omega arith))))
     (cases_lt 0 (length (pieces_bytes (v ∷ vs))))
 
-pub first-kept : (s : Shape) (t : MarkedText) → of_pieces (pieces s) ≡ t → IsShape s → (piece_at (pieces s) 0).bytes ≡ first_chunk (text_chunks t)
-first-kept s t e h = first-of (pieces s) t e (some_pieces s h) (AreFull-from_pieces (pieces s) (IsPieces-from_shape s h))
+pub first-kept : (s : Pieces) (t : MarkedText) → of_pieces (views s) ≡ t → IsPieced s → (piece_at (views s) 0).bytes ≡ first_chunk (text_chunks t)
+first-kept s t e h = first-of (views s) t e (some_views s h) (AreFull-from_pieces (views s) (IsPieces-from_pieced s h))
 
 front-of : (vs : List View) → 0 < length vs → (0 < length (pieces_bytes vs) → AreFull vs) → IsChunkOf (piece_at vs 0).bytes (pieces_bytes vs)
 front-of [] l f = absurd (omega arith)
@@ -51,10 +53,10 @@ front-of (v ∷ vs) l f =
           (cases_lt 0 (length (pieces_bytes (v ∷ vs))));
     }
 
-pub front-chunk : (s : Shape) (t : MarkedText) (chunk : List ℕ) → of_pieces (pieces s) ≡ t → IsShape s → chunk ≡ (piece_at (pieces s) 0).bytes → IsChunkOf chunk t.bytes
+pub front-chunk : (s : Pieces) (t : MarkedText) (chunk : List ℕ) → of_pieces (views s) ≡ t → IsPieced s → chunk ≡ (piece_at (views s) 0).bytes → IsChunkOf chunk t.bytes
 front-chunk s t chunk e h c =
-    let b : pieces_bytes (pieces s) ≡ t.bytes = sym (bytes-of_pieces (pieces s)) ∙ ap (λ (x : MarkedText). x.bytes) e in
-    rw c (subst (IsChunkOf (piece_at (pieces s) 0).bytes) b (front-of (pieces s) (some_pieces s h) (AreFull-from_pieces (pieces s) (IsPieces-from_shape s h))))
+    let b : pieces_bytes (views s) ≡ t.bytes = sym (bytes-of_pieces (views s)) ∙ ap (λ (x : MarkedText). x.bytes) e in
+    rw c (subst (IsChunkOf (piece_at (views s) 0).bytes) b (front-of (views s) (some_views s h) (AreFull-from_pieces (views s) (IsPieces-from_pieced s h))))
 
 -- the byte at a place
 get-within : (xs ys : List ℕ) (n : ℕ) → n < length xs → slice_get (xs ++ ys) n ≡ Some (get_or xs n 0)
@@ -150,20 +152,16 @@ AreViews-behind [] h = tt
 AreViews-behind (v ∷ []) h = (tt, tt)
 AreViews-behind (v ∷ w ∷ vs) h = h.1
 
-pub kept-behind : (s : Inside) (n : ℕ) (shape : Shape) → IsKept s → IsShape shape → n ≡ view_len (piece_at (pieces s.shape) 0) → pieces shape ≡ behind_first (pieces s.shape) → IsKept (record { shape = shape; len = s.len - n })
-kept-behind s n shape k h w is =
-    let c = k.counted in
-    let l = length-behind (pieces s.shape) in
-    let m = ap (λ (x : List View). length (pieces_bytes x)) is in
+pub kept-behind : (s : Inside) (p : Pieces) → IsKept s → IsPieced p → views p ≡ behind_first (views s.pieces) → IsKept (record { pieces = p })
+kept-behind s p k h is =
     record {
-      shaped = h;
-      counted = omega arith;
-      roomy = subst AreViews (sym is) (AreViews-behind (pieces s.shape) k.roomy);
+      pieced = h;
+      roomy = subst AreViews (sym is) (AreViews-behind (views s.pieces) k.roomy);
     }
 
 -- a text of one piece
-pub one-piece : (s : Inside) (t : MarkedText) → text_of s ≡ t → IsKept s → is_single t ≡ true → length (pieces s.shape) ≡ 1
-one-piece s t e k h = is_one (length (pieces s.shape)) (sym (single-kept s t e k) ∙ h)
+pub one-piece : (s : Inside) (t : MarkedText) → text_of s ≡ t → IsKept s → is_single t ≡ true → length (views s.pieces) ≡ 1
+one-piece s t e k h = is_one (length (views s.pieces)) (sym (single-kept s t e k) ∙ h)
   where
     is_one : (n : ℕ) → nat_eq n 1 ≡ true → n ≡ 1
     is_one n h = grind (arith, tests)
@@ -181,16 +179,11 @@ one-as (v ∷ w ∷ vs) e = absurd (omega arith)
 one-view_room : (vs : List View) → length vs ≡ 1 → AreViews vs → AreViews (piece_at vs 0 ∷ [])
 one-view_room vs e h = subst AreViews (one-as vs e) h
 
-pub kept-single : (s : Inside) (n : ℕ) (shape : Shape) → IsKept s → length (pieces s.shape) ≡ 1 → n ≤ s.len → IsShape shape → pieces shape ≡ view_advanced (piece_at (pieces s.shape) 0) n ∷ [] → IsKept (record { shape = shape; len = s.len - n })
-kept-single s n shape k one l h is =
-    let v = piece_at (pieces s.shape) 0 in
-    let c = k.counted in
-    let w = one-len (pieces s.shape) one in
-    let d : length (pieces_bytes (pieces shape)) ≡ view_len v - n = ap (λ (x : List View). length (pieces_bytes x)) is ∙ ap length (append-nil (drop n v.bytes)) ∙ length-drop n v.bytes in
+pub kept-single : (s : Inside) (n : ℕ) (p : Pieces) → IsKept s → length (views s.pieces) ≡ 1 → IsPieced p → views p ≡ view_advanced (piece_at (views s.pieces) 0) n ∷ [] → IsKept (record { pieces = p })
+kept-single s n p k one h is =
     record {
-      shaped = h;
-      counted = omega arith;
-      roomy = subst AreViews (sym is) (IsView-advanced n v (one-view_room (pieces s.shape) one k.roomy).0, tt);
+      pieced = h;
+      roomy = subst AreViews (sym is) (IsView-advanced n (piece_at (views s.pieces) 0) (one-view_room (views s.pieces) one k.roomy).0, tt);
     }
 
 pub advanced-single : (vs ws : List View) (t : MarkedText) (n : ℕ) → of_pieces vs ≡ t → length vs ≡ 1 → n ≤ view_len (piece_at vs 0) → ws ≡ view_advanced (piece_at vs 0) n ∷ [] → of_pieces ws ≡ text_advanced t n
@@ -219,9 +212,6 @@ none-shown now items t max e z = ap (map now) e ∙ sym (ap (take max) (chunks-o
 pub as_view : {E : Type 0} (result : Result View E) (a b : View) → a ≡ b → IfOk result (λ v. v ≡ a) → IfOk result (λ v. v ≡ b)
 as_view result a b e h = subst (λ x. IfOk result (λ v. v ≡ x)) e h
 
-pub length-kept : (s : Inside) (t : MarkedText) → text_of s ≡ t → length (pieces_bytes (pieces s.shape)) ≡ text_len t
-length-kept s t e = ap length (bytes-kept s t e)
-
 pub as_bytes : {E : Type 0} (result : Result (List ℕ) E) (a b : List ℕ) → a ≡ b → IfOk result (λ v. v ≡ a) → IfOk result (λ v. v ≡ b)
 as_bytes result a b e h = subst (λ x. IfOk result (λ v. v ≡ x)) e h
 
@@ -230,13 +220,13 @@ as_text (Ok v) a t e h = ap of_view h ∙ e
 as_text (Err error) a t e h = tt
 
 -- a text of several pieces has bytes
-pub several-len : (s : Inside) (t : MarkedText) → text_of s ≡ t → IsKept s → is_single t ≡ false → 0 < s.len
-several-len s t e k h = let n = k.counted in several (pieces s.shape) (IsPieces-from_shape s.shape k.shaped) (more (length (pieces s.shape)) (sym (single-kept s t e k) ∙ h)) (omega arith)
+pub several-len : (s : Inside) (t : MarkedText) → text_of s ≡ t → IsKept s → is_single t ≡ false → 0 < text_len t
+several-len s t e k h = several (views s.pieces) (IsPieces-from_pieced s.pieces k.pieced) (more (length (views s.pieces)) (sym (single-kept s t e k) ∙ h)) (omega (arith, length-kept s t e))
   where
     more : (n : ℕ) → nat_eq n 1 ≡ false → n ≢ 1
     more n h = grind (arith, tests)
 
-    several : (vs : List View) → IsPieces vs → length vs ≢ 1 → length (pieces_bytes vs) ≤ s.len → 0 < s.len
+    several : (vs : List View) → IsPieces vs → length vs ≢ 1 → length (pieces_bytes vs) ≤ text_len t → 0 < text_len t
     several [] p n l = absurd p
     several (v ∷ []) p n l = absurd (n refl)
     several (v ∷ w ∷ vs) p n l = let k = length-bytes v (w ∷ vs) in let f = p.0 in omega arith
@@ -244,3 +234,39 @@ several-len s t e k h = let n = k.counted in several (pieces s.shape) (IsPieces-
 -- a text of one piece is that view
 pub single-view : (vs : List View) (t : MarkedText) (v : View) → of_pieces vs ≡ t → length vs ≡ 1 → v ≡ piece_at vs 0 → t ≡ of_view v
 single-view vs t v e one is = sym e ∙ ap of_pieces (one-as vs one) ∙ of_pieces-one (piece_at vs 0) ∙ ap of_view (sym is)
+
+-- bytes that are fewer than those of the first piece
+pub first-inside : (vs : List View) (n : ℕ) → n < view_len (piece_at vs 0) → n < length (pieces_bytes vs)
+first-inside vs n l = let k = length-behind vs in omega arith
+
+pub short-rest : (vs ws : List View) (t : MarkedText) (n : ℕ) → of_pieces vs ≡ t → AreFull vs → n < view_len (piece_at vs 0) → ws ≡ right_pieces vs n → of_pieces ws ≡ text_rest t n
+short-rest vs ws t n e f l is =
+    ⊎_elim
+    (λ (h : 0 < n). rest-kept vs ws t n e h (first-inside vs n l) is)
+    (λ (h : n ≤ 0).
+    let z : n ≡ 0 = omega arith in
+    ap of_pieces (is ∙ ap (right_pieces vs) z ∙ right_pieces-none vs f) ∙ e ∙ sym (ap (text_rest t) z))
+    (cases_lt 0 n)
+
+pub advanced-inside : (t : MarkedText) (n : ℕ) → n < text_len t → text_advanced t n ≡ text_rest t n
+advanced-inside t n l = rw (not_eq n (text_len t) l, and-false (is_single t)) refl
+
+-- what the first chunk has is what the text has
+pub chunk-byte : (chunk bytes : List ℕ) (i : ℕ) → i < length chunk → IsChunkOf chunk bytes → slice_get chunk i ≡ slice_get bytes i
+chunk-byte chunk bytes i l h = ap (λ xs. slice_get xs i) h.front ∙ get-front bytes (length chunk) i l
+  where
+    get-front : (bytes : List ℕ) (n i : ℕ) → i < n → slice_get (take n bytes) i ≡ slice_get bytes i
+    get-front [] zero i l = refl
+    get-front [] (suc n) i l = refl
+    get-front (b ∷ bs) zero i l = absurd (omega arith)
+    get-front (b ∷ bs) (suc n) zero l = refl
+    get-front (b ∷ bs) (suc n) (suc i) l = get-front bs n i (omega arith)
+
+pub chunk-front : (chunk bytes : List ℕ) (n : ℕ) → n ≤ length chunk → IsChunkOf chunk bytes → take n chunk ≡ take n bytes
+chunk-front chunk bytes n l h = ap (take n) h.front ∙ take-front bytes (length chunk) n l
+  where
+    take-front : (bytes : List ℕ) (m n : ℕ) → n ≤ m → take n (take m bytes) ≡ take n bytes
+    take-front bytes m zero l = refl
+    take-front bytes zero (suc n) l = absurd (omega arith)
+    take-front [] (suc m) (suc n) l = refl
+    take-front (b ∷ bs) (suc m) (suc n) l = ap (λ xs. b ∷ xs) (take-front bs m n (omega arith))

@@ -1,52 +1,47 @@
 -- What a text in several pieces keeps, and what its marked text is.
-use Rattle.std.proofs.Common.{◌≡◌, refl, ℕ, ◌+◌, ◌-◌, ◌<◌, ◌≤◌, false, List, [], ◌∷◌, ◌++◌, length, map, zero, suc, sym, ap, ◌∙◌, arith, tests, append-nil, length-append, subst, nat_eq}
+use Rattle.std.proofs.Common.{Bool, true, IsTrue, IsFalse, ◌≡◌, refl, ℕ, ◌<◌, ◌≤◌, false, List, [], ◌∷◌, ◌++◌, length, map, zero, suc, sym, ap, ◌∙◌, arith, tests, subst, nat_eq}
 use Rattle.std.specs.List.{slice_get}
 use Rattle.std.specs.Option.{option_map}
 use Rattle.std.proofs.Common.{Option, None}
-use Rattle.std.proofs.lemmas.List.Concat.{flat_map-append}
 use Rattle.iobufs_core.specs.View.{View, IsView, view_advanced}
 use Rattle.iobufs_core.specs.MarkedText.{MarkedText, of_view, text_len, is_single, chunk_count, text_append, text_prepend, text_rest, text_split_front, text_advanced, text_chunks, IsMarked}
 use Rattle.iobufs.specs.Pieces.{view_len, pieces_bytes, of_pieces, AreFull, IsPieces, AreViews, left_pieces, right_pieces}
-use Rattle.iobufs.specs.Shapes.{pieces, IsShape}
+use Rattle.iobufs.specs.Several.{views, IsPieced}
 use Rattle.iobufs.specs.Kept.{text_of, IsKept}
-use Rattle.iobufs.specs.declared.bufs.shape.Shape.{Shape}
-use Rattle.iobufs.specs.declared.bufs.shape.Shape.TheVariants.{One, Two, Three, Many}
+use Rattle.iobufs.specs.declared.bufs.pieces.Pieces.{Pieces}
+use Rattle.iobufs.specs.declared.bufs.pieces.Pieces.TheVariants.{One, Many}
 use Rattle.iobufs.specs.declared.bufs.text.IoBufs.TheInside.{Inside}
 use Rattle.iobufs.proofs.Sides.{not_zero}
-use Rattle.iobufs.proofs.PieceLaws.{bytes-of_pieces, len-of_pieces, of_pieces-one, cuts-of_pieces, is_single-of_pieces, AreFull-from_pieces, rest-of_pieces, split_front-of_pieces, length-left, length-right, advanced-of_view}
+use Rattle.iobufs.proofs.PieceLaws.{bytes-of_pieces, len-of_pieces, of_pieces-one, cuts-of_pieces, is_single-of_pieces, AreFull-from_pieces, rest-of_pieces, split_front-of_pieces, advanced-of_view}
 use Rattle.iobufs.proofs.JoinLaws.{append-push, prepend-cons}
 use Rattle.iobufs.proofs.KeptLaws.{AreViews-right, AreViews-left, AreViews-append, IsMarked-from_views}
 use Rattle.iobufs.proofs.ChunkLaws.{chunks-of_pieces, chunks-of_empty}
 
-pub IsPieces-from_shape : (s : Shape) → IsShape s → IsPieces (pieces s)
-IsPieces-from_shape (One a) h = tt
-IsPieces-from_shape (Two a b) h = h
-IsPieces-from_shape (Three a b c) h = h
-IsPieces-from_shape (Many q) h = many q.items h.0 h.1
+pub IsPieces-from_pieced : (p : Pieces) → IsPieced p → IsPieces (views p)
+IsPieces-from_pieced (One v) h = tt
+IsPieces-from_pieced (Many row) h = many row.views h.0 h.1
   where
-    many : (vs : List View) → 3 < length vs → AreFull vs → IsPieces vs
+    many : (vs : List View) → 1 < length vs → AreFull vs → IsPieces vs
     many [] l f = absurd (omega arith)
     many (v ∷ []) l f = absurd (omega arith)
     many (v ∷ w ∷ vs) l f = f
 
-pub some_pieces : (s : Shape) → IsShape s → 0 < length (pieces s)
-some_pieces (One a) h = omega arith
-some_pieces (Two a b) h = omega arith
-some_pieces (Three a b c) h = omega arith
-some_pieces (Many q) h = omega (arith, h.0)
+pub some_views : (p : Pieces) → IsPieced p → 0 < length (views p)
+some_views (One v) h = omega arith
+some_views (Many row) h = omega (arith, h.0)
 
-pub len-kept : (s : Inside) (t : MarkedText) → text_of s ≡ t → IsKept s → s.len ≡ text_len t
-len-kept s t e k = k.counted ∙ sym (len-of_pieces (pieces s.shape)) ∙ ap text_len e
+pub bytes-kept : (s : Inside) (t : MarkedText) → text_of s ≡ t → pieces_bytes (views s.pieces) ≡ t.bytes
+bytes-kept s t e = sym (bytes-of_pieces (views s.pieces)) ∙ ap (λ (x : MarkedText). x.bytes) e
 
-pub bytes-kept : (s : Inside) (t : MarkedText) → text_of s ≡ t → pieces_bytes (pieces s.shape) ≡ t.bytes
-bytes-kept s t e = sym (bytes-of_pieces (pieces s.shape)) ∙ ap (λ (x : MarkedText). x.bytes) e
+pub length-kept : (s : Inside) (t : MarkedText) → text_of s ≡ t → length (pieces_bytes (views s.pieces)) ≡ text_len t
+length-kept s t e = ap length (bytes-kept s t e)
 
 -- the pieces of a kept text that has bytes
-pub full-kept : (s : Inside) → IsKept s → 0 < s.len → AreFull (pieces s.shape)
-full-kept s k p = let n = k.counted in AreFull-from_pieces (pieces s.shape) (IsPieces-from_shape s.shape k.shaped) (omega arith)
+pub full-kept : (s : Inside) (t : MarkedText) → text_of s ≡ t → IsKept s → 0 < text_len t → AreFull (views s.pieces)
+full-kept s t e k p = let n = length-kept s t e in AreFull-from_pieces (views s.pieces) (IsPieces-from_pieced s.pieces k.pieced) (omega arith)
 
 pub IsMarked-kept : (s : Inside) (t : MarkedText) → text_of s ≡ t → IsKept s → IsMarked t
-IsMarked-kept s t e k = subst IsMarked e (IsMarked-from_views (pieces s.shape) (IsPieces-from_shape s.shape k.shaped) k.roomy)
+IsMarked-kept s t e k = subst IsMarked e (IsMarked-from_views (views s.pieces) (IsPieces-from_pieced s.pieces k.pieced) k.roomy)
 
 -- one piece, or several
 not_one : (n : ℕ) → 1 < n → nat_eq n 1 ≡ false
@@ -57,8 +52,8 @@ single-of [] t e l = absurd (omega arith)
 single-of (v ∷ []) t e l = sym (ap is_single e) ∙ is_single-of_pieces v []
 single-of (v ∷ w ∷ vs) t e l = sym (ap is_single e) ∙ is_single-of_pieces v (w ∷ vs) ∙ not_zero (length (w ∷ vs)) (omega arith) ∙ sym (not_one (length (v ∷ w ∷ vs)) (omega arith))
 
-pub single-kept : (s : Inside) (t : MarkedText) → text_of s ≡ t → IsKept s → is_single t ≡ nat_eq (length (pieces s.shape)) 1
-single-kept s t e k = single-of (pieces s.shape) t e (some_pieces s.shape k.shaped)
+pub single-kept : (s : Inside) (t : MarkedText) → text_of s ≡ t → IsKept s → is_single t ≡ nat_eq (length (views s.pieces)) 1
+single-kept s t e k = single-of (views s.pieces) t e (some_views s.pieces k.pieced)
 
 pub single-more : (vs : List View) (t : MarkedText) → of_pieces vs ≡ t → 1 < length vs → is_single t ≡ false
 single-more [] t e l = absurd (omega arith)
@@ -91,14 +86,6 @@ prepend-pieces (v ∷ vs) w t e p q =
     let z : text_len (of_pieces (v ∷ vs)) ≡ text_len t = ap text_len e in
     sym (prepend-cons w v vs (omega arith) q) ∙ ap (λ (x : MarkedText). text_prepend x w) e
 
-pub length-push : (vs ws : List View) (w : View) → ws ≡ vs ++ w ∷ [] → length (pieces_bytes ws) ≡ length (pieces_bytes vs) + view_len w
-length-push vs ws w is =
-    let a : pieces_bytes (vs ++ w ∷ []) ≡ pieces_bytes vs ++ (w.bytes ++ []) = flat_map-append (λ (v : View). v.bytes) vs (w ∷ []) in
-    ap (λ (x : List View). length (pieces_bytes x)) is ∙ ap length a ∙ length-append (pieces_bytes vs) (w.bytes ++ []) ∙ ap (λ (x : List ℕ). length (pieces_bytes vs) + length x) (append-nil w.bytes)
-
-pub length-cons : (vs ws : List View) (w : View) → ws ≡ w ∷ vs → length (pieces_bytes ws) ≡ view_len w + length (pieces_bytes vs)
-length-cons vs ws w is = ap (λ (x : List View). length (pieces_bytes x)) is ∙ length-append w.bytes (pieces_bytes vs)
-
 pub views-push : (vs ws : List View) (w : View) → ws ≡ vs ++ w ∷ [] → AreViews vs → IsView w → AreViews ws
 views-push vs ws w is h v = subst AreViews (sym is) (AreViews-append vs (w ∷ []) h (v, tt))
 
@@ -111,12 +98,6 @@ front-kept vs ws t at e p l is = ap of_pieces is ∙ sym (split_front-of_pieces 
 
 pub rest-kept : (vs ws : List View) (t : MarkedText) (at : ℕ) → of_pieces vs ≡ t → 0 < at → at < length (pieces_bytes vs) → ws ≡ right_pieces vs at → of_pieces ws ≡ text_rest t at
 rest-kept vs ws t at e p l is = ap of_pieces is ∙ sym (rest-of_pieces at vs p l) ∙ ap (λ (x : MarkedText). text_rest x at) e
-
-pub length-front : (vs ws : List View) (at : ℕ) → 0 < at → at ≤ length (pieces_bytes vs) → ws ≡ left_pieces vs at → at ≡ length (pieces_bytes ws)
-length-front vs ws at p l is = sym (length-left at vs p l) ∙ ap (λ (x : List View). length (pieces_bytes x)) (sym is)
-
-pub length-rest : (vs ws : List View) (at n : ℕ) → n ≡ length (pieces_bytes vs) → at < length (pieces_bytes vs) → ws ≡ right_pieces vs at → n - at ≡ length (pieces_bytes ws)
-length-rest vs ws at n e l is = ap (λ m. m - at) e ∙ sym (length-right at vs l) ∙ ap (λ (x : List View). length (pieces_bytes x)) (sym is)
 
 pub views-right : (vs ws : List View) (at : ℕ) → ws ≡ right_pieces vs at → AreViews vs → AreViews ws
 views-right vs ws at is h = subst AreViews (sym is) (AreViews-right at vs h)
@@ -146,40 +127,41 @@ pub chunk-none : (t : MarkedText) (i : ℕ) → text_len t ≡ 0 → None ≡ sl
 chunk-none t i e = sym (ap (λ (xs : List (List ℕ)). slice_get xs i) (chunks-of_empty t e))
 
 -- what is kept after a change of the pieces
-pub kept-push : (s : Inside) (n : ℕ) (shape : Shape) (w : View) → IsKept s → IsShape shape → pieces shape ≡ pieces s.shape ++ w ∷ [] → IsView w → n ≡ s.len + view_len w → IsKept (record { shape = shape; len = n })
-kept-push s n shape w k h is v e =
-    let c = k.counted in
-    let l = length-push (pieces s.shape) (pieces shape) w is in
+pub kept-push : (s : Inside) (p : Pieces) (w : View) → IsKept s → IsPieced p → views p ≡ views s.pieces ++ w ∷ [] → IsView w → IsKept (record { pieces = p })
+kept-push s p w k h is v =
     record {
-      shaped = h;
-      counted = omega arith;
-      roomy = views-push (pieces s.shape) (pieces shape) w is k.roomy v;
+      pieced = h;
+      roomy = views-push (views s.pieces) (views p) w is k.roomy v;
     }
 
-pub kept-cons : (s : Inside) (n : ℕ) (shape : Shape) (w : View) → IsKept s → IsShape shape → pieces shape ≡ w ∷ pieces s.shape → IsView w → n ≡ s.len + view_len w → IsKept (record { shape = shape; len = n })
-kept-cons s n shape w k h is v e =
-    let c = k.counted in
-    let l = length-cons (pieces s.shape) (pieces shape) w is in
+pub kept-cons : (s : Inside) (p : Pieces) (w : View) → IsKept s → IsPieced p → views p ≡ w ∷ views s.pieces → IsView w → IsKept (record { pieces = p })
+kept-cons s p w k h is v =
     record {
-      shaped = h;
-      counted = omega arith;
-      roomy = views-cons (pieces s.shape) (pieces shape) w is k.roomy v;
+      pieced = h;
+      roomy = views-cons (views s.pieces) (views p) w is k.roomy v;
     }
 
-pub kept-front : (s : Inside) (at : ℕ) (shape : Shape) → IsKept s → IsShape shape → 0 < at → at < s.len → pieces shape ≡ left_pieces (pieces s.shape) at → IsKept (record { shape = shape; len = at })
-kept-front s at shape k h p l is =
-    let c = k.counted in
+pub kept-front : (s : Inside) (at : ℕ) (p : Pieces) → IsKept s → IsPieced p → views p ≡ left_pieces (views s.pieces) at → IsKept (record { pieces = p })
+kept-front s at p k h is =
     record {
-      shaped = h;
-      counted = length-front (pieces s.shape) (pieces shape) at p (omega arith) is;
-      roomy = views-left (pieces s.shape) (pieces shape) at is k.roomy;
+      pieced = h;
+      roomy = views-left (views s.pieces) (views p) at is k.roomy;
     }
 
-pub kept-rest : (s : Inside) (at : ℕ) (shape : Shape) → IsKept s → IsShape shape → at < s.len → pieces shape ≡ right_pieces (pieces s.shape) at → IsKept (record { shape = shape; len = s.len - at })
-kept-rest s at shape k h l is =
-    let c = k.counted in
+pub kept-rest : (s : Inside) (at : ℕ) (p : Pieces) → IsKept s → IsPieced p → views p ≡ right_pieces (views s.pieces) at → IsKept (record { pieces = p })
+kept-rest s at p k h is =
     record {
-      shaped = h;
-      counted = length-rest (pieces s.shape) (pieces shape) at s.len c (omega arith) is;
-      roomy = views-right (pieces s.shape) (pieces shape) at is k.roomy;
+      pieced = h;
+      roomy = views-right (views s.pieces) (views p) at is k.roomy;
     }
+
+pub kept-same : (s : Inside) (p : Pieces) → IsKept s → IsPieced p → views p ≡ views s.pieces → IsKept (record { pieces = p })
+kept-same s p k h is =
+    record {
+      pieced = h;
+      roomy = subst AreViews (sym is) k.roomy;
+    }
+
+pub kept-short : (s : Inside) (n : ℕ) (p : Pieces) (short : Bool) → IsKept s → IsPieced p → (IsTrue short → views p ≡ right_pieces (views s.pieces) n) → (IsFalse short → views p ≡ views s.pieces) → IsKept (record { pieces = p })
+kept-short s n p true k h left same = kept-rest s n p k h (left refl)
+kept-short s n p false k h left same = kept-same s p k h (same refl)

@@ -2,7 +2,11 @@ pub mod Kept
 pub mod Pieces
 pub mod ReaderLaws
 pub mod Refusals
-pub mod Shapes
+pub mod Several
+pub mod Search
+pub mod Ends
+pub mod RowValues
+pub mod Located
 pub mod DrainLaws
 pub mod FillLaws
 pub mod JoinedLaws

@@ -1,9 +1,11 @@
 // Chunked text.
-mod place;
+mod pieces;
 mod reader;
 mod reading;
-mod row;
-mod shape;
+pub(crate) mod row;
+mod search;
 mod text;
 
+pub use row::Located;
+pub use search::{Ends, find_end};
 pub use text::IoBufs;

@@ -5,6 +5,7 @@ ghost use Rattle.iobufs_core.specs.View.{View};
 ghost use Rattle.iobufs.specs.Building.{IsBuilding, building_items, building_room, built, empty_building, finished};
 
 use crate::bufs::IoBufs;
+use crate::bufs::row::Row;
 use bytes::Bytes;
 use iobufs_core::buf::{IoBuf, IoBufMut};
 use iobufs_core::codec::{BufError, BufMut, BufsMut, Error, Refused, Write};
@@ -85,7 +86,8 @@ impl Builder {
         })
     }
 
-    /// All that was put and pushed, in order. The inline bytes are split where views stand, and not copied.
+    /// All that was put and pushed, in order. The inline bytes are split where views stand, and not copied. Room for all
+    /// pieces is made at once, and none where nothing was pushed.
     #[tactic(auto, using(crate::proofs::FinishLaws::finishing))]
     pub fn finish(self) -> Result<IoBufs, BufError>
         ensures ok { IfOk result (λ text. text ≡ finished self) }
@@ -100,14 +102,16 @@ impl Builder {
             pushable: _,
         } = self;
         let mut rest = inline.freeze()?;
-        let mut text = IoBufs::default();
-        for push in pushes {
-            let run = rest.split_to(push.run)?;
-            text.append(alloc, run)?;
-            text.append(alloc, push.view)?;
+        if pushes.is_empty() {
+            return Ok(IoBufs::from(rest));
         }
-        text.append(alloc, rest)?;
-        Ok(text)
+        let mut row = Row::with_room(alloc, 2 * pushes.len() + 1)?;
+        for push in pushes {
+            row.add(rest.split_to(push.run)?);
+            row.add(push.view);
+        }
+        row.add(rest);
+        Ok(IoBufs::from_row(row))
     }
 }
 

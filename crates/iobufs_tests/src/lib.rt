@@ -4,6 +4,8 @@
 #[cfg(test)]
 mod generic;
 #[cfg(test)]
+mod located;
+#[cfg(test)]
 mod parts;
 #[cfg(test)]
 mod strung;

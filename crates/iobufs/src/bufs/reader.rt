@@ -1,10 +1,10 @@
 // A text in several pieces, read from the front.
-ghost use Rattle.std.specs.Prelude.{◌≡◌, ◌+◌, ◌<◌, ◌≤◌, ◌^◌, length, take, false, true, IsOk, IfOk, OnOk, OnErr, Err, IsOkUnless};
+ghost use Rattle.std.specs.Prelude.{◌≡◌, ◌+◌, ◌<◌, ◌≤◌, ◌^◌, length, map, take, slice_get, false, true, IsTrue, IsFalse, IsOk, IfOk, OnOk, OnErr, Err, IsOkUnless};
 ghost use Rattle.iobufs_core.specs.Chunks.{first_chunk};
 ghost use Rattle.iobufs_core.specs.MarkedText.{is_single, of_view, taken_view, text_advanced, text_chunks, text_coalesced, text_len, text_rest};
 
 use super::IoBufs;
-use super::place::Place;
+use super::row::Located;
 use bytes::Bytes;
 use iobufs_core::buf::IoBuf;
 use iobufs_core::codec::{Buf, BufError, OwnedBuf, OwnedBytes};
@@ -17,15 +17,72 @@ impl IoBufs {
         requires { n ≤ text_len self.old }
         ensures { self.new ≡ text_rest self.old n }
     {
-        if n == 0 {
+        if n == 0 || self.shorten(n) {
             return;
         }
+        self.drop_pieces(n);
+    }
+
+    // Drops the first bytes where the first piece has more. Else nothing changes.
+    fn shorten(&mut self, n: usize) -> bool
+        requires { n ≤ text_len self.old }
+        ensures rest { IsTrue result → self.new ≡ text_rest self.old n }
+        ensures inside { IsTrue result → n < text_len self.old }
+        ensures same { IsFalse result → self.new ≡ self.old }
+    {
+        self.pieces.shorten(n)
+    }
+
+    // Drops bytes where whole pieces go: apart, since what it needs costs at entry.
+    #[inline(never)]
+    fn drop_pieces(&mut self, n: usize)
+        requires some { 0 < n }
+        requires inside { n ≤ text_len self.old }
+        ensures { self.new ≡ text_rest self.old n }
+    {
         if n == self.len() {
             self.put(IoBufs::default());
             return;
         }
-        self.shape.drop_front(n);
-        self.len -= n;
+        self.pieces.drop_front(n);
+    }
+
+    // As `advance`, where whole pieces go: an only one that is used up keeps its mark.
+    #[inline(never)]
+    fn use_up(&mut self, n: usize)
+        requires { n ≤ text_len self.old }
+        ensures { self.new ≡ text_advanced self.old n }
+    {
+        if self.is_single() {
+            self.pieces.drop_single(n);
+            return;
+        }
+        self.drop_front(n);
+    }
+
+    // A byte behind the first piece.
+    #[inline(never)]
+    fn byte_behind(&self, i: usize) -> Option<u8>
+        ensures { result ≡ slice_get self.now.bytes i }
+    {
+        if i >= self.len() {
+            return None;
+        }
+        let place = self.pieces.locate(i);
+        let bytes = self.pieces.piece(place.index).as_ref();
+        Some(bytes[place.offset])
+    }
+
+    // Copies more than the first piece.
+    #[inline(never)]
+    fn copy_pieces(&mut self, dst: &mut [u8])
+        requires { length dst.old ≤ text_len self.old }
+        ensures bytes { dst.new ≡ take (length dst.old) self.old.bytes }
+        ensures rest { self.new ≡ text_advanced self.old (length dst.old) }
+    {
+        self.pieces.fill(dst);
+        let n = dst.len();
+        self.use_up(n);
     }
 
     // Bytes from a place on as one buffer: of their piece, or a copy where they span pieces.
@@ -38,15 +95,30 @@ impl IoBufs {
         if n == 0 {
             return Ok(IoBuf::default());
         }
-        let place = self.shape.place_of(skip);
-        let piece = self.shape.piece(place.index);
+        let first = self.pieces.piece(0);
+        if skip < first.len() && n <= first.len() - skip {
+            return first.slice(Bound::Included(skip), Bound::Excluded(skip + n));
+        }
+        self.taken_behind(alloc, skip, n)
+    }
+
+    // The same, where the first piece doesn't hold all of them.
+    #[inline(never)]
+    fn taken_behind(&self, alloc: Global, skip: usize, n: usize) -> Result<IoBuf, BufError>
+        requires some { 0 < n }
+        requires inside { skip + n ≤ text_len self.now }
+        ensures ok { IfOk result (λ view. view ≡ taken_view self.now skip n) }
+        ensures memory { IsOkUnless result BufError.Memory }
+    {
+        let place = self.pieces.locate(skip);
+        let piece = self.pieces.piece(place.index);
         if n <= piece.len() - place.offset {
             return piece.slice(
                 Bound::Included(place.offset),
                 Bound::Excluded(place.offset + n),
             );
         }
-        match self.shape.copied(alloc, place, n) {
+        match self.pieces.copied(alloc, place, n) {
             Ok(copy) => Ok(copy),
             Err(_) => Err(BufError::Memory),
         }
@@ -58,7 +130,7 @@ impl IoBufs {
         ensures ok { IfOk result (λ bytes. bytes ≡ take n self.now.bytes) }
         ensures memory { IsOkUnless result BufError.Memory }
     {
-        Ok(Bytes::from_vec(self.shape.front(alloc, n)?)?)
+        Ok(Bytes::from_vec(self.pieces.front(alloc, n)?)?)
     }
 
     // What is made of the first piece, which has `n` bytes and goes.
@@ -70,8 +142,7 @@ impl IoBufs {
         ensures err { OnErr result (self.new ≡ self.old) }
         ensures memory { IsOkUnless result BufError.Memory }
     {
-        let made = self.shape.take_first(alloc)?;
-        self.len -= n;
+        let made = self.pieces.take_first(alloc)?;
         Ok(made)
     }
 
@@ -82,6 +153,9 @@ impl IoBufs {
         ensures bad_layout { is_single self ≡ false → 2 ^ 63 ≤ text_len self → result ≡ Err BufError.BadLayout }
         ensures memory { text_len self < 2 ^ 63 → IsOkUnless result BufError.Memory }
     {
+        if !self.is_single() {
+            return self.gathered(alloc);
+        }
         match self.try_into_single() {
             Ok(piece) => Ok(piece),
             Err(text) => text.gathered(alloc),
@@ -95,11 +169,12 @@ impl IoBufs {
         ensures bad_layout { 2 ^ 63 ≤ text_len self.now → result ≡ Err BufError.BadLayout }
         ensures memory { text_len self.now < 2 ^ 63 → IsOkUnless result BufError.Memory }
     {
-        let start = Place {
+        let start = Located {
             index: 0,
             offset: 0,
+            probes: 0,
         };
-        self.shape.copied(alloc, start, self.len())
+        self.pieces.copied(alloc, start, self.len())
     }
 }
 
@@ -119,30 +194,31 @@ impl Buf for IoBufs {
     }
 
     fn chunk(&self) -> &[u8] {
-        self.shape.piece(0).as_ref()
+        self.pieces.piece(0).as_ref()
     }
 
     fn byte_at(&self, i: usize) -> Option<u8> {
-        if i >= self.len() {
-            return None;
+        match self.chunk().get(i) {
+            Some(byte) => Some(*byte),
+            None => self.byte_behind(i),
         }
-        let place = self.shape.place_of(i);
-        let bytes = self.shape.piece(place.index).as_ref();
-        Some(bytes[place.offset])
     }
 
     fn advance(&mut self, n: usize) {
-        if self.is_single() {
-            self.shape.drop_single(n);
-            self.len -= n;
+        if self.shorten(n) {
             return;
         }
-        self.drop_front(n);
+        self.use_up(n);
     }
 
     fn copy_to_slice(&mut self, dst: &mut [u8]) {
-        self.shape.fill(dst);
         let n = dst.len();
+        let chunk = self.chunk();
+        if n > chunk.len() {
+            self.copy_pieces(dst);
+            return;
+        }
+        dst.copy_from_slice(&chunk[..n]);
         self.advance(n);
     }
 
@@ -155,11 +231,16 @@ impl Buf for IoBufs {
         Ok(bytes)
     }
 
-    fn chunks_vectored(&self, alloc: Global, max: usize) -> Result<Vec<&[u8]>, BufError> {
+    fn chunks_vectored(&self, alloc: Global, max: usize) -> Result<Vec<&[u8]>, BufError>
+        ensures ok { IfOk result (λ chunks. map (λ chunk. chunk.now) chunks.items ≡ take max (text_chunks self.now)) }
+        ensures memory { IsOkUnless result BufError.Memory }
+        ensures nothing { max ≡ 0 → IsOk result }
+        ensures empty { text_len self.now ≡ 0 → IsOk result }
+    {
         if self.len() == 0 {
             return Ok(Vec::new(alloc));
         }
-        Ok(self.shape.chunks(alloc, max)?)
+        Ok(self.pieces.chunks(alloc, max)?)
     }
 
     ghost drops = { bytes-advanced };

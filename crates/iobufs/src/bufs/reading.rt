@@ -1,30 +1,31 @@
 // Copies of the bytes of several pieces, and their chunks.
-ghost use Rattle.std.specs.Prelude.{◌≡◌, ◌+◌, ◌<◌, ◌≤◌, ◌^◌, map, length, take, drop, Err, IfOk, IsOkUnless};
+ghost use Rattle.std.specs.Prelude.{◌≡◌, ◌+◌, ◌<◌, ◌≤◌, ◌^◌, map, length, take, drop, Err, IfOk, IsOk, IsOkUnless};
 ghost use Rattle.iobufs_core.specs.Part.{part_frozen};
 ghost use Rattle.iobufs.specs.Pieces.{piece_at, pieces_bytes, IsPlace};
-ghost use Rattle.iobufs.specs.Shapes.{pieces};
+ghost use Rattle.iobufs.specs.Several.{views};
 
-use super::place::Place;
-use super::shape::Shape;
+use super::pieces::Pieces;
+use super::row::Located;
 use iobufs_core::buf::{IoBuf, IoBufMut};
 use iobufs_core::codec::{BufError, BufMut};
 use std::alloc::{AllocError, Global};
 
-impl Shape {
+impl Pieces {
     /// A copy of `n` bytes from a place on, in storage of just that capacity.
-    pub(super) fn copied(&self, alloc: Global, place: Place, n: usize) -> Result<IoBuf, BufError>
-        requires offset { place.offset ≤ length (piece_at (pieces self.now) place.index).bytes }
-        requires inside { n + place.offset ≤ length (pieces_bytes (drop place.index (pieces self.now))) }
-        ensures ok { IfOk result (λ copy. copy ≡ part_frozen (record { filled = take n (drop place.offset (pieces_bytes (drop place.index (pieces self.now)))); spare = 0 })) }
+    pub(super) fn copied(&self, alloc: Global, from: Located, n: usize) -> Result<IoBuf, BufError>
+        requires offset { from.offset ≤ length (piece_at (views self.now) from.index).bytes }
+        requires inside { n + from.offset ≤ length (pieces_bytes (drop from.index (views self.now))) }
+        ensures ok { IfOk result (λ copy. copy ≡ part_frozen (record { filled = take n (drop from.offset (pieces_bytes (drop from.index (views self.now)))); spare = 0 })) }
         ensures bad_layout { 2 ^ 63 ≤ n → result ≡ Err BufError.BadLayout }
         ensures memory { n < 2 ^ 63 → IsOkUnless result BufError.Memory }
     {
         let count = self.count();
         let mut copy = IoBufMut::with_capacity(alloc, n)?;
-        let Place {
+        let Located {
             mut index,
             mut offset,
-        } = place;
+            probes: _,
+        } = from;
         while copy.len() < n && index < count {
             let bytes = &self.piece(index).as_ref()[offset..];
             let some = bytes.len().min(n - copy.len());
@@ -37,8 +38,8 @@ impl Shape {
 
     /// Fills `dst` with the first bytes.
     pub(super) fn fill(&self, dst: &mut [u8])
-        requires { length dst.old ≤ length (pieces_bytes (pieces self.now)) }
-        ensures { dst.new ≡ take (length dst.old) (pieces_bytes (pieces self.now)) }
+        requires { length dst.old ≤ length (pieces_bytes (views self.now)) }
+        ensures { dst.new ≡ take (length dst.old) (pieces_bytes (views self.now)) }
     {
         let count = self.count();
         let mut filled = 0;
@@ -54,8 +55,8 @@ impl Shape {
 
     /// A copy of the first `n` bytes.
     pub(super) fn front(&self, alloc: Global, n: usize) -> Result<Vec<u8>, AllocError>
-        requires { n ≤ length (pieces_bytes (pieces self.now)) }
-        ensures { IfOk result (λ copy. copy.items ≡ take n (pieces_bytes (pieces self.now))) }
+        requires { n ≤ length (pieces_bytes (views self.now)) }
+        ensures { IfOk result (λ copy. copy.items ≡ take n (pieces_bytes (views self.now))) }
     {
         let count = self.count();
         let mut copy = Vec::with_capacity(alloc, n)?;
@@ -71,7 +72,8 @@ impl Shape {
 
     /// The bytes of the first pieces, at most `max` of these.
     pub(super) fn chunks(&self, alloc: Global, max: usize) -> Result<Vec<&[u8]>, AllocError>
-        ensures { IfOk result (λ chunks. map (λ chunk. chunk.now) chunks.items ≡ take max (map (λ piece. piece.bytes) (pieces self.now))) }
+        ensures ok { IfOk result (λ chunks. map (λ chunk. chunk.now) chunks.items ≡ take max (map (λ piece. piece.bytes) (views self.now))) }
+        ensures nothing { max ≡ 0 → IsOk result }
     {
         let mut chunks = Vec::new(alloc);
         for index in 0..self.count().min(max) {

@@ -1,15 +1,385 @@
-// A row of pieces.
-ghost use Rattle.std.specs.Prelude.{◌≡◌, ◌+◌, ◌-◌, ◌<◌, ◌≤◌, length, IfOk, OnOk, OnErr, IsOkUnless, ◌++◌, [], ◌∷◌, take, drop};
+// Two or more pieces in a deque, found by where they end.
+ghost use Rattle.std.specs.Fn.{CalledAt};
+ghost use Rattle.std.specs.List.{FoldsTo};
+ghost use Rattle.std.specs.Option.{option_copied};
+ghost use Rattle.std.specs.Prelude.{◌≡◌, ◌+◌, ◌-◌, ◌*◌, ◌^◌, ◌<◌, ◌≤◌, ◌++◌, [], ◌∷◌, ◌==◌, if◌then◌else◌, nat_lt, length, map, take, drop, slice_get, IfOk, IfErr, IsOk, OnOk, OnErr, IsOkUnless, IsTrue, IsFalse};
 ghost use Rattle.std.specs.VecDeque.{deque_len, deque_capacity};
-ghost use Rattle.iobufs.specs.Pieces.{AreFull, left_pieces, right_pieces, pieces_bytes, piece_at, IsPlace};
-ghost use Rattle.iobufs_core.specs.View.{view_front, view_advanced};
+ghost use Rattle.iobufs_core.specs.View.{IsView, view_advanced, view_front};
+ghost use Rattle.iobufs.specs.Ends.{cut_piece, shortened, views_in};
+ghost use Rattle.iobufs.specs.Pieces.{AreFull, IsPlace, left_pieces, piece_at, piece_start, pieces_bytes, right_pieces, view_len};
 
-use super::place::Place;
+use super::search::{Ends, find_end};
 use iobufs_core::buf::IoBuf;
-use iobufs_core::codec::{Buf, BufError};
-use std::alloc::Global;
+use iobufs_core::codec::{Buf, BufError, OwnedBytes};
+use std::alloc::{AllocError, AllocFailed, Global};
 use std::collections::VecDeque;
+use std::marker::Model;
+use std::mem;
 use std::ops::Bound;
+
+/// A place in a text: the piece that holds it, the number of bytes before it there, and how many ends were looked at.
+#[derive(Clone, Copy)]
+pub struct Located {
+    pub index: usize,
+    pub offset: usize,
+    pub probes: u32,
+}
+
+// A piece, and its end: the base of its row more than the number of bytes up to where it ends, modulo 2^64.
+#[derive(Drop)]
+struct Piece {
+    view: IoBuf,
+    end: u64,
+}
+
+impl Clone for Piece {
+    ghost is_clone = { λ a b. b ≡ a };
+
+    fn clone(&self) -> Result<Piece, AllocError> {
+        Ok(Piece {
+            view: self.view.clone()?,
+            end: self.end,
+        })
+    }
+}
+
+/// Pieces that hold bytes, in a deque. What comes or goes in front changes the base and no end.
+pub(crate) struct Row {
+    base: u64,
+    pieces: VecDeque<Piece>,
+}
+
+// Written out, so that what a caller proves about a row that it drops names no field.
+impl Drop for Row {
+    fn drop(self) {
+        let Row { base: _, pieces: _ } = self;
+    }
+}
+
+impl Model for Row {
+    ghost use Rattle.iobufs.specs.RowValues.{ViewRow};
+
+    ghost Value = { ViewRow };
+
+    ghost use Rattle.std.specs.VecDeque.{deque_capacity};
+    ghost use Rattle.iobufs.specs.Ends.{IsRow, views_in};
+
+    ghost view = { λ r. record { views = views_in r.pieces.items; room = deque_capacity r.pieces } };
+
+    ghost invariant = { λ r. IsRow r.base r.pieces.items };
+}
+
+impl Row {
+    /// No pieces yet, and room for so many.
+    pub(crate) fn with_room(alloc: Global, room: usize) -> Result<Row, AllocError>
+        ensures views { IfOk result (λ row. row.views ≡ []) }
+        ensures room { IfOk result (λ row. room ≤ row.room) }
+    {
+        Ok(Row {
+            base: 0,
+            pieces: VecDeque::with_capacity(alloc, room)?,
+        })
+    }
+
+    /// The number of bytes: the last end less the base.
+    pub(super) fn len(&self) -> usize
+        ensures value { result ≡ length (pieces_bytes self.now.views) }
+        ensures full { AreFull self.now.views }
+    {
+        match self.pieces.back() {
+            Some(piece) => piece.end.wrapping_sub(self.base) as usize,
+            None => 0,
+        }
+    }
+
+    pub(super) fn count(&self) -> usize
+        ensures { result ≡ length self.now.views }
+    {
+        self.pieces.len()
+    }
+
+    pub(super) fn get(&self, i: usize) -> Option<&IoBuf>
+        ensures { option_copied result ≡ slice_get self.now.views i }
+    {
+        match self.pieces.get(i) {
+            Some(piece) => Some(&piece.view),
+            None => None,
+        }
+    }
+
+    pub(super) fn piece(&self, i: usize) -> &IoBuf
+        requires { i < length self.now.views }
+        ensures { result.now ≡ piece_at self.now.views i }
+    {
+        self.get(i).unwrap()
+    }
+
+    pub(super) fn push_back(&mut self, piece: IoBuf) -> Result<(), AllocFailed<IoBuf>>
+        requires some { 0 < length piece.bytes }
+        requires fits { length (pieces_bytes self.old.views) + length piece.bytes < 2 ^ 64 }
+        ensures done { OnOk result (self.new.views ≡ self.old.views ++ piece ∷ []) }
+        ensures refused { OnErr result (self.new.views ≡ self.old.views) }
+        ensures handed_back { IfErr result (λ e. e.value ≡ piece) }
+    {
+        let end = self.base.wrapping_add((self.len() + piece.len()) as u64);
+        if let Err(refused) = self.pieces.push_back(Piece { view: piece, end }) {
+            return Err(AllocFailed {
+                value: refused.value.view,
+            });
+        }
+        Ok(())
+    }
+
+    /// Shows the bytes of each piece, in order.
+    pub(super) fn for_each<F: FnMut(&[u8])>(&self, mut visit: F)
+        requires { F.IsAlwaysCallable visit }
+        ensures { (last : F)
+            × FoldsTo (λ before chunk after. CalledAt F.FnMut before chunk tt after) visit (map (λ view. view.bytes) self.now.views) last }
+    {
+        for piece in &self.pieces {
+            visit(piece.view.as_ref());
+        }
+    }
+
+    /// Puts a piece behind the others; an empty one changes nothing.
+    pub(crate) fn add(&mut self, piece: IoBuf)
+        requires fits { length (pieces_bytes self.old.views) + length piece.bytes < 2 ^ 64 }
+        requires room { length self.old.views < self.old.room }
+        ensures added { self.new.views ≡ (if length piece.bytes == 0 then self.old.views else self.old.views ++ piece ∷ []) }
+        ensures same_room { self.new.room ≡ self.old.room }
+        ensures view { IsView piece }
+    {
+        if piece.len() != 0 {
+            self.push_back_reserved(piece);
+        }
+    }
+
+    pub(super) fn push_back_reserved(&mut self, piece: IoBuf)
+        requires some { 0 < length piece.bytes }
+        requires fits { length (pieces_bytes self.old.views) + length piece.bytes < 2 ^ 64 }
+        requires room { length self.old.views < self.old.room }
+        ensures pushed { self.new.views ≡ self.old.views ++ piece ∷ [] }
+        ensures same_room { self.new.room ≡ self.old.room }
+    {
+        let end = self.base.wrapping_add((self.len() + piece.len()) as u64);
+        self.pieces.push_back_reserved(Piece { view: piece, end });
+    }
+
+    pub(super) fn push_front(&mut self, piece: IoBuf) -> Result<(), AllocFailed<IoBuf>>
+        requires some { 0 < length piece.bytes }
+        requires fits { length (pieces_bytes self.old.views) + length piece.bytes < 2 ^ 64 }
+        ensures done { OnOk result (self.new.views ≡ piece ∷ self.old.views) }
+        ensures refused { OnErr result (self.new.views ≡ self.old.views) }
+        ensures handed_back { IfErr result (λ e. e.value ≡ piece) }
+    {
+        let _len = self.len();
+        let base = self.base.wrapping_sub(piece.len() as u64);
+        let end = self.base;
+        if let Err(refused) = self.pieces.push_front(Piece { view: piece, end }) {
+            return Err(AllocFailed {
+                value: refused.value.view,
+            });
+        }
+        self.base = base;
+        Ok(())
+    }
+
+    pub(super) fn pop_front(&mut self) -> IoBuf
+        requires { 0 < length self.old.views }
+        ensures { self.old.views ≡ result ∷ self.new.views }
+    {
+        let piece = self.pieces.pop_front().unwrap();
+        self.base = piece.end;
+        piece.view
+    }
+
+    fn pop_back(&mut self) -> IoBuf
+        requires { 0 < length self.old.views }
+        ensures { self.old.views ≡ self.new.views ++ result ∷ [] }
+    {
+        self.pieces.pop_back().unwrap().view
+    }
+
+    /// What is made of the first piece, which goes.
+    pub(super) fn take_first<T: OwnedBytes>(&mut self, alloc: Global) -> Result<T, BufError>
+        requires { 0 < length self.old.views }
+        ensures made { IfOk result (T.makes (piece_at self.old.views 0)) }
+        ensures left { OnOk result (self.new.views ≡ drop 1 self.old.views) }
+        ensures refused { OnErr result (self.new.views ≡ self.old.views) }
+        ensures memory { IsOkUnless result BufError.Memory }
+    {
+        let mut piece = self.pieces.pop_front().unwrap();
+        match T::take_view(alloc, &mut piece.view) {
+            Ok(made) => {
+                self.base = piece.end;
+                Ok(made)
+            }
+            Err(error) => {
+                self.pieces.push_front_reserved(piece);
+                Err(error)
+            }
+        }
+    }
+
+    /// Drops the first `n` bytes where the first piece has more. Else nothing changes.
+    pub(super) fn shorten(&mut self, n: usize) -> bool
+        requires { 0 < length self.old.views }
+        ensures answer { result ≡ nat_lt n (view_len (piece_at self.old.views 0)) }
+        ensures left { IsTrue result → self.new.views ≡ right_pieces self.old.views n }
+        ensures same { IsFalse result → self.new.views ≡ self.old.views }
+    {
+        if n >= self.piece(0).len() {
+            return false;
+        }
+        drop_inside(&mut self.pieces, n);
+        self.base = self.base.wrapping_add(n as u64);
+        true
+    }
+
+    /// Drops the first `n` bytes.
+    pub(super) fn drop_front(&mut self, n: usize)
+        requires { n < length (pieces_bytes self.old.views) }
+        ensures { self.new.views ≡ right_pieces self.old.views n }
+    {
+        let mut left = n;
+        while !self.shorten(left) {
+            left -= self.pop_front().len();
+        }
+    }
+
+    /// The piece that holds a place.
+    pub(super) fn locate(&self, at: usize) -> Located
+        requires { at < length (pieces_bytes self.now.views) }
+        ensures place { IsPlace self.now.views at result.index result.offset }
+        ensures probes { 2 ^ result.probes ≤ 2 * length self.now.views }
+    {
+        let mut ends = Looking {
+            pieces: &self.pieces,
+            base: self.base,
+            place: at as u64,
+            probes: 0,
+        };
+        let index = find_end(&mut ends);
+        Located {
+            index,
+            offset: at - self.start(index),
+            probes: ends.probes(),
+        }
+    }
+
+    // The number of bytes before a piece.
+    fn start(&self, index: usize) -> usize
+        requires { index < length self.now.views }
+        ensures { result ≡ piece_start self.now.views index }
+    {
+        if index == 0 {
+            return 0;
+        }
+        match self.pieces.get(index - 1) {
+            Some(before) => before.end.wrapping_sub(self.base) as usize,
+            None => unreachable!(),
+        }
+    }
+
+    /// Takes the first bytes, of the first piece alone.
+    pub(super) fn split_first(&mut self, at: usize) -> Result<IoBuf, BufError>
+        requires some { 0 < at }
+        requires inside { at ≤ view_len (piece_at self.old.views 0) }
+        ensures answer { IfOk result (λ front. front ∷ [] ≡ left_pieces self.old.views at) }
+        ensures left { OnOk result (self.new.views ≡ right_pieces self.old.views at) }
+        ensures refused { OnErr result (self.new.views ≡ self.old.views) }
+        ensures memory { IsOkUnless result BufError.Memory }
+        ensures whole { at ≡ view_len (piece_at self.old.views 0) → IsOk result }
+    {
+        if at == self.piece(0).len() {
+            return Ok(self.pop_front());
+        }
+        let front = split_first_inside(&mut self.pieces, at)?;
+        self.base = self.base.wrapping_add(at as u64);
+        Ok(front)
+    }
+
+    /// Takes the bytes of the last piece from a place on.
+    pub(super) fn split_last(&mut self, place: Located, at: usize) -> Result<IoBuf, BufError>
+        requires place { IsPlace self.old.views at place.index place.offset }
+        requires last { place.index + 1 ≡ length self.old.views }
+        ensures answer { IfOk result (λ last. last ∷ [] ≡ right_pieces self.old.views at) }
+        ensures left { OnOk result (self.new.views ≡ left_pieces self.old.views at) }
+        ensures refused { OnErr result (self.new.views ≡ self.old.views) }
+        ensures memory { IsOkUnless result BufError.Memory }
+        ensures edge { place.offset ≡ 0 → IsOk result }
+    {
+        let mut piece = self.pieces.pop_back().unwrap();
+        if place.offset == 0 {
+            return Ok(piece.view);
+        }
+        let end = self.base.wrapping_add(at as u64);
+        match split_inside(&mut piece.view, place.offset) {
+            Ok(view) => {
+                self.pieces.push_back_reserved(Piece { view, end });
+                Ok(piece.view)
+            }
+            Err(error) => {
+                self.pieces.push_back_reserved(piece);
+                Err(error)
+            }
+        }
+    }
+
+    /// Takes the first bytes, up to a place, with room for their pieces.
+    pub(super) fn split_left(
+        &mut self,
+        alloc: Global,
+        place: Located,
+        at: usize,
+    ) -> Result<Row, BufError>
+        requires place { IsPlace self.old.views at place.index place.offset }
+        ensures answer { IfOk result (λ front. front.views ≡ left_pieces self.old.views at) }
+        ensures left { OnOk result (self.new.views ≡ right_pieces self.old.views at) }
+        ensures refused { OnErr result (self.new.views ≡ self.old.views) }
+        ensures memory { IsOkUnless result BufError.Memory }
+    {
+        let _count = self.count();
+        let mut front = VecDeque::with_capacity(alloc, place.index + 1)?;
+        let inside = front_of(&self.pieces, place)?;
+        let base = self.base;
+        self.base = base.wrapping_add(at as u64);
+        move_front(&mut self.pieces, &mut front, place.index);
+        cut(
+            &mut front,
+            &mut self.pieces,
+            inside,
+            place.offset,
+            self.base,
+        );
+        Ok(Row {
+            base,
+            pieces: front,
+        })
+    }
+
+    /// The same, with room for the pieces from the place on.
+    pub(super) fn split_right(
+        &mut self,
+        alloc: Global,
+        place: Located,
+        at: usize,
+    ) -> Result<Row, BufError>
+        requires place { IsPlace self.old.views at place.index place.offset }
+        ensures answer { IfOk result (λ front. front.views ≡ left_pieces self.old.views at) }
+        ensures left { OnOk result (self.new.views ≡ right_pieces self.old.views at) }
+        ensures refused { OnErr result (self.new.views ≡ self.old.views) }
+        ensures memory { IsOkUnless result BufError.Memory }
+    {
+        let count = self.count() - place.index;
+        let mut pieces = VecDeque::with_capacity(alloc, count)?;
+        let inside = front_of(&self.pieces, place)?;
+        let base = self.base.wrapping_add(at as u64);
+        move_back(&mut self.pieces, &mut pieces, count);
+        cut(&mut self.pieces, &mut pieces, inside, place.offset, base);
+        Ok(mem::replace(self, Row { base, pieces }))
+    }
+}
 
 /// Takes the first `at` bytes off, some but not all.
 pub(super) fn split_inside(piece: &mut IoBuf, at: usize) -> Result<IoBuf, BufError>
@@ -24,25 +394,73 @@ pub(super) fn split_inside(piece: &mut IoBuf, at: usize) -> Result<IoBuf, BufErr
 }
 
 // The bytes before a place in its piece.
-fn front_of(row: &VecDeque<IoBuf>, place: Place) -> Result<IoBuf, BufError>
-    requires { place.offset < length (piece_at row.now.items place.index).bytes }
-    ensures inside { 0 < place.offset → IfOk result (λ front. front ≡ view_front (piece_at row.now.items place.index) place.offset) }
+fn front_of(row: &VecDeque<Piece>, place: Located) -> Result<IoBuf, BufError>
+    requires { place.offset < view_len (piece_at (views_in row.now.items) place.index) }
+    ensures inside { 0 < place.offset → IfOk result (λ front. front ≡ view_front (piece_at (views_in row.now.items) place.index) place.offset) }
     ensures index { place.index < deque_len row.now }
     ensures memory { IsOkUnless result BufError.Memory }
 {
     let piece = row.get(place.index).unwrap();
-    piece.slice(Bound::Unbounded, Bound::Excluded(place.offset))
+    piece
+        .view
+        .slice(Bound::Unbounded, Bound::Excluded(place.offset))
+}
+
+// Drops bytes of the first piece, which has more.
+fn drop_inside(row: &mut VecDeque<Piece>, n: usize)
+    requires { n < view_len (piece_at (views_in row.old.items) 0) }
+    ensures { row.new.items ≡ shortened row.old.items n }
+{
+    match row.front_mut() {
+        Some(first) => first.view.advance(n),
+        None => unreachable!(),
+    }
+}
+
+// Takes the first bytes off the first piece, which has more.
+fn split_first_inside(row: &mut VecDeque<Piece>, at: usize) -> Result<IoBuf, BufError>
+    requires some { 0 < at }
+    requires inside { at < view_len (piece_at (views_in row.old.items) 0) }
+    ensures front { IfOk result (λ front. front ≡ view_front (piece_at (views_in row.old.items) 0) at) }
+    ensures rest { OnOk result (row.new.items ≡ shortened row.old.items at) }
+    ensures err { OnErr result (row.new.items ≡ row.old.items) }
+    ensures memory { IsOkUnless result BufError.Memory }
+{
+    match row.front_mut() {
+        Some(first) => split_inside(&mut first.view, at),
+        None => unreachable!(),
+    }
+}
+
+// Cuts a piece in two: its first bytes go behind the front pieces, and the first of those behind keeps the others.
+fn cut(
+    front: &mut VecDeque<Piece>,
+    behind: &mut VecDeque<Piece>,
+    inside: IoBuf,
+    offset: usize,
+    end: u64,
+)
+    requires room { deque_len front.old < deque_capacity front.old }
+    requires inside { offset < view_len (piece_at (views_in behind.old.items) 0) }
+    ensures front { front.new.items ≡ front.old.items ++ cut_piece inside end offset }
+    ensures behind { behind.new.items ≡ shortened behind.old.items offset }
+{
+    if offset == 0 {
+        return;
+    }
+    front.push_back_reserved(Piece { view: inside, end });
+    drop_inside(behind, offset);
 }
 
 // Moves the first pieces from one row to the end of the other.
-fn move_front(row: &mut VecDeque<IoBuf>, front: &mut VecDeque<IoBuf>, count: usize)
+fn move_front(row: &mut VecDeque<Piece>, front: &mut VecDeque<Piece>, count: usize)
     requires some { count ≤ deque_len row.old }
     requires room { deque_len front.old + count ≤ deque_capacity front.old }
     ensures moved { front.new.items ≡ front.old.items ++ take count row.old.items }
     ensures left { row.new.items ≡ drop count row.old.items }
     ensures len { deque_len row.new + count ≡ deque_len row.old }
-    ensures row_capacity { deque_capacity row.new ≡ deque_capacity row.old }
     ensures front_len { deque_len front.new ≡ deque_len front.old + count }
+    ensures capacity { deque_capacity row.new ≡ deque_capacity row.old }
     ensures front_capacity { deque_capacity front.new ≡ deque_capacity front.old }
 {
     for _ in 0..count {
@@ -50,48 +468,70 @@ fn move_front(row: &mut VecDeque<IoBuf>, front: &mut VecDeque<IoBuf>, count: usi
     }
 }
 
-/// Takes the pieces of the first `at` bytes, some but not all.
-pub(super) fn cut_row(
-    alloc: Global,
-    row: &mut VecDeque<IoBuf>,
-    at: usize,
-    place: Place,
-) -> Result<VecDeque<IoBuf>, BufError>
-    requires full { AreFull row.old.items }
-    requires some { 0 < at }
-    requires place { IsPlace row.old.items at place.index place.offset }
-    ensures answer { IfOk result (λ front. front.items ≡ left_pieces row.old.items at) }
-    ensures left { OnOk result (row.new.items ≡ right_pieces row.old.items at) }
-    ensures refused { OnErr result (row.new.items ≡ row.old.items) }
-    ensures memory { IsOkUnless result BufError.Memory }
+// Moves the last pieces from one row to the front of the other.
+fn move_back(row: &mut VecDeque<Piece>, back: &mut VecDeque<Piece>, count: usize)
+    requires some { count ≤ deque_len row.old }
+    requires room { deque_len back.old + count ≤ deque_capacity back.old }
+    ensures moved { back.new.items ≡ drop (deque_len row.old - count) row.old.items ++ back.old.items }
+    ensures left { row.new.items ≡ take (deque_len row.old - count) row.old.items }
+    ensures len { deque_len row.new + count ≡ deque_len row.old }
+    ensures capacity { deque_capacity row.new ≡ deque_capacity row.old }
 {
-    let inside = front_of(row, place)?;
-    let mut front = VecDeque::with_capacity(alloc, place.index + 1)?;
-    move_front(row, &mut front, place.index);
-    if place.offset == 0 {
-        return Ok(front);
+    for _ in 0..count {
+        back.push_front_reserved(row.pop_back().unwrap());
     }
-    front.push_back_reserved(inside);
-    let mut head = row.pop_front().unwrap();
-    head.advance(place.offset);
-    row.push_front_reserved(head);
-    Ok(front)
 }
 
-/// Drops the first `at` bytes.
-pub(super) fn drop_row_front(row: &mut VecDeque<IoBuf>, at: usize)
-    requires inside { at < length (pieces_bytes row.old.items) }
-    ensures { row.new.items ≡ right_pieces row.old.items at }
-{
-    let mut left = at;
-    loop {
-        let mut head = row.pop_front().unwrap();
-        let n = head.len();
-        if left < n {
-            head.advance(left);
-            row.push_front_reserved(head);
-            return;
-        }
-        left -= n;
+impl Clone for Row {
+    ghost is_clone = { λ a b. b.views ≡ a.views };
+
+    fn clone(&self) -> Result<Row, AllocError> {
+        Ok(Row {
+            base: self.base,
+            pieces: self.pieces.clone()?,
+        })
+    }
+}
+
+// A place sought among the ends of a row.
+#[derive(Drop)]
+struct Looking<'a> {
+    pieces: &'a VecDeque<Piece>,
+    base: u64,
+    place: u64,
+    probes: u32,
+}
+
+impl<'a> Model for Looking<'a> {
+    ghost use Rattle.iobufs.specs.RowValues.{Sought};
+
+    ghost Value = { Sought };
+
+    ghost use Rattle.iobufs.specs.Ends.{IsSearch, ends_from};
+
+    ghost view = { λ s. record { ends = ends_from s.base s.pieces.now.items; place = s.place; probed = s.probes } };
+
+    ghost invariant = { λ s. IsSearch (ends_from s.base s.pieces.now.items) s.place };
+}
+
+impl<'a> Ends for Looking<'a> {
+    ghost ends = { λ s. s.ends };
+
+    ghost place = { λ s. s.place };
+
+    ghost probed = { λ s. s.probed };
+
+    fn count(&self) -> usize {
+        self.pieces.len()
+    }
+
+    fn past(&mut self, i: usize) -> bool {
+        self.probes += 1;
+        let piece = self.pieces.get(i).unwrap();
+        self.place < piece.end.wrapping_sub(self.base)
+    }
+
+    fn probes(&self) -> u32 {
+        self.probes
     }
 }

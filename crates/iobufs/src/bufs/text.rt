@@ -2,16 +2,20 @@
 ghost use Rattle.std.specs.Fn.{CalledAt};
 ghost use Rattle.std.specs.List.{FoldsTo};
 ghost use Rattle.std.specs.Option.{option_copied};
-ghost use Rattle.std.specs.Prelude.{◌≡◌, ◌+◌, ◌<◌, ◌≤◌, ◌^◌, ◌==◌, [], length, if◌then◌else◌, false, slice_get, IsOk, IfOk, IfErr, OnOk, OnErr, IsOkUnless, IsErrAnd, MatchOption, MatchResult};
+ghost use Rattle.std.specs.Prelude.{◌≡◌, ℕ, List, ◌∷◌, ◌++◌, ◌+◌, ◌*◌, ◌<◌, ◌≤◌, ◌^◌, ◌==◌, [], length, if◌then◌else◌, false, slice_get, IsOk, IfOk, IfErr, OnOk, OnErr, IsOkUnless, IsErrAnd, MatchOption, MatchResult};
 ghost use Rattle.std.specs.Iterator.{IsFinite};
 ghost use Rattle.std.specs.Iterator.Runs.{SomeRun, WholeRun};
+ghost use Rattle.iobufs.specs.Located.{greatest_key, keys_upto};
+ghost use Rattle.iobufs.specs.Pieces.{AreFull, AreViews, of_pieces};
 ghost use Rattle.iobufs.specs.Refusals.{IsRefusedAt};
+ghost use Rattle.iobufs_core.specs.Chunks.{first_chunk};
 ghost use Rattle.iobufs_core.specs.Part.{part_frozen};
 ghost use Rattle.iobufs_core.specs.Recovery.{IsAdopted};
 ghost use Rattle.iobufs_core.specs.View.{View, default_view, bytes_mark, static_mark};
 ghost use Rattle.iobufs_core.specs.MarkedText.{IsMarked, chunk_count as count_of, default_text, is_single, joined, of_view, text_append, text_chunks, text_len, text_prepend, text_rest, text_split_front};
 
-use super::shape::Shape;
+use super::pieces::Pieces;
+use super::row::{Located, Row};
 use bytes::Bytes;
 use iobufs_core::buf::{IoBuf, IoBufMut};
 use iobufs_core::codec::{BufError, Refused};
@@ -21,14 +25,13 @@ use std::mem;
 
 /// A read-only text in pieces (the original's `IoBufs`). Two or more pieces are never empty.
 pub struct IoBufs {
-    pub(super) shape: Shape,
-    pub(super) len: usize,
+    pub(super) pieces: Pieces,
 }
 
 // Written out, so that what a caller proves about a text that it drops names no field.
 impl Drop for IoBufs {
     fn drop(self) {
-        let IoBufs { shape: _, len: _ } = self;
+        let IoBufs { pieces: _ } = self;
     }
 }
 
@@ -56,10 +59,9 @@ impl From<IoBuf> for IoBufs {
     ghost from_gives = { λ piece b. b ≡ of_view piece };
 
     fn from(piece: IoBuf) -> IoBufs {
-        let len = piece.len();
+        let _len = piece.len();
         IoBufs {
-            shape: Shape::of_one(piece),
-            len,
+            pieces: Pieces::One(piece),
         }
     }
 }
@@ -88,13 +90,24 @@ impl IoBufs {
         *self = text;
     }
 
+    /// The pieces of a row, at least one.
+    pub(crate) fn from_row(row: Row) -> IoBufs
+        requires some { 0 < length row.views }
+        requires full { AreFull row.views }
+        requires roomy { AreViews row.views }
+        ensures { result ≡ of_pieces row.views }
+    {
+        IoBufs {
+            pieces: Pieces::from_row(row),
+        }
+    }
+
     /// The number of bytes (`IoBufs::len`).
     pub fn len(&self) -> usize
         ensures value { result ≡ text_len self.now }
         ensures marked { IsMarked self.now }
     {
-        let IoBufs { shape: _, len } = self;
-        *len
+        self.pieces.len()
     }
 
     /// Whether there are no bytes (`IoBufs::is_empty`).
@@ -108,7 +121,7 @@ impl IoBufs {
     pub fn is_single(&self) -> bool
         ensures { result ≡ is_single self.now }
     {
-        self.shape.count() == 1
+        self.pieces.count() == 1
     }
 
     /// The number of pieces that hold bytes.
@@ -119,7 +132,7 @@ impl IoBufs {
         if self.len() == 0 {
             return 0;
         }
-        self.shape.count()
+        self.pieces.count()
     }
 
     /// The bytes of a piece, counted from 0.
@@ -129,7 +142,7 @@ impl IoBufs {
         if self.len() == 0 {
             return None;
         }
-        match self.shape.get(i) {
+        match self.pieces.get(i) {
             Some(piece) => Some(piece.as_ref()),
             None => None,
         }
@@ -140,7 +153,7 @@ impl IoBufs {
         ensures { MatchOption result (is_single self.now ≡ false) (λ piece. self.now ≡ of_view piece.now) }
     {
         if self.is_single() {
-            Some(self.shape.piece(0))
+            Some(self.pieces.piece(0))
         } else {
             None
         }
@@ -150,10 +163,10 @@ impl IoBufs {
     pub fn try_into_single(self) -> Result<IoBuf, IoBufs>
         ensures { MatchResult result (λ piece. self ≡ of_view piece) (λ text. (text ≡ self) × (is_single self ≡ false)) }
     {
-        let IoBufs { shape, len } = self;
-        match shape.into_single() {
+        let IoBufs { pieces } = self;
+        match pieces.into_single() {
             Ok(piece) => Ok(piece),
-            Err(shape) => Err(IoBufs { shape, len }),
+            Err(pieces) => Err(IoBufs { pieces }),
         }
     }
 
@@ -175,19 +188,18 @@ impl IoBufs {
             self.put(IoBufs::from(piece));
             return Ok(());
         }
-        let Some(total) = len.checked_add(more) else {
+        if more > usize::MAX - len {
             return Err(Refused {
                 cause: BufError::TooLong,
                 value: piece,
             });
-        };
-        if let Err(refused) = self.shape.push_back(alloc, piece) {
+        }
+        if let Err(refused) = self.pieces.push_back(alloc, piece) {
             return Err(Refused {
                 cause: BufError::Memory,
                 value: refused.value,
             });
         }
-        self.len = total;
         Ok(())
     }
 
@@ -209,19 +221,18 @@ impl IoBufs {
             self.put(IoBufs::from(piece));
             return Ok(());
         }
-        let Some(total) = len.checked_add(ahead) else {
+        if ahead > usize::MAX - len {
             return Err(Refused {
                 cause: BufError::TooLong,
                 value: piece,
             });
-        };
-        if let Err(refused) = self.shape.push_front(alloc, piece) {
+        }
+        if let Err(refused) = self.pieces.push_front(alloc, piece) {
             return Err(Refused {
                 cause: BufError::Memory,
                 value: refused.value,
             });
         }
-        self.len = total;
         Ok(())
     }
 
@@ -234,6 +245,8 @@ impl IoBufs {
         ensures memory { IsOkUnless result BufError.Memory }
         ensures nothing { at ≡ 0 → IsOk result }
         ensures whole { at ≡ text_len self.old → IsOk result }
+        ensures first { at ≡ length (first_chunk (text_chunks self.old)) → IsOk result }
+        ensures last { (front : List (List ℕ)) (chunk : List ℕ) → text_chunks self.old ≡ front ++ chunk ∷ [] → at + length chunk ≡ text_len self.old → IsOk result }
     {
         if at == 0 {
             return Ok(IoBufs::default());
@@ -241,12 +254,8 @@ impl IoBufs {
         if at == self.len() {
             return Ok(mem::take(self));
         }
-        let front = self.shape.split_front(alloc, at)?;
-        self.len -= at;
-        Ok(IoBufs {
-            shape: front,
-            len: at,
-        })
+        let pieces = self.pieces.split_front(alloc, at)?;
+        Ok(IoBufs { pieces })
     }
 }
 
@@ -287,16 +296,31 @@ impl IoBufs {
         Ok(text)
     }
 
+    /// The piece that holds a place, and the bytes before it there, by a search among the ends (the original has no
+    /// such call).
+    pub fn locate(&self, at: usize) -> Located
+        requires { at < text_len self.now }
+        ensures index { result.index + 1 ≡ keys_upto self.now at }
+        ensures offset { greatest_key self.now at + result.offset ≡ at }
+        ensures probes { 2 ^ result.probes ≤ 2 * count_of self.now }
+        ensures digits { (d : ℕ) → count_of self.now < 2 ^ d → result.probes ≤ d }
+    {
+        self.pieces.locate(at)
+    }
+
     /// Shows each piece that holds bytes, in order.
     pub fn for_each_chunk<F: FnMut(&[u8])>(&self, mut visit: F)
         requires { F.IsAlwaysCallable visit }
         ensures { (last : F)
             × FoldsTo (λ before chunk after. CalledAt F.FnMut before chunk tt after) visit (text_chunks self.now) last }
     {
-        for i in 0..self.chunk_count() {
-            if let Some(chunk) = self.chunk_at(i) {
-                visit(chunk);
+        match &self.pieces {
+            Pieces::One(piece) => {
+                if piece.len() != 0 {
+                    visit(piece.as_ref());
+                }
             }
+            Pieces::Many(row) => row.for_each(visit),
         }
     }
 }
@@ -305,10 +329,7 @@ impl Clone for IoBufs {
     ghost is_clone = { λ a b. b ≡ a };
 
     fn clone(&self) -> Result<IoBufs, AllocError> {
-        let shape = self.shape.clone()?;
-        Ok(IoBufs {
-            shape,
-            len: self.len,
-        })
+        let pieces = self.pieces.clone()?;
+        Ok(IoBufs { pieces })
     }
 }

@@ -1,17 +1,18 @@
 use Rattle.std.proofs.Common.{ap, ◌∙◌, arith}
 use Rattle.iobufs.specs.Pieces.{of_pieces}
-use Rattle.iobufs.proofs.TextLaws.{len-kept, full-kept, append-pieces, kept-push}
+use Rattle.iobufs.proofs.TextLaws.{length-kept, full-kept, append-pieces, kept-push}
 use Rattle.iobufs.proofs.bufs.text.IoBufs.append.Goals as goal
 
 pub push_back-requires-clause-full : goal.push_back-requires-clause-full
 push_back-requires-clause-full c =
-    let n = len-kept _ _ c.self.view_is c.self.invariant in
-    full-kept c.self.inside c.self.invariant (omega arith)
+    let n = length-kept c.self.inside _ c.self.view_is in
+    full-kept c.self.inside _ c.self.view_is c.self.invariant (omega arith)
 
 pub invariant_of-self-2 : goal.invariant_of-self-2
-invariant_of-self-2 c =
-    let n = len-kept _ _ c.self.view_is c.self.invariant in
-    kept-push c.self.inside c.in-Some.total _ c.args.piece c.self.invariant c.push_back.ensures.shaped c.in_default-push_back.ensures.done c.len-more.ensures.room (omega (arith, n, c.in-Some.ensures.1))
+invariant_of-self-2 c = kept-push c.self.inside _ c.args.piece c.self.invariant c.push_back.ensures.pieced c.in_default.ensures.done c.len-more.ensures.room
 
 pub returns-clause-done : goal.returns-clause-done
-returns-clause-done c = ap of_pieces c.in_default-push_back.ensures.done ∙ append-pieces _ _ _ c.self.view_is (omega arith) (omega arith)
+returns-clause-done c = ap of_pieces c.in_default.ensures.done ∙ append-pieces _ _ _ c.self.view_is (omega arith) (omega arith)
+
+pub push_back-requires-clause-fits : goal.push_back-requires-clause-fits
+push_back-requires-clause-fits c = omega (arith, length-kept c.self.inside _ c.self.view_is)

@@ -3,7 +3,7 @@ use Rattle.std.proofs.lemmas.Bool.Decides.{nat_tests}
 use Rattle.iobufs_core.specs.MarkedText.{chunk_count, text_len}
 use Rattle.iobufs_core.specs.Chunked.{length-text_chunks}
 use Rattle.iobufs.proofs.ChunkLaws.{chunks-of_empty}
-use Rattle.iobufs.proofs.TextLaws.{count-pieces, len-kept}
+use Rattle.iobufs.proofs.TextLaws.{count-pieces, length-kept}
 use Rattle.iobufs.proofs.bufs.text.IoBufs.chunk_count.Goals as goal
 
 pub returns-then-len-eq0-clause-chunks : goal.returns-then-len-eq0-clause-chunks
@@ -13,14 +13,14 @@ returns-then-len-eq0-clause-chunks c =
 
 pub returns-clause-keys : goal.returns-clause-keys
 returns-clause-keys c =
-    let n = len-kept _ _ c.self.view_is c.self.invariant in
-    c.count.ensures ∙ count-pieces _ _ c.self.view_is (omega (arith, c.self.invariant.counted))
+    let n = length-kept c.self.inside _ c.self.view_is in
+    c.count.ensures ∙ count-pieces _ _ c.self.view_is (omega (arith))
 
 pub returns-clause-chunks : goal.returns-clause-chunks
 returns-clause-chunks c =
     let text = c.args.self.now in
-    let n = len-kept _ _ c.self.view_is c.self.invariant in
-    let keys : c.count.result ≡ chunk_count text = c.count.ensures ∙ count-pieces _ _ c.self.view_is (omega (arith, c.self.invariant.counted)) in
+    let n = length-kept c.self.inside _ c.self.view_is in
+    let keys : c.count.result ≡ chunk_count text = c.count.ensures ∙ count-pieces _ _ c.self.view_is (omega (arith)) in
     let value = c.len.ensures.value in
     let some : 0 < text_len text = omega arith in
     let chunks = length-text_chunks text c.len.ensures.marked some in

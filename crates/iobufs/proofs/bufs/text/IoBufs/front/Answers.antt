@@ -1,6 +1,5 @@
 use Rattle.std.proofs.Common.{arith, ap, ◌∙◌, take}
-use Rattle.iobufs.proofs.ReadLaws.{length-kept}
-use Rattle.iobufs.proofs.TextLaws.{bytes-kept}
+use Rattle.iobufs.proofs.TextLaws.{length-kept, bytes-kept}
 use Rattle.iobufs.proofs.bufs.text.IoBufs.front.Goals as goal
 
 pub front-requires : goal.front-requires

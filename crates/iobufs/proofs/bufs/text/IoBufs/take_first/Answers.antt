@@ -1,36 +1,27 @@
 use Rattle.std.proofs.Common.{arith, sym, subst, ap, ◌∙◌, length}
-use Rattle.iobufs.specs.Shapes.{pieces}
+use Rattle.iobufs.specs.Several.{views}
 use Rattle.iobufs.proofs.ReadLaws.{first-kept, first-rest, first-whole, kept-behind, length-behind}
-use Rattle.iobufs.proofs.TextLaws.{full-kept}
+use Rattle.iobufs.proofs.TextLaws.{length-kept, full-kept}
 use Rattle.iobufs.proofs.bufs.text.IoBufs.take_first.Goals as goal
 
 pub take_first-requires-clause-full : goal.take_first-requires-clause-full
 take_first-requires-clause-full g c =
     let s = c.self.inside in
-    let n = c.requires.first ∙ sym (ap length (first-kept s.shape _ c.self.view_is c.self.invariant.shaped)) in
-    full-kept s c.self.invariant (omega (arith, n, c.requires.some, length-behind (pieces s.shape), c.self.invariant.counted))
-
-pub overflow_sub-self : goal.overflow_sub-self
-overflow_sub-self g c =
-    let s = c.self.inside in
-    let n = c.requires.first ∙ sym (ap length (first-kept s.shape _ c.self.view_is c.self.invariant.shaped)) in
-    omega (arith, n, length-behind (pieces s.shape), c.self.invariant.counted)
+    let n = c.requires.first ∙ sym (ap length (first-kept s.pieces _ c.self.view_is c.self.invariant.pieced)) in
+    full-kept s _ c.self.view_is c.self.invariant (omega (arith, n, c.requires.some, length-behind (views s.pieces), length-kept s _ c.self.view_is))
 
 pub invariant_of-self-2 : goal.invariant_of-self-2
-invariant_of-self-2 g c =
-    let s = c.self.inside in
-    let n = c.requires.first ∙ sym (ap length (first-kept s.shape _ c.self.view_is c.self.invariant.shaped)) in
-    kept-behind s c.args.n _ c.self.invariant c.in_ok-made.ensures.shaped n c.in_ok-made.ensures.left
+invariant_of-self-2 g c = kept-behind c.self.inside _ c.self.invariant c.in_ok-made.ensures.pieced c.in_ok-made.ensures.left
 
 pub returns-clause-ok : goal.returns-clause-ok
 returns-clause-ok g c =
     let s = c.self.inside in
-    let n = c.requires.first ∙ sym (ap length (first-kept s.shape _ c.self.view_is c.self.invariant.shaped)) in
-    subst (λ view. g.T.OwnedBytes.makes view c.in_ok-made.made) (sym (first-whole (pieces s.shape) _ c.args.n c.self.view_is c.requires.some n)) c.in_ok-made.ensures.made
+    let n = c.requires.first ∙ sym (ap length (first-kept s.pieces _ c.self.view_is c.self.invariant.pieced)) in
+    subst (λ view. g.T.OwnedBytes.makes view c.in_ok-made.made) (sym (first-whole (views s.pieces) _ c.args.n c.self.view_is c.requires.some n)) c.in_ok-made.ensures.made
 
 pub returns-clause-rest : goal.returns-clause-rest
 returns-clause-rest g c =
     let s = c.self.inside in
-    let n = c.requires.first ∙ sym (ap length (first-kept s.shape _ c.self.view_is c.self.invariant.shaped)) in
-    let full = full-kept s c.self.invariant (omega (arith, n, c.requires.some, length-behind (pieces s.shape), c.self.invariant.counted)) in
-    first-rest (pieces s.shape) _ _ c.args.n c.self.view_is full c.requires.some n c.in_ok-made.ensures.left
+    let n = c.requires.first ∙ sym (ap length (first-kept s.pieces _ c.self.view_is c.self.invariant.pieced)) in
+    let full = full-kept s _ c.self.view_is c.self.invariant (omega (arith, n, c.requires.some, length-behind (views s.pieces), length-kept s _ c.self.view_is)) in
+    first-rest (views s.pieces) _ _ c.args.n c.self.view_is full c.requires.some n c.in_ok-made.ensures.left

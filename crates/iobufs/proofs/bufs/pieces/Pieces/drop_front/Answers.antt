@@ -1,0 +1,10 @@
+use Rattle.std.proofs.Common.{ap}
+use Rattle.iobufs.specs.Several.{views}
+use Rattle.iobufs.proofs.SeveralLaws.{right-full}
+use Rattle.iobufs.proofs.bufs.pieces.Pieces.drop_front.Goals as goal
+
+pub settle-requires-clause-some : goal.settle-requires-clause-some
+settle-requires-clause-some c = (right-full c.args.self.now _ _ c.args.n (ap views c.in-Many.is) c.requires.full c.requires.inside c.drop_front.ensures).1
+
+pub settle-requires-clause-full : goal.settle-requires-clause-full
+settle-requires-clause-full c = (right-full c.args.self.now _ _ c.args.n (ap views c.in-Many.is) c.requires.full c.requires.inside c.drop_front.ensures).0

@@ -1,0 +1,20 @@
+use Rattle.std.proofs.Common.{◌-◌, ap, ◌∙◌, arith, length, min, refl}
+use Rattle.iobufs_core.specs.View.{View}
+use Rattle.iobufs.specs.Several.{views}
+use Rattle.iobufs.proofs.CopyLaws.{copied-step}
+use Rattle.iobufs.proofs.bufs.pieces.Pieces.front.Goals as goal
+
+pub loop-bytes-preserved : goal.loop-bytes-preserved
+loop-bytes-preserved c =
+    let l = c.loop-bytes in
+    let copy = l.copy.items in
+    let bytes = c.as_ref-bytes.result.now in
+    let is = c.as_ref-bytes.ensures ∙ ap (λ (v : View). v.bytes) c.piece.ensures in
+    let count = c.min-some.ensures ∙ ap (λ n. min (length bytes) (c.args.n - n)) (c.len-in-loop-bytes.ensures ∙ l.copy.ok.0) in
+    let step =
+    copied-step (views c.args.self.now) l.index 0 c.args.n (length copy) c.min-some.result copy c.extend_from_slice.new.self.items bytes _ (omega arith) (omega arith) is l.invariant.some refl (omega (arith, l.invariant.left)) l.invariant.so_far count c.in_ok-extend_from_slice.ensures.items in
+    record {
+      some = step.0;
+      left = step.1;
+      so_far = step.2;
+    }

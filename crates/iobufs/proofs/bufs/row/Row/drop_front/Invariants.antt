@@ -1,0 +1,13 @@
+use Rattle.std.proofs.Common.{◌≡◌, ◌<◌, length}
+use Rattle.iobufs.specs.Pieces.{right_pieces, pieces_bytes}
+use Rattle.iobufs.proofs.bufs.row.Row.drop_front.Given as goal
+
+abbrev pub invariant-loop-self : goal.invariant-loop-self
+invariant-loop-self l =
+    record {
+      inside : l.left < length (pieces_bytes l.self.views);
+      kept : right_pieces l.self.views l.left ≡ right_pieces l.initial.self.views l.n;
+    }
+
+abbrev pub decreases-loop-self : goal.decreases-loop-self
+decreases-loop-self l = length l.self.views

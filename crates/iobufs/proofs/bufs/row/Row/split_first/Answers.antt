@@ -1,0 +1,26 @@
+use Rattle.std.proofs.Common.{ap, arith, length, subst}
+use Rattle.iobufs_core.specs.View.{View}
+use Rattle.iobufs.specs.Pieces.{AreFull, piece_at, view_len}
+use Rattle.iobufs.specs.RowValues.{ViewRow}
+use Rattle.iobufs.proofs.EndLaws.{row-shorten}
+use Rattle.iobufs.proofs.RowLaws.{first-left, first-right}
+use Rattle.iobufs.proofs.bufs.row.Row.split_first.Goals as goal
+
+pub returns-then-at-len-clause-answer : goal.returns-then-at-len-clause-answer
+returns-then-at-len-clause-answer c =
+    let first = ap (λ (vs : _). view_len (piece_at vs 0)) c.pop_front.ensures in
+    let len = ap (λ (v : View). length v.bytes) c.piece.ensures in
+    first-left _ _ c.pop_front.result c.args.at c.pop_front.ensures c.requires.some (omega arith)
+
+pub returns-then-at-len-clause-left : goal.returns-then-at-len-clause-left
+returns-then-at-len-clause-left c =
+    let first = ap (λ (vs : _). view_len (piece_at vs 0)) c.pop_front.ensures in
+    let len = ap (λ (v : View). length v.bytes) c.piece.ensures in
+    let full = subst (λ (r : ViewRow). AreFull r.views) c.self.view_is c.self.invariant.full in
+    first-right _ _ c.pop_front.result c.args.at c.pop_front.ensures full (omega arith)
+
+pub invariant_of-self-2 : goal.invariant_of-self-2
+invariant_of-self-2 c =
+    let n = ap (λ (r : ViewRow). view_len (piece_at r.views 0)) c.self.view_is in
+    let len = ap (λ (v : View). length v.bytes) c.piece.ensures in
+    row-shorten c.self.inside.base c.args.at _ _ c.self.invariant (omega (arith, c.requires.inside)) c.in_ok-front.ensures.rest

@@ -1,0 +1,8 @@
+use Rattle.std.proofs.Common.{◌++◌, ap, ◌∙◌}
+use Rattle.std.specs.Option.{option_to_list}
+use Rattle.iobufs.proofs.EndLaws.{row-pop}
+use Rattle.iobufs.proofs.bufs.row.Row.take_first.Goals as goal
+
+pub invariant_of-self : goal.invariant_of-self
+invariant_of-self g c =
+    row-pop c.self.inside.base c.unwrap-piece.result c.pop_front.new.self.items _ c.self.invariant (c.pop_front.ensures.items ∙ ap (λ piece. option_to_list piece ++ c.pop_front.new.self.items) c.unwrap-piece.ensures)

@@ -1,8 +1,0 @@
-use Rattle.std.proofs.Common.{ap, ◌∙◌, arith}
-use Rattle.iobufs_core.specs.View.{View}
-use Rattle.iobufs.proofs.CopyLaws.{chunks-step}
-use Rattle.iobufs.proofs.bufs.shape.Shape.chunks.Goals as goal
-
-pub loop-index-preserved : goal.loop-index-preserved
-loop-index-preserved c =
-    chunks-step (λ x. x.now) _ _ _ _ _ (omega arith) c.loop-index.invariant (c.as_ref.ensures ∙ ap (λ (v : View). v.bytes) c.piece.ensures) c.in_ok-push.ensures.items

@@ -1,0 +1,24 @@
+use Rattle.std.proofs.Common.{sym, ◌∙◌, arith}
+use Rattle.std.proofs.lemmas.Bool.{ltb-true}
+use Rattle.iobufs.specs.Pieces.{piece_at, view_len}
+use Rattle.iobufs.specs.Several.{views}
+use Rattle.iobufs.proofs.ReadLaws.{first-inside, short-rest}
+use Rattle.iobufs.proofs.TextLaws.{kept-short, full-kept, length-kept}
+use Rattle.iobufs.proofs.bufs.text.IoBufs.shorten.Goals as goal
+
+pub returns-clause-rest : goal.returns-clause-rest
+returns-clause-rest c = λ yes.
+    let s = c.self.inside in
+    let short = ltb-true c.args.n (view_len (piece_at (views s.pieces) 0)) (sym c.shorten.ensures.answer ∙ yes) in
+    let inside = first-inside (views s.pieces) c.args.n short in
+    let full = full-kept s _ c.self.view_is c.self.invariant (omega (arith, inside, length-kept s _ c.self.view_is)) in
+    short-rest (views s.pieces) _ _ c.args.n c.self.view_is full short (c.shorten.ensures.left yes)
+
+pub returns-clause-inside : goal.returns-clause-inside
+returns-clause-inside c = λ yes.
+    let s = c.self.inside in
+    let short = ltb-true c.args.n (view_len (piece_at (views s.pieces) 0)) (sym c.shorten.ensures.answer ∙ yes) in
+    omega (arith, first-inside (views s.pieces) c.args.n short, length-kept s _ c.self.view_is)
+
+pub invariant_of-self : goal.invariant_of-self
+invariant_of-self c = kept-short c.self.inside c.args.n _ c.shorten.result c.self.invariant c.shorten.ensures.pieced c.shorten.ensures.left c.shorten.ensures.same

@@ -1,0 +1,29 @@
+use Rattle.std.proofs.Common.{◌+◌, ap, ◌∙◌, arith, length, refl}
+use Rattle.std.specs.declared.ops.Bound.TheVariants.{Included, Excluded}
+use Rattle.iobufs_core.specs.View.{View, view_slice}
+use Rattle.iobufs.specs.Several.{views}
+use Rattle.iobufs.proofs.ReadLaws.{taken-within, taken-across, rest-length, as_view}
+use Rattle.iobufs.proofs.TextLaws.{length-kept}
+use Rattle.iobufs.proofs.bufs.text.IoBufs.taken_behind.Goals as goal
+
+pub locate-place-requires : goal.locate-place-requires
+locate-place-requires c = omega (arith, c.requires.inside, c.requires.some, length-kept c.self.inside _ c.self.view_is)
+
+pub returns-then-n-len-clause-ok : goal.returns-then-n-len-clause-ok
+returns-then-n-len-clause-ok c =
+    let n = length-kept c.self.inside _ c.self.view_is in
+    let o = c.locate-place.result.offset in
+    let within = taken-within _ c.args.self.now c.args.skip c.args.n _ o c.self.view_is c.locate-place.ensures.place (omega (arith, c.requires.inside, c.requires.some)) (omega arith) (omega (arith, ap (λ (v : View). length v.bytes) c.piece-piece.ensures)) in
+    as_view c.slice.result _ _ (ap (λ v. view_slice v (Included o) (Excluded (o + c.args.n))) c.piece-piece.ensures ∙ within) c.slice.ensures.ok
+
+pub copied-requires-clause-inside : goal.copied-requires-clause-inside
+copied-requires-clause-inside c =
+    let n = length-kept c.self.inside _ c.self.view_is in
+    let rest = rest-length (views c.self.inside.pieces) c.locate-place.result.index in
+    omega (arith, c.requires.inside, c.requires.some, c.locate-place.ensures.place.sum)
+
+pub returns-in-Ok-clause-ok : goal.returns-in-Ok-clause-ok
+returns-in-Ok-clause-ok c =
+    let n = length-kept c.self.inside _ c.self.view_is in
+    let across = taken-across _ c.args.self.now c.args.skip c.args.n _ _ _ c.self.view_is c.locate-place.ensures.place (omega (arith, c.requires.inside, c.requires.some)) (omega (arith, ap (λ (v : View). length v.bytes) c.piece-piece.ensures)) refl in
+    c.in-Ok.ensures.ok ∙ across

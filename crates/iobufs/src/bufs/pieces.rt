@@ -1,0 +1,351 @@
+// One piece, or a row of several.
+ghost use Rattle.std.specs.Option.{option_copied};
+ghost use Rattle.std.specs.Prelude.{◌≡◌, List, ◌+◌, ◌*◌, ◌<◌, ◌≤◌, ◌^◌, ◌++◌, [], ◌∷◌, nat_lt, OnOk, OnErr, IfOk, IfErr, IsOk, IsTrue, IsFalse, IsOkUnless, MatchResult, length, slice_get};
+ghost use Rattle.iobufs_core.specs.View.{View, view_advanced};
+ghost use Rattle.iobufs.specs.Pieces.{AreFull, IsPlace, behind_first, left_pieces, right_pieces, piece_at, pieces_bytes, view_len};
+ghost use Rattle.iobufs.specs.Several.{views, IsPieced};
+
+use super::row::{Located, Row, split_inside};
+use iobufs_core::buf::IoBuf;
+use iobufs_core::codec::{Buf, BufError, OwnedBytes};
+use std::alloc::{AllocError, AllocFailed, Global};
+use std::mem;
+
+/// The pieces of a text: one, or a row of two and more.
+#[derive(Drop)]
+pub(super) enum Pieces {
+    One(IoBuf),
+    Many(Row),
+}
+
+impl Pieces {
+    // The old pieces go here, and not in each place that puts new ones.
+    fn put(&mut self, pieces: Pieces)
+        ensures { self.new ≡ pieces }
+    {
+        *self = pieces;
+    }
+
+    /// The pieces of a row, at least one.
+    pub(super) fn from_row(row: Row) -> Pieces
+        requires some { 0 < length row.views }
+        requires full { AreFull row.views }
+        ensures same { views result ≡ row.views }
+        ensures pieced { IsPieced result }
+    {
+        let mut pieces = Pieces::Many(row);
+        pieces.settle();
+        pieces
+    }
+
+    pub(super) fn count(&self) -> usize
+        ensures { result ≡ length (views self.now) }
+    {
+        match self {
+            Pieces::One(_) => 1,
+            Pieces::Many(row) => row.count(),
+        }
+    }
+
+    /// The number of bytes.
+    pub(super) fn len(&self) -> usize
+        ensures { result ≡ length (pieces_bytes (views self.now)) }
+    {
+        match self {
+            Pieces::One(piece) => piece.len(),
+            Pieces::Many(row) => row.len(),
+        }
+    }
+
+    pub(super) fn get(&self, i: usize) -> Option<&IoBuf>
+        ensures { option_copied result ≡ slice_get (views self.now) i }
+    {
+        match self {
+            Pieces::One(piece) => match i {
+                0 => Some(piece),
+                _ => None,
+            },
+            Pieces::Many(row) => row.get(i),
+        }
+    }
+
+    pub(super) fn piece(&self, i: usize) -> &IoBuf
+        requires { i < length (views self.now) }
+        ensures { result.now ≡ piece_at (views self.now) i }
+    {
+        self.get(i).unwrap()
+    }
+
+    /// The only piece; the pieces themselves where there are more.
+    pub(super) fn into_single(self) -> Result<IoBuf, Pieces>
+        requires { IsPieced self }
+        ensures { MatchResult result (λ piece. views self ≡ piece ∷ []) (λ pieces. (pieces ≡ self) × (1 < length (views self))) }
+    {
+        match self {
+            Pieces::One(piece) => Ok(piece),
+            pieces => Err(pieces),
+        }
+    }
+
+    /// Drops the first `n` bytes where the first piece has more. Else nothing changes.
+    pub(super) fn shorten(&mut self, n: usize) -> bool
+        requires pieced { IsPieced self.old }
+        ensures answer { result ≡ nat_lt n (view_len (piece_at (views self.old) 0)) }
+        ensures left { IsTrue result → views self.new ≡ right_pieces (views self.old) n }
+        ensures same { IsFalse result → views self.new ≡ views self.old }
+        ensures pieced { IsPieced self.new }
+    {
+        match self {
+            Pieces::One(piece) => {
+                if n >= piece.len() {
+                    return false;
+                }
+                piece.advance(n);
+                true
+            }
+            Pieces::Many(row) => row.shorten(n),
+        }
+    }
+
+    /// Drops bytes of the only piece, which keeps its mark even where all go.
+    pub(super) fn drop_single(&mut self, n: usize)
+        requires pieced { IsPieced self.old }
+        requires single { length (views self.old) ≡ 1 }
+        requires inside { n ≤ length (piece_at (views self.old) 0).bytes }
+        ensures left { views self.new ≡ view_advanced (piece_at (views self.old) 0) n ∷ [] }
+        ensures pieced { IsPieced self.new }
+    {
+        match self {
+            Pieces::One(piece) => piece.advance(n),
+            Pieces::Many(_) => unreachable!(),
+        }
+    }
+
+    /// Drops the first `n` bytes.
+    pub(super) fn drop_front(&mut self, n: usize)
+        requires pieced { IsPieced self.old }
+        requires full { AreFull (views self.old) }
+        requires inside { n < length (pieces_bytes (views self.old)) }
+        ensures left { views self.new ≡ right_pieces (views self.old) n }
+        ensures pieced { IsPieced self.new }
+    {
+        match self {
+            Pieces::One(piece) => piece.advance(n),
+            Pieces::Many(row) => {
+                row.drop_front(n);
+                self.settle();
+            }
+        }
+    }
+
+    // A row of one piece becomes that piece.
+    fn settle(&mut self)
+        requires some { 0 < length (views self.old) }
+        requires full { AreFull (views self.old) }
+        ensures same { views self.new ≡ views self.old }
+        ensures pieced { IsPieced self.new }
+    {
+        if let Pieces::Many(row) = self {
+            if row.count() == 1 {
+                let last = row.pop_front();
+                self.put(Pieces::One(last));
+            }
+        }
+    }
+
+    /// What is made of the first piece, which goes; an only one leaves an empty one.
+    pub(super) fn take_first<T: OwnedBytes>(&mut self, alloc: Global) -> Result<T, BufError>
+        requires pieced { IsPieced self.old }
+        requires full { AreFull (views self.old) }
+        ensures made { IfOk result (T.makes (piece_at (views self.old) 0)) }
+        ensures left { OnOk result (views self.new ≡ behind_first (views self.old)) }
+        ensures pieced { IsPieced self.new }
+        ensures refused { OnErr result (views self.new ≡ views self.old) }
+        ensures memory { IsOkUnless result BufError.Memory }
+    {
+        match self {
+            Pieces::One(piece) => T::take_view(alloc, piece),
+            Pieces::Many(row) => {
+                let made = row.take_first(alloc)?;
+                self.settle();
+                Ok(made)
+            }
+        }
+    }
+
+    /// The piece that holds a place.
+    pub(super) fn locate(&self, at: usize) -> Located
+        requires { at < length (pieces_bytes (views self.now)) }
+        ensures place { IsPlace (views self.now) at result.index result.offset }
+        ensures probes { 2 ^ result.probes ≤ 2 * length (views self.now) }
+    {
+        match self {
+            Pieces::One(_) => Located {
+                index: 0,
+                offset: at,
+                probes: 0,
+            },
+            Pieces::Many(row) => row.locate(at),
+        }
+    }
+
+    /// Takes the first `at` bytes, some but not all.
+    pub(super) fn split_front(&mut self, alloc: Global, at: usize) -> Result<Pieces, BufError>
+        requires pieced { IsPieced self.old }
+        requires full { AreFull (views self.old) }
+        requires some { 0 < at }
+        requires inside { at < length (pieces_bytes (views self.old)) }
+        ensures answer { IfOk result (λ front. views front ≡ left_pieces (views self.old) at) }
+        ensures front_pieced { IfOk result IsPieced }
+        ensures left { OnOk result (views self.new ≡ right_pieces (views self.old) at) }
+        ensures pieced { IsPieced self.new }
+        ensures refused { OnErr result (views self.new ≡ views self.old) }
+        ensures memory { IsOkUnless result BufError.Memory }
+        ensures first { at ≡ view_len (piece_at (views self.old) 0) → IsOk result }
+        ensures last { (front : List View) (last : View) → views self.old ≡ front ++ last ∷ [] → at + view_len last ≡ length (pieces_bytes (views self.old)) → IsOk result }
+    {
+        match self {
+            Pieces::One(piece) => Ok(Pieces::One(split_inside(piece, at)?)),
+            Pieces::Many(row) => {
+                if at <= row.piece(0).len() {
+                    let front = row.split_first(at)?;
+                    self.settle();
+                    return Ok(Pieces::One(front));
+                }
+                self.split_row(alloc, at)
+            }
+        }
+    }
+
+    // The same behind the first piece: room is made for the side with fewer pieces, and none for a side of one.
+    #[inline(never)]
+    fn split_row(&mut self, alloc: Global, at: usize) -> Result<Pieces, BufError>
+        requires pieced { IsPieced self.old }
+        requires full { AreFull (views self.old) }
+        requires some { 0 < at }
+        requires behind { view_len (piece_at (views self.old) 0) < at }
+        requires inside { at < length (pieces_bytes (views self.old)) }
+        ensures answer { IfOk result (λ front. views front ≡ left_pieces (views self.old) at) }
+        ensures front_pieced { IfOk result IsPieced }
+        ensures left { OnOk result (views self.new ≡ right_pieces (views self.old) at) }
+        ensures pieced { IsPieced self.new }
+        ensures refused { OnErr result (views self.new ≡ views self.old) }
+        ensures memory { IsOkUnless result BufError.Memory }
+        ensures last { (front : List View) (last : View) → views self.old ≡ front ++ last ∷ [] → at + view_len last ≡ length (pieces_bytes (views self.old)) → IsOk result }
+    {
+        let Pieces::Many(row) = self else {
+            unreachable!()
+        };
+        let place = row.locate(at);
+        let behind = row.count() - place.index;
+        if behind == 1 {
+            let last = row.split_last(place, at)?;
+            return Ok(mem::replace(self, Pieces::One(last)));
+        }
+        if place.index < behind {
+            return Ok(Pieces::Many(row.split_left(alloc, place, at)?));
+        }
+        Ok(Pieces::Many(row.split_right(alloc, place, at)?))
+    }
+
+    pub(super) fn push_back(
+        &mut self,
+        alloc: Global,
+        piece: IoBuf,
+    ) -> Result<(), AllocFailed<IoBuf>>
+        requires pieced { IsPieced self.old }
+        requires full { AreFull (views self.old) }
+        requires some { 0 < length piece.bytes }
+        requires fits { length (pieces_bytes (views self.old)) + length piece.bytes < 2 ^ 64 }
+        ensures pieced { IsPieced self.new }
+        ensures done { OnOk result (views self.new ≡ views self.old ++ piece ∷ []) }
+        ensures refused { OnErr result (views self.new ≡ views self.old) }
+        ensures handed_back { IfErr result (λ e. e.value ≡ piece) }
+    {
+        match self {
+            Pieces::One(_) => self.push_second(alloc, piece),
+            Pieces::Many(row) => Ok(row.push_back(piece)?),
+        }
+    }
+
+    // The same where there is one piece up to now: a row is made, with room for four.
+    #[inline(never)]
+    fn push_second(&mut self, alloc: Global, piece: IoBuf) -> Result<(), AllocFailed<IoBuf>>
+        requires single { length (views self.old) ≡ 1 }
+        requires pieced { IsPieced self.old }
+        requires full { AreFull (views self.old) }
+        requires some { 0 < length piece.bytes }
+        requires fits { length (pieces_bytes (views self.old)) + length piece.bytes < 2 ^ 64 }
+        ensures pieced { IsPieced self.new }
+        ensures done { OnOk result (views self.new ≡ views self.old ++ piece ∷ []) }
+        ensures refused { OnErr result (views self.new ≡ views self.old) }
+        ensures handed_back { IfErr result (λ e. e.value ≡ piece) }
+    {
+        let Pieces::One(only) = self else {
+            unreachable!()
+        };
+        let Ok(mut row) = Row::with_room(alloc, 4) else {
+            return Err(AllocFailed { value: piece });
+        };
+        row.push_back_reserved(mem::take(only));
+        row.push_back_reserved(piece);
+        self.put(Pieces::Many(row));
+        Ok(())
+    }
+
+    pub(super) fn push_front(
+        &mut self,
+        alloc: Global,
+        piece: IoBuf,
+    ) -> Result<(), AllocFailed<IoBuf>>
+        requires pieced { IsPieced self.old }
+        requires full { AreFull (views self.old) }
+        requires some { 0 < length piece.bytes }
+        requires fits { length (pieces_bytes (views self.old)) + length piece.bytes < 2 ^ 64 }
+        ensures pieced { IsPieced self.new }
+        ensures done { OnOk result (views self.new ≡ piece ∷ views self.old) }
+        ensures refused { OnErr result (views self.new ≡ views self.old) }
+        ensures handed_back { IfErr result (λ e. e.value ≡ piece) }
+    {
+        match self {
+            Pieces::One(_) => self.push_first(alloc, piece),
+            Pieces::Many(row) => row.push_front(piece),
+        }
+    }
+
+    // The same where there is one piece up to now: a row is made, with room for four.
+    #[inline(never)]
+    fn push_first(&mut self, alloc: Global, piece: IoBuf) -> Result<(), AllocFailed<IoBuf>>
+        requires single { length (views self.old) ≡ 1 }
+        requires pieced { IsPieced self.old }
+        requires full { AreFull (views self.old) }
+        requires some { 0 < length piece.bytes }
+        requires fits { length (pieces_bytes (views self.old)) + length piece.bytes < 2 ^ 64 }
+        ensures pieced { IsPieced self.new }
+        ensures done { OnOk result (views self.new ≡ piece ∷ views self.old) }
+        ensures refused { OnErr result (views self.new ≡ views self.old) }
+        ensures handed_back { IfErr result (λ e. e.value ≡ piece) }
+    {
+        let Pieces::One(only) = self else {
+            unreachable!()
+        };
+        let Ok(mut row) = Row::with_room(alloc, 4) else {
+            return Err(AllocFailed { value: piece });
+        };
+        row.push_back_reserved(piece);
+        row.push_back_reserved(mem::take(only));
+        self.put(Pieces::Many(row));
+        Ok(())
+    }
+}
+
+impl Clone for Pieces {
+    ghost is_clone = { λ a b. IsPieced a → (views b ≡ views a) × IsPieced b };
+
+    fn clone(&self) -> Result<Pieces, AllocError> {
+        match self {
+            Pieces::One(piece) => Ok(Pieces::One(piece.clone()?)),
+            Pieces::Many(row) => Ok(Pieces::Many(row.clone()?)),
+        }
+    }
+}
