@@ -192,20 +192,9 @@ pub bytes-text_left : (at : ℕ) (t : MarkedText) → (text_left t at).bytes ≡
 unfolding text_left
 bytes-text_left at t = refl
 
-pub bytes-text_right : (at : ℕ) (t : MarkedText) → (text_right t at).bytes ≡ drop at t.bytes
-unfolding text_right
-bytes-text_right at t = refl
-
 pub bytes-left : (at : ℕ) (vs : List View) → 0 < at → at ≤ length (pieces_bytes vs) → pieces_bytes (left_pieces vs at) ≡ take at (pieces_bytes vs)
 bytes-left at vs p l =
     sym (bytes-of_pieces (left_pieces vs at)) ∙ ap (λ t. t.bytes) (sym (left-of_pieces at vs p l)) ∙ bytes-text_left at (of_pieces vs) ∙ ap (take at) (bytes-of_pieces vs)
 
-pub bytes-right : (at : ℕ) (vs : List View) → at < length (pieces_bytes vs) → pieces_bytes (right_pieces vs at) ≡ drop at (pieces_bytes vs)
-bytes-right at vs l =
-    sym (bytes-of_pieces (right_pieces vs at)) ∙ ap (λ t. t.bytes) (sym (right-of_pieces at vs l)) ∙ bytes-text_right at (of_pieces vs) ∙ ap (drop at) (bytes-of_pieces vs)
-
 pub length-left : (at : ℕ) (vs : List View) → 0 < at → at ≤ length (pieces_bytes vs) → length (pieces_bytes (left_pieces vs at)) ≡ at
 length-left at vs p l = ap length (bytes-left at vs p l) ∙ length-take-le at (pieces_bytes vs) l
-
-pub length-right : (at : ℕ) (vs : List View) → at < length (pieces_bytes vs) → length (pieces_bytes (right_pieces vs at)) ≡ length (pieces_bytes vs) - at
-length-right at vs l = ap length (bytes-right at vs l) ∙ length-drop at (pieces_bytes vs)

@@ -1,6 +1,5 @@
 -- The piece that holds a place.
 use Rattle.std.proofs.Common.{◌≡◌, ℕ, ◌+◌, ◌-◌, ◌<◌, ◌≤◌, List, [], ◌∷◌, ◌++◌, length, take, drop, refl, sym, ap, ◌∙◌, arith, length-append, suc, zero, get_or}
-use Rattle.std.proofs.Common.{drop-cons, Option, Some, option_to_list}
 use Rattle.iobufs_core.specs.View.{View, default_view, view_front, view_advanced}
 use Rattle.iobufs.specs.Pieces.{view_len, pieces_bytes, piece_start, piece_at, IsPlace, AreFull, left_pieces, right_pieces}
 use Rattle.iobufs.proofs.Sides.{no_sub}
@@ -81,20 +80,3 @@ right-at_edge vs at i o f h z =
     let s = h.sum in
     let e : at ≡ piece_start vs i = omega arith in
     ap (λ m. right_pieces vs m) e ∙ right_pieces-seam i vs f
-
--- a row cut at a place: what has moved to the front, and what is left
-pub front-at_edge : (vs none front : List View) (at i o : ℕ) → AreFull vs → IsPlace vs at i o → o ≡ 0 → none ≡ [] → front ≡ none ++ take i vs → front ≡ left_pieces vs at
-front-at_edge vs none front at i o f h z e m = m ∙ ap (λ xs. xs ++ take i vs) e ∙ sym (left-at_edge vs at i o f h z)
-
-pub front-at_place : (vs none moved front : List View) (inside : View) (at i o : ℕ) → IsPlace vs at i o → 0 < o → inside ≡ view_front (piece_at vs i) o → none ≡ [] → moved ≡ none ++ take i vs → front ≡ moved ++ inside ∷ [] → front ≡ left_pieces vs at
-front-at_place vs none moved front inside at i o h p v e m f =
-    let all : moved ≡ take i vs = m ∙ ap (λ xs. xs ++ take i vs) e in
-    f ∙ (λ k. all k ++ v k ∷ []) ∙ sym (left-at_place vs at i o h p)
-
-pub row-at_place : (vs row rest left : List View) (popped : Option View) (head behind : View) (at i o : ℕ) → IsPlace vs at i o → row ≡ drop i vs → row ≡ option_to_list popped ++ rest → popped ≡ Some head → behind ≡ view_advanced head o → left ≡ behind ∷ rest → left ≡ right_pieces vs at
-row-at_place vs row rest left popped head behind at i o h d e p b l =
-    let n = index-of_place vs at i o h in
-    let f : head ∷ rest ≡ piece_at vs i ∷ drop (suc i) vs = sym (e ∙ ap (λ r. option_to_list r ++ rest) p) ∙ d ∙ drop-cons vs i default_view n in
-    let first : head ≡ piece_at vs i = cc in
-    let others : rest ≡ drop (suc i) vs = cc in
-    l ∙ (λ k. (b ∙ ap (λ v. view_advanced v o) first) k ∷ others k) ∙ sym (right-at_place vs at i o h)

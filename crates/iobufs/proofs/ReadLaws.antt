@@ -18,8 +18,6 @@ use Rattle.iobufs.specs.Kept.{text_of, IsKept}
 use Rattle.iobufs.specs.declared.bufs.pieces.Pieces.{Pieces}
 use Rattle.iobufs.specs.declared.bufs.text.IoBufs.TheInside.{Inside}
 use Rattle.iobufs.proofs.PieceLaws.{bytes-of_pieces, len-of_pieces, right-of_pieces, length-bytes, AreFull-from_pieces, of_pieces-one, front-all, rest-all, right_pieces-past, right_pieces-none}
-use Rattle.std.proofs.Math.Bool.{and-false}
-use Rattle.iobufs.proofs.Sides.{not_eq}
 use Rattle.iobufs.proofs.PlaceLaws.{index-of_place, right-at_place}
 use Rattle.iobufs.proofs.KeptLaws.{IsView-advanced}
 use Rattle.iobufs.proofs.TakenLaws.{taken_view-right, taken_view-within, taken_view-across}
@@ -247,26 +245,3 @@ short-rest vs ws t n e f l is =
     let z : n ≡ 0 = omega arith in
     ap of_pieces (is ∙ ap (right_pieces vs) z ∙ right_pieces-none vs f) ∙ e ∙ sym (ap (text_rest t) z))
     (cases_lt 0 n)
-
-pub advanced-inside : (t : MarkedText) (n : ℕ) → n < text_len t → text_advanced t n ≡ text_rest t n
-advanced-inside t n l = rw (not_eq n (text_len t) l, and-false (is_single t)) refl
-
--- what the first chunk has is what the text has
-pub chunk-byte : (chunk bytes : List ℕ) (i : ℕ) → i < length chunk → IsChunkOf chunk bytes → slice_get chunk i ≡ slice_get bytes i
-chunk-byte chunk bytes i l h = ap (λ xs. slice_get xs i) h.front ∙ get-front bytes (length chunk) i l
-  where
-    get-front : (bytes : List ℕ) (n i : ℕ) → i < n → slice_get (take n bytes) i ≡ slice_get bytes i
-    get-front [] zero i l = refl
-    get-front [] (suc n) i l = refl
-    get-front (b ∷ bs) zero i l = absurd (omega arith)
-    get-front (b ∷ bs) (suc n) zero l = refl
-    get-front (b ∷ bs) (suc n) (suc i) l = get-front bs n i (omega arith)
-
-pub chunk-front : (chunk bytes : List ℕ) (n : ℕ) → n ≤ length chunk → IsChunkOf chunk bytes → take n chunk ≡ take n bytes
-chunk-front chunk bytes n l h = ap (take n) h.front ∙ take-front bytes (length chunk) n l
-  where
-    take-front : (bytes : List ℕ) (m n : ℕ) → n ≤ m → take n (take m bytes) ≡ take n bytes
-    take-front bytes m zero l = refl
-    take-front bytes zero (suc n) l = absurd (omega arith)
-    take-front [] (suc m) (suc n) l = refl
-    take-front (b ∷ bs) (suc m) (suc n) l = ap (λ xs. b ∷ xs) (take-front bs m n (omega arith))

@@ -193,13 +193,6 @@ impl Row {
         piece.view
     }
 
-    fn pop_back(&mut self) -> IoBuf
-        requires { 0 < length self.old.views }
-        ensures { self.old.views ≡ self.new.views ++ result ∷ [] }
-    {
-        self.pieces.pop_back().unwrap().view
-    }
-
     /// What is made of the first piece, which goes.
     pub(super) fn take_first<T: OwnedBytes>(&mut self, alloc: Global) -> Result<T, BufError>
         requires { 0 < length self.old.views }
