@@ -3,7 +3,7 @@ use crate::made::{native, part, shows_part};
 use crate::word::{Word, end, ensure, say};
 use bytes::{Bytes, BytesMut};
 use iobufs_core::buf::{IoBuf, IoBufMut};
-use iobufs_core::codec::{Buf, BufError};
+use iobufs_core::codec::{Buf, BufError, BufMut};
 use std::alloc::Global;
 use std::test::Fail;
 
@@ -212,4 +212,28 @@ fn chunks_vectored(rt: HostRuntime) -> Result<(), Fail> {
         shows_part(&part, b"abcd", 4)
     );
     end(&rt, word, chunks == 1)
+}
+
+#[test]
+fn what_asks_for_nothing(rt: HostRuntime) -> Result<(), Fail> {
+    let mut part = fixture!(rt, part(rt.alloc(), 16, b"abc"));
+    if part.remaining_mut() < 3 || part.remaining() < 1 {
+        return Err(Fail::new("too short"));
+    }
+    part.advance(1);
+    part.put_u8(b'd');
+    part.put_u16(u16::from_be_bytes(*b"ef"));
+    let whole = part.as_ref() == b"bcdef".as_slice();
+    part.truncate(2);
+    if part.capacity() < 3 {
+        return Err(Fail::new("too short"));
+    }
+    part.set_len(3);
+    let longer = part.as_ref() == b"bc\0".as_slice();
+    part.clear();
+    end(
+        &rt,
+        Word::Whole,
+        whole && longer && shows_part(&part, b"", 15),
+    )
 }

@@ -3,7 +3,7 @@ use crate::made::{parts, shows_part, shows_parts, shows_pieces, strung};
 use crate::word::{Word, end, ensure, say};
 use bytes::Bytes;
 use iobufs::bufs_mut::IoBufsMut;
-use iobufs_core::codec::{Buf, BufError};
+use iobufs_core::codec::{Buf, BufError, BufMut};
 use std::alloc::Global;
 use std::test::Fail;
 
@@ -145,4 +145,33 @@ fn chunks_vectored(rt: HostRuntime) -> Result<(), Fail> {
         shows_parts(&parts, &THREE)
     );
     end(&rt, word, chunks == 2)
+}
+
+#[test]
+fn what_asks_for_nothing(rt: HostRuntime) -> Result<(), Fail> {
+    let mut parts = fixture!(rt, strung(rt.alloc(), 3));
+    if parts.remaining() < 3 || parts.remaining_mut() < 3 {
+        return Err(Fail::new("too short"));
+    }
+    parts.put_slice(b"xyz");
+    let mut two = [0; 2];
+    let read = parts.try_copy_to_slice(&mut two).is_ok();
+    if parts.remaining() < 1 {
+        return Err(Fail::new("too short"));
+    }
+    parts.advance(1);
+    if parts.capacity() < 2 {
+        return Err(Fail::new("too short"));
+    }
+    parts.set_len(2);
+    if parts.len() != 2 {
+        return Err(Fail::new("another length"));
+    }
+    parts.copy_from_slice(b"uv");
+    let rest = parts.byte_at(0) == Some(b'u') && parts.byte_at(1) == Some(b'v');
+    end(
+        &rt,
+        Word::Whole,
+        read && rest && two.as_slice() == b"ab".as_slice(),
+    )
 }

@@ -456,3 +456,40 @@ fn tried_to_take(rt: HostRuntime) -> Result<(), Fail> {
     let rest = shows(&text, &[b"d", b"ef", b"gh"]);
     end(&rt, word, part.as_ref() == b"abc".as_slice() && rest)
 }
+
+#[test]
+fn taken_from_the_front(rt: HostRuntime) -> Result<(), Fail> {
+    let mut text = fixture!(rt, pieces(rt.alloc(), 4));
+    if text.len() < 3 {
+        return Err(Fail::new("too short"));
+    }
+    let (part, word) = lent!(
+        text.take_owned::<IoBuf>(rt.alloc(), 3),
+        BufError::Memory,
+        shows_pieces(&text, 4)
+    );
+    let rest = shows(&text, &[b"d", b"ef", b"gh"]);
+    end(&rt, word, part.as_ref() == b"abc".as_slice() && rest)
+}
+
+#[test]
+fn what_asks_for_nothing(rt: HostRuntime) -> Result<(), Fail> {
+    let mut text = fixture!(rt, pieces(rt.alloc(), 4));
+    let mut three = [0; 3];
+    let read = text.try_copy_to_slice(&mut three).is_ok();
+    if text.remaining() < 3 {
+        return Err(Fail::new("too short"));
+    }
+    text.copy_to_slice(&mut three);
+    if text.remaining() < 1 {
+        return Err(Fail::new("too short"));
+    }
+    text.advance(1);
+    let rest = shows(&text, &[b"h"]) && IoBufs::default().is_empty();
+    let single = shows(&IoBufs::from(b"ab".as_slice()), &[b"ab"]);
+    end(
+        &rt,
+        Word::Whole,
+        read && rest && single && three.as_slice() == b"def".as_slice(),
+    )
+}

@@ -205,3 +205,18 @@ fn encoded_into_one_buffer(rt: HostRuntime) -> Result<(), Fail> {
     let (encoded, word) = lent!(view.encode(rt.alloc()), Error::Memory, true);
     end(&rt, word, encoded.as_ref() == b"\x03abc".as_slice())
 }
+
+#[test]
+fn a_byte_is_written(rt: HostRuntime) -> Result<(), Fail> {
+    written(&rt, &b'a', &[])
+}
+
+#[test]
+fn two_bytes_are_written(rt: HostRuntime) -> Result<(), Fail> {
+    written(&rt, &258u16, &[])
+}
+
+#[test]
+fn eight_bytes_are_written(rt: HostRuntime) -> Result<(), Fail> {
+    written(&rt, &258u64, &[])
+}

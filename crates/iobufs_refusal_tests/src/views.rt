@@ -404,3 +404,32 @@ fn taken_whole_as_a_view(rt: HostRuntime) -> Result<(), Fail> {
         whole.as_ref() == b"abc".as_slice() && view.is_empty(),
     )
 }
+
+#[test]
+fn bytes_as_bytes(rt: HostRuntime) -> Result<(), Fail> {
+    let (bytes, word) = consumed!(
+        rt, Bytes::copy_from_slice(rt.alloc(), b"abc") => made,
+        <Bytes as OwnedBytes>::from_bytes(made),
+        BufError::Memory
+    );
+    end(&rt, word, bytes.as_slice() == b"abc".as_slice())
+}
+
+#[test]
+fn what_asks_for_nothing(rt: HostRuntime) -> Result<(), Fail> {
+    let bytes = fixture!(rt, Bytes::copy_from_slice(rt.alloc(), b"abcdef"));
+    let mut view = IoBuf::from(bytes);
+    let mut two = [0; 2];
+    let read = view.try_copy_to_slice(&mut two).is_ok();
+    if view.remaining() < 3 {
+        return Err(Fail::new("too short"));
+    }
+    view.copy_to_slice(&mut two);
+    view.advance(1);
+    let rest = view.as_ref() == b"f".as_slice() && IoBuf::default().is_empty();
+    end(
+        &rt,
+        Word::Whole,
+        read && rest && two.as_slice() == b"cd".as_slice(),
+    )
+}
