@@ -246,7 +246,10 @@ impl IoBufsMut {
         let IoBufsMut { shape } = self;
         match shape {
             Shape::One(part) => IoBufs::from_mut(part),
-            Shape::Many(parts) => row::freeze(alloc, parts.into_row()),
+            Shape::Many(parts) => {
+                let len = parts.len();
+                row::freeze(alloc, parts.into_row(), len)
+            }
         }
     }
 

@@ -1,11 +1,13 @@
 // Several parts in a row: what the calls of `IoBufsMut` do to two or more.
-ghost use Rattle.std.specs.Prelude.{◌≡◌, ◌^◌, ◌<◌, ◌≤◌, [], ◌∷◌, length, drop, map, nat_lt, replicate, slice_get, slice_index_or, take, false, IfNone, IfOk, IfSome, IsOk, IsOkUnless, IsTrue};
+ghost use Rattle.std.specs.Prelude.{◌≡◌, ◌+◌, ◌^◌, ◌<◌, ◌≤◌, [], ◌∷◌, length, drop, fold, map, nat_lt, replicate, slice_get, slice_index_or, take, false, IfNone, IfOk, IfSome, IsOk, IsOkUnless, IsTrue};
 ghost use Rattle.iobufs_core.specs.Chunks.{first_chunk};
-ghost use Rattle.iobufs_core.specs.Part.{empty_part};
+ghost use Rattle.iobufs_core.specs.MarkedText.{of_view, text_append};
+ghost use Rattle.iobufs_core.specs.Part.{empty_part, part_frozen};
 ghost use Rattle.iobufs.specs.Parts.{HaveCapacity, parts_capacity, parts_chunks, parts_drained, parts_fill, parts_filled, parts_frozen, parts_or_default, parts_overwritten, parts_shared_out, parts_spare, parts_with_len, with_capacity};
 
 use crate::bufs::IoBufs;
-use iobufs_core::buf::IoBufMut;
+use crate::bufs::row::Row;
+use iobufs_core::buf::{IoBuf, IoBufMut};
 use iobufs_core::codec::{Buf, BufError, BufMut};
 use std::alloc::{AllocError, Global};
 use std::collections::VecDeque;
@@ -260,18 +262,48 @@ pub(super) fn chunks(
     Ok(chunks)
 }
 
-// The parts that hold bytes, one piece behind the other.
+// The parts that hold bytes, one piece behind the other; `len` is how many bytes they hold. No room is made for a single
+// piece.
 #[tactic(auto, using(crate::proofs::Frozen::freezing))]
-pub(super) fn freeze(alloc: Global, mut parts: VecDeque<IoBufMut>) -> Result<IoBufs, BufError>
-    requires { parts_capacity parts.items < 2 ^ 64 }
+pub(super) fn freeze(
+    alloc: Global,
+    mut parts: VecDeque<IoBufMut>,
+    len: usize,
+) -> Result<IoBufs, BufError>
+    requires fits { parts_capacity parts.items < 2 ^ 64 }
+    requires len { len ≡ length (parts_filled parts.items) }
     ensures ok { IfOk result (λ text. text ≡ parts_frozen parts.items) }
     ensures memory { IsOkUnless result BufError.Memory }
     ensures nothing { length (parts_filled parts.items) ≡ 0 → IsOk result }
 {
-    let mut text = IoBufs::default();
     while let Some(part) = parts.pop_front() {
         let piece = part.freeze()?;
-        text.append(alloc, piece)?;
+        if piece.len() == len {
+            return Ok(IoBufs::from(piece));
+        }
+        if piece.len() != 0 {
+            return freeze_behind(alloc, piece, parts);
+        }
     }
-    Ok(text)
+    Ok(IoBufs::default())
+}
+
+// A piece, and behind it the parts that hold bytes. Room for all is made at once.
+#[tactic(auto, using(crate::proofs::Frozen::freezing))]
+fn freeze_behind(
+    alloc: Global,
+    first: IoBuf,
+    mut parts: VecDeque<IoBufMut>,
+) -> Result<IoBufs, BufError>
+    requires some { 0 < length first.bytes }
+    requires fits { length first.bytes + parts_capacity parts.items < 2 ^ 64 }
+    ensures ok { IfOk result (λ text. text ≡ fold text_append (of_view first) (map part_frozen parts.items)) }
+    ensures memory { IsOkUnless result BufError.Memory }
+{
+    let mut row = Row::with_room(alloc, parts.len() + 1)?;
+    row.add(first);
+    while let Some(part) = parts.pop_front() {
+        row.add(part.freeze()?);
+    }
+    Ok(IoBufs::from_row(row))
 }
