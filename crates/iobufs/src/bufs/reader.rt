@@ -1,5 +1,5 @@
 // A text in several pieces, read from the front.
-ghost use Rattle.std.specs.Prelude.{◌≡◌, ◌+◌, ◌<◌, ◌≤◌, ◌^◌, length, map, take, slice_get, false, true, IsTrue, IsFalse, IsOk, IfOk, OnOk, OnErr, Err, IsOkUnless};
+ghost use Rattle.std.specs.Prelude.{◌≡◌, ◌+◌, ◌<◌, ◌≤◌, ◌^◌, nat_lt, length, map, take, slice_get, false, true, IsTrue, IsFalse, IsOk, IfOk, OnOk, OnErr, Err, IsOkUnless};
 ghost use Rattle.iobufs_core.specs.Chunks.{first_chunk};
 ghost use Rattle.iobufs_core.specs.MarkedText.{is_single, of_view, taken_view, text_advanced, text_chunks, text_coalesced, text_len, text_rest};
 
@@ -26,6 +26,7 @@ impl IoBufs {
     // Drops the first bytes where the first piece has more. Else nothing changes.
     fn shorten(&mut self, n: usize) -> bool
         requires { n ≤ text_len self.old }
+        ensures answer { result ≡ nat_lt n (length (first_chunk (text_chunks self.old))) }
         ensures rest { IsTrue result → self.new ≡ text_rest self.old n }
         ensures inside { IsTrue result → n < text_len self.old }
         ensures same { IsFalse result → self.new ≡ self.old }

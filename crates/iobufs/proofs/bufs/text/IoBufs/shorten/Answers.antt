@@ -1,8 +1,8 @@
-use Rattle.std.proofs.Common.{sym, ◌∙◌, arith}
+use Rattle.std.proofs.Common.{List, ap, arith, length, nat_lt, sym, ℕ, ◌∙◌}
 use Rattle.std.proofs.lemmas.Bool.{ltb-true}
 use Rattle.iobufs.specs.Pieces.{piece_at, view_len}
 use Rattle.iobufs.specs.Several.{views}
-use Rattle.iobufs.proofs.ReadLaws.{first-inside, short-rest}
+use Rattle.iobufs.proofs.ReadLaws.{first-inside, first-kept, short-rest}
 use Rattle.iobufs.proofs.TextLaws.{kept-short, full-kept, length-kept}
 use Rattle.iobufs.proofs.bufs.text.IoBufs.shorten.Goals as goal
 
@@ -22,3 +22,6 @@ returns-clause-inside c = λ yes.
 
 pub invariant_of-self : goal.invariant_of-self
 invariant_of-self c = kept-short c.self.inside c.args.n _ c.shorten.result c.self.invariant c.shorten.ensures.pieced c.shorten.ensures.left c.shorten.ensures.same
+
+pub returns-clause-answer : goal.returns-clause-answer
+returns-clause-answer c = c.shorten.ensures.answer ∙ ap (λ (chunk : List ℕ). nat_lt c.args.n (length chunk)) (first-kept c.self.inside.pieces _ c.self.view_is c.self.invariant.pieced)
