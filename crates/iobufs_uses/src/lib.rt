@@ -1,0 +1,8 @@
+// Callers of the buffers, each proved: what they promise speaks of bytes alone.
+#![tactic(auto)]
+
+pub mod frame;
+pub mod send;
+pub mod store;
+#[cfg(test)]
+mod tests;
