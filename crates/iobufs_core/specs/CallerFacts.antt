@@ -3,18 +3,20 @@
 --     sending    what is left of a text whose front went off
 --     writing    how long what is written is, and how many of its bytes are inline
 use Rattle.std.specs.Prelude.{◌≡◌, ℕ, ◌+◌, ◌^◌, ◌<◌, ◌≤◌, true, Result, Ok, Err, IfOk, OnErr, List, [], ◌∷◌, ◌++◌, length, take, drop}
-use Rattle.std.proofs.Common.{arith, ap, sym, ◌∙◌, append_assoc, length-append, take-append-drop}
+use Rattle.std.proofs.Common.{arith, ap, sym, ◌∙◌, append_assoc, length-append, length-take, take-append-drop}
 use Rattle.std.proofs.lemmas.Bool.Decides.{nat_tests}
 use Rattle.std.proofs.lemmas.Grind.{common_steps}
-use Rattle.std.proofs.lemmas.List.{drop-drop, drop_all, append_cancel_left}
+use Rattle.std.proofs.lemmas.List.{drop-drop, drop_all, append_cancel_left, nil_from_length}
 use Rattle.iobufs_core.specs.Items.{Item, put_item, push_item, items_bytes, items_inline, IsBegun}
+use Rattle.iobufs_core.specs.LayoutLaws.{good_layout}
 use Rattle.iobufs_core.specs.MarkedText.{MarkedText, taken_view, text_rest, text_right}
+use Rattle.iobufs_core.specs.Part.{Part, part_frozen}
 use Rattle.iobufs_core.specs.Ranges.{in_range}
 use Rattle.iobufs_core.specs.ReadBytes.{bytes-taken_view}
 use Rattle.iobufs_core.specs.ReadLaws.{view_back}
 use Rattle.iobufs_core.specs.Spelled.{length-spell}
 use Rattle.iobufs_core.specs.Spelling.{spell}
-use Rattle.iobufs_core.specs.View.{View, static_mark}
+use Rattle.iobufs_core.specs.View.{View, static_mark, view_between}
 use Rattle.iobufs_core.specs.Wire.{IsViewRead, bytes_written, view_items, view_written}
 use Rattle.iobufs_core.specs.WireLaws.{joins-view}
 use Rattle.iobufs_core.specs.declared.codec.base.Error.{Error}
@@ -111,6 +113,14 @@ inline-most (push_item view ∷ items) = let ih = inline-most items in omega (ar
 pub inline-view : (view : View) → items_inline (view_items view) ≤ 10
 inline-view view = omega (arith, length-spell (length view.bytes))
 
+-- the bytes of a part are those of the view that it freezes to
+pub bytes-part_frozen : (part : Part) → (part_frozen part).bytes ≡ part.filled
+bytes-part_frozen part = grind (arith, nat_tests, common_steps, nil_from_length)
+
+-- and those of a slice
+pub bytes-view_between : (view : View) (from to : ℕ) → from ≤ to → to ≤ length view.bytes → (view_between view from to).bytes ≡ drop from (take to view.bytes)
+bytes-view_between view from to order within = grind (arith, nat_tests, common_steps, length-take, drop_all)
+
 -- behind a first text, a beginning of a second one is a beginning of both and of all that follows
 pub begun_behind : (old first second behind middle new : List ℕ) → middle ≡ old ++ first → IsBegun middle second new → IsBegun old (first ++ (second ++ behind)) new
 begun_behind old first second behind middle new put begun =
@@ -128,6 +138,6 @@ on_err_always (Err error) p = p
 
 pub ruleset reading = (read_and_left, read_at_most, written_read_back, read_back_is, bytes-text_rest)
 
-pub ruleset writing = (length-bytes_written, length-spell, inline-view, inline-most, joins-view)
+pub ruleset writing = (length-bytes_written, length-spell, inline-view, inline-most, joins-view, bytes-part_frozen, good_layout)
 
 pub ruleset several_writes = (begun_behind, on_err_always)

@@ -1,5 +1,7 @@
 // Each caller once, with ample memory.
+use crate::crc::crc32;
 use crate::frame::{echo, frame, read_frame};
+use crate::journal::{End, append_record, replay};
 use crate::send::send;
 use crate::store::store;
 use iobufs::bufs::IoBufs;
@@ -81,5 +83,52 @@ fn parts_are_filled_from_a_reader(rt: HostRuntime) -> Result<(), Fail> {
     assert_eq!(rt; full.chunk_count(), 2);
     let rest = store(alloc, &mut from, parts(alloc, 2, 3)?)?;
     assert_eq!(rt; bytes_of(alloc, &rest)?.as_slice(), b"fgh".as_slice());
+    Ok(())
+}
+
+#[test]
+fn the_sum_of_nine_digits(rt: HostRuntime) -> Result<(), Fail> {
+    assert_eq!(rt; crc32(b"123456789"), 0xcbf4_3926);
+    assert_eq!(rt; crc32(b""), 0);
+    Ok(())
+}
+
+// `ab` and nothing, as the records 0 and 1.
+fn journal(alloc: Global) -> Result<IoBufs, Fail> {
+    let mut journal = IoBufs::default();
+    append_record(alloc, &mut journal, 0, b"ab")?;
+    append_record(alloc, &mut journal, 1, b"")?;
+    Ok(journal)
+}
+
+#[test]
+fn records_are_replayed(rt: HostRuntime) -> Result<(), Fail> {
+    let alloc = rt.alloc();
+    let records = replay(alloc, journal(alloc)?, 100)?;
+    assert_eq!(rt; records.found.len(), 2);
+    assert_eq!(rt; records.found.get(0).map(|body| body.len()), Some(2));
+    assert_eq!(rt; records.end, End::Whole);
+    Ok(())
+}
+
+#[test]
+fn a_torn_tail_and_a_damaged_record(rt: HostRuntime) -> Result<(), Fail> {
+    let alloc = rt.alloc();
+    let bytes = bytes_of(alloc, &journal(alloc)?)?;
+    assert_eq!(rt; bytes.len(), 28);
+    let mut torn = IoBufs::default();
+    assert!(rt;
+        torn.append(
+            alloc,
+            IoBuf::copy_from_slice(alloc, &bytes.as_slice()[..20])?
+        )
+        .is_ok()
+    );
+    let records = replay(alloc, torn, 100)?;
+    assert_eq!(rt; (records.found.len(), records.end), (1, End::Torn));
+    let mut damaged = journal(alloc)?;
+    append_record(alloc, &mut damaged, 3, b"cd")?;
+    let records = replay(alloc, damaged, 100)?;
+    assert_eq!(rt; (records.found.len(), records.end), (2, End::Damaged));
     Ok(())
 }

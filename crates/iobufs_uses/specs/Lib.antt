@@ -1,0 +1,3 @@
+pub mod Crc
+pub mod Journal
+pub mod JournalLaws
