@@ -3,7 +3,7 @@
 --     record_written   the same behind its length
 --     HasNoRecord      why no record stands in front: the text is at its end, it is cut off, or what stands there is damaged
 --     IsJournal        a text is these records and a rest in front of which none stands
-use Rattle.std.specs.Prelude.{◌≡◌, ◌⊎◌, ℕ, suc, ◌+◌, ◌^◌, ◌<◌, Ok, Err, List, [], ◌∷◌, ◌++◌, length, map}
+use Rattle.std.specs.Prelude.{◌≤◌, ◌≡◌, ◌⊎◌, ℕ, suc, ◌+◌, ◌^◌, ◌<◌, Ok, Err, List, [], ◌∷◌, ◌++◌, length, map}
 use Rattle.std.specs.Int.{w32, w64, to_be_bytes}
 use Rattle.iobufs_core.specs.View.{View}
 use Rattle.iobufs_core.specs.Spelling.{spell}
@@ -50,6 +50,11 @@ abbrev pub HasNoRecord : ℕ → ℕ → List ℕ → End → Type 0
 HasNoRecord most number rest Whole = rest ≡ []
 HasNoRecord most number rest Torn = (0 < length rest) × IsCut most rest
 HasNoRecord most number rest Damaged = (0 < length rest) × (HasBadLength most rest ⊎ IsUnsealed number rest)
+
+-- each record has at most so many bytes behind its length
+abbrev pub AreShort : ℕ → List (List ℕ) → Type 0
+AreShort most [] = Unit {0}
+AreShort most (body ∷ bodies) = (12 + length body ≤ most) × AreShort most bodies
 
 -- the bytes of views, view by view
 abbrev pub bodies : List View → List (List ℕ)

@@ -1,6 +1,6 @@
 // A journal: numbered records with a CRC-32, one behind the other.
 ghost use Rattle.std.specs.Prelude.{◌≡◌, ℕ, ◌+◌, ◌^◌, ◌<◌, ◌≤◌, List, [], ◌++◌, length, IfErr, IfNone, IfOk, IfSome, IsOkUnless, IsTrue, ◌↔◌, OnErr, OnOk};
-ghost use Rattle.iobufs_uses.specs.Journal.{IsJournal, HasNoRecord, bodies, record_written, sealed};
+ghost use Rattle.iobufs_uses.specs.Journal.{AreShort, IsJournal, HasNoRecord, bodies, record_written, records_written, sealed};
 ghost use Rattle.iobufs_uses.specs.JournalLaws.{IsSealed};
 
 use crate::crc::crc32;
@@ -77,10 +77,10 @@ pub fn append_record(
 }
 
 // Whether this is a body that is sealed with this number.
-fn is_sealed(record: &IoBuf, number: u64) -> bool
-    ensures { IsTrue result ↔ IsSealed number record.now.bytes }
+fn is_sealed(framed: &IoBuf, number: u64) -> bool
+    ensures { IsTrue result ↔ IsSealed number framed.now.bytes }
 {
-    let bytes = record.as_ref();
+    let bytes = framed.as_ref();
     if bytes.len() < 12 {
         return false;
     }
@@ -90,16 +90,16 @@ fn is_sealed(record: &IoBuf, number: u64) -> bool
 
 // The body of a sealed record, if it has this number.
 #[tactic(auto, using(crate::specs::JournalLaws::unsealed_body))]
-fn unsealed(record: &IoBuf, number: u64) -> Result<Option<IoBuf>, BufError>
-    ensures body { IfOk result (λ found. IfSome found (λ body. record.now.bytes ≡ sealed number body.bytes)) }
-    ensures none { IfOk result (λ found. IfNone found (IsSealed number record.now.bytes → ⊥)) }
+fn unsealed(framed: &IoBuf, number: u64) -> Result<Option<IoBuf>, BufError>
+    ensures body { IfOk result (λ found. IfSome found (λ body. framed.now.bytes ≡ sealed number body.bytes)) }
+    ensures none { IfOk result (λ found. IfNone found (IsSealed number framed.now.bytes → ⊥)) }
     ensures memory { IsOkUnless result BufError.Memory }
 {
-    if !is_sealed(record, number) {
+    if !is_sealed(framed, number) {
         return Ok(None);
     }
-    let end = record.len() - 4;
-    Ok(Some(record.slice(Bound::Included(8), Bound::Excluded(end))?))
+    let end = framed.len() - 4;
+    Ok(Some(framed.slice(Bound::Included(8), Bound::Excluded(end))?))
 }
 
 // What is found in front: a body, or why there is none.
@@ -141,4 +141,13 @@ pub fn replay(alloc: Global, journal: IoBufs, most: usize) -> Result<Records, Bu
             Err(end) => return Ok(Records { found, end }),
         }
     }
+}
+
+/// Does nothing. Its contract is a law: whatever `replay` answers of a text of records that were appended, numbered
+/// from 0, are these records, and the end is whole.
+pub fn journal_law(most: usize)
+    ensures { (text : List ℕ) (found : List (List ℕ)) (written : List (List ℕ)) (end : End) (rest : List ℕ) → length text < 2 ^ 64 → AreShort most written
+        → text ≡ records_written 0 written → IsJournal most 0 text found end rest → (found ≡ written) × (end ≡ End.Whole) }
+{
+    let _ = most;
 }
