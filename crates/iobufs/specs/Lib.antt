@@ -1,3 +1,4 @@
+pub mod CallerFacts
 pub mod Kept
 pub mod Pieces
 pub mod ReaderLaws

@@ -1,0 +1,212 @@
+-- Facts for callers of texts and parts, over bytes alone.
+--     joining    what a text holds when a buffer or a text was put to it
+--     sending    a batch of chunks is a front of the text, and what several writes took is what they took one behind the other
+--     storing    what fills empty parts is their bytes, and those of the text that they freeze to
+use Rattle.std.specs.Prelude.{◌≡◌, ◌⊎◌, ℕ, ◌+◌, ◌-◌, ◌≤◌, min, Option, None, Some, Result, Ok, Err, List, [], ◌∷◌, ◌++◌, length, take, drop, map, refl}
+use Rattle.std.specs.List.{flat_map}
+use Rattle.std.specs.Io.{WritesAtMost}
+use Rattle.std.specs.Io.KnownBytes.{Appends, Consumes, Keeps, WriteAppends}
+use Rattle.std.proofs.Common.{arith, inl, inr, ap, sym, subst, ◌∙◌, append-nil, append_assoc, length-append, length-take, length-drop, take-append-drop}
+use Rattle.std.proofs.lemmas.Bool.Decides.{nat_tests}
+use Rattle.std.proofs.lemmas.Grind.{common_steps, flat_map-append}
+use Rattle.std.proofs.lemmas.List.{nil_from_length, take-append-le}
+use Rattle.std.proofs.lemmas.List.Folds.{flat_map-map}
+use Rattle.std.proofs.lemmas.List.Sums.{sum_by-cons}
+use Rattle.iobufs_core.specs.MarkedText.{MarkedText, text_advanced, text_chunks}
+use Rattle.iobufs_core.specs.Part.{Part, part_capacity, part_frozen, part_with_len}
+use Rattle.iobufs_core.specs.View.{View}
+use Rattle.iobufs.specs.FillLaws.{AreFilled, filled_composes, filled_lessens, filled_nothing}
+use Rattle.iobufs.specs.JoinedLaws.{bytes-append, bytes-joined}
+use Rattle.iobufs.specs.Parts.{parts_capacity, parts_fill, parts_filled, parts_frozen, parts_spare, parts_with_len}
+use Rattle.iobufs.specs.ReaderLaws.{bytes-advanced, bytes-rest, joined-chunks}
+
+-- ---- sending
+
+-- a front went from a text to a writer, behind what that held, and the rest is left
+pub record IsSent (held holds : Option (List ℕ)) (text rest : List ℕ) : Type 0 where
+  pub front : List ℕ
+  pub whole : text ≡ front ++ rest
+  pub grew : Appends held holds front
+
+kept : (old new : Option (List ℕ)) → Keeps old new → Appends old new []
+kept None new h = tt
+kept (Some xs) None h = absurd h
+kept (Some xs) (Some ys) h = h ∙ sym (append-nil xs)
+
+stays : (held : Option (List ℕ)) → Keeps held held
+stays None = tt
+stays (Some xs) = refl
+
+appends_on : (a b c : Option (List ℕ)) (u v : List ℕ) → Appends a b u → Appends b c v → Appends a c (u ++ v)
+appends_on None b c u v p q = tt
+appends_on (Some xs) None c u v p q = absurd p
+appends_on (Some xs) (Some ys) None u v p q = absurd q
+appends_on (Some xs) (Some ys) (Some zs) u v p q = q ∙ ap (λ w. w ++ v) p ∙ append_assoc xs u v
+
+-- nothing went off
+pub sent_kept : (held holds : Option (List ℕ)) (text : List ℕ) → Keeps held holds → IsSent held holds text text
+sent_kept held holds text h = record { front = []; whole = refl; grew = kept held holds h }
+
+pub sent_nothing : (held : Option (List ℕ)) (text : List ℕ) → IsSent held held text text
+sent_nothing held text = sent_kept held held text (stays held)
+
+-- one front went off behind another
+pub sent_on : (a b c : Option (List ℕ)) (text middle rest : List ℕ) → IsSent a b text middle → IsSent b c middle rest → IsSent a c text rest
+sent_on a b c text middle rest p q = record {
+  front = p.front ++ q.front;
+  whole = p.whole ∙ ap (λ w. p.front ++ w) q.whole ∙ sym (append_assoc p.front q.front rest);
+  grew = appends_on a b c p.front q.front p.grew q.grew;
+}
+
+-- what a writer took of the front of a text went off, where that front was dropped
+pub sent_front : (held holds : Option (List ℕ)) (text rest : List ℕ) (n : ℕ) → Appends held holds (take n text) → rest ≡ drop n text → IsSent held holds text rest
+sent_front held holds text rest n h is = record { front = take n text; whole = sym (take-append-drop n text) ∙ ap (λ w. take n text ++ w) (sym is); grew = h }
+
+-- all of a text that went off stands behind what the writer held
+pub sent_all : (held holds : Option (List ℕ)) (text rest : List ℕ) → IsSent held holds text rest → rest ≡ [] → Appends held holds text
+sent_all held holds text rest is none = subst (Appends held holds) (sym (is.whole ∙ ap (λ w. is.front ++ w) none ∙ append-nil is.front)) is.grew
+
+-- what an advance drops
+pub length-advanced : (text new : MarkedText) (n : ℕ) → n ≤ length text.bytes → new ≡ text_advanced text n → length text.bytes ≡ n + length new.bytes
+length-advanced text new n within is =
+    omega (arith, within, ap (λ (t : MarkedText). length t.bytes) is, ap (λ (w : List ℕ). length w) (bytes-advanced text n within), length-drop n text.bytes)
+
+-- the first chunks, joined, are a front of the text
+pub front_of_chunks : {A : Type 0} (bytes_of : A → List ℕ) (slices : List A) (text : MarkedText) (most n : ℕ) → map bytes_of slices ≡ take most (text_chunks text)
+    → n ≤ length (flat_map bytes_of slices) → (n ≤ length text.bytes) × (take n (flat_map bytes_of slices) ≡ take n text.bytes)
+front_of_chunks bytes_of slices text most n is fits =
+    let batch = flat_map bytes_of slices in
+    let behind = flat_map (λ (piece : List ℕ). piece) (drop most (text_chunks text)) in
+    let front : batch ≡ flat_map (λ piece. piece) (take most (text_chunks text)) = sym (flat_map-map (λ (piece : List ℕ). piece) bytes_of slices) ∙ ap (λ pieces. flat_map (λ piece. piece) pieces) is in
+    let whole : batch ++ behind ≡ text.bytes =
+    ap (λ w. w ++ behind) front ∙ sym (flat_map-append (λ (piece : List ℕ). piece) (take most (text_chunks text)) (drop most (text_chunks text)))
+    ∙ ap (λ pieces. flat_map (λ piece. piece) pieces) (take-append-drop most (text_chunks text)) ∙ joined-chunks text in (
+      omega (arith, fits, length-append batch behind, ap (λ (w : List ℕ). length w) whole),
+      sym (take-append-le n batch behind fits) ∙ ap (take n) whole,
+    )
+
+-- so what a writer took of them it took of the text
+pub written_front : {A E : Type 0} (bytes_of : A → List ℕ) (slices : List A) (text : MarkedText) (most : ℕ) (held holds : Option (List ℕ)) (result : Result ℕ E)
+    → map bytes_of slices ≡ take most (text_chunks text) → WritesAtMost result (flat_map bytes_of slices) → WriteAppends held holds result (flat_map bytes_of slices)
+    → WriteAppends held holds result text.bytes
+written_front bytes_of slices text most held holds (Ok n) is bound h = subst (Appends held holds) (front_of_chunks bytes_of slices text most n is bound).1 h
+written_front bytes_of slices text most held holds (Err error) is bound h = h
+
+pub written_within : {A E : Type 0} (bytes_of : A → List ℕ) (slices : List A) (text : MarkedText) (most : ℕ) (result : Result ℕ E)
+    → map bytes_of slices ≡ take most (text_chunks text) → WritesAtMost result (flat_map bytes_of slices) → WritesAtMost result text.bytes
+written_within bytes_of slices text most (Ok n) is bound = (front_of_chunks bytes_of slices text most n is bound).0
+written_within bytes_of slices text most (Err error) is bound = tt
+
+-- ---- storing
+
+-- what a reader gave went into the room of parts
+pub record IsStored (had has : Option (List ℕ)) (old new : List Part) : Type 0 where
+  pub read : List ℕ
+  pub gave : Consumes had has read
+  pub filled : AreFilled old read new
+
+consumes_on : (a b c : Option (List ℕ)) (u v : List ℕ) → Consumes a b u → Consumes b c v → Consumes a c (u ++ v)
+consumes_on None b c u v p q = tt
+consumes_on (Some xs) None c u v p q = absurd p
+consumes_on (Some xs) (Some ys) None u v p q = absurd q
+consumes_on (Some xs) (Some ys) (Some zs) u v p q = p ∙ ap (λ w. u ++ w) q ∙ sym (append_assoc u v zs)
+
+left : (had has : Option (List ℕ)) → Keeps had has → Consumes had has []
+left None has h = tt
+left (Some xs) None h = absurd h
+left (Some xs) (Some ys) h = sym h
+
+-- nothing was read
+pub stored_kept : (had has : Option (List ℕ)) (parts : List Part) → Keeps had has → IsStored had has parts parts
+stored_kept had has parts h = record { read = []; gave = left had has h; filled = filled_nothing parts }
+
+pub stored_nothing : (had : Option (List ℕ)) (parts : List Part) → IsStored had had parts parts
+stored_nothing had parts = stored_kept had had parts (stays had)
+
+-- once and once more
+pub stored_on : (a b c : Option (List ℕ)) (old middle new : List Part) → IsStored a b old middle → IsStored b c middle new → IsStored a c old new
+stored_on a b c old middle new p q = record {
+  read = p.read ++ q.read;
+  gave = consumes_on a b c p.read q.read p.gave q.gave;
+  filled = filled_composes old middle new p.read q.read p.filled q.filled;
+}
+
+pub stored_read : (had has : Option (List ℕ)) (old new : List Part) (read : List ℕ) → Consumes had has read → AreFilled old read new → IsStored had has old new
+stored_read had has old new read h filled = record { read = read; gave = h; filled = filled }
+
+-- parts that are empty hold what was put, and nothing else
+parts_empty : Part → List Part → Type 0
+parts_empty part parts = (part.filled ≡ []) × (parts_filled parts ≡ [])
+
+first_empty : (part : Part) (parts : List Part) → parts_filled (part ∷ parts) ≡ [] → parts_empty part parts
+unfolding parts_empty
+first_empty part parts none =
+    let long = ap (λ (w : List ℕ). length w) none in
+    let sum = length-append part.filled (parts_filled parts) in
+    (nil_from_length part.filled (omega (arith, long, sum)), nil_from_length (parts_filled parts) (omega (arith, long, sum)))
+
+pub filled-empty : (parts : List Part) (bytes : List ℕ) → parts_filled parts ≡ [] → length bytes ≤ parts_spare parts → parts_filled (parts_fill parts bytes) ≡ bytes
+unfolding parts_empty
+filled-empty [] bytes none fits = sym (nil_from_length bytes (omega arith))
+filled-empty (part ∷ parts) bytes none fits =
+    let (here, behind) = first_empty part parts none in
+    let sum = sum_by-cons (λ (p : Part). p.spare) part parts in
+    let more = filled-empty parts (drop part.spare bytes) behind (omega (arith, fits, sum, length-drop part.spare bytes)) in
+    ap (λ w. (w ++ take part.spare bytes) ++ parts_filled (parts_fill parts (drop part.spare bytes))) here
+    ∙ ap (λ w. take part.spare bytes ++ w) more ∙ take-append-drop part.spare bytes
+
+-- all bytes that a reader gave into empty parts
+pub stored_bytes : (had has : Option (List ℕ)) (old new : List Part) → parts_filled old ≡ [] → IsStored had has old new → Consumes had has (parts_filled new)
+stored_bytes had has old new none is =
+    subst (Consumes had has) (sym (ap parts_filled is.filled.1 ∙ filled-empty old is.read none is.filled.0)) is.gave
+
+-- parts cut to no bytes are empty, and have the room of all
+none-filled : (part : Part) (n : ℕ) → n ≡ 0 → part_with_len part n ≡ record { filled = []; spare = part_capacity part }
+none-filled part n z = rw z (grind (arith, nat_tests, common_steps))
+
+emptied_upto : (parts : List Part) (n : ℕ) → n ≡ 0 → (parts_filled (parts_with_len parts n) ≡ []) × (parts_spare (parts_with_len parts n) ≡ parts_capacity parts)
+emptied_upto [] n z = (refl, refl)
+emptied_upto (part ∷ parts) n z =
+    let first = none-filled part (min n (part_capacity part)) (omega arith) in
+    let more = emptied_upto parts (n - part_capacity part) (omega arith) in (
+      ap (λ (p : Part). p.filled ++ parts_filled (parts_with_len parts (n - part_capacity part))) first ∙ more.0,
+      omega (arith, more.1, ap (λ (p : Part). p.spare) first, sum_by-cons part_capacity part parts, sum_by-cons (λ (p : Part). p.spare) (part_with_len part (min n (part_capacity part))) (parts_with_len parts (n - part_capacity part))),
+    )
+
+pub emptied-filled : (parts : List Part) → parts_filled (parts_with_len parts 0) ≡ []
+emptied-filled parts = (emptied_upto parts 0 refl).0
+
+pub emptied-spare : (parts : List Part) → parts_spare (parts_with_len parts 0) ≡ parts_capacity parts
+emptied-spare parts = (emptied_upto parts 0 refl).1
+
+-- the bytes of a text of parts
+frozen-part : (part : Part) → (part_frozen part).bytes ≡ part.filled
+frozen-part part = grind (arith, nat_tests, common_steps, nil_from_length)
+
+frozen-parts : (parts : List Part) → flat_map (λ (v : View). v.bytes) (map part_frozen parts) ≡ parts_filled parts
+frozen-parts [] = refl
+frozen-parts (part ∷ parts) = ap (λ w. w ++ flat_map (λ (v : View). v.bytes) (map part_frozen parts)) (frozen-part part) ∙ ap (λ w. part.filled ++ w) (frozen-parts parts)
+
+pub bytes-parts_frozen : (parts : List Part) → (parts_frozen parts).bytes ≡ parts_filled parts
+bytes-parts_frozen parts = bytes-joined (map part_frozen parts) ∙ frozen-parts parts
+
+-- empty parts that are full, or whose reader has no more
+pub stored_done : {P : Type 0} (had has : Option (List ℕ)) (parts new : List Part) (text : MarkedText) → IsStored had has (parts_with_len parts 0) new → text ≡ parts_frozen new
+    → (parts_spare new ≡ 0) ⊎ P → (length text.bytes ≡ parts_capacity parts) ⊎ P
+stored_done had has parts new text is frozen done =
+    let all : length text.bytes ≡ length is.read =
+    ap (λ (t : MarkedText). length t.bytes) frozen
+    ∙ ap (λ (w : List ℕ). length w) (bytes-parts_frozen new ∙ ap parts_filled is.filled.1 ∙ filled-empty (parts_with_len parts 0) is.read (emptied-filled parts) is.filled.0) in
+    let less = filled_lessens (parts_with_len parts 0) new is.read is.filled in
+    elim done [ inl full ↦ inl (omega (arith, all, less, full, emptied-spare parts)) | inr ended ↦ inr ended ]
+
+-- room that the first n bytes of a buffer filled is less by n
+pub room_less : (old new : List Part) (bytes behind : List ℕ) (n : ℕ) → AreFilled old (take n (bytes ++ behind)) new → n ≤ length bytes → parts_spare old ≡ n + parts_spare new
+room_less old new bytes behind n filled fits =
+    omega (arith, filled_lessens old new (take n (bytes ++ behind)) filled, length-take n (bytes ++ behind), length-append bytes behind, fits)
+
+pub ruleset sending = (sent_kept, sent_nothing, sent_on, sent_front, sent_all, bytes-advanced)
+
+pub ruleset storing = (stored_kept, stored_nothing, stored_on, stored_read, filled_lessens, stored_bytes, emptied-filled, emptied-spare, bytes-parts_frozen)
+
+pub ruleset joining = (bytes-append, bytes-joined, bytes-rest, bytes-advanced)

@@ -1,0 +1,143 @@
+-- Facts for callers, over bytes alone.
+--     reading    bytes behind their length: what is read and what is left are the text, and what was written is read back
+--     sending    what is left of a text whose front went off
+--     writing    how long what is written is, and how many of its bytes are inline
+use Rattle.std.specs.Prelude.{◌≡◌, ℕ, ◌+◌, ◌^◌, ◌<◌, ◌≤◌, true, Result, Ok, Err, IfOk, OnErr, List, [], ◌∷◌, ◌++◌, length, take, drop}
+use Rattle.std.proofs.Common.{arith, ap, sym, ◌∙◌, append_assoc, length-append, length-take, take-append-drop}
+use Rattle.std.proofs.lemmas.Bool.Decides.{nat_tests}
+use Rattle.std.proofs.lemmas.Grind.{common_steps}
+use Rattle.std.proofs.lemmas.List.{drop-drop, drop_all, append_cancel_left, nil_from_length}
+use Rattle.iobufs_core.specs.Items.{Item, put_item, push_item, items_bytes, items_inline, IsBegun}
+use Rattle.iobufs_core.specs.LayoutLaws.{good_layout}
+use Rattle.iobufs_core.specs.MarkedText.{MarkedText, taken_view, text_rest, text_right}
+use Rattle.iobufs_core.specs.Part.{Part, part_frozen}
+use Rattle.iobufs_core.specs.Ranges.{in_range}
+use Rattle.iobufs_core.specs.ReadBytes.{bytes-taken_view}
+use Rattle.iobufs_core.specs.ReadLaws.{view_back}
+use Rattle.iobufs_core.specs.Spelled.{length-spell}
+use Rattle.iobufs_core.specs.Spelling.{spell}
+use Rattle.iobufs_core.specs.View.{View, static_mark, view_between}
+use Rattle.iobufs_core.specs.Wire.{IsViewRead, bytes_written, view_items, view_written}
+use Rattle.iobufs_core.specs.WireLaws.{joins-view}
+use Rattle.iobufs_core.specs.declared.codec.base.Error.{Error}
+use Rattle.iobufs_core.specs.declared.codec.base.Error.TheVariants.{Memory}
+use Rattle.iobufs_core.specs.declared.codec.base.RangeCfg.{RangeCfg}
+
+-- ---- reading
+
+-- a view that is taken has as many bytes as were asked for
+pub length-taken_view : (text : MarkedText) (skip n : ℕ) → skip + n ≤ length text.bytes → length (taken_view text skip n).bytes ≡ n
+unfolding taken_view
+length-taken_view text skip n within = grind (arith, nat_tests, common_steps)
+
+-- a copy of the first n bytes leaves the others
+pub bytes-text_rest : (text : MarkedText) (n : ℕ) → n ≤ length text.bytes → (text_rest text n).bytes ≡ drop n text.bytes
+unfolding text_right
+bytes-text_rest text n h = grind (arith, nat_tests, common_steps, drop_all)
+
+-- the view that stands behind its length, and its length
+there : (text : MarkedText) (n : ℕ) (view : View) → take (length (spell n)) text.bytes ≡ spell n → length (spell n) + n ≤ length text.bytes → view ≡ taken_view text (length (spell n)) n
+    → (length view.bytes ≡ n) × (length (view_written view) ≤ length text.bytes) × (text.bytes ≡ view_written view ++ drop (length (view_written view)) text.bytes)
+there text n view at within is =
+    let k = length (spell n) in
+    let bytes : view.bytes ≡ take n (drop k text.bytes) = ap (λ (v : View). v.bytes) is ∙ bytes-taken_view text k n in
+    let len : length view.bytes ≡ n = ap (λ (v : View). length v.bytes) is ∙ length-taken_view text k n within in
+    let long : length (view_written view) ≡ k + n = length-append (spell (length view.bytes)) view.bytes ∙ ap (λ m. length (spell m) + m) len in
+    let whole : spell n ++ (take n (drop k text.bytes) ++ drop (k + n) text.bytes) ≡ text.bytes =
+    ap (λ xs. spell n ++ (take n (drop k text.bytes) ++ xs)) (sym (drop-drop n k text.bytes))
+    ∙ ap (λ xs. spell n ++ xs) (take-append-drop n (drop k text.bytes)) ∙ ap (λ xs. xs ++ drop k text.bytes) (sym at) ∙ take-append-drop k text.bytes in
+    let front : view_written view ≡ spell n ++ take n (drop k text.bytes) = ap (λ m. spell m ++ view.bytes) len ∙ ap (λ xs. spell n ++ xs) bytes in (
+      len,
+      omega (arith, within, long),
+      sym (ap (λ xs. xs ++ drop (length (view_written view)) text.bytes) front
+          ∙ append_assoc (spell n) (take n (drop k text.bytes)) (drop (length (view_written view)) text.bytes)
+          ∙ ap (λ m. spell n ++ (take n (drop k text.bytes) ++ drop m text.bytes)) long ∙ whole),
+    )
+
+-- what was read is the view as written, and then what is left
+pub read_and_left : (text rest : MarkedText) (range : RangeCfg) (result : Result View Error) → IsViewRead text range result
+    → IfOk result (λ view. rest ≡ text_rest text (length (view_written view))) → IfOk result (λ view. text.bytes ≡ view_written view ++ rest.bytes)
+read_and_left text rest range (Ok view) (n, has, is) left =
+    let (len, fits, whole) = there text n view has.0.0.1 has.1 is in
+    whole ∙ ap (λ xs. view_written view ++ xs) (sym (ap (λ (t : MarkedText). t.bytes) left ∙ bytes-text_rest text (length (view_written view)) fits))
+read_and_left text rest range (Err error) is left = tt
+
+-- its length is in the range
+pub read_in_range : (text : MarkedText) (range : RangeCfg) (result : Result View Error) → IsViewRead text range result
+    → IfOk result (λ view. (length view.bytes < 2 ^ 64) × (in_range range (length view.bytes) ≡ true))
+read_in_range text range (Ok view) (n, has, is) =
+    let (len, fits, whole) = there text n view has.0.0.1 has.1 is in
+    let small = has.0.0.0 in
+    (omega (arith, len, small), ap (in_range range) len ∙ has.0.1)
+read_in_range text range (Err error) is = tt
+
+high_end : (range : RangeCfg) (n : ℕ) → in_range range n ≡ true → n ≤ range.hi
+high_end range n h = grind (arith, nat_tests)
+
+pub read_at_most : (text : MarkedText) (range : RangeCfg) (result : Result View Error) → IsViewRead text range result → IfOk result (λ view. length view.bytes ≤ range.hi)
+read_at_most text range (Ok view) is = high_end range (length view.bytes) (read_in_range text range (Ok view) is).1
+read_at_most text range (Err error) is = tt
+
+-- bytes that were written, in the range, are read back and go, or are refused for want of memory alone
+abbrev pub AreReadBack : List ℕ → List ℕ → List ℕ → Result View Error → Type 0
+AreReadBack body rest left (Ok view) = (view.bytes ≡ body) × (left ≡ rest)
+AreReadBack body rest left (Err error) = error ≡ Memory
+
+pub written_read_back : (text left : MarkedText) (range : RangeCfg) (result : Result View Error) (body rest : List ℕ) → IsViewRead text range result
+    → IfOk result (λ view. left ≡ text_rest text (length (view_written view)))
+    → length body < 2 ^ 64 → in_range range (length body) ≡ true → text.bytes ≡ bytes_written body ++ rest → AreReadBack body rest left.bytes result
+written_read_back text left range (Ok view) body rest is behind small inside e =
+    let same : body ≡ view.bytes = view_back (record { bytes = body; mark = static_mark }) range text rest (Ok view) small inside e is in
+    let whole = read_and_left text left range (Ok view) is behind in
+    (sym same, append_cancel_left (view_written view) left.bytes rest (sym whole ∙ e ∙ ap (λ xs. bytes_written xs ++ rest) same))
+written_read_back text left range (Err error) body rest is behind small inside e =
+    view_back (record { bytes = body; mark = static_mark }) range text rest (Err error) small inside e is
+
+pub read_back_is : (body rest left : List ℕ) (result : Result View Error) → AreReadBack body rest left result → IfOk result (λ view. view.bytes ≡ body)
+read_back_is body rest left (Ok view) is = is.0
+read_back_is body rest left (Err error) is = tt
+
+-- ---- writing
+
+-- bytes behind their length are at most ten more
+pub length-bytes_written : (bytes : List ℕ) → length (bytes_written bytes) ≤ 10 + length bytes
+length-bytes_written bytes = omega (arith, length-spell (length bytes), length-append (spell (length bytes)) bytes)
+
+-- no more bytes are inline than are written
+pub inline-most : (items : List Item) → items_inline items ≤ length (items_bytes items)
+inline-most [] = omega arith
+inline-most (put_item bytes ∷ items) = let ih = inline-most items in omega (arith, ih, length-append bytes (items_bytes items))
+inline-most (push_item view ∷ items) = let ih = inline-most items in omega (arith, ih, length-append view.bytes (items_bytes items))
+
+-- of a view that is the spelling of its length
+pub inline-view : (view : View) → items_inline (view_items view) ≤ 10
+inline-view view = omega (arith, length-spell (length view.bytes))
+
+-- the bytes of a part are those of the view that it freezes to
+pub bytes-part_frozen : (part : Part) → (part_frozen part).bytes ≡ part.filled
+bytes-part_frozen part = grind (arith, nat_tests, common_steps, nil_from_length)
+
+-- and those of a slice
+pub bytes-view_between : (view : View) (from to : ℕ) → from ≤ to → to ≤ length view.bytes → (view_between view from to).bytes ≡ drop from (take to view.bytes)
+bytes-view_between view from to order within = grind (arith, nat_tests, common_steps, length-take, drop_all)
+
+-- behind a first text, a beginning of a second one is a beginning of both and of all that follows
+pub begun_behind : (old first second behind middle new : List ℕ) → middle ≡ old ++ first → IsBegun middle second new → IsBegun old (first ++ (second ++ behind)) new
+begun_behind old first second behind middle new put begun =
+    let (front, back, whole, left) = begun in (
+      first ++ front,
+      back ++ behind,
+      append_assoc first front (back ++ behind) ∙ ap (λ xs. first ++ xs) (sym (append_assoc front back behind) ∙ ap (λ xs. xs ++ behind) whole),
+      left ∙ ap (λ xs. xs ++ front) put ∙ append_assoc old first front,
+    )
+
+-- what holds anyway holds where a call is refused
+pub on_err_always : {T E P : Type 0} (result : Result T E) → P → OnErr result P
+on_err_always (Ok value) p = tt
+on_err_always (Err error) p = p
+
+pub ruleset reading = (read_and_left, read_at_most, written_read_back, read_back_is, bytes-text_rest)
+
+pub ruleset writing = (length-bytes_written, length-spell, inline-view, inline-most, joins-view, bytes-part_frozen, good_layout)
+
+pub ruleset several_writes = (begun_behind, on_err_always)

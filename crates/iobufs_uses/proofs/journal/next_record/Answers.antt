@@ -1,0 +1,13 @@
+use Rattle.std.proofs.Common.{arith, ◌<◌, length}
+use Rattle.std.proofs.lemmas.Bool.Decides.{nat_tests}
+use Rattle.iobufs_uses.specs.JournalLaws.{found_record, no_record}
+use Rattle.iobufs_uses.proofs.journal.next_record.Goals as goal
+
+pub returns-in-Some-clause-found : goal.returns-in-Some-clause-found
+returns-in-Some-clause-found c =
+    found_record c.args.most c.args.number c.args.rest.now c.read_cfg.new.buf c.in-Ok.record c.in-Some.body _ c.in-Ok.ensures.answer c.in-Ok.ensures.rest c.in-Some.is c.in_ok-body-in-Ok.ensures.body
+
+pub returns-in-Ok-clause-none : goal.returns-in-Ok-clause-none
+returns-in-Ok-clause-none c =
+    let some : 0 < length c.args.rest.now.bytes = grind (arith, nat_tests, c.is_empty.ensures, c.if-is_empty.false) in
+    no_record c.args.most c.args.number c.args.rest.now c.read_cfg.new.buf c.in-Ok.record _ c.in-Ok.ensures.answer c.in-Ok.ensures.rest c.in-None.is c.in_ok-body-in-Ok.ensures.none some

@@ -1,0 +1,66 @@
+-- Journals: records one behind the other, numbered from 0.
+--     sealed           a number, a body, and the CRC-32 of both
+--     record_written   the same behind its length
+--     HasNoRecord      why no record stands in front: the text is at its end, it is cut off, or what stands there is damaged
+--     IsJournal        a text is these records and a rest in front of which none stands
+use Rattle.std.specs.Prelude.{◌≤◌, ◌≡◌, ◌⊎◌, ℕ, suc, ◌+◌, ◌^◌, ◌<◌, Ok, Err, List, [], ◌∷◌, ◌++◌, length, map}
+use Rattle.std.specs.Int.{w32, w64, to_be_bytes}
+use Rattle.iobufs_core.specs.View.{View}
+use Rattle.iobufs_core.specs.Spelling.{spell}
+use Rattle.iobufs_core.specs.Wire.{IsLengthRead, bytes_written}
+use Rattle.iobufs_core.specs.declared.codec.base.Error.TheVariants.{EndOfBuffer, InvalidVarint, InvalidLength}
+use Rattle.iobufs_core.specs.declared.codec.base.RangeCfg.{RangeCfg}
+use Rattle.iobufs_uses.specs.Crc.{crc32}
+use Rattle.iobufs_uses.specs.declared.journal.End.{End}
+use Rattle.iobufs_uses.specs.declared.journal.End.TheVariants.{Whole, Torn, Damaged}
+
+-- bytes, and their CRC-32
+abbrev pub summed : List ℕ → List ℕ
+summed bytes = bytes ++ to_be_bytes w32 (crc32 bytes)
+
+abbrev pub sealed : ℕ → List ℕ → List ℕ
+sealed number body = summed (to_be_bytes w64 number ++ body)
+
+abbrev pub record_written : ℕ → List ℕ → List ℕ
+record_written number body = bytes_written (sealed number body)
+
+-- records from a number on
+abbrev pub records_written : ℕ → List (List ℕ) → List ℕ
+records_written number [] = []
+records_written number (body ∷ bodies) = record_written number body ++ records_written (suc number) bodies
+
+-- the lengths that a record may have
+abbrev pub up_to : ℕ → RangeCfg
+up_to most = record { lo = 0; hi = most }
+
+-- the length in front may go on, or fewer bytes stand behind it than it says
+abbrev pub IsCut : ℕ → List ℕ → Type 0
+IsCut most bytes =
+    IsLengthRead bytes (up_to most) (Err EndOfBuffer) ⊎ ((n : ℕ) × IsLengthRead bytes (up_to most) (Ok n) × (length bytes < length (spell n) + n))
+
+-- no length stands in front, or one that is too large
+abbrev pub HasBadLength : ℕ → List ℕ → Type 0
+HasBadLength most bytes = IsLengthRead bytes (up_to most) (Err InvalidVarint) ⊎ ((n : ℕ) × IsLengthRead bytes (up_to most) (Err (InvalidLength n)))
+
+-- so many bytes stand behind the length, and aren't a body sealed with this number
+abbrev pub IsUnsealed : ℕ → List ℕ → Type 0
+IsUnsealed number bytes = (framed : List ℕ) × (behind : List ℕ) × (length framed < 2 ^ 64) × (bytes ≡ bytes_written framed ++ behind) × ((body : List ℕ) → framed ≡ sealed number body → ⊥)
+
+abbrev pub HasNoRecord : ℕ → ℕ → List ℕ → End → Type 0
+HasNoRecord most number rest Whole = rest ≡ []
+HasNoRecord most number rest Torn = (0 < length rest) × IsCut most rest
+HasNoRecord most number rest Damaged = (0 < length rest) × (HasBadLength most rest ⊎ IsUnsealed number rest)
+
+-- each record has at most so many bytes behind its length
+abbrev pub AreShort : ℕ → List (List ℕ) → Type 0
+AreShort most [] = Unit {0}
+AreShort most (body ∷ bodies) = (12 + length body ≤ most) × AreShort most bodies
+
+-- the bytes of views, view by view
+abbrev pub bodies : List View → List (List ℕ)
+bodies views = map (λ view. view.bytes) views
+
+-- the records of a text from a number on, how it ends, and what is behind them
+pub record IsJournal (most number : ℕ) (text : List ℕ) (found : List (List ℕ)) (end : End) (rest : List ℕ) : Type 0 where
+  pub whole : text ≡ records_written number found ++ rest
+  pub ends : HasNoRecord most (number + length found) rest end

@@ -1,0 +1,4 @@
+pub mod Crc
+pub mod Journal
+pub mod JournalLaws
+pub mod ReplayLaw

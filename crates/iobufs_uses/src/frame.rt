@@ -1,0 +1,38 @@
+// Frames: a body behind its length, one behind the other.
+ghost use Rattle.std.specs.Prelude.{◌≡◌, ◌^◌, ◌<◌, ◌≤◌, ◌++◌, List, ℕ, length, IfOk, IsOkUnless, OnErr};
+ghost use Rattle.iobufs_core.specs.CallerFacts.{AreReadBack};
+ghost use Rattle.iobufs_core.specs.Wire.{bytes_written};
+
+use iobufs::bufs::IoBufs;
+use iobufs::builder::EncodeExt;
+use iobufs_core::buf::IoBuf;
+use iobufs_core::codec::{Error, RangeCfg, Read};
+use std::alloc::Global;
+
+/// A body as a frame, which shares its bytes.
+#[tactic(auto, using(iobufs_core::specs::CallerFacts::writing))]
+pub fn frame(alloc: Global, body: &IoBuf) -> Result<IoBufs, Error>
+    ensures bytes { IfOk result (λ text. text.bytes ≡ bytes_written body.now.bytes) }
+    ensures memory { length body.now.bytes < 2 ^ 63 → IsOkUnless result Error.Memory }
+{
+    body.encode_iobufs(alloc)
+}
+
+/// Takes the body of a frame of at most `most` bytes from the front. A refusal leaves the text as it was.
+#[tactic(auto, using(iobufs_core::specs::CallerFacts::reading))]
+pub fn read_frame(alloc: Global, text: &mut IoBufs, most: usize) -> Result<IoBuf, Error>
+    ensures framed { IfOk result (λ body. text.old.bytes ≡ bytes_written body.bytes ++ text.new.bytes) }
+    ensures short { IfOk result (λ body. length body.bytes ≤ most) }
+    ensures same { OnErr result (text.new ≡ text.old) }
+    ensures back { (body rest : List ℕ) → length body ≤ most → text.old.bytes ≡ bytes_written body ++ rest → AreReadBack body rest text.new.bytes result }
+{
+    IoBuf::read_cfg(alloc, text, &RangeCfg { lo: 0, hi: most })
+}
+
+/// What was framed is read back, and nothing is left.
+pub fn echo(alloc: Global, body: &IoBuf) -> Result<IoBuf, Error>
+    ensures { IfOk result (λ read. read.bytes ≡ body.now.bytes) }
+{
+    let mut text = frame(alloc, body)?;
+    read_frame(alloc, &mut text, body.len())
+}

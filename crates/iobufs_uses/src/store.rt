@@ -1,0 +1,55 @@
+// Parts that are filled by a reader.
+ghost use Rattle.std.specs.Prelude.{◌≡◌, ◌⊎◌, ◌+◌, ◌≤◌, length, IfOk, OnOk};
+ghost use Rattle.std.specs.Io.KnownBytes.{Consumes, IsAtEnd};
+ghost use Rattle.iobufs.specs.CallerFacts.{IsStored};
+ghost use Rattle.iobufs.specs.Parts.{parts_capacity, parts_spare};
+
+use iobufs::bufs::IoBufs;
+use iobufs::bufs_mut::IoBufsMut;
+use iobufs_core::codec::BufMut;
+use std::alloc::Global;
+use std::io::{self, ErrorKind, Read};
+
+// Reads once into the room of the parts, and says how many bytes came.
+#[tactic(auto, using(iobufs::specs::CallerFacts::storing))]
+fn fill_once<R: Read>(from: &mut R, parts: &mut IoBufsMut) -> io::Result<usize>
+    ensures stored { IsStored (R.remaining from.old) (R.remaining from.new) parts.old parts.new }
+    ensures room { IfOk result (λ n. parts_spare parts.old ≡ n + parts_spare parts.new) }
+    ensures end { IfOk result (λ n. n ≡ 0 → (parts_spare parts.new ≡ 0) ⊎ IsAtEnd (R.remaining from.new)) }
+{
+    let room = parts.remaining_mut();
+    if room == 0 {
+        return Ok(0);
+    }
+    let mut bytes = [0; 512];
+    let most = bytes.len().min(room);
+    let n = from.read(&mut bytes[..most])?;
+    parts.put_slice(&bytes[..n]);
+    Ok(n)
+}
+
+/// Reads into the room of the parts until it is full, or the reader has no more. What was read is in the parts,
+/// whatever the answer: it may be called again.
+#[tactic(auto, using(iobufs::specs::CallerFacts::storing))]
+pub fn fill<R: Read>(from: &mut R, parts: &mut IoBufsMut) -> io::Result<()>
+    ensures stored { IsStored (R.remaining from.old) (R.remaining from.new) parts.old parts.new }
+    ensures done { OnOk result ((parts_spare parts.new ≡ 0) ⊎ IsAtEnd (R.remaining from.new)) }
+{
+    while fill_once(from, parts)? != 0 {}
+    Ok(())
+}
+
+/// Fills the parts with what a reader has, from their first byte on, and freezes them: until they are full, or the
+/// reader has no more.
+#[tactic(auto, using(iobufs::specs::CallerFacts::storing))]
+pub fn store<R: Read>(alloc: Global, from: &mut R, mut parts: IoBufsMut) -> io::Result<IoBufs>
+    ensures bytes { IfOk result (λ text. Consumes (R.remaining from.old) (R.remaining from.new) text.bytes) }
+    ensures done { IfOk result (λ text. (length text.bytes ≡ parts_capacity parts) ⊎ IsAtEnd (R.remaining from.new)) }
+{
+    parts.set_len(0);
+    fill(from, &mut parts)?;
+    let Ok(text) = parts.freeze(alloc) else {
+        return Err(io::Error::from(ErrorKind::OutOfMemory));
+    };
+    Ok(text)
+}
