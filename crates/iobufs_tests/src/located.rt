@@ -31,9 +31,15 @@ fn located(text: &IoBufs, at: usize) -> Result<Located, Fail> {
 fn places_in_four_pieces(rt: HostRuntime) -> Result<(), Fail> {
     let text = four_pieces(rt.alloc())?;
     let first = located(&text, 0)?;
-    assert_eq!(rt; (first.index, first.offset, first.probes <= 3), (0, 0, true));
+    assert_eq!(rt;
+        (first.index, first.offset, first.probes <= 3),
+        (0, 0, true)
+    );
     let inside = located(&text, 5)?;
-    assert_eq!(rt; (inside.index, inside.offset, inside.probes <= 3), (2, 1, true));
+    assert_eq!(rt;
+        (inside.index, inside.offset, inside.probes <= 3),
+        (2, 1, true)
+    );
     let edge = located(&text, 6)?;
     assert_eq!(rt; (edge.index, edge.offset, edge.probes <= 3), (3, 0, true));
     Ok(())
@@ -43,7 +49,10 @@ fn places_in_four_pieces(rt: HostRuntime) -> Result<(), Fail> {
 fn a_place_in_one_piece(rt: HostRuntime) -> Result<(), Fail> {
     let text = IoBufs::from(b"ab".as_slice());
     let found = located(&text, 1)?;
-    assert_eq!(rt; (found.index, found.offset, found.probes <= 1), (0, 1, true));
+    assert_eq!(rt;
+        (found.index, found.offset, found.probes <= 1),
+        (0, 1, true)
+    );
     Ok(())
 }
 
@@ -55,7 +64,10 @@ fn a_place_behind_a_piece_put_in_front(rt: HostRuntime) -> Result<(), Fail> {
         return Err(Fail::new("refused"));
     }
     let found = located(&text, 5)?;
-    assert_eq!(rt; (found.index, found.offset, found.probes <= 3), (2, 0, true));
+    assert_eq!(rt;
+        (found.index, found.offset, found.probes <= 3),
+        (2, 0, true)
+    );
     Ok(())
 }
 
@@ -67,6 +79,9 @@ fn the_last_of_a_thousand_pieces(rt: HostRuntime) -> Result<(), Fail> {
         append(alloc, &mut text, b"a")?;
     }
     let found = located(&text, 999)?;
-    assert_eq!(rt; (found.index, found.offset, found.probes <= 10), (999, 0, true));
+    assert_eq!(rt;
+        (found.index, found.offset, found.probes <= 10),
+        (999, 0, true)
+    );
     Ok(())
 }
