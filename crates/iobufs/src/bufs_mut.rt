@@ -22,7 +22,16 @@ use std::alloc::Global;
 use std::marker::Model;
 
 /// Writable buffers in a row, read from the front and filled in order (`IoBufsMut`). With two or more, each can hold
-/// a byte.
+/// a byte:
+///
+/// ```text
+/// parts    | a b c | . . | d . |
+///            filled       filled     read as a b c d, in order
+///                   spare     spare  the next put fills . . and then .
+/// ```
+///
+/// It shares its storage with nobody. Puts, `set_len` and `advance` ask for no memory; to freeze it asks for the row of
+/// pieces, and for the shared counts of the parts that have none.
 pub struct IoBufsMut {
     shape: Shape,
 }

@@ -13,7 +13,14 @@ use std::alloc::Global;
 use std::marker::Model;
 
 /// Puts and pushes on their way to one text (`Builder`). All puts share one buffer of a fixed capacity; what is
-/// pushed is not copied.
+/// pushed is not copied:
+///
+/// ```text
+/// inline   | a b | c | d e . . |      pushes   X behind a b, Y behind c
+/// finished | a b | X | c | Y | d e |
+/// ```
+///
+/// A put asks for no memory. Finishing splits the inline buffer where views stand, and copies no byte.
 pub struct Builder {
     inline: IoBufMut,
     pushes: Vec<Push>,

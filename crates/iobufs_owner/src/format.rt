@@ -2,7 +2,13 @@
 ghost use Rattle.std.specs.Prelude.{◌≡◌, ℕ, ◌+◌, ◌^◌, ◌<◌, ◌≤◌, ◌↔◌, SomeIff, IfSome, IsTrue, MatchOption};
 ghost use Rattle.iobufs_owner.specs.Word.{IsPowerOfTwo, fits, word_of, HasRoom, IsWord, size_in, tail_in, log_in, retailed};
 
-/// How many bits of a word hold the alignment, the tail and the size. Below them a word has one bit that is always set.
+/// How many bits of a word hold the alignment, the tail and the size. Below them a word has one bit that is always set:
+///
+/// ```text
+/// high                                               low
+/// | size             | tail      | log2 of align | 1 |
+///   size_bits          tail_bits   align_bits
+/// ```
 #[derive(Clone, Copy, Debug, Drop)]
 pub struct Format {
     /// Bits for the logarithm of the alignment.

@@ -43,7 +43,13 @@ impl Clone for Piece {
     }
 }
 
-/// Pieces that hold bytes, in a deque. What comes or goes in front changes the base and no end.
+/// Pieces that hold bytes, in a deque. What comes or goes in front changes the base and no end:
+///
+/// ```text
+/// base 0   | a b c | d e |   ends 3, 5
+/// base 3           | d e |   ends 5      the first is gone
+/// base 2       | x | d e |   ends 3, 5   another came in front
+/// ```
 pub(crate) struct Row {
     base: u64,
     pieces: VecDeque<Piece>,

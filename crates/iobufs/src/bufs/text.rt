@@ -23,7 +23,17 @@ use std::alloc::{AllocError, Global};
 use std::marker::Model;
 use std::mem;
 
-/// A read-only text in pieces (the original's `IoBufs`). Two or more pieces are never empty.
+/// A read-only text in pieces (the original's `IoBufs`). Two or more pieces are never empty, and stand in a deque, each
+/// with the place where it ends:
+///
+/// ```text
+/// text     | a b c | d e | f g h i |
+/// piece        0      1       2
+/// end          3      5       9       less the base: how many bytes there are up to there
+/// ```
+///
+/// Pieces are moved, and never copied; the text shares their storage with whoever else has it. A place is found by a
+/// search among the ends, so `split_to` and `take_owned_after` look at few pieces of many.
 pub struct IoBufs {
     pub(super) pieces: Pieces,
 }

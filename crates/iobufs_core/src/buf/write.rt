@@ -15,7 +15,15 @@ use std::fmt;
 use std::marker::Model;
 
 /// One piece of storage to write (`IoBufMut`): bytes that are filled, and room behind them. The capacity is fixed
-/// when the buffer is made, and counted from the first readable byte.
+/// when the buffer is made, and counted from the first readable byte:
+///
+/// ```text
+/// storage | dropped |   filled   |   spare   |
+///         0       start         len        limit
+///                   |------ capacity --------|
+/// ```
+///
+/// It shares its storage with nobody. No put asks for memory.
 pub struct IoBufMut {
     // It may have more room than up to `limit`, which is never used.
     storage: Vec<u8>,
