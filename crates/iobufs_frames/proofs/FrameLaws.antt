@@ -12,12 +12,12 @@ use Rattle.iobufs_core.specs.Spelling.{spell, IsSpelledAt, IsSpelling, AreHigh, 
 use Rattle.iobufs_core.specs.View.{View}
 use Rattle.iobufs_core.specs.MarkedText.{MarkedText, taken_view, text_append, text_rest, text_right}
 use Rattle.iobufs_core.specs.ReadBytes.{bytes-taken_view}
-use Rattle.iobufs_core.specs.Wire.{HasView, IsViewRead, bytes_written, view_written}
+use Rattle.iobufs_core.specs.Wire.{HasView, IsLengthRead, IsViewRead, bytes_written, view_written}
 use Rattle.iobufs_core.specs.declared.codec.base.Error.{Error}
 use Rattle.iobufs_core.specs.declared.codec.base.Error.TheVariants.{EndOfBuffer, InvalidVarint, InvalidLength, Memory, BadLayout, TooLong}
 use Rattle.iobufs_core.specs.declared.codec.base.RangeCfg.{RangeCfg}
 use Rattle.iobufs.specs.JoinedLaws.{bytes-append}
-use Rattle.iobufs_frames.specs.Frames.{frames_written, AreAdmitted, AreMoved, HasNoFrame, IsFramed, IsNext, IsFirst, bodies, found_of}
+use Rattle.iobufs_frames.specs.Frames.{frames_written, AreAdmitted, AreMoved, HasBytes, HasNoFrame, IsFramed, IsNext, IsFirst, bodies, found_of}
 use Rattle.iobufs_frames.specs.declared.End.{End}
 use Rattle.iobufs_frames.specs.declared.End.TheVariants.{Open, Bad}
 
@@ -207,22 +207,34 @@ bytes-rest : (t : MarkedText) (n : ℕ) → (text_rest t n).bytes ≡ drop n t.b
 unfolding text_right
 bytes-rest t n = grind (arith, nat_tests, common_steps)
 
+-- a length and so many bytes behind it are a frame in front
+in_front : (range : RangeCfg) (bytes : List ℕ) (n : ℕ) (body : List ℕ) → IsLengthRead bytes range (Ok n) → length (spell n) + n ≤ length bytes → body ≡ take n (drop (length (spell n)) bytes)
+    → (length body ≡ n) × (bytes ≡ bytes_written body ++ drop (length (bytes_written body)) bytes)
+in_front range bytes n body read within taken =
+    let k = length (spell n) in
+    let behind = drop k bytes in
+    let left : n ≤ length behind = omega (arith, length-drop k bytes) in
+    let len : length body ≡ n = ap (λ (xs : List ℕ). length xs) taken ∙ length-take-le n behind left in
+    let long : k + n ≡ length (bytes_written body) =
+    let spelled : k ≡ length (spell (length body)) = ap (λ m. length (spell m)) (sym len) in omega (arith, length-append (spell (length body)) body) in
+    let front : take (k + n) bytes ≡ bytes_written body =
+    take-add k n bytes ∙ ap (λ xs. xs ++ take n behind) read.0.1 ∙ ap (λ xs. spell n ++ xs) (sym taken) ∙ ap (λ m. spell m ++ body) (sym len) in
+    let whole : bytes ≡ take (k + n) bytes ++ drop (k + n) bytes = sym (take-append-drop (k + n) bytes) in
+    (len, whole ∙ ap (λ xs. xs ++ drop (k + n) bytes) front ∙ ap (λ m. bytes_written body ++ drop m bytes) long)
+
+-- a view that finds no memory is a frame with bytes
+wanted : (range : RangeCfg) (t : MarkedText) (n : ℕ) → HasView t range n → 0 < n → HasBytes range t.bytes
+wanted range t n has some =
+    let body = take n (drop (length (spell n)) t.bytes) in
+    let (len, whole) = in_front range t.bytes n body has.0 has.1 refl in
+    let small = has.0.0.0 in
+    (body, drop (length (bytes_written body)) t.bytes, (omega arith, ap (in_range range) len ∙ has.0.1, tt), whole, omega arith)
+
 -- what is read is the frame in front
 front_taken : (range : RangeCfg) (t : MarkedText) (view : View) (n : ℕ) → HasView t range n → view ≡ taken_view t (length (spell n)) n
     → (length view.bytes ≡ n) × (t.bytes ≡ bytes_written view.bytes ++ drop (length (bytes_written view.bytes)) t.bytes)
 front_taken range t view n has is =
-    let k = length (spell n) in
-    let behind = drop k t.bytes in
-    let taken : view.bytes ≡ take n behind = ap (λ (v : View). v.bytes) is ∙ bytes-taken_view t k n in
-    let within = has.1 in
-    let left : n ≤ length behind = omega (arith, length-drop k t.bytes) in
-    let len : length view.bytes ≡ n = ap (λ (xs : List ℕ). length xs) taken ∙ length-take-le n behind left in
-    let long : k + n ≡ length (bytes_written view.bytes) =
-    let spelled : k ≡ length (spell (length view.bytes)) = ap (λ m. length (spell m)) (sym len) in omega (arith, length-append (spell (length view.bytes)) view.bytes) in
-    let front : take (k + n) t.bytes ≡ bytes_written view.bytes =
-    take-add k n t.bytes ∙ ap (λ xs. xs ++ take n behind) has.0.0.1 ∙ ap (λ xs. spell n ++ xs) (sym taken) ∙ ap (λ m. spell m ++ view.bytes) (sym len) in
-    let whole : t.bytes ≡ take (k + n) t.bytes ++ drop (k + n) t.bytes = sym (take-append-drop (k + n) t.bytes) in
-    (len, whole ∙ ap (λ xs. xs ++ drop (k + n) t.bytes) front ∙ ap (λ m. bytes_written view.bytes ++ drop m t.bytes) long)
+    in_front range t.bytes n view.bytes has.0 has.1 (ap (λ (v : View). v.bytes) is ∙ bytes-taken_view t (length (spell n)) n)
 
 next_by_reading : (range : RangeCfg) (t new : MarkedText) (read : Result View Error) → IsViewRead t range read
     → IfOk read (λ view. new ≡ text_rest t (length (view_written view))) → IsNext range t.bytes (found_of read) new.bytes
@@ -235,7 +247,7 @@ next_by_reading range t new (Ok view) h left =
 next_by_reading range t new (Err EndOfBuffer) h left = h
 next_by_reading range t new (Err InvalidVarint) h left = h
 next_by_reading range t new (Err (InvalidLength n)) h left = h
-next_by_reading range t new (Err Memory) h left = tt
+next_by_reading range t new (Err Memory) h left = wanted range t h.0 h.1 h.2
 next_by_reading range t new (Err BadLayout) h left = h
 next_by_reading range t new (Err TooLong) h left = h
 
@@ -253,26 +265,31 @@ none_in_front range old end now (f ∷ fs) rest h is =
     let admitted = is.admitted in
     absurd (stands range f (frames_written fs ++ rest) now admitted.0 admitted.1 (subst (λ (xs : List ℕ). HasNoFrame range xs now) front h))
 
-first_taken : (range : RangeCfg) (old new : List ℕ) (view : View) (end : End) (frames : List (List ℕ)) (rest : List ℕ)
-    → length view.bytes < 2 ^ 64 → in_range range (length view.bytes) ≡ true → old ≡ bytes_written view.bytes ++ new
-    → IsFramed range old frames end rest → IsFirst range frames end rest (Ok (Some view)) new
-first_taken range old new view end [] rest small inside e is =
-    absurd (stands range view.bytes new end small inside (subst (λ (xs : List ℕ). HasNoFrame range xs end) (sym is.whole ∙ e) is.ends))
-first_taken range old new view end (f ∷ fs) rest small inside e is =
+-- a frame in front is the first
+first_is : (range : RangeCfg) (old new body : List ℕ) (end : End) (frames : List (List ℕ)) (rest : List ℕ)
+    → length body < 2 ^ 64 → in_range range (length body) ≡ true → old ≡ bytes_written body ++ new
+    → IsFramed range old frames end rest → (others : List (List ℕ)) × (frames ≡ body ∷ others) × IsFramed range new others end rest
+first_is range old new body end [] rest small inside e is =
+    absurd (stands range body new end small inside (subst (λ (xs : List ℕ). HasNoFrame range xs end) (sym is.whole ∙ e) is.ends))
+first_is range old new body end (f ∷ fs) rest small inside e is =
     let admitted = is.admitted in
     let whole : old ≡ bytes_written f ++ (frames_written fs ++ rest) = is.whole ∙ append_assoc (bytes_written f) (frames_written fs) rest in
-    let (same, behind) = one_front view.bytes f new (frames_written fs ++ rest) small admitted.0 (sym e ∙ whole) in
-    (fs, ap (λ body. body ∷ fs) (sym same), record { whole = behind; admitted = admitted.2; ends = is.ends })
+    let (same, behind) = one_front body f new (frames_written fs ++ rest) small admitted.0 (sym e ∙ whole) in
+    (fs, ap (λ first. first ∷ fs) (sym same), record { whole = behind; admitted = admitted.2; ends = is.ends })
 
--- what is taken of a text is the first of its frames, and the answer without one is by its end
+first_wanted : (range : RangeCfg) (old : List ℕ) (end : End) (frames : List (List ℕ)) (rest : List ℕ) → HasBytes range old
+    → IsFramed range old frames end rest → (body : List ℕ) × (others : List (List ℕ)) × (frames ≡ body ∷ others) × (0 < length body)
+first_wanted range old end frames rest (body, more, admitted, e, some) is =
+    let (others, first, behind) = first_is range old more body end frames rest admitted.0 admitted.1 e is in (body, others, first, some)
+
 pub first_of_next : (range : RangeCfg) (old new : List ℕ) (result : Result (Option View) Error) → IsNext range old result new
     → (frames : List (List ℕ)) (end : End) (rest : List ℕ) → IsFramed range old frames end rest → IsFirst range frames end rest result new
-first_of_next range old new (Ok (Some view)) h frames end rest is = first_taken range old new view end frames rest h.0 h.1 h.2 is
+first_of_next range old new (Ok (Some view)) h frames end rest is = first_is range old new view.bytes end frames rest h.0 h.1 h.2 is
 first_of_next range old new (Ok None) h frames end rest is = none_in_front range old end Open frames rest h is
 first_of_next range old new (Err EndOfBuffer) h frames end rest is = absurd h
 first_of_next range old new (Err InvalidVarint) h frames end rest is = none_in_front range old end (Bad InvalidVarint) frames rest h is
 first_of_next range old new (Err (InvalidLength n)) h frames end rest is = none_in_front range old end (Bad (InvalidLength n)) frames rest h is
-first_of_next range old new (Err Memory) h frames end rest is = tt
+first_of_next range old new (Err Memory) h frames end rest is = first_wanted range old end frames rest h is
 first_of_next range old new (Err BadLayout) h frames end rest is = none_in_front range old end (Bad BadLayout) frames rest h is
 first_of_next range old new (Err TooLong) h frames end rest is = none_in_front range old end (Bad TooLong) frames rest h is
 

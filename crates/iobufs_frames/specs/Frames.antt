@@ -2,6 +2,7 @@
 --     frames_written  frames, one behind the other
 --     AreAdmitted     the lengths are in the range
 --     HasNoFrame      no whole frame stands in front, and why
+--     HasBytes        a whole frame with bytes stands in front
 --     IsFramed        a text is these frames and a rest in front of which none stands
 use Rattle.std.specs.Prelude.{◌≡◌, ◌⊎◌, ℕ, ◌+◌, ◌^◌, ◌<◌, true, Option, None, Some, Result, Ok, Err, List, [], ◌∷◌, ◌++◌, map, flat_map, length}
 use Rattle.iobufs_core.specs.Ranges.{in_range}
@@ -32,6 +33,11 @@ HasNoFrame range bytes Open =
 HasNoFrame range bytes (Bad EndOfBuffer) = ⊥
 HasNoFrame range bytes (Bad error) = IsLengthRead bytes range (Err error)
 
+-- a whole frame with bytes stands in front
+abbrev pub HasBytes : RangeCfg → List ℕ → Type 0
+HasBytes range bytes =
+    (body : List ℕ) × (more : List ℕ) × AreAdmitted range (body ∷ []) × (bytes ≡ bytes_written body ++ more) × (0 < length body)
+
 -- The frames of a text, why no further one stands behind them, and what is behind them
 pub record IsFramed (range : RangeCfg) (text : List ℕ) (frames : List (List ℕ)) (end : End) (rest : List ℕ) : Type 0 where
   pub whole : text ≡ frames_written frames ++ rest
@@ -48,18 +54,18 @@ found_of (Ok view) = Ok (Some view)
 found_of (Err EndOfBuffer) = Ok None
 found_of (Err error) = Err error
 
--- What taking one frame answers of a text, and the text that it leaves
+-- What taking one frame answers of a text, and the text that it leaves. Memory is wanted only for a frame with bytes.
 abbrev pub IsNext : RangeCfg → List ℕ → Result (Option View) Error → List ℕ → Type 0
 IsNext range old (Ok (Some body)) new = (length body.bytes < 2 ^ 64) × (in_range range (length body.bytes) ≡ true) × (old ≡ bytes_written body.bytes ++ new)
 IsNext range old (Ok None) new = HasNoFrame range old Open
-IsNext range old (Err Memory) new = Unit {0}
+IsNext range old (Err Memory) new = HasBytes range old
 IsNext range old (Err error) new = HasNoFrame range old (Bad error)
 
 -- the same of the frames of the text: the first is taken; where there is none, the answer is by the end
 abbrev pub IsFirst : RangeCfg → List (List ℕ) → End → List ℕ → Result (Option View) Error → List ℕ → Type 0
 IsFirst range frames end rest (Ok (Some taken)) new = (others : List (List ℕ)) × (frames ≡ taken.bytes ∷ others) × IsFramed range new others end rest
 IsFirst range frames end rest (Ok None) new = (frames ≡ []) × (end ≡ Open)
-IsFirst range frames end rest (Err Memory) new = Unit {0}
+IsFirst range frames end rest (Err Memory) new = (body : List ℕ) × (others : List (List ℕ)) × (frames ≡ body ∷ others) × (0 < length body)
 IsFirst range frames end rest (Err error) new = (frames ≡ []) × (end ≡ Bad error)
 
 -- frames went over from the front of a text behind others
