@@ -12,13 +12,14 @@ use Rattle.std.proofs.lemmas.Grind.{common_steps, flat_map-append}
 use Rattle.std.proofs.lemmas.List.{nil_from_length, take-append-le}
 use Rattle.std.proofs.lemmas.List.Folds.{flat_map-map}
 use Rattle.std.proofs.lemmas.List.Sums.{sum_by-cons}
+use Rattle.iobufs_core.specs.CallerFacts.{bytes-advanced, bytes-part_frozen, bytes-rest}
 use Rattle.iobufs_core.specs.MarkedText.{MarkedText, text_advanced, text_chunks}
 use Rattle.iobufs_core.specs.Part.{Part, part_capacity, part_frozen, part_with_len}
 use Rattle.iobufs_core.specs.View.{View}
 use Rattle.iobufs.specs.FillLaws.{AreFilled, filled_composes, filled_lessens, filled_nothing}
 use Rattle.iobufs.specs.JoinedLaws.{bytes-append, bytes-joined}
 use Rattle.iobufs.specs.Parts.{parts_capacity, parts_fill, parts_filled, parts_frozen, parts_spare, parts_with_len}
-use Rattle.iobufs.specs.ReaderLaws.{bytes-advanced, bytes-rest, joined-chunks}
+use Rattle.iobufs.specs.ReaderLaws.{joined-chunks}
 
 -- ---- sending
 
@@ -180,25 +181,35 @@ pub emptied-spare : (parts : List Part) → parts_spare (parts_with_len parts 0)
 emptied-spare parts = (emptied_upto parts 0 refl).1
 
 -- the bytes of a text of parts
-frozen-part : (part : Part) → (part_frozen part).bytes ≡ part.filled
-frozen-part part = grind (arith, nat_tests, common_steps, nil_from_length)
-
 frozen-parts : (parts : List Part) → flat_map (λ (v : View). v.bytes) (map part_frozen parts) ≡ parts_filled parts
 frozen-parts [] = refl
-frozen-parts (part ∷ parts) = ap (λ w. w ++ flat_map (λ (v : View). v.bytes) (map part_frozen parts)) (frozen-part part) ∙ ap (λ w. part.filled ++ w) (frozen-parts parts)
+frozen-parts (part ∷ parts) = ap (λ w. w ++ flat_map (λ (v : View). v.bytes) (map part_frozen parts)) (bytes-part_frozen part) ∙ ap (λ w. part.filled ++ w) (frozen-parts parts)
 
 pub bytes-parts_frozen : (parts : List Part) → (parts_frozen parts).bytes ≡ parts_filled parts
 bytes-parts_frozen parts = bytes-joined (map part_frozen parts) ∙ frozen-parts parts
 
--- empty parts that are full, or whose reader has no more
-pub stored_done : {P : Type 0} (had has : Option (List ℕ)) (parts new : List Part) (text : MarkedText) → IsStored had has (parts_with_len parts 0) new → text ≡ parts_frozen new
+-- what came into parts cut to no bytes
+stored_all : (had has : Option (List ℕ)) (parts old new : List Part) → old ≡ parts_with_len parts 0 → (is : IsStored had has old new)
+    → (parts_filled new ≡ is.read) × (parts_capacity parts ≡ parts_spare new + length is.read)
+stored_all had has parts old new cut is =
+    let none : parts_filled old ≡ [] = ap parts_filled cut ∙ emptied-filled parts in
+    let room : parts_spare old ≡ parts_capacity parts = ap parts_spare cut ∙ emptied-spare parts in
+    (ap parts_filled is.filled.1 ∙ filled-empty old is.read none is.filled.0, sym room ∙ filled_lessens old new is.read is.filled)
+
+-- such parts are full, or their reader has no more
+pub stored_done : {P : Type 0} (had has : Option (List ℕ)) (parts old new : List Part) (text : MarkedText) → old ≡ parts_with_len parts 0 → IsStored had has old new → text ≡ parts_frozen new
     → (parts_spare new ≡ 0) ⊎ P → (length text.bytes ≡ parts_capacity parts) ⊎ P
-stored_done had has parts new text is frozen done =
-    let all : length text.bytes ≡ length is.read =
-    ap (λ (t : MarkedText). length t.bytes) frozen
-    ∙ ap (λ (w : List ℕ). length w) (bytes-parts_frozen new ∙ ap parts_filled is.filled.1 ∙ filled-empty (parts_with_len parts 0) is.read (emptied-filled parts) is.filled.0) in
-    let less = filled_lessens (parts_with_len parts 0) new is.read is.filled in
-    elim done [ inl full ↦ inl (omega (arith, all, less, full, emptied-spare parts)) | inr ended ↦ inr ended ]
+stored_done had has parts old new text cut is frozen done =
+    let all = stored_all had has parts old new cut is in
+    let long : length text.bytes ≡ length is.read = ap (λ (t : MarkedText). length t.bytes) frozen ∙ ap (λ (w : List ℕ). length w) (bytes-parts_frozen new ∙ all.0) in
+    elim done [ inl full ↦ inl (omega (arith, long, all.1, full)) | inr ended ↦ inr ended ]
+
+-- and hold nothing where they have no capacity
+pub stored_none : (had has : Option (List ℕ)) (parts old new : List Part) → old ≡ parts_with_len parts 0 → IsStored had has old new → parts_capacity parts ≡ 0
+    → length (parts_filled new) ≡ 0
+stored_none had has parts old new cut is none =
+    let all = stored_all had has parts old new cut is in
+    omega (arith, ap (λ (w : List ℕ). length w) all.0, all.1, none)
 
 -- room that the first n bytes of a buffer filled is less by n
 pub room_less : (old new : List Part) (bytes behind : List ℕ) (n : ℕ) → AreFilled old (take n (bytes ++ behind)) new → n ≤ length bytes → parts_spare old ≡ n + parts_spare new

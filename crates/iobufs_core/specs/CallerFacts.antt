@@ -2,22 +2,23 @@
 --     reading    bytes behind their length: what is read and what is left are the text, and what was written is read back
 --     sending    what is left of a text whose front went off
 --     writing    how long what is written is, and how many of its bytes are inline
-use Rattle.std.specs.Prelude.{◌≡◌, ℕ, ◌+◌, ◌^◌, ◌<◌, ◌≤◌, true, Result, Ok, Err, IfOk, OnErr, List, [], ◌∷◌, ◌++◌, length, take, drop}
+use Rattle.std.specs.Prelude.{◌≡◌, ℕ, ◌+◌, ◌^◌, ◌<◌, ◌≤◌, true, Result, Ok, Err, IfOk, IsOkUnless, OnErr, List, [], ◌∷◌, ◌++◌, length, take, drop}
 use Rattle.std.proofs.Common.{arith, ap, sym, ◌∙◌, append_assoc, length-append, length-take, take-append-drop}
+use Rattle.std.proofs.Math.Seq.{take-append_seam}
 use Rattle.std.proofs.lemmas.Bool.Decides.{nat_tests}
 use Rattle.std.proofs.lemmas.Grind.{common_steps}
 use Rattle.std.proofs.lemmas.List.{drop-drop, drop_all, append_cancel_left, nil_from_length}
 use Rattle.iobufs_core.specs.Items.{Item, put_item, push_item, items_bytes, items_inline, IsBegun}
 use Rattle.iobufs_core.specs.LayoutLaws.{good_layout}
-use Rattle.iobufs_core.specs.MarkedText.{MarkedText, taken_view, text_rest, text_right}
+use Rattle.iobufs_core.specs.MarkedText.{MarkedText, taken_view, text_advanced, text_rest, text_right}
 use Rattle.iobufs_core.specs.Part.{Part, part_frozen}
 use Rattle.iobufs_core.specs.Ranges.{in_range}
 use Rattle.iobufs_core.specs.ReadBytes.{bytes-taken_view}
 use Rattle.iobufs_core.specs.ReadLaws.{view_back}
-use Rattle.iobufs_core.specs.Spelled.{length-spell}
+use Rattle.iobufs_core.specs.Spelled.{length-spell, spell_begins}
 use Rattle.iobufs_core.specs.Spelling.{spell}
 use Rattle.iobufs_core.specs.View.{View, static_mark, view_between}
-use Rattle.iobufs_core.specs.Wire.{IsViewRead, bytes_written, view_items, view_written}
+use Rattle.iobufs_core.specs.Wire.{IsNumberRead, IsViewRead, bytes_written, view_items, view_written}
 use Rattle.iobufs_core.specs.WireLaws.{joins-view}
 use Rattle.iobufs_core.specs.declared.codec.base.Error.{Error}
 use Rattle.iobufs_core.specs.declared.codec.base.Error.TheVariants.{Memory}
@@ -31,9 +32,14 @@ unfolding taken_view
 length-taken_view text skip n within = grind (arith, nat_tests, common_steps)
 
 -- a copy of the first n bytes leaves the others
-pub bytes-text_rest : (text : MarkedText) (n : ℕ) → n ≤ length text.bytes → (text_rest text n).bytes ≡ drop n text.bytes
+pub bytes-rest : (text : MarkedText) (n : ℕ) → n ≤ length text.bytes → (text_rest text n).bytes ≡ drop n text.bytes
 unfolding text_right
-bytes-text_rest text n h = grind (arith, nat_tests, common_steps, drop_all)
+bytes-rest text n h = grind (arith, nat_tests, common_steps, drop_all)
+
+-- and so does an advance
+pub bytes-advanced : (text : MarkedText) (n : ℕ) → n ≤ length text.bytes → (text_advanced text n).bytes ≡ drop n text.bytes
+unfolding text_right
+bytes-advanced text n h = grind (arith, nat_tests, common_steps, drop_all)
 
 -- the view that stands behind its length, and its length
 there : (text : MarkedText) (n : ℕ) (view : View) → take (length (spell n)) text.bytes ≡ spell n → length (spell n) + n ≤ length text.bytes → view ≡ taken_view text (length (spell n)) n
@@ -59,7 +65,7 @@ pub read_and_left : (text rest : MarkedText) (range : RangeCfg) (result : Result
     → IfOk result (λ view. rest ≡ text_rest text (length (view_written view))) → IfOk result (λ view. text.bytes ≡ view_written view ++ rest.bytes)
 read_and_left text rest range (Ok view) (n, has, is) left =
     let (len, fits, whole) = there text n view has.0.0.1 has.1 is in
-    whole ∙ ap (λ xs. view_written view ++ xs) (sym (ap (λ (t : MarkedText). t.bytes) left ∙ bytes-text_rest text (length (view_written view)) fits))
+    whole ∙ ap (λ xs. view_written view ++ xs) (sym (ap (λ (t : MarkedText). t.bytes) left ∙ bytes-rest text (length (view_written view)) fits))
 read_and_left text rest range (Err error) is left = tt
 
 -- its length is in the range
@@ -96,6 +102,27 @@ written_read_back text left range (Err error) body rest is behind small inside e
 pub read_back_is : (body rest left : List ℕ) (result : Result View Error) → AreReadBack body rest left result → IfOk result (λ view. view.bytes ≡ body)
 read_back_is body rest left (Ok view) is = is.0
 read_back_is body rest left (Err error) is = tt
+
+pub read_back_unless : (body rest left : List ℕ) (result : Result View Error) → AreReadBack body rest left result → IsOkUnless result Memory
+read_back_unless body rest left (Ok view) is = tt
+read_back_unless body rest left (Err error) is = is
+
+-- one body stands in front, and one text behind it
+pub one_front : (a b x y : List ℕ) → length a < 2 ^ 64 → length b < 2 ^ 64 → bytes_written a ++ x ≡ bytes_written b ++ y → (a ≡ b) × (x ≡ y)
+one_front a b x y small least e =
+    let whole : spell (length a) ++ (a ++ x) ≡ spell (length b) ++ (b ++ y) = sym (append_assoc (spell (length a)) a x) ∙ e ∙ append_assoc (spell (length b)) b y in
+    let long : length a ≡ length b = spell_begins (length a) (length b) (a ++ x) (b ++ y) small least whole in
+    let tail : a ++ x ≡ b ++ y = append_cancel_left (spell (length a)) (a ++ x) (b ++ y) (whole ∙ ap (λ n. spell n ++ (b ++ y)) (sym long)) in
+    let same : a ≡ b = sym (take-append_seam a x) ∙ ap (take (length a)) tail ∙ ap (λ n. take n (b ++ y)) long ∙ take-append_seam b y in
+    (same, append_cancel_left a x y (tail ∙ ap (λ w. w ++ y) (sym same)))
+
+-- what was read is the number as written, and then what is left
+pub number_and_left : (written : ℕ → List ℕ) (size : ℕ) (text rest : MarkedText) (result : Result ℕ Error) → IsNumberRead written size text.bytes result
+    → IfOk result (λ n. rest ≡ text_advanced text size) → IfOk result (λ n. text.bytes ≡ written n ++ rest.bytes)
+number_and_left written size text rest (Ok n) (small, long, is) left =
+    let behind : rest.bytes ≡ drop size text.bytes = ap (λ (t : MarkedText). t.bytes) left ∙ bytes-advanced text size long in
+    sym (take-append-drop size text.bytes) ∙ ap (λ xs. xs ++ drop size text.bytes) (sym is) ∙ ap (λ xs. written n ++ xs) (sym behind)
+number_and_left written size text rest (Err error) is left = tt
 
 -- ---- writing
 
@@ -136,7 +163,7 @@ pub on_err_always : {T E P : Type 0} (result : Result T E) → P → OnErr resul
 on_err_always (Ok value) p = tt
 on_err_always (Err error) p = p
 
-pub ruleset reading = (read_and_left, read_at_most, written_read_back, read_back_is, bytes-text_rest)
+pub ruleset reading = (read_and_left, read_at_most, written_read_back, read_back_is, read_back_unless, number_and_left, bytes-rest, bytes-advanced)
 
 pub ruleset writing = (length-bytes_written, length-spell, inline-view, inline-most, joins-view, bytes-part_frozen, good_layout)
 

@@ -1,8 +1,9 @@
 -- The laws of journals: a record is sealed by its bytes alone, and a text of records is that journal and no other.
-use Rattle.std.specs.Prelude.{Option, None, Some, IfSome, IfNone, IfOk, IfErr, Result, Ok, Err, ◌≡◌, ℕ, suc, ◌+◌, ◌-◌, ◌^◌, ◌<◌, ◌≤◌, List, [], ◌∷◌, ◌++◌, length, take, drop, refl}
+use Rattle.std.specs.Prelude.{Bool, false, ◌==◌, Option, None, Some, IfSome, IfNone, IfOk, IfErr, Result, Ok, Err, ◌≡◌, ℕ, suc, ◌+◌, ◌-◌, ◌^◌, ◌<◌, ◌≤◌, List, [], ◌∷◌, ◌++◌, length, take, drop, refl}
 use Rattle.std.specs.Int.{w32, w64, to_be_bytes}
 use Rattle.std.proofs.Common.{append-nil, arith, inr, ap, sym, subst, ◌∙◌, append_assoc, length-append, length-take, take-append-drop}
 use Rattle.std.proofs.Math.Seq.{take-append_seam, drop-append_seam}
+use Rattle.std.proofs.lemmas.Bool.Decides.{nat_tests}
 use Rattle.std.proofs.lemmas.List.{map-append, take-append-le}
 use Rattle.iobufs_core.specs.CallerFacts.{bytes-view_between, length-bytes_written, read_and_left, read_in_range}
 use Rattle.iobufs_core.specs.MarkedText.{MarkedText, text_rest}
@@ -70,9 +71,10 @@ found_record most number text left framed body found is rest e seal =
     read_and_left text left (up_to most) (Ok framed) is rest ∙ ap (λ w. bytes_written w ++ left.bytes) (subst (λ (o : Option View). IfSome o (λ b. framed.bytes ≡ sealed number b.bytes)) e seal)
 
 -- what was taken is no record with this number
-pub no_record : (most number : ℕ) (text left : MarkedText) (framed : View) (found : Option View) → IsViewRead text (up_to most) (Ok framed) → left ≡ text_rest text (length (view_written framed))
-    → found ≡ None → IfNone found (IsSealed number framed.bytes → ⊥) → 0 < length text.bytes → HasNoRecord most number text.bytes Damaged
-no_record most number text left framed found is rest e none some =
+pub no_record : (most number : ℕ) (text left : MarkedText) (framed : View) (found : Option View) (empty : Bool) → IsViewRead text (up_to most) (Ok framed) → left ≡ text_rest text (length (view_written framed))
+    → found ≡ None → IfNone found (IsSealed number framed.bytes → ⊥) → empty ≡ (length text.bytes == 0) → empty ≡ false → HasNoRecord most number text.bytes Damaged
+no_record most number text left framed found empty is rest e none test more =
+    let some : 0 < length text.bytes = grind (arith, nat_tests, test, more) in
     let never : IsSealed number framed.bytes → ⊥ = subst (λ (o : Option View). IfNone o (IsSealed number framed.bytes → ⊥)) e none in
     (some, inr (framed.bytes, left.bytes, (read_in_range text (up_to most) (Ok framed) is).0, read_and_left text left (up_to most) (Ok framed) is rest, λ body f. never (is_sealed number framed.bytes body f)))
 
@@ -93,21 +95,25 @@ counted : (views : List View) (number : ℕ) → number ≡ length views → 0 +
 counted views number n = omega (arith, length-bodies views, n)
 
 -- one more record goes over from the rest
-pub one_more : (journal : List ℕ) (rest left : List ℕ) (views more : List View) (body : View) (number : ℕ) (found : Result View End) → number ≡ length views
+pub one_more : (journal : List ℕ) (rest left : List ℕ) (views more : List View) (body : View) (number count : ℕ) (found : Result View End) → number ≡ count → count ≡ length views
     → journal ≡ records_written 0 (bodies views) ++ rest → more ≡ views ++ body ∷ [] → found ≡ Ok body → IfOk found (λ b. rest ≡ record_written number b.bytes ++ left)
     → journal ≡ records_written 0 (bodies more) ++ left
-one_more journal rest left views more body number found n whole pushed e h =
+one_more journal rest left views more body number count found m n whole pushed e h =
     let front : rest ≡ record_written number body.bytes ++ left = subst (λ (r : Result View End). IfOk r (λ b. rest ≡ record_written number b.bytes ++ left)) e h in
     let listed : bodies more ≡ bodies views ++ body.bytes ∷ [] = ap bodies pushed ∙ map-append (λ (v : View). v.bytes) views (body ∷ []) in
     let written : records_written 0 (bodies more) ≡ records_written 0 (bodies views) ++ record_written number body.bytes =
     ap (records_written 0) listed ∙ written_more 0 (bodies views) body.bytes
-    ∙ ap (λ k. records_written 0 (bodies views) ++ record_written k body.bytes) (counted views number n) in
+    ∙ ap (λ k. records_written 0 (bodies views) ++ record_written k body.bytes) (counted views number (m ∙ n)) in
     whole ∙ ap (λ w. records_written 0 (bodies views) ++ w) front ∙ sym (append_assoc (records_written 0 (bodies views)) (record_written number body.bytes) left) ∙ ap (λ w. w ++ left) (sym written)
 
--- there is no further one
-pub ended : (most : ℕ) (journal rest : List ℕ) (views : List View) (end : End) (number : ℕ) (found : Result View End) → number ≡ length views
-    → journal ≡ records_written 0 (bodies views) ++ rest → found ≡ Err end → IfErr found (HasNoRecord most number rest) → IsJournal most 0 journal (bodies views) end rest
-ended most journal rest views end number found n whole e h = record {
-  whole = whole;
-  ends = subst (λ k. HasNoRecord most k rest end) (sym (counted views number n)) (subst (λ (r : Result View End). IfErr r (HasNoRecord most number rest)) e h);
-}
+-- there is no further one: what is left stands behind the records
+pub ended : (most : ℕ) (journal rest : List ℕ) (views : List View) (end : End) (number count len left : ℕ) (found : Result View End) → number ≡ count → count ≡ length views
+    → journal ≡ records_written 0 (bodies views) ++ rest → len ≡ length journal → left ≡ length rest → found ≡ Err end → IfErr found (HasNoRecord most number rest)
+    → IsJournal most 0 journal (bodies views) end (drop (len - left) journal)
+ended most journal rest views end number count len left found m n is long short e h =
+    let records = records_written 0 (bodies views) in
+    let place : len - left ≡ length records = omega (arith, long, short, ap (λ (w : List ℕ). length w) is, length-append records rest) in
+    let behind : rest ≡ drop (len - left) journal = sym (ap (λ k. drop k journal) place ∙ ap (drop (length records)) is ∙ drop-append_seam records rest) in
+    let none : HasNoRecord most (0 + length (bodies views)) rest end =
+    subst (λ k. HasNoRecord most k rest end) (sym (counted views number (m ∙ n))) (subst (λ (r : Result View End). IfErr r (HasNoRecord most number rest)) e h) in
+    subst (IsJournal most 0 journal (bodies views) end) behind (record { whole = is; ends = none })

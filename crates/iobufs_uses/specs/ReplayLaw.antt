@@ -5,13 +5,12 @@ use Rattle.std.proofs.Common.{arith, inl, inr, ap, sym, subst, ◌∙◌, append
 use Rattle.std.proofs.Math.Seq.{take-append_seam}
 use Rattle.std.proofs.lemmas.Bool.Decides.{nat_tests}
 use Rattle.std.proofs.lemmas.List.{append_cancel_left}
-use Rattle.iobufs_core.specs.CallerFacts.{written_read_back}
+use Rattle.iobufs_core.specs.CallerFacts.{one_front, written_read_back}
 use Rattle.iobufs_core.specs.MarkedText.{MarkedText}
 use Rattle.iobufs_core.specs.Ranges.{in_range}
-use Rattle.iobufs_core.specs.Spelled.{spell_begins}
 use Rattle.iobufs_core.specs.Spelling.{spell}
 use Rattle.iobufs_core.specs.View.{static_mark}
-use Rattle.iobufs_core.specs.Wire.{IsViewFault, bytes_written}
+use Rattle.iobufs_core.specs.Wire.{IsViewFault}
 use Rattle.iobufs_core.specs.declared.codec.base.Error.{Error}
 use Rattle.iobufs_core.specs.declared.codec.base.Error.TheVariants.{EndOfBuffer, InvalidVarint, InvalidLength, Memory}
 use Rattle.iobufs_uses.specs.Crc.{crc32}
@@ -22,15 +21,6 @@ use Rattle.iobufs_uses.specs.declared.journal.End.TheVariants.{Whole, Torn, Dama
 
 plain : List ℕ → MarkedText
 plain bytes = record { bytes = bytes; mark = static_mark; cuts = [] }
-
--- one body stands in front, and one text behind it
-one_front : (a b x y : List ℕ) → length a < 2 ^ 64 → length b < 2 ^ 64 → bytes_written a ++ x ≡ bytes_written b ++ y → (a ≡ b) × (x ≡ y)
-one_front a b x y small least e =
-    let whole : spell (length a) ++ (a ++ x) ≡ spell (length b) ++ (b ++ y) = sym (append_assoc (spell (length a)) a x) ∙ e ∙ append_assoc (spell (length b)) b y in
-    let long : length a ≡ length b = spell_begins (length a) (length b) (a ++ x) (b ++ y) small least whole in
-    let tail : a ++ x ≡ b ++ y = append_cancel_left (spell (length a)) (a ++ x) (b ++ y) (whole ∙ ap (λ n. spell n ++ (b ++ y)) (sym long)) in
-    let same : a ≡ b = sym (take-append_seam a x) ∙ ap (take (length a)) tail ∙ ap (λ n. take n (b ++ y)) long ∙ take-append_seam b y in
-    (same, append_cancel_left a x y (tail ∙ ap (λ w. w ++ y) (sym same)))
 
 -- a number seals one body in one way
 one_body : (number : ℕ) (a b : List ℕ) → sealed number a ≡ sealed number b → a ≡ b

@@ -31,7 +31,8 @@ pub fn read_frame(alloc: Global, text: &mut IoBufs, most: usize) -> Result<IoBuf
 
 /// What was framed is read back, and nothing is left.
 pub fn echo(alloc: Global, body: &IoBuf) -> Result<IoBuf, Error>
-    ensures { IfOk result (λ read. read.bytes ≡ body.now.bytes) }
+    ensures bytes { IfOk result (λ read. read.bytes ≡ body.now.bytes) }
+    ensures memory { length body.now.bytes < 2 ^ 63 → IsOkUnless result Error.Memory }
 {
     let mut text = frame(alloc, body)?;
     read_frame(alloc, &mut text, body.len())

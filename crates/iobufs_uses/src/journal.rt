@@ -1,5 +1,5 @@
 // A journal: numbered records with a CRC-32, one behind the other.
-ghost use Rattle.std.specs.Prelude.{◌≡◌, ℕ, ◌+◌, ◌^◌, ◌<◌, ◌≤◌, List, [], ◌++◌, length, IfErr, IfNone, IfOk, IfSome, IsOkUnless, IsTrue, ◌↔◌, OnErr, OnOk};
+ghost use Rattle.std.specs.Prelude.{◌≡◌, ℕ, ◌+◌, ◌^◌, ◌<◌, ◌≤◌, List, [], ◌++◌, drop, length, IfErr, IfNone, IfOk, IfSome, IsOkUnless, IsTrue, ◌↔◌, OnErr, OnOk};
 ghost use Rattle.iobufs_uses.specs.Journal.{AreShort, IsJournal, HasNoRecord, bodies, record_written, records_written, sealed};
 ghost use Rattle.iobufs_uses.specs.JournalLaws.{IsSealed};
 
@@ -26,6 +26,8 @@ pub enum End {
 pub struct Records {
     /// Their bodies, in order.
     pub found: Vec<IoBuf>,
+    /// How many bytes of the journal they take.
+    pub whole: usize,
     /// How the journal ends behind them.
     pub end: End,
 }
@@ -130,15 +132,17 @@ fn next_record(
 /// The records of a journal of which none has more than `most` bytes behind its length, numbered from 0: those of its
 /// longest whole prefix, and how it ends behind them. Behind that nothing is read.
 pub fn replay(alloc: Global, journal: IoBufs, most: usize) -> Result<Records, BufError>
-    ensures journal { IfOk result (λ records. (rest : List ℕ) × IsJournal most 0 journal.bytes (bodies records.found.items) records.end rest) }
+    ensures journal { IfOk result (λ records. IsJournal most 0 journal.bytes (bodies records.found.items) records.end (drop records.whole journal.bytes)) }
     ensures memory { IsOkUnless result BufError.Memory }
 {
+    let len = journal.len();
     let mut rest = journal;
     let mut found = Vec::new(alloc);
     loop {
+        let whole = len - rest.len();
         match next_record(alloc, &mut rest, found.len() as u64, most)? {
             Ok(body) => found.push(body)?,
-            Err(end) => return Ok(Records { found, end }),
+            Err(end) => return Ok(Records { found, whole, end }),
         }
     }
 }

@@ -1,5 +1,5 @@
 // A text in chunks, handed to a writer.
-ghost use Rattle.std.specs.Prelude.{◌≡◌, ◌+◌, ◌≤◌, [], length, map, take, IfOk, OnOk};
+ghost use Rattle.std.specs.Prelude.{◌≡◌, ◌+◌, ◌<◌, ◌≤◌, [], length, map, take, IfOk, OnErr, OnOk};
 ghost use Rattle.std.specs.Io.KnownBytes.{Appends, WriteAppends};
 ghost use Rattle.std.specs.Io.Slices.{io_slice_bytes};
 ghost use Rattle.iobufs.specs.CallerFacts.{IsSent};
@@ -43,6 +43,7 @@ fn send_batch<W: Write>(
     most: usize,
 ) -> io::Result<usize>
     ensures sent { IsSent (W.contents to.old) (W.contents to.new) text.old.bytes text.new.bytes }
+    ensures same { OnErr result (text.new ≡ text.old) }
     ensures count { IfOk result (λ n. length text.old.bytes ≡ n + length text.new.bytes) }
 {
     let n = write_batch(alloc, to, text, most)?;
@@ -51,12 +52,13 @@ fn send_batch<W: Write>(
 }
 
 /// Hands the chunks of a text to a writer, at most `most` of them at a time, until none is left. What the writer took
-/// is dropped from the text, whatever the answer: it may be called again. `ErrorKind::WriteZero` where the writer
-/// takes none, and `ErrorKind::OutOfMemory` for want of memory.
+/// is dropped from the text, whatever the answer: it may be called again. An error is the writer's, or
+/// `ErrorKind::WriteZero` where it takes none, or `ErrorKind::OutOfMemory`, and leaves at least a byte.
 #[tactic(auto, using(iobufs::specs::CallerFacts::sending))]
 pub fn send<W: Write>(alloc: Global, to: &mut W, text: &mut IoBufs, most: usize) -> io::Result<()>
     ensures sent { IsSent (W.contents to.old) (W.contents to.new) text.old.bytes text.new.bytes }
     ensures all { OnOk result (text.new.bytes ≡ []) }
+    ensures left { OnErr result (0 < length text.new.bytes) }
     ensures contents { OnOk result (Appends (W.contents to.old) (W.contents to.new) text.old.bytes) }
 {
     while text.has_remaining() {

@@ -180,7 +180,8 @@ impl IoBufs {
 }
 
 impl Buf for IoBufs {
-    ghost use Rattle.iobufs.specs.ReaderLaws.{bytes-advanced, bytes-rest, joined-chunks, full-chunks};
+    ghost use Rattle.iobufs_core.specs.CallerFacts.{bytes-advanced, bytes-rest};
+    ghost use Rattle.iobufs.specs.ReaderLaws.{joined-chunks, full-chunks};
 
     ghost text = { λ t. t.bytes };
 

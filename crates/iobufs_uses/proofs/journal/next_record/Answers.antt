@@ -1,5 +1,3 @@
-use Rattle.std.proofs.Common.{arith, ◌<◌, length}
-use Rattle.std.proofs.lemmas.Bool.Decides.{nat_tests}
 use Rattle.iobufs_uses.specs.JournalLaws.{found_record, no_record}
 use Rattle.iobufs_uses.proofs.journal.next_record.Goals as goal
 
@@ -9,5 +7,4 @@ returns-in-Some-clause-found c =
 
 pub returns-in-Ok-clause-none : goal.returns-in-Ok-clause-none
 returns-in-Ok-clause-none c =
-    let some : 0 < length c.args.rest.now.bytes = grind (arith, nat_tests, c.is_empty.ensures, c.if-is_empty.false) in
-    no_record c.args.most c.args.number c.args.rest.now c.read_cfg.new.buf c.in-Ok.record _ c.in-Ok.ensures.answer c.in-Ok.ensures.rest c.in-None.is c.in_ok-body-in-Ok.ensures.none some
+    no_record c.args.most c.args.number c.args.rest.now c.read_cfg.new.buf c.in-Ok.record _ _ c.in-Ok.ensures.answer c.in-Ok.ensures.rest c.in-None.is c.in_ok-body-in-Ok.ensures.none c.is_empty.ensures c.if-is_empty.false
