@@ -1,11 +1,13 @@
 // A text in native storage.
-ghost use Rattle.std.specs.Prelude.{◌≡◌, ◌≤◌, ◌+◌, ◌-◌, length, drop, vec_len, vec_capacity, IfOk, MatchResult};
+ghost use Rattle.std.specs.Arc.{arc_value};
+ghost use Rattle.std.specs.Prelude.{◌≡◌, ◌≤◌, ◌+◌, ◌-◌, length, drop, vec_len, vec_capacity, IfOk, MatchOption, MatchResult};
 ghost use Rattle.iobufs_core.specs.Native.{native_advanced, native_cut};
 ghost use Rattle.iobufs_core.specs.Part.{Part};
 
 use super::IoBufMut;
 use std::alloc::{AllocError, AllocFailed, Global};
 use std::marker::Model;
+use std::mem;
 use std::sync::Arc;
 
 /// A part of a block, which is kept as long as a text in it lives. The block may have more room than `limit`,
@@ -16,6 +18,32 @@ pub(super) struct Native {
     start: usize,
     len: usize,
     limit: usize,
+}
+
+// A block with this storage: the shell, if nobody else has it, else a new one.
+fn block_of(
+    alloc: Global,
+    shell: Option<Arc<Vec<u8>>>,
+    storage: Vec<u8>,
+) -> Result<Arc<Vec<u8>>, AllocFailed<Vec<u8>>>
+    ensures { IfOk result (λ block. arc_value block ≡ storage) }
+{
+    if let Some(mut block) = shell {
+        if let Some(place) = Arc::get_mut(&mut block) {
+            *place = storage;
+            return Ok(block);
+        }
+    }
+    Arc::new(alloc, storage)
+}
+
+// The storage of a block, if nobody else has it. What is left is a shell.
+fn take_storage(block: &mut Arc<Vec<u8>>) -> Option<Vec<u8>>
+    ensures { MatchOption result (block.new ≡ block.old) (λ storage. storage ≡ arc_value block.old) }
+{
+    let place = Arc::get_mut(block)?;
+    let empty = Vec::new(*place.allocator());
+    Some(mem::replace(place, empty))
 }
 
 impl Model for Native {
@@ -33,6 +61,7 @@ impl Model for Native {
 impl Native {
     pub(super) fn new(
         alloc: Global,
+        shell: Option<Arc<Vec<u8>>>,
         storage: Vec<u8>,
         start: usize,
         limit: usize,
@@ -41,7 +70,7 @@ impl Native {
         ensures { IfOk result (λ n. n ≡ record { bytes = drop start storage.items; room = limit - start }) }
     {
         let len = storage.len() - start;
-        let block = Arc::new(alloc, storage)?;
+        let block = block_of(alloc, shell, storage)?;
         Ok(Native {
             block,
             start,
@@ -90,17 +119,17 @@ impl Native {
         ensures { MatchResult result (λ b. b ≡ record { filled = self.bytes; spare = self.room - length self.bytes }) (λ n. n ≡ self) }
     {
         let Native {
-            block,
+            mut block,
             start,
             len,
             limit,
         } = self;
-        match Arc::try_unwrap(block) {
-            Ok(mut storage) => {
+        match take_storage(&mut block) {
+            Some(mut storage) => {
                 storage.truncate(start + len);
-                Ok(IoBufMut::from_storage(storage, start, limit))
+                Ok(IoBufMut::from_shell(Some(block), storage, start, limit))
             }
-            Err(block) => Err(Native {
+            None => Err(Native {
                 block,
                 start,
                 len,

@@ -13,6 +13,7 @@ use bytes::{Bytes, BytesMut};
 use std::alloc::{Global, Layout};
 use std::fmt;
 use std::marker::Model;
+use std::sync::Arc;
 
 /// One piece of storage to write (`IoBufMut`): bytes that are filled, and room behind them. The capacity is fixed
 /// when the buffer is made, and counted from the first readable byte:
@@ -29,6 +30,8 @@ pub struct IoBufMut {
     storage: Vec<u8>,
     start: usize,
     limit: usize,
+    // An empty block that `freeze` fills: made with the storage, or left by the view that this was recovered from.
+    shell: Option<Arc<Vec<u8>>>,
 }
 
 // By hand, so that what is kept privately is none of a caller's business.
@@ -38,6 +41,7 @@ impl Drop for IoBufMut {
             storage: _,
             start: _,
             limit: _,
+            shell: _,
         } = self;
     }
 }
@@ -87,11 +91,14 @@ impl IoBufMut {
         ensures layout { IsTrue (bad_layout n align) ↔ ((0 < n) × (IsLayout n align → ⊥)) }
         ensures nothing { n ≡ 0 → IsOk result }
     {
+        if n == 0 {
+            return Ok(IoBufMut::default(alloc));
+        }
         if is_bad_layout(n, align) {
             return Err(BufError::BadLayout);
         }
         let storage = Vec::with_capacity(alloc, n)?;
-        Ok(IoBufMut::from_storage(storage, 0, n))
+        IoBufMut::with_shell(storage, n)
     }
 
     /// A buffer of exactly this capacity, filled with zeros (`IoBufMut::zeroed`).
@@ -115,12 +122,15 @@ impl IoBufMut {
         ensures good_layout { bad_layout n align ≡ false → IsOkUnless result BufError.Memory }
         ensures nothing { n ≡ 0 → IsOk result }
     {
+        if n == 0 {
+            return Ok(IoBufMut::default(alloc));
+        }
         if is_bad_layout(n, align) {
             return Err(BufError::BadLayout);
         }
         let mut storage = Vec::with_capacity(alloc, n)?;
         storage.resize(n, 0).unwrap();
-        Ok(IoBufMut::from_storage(storage, 0, n))
+        IoBufMut::with_shell(storage, n)
     }
 
     /// A copy of these bytes, with no room behind them (`From<&[u8]>`).
@@ -134,7 +144,7 @@ impl IoBufMut {
         }
         let storage = Vec::from_slice(alloc, src)?;
         let limit = storage.len();
-        Ok(IoBufMut::from_storage(storage, 0, limit))
+        IoBufMut::with_shell(storage, limit)
     }
 
     /// The bytes of a `Bytes` (`From<Bytes>`), copied where others share them.
@@ -182,10 +192,34 @@ impl IoBufMut {
         requires { (start ≤ vec_len storage) × (vec_len storage ≤ limit) × (limit ≤ vec_capacity storage) }
         ensures { result ≡ record { filled = drop start storage.items; spare = limit - vec_len storage } }
     {
+        IoBufMut::from_shell(None, storage, start, limit)
+    }
+
+    // Makes the shell too, so that freezing takes no memory.
+    fn with_shell(storage: Vec<u8>, limit: usize) -> Result<IoBufMut, BufError>
+        requires { (vec_len storage ≤ limit) × (limit ≤ vec_capacity storage) }
+        ensures ok { IfOk result (λ b. b ≡ record { filled = storage.items; spare = limit - vec_len storage }) }
+        ensures memory { IsOkUnless result BufError.Memory }
+    {
+        let alloc = *storage.allocator();
+        let shell = Arc::new(alloc, Vec::new(alloc))?;
+        Ok(IoBufMut::from_shell(Some(shell), storage, 0, limit))
+    }
+
+    pub(super) fn from_shell(
+        shell: Option<Arc<Vec<u8>>>,
+        storage: Vec<u8>,
+        start: usize,
+        limit: usize,
+    ) -> IoBufMut
+        requires { (start ≤ vec_len storage) × (vec_len storage ≤ limit) × (limit ≤ vec_capacity storage) }
+        ensures { result ≡ record { filled = drop start storage.items; spare = limit - vec_len storage } }
+    {
         IoBufMut {
             storage,
             start,
             limit,
+            shell,
         }
     }
 
@@ -260,12 +294,13 @@ impl IoBufMut {
             storage,
             start,
             limit,
+            shell,
         } = self;
         if start == storage.len() {
             return Ok(IoBuf::default());
         }
         let alloc = *storage.allocator();
-        Ok(IoBuf::from_native(Native::new(alloc, storage, start, limit)?))
+        Ok(IoBuf::from_native(Native::new(alloc, shell, storage, start, limit)?))
     }
 }
 

@@ -4,15 +4,16 @@ use Rattle.std.specs.Arc.{arc_value}
 use Rattle.iobufs_core.proofs.Windows.{length_window}
 use Rattle.iobufs_core.proofs.buf.native.Native.try_into_mut.Goals as goal
 
-pub returns-in-Ok : goal.returns-in-Ok
-returns-in-Ok c =
+pub returns-in-Some : goal.returns-in-Some
+returns-in-Some c =
     let s = c.self.inside in
     let block = arc_value s.block in
     let cut = c.truncate.new.self in
+    let same = c.in-Some.ensures in
     let bytes = length_window s.start s.len block.items (omega (arith, block.ok.0)) in
-    let same_len = ap (λ (v : Vec ℕ Global). vec_len v) c.in-Ok.ensures.ok in
+    let same_len = ap (λ (v : Vec ℕ Global). vec_len v) same in
     let filled : drop s.start cut.items ≡ take s.len (drop s.start block.items) =
-    rw (c.truncate.ensures.items, c.in-Ok.ensures.ok) (drop-take s.start s.len block.items) in
+    rw (c.truncate.ensures.items, same) (drop-take s.start s.len block.items) in
     let spare : s.limit - vec_len cut ≡ s.limit - s.start - length (take s.len (drop s.start block.items)) =
     omega (arith, bytes, c.truncate.ensures.len, same_len) in
     rw (← c.self.view_is) cc
