@@ -1,5 +1,5 @@
 -- Answers of the machine as lines of text.
-use Rattle.std.specs.Prelude.{ℕ, Bool, if◌then◌else◌, List, ◌++◌, flat_map, codes, Option, Some, None}
+use Rattle.std.specs.Prelude.{ℕ, Bool, if◌then◌else◌, List, ◌++◌, flat_map, slice_get, codes, Option, Some, None}
 use Rattle.std.specs.Fmt.{decimal}
 use Rattle.iobufs_owner.specs.declared.owner.types.Freed.{Freed}
 use Rattle.iobufs_owner.specs.declared.owner.types.Handle.{Handle}
@@ -13,6 +13,13 @@ use Rattle.iobufs_owner.specs.declared.owner.types.Reply.TheVariants.{Made, More
 use Rattle.iobufs_owner.specs.declared.owner.types.Word.{Word}
 use Rattle.iobufs_owner.specs.declared.owner.types.Word.TheVariants.{Empty, Descriptor, Record as Counted}
 use Rattle.iobufs_owner.specs.State.{State}
+use Rattle.iobufs_owner_lines.specs.declared.line.Question.{Question}
+use Rattle.iobufs_owner_lines.specs.declared.line.Question.TheVariants as question
+
+-- what is printed of an entry, where there is one
+abbrev pub shown : {A : Type 0} → (A → List ℕ) → Option A → List ℕ
+shown text None = codes "none"
+shown text (Some x) = text x
 
 -- ---- replies
 
@@ -80,3 +87,9 @@ block_text f = number_text f.base ++ codes "/" ++ decimal f.size ++ codes "/" ++
 -- the freed blocks and the numbers of the freed records, each in the order of freeing
 abbrev pub freed_text : State → List ℕ
 freed_text s = codes "blocks" ++ flat_map block_text s.freed_blocks ++ codes " records" ++ flat_map number_text s.freed_records
+
+-- the answer to a question
+abbrev pub answer_text : State → Question → List ℕ
+answer_text s (question.Handle h) = shown given_text (slice_get s.handles h)
+answer_text s (question.Record r) = shown record_text (slice_get s.tables.records r)
+answer_text s question.Freed = freed_text s

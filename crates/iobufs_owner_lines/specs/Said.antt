@@ -8,7 +8,8 @@ use Rattle.iobufs_owner.specs.declared.owner.types.Call.{Call}
 use Rattle.iobufs_owner.specs.declared.owner.types.Call.TheVariants.{New, External, Static, Put, Advance, Freeze, TryIntoMut, SplitTo, IsUnique, Demote, Clone, Slice, Drop}
 use Rattle.iobufs_owner.specs.declared.owner.types.Step.{Step}
 use Rattle.iobufs_owner_lines.specs.declared.line.Ask.{Ask}
-use Rattle.iobufs_owner_lines.specs.declared.line.Ask.TheVariants.{Take, Handle, Record, Freed}
+use Rattle.iobufs_owner_lines.specs.declared.line.Ask.TheVariants.{Take, Look}
+use Rattle.iobufs_owner_lines.specs.declared.line.Question.TheVariants.{Handle, Record, Freed}
 use Rattle.iobufs_owner_lines.specs.declared.line.Setup.{Setup}
 use Rattle.iobufs_words.specs.Words.{words_of, number_of, both}
 
@@ -78,14 +79,14 @@ last_number_of (word ∷ []) = number_of word
 last_number_of (word ∷ next ∷ words) = None
 
 abbrev pub freed_of : List (List ℕ) → Option Ask
-freed_of [] = Some Freed
+freed_of [] = Some (Look Freed)
 freed_of (word ∷ words) = None
 
 -- a question by its first word, and else a step of a party
 abbrev pub ask_by : List ℕ → List (List ℕ) → Option Ask
 ask_by first words =
-    if bytes_eq first (codes "handle") then option_map Handle (last_number_of words)
-    else if bytes_eq first (codes "record") then option_map Record (last_number_of words)
+    if bytes_eq first (codes "handle") then option_map (λ h. Look (Handle h)) (last_number_of words)
+    else if bytes_eq first (codes "record") then option_map (λ r. Look (Record r)) (last_number_of words)
     else if bytes_eq first (codes "freed") then freed_of words
     else option_map Take (step_of first words)
 

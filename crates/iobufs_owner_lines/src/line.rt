@@ -16,17 +16,24 @@ pub struct Setup {
     pub is_wide: bool,
 }
 
-/// What a further line asks.
+/// What can be looked at.
 #[derive(Clone, Copy, Drop)]
-pub enum Ask {
-    /// A step of a party.
-    Take(Step),
+pub enum Question {
     /// How the handle of this number stands.
     Handle(usize),
     /// How the record of this number stands.
     Record(usize),
     /// What is freed.
     Freed,
+}
+
+/// What a further line asks.
+#[derive(Clone, Copy, Drop)]
+pub enum Ask {
+    /// A step of a party.
+    Take(Step),
+    /// An answer to a question, which changes nothing.
+    Look(Question),
 }
 
 /// The machine of a first line: `machine PARTIES CEILING 64`, or `.. 32`.
@@ -76,11 +83,11 @@ pub fn further_line(line: &str) -> Result<Ask, LineError>
         return Err(LineError::NoCommand);
     };
     match first {
-        "handle" => Ok(Ask::Handle(last_number(&mut words)?)),
-        "record" => Ok(Ask::Record(last_number(&mut words)?)),
+        "handle" => Ok(Ask::Look(Question::Handle(last_number(&mut words)?))),
+        "record" => Ok(Ask::Look(Question::Record(last_number(&mut words)?))),
         "freed" => {
             words.end()?;
-            Ok(Ask::Freed)
+            Ok(Ask::Look(Question::Freed))
         }
         party => {
             let party = number(party)?;

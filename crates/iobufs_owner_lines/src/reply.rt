@@ -2,6 +2,7 @@
 ghost use Rattle.std.specs.Prelude.{◌≡◌};
 ghost use Rattle.iobufs_owner_lines.specs.Printed.{refusal_text};
 
+use crate::line::Question;
 use iobufs_owner::owner::{Freed, Handle, Kind, Machine, Record, Refusal, Reply, Word};
 use std::fmt;
 
@@ -9,17 +10,21 @@ use std::fmt;
 #[derive(Clone, Copy)]
 pub struct ReplyLine(pub Reply);
 
-/// A handle that was given, as it is printed.
+/// The answer of a machine to a question, as it is printed.
 #[derive(Clone, Copy)]
-pub struct HandleLine(pub Option<Handle>);
+pub struct AnswerLine<'a>(pub &'a Machine, pub Question);
 
-/// A record, as it is printed.
+// What a machine has as the handle of some number, as it is printed: it may never have been given, or be gone.
 #[derive(Clone, Copy)]
-pub struct RecordLine(pub Record);
+struct HandleLine(Option<Option<Handle>>);
 
-/// What a machine has freed, as it is printed.
+// What a machine has as the record of some number, as it is printed.
 #[derive(Clone, Copy)]
-pub struct FreedLine<'a>(pub &'a Machine);
+struct RecordLine(Option<Record>);
+
+// What a machine has freed, as it is printed.
+#[derive(Clone, Copy)]
+struct FreedLine<'a>(&'a Machine);
 
 // A refusal with its number.
 fn name(refusal: Refusal) -> &'static str
@@ -78,13 +83,15 @@ impl fmt::Display for Owned {
 
 impl fmt::Display for HandleLine {
     ghost use Rattle.std.specs.Prelude.{Some};
-    ghost use Rattle.iobufs_owner_lines.specs.Printed.{given_text};
+    ghost use Rattle.iobufs_owner_lines.specs.Printed.{shown, given_text};
 
-    ghost output = { λ l. Some (given_text l.0) };
+    ghost output = { λ l. Some (shown given_text l.0) };
 
     fn fmt<W: fmt::Write>(&self, f: &mut fmt::Formatter<W>) -> fmt::Result {
-        let Some(handle) = self.0 else {
-            return f.write_str("gone");
+        let handle = match self.0 {
+            None => return f.write_str("none"),
+            Some(None) => return f.write_str("gone"),
+            Some(Some(handle)) => handle,
         };
         let (ptr, len, cap) = (handle.ptr, handle.len, handle.cap);
         let owned = Owned(handle.word);
@@ -97,13 +104,16 @@ impl fmt::Display for HandleLine {
 
 impl fmt::Display for RecordLine {
     ghost use Rattle.std.specs.Prelude.{Some};
-    ghost use Rattle.iobufs_owner_lines.specs.Printed.{record_text};
+    ghost use Rattle.iobufs_owner_lines.specs.Printed.{shown, record_text};
 
-    ghost output = { λ l. Some (record_text l.0) };
+    ghost output = { λ l. Some (shown record_text l.0) };
 
     fn fmt<W: fmt::Write>(&self, f: &mut fmt::Formatter<W>) -> fmt::Result {
-        let (count, block) = (self.0.count, self.0.block);
-        let state = if self.0.live { "live" } else { "freed" };
+        let Some(record) = self.0 else {
+            return f.write_str("none");
+        };
+        let (count, block) = (record.count, record.block);
+        let state = if record.live { "live" } else { "freed" };
         write!(f, "count {count} block {block} {state}")
     }
 }
@@ -155,5 +165,21 @@ impl fmt::Display for FreedLine<'_> {
         let blocks = Blocks(self.0.freed_blocks());
         let records = Records(self.0.freed_records());
         write!(f, "blocks{blocks} records{records}")
+    }
+}
+
+impl fmt::Display for AnswerLine<'_> {
+    ghost use Rattle.std.specs.Prelude.{Some};
+    ghost use Rattle.iobufs_owner_lines.specs.Printed.{answer_text};
+
+    ghost output = { λ l. Some (answer_text l.0.now.state l.1) };
+
+    fn fmt<W: fmt::Write>(&self, f: &mut fmt::Formatter<W>) -> fmt::Result {
+        let machine = self.0;
+        match self.1 {
+            Question::Handle(h) => write!(f, "{}", HandleLine(machine.handles().get(h).copied())),
+            Question::Record(r) => write!(f, "{}", RecordLine(machine.records().get(r).copied())),
+            Question::Freed => write!(f, "{}", FreedLine(machine)),
+        }
     }
 }
