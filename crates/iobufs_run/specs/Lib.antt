@@ -1,5 +1,6 @@
 pub mod Causes
 pub mod Choices
+pub mod Printed
 pub mod Refusals
 pub mod Run
 pub mod Slots

@@ -40,6 +40,10 @@ abbrev pub first_number : List (List ℕ) → Option ℕ
 first_number [] = None
 first_number (word ∷ words) = number_of word
 
+abbrev pub first_byte : List (List ℕ) → Option ℕ
+first_byte [] = None
+first_byte (word ∷ words) = byte_of word
+
 abbrev pub first_bytes : List (List ℕ) → Option (List ℕ)
 first_bytes [] = None
 first_bytes (word ∷ words) = bytes_of word

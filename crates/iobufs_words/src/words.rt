@@ -1,6 +1,6 @@
 // The words of a line.
 ghost use Rattle.std.specs.Prelude.{◌≡◌, ◌⊎◌, ℕ, ◌≤◌, List, [], ◌∷◌, length, MatchOption, Some, None, IfOk, IfErr};
-ghost use Rattle.iobufs_words.specs.Words.{byte_of, bytes_of, first_bytes, first_number, number_of, numbers_of, words_of};
+ghost use Rattle.iobufs_words.specs.Words.{byte_of, bytes_of, first_byte, first_bytes, first_number, number_of, numbers_of, words_of};
 
 use hex::FromHexError;
 use std::alloc::{AllocError, AllocFailed, Global};
@@ -84,6 +84,17 @@ impl<'a> Words<'a> {
     {
         match self.next_word() {
             Some(word) => number(word),
+            None => Err(LineError::NoCommand),
+        }
+    }
+
+    /// Takes the next word, which is a number of at most 255.
+    pub fn byte(&mut self) -> Result<u8, LineError>
+        ensures ok { IfOk result (λ n. (word : List ℕ) × (self.old ≡ word ∷ self.new) × (byte_of word ≡ Some n)) }
+        ensures err { IfErr result (λ error. (error ≡ LineError.NoCommand) × (first_byte self.old ≡ None)) }
+    {
+        match self.next_word() {
+            Some(word) => byte(word),
             None => Err(LineError::NoCommand),
         }
     }
