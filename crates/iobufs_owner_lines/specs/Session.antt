@@ -32,8 +32,8 @@ AreAnswered m (ask ∷ asks) [] next = ⊥
 abbrev pub line_of : List ℕ → List ℕ
 line_of text = text ++ codes "\n"
 
--- The first line of the input asks for a machine, so many lines behind it ask something of it, and `left` is what the others
--- ask. What is written is what was there before, `ok`, and the answers, a line each.
+-- So many lines of the input are answered: the first asks for a machine, those behind it ask something of it, and `left` is
+-- what the others ask. What is written is what was there before, `ok`, and the answers, a line each.
 pub record Answered (input before : List ℕ) (left : List (Option Ask)) (written : Option (List ℕ)) (count : ℕ) : Type 0 where
   pub first : List ℕ
   pub others : List (List ℕ)
@@ -46,9 +46,14 @@ pub record Answered (input before : List ℕ) (left : List (Option Ask)) (writte
   pub asks_for : setup_of first ≡ Some setup
   pub begins : begin.state ≡ machine_of setup
   pub say : map ask_of others ≡ map (λ ask. Some ask) asks ++ left
-  pub counts : length asks ≡ count
+  pub counts : length asks + 1 ≡ count
   pub answers : AreAnswered begin asks texts end
   pub prints : written ≡ Some (before ++ line_of (codes "ok") ++ flat_map line_of texts)
+
+-- there is no line, and nothing is written
+pub record IsEmpty (input before : List ℕ) (written : Option (List ℕ)) : Type 0 where
+  pub split : lines input ≡ []
+  pub prints : written ≡ Some before
 
 -- the first line asks for no machine, and nothing is written
 pub record AsksForNone (input before : List ℕ) (written : Option (List ℕ)) : Type 0 where
@@ -58,16 +63,14 @@ pub record AsksForNone (input before : List ℕ) (written : Option (List ℕ)) :
   pub asks_for : setup_of first ≡ None
   pub prints : written ≡ Some before
 
--- every line of the input is answered; where there is none, nothing is written
-abbrev pub AnswersAll : List ℕ → List ℕ → Option (List ℕ) → Type 0
-AnswersAll input before written =
-    ((lines input ≡ []) × (written ≡ Some before)) ⊎ ((count : ℕ) × Answered input before [] written count)
+-- each line, if there is one, was answered
+abbrev pub AllAnswered : (input before : List ℕ) → (written : Option (List ℕ)) → Type 0
+AllAnswered input before written = IsEmpty input before written ⊎ ((count : ℕ) × Answered input before [] written count)
 
--- every line before that of this number, from 1, is answered, and that one says nothing
-abbrev pub AnswersUpTo : List ℕ → List ℕ → Option (List ℕ) → ℕ → Type 0
-AnswersUpTo input before written number =
-    (AsksForNone input before written × (number ≡ 1))
-    ⊎ ((count : ℕ) × (left : List (Option Ask)) × Answered input before (None ∷ left) written count × (number ≡ count + 2))
+-- so many lines were answered, and the next one asks nothing
+abbrev pub AnsweredUpTo : (count : ℕ) → (input before : List ℕ) → (written : Option (List ℕ)) → Type 0
+AnsweredUpTo count input before written =
+    ((count ≡ 0) × AsksForNone input before written) ⊎ ((left : List (Option Ask)) × Answered input before (None ∷ left) written count)
 
 -- ---- steps among what is asked
 
