@@ -6,10 +6,10 @@ use Rattle.std.proofs.lemmas.Str.Parse.{IsNumeralModel, numerals_by_value, tells
 use Rattle.std.specs.Fmt.{decimal, digit_glyph}
 use Rattle.std.specs.Str.{all_ascii_digits, bytes_eq}
 use Rattle.std.specs.Str.Parse.{AllDigits, digits_value}
-use Rattle.hex.specs.Hex.{encode_lower, encode_with, lower_digits, IsBytes}
+use Rattle.hex.specs.Hex.{encode_lower, encode_with, lower_digits}
 use Rattle.hex.proofs.HexLemmas.{decode_of-encode_lower, length-encode_with}
 use Rattle.iobufs_words.specs.Words.{number_of, numbers_of, put_first, byte_of, bytes_of, decoded, words_of}
-use Rattle.iobufs_words.specs.Spelled.{hex_text, line_of_words, two_digits}
+use Rattle.iobufs_words.specs.Spelled.{AreBytes, AreNumbers, hex_text, line_of_words, two_digits}
 
 own : IsNumeralModel (λ ds. all_ascii_digits ds ≡ true) (digits_value 10)
 own = numerals_by_value _ tells_all_ascii_digits
@@ -74,7 +74,7 @@ digit_is (suc (suc (suc (suc (suc (suc (suc (suc (suc (suc (suc (suc (suc (suc (
 digit_is (suc (suc (suc (suc (suc (suc (suc (suc (suc (suc (suc (suc (suc (suc (suc (suc d)))))))))))))))) h = absurd (omega (arith, h))
 
 -- two digits for each byte are what `hex` writes
-pub digits_are : (bytes : List ℕ) → IsBytes bytes → flat_map two_digits bytes ≡ encode_lower bytes
+pub digits_are : (bytes : List ℕ) → AreBytes bytes → flat_map two_digits bytes ≡ encode_lower bytes
 unfolding encode_with
 digits_are [] h = refl
 digits_are (b ∷ bs) h =
@@ -86,7 +86,7 @@ unfolding encode_with
 spaceless_hex [] = refl
 spaceless_hex (b ∷ bs) = rw (spaceless_at lower_digits _ refl) (rw (spaceless_at lower_digits _ refl) (spaceless_hex bs))
 
-pub spaceless_bytes : (bytes : List ℕ) → IsBytes bytes → spaceless (hex_text bytes) ≡ true
+pub spaceless_bytes : (bytes : List ℕ) → AreBytes bytes → spaceless (hex_text bytes) ≡ true
 spaceless_bytes [] h = refl
 spaceless_bytes (b ∷ bs) h = ap spaceless (digits_are (b ∷ bs) h) ∙ spaceless_hex (b ∷ bs)
 
@@ -116,11 +116,6 @@ byte_spelled n low =
     let some = k.0.0 in
     grind (arith, nat_tests, d, e, some, low)
 
--- each is a number that a `usize` can say
-abbrev pub AreNumbers : List ℕ → Type 0
-AreNumbers [] = Unit {0}
-AreNumbers (n ∷ ns) = (n < 2 ^ 64) × AreNumbers ns
-
 pub numbers_spelled : (ns : List ℕ) → AreNumbers ns → numbers_of (map decimal ns) ≡ Some ns
 numbers_spelled [] h = refl
 numbers_spelled (n ∷ ns) h = rw (number_spelled n h.0) (ap (put_first (Some n)) (numbers_spelled ns h.1))
@@ -138,7 +133,7 @@ not_dash [] h = absurd (omega arith)
 not_dash (x ∷ []) h = absurd (omega arith)
 not_dash (x ∷ y ∷ xs) h = and_false (eqb x 45)
 
-pub bytes_spelled : (bytes : List ℕ) → IsBytes bytes → bytes_of (hex_text bytes) ≡ Some bytes
+pub bytes_spelled : (bytes : List ℕ) → AreBytes bytes → bytes_of (hex_text bytes) ≡ Some bytes
 bytes_spelled [] h = refl
 bytes_spelled (b ∷ bs) h =
     let len = length-encode_with lower_digits (b ∷ bs) in
