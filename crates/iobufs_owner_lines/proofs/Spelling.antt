@@ -16,7 +16,8 @@ use Rattle.iobufs_owner_lines.specs.declared.line.Setup.{Setup}
 use Rattle.iobufs_owner_lines.specs.Said.{act_by, ask_by, ask_in, ask_of, call_of, grant_of, setup_by, setup_in, setup_of}
 use Rattle.iobufs_owner_lines.specs.Spelled.{Fits, FitsAct, FitsSetup, denial, first_word_of, line_of_ask, line_of_setup, numbers_in, other_words_of, verb_of, verb_of_act, words_behind}
 use Rattle.iobufs_words.specs.Words.{number_of}
-use Rattle.iobufs_words.specs.WordLaws.{AreNumbers, AreSpaceless, number_spelled, spaceless, spaceless_decimal, spaceless_numbers, words_joined}
+use Rattle.iobufs_words.specs.Spelled.{AreNumbers}
+use Rattle.iobufs_words.specs.WordLaws.{AreSpaceless, number_spelled, spaceless, spaceless_decimal, spaceless_numbers, words_joined}
 
 -- ---- words without spaces
 

@@ -9,8 +9,7 @@ use Rattle.iobufs_owner_lines.specs.declared.line.Ask.{Ask}
 use Rattle.iobufs_owner_lines.specs.declared.line.Ask.TheVariants.{Take, Look}
 use Rattle.iobufs_owner_lines.specs.declared.line.Question.TheVariants.{Handle, Record, Freed}
 use Rattle.iobufs_owner_lines.specs.declared.line.Setup.{Setup}
-use Rattle.iobufs_words.specs.Spelled.{line_of_words}
-use Rattle.iobufs_words.specs.WordLaws.{AreNumbers}
+use Rattle.iobufs_words.specs.Spelled.{AreNumbers, line_of_words}
 
 -- ---- calls
 
