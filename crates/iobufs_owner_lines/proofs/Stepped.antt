@@ -1,6 +1,7 @@
 -- The steps among what is asked are a run of the machine.
-use Rattle.std.proofs.Common.{◌≡◌, ℕ, List, [], ◌∷◌, ◌++◌, map, refl, ap, subst}
+use Rattle.std.proofs.Common.{◌≡◌, ℕ, List, [], ◌∷◌, ◌++◌, map, refl, sym, ap, subst}
 use Rattle.iobufs_owner.specs.declared.owner.types.Reply.{Reply}
+use Rattle.iobufs_owner.specs.Promises.{Promises}
 use Rattle.iobufs_owner.specs.Runs.{Runs}
 use Rattle.iobufs_owner.specs.State.{Seen}
 use Rattle.iobufs_owner_lines.specs.declared.line.Ask.{Ask}
@@ -32,3 +33,14 @@ answered_more m mid next [] [] ask text h a = (next, subst (λ (s : Seen). Answe
 answered_more m mid next [] (t ∷ texts) ask text h a = elim h [ ]
 answered_more m mid next (first ∷ asks) [] ask text h a = elim h [ ]
 answered_more m mid next (first ∷ asks) (t ∷ texts) ask text h a = (h.0, h.1, answered_more h.0 mid next asks texts ask text h.2 a)
+
+-- what is promised stays so
+pub promised_after : (m next : Seen) (ask : Ask) (text : List ℕ) → Answers m ask text next → Promises m.state → Promises next.state
+promised_after m next (Take step) text a p = a.1.promises
+promised_after m next (Look question) text a p = subst (λ (s : Seen). Promises s.state) (sym a.0) p
+
+pub promised : (m next : Seen) (asks : List Ask) (texts : List (List ℕ)) → AreAnswered m asks texts next → Promises m.state → Promises next.state
+promised m next [] [] h p = subst (λ (s : Seen). Promises s.state) (sym h) p
+promised m next [] (text ∷ texts) h p = elim h [ ]
+promised m next (ask ∷ asks) [] h p = elim h [ ]
+promised m next (ask ∷ asks) (text ∷ texts) h p = promised h.0 next asks texts h.2 (promised_after m h.0 ask text h.1 p)

@@ -3,6 +3,7 @@ use Rattle.std.specs.Prelude.{◌≡◌, ◌⊎◌, ℕ, ◌+◌, if◌then◌el
 use Rattle.std.specs.Str.Lines.{lines}
 use Rattle.iobufs_owner.specs.declared.owner.types.Reply.{Reply}
 use Rattle.iobufs_owner.specs.declared.owner.types.Step.{Step}
+use Rattle.iobufs_owner.specs.Promises.{Promises}
 use Rattle.iobufs_owner.specs.Runs.{IsStep}
 use Rattle.iobufs_owner.specs.State.{State, Seen, fresh}
 use Rattle.iobufs_owner_lines.specs.declared.line.Ask.{Ask}
@@ -33,7 +34,8 @@ abbrev pub line_of : List ℕ → List ℕ
 line_of text = text ++ codes "\n"
 
 -- So many lines of the input are answered: the first asks for a machine, those behind it ask something of it, and `left` is
--- what the others ask. What is written is what was there before, `ok`, and the answers, a line each.
+-- what the others ask. What is written is what was there before, `ok`, and the answers, a line each; and at its end the
+-- machine is as promised.
 pub record Answered (input before : List ℕ) (left : List (Option Ask)) (written : Option (List ℕ)) (count : ℕ) : Type 0 where
   pub first : List ℕ
   pub others : List (List ℕ)
@@ -48,6 +50,7 @@ pub record Answered (input before : List ℕ) (left : List (Option Ask)) (writte
   pub say : map ask_of others ≡ map (λ ask. Some ask) asks ++ left
   pub counts : length asks + 1 ≡ count
   pub answers : AreAnswered begin asks texts end
+  pub promises : Promises end.state
   pub prints : written ≡ Some (before ++ line_of (codes "ok") ++ flat_map line_of texts)
 
 -- there is no line, and nothing is written

@@ -2,6 +2,7 @@
 ghost use Rattle.std.specs.Prelude.{◌≡◌, ℕ, ◌<◌, ◌≤◌, ◌^◌, ◌++◌, List, map, codes, Some, IfOk, IfErr, OnOk, IfSome};
 ghost use Rattle.iobufs_core.specs.declared.codec.base.BufError.TheVariants.{Memory};
 ghost use Rattle.iobufs_owner.specs.State.{Seen};
+ghost use Rattle.iobufs_owner.specs.Promises.{Promises};
 ghost use Rattle.iobufs_owner.specs.Runs.{Runs};
 ghost use Rattle.iobufs_owner.specs.declared.owner.types.Reply.{Reply};
 ghost use Rattle.iobufs_owner_lines.specs.declared.line.Ask.{Ask as Asked};
@@ -26,6 +27,7 @@ impl Setup {
         requires some { 0 < self.now.ceiling }
         requires few { self.now.parties ≤ 2 ^ 32 }
         ensures ok { IfOk result (λ machine. machine.state ≡ machine_of self.now) }
+        ensures promises { IfOk result (λ machine. Promises machine.state) }
         ensures err { IfErr result (λ error. error ≡ Memory) }
     {
         let format = if self.is_wide { FORMAT_64 } else { FORMAT_32 };
@@ -59,4 +61,10 @@ pub fn setup_law()
 pub fn run_law()
     ensures { (m next : Seen) → (asks : List Asked) → (texts : List (List ℕ)) → AreAnswered m asks texts next
         → (replies : List Reply) × Runs m (steps_of asks) replies next × (answers_to_steps asks texts ≡ map reply_text replies) }
+{}
+
+/// What a user of the machine may rely on holds at the end of a session, where it held at its beginning.
+pub fn promises_law()
+    ensures { (m next : Seen) → (asks : List Asked) → (texts : List (List ℕ)) → AreAnswered m asks texts next
+        → Promises m.state → Promises next.state }
 {}
