@@ -1,9 +1,9 @@
 // Lines of text as steps of the owner machine, and questions about it.
 ghost use Rattle.std.specs.Prelude.{◌<◌, ◌≤◌, ◌^◌, IfOk};
 
-use crate::words::{LineError, number};
 use iobufs_owner::format::{FORMAT_32, FORMAT_64, Format};
 use iobufs_owner::owner::{Act, Call, Step};
+use iobufs_words::words::{LineError, number};
 use std::alloc::Global;
 
 /// The machine that the first line asks for.

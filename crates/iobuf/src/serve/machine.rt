@@ -1,9 +1,12 @@
 // The owner machine, line by line.
+ghost use Rattle.std.specs.Prelude.{Ok, ◌≡◌, IfOk};
+
 use crate::input::Input;
 use crate::owner::line::{self as owner_line, Line};
 use crate::owner::reply::{FreedLine, HandleLine, RecordLine, ReplyLine};
-use crate::serve::{Stop, said};
+use crate::serve::Stop;
 use iobufs_owner::owner::Machine;
+use iobufs_words::words::LineError;
 use std::alloc::Global;
 use std::io::{self, Read, Write};
 
@@ -34,6 +37,17 @@ pub fn serve<R: Read + Drop, W: Write>(
         }
     }
     Ok(())
+}
+
+// What a line of this number says, or why the program stops at it.
+fn said<T>(line: Result<T, LineError>, number: u64) -> Result<T, Stop>
+    ensures { IfOk result (λ said. line ≡ Ok said) }
+{
+    match line {
+        Ok(said) => Ok(said),
+        Err(LineError::NoCommand) => Err(Stop::BadCommand(number)),
+        Err(LineError::Memory) => Err(Stop::CannotContinue),
+    }
 }
 
 // Takes a step, or answers a question.
