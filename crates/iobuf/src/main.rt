@@ -1,11 +1,9 @@
 // Reads commands on named buffers, or steps of the owner machine, a line each, and prints a reply to each.
 #![tactic(auto)]
 
-mod buf;
 #[cfg(test)]
 mod buf_tests;
 mod input;
-mod owner;
 #[cfg(test)]
 mod owner_tests;
 #[cfg(test)]
@@ -15,9 +13,8 @@ mod schedule_tests;
 mod serve;
 #[cfg(test)]
 mod serve_tests;
-mod words;
 
-pub use serve::serve;
+pub use serve::{in_memory, serve};
 use std::io::{BufWriter, Write};
 use std::process::ExitCode;
 use std::{env, io};

@@ -1,10 +1,10 @@
 // The program, over any reader and writers.
-ghost use Rattle.std.specs.Prelude.{Ok, ◌≡◌, IfOk};
+ghost use Rattle.std.specs.Prelude.{◌≡◌, ◌≢◌, [], ◌∷◌, codes, map, Some, IfSome};
+ghost use Rattle.iobuf.specs.Session.{HasStatus};
 
 mod buffers;
 mod machine;
 
-use crate::words::LineError;
 use iobufs_core::codec::BufError;
 use std::alloc::Global;
 use std::io::{self, Read, Write};
@@ -23,12 +23,22 @@ pub enum Stop {
 }
 
 impl From<io::Error> for Stop {
+    ghost use Rattle.std.specs.Prelude.{◌≡◌};
+    ghost use Rattle.iobuf.specs.declared.serve.Stop.TheVariants.{CannotContinue};
+
+    ghost from_gives = { λ _ stop. stop ≡ CannotContinue };
+
     fn from(_error: io::Error) -> Stop {
         Stop::CannotContinue
     }
 }
 
 impl From<BufError> for Stop {
+    ghost use Rattle.std.specs.Prelude.{◌≡◌};
+    ghost use Rattle.iobuf.specs.declared.serve.Stop.TheVariants.{CannotContinue};
+
+    ghost from_gives = { λ _ stop. stop ≡ CannotContinue };
+
     fn from(_error: BufError) -> Stop {
         Stop::CannotContinue
     }
@@ -43,7 +53,13 @@ pub fn serve<R: Read + Drop, W: Write, E: Write>(
     input: R,
     output: &mut W,
     errors: &mut E,
-) -> u8 {
+) -> u8
+    ensures buffers { map (λ arg. arg.now) args.now ≡ codes "buf" ∷ [] → IfSome (R.remaining input) (λ read.
+        IfSome (W.contents output.old) (λ before. HasStatus read before (W.contents output.new) result)) }
+    ensures usage { map (λ arg. arg.now) args.now ≢ codes "buf" ∷ [] → map (λ arg. arg.now) args.now ≢ codes "owner" ∷ []
+        → (result ≡ 2) × (output.new ≡ output.old) }
+    ensures silent { result ≡ 0 → errors.new ≡ errors.old }
+{
     let served = match args {
         ["buf"] => buffers::serve(alloc, input, output),
         ["owner"] => machine::serve(alloc, input, output),
@@ -64,18 +80,20 @@ pub fn serve<R: Read + Drop, W: Write, E: Write>(
 }
 
 /// Tells which words the program takes, and gives the status for others.
-pub fn tell_usage<E: Write>(errors: &mut E) -> u8 {
+pub fn tell_usage<E: Write>(errors: &mut E) -> u8
+    ensures { result ≡ 2 }
+{
     let _ = errors.write_all(USAGE);
     2
 }
 
-/// What a line of this number says, or why the program stops at it.
-pub fn said<T>(line: Result<T, LineError>, number: u64) -> Result<T, Stop>
-    ensures { IfOk result (λ said. line ≡ Ok said) }
+/// A session with named buffers over bytes in memory: its status, and what it prints. This is where `serve`'s reader
+/// and writer tell their bytes.
+pub fn in_memory(alloc: Global, input: &[u8]) -> (u8, Vec<u8>)
+    ensures { HasStatus input.now [] (Some result.1.items) result.0 }
 {
-    match line {
-        Ok(said) => Ok(said),
-        Err(LineError::NoCommand) => Err(Stop::BadCommand(number)),
-        Err(LineError::Memory) => Err(Stop::CannotContinue),
-    }
+    let mut output = Vec::new(alloc);
+    let mut errors = Vec::new(alloc);
+    let status = serve(alloc, &["buf"], input, &mut output, &mut errors);
+    (status, output)
 }
