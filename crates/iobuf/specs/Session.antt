@@ -1,6 +1,7 @@
 -- A session with named buffers: what it reads, and what it prints.
-use Rattle.std.specs.Prelude.{◌≡◌, ℕ, ◌+◌, length, List, [], ◌∷◌, ◌++◌, codes, map, flat_map, replicate, Option, Some, None, Result, Ok, Err, ⊤}
+use Rattle.std.specs.Prelude.{◌≡◌, ℕ, ◌+◌, length, List, [], ◌∷◌, ◌++◌, codes, map, flat_map, replicate, Option, Some, None, Result, Ok, Err, OnOk, ⊤}
 use Rattle.std.specs.Fmt.{decimal}
+use Rattle.std.specs.Io.KnownBytes.{Appends}
 use Rattle.std.specs.Str.Lines.{lines}
 use Rattle.iobufs_run.specs.Run.{Run, Step}
 use Rattle.iobufs_run.specs.declared.command.Cmd.{Cmd}
@@ -49,14 +50,24 @@ HasStatus input before written status =
     (status ≡ 0 → AllAnswered input before written)
     × (status ≡ 2 → (count : ℕ) × AnsweredUpTo count input before written)
 
+-- why the program ends, as it is told
+abbrev pub stop_text : Stop → List ℕ
+stop_text (BadCommand number) = codes "line " ++ decimal number ++ codes ": bad command"
+stop_text CannotContinue = codes "cannot continue"
+
+-- the same as a line
+abbrev pub stop_line : Stop → List ℕ
+stop_line stop = stop_text stop ++ codes "\n"
+
+-- with status 2, what is told is the number of the line that says no command, which is one more than were answered
+abbrev pub HasTold : {E : Type 0} → List ℕ → List ℕ → Option (List ℕ) → Option (List ℕ) → Option (List ℕ) → ℕ → Result (Unit {0}) E → Type 0
+HasTold input before written old new status told =
+    status ≡ 2 → (number : ℕ) × (count : ℕ) × (number ≡ count + 1) × AnsweredUpTo count input before written
+    × OnOk told (Appends old new (stop_line (BadCommand number)))
+
 -- One line: a command is answered by one step, and its reply is written; a line that says none leaves what is written
 abbrev pub AnswersLine : List ℕ → ℕ → List Slot → List Slot → List ℕ → Option (List ℕ) → Result (Unit {0}) Stop → Type 0
 AnswersLine line number old new before written (Ok done) =
     (command : Cmd) × (reply : Reply) × (command_of line ≡ Some (plain command)) × Step old command reply new × (written ≡ Some (before ++ line_of reply))
 AnswersLine line number old new before written (Err (BadCommand n)) = (command_of line ≡ None) × (written ≡ Some before) × (n ≡ number)
 AnswersLine line number old new before written (Err CannotContinue) = ⊤
-
--- why the program ends, as it is told
-abbrev pub stop_text : Stop → List ℕ
-stop_text (BadCommand number) = codes "line " ++ decimal number ++ codes ": bad command"
-stop_text CannotContinue = codes "cannot continue"

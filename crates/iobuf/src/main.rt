@@ -14,8 +14,9 @@ mod serve;
 #[cfg(test)]
 mod serve_tests;
 
-pub use serve::{in_memory, serve};
-use std::io::{BufWriter, Write};
+use serve::Stop;
+pub use serve::{in_memory, serve, session};
+use std::io::BufWriter;
 use std::process::ExitCode;
 use std::{env, io};
 
@@ -51,7 +52,7 @@ fn main(rt: HostRuntime) -> ExitCode {
     match run(&rt) {
         Ok(status) => ExitCode::from(status),
         Err(_) => {
-            let _ = rt.stderr().write_all(serve::CANNOT_CONTINUE);
+            let _ = serve::tell(&Stop::CannotContinue, &mut rt.stderr());
             ExitCode::from(3)
         }
     }

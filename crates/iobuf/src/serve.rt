@@ -1,17 +1,17 @@
 // The program, over any reader and writers.
-ghost use Rattle.std.specs.Prelude.{◌≡◌, ◌≢◌, [], ◌∷◌, codes, map, Some, IfSome};
-ghost use Rattle.iobuf.specs.Session.{HasStatus};
+ghost use Rattle.std.specs.Prelude.{◌≡◌, ◌≢◌, [], ◌∷◌, codes, map, Some, IfSome, OnOk};
+ghost use Rattle.iobuf.specs.Session.{HasStatus, HasTold, stop_line};
+ghost use Rattle.std.specs.Io.KnownBytes.{Appends};
 
 mod buffers;
 mod machine;
 
 use iobufs_core::codec::BufError;
 use std::alloc::Global;
+use std::fmt;
 use std::io::{self, Read, Write};
 
 const USAGE: &[u8] = b"usage: iobuf buf or iobuf owner\n";
-
-pub const CANNOT_CONTINUE: &[u8] = b"cannot continue\n";
 
 /// Why the program ends before the end of its input.
 #[derive(Drop)]
@@ -44,9 +44,60 @@ impl From<BufError> for Stop {
     }
 }
 
+impl fmt::Display for Stop {
+    ghost use Rattle.std.specs.Prelude.{Some};
+    ghost use Rattle.iobuf.specs.Session.{stop_text};
+
+    ghost output = { λ stop. Some (stop_text stop) };
+
+    fn fmt<W: fmt::Write>(&self, f: &mut fmt::Formatter<W>) -> fmt::Result {
+        match self {
+            Stop::BadCommand(number) => write!(f, "line {number}: bad command"),
+            Stop::CannotContinue => f.write_str("cannot continue"),
+        }
+    }
+}
+
+/// Tells why the program ends.
+pub fn tell<E: Write>(stop: &Stop, errors: &mut E) -> io::Result<()>
+    ensures { OnOk result (Appends (E.contents errors.old) (E.contents errors.new) (stop_line stop.now)) }
+{
+    writeln!(errors, "{stop}")
+}
+
 /// Runs the program on the words behind its name, and gives its status: 0 at the end of the input, 2 for a line
-/// that is no command and for other words, 3 where reading, writing or memory failed. A fault in writing to
-/// `errors` changes nothing. Replies are sent off before more input is waited for.
+/// that is no command and for other words, 3 where reading, writing or memory failed. Beside it stands whether
+/// `errors` took what it was told. Replies are sent off before more input is waited for.
+pub fn session<R: Read + Drop, W: Write, E: Write>(
+    alloc: Global,
+    args: &[&str],
+    input: R,
+    output: &mut W,
+    errors: &mut E,
+) -> (u8, io::Result<()>)
+    ensures buffers { map (λ arg. arg.now) args.now ≡ codes "buf" ∷ [] → IfSome (R.remaining input) (λ read.
+        IfSome (W.contents output.old) (λ before. HasStatus read before (W.contents output.new) result.0)) }
+    ensures told { map (λ arg. arg.now) args.now ≡ codes "buf" ∷ [] → IfSome (R.remaining input) (λ read.
+        IfSome (W.contents output.old) (λ before.
+        HasTold read before (W.contents output.new) (E.contents errors.old) (E.contents errors.new) result.0 result.1)) }
+    ensures usage { map (λ arg. arg.now) args.now ≢ codes "buf" ∷ [] → map (λ arg. arg.now) args.now ≢ codes "owner" ∷ []
+        → (result.0 ≡ 2) × (output.new ≡ output.old) }
+    ensures silent { result.0 ≡ 0 → errors.new ≡ errors.old }
+{
+    let served = match args {
+        ["buf"] => buffers::serve(alloc, input, output),
+        ["owner"] => machine::serve(alloc, input, output),
+        _ => return (tell_usage(errors), Ok(())),
+    };
+    let flushed = output.flush().map_err(|_| Stop::CannotContinue);
+    match flushed.and(served) {
+        Ok(()) => (0, Ok(())),
+        Err(Stop::BadCommand(number)) => (2, tell(&Stop::BadCommand(number), errors)),
+        Err(Stop::CannotContinue) => (3, tell(&Stop::CannotContinue, errors)),
+    }
+}
+
+/// The status of a session. A fault in writing to `errors` changes nothing.
 pub fn serve<R: Read + Drop, W: Write, E: Write>(
     alloc: Global,
     args: &[&str],
@@ -60,23 +111,8 @@ pub fn serve<R: Read + Drop, W: Write, E: Write>(
         → (result ≡ 2) × (output.new ≡ output.old) }
     ensures silent { result ≡ 0 → errors.new ≡ errors.old }
 {
-    let served = match args {
-        ["buf"] => buffers::serve(alloc, input, output),
-        ["owner"] => machine::serve(alloc, input, output),
-        _ => return tell_usage(errors),
-    };
-    let flushed = output.flush().map_err(|_| Stop::CannotContinue);
-    match flushed.and(served) {
-        Ok(()) => 0,
-        Err(Stop::BadCommand(number)) => {
-            let _ = writeln!(errors, "line {number}: bad command");
-            2
-        }
-        Err(Stop::CannotContinue) => {
-            let _ = errors.write_all(CANNOT_CONTINUE);
-            3
-        }
-    }
+    let (status, _) = session(alloc, args, input, output, errors);
+    status
 }
 
 /// Tells which words the program takes, and gives the status for others.

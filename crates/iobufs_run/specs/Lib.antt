@@ -3,4 +3,5 @@ pub mod Choices
 pub mod Printed
 pub mod Refusals
 pub mod Run
+pub mod RunLaws
 pub mod Slots

@@ -1,4 +1,4 @@
--- Runs of the named buffers.
+-- A run goes on.
 use Rattle.std.proofs.Common.{List, [], ◌∷◌, ◌++◌, refl, subst}
 use Rattle.iobufs_run.specs.declared.table.Slot.{Slot}
 use Rattle.iobufs_run.specs.declared.command.Cmd.{Cmd}
