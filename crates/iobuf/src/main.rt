@@ -1,11 +1,9 @@
 // Reads commands on named buffers, or steps of the owner machine, a line each, and prints a reply to each.
 #![tactic(auto)]
 
-mod buf;
 #[cfg(test)]
 mod buf_tests;
 mod input;
-mod owner;
 #[cfg(test)]
 mod owner_tests;
 #[cfg(test)]
@@ -15,10 +13,10 @@ mod schedule_tests;
 mod serve;
 #[cfg(test)]
 mod serve_tests;
-mod words;
 
-pub use serve::serve;
-use std::io::{BufWriter, Write};
+use serve::Stop;
+pub use serve::{in_memory, serve, session};
+use std::io::BufWriter;
 use std::process::ExitCode;
 use std::{env, io};
 
@@ -54,7 +52,7 @@ fn main(rt: HostRuntime) -> ExitCode {
     match run(&rt) {
         Ok(status) => ExitCode::from(status),
         Err(_) => {
-            let _ = rt.stderr().write_all(serve::CANNOT_CONTINUE);
+            let _ = serve::tell(&Stop::CannotContinue, &mut rt.stderr());
             ExitCode::from(3)
         }
     }

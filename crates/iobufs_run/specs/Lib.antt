@@ -1,5 +1,7 @@
 pub mod Causes
 pub mod Choices
+pub mod Printed
 pub mod Refusals
 pub mod Run
+pub mod RunLaws
 pub mod Slots

@@ -1,4 +1,7 @@
 // The commands, and what is answered to them.
+ghost use Rattle.std.specs.Fmt.{WritesOnOk};
+ghost use Rattle.iobufs_run.specs.Printed.{fault_text};
+
 use bytes::Bytes;
 use iobufs_core::codec::{BufError, Error, RangeCfg, Refused};
 use std::alloc::AllocError;
@@ -224,23 +227,30 @@ pub enum Refusal {
 }
 
 impl fmt::Display for Refusal {
+    ghost use Rattle.std.specs.Prelude.{Some};
+    ghost use Rattle.iobufs_run.specs.Printed.{refusal_text};
+
+    ghost output = { λ refusal. Some (refusal_text refusal) };
+
     fn fmt<W: fmt::Write>(&self, f: &mut fmt::Formatter<W>) -> fmt::Result {
-        f.write_str(match self {
-            Refusal::NoName => "N1 NoName",
-            Refusal::WrongKind => "N2 WrongKind",
-            Refusal::InUse => "N3 InUse",
-            Refusal::OutOfRange => "N4 OutOfRange",
-            Refusal::BadLayout => "N5 BadLayout",
-            Refusal::TooLong => "N6 TooLong",
-            Refusal::Declined => "N7 Declined",
-            Refusal::Codec(error) => return write_codec(*error, f),
-            Refusal::Memory => "N9 Memory",
-        })
+        match self {
+            Refusal::NoName => f.write_str("N1 NoName"),
+            Refusal::WrongKind => f.write_str("N2 WrongKind"),
+            Refusal::InUse => f.write_str("N3 InUse"),
+            Refusal::OutOfRange => f.write_str("N4 OutOfRange"),
+            Refusal::BadLayout => f.write_str("N5 BadLayout"),
+            Refusal::TooLong => f.write_str("N6 TooLong"),
+            Refusal::Declined => f.write_str("N7 Declined"),
+            Refusal::Codec(error) => write_codec(*error, f),
+            Refusal::Memory => f.write_str("N9 Memory"),
+        }
     }
 }
 
 // A fault of reading, behind the number of its kind.
-fn write_codec<W: fmt::Write>(error: Error, f: &mut fmt::Formatter<W>) -> fmt::Result {
+fn write_codec<W: fmt::Write>(error: Error, f: &mut fmt::Formatter<W>) -> fmt::Result
+    ensures { WritesOnOk W.write_str_gives f.old result (fault_text error) f.new }
+{
     match error {
         Error::EndOfBuffer => f.write_str("N8 C1 EndOfBuffer"),
         Error::InvalidVarint => f.write_str("N8 C2 InvalidVarint"),

@@ -1,0 +1,3 @@
+pub mod MachineLaws
+pub mod Sessions
+pub mod TakenLines

@@ -1,0 +1,20 @@
+-- The lines of an input, one by one.
+use Rattle.std.specs.Prelude.{◌≡◌, ℕ, if◌then◌else◌, Bool, List, [], ◌∷◌, Option, Some, MatchBool, IfSome}
+use Rattle.std.specs.Str.Lines.{lines}
+use Rattle.std.specs.Io.BufRead.{ends_with_byte, strip_last}
+use Rattle.std.specs.Io.Buffered.{reader_remaining}
+use Rattle.iobuf.specs.declared.input.Input.{Input}
+
+-- the bytes that an input has left, where its reader tells them
+abbrev pub bytes_left : {R : Type 0} → (R → Option (List ℕ)) → Input R → Option (List ℕ)
+bytes_left remaining input = reader_remaining remaining input.reader
+
+-- a line that was read, without its end: LF, or CR LF
+abbrev pub line_text : List ℕ → List ℕ
+line_text line = if ends_with_byte 10 line then strip_last 13 (strip_last 10 line) else strip_last 10 line
+
+-- the first line was taken, where there is one
+abbrev pub TakesLine : Option (List ℕ) → Option (List ℕ) → List ℕ → Bool → Type 0
+TakesLine old new line more = IfSome old (λ bytes. MatchBool more
+    ((rest : List ℕ) × (new ≡ Some rest) × (lines bytes ≡ line_text line ∷ lines rest))
+    (lines bytes ≡ []))

@@ -1,3 +1,0 @@
-// Named buffers, line by line.
-pub mod line;
-pub mod reply;

@@ -1,3 +1,0 @@
-// The owner machine, line by line.
-pub mod line;
-pub mod reply;

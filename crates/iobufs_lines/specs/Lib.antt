@@ -1,0 +1,5 @@
+pub mod Commands
+pub mod Printed
+pub mod Said
+pub mod Shapes
+pub mod Spelled

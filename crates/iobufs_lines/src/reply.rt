@@ -1,0 +1,94 @@
+// Replies as lines of text.
+ghost use Rattle.std.specs.Prelude.{◌≡◌, flat_map};
+ghost use Rattle.std.specs.Fmt.{WritesOnOk};
+ghost use Rattle.iobufs_lines.specs.Printed.{kind_text};
+ghost use Rattle.iobufs_words.specs.Spelled.{two_digits};
+
+use iobufs_run::command::{Kind, Piece, Reply};
+use std::fmt;
+
+/// A reply, as it is printed.
+#[derive(Clone, Copy)]
+pub struct Line<'a>(pub &'a Reply);
+
+// Bytes as hexadecimal digits, or a dash where there are none.
+#[derive(Clone, Copy)]
+struct Hex<'a>(&'a [u8]);
+
+// One piece of what is shown, behind a space.
+#[derive(Clone, Copy)]
+struct Shown<'a>(Kind, &'a Piece);
+
+// Two digits for each byte.
+fn write_digits<W: fmt::Write>(bytes: &[u8], f: &mut fmt::Formatter<W>) -> fmt::Result
+    ensures { WritesOnOk W.write_str_gives f.old result (flat_map two_digits bytes.now) f.new }
+{
+    for byte in bytes {
+        write!(f, "{byte:02x}")?;
+    }
+    Ok(())
+}
+
+impl fmt::Display for Hex<'_> {
+    ghost use Rattle.std.specs.Prelude.{Some};
+    ghost use Rattle.iobufs_words.specs.Spelled.{hex_text};
+
+    ghost output = { λ hex. Some (hex_text hex.0.now) };
+
+    fn fmt<W: fmt::Write>(&self, f: &mut fmt::Formatter<W>) -> fmt::Result {
+        if self.0.is_empty() {
+            return f.write_str("-");
+        }
+        write_digits(self.0, f)
+    }
+}
+
+// The first word of what is shown.
+fn name(kind: Kind) -> &'static str
+    ensures { result.now ≡ kind_text kind }
+{
+    match kind {
+        Kind::Part => "part",
+        Kind::View => "view",
+        Kind::Text => "text",
+        Kind::Parts => "parts",
+    }
+}
+
+impl fmt::Display for Shown<'_> {
+    ghost use Rattle.std.specs.Prelude.{Some};
+    ghost use Rattle.iobufs_lines.specs.Printed.{piece_text};
+
+    ghost output = { λ shown. Some (piece_text shown.0 shown.1.now) };
+
+    fn fmt<W: fmt::Write>(&self, f: &mut fmt::Formatter<W>) -> fmt::Result {
+        let digits = Hex(self.1.bytes.as_slice());
+        let spare = self.1.spare;
+        match self.0 {
+            Kind::Part | Kind::Parts => write!(f, " {digits}+{spare}"),
+            Kind::View | Kind::Text => write!(f, " {digits}"),
+        }
+    }
+}
+
+impl fmt::Display for Line<'_> {
+    ghost use Rattle.std.specs.Prelude.{Some};
+    ghost use Rattle.iobufs_lines.specs.Printed.{reply_text};
+
+    ghost output = { λ line. Some (reply_text line.0.now) };
+
+    fn fmt<W: fmt::Write>(&self, f: &mut fmt::Formatter<W>) -> fmt::Result {
+        match self.0 {
+            Reply::Done => f.write_str("ok"),
+            Reply::Bytes(bytes) => write!(f, "bytes {}", Hex(bytes.as_slice())),
+            Reply::Refused(refusal) => write!(f, "refused {refusal}"),
+            Reply::Shown { kind, pieces } => {
+                f.write_str(name(*kind))?;
+                for piece in pieces {
+                    write!(f, "{}", Shown(*kind, piece))?;
+                }
+                Ok(())
+            }
+        }
+    }
+}

@@ -1,0 +1,15 @@
+use Rattle.std.proofs.Common.{refl}
+use Rattle.iobufs_owner_lines.specs.Printed.{answer_text, reply_text}
+use Rattle.iobufs_owner_lines.proofs.Written.{written}
+use Rattle.iobufs_owner_lines.proofs.session.answer.Goals as goal
+
+pub returns-in-Take : goal.returns-in-Take
+returns-in-Take g c =
+    let s = c.step.ensures in
+    written c.writeln.result (g.W.Write.contents c.args.output.now) _ c.args.machine.now c.step.new.self c.args.ask (reply_text c.step.result)
+    (rw c.in-Take.is (c.step.result, record { moves = s.moves; steps = s.steps; sound = s.sound; promises = s.promises }, refl)) c.writeln.ensures.bytes
+
+pub returns-in-Look : goal.returns-in-Look
+returns-in-Look g c =
+    written c.writeln-in-Look.result (g.W.Write.contents c.args.output.now) _ c.args.machine.now c.args.machine.now c.args.ask (answer_text c.args.machine.now.state c.in-Look.question)
+    (rw c.in-Look.is (refl, refl)) c.writeln-in-Look.ensures.bytes

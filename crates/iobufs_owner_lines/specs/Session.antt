@@ -1,0 +1,91 @@
+-- What a session with the machine answers.
+use Rattle.std.specs.Prelude.{◌≡◌, ◌⊎◌, ℕ, ◌+◌, if◌then◌else◌, List, [], ◌∷◌, ◌++◌, map, flat_map, length, codes, Option, Some, None}
+use Rattle.std.specs.Str.Lines.{lines}
+use Rattle.iobufs_owner.specs.declared.owner.types.Reply.{Reply}
+use Rattle.iobufs_owner.specs.declared.owner.types.Step.{Step}
+use Rattle.iobufs_owner.specs.Promises.{Promises}
+use Rattle.iobufs_owner.specs.Runs.{IsStep}
+use Rattle.iobufs_owner.specs.State.{State, Seen, fresh}
+use Rattle.iobufs_owner_lines.specs.declared.line.Ask.{Ask}
+use Rattle.iobufs_owner_lines.specs.declared.line.Ask.TheVariants.{Take, Look}
+use Rattle.iobufs_owner_lines.specs.declared.line.Setup.{Setup}
+use Rattle.iobufs_owner_lines.specs.Printed.{answer_text, reply_text}
+use Rattle.iobufs_owner_lines.specs.Said.{ask_of, setup_of}
+
+-- the machine that a first line asks for: a descriptor has bits for the alignment, the tail and the size
+abbrev pub machine_of : Setup → State
+machine_of setup =
+    if setup.is_wide then fresh 6 17 40 setup.ceiling setup.parties else fresh 0 7 24 setup.ceiling setup.parties
+
+-- a step of the machine is answered by its reply; a question changes nothing, and is answered by what is looked at
+abbrev pub Answers : Seen → Ask → List ℕ → Seen → Type 0
+Answers m (Take step) text next = (reply : Reply) × IsStep m step reply next × (text ≡ reply_text reply)
+Answers m (Look question) text next = (next ≡ m) × (text ≡ answer_text m.state question)
+
+-- all of them, one after another: each begins where the one before it ended
+abbrev pub AreAnswered : Seen → List Ask → List (List ℕ) → Seen → Type 0
+AreAnswered m [] [] next = next ≡ m
+AreAnswered m (ask ∷ asks) (text ∷ texts) next = (mid : Seen) × Answers m ask text mid × AreAnswered mid asks texts next
+AreAnswered m [] (text ∷ texts) next = ⊥
+AreAnswered m (ask ∷ asks) [] next = ⊥
+
+-- a text as a line
+abbrev pub line_of : List ℕ → List ℕ
+line_of text = text ++ codes "\n"
+
+-- So many lines of the input are answered: the first asks for a machine, those behind it ask something of it, and `left` is
+-- what the others ask. What is written is what was there before, `ok`, and the answers, a line each; and at its end the
+-- machine is as promised.
+pub record Answered (input before : List ℕ) (left : List (Option Ask)) (written : Option (List ℕ)) (count : ℕ) : Type 0 where
+  pub first : List ℕ
+  pub others : List (List ℕ)
+  pub setup : Setup
+  pub begin : Seen
+  pub end : Seen
+  pub asks : List Ask
+  pub texts : List (List ℕ)
+  pub split : lines input ≡ first ∷ others
+  pub asks_for : setup_of first ≡ Some setup
+  pub begins : begin.state ≡ machine_of setup
+  pub say : map ask_of others ≡ map (λ ask. Some ask) asks ++ left
+  pub counts : length asks + 1 ≡ count
+  pub answers : AreAnswered begin asks texts end
+  pub promises : Promises end.state
+  pub prints : written ≡ Some (before ++ line_of (codes "ok") ++ flat_map line_of texts)
+
+-- there is no line, and nothing is written
+pub record IsEmpty (input before : List ℕ) (written : Option (List ℕ)) : Type 0 where
+  pub split : lines input ≡ []
+  pub prints : written ≡ Some before
+
+-- the first line asks for no machine, and nothing is written
+pub record AsksForNone (input before : List ℕ) (written : Option (List ℕ)) : Type 0 where
+  pub first : List ℕ
+  pub others : List (List ℕ)
+  pub split : lines input ≡ first ∷ others
+  pub asks_for : setup_of first ≡ None
+  pub prints : written ≡ Some before
+
+-- each line, if there is one, was answered
+abbrev pub AllAnswered : (input before : List ℕ) → (written : Option (List ℕ)) → Type 0
+AllAnswered input before written = IsEmpty input before written ⊎ ((count : ℕ) × Answered input before [] written count)
+
+-- so many lines were answered, and the next one asks nothing
+abbrev pub AnsweredUpTo : (count : ℕ) → (input before : List ℕ) → (written : Option (List ℕ)) → Type 0
+AnsweredUpTo count input before written =
+    ((count ≡ 0) × AsksForNone input before written) ⊎ ((left : List (Option Ask)) × Answered input before (None ∷ left) written count)
+
+-- ---- steps among what is asked
+
+-- the steps, without the questions
+abbrev pub steps_of : List Ask → List Step
+steps_of [] = []
+steps_of (Take step ∷ asks) = step ∷ steps_of asks
+steps_of (Look question ∷ asks) = steps_of asks
+
+-- the answers to them
+abbrev pub answers_to_steps : List Ask → List (List ℕ) → List (List ℕ)
+answers_to_steps [] texts = []
+answers_to_steps (ask ∷ asks) [] = []
+answers_to_steps (Take step ∷ asks) (text ∷ texts) = text ∷ answers_to_steps asks texts
+answers_to_steps (Look question ∷ asks) (text ∷ texts) = answers_to_steps asks texts

@@ -1,0 +1,9 @@
+-- How a reader of words means the words that are left.
+use Rattle.std.specs.Prelude.{ℕ, List, [], Option, Some, None}
+use Rattle.std.specs.Borrow.{Bor}
+use Rattle.iobufs_words.specs.Words.{words_of}
+
+-- no words are left, or those of a text
+abbrev pub words_left : Option (Bor (List ℕ)) → List (List ℕ)
+words_left None = []
+words_left (Some rest) = words_of rest.now

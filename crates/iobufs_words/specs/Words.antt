@@ -1,0 +1,66 @@
+-- The words of a line, and what they say.
+use Rattle.std.specs.Prelude.{ℕ, ◌^◌, ◌==◌, ◌&&◌, nat_lt, if◌then◌else◌, List, [], ◌∷◌, length, codes, Option, Some, None, Result, Ok, Err}
+use Rattle.std.specs.List.{slice_split}
+use Rattle.std.specs.Str.{bytes_eq, all_ascii_digits}
+use Rattle.std.specs.Str.Parse.{digits_value}
+use Rattle.hex.specs.Hex.{decode_of}
+use Rattle.hex.specs.declared.error.FromHexError.{FromHexError}
+
+-- words, separated by one space each
+abbrev pub words_of : List ℕ → List (List ℕ)
+words_of line = slice_split (λ b. b == 32) line
+
+-- decimal digits, at least one, of a number below this
+abbrev pub number_below : ℕ → List ℕ → Option ℕ
+number_below end word =
+    if nat_lt 0 (length word) && all_ascii_digits word && nat_lt (digits_value 10 word) end then Some (digits_value 10 word) else None
+
+-- a number that a `usize` can say
+abbrev pub number_of : List ℕ → Option ℕ
+number_of word = number_below (2 ^ 64) word
+
+-- a number that a byte can say
+abbrev pub byte_of : List ℕ → Option ℕ
+byte_of word = number_below 256 word
+
+-- the bytes that hexadecimal digits say, where they do
+abbrev pub decoded : Result (List ℕ) FromHexError → Option (List ℕ)
+decoded (Ok bytes) = Some bytes
+decoded (Err e) = None
+
+-- an even number of hexadecimal digits, at least two, or a dash for no bytes
+abbrev pub bytes_of : List ℕ → Option (List ℕ)
+bytes_of word =
+    if bytes_eq word (codes "-") then Some []
+    else if length word == 0 then None
+    else decoded (decode_of word)
+
+-- what the first word says, where there is one
+abbrev pub first_number : List (List ℕ) → Option ℕ
+first_number [] = None
+first_number (word ∷ words) = number_of word
+
+abbrev pub first_byte : List (List ℕ) → Option ℕ
+first_byte [] = None
+first_byte (word ∷ words) = byte_of word
+
+abbrev pub first_bytes : List (List ℕ) → Option (List ℕ)
+first_bytes [] = None
+first_bytes (word ∷ words) = bytes_of word
+
+-- both, where both are there
+abbrev pub both : {A B : Type 0} → Option A → Option B → Option (A × B)
+both (Some a) (Some b) = Some (a, b)
+both (Some a) None = None
+both None b = None
+
+-- the first, and the others behind it
+abbrev pub put_first : {A : Type 0} → Option A → Option (List A) → Option (List A)
+put_first (Some x) (Some xs) = Some (x ∷ xs)
+put_first (Some x) None = None
+put_first None xs = None
+
+-- a number in each word
+abbrev pub numbers_of : List (List ℕ) → Option (List ℕ)
+numbers_of [] = Some []
+numbers_of (word ∷ words) = put_first (number_of word) (numbers_of words)
