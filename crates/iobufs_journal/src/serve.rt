@@ -1,7 +1,7 @@
 // The commands, over any readers and writers.
 ghost use Rattle.std.specs.Prelude.{◌≡◌, IfOk, IfSome, OnOk, drop};
 ghost use Rattle.std.specs.Io.KnownBytes.{Appends};
-ghost use Rattle.iobufs_journal.specs.Printed.{IsPrinted, most_bytes, printed};
+ghost use Rattle.iobufs_journal.specs.Printed.{HasEnd, IsPrinted, most_bytes, printed};
 ghost use Rattle.iobufs_uses.specs.Journal.{IsJournal, bodies};
 
 use iobufs::IoBufs;
@@ -62,7 +62,9 @@ pub fn check<R: Read, W: Write>(
     name: &str,
     from: &mut R,
     to: &mut W,
-) -> io::Result<End> {
+) -> io::Result<End>
+    ensures { IfOk result (λ end. IfSome (R.remaining from.old) (λ text. HasEnd text end)) }
+{
     let records = read(alloc, from)?;
     let (found, whole) = (records.found.len(), records.whole);
     let ends = match records.end {
@@ -107,7 +109,9 @@ pub fn append<J: Read + Write, R: Read>(
     alloc: Global,
     journal: &mut J,
     lines: &mut R,
-) -> io::Result<End> {
+) -> io::Result<End>
+    ensures { IfOk result (λ end. IfSome (J.remaining journal.old) (λ text. HasEnd text end)) }
+{
     let records = read(alloc, journal)?;
     if records.end == End::Whole {
         let mut text = Vec::new(alloc);

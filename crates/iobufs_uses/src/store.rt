@@ -10,7 +10,8 @@ use iobufs_core::codec::BufMut;
 use std::alloc::Global;
 use std::io::{self, ErrorKind, Read};
 
-// Reads once into the room of the parts, and says how many bytes came.
+// Reads once into the room of the parts, and says how many bytes came. They are copied once: room that was not written
+// can't be lent, and one of several parts neither.
 #[tactic(auto, using(iobufs::specs::CallerFacts::storing))]
 fn fill_once<R: Read>(from: &mut R, parts: &mut IoBufsMut) -> io::Result<usize>
     ensures stored { IsStored (R.remaining from.old) (R.remaining from.new) parts.old parts.new }
