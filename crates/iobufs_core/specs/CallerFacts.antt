@@ -42,9 +42,9 @@ unfolding text_right
 bytes-advanced text n h = grind (arith, nat_tests, common_steps, drop_all)
 
 -- the view that stands behind its length, and its length
-there : (text : MarkedText) (n : ℕ) (view : View) → take (length (spell n)) text.bytes ≡ spell n → length (spell n) + n ≤ length text.bytes → view ≡ taken_view text (length (spell n)) n
+pub view_there : (text : MarkedText) (n : ℕ) (view : View) → take (length (spell n)) text.bytes ≡ spell n → length (spell n) + n ≤ length text.bytes → view ≡ taken_view text (length (spell n)) n
     → (length view.bytes ≡ n) × (length (view_written view) ≤ length text.bytes) × (text.bytes ≡ view_written view ++ drop (length (view_written view)) text.bytes)
-there text n view at within is =
+view_there text n view at within is =
     let k = length (spell n) in
     let bytes : view.bytes ≡ take n (drop k text.bytes) = ap (λ (v : View). v.bytes) is ∙ bytes-taken_view text k n in
     let len : length view.bytes ≡ n = ap (λ (v : View). length v.bytes) is ∙ length-taken_view text k n within in
@@ -64,7 +64,7 @@ there text n view at within is =
 pub read_and_left : (text rest : MarkedText) (range : RangeCfg) (result : Result View Error) → IsViewRead text range result
     → IfOk result (λ view. rest ≡ text_rest text (length (view_written view))) → IfOk result (λ view. text.bytes ≡ view_written view ++ rest.bytes)
 read_and_left text rest range (Ok view) (n, has, is) left =
-    let (len, fits, whole) = there text n view has.0.0.1 has.1 is in
+    let (len, fits, whole) = view_there text n view has.0.0.1 has.1 is in
     whole ∙ ap (λ xs. view_written view ++ xs) (sym (ap (λ (t : MarkedText). t.bytes) left ∙ bytes-rest text (length (view_written view)) fits))
 read_and_left text rest range (Err error) is left = tt
 
@@ -72,7 +72,7 @@ read_and_left text rest range (Err error) is left = tt
 pub read_in_range : (text : MarkedText) (range : RangeCfg) (result : Result View Error) → IsViewRead text range result
     → IfOk result (λ view. (length view.bytes < 2 ^ 64) × (in_range range (length view.bytes) ≡ true))
 read_in_range text range (Ok view) (n, has, is) =
-    let (len, fits, whole) = there text n view has.0.0.1 has.1 is in
+    let (len, fits, whole) = view_there text n view has.0.0.1 has.1 is in
     let small = has.0.0.0 in
     (omega (arith, len, small), ap (in_range range) len ∙ has.0.1)
 read_in_range text range (Err error) is = tt

@@ -1,18 +1,16 @@
 -- The frames of a text: there is one list of them, and it grows with the text at its end alone.
-use Rattle.std.proofs.Common.{◌≡◌, ◌⊎◌, inl, inr, ℕ, ◌+◌, ◌-◌, ◌^◌, ◌<◌, ◌≤◌, Bool, true, false, Option, None, Some, Result, Ok, Err, IfOk, OnOk, List, [], ◌∷◌, ◌++◌, length, take, drop, ap, sym, subst, ◌∙◌, refl, arith, append_assoc, length-append, take-add}
+use Rattle.std.proofs.Common.{◌≡◌, ◌⊎◌, inl, inr, ℕ, ◌+◌, ◌-◌, ◌^◌, ◌<◌, ◌≤◌, Bool, true, false, Option, None, Some, Result, Ok, Err, IfOk, OnOk, List, [], ◌∷◌, ◌++◌, length, take, drop, ap, sym, subst, ◌∙◌, refl, arith, append_assoc, length-append}
 use Rattle.std.specs.Prelude.{nat_lt}
 use Rattle.std.proofs.Math.Seq.{take-append-add}
 use Rattle.std.proofs.lemmas.Bool.{ltb-true, ltb-false}
-use Rattle.std.proofs.lemmas.Bool.Decides.{nat_tests}
-use Rattle.std.proofs.lemmas.Grind.{common_steps}
-use Rattle.std.proofs.lemmas.List.{append_cancel_left, append-nil, map-append, length-drop, length-take, length-take-le, take-append-drop, take_at, take-append-le}
+use Rattle.std.proofs.lemmas.List.{append-nil, map-append, length-take, take-append-le}
+use Rattle.iobufs_core.specs.CallerFacts.{one_front, read_and_left, read_in_range, view_there}
 use Rattle.iobufs_core.specs.Ranges.{in_range}
 use Rattle.iobufs_core.specs.Spelled.{length-spell, none_high, spelled, spelled_as_one, spelled_before, spelled_front}
 use Rattle.iobufs_core.specs.Spelling.{spell, IsSpelledAt, IsSpelling, AreHigh, HasNoLength, IsOpen}
 use Rattle.iobufs_core.specs.View.{View}
-use Rattle.iobufs_core.specs.MarkedText.{MarkedText, taken_view, text_append, text_rest, text_right}
-use Rattle.iobufs_core.specs.ReadBytes.{bytes-taken_view}
-use Rattle.iobufs_core.specs.Wire.{HasView, IsLengthRead, IsViewRead, bytes_written, view_written}
+use Rattle.iobufs_core.specs.MarkedText.{MarkedText, taken_view, text_append, text_rest}
+use Rattle.iobufs_core.specs.Wire.{HasView, IsViewRead, bytes_written, view_written}
 use Rattle.iobufs_core.specs.declared.codec.base.Error.{Error}
 use Rattle.iobufs_core.specs.declared.codec.base.Error.TheVariants.{EndOfBuffer, InvalidVarint, InvalidLength, Memory, BadLayout, TooLong}
 use Rattle.iobufs_core.specs.declared.codec.base.RangeCfg.{RangeCfg}
@@ -104,18 +102,6 @@ stands range body more (Bad error) small inside h =
       | inr out ↦ not_both range (bytes_written body ++ more) (length body) out.0 at inside out.2 out.3
     ]
 
--- two frames in front are one
-one_front : (a b x y : List ℕ) → length a < 2 ^ 64 → length b < 2 ^ 64 → bytes_written a ++ x ≡ bytes_written b ++ y → (a ≡ b) × (x ≡ y)
-one_front a b x y p q e =
-    let at = spelled_in_front a x p in
-    let at' : IsSpelledAt (bytes_written a ++ x) (length b) = subst (λ (xs : List ℕ). IsSpelledAt xs (length b)) (sym e) (spelled_in_front b y q) in
-    let same : length a ≡ length b = spelled_as_one (bytes_written a ++ x) (length a) (length b) at at' in
-    let whole : spell (length a) ++ (a ++ x) ≡ spell (length a) ++ (b ++ y) =
-    sym (append_assoc (spell (length a)) a x) ∙ e ∙ append_assoc (spell (length b)) b y ∙ ap (λ k. spell k ++ (b ++ y)) (sym same) in
-    let behind : a ++ x ≡ b ++ y = append_cancel_left (spell (length a)) (a ++ x) (b ++ y) whole in
-    let first : a ≡ b = sym (take_at a x (length a) refl) ∙ ap (take (length a)) behind ∙ take_at b y (length a) (sym same) in
-    (first, append_cancel_left a x y (behind ∙ ap (λ xs. xs ++ y) (sym first)))
-
 -- ---- one list of frames
 
 pub framed_once : (range : RangeCfg) (text : List ℕ) (fs gs : List (List ℕ)) (a b : End) (x y : List ℕ)
@@ -203,47 +189,19 @@ stays_bad range bytes more TooLong h = absurd h
 
 -- ---- one frame taken
 
-bytes-rest : (t : MarkedText) (n : ℕ) → (text_rest t n).bytes ≡ drop n t.bytes
-unfolding text_right
-bytes-rest t n = grind (arith, nat_tests, common_steps)
-
--- a length and so many bytes behind it are a frame in front
-in_front : (range : RangeCfg) (bytes : List ℕ) (n : ℕ) (body : List ℕ) → IsLengthRead bytes range (Ok n) → length (spell n) + n ≤ length bytes → body ≡ take n (drop (length (spell n)) bytes)
-    → (length body ≡ n) × (bytes ≡ bytes_written body ++ drop (length (bytes_written body)) bytes)
-in_front range bytes n body read within taken =
-    let k = length (spell n) in
-    let behind = drop k bytes in
-    let left : n ≤ length behind = omega (arith, length-drop k bytes) in
-    let len : length body ≡ n = ap (λ (xs : List ℕ). length xs) taken ∙ length-take-le n behind left in
-    let long : k + n ≡ length (bytes_written body) =
-    let spelled : k ≡ length (spell (length body)) = ap (λ m. length (spell m)) (sym len) in omega (arith, length-append (spell (length body)) body) in
-    let front : take (k + n) bytes ≡ bytes_written body =
-    take-add k n bytes ∙ ap (λ xs. xs ++ take n behind) read.0.1 ∙ ap (λ xs. spell n ++ xs) (sym taken) ∙ ap (λ m. spell m ++ body) (sym len) in
-    let whole : bytes ≡ take (k + n) bytes ++ drop (k + n) bytes = sym (take-append-drop (k + n) bytes) in
-    (len, whole ∙ ap (λ xs. xs ++ drop (k + n) bytes) front ∙ ap (λ m. bytes_written body ++ drop m bytes) long)
-
 -- a view that finds no memory is a frame with bytes
 wanted : (range : RangeCfg) (t : MarkedText) (n : ℕ) → HasView t range n → 0 < n → HasBytes range t.bytes
 wanted range t n has some =
-    let body = take n (drop (length (spell n)) t.bytes) in
-    let (len, whole) = in_front range t.bytes n body has.0 has.1 refl in
+    let view = taken_view t (length (spell n)) n in
+    let (len, fits, whole) = view_there t n view has.0.0.1 has.1 refl in
     let small = has.0.0.0 in
-    (body, drop (length (bytes_written body)) t.bytes, (omega arith, ap (in_range range) len ∙ has.0.1, tt), whole, omega arith)
-
--- what is read is the frame in front
-front_taken : (range : RangeCfg) (t : MarkedText) (view : View) (n : ℕ) → HasView t range n → view ≡ taken_view t (length (spell n)) n
-    → (length view.bytes ≡ n) × (t.bytes ≡ bytes_written view.bytes ++ drop (length (bytes_written view.bytes)) t.bytes)
-front_taken range t view n has is =
-    in_front range t.bytes n view.bytes has.0 has.1 (ap (λ (v : View). v.bytes) is ∙ bytes-taken_view t (length (spell n)) n)
+    (view.bytes, drop (length (view_written view)) t.bytes, (omega arith, ap (in_range range) len ∙ has.0.1, tt), whole, omega arith)
 
 next_by_reading : (range : RangeCfg) (t new : MarkedText) (read : Result View Error) → IsViewRead t range read
     → IfOk read (λ view. new ≡ text_rest t (length (view_written view))) → IsNext range t.bytes (found_of read) new.bytes
 next_by_reading range t new (Ok view) h left =
-    let (len, whole) = front_taken range t view h.0 h.1 h.2 in (
-      let small = h.1.0.0.0 in omega arith,
-      ap (in_range range) len ∙ h.1.0.1,
-      whole ∙ ap (λ xs. bytes_written view.bytes ++ xs) (sym (ap (λ (x : MarkedText). x.bytes) left ∙ bytes-rest t (length (view_written view)))),
-    )
+    let (small, inside) = read_in_range t range (Ok view) h in
+    (small, inside, read_and_left t new range (Ok view) h left)
 next_by_reading range t new (Err EndOfBuffer) h left = h
 next_by_reading range t new (Err InvalidVarint) h left = h
 next_by_reading range t new (Err (InvalidLength n)) h left = h
