@@ -1,5 +1,5 @@
 -- A session with the owner machine, line by line.
-use Rattle.std.proofs.Common.{◌≡◌, ◌⊎◌, inl, inr, ℕ, ◌+◌, List, [], ◌∷◌, ◌++◌, map, flat_map, length, length-append, append-nil, Bool, true, false, Option, Some, None, Result, Ok, Err, refl, sym, ap, subst, ◌∙◌, arith, codes, IfSome}
+use Rattle.std.proofs.Common.{◌≡◌, inl, inr, ℕ, ◌+◌, List, [], ◌∷◌, ◌++◌, map, flat_map, length-append, append-nil, true, false, Option, Some, None, Ok, Err, refl, sym, ap, subst, ◌∙◌, arith, codes, IfSome}
 use Rattle.std.proofs.lemmas.List.{flat_map_more}
 use Rattle.std.specs.Io.KnownBytes.{Keeps}
 use Rattle.std.specs.Str.Lines.{lines}
@@ -7,7 +7,7 @@ use Rattle.iobufs_owner.specs.Promises.{Promises}
 use Rattle.iobufs_owner.specs.State.{Seen}
 use Rattle.iobufs_owner_lines.proofs.Stepped.{answered_more, promised_after}
 use Rattle.iobufs_owner_lines.specs.declared.line.Ask.{Ask}
-use Rattle.iobufs_owner_lines.specs.Said.{ask_of, setup_of}
+use Rattle.iobufs_owner_lines.specs.Said.{ask_of}
 use Rattle.iobufs_owner_lines.specs.Session.{Answered, AreAnswered, line_of}
 use Rattle.iobuf.specs.declared.serve.Stop.{Stop}
 use Rattle.iobuf.specs.declared.serve.Stop.TheVariants.{BadCommand, CannotContinue}

@@ -1,11 +1,13 @@
 -- A session with an owner machine: what it reads, and what it prints.
-use Rattle.std.specs.Prelude.{◌≡◌, ℕ, ◌+◌, List, [], ◌++◌, codes, Option, Some, None, Result, Ok, Err, ⊤}
+use Rattle.std.specs.Prelude.{◌≡◌, ℕ, ◌+◌, List, ◌++◌, codes, Option, Some, None, Result, Ok, Err, OnOk, ⊤}
+use Rattle.std.specs.Io.KnownBytes.{Appends}
 use Rattle.iobufs_owner.specs.Promises.{Promises}
 use Rattle.iobufs_owner.specs.State.{Seen}
 use Rattle.iobufs_owner_lines.specs.declared.line.Ask.{Ask}
 use Rattle.iobufs_owner_lines.specs.declared.line.Setup.{Setup}
 use Rattle.iobufs_owner_lines.specs.Said.{ask_of, setup_of}
 use Rattle.iobufs_owner_lines.specs.Session.{AllAnswered, AnsweredUpTo, Answers, line_of, machine_of}
+use Rattle.iobuf.specs.Session.{stop_line}
 use Rattle.iobuf.specs.declared.serve.Stop.{Stop}
 use Rattle.iobuf.specs.declared.serve.Stop.TheVariants.{BadCommand, CannotContinue}
 
@@ -29,8 +31,14 @@ ServesMachine input before written (Ok done) = AllAnswered input before written
 ServesMachine input before written (Err (BadCommand number)) = (count : ℕ) × (number ≡ count + 1) × AnsweredUpTo count input before written
 ServesMachine input before written (Err CannotContinue) = ⊤
 
--- the same by the status
+-- by the status
 abbrev pub HasMachineStatus : (input before : List ℕ) → (written : Option (List ℕ)) → (status : ℕ) → Type 0
 HasMachineStatus input before written status =
     (status ≡ 0 → AllAnswered input before written)
     × (status ≡ 2 → (count : ℕ) × AnsweredUpTo count input before written)
+
+-- with status 2, what is told is the number of the line that asks nothing, which is one more than were answered
+abbrev pub HasMachineTold : {E : Type 0} → (input before : List ℕ) → (written old new : Option (List ℕ)) → (status : ℕ) → Result (Unit {0}) E → Type 0
+HasMachineTold input before written old new status told =
+    status ≡ 2 → (number : ℕ) × (count : ℕ) × (number ≡ count + 1) × AnsweredUpTo count input before written
+    × OnOk told (Appends old new (stop_line (BadCommand number)))
