@@ -1,3 +1,4 @@
+pub mod Halves
 pub mod Lines
 pub mod MachineSession
 pub mod Session

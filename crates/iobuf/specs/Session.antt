@@ -59,6 +59,12 @@ stop_text CannotContinue = codes "cannot continue"
 abbrev pub stop_line : Stop → List ℕ
 stop_line stop = stop_text stop ++ codes "\n"
 
+-- a session ends by its status: with 0 it was served to its end; with 2 it stopped at a line, whose number is told
+abbrev pub EndsBy : {E : Type 0} → (served : Result (Unit {0}) Stop) → (status : ℕ) → (old new : Option (List ℕ)) → (told : Result (Unit {0}) E) → Type 0
+EndsBy served status old new told =
+    (status ≡ 0 → served ≡ Ok tt)
+    × (status ≡ 2 → (number : ℕ) × (served ≡ Err (BadCommand number)) × OnOk told (Appends old new (stop_line (BadCommand number))))
+
 -- with status 2, what is told is the number of the line that says no command, which is one more than were answered
 abbrev pub HasTold : {E : Type 0} → List ℕ → List ℕ → Option (List ℕ) → Option (List ℕ) → Option (List ℕ) → ℕ → Result (Unit {0}) E → Type 0
 HasTold input before written old new status told =

@@ -1,7 +1,9 @@
 // The program, over any reader and writers.
-ghost use Rattle.std.specs.Prelude.{◌≡◌, ◌≢◌, [], ◌∷◌, codes, map, Some, IfSome, OnOk};
-ghost use Rattle.iobuf.specs.Session.{HasStatus, HasTold, stop_line};
-ghost use Rattle.std.specs.Io.KnownBytes.{Appends};
+ghost use Rattle.std.specs.Prelude.{◌≡◌, ◌≢◌, [], ◌∷◌, codes, map, Some, IfNone, IfSome, OnOk};
+ghost use Rattle.std.specs.Io.KnownBytes.{Appends, Keeps};
+ghost use Rattle.iobuf.specs.MachineSession.{HasMachineStatus, HasMachineTold};
+ghost use Rattle.iobuf.specs.Halves.{word_of};
+ghost use Rattle.iobuf.specs.Session.{EndsBy, HasStatus, HasTold, stop_line};
 
 mod buffers;
 mod machine;
@@ -12,6 +14,13 @@ use std::fmt;
 use std::io::{self, Read, Write};
 
 const USAGE: &[u8] = b"usage: iobuf buf or iobuf owner\n";
+
+// The two halves of the program.
+#[derive(Clone, Copy, Drop)]
+enum Half {
+    Buffers,
+    Machine,
+}
 
 /// Why the program ends before the end of its input.
 #[derive(Drop)]
@@ -80,15 +89,78 @@ pub fn session<R: Read + Drop, W: Write, E: Write>(
     ensures told { map (λ arg. arg.now) args.now ≡ codes "buf" ∷ [] → IfSome (R.remaining input) (λ read.
         IfSome (W.contents output.old) (λ before.
         HasTold read before (W.contents output.new) (E.contents errors.old) (E.contents errors.new) result.0 result.1)) }
+    ensures machine { map (λ arg. arg.now) args.now ≡ codes "owner" ∷ [] → IfSome (R.remaining input) (λ read.
+        IfSome (W.contents output.old) (λ before. HasMachineStatus read before (W.contents output.new) result.0)) }
+    ensures told_of_machine { map (λ arg. arg.now) args.now ≡ codes "owner" ∷ [] → IfSome (R.remaining input) (λ read.
+        IfSome (W.contents output.old) (λ before.
+        HasMachineTold read before (W.contents output.new) (E.contents errors.old) (E.contents errors.new) result.0 result.1)) }
     ensures usage { map (λ arg. arg.now) args.now ≢ codes "buf" ∷ [] → map (λ arg. arg.now) args.now ≢ codes "owner" ∷ []
         → (result.0 ≡ 2) × (output.new ≡ output.old) }
     ensures silent { result.0 ≡ 0 → errors.new ≡ errors.old }
 {
-    let served = match args {
-        ["buf"] => buffers::serve(alloc, input, output),
-        ["owner"] => machine::serve(alloc, input, output),
-        _ => return (tell_usage(errors), Ok(())),
-    };
+    match half_of(args) {
+        Some(Half::Buffers) => with_buffers(alloc, input, output, errors),
+        Some(Half::Machine) => with_machine(alloc, input, output, errors),
+        None => (tell_usage(errors), Ok(())),
+    }
+}
+
+// The half that the words behind the program's name ask for.
+fn half_of(args: &[&str]) -> Option<Half>
+    ensures asks { IfSome result (λ half. map (λ arg. arg.now) args.now ≡ word_of half ∷ []) }
+    ensures none { IfNone result ((map (λ arg. arg.now) args.now ≢ codes "buf" ∷ []) × (map (λ arg. arg.now) args.now ≢ codes "owner" ∷ [])) }
+{
+    match args {
+        ["buf"] => Some(Half::Buffers),
+        ["owner"] => Some(Half::Machine),
+        _ => None,
+    }
+}
+
+// A session with named buffers.
+fn with_buffers<R: Read + Drop, W: Write, E: Write>(
+    alloc: Global,
+    input: R,
+    output: &mut W,
+    errors: &mut E,
+) -> (u8, io::Result<()>)
+    ensures status { IfSome (R.remaining input) (λ read.
+        IfSome (W.contents output.old) (λ before. HasStatus read before (W.contents output.new) result.0)) }
+    ensures told { IfSome (R.remaining input) (λ read. IfSome (W.contents output.old) (λ before.
+        HasTold read before (W.contents output.new) (E.contents errors.old) (E.contents errors.new) result.0 result.1)) }
+    ensures silent { result.0 ≡ 0 → errors.new ≡ errors.old }
+{
+    let served = buffers::serve(alloc, input, output);
+    end(served, output, errors)
+}
+
+// A session with an owner machine.
+fn with_machine<R: Read + Drop, W: Write, E: Write>(
+    alloc: Global,
+    input: R,
+    output: &mut W,
+    errors: &mut E,
+) -> (u8, io::Result<()>)
+    ensures status { IfSome (R.remaining input) (λ read.
+        IfSome (W.contents output.old) (λ before. HasMachineStatus read before (W.contents output.new) result.0)) }
+    ensures told { IfSome (R.remaining input) (λ read. IfSome (W.contents output.old) (λ before.
+        HasMachineTold read before (W.contents output.new) (E.contents errors.old) (E.contents errors.new) result.0 result.1)) }
+    ensures silent { result.0 ≡ 0 → errors.new ≡ errors.old }
+{
+    let served = machine::serve(alloc, input, output);
+    end(served, output, errors)
+}
+
+// Sends off the last replies, and tells why a session ended early.
+fn end<W: Write, E: Write>(
+    served: Result<(), Stop>,
+    output: &mut W,
+    errors: &mut E,
+) -> (u8, io::Result<()>)
+    ensures same { Keeps (W.contents output.old) (W.contents output.new) }
+    ensures by { EndsBy served result.0 (E.contents errors.old) (E.contents errors.new) result.1 }
+    ensures silent { result.0 ≡ 0 → errors.new ≡ errors.old }
+{
     let flushed = output.flush().map_err(|_| Stop::CannotContinue);
     match flushed.and(served) {
         Ok(()) => (0, Ok(())),
@@ -107,6 +179,8 @@ pub fn serve<R: Read + Drop, W: Write, E: Write>(
 ) -> u8
     ensures buffers { map (λ arg. arg.now) args.now ≡ codes "buf" ∷ [] → IfSome (R.remaining input) (λ read.
         IfSome (W.contents output.old) (λ before. HasStatus read before (W.contents output.new) result)) }
+    ensures machine { map (λ arg. arg.now) args.now ≡ codes "owner" ∷ [] → IfSome (R.remaining input) (λ read.
+        IfSome (W.contents output.old) (λ before. HasMachineStatus read before (W.contents output.new) result)) }
     ensures usage { map (λ arg. arg.now) args.now ≢ codes "buf" ∷ [] → map (λ arg. arg.now) args.now ≢ codes "owner" ∷ []
         → (result ≡ 2) × (output.new ≡ output.old) }
     ensures silent { result ≡ 0 → errors.new ≡ errors.old }
@@ -131,5 +205,15 @@ pub fn in_memory(alloc: Global, input: &[u8]) -> (u8, Vec<u8>)
     let mut output = Vec::new(alloc);
     let mut errors = Vec::new(alloc);
     let status = serve(alloc, &["buf"], input, &mut output, &mut errors);
+    (status, output)
+}
+
+/// The same of a session with an owner machine.
+pub fn machine_in_memory(alloc: Global, input: &[u8]) -> (u8, Vec<u8>)
+    ensures { HasMachineStatus input.now [] (Some result.1.items) result.0 }
+{
+    let mut output = Vec::new(alloc);
+    let mut errors = Vec::new(alloc);
+    let status = serve(alloc, &["owner"], input, &mut output, &mut errors);
     (status, output)
 }

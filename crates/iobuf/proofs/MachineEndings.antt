@@ -1,0 +1,60 @@
+-- How a session with an owner machine ends: by its status, and by what is told.
+use Rattle.std.proofs.Common.{◌≡◌, inl, inr, ℕ, ◌+◌, List, Option, Some, None, Result, Ok, Err, sym, ap, subst, ◌∙◌, IfSome}
+use Rattle.std.specs.Io.KnownBytes.{Keeps}
+use Rattle.iobufs_owner_lines.specs.Session.{AllAnswered, AnsweredUpTo}
+use Rattle.iobuf.specs.MachineSession.{HasMachineStatus, HasMachineTold, ServesMachine}
+use Rattle.iobuf.specs.Session.{EndsBy}
+use Rattle.iobuf.specs.declared.serve.Stop.{Stop}
+use Rattle.iobuf.specs.declared.serve.Stop.TheVariants.{BadCommand}
+
+-- contents that are known stay as they are
+same : (old new : Option (List ℕ)) (bytes : List ℕ) → old ≡ Some bytes → Keeps old new → old ≡ new
+same old new bytes e keeps = e ∙ kept new (subst (λ (o : Option (List ℕ)). Keeps o new) e keeps)
+  where
+    kept : (new : Option (List ℕ)) → Keeps (Some bytes) new → Some bytes ≡ new
+    kept (Some ys) k = sym (ap Some k)
+    kept None k = elim k [ ]
+
+all_kept : (input before : List ℕ) (written new : Option (List ℕ)) → AllAnswered input before written → Keeps written new → AllAnswered input before new
+all_kept input before written new all keeps =
+    elim all [
+      | inl none ↦ subst (λ (w : Option (List ℕ)). AllAnswered input before w) (same written new _ none.prints keeps) (inl none)
+      | inr some ↦ subst (λ (w : Option (List ℕ)). AllAnswered input before w) (same written new _ some.1.prints keeps) (inr some)
+    ]
+
+upto_kept : (count : ℕ) (input before : List ℕ) (written new : Option (List ℕ)) → AnsweredUpTo count input before written → Keeps written new → AnsweredUpTo count input before new
+upto_kept count input before written new upto keeps =
+    elim upto [
+      | inl none ↦ subst (λ (w : Option (List ℕ)). AnsweredUpTo count input before w) (same written new _ none.1.prints keeps) (inl none)
+      | inr some ↦ subst (λ (w : Option (List ℕ)). AnsweredUpTo count input before w) (same written new _ some.1.prints keeps) (inr some)
+    ]
+
+at_end : (input before : List ℕ) (written new : Option (List ℕ)) (served : Result (Unit {0}) Stop) → ServesMachine input before written served → served ≡ Ok tt → Keeps written new → AllAnswered input before new
+at_end input before written new served is e keeps = all_kept input before written new (subst (λ (r : Result (Unit {0}) Stop). ServesMachine input before written r) e is) keeps
+
+at_stop : (input before : List ℕ) (written new : Option (List ℕ)) (served : Result (Unit {0}) Stop) (number : ℕ) → ServesMachine input before written served → served ≡ Err (BadCommand number) → Keeps written new
+    → (count : ℕ) × (number ≡ count + 1) × AnsweredUpTo count input before new
+at_stop input before written new served number is e keeps =
+    let (count, next, upto) = subst (λ (r : Result (Unit {0}) Stop). ServesMachine input before written r) e is in
+    (count, next, upto_kept count input before written new upto keeps)
+
+pub status_of : {E : Type 0} (read told written new : Option (List ℕ)) (served : Result (Unit {0}) Stop) (status : ℕ) (errors after : Option (List ℕ)) (said : Result (Unit {0}) E)
+    → IfSome read (λ input. IfSome told (λ before. ServesMachine input before written served)) → Keeps written new → EndsBy served status errors after said
+    → IfSome read (λ input. IfSome told (λ before. HasMachineStatus input before new status))
+status_of (Some input) (Some before) written new served status errors after said is keeps ends = (
+  λ zero. at_end input before written new served is (ends.0 zero) keeps,
+  λ two.
+      let (number, e, tells) = ends.1 two in
+      let (count, next, upto) = at_stop input before written new served number is e keeps in (count, upto),
+)
+status_of (Some input) None written new served status errors after said is keeps ends = tt
+status_of None told written new served status errors after said is keeps ends = tt
+
+pub told_of : {E : Type 0} (read told written new : Option (List ℕ)) (served : Result (Unit {0}) Stop) (status : ℕ) (errors after : Option (List ℕ)) (said : Result (Unit {0}) E)
+    → IfSome read (λ input. IfSome told (λ before. ServesMachine input before written served)) → Keeps written new → EndsBy served status errors after said
+    → IfSome read (λ input. IfSome told (λ before. HasMachineTold input before new errors after status said))
+told_of (Some input) (Some before) written new served status errors after said is keeps ends = λ two.
+    let (number, e, tells) = ends.1 two in
+    let (count, next, upto) = at_stop input before written new served number is e keeps in (number, count, next, upto, tells)
+told_of (Some input) None written new served status errors after said is keeps ends = tt
+told_of None told written new served status errors after said is keeps ends = tt
