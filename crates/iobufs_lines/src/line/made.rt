@@ -12,7 +12,7 @@ use std::alloc::Global;
 // What a static view is made of.
 const LETTERS: &[u8] = b"abcdefghijklmnopqrstuvwxyz";
 
-// The command of a line with this first word, and these words behind it.
+/// The command of a line with this first word, and these words behind it.
 pub fn command(alloc: Global, verb: &str, words: &mut Words<'_>) -> Result<Cmd, LineError>
     ensures ok { IfOk result (λ cmd. made_by verb.now words.old ≡ Some (plain cmd)) }
     ensures err { IfErr result (λ error. (error ≡ LineError.Memory) ⊎ (made_by verb.now words.old ≡ None)) }

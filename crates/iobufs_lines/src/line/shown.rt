@@ -7,7 +7,7 @@ use crate::shapes::one;
 use iobufs_run::command::Cmd;
 use iobufs_words::words::{LineError, Words};
 
-// The command of a line with this first word, and these words behind it.
+/// The command of a line with this first word, and these words behind it.
 pub fn command(verb: &str, words: &mut Words<'_>) -> Result<Cmd, LineError>
     ensures ok { IfOk result (λ cmd. shown_by verb.now words.old ≡ Some (plain cmd)) }
     ensures err { IfErr result (λ error. (error ≡ LineError.NoCommand) × (shown_by verb.now words.old ≡ None)) }

@@ -9,7 +9,7 @@ use iobufs_run::command::Cmd;
 use iobufs_words::words::{LineError, Words};
 use std::alloc::Global;
 
-// The command of a line with this first word, and these words behind it.
+/// The command of a line with this first word, and these words behind it.
 pub fn command(alloc: Global, verb: &str, words: &mut Words<'_>) -> Result<Cmd, LineError>
     ensures ok { IfOk result (λ cmd. joined_by verb.now words.old ≡ Some (plain cmd)) }
     ensures err { IfErr result (λ error. (error ≡ LineError.Memory) ⊎ (joined_by verb.now words.old ≡ None)) }
