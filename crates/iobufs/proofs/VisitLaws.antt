@@ -2,7 +2,11 @@
 use Rattle.std.proofs.Common.{List, [], ◌∷◌, ◌++◌, subst, sym, refl}
 use Rattle.std.specs.List.{FoldsTo}
 
+-- calls on some elements, and then on others
+pub folds-append : {P A : Type 0} (R : P → A → P → Type 0) (p : P) (xs : List A) (q : P) (ys : List A) (u : P) → FoldsTo R p xs q → FoldsTo R q ys u → FoldsTo R p (xs ++ ys) u
+folds-append R p [] q ys u e on = subst (λ k. FoldsTo R k ys u) (sym e) on
+folds-append R p (x ∷ xs) q ys u h on = (h.0, h.1, folds-append R h.0 xs q ys u h.2 on)
+
 -- one call more
 pub one_more : {P A : Type 0} (R : P → A → P → Type 0) (p : P) (xs : List A) (q : P) (x : A) (u : P) → FoldsTo R p xs q → R q x u → FoldsTo R p (xs ++ x ∷ []) u
-one_more R p [] q x u e called = (u, subst (λ k. R k x u) (sym e) called, refl)
-one_more R p (y ∷ ys) q x u h called = (h.0, h.1, one_more R h.0 ys q x u h.2 called)
+one_more R p xs q x u h called = folds-append R p xs q (x ∷ []) u h (u, called, refl)

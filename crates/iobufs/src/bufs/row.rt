@@ -127,24 +127,22 @@ impl Row {
         ensures refused { OnErr result (self.new.views ≡ self.old.views) }
         ensures handed_back { IfErr result (λ e. e.value ≡ piece) }
     {
-        let end = self.base.wrapping_add((self.len() + piece.len()) as u64);
-        if let Err(refused) = self.pieces.push_back(Piece { view: piece, end }) {
-            return Err(AllocFailed {
-                value: refused.value.view,
-            });
+        if self.pieces.try_reserve(1).is_err() {
+            return Err(AllocFailed { value: piece });
         }
+        self.push_back_reserved(piece);
         Ok(())
     }
 
     /// Shows the bytes of each piece, in order.
-    pub(super) fn for_each<F: FnMut(&[u8])>(&self, mut visit: F)
+    pub(super) fn for_each<F: FnMut(&[u8])>(&self, visit: F)
         requires { F.IsAlwaysCallable visit }
         ensures { (last : F)
             × FoldsTo (λ before chunk after. CalledAt F.FnMut before chunk tt after) visit (map (λ view. view.bytes) self.now.views) last }
     {
-        for piece in &self.pieces {
-            visit(piece.view.as_ref());
-        }
+        let (front, behind) = self.pieces.as_slices();
+        let visit = show(front, visit);
+        show(behind, visit);
     }
 
     /// Puts a piece behind the others; an empty one changes nothing.
@@ -180,12 +178,11 @@ impl Row {
     {
         let _len = self.len();
         let base = self.base.wrapping_sub(piece.len() as u64);
-        let end = self.base;
-        if let Err(refused) = self.pieces.push_front(Piece { view: piece, end }) {
-            return Err(AllocFailed {
-                value: refused.value.view,
-            });
+        if self.pieces.try_reserve(1).is_err() {
+            return Err(AllocFailed { value: piece });
         }
+        let end = self.base;
+        self.pieces.push_front_reserved(Piece { view: piece, end });
         self.base = base;
         Ok(())
     }
@@ -403,6 +400,18 @@ fn front_of(row: &VecDeque<Piece>, place: Located) -> Result<IoBuf, BufError>
     piece
         .view
         .slice(Bound::Unbounded, Bound::Excluded(place.offset))
+}
+
+// Shows the bytes of each piece, in order, and hands the closure back.
+fn show<F: FnMut(&[u8])>(pieces: &[Piece], mut visit: F) -> F
+    requires { F.IsAlwaysCallable visit }
+    ensures callable { F.IsAlwaysCallable result }
+    ensures shown { FoldsTo (λ before chunk after. CalledAt F.FnMut before chunk tt after) visit (map (λ piece. piece.view.bytes) pieces.now) result }
+{
+    for piece in pieces {
+        visit(piece.view.as_ref());
+    }
+    visit
 }
 
 // Drops bytes of the first piece, which has more.

@@ -1,14 +1,6 @@
-use Rattle.std.proofs.Common.{◌+◌, ◌%◌, ◌^◌, sym, subst, ap, ◌∙◌, arith, length}
+use Rattle.std.proofs.Common.{sym, subst}
 use Rattle.iobufs.specs.Ends.{IsRow}
-use Rattle.iobufs.specs.Pieces.{pieces_bytes}
-use Rattle.iobufs.specs.RowValues.{ViewRow}
-use Rattle.iobufs.proofs.EndLaws.{row-push}
 use Rattle.iobufs.proofs.bufs.row.Row.push_back.Goals as goal
 
 pub invariant_of-self : goal.invariant_of-self
-invariant_of-self c = subst (IsRow c.self.inside.base) (sym c.in-Err.ensures.items) c.self.invariant
-
-pub invariant_of-self-2 : goal.invariant_of-self-2
-invariant_of-self-2 c =
-    let n = ap (λ (r : ViewRow). length (pieces_bytes r.views)) c.self.view_is in
-    row-push c.self.inside.base _ _ _ c.args.piece c.self.invariant c.requires.some (omega (arith, c.requires.fits)) (λ i. (c.self.inside.base + ((c.len.ensures.value ∙ sym n) i + c.len-2.ensures.value i)) % 2 ^ 64) c.in_default.ensures.items
+invariant_of-self c = subst (IsRow c.self.inside.base) (sym c.try_reserve.ensures.items) c.self.invariant

@@ -1,0 +1,12 @@
+use Rattle.std.proofs.Common.{map, take}
+use denote.Param.Always.{always_mut}
+use Rattle.std.specs.Fn.{CalledAt}
+use Rattle.std.specs.List.{FoldsTo}
+use Rattle.iobufs.specs.declared.bufs.row.Piece.{Piece}
+use Rattle.iobufs.proofs.bufs.row.show.Given as goal
+
+-- the closure was called on the pieces so far
+abbrev pub invariant-loop-piece : goal.invariant-loop-piece
+invariant-loop-piece g l =
+    always_mut g.F.FnMut l.visit
+    × FoldsTo (λ before chunk after. CalledAt g.F.FnMut before chunk tt after) l.initial.visit (map (λ (piece : Piece). piece.view.bytes) (take l.piece-index l.pieces)) l.visit
