@@ -58,6 +58,13 @@ ends text i value place b so e low some small =
     let is = so.completes (b ∷ []) b (low, refl) some in
     read_off text (i + 1) (value + place * b) (omega arith) small (subst (λ xs. IsSpelling xs (value + place * b)) (sym take_is) is)
 
+-- a first byte below 128 is a whole spelling
+pub one_byte : (text : List ℕ) (b : ℕ) → slice_get text 0 ≡ Some b → b < 128 → IsSpelledAt text b × (1 ≡ length (spell b))
+one_byte text b e low =
+    let take_is = next_byte text 0 b e in
+    let within = slice_get_within text 0 b e in
+    read_off text 1 b (omega arith) (omega arith) (subst (λ xs. IsSpelling xs b) (sym take_is) (low, refl))
+
 -- numbers stay small for nine bytes
 pub small : (text : List ℕ) (i value place b : ℕ) → IsSoFar text i value place → i ≤ 8 → b ≤ 127 → (place ≤ 2 ^ 56) × (place * b < 2 ^ 63) × (value + place * b < 2 ^ 63)
 small text i value place b so h low =

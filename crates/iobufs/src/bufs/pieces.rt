@@ -245,7 +245,7 @@ impl Pieces {
         if place.index < behind {
             return Ok(Pieces::Many(row.split_left(alloc, place, at)?));
         }
-        Ok(Pieces::Many(row.split_right(alloc, place, at)?))
+        Ok(Pieces::Many(row.split_right(place, at)?))
     }
 
     pub(super) fn push_back(

@@ -355,23 +355,17 @@ impl Row {
     }
 
     /// The same, with room for the pieces from the place on.
-    pub(super) fn split_right(
-        &mut self,
-        alloc: Global,
-        place: Located,
-        at: usize,
-    ) -> Result<Row, BufError>
+    pub(super) fn split_right(&mut self, place: Located, at: usize) -> Result<Row, BufError>
         requires place { IsPlace self.old.views at place.index place.offset }
         ensures answer { IfOk result (λ front. front.views ≡ left_pieces self.old.views at) }
         ensures left { OnOk result (self.new.views ≡ right_pieces self.old.views at) }
         ensures refused { OnErr result (self.new.views ≡ self.old.views) }
         ensures memory { IsOkUnless result BufError.Memory }
     {
-        let count = self.count() - place.index;
-        let mut pieces = VecDeque::with_capacity(alloc, count)?;
+        let _count = self.count();
         let inside = front_of(&self.pieces, place)?;
         let base = self.base.wrapping_add(at as u64);
-        move_back(&mut self.pieces, &mut pieces, count);
+        let mut pieces = self.pieces.split_off(place.index)?;
         cut(&mut self.pieces, &mut pieces, inside, place.offset, base);
         Ok(mem::replace(self, Row { base, pieces }))
     }
@@ -473,20 +467,6 @@ fn move_front(row: &mut VecDeque<Piece>, front: &mut VecDeque<Piece>, count: usi
 {
     for _ in 0..count {
         front.push_back_reserved(row.pop_front().unwrap());
-    }
-}
-
-// Moves the last pieces from one row to the front of the other.
-fn move_back(row: &mut VecDeque<Piece>, back: &mut VecDeque<Piece>, count: usize)
-    requires some { count ≤ deque_len row.old }
-    requires room { deque_len back.old + count ≤ deque_capacity back.old }
-    ensures moved { back.new.items ≡ drop (deque_len row.old - count) row.old.items ++ back.old.items }
-    ensures left { row.new.items ≡ take (deque_len row.old - count) row.old.items }
-    ensures len { deque_len row.new + count ≡ deque_len row.old }
-    ensures capacity { deque_capacity row.new ≡ deque_capacity row.old }
-{
-    for _ in 0..count {
-        back.push_front_reserved(row.pop_back().unwrap());
     }
 }
 

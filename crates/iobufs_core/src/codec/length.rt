@@ -61,6 +61,23 @@ fn length_at<B: Buf>(buf: &B) -> Result<Spelled, Error>
     ensures ok { IfOk result (λ s. IsSpelledAt (B.text buf.now) s.value × (s.len ≡ length (spell s.value))) }
     ensures err { IfErr result (IsNoLength (B.text buf.now)) }
 {
+    if let Some(byte) = buf.byte_at(0) {
+        if byte < 128 {
+            return Ok(Spelled {
+                value: usize::from(byte),
+                len: 1,
+            });
+        }
+    }
+    long_length_at(buf)
+}
+
+// The same byte by byte: apart, since most lengths have one byte.
+#[inline(never)]
+fn long_length_at<B: Buf>(buf: &B) -> Result<Spelled, Error>
+    ensures ok { IfOk result (λ s. IsSpelledAt (B.text buf.now) s.value × (s.len ≡ length (spell s.value))) }
+    ensures err { IfErr result (IsNoLength (B.text buf.now)) }
+{
     let mut value = 0usize;
     let mut place = 1usize;
     for i in 0..9usize {
