@@ -23,6 +23,8 @@ pub mod PartLaws
 pub mod PartRows
 pub mod PartRuns
 pub mod PartTurns
+pub mod AddLaws
+pub mod GapLaws
 mod BuildLaws
 mod FinishLaws
 mod VisitLaws

@@ -7,6 +7,7 @@ pub mod Several
 pub mod Search
 pub mod Ends
 pub mod RowValues
+pub mod Gaps
 pub mod Located
 pub mod DrainLaws
 pub mod FillLaws

@@ -1,10 +1,20 @@
--- What a row of pieces, and a search among its ends, are seen as.
+-- What a row of pieces, a row in the making, and a search among ends are seen as.
 use Rattle.std.specs.Prelude.{ℕ, List}
 use Rattle.iobufs_core.specs.View.{View}
 
 -- views in order, and how many there is room for
 pub record ViewRow : Type 0 where
   pub views : List View
+  pub room : ℕ
+
+-- a place in a row in the making: so many bytes that are to come, or a view that stands
+pub data Slot : Type 0 where
+  gap : ℕ → Slot
+  standing : View → Slot
+
+-- slots in order, and how many there is room for
+pub record SlotRow : Type 0 where
+  pub slots : List Slot
   pub room : ℕ
 
 -- rising ends, a place below the last of them, and how many ends were looked at

@@ -1,11 +1,11 @@
 // Encoded bytes and existing buffers, put together as one text.
-ghost use Rattle.std.specs.Prelude.{◌≡◌, ◌+◌, ◌<◌, ◌≤◌, ◌^◌, [], length, Err, IfErr, IsErrAnd, IfOk, IsOk, IsOkUnless, OnErr, OnOk, vec_len, vec_capacity};
+ghost use Rattle.std.specs.Prelude.{◌≡◌, ◌+◌, ◌<◌, ◌≤◌, ◌^◌, [], length, Err, IfErr, IsErrAnd, IfOk, IsOk, IsOkUnless, OnErr, OnOk};
 ghost use Rattle.iobufs_core.specs.Items.{ArePuts, items_inline};
 ghost use Rattle.iobufs_core.specs.View.{View};
 ghost use Rattle.iobufs.specs.Building.{IsBuilding, building_items, building_room, built, empty_building, finished};
 
 use crate::bufs::IoBufs;
-use crate::bufs::row::Row;
+use crate::bufs::row::Gapped;
 use bytes::Bytes;
 use iobufs_core::buf::{IoBuf, IoBufMut};
 use iobufs_core::codec::{BufError, BufMut, BufsMut, Error, Refused, Write};
@@ -23,7 +23,8 @@ use std::marker::Model;
 /// A put asks for no memory. Finishing splits the inline buffer where views stand, and copies no byte.
 pub struct Builder {
     inline: IoBufMut,
-    pushes: Vec<Push>,
+    // What was pushed, behind gaps for the inline bytes.
+    pushes: Gapped,
     // How many inline bytes stand before the last push.
     placed: usize,
     // How many bytes pushes may still add.
@@ -42,13 +43,6 @@ impl Drop for Builder {
     }
 }
 
-// A view, and how many inline bytes stand between it and the one before it.
-#[derive(Drop)]
-struct Push {
-    run: usize,
-    view: IoBuf,
-}
-
 impl Model for Builder {
     ghost use Rattle.iobufs.specs.Building.{Building};
 
@@ -61,17 +55,18 @@ impl Model for Builder {
     ghost invariant = { IsBuilder };
 }
 
-// Room to note one more push of so many bytes, if pushes may still add them.
-fn make_room(pushes: &mut Vec<Push>, pushable: usize, len: usize) -> Result<(), BufError>
-    ensures same { pushes.new.items ≡ pushes.old.items }
-    ensures ok { OnOk result ((len ≤ pushable) × (vec_len pushes.new < vec_capacity pushes.new)) }
+// Room for one more push of so many bytes, if pushes may still add them.
+fn make_room(pushes: &mut Gapped, pushable: usize, len: usize) -> Result<(), BufError>
+    ensures same { pushes.new.slots ≡ pushes.old.slots }
+    ensures more { pushes.old.room ≤ pushes.new.room }
+    ensures ok { OnOk result ((len ≤ pushable) × (length pushes.new.slots + 3 ≤ pushes.new.room)) }
     ensures too_long { pushable < len → IsErrAnd result (λ cause. cause ≡ BufError.TooLong) }
     ensures memory { len ≤ pushable → IfErr result (λ cause. cause ≡ BufError.Memory) }
 {
     if len > pushable {
         return Err(BufError::TooLong);
     }
-    pushes.try_reserve(1)?;
+    pushes.make_room()?;
     Ok(())
 }
 
@@ -87,38 +82,31 @@ impl Builder {
         let inline = IoBufMut::with_capacity(alloc, capacity)?;
         Ok(Builder {
             inline,
-            pushes: Vec::new(alloc),
+            pushes: Gapped::new(alloc),
             placed: 0,
             pushable: usize::MAX - capacity,
         })
     }
 
-    /// All that was put and pushed, in order. The inline bytes are split where views stand, and not copied. Room for all
-    /// pieces is made at once, and none where nothing was pushed.
+    /// All that was put and pushed, in order. The inline bytes are split where views stand, and not copied. The pushes
+    /// have made the room for all pieces.
     #[tactic(auto, using(crate::proofs::FinishLaws::finishing))]
     pub fn finish(self) -> Result<IoBufs, BufError>
         ensures ok { IfOk result (λ text. text ≡ finished self) }
         ensures memory { IsOkUnless result BufError.Memory }
         ensures nothing { building_items self ≡ [] → IsOk result }
     {
-        let alloc = *self.pushes.allocator();
         let Builder {
             inline,
             pushes,
             placed: _,
             pushable: _,
         } = self;
-        let mut rest = inline.freeze()?;
+        let rest = inline.freeze()?;
         if pushes.is_empty() {
             return Ok(IoBufs::from(rest));
         }
-        let mut row = Row::with_room(alloc, 2 * pushes.len() + 1)?;
-        for push in pushes {
-            row.add(rest.split_to(push.run)?);
-            row.add(push.view);
-        }
-        row.add(rest);
-        Ok(IoBufs::from_row(row))
+        Ok(IoBufs::from_row(pushes.fill(rest)?))
     }
 }
 
@@ -176,7 +164,7 @@ impl BufsMut for Builder {
             return Err(Refused { cause, value: view });
         }
         let run = self.inline.len() - self.placed;
-        self.pushes.push(Push { run, view }).unwrap();
+        self.pushes.push(run, view);
         self.placed += run;
         self.pushable -= len;
         Ok(())
@@ -195,7 +183,7 @@ impl BufsMut for Builder {
             });
         }
         let (run, view) = (self.inline.len() - self.placed, IoBuf::from(bytes));
-        self.pushes.push(Push { run, view }).unwrap();
+        self.pushes.push(run, view);
         self.placed += run;
         self.pushable -= len;
         Ok(())

@@ -5,7 +5,7 @@ use Rattle.iobufs_core.specs.Part.{part_capacity, part_frozen}
 use Rattle.iobufs_core.specs.View.{View}
 use Rattle.iobufs.specs.Parts.{parts_capacity}
 use Rattle.iobufs.specs.Pieces.{AreFull, AreViews, of_pieces, pieces_bytes}
-use Rattle.iobufs.proofs.FinishLaws.{add-full, add-length, add-text, add-views}
+use Rattle.iobufs.proofs.AddLaws.{add-full, add-length, add-text, add-views}
 use Rattle.iobufs.proofs.Frozen.{frozen-len}
 use Rattle.iobufs.proofs.PieceLaws.{of_pieces-one}
 use Rattle.iobufs.proofs.Sides.{not_zero}

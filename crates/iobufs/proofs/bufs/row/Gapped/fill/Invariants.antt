@@ -1,0 +1,11 @@
+use Rattle.std.proofs.Common.{◌≡◌, take, drop, deque_len, deque_capacity}
+use Rattle.iobufs.specs.Gaps.{filled, slots_in}
+use Rattle.iobufs.proofs.GapLaws.{IsFilling}
+use Rattle.iobufs.proofs.bufs.row.Gapped.fill.Given as goal
+
+abbrev pub invariant-loop-i : goal.invariant-loop-i
+invariant-loop-i l = record {
+  count : deque_len l.pieces ≡ deque_len l.initial.pieces;
+  room : deque_capacity l.pieces ≡ deque_capacity l.initial.pieces;
+  filling : IsFilling (filled l.initial.rest (slots_in l.initial.pieces.items)) (take l.i l.pieces.items) (drop l.i l.pieces.items) l.rest l.end;
+}
