@@ -1,4 +1,4 @@
-use Rattle.std.proofs.Common.{of_calls, ◌≡◌, ◌++◌, [], ◌∷◌, List, ℕ, map, take, refl, sym, ap, ◌∙◌, subst, arith}
+use Rattle.std.proofs.Common.{of_calls, ◌++◌, [], ◌∷◌, List, ℕ, map, take, refl, sym, ap, ◌∙◌, subst, arith}
 use Rattle.std.proofs.lemmas.Fn.{called_at}
 use Rattle.std.proofs.lemmas.List.{map_more, take_all}
 use Rattle.std.specs.Fn.{CalledAt}

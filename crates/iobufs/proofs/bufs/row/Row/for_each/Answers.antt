@@ -1,4 +1,4 @@
-use Rattle.std.proofs.Common.{of_calls, ◌≡◌, ◌++◌, [], ◌∷◌, List, ℕ, map, refl, sym, ap, ◌∙◌, subst}
+use Rattle.std.proofs.Common.{List, ℕ, map, sym, ap, ◌∙◌, subst}
 use Rattle.std.proofs.lemmas.List.{map-append}
 use Rattle.std.specs.Fn.{CalledAt}
 use Rattle.std.specs.List.{FoldsTo}

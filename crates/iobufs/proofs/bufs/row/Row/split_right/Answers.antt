@@ -1,10 +1,7 @@
-use Rattle.std.proofs.Common.{◌≡◌, ◌-◌, ◌++◌, take, drop, length, refl, sym, subst, ap, ◌∙◌, append-nil, arith}
-use Rattle.std.proofs.lemmas.List.{length-map}
+use Rattle.std.proofs.Common.{refl, sym, subst, ap, ◌∙◌}
 use Rattle.iobufs.specs.Ends.{IsRow}
 use Rattle.iobufs.specs.Pieces.{IsPlace, left_pieces, right_pieces}
 use Rattle.iobufs.specs.RowValues.{ViewRow}
-use Rattle.iobufs.specs.declared.bufs.row.Piece.{Piece}
-use Rattle.iobufs.proofs.PlaceLaws.{index-of_place}
 use Rattle.iobufs.proofs.RowLaws.{inside-dropped, left-row, right-row}
 use Rattle.iobufs.proofs.bufs.row.Row.split_right.Goals as goal
 
