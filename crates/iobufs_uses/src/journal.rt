@@ -133,6 +133,7 @@ fn next_record(
 /// longest whole prefix, and how it ends behind them. Behind that nothing is read.
 pub fn replay(alloc: Global, journal: IoBufs, most: usize) -> Result<Records, BufError>
     ensures journal { IfOk result (λ records. IsJournal most 0 journal.bytes (bodies records.found.items) records.end (drop records.whole journal.bytes)) }
+    ensures within { IfOk result (λ records. records.whole ≤ length journal.bytes) }
     ensures memory { IsOkUnless result BufError.Memory }
 {
     let len = journal.len();
