@@ -1,8 +1,25 @@
--- A byte as two digits.
-use Rattle.std.proofs.Common.{◌≡◌, ℕ, ◌-◌, ◌^◌, ◌<◌, false, Some, ap, ◌∙◌}
-use Rattle.std.proofs.lemmas.Fmt.{hex_byte}
-use Rattle.std.specs.Fmt.{styled_digits_output, digits_output, digits, format_spec}
-use Rattle.iobufs_words.specs.Spelled.{two_digits}
+-- Bytes as digits.
+use Rattle.std.proofs.Common.{◌≡◌, ℕ, zero, suc, nat_lt, Bool, true, ◌&&◌, List, [], ◌∷◌, Fits, w8, sym, subst, refl, arith, slice_index_or}
+use Rattle.std.proofs.lemmas.Str.{IsUtf8-from_ascii}
+use Rattle.std.proofs.lemmas.Bool.{and_parts, ltb-true}
+use Rattle.std.specs.Str.{IsAscii, IsUtf8}
+use Rattle.hex.specs.Hex.{encode_lower, lower_digits}
+use Rattle.hex.proofs.HexLemmas.{IsAscii-encode_with}
+use Rattle.iobufs_words.specs.Spelled.{AreBytes}
 
-pub hex_output : (d : _) (s : _) (n : ℕ) → n < 256 → digits_output d ≡ Some (digits 16 false n) → s ≡ format_spec 32 0 4 2 (2 ^ 64 - 1) → styled_digits_output d s ≡ Some (two_digits n)
-hex_output d s n low e f = ap (styled_digits_output d) f ∙ rw e (ap Some (hex_byte false n low))
+pub bytes-are : (bytes : List ℕ) → ((i : ℕ) → Fits w8 (slice_index_or bytes i 0)) → AreBytes bytes
+bytes-are bytes fits i = let b = fits i in omega (arith, b)
+
+-- each is ASCII
+abbrev all_low : List ℕ → Bool
+all_low [] = true
+all_low (x ∷ xs) = nat_lt x 128 && all_low xs
+
+low_at : (xs : List ℕ) → all_low xs ≡ true → IsAscii xs
+low_at [] e i = omega arith
+low_at (x ∷ xs) e zero = ltb-true x 128 (and_parts _ _ e).0
+low_at (x ∷ xs) e (suc i) = low_at xs (and_parts _ _ e).1 i
+
+-- digits are text
+pub digits-utf8 : (ds bytes : List ℕ) → ds ≡ encode_lower bytes → IsUtf8 ds
+digits-utf8 ds bytes is = subst IsUtf8 (sym is) (IsUtf8-from_ascii _ (IsAscii-encode_with lower_digits bytes (low_at lower_digits refl)))

@@ -1,11 +1,11 @@
 // Replies as lines of text.
-ghost use Rattle.std.specs.Prelude.{◌≡◌, flat_map};
+ghost use Rattle.std.specs.Prelude.{◌≡◌, ◌≤◌, flat_map, length};
 ghost use Rattle.std.specs.Fmt.{WritesOnOk};
 ghost use Rattle.iobufs_lines.specs.Printed.{kind_text};
 ghost use Rattle.iobufs_words.specs.Spelled.{two_digits};
 
 use iobufs_run::command::{Kind, Piece, Reply};
-use std::fmt;
+use std::{fmt, str};
 
 /// A reply, as it is printed.
 #[derive(Clone, Copy)]
@@ -19,14 +19,36 @@ struct Hex<'a>(&'a [u8]);
 #[derive(Clone, Copy)]
 struct Shown<'a>(Kind, &'a Piece);
 
+// How many bytes are put into digits at once.
+const FEW: usize = 32;
+
 // Two digits for each byte.
 fn write_digits<W: fmt::Write>(bytes: &[u8], f: &mut fmt::Formatter<W>) -> fmt::Result
     ensures { WritesOnOk W.write_str_gives f.old result (flat_map two_digits bytes.now) f.new }
 {
-    for byte in bytes {
-        write!(f, "{byte:02x}")?;
+    let mut rest = bytes;
+    while !rest.is_empty() {
+        let (few, behind) = rest.split_at(rest.len().min(FEW));
+        write_few(few, f)?;
+        rest = behind;
     }
     Ok(())
+}
+
+// The same of few bytes, by one write.
+fn write_few<W: fmt::Write>(bytes: &[u8], f: &mut fmt::Formatter<W>) -> fmt::Result
+    requires { length bytes.now ≤ 32 }
+    ensures { WritesOnOk W.write_str_gives f.old result (flat_map two_digits bytes.now) f.new }
+{
+    let mut room = [0; 2 * FEW];
+    let digits = &mut room[..2 * bytes.len()];
+    let Ok(()) = hex::encode_to_slice(bytes, digits) else {
+        unreachable!()
+    };
+    let Ok(text) = str::from_utf8(digits) else {
+        unreachable!()
+    };
+    f.write_str(text)
 }
 
 impl fmt::Display for Hex<'_> {

@@ -1,18 +1,36 @@
-use Rattle.std.proofs.Common.{◌<◌, [], flat_map, take, get_or, sym, ap, ◌∙◌, refl, arith}
+use Rattle.std.proofs.Common.{rules, ◌++◌, [], List, ℕ, flat_map, take, sym, ap, ◌∙◌, refl, arith, append_assoc, append-nil, take-append-drop}
 use Rattle.std.proofs.Output.{has_written_append, has_written_of_eq}
-use Rattle.std.proofs.lemmas.List.{flat_map_more, take_more}
+use Rattle.std.proofs.lemmas.Bool.Decides.{nat_tests}
+use Rattle.std.proofs.lemmas.Grind.{common_steps, flat_map-append}
+use Rattle.std.proofs.lemmas.List.{nil_from_length}
 use Rattle.iobufs_words.specs.Spelled.{two_digits}
-use Rattle.iobufs_lines.proofs.Hexes.{hex_output}
 use Rattle.iobufs_lines.proofs.reply.write_digits.Goals as goal
 
-pub loop-byte-preserved : goal.loop-byte-preserved
-loop-byte-preserved g c = λ plain.
-    let xs = c.args.bytes.now in
-    let i = c.loop-byte.byte-index in
-    let so_far = c.loop-byte.invariant plain in
-    let fits = c.type_inv.bytes i in
-    let low : get_or xs i 0 < 256 = omega (arith, fits) in
-    let out = hex_output c.in_radix.result c.laid_out.result (get_or xs i 0) low c.in_radix.ensures c.laid_out.ensures in
-    let w = rw out at c.in_ok-write.ensures.writes in
-    has_written_of_eq _ _ _ _ _ (flat_map_more two_digits [] (take i xs) (get_or xs i 0) ∙ ap (flat_map two_digits) (sym (take_more xs i 0 c.loop-byte-test.true)))
-    (has_written_append _ _ _ _ _ _ so_far (w so_far.plain refl))
+pub loop-rest-init : goal.loop-rest-init
+loop-rest-init g c = ([], refl, search rules)
+
+pub loop-rest-smaller : goal.loop-rest-smaller
+loop-rest-smaller g c = grind (arith, nat_tests, common_steps)
+
+pub loop-rest-preserved : goal.loop-rest-preserved
+loop-rest-preserved g c =
+    let inv = c.loop-rest.invariant in
+    let shown = inv.0 in
+    let few = c.split_at.result.0.now in
+    let behind = c.split_at.result.1.now in
+    let rest = c.loop-rest.rest.now in
+    let n = c.min.result in
+    let whole = ap (λ (xs : List ℕ). xs ++ behind) c.split_at.ensures.front ∙ ap (λ (ys : List ℕ). take n rest ++ ys) c.split_at.ensures.back ∙ take-append-drop n rest in (
+      shown ++ few,
+      append_assoc shown few behind ∙ ap (λ (xs : List ℕ). shown ++ xs) whole ∙ inv.1,
+      λ plain.
+          let so_far = inv.2 plain in
+          has_written_of_eq _ _ _ _ _ (sym (flat_map-append two_digits shown few)) (has_written_append _ _ _ _ _ _ so_far (c.in_ok-write_few.ensures so_far.plain refl)),
+    )
+
+pub returns : goal.returns
+returns g c = λ plain ok.
+    let inv = c.loop-rest.invariant in
+    let shown = inv.0 in
+    let none = nil_from_length c.loop-rest.rest.now (grind (arith, nat_tests, common_steps)) in
+    has_written_of_eq _ _ _ _ _ (ap (flat_map two_digits) (sym (append-nil shown) ∙ ap (λ (r : List ℕ). shown ++ r) (sym none) ∙ inv.1)) (inv.2 plain)
