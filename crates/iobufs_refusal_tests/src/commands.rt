@@ -404,12 +404,16 @@ fn gather_mut(rt: HostRuntime) -> Result<(), Fail> {
 }
 
 // From three pieces to four.
+// A text of two pieces has room for five, so the fourth behind them is the first that asks.
 #[test]
 fn append(rt: HostRuntime) -> Result<(), Fail> {
     let [view, text] = TEXT;
-    let (third, fourth) = (Made::Fixed(2, b"cd"), Made::Fixed(3, b"ef"));
-    let setup = [view, text, third, Made::Appended(1, 2), fourth];
-    command(&rt, &setup, &Cmd::Append { target: 1, src: 3 }, &[3])
+    let more = Made::Fixed(2, b"cd");
+    let appended = Made::Appended(1, 2);
+    let setup = [
+        view, text, more, appended, more, appended, more, appended, more,
+    ];
+    command(&rt, &setup, &Cmd::Append { target: 1, src: 2 }, &[2])
 }
 
 #[test]
@@ -422,9 +426,12 @@ fn append_of_no_bytes(rt: HostRuntime) -> Result<(), Fail> {
 #[test]
 fn prepend(rt: HostRuntime) -> Result<(), Fail> {
     let [view, text] = TEXT;
-    let (third, fourth) = (Made::Fixed(2, b"cd"), Made::Fixed(3, b"ef"));
-    let setup = [view, text, third, Made::Prepended(1, 2), fourth];
-    command(&rt, &setup, &Cmd::Prepend { target: 1, src: 3 }, &[3])
+    let more = Made::Fixed(2, b"cd");
+    let prepended = Made::Prepended(1, 2);
+    let setup = [
+        view, text, more, prepended, more, prepended, more, prepended, more,
+    ];
+    command(&rt, &setup, &Cmd::Prepend { target: 1, src: 2 }, &[2])
 }
 
 #[test]
