@@ -1,6 +1,6 @@
 -- The pieces that a builder finishes to.
-use Rattle.std.proofs.Common.{false, ◌≡◌, ℕ, ◌+◌, ◌-◌, ◌^◌, ◌<◌, ◌≤◌, ◌==◌, if◌then◌else◌, List, [], ◌∷◌, ◌++◌, length, take, drop, refl, sym, ap, ◌∙◌, arith, append_assoc, length-append, length-drop, length-take, take_all, ⊎_elim}
-use Rattle.std.proofs.lemmas.Bool.{cases_lt, false≢true}
+use Rattle.std.proofs.Common.{◌≡◌, ℕ, ◌+◌, ◌-◌, ◌^◌, ◌<◌, ◌≤◌, ◌==◌, if◌then◌else◌, List, [], ◌∷◌, ◌++◌, length, take, drop, refl, sym, ap, ◌∙◌, arith, append_assoc, length-append, length-drop, length-take, take_all, ⊎_elim}
+use Rattle.std.proofs.lemmas.Bool.{cases_lt}
 use Rattle.std.proofs.lemmas.Bool.Decides.{nat_tests}
 use Rattle.std.proofs.lemmas.Grind.{common_steps}
 use Rattle.std.proofs.lemmas.List.{drop-drop, nil_from_length}
@@ -11,7 +11,7 @@ use Rattle.iobufs_core.specs.Part.{Part, part_frozen, part_capacity}
 use Rattle.iobufs.specs.Building.{Building, building_bytes, building_items, building_put, built, empty_building, inline_run, room_for_pushes, views_from, finished}
 use Rattle.iobufs.specs.BuildingLaws.{bytes-built, items_bytes-append, put-append, put_nothing, run-bytes}
 use Rattle.iobufs.specs.Pieces.{pieces_bytes}
-use Rattle.iobufs.proofs.Sides.{not_zero, same_eq}
+use Rattle.iobufs.proofs.Sides.{not_zero}
 use Rattle.iobufs.specs.JoinedLaws.{bytes-joined}
 use Rattle.iobufs.specs.Gaps.{AreSlots, filled, gaps_len}
 use Rattle.iobufs.specs.Pushes.{items_front, building_with}
@@ -117,27 +117,6 @@ inline-bytes room (b ∷ bs) = ap (λ (v : View). v.bytes) (inline-some room (b 
 
 pub frozen-bytes : (part : Part) → (part_frozen part).bytes ≡ part.filled
 frozen-bytes part = inline-bytes (part_capacity part) part.filled
-
--- where a builder has no items, nothing was pushed, and no bytes are inline
-pub nothing-built : (part : Part) (ss : List Slot) (placed : ℕ) (b : Building) → AreSlots ss → gaps_len ss ≡ placed → building_with part ss placed ≡ b → building_items b ≡ [] → (length ss ≡ 0) × (length part.filled ≡ 0)
-nothing-built part ss placed b slots counted is none = by_slots ss slots counted (ap building_items is ∙ none)
-  where
-    no_run : (bytes : List ℕ) → inline_run bytes ≡ [] → length bytes ≡ 0
-    no_run [] none = refl
-    no_run (byte ∷ bytes) none = let n = ap length none in absurd (omega arith)
-
-    by_slots : (ss : List Slot) → AreSlots ss → gaps_len ss ≡ placed → items_front part.filled ss ++ inline_run (drop placed part.filled) ≡ [] → (length ss ≡ 0) × (length part.filled ≡ 0)
-    by_slots [] slots counted none = let d = length-drop placed part.filled in let n = no_run (drop placed part.filled) none in (refl, omega arith)
-    by_slots (standing view ∷ ss) slots counted none = let z = ap length none in absurd (omega arith)
-    by_slots (gap n ∷ []) slots counted none = absurd slots
-    by_slots (gap n ∷ gap m ∷ ss) slots counted none = absurd slots
-    by_slots (gap n ∷ standing view ∷ ss) slots counted none =
-        let m = length-append (items_front part.filled (gap n ∷ standing view ∷ ss)) (inline_run (drop placed part.filled)) in
-        let k = length-append (inline_run (take n part.filled)) (push_item view ∷ items_front (drop n part.filled) ss) in
-        let z = ap length none in absurd (omega arith)
-
-pub not_empty : (n : ℕ) → false ≡ (n == 0) → 0 < n
-not_empty n e = ⊎_elim (λ h. h) (λ (h : n ≤ 0). let z = same_eq n 0 (omega arith) in absurd (false≢true (e ∙ z))) (cases_lt 0 n)
 
 -- the bytes of the pieces are all bytes
 views-bytes : (room : ℕ) (items : List Item) → pieces_bytes (views_from room items) ≡ items_bytes items

@@ -54,12 +54,6 @@ pub slots-push : (ss : List Slot) (n : ℕ) (v : View) → AreSlots ss → 0 < l
 slots-push ss zero v h some = slots-append ss (slots_pushed 0 v) h (some, tt)
 slots-push ss (suc n) v h some = slots-append ss (slots_pushed (suc n) v) h (subst AreSlots (sym (pushed-some (suc n) v (omega arith))) (omega arith, some, tt))
 
--- slots are filled to as many views at least
-pub filled-some : (rest : View) (ss : List Slot) → 0 < length ss → 0 < length (filled rest ss)
-filled-some rest [] some = absurd (omega arith)
-filled-some rest (gap n ∷ ss) some = omega arith
-filled-some rest (standing v ∷ ss) some = omega arith
-
 -- pieces that are done, with so many bytes, and pieces that wait for what is left; together they make these views
 pub record IsFilling (all : List View) (done waiting : List Piece) (rest : View) (end : ℕ) : Type 0 where
   pub row : IsRow 0 done

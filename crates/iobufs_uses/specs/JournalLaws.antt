@@ -80,7 +80,7 @@ no_record most number text left framed found empty is rest e none test more =
 
 -- ---- a journal, record by record
 
-pub written_more : (k : ℕ) (fs : List (List ℕ)) (body : List ℕ) → records_written k (fs ++ body ∷ []) ≡ records_written k fs ++ record_written (k + length fs) body
+written_more : (k : ℕ) (fs : List (List ℕ)) (body : List ℕ) → records_written k (fs ++ body ∷ []) ≡ records_written k fs ++ record_written (k + length fs) body
 written_more k [] body = append-nil (record_written k body) ∙ ap (λ n. record_written n body) (let z : k ≡ k + 0 = omega arith in z)
 written_more k (f ∷ fs) body =
     let next : suc k + length fs ≡ k + suc (length fs) = omega arith in
