@@ -16,10 +16,10 @@ use Rattle.iobufs_core.specs.CallerFacts.{bytes-advanced, bytes-part_frozen, byt
 use Rattle.iobufs_core.specs.MarkedText.{MarkedText, text_advanced, text_chunks}
 use Rattle.iobufs_core.specs.Part.{Part, part_capacity, part_frozen, part_with_len}
 use Rattle.iobufs_core.specs.View.{View}
-use Rattle.iobufs.specs.FillLaws.{AreFilled, filled_composes, filled_lessens, filled_nothing}
-use Rattle.iobufs.specs.JoinedLaws.{bytes-append, bytes-joined}
+use Rattle.iobufs.specs.Laws.Filling.{AreFilled, filled_composes, filled_lessens, filled_nothing}
+use Rattle.iobufs.specs.Laws.Joined.{bytes-append, bytes-joined}
 use Rattle.iobufs.specs.Parts.{parts_capacity, parts_fill, parts_filled, parts_frozen, parts_spare, parts_with_len}
-use Rattle.iobufs.specs.ReaderLaws.{joined-chunks}
+use Rattle.iobufs.specs.Laws.Reading.{joined-chunks}
 
 -- ---- sending
 

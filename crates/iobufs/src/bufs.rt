@@ -1,7 +1,7 @@
 // Chunked text.
+mod buf;
+mod copies;
 mod pieces;
-mod reader;
-mod reading;
 pub(crate) mod row;
 mod search;
 mod text;

@@ -5,14 +5,14 @@ ghost use Rattle.std.specs.Iterator.Runs.{SomeRun, WholeRun};
 ghost use Rattle.std.specs.Option.{option_copied, option_map};
 ghost use Rattle.std.specs.Borrow.{LendsIf, sem};
 ghost use Rattle.iobufs_core.specs.Part.{empty_part, part_capacity};
-ghost use Rattle.iobufs_core.specs.contracts.buf.write.IoBufMut.{the_row as part_row};
+ghost use Rattle.iobufs_core.specs.contracts.buf.part.IoBufMut.{the_row as part_row};
 ghost use Rattle.iobufs.specs.Parts.{IsParts, kept_parts, parts_capacity, parts_coalesced, parts_filled, parts_frozen, parts_overwritten, parts_with_len, single_part};
 ghost use Rattle.iobufs.specs.PartLimits.{IsRowRefusedAt};
 
-mod read;
-mod row;
+mod buf;
+mod buf_mut;
 mod several;
-mod write;
+mod walks;
 
 use crate::bufs::IoBufs;
 use iobufs_core::buf::IoBufMut;
@@ -53,7 +53,7 @@ enum Shape {
 impl Shape {
     ghost use Rattle.iobufs.specs.contracts.bufs_mut.Shape.{the_row};
     ghost use Rattle.iobufs.specs.declared.bufs_mut.Shape.TheVariants.{One};
-    ghost use Rattle.iobufs.specs.PartShape.{IsShape, shape_parts, shape_single};
+    ghost use Rattle.iobufs.specs.Inside.PartShape.{IsShape, shape_parts, shape_single};
 
     // One more part, which can hold a byte; one that can't makes way for it.
     #[tactic(auto, using(crate::proofs::PartRuns::growing))]
@@ -94,7 +94,7 @@ impl Shape {
 impl Model for IoBufsMut {
     ghost use Rattle.std.specs.Prelude.{List};
     ghost use Rattle.iobufs_core.specs.Part.{Part};
-    ghost use Rattle.iobufs.specs.PartShape.{shape_parts, IsShape};
+    ghost use Rattle.iobufs.specs.Inside.PartShape.{shape_parts, IsShape};
 
     ghost Value = { List Part };
 
@@ -257,7 +257,7 @@ impl IoBufsMut {
             Shape::One(part) => IoBufs::from_mut(part),
             Shape::Many(parts) => {
                 let len = parts.len();
-                row::freeze(alloc, parts.into_row(), len)
+                walks::freeze(alloc, parts.into_row(), len)
             }
         }
     }

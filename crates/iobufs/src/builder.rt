@@ -48,7 +48,7 @@ impl Model for Builder {
 
     ghost Value = { Building };
 
-    ghost use Rattle.iobufs.specs.Pushes.{building_of, IsBuilder};
+    ghost use Rattle.iobufs.specs.Inside.Pushes.{building_of, IsBuilder};
 
     ghost view = { building_of };
 
@@ -111,7 +111,7 @@ impl Builder {
 }
 
 impl BufMut for Builder {
-    ghost use Rattle.iobufs.specs.BuildingLaws.{IsPut, put_composes, put_lessens, put_nothing, put_unchanged};
+    ghost use Rattle.iobufs.specs.Laws.Building.{IsPut, put_composes, put_lessens, put_nothing, put_unchanged};
 
     ghost room = { building_room };
 
@@ -146,7 +146,7 @@ impl BufMut for Builder {
 
 impl BufsMut for Builder {
     ghost use Rattle.iobufs.specs.Building.{building_bytes, room_for_pushes};
-    ghost use Rattle.iobufs.specs.BuildingLaws.{IsBuilt, built_adds, built_follows, built_idle, built_puts, built_spends, built_uses};
+    ghost use Rattle.iobufs.specs.Laws.Building.{IsBuilt, built_adds, built_follows, built_idle, built_puts, built_spends, built_uses};
 
     ghost joined = { building_bytes };
 

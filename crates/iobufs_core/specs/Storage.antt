@@ -1,7 +1,7 @@
 -- What the storage of a view stands for.
 use Rattle.iobufs_core.specs.View.{View, static_mark, bytes_mark, native_mark}
-use Rattle.iobufs_core.specs.declared.buf.read.Storage.{Storage}
-use Rattle.iobufs_core.specs.declared.buf.read.Storage.TheVariants.{Static, Shared, Native}
+use Rattle.iobufs_core.specs.declared.buf.view.Storage.{Storage}
+use Rattle.iobufs_core.specs.declared.buf.view.Storage.TheVariants.{Static, Shared, Native}
 
 abbrev pub view_of : Storage → View
 view_of (Static text) = record { bytes = text.now; mark = static_mark }

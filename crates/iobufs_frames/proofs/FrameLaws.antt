@@ -14,7 +14,7 @@ use Rattle.iobufs_core.specs.Wire.{HasView, IsViewRead, bytes_written, view_writ
 use Rattle.iobufs_core.specs.declared.codec.base.Error.{Error}
 use Rattle.iobufs_core.specs.declared.codec.base.Error.TheVariants.{EndOfBuffer, InvalidVarint, InvalidLength, Memory, BadLayout, TooLong}
 use Rattle.iobufs_core.specs.declared.codec.base.RangeCfg.{RangeCfg}
-use Rattle.iobufs.specs.JoinedLaws.{bytes-append}
+use Rattle.iobufs.specs.Laws.Joined.{bytes-append}
 use Rattle.iobufs_frames.specs.Frames.{frames_written, AreAdmitted, AreMoved, HasBytes, HasNoFrame, IsFramed, IsNext, IsFirst, bodies, found_of}
 use Rattle.iobufs_frames.specs.declared.End.{End}
 use Rattle.iobufs_frames.specs.declared.End.TheVariants.{Open, Bad}

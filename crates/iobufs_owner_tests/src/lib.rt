@@ -1,4 +1,4 @@
-// What no contract says of the owner machine: schedules with their replies, and the state after every step.
+// What no contract says of the owner machine: worked words and sessions, and schedules with the state after every step.
 #![tactic(auto)]
 
 #[cfg(test)]
@@ -7,3 +7,7 @@ mod ledger;
 mod runs;
 #[cfg(test)]
 mod schedules;
+#[cfg(test)]
+mod sessions;
+#[cfg(test)]
+mod words;

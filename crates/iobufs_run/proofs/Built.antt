@@ -6,7 +6,7 @@ use Rattle.std.proofs.lemmas.Bool.{or_parts, and_parts}
 use Rattle.std.proofs.lemmas.List.Sums.{sum_by-cons}
 use Rattle.iobufs_core.specs.Items.{Item as Written, put_item, push_item, items_inline, items_pushed}
 use Rattle.iobufs.specs.Building.{Building, built, built_one, empty_building, building_room, room_for_pushes}
-use Rattle.iobufs.specs.BuildingLaws.{room-built, pushes-built}
+use Rattle.iobufs.specs.Laws.Building.{room-built, pushes-built}
 use Rattle.iobufs_run.specs.declared.command.Item.{Item}
 use Rattle.iobufs_run.specs.declared.command.Item.TheVariants.{Inline, Push}
 use Rattle.iobufs_run.specs.declared.table.Slot.{Slot}

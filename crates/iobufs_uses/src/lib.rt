@@ -6,5 +6,3 @@ pub mod frame;
 pub mod journal;
 pub mod send;
 pub mod store;
-#[cfg(test)]
-mod tests;

@@ -2,8 +2,8 @@
 ghost use Rattle.std.specs.Option.{option_copied};
 ghost use Rattle.std.specs.Prelude.{◌≡◌, List, ◌+◌, ◌*◌, ◌<◌, ◌≤◌, ◌^◌, ◌++◌, [], ◌∷◌, nat_lt, OnOk, OnErr, IfOk, IfErr, IsOk, IsTrue, IsFalse, IsOkUnless, MatchResult, length, slice_get};
 ghost use Rattle.iobufs_core.specs.View.{View, view_advanced};
-ghost use Rattle.iobufs.specs.Pieces.{AreFull, IsPlace, behind_first, left_pieces, right_pieces, piece_at, pieces_bytes, view_len};
-ghost use Rattle.iobufs.specs.Several.{views, IsPieced};
+ghost use Rattle.iobufs.specs.Inside.Pieces.{AreFull, IsPlace, behind_first, left_pieces, right_pieces, piece_at, pieces_bytes, view_len};
+ghost use Rattle.iobufs.specs.Inside.Several.{views, IsPieced};
 
 use super::row::{Located, Row, split_inside};
 use iobufs_core::buf::IoBuf;

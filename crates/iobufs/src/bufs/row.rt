@@ -5,10 +5,10 @@ ghost use Rattle.std.specs.Option.{option_copied};
 ghost use Rattle.std.specs.Prelude.{◌≡◌, List, ◌+◌, ◌-◌, ◌*◌, ◌^◌, ◌<◌, ◌≤◌, ◌++◌, [], ◌∷◌, ◌==◌, if◌then◌else◌, nat_lt, length, map, take, drop, slice_get, IfOk, IfErr, IsOk, OnOk, OnErr, IsOkUnless, IsTrue, IsFalse};
 ghost use Rattle.std.specs.VecDeque.{deque_len, deque_capacity};
 ghost use Rattle.iobufs_core.specs.View.{IsView, view_advanced, view_front};
-ghost use Rattle.iobufs.specs.Ends.{cut_piece, shortened, views_in};
-ghost use Rattle.iobufs.specs.Gaps.{AreSlots, filled, gap_len, gaps_len, slot_len, slot_of, slots_pushed, stood_len};
-ghost use Rattle.iobufs.specs.RowValues.{Slot};
-ghost use Rattle.iobufs.specs.Pieces.{AreFull, AreViews, IsPlace, left_pieces, piece_at, piece_start, pieces_bytes, right_pieces, view_len};
+ghost use Rattle.iobufs.specs.Inside.Ends.{cut_piece, shortened, views_in};
+ghost use Rattle.iobufs.specs.Inside.Gaps.{AreSlots, filled, gap_len, gaps_len, slot_len, slot_of, slots_pushed, stood_len};
+ghost use Rattle.iobufs.specs.Inside.RowValues.{Slot};
+ghost use Rattle.iobufs.specs.Inside.Pieces.{AreFull, AreViews, IsPlace, left_pieces, piece_at, piece_start, pieces_bytes, right_pieces, view_len};
 
 use super::search::{Ends, find_end};
 use iobufs_core::buf::IoBuf;
@@ -65,12 +65,12 @@ impl Drop for Row {
 }
 
 impl Model for Row {
-    ghost use Rattle.iobufs.specs.RowValues.{ViewRow};
+    ghost use Rattle.iobufs.specs.Inside.RowValues.{ViewRow};
 
     ghost Value = { ViewRow };
 
     ghost use Rattle.std.specs.VecDeque.{deque_capacity};
-    ghost use Rattle.iobufs.specs.Ends.{IsRow, views_in};
+    ghost use Rattle.iobufs.specs.Inside.Ends.{IsRow, views_in};
 
     ghost view = { λ r. record { views = views_in r.pieces.items; room = deque_capacity r.pieces } };
 
@@ -392,12 +392,12 @@ impl Drop for Gapped {
 }
 
 impl Model for Gapped {
-    ghost use Rattle.iobufs.specs.RowValues.{SlotRow};
+    ghost use Rattle.iobufs.specs.Inside.RowValues.{SlotRow};
 
     ghost Value = { SlotRow };
 
     ghost use Rattle.std.specs.VecDeque.{deque_capacity};
-    ghost use Rattle.iobufs.specs.Gaps.{slots_in};
+    ghost use Rattle.iobufs.specs.Inside.Gaps.{slots_in};
 
     ghost view = { λ g. record { slots = slots_in g.pieces.items; room = deque_capacity g.pieces } };
 }
@@ -624,11 +624,11 @@ struct Looking<'a> {
 }
 
 impl<'a> Model for Looking<'a> {
-    ghost use Rattle.iobufs.specs.RowValues.{Sought};
+    ghost use Rattle.iobufs.specs.Inside.RowValues.{Sought};
 
     ghost Value = { Sought };
 
-    ghost use Rattle.iobufs.specs.Ends.{IsSearch, ends_from};
+    ghost use Rattle.iobufs.specs.Inside.Ends.{IsSearch, ends_from};
 
     ghost view = { λ s. record { ends = ends_from s.base s.pieces.now.items; place = s.place; probed = s.probes } };
 

@@ -6,7 +6,7 @@ ghost use Rattle.std.specs.Prelude.{◌≡◌, ℕ, List, ◌∷◌, ◌++◌, �
 ghost use Rattle.std.specs.Iterator.{IsFinite};
 ghost use Rattle.std.specs.Iterator.Runs.{SomeRun, WholeRun};
 ghost use Rattle.iobufs.specs.Located.{greatest_key, keys_upto};
-ghost use Rattle.iobufs.specs.Pieces.{AreFull, AreViews, of_pieces};
+ghost use Rattle.iobufs.specs.Inside.Pieces.{AreFull, AreViews, of_pieces};
 ghost use Rattle.iobufs.specs.Refusals.{IsRefusedAt};
 ghost use Rattle.iobufs_core.specs.Chunks.{first_chunk};
 ghost use Rattle.iobufs_core.specs.Part.{part_frozen};
@@ -50,7 +50,7 @@ impl Model for IoBufs {
 
     ghost Value = { MarkedText };
 
-    ghost use Rattle.iobufs.specs.Kept.{text_of, IsKept};
+    ghost use Rattle.iobufs.specs.Inside.Kept.{text_of, IsKept};
 
     ghost view = { text_of };
 

@@ -21,7 +21,7 @@ pub(super) struct Several {
 impl Model for Several {
     ghost use Rattle.std.specs.Prelude.{List};
     ghost use Rattle.iobufs_core.specs.Part.{Part};
-    ghost use Rattle.iobufs.specs.PartSums.{AreSummed};
+    ghost use Rattle.iobufs.specs.Inside.PartSums.{AreSummed};
 
     ghost Value = { List Part };
 
@@ -116,7 +116,7 @@ impl Several {
         requires { length src.now ≤ parts_spare self.old }
         ensures { self.new ≡ parts_fill self.old src.now }
     {
-        row::put(&mut self.parts, src);
+        walks::put(&mut self.parts, src);
         self.len += src.len();
     }
 
@@ -124,7 +124,7 @@ impl Several {
         requires { n ≤ parts_spare self.old }
         ensures { self.new ≡ parts_fill self.old (replicate n value) }
     {
-        row::put_bytes(&mut self.parts, value, n);
+        walks::put_bytes(&mut self.parts, value, n);
         self.len += n;
     }
 
@@ -132,7 +132,7 @@ impl Several {
         requires { n ≤ parts_capacity self.old }
         ensures { self.new ≡ parts_with_len self.old n }
     {
-        row::set_len(&mut self.parts, n);
+        walks::set_len(&mut self.parts, n);
         self.len = n;
     }
 
@@ -140,7 +140,7 @@ impl Several {
         requires { length src.now ≡ length (parts_filled self.old) }
         ensures { self.new ≡ parts_overwritten self.old src.now }
     {
-        row::copy_from_slice(&mut self.parts, src);
+        walks::copy_from_slice(&mut self.parts, src);
     }
 
     /// Drops the first `n` bytes if the first part holds more, and tells whether it does.
@@ -155,7 +155,7 @@ impl Several {
         ensures fits { IsTrue result → parts_capacity self.new ≤ parts_capacity self.old }
         ensures same { result ≡ false → self.new ≡ self.old }
     {
-        if !row::shorten(&mut self.parts, n) {
+        if !walks::shorten(&mut self.parts, n) {
             return false;
         }
         self.len -= n;
@@ -175,10 +175,10 @@ impl Several {
         ensures have_capacity { IfNone result (HaveCapacity self.new) }
         ensures fits { IfNone result (parts_capacity self.new ≤ parts_capacity self.old) }
     {
-        row::advance(&mut self.parts, n);
+        walks::advance(&mut self.parts, n);
         self.len -= n;
         self.capacity -= n;
-        let Some(part) = row::take_single(&mut self.parts) else {
+        let Some(part) = walks::take_single(&mut self.parts) else {
             return None;
         };
         self.len = 0;

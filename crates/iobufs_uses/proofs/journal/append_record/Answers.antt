@@ -1,6 +1,6 @@
 use Rattle.std.proofs.Common.{ap, ◌∙◌, ◌++◌}
 use Rattle.iobufs_core.specs.MarkedText.{MarkedText}
-use Rattle.iobufs.specs.JoinedLaws.{bytes-append}
+use Rattle.iobufs.specs.Laws.Joined.{bytes-append}
 use Rattle.iobufs_uses.proofs.journal.append_record.Goals as goal
 
 pub returns-clause-done : goal.returns-clause-done

@@ -4,7 +4,7 @@ use Rattle.std.proofs.lemmas.List.{map_more, take_all}
 use Rattle.std.specs.Fn.{CalledAt}
 use Rattle.std.specs.List.{FoldsTo}
 use Rattle.iobufs.specs.declared.bufs.row.Piece.{Piece}
-use Rattle.iobufs.proofs.VisitLaws.{one_more}
+use Rattle.iobufs.proofs.Text.VisitLaws.{one_more}
 use Rattle.iobufs.proofs.bufs.row.show.Goals as goal
 
 pub loop-piece-init : goal.loop-piece-init

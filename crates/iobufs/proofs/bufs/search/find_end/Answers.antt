@@ -1,7 +1,7 @@
 use Rattle.std.proofs.Common.{◌≡◌, ℕ, ◌+◌, ◌-◌, ◌<◌, ◌≤◌, ◌∙◌, List, length, get_or, arith, ⊎_elim, ap, sym, ◌/◌, subst}
 use Rattle.std.proofs.lemmas.Bool.{cases_lt, ltb-false}
 use Rattle.iobufs.specs.Search.{IsRising}
-use Rattle.iobufs.proofs.Halves.{halved, one_more, few_digits, few_probes}
+use Rattle.iobufs.proofs.Text.Halves.{halved, one_more, few_digits, few_probes}
 use Rattle.iobufs.proofs.bufs.search.find_end.Goals as goal
 
 pub past-requires-clause-more : goal.past-requires-clause-more

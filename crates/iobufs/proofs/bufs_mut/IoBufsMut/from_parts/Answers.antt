@@ -6,8 +6,8 @@ use Rattle.std.proofs.lemmas.List.Sums.{sum_by_push}
 use Rattle.iobufs_core.specs.Part.{part_capacity}
 use Rattle.iobufs.specs.PartLimits.{IsRowRefusedAt}
 use Rattle.iobufs.specs.Parts.{kept_parts, parts_capacity}
-use Rattle.iobufs.proofs.PartRuns.{capacity-kept, kept-more, refused-long, refused-short}
-use Rattle.iobufs.proofs.RunLaws.{run_to_end, run_to_item}
+use Rattle.iobufs.proofs.Parts.PartRuns.{capacity-kept, kept-more, refused-long, refused-short}
+use Rattle.iobufs.proofs.Text.RunLaws.{run_to_end, run_to_item}
 use Rattle.iobufs.proofs.bufs_mut.IoBufsMut.from_parts.Goals as goal
 
 pub returns-then-capacity-left-clause-err : goal.returns-then-capacity-left-clause-err

@@ -2,9 +2,9 @@ use Rattle.std.proofs.Common.{ap, ◌∙◌}
 use Rattle.iobufs_core.specs.View.{View}
 use Rattle.iobufs_core.specs.MarkedText.{joined}
 use Rattle.iobufs.specs.Building.{finished}
-use Rattle.iobufs.specs.Gaps.{filled}
-use Rattle.iobufs.proofs.AddLaws.{of_pieces-joined}
-use Rattle.iobufs.proofs.FinishLaws.{finished-views}
+use Rattle.iobufs.specs.Inside.Gaps.{filled}
+use Rattle.iobufs.proofs.Building.AddLaws.{of_pieces-joined}
+use Rattle.iobufs.proofs.Building.FinishLaws.{finished-views}
 use Rattle.iobufs.proofs.builder.Builder.finish.Goals as goal
 
 pub returns-clause-ok : goal.returns-clause-ok

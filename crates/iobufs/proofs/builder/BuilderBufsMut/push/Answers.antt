@@ -1,8 +1,8 @@
 use Rattle.std.proofs.Common.{◌≡◌, ◌≤◌, ◌<◌, ◌-◌, List, ◌++◌, length, arith, refl, ap, ◌∙◌}
 use Rattle.iobufs.specs.Building.{room_for_pushes}
-use Rattle.iobufs.specs.Gaps.{slots_pushed}
-use Rattle.iobufs.specs.RowValues.{Slot}
-use Rattle.iobufs.proofs.BuildLaws.{push-kept, pushes-kept}
+use Rattle.iobufs.specs.Inside.Gaps.{slots_pushed}
+use Rattle.iobufs.specs.Inside.RowValues.{Slot}
+use Rattle.iobufs.proofs.Building.BuildLaws.{push-kept, pushes-kept}
 use Rattle.iobufs.proofs.builder.BuilderBufsMut.push.Goals as goal
 
 pub returns-in-Err-clause-too_long : goal.returns-in-Err-clause-too_long

@@ -1,9 +1,9 @@
 use Rattle.std.proofs.Common.{◌≡◌, ◌≤◌, ◌<◌, ◌-◌, List, ◌++◌, length, arith, refl, ap, ◌∙◌}
 use Rattle.iobufs_core.specs.View.{View}
 use Rattle.iobufs.specs.Building.{building_push, room_for_pushes}
-use Rattle.iobufs.specs.Gaps.{slots_pushed}
-use Rattle.iobufs.specs.RowValues.{Slot}
-use Rattle.iobufs.proofs.BuildLaws.{bytes-len, push-kept, pushes-kept}
+use Rattle.iobufs.specs.Inside.Gaps.{slots_pushed}
+use Rattle.iobufs.specs.Inside.RowValues.{Slot}
+use Rattle.iobufs.proofs.Building.BuildLaws.{bytes-len, push-kept, pushes-kept}
 use Rattle.iobufs.proofs.builder.BuilderBufsMut.push_bytes.Goals as goal
 
 pub returns-in-Err-clause-too_long : goal.returns-in-Err-clause-too_long

@@ -3,8 +3,8 @@ use Rattle.std.proofs.lemmas.Bool.{false≢true}
 use Rattle.iobufs_core.specs.Items.{ArePuts, items_bytes, items_inline}
 use Rattle.iobufs_core.specs.MarkedText.{MarkedText}
 use Rattle.iobufs.specs.Building.{Building, building_items, built, empty_building, finished}
-use Rattle.iobufs.proofs.CopyLaws.{only-cause}
-use Rattle.iobufs.proofs.FinishLaws.{encoded-bytes, items-len, nothing-put, pushes-fit}
+use Rattle.iobufs.proofs.Text.CopyLaws.{only-cause}
+use Rattle.iobufs.proofs.Building.FinishLaws.{encoded-bytes, items-len, nothing-put, pushes-fit}
 use Rattle.iobufs.proofs.builder.EncodeExt.encode_iobufs.Goals as goal
 
 pub returns-in_err-write_bufs-clause-memory : goal.returns-in_err-write_bufs-clause-memory

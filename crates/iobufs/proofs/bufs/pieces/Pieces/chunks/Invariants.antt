@@ -1,5 +1,5 @@
 use Rattle.std.proofs.Common.{◌≡◌, map, take}
-use Rattle.iobufs.specs.Several.{views}
+use Rattle.iobufs.specs.Inside.Several.{views}
 use Rattle.iobufs.proofs.bufs.pieces.Pieces.chunks.Given as goal
 
 abbrev pub invariant-loop-index : goal.invariant-loop-index

@@ -1,9 +1,9 @@
 use Rattle.std.proofs.Common.{◌-◌, ap, ◌∙◌, arith, drop, take, length, length-append, length-take-le, min, refl}
 use Rattle.iobufs_core.specs.View.{View}
 use Rattle.iobufs_core.specs.Part.{Part}
-use Rattle.iobufs.specs.Several.{views}
+use Rattle.iobufs.specs.Inside.Several.{views}
 use Rattle.iobufs_core.specs.LayoutLaws.{good_layout}
-use Rattle.iobufs.proofs.CopyLaws.{only-cause, copied-step, slice_from}
+use Rattle.iobufs.proofs.Text.CopyLaws.{only-cause, copied-step, slice_from}
 use Rattle.iobufs.proofs.bufs.pieces.Pieces.copied.Goals as goal
 
 pub loop-offset-preserved : goal.loop-offset-preserved

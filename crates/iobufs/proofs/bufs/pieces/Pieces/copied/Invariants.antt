@@ -1,6 +1,6 @@
 use Rattle.std.proofs.Common.{◌≡◌, ◌+◌, ◌-◌, ◌≤◌, ◌++◌, length, take, drop}
-use Rattle.iobufs.specs.Pieces.{piece_at, pieces_bytes}
-use Rattle.iobufs.specs.Several.{views}
+use Rattle.iobufs.specs.Inside.Pieces.{piece_at, pieces_bytes}
+use Rattle.iobufs.specs.Inside.Several.{views}
 use Rattle.iobufs.proofs.bufs.pieces.Pieces.copied.Given as goal
 
 abbrev pub invariant-loop-offset : goal.invariant-loop-offset

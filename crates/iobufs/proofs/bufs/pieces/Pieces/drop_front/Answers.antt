@@ -1,6 +1,6 @@
 use Rattle.std.proofs.Common.{ap}
-use Rattle.iobufs.specs.Several.{views}
-use Rattle.iobufs.proofs.SeveralLaws.{right-full}
+use Rattle.iobufs.specs.Inside.Several.{views}
+use Rattle.iobufs.proofs.Text.SeveralLaws.{right-full}
 use Rattle.iobufs.proofs.bufs.pieces.Pieces.drop_front.Goals as goal
 
 pub settle-requires-clause-some : goal.settle-requires-clause-some

@@ -2,7 +2,7 @@ use Rattle.std.proofs.Common.{◌≡◌, ◌+◌, ◌-◌, ◌++◌, ap, ◌∙�
 use Rattle.std.proofs.lemmas.Slice.{take-put_mid}
 use borrow.Rule.Slice.PartMut.{put_mid, same_len_mid}
 use Rattle.iobufs_core.specs.View.{View}
-use Rattle.iobufs.proofs.CopyLaws.{filled-step}
+use Rattle.iobufs.proofs.Text.CopyLaws.{filled-step}
 use Rattle.iobufs.proofs.bufs.pieces.Pieces.fill.Goals as goal
 
 pub loop-filled-preserved : goal.loop-filled-preserved

@@ -1,4 +1,4 @@
-use Rattle.iobufs.proofs.SeveralLaws.{pieced-as, several-push}
+use Rattle.iobufs.proofs.Text.SeveralLaws.{pieced-as, several-push}
 use Rattle.iobufs.proofs.bufs.pieces.Pieces.push_back.Goals as goal
 
 pub returns-in_ok-push_back-in-Many-clause-pieced : goal.returns-in_ok-push_back-in-Many-clause-pieced

@@ -1,9 +1,9 @@
 use Rattle.std.proofs.Common.{List, ap, arith, length, subst, sym, ◌∙◌}
 use Rattle.iobufs_core.specs.View.{View}
-use Rattle.iobufs.specs.Pieces.{AreFull, pieces_bytes}
-use Rattle.iobufs.specs.Several.{views, IsPieced}
-use Rattle.iobufs.proofs.PlaceLaws.{index-of_place}
-use Rattle.iobufs.proofs.SeveralLaws.{edge-last, left-two, right-two}
+use Rattle.iobufs.specs.Inside.Pieces.{AreFull, pieces_bytes}
+use Rattle.iobufs.specs.Inside.Several.{views, IsPieced}
+use Rattle.iobufs.proofs.Text.PlaceLaws.{index-of_place}
+use Rattle.iobufs.proofs.Text.SeveralLaws.{edge-last, left-two, right-two}
 use Rattle.iobufs.proofs.bufs.pieces.Pieces.split_row.Goals as goal
 
 pub returns-then-behind-eq1-clause-front_pieced : goal.returns-then-behind-eq1-clause-front_pieced

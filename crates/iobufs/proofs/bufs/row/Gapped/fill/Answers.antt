@@ -1,12 +1,12 @@
 use Rattle.std.proofs.Common.{rules, ◌+◌, ◌^◌, ◌<◌, ◌≤◌, List, length, drop, refl, ap, sym, subst, ◌∙◌, arith, take_all}
 use Rattle.std.proofs.lemmas.List.{drop_all, length-map}
-use Rattle.iobufs.specs.Ends.{IsRow, views_in}
-use Rattle.iobufs.specs.Gaps.{AreSlots, filled, gaps_len, slot_of, slots_in, stood_len}
-use Rattle.iobufs.specs.Pieces.{AreViews, pieces_bytes}
-use Rattle.iobufs.specs.RowValues.{SlotRow}
+use Rattle.iobufs.specs.Inside.Ends.{IsRow, views_in}
+use Rattle.iobufs.specs.Inside.Gaps.{AreSlots, filled, gaps_len, slot_of, slots_in, stood_len}
+use Rattle.iobufs.specs.Inside.Pieces.{AreViews, pieces_bytes}
+use Rattle.iobufs.specs.Inside.RowValues.{SlotRow}
 use Rattle.iobufs.specs.declared.bufs.row.Piece.{Piece}
-use Rattle.iobufs.proofs.AddLaws.{add-full, add-views}
-use Rattle.iobufs.proofs.GapLaws.{IsFilling, filled-last, filling-first, filling-none, filling-set}
+use Rattle.iobufs.proofs.Building.AddLaws.{add-full, add-views}
+use Rattle.iobufs.proofs.Building.GapLaws.{IsFilling, filled-last, filling-first, filling-none, filling-set}
 use Rattle.iobufs.proofs.bufs.row.Gapped.fill.Goals as goal
 
 pub loop-i-init : goal.loop-i-init

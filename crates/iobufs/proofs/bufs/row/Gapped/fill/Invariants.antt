@@ -1,6 +1,6 @@
 use Rattle.std.proofs.Common.{◌≡◌, take, drop, deque_len, deque_capacity}
-use Rattle.iobufs.specs.Gaps.{filled, slots_in}
-use Rattle.iobufs.proofs.GapLaws.{IsFilling}
+use Rattle.iobufs.specs.Inside.Gaps.{filled, slots_in}
+use Rattle.iobufs.proofs.Building.GapLaws.{IsFilling}
 use Rattle.iobufs.proofs.bufs.row.Gapped.fill.Given as goal
 
 abbrev pub invariant-loop-i : goal.invariant-loop-i

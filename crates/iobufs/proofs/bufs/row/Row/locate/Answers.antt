@@ -1,10 +1,10 @@
 use Rattle.std.proofs.Common.{◌-◌, ap, sym, ◌∙◌, arith, length, subst}
 use Rattle.std.proofs.lemmas.List.{length-map}
-use Rattle.iobufs.specs.Ends.{from_base}
+use Rattle.iobufs.specs.Inside.Ends.{from_base}
 use Rattle.iobufs.specs.declared.bufs.row.Piece.{Piece}
-use Rattle.iobufs.specs.Pieces.{IsPlace, piece_start, pieces_bytes}
-use Rattle.iobufs.specs.RowValues.{ViewRow}
-use Rattle.iobufs.proofs.EndLaws.{row-search, place-first}
+use Rattle.iobufs.specs.Inside.Pieces.{IsPlace, piece_start, pieces_bytes}
+use Rattle.iobufs.specs.Inside.RowValues.{ViewRow}
+use Rattle.iobufs.proofs.Text.EndLaws.{row-search, place-first}
 use Rattle.iobufs.proofs.bufs.row.Row.locate.Goals as goal
 
 pub invariant_of-ends : goal.invariant_of-ends

@@ -1,6 +1,6 @@
 use Rattle.std.proofs.Common.{◌++◌, ap, ◌∙◌}
 use Rattle.std.specs.Option.{option_to_list}
-use Rattle.iobufs.proofs.EndLaws.{row-pop}
+use Rattle.iobufs.proofs.Text.EndLaws.{row-pop}
 use Rattle.iobufs.proofs.bufs.row.Row.pop_front.Goals as goal
 
 pub invariant_of-self : goal.invariant_of-self

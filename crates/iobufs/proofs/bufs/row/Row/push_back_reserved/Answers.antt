@@ -1,7 +1,7 @@
 use Rattle.std.proofs.Common.{◌+◌, ◌%◌, ◌^◌, sym, ap, ◌∙◌, arith, length}
-use Rattle.iobufs.specs.Pieces.{pieces_bytes}
-use Rattle.iobufs.specs.RowValues.{ViewRow}
-use Rattle.iobufs.proofs.EndLaws.{row-push}
+use Rattle.iobufs.specs.Inside.Pieces.{pieces_bytes}
+use Rattle.iobufs.specs.Inside.RowValues.{ViewRow}
+use Rattle.iobufs.proofs.Text.EndLaws.{row-push}
 use Rattle.iobufs.proofs.bufs.row.Row.push_back_reserved.Goals as goal
 
 pub invariant_of-self : goal.invariant_of-self

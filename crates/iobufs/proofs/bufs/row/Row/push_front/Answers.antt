@@ -1,9 +1,9 @@
 use Rattle.std.proofs.Common.{List, ◌+◌, ◌-◌, ◌%◌, ◌^◌, ◌∷◌, ◌∙◌, sym, subst, ap, arith, length}
-use Rattle.iobufs.specs.Ends.{IsRow}
+use Rattle.iobufs.specs.Inside.Ends.{IsRow}
 use Rattle.iobufs.specs.declared.bufs.row.Piece.{Piece}
-use Rattle.iobufs.specs.Pieces.{pieces_bytes}
-use Rattle.iobufs.specs.RowValues.{ViewRow}
-use Rattle.iobufs.proofs.EndLaws.{row-cons}
+use Rattle.iobufs.specs.Inside.Pieces.{pieces_bytes}
+use Rattle.iobufs.specs.Inside.RowValues.{ViewRow}
+use Rattle.iobufs.proofs.Text.EndLaws.{row-cons}
 use Rattle.iobufs.proofs.bufs.row.Row.push_front.Goals as goal
 
 pub invariant_of-self : goal.invariant_of-self

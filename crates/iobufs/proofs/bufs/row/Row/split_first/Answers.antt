@@ -1,9 +1,9 @@
 use Rattle.std.proofs.Common.{ap, arith, length, subst}
 use Rattle.iobufs_core.specs.View.{View}
-use Rattle.iobufs.specs.Pieces.{AreFull, piece_at, view_len}
-use Rattle.iobufs.specs.RowValues.{ViewRow}
-use Rattle.iobufs.proofs.EndLaws.{row-shorten}
-use Rattle.iobufs.proofs.RowLaws.{first-left, first-right}
+use Rattle.iobufs.specs.Inside.Pieces.{AreFull, piece_at, view_len}
+use Rattle.iobufs.specs.Inside.RowValues.{ViewRow}
+use Rattle.iobufs.proofs.Text.EndLaws.{row-shorten}
+use Rattle.iobufs.proofs.Text.RowLaws.{first-left, first-right}
 use Rattle.iobufs.proofs.bufs.row.Row.split_first.Goals as goal
 
 pub returns-then-at-len-clause-answer : goal.returns-then-at-len-clause-answer

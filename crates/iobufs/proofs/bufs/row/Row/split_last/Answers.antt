@@ -1,10 +1,10 @@
 use Rattle.std.proofs.Common.{◌+◌, ◌%◌, ◌^◌, length-take-le, ap, sym, ◌∙◌, arith, length, subst}
 use Rattle.iobufs_core.specs.View.{View}
-use Rattle.iobufs.specs.Ends.{IsRow, views_in}
-use Rattle.iobufs.specs.Pieces.{AreFull, pieces_bytes}
-use Rattle.iobufs.specs.RowValues.{ViewRow}
-use Rattle.iobufs.proofs.EndLaws.{row-take, row-push}
-use Rattle.iobufs.proofs.RowLaws.{last-left, last-right, last-front, last-behind, last-inside, last-sum, popped, views-popped}
+use Rattle.iobufs.specs.Inside.Ends.{IsRow, views_in}
+use Rattle.iobufs.specs.Inside.Pieces.{AreFull, pieces_bytes}
+use Rattle.iobufs.specs.Inside.RowValues.{ViewRow}
+use Rattle.iobufs.proofs.Text.EndLaws.{row-take, row-push}
+use Rattle.iobufs.proofs.Text.RowLaws.{last-left, last-right, last-front, last-behind, last-inside, last-sum, popped, views-popped}
 use Rattle.iobufs.proofs.bufs.row.Row.split_last.Goals as goal
 
 pub invariant_of-self : goal.invariant_of-self

@@ -1,7 +1,7 @@
 use Rattle.std.proofs.Common.{◌++◌, take, refl, sym, subst, ap, ◌∙◌}
-use Rattle.iobufs.specs.Pieces.{IsPlace, left_pieces, right_pieces}
-use Rattle.iobufs.specs.RowValues.{ViewRow}
-use Rattle.iobufs.proofs.RowLaws.{inside-dropped, left-row, right-row}
+use Rattle.iobufs.specs.Inside.Pieces.{IsPlace, left_pieces, right_pieces}
+use Rattle.iobufs.specs.Inside.RowValues.{ViewRow}
+use Rattle.iobufs.proofs.Text.RowLaws.{inside-dropped, left-row, right-row}
 use Rattle.iobufs.proofs.bufs.row.Row.split_left.Goals as goal
 
 pub cut-requires-clause-inside : goal.cut-requires-clause-inside

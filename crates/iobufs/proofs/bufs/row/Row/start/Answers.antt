@@ -1,7 +1,7 @@
 use Rattle.std.proofs.Common.{◌≡◌, ◌-◌, suc, ap, ◌∙◌, arith, refl}
-use Rattle.iobufs.specs.Pieces.{piece_start}
-use Rattle.iobufs.specs.RowValues.{ViewRow}
-use Rattle.iobufs.proofs.EndLaws.{end-of}
+use Rattle.iobufs.specs.Inside.Pieces.{piece_start}
+use Rattle.iobufs.specs.Inside.RowValues.{ViewRow}
+use Rattle.iobufs.proofs.Text.EndLaws.{end-of}
 use Rattle.iobufs.proofs.bufs.row.Row.start.Goals as goal
 
 pub returns : goal.returns

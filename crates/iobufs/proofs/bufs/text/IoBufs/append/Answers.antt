@@ -1,6 +1,6 @@
 use Rattle.std.proofs.Common.{ap, ◌∙◌, arith}
-use Rattle.iobufs.specs.Pieces.{of_pieces}
-use Rattle.iobufs.proofs.TextLaws.{length-kept, full-kept, append-pieces, kept-push}
+use Rattle.iobufs.specs.Inside.Pieces.{of_pieces}
+use Rattle.iobufs.proofs.Text.TextLaws.{length-kept, full-kept, append-pieces, kept-push}
 use Rattle.iobufs.proofs.bufs.text.IoBufs.append.Goals as goal
 
 pub push_back-requires-clause-full : goal.push_back-requires-clause-full

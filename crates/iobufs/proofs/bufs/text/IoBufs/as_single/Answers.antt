@@ -1,5 +1,5 @@
 use Rattle.std.proofs.Common.{sym, ◌∙◌, arith}
-use Rattle.iobufs.proofs.ReadLaws.{one-piece, single-view}
+use Rattle.iobufs.proofs.Text.ReadLaws.{one-piece, single-view}
 use Rattle.iobufs.proofs.bufs.text.IoBufs.as_single.Goals as goal
 
 pub piece-requires : goal.piece-requires

@@ -1,8 +1,8 @@
 use Rattle.std.proofs.Common.{sym, ap, ◌∙◌, arith, length, Some, get_or}
 use Rattle.std.specs.List.{slice_get}
 use Rattle.iobufs_core.specs.View.{View}
-use Rattle.iobufs.proofs.TextLaws.{bytes-kept}
-use Rattle.iobufs.proofs.ReadLaws.{byte-at_place}
+use Rattle.iobufs.proofs.Text.TextLaws.{bytes-kept}
+use Rattle.iobufs.proofs.Text.ReadLaws.{byte-at_place}
 use Rattle.iobufs.proofs.bufs.text.IoBufs.byte_behind.Goals as goal
 
 pub locate-place-requires : goal.locate-place-requires

@@ -1,5 +1,5 @@
 use Rattle.std.proofs.Common.{ap, ◌∙◌, arith, Some, None}
-use Rattle.iobufs.proofs.TextLaws.{chunk-at, chunk-none, length-kept, full-kept, some_views}
+use Rattle.iobufs.proofs.Text.TextLaws.{chunk-at, chunk-none, length-kept, full-kept, some_views}
 use Rattle.iobufs.proofs.bufs.text.IoBufs.chunk_at.Goals as goal
 
 pub returns-in-Some : goal.returns-in-Some

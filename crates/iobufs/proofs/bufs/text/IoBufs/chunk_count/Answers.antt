@@ -2,8 +2,8 @@ use Rattle.std.proofs.Common.{◌≡◌, ◌+◌, ◌<◌, List, ℕ, ◌∙◌,
 use Rattle.std.proofs.lemmas.Bool.Decides.{nat_tests}
 use Rattle.iobufs_core.specs.MarkedText.{chunk_count, text_len}
 use Rattle.iobufs_core.specs.Chunked.{length-text_chunks}
-use Rattle.iobufs.proofs.ChunkLaws.{chunks-of_empty}
-use Rattle.iobufs.proofs.TextLaws.{count-pieces, length-kept}
+use Rattle.iobufs.proofs.Text.ChunkLaws.{chunks-of_empty}
+use Rattle.iobufs.proofs.Text.TextLaws.{count-pieces, length-kept}
 use Rattle.iobufs.proofs.bufs.text.IoBufs.chunk_count.Goals as goal
 
 pub returns-then-len-eq0-clause-chunks : goal.returns-then-len-eq0-clause-chunks

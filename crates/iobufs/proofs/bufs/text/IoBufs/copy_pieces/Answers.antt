@@ -1,5 +1,5 @@
 use Rattle.std.proofs.Common.{ap, ◌∙◌, arith, length, take}
-use Rattle.iobufs.proofs.TextLaws.{bytes-kept}
+use Rattle.iobufs.proofs.Text.TextLaws.{bytes-kept}
 use Rattle.iobufs.proofs.bufs.text.IoBufs.copy_pieces.Goals as goal
 
 pub fill-requires : goal.fill-requires

@@ -1,5 +1,5 @@
 use Rattle.std.proofs.Common.{arith}
-use Rattle.iobufs.proofs.TextLaws.{length-kept, full-kept, kept-rest, rest-kept}
+use Rattle.iobufs.proofs.Text.TextLaws.{length-kept, full-kept, kept-rest, rest-kept}
 use Rattle.iobufs.proofs.bufs.text.IoBufs.drop_pieces.Goals as goal
 
 pub drop_front-requires-clause-full : goal.drop_front-requires-clause-full

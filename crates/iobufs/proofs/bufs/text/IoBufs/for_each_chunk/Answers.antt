@@ -2,12 +2,12 @@ use Rattle.std.proofs.Common.{[], ◌∷◌, List, ℕ, refl, sym, ap, ◌∙◌
 use Rattle.std.proofs.lemmas.Fn.{called_at}
 use Rattle.std.specs.Fn.{CalledAt}
 use Rattle.std.specs.List.{FoldsTo}
-use Rattle.iobufs.specs.Pieces.{of_pieces, pieces_bytes}
+use Rattle.iobufs.specs.Inside.Pieces.{of_pieces, pieces_bytes}
 use Rattle.iobufs.specs.declared.bufs.pieces.Pieces.{Pieces}
-use Rattle.iobufs.specs.Several.{views}
-use Rattle.iobufs.proofs.ChunkLaws.{chunks-of_empty}
-use Rattle.iobufs.proofs.SeveralLaws.{pieced-as}
-use Rattle.iobufs.proofs.TextLaws.{chunks-kept, length-kept}
+use Rattle.iobufs.specs.Inside.Several.{views}
+use Rattle.iobufs.proofs.Text.ChunkLaws.{chunks-of_empty}
+use Rattle.iobufs.proofs.Text.SeveralLaws.{pieced-as}
+use Rattle.iobufs.proofs.Text.TextLaws.{chunks-kept, length-kept}
 use Rattle.iobufs.proofs.bufs.text.IoBufs.for_each_chunk.Goals as goal
 
 pub returns-then-len-ne0 : goal.returns-then-len-ne0

@@ -3,7 +3,7 @@ use Rattle.std.proofs.lemmas.Bool.{false≢true}
 use Rattle.std.proofs.Math.Nat.{pos_of_ne-zero}
 use Rattle.std.proofs.lemmas.Result.{err_from_is_err_and}
 use Rattle.iobufs_core.specs.MarkedText.{text_len}
-use Rattle.iobufs.proofs.RunLaws.{run_to_end, run_to_item, joined-more, fits-more, refused-at}
+use Rattle.iobufs.proofs.Text.RunLaws.{run_to_end, run_to_item, joined-more, fits-more, refused-at}
 use Rattle.iobufs.proofs.bufs.text.IoBufs.from_chunks.Goals as goal
 
 pub loop-chunk-preserved : goal.loop-chunk-preserved

@@ -1,5 +1,5 @@
 use Rattle.std.proofs.Common.{arith, ap, ◌∙◌, take}
-use Rattle.iobufs.proofs.TextLaws.{length-kept, bytes-kept}
+use Rattle.iobufs.proofs.Text.TextLaws.{length-kept, bytes-kept}
 use Rattle.iobufs.proofs.bufs.text.IoBufs.front.Goals as goal
 
 pub front-requires : goal.front-requires

@@ -1,6 +1,6 @@
 use Rattle.std.proofs.Common.{arith, refl}
-use Rattle.iobufs.proofs.TextLaws.{length-kept}
-use Rattle.iobufs.proofs.ReadLaws.{coalesced-copy, several-len, as_text}
+use Rattle.iobufs.proofs.Text.TextLaws.{length-kept}
+use Rattle.iobufs.proofs.Text.ReadLaws.{coalesced-copy, several-len, as_text}
 use Rattle.iobufs.proofs.bufs.text.IoBufs.gathered.Goals as goal
 
 pub copied-requires-clause-inside : goal.copied-requires-clause-inside

@@ -1,5 +1,5 @@
 use Rattle.std.proofs.Common.{sym, ap, ◌∙◌, nat_eq}
-use Rattle.iobufs.proofs.TextLaws.{single-kept}
+use Rattle.iobufs.proofs.Text.TextLaws.{single-kept}
 use Rattle.iobufs.proofs.bufs.text.IoBufs.is_single.Goals as goal
 
 pub returns : goal.returns

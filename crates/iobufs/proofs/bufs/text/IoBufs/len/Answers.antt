@@ -1,5 +1,5 @@
 use Rattle.std.proofs.Common.{◌∙◌}
-use Rattle.iobufs.proofs.TextLaws.{length-kept, IsMarked-kept}
+use Rattle.iobufs.proofs.Text.TextLaws.{length-kept, IsMarked-kept}
 use Rattle.iobufs.proofs.bufs.text.IoBufs.len.Goals as goal
 
 pub returns : goal.returns

@@ -1,7 +1,7 @@
 use Rattle.std.proofs.Common.{arith}
-use Rattle.iobufs.proofs.Halves.{few_digits}
-use Rattle.iobufs.proofs.LocateLaws.{index-located, offset-located}
-use Rattle.iobufs.proofs.TextLaws.{count-pieces, length-kept}
+use Rattle.iobufs.proofs.Text.Halves.{few_digits}
+use Rattle.iobufs.proofs.Text.LocateLaws.{index-located, offset-located}
+use Rattle.iobufs.proofs.Text.TextLaws.{count-pieces, length-kept}
 use Rattle.iobufs.proofs.bufs.text.IoBufs.locate.Goals as goal
 
 pub locate-requires : goal.locate-requires

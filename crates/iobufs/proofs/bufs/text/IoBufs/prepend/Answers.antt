@@ -1,6 +1,6 @@
 use Rattle.std.proofs.Common.{ap, ◌∙◌, arith}
-use Rattle.iobufs.specs.Pieces.{of_pieces}
-use Rattle.iobufs.proofs.TextLaws.{length-kept, full-kept, prepend-pieces, kept-cons}
+use Rattle.iobufs.specs.Inside.Pieces.{of_pieces}
+use Rattle.iobufs.proofs.Text.TextLaws.{length-kept, full-kept, prepend-pieces, kept-cons}
 use Rattle.iobufs.proofs.bufs.text.IoBufs.prepend.Goals as goal
 
 pub push_front-requires-clause-full : goal.push_front-requires-clause-full

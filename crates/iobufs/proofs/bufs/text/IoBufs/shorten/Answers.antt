@@ -1,9 +1,9 @@
 use Rattle.std.proofs.Common.{List, ap, arith, length, nat_lt, sym, ℕ, ◌∙◌}
 use Rattle.std.proofs.lemmas.Bool.{ltb-true}
-use Rattle.iobufs.specs.Pieces.{piece_at, view_len}
-use Rattle.iobufs.specs.Several.{views}
-use Rattle.iobufs.proofs.ReadLaws.{first-inside, first-kept, short-rest}
-use Rattle.iobufs.proofs.TextLaws.{kept-short, full-kept, length-kept}
+use Rattle.iobufs.specs.Inside.Pieces.{piece_at, view_len}
+use Rattle.iobufs.specs.Inside.Several.{views}
+use Rattle.iobufs.proofs.Text.ReadLaws.{first-inside, first-kept, short-rest}
+use Rattle.iobufs.proofs.Text.TextLaws.{kept-short, full-kept, length-kept}
 use Rattle.iobufs.proofs.bufs.text.IoBufs.shorten.Goals as goal
 
 pub returns-clause-rest : goal.returns-clause-rest

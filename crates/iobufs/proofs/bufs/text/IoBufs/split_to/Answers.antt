@@ -1,9 +1,9 @@
 use Rattle.std.proofs.Common.{sym, ap, ◌∙◌, length, arith}
 use Rattle.std.proofs.lemmas.Bool.{false≢true}
-use Rattle.iobufs.proofs.ReadLaws.{first-kept}
-use Rattle.iobufs.specs.Several.{views}
-use Rattle.iobufs.proofs.SeveralLaws.{last-view}
-use Rattle.iobufs.proofs.TextLaws.{chunks-kept, some_views, length-kept, full-kept, kept-front, kept-rest, front-kept, rest-kept}
+use Rattle.iobufs.proofs.Text.ReadLaws.{first-kept}
+use Rattle.iobufs.specs.Inside.Several.{views}
+use Rattle.iobufs.proofs.Text.SeveralLaws.{last-view}
+use Rattle.iobufs.proofs.Text.TextLaws.{chunks-kept, some_views, length-kept, full-kept, kept-front, kept-rest, front-kept, rest-kept}
 use Rattle.iobufs.proofs.bufs.text.IoBufs.split_to.Goals as goal
 
 pub split_front-requires-clause-full : goal.split_front-requires-clause-full

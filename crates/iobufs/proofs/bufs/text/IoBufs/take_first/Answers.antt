@@ -1,7 +1,7 @@
 use Rattle.std.proofs.Common.{arith, sym, subst, ap, ◌∙◌, length}
-use Rattle.iobufs.specs.Several.{views}
-use Rattle.iobufs.proofs.ReadLaws.{first-kept, first-rest, first-whole, kept-behind, length-behind}
-use Rattle.iobufs.proofs.TextLaws.{length-kept, full-kept}
+use Rattle.iobufs.specs.Inside.Several.{views}
+use Rattle.iobufs.proofs.Text.ReadLaws.{first-kept, first-rest, first-whole, kept-behind, length-behind}
+use Rattle.iobufs.proofs.Text.TextLaws.{length-kept, full-kept}
 use Rattle.iobufs.proofs.bufs.text.IoBufs.take_first.Goals as goal
 
 pub take_first-requires-clause-full : goal.take_first-requires-clause-full

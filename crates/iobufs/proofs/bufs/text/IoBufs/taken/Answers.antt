@@ -2,11 +2,11 @@ use Rattle.std.proofs.Common.{◌+◌, ◌<◌, sym, ap, ◌∙◌, arith, lengt
 use Rattle.std.specs.declared.ops.Bound.TheVariants.{Included, Excluded}
 use Rattle.iobufs_core.specs.View.{View, view_slice}
 use Rattle.iobufs_core.specs.MarkedText.{taken_view}
-use Rattle.iobufs.specs.Several.{views}
-use Rattle.iobufs.proofs.TakenLaws.{taken_view-none}
-use Rattle.iobufs.proofs.ReadLaws.{first-inside, taken-within, as_view}
-use Rattle.iobufs.specs.Pieces.{piece_at, view_len}
-use Rattle.iobufs.proofs.SeveralLaws.{place-in_first}
+use Rattle.iobufs.specs.Inside.Several.{views}
+use Rattle.iobufs.proofs.Text.TakenLaws.{taken_view-none}
+use Rattle.iobufs.proofs.Text.ReadLaws.{first-inside, taken-within, as_view}
+use Rattle.iobufs.specs.Inside.Pieces.{piece_at, view_len}
+use Rattle.iobufs.proofs.Text.SeveralLaws.{place-in_first}
 use Rattle.iobufs.proofs.bufs.text.IoBufs.taken.Goals as goal
 
 pub returns-then-n-eq0-clause-ok : goal.returns-then-n-eq0-clause-ok

@@ -1,9 +1,9 @@
 use Rattle.std.proofs.Common.{◌+◌, ap, ◌∙◌, arith, length, refl}
 use Rattle.std.specs.declared.ops.Bound.TheVariants.{Included, Excluded}
 use Rattle.iobufs_core.specs.View.{View, view_slice}
-use Rattle.iobufs.specs.Several.{views}
-use Rattle.iobufs.proofs.ReadLaws.{taken-within, taken-across, rest-length, as_view}
-use Rattle.iobufs.proofs.TextLaws.{length-kept}
+use Rattle.iobufs.specs.Inside.Several.{views}
+use Rattle.iobufs.proofs.Text.ReadLaws.{taken-within, taken-across, rest-length, as_view}
+use Rattle.iobufs.proofs.Text.TextLaws.{length-kept}
 use Rattle.iobufs.proofs.bufs.text.IoBufs.taken_behind.Goals as goal
 
 pub locate-place-requires : goal.locate-place-requires

@@ -1,7 +1,7 @@
 use Rattle.std.proofs.Common.{sym, ap, ◌∙◌}
-use Rattle.iobufs.specs.Pieces.{of_pieces}
-use Rattle.iobufs.specs.Several.{views}
-use Rattle.iobufs.proofs.TextLaws.{one-view, single-more}
+use Rattle.iobufs.specs.Inside.Pieces.{of_pieces}
+use Rattle.iobufs.specs.Inside.Several.{views}
+use Rattle.iobufs.proofs.Text.TextLaws.{one-view, single-more}
 use Rattle.iobufs.proofs.bufs.text.IoBufs.try_into_single.Goals as goal
 
 pub returns-in-Ok : goal.returns-in-Ok

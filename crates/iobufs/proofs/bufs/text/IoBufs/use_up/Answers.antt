@@ -1,6 +1,6 @@
 use Rattle.std.proofs.Common.{sym, ◌∙◌, arith}
-use Rattle.iobufs.proofs.TextLaws.{length-kept}
-use Rattle.iobufs.proofs.ReadLaws.{one-piece, one-len, kept-single, advanced-single}
+use Rattle.iobufs.proofs.Text.TextLaws.{length-kept}
+use Rattle.iobufs.proofs.Text.ReadLaws.{one-piece, one-len, kept-single, advanced-single}
 use Rattle.iobufs.proofs.bufs.text.IoBufs.use_up.Goals as goal
 
 pub drop_single-requires-clause-single : goal.drop_single-requires-clause-single

@@ -1,4 +1,4 @@
-use Rattle.iobufs.proofs.PieceLaws.{of_pieces-one}
+use Rattle.iobufs.proofs.Text.PieceLaws.{of_pieces-one}
 use Rattle.iobufs.proofs.bufs.text.IoBufsFromIoBuf.from.Goals as goal
 
 pub returns : goal.returns

@@ -1,7 +1,7 @@
 use Rattle.std.proofs.Common.{ap, arith, length, sym, ◌∙◌}
 use Rattle.iobufs.specs.Parts.{parts_filled}
-use Rattle.iobufs.proofs.PartRuns.{default-some}
-use Rattle.iobufs.proofs.SumLaws.{spare-summed, summed-drained}
+use Rattle.iobufs.proofs.Parts.PartRuns.{default-some}
+use Rattle.iobufs.proofs.Parts.SumLaws.{spare-summed, summed-drained}
 use Rattle.iobufs.proofs.bufs_mut.several.Several.advance.Goals as goal
 
 pub overflow_sub-self-2 : goal.overflow_sub-self-2

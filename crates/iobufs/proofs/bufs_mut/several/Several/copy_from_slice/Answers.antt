@@ -1,4 +1,4 @@
-use Rattle.iobufs.proofs.SumLaws.{summed-overwritten}
+use Rattle.iobufs.proofs.Parts.SumLaws.{summed-overwritten}
 use Rattle.iobufs.proofs.bufs_mut.several.Several.copy_from_slice.Goals as goal
 
 pub invariant_of-self : goal.invariant_of-self

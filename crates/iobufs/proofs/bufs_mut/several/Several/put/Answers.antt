@@ -1,6 +1,6 @@
 use Rattle.std.proofs.Common.{ap, arith}
 use Rattle.iobufs.specs.Parts.{parts_spare}
-use Rattle.iobufs.proofs.SumLaws.{spare-summed, summed-fill}
+use Rattle.iobufs.proofs.Parts.SumLaws.{spare-summed, summed-fill}
 use Rattle.iobufs.proofs.bufs_mut.several.Several.put.Goals as goal
 
 pub overflow_add-self : goal.overflow_add-self

@@ -1,7 +1,7 @@
 use Rattle.std.proofs.Common.{◌≡◌, ap, arith, length, replicate}
 use Rattle.std.proofs.lemmas.List.{length-replicate}
 use Rattle.iobufs.specs.Parts.{parts_spare}
-use Rattle.iobufs.proofs.SumLaws.{spare-summed, summed-fill}
+use Rattle.iobufs.proofs.Parts.SumLaws.{spare-summed, summed-fill}
 use Rattle.iobufs.proofs.bufs_mut.several.Several.put_bytes.Goals as goal
 
 pub overflow_add-self : goal.overflow_add-self

@@ -1,6 +1,6 @@
 use Rattle.std.proofs.Common.{ap, arith}
 use Rattle.iobufs.specs.Parts.{parts_capacity}
-use Rattle.iobufs.proofs.SumLaws.{summed-with_len}
+use Rattle.iobufs.proofs.Parts.SumLaws.{summed-with_len}
 use Rattle.iobufs.proofs.bufs_mut.several.Several.set_len.Goals as goal
 
 pub invariant_of-self : goal.invariant_of-self

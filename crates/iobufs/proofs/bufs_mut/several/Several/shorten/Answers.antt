@@ -1,6 +1,6 @@
 use Rattle.std.proofs.Common.{ap, arith, length, refl}
 use Rattle.iobufs.specs.Parts.{parts_filled}
-use Rattle.iobufs.proofs.SumLaws.{spare-summed, summed-drained}
+use Rattle.iobufs.proofs.Parts.SumLaws.{spare-summed, summed-drained}
 use Rattle.iobufs.proofs.bufs_mut.several.Several.shorten.Goals as goal
 
 pub overflow_sub-self : goal.overflow_sub-self

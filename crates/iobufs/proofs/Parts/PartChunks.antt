@@ -1,0 +1,90 @@
+-- The bytes of parts, as a reader sees them piece by piece.
+use Rattle.std.proofs.Common.{◌≡◌, ℕ, zero, suc, ◌+◌, ◌-◌, ◌<◌, ◌≤◌, List, [], ◌∷◌, ◌++◌, length, take, map, slice_get, min, refl, sym, ap, ◌∙◌, arith, append-nil, append_assoc, length-take, take_all, ⊎_elim}
+use Rattle.std.proofs.lemmas.Bool.{cases_lt}
+use Rattle.std.proofs.lemmas.List.{take-append-le}
+use Rattle.std.proofs.Math.Seq.{take-nil}
+use Rattle.iobufs_core.specs.Chunks.{IsChunkOf, first_chunk, full_chunks}
+use Rattle.iobufs_core.specs.Part.{Part}
+use Rattle.std.proofs.lemmas.List.{nil_from_length}
+use Rattle.iobufs.specs.Laws.Filling.{take_both}
+use Rattle.iobufs.specs.Parts.{parts_chunks, parts_filled}
+
+pub filled-one : (p : Part) → parts_filled (p ∷ []) ≡ p.filled
+filled-one p = append-nil p.filled
+
+-- a part without bytes is no chunk
+pub chunks-empty : (p : Part) (parts : List Part) → length p.filled ≡ 0 → parts_chunks (p ∷ parts) ≡ parts_chunks parts
+chunks-empty p parts e = ap (λ bytes. full_chunks (bytes ∷ map (λ (q : Part). q.filled) parts)) (nil_from_length p.filled e)
+
+full_first : (bytes : List ℕ) (texts : List (List ℕ)) → 0 < length bytes → full_chunks (bytes ∷ texts) ≡ bytes ∷ full_chunks texts
+full_first [] texts h = absurd (omega arith)
+full_first (byte ∷ bytes) texts h = refl
+
+pub chunks-full : (p : Part) (parts : List Part) → 0 < length p.filled → parts_chunks (p ∷ parts) ≡ p.filled ∷ parts_chunks parts
+chunks-full p parts h = full_first p.filled (map (λ q. q.filled) parts) h
+
+-- bytes that are not none are a beginning of what they begin
+chunk_front : (bytes rest : List ℕ) → 0 < length bytes → IsChunkOf bytes (bytes ++ rest)
+chunk_front bytes rest h = record {
+  front = sym (take-append-le (length bytes) bytes rest (omega arith) ∙ take_all (length bytes) bytes (omega arith));
+  some = λ e. absurd (omega arith);
+}
+
+-- the first chunk is a beginning of the filled bytes
+pub first_chunk-front : (parts : List Part) → IsChunkOf (first_chunk (parts_chunks parts)) (parts_filled parts)
+first_chunk-front [] = record { front = refl; some = λ e. refl }
+first_chunk-front (p ∷ parts) =
+    ⊎_elim
+    (λ (h : 0 < length p.filled). rw (chunks-full p parts h) (chunk_front p.filled (parts_filled parts) h))
+    (λ (h : length p.filled ≤ 0). let none : p.filled ≡ [] = nil_from_length p.filled (omega arith) in rw none (first_chunk-front parts))
+    (cases_lt 0 (length p.filled))
+
+-- the byte at a place, in a part or behind it
+pub byte_in : (bytes rest : List ℕ) (at : ℕ) → at < length bytes → slice_get (bytes ++ rest) at ≡ slice_get bytes at
+byte_in [] rest at h = absurd (omega arith)
+byte_in (byte ∷ bytes) rest zero h = refl
+byte_in (byte ∷ bytes) rest (suc at) h = byte_in bytes rest at (omega arith)
+
+pub byte_behind : (bytes rest : List ℕ) (at : ℕ) → length bytes ≤ at → slice_get (bytes ++ rest) at ≡ slice_get rest (at - length bytes)
+byte_behind [] rest at h = let same : at ≡ at - 0 = omega arith in ap (slice_get rest) same
+byte_behind (byte ∷ bytes) rest zero h = absurd (omega arith)
+byte_behind (byte ∷ bytes) rest (suc at) h =
+    let same : at - length bytes ≡ suc at - length (byte ∷ bytes) = omega arith in byte_behind bytes rest at (omega arith) ∙ ap (slice_get rest) same
+
+-- one part's share of the first k bytes
+pub share-turn : (all before bytes rest : List ℕ) (k n : ℕ) → n ≡ min k (length bytes) → all ≡ before ++ take k (bytes ++ rest) → all ≡ (before ++ take n bytes) ++ take (k - n) rest
+share-turn all before bytes rest k n e h =
+    let both = take_both k bytes rest in
+    let less : k - length bytes ≡ k - n = omega arith in
+    let share : take k bytes ≡ take n bytes =
+    ⊎_elim
+    (λ (l : k < length bytes). let same : k ≡ n = omega arith in ap (λ m. take m bytes) same)
+    (λ (l : length bytes ≤ k). take_all k bytes l ∙ sym (take_all n bytes (omega arith)))
+    (cases_lt k (length bytes)) in
+    h ∙ ap (λ w. before ++ w) (both ∙ (λ i. share i ++ take (less i) rest)) ∙ sym (append_assoc before (take n bytes) (take (k - n) rest))
+
+-- the same where they are written into a destination of length len
+pub read-turn : (all dst new bytes rest : List ℕ) (len at n : ℕ) → at ≤ len → n ≡ min (length bytes) (len - at) → take (at + n) new ≡ take at dst ++ take n bytes
+    → take len all ≡ take at dst ++ take (len - at) (bytes ++ rest) → take len all ≡ take (at + n) new ++ take (len - (at + n)) rest
+read-turn all dst new bytes rest len at n within e written h =
+    let left : len - at - n ≡ len - (at + n) = omega arith in
+    share-turn (take len all) (take at dst) bytes rest (len - at) n (omega arith) h ∙ (λ i. sym written i ++ take (left i) rest)
+
+-- at the end the destination is full
+pub read-done : (all dst : List ℕ) (at : ℕ) → at ≤ length dst → length dst ≤ length all → take (length dst) all ≡ take at dst ++ take (length dst - at) [] → dst ≡ take (length dst) all
+read-done all dst at within fits h =
+    let none = take-nil {A = ℕ} (length dst - at) in
+    let full = h ∙ ap (λ w. take at dst ++ w) none ∙ append-nil (take at dst) in
+    let long = length-take (length dst) all in
+    let short = length-take at dst in
+    let same = ap (λ (w : List ℕ). length w) full in
+    sym (full ∙ take_all at dst (omega arith))
+
+-- one more chunk of at most k
+pub chunk-turn : (before texts : List (List ℕ)) (text : List ℕ) (k : ℕ) → 0 < k → before ++ take k (text ∷ texts) ≡ (before ++ text ∷ []) ++ take (k - 1) texts
+chunk-turn before texts text zero h = absurd (omega arith)
+chunk-turn before texts text (suc k) h =
+    let same : k ≡ suc k - 1 = omega arith in
+    sym (append_assoc before (text ∷ []) (take k texts)) ∙ ap (λ m. (before ++ text ∷ []) ++ take m texts) same
+
+pub ruleset reading = (filled-one, first_chunk-front, chunks-empty, chunks-full, byte_in, byte_behind)

@@ -1,0 +1,90 @@
+-- What the calls on parts keep: capacities, lengths, and what is kept true of several parts.
+use Rattle.std.proofs.Common.{◌≡◌, ℕ, ◌+◌, ◌-◌, List, [], ◌∷◌, ◌++◌, length, take, drop, replicate, min, refl, sym, ap, ◌∙◌, arith, length-append, length-take, length-drop}
+use Rattle.std.specs.List.{sum_by}
+use Rattle.std.proofs.lemmas.List.{length-replicate}
+use Rattle.std.proofs.lemmas.List.Sums.{sum_by-cons}
+use Rattle.iobufs_core.specs.Part.{Part, part_capacity}
+use Rattle.iobufs.specs.Parts.{HaveCapacity, parts_capacity, parts_fill, parts_filled, parts_overwritten, parts_spare, parts_with_len}
+use Rattle.iobufs.specs.Inside.PartShape.{AreSeveral}
+
+-- sums over parts, as an iterator gives them
+pub filled-sum : (parts : List Part) → sum_by (λ (p : Part). length p.filled) parts ≡ length (parts_filled parts)
+filled-sum [] = refl
+filled-sum (p ∷ parts) = sum_by-cons _ p parts ∙ ap (λ n. length p.filled + n) (filled-sum parts) ∙ sym (length-append p.filled (parts_filled parts))
+
+-- the capacity of all is their bytes and their room
+pub capacity-parts : (parts : List Part) → parts_capacity parts ≡ length (parts_filled parts) + parts_spare parts
+capacity-parts [] = refl
+capacity-parts (p ∷ parts) =
+    omega (arith, capacity-parts parts, length-append p.filled (parts_filled parts), sum_by-cons part_capacity p parts, sum_by-cons (λ (x : Part). x.spare) p parts)
+
+pub ruleset sums = (filled-sum, capacity-parts)
+
+-- part by part of the same capacity
+abbrev pub HaveSame : List Part → List Part → Type 0
+HaveSame [] [] = Unit {0}
+HaveSame [] (q ∷ qs) = ⊥
+HaveSame (p ∷ ps) [] = ⊥
+HaveSame (p ∷ ps) (q ∷ qs) = (part_capacity p ≡ part_capacity q) × HaveSame ps qs
+
+same-length : (ps qs : List Part) → HaveSame ps qs → length ps ≡ length qs
+same-length [] [] h = refl
+same-length [] (q ∷ qs) h = absurd h
+same-length (p ∷ ps) [] h = absurd h
+same-length (p ∷ ps) (q ∷ qs) h = omega (arith, same-length ps qs h.1)
+
+pub same-capacity : (ps qs : List Part) → HaveSame ps qs → parts_capacity ps ≡ parts_capacity qs
+same-capacity [] [] h = refl
+same-capacity [] (q ∷ qs) h = absurd h
+same-capacity (p ∷ ps) [] h = absurd h
+same-capacity (p ∷ ps) (q ∷ qs) h = omega (arith, same-capacity ps qs h.1, h.0, sum_by-cons part_capacity p ps, sum_by-cons part_capacity q qs)
+
+same-able : (ps qs : List Part) → HaveSame ps qs → HaveCapacity ps → HaveCapacity qs
+same-able [] [] h a = tt
+same-able [] (q ∷ qs) h a = absurd h
+same-able (p ∷ ps) [] h a = absurd h
+same-able (p ∷ ps) (q ∷ qs) h a = (omega (arith, h.0, a.0), same-able ps qs h.1 a.1)
+
+several-same : (ps qs : List Part) → HaveSame ps qs → AreSeveral ps → AreSeveral qs
+several-same ps qs h a = record {
+  several = omega (arith, same-length ps qs h, a.several);
+  have_capacity = same-able ps qs h a.have_capacity;
+  fits = omega (arith, same-capacity ps qs h, a.fits);
+}
+
+pub same-fill : (parts : List Part) (w : List ℕ) → HaveSame parts (parts_fill parts w)
+same-fill [] w = tt
+same-fill (p ∷ parts) w =
+    let n = length-append p.filled (take p.spare w) in
+    let t = length-take p.spare w in
+    (omega arith, same-fill parts (drop p.spare w))
+
+pub several-fill : (parts : List Part) (w : List ℕ) → AreSeveral parts → AreSeveral (parts_fill parts w)
+several-fill parts w h = several-same parts (parts_fill parts w) (same-fill parts w) h
+
+pub same-with_len : (parts : List Part) (n : ℕ) → HaveSame parts (parts_with_len parts n)
+same-with_len [] n = tt
+same-with_len (p ∷ parts) n =
+    let m = min n (part_capacity p) in
+    let t = length-take m p.filled in
+    let r : length (replicate {A = ℕ} (m - length p.filled) 0) ≡ m - length p.filled = length-replicate (m - length p.filled) 0 in
+    let a = length-append (take m p.filled) (replicate (m - length p.filled) 0) in
+    (omega arith, same-with_len parts (n - part_capacity p))
+
+pub several-with_len : (parts : List Part) (n : ℕ) → AreSeveral parts → AreSeveral (parts_with_len parts n)
+several-with_len parts n h = several-same parts (parts_with_len parts n) (same-with_len parts n) h
+
+pub same-overwritten : (parts : List Part) (w : List ℕ) → HaveSame parts (parts_overwritten parts w)
+same-overwritten [] w = tt
+same-overwritten (p ∷ parts) w =
+    let u = take (length p.filled) w in
+    let a = length-append u (drop (length u) p.filled) in
+    let d = length-drop (length u) p.filled in
+    let t = length-take (length p.filled) (u ++ drop (length u) p.filled) in
+    let v = length-take (length p.filled) w in
+    (omega arith, same-overwritten parts (drop (length p.filled) w))
+
+pub several-overwritten : (parts : List Part) (w : List ℕ) → AreSeveral parts → AreSeveral (parts_overwritten parts w)
+several-overwritten parts w h = several-same parts (parts_overwritten parts w) (same-overwritten parts w) h
+
+pub ruleset kept = (several-fill, several-with_len, several-overwritten)

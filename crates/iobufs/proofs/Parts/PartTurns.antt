@@ -1,0 +1,64 @@
+-- One turn of a loop that goes over parts by index, front to back.
+use Rattle.std.proofs.Common.{◌≡◌, ℕ, ◌+◌, ◌-◌, ◌<◌, ◌≤◌, List, [], ◌∷◌, ◌++◌, length, take, drop, refl, sym, ap, ◌∙◌, arith, append-nil, append_assoc, take-append-drop, ⊎_elim, min, take_all, get_or, set}
+use Rattle.std.proofs.lemmas.Bool.{cases_lt}
+use Rattle.std.proofs.Math.Seq.{drop-set-lt}
+use Rattle.std.proofs.lemmas.List.{drop_all, drop_more, take_more_set}
+use Rattle.iobufs_core.specs.Part.{Part, part_drained, part_put}
+use Rattle.iobufs.specs.Laws.Filling.{fill-nil, same_part}
+use Rattle.iobufs.specs.Parts.{parts_fill, parts_shared_out}
+
+-- f works on one part after the other, and carries s along; the part at i was x and is y
+pub turn : {S : Type 0} (f : List Part → S → List Part) (g : Part → S → Part) (h : Part → S → S) → ((p : Part) (ps : List Part) (s : S) → f (p ∷ ps) s ≡ g p s ∷ f ps (h p s))
+    → (all now : List Part) (i : ℕ) (x y : Part) (s s' : S) → i < length now → x ≡ get_or now i x → y ≡ g x s → s' ≡ h x s
+    → all ≡ take i now ++ f (drop i now) s → all ≡ take (i + 1) (set now i y) ++ f (drop (i + 1) (set now i y)) s'
+turn f g h step all now i x y s s' l e q r so_far =
+    let front : take (i + 1) (set now i y) ≡ take i now ++ y ∷ [] = take_more_set now i y l in
+    let rest : drop (i + 1) (set now i y) ≡ drop (i + 1) now = drop-set-lt (i + 1) now i y (omega arith) in
+    let here : drop i now ≡ x ∷ drop (i + 1) now = drop_more now i x l ∙ ap (λ p. p ∷ drop (i + 1) now) (sym e) in
+    so_far ∙ ap (λ ps. take i now ++ f ps s) here
+    ∙ ap (λ ps. take i now ++ ps) (step x (drop (i + 1) now) s)
+    ∙ (λ j. take i now ++ (sym q j ∷ f (drop (i + 1) now) (sym r j)))
+    ∙ sym (append_assoc (take i now) (y ∷ []) (f (drop (i + 1) now) s'))
+    ∙ (λ j. sym front j ++ f (sym rest j) s')
+
+-- a share of the bytes is what fits or all of them
+share_taken : (w : List ℕ) (n s : ℕ) → n ≡ min (length w) s → take n w ≡ take s w
+share_taken w n s e =
+    ⊎_elim
+    (λ (h : length w < s). let k : n ≡ length w = omega arith in ap (λ m. take m w) k ∙ take_all (length w) w (omega arith) ∙ sym (take_all s w (omega arith)))
+    (λ (h : s ≤ length w). let k : n ≡ s = omega arith in ap (λ m. take m w) k)
+    (cases_lt (length w) s)
+
+share_dropped : (w : List ℕ) (n s : ℕ) → n ≡ min (length w) s → drop n w ≡ drop s w
+share_dropped w n s e =
+    ⊎_elim
+    (λ (h : length w < s). drop_all n w (omega arith) ∙ sym (drop_all s w (omega arith)))
+    (λ (h : s ≤ length w). let k : n ≡ s = omega arith in ap (λ m. drop m w) k)
+    (cases_lt (length w) s)
+
+-- the part takes n bytes, u, and w' is left of them
+pub fill-turn : (all now : List Part) (i : ℕ) (x y : Part) (w w' u : List ℕ) (n : ℕ) → i < length now → x ≡ get_or now i x → y ≡ part_put x u → u ≡ take n w → w' ≡ drop n w → n ≡ min (length w) x.spare
+    → all ≡ take i now ++ parts_fill (drop i now) w → all ≡ take (i + 1) (set now i y) ++ parts_fill (drop (i + 1) (set now i y)) w'
+fill-turn all now i x y w w' u n l e q a b m so_far =
+    turn parts_fill (λ p bytes. part_put p (take p.spare bytes)) (λ p bytes. drop p.spare bytes) (λ p ps bytes. refl) all now i x y w w' l e
+    (q ∙ ap (part_put x) (a ∙ share_taken w n x.spare m)) (b ∙ share_dropped w n x.spare m) so_far
+
+-- a part without room is passed by
+pub fill-past : (all now : List Part) (i : ℕ) (x : Part) (w : List ℕ) → i < length now → x ≡ get_or now i x → x.spare ≡ 0
+    → all ≡ take i now ++ parts_fill (drop i now) w → all ≡ take (i + 1) (set now i x) ++ parts_fill (drop (i + 1) (set now i x)) w
+fill-past all now i x w l e none so_far =
+    fill-turn all now i x x w w [] 0 l e (same_part x (part_put x []) (sym (append-nil x.filled)) (omega arith)) refl refl (omega arith) so_far
+
+-- nothing is left to fill in
+pub fill-done : (all now : List Part) (i : ℕ) → all ≡ take i now ++ parts_fill (drop i now) [] → now ≡ all
+fill-done all now i so_far = sym (so_far ∙ ap (λ ps. take i now ++ ps) (fill-nil (drop i now)) ∙ take-append-drop i now)
+
+-- the part loses its share, n, of the bytes that are to go
+pub shared-turn : (all now : List Part) (i : ℕ) (x y : Part) (rest n : ℕ) → i < length now → x ≡ get_or now i x → y ≡ part_drained x n → n ≡ min rest (length x.filled)
+    → all ≡ take i now ++ parts_shared_out (drop i now) rest → all ≡ take (i + 1) (set now i y) ++ parts_shared_out (drop (i + 1) (set now i y)) (rest - n)
+shared-turn all now i x y rest n l e q m so_far =
+    let less : rest - n ≡ rest - length x.filled = omega arith in
+    let most : n ≡ min (length x.filled) rest = omega arith in
+    let gone : drop n x.filled ≡ drop rest x.filled = share_dropped x.filled n rest most in
+    turn parts_shared_out part_drained (λ p k. k - length p.filled) (λ p ps k. refl) all now i x y rest (rest - n) l e
+    (q ∙ (λ j. record { filled = gone j; spare = x.spare })) less so_far

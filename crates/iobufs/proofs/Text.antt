@@ -1,0 +1,19 @@
+-- Texts in several pieces: their sides, ends, readers and cuts.
+pub mod ChunkLaws
+pub mod CopyLaws
+pub mod EndLaws
+pub mod Halves
+pub mod JoinLaws
+pub mod KeptLaws
+pub mod LocateLaws
+pub mod PieceLaws
+pub mod PlaceLaws
+pub mod ReadLaws
+pub mod RowLaws
+pub mod Rows
+pub mod RunLaws
+pub mod SeveralLaws
+pub mod Sides
+pub mod TakenLaws
+pub mod TextLaws
+pub mod VisitLaws

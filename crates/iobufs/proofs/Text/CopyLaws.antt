@@ -1,0 +1,81 @@
+-- Bytes copied piece by piece.
+use Rattle.std.proofs.Common.{◌≡◌, ℕ, ◌+◌, ◌-◌, ◌<◌, ◌≤◌, List, [], ◌∷◌, ◌++◌, length, take, drop, map, zero, suc, min, sym, ap, ◌∙◌, arith, add-one, append-nil, append_assoc, length-append, length-drop, length-take-le, drop-cons, take_all, ⊎_elim, refl}
+use Rattle.std.proofs.lemmas.List.{map-append, take-append-le, drop-append-le}
+use Rattle.std.proofs.lemmas.Bool.{cases_lt}
+use Rattle.iobufs_core.specs.View.{View, default_view}
+use Rattle.iobufs.specs.Inside.Pieces.{view_len, piece_at, pieces_bytes}
+use Rattle.std.proofs.Common.{Result, Err, Ok, IsErrAnd, IsOkUnless}
+use Rattle.iobufs.specs.Laws.Filling.{take_past}
+
+-- the bytes from inside a piece on
+pub bytes-from : (ps : List View) (i o : ℕ) → i < length ps → o ≤ view_len (piece_at ps i) → drop o (pieces_bytes (drop i ps)) ≡ drop o (piece_at ps i).bytes ++ pieces_bytes (drop (i + 1) ps)
+bytes-from ps i o l h =
+    let d : drop i ps ≡ piece_at ps i ∷ drop (i + 1) ps = drop-cons ps i default_view l ∙ ap (λ k. piece_at ps i ∷ drop k ps) (sym (add-one i)) in
+    ap (λ (qs : List View). drop o (pieces_bytes qs)) d ∙ drop-append-le o (piece_at ps i).bytes (pieces_bytes (drop (i + 1) ps)) h
+
+take-both : (m : ℕ) (b rest : List ℕ) → take m (b ++ rest) ≡ take (min (length b) m) b ++ take (m - min (length b) m) rest
+take-both m b rest =
+    ⊎_elim
+    (λ (h : m < length b).
+    let k : min (length b) m ≡ m = omega arith in
+    let z : m - m ≡ 0 = omega arith in
+    rw (k, z) (take-append-le m b rest (omega arith) ∙ sym (append-nil (take m b))))
+    (λ (h : length b ≤ m).
+    let k : min (length b) m ≡ length b = omega arith in
+    rw k (take_past m b rest h ∙ ap (λ xs. xs ++ take (m - length b) rest) (sym (take_all (length b) b (omega arith)))))
+    (cases_lt m (length b))
+
+-- one turn of a copy: some bytes of a piece from a place in it on, then the next piece from its first byte on
+pub copied-turn : (ps : List View) (i o m : ℕ) (bytes : List ℕ) → i < length ps → o ≤ view_len (piece_at ps i) → bytes ≡ drop o (piece_at ps i).bytes → take m (drop o (pieces_bytes (drop i ps))) ≡ take (min (length bytes) m) bytes ++ take (m - min (length bytes) m) (pieces_bytes (drop (i + 1) ps))
+copied-turn ps i o m bytes l h e =
+    rw e (ap (take m) (bytes-from ps i o l h) ∙ take-both m (drop o (piece_at ps i).bytes) (pieces_bytes (drop (i + 1) ps)))
+
+pub copied-step : (ps : List View) (i o n c k : ℕ) (copy more bytes target : List ℕ) → i < length ps → o ≤ view_len (piece_at ps i) → bytes ≡ drop o (piece_at ps i).bytes → c ≤ n → c ≡ length copy → n - c + o ≤ length (pieces_bytes (drop i ps)) → copy ++ take (n - c) (drop o (pieces_bytes (drop i ps))) ≡ target → k ≡ min (length bytes) (n - c) → more ≡ copy ++ take k bytes →
+    (length more ≤ n) × (n - length more ≤ length (pieces_bytes (drop (i + 1) ps))) × (more ++ take (n - length more) (pieces_bytes (drop (i + 1) ps)) ≡ target)
+copied-step ps i o n c k copy more bytes target l h b s e r t m x =
+    let rest = pieces_bytes (drop (i + 1) ps) in
+    let whole : drop o (pieces_bytes (drop i ps)) ≡ bytes ++ rest = bytes-from ps i o l h ∙ ap (λ xs. xs ++ rest) (sym b) in
+    let total : length (pieces_bytes (drop i ps)) - o ≡ length bytes + length rest = sym (length-drop o (pieces_bytes (drop i ps))) ∙ ap length whole ∙ length-append bytes rest in
+    let some : length (take k bytes) ≡ k = length-take-le k bytes (omega arith) in
+    let longer : length more ≡ c + k = ap length x ∙ length-append copy (take k bytes) ∙ (let q : length copy + length (take k bytes) ≡ c + k = omega arith in q) in
+    let left : n - length more ≡ n - c - k = omega arith in
+    let turn : take (n - c) (drop o (pieces_bytes (drop i ps))) ≡ take k bytes ++ take (n - c - k) rest =
+    copied-turn ps i o (n - c) bytes l h b ∙ ap (λ j. take j bytes ++ take (n - c - j) rest) (sym m) in (
+      omega arith,
+      omega arith,
+      ap (λ j. more ++ take j rest) left ∙ ap (λ xs. xs ++ take (n - c - k) rest) x ∙ append_assoc copy (take k bytes) (take (n - c - k) rest) ∙ ap (λ xs. copy ++ xs) (sym turn) ∙ t,
+    )
+
+-- a slice from a place on
+pub slice_from : (o : ℕ) (b : List ℕ) → take (length b - o) (drop o b) ≡ drop o b
+slice_from o b = take_all (length b - o) (drop o b) (let n = length-drop o b in omega arith)
+
+-- one turn of filling a slice from the front
+pub filled-step : (ps : List View) (i f k : ℕ) (dst now bytes : List ℕ) → i < length ps → bytes ≡ (piece_at ps i).bytes → f ≤ length dst → length dst - f ≤ length (pieces_bytes (drop i ps)) → take f dst ++ take (length dst - f) (pieces_bytes (drop i ps)) ≡ take (length dst) (pieces_bytes ps) → k ≡ min (length bytes) (length dst - f) → length now ≡ length dst → take (f + k) now ≡ take f dst ++ take k bytes →
+    (f + k ≤ length now) × (length now - (f + k) ≤ length (pieces_bytes (drop (i + 1) ps))) × (take (f + k) now ++ take (length now - (f + k)) (pieces_bytes (drop (i + 1) ps)) ≡ take (length now) (pieces_bytes ps))
+filled-step ps i f k dst now bytes l b s r t m same x =
+    let rest = pieces_bytes (drop (i + 1) ps) in
+    let whole : pieces_bytes (drop i ps) ≡ bytes ++ rest = bytes-from ps i 0 l (omega arith) ∙ ap (λ xs. xs ++ rest) (sym b) in
+    let total : length (pieces_bytes (drop i ps)) ≡ length bytes + length rest = ap length whole ∙ length-append bytes rest in
+    let left : length now - (f + k) ≡ length dst - f - k = omega arith in
+    let turn : take (length dst - f) (pieces_bytes (drop i ps)) ≡ take k bytes ++ take (length dst - f - k) rest =
+    copied-turn ps i 0 (length dst - f) bytes l (omega arith) b ∙ ap (λ j. take j bytes ++ take (length dst - f - j) rest) (sym m) in (
+      omega arith,
+      omega arith,
+      ap (λ j. take (f + k) now ++ take j rest) left ∙ ap (λ xs. xs ++ take (length dst - f - k) rest) x ∙ append_assoc (take f dst) (take k bytes) (take (length dst - f - k) rest) ∙ ap (λ xs. take f dst ++ xs) (sym turn) ∙ t ∙ ap (λ n. take n (pieces_bytes ps)) (sym same),
+    )
+
+chunk-next : (ps : List View) (i : ℕ) → i < length ps → take (suc i) (map (λ (p : View). p.bytes) ps) ≡ take i (map (λ (p : View). p.bytes) ps) ++ (piece_at ps i).bytes ∷ []
+chunk-next [] i l = absurd (omega arith)
+chunk-next (p ∷ ps) zero l = refl
+chunk-next (p ∷ ps) (suc i) l = ap (λ rest. p.bytes ∷ rest) (chunk-next ps i (omega arith))
+
+-- one more chunk
+pub chunks-step : {B : Type 0} (now : B → List ℕ) (chunks more : List B) (chunk : B) (ps : List View) (i : ℕ) → i < length ps → map now chunks ≡ take i (map (λ (p : View). p.bytes) ps) → now chunk ≡ (piece_at ps i).bytes → more ≡ chunks ++ chunk ∷ [] → map now more ≡ take (i + 1) (map (λ (p : View). p.bytes) ps)
+chunks-step now chunks more chunk ps i l h b m =
+    ap (map now) m ∙ map-append now chunks (chunk ∷ []) ∙ (λ k. h k ++ b k ∷ []) ∙ sym (chunk-next ps i l) ∙ ap (λ n. take n (map (λ (p : View). p.bytes) ps)) (sym (add-one i))
+
+-- a refusal by its cause
+pub only-cause : {A E : Type 0} (result : Result A E) (e cause : E) → IsErrAnd result (λ x. x ≡ e) → e ≡ cause → IsOkUnless result cause
+only-cause (Ok a) e cause h same = absurd h
+only-cause (Err x) e cause h same = h ∙ same

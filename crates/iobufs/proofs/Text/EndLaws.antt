@@ -1,0 +1,256 @@
+-- Ends of pieces, counted from a base.
+use Rattle.std.proofs.Common.{◌≡◌, ℕ, ◌+◌, ◌-◌, ◌%◌, ◌^◌, ◌<◌, ◌≤◌, List, [], ◌∷◌, ◌++◌, length, take, drop, zero, suc, refl, sym, ap, ◌∙◌, arith, subst, get_or, take_all, append-nil, zero-add, length-append, length-drop, slice_index_or}
+use Rattle.std.proofs.lemmas.List.{length-map, map-append}
+use Rattle.iobufs.proofs.Text.PieceLaws.{AreFull-append}
+use Rattle.iobufs_core.specs.View.{View, view_advanced}
+use Rattle.iobufs.specs.Inside.Pieces.{view_len, piece_at, pieces_bytes, piece_start, AreFull, IsPlace}
+use Rattle.iobufs.specs.Search.{IsRising, IsFirstPast}
+use Rattle.iobufs.specs.Inside.Ends.{from_base, views_in, ends_from, AreEnds, IsRow, IsSearch, shortened}
+use Rattle.iobufs.specs.declared.bufs.row.Piece.{Piece}
+
+-- an end that is stored reads back, and a base moved up lessens it
+pub end-stored : (b l : ℕ) → b < 2 ^ 64 → l < 2 ^ 64 → from_base b ((b + l) % 2 ^ 64) ≡ l
+end-stored b l p q = omega arith
+
+pub base-up : (e b n : ℕ) → b < 2 ^ 64 → n ≤ from_base b e → from_base ((b + n) % 2 ^ 64) e ≡ from_base b e - n
+base-up e b n q l = omega arith
+
+pub base-down : (e b n : ℕ) → b < 2 ^ 64 → n < 2 ^ 64 → from_base b e + n < 2 ^ 64 → from_base ((b + (2 ^ 64 - n)) % 2 ^ 64) e ≡ from_base b e + n
+base-down e b n q r l = omega arith
+
+-- the base itself, seen from a base moved down
+pub base-before : (b n : ℕ) → b < 2 ^ 64 → n < 2 ^ 64 → from_base ((b + (2 ^ 64 - n)) % 2 ^ 64) b ≡ n
+base-before b n p q = omega arith
+
+-- the end of the first piece, where the base stands once it has gone
+pub base-after : (b l e : ℕ) → b < 2 ^ 64 → e < 2 ^ 64 → from_base b e ≡ l → e ≡ (b + l) % 2 ^ 64
+base-after b l e p q h = omega arith
+
+pub length-first : (v : View) (vs : List View) → length (pieces_bytes (v ∷ vs)) ≡ view_len v + length (pieces_bytes vs)
+length-first v vs = length-append v.bytes (pieces_bytes vs)
+
+-- bytes before the first piece go
+pub ends-up : (b start n : ℕ) (ps : List Piece) → b < 2 ^ 64 → n ≤ start → AreEnds b start ps → AreEnds ((b + n) % 2 ^ 64) (start - n) ps
+ends-up b start n [] p l h = tt
+ends-up b start n (q ∷ ps) p l h =
+    let first = h.1 in
+    let here : from_base ((b + n) % 2 ^ 64) q.end ≡ start - n + view_len q.view = base-up q.end b n p (omega arith) ∙ (omega arith) in
+    let same : start + view_len q.view - n ≡ start - n + view_len q.view = omega arith in
+    (h.0, here, subst (λ m. AreEnds ((b + n) % 2 ^ 64) m ps) same (ends-up b (start + view_len q.view) n ps p (omega arith) h.2))
+
+-- and come
+pub ends-down : (b start n : ℕ) (ps : List Piece) → b < 2 ^ 64 → n < 2 ^ 64 → start + length (pieces_bytes (views_in ps)) + n < 2 ^ 64 → AreEnds b start ps → AreEnds ((b + (2 ^ 64 - n)) % 2 ^ 64) (start + n) ps
+ends-down b start n [] p r l h = tt
+ends-down b start n (q ∷ ps) p r l h =
+    let first = h.1 in
+    let len = length-first q.view (views_in ps) in
+    let here : from_base ((b + (2 ^ 64 - n)) % 2 ^ 64) q.end ≡ start + n + view_len q.view = base-down q.end b n p r (omega arith) ∙ (omega arith) in
+    let same : start + view_len q.view + n ≡ start + n + view_len q.view = omega arith in
+    (h.0, here, subst (λ m. AreEnds ((b + (2 ^ 64 - n)) % 2 ^ 64) m ps) same (ends-down b (start + view_len q.view) n ps p r (omega arith) h.2))
+
+-- one piece more behind the others, and several
+pub ends-append : (b start : ℕ) (ps qs : List Piece) → AreEnds b start ps → AreEnds b (start + length (pieces_bytes (views_in ps))) qs → AreEnds b start (ps ++ qs)
+ends-append b start [] qs h g = let z : start + 0 ≡ start = omega arith in subst (λ m. AreEnds b m qs) z g
+ends-append b start (p ∷ ps) qs h g =
+    let len = length-first p.view (views_in ps) in
+    let same : start + length (pieces_bytes (views_in (p ∷ ps))) ≡ start + view_len p.view + length (pieces_bytes (views_in ps)) = omega arith in
+    (h.0, h.1, ends-append b (start + view_len p.view) ps qs h.2 (subst (λ m. AreEnds b m qs) same g))
+
+pub ends-take : (b start n : ℕ) (ps : List Piece) → AreEnds b start ps → AreEnds b start (take n ps)
+ends-take b start zero ps h = tt
+ends-take b start (suc n) [] h = tt
+ends-take b start (suc n) (p ∷ ps) h = (h.0, h.1, ends-take b (start + view_len p.view) n ps h.2)
+
+pub ends-drop : (b start n : ℕ) (ps : List Piece) → AreEnds b start ps → AreEnds b (start + piece_start (views_in ps) n) (drop n ps)
+ends-drop b start zero ps h = let z : start + 0 ≡ start = omega arith in subst (λ m. AreEnds b m ps) (sym z) h
+ends-drop b start (suc n) [] h = tt
+ends-drop b start (suc n) (p ∷ ps) h =
+    let len = length-first p.view (take n (views_in ps)) in
+    let same : start + view_len p.view + piece_start (views_in ps) n ≡ start + piece_start (views_in (p ∷ ps)) (suc n) = omega arith in
+    subst (λ m. AreEnds b m (drop n ps)) same (ends-drop b (start + view_len p.view) n ps h.2)
+
+-- the i-th end is where the next piece begins
+pub end-at : (b start i : ℕ) (ps : List Piece) → AreEnds b start ps → i < length ps → get_or (ends_from b ps) i 0 ≡ start + piece_start (views_in ps) (suc i)
+end-at b start i [] h l = absurd (omega arith)
+end-at b start zero (p ∷ ps) h l = h.1 ∙ ap (λ (bytes : List ℕ). start + length bytes) (sym (append-nil p.view.bytes))
+end-at b start (suc i) (p ∷ ps) h l =
+    let len = length-first p.view (take (suc i) (views_in ps)) in
+    end-at b (start + view_len p.view) i ps h.2 (omega arith) ∙ (omega arith)
+
+pub start-next : (vs : List View) (i : ℕ) → i < length vs → piece_start vs (suc i) ≡ piece_start vs i + view_len (piece_at vs i)
+start-next [] i l = absurd (omega arith)
+start-next (v ∷ vs) zero l = ap length (append-nil v.bytes) ∙ (omega arith)
+start-next (v ∷ vs) (suc i) l =
+    let a = length-first v (take (suc i) vs) in
+    let b = length-first v (take i vs) in
+    let ih = start-next vs i (omega arith) in
+    omega arith
+
+full-at : (vs : List View) (i : ℕ) → AreFull vs → i < length vs → 0 < view_len (piece_at vs i)
+full-at [] i f l = absurd (omega arith)
+full-at (v ∷ vs) zero f l = f.0
+full-at (v ∷ vs) (suc i) f l = full-at vs i f.1 (omega arith)
+
+starts-rise : (vs : List View) (i n : ℕ) → AreFull vs → i + suc n ≤ length vs → piece_start vs i < piece_start vs (i + suc n)
+starts-rise vs i zero f l =
+    let s = start-next vs i (omega arith) in
+    let p = full-at vs i f (omega arith) in
+    let e : i + 1 ≡ suc i = omega arith in rw e (omega arith)
+starts-rise vs i (suc n) f l =
+    let ih = starts-rise vs i n f (omega arith) in
+    let s = start-next vs (i + suc n) (omega arith) in
+    let e : i + suc (suc n) ≡ suc (i + suc n) = omega arith in rw e (omega arith)
+
+pub starts-below : (vs : List View) (i j : ℕ) → AreFull vs → i < j → j ≤ length vs → piece_start vs i < piece_start vs j
+starts-below vs i j f l m =
+    let h = starts-rise vs i (j - i - 1) f (omega arith) in
+    let e : i + suc (j - i - 1) ≡ j = omega arith in
+    subst (λ k. piece_start vs i < piece_start vs k) e h
+
+pub rising-ends : (b : ℕ) (ps : List Piece) → AreEnds b 0 ps → AreFull (views_in ps) → IsRising (ends_from b ps)
+rising-ends b ps h f i j l m =
+    let n = length-map ps (λ (p : Piece). from_base b p.end) in
+    let k = length-map ps (λ (p : Piece). p.view) in
+    let p = end-at b 0 i ps h (omega arith) in
+    let q = end-at b 0 j ps h (omega arith) in
+    let r = starts-below (views_in ps) (suc i) (suc j) f (omega arith) (omega arith) in
+    omega arith
+
+-- the last end is behind all bytes
+pub last-end : (b : ℕ) (ps : List Piece) → 0 < length ps → AreEnds b 0 ps → get_or (ends_from b ps) (length ps - 1) 0 ≡ length (pieces_bytes (views_in ps))
+last-end b ps l h =
+    let k = length-map ps (λ (p : Piece). p.view) in
+    let e : suc (length ps - 1) ≡ length ps = omega arith in
+    end-at b 0 (length ps - 1) ps h (omega arith)
+    ∙ zero-add (piece_start (views_in ps) (suc (length ps - 1)))
+    ∙ ap (λ n. piece_start (views_in ps) n) e
+    ∙ ap (λ (vs : List View). length (pieces_bytes vs)) (take_all (length ps) (views_in ps) (omega arith))
+
+-- the first end above a place belongs to the piece that holds it
+pub place-first : (b : ℕ) (ps : List Piece) (at i start : ℕ) → AreEnds b 0 ps → IsFirstPast (ends_from b ps) at i → start ≡ piece_start (views_in ps) i → (start ≤ at) × IsPlace (views_in ps) at i (at - start)
+place-first b ps at i start h first is =
+    let n = length-map ps (λ (p : Piece). from_base b p.end) in
+    let k = length-map ps (λ (p : Piece). p.view) in
+    let l = first.inside in
+    let past = first.past in
+    let e = end-at b 0 i ps h (omega arith) in
+    let next = start-next (views_in ps) i (omega arith) in
+    let low : start ≤ at = before i (omega arith) first.before is in
+    (low, record { sum = omega arith; inside = omega arith })
+  where
+    before : (i : ℕ) → i < length ps → ((j : ℕ) → j < i → get_or (ends_from b ps) j 0 ≤ at) → start ≡ piece_start (views_in ps) i → start ≤ at
+    before zero l all is = omega (arith, is)
+    before (suc j) l all is =
+        let e = end-at b 0 j ps h (omega arith) in
+        let k = all j (omega arith) in omega arith
+
+-- a row after one call
+full-push : (vs : List View) (v : View) → AreFull vs → 0 < view_len v → AreFull (vs ++ v ∷ [])
+full-push vs v f p = AreFull-append vs (v ∷ []) f (p, tt)
+
+pub views-push : (ps : List Piece) (p : Piece) → views_in (ps ++ p ∷ []) ≡ views_in ps ++ p.view ∷ []
+views-push ps p = map-append (λ (q : Piece). q.view) ps (p ∷ [])
+
+pub row-push : (b e : ℕ) (ps qs : List Piece) (v : View) → IsRow b ps → 0 < view_len v → length (pieces_bytes (views_in ps)) + view_len v < 2 ^ 64 → e ≡ (b + (length (pieces_bytes (views_in ps)) + view_len v)) % 2 ^ 64 → qs ≡ ps ++ record { view = v; end = e } ∷ [] → IsRow b qs
+row-push b e ps qs v h some fits ends is =
+    let l = length (pieces_bytes (views_in ps)) + view_len v in
+    let z : 0 + length (pieces_bytes (views_in ps)) + view_len v ≡ l = omega arith in
+    let stored : from_base b e ≡ 0 + length (pieces_bytes (views_in ps)) + view_len v = ap (from_base b) ends ∙ end-stored b l h.based fits ∙ sym z in
+    subst (IsRow b) (sym is) (
+    record {
+      based = h.based;
+      ended = ends-append b 0 ps _ h.ended (omega arith, stored, tt);
+      full = subst AreFull (sym (views-push ps (record { view = v; end = e }))) (full-push (views_in ps) v h.full some);
+    })
+
+pub row-cons : (b c : ℕ) (ps qs : List Piece) (v : View) → IsRow b ps → 0 < view_len v → length (pieces_bytes (views_in ps)) + view_len v < 2 ^ 64 → c ≡ (b + (2 ^ 64 - view_len v)) % 2 ^ 64 → qs ≡ record { view = v; end = b } ∷ ps → IsRow c qs
+row-cons b c ps qs v h some fits base is =
+    let n = view_len v in
+    let less : n < 2 ^ 64 = omega arith in
+    let first : from_base ((b + (2 ^ 64 - n)) % 2 ^ 64) b ≡ 0 + n = base-before b n h.based less ∙ (omega arith) in
+    subst (λ (xs : List Piece). IsRow c xs) (sym is) (subst (λ m. IsRow m (record { view = v; end = b } ∷ ps)) (sym base) (
+    record {
+      based = omega arith;
+      ended = (h.based, first, ends-down b 0 n ps h.based less (omega arith) h.ended);
+      full = (some, h.full);
+    }))
+
+pub row-pop : (b : ℕ) (p : Piece) (ps qs : List Piece) → IsRow b qs → qs ≡ p ∷ ps → IsRow p.end ps
+row-pop b p ps qs h is =
+    let g = subst (IsRow b) is h in
+    let e = g.ended in
+    let z : 0 + view_len p.view ≡ view_len p.view = omega arith in
+    let base : p.end ≡ (b + (0 + view_len p.view)) % 2 ^ 64 = base-after b (0 + view_len p.view) p.end g.based e.0 e.1 in
+    let none : 0 + view_len p.view - (0 + view_len p.view) ≡ 0 = omega arith in
+    let up = ends-up b (0 + view_len p.view) (0 + view_len p.view) ps g.based (omega arith) e.2 in
+    record {
+      based = e.0;
+      ended = subst (λ m. AreEnds m 0 ps) (sym base) (subst (λ m. AreEnds ((b + (0 + view_len p.view)) % 2 ^ 64) m ps) none up);
+      full = g.full.1;
+    }
+
+pub row-take : (b n : ℕ) (ps : List Piece) → IsRow b ps → IsRow b (take n ps)
+row-take b n ps h = record { based = h.based; ended = ends-take b 0 n ps h.ended; full = take-full n ps h.full }
+  where
+    take-full : (n : ℕ) (ps : List Piece) → AreFull (views_in ps) → AreFull (views_in (take n ps))
+    take-full zero ps f = tt
+    take-full (suc n) [] f = tt
+    take-full (suc n) (p ∷ ps) f = (f.0, take-full n ps f.1)
+
+pub row-drop : (b n start : ℕ) (ps : List Piece) → IsRow b ps → start ≡ piece_start (views_in ps) n → IsRow ((b + start) % 2 ^ 64) (drop n ps)
+row-drop b n start ps h is =
+    let z : 0 + piece_start (views_in ps) n - start ≡ 0 = omega arith in
+    record {
+      based = omega arith;
+      ended = subst (λ m. AreEnds ((b + start) % 2 ^ 64) m (drop n ps)) z (ends-up b (0 + piece_start (views_in ps) n) start (drop n ps) h.based (omega arith) (ends-drop b 0 n ps h.ended));
+      full = drop-full n ps h.full;
+    }
+  where
+    drop-full : (n : ℕ) (ps : List Piece) → AreFull (views_in ps) → AreFull (views_in (drop n ps))
+    drop-full zero ps f = f
+    drop-full (suc n) [] f = f
+    drop-full (suc n) (p ∷ ps) f = drop-full n ps f.1
+
+pub row-shorten : (b n : ℕ) (ps qs : List Piece) → IsRow b ps → n < view_len (piece_at (views_in ps) 0) → qs ≡ shortened ps n → IsRow ((b + n) % 2 ^ 64) qs
+row-shorten b n [] qs h l is = absurd (omega arith)
+row-shorten b n (p ∷ ps) qs h l is =
+    let e = h.ended in
+    let d = length-drop n p.view.bytes in
+    let here : from_base ((b + n) % 2 ^ 64) p.end ≡ 0 + view_len (view_advanced p.view n) = base-up p.end b n h.based (omega (arith, e.1)) ∙ (omega (arith, e.1)) in
+    let up = ends-up b (0 + view_len p.view) n ps h.based (omega arith) e.2 in
+    let same : 0 + view_len p.view - n ≡ 0 + view_len (view_advanced p.view n) = omega arith in
+    subst (λ (xs : List Piece). IsRow ((b + n) % 2 ^ 64) xs) (sym is) (
+    record {
+      based = omega arith;
+      ended = (e.0, here, subst (λ m. AreEnds ((b + n) % 2 ^ 64) m ps) same up);
+      full = (omega arith, h.full.1);
+    })
+
+-- what a search asks of the ends of a row, and of a place in it
+pub row-search : (b place : ℕ) (ps : List Piece) → IsRow b ps → place < length (pieces_bytes (views_in ps)) → IsSearch (ends_from b ps) place
+row-search b place [] h l = absurd (omega arith)
+row-search b place (p ∷ ps) h l =
+    let n = length-map (p ∷ ps) (λ (q : Piece). from_base b q.end) in
+    let last = last-end b (p ∷ ps) (omega arith) h.ended in
+    record {
+      rising = rising-ends b (p ∷ ps) h.ended h.full;
+      some = omega arith;
+      inside = rw n (omega arith);
+    }
+
+-- the end of a piece, less the base
+pub end-of : (b i : ℕ) (ps : List Piece) (p : Piece) → IsRow b ps → i < length ps → p ≡ slice_index_or ps i p → from_base b p.end ≡ piece_start (views_in ps) (suc i)
+end-of b i ps p h l is = ap (λ (q : Piece). from_base b q.end) is ∙ get-end ps i l ∙ end-at b 0 i ps h.ended l ∙ zero-add (piece_start (views_in ps) (suc i))
+  where
+    get-end : (ps : List Piece) (i : ℕ) → i < length ps → from_base b (slice_index_or ps i p).end ≡ get_or (ends_from b ps) i 0
+    get-end [] i l = absurd (omega arith)
+    get-end (q ∷ ps) zero l = refl
+    get-end (q ∷ ps) (suc i) l = get-end ps i (omega arith)
+
+pub end-of_last : (b n : ℕ) (ps : List Piece) (p : Piece) → IsRow b ps → 0 < n → n ≡ length ps → p ≡ slice_index_or ps (n - 1) p → from_base b p.end ≡ length (pieces_bytes (views_in ps))
+end-of_last b n ps p h l e is =
+    let k = length-map ps (λ (p : Piece). p.view) in
+    let s : suc (n - 1) ≡ n = omega arith in
+    end-of b (n - 1) ps p h (omega arith) is
+    ∙ ap (piece_start (views_in ps)) s
+    ∙ ap (λ (vs : List View). length (pieces_bytes vs)) (take_all n (views_in ps) (omega arith))

@@ -1,0 +1,79 @@
+-- What the code keeps is well formed.
+use Rattle.std.proofs.Common.{◌≡◌, ℕ, ◌+◌, ◌-◌, ◌<◌, ◌≤◌, List, [], ◌∷◌, ◌++◌, length, take, map, arith, length-append, length-drop, length-take, suc, zero, ⊎_elim, All}
+use Rattle.std.proofs.lemmas.Bool.{cases_lt}
+use Rattle.iobufs_core.specs.View.{View, Mark, HasRoom, IsView, mark_after, native_mark, static_mark, bytes_mark, view_front, view_advanced}
+use Rattle.iobufs_core.specs.MarkedText.{IsMarked, AreCuts, text_len, moved_up, text_glue}
+use Rattle.iobufs.specs.Inside.Pieces.{view_len, of_pieces, IsPieces, AreViews, left_pieces, right_pieces}
+use Rattle.iobufs.proofs.Text.Sides.{no_sub}
+use Rattle.iobufs.proofs.Text.PieceLaws.{right_pieces-within, right_pieces-past, left_pieces-within, left_pieces-past, length-bytes, len-of_pieces, IsPieces-from_full}
+
+pub AreCuts-up : (n k : ℕ) (m : Mark) (es : List (ℕ × Mark)) (end : ℕ) → AreCuts k m es end → AreCuts (n + k) m (map (moved_up n) es) (n + end)
+AreCuts-up n k m [] end h = let d : n + end - (n + k) ≡ end - k = omega arith in rw d h
+AreCuts-up n k m (e ∷ es) end h =
+    let d : n + e.0 - (n + k) ≡ e.0 - k = omega arith in
+    (omega (arith, h.0), omega (arith, h.1), rw d (h.2), AreCuts-up n e.0 e.1 es end h.3)
+
+pub IsMarked-of_pieces : (v : View) (vs : List View) → IsPieces (v ∷ vs) → All IsView (v ∷ vs) → IsMarked (of_pieces (v ∷ vs))
+unfolding of_pieces text_glue
+IsMarked-of_pieces v [] p h = rw (no_sub (view_len v)) (h 0 v (omega arith))
+IsMarked-of_pieces v (w ∷ vs) p h =
+    let y = of_pieces (w ∷ vs) in
+    let s = len-of_pieces (w ∷ vs) in
+    let n = length-bytes w vs in
+    let ih = IsMarked-of_pieces w vs (IsPieces-from_full w vs p.1) (λ k d l. h (suc k) d (omega arith)) in
+    let e : length (v.bytes ++ y.bytes) ≡ view_len v + text_len y = length-append v.bytes y.bytes in
+    let r : HasRoom v.mark (view_len v) = h 0 v (omega arith) in
+    let up : AreCuts (view_len v + 0) y.mark (map (moved_up (view_len v)) y.cuts) (view_len v + text_len y) = AreCuts-up (view_len v) 0 y.mark y.cuts (text_len y) ih in
+    let z : view_len v + 0 ≡ view_len v = omega arith in
+    let end : AreCuts (view_len v) y.mark (map (moved_up (view_len v)) y.cuts) (length (v.bytes ++ y.bytes)) = rw e (rw z at up) in
+    (omega (arith, p.0), omega (arith, p.1.0), rw (no_sub (view_len v)) r, end)
+
+-- the room of the pieces
+pub HasRoom-on : (m : Mark) (n k : ℕ) → HasRoom m n → HasRoom (mark_after k m) (n - k)
+HasRoom-on static_mark n k h = tt
+HasRoom-on bytes_mark n k h = tt
+HasRoom-on (native_mark r) n k h = omega arith
+
+pub HasRoom-less : (m : Mark) (n k : ℕ) → k ≤ n → HasRoom m n → HasRoom m k
+HasRoom-less static_mark n k l h = tt
+HasRoom-less bytes_mark n k l h = tt
+HasRoom-less (native_mark r) n k l h = omega arith
+
+pub IsView-advanced : (at : ℕ) (v : View) → IsView v → IsView (view_advanced v at)
+IsView-advanced at v h = rw (length-drop at v.bytes) (HasRoom-on v.mark (view_len v) at h)
+
+pub IsView-front : (at : ℕ) (v : View) → IsView v → IsView (view_front v at)
+IsView-front at v h = let n : length (take at v.bytes) ≤ view_len v = (let t = length-take at v.bytes in omega arith) in HasRoom-less v.mark (view_len v) (length (take at v.bytes)) n h
+
+pub AreViews-append : (vs ws : List View) → AreViews vs → AreViews ws → AreViews (vs ++ ws)
+AreViews-append [] ws f g = g
+AreViews-append (v ∷ vs) ws f g = (f.0, AreViews-append vs ws f.1 g)
+
+pub AreViews-right : (at : ℕ) (vs : List View) → AreViews vs → AreViews (right_pieces vs at)
+AreViews-right at [] f = tt
+AreViews-right at (v ∷ vs) f =
+    ⊎_elim
+    (λ (h : at < view_len v). rw (right_pieces-within at v vs h) (IsView-advanced at v f.0, f.1))
+    (λ (h : view_len v ≤ at). rw (right_pieces-past at v vs h) (AreViews-right (at - view_len v) vs f.1))
+    (cases_lt at (view_len v))
+
+pub AreViews-left : (at : ℕ) (vs : List View) → AreViews vs → AreViews (left_pieces vs at)
+AreViews-left at [] f = tt
+AreViews-left at (v ∷ vs) f =
+    ⊎_elim
+    (λ (p : 0 < at).
+    ⊎_elim
+    (λ (h : at < view_len v). rw (left_pieces-within at v vs p h) (IsView-front at v f.0, tt))
+    (λ (h : view_len v ≤ at). rw (left_pieces-past at v vs p h) (f.0, AreViews-left (at - view_len v) vs f.1))
+    (cases_lt at (view_len v)))
+    (λ (p : at ≤ 0). let z : at ≡ 0 = omega arith in rw z tt)
+    (cases_lt 0 at)
+
+pub IsMarked-from_views : (vs : List View) → IsPieces vs → AreViews vs → IsMarked (of_pieces vs)
+IsMarked-from_views [] p h = absurd p
+IsMarked-from_views (v ∷ vs) p h = IsMarked-of_pieces v vs p (at_each (v ∷ vs) h)
+  where
+    at_each : (vs : List View) → AreViews vs → All IsView vs
+    at_each [] h k d l = absurd (omega arith)
+    at_each (v ∷ vs) h zero d l = h.0
+    at_each (v ∷ vs) h (suc k) d l = at_each vs h.1 k d (omega arith)

@@ -1,0 +1,200 @@
+-- Lists of pieces, and the marked texts that they make.
+use Rattle.std.proofs.Common.{◌≡◌, ℕ, ◌+◌, ◌-◌, ◌<◌, ◌≤◌, List, [], ◌∷◌, ◌++◌, length, take, drop, refl, sym, ap, ◌∙◌, arith, append-nil, length-append, length-drop, suc, ⊎_elim, length-take-le, nat_eq, take_all, ◌⊎◌}
+use Rattle.std.proofs.lemmas.List.{length-map}
+use Rattle.std.proofs.lemmas.Bool.{cases_lt, cases_order}
+use Rattle.iobufs_core.specs.View.{View, view_front, view_advanced}
+use Rattle.iobufs_core.specs.MarkedText.{MarkedText, of_view, default_text, text_len, moved_up, text_left, text_right, text_split_front, text_rest, is_single, text_advanced, text_glue}
+use Rattle.iobufs.specs.Inside.Pieces.{view_len, pieces_bytes, of_pieces, AreFull, IsPieces, left_pieces, right_pieces}
+use Rattle.iobufs.proofs.Text.Sides.{glue_assoc, right-of_view, left-of_view, is_lt, not_zero, not_lt, right-glue_within, right-glue_past, left-glue_within, left-glue_past, same_eq, not_eq, same_view, mark_after-zero}
+
+pub of_pieces-cons : (v w : View) (vs : List View) → of_pieces (v ∷ w ∷ vs) ≡ text_glue (of_view v) (of_pieces (w ∷ vs))
+unfolding of_pieces
+of_pieces-cons v w vs = refl
+
+pub of_pieces-one : (v : View) → of_pieces (v ∷ []) ≡ of_view v
+unfolding of_pieces
+of_pieces-one v = refl
+
+pub bytes-of_pieces : (vs : List View) → (of_pieces vs).bytes ≡ pieces_bytes vs
+unfolding of_pieces text_glue
+bytes-of_pieces [] = refl
+bytes-of_pieces (v ∷ []) = sym (append-nil v.bytes)
+bytes-of_pieces (v ∷ w ∷ vs) = ap (λ t. v.bytes ++ t) (bytes-of_pieces (w ∷ vs))
+
+pub cuts-of_pieces : (v : View) (vs : List View) → length (of_pieces (v ∷ vs)).cuts ≡ length vs
+unfolding of_pieces text_glue
+cuts-of_pieces v [] = refl
+cuts-of_pieces v (w ∷ vs) = ap suc (length-map (of_pieces (w ∷ vs)).cuts (moved_up (view_len v)) ∙ cuts-of_pieces w vs)
+
+pub of_pieces-append : (v w : View) (vs ws : List View) → of_pieces ((v ∷ vs) ++ (w ∷ ws)) ≡ text_glue (of_pieces (v ∷ vs)) (of_pieces (w ∷ ws))
+unfolding of_pieces
+of_pieces-append v w [] ws = refl
+of_pieces-append v w (u ∷ us) ws = ap (text_glue (of_view v)) (of_pieces-append u w us ws) ∙ sym (glue_assoc (of_view v) (of_pieces (u ∷ us)) (of_pieces (w ∷ ws)))
+
+pub right_pieces-within : (at : ℕ) (v : View) (vs : List View) → at < view_len v → right_pieces (v ∷ vs) at ≡ view_advanced v at ∷ vs
+right_pieces-within at v vs l = rw (is_lt at (view_len v) l)
+
+pub right_pieces-past : (at : ℕ) (v : View) (vs : List View) → view_len v ≤ at → right_pieces (v ∷ vs) at ≡ right_pieces vs (at - view_len v)
+right_pieces-past at v vs l = rw (not_lt at (view_len v) l)
+
+pub left_pieces-none : (vs : List View) → left_pieces vs 0 ≡ []
+left_pieces-none [] = refl
+left_pieces-none (v ∷ vs) = refl
+
+pub left_pieces-within : (at : ℕ) (v : View) (vs : List View) → 0 < at → at < view_len v → left_pieces (v ∷ vs) at ≡ view_front v at ∷ []
+left_pieces-within at v vs p l = rw (not_zero at p, is_lt at (view_len v) l)
+
+pub left_pieces-past : (at : ℕ) (v : View) (vs : List View) → 0 < at → view_len v ≤ at → left_pieces (v ∷ vs) at ≡ v ∷ left_pieces vs (at - view_len v)
+left_pieces-past at v vs p l = rw (not_zero at p, not_lt at (view_len v) l)
+
+pub left_pieces-first : (at : ℕ) (v : View) (vs : List View) → 0 < at → at ≡ view_len v → left_pieces (v ∷ vs) at ≡ v ∷ []
+left_pieces-first at v vs p e =
+    let z : at - view_len v ≡ 0 = omega arith in
+    left_pieces-past at v vs p (omega arith) ∙ ap (λ m. v ∷ left_pieces vs m) z ∙ ap (λ x. v ∷ x) (left_pieces-none vs)
+
+pub front-all : (at : ℕ) (v : View) → view_len v ≤ at → view_front v at ≡ v
+front-all at v l = same_view _ _ (take_all at v.bytes l) refl
+
+pub length-bytes : (v : View) (vs : List View) → length (pieces_bytes (v ∷ vs)) ≡ view_len v + length (pieces_bytes vs)
+length-bytes v vs = length-append v.bytes (pieces_bytes vs)
+
+pub right-of_pieces : (at : ℕ) (vs : List View) → at < length (pieces_bytes vs) → text_right (of_pieces vs) at ≡ of_pieces (right_pieces vs at)
+right-of_pieces at [] l = absurd (omega arith)
+right-of_pieces at (v ∷ []) l =
+    let n : length (v.bytes ++ []) ≡ view_len v = ap length (append-nil v.bytes) in
+    let l' : at < view_len v = omega arith in
+    rw (of_pieces-one v, right_pieces-within at v [] l', of_pieces-one (view_advanced v at)) (right-of_view at v)
+right-of_pieces at (v ∷ w ∷ vs) l =
+    let n = length-bytes v (w ∷ vs) in
+    rw (of_pieces-cons v w vs)
+    (⊎_elim
+    (λ (h : at < view_len v). rw (right_pieces-within at v (w ∷ vs) h, of_pieces-cons (view_advanced v at) w vs) (right-glue_within at v (of_pieces (w ∷ vs)) h))
+    (λ (h : view_len v ≤ at). rw (right_pieces-past at v (w ∷ vs) h) (right-glue_past at v (of_pieces (w ∷ vs)) h ∙ right-of_pieces (at - view_len v) (w ∷ vs) (omega arith)))
+    (cases_lt at (view_len v)))
+
+pub left_pieces-some : (at : ℕ) (v : View) (vs : List View) → 0 < at → (w : View) × (ws : List View) × (left_pieces (v ∷ vs) at ≡ w ∷ ws)
+left_pieces-some at v vs p =
+    ⊎_elim
+    (λ (h : at < view_len v). (view_front v at, [], left_pieces-within at v vs p h))
+    (λ (h : view_len v ≤ at). (v, left_pieces vs (at - view_len v), left_pieces-past at v vs p h))
+    (cases_lt at (view_len v))
+
+pub of_pieces-more : (v : View) (vs : List View) → (some : (w : View) × (ws : List View) × (vs ≡ w ∷ ws)) → of_pieces (v ∷ vs) ≡ text_glue (of_view v) (of_pieces vs)
+of_pieces-more v vs some = rw some.2 (of_pieces-cons v some.0 some.1)
+
+-- three cases of a place against a length
+pub order3 : {A : Type 0} (m n : ℕ) → (m < n → A) → (m ≡ n → A) → (n < m → A) → A
+order3 m n a b c = ⊎_elim b (λ h. ⊎_elim a c h) (cases_order m n)
+
+pub left-of_pieces : (at : ℕ) (vs : List View) → 0 < at → at ≤ length (pieces_bytes vs) → text_left (of_pieces vs) at ≡ of_pieces (left_pieces vs at)
+left-of_pieces at [] p l = absurd (omega arith)
+left-of_pieces at (v ∷ []) p l =
+    let n : length (v.bytes ++ []) ≡ view_len v = ap length (append-nil v.bytes) in
+    order3 at (view_len v)
+    (λ h. rw (of_pieces-one v, left_pieces-within at v [] p h, of_pieces-one (view_front v at)) (left-of_view at v))
+    (λ h. rw (left_pieces-first at v [] p h, of_pieces-one v) (left-of_view at v ∙ ap of_view (front-all at v (omega arith))))
+    (λ h. absurd (omega arith))
+left-of_pieces at (v ∷ w ∷ vs) p l =
+    let n = length-bytes v (w ∷ vs) in
+    rw (of_pieces-cons v w vs)
+    (order3 at (view_len v)
+    (λ h. rw (left_pieces-within at v (w ∷ vs) p h, of_pieces-one (view_front v at)) (left-glue_within at v (of_pieces (w ∷ vs)) (omega arith)))
+    (λ h. rw (left_pieces-first at v (w ∷ vs) p h, of_pieces-one v) (left-glue_within at v (of_pieces (w ∷ vs)) (omega arith) ∙ ap of_view (front-all at v (omega arith))))
+    (λ h. rw (left_pieces-past at v (w ∷ vs) p (omega arith), of_pieces-more v (left_pieces (w ∷ vs) (at - view_len v)) (left_pieces-some (at - view_len v) w vs (omega arith)))
+    (left-glue_past at v (of_pieces (w ∷ vs)) h ∙ ap (text_glue (of_view v)) (left-of_pieces (at - view_len v) (w ∷ vs) (omega arith) (omega arith)))))
+
+pub len-of_pieces : (vs : List View) → text_len (of_pieces vs) ≡ length (pieces_bytes vs)
+len-of_pieces vs = ap length (bytes-of_pieces vs)
+
+-- the pieces of a text that has bytes are full
+pub AreFull-from_pieces : (vs : List View) → IsPieces vs → 0 < length (pieces_bytes vs) → AreFull vs
+AreFull-from_pieces [] p l = tt
+AreFull-from_pieces (v ∷ []) p l = let n : length (v.bytes ++ []) ≡ view_len v = ap length (append-nil v.bytes) in (omega arith, tt)
+AreFull-from_pieces (v ∷ w ∷ vs) p l = p
+
+pub IsPieces-from_full : (v : View) (vs : List View) → AreFull (v ∷ vs) → IsPieces (v ∷ vs)
+IsPieces-from_full v [] f = tt
+IsPieces-from_full v (w ∷ vs) f = f
+
+pub AreFull-append : (vs ws : List View) → AreFull vs → AreFull ws → AreFull (vs ++ ws)
+AreFull-append [] ws f g = g
+AreFull-append (v ∷ vs) ws f g = (f.0, AreFull-append vs ws f.1 g)
+
+pub AreFull-right : (at : ℕ) (vs : List View) → AreFull vs → at < length (pieces_bytes vs) → AreFull (right_pieces vs at) × (0 < length (right_pieces vs at))
+AreFull-right at [] f l = absurd (omega arith)
+AreFull-right at (v ∷ vs) f l =
+    let n = length-bytes v vs in
+    let m : length (drop at v.bytes) ≡ view_len v - at = length-drop at v.bytes in
+    ⊎_elim
+    (λ (h : at < view_len v). rw (right_pieces-within at v vs h) ((omega arith, f.1), omega arith))
+    (λ (h : view_len v ≤ at). rw (right_pieces-past at v vs h) (AreFull-right (at - view_len v) vs f.1 (omega arith)))
+    (cases_lt at (view_len v))
+
+pub AreFull-left : (at : ℕ) (vs : List View) → AreFull vs → AreFull (left_pieces vs at)
+AreFull-left at [] f = tt
+AreFull-left at (v ∷ vs) f =
+    ⊎_elim
+    (λ (p : 0 < at).
+    ⊎_elim
+    (λ (h : at < view_len v). let m : length (take at v.bytes) ≡ at = length-take-le at v.bytes (omega arith) in rw (left_pieces-within at v vs p h) (omega arith, tt))
+    (λ (h : view_len v ≤ at). rw (left_pieces-past at v vs p h) (f.0, AreFull-left (at - view_len v) vs f.1))
+    (cases_lt at (view_len v)))
+    (λ (p : at ≤ 0). let z : at ≡ 0 = omega arith in rw z tt)
+    (cases_lt 0 at)
+
+pub mark-of_pieces : (v : View) (vs : List View) → (of_pieces (v ∷ vs)).mark ≡ v.mark
+unfolding of_pieces text_glue
+mark-of_pieces v [] = refl
+mark-of_pieces v (w ∷ vs) = refl
+
+pub rest-all : (at : ℕ) (t : MarkedText) → 0 < at → at ≡ text_len t → text_rest t at ≡ default_text
+rest-all at t p e = rw (not_zero at p, same_eq at (text_len t) e)
+
+pub rest-inside : (at : ℕ) (t : MarkedText) → 0 < at → at < text_len t → text_rest t at ≡ text_right t at
+rest-inside at t p l = rw (not_zero at p, not_eq at (text_len t) l)
+
+pub split_front-inside : (at : ℕ) (t : MarkedText) → 0 < at → at < text_len t → text_split_front t at ≡ text_left t at
+split_front-inside at t p l = rw (not_zero at p, not_eq at (text_len t) l)
+
+pub rest-of_pieces : (at : ℕ) (vs : List View) → 0 < at → at < length (pieces_bytes vs) → text_rest (of_pieces vs) at ≡ of_pieces (right_pieces vs at)
+rest-of_pieces at vs p l = let s = len-of_pieces vs in rest-inside at (of_pieces vs) p (omega arith) ∙ right-of_pieces at vs l
+
+pub split_front-of_pieces : (at : ℕ) (vs : List View) → 0 < at → at < length (pieces_bytes vs) → text_split_front (of_pieces vs) at ≡ of_pieces (left_pieces vs at)
+split_front-of_pieces at vs p l = let s = len-of_pieces vs in split_front-inside at (of_pieces vs) p (omega arith) ∙ left-of_pieces at vs p (omega arith)
+
+pub is_single-of_pieces : (v : View) (vs : List View) → is_single (of_pieces (v ∷ vs)) ≡ nat_eq (length vs) 0
+is_single-of_pieces v vs = ap (λ n. nat_eq n 0) (cuts-of_pieces v vs)
+
+pub advanced_view-none : (v : View) → view_advanced v 0 ≡ v
+advanced_view-none v = same_view _ _ refl (mark_after-zero v.mark)
+
+pub right_pieces-none : (vs : List View) → AreFull vs → right_pieces vs 0 ≡ vs
+right_pieces-none [] f = refl
+right_pieces-none (v ∷ vs) f = right_pieces-within 0 v vs f.0 ∙ ap (λ w. w ∷ vs) (advanced_view-none v)
+
+-- the one view of a text without cuts, also where it is used up
+pub advanced-of_view : (n : ℕ) (v : View) → n ≤ view_len v → text_advanced (of_view v) n ≡ of_view (view_advanced v n)
+advanced-of_view n v l =
+    ⊎_elim
+    (λ (h : n ≡ view_len v). rw (same_eq n (view_len v) h) (right-of_view n v))
+    (λ (h : (n < view_len v) ⊎ (view_len v < n)).
+    ⊎_elim
+    (λ (k : n < view_len v). rw (not_eq n (view_len v) k)
+    (⊎_elim
+    (λ (z : 0 < n). rw (not_zero n z) (right-of_view n v))
+    (λ (z : n ≤ 0). let e : n ≡ 0 = omega arith in rw e (ap of_view (sym (advanced_view-none v))))
+    (cases_lt 0 n)))
+    (λ (k : view_len v < n). absurd (omega arith))
+    h)
+    (cases_order n (view_len v))
+
+pub bytes-text_left : (at : ℕ) (t : MarkedText) → (text_left t at).bytes ≡ take at t.bytes
+unfolding text_left
+bytes-text_left at t = refl
+
+pub bytes-left : (at : ℕ) (vs : List View) → 0 < at → at ≤ length (pieces_bytes vs) → pieces_bytes (left_pieces vs at) ≡ take at (pieces_bytes vs)
+bytes-left at vs p l =
+    sym (bytes-of_pieces (left_pieces vs at)) ∙ ap (λ t. t.bytes) (sym (left-of_pieces at vs p l)) ∙ bytes-text_left at (of_pieces vs) ∙ ap (take at) (bytes-of_pieces vs)
+
+pub length-left : (at : ℕ) (vs : List View) → 0 < at → at ≤ length (pieces_bytes vs) → length (pieces_bytes (left_pieces vs at)) ≡ at
+length-left at vs p l = ap length (bytes-left at vs p l) ∙ length-take-le at (pieces_bytes vs) l

@@ -1,0 +1,82 @@
+-- The piece that holds a place.
+use Rattle.std.proofs.Common.{◌≡◌, ℕ, ◌+◌, ◌-◌, ◌<◌, ◌≤◌, List, [], ◌∷◌, ◌++◌, length, take, drop, refl, sym, ap, ◌∙◌, arith, length-append, suc, zero, get_or}
+use Rattle.iobufs_core.specs.View.{View, default_view, view_front, view_advanced}
+use Rattle.iobufs.specs.Inside.Pieces.{view_len, pieces_bytes, piece_start, piece_at, IsPlace, AreFull, left_pieces, right_pieces}
+use Rattle.iobufs.proofs.Text.Sides.{no_sub}
+use Rattle.iobufs.proofs.Text.PieceLaws.{right_pieces-none, right_pieces-within, right_pieces-past, left_pieces-none, left_pieces-within, left_pieces-past, left_pieces-first, front-all, order3}
+
+-- By the index of the piece that holds a place. `piece_start i vs` is the number of bytes before the i-th piece.
+pub right_pieces-at : (i at : ℕ) (vs : List View) (d : View) → i < length vs → piece_start vs i ≤ at → at < piece_start vs i + view_len (get_or vs i d) → right_pieces vs at ≡ view_advanced (get_or vs i d) (at - piece_start vs i) ∷ drop (suc i) vs
+right_pieces-at i at [] d l p q = absurd (omega arith)
+right_pieces-at zero at (v ∷ vs) d l p q = rw (right_pieces-within at v vs (omega arith), no_sub at)
+right_pieces-at (suc i) at (v ∷ vs) d l p q =
+    let n : piece_start (v ∷ vs) (suc i) ≡ view_len v + piece_start vs i = length-append v.bytes (pieces_bytes (take i vs)) in
+    let k : at - piece_start (v ∷ vs) (suc i) ≡ at - view_len v - piece_start vs i = omega arith in
+    rw (right_pieces-past at v vs (omega arith), k) (right_pieces-at i (at - view_len v) vs d (omega arith) (omega arith) (omega arith))
+
+pub left_pieces-at : (i at : ℕ) (vs : List View) (d : View) → i < length vs → piece_start vs i < at → at ≤ piece_start vs i + view_len (get_or vs i d) → left_pieces vs at ≡ take i vs ++ view_front (get_or vs i d) (at - piece_start vs i) ∷ []
+left_pieces-at i at [] d l p q = absurd (omega arith)
+left_pieces-at zero at (v ∷ vs) d l p q =
+    order3 at (view_len v)
+    (λ h. rw (left_pieces-within at v vs (omega arith) h, no_sub at))
+    (λ h. rw (left_pieces-first at v vs (omega arith) h, no_sub at) (ap (λ x. x ∷ []) (sym (front-all at v (omega arith)))))
+    (λ h. absurd (omega arith))
+left_pieces-at (suc i) at (v ∷ vs) d l p q =
+    let n : piece_start (v ∷ vs) (suc i) ≡ view_len v + piece_start vs i = length-append v.bytes (pieces_bytes (take i vs)) in
+    let k : at - piece_start (v ∷ vs) (suc i) ≡ at - view_len v - piece_start vs i = omega arith in
+    rw (left_pieces-past at v vs (omega arith) (omega arith), k) (ap (λ ws. v ∷ ws) (left_pieces-at i (at - view_len v) vs d (omega arith) (omega arith) (omega arith)))
+
+-- a place between two pieces
+pub left_pieces-seam : (i : ℕ) (vs : List View) → AreFull vs → left_pieces vs (piece_start vs i) ≡ take i vs
+left_pieces-seam zero vs f = left_pieces-none vs
+left_pieces-seam (suc i) [] f = refl
+left_pieces-seam (suc i) (v ∷ vs) f =
+    let n : piece_start (v ∷ vs) (suc i) ≡ view_len v + piece_start vs i = length-append v.bytes (pieces_bytes (take i vs)) in
+    let k : piece_start (v ∷ vs) (suc i) - view_len v ≡ piece_start vs i = omega arith in
+    left_pieces-past (piece_start (v ∷ vs) (suc i)) v vs (omega (arith, f.0)) (omega arith) ∙ ap (λ m. v ∷ left_pieces vs m) k ∙ ap (λ ws. v ∷ ws) (left_pieces-seam i vs f.1)
+
+pub right_pieces-seam : (i : ℕ) (vs : List View) → AreFull vs → right_pieces vs (piece_start vs i) ≡ drop i vs
+right_pieces-seam zero vs f = right_pieces-none vs f
+right_pieces-seam (suc i) [] f = refl
+right_pieces-seam (suc i) (v ∷ vs) f =
+    let n : piece_start (v ∷ vs) (suc i) ≡ view_len v + piece_start vs i = length-append v.bytes (pieces_bytes (take i vs)) in
+    let k : piece_start (v ∷ vs) (suc i) - view_len v ≡ piece_start vs i = omega arith in
+    right_pieces-past (piece_start (v ∷ vs) (suc i)) v vs (omega arith) ∙ ap (λ m. right_pieces vs m) k ∙ right_pieces-seam i vs f.1
+
+-- the piece of a place is one of the pieces
+pub index-of_place : (vs : List View) (at i o : ℕ) → IsPlace vs at i o → i < length vs
+index-of_place vs at i o h = within vs i h.inside
+  where
+    within : (vs : List View) (i : ℕ) → o < view_len (piece_at vs i) → i < length vs
+    within [] i l = absurd (omega arith)
+    within (v ∷ vs) zero l = omega arith
+    within (v ∷ vs) (suc i) l = let ih = within vs i l in omega arith
+
+pub left-at_place : (vs : List View) (at i o : ℕ) → IsPlace vs at i o → 0 < o → left_pieces vs at ≡ take i vs ++ view_front (piece_at vs i) o ∷ []
+left-at_place vs at i o h p =
+    let n = index-of_place vs at i o h in
+    let s = h.sum in
+    let l = h.inside in
+    let d : at - piece_start vs i ≡ o = omega arith in
+    left_pieces-at i at vs default_view n (omega arith) (omega arith) ∙ ap (λ m. take i vs ++ view_front (piece_at vs i) m ∷ []) d
+
+pub right-at_place : (vs : List View) (at i o : ℕ) → IsPlace vs at i o → right_pieces vs at ≡ view_advanced (piece_at vs i) o ∷ drop (suc i) vs
+right-at_place vs at i o h =
+    let n = index-of_place vs at i o h in
+    let s = h.sum in
+    let l = h.inside in
+    let d : at - piece_start vs i ≡ o = omega arith in
+    right_pieces-at i at vs default_view n (omega arith) (omega arith) ∙ ap (λ m. view_advanced (piece_at vs i) m ∷ drop (suc i) vs) d
+
+-- a place between two pieces
+pub left-at_edge : (vs : List View) (at i o : ℕ) → AreFull vs → IsPlace vs at i o → o ≡ 0 → left_pieces vs at ≡ take i vs
+left-at_edge vs at i o f h z =
+    let s = h.sum in
+    let e : at ≡ piece_start vs i = omega arith in
+    ap (λ m. left_pieces vs m) e ∙ left_pieces-seam i vs f
+
+pub right-at_edge : (vs : List View) (at i o : ℕ) → AreFull vs → IsPlace vs at i o → o ≡ 0 → right_pieces vs at ≡ drop i vs
+right-at_edge vs at i o f h z =
+    let s = h.sum in
+    let e : at ≡ piece_start vs i = omega arith in
+    ap (λ m. right_pieces vs m) e ∙ right_pieces-seam i vs f

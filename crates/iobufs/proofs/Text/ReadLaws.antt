@@ -1,0 +1,247 @@
+-- What a reader of a text in several pieces sees and takes.
+use Rattle.std.proofs.Common.{◌≡◌, ◌≢◌, Result, Ok, Err, IfOk, ℕ, ◌+◌, ◌-◌, ◌<◌, ◌≤◌, true, false, Some, List, [], ◌∷◌, ◌++◌, length, take, drop, map, zero, suc, refl, sym, ap, ◌∙◌, arith, tests, add-one, append-nil, length-append, length-drop, length-take-le, take_all, zero-add, get_or, nat_eq, ⊎_elim, subst}
+use Rattle.std.specs.List.{slice_get}
+use Rattle.std.specs.declared.ops.Bound.TheVariants.{Included, Excluded}
+use Rattle.std.proofs.lemmas.Grind.{common_steps}
+use Rattle.std.proofs.lemmas.List.{nil_from_length, take-append-drop, drop-take}
+use Rattle.std.proofs.lemmas.List.Concat.{flat_map-append}
+use Rattle.std.proofs.lemmas.Bool.{cases_lt}
+use Rattle.std.proofs.lemmas.Bool.Decides.{nat_tests}
+use Rattle.std.proofs.Math.Seq.{take-append_seam}
+use Rattle.iobufs_core.specs.Chunks.{first_chunk, IsChunkOf}
+use Rattle.iobufs_core.specs.View.{View, default_view, view_front, view_advanced, view_slice, native_mark}
+use Rattle.iobufs_core.specs.Part.{part_frozen}
+use Rattle.iobufs_core.specs.MarkedText.{MarkedText, of_view, text_len, is_single, text_advanced, text_chunks, text_coalesced, text_rest, text_right, taken_view}
+use Rattle.iobufs.specs.Inside.Pieces.{view_len, pieces_bytes, piece_at, piece_start, of_pieces, behind_first, right_pieces, AreFull, IsPieces, IsPlace, AreViews}
+use Rattle.iobufs.specs.Inside.Several.{views, IsPieced}
+use Rattle.iobufs.specs.Inside.Kept.{text_of, IsKept}
+use Rattle.iobufs.specs.declared.bufs.pieces.Pieces.{Pieces}
+use Rattle.iobufs.specs.declared.bufs.text.IoBufs.TheInside.{Inside}
+use Rattle.iobufs.proofs.Text.PieceLaws.{bytes-of_pieces, len-of_pieces, right-of_pieces, length-bytes, AreFull-from_pieces, of_pieces-one, front-all, rest-all, right_pieces-past, right_pieces-none}
+use Rattle.iobufs.proofs.Text.PlaceLaws.{index-of_place, right-at_place}
+use Rattle.iobufs.proofs.Text.KeptLaws.{IsView-advanced}
+use Rattle.iobufs.proofs.Text.TakenLaws.{taken_view-right, taken_view-within, taken_view-across}
+use Rattle.iobufs.proofs.Text.ChunkLaws.{chunks-of_empty}
+use Rattle.iobufs.proofs.Text.CopyLaws.{bytes-from}
+use Rattle.iobufs.proofs.Text.TextLaws.{length-kept, IsPieces-from_pieced, some_views, chunks-kept, single-kept, advanced-one, rest-kept}
+
+-- the first piece is the first chunk, and a beginning of the text
+first-of : (vs : List View) (t : MarkedText) → of_pieces vs ≡ t → 0 < length vs → (0 < length (pieces_bytes vs) → AreFull vs) → (piece_at vs 0).bytes ≡ first_chunk (text_chunks t)
+first-of [] t e l f = absurd (omega arith)
+first-of (v ∷ vs) t e l f =
+    let n = length-bytes v vs in
+    let s : text_len t ≡ length (pieces_bytes (v ∷ vs)) = sym (ap text_len e) ∙ len-of_pieces (v ∷ vs) in
+    ⊎_elim
+    (λ (h : 0 < length (pieces_bytes (v ∷ vs))). sym (ap first_chunk (chunks-kept (v ∷ vs) t e l (f h))))
+    (λ (h : length (pieces_bytes (v ∷ vs)) ≤ 0). nil_from_length v.bytes (omega arith) ∙ sym (ap first_chunk (chunks-of_empty t (omega arith))))
+    (cases_lt 0 (length (pieces_bytes (v ∷ vs))))
+
+pub first-kept : (s : Pieces) (t : MarkedText) → of_pieces (views s) ≡ t → IsPieced s → (piece_at (views s) 0).bytes ≡ first_chunk (text_chunks t)
+first-kept s t e h = first-of (views s) t e (some_views s h) (AreFull-from_pieces (views s) (IsPieces-from_pieced s h))
+
+front-of : (vs : List View) → 0 < length vs → (0 < length (pieces_bytes vs) → AreFull vs) → IsChunkOf (piece_at vs 0).bytes (pieces_bytes vs)
+front-of [] l f = absurd (omega arith)
+front-of (v ∷ vs) l f =
+    let n = length-bytes v vs in
+    record {
+      front = sym (take-append_seam v.bytes (pieces_bytes vs));
+      some = λ z. ⊎_elim
+          (λ (h : 0 < length (pieces_bytes (v ∷ vs))). let g = (f h).0 in absurd (omega arith))
+          (λ (h : length (pieces_bytes (v ∷ vs)) ≤ 0). omega arith)
+          (cases_lt 0 (length (pieces_bytes (v ∷ vs))));
+    }
+
+pub front-chunk : (s : Pieces) (t : MarkedText) (chunk : List ℕ) → of_pieces (views s) ≡ t → IsPieced s → chunk ≡ (piece_at (views s) 0).bytes → IsChunkOf chunk t.bytes
+front-chunk s t chunk e h c =
+    let b : pieces_bytes (views s) ≡ t.bytes = sym (bytes-of_pieces (views s)) ∙ ap (λ (x : MarkedText). x.bytes) e in
+    rw c (subst (IsChunkOf (piece_at (views s) 0).bytes) b (front-of (views s) (some_views s h) (AreFull-from_pieces (views s) (IsPieces-from_pieced s h))))
+
+-- the byte at a place
+get-within : (xs ys : List ℕ) (n : ℕ) → n < length xs → slice_get (xs ++ ys) n ≡ Some (get_or xs n 0)
+get-within [] ys n l = absurd (omega arith)
+get-within (x ∷ xs) ys zero l = refl
+get-within (x ∷ xs) ys (suc n) l = get-within xs ys n (omega arith)
+
+get-past : (xs ys : List ℕ) (m n : ℕ) → m ≡ length xs + n → slice_get (xs ++ ys) m ≡ slice_get ys n
+get-past [] ys m n e = ap (slice_get ys) (e ∙ zero-add n)
+get-past (x ∷ xs) ys zero n e = absurd (omega arith)
+get-past (x ∷ xs) ys (suc m) n e = get-past xs ys m n (omega arith)
+
+pub byte-at_place : (vs : List View) (at i o : ℕ) → IsPlace vs at i o → slice_get (pieces_bytes vs) at ≡ Some (get_or (piece_at vs i).bytes o 0)
+byte-at_place vs at i o h = at_index vs at i h.sum h.inside
+  where
+    at_index : (vs : List View) (at i : ℕ) → piece_start vs i + o ≡ at → o < view_len (piece_at vs i) → slice_get (pieces_bytes vs) at ≡ Some (get_or (piece_at vs i).bytes o 0)
+    at_index [] at i s l = absurd (omega arith)
+    at_index (v ∷ vs) at zero s l = let e : at ≡ o = omega arith in rw e (get-within v.bytes (pieces_bytes vs) o l)
+    at_index (v ∷ vs) at (suc i) s l =
+        let n : piece_start (v ∷ vs) (suc i) ≡ view_len v + piece_start vs i = length-append v.bytes (pieces_bytes (take i vs)) in
+        get-past v.bytes (pieces_bytes vs) at (piece_start vs i + o) (omega arith) ∙ at_index vs (piece_start vs i + o) i refl l
+
+-- the bytes from a piece on
+pub rest-length : (vs : List View) (i : ℕ) → piece_start vs i + length (pieces_bytes (drop i vs)) ≡ length (pieces_bytes vs)
+rest-length vs i =
+    sym (length-append (pieces_bytes (take i vs)) (pieces_bytes (drop i vs)))
+    ∙ ap length (sym (flat_map-append (λ (v : View). v.bytes) (take i vs) (drop i vs)))
+    ∙ ap (λ (ws : List View). length (pieces_bytes ws)) (take-append-drop i vs)
+
+-- what is taken of one piece, and across pieces
+front-advanced : (v : View) (o n : ℕ) → 0 < n → view_front (view_advanced v o) n ≡ view_slice v (Included o) (Excluded (o + n))
+front-advanced v o n p = grind (arith, nat_tests, common_steps, drop-take)
+
+right-place : (vs : List View) (t : MarkedText) (skip i o : ℕ) → of_pieces vs ≡ t → IsPlace vs skip i o → skip < length (pieces_bytes vs) → text_right t skip ≡ of_pieces (view_advanced (piece_at vs i) o ∷ drop (suc i) vs)
+right-place vs t skip i o e h l =
+    ap (λ (x : MarkedText). text_right x skip) (sym e) ∙ right-of_pieces skip vs l ∙ ap of_pieces (right-at_place vs skip i o h)
+
+pub taken-within : (vs : List View) (t : MarkedText) (skip n i o : ℕ) → of_pieces vs ≡ t → IsPlace vs skip i o → skip < length (pieces_bytes vs) → 0 < n → n ≤ view_len (piece_at vs i) - o → view_slice (piece_at vs i) (Included o) (Excluded (o + n)) ≡ taken_view t skip n
+taken-within vs t skip n i o e h l p m =
+    let v = view_advanced (piece_at vs i) o in
+    let k : view_len v ≡ view_len (piece_at vs i) - o = length-drop o (piece_at vs i).bytes in
+    sym (taken_view-right skip n t ∙ ap (λ (x : MarkedText). taken_view x 0 n) (right-place vs t skip i o e h l)
+    ∙ taken_view-within n v (drop (suc i) vs) p (omega arith) ∙ front-advanced (piece_at vs i) o n p)
+
+pub taken-across : (vs : List View) (t : MarkedText) (skip n i o : ℕ) (copy : List ℕ) → of_pieces vs ≡ t → IsPlace vs skip i o → skip + n ≤ length (pieces_bytes vs) → view_len (piece_at vs i) - o < n → copy ≡ take n (drop o (pieces_bytes (drop i vs))) → part_frozen (record { filled = copy; spare = 0 }) ≡ taken_view t skip n
+taken-across vs t skip n i o copy e h l m c =
+    let inside = h.inside in
+    let index = index-of_place vs skip i o h in
+    let v = view_advanced (piece_at vs i) o in
+    let k : view_len v ≡ view_len (piece_at vs i) - o = length-drop o (piece_at vs i).bytes in
+    let whole : drop o (pieces_bytes (drop i vs)) ≡ pieces_bytes (v ∷ drop (suc i) vs) =
+    bytes-from vs i o index (omega arith) ∙ ap (λ j. drop o (piece_at vs i).bytes ++ pieces_bytes (drop j vs)) (add-one i) in
+    let rest = rest-length vs i in
+    let sum = h.sum in
+    let left = length-drop o (pieces_bytes (drop i vs)) in
+    let total : n ≤ length (pieces_bytes (v ∷ drop (suc i) vs)) = omega (arith, ap length whole) in
+    let size : length copy ≡ n = ap length c ∙ length-take-le n (drop o (pieces_bytes (drop i vs))) (omega arith) in
+    frozen copy n size (omega arith) ∙ (λ j. record { bytes = (c ∙ ap (take n) whole) j; mark = native_mark n })
+    ∙ sym (taken_view-right skip n t ∙ ap (λ (x : MarkedText). taken_view x 0 n) (right-place vs t skip i o e h (omega arith)) ∙ taken_view-across n v (drop (suc i) vs) (omega arith) (omega arith) total)
+  where
+    frozen : (copy : List ℕ) (n : ℕ) → length copy ≡ n → 0 < n → part_frozen (record { filled = copy; spare = 0 }) ≡ record { bytes = copy; mark = native_mark n }
+    frozen copy n e p = grind (arith, nat_tests, common_steps)
+
+-- the first bytes
+pub bytes-taken : (t : MarkedText) (n : ℕ) → (taken_view t 0 n).bytes ≡ take n t.bytes
+unfolding taken_view
+bytes-taken t n = grind (arith, nat_tests, common_steps)
+
+-- the first piece, taken as it is, and what it leaves
+pub first-whole : (vs : List View) (t : MarkedText) (n : ℕ) → of_pieces vs ≡ t → 0 < n → n ≡ view_len (piece_at vs 0) → taken_view t 0 n ≡ piece_at vs 0
+first-whole [] t n e p w = absurd (omega arith)
+first-whole (v ∷ vs) t n e p w = sym (ap (λ (x : MarkedText). taken_view x 0 n) e) ∙ taken_view-within n v vs p (omega arith) ∙ front-all n v (omega arith)
+
+pub first-rest : (vs ws : List View) (t : MarkedText) (n : ℕ) → of_pieces vs ≡ t → AreFull vs → 0 < n → n ≡ view_len (piece_at vs 0) → ws ≡ behind_first vs → of_pieces ws ≡ text_rest t n
+first-rest [] ws t n e f p w is = absurd (omega arith)
+first-rest (v ∷ []) ws t n e f p w is =
+    let all : n ≡ text_len t = w ∙ ap text_len (sym (of_pieces-one v) ∙ e) in
+    ap of_pieces is ∙ of_pieces-one default_view ∙ sym (rest-all n t p all)
+first-rest (v ∷ u ∷ vs) ws t n e f p w is =
+    let none : n - view_len v ≡ 0 = omega arith in
+    let right = right_pieces-past n v (u ∷ vs) (omega arith) ∙ ap (right_pieces (u ∷ vs)) none ∙ right_pieces-none (u ∷ vs) f.1 in
+    let l = length-bytes v (u ∷ vs) in
+    let m = length-bytes u vs in
+    rest-kept (v ∷ u ∷ vs) ws t n e p (omega (arith, f.1.0)) (is ∙ sym right)
+
+pub length-behind : (vs : List View) → length (pieces_bytes vs) ≡ view_len (piece_at vs 0) + length (pieces_bytes (behind_first vs))
+length-behind [] = refl
+length-behind (v ∷ []) = ap length (append-nil v.bytes) ∙ (omega arith)
+length-behind (v ∷ w ∷ vs) = length-bytes v (w ∷ vs)
+
+AreViews-behind : (vs : List View) → AreViews vs → AreViews (behind_first vs)
+AreViews-behind [] h = tt
+AreViews-behind (v ∷ []) h = (tt, tt)
+AreViews-behind (v ∷ w ∷ vs) h = h.1
+
+pub kept-behind : (s : Inside) (p : Pieces) → IsKept s → IsPieced p → views p ≡ behind_first (views s.pieces) → IsKept (record { pieces = p })
+kept-behind s p k h is =
+    record {
+      pieced = h;
+      roomy = subst AreViews (sym is) (AreViews-behind (views s.pieces) k.roomy);
+    }
+
+-- a text of one piece
+pub one-piece : (s : Inside) (t : MarkedText) → text_of s ≡ t → IsKept s → is_single t ≡ true → length (views s.pieces) ≡ 1
+one-piece s t e k h = is_one (length (views s.pieces)) (sym (single-kept s t e k) ∙ h)
+  where
+    is_one : (n : ℕ) → nat_eq n 1 ≡ true → n ≡ 1
+    is_one n h = grind (arith, tests)
+
+pub one-len : (vs : List View) → length vs ≡ 1 → length (pieces_bytes vs) ≡ view_len (piece_at vs 0)
+one-len [] e = absurd (omega arith)
+one-len (v ∷ []) e = ap length (append-nil v.bytes)
+one-len (v ∷ w ∷ vs) e = absurd (omega arith)
+
+one-as : (vs : List View) → length vs ≡ 1 → vs ≡ piece_at vs 0 ∷ []
+one-as [] e = absurd (omega arith)
+one-as (v ∷ []) e = refl
+one-as (v ∷ w ∷ vs) e = absurd (omega arith)
+
+one-view_room : (vs : List View) → length vs ≡ 1 → AreViews vs → AreViews (piece_at vs 0 ∷ [])
+one-view_room vs e h = subst AreViews (one-as vs e) h
+
+pub kept-single : (s : Inside) (n : ℕ) (p : Pieces) → IsKept s → length (views s.pieces) ≡ 1 → IsPieced p → views p ≡ view_advanced (piece_at (views s.pieces) 0) n ∷ [] → IsKept (record { pieces = p })
+kept-single s n p k one h is =
+    record {
+      pieced = h;
+      roomy = subst AreViews (sym is) (IsView-advanced n (piece_at (views s.pieces) 0) (one-view_room (views s.pieces) one k.roomy).0, tt);
+    }
+
+pub advanced-single : (vs ws : List View) (t : MarkedText) (n : ℕ) → of_pieces vs ≡ t → length vs ≡ 1 → n ≤ view_len (piece_at vs 0) → ws ≡ view_advanced (piece_at vs 0) n ∷ [] → of_pieces ws ≡ text_advanced t n
+advanced-single vs ws t n e one l is = ap of_pieces is ∙ advanced-one (piece_at vs 0) t n (sym (ap of_pieces (one-as vs one)) ∙ e) l
+
+-- several pieces as one
+pub coalesced-copy : (vs : List View) (t : MarkedText) (copy : List ℕ) (n : ℕ) → of_pieces vs ≡ t → is_single t ≡ false → n ≡ length (pieces_bytes vs) → 0 < n → copy ≡ take n (pieces_bytes vs) → of_view (part_frozen (record { filled = copy; spare = 0 })) ≡ text_coalesced t
+coalesced-copy vs t copy n e single k p c =
+    let b : pieces_bytes vs ≡ t.bytes = sym (bytes-of_pieces vs) ∙ ap (λ (x : MarkedText). x.bytes) e in
+    let all : copy ≡ t.bytes = c ∙ take_all n (pieces_bytes vs) (omega arith) ∙ b in
+    let size : length t.bytes ≡ n = sym (ap length b) ∙ sym k in
+    ap (λ (x : List ℕ). of_view (part_frozen (record { filled = x; spare = 0 }))) all ∙ rw single (frozen t.bytes (omega arith))
+  where
+    frozen : (bytes : List ℕ) → 0 < length bytes → of_view (part_frozen (record { filled = bytes; spare = 0 })) ≡ of_view (record { bytes = bytes; mark = native_mark (length bytes) })
+    frozen bytes p = grind (arith, nat_tests, common_steps)
+
+-- an empty text shows nothing, however much is asked for
+pub none-shown : {B : Type 0} (now : B → List ℕ) (items : List B) (t : MarkedText) (max : ℕ) → items ≡ [] → text_len t ≡ 0 → map now items ≡ take max (text_chunks t)
+none-shown now items t max e z = ap (map now) e ∙ sym (ap (take max) (chunks-of_empty t z) ∙ none max)
+  where
+    none : (n : ℕ) → take {A = List ℕ} n [] ≡ []
+    none zero = refl
+    none (suc n) = refl
+
+-- what a call answers, under another name
+pub as_view : {E : Type 0} (result : Result View E) (a b : View) → a ≡ b → IfOk result (λ v. v ≡ a) → IfOk result (λ v. v ≡ b)
+as_view result a b e h = subst (λ x. IfOk result (λ v. v ≡ x)) e h
+
+pub as_bytes : {E : Type 0} (result : Result (List ℕ) E) (a b : List ℕ) → a ≡ b → IfOk result (λ v. v ≡ a) → IfOk result (λ v. v ≡ b)
+as_bytes result a b e h = subst (λ x. IfOk result (λ v. v ≡ x)) e h
+
+pub as_text : {E : Type 0} (result : Result View E) (a : View) (t : MarkedText) → of_view a ≡ t → IfOk result (λ v. v ≡ a) → IfOk result (λ v. of_view v ≡ t)
+as_text (Ok v) a t e h = ap of_view h ∙ e
+as_text (Err error) a t e h = tt
+
+-- a text of several pieces has bytes
+pub several-len : (s : Inside) (t : MarkedText) → text_of s ≡ t → IsKept s → is_single t ≡ false → 0 < text_len t
+several-len s t e k h = several (views s.pieces) (IsPieces-from_pieced s.pieces k.pieced) (more (length (views s.pieces)) (sym (single-kept s t e k) ∙ h)) (omega (arith, length-kept s t e))
+  where
+    more : (n : ℕ) → nat_eq n 1 ≡ false → n ≢ 1
+    more n h = grind (arith, tests)
+
+    several : (vs : List View) → IsPieces vs → length vs ≢ 1 → length (pieces_bytes vs) ≤ text_len t → 0 < text_len t
+    several [] p n l = absurd p
+    several (v ∷ []) p n l = absurd (n refl)
+    several (v ∷ w ∷ vs) p n l = let k = length-bytes v (w ∷ vs) in let f = p.0 in omega arith
+
+-- a text of one piece is that view
+pub single-view : (vs : List View) (t : MarkedText) (v : View) → of_pieces vs ≡ t → length vs ≡ 1 → v ≡ piece_at vs 0 → t ≡ of_view v
+single-view vs t v e one is = sym e ∙ ap of_pieces (one-as vs one) ∙ of_pieces-one (piece_at vs 0) ∙ ap of_view (sym is)
+
+-- bytes that are fewer than those of the first piece
+pub first-inside : (vs : List View) (n : ℕ) → n < view_len (piece_at vs 0) → n < length (pieces_bytes vs)
+first-inside vs n l = let k = length-behind vs in omega arith
+
+pub short-rest : (vs ws : List View) (t : MarkedText) (n : ℕ) → of_pieces vs ≡ t → AreFull vs → n < view_len (piece_at vs 0) → ws ≡ right_pieces vs n → of_pieces ws ≡ text_rest t n
+short-rest vs ws t n e f l is =
+    ⊎_elim
+    (λ (h : 0 < n). rest-kept vs ws t n e h (first-inside vs n l) is)
+    (λ (h : n ≤ 0).
+    let z : n ≡ 0 = omega arith in
+    ap of_pieces (is ∙ ap (right_pieces vs) z ∙ right_pieces-none vs f) ∙ e ∙ sym (ap (text_rest t) z))
+    (cases_lt 0 n)

@@ -1,0 +1,98 @@
+-- One piece or several, after one call.
+use Rattle.std.proofs.lemmas.List.Concat.{flat_map-append}
+use Rattle.std.proofs.Math.Seq.{take-append_seam}
+use Rattle.std.proofs.lemmas.Bool.{cases_lt}
+use Rattle.iobufs.proofs.Text.EndLaws.{start-next, starts-below}
+use Rattle.std.proofs.Common.{map, refl, append-nil, ⊎_elim, ◌≡◌, ℕ, ◌+◌, ◌-◌, ◌<◌, ◌≤◌, List, [], ◌∷◌, ◌++◌, length, suc, sym, ap, ◌∙◌, arith, subst, length-append, length-drop}
+use Rattle.iobufs_core.specs.View.{View}
+use Rattle.iobufs.specs.Inside.Pieces.{view_len, piece_at, piece_start, pieces_bytes, AreFull, IsPlace, left_pieces, right_pieces}
+use Rattle.iobufs.specs.Inside.Several.{views, IsPieced}
+use Rattle.iobufs.specs.declared.bufs.pieces.Pieces.{Pieces}
+use Rattle.iobufs.proofs.Text.PieceLaws.{order3, length-left, left_pieces-past, length-bytes, AreFull-append, AreFull-right, AreFull-left}
+use Rattle.iobufs.proofs.Text.PlaceLaws.{right-at_place, index-of_place}
+
+-- in an arm: what is known, by that arm's pieces
+pub pieced-as : {a b : Pieces} → a ≡ b → IsPieced a → IsPieced b
+pieced-as is h = subst IsPieced is h
+
+pub several-push : (vs ws : List View) (w : View) → (1 < length vs) × AreFull vs → 0 < view_len w → ws ≡ vs ++ w ∷ [] → (1 < length ws) × AreFull ws
+several-push vs ws w h p e =
+    let n = length-append vs (w ∷ []) in
+    let m = ap length e in
+    let l = h.0 in
+    (omega arith, subst AreFull (sym e) (AreFull-append vs (w ∷ []) h.1 (p, tt)))
+
+pub right-full : (p : Pieces) (vs ws : List View) (at : ℕ) → views p ≡ vs → AreFull (views p) → at < length (pieces_bytes (views p)) → ws ≡ right_pieces vs at → AreFull ws × (0 < length ws)
+right-full p vs ws at e f l is =
+    let g = subst AreFull e f in
+    let b = ap (λ (xs : List View). length (pieces_bytes xs)) e in
+    subst (λ xs. AreFull xs × (0 < length xs)) (sym is) (AreFull-right at vs g (omega arith))
+
+left-some : (vs : List View) (at : ℕ) → 0 < at → at ≤ length (pieces_bytes vs) → 0 < length (left_pieces vs at)
+left-some vs at p l = some (left_pieces vs at) (length-left at vs p l)
+  where
+    some : (ws : List View) → length (pieces_bytes ws) ≡ at → 0 < length ws
+    some [] e = absurd (omega arith)
+    some (w ∷ ws) e = omega arith
+
+-- behind the first piece
+pub left-two : (p : Pieces) (vs ws : List View) (at : ℕ) → views p ≡ vs → AreFull (views p) → view_len (piece_at (views p) 0) < at → at < length (pieces_bytes (views p)) → ws ≡ left_pieces vs at → (1 < length ws) × AreFull ws
+left-two p vs ws at e f past l is =
+    let first = ap (λ (xs : List View). view_len (piece_at xs 0)) e in
+    let bytes = ap (λ (xs : List View). length (pieces_bytes xs)) e in
+    let more = two vs (omega arith) (omega arith) in
+    let n = ap (λ (xs : List View). length xs) is in
+    (omega arith, subst AreFull (sym is) (AreFull-left at vs (subst AreFull e f)))
+  where
+    two : (vs : List View) → view_len (piece_at vs 0) < at → at < length (pieces_bytes vs) → 1 < length (left_pieces vs at)
+    two [] past l = absurd (omega arith)
+    two (v ∷ vs) past l =
+        let b = length-bytes v vs in
+        let more = left-some vs (at - view_len v) (omega arith) (omega arith) in
+        rw (left_pieces-past at v vs (omega arith) (omega arith)) (omega arith)
+
+-- up to the last piece
+pub right-two : (p : Pieces) (vs ws : List View) (at i o : ℕ) → views p ≡ vs → AreFull (views p) → at < length (pieces_bytes (views p)) → IsPlace vs at i o → i + 1 < length vs → ws ≡ right_pieces vs at → (1 < length ws) × AreFull ws
+right-two p vs ws at i o e f l place more is =
+    let n = ap (λ (xs : List View). length xs) (is ∙ right-at_place vs at i o place) in
+    let d = length-drop (suc i) vs in
+    (omega arith, (right-full p vs ws at e f l is).0)
+
+-- a place in the first piece
+pub place-in_first : (vs : List View) (at : ℕ) → at < view_len (piece_at vs 0) → IsPlace vs at 0 at
+place-in_first vs at l = record { sum = omega arith; inside = l }
+
+-- at the edge of the last piece a place has nothing before it there
+pub edge-last : (vs front : List View) (last : View) (at i o : ℕ) → AreFull vs → vs ≡ front ++ last ∷ [] → at + view_len last ≡ length (pieces_bytes vs) → IsPlace vs at i o → (i + 1 ≡ length vs) × (o ≡ 0)
+edge-last vs front last at i o full is edge place =
+    let k = length front in
+    let n = ap (λ (xs : List View). length xs) is ∙ length-append front (last ∷ []) in
+    let total = ap (λ (xs : List View). length (pieces_bytes xs)) is ∙ ap length (flat_map-append (λ (v : View). v.bytes) front (last ∷ [])) ∙ length-append (pieces_bytes front) (last.bytes ++ []) in
+    let end = ap length (append-nil last.bytes) in
+    let before : piece_start vs k ≡ length (pieces_bytes front) = ap (λ (xs : List View). piece_start xs k) is ∙ ap (λ (xs : List View). length (pieces_bytes xs)) (take-append_seam front (last ∷ [])) in
+    let index = index-of_place vs at i o place in
+    let sum = place.sum in
+    let inside = place.inside in
+    let next = start-next vs i index in
+    order3 i k
+    (λ h. ⊎_elim
+    (λ (g : suc i < k). let r = starts-below vs (suc i) k full g (omega arith) in absurd (omega arith))
+    (λ (g : k ≤ suc i). let e : suc i ≡ k = omega arith in let r = ap (piece_start vs) e in absurd (omega arith))
+    (cases_lt (suc i) k))
+    (λ h. let r = ap (piece_start vs) h in (omega arith, omega arith))
+    (λ h. let r = starts-below vs k i full h (omega arith) in absurd (omega arith))
+
+-- the last of several chunks is the last piece's
+pub last-view : (vs : List View) (front : List (List ℕ)) (chunk : List ℕ) → map (λ (v : View). v.bytes) vs ≡ front ++ chunk ∷ [] → (before : List View) × (last : View) × (vs ≡ before ++ last ∷ []) × (last.bytes ≡ chunk)
+last-view [] [] chunk e = let n = ap (λ (xs : List (List ℕ)). length xs) e in absurd (omega arith)
+last-view [] (x ∷ xs) chunk e = let n = ap (λ (xs : List (List ℕ)). length xs) e in absurd (omega arith)
+last-view (v ∷ []) [] chunk e = ([], v, refl, (let first : v.bytes ≡ chunk = cc in first))
+last-view (v ∷ []) (x ∷ xs) chunk e =
+    let n = ap (λ (ys : List (List ℕ)). length ys) e in
+    let l = length-append xs (chunk ∷ []) in
+    absurd (omega arith)
+last-view (v ∷ w ∷ vs) [] chunk e = let n = ap (λ (xs : List (List ℕ)). length xs) e in absurd (omega arith)
+last-view (v ∷ w ∷ vs) (x ∷ xs) chunk e =
+    let rest : map (λ (u : View). u.bytes) (w ∷ vs) ≡ xs ++ chunk ∷ [] = cc in
+    let ih = last-view (w ∷ vs) xs chunk rest in
+    (v ∷ ih.0, ih.1, ap (λ us. v ∷ us) ih.2, ih.3)

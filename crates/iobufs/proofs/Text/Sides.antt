@@ -1,0 +1,167 @@
+-- A text behind a view: its sides, and the mark at a place.
+use Rattle.std.proofs.Common.{◌≡◌, ℕ, ◌+◌, ◌-◌, ◌<◌, ◌≤◌, Bool, true, false, cond, nat_lt, nat_le, List, [], ◌∷◌, ◌++◌, length, drop, map, filter, refl, sym, ap, ◌∙◌, arith, tests, append_assoc, length-append, length-drop, nat_eq}
+use Rattle.std.proofs.lemmas.List.{map-append, take-append-le, drop-append-le}
+use Rattle.iobufs_core.specs.View.{View, Mark, mark_after, native_mark, static_mark, bytes_mark, view_front, view_advanced}
+use Rattle.iobufs_core.specs.MarkedText.{MarkedText, of_view, key_upto, mark_past, moved_up, moved_down, text_left, text_right, text_glue}
+use Rattle.iobufs.specs.Laws.Filling.{drop_past, take_past}
+use Rattle.iobufs.specs.Inside.Pieces.{view_len}
+
+pub up_up : (m n : ℕ) (es : List (ℕ × Mark)) → map (moved_up m) (map (moved_up n) es) ≡ map (moved_up (m + n)) es
+up_up m n [] = refl
+up_up m n (e ∷ es) = let h = up_up m n es in let k : m + (n + e.0) ≡ m + n + e.0 = omega arith in cc
+
+pub glue_assoc : (x y z : MarkedText) → text_glue (text_glue x y) z ≡ text_glue x (text_glue y z)
+unfolding text_glue
+glue_assoc x y z =
+    let n : length (x.bytes ++ y.bytes) ≡ length x.bytes + length y.bytes = length-append x.bytes y.bytes in
+    let a : x.bytes ++ y.bytes ++ z.bytes ≡ x.bytes ++ (y.bytes ++ z.bytes) = append_assoc x.bytes y.bytes z.bytes in
+    let u = up_up (length x.bytes) (length y.bytes) z.cuts in
+    simp (length-append, append_assoc, map-append, up_up)
+
+pub both : {A B C : Type 0} (f : A → C) (g : B → C) (b : Bool) (x y : A) (v w : B) → f x ≡ g v → f y ≡ g w → f (cond b x y) ≡ g (cond b v w)
+both f g true x y v w p q = p
+both f g false x y v w p q = q
+
+pub lt_up : (at n k : ℕ) → n ≤ at → nat_lt at (n + k) ≡ nat_lt (at - n) k
+lt_up at n k l = grind (arith, tests)
+
+pub lt_up_left : (at n k : ℕ) → n ≤ at → nat_lt (n + k) at ≡ nat_lt k (at - n)
+lt_up_left at n k l = grind (arith, tests)
+
+pub le_up : (at n k : ℕ) → n ≤ at → nat_le (n + k) at ≡ nat_le k (at - n)
+le_up at n k l = grind (arith, tests)
+
+-- every key is at least n
+abbrev pub FromOn : ℕ → List (ℕ × Mark) → Type 0
+FromOn n [] = Unit {0}
+FromOn n (e ∷ es) = (n ≤ e.0) × FromOn n es
+
+pub from_on-up : (n : ℕ) (es : List (ℕ × Mark)) → FromOn n (map (moved_up n) es)
+from_on-up n [] = tt
+from_on-up n (e ∷ es) = (omega arith, from_on-up n es)
+
+pub below_all : (at n : ℕ) (es : List (ℕ × Mark)) → FromOn n es → at ≤ n → filter (λ e. nat_lt e.0 at) es ≡ []
+below_all at n [] h l = refl
+below_all at n (e ∷ es) h l = let ih = below_all at n es h.1 l in grind (arith, tests)
+
+pub above_all : (at n : ℕ) (es : List (ℕ × Mark)) → FromOn n es → at < n → filter (λ e. nat_lt at e.0) es ≡ es
+above_all at n [] h l = refl
+above_all at n (e ∷ es) h l = let ih = above_all at n es h.1 l in grind (arith, tests)
+
+pub upto_none : (at n : ℕ) (k : ℕ × Mark) (es : List (ℕ × Mark)) → FromOn n es → at < n → key_upto k es at ≡ k
+upto_none at n k [] h l = refl
+upto_none at n k (e ∷ es) h l = let ih = upto_none at n k es h.1 l in grind (arith, tests)
+
+pub down_up : (at n : ℕ) (es : List (ℕ × Mark)) → at ≤ n → map (moved_down at) (map (moved_up n) es) ≡ map (moved_up (n - at)) es
+down_up at n [] l = refl
+down_up at n (e ∷ es) l = let h = down_up at n es l in let k : n + e.0 - at ≡ n - at + e.0 = omega arith in cc
+
+pub filter_up : (at n : ℕ) (es : List (ℕ × Mark)) → n ≤ at → map (moved_down at) (filter (λ e. nat_lt at e.0) (map (moved_up n) es)) ≡ map (moved_down (at - n)) (filter (λ e. nat_lt (at - n) e.0) es)
+filter_up at n [] l = refl
+filter_up at n (e ∷ es) l =
+    let ih = filter_up at n es l in
+    let k : n + e.0 - at ≡ e.0 - (at - n) = omega arith in
+    rw (lt_up at n e.0 l) (both (map (moved_down at)) (map (moved_down (at - n))) (nat_lt (at - n) e.0) _ _ _ _ (cc) ih)
+
+pub filter_up_left : (at n : ℕ) (es : List (ℕ × Mark)) → n ≤ at → filter (λ e. nat_lt e.0 at) (map (moved_up n) es) ≡ map (moved_up n) (filter (λ e. nat_lt e.0 (at - n)) es)
+filter_up_left at n [] l = refl
+filter_up_left at n (e ∷ es) l =
+    let ih = filter_up_left at n es l in
+    rw (lt_up_left at n e.0 l) (both (λ x. x) (map (moved_up n)) (nat_lt e.0 (at - n)) _ _ _ _ (cc) ih)
+
+pub upto_up : (at n : ℕ) (k : ℕ × Mark) (es : List (ℕ × Mark)) → n ≤ at → key_upto (moved_up n k) (map (moved_up n) es) at ≡ moved_up n (key_upto k es (at - n))
+upto_up at n k [] l = refl
+upto_up at n k (e ∷ es) l =
+    rw (le_up at n e.0 l) (both (λ x. x) (moved_up n) (nat_le e.0 (at - n)) _ _ _ _ (upto_up at n e es l) (upto_up at n k es l))
+
+pub mark_up : (at n : ℕ) (k : ℕ × Mark) (es : List (ℕ × Mark)) → n ≤ at → mark_past (key_upto (moved_up n k) (map (moved_up n) es) at) at ≡ mark_past (key_upto k es (at - n)) (at - n)
+mark_up at n k es l =
+    let f = key_upto k es (at - n) in
+    let d : at - (n + f.0) ≡ at - n - f.0 = omega arith in
+    rw (upto_up at n k es l, d)
+
+pub no_sub : (n : ℕ) → n - 0 ≡ n
+no_sub n = omega arith
+
+pub same_text : (s t : MarkedText) → s.bytes ≡ t.bytes → s.mark ≡ t.mark → s.cuts ≡ t.cuts → s ≡ t
+same_text s t p q r = λ i. record { bytes = p i; mark = q i; cuts = r i }
+
+-- one view
+pub right-of_view : (at : ℕ) (v : View) → text_right (of_view v) at ≡ of_view (view_advanced v at)
+unfolding text_right
+right-of_view at v = rw (no_sub at)
+
+pub left-of_view : (at : ℕ) (v : View) → text_left (of_view v) at ≡ of_view (view_front v at)
+unfolding text_left
+left-of_view at v = refl
+
+pub is_lt : (m n : ℕ) → m < n → nat_lt m n ≡ true
+is_lt m n l = grind (arith, tests)
+
+pub not_zero : (n : ℕ) → 0 < n → nat_eq n 0 ≡ false
+not_zero n l = grind (arith, tests)
+
+pub not_lt : (m n : ℕ) → n ≤ m → nat_lt m n ≡ false
+not_lt m n l = grind (arith, tests)
+
+pub is_le : (m n : ℕ) → m ≤ n → nat_le m n ≡ true
+is_le m n l = grind (arith, tests)
+
+pub not_le : (m n : ℕ) → n < m → nat_le m n ≡ false
+not_le m n l = grind (arith, tests)
+
+-- a view, with more behind it
+pub right-glue_within : (at : ℕ) (v : View) (y : MarkedText) → at < view_len v → text_right (text_glue (of_view v) y) at ≡ text_glue (of_view (view_advanced v at)) y
+unfolding text_right text_glue
+right-glue_within at v y l =
+    let n : length (drop at v.bytes) ≡ view_len v - at = length-drop at v.bytes in
+    let f = from_on-up (view_len v) y.cuts in
+    let a = above_all at (view_len v) _ f l in
+    let u = upto_none at (view_len v) (0, v.mark) _ f l in
+    let d = down_up at (view_len v) y.cuts (omega arith) in
+    same_text _ _
+    (drop-append-le at v.bytes y.bytes (omega arith))
+    (rw (not_le (view_len v) at l, u, no_sub at))
+    (rw (is_lt at (view_len v) l, a, d, n))
+
+pub right-glue_past : (at : ℕ) (v : View) (y : MarkedText) → view_len v ≤ at → text_right (text_glue (of_view v) y) at ≡ text_right y (at - view_len v)
+unfolding text_right text_glue
+right-glue_past at v y l =
+    let u = mark_up at (view_len v) (0, y.mark) y.cuts l in
+    let z : view_len v + 0 ≡ view_len v = omega arith in
+    same_text _ _
+    (drop_past at v.bytes y.bytes l)
+    (rw (is_le (view_len v) at l) (ap (λ z. mark_past (key_upto (z, y.mark) (map (moved_up (view_len v)) y.cuts) at) at) (sym z) ∙ u))
+    (rw (not_lt at (view_len v) l) (filter_up at (view_len v) y.cuts l))
+
+pub left-glue_within : (at : ℕ) (v : View) (y : MarkedText) → at ≤ view_len v → text_left (text_glue (of_view v) y) at ≡ of_view (view_front v at)
+unfolding text_left text_glue
+left-glue_within at v y l =
+    same_text _ _
+    (take-append-le at v.bytes y.bytes l)
+    refl
+    (rw (not_lt (view_len v) at l) (below_all at (view_len v) _ (from_on-up (view_len v) y.cuts) l))
+
+pub left-glue_past : (at : ℕ) (v : View) (y : MarkedText) → view_len v < at → text_left (text_glue (of_view v) y) at ≡ text_glue (of_view v) (text_left y (at - view_len v))
+unfolding text_left text_glue
+left-glue_past at v y l =
+    let l' : view_len v ≤ at = omega arith in
+    same_text _ _
+    (take_past at v.bytes y.bytes l')
+    refl
+    (rw (is_lt (view_len v) at l, filter_up_left at (view_len v) y.cuts l'))
+
+-- the sides by place
+pub same_eq : (m n : ℕ) → m ≡ n → nat_eq m n ≡ true
+same_eq m n e = grind (arith, tests)
+
+pub not_eq : (m n : ℕ) → m < n → nat_eq m n ≡ false
+not_eq m n e = grind (arith, tests)
+
+pub same_view : (v w : View) → v.bytes ≡ w.bytes → v.mark ≡ w.mark → v ≡ w
+same_view v w p q = λ i. record { bytes = p i; mark = q i }
+
+pub mark_after-zero : (m : Mark) → mark_after 0 m ≡ m
+mark_after-zero static_mark = refl
+mark_after-zero bytes_mark = refl
+mark_after-zero (native_mark r) = rw (no_sub r)

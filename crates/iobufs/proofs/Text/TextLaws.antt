@@ -1,0 +1,167 @@
+-- What a text in several pieces keeps, and what its marked text is.
+use Rattle.std.proofs.Common.{Bool, true, IsTrue, IsFalse, ◌≡◌, refl, ℕ, ◌<◌, ◌≤◌, false, List, [], ◌∷◌, ◌++◌, length, map, zero, suc, sym, ap, ◌∙◌, arith, tests, subst, nat_eq}
+use Rattle.std.specs.List.{slice_get}
+use Rattle.std.specs.Option.{option_map}
+use Rattle.std.proofs.Common.{Option, None}
+use Rattle.iobufs_core.specs.View.{View, IsView, view_advanced}
+use Rattle.iobufs_core.specs.MarkedText.{MarkedText, of_view, text_len, is_single, chunk_count, text_append, text_prepend, text_rest, text_split_front, text_advanced, text_chunks, IsMarked}
+use Rattle.iobufs.specs.Inside.Pieces.{view_len, pieces_bytes, of_pieces, AreFull, IsPieces, AreViews, left_pieces, right_pieces}
+use Rattle.iobufs.specs.Inside.Several.{views, IsPieced}
+use Rattle.iobufs.specs.Inside.Kept.{text_of, IsKept}
+use Rattle.iobufs.specs.declared.bufs.pieces.Pieces.{Pieces}
+use Rattle.iobufs.specs.declared.bufs.pieces.Pieces.TheVariants.{One, Many}
+use Rattle.iobufs.specs.declared.bufs.text.IoBufs.TheInside.{Inside}
+use Rattle.iobufs.proofs.Text.Sides.{not_zero}
+use Rattle.iobufs.proofs.Text.PieceLaws.{bytes-of_pieces, len-of_pieces, of_pieces-one, cuts-of_pieces, is_single-of_pieces, AreFull-from_pieces, rest-of_pieces, split_front-of_pieces, advanced-of_view}
+use Rattle.iobufs.proofs.Text.JoinLaws.{append-push, prepend-cons}
+use Rattle.iobufs.proofs.Text.KeptLaws.{AreViews-right, AreViews-left, AreViews-append, IsMarked-from_views}
+use Rattle.iobufs.proofs.Text.ChunkLaws.{chunks-of_pieces, chunks-of_empty}
+
+pub IsPieces-from_pieced : (p : Pieces) → IsPieced p → IsPieces (views p)
+IsPieces-from_pieced (One v) h = tt
+IsPieces-from_pieced (Many row) h = many row.views h.0 h.1
+  where
+    many : (vs : List View) → 1 < length vs → AreFull vs → IsPieces vs
+    many [] l f = absurd (omega arith)
+    many (v ∷ []) l f = absurd (omega arith)
+    many (v ∷ w ∷ vs) l f = f
+
+pub some_views : (p : Pieces) → IsPieced p → 0 < length (views p)
+some_views (One v) h = omega arith
+some_views (Many row) h = omega (arith, h.0)
+
+pub bytes-kept : (s : Inside) (t : MarkedText) → text_of s ≡ t → pieces_bytes (views s.pieces) ≡ t.bytes
+bytes-kept s t e = sym (bytes-of_pieces (views s.pieces)) ∙ ap (λ (x : MarkedText). x.bytes) e
+
+pub length-kept : (s : Inside) (t : MarkedText) → text_of s ≡ t → length (pieces_bytes (views s.pieces)) ≡ text_len t
+length-kept s t e = ap length (bytes-kept s t e)
+
+-- the pieces of a kept text that has bytes
+pub full-kept : (s : Inside) (t : MarkedText) → text_of s ≡ t → IsKept s → 0 < text_len t → AreFull (views s.pieces)
+full-kept s t e k p = let n = length-kept s t e in AreFull-from_pieces (views s.pieces) (IsPieces-from_pieced s.pieces k.pieced) (omega arith)
+
+pub IsMarked-kept : (s : Inside) (t : MarkedText) → text_of s ≡ t → IsKept s → IsMarked t
+IsMarked-kept s t e k = subst IsMarked e (IsMarked-from_views (views s.pieces) (IsPieces-from_pieced s.pieces k.pieced) k.roomy)
+
+-- one piece, or several
+not_one : (n : ℕ) → 1 < n → nat_eq n 1 ≡ false
+not_one n l = grind (arith, tests)
+
+pub single-of : (vs : List View) (t : MarkedText) → of_pieces vs ≡ t → 0 < length vs → is_single t ≡ nat_eq (length vs) 1
+single-of [] t e l = absurd (omega arith)
+single-of (v ∷ []) t e l = sym (ap is_single e) ∙ is_single-of_pieces v []
+single-of (v ∷ w ∷ vs) t e l = sym (ap is_single e) ∙ is_single-of_pieces v (w ∷ vs) ∙ not_zero (length (w ∷ vs)) (omega arith) ∙ sym (not_one (length (v ∷ w ∷ vs)) (omega arith))
+
+pub single-kept : (s : Inside) (t : MarkedText) → text_of s ≡ t → IsKept s → is_single t ≡ nat_eq (length (views s.pieces)) 1
+single-kept s t e k = single-of (views s.pieces) t e (some_views s.pieces k.pieced)
+
+pub single-more : (vs : List View) (t : MarkedText) → of_pieces vs ≡ t → 1 < length vs → is_single t ≡ false
+single-more [] t e l = absurd (omega arith)
+single-more (v ∷ []) t e l = absurd (omega arith)
+single-more (v ∷ w ∷ vs) t e l = sym (ap is_single e) ∙ is_single-of_pieces v (w ∷ vs) ∙ not_zero (length (w ∷ vs)) (omega arith)
+
+pub count-pieces : (vs : List View) (t : MarkedText) → of_pieces vs ≡ t → 0 < length (pieces_bytes vs) → length vs ≡ chunk_count t
+count-pieces [] t e l = absurd (omega arith)
+count-pieces (v ∷ vs) t e l =
+    let s : 0 < text_len t = rw (sym (ap text_len e) ∙ len-of_pieces (v ∷ vs)) l in
+    let n : length t.cuts ≡ length vs = ap (λ (x : MarkedText). length x.cuts) (sym e) ∙ cuts-of_pieces v vs in
+    rw (not_zero (text_len t) s) (omega arith)
+
+pub chunks-kept : (vs : List View) (t : MarkedText) → of_pieces vs ≡ t → 0 < length vs → AreFull vs → text_chunks t ≡ map (λ (v : View). v.bytes) vs
+chunks-kept [] t e l f = absurd (omega arith)
+chunks-kept (v ∷ vs) t e l f = sym (ap text_chunks e) ∙ chunks-of_pieces v vs f
+
+-- behind and in front
+pub append-pieces : (vs : List View) (w : View) (t : MarkedText) → of_pieces vs ≡ t → 0 < text_len t → 0 < view_len w → of_pieces (vs ++ w ∷ []) ≡ text_append t w
+append-pieces [] w t e p q = let s = len-of_pieces [] in let z : text_len (of_pieces []) ≡ text_len t = ap text_len e in absurd (omega arith)
+append-pieces (v ∷ vs) w t e p q =
+    let s = len-of_pieces (v ∷ vs) in
+    let z : text_len (of_pieces (v ∷ vs)) ≡ text_len t = ap text_len e in
+    sym (append-push v vs w (omega arith) q) ∙ ap (λ (x : MarkedText). text_append x w) e
+
+pub prepend-pieces : (vs : List View) (w : View) (t : MarkedText) → of_pieces vs ≡ t → 0 < text_len t → 0 < view_len w → of_pieces (w ∷ vs) ≡ text_prepend t w
+prepend-pieces [] w t e p q = let s = len-of_pieces [] in let z : text_len (of_pieces []) ≡ text_len t = ap text_len e in absurd (omega arith)
+prepend-pieces (v ∷ vs) w t e p q =
+    let s = len-of_pieces (v ∷ vs) in
+    let z : text_len (of_pieces (v ∷ vs)) ≡ text_len t = ap text_len e in
+    sym (prepend-cons w v vs (omega arith) q) ∙ ap (λ (x : MarkedText). text_prepend x w) e
+
+pub views-push : (vs ws : List View) (w : View) → ws ≡ vs ++ w ∷ [] → AreViews vs → IsView w → AreViews ws
+views-push vs ws w is h v = subst AreViews (sym is) (AreViews-append vs (w ∷ []) h (v, tt))
+
+pub views-cons : (vs ws : List View) (w : View) → ws ≡ w ∷ vs → AreViews vs → IsView w → AreViews ws
+views-cons vs ws w is h v = subst AreViews (sym is) (v, h)
+
+-- the two sides of a place inside, as a split leaves them
+pub front-kept : (vs ws : List View) (t : MarkedText) (at : ℕ) → of_pieces vs ≡ t → 0 < at → at < length (pieces_bytes vs) → ws ≡ left_pieces vs at → of_pieces ws ≡ text_split_front t at
+front-kept vs ws t at e p l is = ap of_pieces is ∙ sym (split_front-of_pieces at vs p l) ∙ ap (λ (x : MarkedText). text_split_front x at) e
+
+pub rest-kept : (vs ws : List View) (t : MarkedText) (at : ℕ) → of_pieces vs ≡ t → 0 < at → at < length (pieces_bytes vs) → ws ≡ right_pieces vs at → of_pieces ws ≡ text_rest t at
+rest-kept vs ws t at e p l is = ap of_pieces is ∙ sym (rest-of_pieces at vs p l) ∙ ap (λ (x : MarkedText). text_rest x at) e
+
+pub views-right : (vs ws : List View) (at : ℕ) → ws ≡ right_pieces vs at → AreViews vs → AreViews ws
+views-right vs ws at is h = subst AreViews (sym is) (AreViews-right at vs h)
+
+pub views-left : (vs ws : List View) (at : ℕ) → ws ≡ left_pieces vs at → AreViews vs → AreViews ws
+views-left vs ws at is h = subst AreViews (sym is) (AreViews-left at vs h)
+
+-- what `advance` leaves
+pub advanced-one : (v : View) (t : MarkedText) (n : ℕ) → of_pieces (v ∷ []) ≡ t → n ≤ view_len v → of_pieces (view_advanced v n ∷ []) ≡ text_advanced t n
+advanced-one v t n e l = of_pieces-one (view_advanced v n) ∙ sym (advanced-of_view n v l) ∙ ap (λ (x : MarkedText). text_advanced x n) (sym (of_pieces-one v) ∙ e)
+
+-- a text of one piece is that view
+pub one-view : (v : View) (t : MarkedText) → of_pieces (v ∷ []) ≡ t → t ≡ of_view v
+one-view v t e = sym e ∙ of_pieces-one v
+
+slice_get-map : {A B : Type 0} (f : A → B) (xs : List A) (i : ℕ) → slice_get (map f xs) i ≡ option_map f (slice_get xs i)
+slice_get-map f [] i = refl
+slice_get-map f (x ∷ xs) zero = refl
+slice_get-map f (x ∷ xs) (suc i) = slice_get-map f xs i
+
+-- the chunk of a piece
+pub chunk-at : (vs : List View) (t : MarkedText) (i : ℕ) (piece : Option View) → of_pieces vs ≡ t → 0 < length vs → AreFull vs → piece ≡ slice_get vs i → option_map (λ (v : View). v.bytes) piece ≡ slice_get (text_chunks t) i
+chunk-at vs t i piece e l f g =
+    ap (option_map (λ (v : View). v.bytes)) g ∙ sym (slice_get-map (λ (v : View). v.bytes) vs i) ∙ ap (λ (xs : List (List ℕ)). slice_get xs i) (sym (chunks-kept vs t e l f))
+
+pub chunk-none : (t : MarkedText) (i : ℕ) → text_len t ≡ 0 → None ≡ slice_get (text_chunks t) i
+chunk-none t i e = sym (ap (λ (xs : List (List ℕ)). slice_get xs i) (chunks-of_empty t e))
+
+-- what is kept after a change of the pieces
+pub kept-push : (s : Inside) (p : Pieces) (w : View) → IsKept s → IsPieced p → views p ≡ views s.pieces ++ w ∷ [] → IsView w → IsKept (record { pieces = p })
+kept-push s p w k h is v =
+    record {
+      pieced = h;
+      roomy = views-push (views s.pieces) (views p) w is k.roomy v;
+    }
+
+pub kept-cons : (s : Inside) (p : Pieces) (w : View) → IsKept s → IsPieced p → views p ≡ w ∷ views s.pieces → IsView w → IsKept (record { pieces = p })
+kept-cons s p w k h is v =
+    record {
+      pieced = h;
+      roomy = views-cons (views s.pieces) (views p) w is k.roomy v;
+    }
+
+pub kept-front : (s : Inside) (at : ℕ) (p : Pieces) → IsKept s → IsPieced p → views p ≡ left_pieces (views s.pieces) at → IsKept (record { pieces = p })
+kept-front s at p k h is =
+    record {
+      pieced = h;
+      roomy = views-left (views s.pieces) (views p) at is k.roomy;
+    }
+
+pub kept-rest : (s : Inside) (at : ℕ) (p : Pieces) → IsKept s → IsPieced p → views p ≡ right_pieces (views s.pieces) at → IsKept (record { pieces = p })
+kept-rest s at p k h is =
+    record {
+      pieced = h;
+      roomy = views-right (views s.pieces) (views p) at is k.roomy;
+    }
+
+pub kept-same : (s : Inside) (p : Pieces) → IsKept s → IsPieced p → views p ≡ views s.pieces → IsKept (record { pieces = p })
+kept-same s p k h is =
+    record {
+      pieced = h;
+      roomy = subst AreViews (sym is) k.roomy;
+    }
+
+pub kept-short : (s : Inside) (n : ℕ) (p : Pieces) (short : Bool) → IsKept s → IsPieced p → (IsTrue short → views p ≡ right_pieces (views s.pieces) n) → (IsFalse short → views p ≡ views s.pieces) → IsKept (record { pieces = p })
+kept-short s n p true k h left same = kept-rest s n p k h (left refl)
+kept-short s n p false k h left same = kept-same s p k h (same refl)

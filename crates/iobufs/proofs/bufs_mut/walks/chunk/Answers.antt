@@ -1,0 +1,12 @@
+use Rattle.std.proofs.Common.{◌≡◌, [], ap, sym, ◌∙◌}
+use Rattle.std.specs.VecDeque.Iter.{deque_iter_rest}
+use Rattle.iobufs_core.specs.Chunks.{first_chunk}
+use Rattle.std.proofs.lemmas.List.{nil_from_length}
+use Rattle.iobufs.specs.Parts.{parts_chunks}
+use Rattle.iobufs.proofs.bufs_mut.walks.chunk.Goals as goal
+
+pub returns : goal.returns
+returns c =
+    let l = c.loop-part in
+    let none : deque_iter_rest l.part-iterator ≡ [] = nil_from_length _ c.in-None.ensures.steps.0 in
+    sym (l.invariant ∙ ap (λ ps. first_chunk (parts_chunks ps)) none)

@@ -1,0 +1,43 @@
+-- Pieces with stored end places. An end means nothing by itself: less the base of its row, modulo 2 ^ 64, it is the
+-- number of bytes up to the piece's end. So bytes that come or go in front change the base alone.
+use Rattle.std.specs.Prelude.{◌≡◌, ℕ, ◌+◌, ◌-◌, ◌%◌, ◌^◌, ◌<◌, ◌==◌, if◌then◌else◌, List, [], ◌∷◌, length, map, get_or}
+use Rattle.iobufs_core.specs.View.{View, view_advanced}
+use Rattle.iobufs.specs.Inside.Pieces.{view_len, AreFull}
+use Rattle.iobufs.specs.Search.{IsRising}
+use Rattle.iobufs.specs.declared.bufs.row.Piece.{Piece}
+
+-- an end less a base, modulo 2 ^ 64
+abbrev pub from_base : ℕ → ℕ → ℕ
+from_base base end = (end + (2 ^ 64 - base)) % 2 ^ 64
+
+abbrev pub views_in : List Piece → List View
+views_in pieces = map (λ (piece : Piece). piece.view) pieces
+
+abbrev pub ends_from : ℕ → List Piece → List ℕ
+ends_from base pieces = map (λ (piece : Piece). from_base base piece.end) pieces
+
+-- so many bytes stand before the first piece, and each end is where its piece ends
+abbrev pub AreEnds : ℕ → ℕ → List Piece → Type 0
+AreEnds base start [] = Unit {0}
+AreEnds base start (piece ∷ pieces) = (piece.end < 2 ^ 64) × (from_base base piece.end ≡ start + view_len piece.view) × AreEnds base (start + view_len piece.view) pieces
+
+-- what a row keeps true: each end, less the base, is where its piece ends in the text, and each piece holds bytes
+pub record IsRow (base : ℕ) (pieces : List Piece) : Type 0 where
+  pub based : base < 2 ^ 64
+  pub ended : AreEnds base 0 pieces
+  pub full : AreFull (views_in pieces)
+
+-- what a search among ends asks of them and of its place
+pub record IsSearch (ends : List ℕ) (place : ℕ) : Type 0 where
+  pub rising : IsRising ends
+  pub some : 0 < length ends
+  pub inside : place < get_or ends (length ends - 1) 0
+
+-- the first piece without its first n bytes; it ends where it did
+abbrev pub shortened : List Piece → ℕ → List Piece
+shortened [] n = []
+shortened (piece ∷ pieces) n = record { view = view_advanced piece.view n; end = piece.end } ∷ pieces
+
+-- the first bytes of a piece that is cut; none where the place is its first
+abbrev pub cut_piece : View → ℕ → ℕ → List Piece
+cut_piece view end offset = if offset == 0 then [] else record { view = view; end = end } ∷ []

@@ -1,0 +1,12 @@
+-- What a text in several pieces keeps true of its fields.
+use Rattle.iobufs_core.specs.MarkedText.{MarkedText}
+use Rattle.iobufs.specs.Inside.Pieces.{of_pieces, AreViews}
+use Rattle.iobufs.specs.Inside.Several.{views, IsPieced}
+use Rattle.iobufs.specs.declared.bufs.text.IoBufs.TheInside.{Inside}
+
+abbrev pub text_of : Inside → MarkedText
+text_of s = of_pieces (views s.pieces)
+
+pub record IsKept (s : Inside) : Type 0 where
+  pub pieced : IsPieced s.pieces
+  pub roomy : AreViews (views s.pieces)

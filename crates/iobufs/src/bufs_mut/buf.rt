@@ -1,0 +1,109 @@
+// `IoBufsMut` as bytes that are read from the front.
+ghost use Rattle.std.specs.Prelude.{◌≡◌, ◌≤◌, [], ◌∷◌, length};
+ghost use Rattle.iobufs.specs.Parts.{parts_chunks, parts_drained, parts_filled};
+
+use super::{IoBufsMut, Shape, row};
+use bytes::Bytes;
+use iobufs_core::codec::{Buf, BufError};
+use std::alloc::Global;
+
+impl IoBufsMut {
+    // Drops the first `n` bytes, also where whole parts go.
+    #[inline(never)]
+    fn drain(&mut self, n: usize)
+        requires { n ≤ length (parts_filled self.old) }
+        ensures { self.new ≡ parts_drained self.old n }
+    {
+        match &mut self.shape {
+            Shape::One(part) => part.advance(n),
+            Shape::Many(parts) => {
+                if let Some(part) = parts.advance(n) {
+                    self.shape = Shape::One(part);
+                }
+            }
+        }
+    }
+}
+
+impl Buf for IoBufsMut {
+    ghost use Rattle.iobufs.specs.Laws.Draining.{filled-drained, joined-chunks, full-chunks};
+
+    ghost text = { parts_filled };
+
+    ghost advanced = { parts_drained };
+
+    ghost copied = { parts_drained };
+
+    ghost pieces = { parts_chunks };
+
+    fn remaining(&self) -> usize {
+        self.len()
+    }
+
+    #[tactic(auto, using(crate::proofs::PartChunks::reading))]
+    fn chunk(&self) -> &[u8] {
+        match &self.shape {
+            Shape::One(part) => part.as_ref(),
+            Shape::Many(parts) => walks::chunk(parts.row()),
+        }
+    }
+
+    #[tactic(auto, using(crate::proofs::PartChunks::reading))]
+    fn byte_at(&self, i: usize) -> Option<u8> {
+        match &self.shape {
+            Shape::One(part) => part.byte_at(i),
+            Shape::Many(parts) => walks::byte_at(parts.row(), i),
+        }
+    }
+
+    /// A part that is used up keeps its room; with two or more, those that can't hold a byte any more go.
+    fn advance(&mut self, n: usize) {
+        match &mut self.shape {
+            Shape::One(part) => part.advance(n),
+            Shape::Many(parts) => {
+                if !parts.shorten(n) {
+                    self.drain(n);
+                }
+            }
+        }
+    }
+
+    #[tactic(auto, using(crate::proofs::PartChunks::reading))]
+    fn copy_to_slice(&mut self, dst: &mut [u8]) {
+        match &self.shape {
+            Shape::One(part) => dst.copy_from_slice(&part.as_ref()[..dst.len()]),
+            Shape::Many(parts) => walks::read(parts.row(), dst),
+        }
+        self.advance(dst.len());
+    }
+
+    /// Leaves what `advance` leaves, of one part too.
+    #[tactic(auto, using(crate::proofs::PartChunks::reading))]
+    fn copy_to_bytes(&mut self, alloc: Global, n: usize) -> Result<Bytes, BufError> {
+        if n == 0 {
+            return Ok(Bytes::new());
+        }
+        let bytes = match &self.shape {
+            Shape::One(part) => Bytes::copy_from_slice(alloc, &part.as_ref()[..n])?,
+            Shape::Many(parts) => Bytes::from_vec(walks::front(alloc, parts.row(), n)?)?,
+        };
+        self.advance(n);
+        Ok(bytes)
+    }
+
+    #[tactic(auto, using(crate::proofs::PartChunks::reading))]
+    fn chunks_vectored(&self, alloc: Global, max: usize) -> Result<Vec<&[u8]>, BufError> {
+        match &self.shape {
+            Shape::One(part) => part.chunks_vectored(alloc, max),
+            Shape::Many(parts) => Ok(walks::chunks(alloc, parts.row(), max)?),
+        }
+    }
+
+    ghost drops = { λ parts n h. filled-drained parts n };
+
+    ghost copies = { λ parts n h. filled-drained parts n };
+
+    ghost joins = { joined-chunks };
+
+    ghost full = { full-chunks };
+}

@@ -1,0 +1,9 @@
+use Rattle.std.proofs.Common.{◌∙◌, sym, subst, IfOk}
+use Rattle.iobufs_core.specs.View.{View}
+use Rattle.iobufs_core.specs.ViewLaws.{taken-whole}
+use Rattle.iobufs_core.proofs.buf.view.IoBufOwnedBuf.take_owned_after.Goals as goal
+
+pub returns-then-n-len-clause-ok : goal.returns-then-n-len-clause-ok
+returns-then-n-len-clause-ok g c =
+    let whole = taken-whole c.args.self.now c.args.skip c.args.n c.requires (c.if-n-len.true ∙ c.len.ensures.value) c.if-n-ne0.true in
+    subst (λ (view : View). IfOk c.take_view.result (g.T.OwnedBytes.makes view)) (sym whole) c.take_view.ensures.ok

@@ -1,0 +1,426 @@
+// A buffer of fixed capacity, to be written.
+ghost use Rattle.std.specs.Prelude.{◌≡◌, ◌+◌, ◌-◌, ◌<◌, ◌≤◌, ◌==◌, [], ◌∷◌, length, take, drop, replicate, OnOk, OnErr, vec_len, vec_capacity, false, IfOk, IsOk, IsOkUnless, IsTrue, ◌↔◌, MatchResult};
+ghost use Rattle.std.specs.Align.{IsLayout};
+ghost use Rattle.iobufs_core.specs.Part.{empty_part, is_bad_layout as bad_layout, part_capacity, part_copied, part_drained, part_frozen, part_overwritten, part_put, part_with_len, part_truncated};
+ghost use Rattle.iobufs_core.specs.Recovery.{IsPartOf};
+ghost use Rattle.std.specs.Borrow.{Lends, Array, sem, u8 as byte};
+ghost use Rattle.iobufs_core.specs.contracts.buf.part.IoBufMut.{the_row};
+
+use super::IoBuf;
+use super::native::Native;
+use crate::codec::{Buf, BufError, BufMut};
+use bytes::{Bytes, BytesMut};
+use std::alloc::{Global, Layout};
+use std::fmt;
+use std::marker::Model;
+use std::sync::Arc;
+
+/// One piece of storage to write (`IoBufMut`): bytes that are filled, and room behind them. The capacity is fixed
+/// when the buffer is made, and counted from the first readable byte:
+///
+/// ```text
+/// storage | dropped |   filled   |   spare   |
+///         0       start         len        limit
+///                   |------ capacity --------|
+/// ```
+///
+/// It shares its storage with nobody. No put asks for memory.
+pub struct IoBufMut {
+    // It may have more room than up to `limit`, which is never used.
+    storage: Vec<u8>,
+    start: usize,
+    limit: usize,
+    // An empty block that `freeze` fills: made with the storage, or left by the view that this was recovered from.
+    shell: Option<Arc<Vec<u8>>>,
+}
+
+// By hand, so that what is kept privately is none of a caller's business.
+impl Drop for IoBufMut {
+    fn drop(self) {
+        let IoBufMut {
+            storage: _,
+            start: _,
+            limit: _,
+            shell: _,
+        } = self;
+    }
+}
+
+impl Model for IoBufMut {
+    ghost use Rattle.std.specs.Prelude.{◌-◌, ◌≤◌, vec_len, vec_capacity, drop};
+    ghost use Rattle.iobufs_core.specs.Part.{Part};
+
+    ghost Value = { Part };
+
+    ghost view = { λ b. record { filled = drop b.start b.storage.items; spare = b.limit - vec_len b.storage } };
+
+    ghost invariant = { λ b. (b.start ≤ vec_len b.storage) × (vec_len b.storage ≤ b.limit) × (b.limit ≤ vec_capacity b.storage) };
+}
+
+// Whether no storage has this capacity and alignment.
+fn is_bad_layout(n: usize, align: usize) -> bool
+    ensures value { result ≡ bad_layout n align }
+    ensures layout { IsTrue result ↔ ((0 < n) × (IsLayout n align → ⊥)) }
+{
+    n != 0 && Layout::from_size_align(n, align).is_err()
+}
+
+impl IoBufMut {
+    /// An empty buffer of capacity 0.
+    pub fn default(alloc: Global) -> IoBufMut
+        ensures { result ≡ empty_part 0 }
+    {
+        IoBufMut::from_storage(Vec::new(alloc), 0, 0)
+    }
+
+    /// An empty buffer of exactly this capacity (`IoBufMut::with_capacity`).
+    pub fn with_capacity(alloc: Global, n: usize) -> Result<IoBufMut, BufError>
+        ensures ok { IfOk result (λ b. b ≡ empty_part n) }
+        ensures bad_layout { IsTrue (bad_layout n 1) → result ≡ Err BufError.BadLayout }
+        ensures good_layout { bad_layout n 1 ≡ false → IsOkUnless result BufError.Memory }
+        ensures nothing { n ≡ 0 → IsOk result }
+    {
+        IoBufMut::with_alignment(alloc, n, 1)
+    }
+
+    /// The same, for a caller who asks for an alignment (`IoBufMut::with_alignment`). Addresses are not promised.
+    pub fn with_alignment(alloc: Global, n: usize, align: usize) -> Result<IoBufMut, BufError>
+        ensures ok { IfOk result (λ b. b ≡ empty_part n) }
+        ensures bad_layout { IsTrue (bad_layout n align) → result ≡ Err BufError.BadLayout }
+        ensures good_layout { bad_layout n align ≡ false → IsOkUnless result BufError.Memory }
+        ensures layout { IsTrue (bad_layout n align) ↔ ((0 < n) × (IsLayout n align → ⊥)) }
+        ensures nothing { n ≡ 0 → IsOk result }
+    {
+        if n == 0 {
+            return Ok(IoBufMut::default(alloc));
+        }
+        if is_bad_layout(n, align) {
+            return Err(BufError::BadLayout);
+        }
+        let storage = Vec::with_capacity(alloc, n)?;
+        IoBufMut::with_shell(storage, n)
+    }
+
+    /// A buffer of exactly this capacity, filled with zeros (`IoBufMut::zeroed`).
+    pub fn zeroed(alloc: Global, n: usize) -> Result<IoBufMut, BufError>
+        ensures ok { IfOk result (λ b. b ≡ record { filled = replicate n 0; spare = 0 }) }
+        ensures bad_layout { IsTrue (bad_layout n 1) → result ≡ Err BufError.BadLayout }
+        ensures good_layout { bad_layout n 1 ≡ false → IsOkUnless result BufError.Memory }
+        ensures nothing { n ≡ 0 → IsOk result }
+    {
+        IoBufMut::zeroed_with_alignment(alloc, n, 1)
+    }
+
+    /// The same, for a caller who asks for an alignment (`IoBufMut::zeroed_with_alignment`).
+    pub fn zeroed_with_alignment(
+        alloc: Global,
+        n: usize,
+        align: usize,
+    ) -> Result<IoBufMut, BufError>
+        ensures ok { IfOk result (λ b. b ≡ record { filled = replicate n 0; spare = 0 }) }
+        ensures bad_layout { IsTrue (bad_layout n align) → result ≡ Err BufError.BadLayout }
+        ensures good_layout { bad_layout n align ≡ false → IsOkUnless result BufError.Memory }
+        ensures nothing { n ≡ 0 → IsOk result }
+    {
+        if n == 0 {
+            return Ok(IoBufMut::default(alloc));
+        }
+        if is_bad_layout(n, align) {
+            return Err(BufError::BadLayout);
+        }
+        let mut storage = Vec::with_capacity(alloc, n)?;
+        storage.resize(n, 0).unwrap();
+        IoBufMut::with_shell(storage, n)
+    }
+
+    /// A copy of these bytes, with no room behind them (`From<&[u8]>`).
+    pub fn copy_from_slice(alloc: Global, src: &[u8]) -> Result<IoBufMut, BufError>
+        ensures ok { IfOk result (λ b. b ≡ record { filled = src.now; spare = 0 }) }
+        ensures memory { IsOkUnless result BufError.Memory }
+        ensures empty { length src.now ≡ 0 → IsOk result }
+    {
+        if src.is_empty() {
+            return Ok(IoBufMut::default(alloc));
+        }
+        let storage = Vec::from_slice(alloc, src)?;
+        let limit = storage.len();
+        IoBufMut::with_shell(storage, limit)
+    }
+
+    /// The bytes of a `Bytes` (`From<Bytes>`), copied where others share them.
+    pub fn from_bytes(alloc: Global, bytes: Bytes) -> Result<IoBufMut, BufError>
+        ensures ok { IfOk result (λ b. b.filled ≡ bytes) }
+        ensures memory { IsOkUnless result BufError.Memory }
+        ensures empty { length bytes ≡ 0 → IsOk result }
+    {
+        match bytes.try_into_mut() {
+            Ok(bytes) => IoBufMut::from_bytes_mut(bytes),
+            Err(bytes) => IoBufMut::copy_from_slice(alloc, bytes.as_slice()),
+        }
+    }
+
+    /// The bytes of a `BytesMut` (`From<BytesMut>`).
+    pub fn from_bytes_mut(bytes: BytesMut) -> Result<IoBufMut, BufError>
+        ensures ok { IfOk result (λ b. b.filled ≡ bytes.items) }
+        ensures memory { IsOkUnless result BufError.Memory }
+        ensures empty { length bytes.items ≡ 0 → IsOk result }
+    {
+        let alloc = *bytes.allocator();
+        match bytes.into_vec() {
+            Ok(bytes) => Ok(IoBufMut::from(bytes)),
+            Err(shared) if shared.value.is_empty() => Ok(IoBufMut::default(alloc)),
+            Err(_) => Err(BufError::Memory),
+        }
+    }
+
+    /// The bytes of a view (`From<IoBuf>`): recovered where `IoBuf::try_into_mut` does, else copied. `Err` for
+    /// want of memory alone, with the view.
+    pub fn from_view(alloc: Global, view: IoBuf) -> Result<IoBufMut, IoBuf>
+        ensures same { MatchResult result (IsPartOf view) (λ other. other ≡ view) }
+        ensures empty { length view.bytes ≡ 0 → IsOk result }
+    {
+        match view.try_into_mut(alloc) {
+            Ok(part) => Ok(part),
+            Err(view) => match IoBufMut::copy_from_slice(alloc, view.as_ref()) {
+                Ok(part) => Ok(part),
+                Err(_) => Err(view),
+            },
+        }
+    }
+
+    pub(super) fn from_storage(storage: Vec<u8>, start: usize, limit: usize) -> IoBufMut
+        requires { (start ≤ vec_len storage) × (vec_len storage ≤ limit) × (limit ≤ vec_capacity storage) }
+        ensures { result ≡ record { filled = drop start storage.items; spare = limit - vec_len storage } }
+    {
+        IoBufMut::from_shell(None, storage, start, limit)
+    }
+
+    // Makes the shell too, so that freezing takes no memory.
+    fn with_shell(storage: Vec<u8>, limit: usize) -> Result<IoBufMut, BufError>
+        requires { (vec_len storage ≤ limit) × (limit ≤ vec_capacity storage) }
+        ensures ok { IfOk result (λ b. b ≡ record { filled = storage.items; spare = limit - vec_len storage }) }
+        ensures memory { IsOkUnless result BufError.Memory }
+    {
+        let alloc = *storage.allocator();
+        let shell = Arc::new(alloc, Vec::new(alloc))?;
+        Ok(IoBufMut::from_shell(Some(shell), storage, 0, limit))
+    }
+
+    pub(super) fn from_shell(
+        shell: Option<Arc<Vec<u8>>>,
+        storage: Vec<u8>,
+        start: usize,
+        limit: usize,
+    ) -> IoBufMut
+        requires { (start ≤ vec_len storage) × (vec_len storage ≤ limit) × (limit ≤ vec_capacity storage) }
+        ensures { result ≡ record { filled = drop start storage.items; spare = limit - vec_len storage } }
+    {
+        IoBufMut {
+            storage,
+            start,
+            limit,
+            shell,
+        }
+    }
+
+    /// The number of readable bytes.
+    pub fn len(&self) -> usize
+        ensures { result ≡ length self.now.filled }
+    {
+        self.storage.len() - self.start
+    }
+
+    /// Whether no byte is readable (`IoBufMut::is_empty`).
+    pub fn is_empty(&self) -> bool
+        ensures { result ≡ (length self.now.filled == 0) }
+    {
+        self.len() == 0
+    }
+
+    /// How many bytes fit, counted from the first readable one.
+    pub fn capacity(&self) -> usize
+        ensures { result ≡ part_capacity self.now }
+    {
+        self.limit - self.start
+    }
+
+    /// The readable bytes (`AsRef`).
+    pub fn as_ref(&self) -> &[u8]
+        ensures { result.now ≡ self.now.filled }
+    {
+        &self.storage.as_slice()[self.start..]
+    }
+
+    /// The readable bytes, to be written over.
+    pub fn as_mut(&mut self) -> &mut [u8]
+        ensures* writes_back { sem 𝓛 (Lends the_row (Array byte 0) self.entry result (part_overwritten self.old)) }
+        ensures value { result.now ≡ self.old.filled }
+    {
+        let start = self.start;
+        self.storage.slice_mut(start..)
+    }
+
+    /// Makes `n` bytes readable (`IoBufMut::set_len`, which is unsafe there). Bytes that were not are zero.
+    pub fn set_len(&mut self, n: usize)
+        requires { n ≤ part_capacity self.old }
+        ensures { self.new ≡ part_with_len self.old n }
+    {
+        self.storage.resize(self.start + n, 0).unwrap();
+    }
+
+    /// Keeps at most the first `n` bytes.
+    pub fn truncate(&mut self, n: usize)
+        ensures { self.new ≡ part_truncated self.old n }
+    {
+        if n < self.len() {
+            self.storage.truncate(self.start + n);
+        }
+    }
+
+    /// Keeps no byte, and the room of all (`IoBufMut::clear`).
+    pub fn clear(&mut self)
+        ensures { self.new ≡ part_truncated self.old 0 }
+    {
+        self.truncate(0);
+    }
+
+    /// The bytes as a read-only view (`IoBufMut::freeze`), with no copy. The default view where there are none.
+    pub fn freeze(self) -> Result<IoBuf, BufError>
+        ensures ok { IfOk result (λ b. b ≡ part_frozen self) }
+        ensures err { IsOkUnless result BufError.Memory }
+        ensures empty { length self.filled ≡ 0 → IsOk result }
+    {
+        let IoBufMut {
+            storage,
+            start,
+            limit,
+            shell,
+        } = self;
+        if start == storage.len() {
+            return Ok(IoBuf::default());
+        }
+        let alloc = *storage.allocator();
+        Ok(IoBuf::from_native(Native::new(alloc, shell, storage, start, limit)?))
+    }
+}
+
+impl From<Vec<u8>> for IoBufMut {
+    ghost from_gives = { λ v b. b ≡ record { filled = v.items; spare = vec_capacity v - vec_len v } };
+
+    fn from(bytes: Vec<u8>) -> IoBufMut {
+        let limit = bytes.capacity();
+        IoBufMut::from_storage(bytes, 0, limit)
+    }
+}
+
+impl fmt::Debug for IoBufMut {
+    ghost use Rattle.std.specs.Prelude.{Some, codes, length, ◌++◌};
+    ghost use Rattle.std.specs.Fmt.{decimal};
+    ghost use Rattle.iobufs_core.specs.Part.{part_capacity};
+
+    ghost debug_output = { λ p. Some (codes "IoBufMut { len: " ++ decimal (length p.filled) ++ codes ", cap: " ++ decimal (part_capacity p) ++ codes " }") };
+
+    fn fmt<W: fmt::Write>(&self, f: &mut fmt::Formatter<W>) -> fmt::Result {
+        let len = self.len();
+        let cap = self.capacity();
+        write!(f, "IoBufMut {{ len: {len}, cap: {cap} }}")
+    }
+}
+
+impl Buf for IoBufMut {
+    ghost use Rattle.iobufs_core.specs.Chunks.{full_chunks};
+    ghost use Rattle.iobufs_core.specs.ChunkLaws.{joined-one, full-one};
+    ghost use Rattle.iobufs_core.specs.PartLaws.{part_copied-filled};
+    ghost use Rattle.std.proofs.Common.{rules};
+
+    ghost text = { λ p. p.filled };
+
+    ghost advanced = { part_drained };
+
+    ghost copied = { part_copied };
+
+    ghost pieces = { λ p. full_chunks (p.filled ∷ []) };
+
+    fn remaining(&self) -> usize {
+        self.len()
+    }
+
+    #[tactic(auto, using(crate::specs::ChunkLaws::first_one, crate::specs::ChunkLaws::chunk_one))]
+    fn chunk(&self) -> &[u8] {
+        self.as_ref()
+    }
+
+    fn byte_at(&self, i: usize) -> Option<u8> {
+        self.as_ref().get(i).copied()
+    }
+
+    fn advance(&mut self, n: usize) {
+        self.start += n;
+    }
+
+    fn copy_to_slice(&mut self, dst: &mut [u8]) {
+        let n = dst.len();
+        dst.copy_from_slice(&self.as_ref()[..n]);
+        self.advance(n);
+    }
+
+    fn copy_to_bytes(&mut self, alloc: Global, n: usize) -> Result<Bytes, BufError> {
+        if n == 0 {
+            return Ok(Bytes::new());
+        }
+        let bytes = Bytes::copy_from_slice(alloc, &self.as_ref()[..n])?;
+        if n == self.len() {
+            *self = IoBufMut::default(alloc);
+            return Ok(bytes);
+        }
+        self.advance(n);
+        Ok(bytes)
+    }
+
+    fn chunks_vectored(&self, alloc: Global, max: usize) -> Result<Vec<&[u8]>, BufError> {
+        let mut chunks = Vec::new(alloc);
+        if max != 0 && !self.is_empty() {
+            chunks.push(self.as_ref())?;
+        }
+        Ok(chunks)
+    }
+
+    ghost drops = { Prim.search rules };
+
+    ghost copies = { part_copied-filled };
+
+    ghost joins = { λ p. joined-one p.filled };
+
+    ghost full = { λ p. full-one p.filled };
+}
+
+impl BufMut for IoBufMut {
+    ghost use Rattle.std.specs.Prelude.{◌≡◌, ◌≤◌, length};
+    ghost use Rattle.iobufs_core.specs.Part.{part_put};
+    ghost use Rattle.iobufs_core.specs.PartLaws.{put_nothing, put_unchanged, put_composes, put_lessens};
+
+    ghost room = { λ p. p.spare };
+
+    ghost filled = { λ a w b. (length w ≤ a.spare) × (b ≡ part_put a w) };
+
+    fn remaining_mut(&self) -> usize {
+        self.limit - self.storage.len()
+    }
+
+    fn put_slice(&mut self, src: &[u8]) {
+        self.storage.extend_from_slice(src).unwrap();
+    }
+
+    fn put_bytes(&mut self, value: u8, n: usize) {
+        let end = self.storage.len() + n;
+        self.storage.resize(end, value).unwrap();
+    }
+
+    ghost nothing = { put_nothing };
+
+    ghost unchanged = { put_unchanged };
+
+    ghost composes = { put_composes };
+
+    ghost lessens = { put_lessens };
+}
