@@ -42,7 +42,7 @@ impl IoBufs {
         ensures { self.new ≡ text_rest self.old n }
     {
         if n == self.len() {
-            self.put(IoBufs::default());
+            self.set(IoBufs::default());
             return;
         }
         self.pieces.drop_front(n);

@@ -20,7 +20,7 @@ pub(super) enum Pieces {
 
 impl Pieces {
     // The old pieces go here, and not in each place that puts new ones.
-    fn put(&mut self, pieces: Pieces)
+    fn set(&mut self, pieces: Pieces)
         ensures { self.new ≡ pieces }
     {
         *self = pieces;
@@ -148,7 +148,7 @@ impl Pieces {
         if let Pieces::Many(row) = self {
             if row.count() == 1 {
                 let last = row.pop_front();
-                self.put(Pieces::One(last));
+                self.set(Pieces::One(last));
             }
         }
     }
@@ -289,7 +289,7 @@ impl Pieces {
         };
         row.push_back_reserved(mem::take(only));
         row.push_back_reserved(piece);
-        self.put(Pieces::Many(row));
+        self.set(Pieces::Many(row));
         Ok(())
     }
 
@@ -334,7 +334,7 @@ impl Pieces {
         };
         row.push_back_reserved(piece);
         row.push_back_reserved(mem::take(only));
-        self.put(Pieces::Many(row));
+        self.set(Pieces::Many(row));
         Ok(())
     }
 }

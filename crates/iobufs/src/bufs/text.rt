@@ -94,7 +94,7 @@ impl From<&'static [u8]> for IoBufs {
 
 impl IoBufs {
     // The old text goes here, and not in each place that puts a new one.
-    pub(super) fn put(&mut self, text: IoBufs)
+    pub(super) fn set(&mut self, text: IoBufs)
         ensures { self.new ≡ text }
     {
         *self = text;
@@ -195,7 +195,7 @@ impl IoBufs {
             return Ok(());
         }
         if len == 0 {
-            self.put(IoBufs::from(piece));
+            self.set(IoBufs::from(piece));
             return Ok(());
         }
         if more > usize::MAX - len {
@@ -228,7 +228,7 @@ impl IoBufs {
             return Ok(());
         }
         if len == 0 {
-            self.put(IoBufs::from(piece));
+            self.set(IoBufs::from(piece));
             return Ok(());
         }
         if ahead > usize::MAX - len {

@@ -32,7 +32,7 @@ fn is_place(base: u64, size: u64, align: u64) -> bool
 
 impl Machine {
     /// Whether a range touches none of the blocks. Of those that begin before its end only the last can reach into it.
-    fn is_free(&self, base: u64, size: u64) -> bool
+    fn is_apart(&self, base: u64, size: u64) -> bool
         requires { base + size < 2 ^ 64 }
         ensures yes { result ≡ true → All (λ b. ApartFrom b base size) self.now.state.tables.blocks }
         ensures no { result ≡ false → All (λ b. ApartFrom b base size) self.now.state.tables.blocks → ⊥ }
@@ -51,7 +51,7 @@ impl Machine {
         ensures yes { result ≡ true → IsGoodPlace self.now.state.tables.blocks base size align }
         ensures no { result ≡ false → IsGoodPlace self.now.state.tables.blocks base size align → ⊥ }
     {
-        is_place(base, size, align) && self.is_free(base, size)
+        is_place(base, size, align) && self.is_apart(base, size)
     }
 
     /// A new block with a writable handle, which holds it by a descriptor where its fields fit, else by a record.

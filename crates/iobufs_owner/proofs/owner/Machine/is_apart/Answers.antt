@@ -5,7 +5,7 @@ use Rattle.iobufs_owner.specs.Inside.{state_of}
 use Rattle.iobufs_owner.specs.Places.{ApartFrom}
 use Rattle.iobufs_owner.specs.State.{State, Seen}
 use Rattle.iobufs_owner.proofs.Soundness.Finds.{below, not-after, free-none, free-last, ends-small, no_block}
-use Rattle.iobufs_owner.proofs.owner.Machine.is_free.Goals as goal
+use Rattle.iobufs_owner.proofs.owner.Machine.is_apart.Goals as goal
 
 pub returns-in-None-clause-yes : goal.returns-in-None-clause-yes
 returns-in-None-clause-yes c = λ _.
