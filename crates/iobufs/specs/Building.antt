@@ -49,14 +49,14 @@ building_push b view =
     if length view.bytes == 0 then b
     else record { capacity = b.capacity; front = b.front ++ (inline_run b.last ++ push_item view ∷ []); last = [] }
 
-abbrev pub built_one : Building → Item → Building
-built_one b (put_item bytes) = building_put b bytes
-built_one b (push_item view) = building_push b view
+abbrev pub building_with : Building → Item → Building
+building_with b (put_item bytes) = building_put b bytes
+building_with b (push_item view) = building_push b view
 
 -- these puts and pushes, one after another
-abbrev pub built : Building → List Item → Building
-built b [] = b
-built b (item ∷ items) = built (built_one b item) items
+abbrev pub building_after : Building → List Item → Building
+building_after b [] = b
+building_after b (item ∷ items) = building_after (building_with b item) items
 
 abbrev pub building_bytes : Building → List ℕ
 building_bytes b = items_bytes b.front ++ b.last

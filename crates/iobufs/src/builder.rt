@@ -2,7 +2,7 @@
 ghost use Rattle.std.specs.Prelude.{◌≡◌, ◌+◌, ◌<◌, ◌≤◌, ◌^◌, [], length, Err, IfErr, IsErrAnd, IfOk, IsOk, IsOkUnless, OnErr, OnOk};
 ghost use Rattle.iobufs_core.specs.Items.{ArePuts, items_inline};
 ghost use Rattle.iobufs_core.specs.View.{View};
-ghost use Rattle.iobufs.specs.Building.{IsBuilding, building_items, building_room, built, empty_building, finished};
+ghost use Rattle.iobufs.specs.Building.{IsBuilding, building_items, building_room, building_after, empty_building, finished};
 
 use crate::bufs::IoBufs;
 use crate::bufs::row::Gapped;
@@ -210,7 +210,7 @@ pub trait EncodeExt: Write {
     final fn encode_iobufs(&self, alloc: Global) -> Result<IoBufs, Error>
     where
         Self: Sized,
-        ensures pieces { IfOk result (λ text. text ≡ finished (built (empty_building (items_inline (Self.items self.now))) (Self.items self.now))) }
+        ensures pieces { IfOk result (λ text. text ≡ finished (building_after (empty_building (items_inline (Self.items self.now))) (Self.items self.now))) }
         ensures bytes { IfOk result (λ text. text.bytes ≡ Self.written self.now) }
         ensures too_long { 2 ^ 64 ≤ length (Self.written self.now) → result ≡ Err Error.TooLong }
         ensures bad_layout { length (Self.written self.now) < 2 ^ 64 → 2 ^ 63 ≤ items_inline (Self.items self.now) → result ≡ Err Error.BadLayout }

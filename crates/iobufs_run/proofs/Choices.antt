@@ -20,7 +20,7 @@ use Rattle.iobufs_run.specs.declared.command.Refusal.TheVariants.{Codec, Memory}
 use Rattle.std.specs.Prelude.{slice_set}
 use Rattle.iobufs_run.specs.Causes.{refusal_for}
 use Rattle.iobufs_run.specs.Choices.{has_choice, is_want_of_memory, NoOtherChoices, SameReply}
-use Rattle.iobufs_run.specs.Slots.{held, marked_held, slot_read, IsShown}
+use Rattle.iobufs_run.specs.Slots.{slot_named, marked_held, slot_read, IsShown}
 use Rattle.iobufs_run.specs.Run.{Does, Gives, IsFault, MayFail, Step}
 
 true_not_false : true ≡ false → ⊥
@@ -83,8 +83,8 @@ shown_same slot reply other d e = absurd d
 decoded_same : (old : List Slot) (src dst : ℕ) (range : RangeCfg) (reply other : Reply) (new another : List Slot)
     → Does old (Decode src dst range) reply new → Does old (Decode src dst range) other another → SameReply reply other × (new ≡ another)
 decoded_same old src dst range reply other new another d e =
-    let same = read_same (marked_held (held old src)) range d.0 e.0 d.1 e.1 in
-    (rw (d.2.0, e.2.0) refl, d.2.1 ∙ ap (λ (view : ViewValue). slice_set (slice_set old src (slot_read (held old src) view)) dst (View view)) same ∙ sym e.2.1)
+    let same = read_same (marked_held (slot_named old src)) range d.0 e.0 d.1 e.1 in
+    (rw (d.2.0, e.2.0) refl, d.2.1 ∙ ap (λ (view : ViewValue). slice_set (slice_set old src (slot_read (slot_named old src) view)) dst (View view)) same ∙ sym e.2.1)
 
 does_same : (old : List Slot) (command : Cmd) (reply other : Reply) (new another : List Slot) → has_choice old command ≡ false
     → Does old command reply new → Does old command other another → SameReply reply other × (new ≡ another)
@@ -115,7 +115,7 @@ does_same old (Build dst capacity items) reply other new another none d e = give
 does_same old (Encode src dst) reply other new another none d e = gives_same _ _ reply other new another d e
 does_same old (Decode src dst range) reply other new another none d e = decoded_same old src dst range reply other new another d e
 does_same old (Drop target) reply other new another none d e = gives_same _ _ reply other new another d e
-does_same old (Show target) reply other new another none d e = (shown_same (held old target) reply other d.0 e.0, d.1 ∙ sym e.1)
+does_same old (Show target) reply other new another none d e = (shown_same (slot_named old target) reply other d.0 e.0, d.1 ∙ sym e.1)
 
 -- ---- commands that fail
 
@@ -145,7 +145,7 @@ fails_same old (Prepend target src) r q none f g = absurd f
 fails_same old (Coalesce src dst) r q none f g = absurd f
 fails_same old (Build dst capacity items) r q none f g = absurd f
 fails_same old (Encode src dst) r q none f g = absurd f
-fails_same old (Decode src dst range) r q none f g = fault_same (marked_held (held old src)) range r q f g
+fails_same old (Decode src dst range) r q none f g = fault_same (marked_held (slot_named old src)) range r q f g
 fails_same old (Drop target) r q none f g = absurd f
 fails_same old (Show target) r q none f g = absurd f
 
@@ -176,7 +176,7 @@ fails_not_done old (Prepend target src) r reply new none f d = absurd f
 fails_not_done old (Coalesce src dst) r reply new none f d = absurd f
 fails_not_done old (Build dst capacity items) r reply new none f d = absurd f
 fails_not_done old (Encode src dst) r reply new none f d = absurd f
-fails_not_done old (Decode src dst range) r reply new none f d = fault_not_read (marked_held (held old src)) range r d.0 f d.1
+fails_not_done old (Decode src dst range) r reply new none f d = fault_not_read (marked_held (slot_named old src)) range r d.0 f d.1
 fails_not_done old (Drop target) r reply new none f d = absurd f
 fails_not_done old (Show target) r reply new none f d = absurd f
 

@@ -15,7 +15,7 @@ use Rattle.iobufs_core.specs.MarkedText.{MarkedText, text_append, text_len, join
 use Rattle.iobufs_run.specs.declared.table.Slot.{Slot}
 use Rattle.iobufs_run.specs.declared.table.Slot.TheVariants.{Free, Part, Text, Parts}
 use Rattle.iobufs_run.specs.declared.table.Slot.TheVariants.{View as SlotView}
-use Rattle.iobufs_run.specs.Slots.{held, part_held, view_held, extent}
+use Rattle.iobufs_run.specs.Slots.{slot_named, part_held, view_held, extent}
 use Rattle.iobufs_run.specs.Causes.{is_listed, has_twice}
 use Rattle.iobufs_run.proofs.Freed.{all_freed-append, held_kept}
 use Rattle.iobufs_run.specs.Run.{all_freed}
@@ -43,7 +43,7 @@ pub joined-append : (views : List View) (view : View) → joined (views ++ view 
 joined-append views view = fold-append text_append default_text views (view ∷ [])
 
 -- what was taken is put back
-pub put_back : (names : List Slot) (src : ℕ) (slot : Slot) → src < length names → held names src ≡ slot → slice_set (slice_set names src Free) src slot ≡ names
+pub put_back : (names : List Slot) (src : ℕ) (slot : Slot) → src < length names → slot_named names src ≡ slot → slice_set (slice_set names src Free) src slot ≡ names
 put_back [] src slot inside e = absurd (omega arith)
 put_back (first ∷ others) zero slot inside e = ap (λ s. s ∷ others) (sym e)
 put_back (first ∷ others) (suc src) slot inside e = ap (λ ss. first ∷ ss) (put_back others src slot (omega arith) e)
@@ -51,27 +51,27 @@ put_back (first ∷ others) (suc src) slot inside e = ap (λ ss. first ∷ ss) (
 -- ---- one source more
 
 -- a name that holds something that a free one doesn't is inside
-held_inside : (p : Slot → Bool) (names : List Slot) (x : ℕ) → p Free ≡ false → p (held names x) ≡ true → x < length names
+held_inside : (p : Slot → Bool) (names : List Slot) (x : ℕ) → p Free ≡ false → p (slot_named names x) ≡ true → x < length names
 held_inside p [] x never e = cc
 held_inside p (s ∷ ss) zero never e = omega arith
 held_inside p (s ∷ ss) (suc x) never e = let ih = held_inside p ss x never e in omega arith
 
-source_passes : (p : Slot → Bool) (old : List Slot) (xs : List ℕ) (i : ℕ) → list_all (λ x. p (held old x)) xs ≡ true → i < length xs → p (held old (get_or xs i 0)) ≡ true
+source_passes : (p : Slot → Bool) (old : List Slot) (xs : List ℕ) (i : ℕ) → list_all (λ x. p (slot_named old x)) xs ≡ true → i < length xs → p (slot_named old (get_or xs i 0)) ≡ true
 source_passes p old [] i all inside = absurd (omega arith)
-source_passes p old (y ∷ ys) zero all inside = (and_parts (p (held old y)) (list_all (λ x. p (held old x)) ys) all).0
+source_passes p old (y ∷ ys) zero all inside = (and_parts (p (slot_named old y)) (list_all (λ x. p (slot_named old x)) ys) all).0
 source_passes p old (y ∷ ys) (suc i) all inside =
-    source_passes p old ys i (and_parts (p (held old y)) (list_all (λ x. p (held old x)) ys) all).1 (omega arith)
+    source_passes p old ys i (and_parts (p (slot_named old y)) (list_all (λ x. p (slot_named old x)) ys) all).1 (omega arith)
 
 -- a source holds still what it held, when those before it are free
 pub source_kept : (old now : List Slot) (xs : List ℕ) (i : ℕ) → has_twice xs ≡ false → now ≡ all_freed old (take i xs) → i < length xs
-    → held now (get_or xs i 0) ≡ held old (get_or xs i 0)
+    → slot_named now (get_or xs i 0) ≡ slot_named old (get_or xs i 0)
 source_kept old now xs i once is inside =
     let x = get_or xs i 0 in
-    ap (λ (ss : List Slot). held ss x) is ∙ held_kept old (take i xs) x (not_before xs i x once inside (get_or_default xs i 0 x inside))
+    ap (λ (ss : List Slot). slot_named ss x) is ∙ held_kept old (take i xs) x (not_before xs i x once inside (get_or_default xs i 0 x inside))
 
 -- read at any default it passes the test that all sources pass
-pub source_read : (p : Slot → Bool) (old now : List Slot) (xs : List ℕ) (i : ℕ) (d : Slot) → p Free ≡ false → has_twice xs ≡ false → list_all (λ x. p (held old x)) xs ≡ true → now ≡ all_freed old (take i xs) → i < length xs
-    → (slice_index_or now (get_or xs i 0) d ≡ held old (get_or xs i 0)) × (p (held old (get_or xs i 0)) ≡ true)
+pub source_read : (p : Slot → Bool) (old now : List Slot) (xs : List ℕ) (i : ℕ) (d : Slot) → p Free ≡ false → has_twice xs ≡ false → list_all (λ x. p (slot_named old x)) xs ≡ true → now ≡ all_freed old (take i xs) → i < length xs
+    → (slice_index_or now (get_or xs i 0) d ≡ slot_named old (get_or xs i 0)) × (p (slot_named old (get_or xs i 0)) ≡ true)
 source_read p old now xs i d never once all is inside =
     let x = get_or xs i 0 in
     let kept = source_kept old now xs i once is inside in
@@ -110,14 +110,14 @@ view_held_len (Text text) = omega arith
 view_held_len (Parts parts) = omega arith
 
 -- the text so far and one view more are no longer than all sources
-pub source_fits : (old : List Slot) (xs : List ℕ) (i : ℕ) (text : MarkedText) (view : View) → sum_by (λ x. extent (held old x)) xs < 2 ^ 64
-    → text ≡ joined (map (λ x. view_held (held old x)) (take i xs)) → held old (get_or xs i 0) ≡ SlotView view → i < length xs → text_len text + length view.bytes < 2 ^ 64
+pub source_fits : (old : List Slot) (xs : List ℕ) (i : ℕ) (text : MarkedText) (view : View) → sum_by (λ x. extent (slot_named old x)) xs < 2 ^ 64
+    → text ≡ joined (map (λ x. view_held (slot_named old x)) (take i xs)) → slot_named old (get_or xs i 0) ≡ SlotView view → i < length xs → text_len text + length view.bytes < 2 ^ 64
 source_fits old xs i text view fits is at inside =
-    let viewed = λ (x : ℕ). view_held (held old x) in
+    let viewed = λ (x : ℕ). view_held (slot_named old x) in
     let len : text_len text ≡ sum_by (λ x. length (viewed x).bytes) (take i xs) = length-joined (map viewed (take i xs)) text is ∙ bytes_sum viewed (take i xs) in
-    let few = sum_by_le (λ x. length (viewed x).bytes) (λ x. extent (held old x)) (take i xs) (λ x. view_held_len (held old x)) in
-    let more = sum_by_more_le (λ x. extent (held old x)) xs i 0 inside in
-    let last : extent (held old (get_or xs i 0)) ≡ length view.bytes = ap extent at in
+    let few = sum_by_le (λ x. length (viewed x).bytes) (λ x. extent (slot_named old x)) (take i xs) (λ x. view_held_len (slot_named old x)) in
+    let more = sum_by_more_le (λ x. extent (slot_named old x)) xs i 0 inside in
+    let last : extent (slot_named old (get_or xs i 0)) ≡ length view.bytes = ap extent at in
     omega (arith, len, few, more, last, fits)
 
 -- a row of one element more
@@ -139,9 +139,9 @@ part_held_len (Text text) = omega arith
 part_held_len (Parts parts) = omega arith
 
 -- the capacities of the parts of a gathering fit
-pub row_fits : (names : List Slot) (xs : List ℕ) (row : List PartValue) → sum_by (λ x. extent (held names x)) xs < 2 ^ 64 → row ≡ map (λ x. part_held (held names x)) xs
+pub row_fits : (names : List Slot) (xs : List ℕ) (row : List PartValue) → sum_by (λ x. extent (slot_named names x)) xs < 2 ^ 64 → row ≡ map (λ x. part_held (slot_named names x)) xs
     → parts_capacity row < 2 ^ 64
 row_fits names xs row fits is =
-    let few = sum_by_le (λ x. part_capacity (part_held (held names x))) (λ x. extent (held names x)) xs (λ x. part_held_len (held names x)) in
-    let sum : parts_capacity row ≡ sum_by (λ x. part_capacity (part_held (held names x))) xs = ap parts_capacity is ∙ sum_of_map part_capacity (λ x. part_held (held names x)) xs in
+    let few = sum_by_le (λ x. part_capacity (part_held (slot_named names x))) (λ x. extent (slot_named names x)) xs (λ x. part_held_len (slot_named names x)) in
+    let sum : parts_capacity row ≡ sum_by (λ x. part_capacity (part_held (slot_named names x))) xs = ap parts_capacity is ∙ sum_of_map part_capacity (λ x. part_held (slot_named names x)) xs in
     omega (arith, sum, few, fits)

@@ -9,7 +9,7 @@ use Rattle.iobufs_core.specs.Part.{is_bad_layout}
 use Rattle.iobufs_core.specs.View.{range_fits}
 use Rattle.iobufs_core.specs.Wire.{view_written}
 use Rattle.iobufs_core.specs.declared.codec.base.Error.TheVariants as fault
-use Rattle.iobufs_run.specs.Slots.{held, is_free, is_of, is_one_of, is_fixed_view, is_too_large, extent, readable, writable, slot_capacity, view_held}
+use Rattle.iobufs_run.specs.Slots.{slot_named, is_free, is_of, is_one_of, is_fixed_view, is_too_large, extent, readable, writable, slot_capacity, view_held}
 use Rattle.iobufs_run.specs.declared.table.Slot.{Slot}
 use Rattle.iobufs_run.specs.declared.command.Cmd.{Cmd}
 use Rattle.iobufs_run.specs.declared.command.Cmd.TheVariants.{NewMut, Zeroed, Adopt, Static, FromBytes, Put, Fill, SetLen, Truncate, Clear, Overwrite, Freeze, Recover, Clone, Slice, Split, Advance, Take, Gather, GatherMut, Append, Prepend, Coalesce, Build, Encode, Decode, Drop, Show}
@@ -30,7 +30,7 @@ is_no_name names name = nat_le (length names) name
 
 -- a destination that is in use, and is not the source that the command consumes
 abbrev pub is_in_use_beside : List Slot → ℕ → ℕ → Bool
-is_in_use_beside names src dst = not (dst == src) && not (is_free (held names dst))
+is_in_use_beside names src dst = not (dst == src) && not (is_free (slot_named names dst))
 
 -- a name stands in a list, and one stands there twice
 abbrev pub is_listed : List ℕ → ℕ → Bool
@@ -46,25 +46,25 @@ is_too_long n = nat_le (2 ^ 64) n
 
 -- a destination that has to be free
 abbrev pub free_name : List Slot → ℕ → List Cause → List Cause
-free_name names dst others = (is_no_name names dst, NoName) ∷ (not (is_free (held names dst)), InUse) ∷ others
+free_name names dst others = (is_no_name names dst, NoName) ∷ (not (is_free (slot_named names dst)), InUse) ∷ others
 
 -- a buffer of one of these kinds
 abbrev pub one_of : List Kind → List Slot → ℕ → List Cause → List Cause
-one_of kinds names target others = (is_no_name names target, NoName) ∷ (not (is_one_of kinds (held names target)), WrongKind) ∷ others
+one_of kinds names target others = (is_no_name names target, NoName) ∷ (not (is_one_of kinds (slot_named names target)), WrongKind) ∷ others
 
 -- a source of one of these kinds that keeps its name, and a free destination
 abbrev pub lent : List Kind → List Slot → ℕ → ℕ → List Cause → List Cause
 lent kinds names src dst others =
     (is_no_name names src || is_no_name names dst, NoName)
-    ∷ (not (is_one_of kinds (held names src)), WrongKind)
-    ∷ (not (is_free (held names dst)), InUse)
+    ∷ (not (is_one_of kinds (slot_named names src)), WrongKind)
+    ∷ (not (is_free (slot_named names dst)), InUse)
     ∷ others
 
 -- a source of one of these kinds that is consumed, and a destination that is free or the source
 abbrev pub moved : List Kind → List Slot → ℕ → ℕ → List Cause → List Cause
 moved kinds names src dst others =
     (is_no_name names src || is_no_name names dst, NoName)
-    ∷ (not (is_one_of kinds (held names src)), WrongKind)
+    ∷ (not (is_one_of kinds (slot_named names src)), WrongKind)
     ∷ (is_in_use_beside names src dst, InUse)
     ∷ others
 
@@ -72,13 +72,13 @@ moved kinds names src dst others =
 abbrev pub gathered : Kind → List Slot → ℕ → List ℕ → List Cause → List Cause
 gathered kind names dst sources others =
     (is_no_name names dst || list_any (is_no_name names) sources, NoName)
-    ∷ (not (list_all (λ src. is_of kind (held names src)) sources), WrongKind)
-    ∷ (not (is_free (held names dst)) && not (is_listed sources dst) || has_twice sources, InUse)
+    ∷ (not (list_all (λ src. is_of kind (slot_named names src)) sources), WrongKind)
+    ∷ (not (is_free (slot_named names dst)) && not (is_listed sources dst) || has_twice sources, InUse)
     ∷ others
 
 -- how much sources count together
 abbrev pub total_extent : List Slot → List ℕ → ℕ
-total_extent names sources = sum_by (λ src. extent (held names src)) sources
+total_extent names sources = sum_by (λ src. extent (slot_named names src)) sources
 
 -- the causes to refuse a gathering of buffers of this kind
 abbrev pub gather_causes : Kind → List Slot → ℕ → List ℕ → List Cause
@@ -107,8 +107,8 @@ build_causes names dst capacity items =
 abbrev pub join_causes : List Slot → ℕ → ℕ → List Cause
 join_causes names target src =
     (is_no_name names target || is_no_name names src, NoName)
-    ∷ (not (is_of Text (held names target)) || not (is_of View (held names src)), WrongKind)
-    ∷ (is_too_long (readable (held names target) + readable (held names src)), TooLong) ∷ []
+    ∷ (not (is_of Text (slot_named names target)) || not (is_of View (slot_named names src)), WrongKind)
+    ∷ (is_too_long (readable (slot_named names target) + readable (slot_named names src)), TooLong) ∷ []
 
 -- all four kinds
 abbrev pub any_kind : List Kind
@@ -122,32 +122,32 @@ causes names (Adopt dst bytes) = free_name names dst []
 causes names (Static dst text) = free_name names dst []
 causes names (FromBytes dst bytes) = free_name names dst []
 causes names (Put target bytes) =
-    one_of (Part ∷ Parts ∷ []) names target ((nat_lt (writable (held names target)) (length bytes.items), OutOfRange) ∷ [])
+    one_of (Part ∷ Parts ∷ []) names target ((nat_lt (writable (slot_named names target)) (length bytes.items), OutOfRange) ∷ [])
 causes names (Fill target byte n) =
-    one_of (Part ∷ Parts ∷ []) names target ((nat_lt (writable (held names target)) n, OutOfRange) ∷ [])
+    one_of (Part ∷ Parts ∷ []) names target ((nat_lt (writable (slot_named names target)) n, OutOfRange) ∷ [])
 causes names (SetLen target n) =
-    one_of (Part ∷ Parts ∷ []) names target ((nat_lt (slot_capacity (held names target)) n, OutOfRange) ∷ [])
+    one_of (Part ∷ Parts ∷ []) names target ((nat_lt (slot_capacity (slot_named names target)) n, OutOfRange) ∷ [])
 causes names (Truncate target n) = one_of (Part ∷ []) names target []
 causes names (Clear target) = one_of (Part ∷ []) names target []
 causes names (Overwrite target bytes) =
-    one_of (Part ∷ Parts ∷ []) names target ((not (length bytes.items == readable (held names target)), OutOfRange) ∷ [])
+    one_of (Part ∷ Parts ∷ []) names target ((not (length bytes.items == readable (slot_named names target)), OutOfRange) ∷ [])
 causes names (Freeze src dst) = moved (Part ∷ Parts ∷ []) names src dst []
-causes names (Recover src dst) = moved (View ∷ []) names src dst ((is_fixed_view (held names src), Declined) ∷ [])
+causes names (Recover src dst) = moved (View ∷ []) names src dst ((is_fixed_view (slot_named names src), Declined) ∷ [])
 causes names (Clone src dst) = lent (View ∷ Text ∷ []) names src dst []
 causes names (Slice src dst lo hi) =
-    lent (View ∷ []) names src dst ((not (range_fits lo hi (readable (held names src))), OutOfRange) ∷ [])
+    lent (View ∷ []) names src dst ((not (range_fits lo hi (readable (slot_named names src))), OutOfRange) ∷ [])
 causes names (Split src dst at) =
-    lent (View ∷ Text ∷ []) names src dst ((nat_lt (readable (held names src)) at, OutOfRange) ∷ [])
-causes names (Advance target n) = one_of any_kind names target ((nat_lt (readable (held names target)) n, OutOfRange) ∷ [])
-causes names (Take target n) = one_of any_kind names target ((nat_lt (readable (held names target)) n, OutOfRange) ∷ [])
+    lent (View ∷ Text ∷ []) names src dst ((nat_lt (readable (slot_named names src)) at, OutOfRange) ∷ [])
+causes names (Advance target n) = one_of any_kind names target ((nat_lt (readable (slot_named names target)) n, OutOfRange) ∷ [])
+causes names (Take target n) = one_of any_kind names target ((nat_lt (readable (slot_named names target)) n, OutOfRange) ∷ [])
 causes names (Gather dst sources) = gather_causes View names dst sources.items
 causes names (GatherMut dst sources) = gather_causes Part names dst sources.items
 causes names (Append target src) = join_causes names target src
 causes names (Prepend target src) = join_causes names target src
-causes names (Coalesce src dst) = moved (Text ∷ Parts ∷ []) names src dst ((is_too_large (held names src), BadLayout) ∷ [])
+causes names (Coalesce src dst) = moved (Text ∷ Parts ∷ []) names src dst ((is_too_large (slot_named names src), BadLayout) ∷ [])
 causes names (Build dst capacity items) = build_causes names dst capacity items.items
 causes names (Encode src dst) =
-    lent (View ∷ []) names src dst ((is_too_long (length (view_written (view_held (held names src)))), Codec fault.TooLong) ∷ [])
+    lent (View ∷ []) names src dst ((is_too_long (length (view_written (view_held (slot_named names src)))), Codec fault.TooLong) ∷ [])
 causes names (Decode src dst range) = lent (View ∷ Text ∷ []) names src dst []
 causes names (Drop target) = one_of any_kind names target []
 causes names (Show target) = one_of any_kind names target []

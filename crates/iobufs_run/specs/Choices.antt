@@ -7,7 +7,7 @@ use Rattle.iobufs_run.specs.declared.command.Cmd.TheVariants.{NewMut, Zeroed, Ad
 use Rattle.iobufs_run.specs.declared.command.Reply.{Reply}
 use Rattle.iobufs_run.specs.declared.command.Reply.TheVariants.{Shown, Refused}
 use Rattle.iobufs_run.specs.declared.command.Refusal.TheVariants.{Memory}
-use Rattle.iobufs_run.specs.Slots.{held, is_native_view, shown_piece}
+use Rattle.iobufs_run.specs.Slots.{slot_named, is_native_view, shown_piece}
 use Rattle.iobufs_run.specs.Run.{Step}
 
 -- the command adopts bytes, or recovers a native view
@@ -24,7 +24,7 @@ has_choice names (Truncate target n) = false
 has_choice names (Clear target) = false
 has_choice names (Overwrite target bytes) = false
 has_choice names (Freeze src dst) = false
-has_choice names (Recover src dst) = is_native_view (held names src)
+has_choice names (Recover src dst) = is_native_view (slot_named names src)
 has_choice names (Clone src dst) = false
 has_choice names (Slice src dst lo hi) = false
 has_choice names (Split src dst at) = false

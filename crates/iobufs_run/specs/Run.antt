@@ -13,10 +13,10 @@ use Rattle.iobufs_core.specs.View.{View as ViewValue, static_mark, view_of_bytes
 use Rattle.iobufs_core.specs.Wire.{IsViewRead}
 use Rattle.iobufs_core.specs.declared.codec.base.Error.TheVariants as fault
 use Rattle.iobufs_core.specs.declared.codec.base.RangeCfg.{RangeCfg}
-use Rattle.iobufs.specs.Building.{built, empty_building, finished}
+use Rattle.iobufs.specs.Building.{building_after, empty_building, finished}
 use Rattle.iobufs.specs.Parts.{kept_parts}
 use Rattle.iobufs_run.specs.Causes.{is_listed, pushed_names, refusal_for}
-use Rattle.iobufs_run.specs.Slots.{held, is_static_view, is_empty_range, is_in_pieces, is_native_view, readable, bytes_held, view_held, part_held, marked_held, slot_put, slot_frozen, slot_sliced, slot_split_front, slot_rest, slot_advanced, slot_copied, slot_joined, slot_coalesced, view_encoded, slot_read, IsShown, slot_with_len, slot_truncated, slot_overwritten, slot_recovered}
+use Rattle.iobufs_run.specs.Slots.{slot_named, is_static_view, is_empty_range, is_in_pieces, is_native_view, readable, bytes_held, view_held, part_held, marked_held, slot_put, slot_frozen, slot_sliced, slot_split_front, slot_rest, slot_advanced, slot_copied, slot_joined, slot_coalesced, view_encoded, slot_read, IsShown, slot_with_len, slot_truncated, slot_overwritten, slot_recovered}
 use Rattle.iobufs_run.specs.declared.table.End.{End}
 use Rattle.iobufs_run.specs.declared.table.End.TheVariants.{Front, Back}
 use Rattle.iobufs_run.specs.declared.table.Slot.{Slot}
@@ -51,7 +51,7 @@ MayFail names (Truncate target n) refusal = ⊥
 MayFail names (Clear target) refusal = ⊥
 MayFail names (Overwrite target bytes) refusal = ⊥
 MayFail names (Freeze src dst) refusal = ⊥
-MayFail names (Recover src dst) refusal = (refusal ≡ Declined) × IsTrue (is_native_view (held names src))
+MayFail names (Recover src dst) refusal = (refusal ≡ Declined) × IsTrue (is_native_view (slot_named names src))
 MayFail names (Clone src dst) refusal = ⊥
 MayFail names (Slice src dst lo hi) refusal = ⊥
 MayFail names (Split src dst at) refusal = ⊥
@@ -64,7 +64,7 @@ MayFail names (Prepend target src) refusal = ⊥
 MayFail names (Coalesce src dst) refusal = ⊥
 MayFail names (Build dst capacity items) refusal = ⊥
 MayFail names (Encode src dst) refusal = ⊥
-MayFail names (Decode src dst range) refusal = IsFault (marked_held (held names src)) range refusal
+MayFail names (Decode src dst range) refusal = IsFault (marked_held (slot_named names src)) range refusal
 MayFail names (Drop target) refusal = ⊥
 MayFail names (Show target) refusal = ⊥
 
@@ -81,23 +81,23 @@ MayWantMemory names (SetLen target n) = ⊥
 MayWantMemory names (Truncate target n) = ⊥
 MayWantMemory names (Clear target) = ⊥
 MayWantMemory names (Overwrite target bytes) = ⊥
-MayWantMemory names (Freeze src dst) = IsTrue (not (readable (held names src) == 0))
+MayWantMemory names (Freeze src dst) = IsTrue (not (readable (slot_named names src) == 0))
 MayWantMemory names (Recover src dst) = ⊥
 MayWantMemory names (Clone src dst) = Unit {0}
 MayWantMemory names (Slice src dst lo hi) =
-    IsTrue (not (is_empty_range lo hi (readable (held names src))) && not (is_static_view (held names src)))
+    IsTrue (not (is_empty_range lo hi (readable (slot_named names src))) && not (is_static_view (slot_named names src)))
 MayWantMemory names (Split src dst at) =
-    IsTrue (not (at == 0) && not (at == readable (held names src)) && not (is_static_view (held names src)))
+    IsTrue (not (at == 0) && not (at == readable (slot_named names src)) && not (is_static_view (slot_named names src)))
 MayWantMemory names (Advance target n) = ⊥
 MayWantMemory names (Take target n) = IsTrue (not (n == 0))
 MayWantMemory names (Gather dst sources) = IsTrue (not (length sources.items == 0))
 MayWantMemory names (GatherMut dst sources) = IsTrue (not (length sources.items == 0))
-MayWantMemory names (Append target src) = IsTrue (not (readable (held names src) == 0) && not (readable (held names target) == 0))
-MayWantMemory names (Prepend target src) = IsTrue (not (readable (held names src) == 0) && not (readable (held names target) == 0))
-MayWantMemory names (Coalesce src dst) = IsTrue (is_in_pieces (held names src))
+MayWantMemory names (Append target src) = IsTrue (not (readable (slot_named names src) == 0) && not (readable (slot_named names target) == 0))
+MayWantMemory names (Prepend target src) = IsTrue (not (readable (slot_named names src) == 0) && not (readable (slot_named names target) == 0))
+MayWantMemory names (Coalesce src dst) = IsTrue (is_in_pieces (slot_named names src))
 MayWantMemory names (Build dst capacity items) = Unit {0}
 MayWantMemory names (Encode src dst) = Unit {0}
-MayWantMemory names (Decode src dst range) = IsViewRead (marked_held (held names src)) range (Err fault.Memory)
+MayWantMemory names (Decode src dst range) = IsViewRead (marked_held (slot_named names src)) range (Err fault.Memory)
 MayWantMemory names (Drop target) = ⊥
 MayWantMemory names (Show target) = Unit {0}
 
@@ -136,7 +136,7 @@ consumed (Show target) = []
 abbrev pub MayFree : List ℕ → List Slot → List Slot → Type 0
 MayFree freed old new =
     (length new ≡ length old)
-    × ((name : ℕ) → (held new name ≡ held old name) ⊎ (IsTrue (is_listed freed name) × (held new name ≡ Free)))
+    × ((name : ℕ) → (slot_named new name ≡ slot_named old name) ⊎ (IsTrue (is_listed freed name) × (slot_named new name ≡ Free)))
 
 -- these names are free
 abbrev pub all_freed : List Slot → List ℕ → List Slot
@@ -154,7 +154,7 @@ with_bytes names dst bytes spare = slice_set names dst (Part (record { filled = 
 -- what is put or pushed by an item
 abbrev pub item_held : List Slot → Item → Written
 item_held names (Inline bytes) = put_item bytes.items
-item_held names (Push name) = push_item (view_held (held names name))
+item_held names (Push name) = push_item (view_held (slot_named names name))
 
 -- the reply, and the names that are left
 abbrev pub Gives : Reply → List Slot → Reply → List Slot → Type 0
@@ -168,35 +168,35 @@ Does old (Zeroed dst len align) = Gives Done (with_bytes old dst (replicate len 
 Does old (Adopt dst bytes) = λ reply new. (spare : ℕ) × Gives Done (with_bytes old dst bytes.items spare) reply new
 Does old (Static dst text) = Gives Done (slice_set old dst (View (record { bytes = text.now; mark = static_mark })))
 Does old (FromBytes dst bytes) = Gives Done (slice_set old dst (View (view_of_bytes bytes.items)))
-Does old (Put target bytes) = Gives Done (slice_set old target (slot_put (held old target) bytes.items))
-Does old (Fill target byte n) = Gives Done (slice_set old target (slot_put (held old target) (replicate n byte)))
-Does old (SetLen target n) = Gives Done (slice_set old target (slot_with_len (held old target) n))
-Does old (Truncate target n) = Gives Done (slice_set old target (slot_truncated (held old target) n))
-Does old (Clear target) = Gives Done (slice_set old target (slot_truncated (held old target) 0))
-Does old (Overwrite target bytes) = Gives Done (slice_set old target (slot_overwritten (held old target) bytes.items))
-Does old (Freeze src dst) = Gives Done (moved_to old src dst (slot_frozen (held old src)))
-Does old (Recover src dst) = Gives Done (moved_to old src dst (slot_recovered (held old src)))
-Does old (Clone src dst) = Gives Done (slice_set old dst (held old src))
-Does old (Slice src dst lo hi) = Gives Done (slice_set old dst (slot_sliced (held old src) lo hi))
+Does old (Put target bytes) = Gives Done (slice_set old target (slot_put (slot_named old target) bytes.items))
+Does old (Fill target byte n) = Gives Done (slice_set old target (slot_put (slot_named old target) (replicate n byte)))
+Does old (SetLen target n) = Gives Done (slice_set old target (slot_with_len (slot_named old target) n))
+Does old (Truncate target n) = Gives Done (slice_set old target (slot_truncated (slot_named old target) n))
+Does old (Clear target) = Gives Done (slice_set old target (slot_truncated (slot_named old target) 0))
+Does old (Overwrite target bytes) = Gives Done (slice_set old target (slot_overwritten (slot_named old target) bytes.items))
+Does old (Freeze src dst) = Gives Done (moved_to old src dst (slot_frozen (slot_named old src)))
+Does old (Recover src dst) = Gives Done (moved_to old src dst (slot_recovered (slot_named old src)))
+Does old (Clone src dst) = Gives Done (slice_set old dst (slot_named old src))
+Does old (Slice src dst lo hi) = Gives Done (slice_set old dst (slot_sliced (slot_named old src) lo hi))
 Does old (Split src dst at) =
-    Gives Done (slice_set (slice_set old src (slot_rest (held old src) at)) dst (slot_split_front (held old src) at))
-Does old (Advance target n) = Gives Done (slice_set old target (slot_advanced (held old target) n))
-Does old (Take target n) = Gives (Bytes (take n (bytes_held (held old target)))) (slice_set old target (slot_copied (held old target) n))
+    Gives Done (slice_set (slice_set old src (slot_rest (slot_named old src) at)) dst (slot_split_front (slot_named old src) at))
+Does old (Advance target n) = Gives Done (slice_set old target (slot_advanced (slot_named old target) n))
+Does old (Take target n) = Gives (Bytes (take n (bytes_held (slot_named old target)))) (slice_set old target (slot_copied (slot_named old target) n))
 Does old (Gather dst sources) =
-    Gives Done (slice_set (all_freed old sources.items) dst (Text (joined (map (λ src. view_held (held old src)) sources.items))))
+    Gives Done (slice_set (all_freed old sources.items) dst (Text (joined (map (λ src. view_held (slot_named old src)) sources.items))))
 Does old (GatherMut dst sources) =
-    Gives Done (slice_set (all_freed old sources.items) dst (Parts (kept_parts (map (λ src. part_held (held old src)) sources.items))))
-Does old (Append target src) = Gives Done (moved_to old src target (slot_joined Back (held old target) (held old src)))
-Does old (Prepend target src) = Gives Done (moved_to old src target (slot_joined Front (held old target) (held old src)))
-Does old (Coalesce src dst) = Gives Done (moved_to old src dst (slot_coalesced (held old src)))
+    Gives Done (slice_set (all_freed old sources.items) dst (Parts (kept_parts (map (λ src. part_held (slot_named old src)) sources.items))))
+Does old (Append target src) = Gives Done (moved_to old src target (slot_joined Back (slot_named old target) (slot_named old src)))
+Does old (Prepend target src) = Gives Done (moved_to old src target (slot_joined Front (slot_named old target) (slot_named old src)))
+Does old (Coalesce src dst) = Gives Done (moved_to old src dst (slot_coalesced (slot_named old src)))
 Does old (Build dst capacity items) =
-    Gives Done (slice_set (all_freed old (pushed_names items.items)) dst (Text (finished (built (empty_building capacity) (map (item_held old) items.items)))))
-Does old (Encode src dst) = Gives Done (slice_set old dst (Text (view_encoded (view_held (held old src)))))
+    Gives Done (slice_set (all_freed old (pushed_names items.items)) dst (Text (finished (building_after (empty_building capacity) (map (item_held old) items.items)))))
+Does old (Encode src dst) = Gives Done (slice_set old dst (Text (view_encoded (view_held (slot_named old src)))))
 Does old (Decode src dst range) =
-    λ reply new. (view : ViewValue) × IsViewRead (marked_held (held old src)) range (Ok view)
-    × Gives Done (slice_set (slice_set old src (slot_read (held old src) view)) dst (View view)) reply new
+    λ reply new. (view : ViewValue) × IsViewRead (marked_held (slot_named old src)) range (Ok view)
+    × Gives Done (slice_set (slice_set old src (slot_read (slot_named old src) view)) dst (View view)) reply new
 Does old (Drop target) = Gives Done (slice_set old target Free)
-Does old (Show target) = λ reply new. IsShown (held old target) reply × (new ≡ old)
+Does old (Show target) = λ reply new. IsShown (slot_named old target) reply × (new ≡ old)
 
 -- One command. Refused for want of memory, where it may be; refused for the first cause that stands, or where none
 -- stands for what may fail; or done

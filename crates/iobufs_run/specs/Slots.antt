@@ -4,7 +4,7 @@ use Rattle.std.specs.List.{list_any}
 use Rattle.iobufs_core.specs.Part.{Part as PartValue, empty_part, part_capacity, part_copied, part_drained, part_frozen, part_put, part_overwritten, part_truncated, part_with_len}
 use Rattle.iobufs_core.specs.Spelling.{spell}
 use Rattle.iobufs_core.specs.Wire.{view_items, view_left}
-use Rattle.iobufs.specs.Building.{built, empty_building, finished}
+use Rattle.iobufs.specs.Building.{building_after, empty_building, finished}
 use Rattle.iobufs.specs.Parts.{IsParts, parts_filled, parts_spare, parts_fill, parts_frozen, parts_drained, parts_coalesced, parts_capacity, parts_overwritten, parts_with_len}
 use Rattle.std.specs.declared.ops.Bound.{Bound}
 use Rattle.iobufs_core.specs.View.{View as ViewValue, IsView, view_advanced, view_rest, view_slice, view_split_front, start_place, end_place, static_mark, Mark, default_view, bytes_mark, native_mark}
@@ -20,8 +20,8 @@ use Rattle.iobufs_run.specs.declared.command.Reply.{Reply}
 use Rattle.iobufs_run.specs.declared.command.Reply.TheVariants.{Shown}
 
 -- what a name holds, nothing where there is no such name
-abbrev pub held : List Slot → ℕ → Slot
-held names name = slice_index_or names name Free
+abbrev pub slot_named : List Slot → ℕ → Slot
+slot_named names name = slice_index_or names name Free
 
 -- a buffer that a name holds is well formed: a part, a view, a marked text, or a list of parts, of a length or a
 -- capacity that a number can say
@@ -34,7 +34,7 @@ IsSlot (Parts parts) = IsParts parts
 
 -- so does each name
 abbrev pub AreSlots : List Slot → Type 0
-AreSlots names = (name : ℕ) → IsSlot (held names name)
+AreSlots names = (name : ℕ) → IsSlot (slot_named names name)
 
 abbrev pub is_free : Slot → Bool
 is_free Free = true
@@ -268,4 +268,4 @@ IsShown slot _ = ⊥
 
 -- a view as it is encoded: its length in room of exactly that size, and the view behind it
 abbrev pub view_encoded : ViewValue → MarkedText
-view_encoded view = finished (built (empty_building (length (spell (length view.bytes)))) (view_items view))
+view_encoded view = finished (building_after (empty_building (length (spell (length view.bytes)))) (view_items view))

@@ -2,7 +2,7 @@
 ghost use Rattle.std.specs.Prelude.{◌≡◌, length, replicate, IfOk, IsOk, IsOkUnless, OnErr};
 ghost use Rattle.iobufs_run.specs.Choices.{NoOtherChoices};
 ghost use Rattle.iobufs_run.specs.Run.{Run, Step, changed as changed_by, outcome as outcome_of, reply_of};
-ghost use Rattle.iobufs_run.specs.Slots.{AreSlots, IsSlot, held};
+ghost use Rattle.iobufs_run.specs.Slots.{AreSlots, IsSlot, slot_named};
 
 mod build;
 mod causes;
@@ -174,7 +174,7 @@ fn changed(cmd: &Cmd) -> (usize, usize)
 
 // What a name holds is well formed, as the length of each buffer tells.
 fn observe(slots: &[Slot], name: usize)
-    ensures { IsSlot (held slots.now name) }
+    ensures { IsSlot (slot_named slots.now name) }
 {
     let _ = match slots.get(name) {
         None | Some(Slot::Free) => 0,

@@ -8,7 +8,7 @@ use Rattle.iobufs_core.specs.View.{View, default_view, native_mark, view_rest, v
 use Rattle.iobufs_core.specs.MarkedText.{joined}
 use Rattle.iobufs_core.specs.Items.{Item, put_item, push_item, ArePuts, items_bytes, items_inline, items_pushed}
 use Rattle.iobufs_core.specs.Part.{Part, part_frozen, part_capacity}
-use Rattle.iobufs.specs.Building.{Building, building_bytes, building_items, building_put, built, empty_building, inline_run, room_for_pushes, views_from, finished}
+use Rattle.iobufs.specs.Building.{Building, building_bytes, building_items, building_put, building_after, empty_building, inline_run, room_for_pushes, views_from, finished}
 use Rattle.iobufs.specs.Laws.Building.{bytes-built, items_bytes-append, put-append, put_nothing, run-bytes}
 use Rattle.iobufs.specs.Inside.Pieces.{pieces_bytes}
 use Rattle.iobufs.proofs.Text.Sides.{not_zero}
@@ -131,8 +131,8 @@ finished-bytes b =
     ∙ items_bytes-append b.front (inline_run b.last)
     ∙ ap (λ more. items_bytes b.front ++ more) (run-bytes b.last)
 
-pub encoded-bytes : (capacity : ℕ) (items : List Item) → (finished (built (empty_building capacity) items)).bytes ≡ items_bytes items
-encoded-bytes capacity items = finished-bytes (built (empty_building capacity) items) ∙ bytes-built (empty_building capacity) items
+pub encoded-bytes : (capacity : ℕ) (items : List Item) → (finished (building_after (empty_building capacity) items)).bytes ≡ items_bytes items
+encoded-bytes capacity items = finished-bytes (building_after (empty_building capacity) items) ∙ bytes-built (empty_building capacity) items
 
 pub items-len : (items : List Item) → length (items_bytes items) ≡ items_inline items + items_pushed items
 items-len [] = omega arith
@@ -146,12 +146,12 @@ pushes-fit b items empty fits long =
     let room = ap room_for_pushes empty in omega arith
 
 -- puts without bytes leave a builder without items
-pub nothing-put : (capacity : ℕ) (items : List Item) → ArePuts items → length (items_bytes items) ≡ 0 → building_items (built (empty_building capacity) items) ≡ []
+pub nothing-put : (capacity : ℕ) (items : List Item) → ArePuts items → length (items_bytes items) ≡ 0 → building_items (building_after (empty_building capacity) items) ≡ []
 nothing-put capacity items puts none =
     ap building_items (built-puts (empty_building capacity) items puts)
     ∙ ap inline_run (nil_from_length (items_bytes items) none)
   where
-    built-puts : (b : Building) (items : List Item) → ArePuts items → built b items ≡ building_put b (items_bytes items)
+    built-puts : (b : Building) (items : List Item) → ArePuts items → building_after b items ≡ building_put b (items_bytes items)
     built-puts b [] puts = (put_nothing b).1
     built-puts b (put_item bytes ∷ items) puts = built-puts (building_put b bytes) items puts ∙ put-append b bytes (items_bytes items)
     built-puts b (push_item view ∷ items) puts = absurd puts

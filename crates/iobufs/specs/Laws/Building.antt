@@ -6,7 +6,7 @@ use Rattle.std.proofs.lemmas.Bool.Decides.{nat_tests}
 use Rattle.std.proofs.lemmas.Grind.{common_steps}
 use Rattle.iobufs_core.specs.View.{View}
 use Rattle.iobufs_core.specs.Items.{Item, put_item, push_item, item_bytes, item_inline, item_pushed, items_bytes, items_inline, items_pushed}
-use Rattle.iobufs.specs.Building.{Building, inline_run, building_put, building_push, built_one, built, building_bytes, building_room, room_for_pushes}
+use Rattle.iobufs.specs.Building.{Building, inline_run, building_put, building_push, building_with, building_after, building_bytes, building_room, room_for_pushes}
 
 -- putting these bytes in, which fit
 abbrev pub IsPut : Building → List ℕ → Building → Type 0
@@ -14,7 +14,7 @@ IsPut a bytes b = (length bytes ≤ building_room a) × (b ≡ building_put a by
 
 -- doing these puts and pushes one after another, all of which fit
 abbrev pub IsBuilt : Building → List Item → Building → Type 0
-IsBuilt a items b = (items_inline items ≤ building_room a) × (items_pushed items ≤ room_for_pushes a) × (b ≡ built a items)
+IsBuilt a items b = (items_inline items ≤ building_room a) × (items_pushed items ≤ room_for_pushes a) × (b ≡ building_after a items)
 
 pub items_bytes-append : (xs ys : List Item) → items_bytes (xs ++ ys) ≡ items_bytes xs ++ items_bytes ys
 items_bytes-append [] ys = refl
@@ -63,9 +63,9 @@ put_composes a b c u v first second = (
 )
 
 -- items done, then others
-pub built-append : (a : Building) (us vs : List Item) → built a (us ++ vs) ≡ built (built a us) vs
+pub built-append : (a : Building) (us vs : List Item) → building_after a (us ++ vs) ≡ building_after (building_after a us) vs
 built-append a [] vs = refl
-built-append a (u ∷ us) vs = built-append (built_one a u) us vs
+built-append a (u ∷ us) vs = built-append (building_with a u) us vs
 
 -- a push of nothing, and of something
 pub push-none : (a : Building) (view : View) → length view.bytes ≡ 0 → building_push a view ≡ a
@@ -78,7 +78,7 @@ by_length : (view : View) (C : Type 0) → (length view.bytes ≡ 0 → C) → (
 by_length view C none some = ⊎_elim some (λ (h : length view.bytes ≤ 0). none (omega arith)) (cases_lt 0 (length view.bytes))
 
 -- one item adds its bytes, and lessens one of the two rooms
-bytes-one : (a : Building) (item : Item) → building_bytes (built_one a item) ≡ building_bytes a ++ item_bytes item
+bytes-one : (a : Building) (item : Item) → building_bytes (building_with a item) ≡ building_bytes a ++ item_bytes item
 bytes-one a (put_item bytes) = sym (append_assoc (items_bytes a.front) a.last bytes)
 bytes-one a (push_item view) =
     by_length view _
@@ -88,7 +88,7 @@ bytes-one a (push_item view) =
     ∙ ap (λ bs. items_bytes a.front ++ bs) (items_bytes-append (inline_run a.last) _ ∙ ap (λ bs. bs ++ (view.bytes ++ [])) (run-bytes a.last) ∙ ap (λ bs. a.last ++ bs) (append-nil view.bytes))
     ∙ sym (append_assoc (items_bytes a.front) a.last view.bytes))
 
-room-one : (a : Building) (item : Item) → building_room (built_one a item) ≡ building_room a - item_inline item
+room-one : (a : Building) (item : Item) → building_room (building_with a item) ≡ building_room a - item_inline item
 room-one a (put_item bytes) = let n = length-append a.last bytes in omega arith
 room-one a (push_item view) =
     by_length view _
@@ -98,7 +98,7 @@ room-one a (push_item view) =
     let m = items_inline-append (inline_run a.last) (push_item view ∷ []) in
     let r = run-inline a.last in ap building_room (push-some a view some) ∙ (omega arith))
 
-pushes-one : (a : Building) (item : Item) → room_for_pushes (built_one a item) ≡ room_for_pushes a - item_pushed item
+pushes-one : (a : Building) (item : Item) → room_for_pushes (building_with a item) ≡ room_for_pushes a - item_pushed item
 pushes-one a (put_item bytes) = omega arith
 pushes-one a (push_item view) =
     by_length view _
@@ -108,18 +108,18 @@ pushes-one a (push_item view) =
     let m = items_pushed-append (inline_run a.last) (push_item view ∷ []) in
     let r = run-pushed a.last in ap room_for_pushes (push-some a view some) ∙ (omega arith))
 
-pub bytes-built : (a : Building) (items : List Item) → building_bytes (built a items) ≡ building_bytes a ++ items_bytes items
+pub bytes-built : (a : Building) (items : List Item) → building_bytes (building_after a items) ≡ building_bytes a ++ items_bytes items
 bytes-built a [] = sym (append-nil (building_bytes a))
 bytes-built a (i ∷ is) =
-    bytes-built (built_one a i) is ∙ ap (λ bs. bs ++ items_bytes is) (bytes-one a i) ∙ append_assoc (building_bytes a) (item_bytes i) (items_bytes is)
+    bytes-built (building_with a i) is ∙ ap (λ bs. bs ++ items_bytes is) (bytes-one a i) ∙ append_assoc (building_bytes a) (item_bytes i) (items_bytes is)
 
-pub room-built : (a : Building) (items : List Item) → building_room (built a items) ≡ building_room a - items_inline items
+pub room-built : (a : Building) (items : List Item) → building_room (building_after a items) ≡ building_room a - items_inline items
 room-built a [] = omega arith
-room-built a (i ∷ is) = let ih = room-built (built_one a i) is in let one = room-one a i in omega arith
+room-built a (i ∷ is) = let ih = room-built (building_with a i) is in let one = room-one a i in omega arith
 
-pub pushes-built : (a : Building) (items : List Item) → room_for_pushes (built a items) ≡ room_for_pushes a - items_pushed items
+pub pushes-built : (a : Building) (items : List Item) → room_for_pushes (building_after a items) ≡ room_for_pushes a - items_pushed items
 pushes-built a [] = omega arith
-pushes-built a (i ∷ is) = let ih = pushes-built (built_one a i) is in let one = pushes-one a i in omega arith
+pushes-built a (i ∷ is) = let ih = pushes-built (building_with a i) is in let one = pushes-one a i in omega arith
 
 -- the laws of the trait of puts and pushes
 pub built_idle : (a : Building) → IsBuilt a [] a
@@ -141,5 +141,5 @@ pub built_follows : (a b c : Building) (us vs : List Item) → IsBuilt a us b �
 built_follows a b c us vs first second = (
   omega (arith, items_inline-append us vs, built_uses a b us first, second.0),
   omega (arith, items_pushed-append us vs, built_spends a b us first, second.1),
-  second.2 ∙ ap (λ (x : Building). built x vs) first.2 ∙ sym (built-append a us vs),
+  second.2 ∙ ap (λ (x : Building). building_after x vs) first.2 ∙ sym (built-append a us vs),
 )

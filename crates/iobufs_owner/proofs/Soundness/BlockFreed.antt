@@ -9,7 +9,7 @@ use Rattle.iobufs_owner.specs.Word.{IsWord}
 use Rattle.iobufs_owner.specs.World.{World, holds, is_block, holders, users, tally}
 use Rattle.iobufs_owner.specs.Reading.{reading, read_handle, has_let_go}
 use Rattle.iobufs_owner.specs.Sound.{IsDescribed, IsSound, Fits, FitsCall, LiesIn, LeavesBehind, alone, describes, hidden, readies}
-use Rattle.iobufs_owner.specs.Moves.{is_lent, detached, replaced, block_freed, both_freed, dead, IsLoose}
+use Rattle.iobufs_owner.specs.Moves.{is_lent, detached, replaced, block_freed, both_freed, tables_without, IsLoose}
 use Rattle.iobufs_owner.specs.declared.owner.types.Block.{Block}
 use Rattle.iobufs_owner.specs.declared.owner.types.Freed.{Freed}
 use Rattle.iobufs_owner.specs.declared.owner.types.Handle.{Handle}
@@ -182,15 +182,15 @@ names-speak r (Some (Subtract q)) t = t
 names-speak r (Some (Release q)) t = t
 
 -- every other live record that a call counts on stays live
-pub calls-live : (s : State) (h r q i : ℕ) → NamedOnce s h r → i < length s.calls → names q (call_at s i) ≡ true → (record_at s.tables q).live ≡ true → (record_at (dead s.tables r) q).live ≡ true
+pub calls-live : (s : State) (h r q i : ℕ) → NamedOnce s h r → i < length s.calls → names q (call_at s i) ≡ true → (record_at s.tables q).live ≡ true → (record_at (tables_without s.tables r) q).live ≡ true
 calls-live s h r q i once l t live = dead-other s.tables r q (λ e. once.calls i l (names-speak r (call_at s i) (rw e at t))) ∙ live
 
 -- every other handle fits as before
-pub fit-dead : (s : State) (h r i : ℕ) (o : Option Handle) → NamedOnce s h r → i ≢ h → handle_at s i ≡ o → Fits s.tables s.calls o → Fits (dead s.tables r) s.calls o
+pub fit-dead : (s : State) (h r i : ℕ) (o : Option Handle) → NamedOnce s h r → i ≢ h → handle_at s i ≡ o → Fits s.tables s.calls o → Fits (tables_without s.tables r) s.calls o
 fit-dead s h r i None once ne at f = tt
 fit-dead s h r i (Some x) once ne at f =
     let e = dead-keeps s.tables r in
-    fits-kept s.tables (dead s.tables r) s.calls x x.word (owner-kept s.tables (dead s.tables r) s.calls x e f) e
+    fits-kept s.tables (tables_without s.tables r) s.calls x x.word (owner-kept s.tables (tables_without s.tables r) s.calls x e f) e
     (λ q w. dead-other s.tables r q (λ y. ne (once.handles i x at (w ∙ ap Counted y))) ∙ live-of s.tables s.calls x x.word q w f) f
 
 -- ---- the logs are no part of who holds
@@ -284,7 +284,7 @@ sound-freed_described s h x w o k at free xw is =
 pub sound-freed_counted : (s : State) (h : ℕ) (x : Handle) (r : ℕ) (o : Option Handle) → IsSound s → handle_at s h ≡ Some x → is_lent h s.calls ≡ false → x.kind ≡ Mut → x.word ≡ Counted r → IsLoose o → IsSound (replaced (both_freed s r) h o)
 sound-freed_counted s h x r o k at free xm xw is =
     let g : Tables = s.tables in
-    let g' : Tables = dead s.tables r in
+    let g' : Tables = tables_without s.tables r in
     let f = counted-at s h x r k at xw in
     let b : ℕ = (record_at s.tables r).block in
     let ox : owner_of g x ≡ Some b = owner-counted g x r xw in
@@ -299,7 +299,7 @@ sound-freed_counted s h x r o k at free xm xw is =
     let ox' : owner_of g' x ≡ Some b = owner-kept g g' s.calls x e (fits-at s h x k at) ∙ ox in
     let hs = handles-kept g g' s.calls s.handles e k.fit in
     let cs = calls-read-kept s g' s.calls e (λ i d l q j t. dead-let_go g r q) k.calls_fit in
-    let mid : State = record s { tables = dead s.tables r } in
+    let mid : State = record s { tables = tables_without s.tables r } in
     let hm : (c : ℕ) → holders (reading next) c + cond (c == b) 1 0 ≡ holders (reading s) c = λ c. let m = rw (at, ox', n.holds c) at (holders-changed mid h o c l) in let a = holders-alike (reading next) (reading (record mid { handles = set s.handles h o })) c refl refl in let t = holders-tables s g' c hs cs in omega (arith, m, a, t) in
     let um : (c : ℕ) → users (reading next) c + cond (c == b) 1 0 ≡ users (reading s) c = λ c. let m = rw (at, ox', n.holds c) at (users-changed mid h o c l) in let a = users-alike (reading next) (reading (record mid { handles = set s.handles h o })) c refl refl in let t = users-tables s g' c hs cs in omega (arith, m, a, t) in
     let hn : (c : ℕ) → c ≢ b → holders (reading next) c ≡ holders (reading s) c = λ c ne. let m = rw (not-eqb c b ne) at (hm c) in omega (arith, m) in

@@ -9,7 +9,7 @@ use Rattle.iobufs_owner.specs.State.{State, Tables, owner_of, record_at, block_a
 use Rattle.iobufs_owner.specs.World.{is_block, holders, users, tally}
 use Rattle.iobufs_owner.specs.Reading.{reading}
 use Rattle.iobufs_owner.specs.Sound.{IsSound, ArePlaced, Fits, FitsCall, IsDescribed, alone, describes}
-use Rattle.iobufs_owner.specs.Moves.{edited, dead, record_freed, fits_in, tail_of, may_demote, described, demote_counted, declined, Lends, IsDemotedBy}
+use Rattle.iobufs_owner.specs.Moves.{edited, tables_without, record_freed, fits_in, tail_of, may_demote, described, demote_counted, declined, Lends, IsDemotedBy}
 use Rattle.iobufs_owner.specs.declared.owner.types.Block.{Block}
 use Rattle.iobufs_owner.specs.declared.owner.types.Handle.{Handle}
 use Rattle.iobufs_owner.specs.declared.owner.types.Kind.TheVariants.{View}
@@ -70,7 +70,7 @@ found-by-base : (g : Tables) (b : ℕ) → ArePlaced g → b < length g.blocks �
 found-by-base g b k l = found-first g.blocks b l (λ c m. bases g c b k (omega arith) l (omega arith))
 
 -- the handle goes by the descriptor, and holds what it held
-pub owner-demoted : (s : State) (h r log : ℕ) (x : Handle) → IsSound s → Lends s h View x → x.word ≡ Counted r → MayDemote s.tables x r log → owner_of (dead s.tables r) (described s.tables x r log) ≡ Some (record_at s.tables r).block
+pub owner-demoted : (s : State) (h r log : ℕ) (x : Handle) → IsSound s → Lends s h View x → x.word ≡ Counted r → MayDemote s.tables x r log → owner_of (tables_without s.tables r) (described s.tables x r log) ≡ Some (record_at s.tables r).block
 owner-demoted s h r log x k t xw m =
     let g : Tables = s.tables in
     let b : ℕ = (record_at s.tables r).block in
@@ -81,10 +81,10 @@ owner-demoted s h r log x k t xw m =
     let lies = lies-as bl x View t.kind_is f.lies in
     let size = word-size g.align_bits g.tail_bits g.size_bits w bl.size log (tail_of bl x) m.room refl in
     let tail = word-tail g.align_bits g.tail_bits g.size_bits w bl.size log (tail_of bl x) m.room refl in
-    let base : base_by (dead s.tables r) y w ≡ bl.base = rw (t.kind_is, size, tail) (omega (arith, lies.0, lies.1)) in
-    owner-described (dead s.tables r) y w refl ∙ ap (λ (n : ℕ). block_with n g.blocks) base ∙ found-by-base g b k.blocks f.known
+    let base : base_by (tables_without s.tables r) y w ≡ bl.base = rw (t.kind_is, size, tail) (omega (arith, lies.0, lies.1)) in
+    owner-described (tables_without s.tables r) y w refl ∙ ap (λ (n : ℕ). block_with n g.blocks) base ∙ found-by-base g b k.blocks f.known
 
-pub described-demoted : (s : State) (h r log : ℕ) (x : Handle) → IsSound s → Lends s h View x → x.word ≡ Counted r → (block_at s.tables (record_at s.tables r).block).align ≡ 2 ^ log → MayDemote s.tables x r log → IsDescribed (dead s.tables r) (described s.tables x r log) (word_of s.tables.align_bits s.tables.tail_bits (block_at s.tables (record_at s.tables r).block).size log (tail_of (block_at s.tables (record_at s.tables r).block) x)) (record_at s.tables r).block log (tail_of (block_at s.tables (record_at s.tables r).block) x)
+pub described-demoted : (s : State) (h r log : ℕ) (x : Handle) → IsSound s → Lends s h View x → x.word ≡ Counted r → (block_at s.tables (record_at s.tables r).block).align ≡ 2 ^ log → MayDemote s.tables x r log → IsDescribed (tables_without s.tables r) (described s.tables x r log) (word_of s.tables.align_bits s.tables.tail_bits (block_at s.tables (record_at s.tables r).block).size log (tail_of (block_at s.tables (record_at s.tables r).block) x)) (record_at s.tables r).block log (tail_of (block_at s.tables (record_at s.tables r).block) x)
 described-demoted s h r log x k t xw align m =
     let bl : Block = block_at s.tables (record_at s.tables r).block in
     let f = counted-at s h x r k t.at xw in
@@ -105,7 +105,7 @@ described-demoted s h r log x k t xw align m =
 pub sound-demoted : (s : State) (h r log : ℕ) (x : Handle) → IsSound s → Lends s h View x → x.word ≡ Counted r → (block_at s.tables (record_at s.tables r).block).align ≡ 2 ^ log → MayDemote s.tables x r log → IsSound (edited (record_freed s r) h (described s.tables x r log))
 sound-demoted s h r log x k t xw align may =
     let g : Tables = s.tables in
-    let g' : Tables = dead s.tables r in
+    let g' : Tables = tables_without s.tables r in
     let b : ℕ = (record_at s.tables r).block in
     let y : Handle = described s.tables x r log in
     let tail : ℕ = tail_of (block_at s.tables (record_at s.tables r).block) x in
@@ -125,7 +125,7 @@ sound-demoted s h r log x k t xw align may =
     let oy : owner_of g' y ≡ Some b = owner-demoted s h r log x k t xw may in
     let hs = handles-kept g g' s.calls s.handles e k.fit in
     let cs = calls-read-kept s g' s.calls e (λ i d l q j t. dead-let_go g r q) k.calls_fit in
-    let mid : State = record s { tables = dead s.tables r } in
+    let mid : State = record s { tables = tables_without s.tables r } in
     let hm : (c : ℕ) → holders (reading next) c ≡ holders (reading s) c = λ c. let n = rw (at, ox', oy) at (holders-changed mid h (Some y) c l) in let a = holders-alike (reading next) (reading (record mid { handles = set s.handles h (Some y) })) c refl refl in let m = holders-tables s g' c hs cs in omega (arith, n, a, m) in
     let um : (c : ℕ) → users (reading next) c ≡ users (reading s) c = λ c. let n = rw (at, ox', oy) at (users-changed mid h (Some y) c l) in let a = users-alike (reading next) (reading (record mid { handles = set s.handles h (Some y) })) c refl refl in let m = users-tables s g' c hs cs in omega (arith, n, a, m) in
     let dm : (c : ℕ) → tally (describes g' c) (set s.handles h (Some y)) ≡ tally (describes g c) s.handles + cond (c == b) 1 0 = λ c.

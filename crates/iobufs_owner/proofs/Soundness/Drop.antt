@@ -7,7 +7,7 @@ use Rattle.std.proofs.lemmas.Bool.Decides.{nat_tests, eqb_tells}
 use Rattle.iobufs_owner.specs.State.{State, Tables, owner_of, record_at, handle_at, call_at}
 use Rattle.iobufs_owner.specs.World.{Dropping, holds, holders, users, still_holds, drops, tally}
 use Rattle.iobufs_owner.specs.Reading.{reading, read_handle, read_call, has_let_go}
-use Rattle.iobufs_owner.specs.Moves.{is_lent, gone, called}
+use Rattle.iobufs_owner.specs.Moves.{is_lent, state_without, called}
 use Rattle.iobufs_owner.specs.Sound.{IsSound, Fits, FitsCall, alone, describes, hidden, readies, releases}
 use Rattle.iobufs_owner.specs.declared.owner.types.Handle.{Handle}
 use Rattle.iobufs_owner.specs.declared.owner.types.Kind.TheVariants.{View}
@@ -22,7 +22,7 @@ use Rattle.iobufs_owner.proofs.WorldSteps.Shown.{get_or-read}
 use Rattle.iobufs_owner.proofs.Soundness.AddHolder.{release-elsewhere}
 
 abbrev pub dropping : State → ℕ → ℕ → Pending → State
-dropping s p h c = called (gone s h) p (Some c)
+dropping s p h c = called (state_without s h) p (Some c)
 
 -- the call of a drop that hasn't let go
 pub record IsDrop (s : State) (r : ℕ) (c : Pending) : Type 0 where

@@ -4,24 +4,24 @@ use Rattle.std.proofs.lemmas.List.{get_or-set_same, get_or-set_other}
 use Rattle.std.proofs.lemmas.Bool.Decides.{eqb_tells}
 use Rattle.iobufs_owner.specs.State.{Tables, record_at}
 use Rattle.iobufs_owner.specs.Reading.{has_let_go}
-use Rattle.iobufs_owner.specs.Moves.{dead}
+use Rattle.iobufs_owner.specs.Moves.{tables_without}
 use Rattle.iobufs_owner.specs.declared.owner.types.Record.{Record}
 use Rattle.iobufs_owner.proofs.Soundness.Keeps.{Keeps}
 use Rattle.iobufs_owner.proofs.Soundness.AddHolder.{field-set}
 
-pub dead-block : (g : Tables) (r q : ℕ) → (record_at (dead g r) q).block ≡ (record_at g q).block
+pub dead-block : (g : Tables) (r q : ℕ) → (record_at (tables_without g r) q).block ≡ (record_at g q).block
 dead-block g r q = field-set (λ (v : Record). v.block) g.records r q _ _ refl
 
-pub dead-count : (g : Tables) (r q : ℕ) → (record_at (dead g r) q).count ≡ (record_at g q).count
+pub dead-count : (g : Tables) (r q : ℕ) → (record_at (tables_without g r) q).count ≡ (record_at g q).count
 dead-count g r q = field-set (λ (v : Record). v.count) g.records r q _ _ refl
 
-pub dead-other : (g : Tables) (r q : ℕ) → q ≢ r → (record_at (dead g r) q).live ≡ (record_at g q).live
+pub dead-other : (g : Tables) (r q : ℕ) → q ≢ r → (record_at (tables_without g r) q).live ≡ (record_at g q).live
 dead-other g r q ne = ap (λ (v : Record). v.live) (get_or-set_other g.records r q (record { count = (record_at g r).count; block = (record_at g r).block; live = false }) (record { count = 0; block = 0; live = false }) ne)
 
-pub dead-same : (g : Tables) (r : ℕ) → r < length g.records → (record_at (dead g r) r).live ≡ false
+pub dead-same : (g : Tables) (r : ℕ) → r < length g.records → (record_at (tables_without g r) r).live ≡ false
 dead-same g r l = ap (λ (v : Record). v.live) (get_or-set_same g.records r (record { count = (record_at g r).count; block = (record_at g r).block; live = false }) (record { count = 0; block = 0; live = false }) l)
 
-pub dead-keeps : (g : Tables) (r : ℕ) → Keeps g (dead g r)
+pub dead-keeps : (g : Tables) (r : ℕ) → Keeps g (tables_without g r)
 dead-keeps g r = record {
   align_bits = refl;
   tail_bits = refl;
@@ -32,11 +32,11 @@ dead-keeps g r = record {
   records = λ q e. dead-block g r q;
 }
 
-pub dead-let_go : (g : Tables) (r q : ℕ) → has_let_go (dead g r) q ≡ has_let_go g q
+pub dead-let_go : (g : Tables) (r q : ℕ) → has_let_go (tables_without g r) q ≡ has_let_go g q
 dead-let_go g r q = ap (λ (n : ℕ). nat_eq n 0) (dead-count g r q)
 
 -- what is live afterwards was live, and is another record
-pub dead-live : (g : Tables) (r q : ℕ) → r < length g.records → (record_at (dead g r) q).live ≡ true → ((record_at g q).live ≡ true) × (q ≢ r)
+pub dead-live : (g : Tables) (r q : ℕ) → r < length g.records → (record_at (tables_without g r) q).live ≡ true → ((record_at g q).live ≡ true) × (q ≢ r)
 dead-live g r q l e = elim (eqb_tells q r) [
   | inl i ↦ absurd (let z = rw i.1 at e in let y = dead-same g r l in cc)
   | inr i ↦ (sym (dead-other g r q i.1) ∙ e, i.1)

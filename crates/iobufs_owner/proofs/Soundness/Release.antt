@@ -7,7 +7,7 @@ use Rattle.std.proofs.lemmas.Bool.Decides.{nat_tests, eqb_tells}
 use Rattle.iobufs_owner.specs.State.{State, Tables, owner_of, record_at, handle_at, call_at}
 use Rattle.iobufs_owner.specs.World.{holds, holders, users, Dropping, still_holds, drops, tally}
 use Rattle.iobufs_owner.specs.Reading.{reading, read_handle, read_call, has_let_go}
-use Rattle.iobufs_owner.specs.Moves.{dead, both_freed, called}
+use Rattle.iobufs_owner.specs.Moves.{tables_without, both_freed, called}
 use Rattle.iobufs_owner.specs.Sound.{IsSound, Fits, FitsCall, alone, describes, hidden, readies, releases}
 use Rattle.iobufs_owner.specs.declared.owner.types.Handle.{Handle}
 use Rattle.iobufs_owner.specs.declared.owner.types.Pending.{Pending}
@@ -59,30 +59,30 @@ none-holds s b i x z at o =
     let t = count-some (held_by s b) s.handles i None (at-some s.handles i x at) (rw (at, o) (is-eqb b b refl)) in
     omega arith
 
-fit-released : (s : State) (p r : ℕ) (o : Option Handle) → ((q : ℕ) → hidden (set s.calls p None) q ≡ hidden s.calls q) → tally (held_by s (record_at s.tables r).block) s.handles ≡ 0 → (i : ℕ) → get_or s.handles i None ≡ o → Fits s.tables s.calls o → Fits (dead s.tables r) (set s.calls p None) o
+fit-released : (s : State) (p r : ℕ) (o : Option Handle) → ((q : ℕ) → hidden (set s.calls p None) q ≡ hidden s.calls q) → tally (held_by s (record_at s.tables r).block) s.handles ≡ 0 → (i : ℕ) → get_or s.handles i None ≡ o → Fits s.tables s.calls o → Fits (tables_without s.tables r) (set s.calls p None) o
 fit-released s p r None hid none i at f = tt
 fit-released s p r (Some x) hid none i at f =
     let e = dead-keeps s.tables r in
-    fits-calls (dead s.tables r) s.calls (set s.calls p None) x x.word (λ q. omega (arith, hid q))
-    (fits-kept s.tables (dead s.tables r) s.calls x x.word (owner-kept s.tables (dead s.tables r) s.calls x e f) e
+    fits-calls (tables_without s.tables r) s.calls (set s.calls p None) x x.word (λ q. omega (arith, hid q))
+    (fits-kept s.tables (tables_without s.tables r) s.calls x x.word (owner-kept s.tables (tables_without s.tables r) s.calls x e f) e
     (λ q w. dead-other s.tables r q (λ y. none-holds s (record_at s.tables r).block i x none at (owner-counted s.tables x q w ∙ ap (λ (n : ℕ). Some (record_at s.tables n).block) y)) ∙ live-of s.tables s.calls x x.word q w f) f)
 
 still-other : (b c : ℕ) (v : Bool) → c ≢ b → still_holds c (Some (Dropping b v 1)) ≡ false
 still-other b c true ne = refl
 still-other b c false ne = not-eqb c b ne
 
-users-released : (s : State) (p r c : ℕ) → call_at s p ≡ Some (Release r) → p < length s.calls → map (read_handle (dead s.tables r)) s.handles ≡ map (read_handle s.tables) s.handles → map (read_call (dead s.tables r)) s.calls ≡ map (read_call s.tables) s.calls → users (reading (released s p r)) c + cond (c == (record_at s.tables r).block) 1 0 ≡ users (reading s) c
+users-released : (s : State) (p r c : ℕ) → call_at s p ≡ Some (Release r) → p < length s.calls → map (read_handle (tables_without s.tables r)) s.handles ≡ map (read_handle s.tables) s.handles → map (read_call (tables_without s.tables r)) s.calls ≡ map (read_call s.tables) s.calls → users (reading (released s p r)) c + cond (c == (record_at s.tables r).block) 1 0 ≡ users (reading s) c
 unfolding users
 users-released s p r c at l hs cs =
     let n = rw (get_or-read (read_call s.tables) s.calls p None, at) at (count-set (drops c) (map (read_call s.tables) s.calls) p None None (rw length-map l)) in
-    rw (hs, map-set (read_call (dead s.tables r)) s.calls p None, cs) (omega (arith, n))
+    rw (hs, map-set (read_call (tables_without s.tables r)) s.calls p None, cs) (omega (arith, n))
 
-holders-released : (s : State) (p r c : ℕ) → call_at s p ≡ Some (Release r) → p < length s.calls → map (read_handle (dead s.tables r)) s.handles ≡ map (read_handle s.tables) s.handles → map (read_call (dead s.tables r)) s.calls ≡ map (read_call s.tables) s.calls → c ≢ (record_at s.tables r).block → holders (reading (released s p r)) c ≡ holders (reading s) c
+holders-released : (s : State) (p r c : ℕ) → call_at s p ≡ Some (Release r) → p < length s.calls → map (read_handle (tables_without s.tables r)) s.handles ≡ map (read_handle s.tables) s.handles → map (read_call (tables_without s.tables r)) s.calls ≡ map (read_call s.tables) s.calls → c ≢ (record_at s.tables r).block → holders (reading (released s p r)) c ≡ holders (reading s) c
 unfolding holders
 holders-released s p r c at l hs cs ne =
     let n = rw (get_or-read (read_call s.tables) s.calls p None, at) at (count-set (still_holds c) (map (read_call s.tables) s.calls) p None None (rw length-map l)) in
     let m = rw (still-other (record_at s.tables r).block c (has_let_go s.tables r) ne) at n in
-    rw (hs, map-set (read_call (dead s.tables r)) s.calls p None, cs) (omega (arith, m))
+    rw (hs, map-set (read_call (tables_without s.tables r)) s.calls p None, cs) (omega (arith, m))
 
 -- no other call counts on the record, or drops the block
 other-drops : (s : State) (p r i b : ℕ) → call_at s p ≡ Some (Release r) → (record_at s.tables r).block ≡ b → tally (drops_by s b) s.calls ≡ 1 → i ≢ p → i < length s.calls → drops_by s b (call_at s i) ≡ true → ⊥
@@ -128,7 +128,7 @@ other-block s r q k lr hr none lq ne e =
 pub sound-released : (s : State) (p r : ℕ) → IsSound s → call_at s p ≡ Some (Release r) → IsSound (released s p r)
 sound-released s p r k at =
     let g : Tables = s.tables in
-    let g' : Tables = dead s.tables r in
+    let g' : Tables = tables_without s.tables r in
     let b : ℕ = (record_at s.tables r).block in
     let next : State = released s p r in
     let l = at-some s.calls p (Release r) at in

@@ -8,7 +8,7 @@ use Rattle.iobufs_owner.specs.State.{State, Tables, owner_of, record_at, block_a
 use Rattle.iobufs_owner.specs.World.{holds, holders, users, still_holds, drops, is_block, tally}
 use Rattle.iobufs_owner.specs.Reading.{reading, read_handle, read_call, has_let_go}
 use Rattle.iobufs_owner.specs.Sound.{IsSound, Fits, FitsWord, FitsCall, FitsRecord, Shares, Promised, IsDescribed, LiesIn, alone, describes, hidden, readies, releases}
-use Rattle.iobufs_owner.specs.Moves.{loaded_found, loaded_block, borrows_it, counted, with_count, called, with_record, record_freed, dead, edited, with_handle, part}
+use Rattle.iobufs_owner.specs.Moves.{loaded_found, loaded_block, borrows_it, counted, with_count, called, with_record, record_freed, tables_without, edited, with_handle, part}
 use Rattle.iobufs_owner.specs.declared.owner.types.Record.{Record}
 use Rattle.iobufs_owner.specs.declared.owner.types.Handle.{Handle}
 use Rattle.iobufs_owner.specs.declared.owner.types.Share.{Share}
@@ -467,13 +467,13 @@ not-mine s p r i k w (Some (Release q)) sd at ne l e f hid t =
     let y = f.1 in
     omega (arith, z, y, hid)
 
-fit-lost : (s : State) (r : ℕ) (cs : List (Option Pending)) → hidden s.calls r ≡ 1 → ((q : ℕ) → hidden cs q ≤ hidden s.calls q) → (o : Option Handle) → Fits s.tables s.calls o → Fits (dead s.tables r) cs o
+fit-lost : (s : State) (r : ℕ) (cs : List (Option Pending)) → hidden s.calls r ≡ 1 → ((q : ℕ) → hidden cs q ≤ hidden s.calls q) → (o : Option Handle) → Fits s.tables s.calls o → Fits (tables_without s.tables r) cs o
 fit-lost s r cs hid less None f = tt
 fit-lost s r cs hid less (Some x) f =
     let e = dead-keeps s.tables r in
     let never : (q : ℕ) → x.word ≡ Counted q → q ≢ r = λ q i same. (let z = (subst (λ (v : Word). FitsWord s.tables s.calls x v) i f).shown in let y = ap (λ (n : ℕ). hidden s.calls n) same in omega (arith, z, y, hid)) in
-    fits-calls (dead s.tables r) s.calls cs x x.word less
-    (fits-kept s.tables (dead s.tables r) s.calls x x.word (owner-kept s.tables (dead s.tables r) s.calls x e f) e
+    fits-calls (tables_without s.tables r) s.calls cs x x.word less
+    (fits-kept s.tables (tables_without s.tables r) s.calls x x.word (owner-kept s.tables (tables_without s.tables r) s.calls x e f) e
     (λ q w. dead-other s.tables r q (never q w) ∙ live-of s.tables s.calls x x.word q w f) f)
 
 -- a call that doesn't count on the record, where all others stay hidden
@@ -500,7 +500,7 @@ call-kept' s t r (Some (Release q)) l never (live, hid, n) =
 pub sound-lost : (s : State) (p r w winner : ℕ) (k : Share) (x : Handle) → IsSound s → call_at s p ≡ Some (Ready k w r) → handle_at s k.handle ≡ Some x → x.word ≡ Counted winner → IsSound (called (record_freed s r) p (Some (Add k winner)))
 sound-lost s p r w winner part' x k at atx xw =
     let g : Tables = s.tables in
-    let g' : Tables = dead s.tables r in
+    let g' : Tables = tables_without s.tables r in
     let c : Option Pending = Some (Add part' winner) in
     let next : State = called (record_freed s r) p (Some (Add part' winner)) in
     let l = at-some s.calls p (Ready part' w r) at in
@@ -512,7 +512,7 @@ sound-lost s p r w winner part' x k at atx xw =
     let hs = handles-kept g g' s.calls s.handles e k.fit in
     let cs = calls-read-kept s g' s.calls e (λ i d l q j t. dead-let_go g r q) k.calls_fit in
     let hidr : hidden s.calls r ≡ 1 = (let a = count-some (readies r) s.calls p None l (ap (readies r) at ∙ is-eqb r r refl) in let m = (k.counted r f.4).one_maker in omega (arith, a, m)) in
-    let mid : State = record s { tables = dead s.tables r } in
+    let mid : State = record s { tables = tables_without s.tables r } in
     let both : (d : ℕ) → (holders (reading next) d ≡ holders (reading s) d) × (users (reading next) d ≡ users (reading s) d) = λ d.
     let a = called-still mid p c d l (ap (λ (o : Option Pending). still_holds d (read_call g' o)) at) (ap (λ (o : Option Pending). drops d (read_call g' o)) at) refl refl in
     (holders-alike (reading next) (reading (called mid p c)) d refl refl ∙ a.0 ∙ holders-tables s g' d hs cs, users-alike (reading next) (reading (called mid p c)) d refl refl ∙ a.1 ∙ users-tables s g' d hs cs) in

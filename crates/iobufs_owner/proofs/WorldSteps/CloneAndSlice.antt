@@ -19,7 +19,7 @@ use Rattle.iobufs_owner.specs.Reading.{reading, read_held, read_handle, read_cal
 use Rattle.iobufs_owner.specs.Sound.{IsSound, FitsCall, hidden}
 use Rattle.iobufs_owner.specs.Kinds.{same_kind}
 use Rattle.iobufs_owner.specs.Moves as move
-use Rattle.iobufs_owner.specs.Moves.{Outcome, called, ended, more, done, edited, part, shared, made, counted, with_count, with_record, record_freed, both_freed, next_record, loaded_block, dead, ready_of, race_of, add_of, subtract_of, release_of, gone_on}
+use Rattle.iobufs_owner.specs.Moves.{Outcome, called, ended, unfinished_call, done, edited, part, shared, made, counted, with_count, with_record, record_freed, both_freed, next_record, loaded_block, tables_without, ready_of, race_of, add_of, subtract_of, release_of, gone_on}
 use Rattle.iobufs_owner.specs.Steps as world
 use Rattle.iobufs_owner.specs.Steps.{NoRoom, Makes, IsOver, GoesOn, SharesOn, Goes, call_set, free_in, part_of, held_set}
 use Rattle.iobufs_owner.proofs.WorldSteps.Sizes.{IsAnswered, entries, grows-never}
@@ -104,7 +104,7 @@ race-as s t p k w r x memory reply (Descriptor u) i a e y =
 race-as s t p k w r x memory reply (Counted winner) i a e y =
     let q = dead-keeps s.tables r in
     let n = length-set s.tables.records r (record { count = (record_at s.tables r).count; block = (record_at s.tables r).block; live = false }) in
-    let z = reply-taken s (called (record_freed s r) p (Some (Add k winner))) t (call_set (reading s) p (Some (Sharing k.handle k.lo k.hi 1))) More reply (cc n) (called-kept s (dead s.tables r) p (Some (Add k winner)) i q (λ n d l v j t. dead-let_go s.tables r v) refl) y in
+    let z = reply-taken s (called (record_freed s r) p (Some (Add k winner))) t (call_set (reading s) p (Some (Sharing k.handle k.lo k.hi 1))) More reply (cc n) (called-kept s (tables_without s.tables r) p (Some (Add k winner)) i q (λ n d l v j t. dead-let_go s.tables r v) refl) y in
     inr (inl (1, omega arith, omega arith, z))
 
 pub ready-goes : (s t : State) (p : ℕ) (k : Share) (w r : ℕ) (memory : Bool) (reply : Reply) → IsSound s → call_at s p ≡ Some (Ready k w r) → IsAnswered s (gone_on s p (Ready k w r) memory) reply t → Goes (reading s) p (Sharing k.handle k.lo k.hi 2) memory reply (reading t)
@@ -141,7 +141,7 @@ add-goes s t p k r memory reply i at y =
 
 -- ---- drops
 
-subtract-as : (s t : State) (p r : ℕ) (memory : Bool) (reply : Reply) (v : Bool) → IsSound s → call_at s p ≡ Some (Subtract r) → (record_at s.tables r).live ≡ true → hidden s.calls r ≡ 0 → 0 < (record_at s.tables r).count → nat_eq (record_at s.tables r).count 1 ≡ v → IsAnswered s (cond v (more (with_count s r ((record_at s.tables r).count - 1)) p (Release r)) (done (called (with_count s r ((record_at s.tables r).count - 1)) p None))) reply t → Goes (reading s) p (Dropping (record_at s.tables r).block false 2) memory reply (reading t)
+subtract-as : (s t : State) (p r : ℕ) (memory : Bool) (reply : Reply) (v : Bool) → IsSound s → call_at s p ≡ Some (Subtract r) → (record_at s.tables r).live ≡ true → hidden s.calls r ≡ 0 → 0 < (record_at s.tables r).count → nat_eq (record_at s.tables r).count 1 ≡ v → IsAnswered s (cond v (unfinished_call (with_count s r ((record_at s.tables r).count - 1)) p (Release r)) (done (called (with_count s r ((record_at s.tables r).count - 1)) p None))) reply t → Goes (reading s) p (Dropping (record_at s.tables r).block false 2) memory reply (reading t)
 unfolding Goes
 subtract-as s t p r memory reply true i at live shown some e y =
     let m : ℕ = (record_at s.tables r).count - 1 in
@@ -168,9 +168,9 @@ subtract-goes s t p r memory reply i at y =
 released-reads : (s : State) (p r : ℕ) → IsSound s → (record_at s.tables r).live ≡ true → reading (called (both_freed s r) p None) ≡ free_in (call_set (reading s) p None) (record_at s.tables r).block
 released-reads s p r k live =
     let e = dead-keeps s.tables r in
-    let hs = handles-kept s.tables (dead s.tables r) s.calls s.handles e k.fit in
-    let cs = calls-read-kept s (dead s.tables r) s.calls e (λ i d l q j t. dead-let_go s.tables r q) k.calls_fit in
-    rw (freed-more s.tables s.freed_blocks (record_at s.tables r).block k.blocks (k.counted r live).known, map-set (read_call (dead s.tables r)) s.calls p None, hs, cs) refl
+    let hs = handles-kept s.tables (tables_without s.tables r) s.calls s.handles e k.fit in
+    let cs = calls-read-kept s (tables_without s.tables r) s.calls e (λ i d l q j t. dead-let_go s.tables r q) k.calls_fit in
+    rw (freed-more s.tables s.freed_blocks (record_at s.tables r).block k.blocks (k.counted r live).known, map-set (read_call (tables_without s.tables r)) s.calls p None, hs, cs) refl
 
 -- the last step of a drop, by whether it has let go
 frees : (w next : World) (p b : ℕ) (v memory : Bool) (reply : Reply) → holders w b ≡ cond v 0 1 → (reply ≡ Done) × (next ≡ free_in (call_set w p None) b) → Goes w p (Dropping b v 1) memory reply next

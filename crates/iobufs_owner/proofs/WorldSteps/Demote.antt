@@ -14,7 +14,7 @@ use Rattle.iobufs_owner.specs.Reading.{reading, read_held, read_handle}
 use Rattle.iobufs_owner.specs.Sound.{IsSound}
 use Rattle.iobufs_owner.specs.Kinds.{same_kind}
 use Rattle.iobufs_owner.specs.Moves as move
-use Rattle.iobufs_owner.specs.Moves.{Outcome, refused, done, declined, edited, dead, record_freed, may_demote, described, is_empty, is_lent, owning_found, Lends, IsDemoted}
+use Rattle.iobufs_owner.specs.Moves.{Outcome, refused, done, declined, edited, tables_without, record_freed, may_demote, described, is_empty, is_lent, owning_found, Lends, IsDemoted}
 use Rattle.iobufs_owner.specs.Steps as world
 use Rattle.iobufs_owner.proofs.WorldSteps.Sizes.{IsAnswered, entries}
 use Rattle.iobufs_owner.proofs.WorldSteps.Lent.{same-kind}
@@ -38,11 +38,11 @@ demoted-reads : (s : State) (h r log : ℕ) (x : Handle) → IsSound s → Lends
 demoted-reads s h r log x k t xw may =
     let e = dead-keeps s.tables r in
     let y : Handle = described s.tables x r log in
-    let hs = handles-kept s.tables (dead s.tables r) s.calls s.handles e k.fit in
-    let cs = calls-read-kept s (dead s.tables r) s.calls e (λ i d l q j t. dead-let_go s.tables r q) k.calls_fit in
-    let same : read_held (dead s.tables r) y ≡ read_held s.tables x = ap (λ (b : Option ℕ). record { kind = x.kind; block = b; place = x.ptr; len = x.len }) (owner-demoted s h r log x k t xw may ∙ sym (owner-counted s.tables x r xw)) in
+    let hs = handles-kept s.tables (tables_without s.tables r) s.calls s.handles e k.fit in
+    let cs = calls-read-kept s (tables_without s.tables r) s.calls e (λ i d l q j t. dead-let_go s.tables r q) k.calls_fit in
+    let same : read_held (tables_without s.tables r) y ≡ read_held s.tables x = ap (λ (b : Option ℕ). record { kind = x.kind; block = b; place = x.ptr; len = x.len }) (owner-demoted s h r log x k t xw may ∙ sym (owner-counted s.tables x r xw)) in
     let own = set-own (map (read_handle s.tables) s.handles) h (Some (read_held s.tables x)) None (rw length-map (at-some s.handles h x t.at)) (get_or-read (read_handle s.tables) s.handles h None ∙ ap (read_handle s.tables) t.at) in
-    rw (map-set (read_handle (dead s.tables r)) s.handles h (Some y), hs, cs, same, own) refl
+    rw (map-set (read_handle (tables_without s.tables r)) s.handles h (Some y), hs, cs, same, own) refl
 
 demoted-entries : (s : State) (h r : ℕ) (y : Handle) → entries (edited (record_freed s r) h y) ≡ entries s
 demoted-entries s h r y = let a = length-set s.handles h (Some y) in let b = length-set s.tables.records r (record { count = (record_at s.tables r).count; block = (record_at s.tables r).block; live = false }) in cc (a, b)

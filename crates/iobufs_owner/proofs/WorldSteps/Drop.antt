@@ -19,7 +19,7 @@ use Rattle.iobufs_owner.specs.World.{World, Dropping, holders, is_block}
 use Rattle.iobufs_owner.specs.Reading.{reading, read_handle, read_call, has_let_go}
 use Rattle.iobufs_owner.specs.Sound.{IsSound}
 use Rattle.iobufs_owner.specs.Moves as move
-use Rattle.iobufs_owner.specs.Moves.{done, more, called, gone, replaced, block_freed, both_freed, after_count, Lends}
+use Rattle.iobufs_owner.specs.Moves.{done, unfinished_call, called, state_without, replaced, block_freed, both_freed, after_count, Lends}
 use Rattle.iobufs_owner.specs.Steps as world
 use Rattle.iobufs_owner.specs.Steps.{GoesOn, free_in, held_gone, call_set}
 use Rattle.iobufs_owner.proofs.WorldSteps.Sizes.{IsAnswered}
@@ -42,18 +42,18 @@ Begun s p h o reply next =
 gone-entries : (s : State) (h : ℕ) → length (set s.handles h None) ≡ length s.handles
 gone-entries s h = length-set s.handles h None
 
-drop-reads : (s : State) (p h : ℕ) (c : Pending) → reading (called (gone s h) p (Some c)) ≡ call_set (held_gone (reading s) h) p (read_call s.tables (Some c))
+drop-reads : (s : State) (p h : ℕ) (c : Pending) → reading (called (state_without s h) p (Some c)) ≡ call_set (held_gone (reading s) h) p (read_call s.tables (Some c))
 drop-reads s p h c = rw (map-set (read_handle s.tables) s.handles h None, map-set (read_call s.tables) s.calls p (Some c)) refl
 
 -- beside others it will subtract, alone it will free
-drop-viewed : (s t : State) (p h r : ℕ) (reply : Reply) (v : Bool) → nat_eq (record_at s.tables r).count 1 ≡ v → IsAnswered s (more (gone s h) p (cond v (Release r) (Subtract r))) reply t → (left : ℕ) × (0 < left) × (left ≤ 2) × GoesOn (held_gone (reading s) h) p (Dropping (record_at s.tables r).block false left) reply (reading t)
+drop-viewed : (s t : State) (p h r : ℕ) (reply : Reply) (v : Bool) → nat_eq (record_at s.tables r).count 1 ≡ v → IsAnswered s (unfinished_call (state_without s h) p (cond v (Release r) (Subtract r))) reply t → (left : ℕ) × (0 < left) × (left ≤ 2) × GoesOn (held_gone (reading s) h) p (Dropping (record_at s.tables r).block false left) reply (reading t)
 drop-viewed s t p h r reply true e i =
     let still : has_let_go s.tables r ≡ false = grind (arith, nat_tests, e) in
     let l = gone-entries s h in
-    (1, omega arith, omega arith, reply-taken s (called (gone s h) p (Some (Release r))) t (call_set (held_gone (reading s) h) p (Some (Dropping (record_at s.tables r).block false 1))) More reply (cc (l)) (drop-reads s p h (Release r) ∙ ap (λ (v : Bool). call_set (held_gone (reading s) h) p (Some (Dropping (record_at s.tables r).block v 1))) still) i)
+    (1, omega arith, omega arith, reply-taken s (called (state_without s h) p (Some (Release r))) t (call_set (held_gone (reading s) h) p (Some (Dropping (record_at s.tables r).block false 1))) More reply (cc (l)) (drop-reads s p h (Release r) ∙ ap (λ (v : Bool). call_set (held_gone (reading s) h) p (Some (Dropping (record_at s.tables r).block v 1))) still) i)
 drop-viewed s t p h r reply false e i =
     let l = gone-entries s h in
-    (2, omega arith, omega arith, reply-taken s (called (gone s h) p (Some (Subtract r))) t (call_set (held_gone (reading s) h) p (Some (Dropping (record_at s.tables r).block false 2))) More reply (cc (l)) (drop-reads s p h (Subtract r)) i)
+    (2, omega arith, omega arith, reply-taken s (called (state_without s h) p (Some (Subtract r))) t (call_set (held_gone (reading s) h) p (Some (Dropping (record_at s.tables r).block false 2))) More reply (cc (l)) (drop-reads s p h (Subtract r)) i)
 
 drop-kind : (s t : State) (p h r : ℕ) (x : Handle) (reply : Reply) (kind : Kind) → IsSound s → handle_at s h ≡ Some x → x.word ≡ Counted r → x.kind ≡ kind → IsAnswered s (move.drop_counted s p h r kind) reply t → Begun s p h (Some (record_at s.tables r).block) reply (reading t)
 drop-kind s t p h r x reply View k at w e i = inr (drop-viewed s t p h r reply (nat_eq (record_at s.tables r).count 1) refl i)
@@ -63,21 +63,21 @@ drop-kind s t p h r x reply Mut k at w e i =
     let one = alone-at s h x b k at (alone-written s.tables b x r w e ∙ ap (is_block b) (owner-counted s.tables x r w) ∙ is-eqb b b refl) in
     let l = gone-entries s h in
     let m = length-set s.tables.records r (record { count = (record_at s.tables r).count; block = (record_at s.tables r).block; live = false }) in
-    let z = done-taken s (gone (both_freed s r) h) t (free_in (held_gone (reading s) h) (record_at s.tables r).block) reply (cc (l, m)) (both-reads s h r None k c.live) i in
+    let z = done-taken s (state_without (both_freed s r) h) t (free_in (held_gone (reading s) h) (record_at s.tables r).block) reply (cc (l, m)) (both-reads s h r None k c.live) i in
     inl (one, z.0, z.1)
 
 drop-word : (s t : State) (p h : ℕ) (x : Handle) (reply : Reply) (w : Word) → IsSound s → handle_at s h ≡ Some x → x.word ≡ w → IsAnswered s (move.drop_by s p h x w) reply t → Begun s p h (owner_of s.tables x) reply (reading t)
 drop-word s t p h x reply Empty k at w i =
     let l = gone-entries s h in
     subst (λ (o : Option ℕ). Begun s p h o reply (reading t)) (sym (owner-empty s.tables x w))
-    (done-taken s (gone s h) t (held_gone (reading s) h) reply (cc (l)) (rw (map-set (read_handle s.tables) s.handles h None) refl) i)
+    (done-taken s (state_without s h) t (held_gone (reading s) h) reply (cc (l)) (rw (map-set (read_handle s.tables) s.handles h None) refl) i)
 drop-word s t p h x reply (Descriptor v) k at w i =
     let d = described-at s h x v k at w in
     let b : ℕ = d.0 in
     let one = alone-at s h x d.0 k at (alone-described s.tables d.0 x v w ∙ ap (is_block d.0) d.3.owner ∙ is-eqb d.0 d.0 refl) in
     let l = gone-entries s h in
-    let i' = subst (λ (f : Freed). IsAnswered s (done (gone (block_freed s f) h)) reply t) (recovered-is s h x v d.0 k at w d.3.owner) i in
-    let z = done-taken s (gone (block_freed s (triple (block_at s.tables d.0))) h) t (free_in (held_gone (reading s) h) d.0) reply (cc (l)) (freed-reads s h d.0 None k d.3.known) i' in
+    let i' = subst (λ (f : Freed). IsAnswered s (done (state_without (block_freed s f) h)) reply t) (recovered-is s h x v d.0 k at w d.3.owner) i in
+    let z = done-taken s (state_without (block_freed s (triple (block_at s.tables d.0))) h) t (free_in (held_gone (reading s) h) d.0) reply (cc (l)) (freed-reads s h d.0 None k d.3.known) i' in
     subst (λ (o : Option ℕ). Begun s p h o reply (reading t)) (sym d.3.owner) (inl (one, z.0, z.1))
 drop-word s t p h x reply (Counted r) k at w i =
     subst (λ (o : Option ℕ). Begun s p h o reply (reading t)) (sym (owner-counted s.tables x r w)) (drop-kind s t p h r x reply x.kind k at w refl i)

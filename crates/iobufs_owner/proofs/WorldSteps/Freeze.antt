@@ -17,7 +17,7 @@ use Rattle.iobufs_owner.specs.World.{Held}
 use Rattle.iobufs_owner.specs.Reading.{reading, read_held, read_handle}
 use Rattle.iobufs_owner.specs.Sound.{IsSound}
 use Rattle.iobufs_owner.specs.Moves as move
-use Rattle.iobufs_owner.specs.Moves.{Outcome, refused, done, edited, frozen, promoted, next_record, dead, block_freed, both_freed, replaced, lend_of, Lends}
+use Rattle.iobufs_owner.specs.Moves.{Outcome, refused, done, edited, frozen, promoted, next_record, tables_without, block_freed, both_freed, replaced, lend_of, Lends}
 use Rattle.iobufs_owner.specs.Steps as world
 use Rattle.iobufs_owner.specs.Steps.{NoRoom, Denied, free_in, free_of, held_set}
 use Rattle.iobufs_owner.proofs.WorldSteps.Sizes.{IsAnswered, entries}
@@ -40,12 +40,12 @@ pub freed-reads : (s : State) (h b : ℕ) (o : Option Handle) → IsSound s → 
 freed-reads s h b o k l = rw (freed-more s.tables s.freed_blocks b k.blocks l, map-set (read_handle s.tables) s.handles h o) refl
 
 -- the same with the record
-pub both-reads : (s : State) (h r : ℕ) (o : Option Handle) → IsSound s → (record_at s.tables r).live ≡ true → reading (replaced (both_freed s r) h o) ≡ record (free_in (reading s) (record_at s.tables r).block) { handles = set (reading s).handles h (read_handle (dead s.tables r) o) }
+pub both-reads : (s : State) (h r : ℕ) (o : Option Handle) → IsSound s → (record_at s.tables r).live ≡ true → reading (replaced (both_freed s r) h o) ≡ record (free_in (reading s) (record_at s.tables r).block) { handles = set (reading s).handles h (read_handle (tables_without s.tables r) o) }
 both-reads s h r o k live =
     let e = dead-keeps s.tables r in
-    let hs = handles-kept s.tables (dead s.tables r) s.calls s.handles e k.fit in
-    let cs = calls-read-kept s (dead s.tables r) s.calls e (λ i d l q j t. dead-let_go s.tables r q) k.calls_fit in
-    rw (freed-more s.tables s.freed_blocks (record_at s.tables r).block k.blocks (k.counted r live).known, map-set (read_handle (dead s.tables r)) s.handles h o, hs, cs) refl
+    let hs = handles-kept s.tables (tables_without s.tables r) s.calls s.handles e k.fit in
+    let cs = calls-read-kept s (tables_without s.tables r) s.calls e (λ i d l q j t. dead-let_go s.tables r q) k.calls_fit in
+    rw (freed-more s.tables s.freed_blocks (record_at s.tables r).block k.blocks (k.counted r live).known, map-set (read_handle (tables_without s.tables r)) s.handles h o, hs, cs) refl
 
 -- what stands after an empty handle is frozen
 nothing-reads : (s : State) (h : ℕ) (x : Handle) (w : Word) → IsSound s → Lends s h Mut x → x.word ≡ w → reading (edited (move.freed_with s x w) h (move.detached 0)) ≡ held_set (free_of (reading s) (owner_of s.tables x)) h (world.detached 0)
@@ -58,7 +58,7 @@ nothing-reads s h x (Descriptor v) k l w =
 nothing-reads s h x (Counted r) k l w =
     let c = counted-at s h x r k l.at w in
     subst (λ (o : Option ℕ). reading (replaced (both_freed s r) h (Some (move.detached 0))) ≡ held_set (free_of (reading s) o) h (world.detached 0)) (sym (owner-counted s.tables x r w))
-    (both-reads s h r (Some (move.detached 0)) k c.live ∙ ap (λ (z : Held). record (free_in (reading s) (record_at s.tables r).block) { handles = set (reading s).handles h (Some z) }) (reads-detached (dead s.tables r) 0))
+    (both-reads s h r (Some (move.detached 0)) k c.live ∙ ap (λ (z : Held). record (free_in (reading s) (record_at s.tables r).block) { handles = set (reading s).handles h (Some z) }) (reads-detached (tables_without s.tables r) 0))
 
 nothing-entries : (s : State) (h : ℕ) (x : Handle) (w : Word) → entries (edited (move.freed_with s x w) h (move.detached 0)) ≡ entries s
 nothing-entries s h x Empty = rw length-set refl

@@ -5,7 +5,7 @@ ghost use Rattle.iobufs_owner.specs.declared.owner.types.Word.TheVariants.{Empty
 ghost use Rattle.iobufs_owner.specs.declared.owner.types.Reply.TheVariants.{More, Done};
 ghost use Rattle.iobufs_owner.specs.declared.owner.types.Pending.TheVariants.{Subtract, Release};
 ghost use Rattle.iobufs_owner.specs.Moves as move;
-ghost use Rattle.iobufs_owner.specs.Moves.{Lends, called, gone, drop_of, subtract_of, release_of};
+ghost use Rattle.iobufs_owner.specs.Moves.{Lends, called, state_without, drop_of, subtract_of, release_of};
 ghost use Rattle.iobufs_owner.specs.State.{call_at, record_at};
 
 use crate::owner::{Freed, Handle, Kind, Machine, Pending, Record, Reply, Word};
@@ -48,7 +48,7 @@ impl Machine {
         requires lent { Lends self.old.state h x.kind x }
         requires word { x.word ≡ Empty }
         ensures reply { result ≡ Done }
-        ensures state { self.new.state ≡ gone self.old.state h }
+        ensures state { self.new.state ≡ state_without self.old.state h }
     {
         self.handles[h] = None;
         Reply::Done
@@ -80,7 +80,7 @@ impl Machine {
         requires word { x.word ≡ Counted r }
         ensures reply { result ≡ More }
         ensures state { self.new.state
-            ≡ called (gone self.old.state h) party
+            ≡ called (state_without self.old.state h) party
             (Some (move.after_count (record_at self.old.state.tables r).count r)) }
     {
         let record = self.record(r);

@@ -2,11 +2,11 @@
 ghost use Rattle.std.specs.Prelude.{◌≡◌, ◌≢◌, ◌+◌, ◌^◌, ◌<◌, ◌≤◌, true, false, map, nat_lt, [], ◌∷◌, slice_set, IfErr, IfOk, IsOkUnless, OnOk, MatchResult, Some, None};
 ghost use Rattle.std.specs.List.{list_any, list_all};
 ghost use Rattle.iobufs_core.specs.Items.{item_inline, item_pushed};
-ghost use Rattle.iobufs.specs.Building.{building_push, building_room, built, built_one, empty_building, finished, room_for_pushes};
+ghost use Rattle.iobufs.specs.Building.{building_push, building_room, building_after, building_with, empty_building, finished, room_for_pushes};
 ghost use Rattle.iobufs_run.specs.declared.command.Cmd.{Cmd};
 ghost use Rattle.iobufs_run.specs.Causes.{build_causes, first_cause, has_twice, inline_len, is_listed, is_no_name, is_too_long, pushed_names, total_extent};
 ghost use Rattle.iobufs_run.specs.Run.{Step, outcome, all_freed, item_held, MayFree};
-ghost use Rattle.iobufs_run.specs.Slots.{extent, held, is_of as of, view_held};
+ghost use Rattle.iobufs_run.specs.Slots.{extent, slot_named, is_of as of, view_held};
 
 use super::Slot;
 use super::gather::{extent_at, holds};
@@ -33,7 +33,7 @@ fn push_no_name(slots: &[Slot], items: &[Item]) -> bool
 
 // Whether each of the pushed names holds a view.
 fn push_views(slots: &[Slot], items: &[Item]) -> bool
-    ensures { result ≡ list_all (λ src. of Kind.View (held slots.now src)) (pushed_names items.now) }
+    ensures { result ≡ list_all (λ src. of Kind.View (slot_named slots.now src)) (pushed_names items.now) }
 {
     for item in items {
         if let Item::Push(name) = item {
@@ -134,9 +134,9 @@ fn building(slots: &[Slot], dst: usize, capacity: usize, items: &[Item]) -> Resu
 
 // Pushes the view that a name holds, which leaves the name.
 fn push(slots: &mut [Slot], name: usize, builder: &mut Builder) -> Result<(), Refusal>
-    requires view { of Kind.View (held slots.old name) ≡ true }
-    requires fits { extent (held slots.old name) ≤ room_for_pushes builder.old }
-    ensures ok { OnOk result (builder.new ≡ building_push builder.old (view_held (held slots.old name))) }
+    requires view { of Kind.View (slot_named slots.old name) ≡ true }
+    requires fits { extent (slot_named slots.old name) ≤ room_for_pushes builder.old }
+    ensures ok { OnOk result (builder.new ≡ building_push builder.old (view_held (slot_named slots.old name))) }
     ensures freed { slots.new ≡ slice_set slots.old name Slot.Free }
     ensures err { IsOkUnless result Refusal.Memory }
 {
@@ -149,10 +149,10 @@ fn push(slots: &mut [Slot], name: usize, builder: &mut Builder) -> Result<(), Re
 
 // Puts the bytes of an item, or pushes the view that it names.
 fn add(slots: &mut [Slot], item: &Item, builder: &mut Builder) -> Result<(), Refusal>
-    requires view { list_all (λ src. of Kind.View (held slots.old src)) (pushed_names (item.now ∷ [])) ≡ true }
+    requires view { list_all (λ src. of Kind.View (slot_named slots.old src)) (pushed_names (item.now ∷ [])) ≡ true }
     requires room { item_inline (item_held slots.old item.now) ≤ building_room builder.old }
     requires pushable { item_pushed (item_held slots.old item.now) ≤ room_for_pushes builder.old }
-    ensures ok { OnOk result (builder.new ≡ built_one builder.old (item_held slots.old item.now)) }
+    ensures ok { OnOk result (builder.new ≡ building_with builder.old (item_held slots.old item.now)) }
     ensures freed { slots.new ≡ all_freed slots.old (pushed_names (item.now ∷ [])) }
     ensures err { IsOkUnless result Refusal.Memory }
 {
@@ -172,12 +172,12 @@ fn built_text(
     capacity: usize,
     items: &[Item],
 ) -> Result<IoBufs, Refusal>
-    requires views { list_all (λ src. of Kind.View (held slots.old src)) (pushed_names items.now) ≡ true }
+    requires views { list_all (λ src. of Kind.View (slot_named slots.old src)) (pushed_names items.now) ≡ true }
     requires once { has_twice (pushed_names items.now) ≡ false }
     requires inline { inline_len items.now ≤ capacity }
     requires layout { capacity < 2 ^ 63 }
     requires fits { capacity + total_extent slots.old (pushed_names items.now) < 2 ^ 64 }
-    ensures ok { IfOk result (λ text. text ≡ finished (built (empty_building capacity) (map (item_held slots.old) items.now))) }
+    ensures ok { IfOk result (λ text. text ≡ finished (building_after (empty_building capacity) (map (item_held slots.old) items.now))) }
     ensures freed { OnOk result (slots.new ≡ all_freed slots.old (pushed_names items.now)) }
     ensures err { IfErr result (λ refusal. (refusal ≡ Refusal.Memory) × MayFree (pushed_names items.now) slots.old slots.new) }
 {

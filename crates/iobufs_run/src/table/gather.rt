@@ -6,7 +6,7 @@ ghost use Rattle.iobufs.specs.Parts.{kept_parts, parts_capacity};
 ghost use Rattle.iobufs_run.specs.declared.command.Cmd.{Cmd};
 ghost use Rattle.iobufs_run.specs.Causes.{first_cause, gather_causes, has_twice as twice, is_no_name};
 ghost use Rattle.iobufs_run.specs.Run.{Step, outcome, all_freed, MayFree};
-ghost use Rattle.iobufs_run.specs.Slots.{extent, held, is_of as of, part_held, view_held};
+ghost use Rattle.iobufs_run.specs.Slots.{extent, slot_named, is_of as of, part_held, view_held};
 
 use super::Slot;
 use super::slots::{hold, is_free, is_of, readable, take_part, take_view};
@@ -37,14 +37,14 @@ fn have_no_name(slots: &[Slot], names: &[usize]) -> bool
 
 // Whether each of the names holds a buffer of this kind.
 fn hold_all(slots: &[Slot], names: &[usize], kind: Kind) -> bool
-    ensures { result ≡ list_all (λ name. of kind (held slots.now name)) names.now }
+    ensures { result ≡ list_all (λ name. of kind (slot_named slots.now name)) names.now }
 {
     names.iter().all(|name| holds(slots, *name, kind))
 }
 
 // Whether a name holds a buffer of this kind.
 pub(super) fn holds(slots: &[Slot], name: usize, kind: Kind) -> bool
-    ensures { result ≡ of kind (held slots.now name) }
+    ensures { result ≡ of kind (slot_named slots.now name) }
 {
     match slots.get(name) {
         Some(slot) => is_of(kind, slot),
@@ -54,7 +54,7 @@ pub(super) fn holds(slots: &[Slot], name: usize, kind: Kind) -> bool
 
 // How much the buffer of a name counts among others that it is put together with.
 pub(super) fn extent_at(slots: &[Slot], name: usize) -> usize
-    ensures { result ≡ extent (held slots.now name) }
+    ensures { result ≡ extent (slot_named slots.now name) }
 {
     match slots.get(name) {
         Some(Slot::Part(part)) => part.capacity(),
@@ -65,7 +65,7 @@ pub(super) fn extent_at(slots: &[Slot], name: usize) -> usize
 
 // What these names count together, if a number can say it.
 fn total(slots: &[Slot], names: &[usize]) -> Option<usize>
-    ensures { SomeIff result (sum_by (λ name. extent (held slots.now name)) names.now < 2 ^ 64) (sum_by (λ name. extent (held slots.now name)) names.now) }
+    ensures { SomeIff result (sum_by (λ name. extent (slot_named slots.now name)) names.now < 2 ^ 64) (sum_by (λ name. extent (slot_named slots.now name)) names.now) }
 {
     let mut sum = 0usize;
     for name in names {
@@ -96,10 +96,10 @@ fn gathering(slots: &[Slot], dst: usize, sources: &[usize], kind: Kind) -> Resul
 
 // Takes the views of these names, and makes a text of them.
 fn take_views(alloc: Global, slots: &mut [Slot], sources: &[usize]) -> Result<IoBufs, Refusal>
-    requires views { list_all (λ src. of Kind.View (held slots.old src)) sources.now ≡ true }
+    requires views { list_all (λ src. of Kind.View (slot_named slots.old src)) sources.now ≡ true }
     requires once { twice sources.now ≡ false }
-    requires fits { sum_by (λ src. extent (held slots.old src)) sources.now < 2 ^ 64 }
-    ensures ok { IfOk result (λ text. text ≡ joined (map (λ src. view_held (held slots.old src)) sources.now)) }
+    requires fits { sum_by (λ src. extent (slot_named slots.old src)) sources.now < 2 ^ 64 }
+    ensures ok { IfOk result (λ text. text ≡ joined (map (λ src. view_held (slot_named slots.old src)) sources.now)) }
     ensures freed { OnOk result (slots.new ≡ all_freed slots.old sources.now) }
     ensures err { IfErr result (λ refusal. (refusal ≡ Refusal.Memory) × MayFree sources.now slots.old slots.new) }
     ensures none { length sources.now ≡ 0 → IsOk result }
@@ -116,9 +116,9 @@ fn take_views(alloc: Global, slots: &mut [Slot], sources: &[usize]) -> Result<Io
 
 // Takes the parts of these names.
 fn take_row(alloc: Global, slots: &mut [Slot], sources: &[usize]) -> Result<Vec<IoBufMut>, Refusal>
-    requires parts { list_all (λ src. of Kind.Part (held slots.old src)) sources.now ≡ true }
+    requires parts { list_all (λ src. of Kind.Part (slot_named slots.old src)) sources.now ≡ true }
     requires once { twice sources.now ≡ false }
-    ensures ok { IfOk result (λ row. row.items ≡ map (λ src. part_held (held slots.old src)) sources.now) }
+    ensures ok { IfOk result (λ row. row.items ≡ map (λ src. part_held (slot_named slots.old src)) sources.now) }
     ensures freed { OnOk result (slots.new ≡ all_freed slots.old sources.now) }
     ensures err { IfErr result (λ refusal. (refusal ≡ Refusal.Memory) × (slots.new ≡ slots.old)) }
     ensures none { length sources.now ≡ 0 → IsOk result }
@@ -145,10 +145,10 @@ fn strung(alloc: Global, row: Vec<IoBufMut>) -> Result<IoBufsMut, Refusal>
 
 // Takes the parts of these names, and strings them together.
 fn take_parts(alloc: Global, slots: &mut [Slot], sources: &[usize]) -> Result<IoBufsMut, Refusal>
-    requires parts { list_all (λ src. of Kind.Part (held slots.old src)) sources.now ≡ true }
+    requires parts { list_all (λ src. of Kind.Part (slot_named slots.old src)) sources.now ≡ true }
     requires once { twice sources.now ≡ false }
-    requires fits { sum_by (λ src. extent (held slots.old src)) sources.now < 2 ^ 64 }
-    ensures ok { IfOk result (λ parts. parts ≡ kept_parts (map (λ src. part_held (held slots.old src)) sources.now)) }
+    requires fits { sum_by (λ src. extent (slot_named slots.old src)) sources.now < 2 ^ 64 }
+    ensures ok { IfOk result (λ parts. parts ≡ kept_parts (map (λ src. part_held (slot_named slots.old src)) sources.now)) }
     ensures freed { OnOk result (slots.new ≡ all_freed slots.old sources.now) }
     ensures err { IfErr result (λ refusal. (refusal ≡ Refusal.Memory) × MayFree sources.now slots.old slots.new) }
     ensures none { length sources.now ≡ 0 → IsOk result }

@@ -1,6 +1,6 @@
 use Rattle.std.proofs.Common.{ap, sym, refl, arith, ◌∙◌}
 use Rattle.std.proofs.lemmas.Grind.{common_steps}
-use Rattle.iobufs_run.specs.Slots.{held, is_part, part_held}
+use Rattle.iobufs_run.specs.Slots.{slot_named, is_part, part_held}
 use Rattle.iobufs_run.proofs.Gathered.{source_read, freed_more, row_more}
 use Rattle.iobufs_run.proofs.table.gather.take_row.Goals as goal
 
@@ -23,7 +23,7 @@ loop-src-preserved c =
     let part = ap part_held (sym took.0 ∙ read.0) in
     let pushed = rw c.unwrap.ensures at c.push.ensures.items in record {
       freed = freed_more old c.loop-src.slots sources i c.take_part.new.slot inv.freed c.loop-src-test.true took.1;
-      row = row_more (λ src. part_held (held old src)) sources i c.loop-src.row.items c.push.new.self.items c.in-Some.part inv.row pushed part c.loop-src-test.true;
+      row = row_more (λ src. part_held (slot_named old src)) sources i c.loop-src.row.items c.push.new.self.items c.in-Some.part inv.row pushed part c.loop-src-test.true;
       count = grind (arith, common_steps);
       room = grind (arith, common_steps);
     }

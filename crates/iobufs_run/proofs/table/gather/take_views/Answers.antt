@@ -2,7 +2,7 @@ use Rattle.std.proofs.Common.{◌+◌, ap, sym, refl, subst, ◌∙◌}
 use Rattle.std.proofs.lemmas.Result.{err_from_is_err_and}
 use Rattle.iobufs_run.specs.Refusals.{refusal_of}
 use Rattle.iobufs_run.specs.Run.{MayFree}
-use Rattle.iobufs_run.specs.Slots.{held, is_view, view_held}
+use Rattle.iobufs_run.specs.Slots.{slot_named, is_view, view_held}
 use Rattle.iobufs_run.proofs.Freed.{MayFree-front}
 use Rattle.iobufs_run.proofs.Gathered.{source_read, freed_more, text_more, source_fits}
 use Rattle.iobufs_run.proofs.table.gather.take_views.Goals as goal
@@ -39,5 +39,5 @@ loop-src-preserved c =
     let read = source_read is_view old c.loop-src.slots sources i c.index-slots-src.result refl c.requires.once c.requires.views inv.freed c.loop-src-test.true in
     let piece = ap view_held (sym took.0 ∙ read.0) in record {
       freed = freed_more old c.loop-src.slots sources i c.take_view.new.slot inv.freed c.loop-src-test.true took.1;
-      text = text_more (λ src. view_held (held old src)) sources i c.loop-src.text c.append.new.self c.in-Some.piece inv.text c.in_ok-append.ensures.done piece c.loop-src-test.true;
+      text = text_more (λ src. view_held (slot_named old src)) sources i c.loop-src.text c.append.new.self c.in-Some.piece inv.text c.in_ok-append.ensures.done piece c.loop-src-test.true;
     }
