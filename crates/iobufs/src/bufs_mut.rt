@@ -56,7 +56,7 @@ impl Shape {
     ghost use Rattle.iobufs.specs.Inside.PartShape.{IsShape, shape_parts, shape_single};
 
     // One more part, which can hold a byte; one that can't makes way for it.
-    #[tactic(auto, using(crate::proofs::PartRuns::growing))]
+    #[tactic(auto, using(crate::proofs::Parts::PartRuns::growing))]
     fn with_part(self, alloc: Global, part: IoBufMut) -> Result<Shape, BufError>
         requires shape { IsShape self }
         requires more { 0 < part_capacity part }
@@ -141,7 +141,7 @@ impl IoBufsMut {
     }
 
     /// The number of readable bytes.
-    #[tactic(auto, using(crate::proofs::PartLaws::sums))]
+    #[tactic(auto, using(crate::proofs::Parts::PartLaws::sums))]
     pub fn len(&self) -> usize
         ensures { result ≡ length (parts_filled self.now) }
     {
@@ -171,7 +171,7 @@ impl IoBufsMut {
 
     /// Makes `n` bytes readable, the parts filled in order (`IoBufsMut::set_len`, which is unsafe there). Bytes that
     /// were not are zero.
-    #[tactic(auto, using(crate::proofs::PartLaws::kept))]
+    #[tactic(auto, using(crate::proofs::Parts::PartLaws::kept))]
     pub fn set_len(&mut self, n: usize)
         requires { n ≤ parts_capacity self.old }
         ensures { self.new ≡ parts_with_len self.old n }
@@ -183,7 +183,7 @@ impl IoBufsMut {
     }
 
     /// Writes over the readable bytes.
-    #[tactic(auto, using(crate::proofs::PartLaws::kept))]
+    #[tactic(auto, using(crate::proofs::Parts::PartLaws::kept))]
     pub fn copy_from_slice(&mut self, src: &[u8])
         requires { length src.now ≡ length (parts_filled self.old) }
         ensures { self.new ≡ parts_overwritten self.old src.now }
@@ -246,7 +246,7 @@ impl IoBufsMut {
     }
 
     /// The parts that hold bytes, as the pieces of one text.
-    #[tactic(auto, using(crate::proofs::Frozen::freezing))]
+    #[tactic(auto, using(crate::proofs::Parts::Frozen::freezing))]
     pub fn freeze(self, alloc: Global) -> Result<IoBufs, BufError>
         ensures ok { IfOk result (λ text. text ≡ parts_frozen self) }
         ensures memory { IsOkUnless result BufError.Memory }
@@ -264,7 +264,7 @@ impl IoBufsMut {
 
     /// One part as it is; more as a copy of the readable bytes with no room behind them. `BufError::BadLayout` exactly
     /// where two or more hold over `isize::MAX` bytes.
-    #[tactic(auto, using(crate::proofs::Coalesced::coalescing))]
+    #[tactic(auto, using(crate::proofs::Parts::Coalesced::coalescing))]
     pub fn coalesce(self, alloc: Global) -> Result<IoBufMut, BufError>
         ensures ok { IfOk result (λ part. part ≡ parts_coalesced self) }
         ensures single { length self ≡ 1 → IsOk result }

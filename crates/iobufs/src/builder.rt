@@ -72,7 +72,7 @@ fn make_room(pushes: &mut Gapped, pushable: usize, len: usize) -> Result<(), Buf
 
 impl Builder {
     /// A builder for so many inline bytes and no more. `BufError::BadLayout` above `isize::MAX`.
-    #[tactic(auto, using(crate::proofs::BuildLaws::building))]
+    #[tactic(auto, using(crate::proofs::Building::BuildLaws::building))]
     pub fn new(alloc: Global, capacity: usize) -> Result<Builder, BufError>
         ensures ok { IfOk result (λ b. b ≡ empty_building capacity) }
         ensures bad_layout { 2 ^ 63 ≤ capacity → result ≡ Err BufError.BadLayout }
@@ -90,7 +90,7 @@ impl Builder {
 
     /// All that was put and pushed, in order. The inline bytes are split where views stand, and not copied. The pushes
     /// have made the room for all pieces.
-    #[tactic(auto, using(crate::proofs::FinishLaws::finishing))]
+    #[tactic(auto, using(crate::proofs::Building::FinishLaws::finishing))]
     pub fn finish(self) -> Result<IoBufs, BufError>
         ensures ok { IfOk result (λ text. text ≡ finished self) }
         ensures memory { IsOkUnless result BufError.Memory }
@@ -117,7 +117,7 @@ impl BufMut for Builder {
 
     ghost filled = { IsPut };
 
-    #[tactic(auto, using(crate::proofs::BuildLaws::building))]
+    #[tactic(auto, using(crate::proofs::Building::BuildLaws::building))]
     fn remaining_mut(&self) -> usize
         ensures room { result ≡ building_room self.now }
         ensures building { IsBuilding self.now }
@@ -125,12 +125,12 @@ impl BufMut for Builder {
         self.inline.remaining_mut()
     }
 
-    #[tactic(auto, using(crate::proofs::BuildLaws::building))]
+    #[tactic(auto, using(crate::proofs::Building::BuildLaws::building))]
     fn put_slice(&mut self, src: &[u8]) {
         self.inline.put_slice(src);
     }
 
-    #[tactic(auto, using(crate::proofs::BuildLaws::building))]
+    #[tactic(auto, using(crate::proofs::Building::BuildLaws::building))]
     fn put_bytes(&mut self, value: u8, n: usize) {
         self.inline.put_bytes(value, n);
     }
@@ -154,7 +154,7 @@ impl BufsMut for Builder {
 
     ghost done = { IsBuilt };
 
-    #[tactic(auto, using(crate::proofs::BuildLaws::building))]
+    #[tactic(auto, using(crate::proofs::Building::BuildLaws::building))]
     fn push(&mut self, view: IoBuf) -> Result<(), Refused<IoBuf>> {
         let len = view.len();
         if len == 0 {
@@ -170,7 +170,7 @@ impl BufsMut for Builder {
         Ok(())
     }
 
-    #[tactic(auto, using(crate::proofs::BuildLaws::building))]
+    #[tactic(auto, using(crate::proofs::Building::BuildLaws::building))]
     fn push_bytes(&mut self, bytes: Bytes) -> Result<(), Refused<Bytes>> {
         let len = bytes.len();
         if len == 0 {

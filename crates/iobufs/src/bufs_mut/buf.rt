@@ -2,7 +2,7 @@
 ghost use Rattle.std.specs.Prelude.{◌≡◌, ◌≤◌, [], ◌∷◌, length};
 ghost use Rattle.iobufs.specs.Parts.{parts_chunks, parts_drained, parts_filled};
 
-use super::{IoBufsMut, Shape, row};
+use super::{IoBufsMut, Shape, walks};
 use bytes::Bytes;
 use iobufs_core::codec::{Buf, BufError};
 use std::alloc::Global;
@@ -40,7 +40,7 @@ impl Buf for IoBufsMut {
         self.len()
     }
 
-    #[tactic(auto, using(crate::proofs::PartChunks::reading))]
+    #[tactic(auto, using(crate::proofs::Parts::PartChunks::reading))]
     fn chunk(&self) -> &[u8] {
         match &self.shape {
             Shape::One(part) => part.as_ref(),
@@ -48,7 +48,7 @@ impl Buf for IoBufsMut {
         }
     }
 
-    #[tactic(auto, using(crate::proofs::PartChunks::reading))]
+    #[tactic(auto, using(crate::proofs::Parts::PartChunks::reading))]
     fn byte_at(&self, i: usize) -> Option<u8> {
         match &self.shape {
             Shape::One(part) => part.byte_at(i),
@@ -68,7 +68,7 @@ impl Buf for IoBufsMut {
         }
     }
 
-    #[tactic(auto, using(crate::proofs::PartChunks::reading))]
+    #[tactic(auto, using(crate::proofs::Parts::PartChunks::reading))]
     fn copy_to_slice(&mut self, dst: &mut [u8]) {
         match &self.shape {
             Shape::One(part) => dst.copy_from_slice(&part.as_ref()[..dst.len()]),
@@ -78,7 +78,7 @@ impl Buf for IoBufsMut {
     }
 
     /// Leaves what `advance` leaves, of one part too.
-    #[tactic(auto, using(crate::proofs::PartChunks::reading))]
+    #[tactic(auto, using(crate::proofs::Parts::PartChunks::reading))]
     fn copy_to_bytes(&mut self, alloc: Global, n: usize) -> Result<Bytes, BufError> {
         if n == 0 {
             return Ok(Bytes::new());
@@ -91,7 +91,7 @@ impl Buf for IoBufsMut {
         Ok(bytes)
     }
 
-    #[tactic(auto, using(crate::proofs::PartChunks::reading))]
+    #[tactic(auto, using(crate::proofs::Parts::PartChunks::reading))]
     fn chunks_vectored(&self, alloc: Global, max: usize) -> Result<Vec<&[u8]>, BufError> {
         match &self.shape {
             Shape::One(part) => part.chunks_vectored(alloc, max),

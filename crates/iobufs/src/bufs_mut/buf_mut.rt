@@ -12,7 +12,7 @@ impl BufMut for IoBufsMut {
 
     ghost filled = { AreFilled };
 
-    #[tactic(auto, using(crate::proofs::PartLaws::sums))]
+    #[tactic(auto, using(crate::proofs::Parts::PartLaws::sums))]
     fn remaining_mut(&self) -> usize {
         match &self.shape {
             Shape::One(part) => part.remaining_mut(),
@@ -20,7 +20,7 @@ impl BufMut for IoBufsMut {
         }
     }
 
-    #[tactic(auto, using(crate::proofs::PartLaws::kept))]
+    #[tactic(auto, using(crate::proofs::Parts::PartLaws::kept))]
     fn put_slice(&mut self, src: &[u8]) {
         match &mut self.shape {
             Shape::One(part) => part.put_slice(src),
@@ -28,7 +28,7 @@ impl BufMut for IoBufsMut {
         }
     }
 
-    #[tactic(auto, using(crate::proofs::PartLaws::kept))]
+    #[tactic(auto, using(crate::proofs::Parts::PartLaws::kept))]
     fn put_bytes(&mut self, value: u8, n: usize) {
         match &mut self.shape {
             Shape::One(part) => part.put_bytes(value, n),

@@ -4,7 +4,7 @@ ghost use Rattle.std.specs.Prelude.{◌≡◌, ◌+◌, ◌^◌, ◌<◌, ◌≤
 ghost use Rattle.iobufs_core.specs.Part.{empty_part, part_capacity};
 ghost use Rattle.iobufs.specs.Parts.{HaveCapacity, parts_capacity, parts_drained, parts_fill, parts_filled, parts_or_default, parts_overwritten, parts_spare, parts_with_len};
 
-use super::row;
+use super::walks;
 use iobufs_core::buf::IoBufMut;
 use std::alloc::{AllocError, Global};
 use std::collections::VecDeque;
@@ -105,7 +105,7 @@ impl Several {
         self.capacity
     }
 
-    #[tactic(auto, using(crate::proofs::PartLaws::sums))]
+    #[tactic(auto, using(crate::proofs::Parts::PartLaws::sums))]
     pub(super) fn room(&self) -> usize
         ensures { result ≡ parts_spare self.now }
     {

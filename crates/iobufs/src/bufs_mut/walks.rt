@@ -101,7 +101,7 @@ pub(super) fn shorten(parts: &mut VecDeque<IoBufMut>, n: usize) -> bool
 }
 
 // Drops the first `n` bytes, and the parts that can't hold a byte any more.
-#[tactic(auto, using(crate::proofs::DrainShapes::draining))]
+#[tactic(auto, using(crate::proofs::Parts::DrainShapes::draining))]
 pub(super) fn advance(parts: &mut VecDeque<IoBufMut>, n: usize)
     requires several { 1 < length parts.old.items }
     requires have_capacity { HaveCapacity parts.old.items }
@@ -173,7 +173,7 @@ pub(super) fn take_single(parts: &mut VecDeque<IoBufMut>) -> Option<IoBufMut>
 }
 
 // The first part that holds bytes, or none of them.
-#[tactic(auto, using(crate::proofs::PartChunks::reading))]
+#[tactic(auto, using(crate::proofs::Parts::PartChunks::reading))]
 pub(super) fn chunk(parts: &VecDeque<IoBufMut>) -> &[u8]
     ensures { result.now ≡ first_chunk (parts_chunks parts.now.items) }
 {
@@ -185,7 +185,7 @@ pub(super) fn chunk(parts: &VecDeque<IoBufMut>) -> &[u8]
     &[]
 }
 
-#[tactic(auto, using(crate::proofs::PartChunks::reading))]
+#[tactic(auto, using(crate::proofs::Parts::PartChunks::reading))]
 pub(super) fn byte_at(parts: &VecDeque<IoBufMut>, i: usize) -> Option<u8>
     ensures { result ≡ slice_get (parts_filled parts.now.items) i }
 {
@@ -201,7 +201,7 @@ pub(super) fn byte_at(parts: &VecDeque<IoBufMut>, i: usize) -> Option<u8>
 }
 
 // Fills `dst` with the first bytes.
-#[tactic(auto, using(crate::proofs::PartChunks::reading))]
+#[tactic(auto, using(crate::proofs::Parts::PartChunks::reading))]
 pub(super) fn read(parts: &VecDeque<IoBufMut>, dst: &mut [u8])
     requires { length dst.old ≤ length (parts_filled parts.now.items) }
     ensures { dst.new ≡ take (length dst.old) (parts_filled parts.now.items) }
@@ -218,7 +218,7 @@ pub(super) fn read(parts: &VecDeque<IoBufMut>, dst: &mut [u8])
 }
 
 // A copy of the first `n` bytes.
-#[tactic(auto, using(crate::proofs::PartChunks::reading))]
+#[tactic(auto, using(crate::proofs::Parts::PartChunks::reading))]
 pub(super) fn front(
     alloc: Global,
     parts: &VecDeque<IoBufMut>,
@@ -241,7 +241,7 @@ pub(super) fn front(
 }
 
 // The first parts that hold bytes, at most `max`.
-#[tactic(auto, using(crate::proofs::PartChunks::reading))]
+#[tactic(auto, using(crate::proofs::Parts::PartChunks::reading))]
 pub(super) fn chunks(
     alloc: Global,
     parts: &VecDeque<IoBufMut>,
@@ -264,7 +264,7 @@ pub(super) fn chunks(
 
 // The parts that hold bytes, one piece behind the other; `len` is how many bytes they hold. No room is made for a single
 // piece.
-#[tactic(auto, using(crate::proofs::Frozen::freezing))]
+#[tactic(auto, using(crate::proofs::Parts::Frozen::freezing))]
 pub(super) fn freeze(
     alloc: Global,
     mut parts: VecDeque<IoBufMut>,
@@ -289,7 +289,7 @@ pub(super) fn freeze(
 }
 
 // A piece, and behind it the parts that hold bytes. Room for all is made at once.
-#[tactic(auto, using(crate::proofs::Frozen::freezing))]
+#[tactic(auto, using(crate::proofs::Parts::Frozen::freezing))]
 fn freeze_behind(
     alloc: Global,
     first: IoBuf,
