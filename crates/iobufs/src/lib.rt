@@ -1,4 +1,11 @@
-// Buffers of several pieces.
+//! Buffers of several pieces: texts to be read, parts to be filled, and a builder of texts.
+//!
+//! - `bufs`: `IoBufs`. `text` has its own calls and `buf` its traits; both go through `pieces` (one piece or a row) to
+//!   `row`, a deque that alone knows where pieces end, and `search`, which finds them.
+//! - `bufs_mut`: `IoBufsMut`, with its traits in `buf` and `buf_mut`; `several` keeps two or more parts with their sums,
+//!   and `walks` goes over them.
+//! - `builder`: `Builder`, and `EncodeExt` for every value that can be written.
+//! - `specs/`: the words of public contracts; in `Inside/` how private fields are read, in `Laws/` what impls cite.
 #![tactic(auto)]
 
 pub mod bufs;

@@ -1,4 +1,8 @@
-// Callers of the buffers, each proved: what they promise speaks of bytes alone.
+//! Callers of the buffers, each proved: what they promise speaks of bytes alone.
+//!
+//! - `frame`: a frame codec. `send`: a sender of chunk lists. `store`: parts filled from a reader. `journal`, over
+//!   `crc`: records with their sums.
+//! - `specs/`: `Journal` and `Crc`; the others' contracts are in the words of the layer and its `CallerFacts`.
 #![tactic(auto)]
 
 pub mod crc;
