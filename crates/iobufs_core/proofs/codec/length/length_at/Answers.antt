@@ -1,4 +1,4 @@
-use Rattle.std.proofs.Common.{◌≡◌, ◌∙◌, arith, ap, sym, Some, subst}
+use Rattle.std.proofs.Common.{◌≡◌, ◌∙◌, arith, ap, sym, Some}
 use Rattle.std.specs.Prelude.{slice_get}
 use Rattle.iobufs_core.proofs.Reading.{one_byte}
 use Rattle.iobufs_core.proofs.codec.length.length_at.Goals as goal
