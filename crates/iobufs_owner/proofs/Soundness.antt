@@ -12,8 +12,14 @@ pub mod NewRecord
 pub mod AddHolder
 pub mod SplitTo
 pub mod RecordFreed
+pub mod Alone
+pub mod Recovered
 pub mod BlockFreed
 pub mod Demote
+pub mod Called
+pub mod Readied
+pub mod Won
+pub mod Lost
 pub mod Share
 pub mod NewMachine
 pub mod Release

@@ -8,7 +8,7 @@ use Rattle.iobufs_owner.specs.State.{State, Tables, owner_of, record_at, block_a
 use Rattle.iobufs_owner.specs.World.{holds, holders, users, still_holds, tally}
 use Rattle.iobufs_owner.specs.Reading.{reading, read_handle, read_call, has_let_go}
 use Rattle.iobufs_owner.specs.Sound.{IsSound, Fits, FitsWord, LiesIn, alone, describes}
-use Rattle.iobufs_owner.specs.Moves.{counted, with_count, with_handle}
+use Rattle.iobufs_owner.specs.Changes.{counted, with_count, with_handle}
 use Rattle.iobufs_owner.specs.declared.owner.types.Record.{Record}
 use Rattle.iobufs_owner.specs.declared.owner.types.Handle.{Handle}
 use Rattle.iobufs_owner.specs.declared.owner.types.Kind.{Kind}
@@ -130,7 +130,7 @@ sound-added s h r x y k at xv xw yv yw lies low few =
         lies = rw (counted-block g r n r) (subst (λ (q : Kind). LiesIn (block_at g b) y q) (sym yv) lies);
         native = λ m. absurd (let q = sym yv ∙ m in cc);
       }));
-      calls_fit = calls-fit-kept s next refl e live (λ i z l a. append-at s.handles (Some y) i z a) k.fit (λ i z a. at-some s.handles i z a) gone (λ p d q l i. let f = rw i at (k.calls_fit p d l) in rw (hm, not-eqb (record_at g q).block b (release-elsewhere s h b p q x d at ox l i f.2)) (omega arith)) k.calls_fit;
+      calls_fit = calls-fit-kept s next refl e live (λ i z l a. append-at s.handles (Some y) i z a) k.fit (λ i z a. at-some s.handles i z a) gone (λ p d q l i. let f = rw i at (k.calls_fit p d l) in rw (hm, not-eqb (record_at g q).block b (release-elsewhere s h b p q x d at ox l i f.alone)) (omega arith)) k.calls_fit;
       one_release = λ c. rw (releases-kept s g' c s.calls e k.calls_fit) (k.one_release c);
       counted = λ q l.
           let lq : (record_at g q).live ≡ true = sym (counted-live g r n q) ∙ l in

@@ -5,7 +5,8 @@ use Rattle.std.proofs.Math.ListN.{length-set}
 use Rattle.std.proofs.lemmas.List.{get_or-set_same, get_or-set_other}
 use Rattle.std.specs.List.{list_any}
 use Rattle.iobufs_owner.specs.Inside.{CountsBorrows}
-use Rattle.iobufs_owner.specs.Moves.{borrows_it, is_lent, after_count}
+use Rattle.iobufs_owner.specs.Lending.{borrows_it, is_lent}
+use Rattle.iobufs_owner.specs.LongCalls.{after_count}
 use Rattle.iobufs_owner.specs.World.{tally}
 use Rattle.iobufs_owner.specs.declared.owner.types.Handle.{Handle}
 use Rattle.iobufs_owner.specs.declared.owner.types.Pending.{Pending}

@@ -9,7 +9,9 @@ use Rattle.iobufs_owner.specs.State.{State, Tables, owner_of, record_at, block_a
 use Rattle.iobufs_owner.specs.World.{is_block, holders, users, tally}
 use Rattle.iobufs_owner.specs.Reading.{reading}
 use Rattle.iobufs_owner.specs.Sound.{IsSound, ArePlaced, Fits, FitsCall, IsDescribed, alone, describes}
-use Rattle.iobufs_owner.specs.Moves.{edited, tables_without, record_freed, fits_in, tail_of, may_demote, described, demote_counted, declined, Lends, IsDemotedBy}
+use Rattle.iobufs_owner.specs.Changes.{edited, tables_without, record_freed}
+use Rattle.iobufs_owner.specs.Lending.{Lends}
+use Rattle.iobufs_owner.specs.ShortCalls.{fits_in, tail_of, may_demote, described, demote_counted, declined, IsDemotedBy}
 use Rattle.iobufs_owner.specs.declared.owner.types.Block.{Block}
 use Rattle.iobufs_owner.specs.declared.owner.types.Handle.{Handle}
 use Rattle.iobufs_owner.specs.declared.owner.types.Kind.TheVariants.{View}
@@ -20,11 +22,12 @@ use Rattle.iobufs_owner.proofs.Words.{word-size, word-tail, fits-room, fits-true
 use Rattle.iobufs_owner.proofs.Soundness.Counts.{count-set, holders-changed, users-changed}
 use Rattle.iobufs_owner.proofs.Soundness.Keeps.{call-kept, lent-by, owner-kept, calls-read-kept, releases-kept}
 use Rattle.iobufs_owner.proofs.Soundness.Kept.{at-some, block-log-kept, owner-counted}
-use Rattle.iobufs_owner.proofs.Soundness.Frames.{not-eqb, is-eqb, handles-kept, alone-kept, describes-kept, holders-tables, users-tables}
+use Rattle.iobufs_owner.proofs.Soundness.Frames.{holders-alike, users-alike, not-eqb, is-eqb, handles-kept, alone-kept, describes-kept, holders-tables, users-tables}
 use Rattle.iobufs_owner.proofs.Soundness.Edits.{fits-at, counted-at, lies-as, live-inside, no_block, owner-described, alone-described, describes-described, describes-counted, alone-shared}
 use Rattle.iobufs_owner.proofs.Soundness.Logs.{bases, record-log-dead}
 use Rattle.iobufs_owner.proofs.Soundness.RecordFreed.{dead-block, dead-count, dead-keeps, dead-let_go, dead-live}
-use Rattle.iobufs_owner.proofs.Soundness.BlockFreed.{only, unready, named-once, calls-live, fit-dead, holders-alike, users-alike, counted-ends}
+use Rattle.iobufs_owner.proofs.Soundness.Alone.{only, unready, named-once, calls-live, fit-dead}
+use Rattle.iobufs_owner.proofs.Soundness.BlockFreed.{counted-ends}
 
 -- ---- when a record may go
 
@@ -144,7 +147,7 @@ sound-demoted s h r log x k t xw align may =
       size = record { wide = size.wide; ceiling = size.ceiling; few_blocks = size.few_blocks; few_records = rw length-set size.few_records; few_handles = rw length-set size.few_handles; few_calls = size.few_calls };
       blocks = (let p = k.blocks in record { places = p.places; apart = p.apart });
       fit = All-from_get_or (Fits g' s.calls) (set s.handles h (Some y)) None (λ i li. elim (eqb_tells i h) [
-        | inl z ↦ rw (z.1, get_or-set_same s.handles h (Some y) None l) (b, log, tail, described-demoted s h r log x k t xw align may)
+        | inl z ↦ rw (z.1, get_or-set_same s.handles h (Some y) None l) (record { block = b; log = log; tail = tail; says = described-demoted s h r log x k t xw align may })
         | inr z ↦ rw (get_or-set_other s.handles h i (Some y) None z.1) (fit-dead s h r i (get_or s.handles i None) once z.1 refl (k.fit i None (rw length-set at li)))
       ]);
       calls_fit = All-from_get_or (FitsCall next) s.calls None (λ i li. call-kept s next (call_at s i) (record {

@@ -7,7 +7,8 @@ use Rattle.std.proofs.lemmas.Bool.Decides.{nat_tests, eqb_tells}
 use Rattle.iobufs_owner.specs.State.{State, Tables, owner_of, record_at, handle_at, call_at}
 use Rattle.iobufs_owner.specs.World.{Dropping, holds, holders, users, still_holds, drops, tally}
 use Rattle.iobufs_owner.specs.Reading.{reading, read_handle, read_call, has_let_go}
-use Rattle.iobufs_owner.specs.Moves.{is_lent, state_without, called}
+use Rattle.iobufs_owner.specs.Changes.{state_without, called}
+use Rattle.iobufs_owner.specs.Lending.{is_lent}
 use Rattle.iobufs_owner.specs.Sound.{IsSound, Fits, FitsCall, alone, describes, hidden, readies, releases}
 use Rattle.iobufs_owner.specs.declared.owner.types.Handle.{Handle}
 use Rattle.iobufs_owner.specs.declared.owner.types.Kind.TheVariants.{View}
@@ -117,7 +118,7 @@ release-of s h b i x (Some (Ready part w q)) at o l e f t = absurd (cc)
 release-of s h b i x (Some (Add part q)) at o l e f t = absurd (cc)
 release-of s h b i x (Some (Subtract q)) at o l e f t = absurd (cc)
 release-of s h b i x (Some (Release q)) at o l e f t =
-    release-elsewhere s h b i q x None at o l e f.2 (grind (arith, nat_tests, t))
+    release-elsewhere s h b i q x None at o l e f.alone (grind (arith, nat_tests, t))
 
 -- alone it will release
 pub drop-release : (s : State) (h r : ℕ) (x : Handle) → IsSound s → handle_at s h ≡ Some x → x.word ≡ Counted r → (record_at s.tables r).live ≡ true → hidden s.calls r ≡ 0 → (record_at s.tables r).count ≡ 1 → IsDrop s r (Release r)
@@ -134,7 +135,11 @@ drop-release s h r x k at word live z one =
       left = 1;
       reads = rw still refl;
       hides = λ q. refl;
-      fits = λ t e hid m. (ap (λ (g : Tables). (record_at g r).live) e ∙ live, hid r ∙ z, rw (ap (λ (g : Tables). has_let_go g r) e ∙ still) (ap (λ (g : Tables). holders (reading t) (record_at g r).block) e ∙ m ∙ sym n ∙ one));
+      fits = λ t e hid m. record {
+        live = ap (λ (g : Tables). (record_at g r).live) e ∙ live;
+        shown = hid r ∙ z;
+        alone = rw (ap (λ (g : Tables). has_let_go g r) e ∙ still) (ap (λ (g : Tables). holders (reading t) (record_at g r).block) e ∙ m ∙ sym n ∙ one);
+      };
       first = λ c. elim (eqb_tells c b) [
         | inl i ↦ rw (i.1, none, is-eqb b b refl) (omega arith)
         | inr i ↦ rw (not-eqb c b i.1) (omega (arith, k.one_release c))

@@ -12,11 +12,13 @@ use Rattle.iobufs_owner.specs.declared.owner.types.Word.{Word}
 use Rattle.iobufs_owner.specs.declared.owner.types.Word.TheVariants.{Empty, Descriptor, Record as Counted}
 use Rattle.iobufs_owner.specs.Word.{HasRoom, IsWord, word_of}
 use Rattle.iobufs_owner.specs.State.{State, Tables, owner_of, base_by, block_with, handle_at, record_at, block_at, size_in, tail_in, retailed}
-use Rattle.iobufs_owner.specs.Moves.{is_lent, edited, detached, advanced, frozen, thawed, Lends}
+use Rattle.iobufs_owner.specs.Changes.{edited, detached}
+use Rattle.iobufs_owner.specs.Lending.{is_lent, Lends}
+use Rattle.iobufs_owner.specs.ShortCalls.{advanced, frozen, thawed}
 use Rattle.iobufs_owner.specs.Kinds.{is_mut}
 use Rattle.iobufs_owner.specs.World.{holders, is_block}
 use Rattle.iobufs_owner.specs.Reading.{reading, read_handle, read_call}
-use Rattle.iobufs_owner.specs.Sound.{IsSound, FitsWord, IsDescribed, IsCounted, LiesIn, LeavesBehind, alone, describes, is_descriptor, hidden}
+use Rattle.iobufs_owner.specs.Sound.{IsSound, FitsWord, DescribesBlock, HoldsNothing, IsDescribed, IsCounted, LiesIn, LeavesBehind, alone, describes, is_descriptor, hidden}
 use Rattle.iobufs_owner.proofs.Words.{word-size, word-tail, retailed-is, log-below}
 use Rattle.iobufs_owner.proofs.Soundness.Kept.{sound-edited, at-some, owner-empty, owner-counted}
 use Rattle.iobufs_owner.proofs.WorldSteps.Lent.{owner-same, base-mut}
@@ -93,8 +95,8 @@ end-kind b x View e (low, high, cap) = omega arith
 end-kind b x Mut e (low, high, in') = omega arith
 
 end-by : (s : State) (x : Handle) (w : Word) → IsSound s → FitsWord s.tables s.calls x w → x.ptr + x.len < 2 ^ 64
-end-by s x Empty k f = f.1
-end-by s x (Descriptor w) k (b, log, tail, d) = end-kind (block_at s.tables b) x x.kind (k.blocks.places b no_block d.known).ends d.lies
+end-by s x Empty k f = f.ends
+end-by s x (Descriptor w) k d = end-kind (block_at s.tables d.block) x x.kind (k.blocks.places d.block no_block d.says.known).ends d.says.lies
 end-by s x (Counted r) k f = end-kind (block_at s.tables (record_at s.tables r).block) x x.kind (k.blocks.places (record_at s.tables r).block no_block f.known).ends f.lies
 
 pub end-small : (s : State) (h : ℕ) (x : Handle) → IsSound s → handle_at s h ≡ Some x → x.ptr + x.len < 2 ^ 64
@@ -103,10 +105,11 @@ end-small s h x k at = end-by s x x.word k (fits-at s h x k at)
 -- ---- Put
 
 put-fits : (s : State) (x : Handle) (n : ℕ) (w : Word) → x.kind ≡ Mut → n ≤ x.cap - x.len → owner_of s.tables (record x { len = x.len + n }) ≡ owner_of s.tables x → FitsWord s.tables s.calls x w → FitsWord s.tables s.calls (record x { len = x.len + n }) w
-put-fits s x n Empty m l o f = let z = f.2 m in (f.0, omega (arith, f.0, f.1), λ _. omega (arith, f.0))
-put-fits s x n (Descriptor w) m l o (b, log, tail, d) =
+put-fits s x n Empty m l o f = let z = f.no_bytes m in record { no_room = f.no_room; ends = omega (arith, f.no_room, f.ends); no_bytes = λ _. omega (arith, f.no_room) }
+put-fits s x n (Descriptor w) m l o f =
+    let d = f.says in
     let lies = rw m at d.lies in
-    (b, log, tail, record { known = d.known; room = d.room; word = d.word; align = d.align; native = d.native; owner = o ∙ d.owner; lies = rw m (lies.0, lies.1, omega (arith, lies.2)); behind = rw m (rw m at d.behind) })
+    record { block = f.block; log = f.log; tail = f.tail; says = record { known = d.known; room = d.room; word = d.word; align = d.align; native = d.native; owner = o ∙ d.owner; lies = rw m (lies.0, lies.1, omega (arith, lies.2)); behind = rw m (rw m at d.behind) } }
 put-fits s x n (Counted r) m l o f =
     let lies = rw m at f.lies in
     record { live = f.live; known = f.known; shown = f.shown; lies = rw m (lies.0, lies.1, omega (arith, lies.2)); native = f.native }
@@ -131,8 +134,8 @@ and-yes true = refl
 and-yes false = refl
 
 within-by : (g : Tables) (calls : List (Option Pending)) (x : Handle) (w : Word) → FitsWord g calls x w → x.kind ≡ Mut → x.len ≤ x.cap
-within-by g calls x Empty f m = let z = f.2 m in omega arith
-within-by g calls x (Descriptor w) (b, log, tail, d) m = (rw m at d.lies).2
+within-by g calls x Empty f m = let z = f.no_bytes m in omega arith
+within-by g calls x (Descriptor w) d m = (rw m at d.says.lies).2
 within-by g calls x (Counted r) f m = (rw m at f.lies).2
 
 -- a writable handle has no more bytes than room
@@ -155,9 +158,10 @@ advance-behind b x n tail View l e = omega (arith, e)
 advance-behind b x n tail Mut l e = e
 
 advance-fits : (g : Tables) (calls : List (Option Pending)) (x : Handle) (n : ℕ) (w : Word) → n ≤ x.len → owner_of g (advanced x n) ≡ owner_of g x → FitsWord g calls x w → FitsWord g calls (advanced x n) w
-advance-fits g calls x n Empty l o f = (omega (arith, f.0), omega (arith, f.1), λ m. let z = f.2 m in omega arith)
-advance-fits g calls x n (Descriptor w) l o (b, log, tail, d) =
-    (b, log, tail, record { known = d.known; room = d.room; word = d.word; align = d.align; native = d.native; owner = o ∙ d.owner; lies = advance-lies (block_at g b) x n x.kind l d.lies; behind = advance-behind (block_at g b) x n tail x.kind l d.behind })
+advance-fits g calls x n Empty l o f = record { no_room = omega (arith, f.no_room); ends = omega (arith, f.ends, l); no_bytes = λ m. let z = f.no_bytes m in omega arith }
+advance-fits g calls x n (Descriptor w) l o f =
+    let d = f.says in
+    record { block = f.block; log = f.log; tail = f.tail; says = record { known = d.known; room = d.room; word = d.word; align = d.align; native = d.native; owner = o ∙ d.owner; lies = advance-lies (block_at g f.block) x n x.kind l d.lies; behind = advance-behind (block_at g f.block) x n f.tail x.kind l d.behind } }
 advance-fits g calls x n (Counted r) l o f =
     record { live = f.live; known = f.known; shown = f.shown; lies = advance-lies (block_at g (record_at g r).block) x n x.kind l f.lies; native = f.native }
 
@@ -179,13 +183,13 @@ base-frozen g x w b log tail m c d l =
     rw (size, back, m, old) (omega arith)
 
 -- the facts of a descriptor
-pub described-at : (s : State) (h : ℕ) (x : Handle) (w : ℕ) → IsSound s → handle_at s h ≡ Some x → x.word ≡ Descriptor w → (b : ℕ) × (log : ℕ) × (tail : ℕ) × IsDescribed s.tables x w b log tail
+pub described-at : (s : State) (h : ℕ) (x : Handle) (w : ℕ) → IsSound s → handle_at s h ≡ Some x → x.word ≡ Descriptor w → DescribesBlock s.tables x w
 described-at s h x w k at i = subst (λ (v : Word). FitsWord s.tables s.calls x v) i (fits-at s h x k at)
 
 pub counted-at : (s : State) (h : ℕ) (x : Handle) (r : ℕ) → IsSound s → handle_at s h ≡ Some x → x.word ≡ Counted r → IsCounted s.tables s.calls x r
 counted-at s h x r k at i = subst (λ (v : Word). FitsWord s.tables s.calls x v) i (fits-at s h x k at)
 
-pub empty-at : (s : State) (h : ℕ) (x : Handle) → IsSound s → handle_at s h ≡ Some x → x.word ≡ Empty → FitsWord s.tables s.calls x Empty
+pub empty-at : (s : State) (h : ℕ) (x : Handle) → IsSound s → handle_at s h ≡ Some x → x.word ≡ Empty → HoldsNothing x
 empty-at s h x k at i = subst (λ (v : Word). FitsWord s.tables s.calls x v) i (fits-at s h x k at)
 
 pub lies-as : (b : Block) (x : Handle) (kind : Kind) → x.kind ≡ kind → LiesIn b x x.kind → LiesIn b x kind
@@ -220,17 +224,17 @@ block-tells c b (Some d) e t = let z : d ≡ b = cc in let y : c ≡ d = grind (
 pub sound-redescribed : (s : State) (h : ℕ) (x y : Handle) (w b log tail n : ℕ) → IsSound s → handle_at s h ≡ Some x → is_lent h s.calls ≡ false → x.word ≡ Descriptor w → IsDescribed s.tables x w b log tail → n < 2 ^ s.tables.tail_bits → y.word ≡ Descriptor (retailed s.tables w n) → base_by s.tables y (retailed s.tables w n) ≡ base_by s.tables x w → LiesIn (block_at s.tables b) y y.kind → LeavesBehind (block_at s.tables b) y n y.kind → IsSound (edited s h y)
 sound-redescribed s h x y w b log tail n k at free xw d l yw base lies behind =
     let o = owner-redescribed s.tables x y w (retailed s.tables w n) xw yw base in
-    sound-edited s h x y k at free o (λ c. describes-described s.tables c y (retailed s.tables w n) yw ∙ ap (is_block c) o ∙ sym (describes-described s.tables c x w xw)) (λ c a. alone-at s h x c k at (alone-described s.tables c x w xw ∙ ap (is_block c) (sym o) ∙ sym (alone-described s.tables c y (retailed s.tables w n) yw) ∙ a)) (subst (λ (v : Word). FitsWord s.tables s.calls y v) (sym yw) (b, log, n, described-again s.tables x y w b log tail n d l o lies behind))
+    sound-edited s h x y k at free o (λ c. describes-described s.tables c y (retailed s.tables w n) yw ∙ ap (is_block c) o ∙ sym (describes-described s.tables c x w xw)) (λ c a. alone-at s h x c k at (alone-described s.tables c x w xw ∙ ap (is_block c) (sym o) ∙ sym (alone-described s.tables c y (retailed s.tables w n) yw) ∙ a)) (subst (λ (v : Word). FitsWord s.tables s.calls y v) (sym yw) (record { block = b; log = log; tail = n; says = described-again s.tables x y w b log tail n d l o lies behind }))
 
 pub sound-frozen_described : (s : State) (h : ℕ) (x : Handle) (w : ℕ) → IsSound s → Lends s h Mut x → x.word ≡ Descriptor w → x.cap - x.len < 2 ^ s.tables.tail_bits → IsSound (edited s h (frozen x (Descriptor (retailed s.tables w (x.cap - x.len)))))
 sound-frozen_described s h x w k t i l =
     let g : Tables = s.tables in
     let d = described-at s h x w k t.at i in
-    let b : ℕ = d.0 in
+    let b : ℕ = d.block in
     let c = within s h x k t.at t.kind_is in
-    let lies = lies-as (block_at g b) x Mut t.kind_is d.3.lies in
-    sound-redescribed s h x (frozen x (Descriptor (retailed s.tables w (x.cap - x.len)))) w d.0 d.1 d.2 (x.cap - x.len) k t.at t.free i d.3 l refl
-    (base-frozen g x w d.0 d.1 d.2 t.kind_is c d.3 l)
+    let lies = lies-as (block_at g b) x Mut t.kind_is d.says.lies in
+    sound-redescribed s h x (frozen x (Descriptor (retailed s.tables w (x.cap - x.len)))) w d.block d.log d.tail (x.cap - x.len) k t.at t.free i d.says l refl
+    (base-frozen g x w d.block d.log d.tail t.kind_is c d.says l)
     (omega (arith, lies.0), omega (arith, lies.1, c), refl)
     (omega (arith, lies.1, c))
 
@@ -248,14 +252,14 @@ sound-frozen_empty s h x k t i =
     let y : Handle = frozen x Empty in
     let f = empty-at s h x k t.at i in
     let oy = owner-empty s.tables y refl in
-    sound-edited s h x y k t.at t.free (oy ∙ sym (owner-empty s.tables x i)) (λ c. rw (oy, owner-empty s.tables x i) refl) (λ c a. absurd (let q = rw oy at a in cc)) (refl, f.1, λ m. absurd (cc))
+    sound-edited s h x y k t.at t.free (oy ∙ sym (owner-empty s.tables x i)) (λ c. rw (oy, owner-empty s.tables x i) refl) (λ c a. absurd (let q = rw oy at a in cc)) (record { no_room = refl; ends = f.ends; no_bytes = λ m. absurd (cc) })
 
 -- a handle without block becomes the detached view
 pub sound-detached_empty : (s : State) (h : ℕ) (x : Handle) (kind : Kind) → IsSound s → Lends s h kind x → x.word ≡ Empty → IsSound (edited s h (detached 0))
 sound-detached_empty s h x kind k t i =
     let y : Handle = detached 0 in
     let oy = owner-empty s.tables y refl in
-    sound-edited s h x y k t.at t.free (oy ∙ sym (owner-empty s.tables x i)) (λ c. rw (oy, owner-empty s.tables x i) refl) (λ c a. absurd (let q = rw oy at a in cc)) (refl, omega arith, λ m. refl)
+    sound-edited s h x y k t.at t.free (oy ∙ sym (owner-empty s.tables x i)) (λ c. rw (oy, owner-empty s.tables x i) refl) (λ c a. absurd (let q = rw oy at a in cc)) (record { no_room = refl; ends = omega arith; no_bytes = λ m. refl })
 
 -- ---- TryIntoMut
 
@@ -264,7 +268,7 @@ sound-thawed_empty s h x k t i z =
     let y : Handle = thawed x 0 Empty in
     let f = empty-at s h x k t.at i in
     let oy = owner-empty s.tables y refl in
-    sound-edited s h x y k t.at t.free (oy ∙ sym (owner-empty s.tables x i)) (λ c. rw (oy, owner-empty s.tables x i) refl) (λ c a. absurd (let q = rw oy at a in cc)) (refl, f.1, λ m. z)
+    sound-edited s h x y k t.at t.free (oy ∙ sym (owner-empty s.tables x i)) (λ c. rw (oy, owner-empty s.tables x i) refl) (λ c a. absurd (let q = rw oy at a in cc)) (record { no_room = refl; ends = f.ends; no_bytes = λ m. z })
 
 pub base-thawed : (g : Tables) (x : Handle) (w b log tail : ℕ) → x.kind ≡ View → IsDescribed g x w b log tail → base_by g (thawed x (x.len + tail_in g w) (Descriptor (retailed g w 0))) (retailed g w 0) ≡ base_by g x w
 base-thawed g x w b log tail m d =
@@ -278,11 +282,11 @@ pub sound-thawed_described : (s : State) (h : ℕ) (x : Handle) (w : ℕ) → Is
 sound-thawed_described s h x w k t i =
     let g : Tables = s.tables in
     let d = described-at s h x w k t.at i in
-    let lies = lies-as (block_at g d.0) x View t.kind_is d.3.lies in
-    let behind = behind-as (block_at g d.0) x d.2 View t.kind_is d.3.behind in
-    let tail = tail-says g x w d.0 d.1 d.2 d.3 in
-    sound-redescribed s h x (thawed x (x.len + tail_in s.tables w) (Descriptor (retailed s.tables w 0))) w d.0 d.1 d.2 0 k t.at t.free i d.3 (pow_pos g.tail_bits) refl
-    (base-thawed g x w d.0 d.1 d.2 t.kind_is d.3)
+    let lies = lies-as (block_at g d.block) x View t.kind_is d.says.lies in
+    let behind = behind-as (block_at g d.block) x d.tail View t.kind_is d.says.behind in
+    let tail = tail-says g x w d.block d.log d.tail d.says in
+    sound-redescribed s h x (thawed x (x.len + tail_in s.tables w) (Descriptor (retailed s.tables w 0))) w d.block d.log d.tail 0 k t.at t.free i d.says (pow_pos g.tail_bits) refl
+    (base-thawed g x w d.block d.log d.tail t.kind_is d.says)
     (lies.0, rw tail (omega (arith, behind)), omega arith)
     refl
 
@@ -309,14 +313,14 @@ pub record BlockBehind (s : State) (x : Handle) (r : ℕ) : Type 0 where
 
 -- a descriptor is a word of the format, and its tail leads to the end of the block
 pub word-at : (s : State) (h : ℕ) (x : Handle) (w : ℕ) → IsSound s → handle_at s h ≡ Some x → x.word ≡ Descriptor w → IsWord s.tables.align_bits s.tables.tail_bits s.tables.size_bits w
-word-at s h x w k at i = let d = described-at s h x w k at i in word-fits s x w d.0 d.1 d.2 k d.3
+word-at s h x w k at i = let d = described-at s h x w k at i in word-fits s x w d.block d.log d.tail k d.says
 
 pub tail-small : (s : State) (h : ℕ) (x : Handle) (w : ℕ) → IsSound s → Lends s h View x → x.word ≡ Descriptor w → x.len + tail_in s.tables w < 2 ^ 64
 tail-small s h x w k t i =
     let d = described-at s h x w k t.at i in
-    let behind = behind-as (block_at s.tables d.0) x d.2 View t.kind_is d.3.behind in
-    let tail = tail-says s.tables x w d.0 d.1 d.2 d.3 in
-    let ends = (k.blocks.places d.0 no_block d.3.known).ends in
+    let behind = behind-as (block_at s.tables d.block) x d.tail View t.kind_is d.says.behind in
+    let tail = tail-says s.tables x w d.block d.log d.tail d.says in
+    let ends = (k.blocks.places d.block no_block d.says.known).ends in
     rw tail (omega (arith, behind, ends))
 
 -- the value of a `Some`

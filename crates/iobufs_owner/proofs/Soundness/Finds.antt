@@ -14,7 +14,7 @@ use Rattle.iobufs_owner.specs.declared.owner.types.Handle.{Handle}
 use Rattle.iobufs_owner.specs.declared.owner.types.Word.TheVariants.{Descriptor}
 use Rattle.iobufs_owner.specs.Sound.{ArePlaced, IsDescribed}
 use Rattle.iobufs_owner.specs.State.{Tables, block_at, base_by}
-use Rattle.iobufs_owner.proofs.Soundness.BlockFreed.{with-base}
+use Rattle.iobufs_owner.proofs.Soundness.Recovered.{with-base}
 use Rattle.iobufs_owner.proofs.Soundness.Edits.{owner-described}
 use Rattle.iobufs_owner.proofs.Soundness.Frames.{is-eqb, not-eqb}
 use Rattle.iobufs_owner.proofs.Soundness.Logs.{below-or}

@@ -4,7 +4,7 @@ use Rattle.std.proofs.lemmas.List.Elements.{All-head, All-tail}
 use Rattle.std.proofs.lemmas.List.{get_or_append_left}
 use Rattle.std.proofs.lemmas.Bool.Decides.{nat_tests}
 use Rattle.iobufs_owner.specs.State.{State, Tables, block_with}
-use Rattle.iobufs_owner.specs.World.{holders, users, tally}
+use Rattle.iobufs_owner.specs.World.{World, holders, users, tally}
 use Rattle.iobufs_owner.specs.Reading.{reading, read_handle, read_call}
 use Rattle.iobufs_owner.specs.Sound.{Fits, alone, describes}
 use Rattle.iobufs_owner.specs.declared.owner.types.Block.{Block}
@@ -75,3 +75,13 @@ holders-tables s k b e c = rw (e, c) refl
 pub users-tables : (s : State) (k : Tables) (b : ℕ) → map (read_handle k) s.handles ≡ map (read_handle s.tables) s.handles → map (read_call k) s.calls ≡ map (read_call s.tables) s.calls → users (reading (record s { tables = k })) b ≡ users (reading s) b
 unfolding users
 users-tables s k b e c = rw (e, c) refl
+
+-- ---- the logs are no part of who holds
+
+pub holders-alike : (v w : World) (b : ℕ) → v.handles ≡ w.handles → v.calls ≡ w.calls → holders v b ≡ holders w b
+unfolding holders
+holders-alike v w b e f = rw (e, f) refl
+
+pub users-alike : (v w : World) (b : ℕ) → v.handles ≡ w.handles → v.calls ≡ w.calls → users v b ≡ users w b
+unfolding users
+users-alike v w b e f = rw (e, f) refl

@@ -5,7 +5,7 @@ use Rattle.std.proofs.lemmas.Bool.Decides.{nat_tests}
 use Rattle.iobufs_owner.specs.State.{State, Tables, owner_of, owner_by, base_by, record_at, block_at, handle_at, block_with}
 use Rattle.iobufs_owner.specs.World.{holders, tally}
 use Rattle.iobufs_owner.specs.Reading.{reading, read_call, has_let_go}
-use Rattle.iobufs_owner.specs.Moves.{borrows_it, is_lent}
+use Rattle.iobufs_owner.specs.Lending.{borrows_it, is_lent}
 use Rattle.iobufs_owner.specs.Sound.{FitsWord, Fits, FitsCall, Shares, Promised, IsDescribed, hidden, releases}
 use Rattle.iobufs_owner.specs.declared.owner.types.Handle.{Handle}
 use Rattle.iobufs_owner.specs.declared.owner.types.Share.{Share}
@@ -33,9 +33,9 @@ owner-kept g k calls x e f =
     let by : (w : Word) → x.word ≡ w → FitsWord g calls x w → owner_by k x w ≡ owner_by g x w =
     λ w. elim w as (λ w. x.word ≡ w → FitsWord g calls x w → owner_by k x w ≡ owner_by g x w) [
       | Empty ↦ λ i f. refl
-      | Descriptor w ↦ λ i (b, log, tail, d).
-          let o : owner_by g x (Descriptor w) ≡ Some b = rw i at d.owner in
-          rw (e.align_bits, e.tail_bits) (e.with' (base_by g x w) b o ∙ sym o)
+      | Descriptor w ↦ λ i d.
+          let o : owner_by g x (Descriptor w) ≡ Some d.block = rw i at d.says.owner in
+          rw (e.align_bits, e.tail_bits) (e.with' (base_by g x w) d.block o ∙ sym o)
       | Counted r ↦ λ i f. ap Some (e.records r f.live)
     ] in
     by x.word refl f
@@ -64,8 +64,8 @@ live-of g calls x (Counted q) r i f = let e : q ≡ r = cc in rw e at f.live
 -- a handle fits tables that keep what it speaks of
 pub fits-kept : (g k : Tables) (calls : List (Option Pending)) (x : Handle) (w : Word) → owner_of k x ≡ owner_of g x → Keeps g k → ((r : ℕ) → w ≡ Counted r → (record_at k r).live ≡ true) → FitsWord g calls x w → FitsWord k calls x w
 fits-kept g k calls x Empty o e l f = f
-fits-kept g k calls x (Descriptor w) o e l (b, log, tail, d) =
-    (b, log, tail, described-kept g k x w b log tail o e d)
+fits-kept g k calls x (Descriptor w) o e l d =
+    record { block = d.block; log = d.log; tail = d.tail; says = described-kept g k x w d.block d.log d.tail o e d.says }
 fits-kept g k calls x (Counted r) o e l f =
     let b = e.records r f.live in
     let same = e.blocks (record_at g r).block f.known in
@@ -117,19 +117,34 @@ pub promised-kept : (g k : Tables) (x : Handle) (w b : ℕ) → Keeps g k → ow
 promised-kept g k x w b e o p =
     let y : Handle = record x { word = Descriptor w } in
     let calls : List (Option Pending) = [] in
-    let oy : owner_of k y ≡ owner_of g y = owner-kept g k calls y e (b, p.log, p.tail, p.says) in
+    let oy : owner_of k y ≡ owner_of g y = owner-kept g k calls y e (record { block = b; log = p.log; tail = p.tail; says = p.says }) in
     record { log = p.log; tail = p.tail; says = described-kept g k y w b p.log p.tail oy e p.says; owner = o ∙ p.owner; now' = p.now' }
 
 pub call-kept : (s t : State) (c : Option Pending) → Leaves s t c → FitsCall s c → FitsCall t c
 call-kept s t None l f = f
-call-kept s t (Some (Loaded part w)) l (x, b, h, p) =
-    (x, b, shares-kept s t part x (l.handle part.handle x (same-eqb part.handle)) h, promised-kept s.tables t.tables x w b l.tables (l.owner part.handle x h.at) p)
-call-kept s t (Some (Ready part w r)) l (x, b, h, p, live, block) =
-    (x, b, shares-kept s t part x (l.handle part.handle x (same-eqb part.handle)) h, promised-kept s.tables t.tables x w b l.tables (l.owner part.handle x h.at) p, l.live r (same-eqb r) live, l.tables.records r live ∙ block)
-call-kept s t (Some (Add part r)) l (x, h, w) = (x, shares-kept s t part x (l.handle part.handle x (same-eqb part.handle)) h, w)
+call-kept s t (Some (Loaded part w)) l (x, f) = (
+  x,
+  record {
+    shares = shares-kept s t part x (l.handle part.handle x (same-eqb part.handle)) f.shares;
+    block = f.block;
+    promised = promised-kept s.tables t.tables x w f.block l.tables (l.owner part.handle x f.shares.at) f.promised;
+  },
+)
+call-kept s t (Some (Ready part w r)) l (x, f) = (
+  x,
+  record {
+    shares = shares-kept s t part x (l.handle part.handle x (same-eqb part.handle)) f.shares;
+    block = f.block;
+    promised = promised-kept s.tables t.tables x w f.block l.tables (l.owner part.handle x f.shares.at) f.promised;
+    live = l.live r (same-eqb r) f.live;
+    same = l.tables.records r f.live ∙ f.same;
+  },
+)
+call-kept s t (Some (Add part r)) l (x, f) =
+    (x, record { shares = shares-kept s t part x (l.handle part.handle x (same-eqb part.handle)) f.shares; word = f.word })
 call-kept s t (Some (Subtract r)) l (live, hid) = (l.live r (same-eqb r) live, l.hidden r live ∙ hid)
-call-kept s t (Some (Release r)) l (live, hid, n) =
-    (l.live r (same-eqb r) live, l.hidden r live ∙ hid, rw (l.tables.records r live, l.let_go r refl live) (l.holders r refl ∙ n))
+call-kept s t (Some (Release r)) l f =
+    record { live = l.live r (same-eqb r) f.live; shown = l.hidden r f.live ∙ f.shown; alone = rw (l.tables.records r f.live, l.let_go r refl f.live) (l.holders r refl ∙ f.alone) }
 
 -- a call of the list borrows what the list borrows
 pub lent-by : (i : ℕ) (cs : List (Option Pending)) (p : ℕ) (d : Option Pending) → p < length cs → borrows_it i (get_or cs p d) ≡ true → is_lent i cs ≡ true
@@ -154,7 +169,7 @@ calls-fit-kept s t same e live at fit inside a n f p d h =
 -- the same where holders of blocks stay
 pub calls-kept : (s t : State) → t.calls ≡ s.calls → Keeps s.tables t.tables → ((r : ℕ) → (record_at s.tables r).live ≡ true → (record_at t.tables r).live ≡ true) → ((i : ℕ) (x : Handle) → is_lent i s.calls ≡ true → handle_at s i ≡ Some x → handle_at t i ≡ Some x) → All (Fits s.tables s.calls) s.handles → ((i : ℕ) (x : Handle) → handle_at s i ≡ Some x → i < length s.handles) → All (KeepsLetGo s.tables t.tables) s.calls → ((b : ℕ) → b < length s.tables.blocks → holders (reading t) b ≡ holders (reading s) b) → ((r : ℕ) → (record_at s.tables r).live ≡ true → (record_at s.tables r).block < length s.tables.blocks) → All (FitsCall s) s.calls → All (FitsCall t) s.calls
 calls-kept s t same e live at fit inside a n known f =
-    calls-fit-kept s t same e live at fit inside a (λ p d r h i. n (record_at s.tables r).block (known r (let g = rw i at (f p d h) in g.0))) f
+    calls-fit-kept s t same e live at fit inside a (λ p d r h i. n (record_at s.tables r).block (known r (let g = rw i at (f p d h) in g.live))) f
 
 -- what calls are read as, and which of them release a block
 pub call-read-kept : (s : State) (k : Tables) (c : Option Pending) → Keeps s.tables k → KeepsLetGo s.tables k c → FitsCall s c → read_call k c ≡ read_call s.tables c
@@ -163,7 +178,7 @@ call-read-kept s k (Some (Loaded part w)) e a f = refl
 call-read-kept s k (Some (Ready part w r)) e a f = refl
 call-read-kept s k (Some (Add part r)) e a f = refl
 call-read-kept s k (Some (Subtract r)) e a f = rw (e.records r f.0) refl
-call-read-kept s k (Some (Release r)) e a f = rw (e.records r f.0, a r refl f.0) refl
+call-read-kept s k (Some (Release r)) e a f = rw (e.records r f.live, a r refl f.live) refl
 
 pub calls-read-kept : (s : State) (k : Tables) (cs : List (Option Pending)) → Keeps s.tables k → All (KeepsLetGo s.tables k) cs → All (FitsCall s) cs → map (read_call k) cs ≡ map (read_call s.tables) cs
 calls-read-kept s k [] e a f = refl
@@ -175,7 +190,7 @@ release-kept s k b (Some (Loaded part w)) e f = refl
 release-kept s k b (Some (Ready part w r)) e f = refl
 release-kept s k b (Some (Add part r)) e f = refl
 release-kept s k b (Some (Subtract r)) e f = refl
-release-kept s k b (Some (Release r)) e f = rw (e.records r f.0) refl
+release-kept s k b (Some (Release r)) e f = rw (e.records r f.live) refl
 
 pub releases-kept : (s : State) (k : Tables) (b : ℕ) (cs : List (Option Pending)) → Keeps s.tables k → All (FitsCall s) cs → tally (releases k b) cs ≡ tally (releases s.tables b) cs
 releases-kept s k b [] e f = refl

@@ -3,7 +3,8 @@ use Rattle.std.proofs.Common.{◌≡◌, ◌≢◌, ℕ, zero, suc, ◌^◌, ◌
 use Rattle.std.proofs.Math.ListN.{length-set}
 use Rattle.std.proofs.lemmas.List.Elements.{All-push, All-set}
 use Rattle.std.proofs.lemmas.List.{get_or_append_left, get_or-set_other}
-use Rattle.iobufs_owner.specs.Moves.{is_lent, with_handle, edited}
+use Rattle.iobufs_owner.specs.Changes.{with_handle, edited}
+use Rattle.iobufs_owner.specs.Lending.{is_lent}
 use Rattle.iobufs_owner.proofs.Soundness.Keeps.{keeps-self, calls-kept}
 use Rattle.iobufs_owner.specs.State.{State, Tables, owner_of, record_at, handle_at}
 use Rattle.iobufs_owner.specs.World.{holds, holders, users, tally}

@@ -8,7 +8,8 @@ use Rattle.iobufs_owner.specs.State.{State, Tables, owner_of, base_by, record_at
 use Rattle.iobufs_owner.specs.World.{holders, users, tally}
 use Rattle.iobufs_owner.specs.Reading.{reading}
 use Rattle.iobufs_owner.specs.Sound.{IsSound, ArePlaced, Fits, alone, describes}
-use Rattle.iobufs_owner.specs.Moves.{with_block, with_handle, first_handle}
+use Rattle.iobufs_owner.specs.Changes.{with_block, with_handle}
+use Rattle.iobufs_owner.specs.ShortCalls.{first_handle}
 use Rattle.iobufs_owner.specs.Places.{IsPlace, IsGoodPlace, Apart, ApartFrom}
 use Rattle.iobufs_owner.specs.declared.owner.types.Block.{Block}
 use Rattle.iobufs_owner.specs.declared.owner.types.Handle.{Handle}
@@ -77,11 +78,11 @@ sound-made s b log w k good native al room is few fewer =
     record {
       size = record { wide = size.wide; ceiling = size.ceiling; few_blocks = rw length-append (omega arith); few_records = size.few_records; few_handles = rw length-append (omega arith); few_calls = size.few_calls };
       blocks = placed-more g b k.blocks good;
-      fit = All-push (Fits g' s.calls) s.handles (Some x) (all-fit-kept g g' s.calls s.handles e (λ r t. t) k.fit) (
-        n,
-        log,
-        0,
-        record {
+      fit = All-push (Fits g' s.calls) s.handles (Some x) (all-fit-kept g g' s.calls s.handles e (λ r t. t) k.fit) (record {
+        block = n;
+        log = log;
+        tail = 0;
+        says = record {
           known = rw length-append (omega arith);
           room = rw at room;
           word = rw at is;
@@ -90,8 +91,8 @@ sound-made s b log w k good native al room is few fewer =
           owner = o;
           lies = rw at (omega arith, refl, omega arith);
           behind = refl;
-        },
-      );
+        };
+      });
       calls_fit = calls-kept s next refl e (λ r t. t) (λ i y b a. append-at s.handles (Some x) i y a) k.fit (λ i y a. at-some s.handles i y a) (λ i d l q j t. refl) (λ c l. rw (hm, not-eqb c n (omega arith)) (omega arith)) (λ r live. (k.counted r live).known) k.calls_fit;
       one_release = k.one_release;
       counted = λ r live. let c = k.counted r live in

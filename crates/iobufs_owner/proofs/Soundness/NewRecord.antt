@@ -9,7 +9,9 @@ use Rattle.iobufs_owner.specs.State.{State, Tables, owner_of, record_at, block_a
 use Rattle.iobufs_owner.specs.World.{holders, users, is_block, tally}
 use Rattle.iobufs_owner.specs.Reading.{reading, has_let_go}
 use Rattle.iobufs_owner.specs.Sound.{IsSound, Fits, FitsWord, FitsCall, FitsRecord, LiesIn, alone, describes, hidden, readies}
-use Rattle.iobufs_owner.specs.Moves.{with_block, with_record, with_handle, edited, next_record, frozen, Lends, is_lent}
+use Rattle.iobufs_owner.specs.Changes.{with_block, with_record, with_handle, edited, next_record}
+use Rattle.iobufs_owner.specs.Lending.{Lends, is_lent}
+use Rattle.iobufs_owner.specs.ShortCalls.{frozen}
 use Rattle.iobufs_owner.specs.Places.{IsGoodPlace}
 use Rattle.iobufs_owner.specs.declared.owner.types.Block.{Block}
 use Rattle.iobufs_owner.specs.declared.owner.types.Record.{Record}
@@ -67,9 +69,9 @@ recorded-either g n b r e =
 ready-live : (s : State) (r : ℕ) (c : Option Pending) → readies r c ≡ true → FitsCall s c → (record_at s.tables r).live ≡ true
 ready-live s r None t f = absurd (cc)
 ready-live s r (Some (Loaded part w)) t f = absurd (cc)
-ready-live s r (Some (Ready part w q)) t (x, b, h, p, live, block) =
+ready-live s r (Some (Ready part w q)) t (x, f) =
     let e : r ≡ q = grind (arith, nat_tests, t) in
-    ap (λ (n : ℕ). (record_at s.tables n).live) e ∙ live
+    ap (λ (n : ℕ). (record_at s.tables n).live) e ∙ f.live
 ready-live s r (Some (Add part q)) t f = absurd (cc)
 ready-live s r (Some (Subtract q)) t f = absurd (cc)
 ready-live s r (Some (Release q)) t f = absurd (cc)
@@ -242,7 +244,7 @@ sound-promoted s h x y w b k at free xw ox kb yw yv lies few =
 pub sound-promoted-frozen : (s : State) (h : ℕ) (x : Handle) (w b : ℕ) → IsSound s → Lends s h Mut x → x.word ≡ Descriptor w → owner_of s.tables x ≡ Some b → length s.tables.records < 2 ^ 32 → IsSound (edited (with_record s 1 b) h (frozen x (Counted (length s.tables.records))))
 sound-promoted-frozen s h x w b k t i o few =
     let d = described-at s h x w k t.at i in
-    let same : d.0 ≡ b = (let q = sym d.3.owner ∙ o in cc) in
-    let kb = subst (λ (n : ℕ). n < length s.tables.blocks) same d.3.known in
-    let lies = subst (λ (n : ℕ). LiesIn (block_at s.tables n) x Mut) same (lies-as (block_at s.tables d.0) x Mut t.kind_is d.3.lies) in
+    let same : d.block ≡ b = (let q = sym d.says.owner ∙ o in cc) in
+    let kb = subst (λ (n : ℕ). n < length s.tables.blocks) same d.says.known in
+    let lies = subst (λ (n : ℕ). LiesIn (block_at s.tables n) x Mut) same (lies-as (block_at s.tables d.block) x Mut t.kind_is d.says.lies) in
     sound-promoted s h x (frozen x (Counted (length s.tables.records))) w b k t.at t.free i o kb refl refl (lies.0, omega (arith, lies.1, lies.2), refl) few

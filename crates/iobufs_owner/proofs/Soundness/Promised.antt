@@ -11,7 +11,7 @@ use Rattle.iobufs_owner.specs.Promises.{Promises, IsFreed, IsOver, IsExclusive}
 use Rattle.iobufs_owner.proofs.Soundness.Counts.{holders-le-users}
 use Rattle.iobufs_owner.proofs.Soundness.Edits.{alone-at, described-at}
 use Rattle.iobufs_owner.proofs.Soundness.Frames.{is-eqb}
-use Rattle.iobufs_owner.proofs.Soundness.BlockFreed.{recovered-is}
+use Rattle.iobufs_owner.proofs.Soundness.Recovered.{recovered-is}
 use Rattle.iobufs_owner.proofs.Soundness.Holders.{held_by, drops_by, users-as}
 use Rattle.iobufs_owner.proofs.Soundness.Logs.{logged-at}
 use Rattle.iobufs_owner.proofs.WorldSteps.Taken.{eq-true}
@@ -53,7 +53,7 @@ promises-of s k = record {
   one_record = λ q r p t e. k.one_record q r p.live t.live p.shown t.shown e;
   one_maker = λ r live. (k.counted r live).one_maker;
   exclusive = λ h b x at o e. exclusive-alone s h b x k at o e;
-  recovered = λ h w x at i. (let d = described-at s h x w k at i in (d.0, d.3.known, d.3.owner, recovered-is s h x w d.0 k at i d.3.owner));
+  recovered = λ h w x at i. (let d = described-at s h x w k at i in (d.block, d.says.known, d.says.owner, recovered-is s h x w d.block k at i d.says.owner));
   blocks_once = k.block_log.once;
   records_once = k.record_log.once;
   blocks_known = k.block_log.known;

@@ -4,7 +4,7 @@ use Rattle.std.proofs.lemmas.List.{get_or-set_same, get_or-set_other}
 use Rattle.std.proofs.lemmas.Bool.Decides.{eqb_tells}
 use Rattle.iobufs_owner.specs.State.{Tables, record_at}
 use Rattle.iobufs_owner.specs.Reading.{has_let_go}
-use Rattle.iobufs_owner.specs.Moves.{tables_without}
+use Rattle.iobufs_owner.specs.Changes.{tables_without}
 use Rattle.iobufs_owner.specs.declared.owner.types.Record.{Record}
 use Rattle.iobufs_owner.proofs.Soundness.Keeps.{Keeps}
 use Rattle.iobufs_owner.proofs.Soundness.AddHolder.{field-set}

@@ -7,7 +7,7 @@ use Rattle.std.proofs.lemmas.Bool.Decides.{nat_tests, eqb_tells}
 use Rattle.iobufs_owner.specs.State.{State, Tables, owner_of, record_at, handle_at, call_at}
 use Rattle.iobufs_owner.specs.World.{holds, holders, users, Dropping, still_holds, drops, tally}
 use Rattle.iobufs_owner.specs.Reading.{reading, read_handle, read_call, has_let_go}
-use Rattle.iobufs_owner.specs.Moves.{tables_without, both_freed, called}
+use Rattle.iobufs_owner.specs.Changes.{tables_without, both_freed, called}
 use Rattle.iobufs_owner.specs.Sound.{IsSound, Fits, FitsCall, alone, describes, hidden, readies, releases}
 use Rattle.iobufs_owner.specs.declared.owner.types.Handle.{Handle}
 use Rattle.iobufs_owner.specs.declared.owner.types.Pending.{Pending}
@@ -37,7 +37,7 @@ release-last s p r k at =
     let l = at-some s.calls p (Release r) at in
     let f = rw at at (k.calls_fit p None l) in
     let h = holders-as s b in
-    let n = f.2 in
+    let n = f.alone in
     let u = users-as s b in
     let split = count-sum (drops_by s b) (still_by s b) (lets_go s.tables b) s.calls (drops-split s.tables b) in
     let ones = k.one_release b in
@@ -105,13 +105,20 @@ other-names s r i (Some (Release q)) at l hid never t =
     let e : q ≡ r = grind (arith, nat_tests, t) in
     never (is-eqb (record_at s.tables r).block (record_at s.tables q).block (ap (λ (n : ℕ). (record_at s.tables n).block) (sym e)))
 
+-- a handle that holds the block of a record
+record HeldBy (s : State) (q : ℕ) : Type 0 where
+  pub handle : ℕ
+  pub view : Handle
+  pub at : handle_at s handle ≡ Some view
+  pub owner : owner_of s.tables view ≡ Some (record_at s.tables q).block
+
 -- a hidden record is one of a handle's block
-hidden-held : (s : State) (q i : ℕ) (c : Option Pending) → call_at s i ≡ c → readies q c ≡ true → FitsCall s c → (h : ℕ) × (x : Handle) × (handle_at s h ≡ Some x) × (owner_of s.tables x ≡ Some (record_at s.tables q).block)
+hidden-held : (s : State) (q i : ℕ) (c : Option Pending) → call_at s i ≡ c → readies q c ≡ true → FitsCall s c → HeldBy s q
 hidden-held s q i None at t f = absurd (cc)
 hidden-held s q i (Some (Loaded part w)) at t f = absurd (cc)
-hidden-held s q i (Some (Ready part w z)) at t (x, b, h, p, live, block) =
+hidden-held s q i (Some (Ready part w z)) at t (x, f) =
     let e : q ≡ z = grind (arith, nat_tests, t) in
-    (part.handle, x, h.at, p.owner ∙ ap Some (sym block ∙ ap (λ (n : ℕ). (record_at s.tables n).block) (sym e)))
+    record { handle = part.handle; view = x; at = f.shares.at; owner = f.promised.owner ∙ ap Some (sym f.same ∙ ap (λ (n : ℕ). (record_at s.tables n).block) (sym e)) }
 hidden-held s q i (Some (Add part z)) at t f = absurd (cc)
 hidden-held s q i (Some (Subtract z)) at t f = absurd (cc)
 hidden-held s q i (Some (Release z)) at t f = absurd (cc)
@@ -122,7 +129,7 @@ other-block s r q k lr hr none lq ne e =
       | inl z ↦ ne (k.one_record q r lq lr z.1 hr e)
       | inr z ↦ (let w = count-find (readies q) None s.calls (let n = z.1 in omega arith) in
           let y = hidden-held s q w.0 (call_at s w.0) refl w.2 (k.calls_fit w.0 None w.1) in
-          none-holds s (record_at s.tables r).block y.0 y.1 none y.2 (y.3 ∙ ap Some e))
+          none-holds s (record_at s.tables r).block y.handle y.view none y.at (y.owner ∙ ap Some e))
     ]
 
 pub sound-released : (s : State) (p r : ℕ) → IsSound s → call_at s p ≡ Some (Release r) → IsSound (released s p r)
@@ -134,8 +141,8 @@ sound-released s p r k at =
     let l = at-some s.calls p (Release r) at in
     let f : FitsCall s (Some (Release r)) = subst (λ (c : Option Pending). FitsCall s c) at (k.calls_fit p None l) in
     let last = release-last s p r k at in
-    let me = k.counted r f.0 in
-    let inside = live-inside g.records r f.0 in
+    let me = k.counted r f.live in
+    let inside = live-inside g.records r f.live in
     let e = dead-keeps g r in
     let hs = handles-kept g g' s.calls s.handles e k.fit in
     let cs = calls-read-kept s g' s.calls e (λ i d l q j t. dead-let_go g r q) k.calls_fit in
@@ -156,7 +163,7 @@ sound-released s p r k at =
             | inl z ↦ rw (z.1, get_or-set_same s.calls p None None l) tt
             | inr z ↦ rw (get_or-set_other s.calls p i None None z.1) (call-kept s next (call_at s i) (record {
               tables = e;
-              live = λ q n t. dead-other g r q (λ y. other-names s r i (call_at s i) refl lo f.1 (other-drops s p r i b at refl last.one z.1 lo) (rw y at n)) ∙ t;
+              live = λ q n t. dead-other g r q (λ y. other-names s r i (call_at s i) refl lo f.shown (other-drops s p r i b at refl last.one z.1 lo) (rw y at n)) ∙ t;
               hidden = λ q _. hid q;
               handle = λ j x y a. a;
               owner = λ j x a. owner-kept g g' s.calls x e (fits-at s j x k a);
@@ -168,7 +175,7 @@ sound-released s p r k at =
       counted = λ q t.
           let d = dead-live g r q inside t in
           let cq = k.counted q d.0 in
-          let nb = other-block s r q k f.0 f.1 last.none d.0 d.1 in
+          let nb = other-block s r q k f.live f.shown last.none d.0 d.1 in
           let same = rw (not-eqb (record_at g q).block b nb) at (um (record_at g q).block) in
           record {
             known = rw (dead-block g r q) cq.known;
@@ -186,11 +193,11 @@ sound-released s p r k at =
       ];
       known_users = λ c t. k.known_users c (omega (arith, um c));
       block_log = block-log-freed g s.freed_blocks b (users (reading s)) (users (reading next)) k.blocks me.known me.used none (λ c ne. let z = rw (not-eqb c b ne) at (um c) in ap (λ m. nat_eq m 0) (omega (arith, z))) k.block_log;
-      record_log = record-log-dead g.records s.freed_records r (record { count = (record_at g r).count; block = (record_at g r).block; live = false }) inside refl f.0 k.record_log;
+      record_log = record-log-dead g.records s.freed_records r (record { count = (record_at g r).count; block = (record_at g r).block; live = false }) inside refl f.live k.record_log;
     }
 
 -- a drop that releases has a live record
 pub releasing : (s : State) (p r : ℕ) → IsSound s → call_at s p ≡ Some (Release r) → (record_at s.tables r).live ≡ true
 releasing s p r k at =
     let f : FitsCall s (Some (Release r)) = subst (λ (c : Option Pending). FitsCall s c) at (k.calls_fit p None (at-some s.calls p (Release r) at)) in
-    f.0
+    f.live

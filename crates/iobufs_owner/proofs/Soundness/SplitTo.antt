@@ -7,7 +7,8 @@ use Rattle.iobufs_owner.specs.State.{State, Tables, owner_of, record_at, block_a
 use Rattle.iobufs_owner.specs.World.{holders, users, tally}
 use Rattle.iobufs_owner.specs.Reading.{reading}
 use Rattle.iobufs_owner.specs.Sound.{IsSound, Fits, LiesIn, alone, describes}
-use Rattle.iobufs_owner.specs.Moves.{counted, with_count, with_handle, with_record, edited, detached, part, Lends, next_record}
+use Rattle.iobufs_owner.specs.Changes.{counted, with_count, with_handle, with_record, edited, detached, part, next_record}
+use Rattle.iobufs_owner.specs.Lending.{Lends}
 use Rattle.iobufs_owner.specs.declared.owner.types.Record.{Record}
 use Rattle.iobufs_owner.specs.declared.owner.types.Handle.{Handle}
 use Rattle.iobufs_owner.specs.declared.owner.types.Kind.TheVariants.{View}
@@ -37,7 +38,7 @@ sound-part_empty s h x lo hi k t i low high =
     let y : Handle = part x lo hi Empty in
     let f = empty-at s h x k t.at i in
     let oy = owner-empty s.tables y refl in
-    sound-edited s h x y k t.at t.free (oy ∙ sym (owner-empty s.tables x i)) (λ c. rw (oy, owner-empty s.tables x i) refl) (λ c a. absurd (let q = rw oy at a in cc)) (refl, omega (arith, f.1), λ m. absurd (cc))
+    sound-edited s h x y k t.at t.free (oy ∙ sym (owner-empty s.tables x i)) (λ c. rw (oy, owner-empty s.tables x i) refl) (λ c a. absurd (let q = rw oy at a in cc)) (record { no_room = refl; ends = omega (arith, f.ends); no_bytes = λ m. absurd (cc) })
 
 pub sound-part_counted : (s : State) (h : ℕ) (x : Handle) (r lo hi : ℕ) → IsSound s → Lends s h View x → x.word ≡ Counted r → lo ≤ hi → hi ≤ x.len → IsSound (edited s h (part x lo hi (Counted r)))
 sound-part_counted s h x r lo hi k t i low high =
@@ -53,7 +54,7 @@ sound-part_counted s h x r lo hi k t i low high =
 pub sound-split_empty : (s : State) (h at : ℕ) (x : Handle) → IsSound s → Lends s h View x → x.word ≡ Empty → at ≤ x.len → length s.handles < 2 ^ 32 → IsSound (with_handle (edited s h (part x at x.len Empty)) (part x 0 at Empty))
 sound-split_empty s h at x k t i low few =
     let f = empty-at s h x k t.at i in
-    sound-detached (edited s h (part x at x.len Empty)) (part x 0 at Empty) (sound-part_empty s h x at x.len k t i low (omega arith)) refl (refl, omega (arith, f.1), λ m. absurd (cc)) (rw length-set few)
+    sound-detached (edited s h (part x at x.len Empty)) (part x 0 at Empty) (sound-part_empty s h x at x.len k t i low (omega arith)) refl (record { no_room = refl; ends = omega (arith, f.ends); no_bytes = λ m. absurd (cc) }) (rw length-set few)
 
 lends-more : (s : State) (g : Tables) (y : Handle) (h : ℕ) (x : Handle) → Lends s h View x → Lends (record s { tables = g; handles = s.handles ++ Some y ∷ [] }) h View x
 lends-more s g y h x t = record { at = append-at s.handles (Some y) h x t.at; kind_is = t.kind_is; free = t.free }
@@ -85,9 +86,9 @@ sound-split_described s h w b at x k t i o low few' few =
     let g : Tables = s.tables in
     let r : ℕ = length s.tables.records in
     let d = described-at s h x w k t.at i in
-    let same : d.0 ≡ b = (let q = sym d.3.owner ∙ o in cc) in
-    let kb : b < length g.blocks = subst (λ (n : ℕ). n < length g.blocks) same d.3.known in
-    let lies : LiesIn (block_at g b) x View = subst (λ (n : ℕ). LiesIn (block_at g n) x View) same (lies-as (block_at g d.0) x View t.kind_is d.3.lies) in
+    let same : d.block ≡ b = (let q = sym d.says.owner ∙ o in cc) in
+    let kb : b < length g.blocks = subst (λ (n : ℕ). n < length g.blocks) same d.says.known in
+    let lies : LiesIn (block_at g b) x View = subst (λ (n : ℕ). LiesIn (block_at g n) x View) same (lies-as (block_at g d.block) x View t.kind_is d.says.lies) in
     let y : Handle = whole x (length s.tables.records) in
     let front : Handle = part x 0 at (Counted (length s.tables.records)) in
     let l = at-some s.handles h x t.at in
@@ -124,7 +125,7 @@ sound-moved s h x k t few =
     record {
       size = record { wide = size.wide; ceiling = size.ceiling; few_blocks = size.few_blocks; few_records = size.few_records; few_handles = rw (length-append, length-set) (omega arith); few_calls = size.few_calls };
       blocks = k.blocks;
-      fit = All-push (Fits g s.calls) (set s.handles h (Some (detached 0))) (Some x) (All-set (Fits g s.calls) s.handles h (Some (detached 0)) (refl, omega arith, λ m. refl) k.fit) (fits-at s h x k t.at);
+      fit = All-push (Fits g s.calls) (set s.handles h (Some (detached 0))) (Some x) (All-set (Fits g s.calls) s.handles h (Some (detached 0)) (record { no_room = refl; ends = omega arith; no_bytes = λ m. refl }) k.fit) (fits-at s h x k t.at);
       calls_fit = calls-kept s next refl (keeps-self g) (λ r t. t) (λ i z b a. append-at (set s.handles h (Some (detached 0))) (Some x) i z (set-at s.handles h i (Some (detached 0)) z (λ e. let q = rw e at b in let u = t.free in cc) a)) k.fit (λ i z a. at-some s.handles i z a) (λ i d l q j t. refl) (λ c _. hm c) (λ q t. (k.counted q t).known) k.calls_fit;
       one_release = k.one_release;
       counted = λ r live. let c = k.counted r live in record { known = c.known; one_maker = c.one_maker; counts = λ e. rw hm (c.counts e); fresh = c.fresh; used = rw um c.used; undescribed = λ e. rw dm (c.undescribed e) };

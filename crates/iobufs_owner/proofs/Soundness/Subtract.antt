@@ -15,12 +15,12 @@ use Rattle.iobufs_owner.proofs.Soundness.Keeps.{KeepsLetGo, call-kept, calls-rea
 use Rattle.iobufs_owner.proofs.Soundness.Kept.{at-some}
 use Rattle.iobufs_owner.proofs.Soundness.Frames.{handles-kept, alone-kept, describes-kept, not-eqb, is-eqb}
 use Rattle.iobufs_owner.proofs.WorldSteps.Shown.{get_or-read}
-use Rattle.iobufs_owner.specs.Moves.{counted, with_count, called}
+use Rattle.iobufs_owner.specs.Changes.{counted, with_count, called}
 use Rattle.iobufs_owner.proofs.Soundness.AddHolder.{counted-keeps, counted-block, counted-live, counted-same, counted-other}
 use Rattle.iobufs_owner.proofs.Soundness.Edits.{fits-at, live-inside}
 use Rattle.iobufs_owner.proofs.Soundness.Logs.{block-log-alike, record-log-counted}
 use Rattle.iobufs_owner.proofs.Soundness.Holders.{holders-as, users-as, held_by, still_by, drops_by, alone-holds}
-use Rattle.iobufs_owner.proofs.Soundness.Share.{fit-counted}
+use Rattle.iobufs_owner.proofs.Soundness.Won.{fit-counted}
 
 -- what the call goes on to
 abbrev pub afterwards : ℕ → ℕ → Option Pending
@@ -42,7 +42,7 @@ none-release s p r i (Some (Release q)) k at l e f t =
     let same : b ≡ (record_at s.tables q).block = grind (arith, nat_tests, t) in
     let h = holders-as s b in
     let one = count-some (still_by s b) s.calls p None lp (rw at (is-eqb b b refl)) in
-    let n = rw (← same) at f.2 in
+    let n = rw (← same) at f.alone in
     let by : (w : Bool) → has_let_go s.tables q ≡ w → ⊥ = λ w. elim w as (λ w. has_let_go s.tables q ≡ w → ⊥) [
       | true ↦ λ z. (let m = rw z at n in omega (arith, m, h, one))
       | false ↦ λ z. (let m = rw z at n in
@@ -124,7 +124,7 @@ fits-after s p r k live z hid fewer is =
     let m : ℕ = (record_at s.tables r).count - 1 in
     elim (eqb_tells (record_at s.tables r).count 1) [
       | inl i ↦ subst (λ (v : Bool). FitsCall (subtracted s p r) (cond v (Some (Release r)) None)) (sym i.0)
-          (counted-live s.tables r m r ∙ live, hid r ∙ z, rw (gone-after s.tables r (live-inside s.tables.records r live) i.1) (ap (λ c. holders (reading (subtracted s p r)) c) (counted-block s.tables r m r) ∙ (let one = i.1 in omega arith)))
+          (record { live = counted-live s.tables r m r ∙ live; shown = hid r ∙ z; alone = rw (gone-after s.tables r (live-inside s.tables.records r live) i.1) (ap (λ c. holders (reading (subtracted s p r)) c) (counted-block s.tables r m r) ∙ (let one = i.1 in omega arith)) })
       | inr i ↦ subst (λ (v : Bool). FitsCall (subtracted s p r) (cond v (Some (Release r)) None)) (sym i.0) tt
     ]
 

@@ -16,10 +16,14 @@ use Rattle.iobufs_owner.specs.declared.owner.types.Reply.TheVariants.{More, Done
 use Rattle.iobufs_owner.specs.State.{State, Tables, owner_of, handle_at, call_at, record_at}
 use Rattle.iobufs_owner.specs.World.{World, Held, Sharing, Dropping, holders, is_block}
 use Rattle.iobufs_owner.specs.Reading.{reading, read_held, read_handle, read_call, has_let_go}
-use Rattle.iobufs_owner.specs.Sound.{IsSound, FitsCall, hidden}
+use Rattle.iobufs_owner.specs.Sound.{IsSound, FitsCall, hidden, IsRacing, IsAdding}
 use Rattle.iobufs_owner.specs.Kinds.{same_kind}
-use Rattle.iobufs_owner.specs.Moves as move
-use Rattle.iobufs_owner.specs.Moves.{Outcome, called, ended, unfinished_call, done, edited, part, shared, made, counted, with_count, with_record, record_freed, both_freed, next_record, loaded_block, tables_without, ready_of, race_of, add_of, subtract_of, release_of, gone_on}
+use Rattle.iobufs_owner.specs.Changes as change
+use Rattle.iobufs_owner.specs.Lending as lending
+use Rattle.iobufs_owner.specs.LongCalls as long
+use Rattle.iobufs_owner.specs.Changes.{Outcome, called, unfinished_call, done, edited, part, made, counted, with_count, with_record, record_freed, both_freed, next_record, tables_without}
+use Rattle.iobufs_owner.specs.LongCalls.{ended, shared, loaded_block, ready_of, race_of, add_of, subtract_of, release_of}
+use Rattle.iobufs_owner.specs.Moves.{gone_on}
 use Rattle.iobufs_owner.specs.Steps as world
 use Rattle.iobufs_owner.specs.Steps.{NoRoom, Makes, IsOver, GoesOn, SharesOn, Goes, call_set, free_in, part_of, held_set}
 use Rattle.iobufs_owner.proofs.WorldSteps.Sizes.{IsAnswered, entries, grows-never}
@@ -32,7 +36,9 @@ use Rattle.iobufs_owner.proofs.Soundness.Logs.{freed-more}
 use Rattle.iobufs_owner.proofs.Soundness.NewRecord.{recorded, recorded-keeps, recorded-let_go}
 use Rattle.iobufs_owner.proofs.Soundness.AddHolder.{counted-keeps, counted-let_go, counted-more, counted-block}
 use Rattle.iobufs_owner.proofs.Soundness.RecordFreed.{dead-keeps, dead-let_go}
-use Rattle.iobufs_owner.proofs.Soundness.Share.{by_record, set-get, held-loading, IsRacing, racing, IsAdding, adding}
+use Rattle.iobufs_owner.proofs.Soundness.Readied.{loading}
+use Rattle.iobufs_owner.proofs.Soundness.Won.{by_record, set-get}
+use Rattle.iobufs_owner.proofs.Soundness.Share.{racing, adding}
 use Rattle.iobufs_owner.proofs.Soundness.Subtract.{letting-go, counted-drops, gone-after}
 use Rattle.iobufs_owner.proofs.WorldSteps.Taken.{refused-taken, by-test, reads-detached, grown-taken, made-taken, lt-true, lt-false, eq-true}
 
@@ -73,7 +79,7 @@ loaded-as s t p k w x false reply i y =
 pub loaded-goes : (s t : State) (p : ℕ) (k : Share) (w : ℕ) (memory : Bool) (reply : Reply) → IsSound s → call_at s p ≡ Some (Loaded k w) → IsAnswered s (gone_on s p (Loaded k w) memory) reply t → Goes (reading s) p (Sharing k.handle k.lo k.hi 3) memory reply (reading t)
 unfolding Goes gone_on
 loaded-goes s t p k w memory reply i at y =
-    let l = held-loading s p k w i at in
+    let l = loading s p k w i at in
     subst (λ (o : Option Held). SharesOn (reading s) p k.handle k.lo k.hi 3 memory o reply (reading t)) (sym (held-reads s k.handle ∙ ap (read_handle s.tables) l.1.shares.at)) (loaded-as s t p k w l.0 memory reply i y)
 
 -- the handle whose descriptor becomes a record shows the same
@@ -85,7 +91,7 @@ shown-reads s p k w r x i a =
     let m = set-get (map (read_handle s.tables) s.handles) k.handle (read_handle s.tables (Some (by_record x r))) None (rw length-map l) e in
     rw (map-set (read_call s.tables) s.calls p None, map-set (read_handle s.tables) s.handles k.handle (Some (by_record x r)), m) refl
 
-race-as : (s t : State) (p : ℕ) (k : Share) (w r : ℕ) (x : Handle) (memory : Bool) (reply : Reply) (v : Word) → IsSound s → IsRacing s k w r x → x.word ≡ v → IsAnswered s (move.race_by s p k w r x v) reply t → GoesAs s p k 2 memory (Some x) reply (reading t)
+race-as : (s t : State) (p : ℕ) (k : Share) (w r : ℕ) (x : Handle) (memory : Bool) (reply : Reply) (v : Word) → IsSound s → IsRacing s k w r x → x.word ≡ v → IsAnswered s (long.race_by s p k w r x v) reply t → GoesAs s p k 2 memory (Some x) reply (reading t)
 race-as s t p k w r x memory reply Empty i a e y = elim a.promised.now' [ inl z ↦ absurd (let q = sym e ∙ z in cc) | inr z ↦ absurd (let q = sym e ∙ z.1 in cc) ]
 race-as s t p k w r x memory reply (Descriptor u) i a e y =
     elim a.promised.now' [
@@ -94,7 +100,7 @@ race-as s t p k w r x memory reply (Descriptor u) i a e y =
           let ow = a.promised.owner in
           let one = alone-at s k.handle x a.block i a.shares.at (alone-described s.tables a.block x u e ∙ ap (is_block a.block) ow ∙ is-eqb a.block a.block refl) in
           let c = i.size.ceiling in
-          let y' = subst (λ (b : Bool). IsAnswered s (cond b (shared (edited s k.handle (record x { word = Counted r })) p k x r) (move.refused s Idle)) reply t) (is-eqb u w same) y in
+          let y' = subst (λ (b : Bool). IsAnswered s (cond b (shared (edited s k.handle (record x { word = Counted r })) p k x r) (change.refused s Idle)) reply t) (is-eqb u w same) y in
           let front : Handle = part x k.lo k.hi (Counted r) in
           let of = owner-counted s.tables front r refl ∙ ap Some a.same ∙ sym ow in
           let never : IsOver (reading s) (owner_of s.tables x) → ⊥ = subst (λ (o : Option ℕ). IsOver (reading s) o → ⊥) (sym ow) (λ z. omega (arith, z, one, c)) in
@@ -111,7 +117,7 @@ pub ready-goes : (s t : State) (p : ℕ) (k : Share) (w r : ℕ) (memory : Bool)
 unfolding Goes gone_on
 ready-goes s t p k w r memory reply i at y =
     let a = racing s p k w r i at in
-    let y' = subst (λ (o : Option Handle). IsAnswered s (move.race_found s p k w r o) reply t) a.1.shares.at y in
+    let y' = subst (λ (o : Option Handle). IsAnswered s (long.race_found s p k w r o) reply t) a.1.shares.at y in
     subst (λ (o : Option Held). SharesOn (reading s) p k.handle k.lo k.hi 2 memory o reply (reading t)) (sym (held-reads s k.handle ∙ ap (read_handle s.tables) a.1.shares.at)) (race-as s t p k w r a.0 memory reply a.0.word i a.1 refl y')
 
 add-as : (s t : State) (p : ℕ) (k : Share) (r : ℕ) (x : Handle) (memory : Bool) (reply : Reply) (v : Bool) → IsSound s → IsAdding s k r x → nat_lt s.ceiling (record_at s.tables r).count ≡ v → IsAnswered s (cond v (ended s p Ceiling) (shared (with_count s r ((record_at s.tables r).count + 1)) p k x r)) reply t → GoesAs s p k 1 memory (Some x) reply (reading t)
@@ -136,7 +142,7 @@ pub add-goes : (s t : State) (p : ℕ) (k : Share) (r : ℕ) (memory : Bool) (re
 unfolding Goes gone_on
 add-goes s t p k r memory reply i at y =
     let a = adding s p k r i at in
-    let y' = subst (λ (o : Option Handle). IsAnswered s (move.add_found s p k r o) reply t) a.1.shares.at y in
+    let y' = subst (λ (o : Option Handle). IsAnswered s (long.add_found s p k r o) reply t) a.1.shares.at y in
     subst (λ (o : Option Held). SharesOn (reading s) p k.handle k.lo k.hi 1 memory o reply (reading t)) (sym (held-reads s k.handle ∙ ap (read_handle s.tables) a.1.shares.at)) (add-as s t p k r a.0 memory reply (nat_lt s.ceiling (record_at s.tables r).count) i a.1 refl y')
 
 -- ---- drops
@@ -183,8 +189,8 @@ unfolding gone_on
 release-goes s t p r memory reply i at y =
     let f : FitsCall s (Some (Release r)) = subst (λ (c : Option Pending). FitsCall s c) at (i.calls_fit p None (at-some s.calls p (Release r) at)) in
     let l = length-set s.tables.records r (record { count = (record_at s.tables r).count; block = (record_at s.tables r).block; live = false }) in
-    let z = reply-taken s (called (both_freed s r) p None) t (free_in (call_set (reading s) p None) (record_at s.tables r).block) Done reply (cc (l)) (released-reads s p r i f.0) y in
-    frees (reading s) (reading t) p (record_at s.tables r).block (has_let_go s.tables r) memory reply f.2 z
+    let z = reply-taken s (called (both_freed s r) p None) t (free_in (call_set (reading s) p None) (record_at s.tables r).block) Done reply (cc (l)) (released-reads s p r i f.live) y in
+    frees (reading s) (reading t) p (record_at s.tables r).block (has_let_go s.tables r) memory reply f.alone z
 
 -- ---- a clone or a slice begins
 
@@ -192,10 +198,10 @@ view-is : (y x : Handle) (v : Bool) → cond v (Ok y) (Err WrongKind) ≡ Ok x �
 view-is y x true e = cc
 view-is y x false e = absurd (cc)
 
-view-tells : (s : State) (h : ℕ) (x : Handle) → move.view_of s h ≡ Ok x → handle_at s h ≡ Some x
+view-tells : (s : State) (h : ℕ) (x : Handle) → lending.view_of s h ≡ Ok x → handle_at s h ≡ Some x
 view-tells s h x e =
-    let by : (o : Option Handle) → move.view_found o ≡ Ok x → o ≡ Some x =
-    λ o. elim o as (λ o. move.view_found o ≡ Ok x → o ≡ Some x) [
+    let by : (o : Option Handle) → lending.view_found o ≡ Ok x → o ≡ Some x =
+    λ o. elim o as (λ o. lending.view_found o ≡ Ok x → o ≡ Some x) [
       | None ↦ λ i. absurd (cc)
       | Some y ↦ λ i. view-is y x (same_kind y.kind View) i
     ] in
@@ -207,7 +213,7 @@ Begun s p h lo hi x o reply next =
     MatchOption o (NoRoom (reading s) reply next ⊎ Makes (reading s) (part_of (read_held s.tables x) lo hi) reply next)
     (λ _. (left : ℕ) × (0 < left) × (left ≤ 3) × GoesOn (reading s) p (Sharing h lo hi left) reply next)
 
-begun-word : (s t : State) (p h lo hi : ℕ) (x : Handle) (reply : Reply) (w : Word) → IsSound s → handle_at s h ≡ Some x → x.word ≡ w → IsAnswered s (move.share_by s p (record { handle = h; lo = lo; hi = hi }) x w) reply t → Begun s p h lo hi x (owner_of s.tables x) reply (reading t)
+begun-word : (s t : State) (p h lo hi : ℕ) (x : Handle) (reply : Reply) (w : Word) → IsSound s → handle_at s h ≡ Some x → x.word ≡ w → IsAnswered s (long.share_by s p (record { handle = h; lo = lo; hi = hi }) x w) reply t → Begun s p h lo hi x (owner_of s.tables x) reply (reading t)
 begun-word s t p h lo hi x reply Empty k at e y =
     let n = owner-empty s.tables x e in
     let front : Handle = part x lo hi Empty in
@@ -218,27 +224,27 @@ begun-word s t p h lo hi x reply (Descriptor w) k at e y =
     let d = described-at s h x w k at e in
     let k' : Share = record { handle = h; lo = lo; hi = hi } in
     let z = reply-taken s (called s p (Some (Loaded k' w))) t (call_set (reading s) p (Some (Sharing h lo hi 3))) More reply refl (called-reads s p (Some (Loaded k' w))) y in
-    subst (λ (o : Option ℕ). Begun s p h lo hi x o reply (reading t)) (sym d.3.owner) (3, omega arith, omega arith, z)
+    subst (λ (o : Option ℕ). Begun s p h lo hi x o reply (reading t)) (sym d.says.owner) (3, omega arith, omega arith, z)
 begun-word s t p h lo hi x reply (Counted r) k at e y =
     let k' : Share = record { handle = h; lo = lo; hi = hi } in
     let z = reply-taken s (called s p (Some (Add k' r))) t (call_set (reading s) p (Some (Sharing h lo hi 1))) More reply refl (called-reads s p (Some (Add k' r))) y in
     subst (λ (o : Option ℕ). Begun s p h lo hi x o reply (reading t)) (sym (owner-counted s.tables x r e)) (1, omega arith, omega arith, z)
 
-clone-lent : (s t : State) (p h : ℕ) (reply : Reply) (r : Result Handle Refusal) → IsSound s → move.view_of s h ≡ r → IsAnswered s (move.clone_lent s p h r) reply t → world.CloneIs (reading s) p h (read_lent s.tables r) reply (reading t)
+clone-lent : (s t : State) (p h : ℕ) (reply : Reply) (r : Result Handle Refusal) → IsSound s → lending.view_of s h ≡ r → IsAnswered s (long.clone_lent s p h r) reply t → world.CloneIs (reading s) p h (read_lent s.tables r) reply (reading t)
 clone-lent s t p h reply (Err why) k e i = refused-taken s t why reply i
 clone-lent s t p h reply (Ok x) k e i = begun-word s t p h 0 x.len x reply x.word k (view-tells s h x e) refl i
 
-pub clone-steps : (s t : State) (p h : ℕ) (reply : Reply) → IsSound s → IsAnswered s (move.clone_of s p h) reply t → world.CloneIs (reading s) p h (world.view_of (reading s) h) reply (reading t)
-clone-steps s t p h reply k i = rw (view-reads s h) (clone-lent s t p h reply (move.view_of s h) k refl i)
+pub clone-steps : (s t : State) (p h : ℕ) (reply : Reply) → IsSound s → IsAnswered s (long.clone_of s p h) reply t → world.CloneIs (reading s) p h (world.view_of (reading s) h) reply (reading t)
+clone-steps s t p h reply k i = rw (view-reads s h) (clone-lent s t p h reply (lending.view_of s h) k refl i)
 
-slice-lent : (s t : State) (p h lo hi : ℕ) (reply : Reply) (r : Result Handle Refusal) → IsSound s → move.view_of s h ≡ r → IsAnswered s (move.slice_lent s p h lo hi r) reply t → world.SliceIs (reading s) p h lo hi (read_lent s.tables r) reply (reading t)
+slice-lent : (s t : State) (p h lo hi : ℕ) (reply : Reply) (r : Result Handle Refusal) → IsSound s → lending.view_of s h ≡ r → IsAnswered s (long.slice_lent s p h lo hi r) reply t → world.SliceIs (reading s) p h lo hi (read_lent s.tables r) reply (reading t)
 slice-lent s t p h lo hi reply (Err why) k e i = refused-taken s t why reply i
 slice-lent s t p h lo hi reply (Ok x) k e i =
-    by-test _ _ s t (move.refused s OutOfRange) (cond (nat_eq lo hi) (made s (move.detached 0)) (move.share_by s p (record { handle = h; lo = lo; hi = hi }) x x.word)) reply (nat_lt hi lo || nat_lt x.len hi)
+    by-test _ _ s t (change.refused s OutOfRange) (cond (nat_eq lo hi) (made s (change.detached 0)) (long.share_by s p (record { handle = h; lo = lo; hi = hi }) x x.word)) reply (nat_lt hi lo || nat_lt x.len hi)
     (λ _ i. refused-taken s t OutOfRange reply i)
-    (λ _ i. by-test _ _ s t (made s (move.detached 0)) (move.share_by s p (record { handle = h; lo = lo; hi = hi }) x x.word) reply (nat_eq lo hi)
-    (λ _ i. made-taken s s t (reading s) (move.detached 0) (world.detached 0) reply refl (reads-detached s.tables 0) i)
+    (λ _ i. by-test _ _ s t (made s (change.detached 0)) (long.share_by s p (record { handle = h; lo = lo; hi = hi }) x x.word) reply (nat_eq lo hi)
+    (λ _ i. made-taken s s t (reading s) (change.detached 0) (world.detached 0) reply refl (reads-detached s.tables 0) i)
     (λ _ i. begun-word s t p h lo hi x reply x.word k (view-tells s h x e) refl i) i) i
 
-pub slice-steps : (s t : State) (p h lo hi : ℕ) (reply : Reply) → IsSound s → IsAnswered s (move.slice_of s p h lo hi) reply t → world.SliceIs (reading s) p h lo hi (world.view_of (reading s) h) reply (reading t)
-slice-steps s t p h lo hi reply k i = rw (view-reads s h) (slice-lent s t p h lo hi reply (move.view_of s h) k refl i)
+pub slice-steps : (s t : State) (p h lo hi : ℕ) (reply : Reply) → IsSound s → IsAnswered s (long.slice_of s p h lo hi) reply t → world.SliceIs (reading s) p h lo hi (world.view_of (reading s) h) reply (reading t)
+slice-steps s t p h lo hi reply k i = rw (view-reads s h) (slice-lent s t p h lo hi reply (lending.view_of s h) k refl i)

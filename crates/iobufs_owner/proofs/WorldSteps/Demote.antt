@@ -13,8 +13,11 @@ use Rattle.iobufs_owner.specs.State.{State, owner_of, handle_at, record_at}
 use Rattle.iobufs_owner.specs.Reading.{reading, read_held, read_handle}
 use Rattle.iobufs_owner.specs.Sound.{IsSound}
 use Rattle.iobufs_owner.specs.Kinds.{same_kind}
-use Rattle.iobufs_owner.specs.Moves as move
-use Rattle.iobufs_owner.specs.Moves.{Outcome, refused, done, declined, edited, tables_without, record_freed, may_demote, described, is_empty, is_lent, owning_found, Lends, IsDemoted}
+use Rattle.iobufs_owner.specs.Lending as lending
+use Rattle.iobufs_owner.specs.ShortCalls as short
+use Rattle.iobufs_owner.specs.Changes.{Outcome, refused, done, edited, tables_without, record_freed}
+use Rattle.iobufs_owner.specs.Lending.{is_empty, is_lent, owning_found, Lends}
+use Rattle.iobufs_owner.specs.ShortCalls.{declined, may_demote, described, IsDemoted}
 use Rattle.iobufs_owner.specs.Steps as world
 use Rattle.iobufs_owner.proofs.WorldSteps.Sizes.{IsAnswered, entries}
 use Rattle.iobufs_owner.proofs.WorldSteps.Lent.{same-kind}
@@ -64,27 +67,27 @@ refuses : (s t : State) (why : Refusal) (o : Outcome) (reply : Reply) → o ≡ 
 refuses s t why o reply e i = refused-taken s t why reply (subst (λ (o : Outcome). IsAnswered s o reply t) e i)
 
 -- a view with a block, by whether it is borrowed
-by-borrow : (s t : State) (h b : ℕ) (x : Handle) (o : Outcome) (reply : Reply) (u : Bool) → (u ≡ false → move.IsDemotedBy s h x x.word o → world.DemoteIs (reading s) (Ok b) reply (reading t)) → IsDemoted s h (cond u (Err Borrowed) (Ok x)) o → IsAnswered s o reply t → world.DemoteIs (reading s) (cond u (Err Borrowed) (Ok b)) reply (reading t)
+by-borrow : (s t : State) (h b : ℕ) (x : Handle) (o : Outcome) (reply : Reply) (u : Bool) → (u ≡ false → short.IsDemotedBy s h x x.word o → world.DemoteIs (reading s) (Ok b) reply (reading t)) → IsDemoted s h (cond u (Err Borrowed) (Ok x)) o → IsAnswered s o reply t → world.DemoteIs (reading s) (cond u (Err Borrowed) (Ok b)) reply (reading t)
 by-borrow s t h b x o reply true f d i = refuses s t Borrowed o reply d i
 by-borrow s t h b x o reply false f d i = f refl d
 
 by-word : (s t : State) (h : ℕ) (x : Handle) (o : Outcome) (reply : Reply) (w : Word) → IsSound s → handle_at s h ≡ Some x → x.kind ≡ View → x.word ≡ w → IsDemoted s h (cond (is_empty w) (Err WrongKind) (cond (is_lent h s.calls) (Err Borrowed) (Ok x))) o → IsAnswered s o reply t → world.DemoteIs (reading s) (world.with_block (reading s) h (owner_of s.tables x)) reply (reading t)
 by-word s t h x o reply Empty k at v w d i = rw (owner-empty s.tables x w) (refuses s t WrongKind o reply d i)
-by-word s t h x o reply (Descriptor n) k at v w d i =
-    let says = described-at s h x n k at w in
-    rw (says.3.owner, shared-reads s.tables h s.calls) (by-borrow s t h says.0 x o reply (is_lent h s.calls) (λ _ z. declines s t says.0 o reply (subst (λ (w : Word). move.IsDemotedBy s h x w o) w z) i) d i)
+by-word s t h x o reply (Descriptor n) k at v w e i =
+    let d = described-at s h x n k at w in
+    rw (d.says.owner, shared-reads s.tables h s.calls) (by-borrow s t h d.block x o reply (is_lent h s.calls) (λ _ z. declines s t d.block o reply (subst (λ (w : Word). short.IsDemotedBy s h x w o) w z) i) e i)
 by-word s t h x o reply (Counted r) k at v w d i =
     rw (owner-counted s.tables x r w, shared-reads s.tables h s.calls) (by-borrow s t h (record_at s.tables r).block x o reply (is_lent h s.calls) (λ u z.
-    let y : move.IsDemotedBy s h x (Counted r) o = subst (λ (w : Word). move.IsDemotedBy s h x w o) w z in
+    let y : short.IsDemotedBy s h x (Counted r) o = subst (λ (w : Word). short.IsDemotedBy s h x w o) w z in
     demote-counted s t h r y.0 x reply (may_demote s.tables x r y.0) k (record { at = at; kind_is = v; free = u }) w refl (subst (λ (o : Outcome). IsAnswered s o reply t) y.2 i)) d i)
 
 by-kind : (s t : State) (h : ℕ) (x : Handle) (o : Outcome) (reply : Reply) (v : Bool) → IsSound s → handle_at s h ≡ Some x → same_kind x.kind View ≡ v → IsDemoted s h (cond v (owning_found s h (Some x)) (Err WrongKind)) o → IsAnswered s o reply t → world.DemoteIs (reading s) (cond v (world.with_block (reading s) h (owner_of s.tables x)) (Err WrongKind)) reply (reading t)
 by-kind s t h x o reply true k at e d i = by-word s t h x o reply x.word k at (same-kind x.kind View e) refl d i
 by-kind s t h x o reply false k at e d i = refuses s t WrongKind o reply d i
 
-by-handle : (s t : State) (h : ℕ) (o : Outcome) (reply : Reply) (found : Option Handle) → IsSound s → handle_at s h ≡ found → IsDemoted s h (move.owning_view_found s h found) o → IsAnswered s o reply t → world.DemoteIs (reading s) (world.view_block_found (reading s) h (read_handle s.tables found)) reply (reading t)
+by-handle : (s t : State) (h : ℕ) (o : Outcome) (reply : Reply) (found : Option Handle) → IsSound s → handle_at s h ≡ found → IsDemoted s h (lending.owning_view_found s h found) o → IsAnswered s o reply t → world.DemoteIs (reading s) (world.view_block_found (reading s) h (read_handle s.tables found)) reply (reading t)
 by-handle s t h o reply None k at d i = refuses s t NoHandle o reply d i
 by-handle s t h o reply (Some x) k at d i = by-kind s t h x o reply (same_kind x.kind View) k at refl d i
 
-pub demote-steps : (s t : State) (h : ℕ) (o : Outcome) (reply : Reply) → IsSound s → IsDemoted s h (move.owning_view_of s h) o → IsAnswered s o reply t → world.DemoteIs (reading s) (world.view_block_of (reading s) h) reply (reading t)
+pub demote-steps : (s t : State) (h : ℕ) (o : Outcome) (reply : Reply) → IsSound s → IsDemoted s h (lending.owning_view_of s h) o → IsAnswered s o reply t → world.DemoteIs (reading s) (world.view_block_of (reading s) h) reply (reading t)
 demote-steps s t h o reply k d i = rw (held-reads s h) (by-handle s t h o reply (handle_at s h) k refl d i)

@@ -18,8 +18,11 @@ use Rattle.iobufs_owner.specs.State.{State, owner_of, handle_at, record_at, bloc
 use Rattle.iobufs_owner.specs.World.{World, Dropping, holders, is_block}
 use Rattle.iobufs_owner.specs.Reading.{reading, read_handle, read_call, has_let_go}
 use Rattle.iobufs_owner.specs.Sound.{IsSound}
-use Rattle.iobufs_owner.specs.Moves as move
-use Rattle.iobufs_owner.specs.Moves.{done, unfinished_call, called, state_without, replaced, block_freed, both_freed, after_count, Lends}
+use Rattle.iobufs_owner.specs.Lending as lending
+use Rattle.iobufs_owner.specs.LongCalls as long
+use Rattle.iobufs_owner.specs.Changes.{done, unfinished_call, called, state_without, replaced, block_freed, both_freed}
+use Rattle.iobufs_owner.specs.Lending.{Lends}
+use Rattle.iobufs_owner.specs.LongCalls.{after_count}
 use Rattle.iobufs_owner.specs.Steps as world
 use Rattle.iobufs_owner.specs.Steps.{GoesOn, free_in, held_gone, call_set}
 use Rattle.iobufs_owner.proofs.WorldSteps.Sizes.{IsAnswered}
@@ -27,7 +30,7 @@ use Rattle.iobufs_owner.proofs.Soundness.Kept.{owner-empty, owner-counted}
 use Rattle.iobufs_owner.proofs.Soundness.Frames.{is-eqb}
 use Rattle.iobufs_owner.proofs.WorldSteps.Shown.{any-reads, read_lent}
 use Rattle.iobufs_owner.proofs.Soundness.Edits.{described-at, counted-at, alone-at, alone-described, alone-written}
-use Rattle.iobufs_owner.proofs.Soundness.BlockFreed.{recovered-is}
+use Rattle.iobufs_owner.proofs.Soundness.Recovered.{recovered-is}
 use Rattle.iobufs_owner.proofs.WorldSteps.Freeze.{freed-reads, both-reads}
 use Rattle.iobufs_owner.proofs.WorldSteps.Taken.{refused-taken, done-taken, any-tells}
 use Rattle.iobufs_owner.proofs.WorldSteps.CloneAndSlice.{reply-taken}
@@ -55,7 +58,7 @@ drop-viewed s t p h r reply false e i =
     let l = gone-entries s h in
     (2, omega arith, omega arith, reply-taken s (called (state_without s h) p (Some (Subtract r))) t (call_set (held_gone (reading s) h) p (Some (Dropping (record_at s.tables r).block false 2))) More reply (cc (l)) (drop-reads s p h (Subtract r)) i)
 
-drop-kind : (s t : State) (p h r : ℕ) (x : Handle) (reply : Reply) (kind : Kind) → IsSound s → handle_at s h ≡ Some x → x.word ≡ Counted r → x.kind ≡ kind → IsAnswered s (move.drop_counted s p h r kind) reply t → Begun s p h (Some (record_at s.tables r).block) reply (reading t)
+drop-kind : (s t : State) (p h r : ℕ) (x : Handle) (reply : Reply) (kind : Kind) → IsSound s → handle_at s h ≡ Some x → x.word ≡ Counted r → x.kind ≡ kind → IsAnswered s (long.drop_counted s p h r kind) reply t → Begun s p h (Some (record_at s.tables r).block) reply (reading t)
 drop-kind s t p h r x reply View k at w e i = inr (drop-viewed s t p h r reply (nat_eq (record_at s.tables r).count 1) refl i)
 drop-kind s t p h r x reply Mut k at w e i =
     let b : ℕ = (record_at s.tables r).block in
@@ -66,25 +69,25 @@ drop-kind s t p h r x reply Mut k at w e i =
     let z = done-taken s (state_without (both_freed s r) h) t (free_in (held_gone (reading s) h) (record_at s.tables r).block) reply (cc (l, m)) (both-reads s h r None k c.live) i in
     inl (one, z.0, z.1)
 
-drop-word : (s t : State) (p h : ℕ) (x : Handle) (reply : Reply) (w : Word) → IsSound s → handle_at s h ≡ Some x → x.word ≡ w → IsAnswered s (move.drop_by s p h x w) reply t → Begun s p h (owner_of s.tables x) reply (reading t)
+drop-word : (s t : State) (p h : ℕ) (x : Handle) (reply : Reply) (w : Word) → IsSound s → handle_at s h ≡ Some x → x.word ≡ w → IsAnswered s (long.drop_by s p h x w) reply t → Begun s p h (owner_of s.tables x) reply (reading t)
 drop-word s t p h x reply Empty k at w i =
     let l = gone-entries s h in
     subst (λ (o : Option ℕ). Begun s p h o reply (reading t)) (sym (owner-empty s.tables x w))
     (done-taken s (state_without s h) t (held_gone (reading s) h) reply (cc (l)) (rw (map-set (read_handle s.tables) s.handles h None) refl) i)
 drop-word s t p h x reply (Descriptor v) k at w i =
     let d = described-at s h x v k at w in
-    let b : ℕ = d.0 in
-    let one = alone-at s h x d.0 k at (alone-described s.tables d.0 x v w ∙ ap (is_block d.0) d.3.owner ∙ is-eqb d.0 d.0 refl) in
+    let b : ℕ = d.block in
+    let one = alone-at s h x d.block k at (alone-described s.tables d.block x v w ∙ ap (is_block d.block) d.says.owner ∙ is-eqb d.block d.block refl) in
     let l = gone-entries s h in
-    let i' = subst (λ (f : Freed). IsAnswered s (done (state_without (block_freed s f) h)) reply t) (recovered-is s h x v d.0 k at w d.3.owner) i in
-    let z = done-taken s (state_without (block_freed s (triple (block_at s.tables d.0))) h) t (free_in (held_gone (reading s) h) d.0) reply (cc (l)) (freed-reads s h d.0 None k d.3.known) i' in
-    subst (λ (o : Option ℕ). Begun s p h o reply (reading t)) (sym d.3.owner) (inl (one, z.0, z.1))
+    let i' = subst (λ (f : Freed). IsAnswered s (done (state_without (block_freed s f) h)) reply t) (recovered-is s h x v d.block k at w d.says.owner) i in
+    let z = done-taken s (state_without (block_freed s (triple (block_at s.tables d.block))) h) t (free_in (held_gone (reading s) h) d.block) reply (cc (l)) (freed-reads s h d.block None k d.says.known) i' in
+    subst (λ (o : Option ℕ). Begun s p h o reply (reading t)) (sym d.says.owner) (inl (one, z.0, z.1))
 drop-word s t p h x reply (Counted r) k at w i =
     subst (λ (o : Option ℕ). Begun s p h o reply (reading t)) (sym (owner-counted s.tables x r w)) (drop-kind s t p h r x reply x.kind k at w refl i)
 
-drop-lent : (s t : State) (p h : ℕ) (reply : Reply) (r : Result Handle Refusal) → IsSound s → move.any_of s h ≡ r → IsAnswered s (move.drop_lent s p h r) reply t → world.DropIs (reading s) p h (read_lent s.tables r) reply (reading t)
+drop-lent : (s t : State) (p h : ℕ) (reply : Reply) (r : Result Handle Refusal) → IsSound s → lending.any_of s h ≡ r → IsAnswered s (long.drop_lent s p h r) reply t → world.DropIs (reading s) p h (read_lent s.tables r) reply (reading t)
 drop-lent s t p h reply (Err why) k e i = refused-taken s t why reply i
 drop-lent s t p h reply (Ok x) k e i = drop-word s t p h x reply x.word k (any-tells s h x e).at refl i
 
-pub drop-steps : (s t : State) (p h : ℕ) (reply : Reply) → IsSound s → IsAnswered s (move.drop_of s p h) reply t → world.DropIs (reading s) p h (world.any_of (reading s) h) reply (reading t)
-drop-steps s t p h reply k i = rw (any-reads s h) (drop-lent s t p h reply (move.any_of s h) k refl i)
+pub drop-steps : (s t : State) (p h : ℕ) (reply : Reply) → IsSound s → IsAnswered s (long.drop_of s p h) reply t → world.DropIs (reading s) p h (world.any_of (reading s) h) reply (reading t)
+drop-steps s t p h reply k i = rw (any-reads s h) (drop-lent s t p h reply (lending.any_of s h) k refl i)

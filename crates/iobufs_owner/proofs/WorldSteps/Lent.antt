@@ -7,7 +7,7 @@ use Rattle.iobufs_owner.specs.declared.owner.types.Word.{Word}
 use Rattle.iobufs_owner.specs.declared.owner.types.Word.TheVariants.{Empty, Descriptor, Record as Counted}
 use Rattle.iobufs_owner.specs.declared.owner.types.Refusal.TheVariants.{WrongKind, Borrowed}
 use Rattle.iobufs_owner.specs.State.{State, Tables, owner_of, owner_by, base_by, block_with, handle_at}
-use Rattle.iobufs_owner.specs.Moves.{lend_of, lend_found, is_lent, Lends}
+use Rattle.iobufs_owner.specs.Lending.{lend_of, lend_found, is_lent, Lends}
 use Rattle.iobufs_owner.specs.Kinds.{same_kind}
 
 pub same-kind : (a b : Kind) → same_kind a b ≡ true → a ≡ b

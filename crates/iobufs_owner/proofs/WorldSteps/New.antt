@@ -13,8 +13,9 @@ use Rattle.iobufs_owner.specs.Reading.{reading, read_held, is_freed}
 use Rattle.iobufs_owner.specs.Sound.{IsSound}
 use Rattle.iobufs_owner.specs.Places.{IsGoodPlace}
 use Rattle.iobufs_owner.specs.Word.{HasRoom, word_of}
-use Rattle.iobufs_owner.specs.Moves as move
-use Rattle.iobufs_owner.specs.Moves.{Outcome, refused, block_of, first_handle, whole_view, described_of, recorded_of, with_block, with_record, next_record}
+use Rattle.iobufs_owner.specs.ShortCalls as short
+use Rattle.iobufs_owner.specs.Changes.{Outcome, refused, with_block, with_record, next_record}
+use Rattle.iobufs_owner.specs.ShortCalls.{block_of, first_handle, whole_view, described_of, recorded_of}
 use Rattle.iobufs_owner.specs.Steps as world
 use Rattle.iobufs_owner.specs.Steps.{NoRoom, Makes, Refuses, block_more, native_block, external_block}
 use Rattle.iobufs_owner.proofs.WorldSteps.Sizes.{IsAnswered}
@@ -55,7 +56,7 @@ recorded-made s t b x reply k good w i =
     let z : read_held g' x ≡ record { kind = x.kind; block = Some (length s.tables.blocks); place = x.ptr; len = x.len } = ap (λ (o : Option ℕ). record { kind = x.kind; block = o; place = x.ptr; len = x.len }) o in
     made-taken s (with_record (with_block s b) 1 (length s.tables.blocks)) t (block_more (reading s) b) x (record { kind = x.kind; block = Some (length s.tables.blocks); place = x.ptr; len = x.len }) reply (recorded-reads s b k good) z i
 
-new-placed : (s t : State) (base size log : ℕ) (o : Outcome) (reply : Reply) → IsSound s → IsGoodPlace s.tables.blocks base size (2 ^ log) → (v : Bool) → move.fits_in s.tables size log 0 ≡ v → o ≡ cond v (described_of s (block_of base size (2 ^ log) false) (word_of s.tables.align_bits s.tables.tail_bits size log 0)) (recorded_of s (block_of base size (2 ^ log) false) (first_handle (block_of base size (2 ^ log) false) (Counted (next_record s)))) → IsAnswered s o reply t → NoRoom (reading s) reply (reading t) ⊎ Makes (block_more (reading s) (native_block base size (2 ^ log))) (record { kind = Mut; block = Some (length s.tables.blocks); place = base; len = 0 }) reply (reading t)
+new-placed : (s t : State) (base size log : ℕ) (o : Outcome) (reply : Reply) → IsSound s → IsGoodPlace s.tables.blocks base size (2 ^ log) → (v : Bool) → short.fits_in s.tables size log 0 ≡ v → o ≡ cond v (described_of s (block_of base size (2 ^ log) false) (word_of s.tables.align_bits s.tables.tail_bits size log 0)) (recorded_of s (block_of base size (2 ^ log) false) (first_handle (block_of base size (2 ^ log) false) (Counted (next_record s)))) → IsAnswered s o reply t → NoRoom (reading s) reply (reading t) ⊎ Makes (block_more (reading s) (native_block base size (2 ^ log))) (record { kind = Mut; block = Some (length s.tables.blocks); place = base; len = 0 }) reply (reading t)
 new-placed s t base size log o reply k good true f e i =
     let room = fits-room s.tables.align_bits s.tables.tail_bits s.tables.size_bits size log 0 f in
     let b : Block = block_of base size (2 ^ log) false in
@@ -68,24 +69,24 @@ new-placed s t base size log o reply k good false f e i =
     recorded-made s t (block_of base size (2 ^ log) false) (first_handle (block_of base size (2 ^ log) false) (Counted (next_record s))) reply k good refl (subst (λ (o : Outcome). IsAnswered s o reply t) e i)
 
 -- a word that describes the block
-pub described-placed : (s : State) (base size align log w : ℕ) → align ≡ 2 ^ log → HasRoom s.tables.align_bits s.tables.tail_bits s.tables.size_bits size log 0 → w ≡ word_of s.tables.align_bits s.tables.tail_bits size log 0 → described_of s (block_of base size align false) w ≡ move.placed s base size log
+pub described-placed : (s : State) (base size align log w : ℕ) → align ≡ 2 ^ log → HasRoom s.tables.align_bits s.tables.tail_bits s.tables.size_bits size log 0 → w ≡ word_of s.tables.align_bits s.tables.tail_bits size log 0 → described_of s (block_of base size align false) w ≡ short.placed s base size log
 described-placed s base size align log w e room is = rw (e, is, fits-true s.tables.align_bits s.tables.tail_bits s.tables.size_bits size log 0 room) refl
 
-new-good : (s t : State) (base size align : ℕ) (memory : Bool) (o : Outcome) (reply : Reply) → IsSound s → IsGoodPlace s.tables.blocks base size align → MatchBool memory ((log : ℕ) × (align ≡ 2 ^ log) × (o ≡ move.placed s base size log)) (o ≡ refused s Memory) → IsAnswered s o reply t → MatchBool memory (NoRoom (reading s) reply (reading t) ⊎ Makes (block_more (reading s) (native_block base size align)) (record { kind = Mut; block = Some (length s.tables.blocks); place = base; len = 0 }) reply (reading t)) (Refuses (reading s) Memory reply (reading t))
+new-good : (s t : State) (base size align : ℕ) (memory : Bool) (o : Outcome) (reply : Reply) → IsSound s → IsGoodPlace s.tables.blocks base size align → MatchBool memory ((log : ℕ) × (align ≡ 2 ^ log) × (o ≡ short.placed s base size log)) (o ≡ refused s Memory) → IsAnswered s o reply t → MatchBool memory (NoRoom (reading s) reply (reading t) ⊎ Makes (block_more (reading s) (native_block base size align)) (record { kind = Mut; block = Some (length s.tables.blocks); place = base; len = 0 }) reply (reading t)) (Refuses (reading s) Memory reply (reading t))
 new-good s t base size align true o reply k good (log, e, p) i =
     subst (λ (a : ℕ). NoRoom (reading s) reply (reading t) ⊎ Makes (block_more (reading s) (native_block base size a)) (record { kind = Mut; block = Some (length s.tables.blocks); place = base; len = 0 }) reply (reading t)) (sym e)
-    (new-placed s t base size log o reply k (subst (λ (a : ℕ). IsGoodPlace s.tables.blocks base size a) e good) (move.fits_in s.tables size log 0) refl p i)
+    (new-placed s t base size log o reply k (subst (λ (a : ℕ). IsGoodPlace s.tables.blocks base size a) e good) (short.fits_in s.tables size log 0) refl p i)
 new-good s t base size align false o reply k good e i = refused-taken s t Memory reply (subst (λ (o : Outcome). IsAnswered s o reply t) e i)
 
-pub new-steps : (s t : State) (base size align : ℕ) (memory : Bool) (o : Outcome) (reply : Reply) → IsSound s → move.IsNew s base size align memory o → IsAnswered s o reply t → world.NewIs (reading s) (native_block base size align) (record { kind = Mut; block = Some (length s.tables.blocks); place = base; len = 0 }) memory reply (reading t)
+pub new-steps : (s t : State) (base size align : ℕ) (memory : Bool) (o : Outcome) (reply : Reply) → IsSound s → short.IsNew s base size align memory o → IsAnswered s o reply t → world.NewIs (reading s) (native_block base size align) (record { kind = Mut; block = Some (length s.tables.blocks); place = base; len = 0 }) memory reply (reading t)
 new-steps s t base size align memory o reply k (inl (bad, e)) i = inl (bad, refused-taken s t BadPlace reply (subst (λ (o : Outcome). IsAnswered s o reply t) e i))
 new-steps s t base size align memory o reply k (inr (good, p)) i = inr (good, new-good s t base size align memory o reply k good p i)
 
-external-good : (s t : State) (base size : ℕ) (memory : Bool) (reply : Reply) → IsSound s → IsGoodPlace s.tables.blocks base size 1 → IsAnswered s (move.external_of s base size memory) reply t → MatchBool memory (NoRoom (reading s) reply (reading t) ⊎ Makes (block_more (reading s) (external_block base size)) (record { kind = View; block = Some (length s.tables.blocks); place = base; len = size }) reply (reading t)) (Refuses (reading s) Memory reply (reading t))
+external-good : (s t : State) (base size : ℕ) (memory : Bool) (reply : Reply) → IsSound s → IsGoodPlace s.tables.blocks base size 1 → IsAnswered s (short.external_of s base size memory) reply t → MatchBool memory (NoRoom (reading s) reply (reading t) ⊎ Makes (block_more (reading s) (external_block base size)) (record { kind = View; block = Some (length s.tables.blocks); place = base; len = size }) reply (reading t)) (Refuses (reading s) Memory reply (reading t))
 external-good s t base size true reply k good i =
     recorded-made s t (block_of base size 1 true) (whole_view (block_of base size 1 true) (Counted (next_record s))) reply k good refl i
 external-good s t base size false reply k good i = refused-taken s t Memory reply i
 
-pub external-steps : (s t : State) (base size : ℕ) (memory : Bool) (o : Outcome) (reply : Reply) → IsSound s → move.IsExternal s base size memory o → IsAnswered s o reply t → world.NewIs (reading s) (external_block base size) (record { kind = View; block = Some (length s.tables.blocks); place = base; len = size }) memory reply (reading t)
+pub external-steps : (s t : State) (base size : ℕ) (memory : Bool) (o : Outcome) (reply : Reply) → IsSound s → short.IsExternal s base size memory o → IsAnswered s o reply t → world.NewIs (reading s) (external_block base size) (record { kind = View; block = Some (length s.tables.blocks); place = base; len = size }) memory reply (reading t)
 external-steps s t base size memory o reply k (inl (bad, e)) i = inl (bad, refused-taken s t BadPlace reply (subst (λ (o : Outcome). IsAnswered s o reply t) e i))
 external-steps s t base size memory o reply k (inr (good, e)) i = inr (good, external-good s t base size memory reply k good (subst (λ (o : Outcome). IsAnswered s o reply t) e i))

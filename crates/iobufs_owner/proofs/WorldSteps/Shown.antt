@@ -15,8 +15,8 @@ use Rattle.iobufs_owner.proofs.Soundness.Kept.{owner-empty, owner-counted}
 use Rattle.iobufs_owner.proofs.Soundness.Edits.{fits-at}
 use Rattle.iobufs_owner.specs.World.{Held, held_at, borrows, is_shared}
 use Rattle.iobufs_owner.specs.Reading.{reading, read_handle, read_held, read_call}
-use Rattle.iobufs_owner.specs.Moves as move
-use Rattle.iobufs_owner.specs.Moves.{lend_of, lend_found, is_lent, borrows_it}
+use Rattle.iobufs_owner.specs.Lending as lending
+use Rattle.iobufs_owner.specs.Lending.{lend_of, lend_found, is_lent, borrows_it}
 use Rattle.iobufs_owner.specs.Kinds.{same_kind}
 use Rattle.iobufs_owner.specs.Steps.{alone_of, alone_found, any_of, any_found, view_of, view_found, capacity, capacity_in}
 
@@ -67,19 +67,19 @@ alone-reads s h kind =
     ] in
     rw (held-reads s h) (by (handle_at s h))
 
-pub any-reads : (s : State) (h : ℕ) → any_of (reading s) h ≡ read_lent s.tables (move.any_of s h)
+pub any-reads : (s : State) (h : ℕ) → any_of (reading s) h ≡ read_lent s.tables (lending.any_of s h)
 any-reads s h =
-    let by : (o : Option Handle) → any_found (reading s) h (read_handle s.tables o) ≡ read_lent s.tables (move.any_found s h o) =
-    λ o. elim o as (λ o. any_found (reading s) h (read_handle s.tables o) ≡ read_lent s.tables (move.any_found s h o)) [
+    let by : (o : Option Handle) → any_found (reading s) h (read_handle s.tables o) ≡ read_lent s.tables (lending.any_found s h o) =
+    λ o. elim o as (λ o. any_found (reading s) h (read_handle s.tables o) ≡ read_lent s.tables (lending.any_found s h o)) [
       | None ↦ refl
       | Some x ↦ rw (shared-reads s.tables h s.calls) (any-found-reads s.tables x (is_lent h s.calls))
     ] in
     rw (held-reads s h) (by (handle_at s h))
 
-pub view-reads : (s : State) (h : ℕ) → view_of (reading s) h ≡ read_lent s.tables (move.view_of s h)
+pub view-reads : (s : State) (h : ℕ) → view_of (reading s) h ≡ read_lent s.tables (lending.view_of s h)
 view-reads s h =
-    let by : (o : Option Handle) → view_found (read_handle s.tables o) ≡ read_lent s.tables (move.view_found o) =
-    λ o. elim o as (λ o. view_found (read_handle s.tables o) ≡ read_lent s.tables (move.view_found o)) [
+    let by : (o : Option Handle) → view_found (read_handle s.tables o) ≡ read_lent s.tables (lending.view_found o) =
+    λ o. elim o as (λ o. view_found (read_handle s.tables o) ≡ read_lent s.tables (lending.view_found o)) [
       | None ↦ refl
       | Some x ↦ view-found-reads s.tables x (same_kind x.kind View)
     ] in
@@ -89,8 +89,8 @@ pub capacity-reads : (s : State) (h : ℕ) (x : Handle) → IsSound s → handle
 capacity-reads s h x k at m =
     let by : (w : Word) → x.word ≡ w → FitsWord s.tables s.calls x w → capacity_in (reading s) x.ptr (owner_of s.tables x) ≡ x.cap =
     λ w. elim w as (λ w. x.word ≡ w → FitsWord s.tables s.calls x w → capacity_in (reading s) x.ptr (owner_of s.tables x) ≡ x.cap) [
-      | Empty ↦ λ e f. rw (owner-empty s.tables x e) (sym f.0)
-      | Descriptor w ↦ λ e (b, log, tail, d). let lies = rw m at d.lies in rw d.owner (omega (arith, lies.1))
+      | Empty ↦ λ e f. rw (owner-empty s.tables x e) (sym f.no_room)
+      | Descriptor w ↦ λ e d. let lies = rw m at d.says.lies in rw d.says.owner (omega (arith, lies.1))
       | Counted r ↦ λ e f. let lies = rw m at f.lies in rw (owner-counted s.tables x r e) (omega (arith, lies.1))
     ] in
     by x.word refl (fits-at s h x k at)

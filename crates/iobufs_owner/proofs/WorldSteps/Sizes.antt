@@ -6,7 +6,8 @@ use Rattle.iobufs_owner.specs.declared.owner.types.Refusal.TheVariants.{Room}
 use Rattle.iobufs_owner.specs.declared.owner.types.Reply.{Reply}
 use Rattle.iobufs_owner.specs.declared.owner.types.Reply.TheVariants.{Refused}
 use Rattle.iobufs_owner.specs.State.{State, Seen}
-use Rattle.iobufs_owner.specs.Moves.{Outcome, WantsRoom, IsTaken, Took}
+use Rattle.iobufs_owner.specs.Changes.{Outcome}
+use Rattle.iobufs_owner.specs.Moves.{WantsRoom, IsTaken, Took}
 
 -- how many handles, blocks and records there are
 abbrev pub entries : State → ℕ × ℕ × ℕ

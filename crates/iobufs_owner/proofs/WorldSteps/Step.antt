@@ -14,7 +14,8 @@ use Rattle.iobufs_owner.specs.declared.owner.types.Reply.{Reply}
 use Rattle.iobufs_owner.specs.State.{State, Seen, call_at}
 use Rattle.iobufs_owner.specs.Reading.{reading, read_call}
 use Rattle.iobufs_owner.specs.Sound.{IsSound}
-use Rattle.iobufs_owner.specs.Moves.{Outcome, IsBegun, IsMoved, IsMovedAt, Moves, refused, gone_on}
+use Rattle.iobufs_owner.specs.Changes.{Outcome, refused}
+use Rattle.iobufs_owner.specs.Moves.{IsBegun, IsMoved, IsMovedAt, Moves, gone_on}
 use Rattle.iobufs_owner.specs.Steps.{Refuses, Begins, ActsAt, Steps}
 use Rattle.iobufs_owner.proofs.WorldSteps.Sizes.{IsAnswered, answered}
 use Rattle.iobufs_owner.proofs.WorldSteps.Shown.{get_or-read}

@@ -14,8 +14,12 @@ use Rattle.iobufs_owner.specs.State.{State, Tables, owner_of, handle_at}
 use Rattle.iobufs_owner.specs.World.{World, Held}
 use Rattle.iobufs_owner.specs.Reading.{reading, read_held, read_handle}
 use Rattle.iobufs_owner.specs.Sound.{IsSound}
-use Rattle.iobufs_owner.specs.Moves as move
-use Rattle.iobufs_owner.specs.Moves.{Outcome, refused, done, declined, edited, made, with_handle, lend_of, Lends, is_lent}
+use Rattle.iobufs_owner.specs.Changes as change
+use Rattle.iobufs_owner.specs.Lending as lending
+use Rattle.iobufs_owner.specs.ShortCalls as short
+use Rattle.iobufs_owner.specs.Changes.{Outcome, refused, done, edited, made, with_handle}
+use Rattle.iobufs_owner.specs.Lending.{lend_of, Lends, is_lent}
+use Rattle.iobufs_owner.specs.ShortCalls.{declined}
 use Rattle.iobufs_owner.specs.Steps as world
 use Rattle.iobufs_owner.specs.Steps.{Refuses, NoRoom, Denied, Makes, Declines, held_set, held_more}
 use Rattle.iobufs_owner.proofs.WorldSteps.Sizes.{IsAnswered, entries, grows-never}
@@ -65,8 +69,8 @@ edit-taken s t h y z reply e i = done-taken s (edited s h y) t (held_set (readin
 pub reads-empty : (g : Tables) (x : Handle) → x.word ≡ Empty → read_held g x ≡ record { kind = x.kind; block = None; place = x.ptr; len = x.len }
 reads-empty g x e = rw (owner-empty g x e) refl
 
-pub reads-detached : (g : Tables) (len : ℕ) → read_held g (move.detached len) ≡ world.detached len
-reads-detached g len = reads-empty g (move.detached len) refl
+pub reads-detached : (g : Tables) (len : ℕ) → read_held g (change.detached len) ≡ world.detached len
+reads-detached g len = reads-empty g (change.detached len) refl
 
 -- ---- tests
 
@@ -85,12 +89,12 @@ eq-true m n e = grind (arith, nat_tests, e)
 
 -- ---- Static
 
-pub static-steps : (s t : State) (len : ℕ) (reply : Reply) → IsAnswered s (move.static_of s len) reply t → NoRoom (reading s) reply (reading t) ⊎ Makes (reading s) (world.detached len) reply (reading t)
-static-steps s t len reply i = made-taken s s t (reading s) (move.detached len) (world.detached len) reply refl (reads-detached s.tables len) i
+pub static-steps : (s t : State) (len : ℕ) (reply : Reply) → IsAnswered s (short.static_of s len) reply t → NoRoom (reading s) reply (reading t) ⊎ Makes (reading s) (world.detached len) reply (reading t)
+static-steps s t len reply i = made-taken s s t (reading s) (change.detached len) (world.detached len) reply refl (reads-detached s.tables len) i
 
 -- ---- Put
 
-put-lent : (s t : State) (h n : ℕ) (reply : Reply) (r : Result Handle Refusal) → IsSound s → lend_of s h Mut ≡ r → IsAnswered s (move.put_lent s h n r) reply t → world.PutIs (reading s) h n (read_lent s.tables r) reply (reading t)
+put-lent : (s t : State) (h n : ℕ) (reply : Reply) (r : Result Handle Refusal) → IsSound s → lend_of s h Mut ≡ r → IsAnswered s (short.put_lent s h n r) reply t → world.PutIs (reading s) h n (read_lent s.tables r) reply (reading t)
 put-lent s t h n reply (Err why) k e i = refused-taken s t why reply i
 put-lent s t h n reply (Ok x) k e i =
     let l = lend-tells s h Mut x e in
@@ -99,7 +103,7 @@ put-lent s t h n reply (Ok x) k e i =
     (λ _ i. refused-taken s t OutOfRange reply i)
     (λ _ i. edit-taken s t h (record x { len = x.len + n }) (record { kind = x.kind; block = owner_of s.tables x; place = x.ptr; len = x.len + n }) reply (rw o refl) i) i)
 
-pub put-steps : (s t : State) (h n : ℕ) (reply : Reply) → IsSound s → IsAnswered s (move.put_of s h n) reply t → world.PutIs (reading s) h n (world.alone_of (reading s) h Mut) reply (reading t)
+pub put-steps : (s t : State) (h n : ℕ) (reply : Reply) → IsSound s → IsAnswered s (short.put_of s h n) reply t → world.PutIs (reading s) h n (world.alone_of (reading s) h Mut) reply (reading t)
 put-steps s t h n reply k i = rw (alone-reads s h Mut) (put-lent s t h n reply (lend_of s h Mut) k refl i)
 
 -- ---- Advance
@@ -108,23 +112,23 @@ any-free : (s : State) (h : ℕ) (x y : Handle) (u : Bool) → is_lent h s.calls
 any-free s h x y true f at i = absurd (cc)
 any-free s h x y false f at i = let q : y ≡ x = cc in record { at = at ∙ ap Some q; kind_is = refl; free = f }
 
-pub any-tells : (s : State) (h : ℕ) (x : Handle) → move.any_of s h ≡ Ok x → Lends s h x.kind x
+pub any-tells : (s : State) (h : ℕ) (x : Handle) → lending.any_of s h ≡ Ok x → Lends s h x.kind x
 any-tells s h x e =
-    let by : (o : Option Handle) → handle_at s h ≡ o → move.any_found s h o ≡ Ok x → Lends s h x.kind x =
-    λ o. elim o as (λ o. handle_at s h ≡ o → move.any_found s h o ≡ Ok x → Lends s h x.kind x) [
+    let by : (o : Option Handle) → handle_at s h ≡ o → lending.any_found s h o ≡ Ok x → Lends s h x.kind x =
+    λ o. elim o as (λ o. handle_at s h ≡ o → lending.any_found s h o ≡ Ok x → Lends s h x.kind x) [
       | None ↦ λ at i. absurd (cc)
       | Some y ↦ λ at i. any-free s h x y (is_lent h s.calls) refl at i
     ] in
     by (handle_at s h) refl e
 
-advance-lent : (s t : State) (h n : ℕ) (reply : Reply) (r : Result Handle Refusal) → IsSound s → move.any_of s h ≡ r → IsAnswered s (move.advance_lent s h n r) reply t → world.AdvanceIs (reading s) h n (read_lent s.tables r) reply (reading t)
+advance-lent : (s t : State) (h n : ℕ) (reply : Reply) (r : Result Handle Refusal) → IsSound s → lending.any_of s h ≡ r → IsAnswered s (short.advance_lent s h n r) reply t → world.AdvanceIs (reading s) h n (read_lent s.tables r) reply (reading t)
 advance-lent s t h n reply (Err why) k e i = refused-taken s t why reply i
 advance-lent s t h n reply (Ok x) k e i =
     let l = any-tells s h x e in
-    by-test _ _ s t (refused s OutOfRange) (done (edited s h (move.advanced x n))) reply (nat_lt x.len n)
+    by-test _ _ s t (refused s OutOfRange) (done (edited s h (short.advanced x n))) reply (nat_lt x.len n)
     (λ _ i. refused-taken s t OutOfRange reply i)
     (λ v i. let o = owner-advanced s.tables x n (lt-false x.len n v) (within s h x k l.at) in
-    edit-taken s t h (move.advanced x n) (record { kind = x.kind; block = owner_of s.tables x; place = x.ptr + n; len = x.len - n }) reply (rw o refl) i) i
+    edit-taken s t h (short.advanced x n) (record { kind = x.kind; block = owner_of s.tables x; place = x.ptr + n; len = x.len - n }) reply (rw o refl) i) i
 
-pub advance-steps : (s t : State) (h n : ℕ) (reply : Reply) → IsSound s → IsAnswered s (move.advance_of s h n) reply t → world.AdvanceIs (reading s) h n (world.any_of (reading s) h) reply (reading t)
-advance-steps s t h n reply k i = rw (any-reads s h) (advance-lent s t h n reply (move.any_of s h) k refl i)
+pub advance-steps : (s t : State) (h n : ℕ) (reply : Reply) → IsSound s → IsAnswered s (short.advance_of s h n) reply t → world.AdvanceIs (reading s) h n (world.any_of (reading s) h) reply (reading t)
+advance-steps s t h n reply k i = rw (any-reads s h) (advance-lent s t h n reply (lending.any_of s h) k refl i)

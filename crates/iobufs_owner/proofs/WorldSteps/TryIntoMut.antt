@@ -13,8 +13,11 @@ use Rattle.iobufs_owner.specs.State.{State, owner_of, handle_at, record_at, bloc
 use Rattle.iobufs_owner.specs.World.{World, holders, is_block}
 use Rattle.iobufs_owner.specs.Reading.{reading, read_held, read_handle}
 use Rattle.iobufs_owner.specs.Sound.{IsSound}
-use Rattle.iobufs_owner.specs.Moves as move
-use Rattle.iobufs_owner.specs.Moves.{Outcome, refused, done, declined, edited, thawed, lend_of, Lends, is_lent, is_unique}
+use Rattle.iobufs_owner.specs.Lending as lending
+use Rattle.iobufs_owner.specs.ShortCalls as short
+use Rattle.iobufs_owner.specs.Changes.{Outcome, refused, done, edited}
+use Rattle.iobufs_owner.specs.Lending.{lend_of, Lends, is_lent}
+use Rattle.iobufs_owner.specs.ShortCalls.{declined, thawed, is_unique}
 use Rattle.iobufs_owner.specs.Steps as world
 use Rattle.iobufs_owner.specs.Steps.{Declines, MayRecover, held_set}
 use Rattle.iobufs_owner.proofs.WorldSteps.Sizes.{IsAnswered, grows-never}
@@ -52,22 +55,22 @@ recover-counted s t h x r reply false false k l w e f i =
     let c = counted-at s h x r k l.at w in
     inr (λ m. (let q = is-eqb (record_at s.tables r).count 1 ((k.counted r c.live).counts c.shown ∙ m.1) in cc), declined-taken s t reply i)
 
-recover-word : (s t : State) (h : ℕ) (x : Handle) (reply : Reply) (w : Word) → IsSound s → Lends s h View x → x.word ≡ w → IsAnswered s (move.recover_by s h x w) reply t → Recovers s h x (owner_of s.tables x) reply (reading t)
+recover-word : (s t : State) (h : ℕ) (x : Handle) (reply : Reply) (w : Word) → IsSound s → Lends s h View x → x.word ≡ w → IsAnswered s (short.recover_by s h x w) reply t → Recovers s h x (owner_of s.tables x) reply (reading t)
 recover-word s t h x reply Empty k l w i = subst (λ (o : Option ℕ). Recovers s h x o reply (reading t)) (sym (owner-empty s.tables x w)) (recover-empty s t h x reply (nat_eq x.len 0) refl w i)
 recover-word s t h x reply (Descriptor v) k l w i =
     let d = described-at s h x v k l.at w in
     let y : Handle = thawed x (x.len + tail_in s.tables v) (Descriptor (retailed s.tables v 0)) in
-    let o = owner-redescribed s.tables x y v (retailed s.tables v 0) w refl (base-thawed s.tables x v d.0 d.1 d.2 l.kind_is d.3) in
-    let one = alone-at s h x d.0 k l.at (alone-described s.tables d.0 x v w ∙ ap (is_block d.0) d.3.owner ∙ is-eqb d.0 d.0 refl) in
-    subst (λ (o : Option ℕ). Recovers s h x o reply (reading t)) (sym d.3.owner) (let q = edit-taken s t h y (record { kind = Mut; block = owner_of s.tables x; place = x.ptr; len = x.len }) reply (rw o refl) i in inl ((d.3.native, one), q.0, q.1))
+    let o = owner-redescribed s.tables x y v (retailed s.tables v 0) w refl (base-thawed s.tables x v d.block d.log d.tail l.kind_is d.says) in
+    let one = alone-at s h x d.block k l.at (alone-described s.tables d.block x v w ∙ ap (is_block d.block) d.says.owner ∙ is-eqb d.block d.block refl) in
+    subst (λ (o : Option ℕ). Recovers s h x o reply (reading t)) (sym d.says.owner) (let q = edit-taken s t h y (record { kind = Mut; block = owner_of s.tables x; place = x.ptr; len = x.len }) reply (rw o refl) i in inl ((d.says.native, one), q.0, q.1))
 recover-word s t h x reply (Counted r) k l w i =
     subst (λ (o : Option ℕ). Recovers s h x o reply (reading t)) (sym (owner-counted s.tables x r w)) (recover-counted s t h x r reply (block_at s.tables (record_at s.tables r).block).external (nat_eq (record_at s.tables r).count 1) k l w refl refl i)
 
-recover-lent : (s t : State) (h : ℕ) (reply : Reply) (r : Result Handle Refusal) → IsSound s → lend_of s h View ≡ r → IsAnswered s (move.recover_lent s h r) reply t → world.RecoverIs (reading s) h (read_lent s.tables r) reply (reading t)
+recover-lent : (s t : State) (h : ℕ) (reply : Reply) (r : Result Handle Refusal) → IsSound s → lend_of s h View ≡ r → IsAnswered s (short.recover_lent s h r) reply t → world.RecoverIs (reading s) h (read_lent s.tables r) reply (reading t)
 recover-lent s t h reply (Err why) k e i = refused-taken s t why reply i
 recover-lent s t h reply (Ok x) k e i = recover-word s t h x reply x.word k (lend-tells s h View x e) refl i
 
-pub recover-steps : (s t : State) (h : ℕ) (reply : Reply) → IsSound s → IsAnswered s (move.recover_of s h) reply t → world.RecoverIs (reading s) h (world.alone_of (reading s) h View) reply (reading t)
+pub recover-steps : (s t : State) (h : ℕ) (reply : Reply) → IsSound s → IsAnswered s (short.recover_of s h) reply t → world.RecoverIs (reading s) h (world.alone_of (reading s) h View) reply (reading t)
 recover-steps s t h reply k i = rw (alone-reads s h View) (recover-lent s t h reply (lend_of s h View) k refl i)
 
 -- ---- IsUnique
@@ -77,7 +80,7 @@ same-taken s t answer reply (inl (e, f)) = (e, ap reading f)
 same-taken s t answer reply (inr (l, e, f)) = absurd (grows-never s s refl l)
 
 -- what is answered, by the block and by whether the handle is borrowed
-unique-answers : (s t : State) (h b : ℕ) (x : Handle) (reply : Reply) (u : Bool) → is_unique s.tables x x.word ≡ nat_eq (holders (reading s) b) 1 → IsAnswered s (move.unique_lent s (cond u (Err Borrowed) (Ok x))) reply t → world.UniqueIs (reading s) (cond u (Err Borrowed) (Ok b)) reply (reading t)
+unique-answers : (s t : State) (h b : ℕ) (x : Handle) (reply : Reply) (u : Bool) → is_unique s.tables x x.word ≡ nat_eq (holders (reading s) b) 1 → IsAnswered s (short.unique_lent s (cond u (Err Borrowed) (Ok x))) reply t → world.UniqueIs (reading s) (cond u (Err Borrowed) (Ok b)) reply (reading t)
 unique-answers s t h b x reply true e i = refused-taken s t Borrowed reply i
 unique-answers s t h b x reply false e i = let q = same-taken s t (Unique (is_unique s.tables x x.word)) reply i in (q.0 ∙ ap Unique e, q.1)
 
@@ -89,28 +92,28 @@ is-unique-counted s h r x Mut k at w e =
     let one = alone-at s h x (record_at s.tables r).block k at (alone-written s.tables (record_at s.tables r).block x r w e ∙ ap (is_block (record_at s.tables r).block) (owner-counted s.tables x r w) ∙ is-eqb (record_at s.tables r).block (record_at s.tables r).block refl) in
     sym (is-eqb (holders (reading s) (record_at s.tables r).block) 1 one)
 
-unique-word : (s t : State) (h : ℕ) (x : Handle) (reply : Reply) (w : Word) → IsSound s → handle_at s h ≡ Some x → x.word ≡ w → IsAnswered s (move.unique_lent s (cond (move.is_empty w) (Err WrongKind) (cond (is_lent h s.calls) (Err Borrowed) (Ok x)))) reply t → world.UniqueIs (reading s) (world.with_block (reading s) h (owner_of s.tables x)) reply (reading t)
+unique-word : (s t : State) (h : ℕ) (x : Handle) (reply : Reply) (w : Word) → IsSound s → handle_at s h ≡ Some x → x.word ≡ w → IsAnswered s (short.unique_lent s (cond (lending.is_empty w) (Err WrongKind) (cond (is_lent h s.calls) (Err Borrowed) (Ok x)))) reply t → world.UniqueIs (reading s) (world.with_block (reading s) h (owner_of s.tables x)) reply (reading t)
 unique-word s t h x reply Empty k at w i = rw (owner-empty s.tables x w) (refused-taken s t WrongKind reply i)
 unique-word s t h x reply (Descriptor v) k at w i =
     let d = described-at s h x v k at w in
-    let one = alone-at s h x d.0 k at (alone-described s.tables d.0 x v w ∙ ap (is_block d.0) d.3.owner ∙ is-eqb d.0 d.0 refl) in
-    subst (λ (o : Option ℕ). world.UniqueIs (reading s) (world.with_block (reading s) h o) reply (reading t)) (sym d.3.owner)
-    (rw (shared-reads s.tables h s.calls) (unique-answers s t h d.0 x reply (is_lent h s.calls) (ap (is_unique s.tables x) w ∙ sym (is-eqb (holders (reading s) d.0) 1 one)) i))
+    let one = alone-at s h x d.block k at (alone-described s.tables d.block x v w ∙ ap (is_block d.block) d.says.owner ∙ is-eqb d.block d.block refl) in
+    subst (λ (o : Option ℕ). world.UniqueIs (reading s) (world.with_block (reading s) h o) reply (reading t)) (sym d.says.owner)
+    (rw (shared-reads s.tables h s.calls) (unique-answers s t h d.block x reply (is_lent h s.calls) (ap (is_unique s.tables x) w ∙ sym (is-eqb (holders (reading s) d.block) 1 one)) i))
 unique-word s t h x reply (Counted r) k at w i =
     subst (λ (o : Option ℕ). world.UniqueIs (reading s) (world.with_block (reading s) h o) reply (reading t)) (sym (owner-counted s.tables x r w))
     (rw (shared-reads s.tables h s.calls) (unique-answers s t h (record_at s.tables r).block x reply (is_lent h s.calls) (ap (is_unique s.tables x) w ∙ is-unique-counted s h r x x.kind k at w refl) i))
 
-unique-found : (s t : State) (h : ℕ) (reply : Reply) (o : Option Handle) → IsSound s → handle_at s h ≡ o → IsAnswered s (move.unique_lent s (move.owning_found s h o)) reply t → world.UniqueIs (reading s) (world.block_found (reading s) h (read_handle s.tables o)) reply (reading t)
+unique-found : (s t : State) (h : ℕ) (reply : Reply) (o : Option Handle) → IsSound s → handle_at s h ≡ o → IsAnswered s (short.unique_lent s (lending.owning_found s h o)) reply t → world.UniqueIs (reading s) (world.block_found (reading s) h (read_handle s.tables o)) reply (reading t)
 unique-found s t h reply None k at i = refused-taken s t NoHandle reply i
 unique-found s t h reply (Some x) k at i = unique-word s t h x reply x.word k at refl i
 
-pub unique-steps : (s t : State) (h : ℕ) (reply : Reply) → IsSound s → IsAnswered s (move.unique_of s h) reply t → world.UniqueIs (reading s) (world.block_of (reading s) h) reply (reading t)
+pub unique-steps : (s t : State) (h : ℕ) (reply : Reply) → IsSound s → IsAnswered s (short.unique_of s h) reply t → world.UniqueIs (reading s) (world.block_of (reading s) h) reply (reading t)
 unique-steps s t h reply k i = rw (held-reads s h) (unique-found s t h reply (handle_at s h) k refl i)
 
 -- the question changes nothing
-unique-same : (s : State) (r : Result Handle Refusal) → s ≡ (move.unique_lent s r).state
+unique-same : (s : State) (r : Result Handle Refusal) → s ≡ (short.unique_lent s r).state
 unique-same s (Err why) = refl
 unique-same s (Ok x) = refl
 
-pub unique-state : (s : State) (h : ℕ) → s ≡ (move.unique_of s h).state
-unique-state s h = unique-same s (move.owning_of s h)
+pub unique-state : (s : State) (h : ℕ) → s ≡ (short.unique_of s h).state
+unique-state s h = unique-same s (lending.owning_of s h)

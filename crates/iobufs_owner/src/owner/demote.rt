@@ -2,8 +2,10 @@
 ghost use Rattle.std.specs.Prelude.{◌≡◌, ℕ, ◌^◌};
 ghost use Rattle.iobufs_owner.specs.declared.owner.types.Kind.TheVariants.{View};
 ghost use Rattle.iobufs_owner.specs.declared.owner.types.Word.TheVariants.{Record as Counted};
-ghost use Rattle.iobufs_owner.specs.Moves as move;
-ghost use Rattle.iobufs_owner.specs.Moves.{Outcome, Lends, IsDemoted, owning_view_of};
+ghost use Rattle.iobufs_owner.specs.ShortCalls as short;
+ghost use Rattle.iobufs_owner.specs.Changes.{Outcome};
+ghost use Rattle.iobufs_owner.specs.Lending.{Lends, owning_view_of};
+ghost use Rattle.iobufs_owner.specs.ShortCalls.{IsDemoted};
 ghost use Rattle.iobufs_owner.specs.State.{record_at, block_at};
 
 use crate::owner::{Handle, Machine, Record, Reply, Word};
@@ -32,8 +34,8 @@ impl Machine {
         requires word { x.word ≡ Counted r }
         ensures { (log : ℕ)
             × ((block_at self.old.state.tables (record_at self.old.state.tables r).block).align ≡ 2 ^ log)
-            × (result ≡ (move.demote_counted self.old.state h x r log).reply)
-            × (self.new.state ≡ (move.demote_counted self.old.state h x r log).state) }
+            × (result ≡ (short.demote_counted self.old.state h x r log).reply)
+            × (self.new.state ≡ (short.demote_counted self.old.state h x r log).state) }
     {
         let record = self.record(r);
         let block = self.block(record.block);

@@ -2,7 +2,8 @@
 ghost use Rattle.std.specs.Prelude.{◌≡◌, ℕ, ◌+◌, ◌^◌, ◌<◌, ◌≤◌};
 ghost use Rattle.iobufs_owner.specs.declared.owner.types.Kind.TheVariants.{View};
 ghost use Rattle.iobufs_owner.specs.declared.owner.types.Word.TheVariants.{Empty, Descriptor, Record as Counted};
-ghost use Rattle.iobufs_owner.specs.Moves.{Lends, put_of, advance_of, recover_of, recover_by, unique_of};
+ghost use Rattle.iobufs_owner.specs.Lending.{Lends};
+ghost use Rattle.iobufs_owner.specs.ShortCalls.{put_of, advance_of, recover_of, recover_by, unique_of};
 
 use crate::owner::{Handle, Kind, Machine, Refusal, Reply, Word};
 

@@ -3,8 +3,12 @@ ghost use Rattle.std.specs.Prelude.{◌≡◌, ℕ, ◌+◌, ◌^◌, ◌<◌, �
 ghost use Rattle.iobufs_owner.specs.declared.owner.types.Kind.TheVariants.{View, Mut};
 ghost use Rattle.iobufs_owner.specs.declared.owner.types.Reply.TheVariants.{Done};
 ghost use Rattle.iobufs_owner.specs.declared.owner.types.Word.TheVariants.{Empty, Descriptor, Record as Counted};
-ghost use Rattle.iobufs_owner.specs.Moves as move;
-ghost use Rattle.iobufs_owner.specs.Moves.{Lends, IsLoose, Took, done, edited, replaced, promoted, next_record, block_freed, both_freed, freeze_by, freeze_of};
+ghost use Rattle.iobufs_owner.specs.Changes as change;
+ghost use Rattle.iobufs_owner.specs.ShortCalls as short;
+ghost use Rattle.iobufs_owner.specs.Changes.{done, edited, replaced, next_record, block_freed, both_freed};
+ghost use Rattle.iobufs_owner.specs.Lending.{Lends};
+ghost use Rattle.iobufs_owner.specs.ShortCalls.{IsLoose, promoted, freeze_by, freeze_of};
+ghost use Rattle.iobufs_owner.specs.Moves.{Took};
 ghost use Rattle.iobufs_owner.specs.State.{recovered, end_of};
 
 use crate::owner::lend::detached;
@@ -14,7 +18,7 @@ use std::alloc::AllocError;
 
 /// A writable handle as a view, which owns what the word says.
 fn frozen(x: Handle, word: Word) -> Handle
-    ensures { result ≡ move.frozen x word }
+    ensures { result ≡ short.frozen x word }
 {
     Handle {
         kind: Kind::View,
@@ -59,7 +63,7 @@ impl Machine {
     fn freeze_nothing(&mut self, h: usize, x: Handle) -> Reply
         requires { Lends self.old.state h Mut x }
         ensures reply { result ≡ Done }
-        ensures state { self.new.state ≡ edited (move.freed_with self.old.state x x.word) h (move.detached 0) }
+        ensures state { self.new.state ≡ edited (short.freed_with self.old.state x x.word) h (change.detached 0) }
     {
         match x.word {
             Word::Empty => self.detach(h, x),
@@ -73,7 +77,7 @@ impl Machine {
     fn detach(&mut self, h: usize, x: Handle)
         requires lent { Lends self.old.state h Mut x }
         requires word { x.word ≡ Empty }
-        ensures { self.new.state ≡ edited self.old.state h (move.detached 0) }
+        ensures { self.new.state ≡ edited self.old.state h (change.detached 0) }
     {
         self.handles[h] = Some(detached());
     }
@@ -122,7 +126,7 @@ impl Machine {
         requires lent { Lends self.old.state h Mut x }
         requires word { x.word ≡ Empty }
         ensures reply { result ≡ Done }
-        ensures state { self.new.state ≡ edited self.old.state h (move.frozen x Empty) }
+        ensures state { self.new.state ≡ edited self.old.state h (short.frozen x Empty) }
     {
         self.handles[h] = Some(frozen(x, Word::Empty));
         Reply::Done
@@ -133,7 +137,7 @@ impl Machine {
         requires lent { Lends self.old.state h Mut x }
         requires word { x.word ≡ Counted r }
         ensures reply { result ≡ Done }
-        ensures state { self.new.state ≡ edited self.old.state h (move.frozen x (Counted r)) }
+        ensures state { self.new.state ≡ edited self.old.state h (short.frozen x (Counted r)) }
     {
         self.handles[h] = Some(frozen(x, Word::Record(r)));
         Reply::Done
@@ -167,7 +171,7 @@ impl Machine {
         requires lent { Lends self.old.state h Mut x }
         requires word { x.word ≡ Descriptor word }
         ensures { Took self.old
-            (done (edited (promoted self.old.state x 1) h (move.frozen x (Counted (next_record self.old.state)))))
+            (done (edited (promoted self.old.state x 1) h (short.frozen x (Counted (next_record self.old.state)))))
             result self.new }
     {
         let block = self.owned(h, x, word);

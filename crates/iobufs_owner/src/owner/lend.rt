@@ -2,9 +2,9 @@
 ghost use Rattle.std.specs.Prelude.{◌≡◌, ℕ, ◌+◌, ◌-◌, ◌^◌, ◌<◌, ◌≤◌, length, slice_index_or, slice_set, vec_capacity, IfOk, IfSome, Some};
 ghost use Rattle.iobufs_owner.specs.declared.owner.types.Kind.TheVariants.{View};
 ghost use Rattle.iobufs_owner.specs.declared.owner.types.Word.TheVariants.{Descriptor};
-ghost use Rattle.iobufs_owner.specs.Moves as move;
-ghost use Rattle.iobufs_owner.specs.Moves.{is_lent, lend_of, any_of, owning_of, owning_view_of, Lends};
-ghost use Rattle.iobufs_owner.specs.Sound.{IsSound, IsDescribed};
+ghost use Rattle.iobufs_owner.specs.Changes as change;
+ghost use Rattle.iobufs_owner.specs.Lending.{is_lent, lend_of, any_of, owning_of, owning_view_of, Lends};
+ghost use Rattle.iobufs_owner.specs.Sound.{IsSound, DescribesBlock};
 ghost use Rattle.iobufs_owner.specs.State.{handle_at, record_at, block_at, owner_of, owned_by};
 
 use crate::owner::freeze::end;
@@ -37,7 +37,7 @@ pub(super) fn part(x: Handle, lo: u64, hi: u64, word: Word) -> Handle
     requires order { lo ≤ hi }
     requires within { hi ≤ x.len }
     requires ends { x.ptr + x.len < 2 ^ 64 }
-    ensures { result ≡ move.part x lo hi word }
+    ensures { result ≡ change.part x lo hi word }
 {
     Handle {
         kind: Kind::View,
@@ -50,7 +50,7 @@ pub(super) fn part(x: Handle, lo: u64, hi: u64, word: Word) -> Handle
 
 /// A view of no bytes without block.
 pub(super) fn detached() -> Handle
-    ensures { result ≡ move.detached 0 }
+    ensures { result ≡ change.detached 0 }
 {
     Handle {
         kind: Kind::View,
@@ -62,6 +62,13 @@ pub(super) fn detached() -> Handle
 }
 
 impl Machine {
+    /// What the machine keeps true, for the prover: a look at a field tells it.
+    pub(super) fn known(&self)
+        ensures { IsSound self.now.state }
+    {
+        let _ = &self.format;
+    }
+
     /// Whether an unfinished call borrows the handle.
     fn is_lent(&self, h: usize) -> bool
         requires { h < length self.now.state.handles }
@@ -169,8 +176,7 @@ impl Machine {
     /// The number of the block that a descriptor of this handle describes: the one at the base that both give.
     pub(super) fn described(&self, x: Handle, word: u64) -> usize
         requires word { x.word ≡ Descriptor word }
-        requires says { (b : ℕ) × (log : ℕ) × (tail : ℕ)
-            × IsDescribed self.now.state.tables x word b log tail }
+        requires says { DescribesBlock self.now.state.tables x word }
         ensures { owner_of self.now.state.tables x ≡ Some result }
     {
         let fields = self.format.unpack(word);
@@ -188,8 +194,7 @@ impl Machine {
         ensures owner { owner_of self.now.state.tables x ≡ Some result }
         ensures number { result ≡ owned_by self.now.state.tables x }
     {
-        // A look at a field tells the prover what the machine keeps true.
-        let _ = &self.format;
+        self.known();
         self.described(x, word)
     }
 }

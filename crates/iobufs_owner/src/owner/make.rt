@@ -2,7 +2,9 @@
 ghost use Rattle.std.specs.Prelude.{◌≡◌, ℕ, ◌+◌, ◌^◌, ◌<◌, ◌≤◌, ◌∷◌, [], ◌++◌, length, vec_len, vec_capacity, OnOk, All, true, false};
 ghost use Rattle.iobufs_owner.specs.declared.owner.types.Kind.TheVariants.{Mut};
 ghost use Rattle.iobufs_owner.specs.declared.owner.types.Word.TheVariants.{Record as Counted};
-ghost use Rattle.iobufs_owner.specs.Moves.{Outcome, Took, CanDescribe, IsNew, IsExternal, made, detached, described_of, recorded_of, next_record};
+ghost use Rattle.iobufs_owner.specs.Changes.{Outcome, made, detached, next_record};
+ghost use Rattle.iobufs_owner.specs.ShortCalls.{CanDescribe, IsNew, IsExternal, described_of, recorded_of};
+ghost use Rattle.iobufs_owner.specs.Moves.{Took};
 ghost use Rattle.iobufs_owner.specs.Places.{IsPlace, ApartFrom, IsGoodPlace};
 ghost use Rattle.iobufs_owner.specs.Sound.{LiesIn};
 

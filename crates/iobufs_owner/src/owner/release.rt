@@ -4,15 +4,17 @@ ghost use Rattle.iobufs_owner.specs.declared.owner.types.Kind.TheVariants.{View}
 ghost use Rattle.iobufs_owner.specs.declared.owner.types.Word.TheVariants.{Empty, Record as Counted};
 ghost use Rattle.iobufs_owner.specs.declared.owner.types.Reply.TheVariants.{More, Done};
 ghost use Rattle.iobufs_owner.specs.declared.owner.types.Pending.TheVariants.{Subtract, Release};
-ghost use Rattle.iobufs_owner.specs.Moves as move;
-ghost use Rattle.iobufs_owner.specs.Moves.{Lends, called, state_without, drop_of, subtract_of, release_of};
+ghost use Rattle.iobufs_owner.specs.LongCalls as long;
+ghost use Rattle.iobufs_owner.specs.Changes.{called, state_without};
+ghost use Rattle.iobufs_owner.specs.Lending.{Lends};
+ghost use Rattle.iobufs_owner.specs.LongCalls.{drop_of, subtract_of, release_of};
 ghost use Rattle.iobufs_owner.specs.State.{call_at, record_at};
 
 use crate::owner::{Freed, Handle, Kind, Machine, Pending, Record, Reply, Word};
 
 /// What a drop does next that loaded this count.
 fn after_count(count: u64, r: usize) -> Pending
-    ensures { result ≡ move.after_count count r }
+    ensures { result ≡ long.after_count count r }
 {
     if count == 1 {
         Pending::Release(r)
@@ -60,8 +62,8 @@ impl Machine {
         requires idle { call_at self.old.state party ≡ None }
         requires lent { Lends self.old.state h x.kind x }
         requires word { x.word ≡ Counted r }
-        ensures reply { result ≡ (move.drop_counted self.old.state party h r x.kind).reply }
-        ensures state { self.new.state ≡ (move.drop_counted self.old.state party h r x.kind).state }
+        ensures reply { result ≡ (long.drop_counted self.old.state party h r x.kind).reply }
+        ensures state { self.new.state ≡ (long.drop_counted self.old.state party h r x.kind).state }
     {
         match x.kind {
             Kind::Mut => {
@@ -81,7 +83,7 @@ impl Machine {
         ensures reply { result ≡ More }
         ensures state { self.new.state
             ≡ called (state_without self.old.state h) party
-            (Some (move.after_count (record_at self.old.state.tables r).count r)) }
+            (Some (long.after_count (record_at self.old.state.tables r).count r)) }
     {
         let record = self.record(r);
         let next = after_count(record.count, r);

@@ -4,8 +4,12 @@ ghost use Rattle.iobufs_owner.specs.declared.owner.types.Kind.TheVariants.{View}
 ghost use Rattle.iobufs_owner.specs.declared.owner.types.Word.TheVariants.{Empty, Descriptor, Record as Counted};
 ghost use Rattle.iobufs_owner.specs.declared.owner.types.Pending.TheVariants.{Loaded, Ready, Add};
 ghost use Rattle.iobufs_owner.specs.declared.owner.types.Reply.TheVariants.{More};
-ghost use Rattle.iobufs_owner.specs.Moves as move;
-ghost use Rattle.iobufs_owner.specs.Moves.{Took, called, edited, record_freed, shared, with_count, share_by, clone_of, slice_of, ready_of, race_of, add_of};
+ghost use Rattle.iobufs_owner.specs.Changes as change;
+ghost use Rattle.iobufs_owner.specs.Lending as lending;
+ghost use Rattle.iobufs_owner.specs.LongCalls as long;
+ghost use Rattle.iobufs_owner.specs.Changes.{called, edited, record_freed, with_count};
+ghost use Rattle.iobufs_owner.specs.LongCalls.{shared, share_by, clone_of, slice_of, ready_of, race_of, add_of};
+ghost use Rattle.iobufs_owner.specs.Moves.{Took};
 ghost use Rattle.iobufs_owner.specs.Sound.{IsSound, Shares};
 ghost use Rattle.iobufs_owner.specs.State.{handle_at, call_at, record_at};
 
@@ -17,7 +21,7 @@ use std::alloc::AllocError;
 impl Machine {
     /// The view, for a call that shares it.
     fn view(&self, h: usize) -> Result<Handle, Refusal>
-        ensures value { result ≡ move.view_of self.now.state h }
+        ensures value { result ≡ lending.view_of self.now.state h }
         ensures at { IfOk result (λ x. handle_at self.now.state h ≡ Some x) }
         ensures kind { IfOk result (λ x. x.kind ≡ View) }
         ensures sound { IsSound self.now.state }
@@ -93,7 +97,7 @@ impl Machine {
     fn share_empty(&mut self, range: Share, x: Handle) -> Result<Reply, AllocError>
         requires fits { Shares self.old.state range x }
         requires word { x.word ≡ Empty }
-        ensures { Took self.old (move.made self.old.state (move.part x range.lo range.hi Empty)) result self.new }
+        ensures { Took self.old (change.made self.old.state (change.part x range.lo range.hi Empty)) result self.new }
     {
         room_for_handle(&mut self.handles, &mut self.borrows)?;
         let new = self.handles.len();
@@ -134,7 +138,7 @@ impl Machine {
     /// The number of the block that a loaded descriptor describes.
     fn loaded_block(&self, party: usize, range: Share, word: u64) -> usize
         requires { call_at self.now.state party ≡ Some (Loaded range word) }
-        ensures { result ≡ move.loaded_block self.now.state range.handle word }
+        ensures { result ≡ long.loaded_block self.now.state range.handle word }
     {
         let Some(x) = self.find(range.handle) else {
             unreachable!()

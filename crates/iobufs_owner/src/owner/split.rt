@@ -2,8 +2,12 @@
 ghost use Rattle.std.specs.Prelude.{◌≡◌, ℕ, ◌+◌, ◌^◌, ◌<◌, ◌≤◌, true};
 ghost use Rattle.iobufs_owner.specs.declared.owner.types.Kind.TheVariants.{View};
 ghost use Rattle.iobufs_owner.specs.declared.owner.types.Word.TheVariants.{Empty, Descriptor, Record as Counted};
-ghost use Rattle.iobufs_owner.specs.Moves as move;
-ghost use Rattle.iobufs_owner.specs.Moves.{Lends, Took, edited, made, split_by, split_of};
+ghost use Rattle.iobufs_owner.specs.Changes as change;
+ghost use Rattle.iobufs_owner.specs.ShortCalls as short;
+ghost use Rattle.iobufs_owner.specs.Changes.{edited, made};
+ghost use Rattle.iobufs_owner.specs.Lending.{Lends};
+ghost use Rattle.iobufs_owner.specs.ShortCalls.{split_by, split_of};
+ghost use Rattle.iobufs_owner.specs.Moves.{Took};
 
 use crate::owner::lend::{detached, part};
 use crate::owner::room::{room_for_handle, room_for_record};
@@ -39,7 +43,7 @@ impl Machine {
     fn move_whole(&mut self, h: usize, x: Handle) -> Result<Reply, AllocError>
         requires { Lends self.old.state h View x }
         ensures { Took self.old
-            (made (edited self.old.state h (move.detached 0)) x) result self.new }
+            (made (edited self.old.state h (change.detached 0)) x) result self.new }
     {
         room_for_handle(&mut self.handles, &mut self.borrows)?;
         let new = self.handles.len();
@@ -55,7 +59,7 @@ impl Machine {
         requires word { x.word ≡ Empty }
         requires within { at ≤ x.len }
         requires ends { x.ptr + x.len < 2 ^ 64 }
-        ensures { Took self.old (move.split_with self.old.state h at x Empty) result self.new }
+        ensures { Took self.old (short.split_with self.old.state h at x Empty) result self.new }
     {
         room_for_handle(&mut self.handles, &mut self.borrows)?;
         let new = self.handles.len();

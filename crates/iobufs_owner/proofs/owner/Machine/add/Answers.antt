@@ -6,7 +6,8 @@ use Rattle.iobufs_owner.specs.Inside.{state_of}
 use Rattle.iobufs_owner.specs.State.{State, Seen, call_at}
 use Rattle.iobufs_owner.proofs.Soundness.Edits.{counted-at, live-inside}
 use Rattle.iobufs_owner.proofs.Soundness.Kept.{at-some}
-use Rattle.iobufs_owner.proofs.Soundness.Share.{IsQuiet, quiet-none, quiet-add, sound-called, adding}
+use Rattle.iobufs_owner.proofs.Soundness.Called.{IsQuiet, quiet-none, quiet-add, sound-called}
+use Rattle.iobufs_owner.proofs.Soundness.Share.{adding}
 use Rattle.iobufs_owner.proofs.Soundness.Frames.{is-eqb}
 use Rattle.iobufs_owner.proofs.Soundness.Borrows.{counts-less, some-borrowed}
 use Rattle.iobufs_owner.proofs.owner.Machine.add.Goals as goal

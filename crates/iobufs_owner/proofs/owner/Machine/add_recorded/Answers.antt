@@ -3,7 +3,7 @@ use Rattle.std.proofs.lemmas.Result.{err_from_is_err_and}
 use Rattle.iobufs_owner.specs.Inside.{state_of}
 use Rattle.iobufs_owner.specs.State.{State, Seen}
 use Rattle.iobufs_owner.specs.Places.{IsGoodPlace}
-use Rattle.iobufs_owner.specs.Moves.{next_record}
+use Rattle.iobufs_owner.specs.Changes.{next_record}
 use Rattle.iobufs_owner.specs.declared.owner.types.Word.TheVariants.{Record as Counted}
 use Rattle.iobufs_owner.proofs.Soundness.NewRecord.{sound-recorded}
 use Rattle.iobufs_owner.proofs.Soundness.Borrows.{kept-pushed, counts-pushed}

@@ -1,7 +1,8 @@
 use Rattle.std.proofs.Common.{Result, sym, ◌∙◌, subst, refl}
 use Rattle.iobufs_owner.specs.declared.owner.types.Handle.{Handle}
 use Rattle.iobufs_owner.specs.declared.owner.types.Refusal.{Refusal}
-use Rattle.iobufs_owner.specs.Moves.{IsDemoted, refused, declined}
+use Rattle.iobufs_owner.specs.Changes.{refused}
+use Rattle.iobufs_owner.specs.ShortCalls.{IsDemoted, declined}
 use Rattle.iobufs_owner.specs.State.{State}
 use Rattle.iobufs_owner.proofs.Soundness.Demote.{keeps-word}
 use Rattle.iobufs_owner.proofs.owner.Machine.demote.Goals as goal

@@ -4,7 +4,7 @@ use Rattle.iobufs_owner.specs.declared.owner.types.Block.{Block}
 use Rattle.iobufs_owner.specs.declared.owner.types.Record.{Record}
 use Rattle.iobufs_owner.specs.declared.owner.types.Kind.TheVariants.{View}
 use Rattle.iobufs_owner.specs.Inside.{state_of}
-use Rattle.iobufs_owner.specs.Moves.{Lends}
+use Rattle.iobufs_owner.specs.Lending.{Lends}
 use Rattle.iobufs_owner.specs.Sound.{IsSound}
 use Rattle.iobufs_owner.specs.State.{State, Seen}
 use Rattle.iobufs_owner.proofs.Soundness.Demote.{MayDemote, demoting, sound-demoted, keeps-record, frees-record}

@@ -1,8 +1,8 @@
 use Rattle.std.proofs.Common.{◌≡◌, ◌∙◌, ℕ, Some, None, sym, ap, subst}
 use Rattle.iobufs_owner.specs.Inside.{state_of}
-use Rattle.iobufs_owner.specs.Sound.{IsDescribed}
+use Rattle.iobufs_owner.specs.Sound.{DescribesBlock}
 use Rattle.iobufs_owner.specs.State.{State, Seen, end_of, tail_in, owner_of}
-use Rattle.iobufs_owner.proofs.Soundness.BlockFreed.{says-ends}
+use Rattle.iobufs_owner.proofs.Soundness.Recovered.{says-ends}
 use Rattle.iobufs_owner.proofs.Soundness.Finds.{finds}
 use Rattle.iobufs_owner.proofs.owner.Machine.described.Goals as goal
 
@@ -10,32 +10,32 @@ pub unpack-fields-requires : goal.unpack-fields-requires
 unpack-fields-requires c =
     let s : State = state_of c.self.inside in
     let k = c.self.invariant in
-    let d = subst (λ (s : State). (b : ℕ) × (log : ℕ) × (tail : ℕ) × IsDescribed s.tables c.args.x c.args.word b log tail) (sym (ap (λ (m : Seen). m.state) c.self.view_is)) c.requires.says in
-    let ends = says-ends s c.args.x c.args.word d.0 d.1 d.2 k.sound d.3 in
+    let d = subst (λ (s : State). DescribesBlock s.tables c.args.x c.args.word) (sym (ap (λ (m : Seen). m.state) c.self.view_is)) c.requires.says in
+    let ends = says-ends s c.args.x c.args.word d.block d.log d.tail k.sound d.says in
     ends.word
 
 pub end-requires-clause-behind_view : goal.end-requires-clause-behind_view
 end-requires-clause-behind_view c =
     let s : State = state_of c.self.inside in
     let k = c.self.invariant in
-    let d = subst (λ (s : State). (b : ℕ) × (log : ℕ) × (tail : ℕ) × IsDescribed s.tables c.args.x c.args.word b log tail) (sym (ap (λ (m : Seen). m.state) c.self.view_is)) c.requires.says in
-    let ends = says-ends s c.args.x c.args.word d.0 d.1 d.2 k.sound d.3 in
+    let d = subst (λ (s : State). DescribesBlock s.tables c.args.x c.args.word) (sym (ap (λ (m : Seen). m.state) c.self.view_is)) c.requires.says in
+    let ends = says-ends s c.args.x c.args.word d.block d.log d.tail k.sound d.says in
     rw c.unpack-fields.ensures.tail ends.view
 
 pub end-requires-clause-behind_room : goal.end-requires-clause-behind_room
 end-requires-clause-behind_room c =
     let s : State = state_of c.self.inside in
     let k = c.self.invariant in
-    let d = subst (λ (s : State). (b : ℕ) × (log : ℕ) × (tail : ℕ) × IsDescribed s.tables c.args.x c.args.word b log tail) (sym (ap (λ (m : Seen). m.state) c.self.view_is)) c.requires.says in
-    let ends = says-ends s c.args.x c.args.word d.0 d.1 d.2 k.sound d.3 in
+    let d = subst (λ (s : State). DescribesBlock s.tables c.args.x c.args.word) (sym (ap (λ (m : Seen). m.state) c.self.view_is)) c.requires.says in
+    let ends = says-ends s c.args.x c.args.word d.block d.log d.tail k.sound d.says in
     ends.room
 
 pub overflow_sub-base : goal.overflow_sub-base
 overflow_sub-base c =
     let s : State = state_of c.self.inside in
     let k = c.self.invariant in
-    let d = subst (λ (s : State). (b : ℕ) × (log : ℕ) × (tail : ℕ) × IsDescribed s.tables c.args.x c.args.word b log tail) (sym (ap (λ (m : Seen). m.state) c.self.view_is)) c.requires.says in
-    let ends = says-ends s c.args.x c.args.word d.0 d.1 d.2 k.sound d.3 in
+    let d = subst (λ (s : State). DescribesBlock s.tables c.args.x c.args.word) (sym (ap (λ (m : Seen). m.state) c.self.view_is)) c.requires.says in
+    let ends = says-ends s c.args.x c.args.word d.block d.log d.tail k.sound d.says in
     let e : c.end.result ≡ end_of c.args.x (tail_in s.tables c.args.word) = c.end.ensures ∙ ap (λ (n : ℕ). end_of c.args.x n) c.unpack-fields.ensures.tail in
     rw (e, c.unpack-fields.ensures.size) ends.below
 
@@ -43,19 +43,19 @@ pub unreachable-requires : goal.unreachable-requires
 unreachable-requires c =
     let s : State = state_of c.self.inside in
     let k = c.self.invariant in
-    let d = subst (λ (s : State). (b : ℕ) × (log : ℕ) × (tail : ℕ) × IsDescribed s.tables c.args.x c.args.word b log tail) (sym (ap (λ (m : Seen). m.state) c.self.view_is)) c.requires.says in
+    let d = subst (λ (s : State). DescribesBlock s.tables c.args.x c.args.word) (sym (ap (λ (m : Seen). m.state) c.self.view_is)) c.requires.says in
     let e : c.end.result ≡ end_of c.args.x (tail_in s.tables c.args.word) = c.end.ensures ∙ ap (λ (n : ℕ). end_of c.args.x n) c.unpack-fields.ensures.tail in
-    let f = finds s.tables c.self.inside.places c.args.x c.args.word d.0 d.1 d.2 k.places c.requires.word d.3 in
+    let f = finds s.tables c.self.inside.places c.args.x c.args.word d.block d.log d.tail k.places c.requires.word d.says in
     let v = rw (e, c.unpack-fields.ensures.size) at c.in-None.ensures.value in
-    let z : None ≡ Some d.0 = v ∙ f in
+    let z : None ≡ Some d.block = v ∙ f in
     absurd (cc)
 
 pub returns : goal.returns
 returns c =
     let s : State = state_of c.self.inside in
     let k = c.self.invariant in
-    let d = subst (λ (s : State). (b : ℕ) × (log : ℕ) × (tail : ℕ) × IsDescribed s.tables c.args.x c.args.word b log tail) (sym (ap (λ (m : Seen). m.state) c.self.view_is)) c.requires.says in
+    let d = subst (λ (s : State). DescribesBlock s.tables c.args.x c.args.word) (sym (ap (λ (m : Seen). m.state) c.self.view_is)) c.requires.says in
     let e : c.end.result ≡ end_of c.args.x (tail_in s.tables c.args.word) = c.end.ensures ∙ ap (λ (n : ℕ). end_of c.args.x n) c.unpack-fields.ensures.tail in
-    let f = finds s.tables c.self.inside.places c.args.x c.args.word d.0 d.1 d.2 k.places c.requires.word d.3 in
+    let f = finds s.tables c.self.inside.places c.args.x c.args.word d.block d.log d.tail k.places c.requires.word d.says in
     let v = rw (e, c.unpack-fields.ensures.size) at c.in-Some.ensures.value in
-    subst (λ (s : State). owner_of s.tables c.args.x ≡ Some c.in-Some.number.now) (ap (λ (m : Seen). m.state) c.self.view_is) (d.3.owner ∙ sym f ∙ sym v)
+    subst (λ (s : State). owner_of s.tables c.args.x ≡ Some c.in-Some.number.now) (ap (λ (m : Seen). m.state) c.self.view_is) (d.says.owner ∙ sym f ∙ sym v)

@@ -2,7 +2,8 @@ use Rattle.std.proofs.Common.{◌≡◌, ◌<◌, None, length, nat_eq, sym, ref
 use Rattle.std.proofs.Math.ListN.{length-set}
 use Rattle.iobufs_owner.specs.declared.owner.types.Kind.TheVariants.{View}
 use Rattle.iobufs_owner.specs.Inside.{state_of}
-use Rattle.iobufs_owner.specs.Moves.{borrows_it, Lends, after_count}
+use Rattle.iobufs_owner.specs.Lending.{borrows_it, Lends}
+use Rattle.iobufs_owner.specs.LongCalls.{after_count}
 use Rattle.iobufs_owner.specs.State.{State, Seen, call_at, record_at}
 use Rattle.iobufs_owner.proofs.Soundness.Edits.{counted-at}
 use Rattle.iobufs_owner.proofs.Soundness.Drop.{sound-dropping, drop-after}

@@ -1,5 +1,5 @@
 use Rattle.std.proofs.Common.{inl, inr, refl}
-use Rattle.iobufs_owner.specs.Moves.{refused}
+use Rattle.iobufs_owner.specs.Changes.{refused}
 use Rattle.iobufs_owner.specs.declared.owner.types.Refusal.TheVariants.{BadPlace, Memory}
 use Rattle.iobufs_owner.proofs.owner.Machine.external_block.Goals as goal
 

@@ -1,9 +1,10 @@
 use Rattle.std.proofs.Common.{◌≡◌, ℕ, ◌∙◌, sym, ap, subst, arith}
 use Rattle.std.proofs.Math.ListN.{length-set}
 use Rattle.iobufs_owner.specs.Inside.{state_of}
-use Rattle.iobufs_owner.specs.Moves.{Lends}
+use Rattle.iobufs_owner.specs.Lending.{Lends}
 use Rattle.iobufs_owner.specs.State.{State, Seen, end_of, tail_in}
-use Rattle.iobufs_owner.proofs.Soundness.BlockFreed.{described-ends, sound-freed_described}
+use Rattle.iobufs_owner.proofs.Soundness.Recovered.{described-ends}
+use Rattle.iobufs_owner.proofs.Soundness.BlockFreed.{sound-freed_described}
 use Rattle.iobufs_owner.proofs.owner.Machine.free_described.Goals as goal
 
 pub unpack-fields-requires : goal.unpack-fields-requires

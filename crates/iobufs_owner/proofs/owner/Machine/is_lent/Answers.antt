@@ -1,7 +1,7 @@
 use Rattle.std.proofs.Common.{◌≡◌, ◌<◌, ◌∙◌, length, ap, sym, subst, not, nat_eq, arith}
 use Rattle.std.proofs.lemmas.List.{get_or_read}
 use Rattle.iobufs_owner.specs.State.{State, Seen}
-use Rattle.iobufs_owner.specs.Moves.{is_lent}
+use Rattle.iobufs_owner.specs.Lending.{is_lent}
 use Rattle.iobufs_owner.proofs.Soundness.Borrows.{lent-tells}
 use Rattle.iobufs_owner.proofs.owner.Machine.is_lent.Goals as goal
 

@@ -5,7 +5,8 @@ use Rattle.iobufs_owner.specs.declared.owner.types.Pending.TheVariants.{Loaded}
 use Rattle.iobufs_owner.specs.Inside.{state_of}
 use Rattle.iobufs_owner.specs.Sound.{Shares}
 use Rattle.iobufs_owner.specs.State.{State, Seen, call_at}
-use Rattle.iobufs_owner.proofs.Soundness.Share.{IsQuiet, quiet-none, quiet-loaded, sound-called, loaded-fits}
+use Rattle.iobufs_owner.proofs.Soundness.Called.{IsQuiet, quiet-none, quiet-loaded, sound-called}
+use Rattle.iobufs_owner.proofs.Soundness.Share.{loaded-fits}
 use Rattle.iobufs_owner.proofs.Soundness.Borrows.{counts-more, few-borrowed}
 use Rattle.iobufs_owner.proofs.Soundness.Kept.{at-some}
 use Rattle.iobufs_owner.proofs.owner.Machine.load.Goals as goal

@@ -1,21 +1,21 @@
 use Rattle.std.proofs.Common.{◌≡◌, ◌∙◌, ℕ, Option, sym, subst, ap, unwrap_or}
 use Rattle.iobufs_owner.specs.declared.owner.types.Handle.{Handle}
 use Rattle.iobufs_owner.specs.declared.owner.types.Word.TheVariants.{Descriptor}
-use Rattle.iobufs_owner.specs.Moves.{loaded_found}
-use Rattle.iobufs_owner.specs.Sound.{IsDescribed}
-use Rattle.iobufs_owner.proofs.Soundness.Share.{loading}
+use Rattle.iobufs_owner.specs.LongCalls.{loaded_found}
+use Rattle.iobufs_owner.specs.Sound.{DescribesBlock}
+use Rattle.iobufs_owner.proofs.Soundness.Readied.{loading}
 use Rattle.iobufs_owner.proofs.owner.Machine.loaded_block.Goals as goal
 
 pub unreachable-requires : goal.unreachable-requires
 unreachable-requires c =
     let l = loading c.args.self.now.state c.args.party c.args.range c.args.word c.find.ensures.sound c.requires in
-    c.in_default.not-Some l.0 (c.find.ensures.value ∙ l.2.shares.at)
+    c.in_default.not-Some l.0 (c.find.ensures.value ∙ l.1.shares.at)
 
 pub described-requires-clause-says : goal.described-requires-clause-says
 described-requires-clause-says c =
     let l = loading c.args.self.now.state c.args.party c.args.range c.args.word c.find.ensures.sound c.requires in
-    let q : l.0 ≡ c.in-Some.x = (let z = sym l.2.shares.at ∙ sym c.find.ensures.value ∙ c.in-Some.is in cc) in
-    subst (λ (x : Handle). (b : ℕ) × (log : ℕ) × (tail : ℕ) × IsDescribed c.args.self.now.state.tables (record x { word = Descriptor c.args.word }) c.args.word b log tail) q (l.1, l.2.promised.log, l.2.promised.tail, l.2.promised.says)
+    let q : l.0 ≡ c.in-Some.x = (let z = sym l.1.shares.at ∙ sym c.find.ensures.value ∙ c.in-Some.is in cc) in
+    subst (λ (x : Handle). DescribesBlock c.args.self.now.state.tables (record x { word = Descriptor c.args.word }) c.args.word) q (record { block = l.1.block; log = l.1.promised.log; tail = l.1.promised.tail; says = l.1.promised.says })
 
 pub returns : goal.returns
 returns c =

@@ -4,10 +4,11 @@ use Rattle.iobufs_owner.specs.declared.owner.types.Pending.TheVariants.{Ready, A
 use Rattle.iobufs_owner.specs.Inside.{state_of}
 use Rattle.iobufs_owner.specs.State.{State, Seen, handle_at, call_at, record_at}
 use Rattle.iobufs_owner.proofs.Soundness.BlockFreed.{counted-ends}
-use Rattle.iobufs_owner.proofs.Soundness.Share.{racing, sound-lost}
+use Rattle.iobufs_owner.proofs.Soundness.Lost.{sound-lost}
+use Rattle.iobufs_owner.proofs.Soundness.Share.{racing}
 use Rattle.iobufs_owner.proofs.Soundness.Borrows.{counts-same}
 use Rattle.iobufs_owner.proofs.Soundness.Kept.{at-some}
-use Rattle.iobufs_owner.specs.Moves.{borrows_it}
+use Rattle.iobufs_owner.specs.Lending.{borrows_it}
 use Rattle.iobufs_owner.proofs.owner.Machine.lose.Goals as goal
 
 pub push_reserved-requires : goal.push_reserved-requires

@@ -1,5 +1,6 @@
 use Rattle.std.proofs.Common.{◌≡◌, inl, inr, refl, ap, subst, false}
-use Rattle.iobufs_owner.specs.Moves.{refused, block_of, described_of, placed}
+use Rattle.iobufs_owner.specs.Changes.{refused}
+use Rattle.iobufs_owner.specs.ShortCalls.{block_of, described_of, placed}
 use Rattle.iobufs_owner.specs.Inside.{state_of}
 use Rattle.iobufs_owner.specs.State.{State, Seen}
 use Rattle.iobufs_owner.proofs.WorldSteps.New.{described-placed}

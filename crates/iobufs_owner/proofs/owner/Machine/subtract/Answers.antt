@@ -4,7 +4,8 @@ use Rattle.iobufs_owner.specs.declared.owner.types.Pending.{Pending}
 use Rattle.iobufs_owner.specs.declared.owner.types.Pending.TheVariants.{Subtract, Release}
 use Rattle.iobufs_owner.specs.Inside.{state_of}
 use Rattle.iobufs_owner.specs.State.{State, Seen, call_at, record_at}
-use Rattle.iobufs_owner.specs.Moves.{borrows_it, called, with_count}
+use Rattle.iobufs_owner.specs.Changes.{called, with_count}
+use Rattle.iobufs_owner.specs.Lending.{borrows_it}
 use Rattle.iobufs_owner.specs.Sound.{IsSound}
 use Rattle.iobufs_owner.proofs.Soundness.Subtract.{afterwards-one, afterwards-none, sound-subtracted, letting-go}
 use Rattle.iobufs_owner.proofs.Soundness.Borrows.{counts-same}

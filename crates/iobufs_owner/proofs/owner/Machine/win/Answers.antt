@@ -3,7 +3,7 @@ use Rattle.std.proofs.Math.ListN.{length-set}
 use Rattle.iobufs_owner.specs.declared.owner.types.Pending.TheVariants.{Ready}
 use Rattle.iobufs_owner.specs.Inside.{state_of}
 use Rattle.iobufs_owner.specs.State.{State, Seen, handle_at, call_at}
-use Rattle.iobufs_owner.proofs.Soundness.Share.{sound-won}
+use Rattle.iobufs_owner.proofs.Soundness.Won.{sound-won}
 use Rattle.iobufs_owner.proofs.Soundness.Frames.{is-eqb}
 use Rattle.iobufs_owner.proofs.Soundness.Borrows.{counts-less, some-borrowed, counts-pushed, kept-set-pushed}
 use Rattle.iobufs_owner.proofs.Soundness.Kept.{at-some}

@@ -1,0 +1,120 @@
+-- A clone or slice has loaded a descriptor and makes a record, which nothing shows yet.
+use Rattle.std.proofs.Common.{◌≡◌, inl, inr, ℕ, ◌+◌, ◌^◌, ◌<◌, ◌==◌, true, cond, List, length, get_or, set, sym, ◌∙◌, ap, subst, refl, arith, Option, Some, None, unwrap_or, length-append}
+use Rattle.std.proofs.Math.ListN.{length-set}
+use Rattle.std.proofs.lemmas.List.Elements.{All-from_get_or}
+use Rattle.std.proofs.lemmas.List.{get_or-set_same, get_or-set_other}
+use Rattle.std.proofs.lemmas.Bool.Decides.{eqb_tells}
+use Rattle.iobufs_owner.specs.State.{State, Tables, record_at, call_at}
+use Rattle.iobufs_owner.specs.World.{holders, users, tally}
+use Rattle.iobufs_owner.specs.Reading.{reading}
+use Rattle.iobufs_owner.specs.Sound.{IsSound, Fits, FitsWord, FitsCall, FitsRecord, IsLoading, Promised, hidden, readies, releases}
+use Rattle.iobufs_owner.specs.Changes.{counted, called, with_record, part}
+use Rattle.iobufs_owner.specs.LongCalls.{loaded_found, loaded_block}
+use Rattle.iobufs_owner.specs.declared.owner.types.Record.{Record}
+use Rattle.iobufs_owner.specs.declared.owner.types.Handle.{Handle}
+use Rattle.iobufs_owner.specs.declared.owner.types.Share.{Share}
+use Rattle.iobufs_owner.specs.declared.owner.types.Pending.{Pending}
+use Rattle.iobufs_owner.specs.declared.owner.types.Pending.TheVariants.{Loaded, Ready}
+use Rattle.iobufs_owner.specs.declared.owner.types.Word.{Word}
+use Rattle.iobufs_owner.specs.declared.owner.types.Word.TheVariants.{Empty, Descriptor, Record as Counted}
+use Rattle.iobufs_owner.proofs.Soundness.Counts.{count-set}
+use Rattle.iobufs_owner.proofs.Soundness.Keeps.{call-kept, calls-read-kept, releases-kept, owner-kept, fits-kept, live-of, shares-kept, promised-kept}
+use Rattle.iobufs_owner.proofs.Soundness.Kept.{at-some, block-log-kept}
+use Rattle.iobufs_owner.proofs.Soundness.Frames.{handles-kept, alone-kept, describes-kept, holders-tables, users-tables, not-eqb, is-eqb}
+use Rattle.iobufs_owner.proofs.Soundness.Edits.{fits-at, live-inside}
+use Rattle.iobufs_owner.proofs.Soundness.Holders.{owner-used}
+use Rattle.iobufs_owner.proofs.Soundness.Logs.{record-log-more}
+use Rattle.iobufs_owner.proofs.Soundness.NewRecord.{recorded, recorded-new, recorded-keeps, recorded-let_go, recorded-live, recorded-either, unhidden-next}
+use Rattle.iobufs_owner.proofs.Soundness.Called.{IsQuiet, quiet-loaded, count-calls, called-quiet}
+
+pub loading : (s : State) (p : ℕ) (k : Share) (w : ℕ) → IsSound s → call_at s p ≡ Some (Loaded k w) → (x : Handle) × IsLoading s k w x
+loading s p k w i at = subst (λ (c : Option Pending). FitsCall s c) at (i.calls_fit p None (at-some s.calls p (Loaded k w) at))
+
+-- its block is the one that the loaded descriptor recovers
+pub loading-block : (s : State) (k : Share) (w : ℕ) (x : Handle) (l : IsLoading s k w x) → l.block ≡ loaded_block s k.handle w
+loading-block s k w x l = sym (ap (λ (o : Option Handle). loaded_found s w o) l.shares.at ∙ ap (λ (o : Option ℕ). unwrap_or o 0) l.promised.says.owner)
+
+fit-readied : (s : State) (n b : ℕ) (cs : List (Option Pending)) → ((q : ℕ) → q < length s.tables.records → hidden cs q ≡ hidden s.calls q) → (o : Option Handle) → Fits s.tables s.calls o → Fits (recorded s.tables n b) cs o
+fit-readied s n b cs same None f = tt
+fit-readied s n b cs same (Some x) f =
+    let e = recorded-keeps s.tables n b in
+    let g' : Tables = recorded s.tables n b in
+    let y = fits-kept s.tables g' s.calls x x.word (owner-kept s.tables g' s.calls x e f) e (λ r i. recorded-live s.tables n b r (live-of s.tables s.calls x x.word r i f)) f in
+    let by : (v : Word) → x.word ≡ v → FitsWord g' s.calls x v → FitsWord g' cs x v =
+    λ v. elim v as (λ v. x.word ≡ v → FitsWord g' s.calls x v → FitsWord g' cs x v) [
+      | Empty ↦ λ i f. f
+      | Descriptor w ↦ λ i f. f
+      | Counted r ↦ λ i z. record { live = z.live; known = z.known; shown = same r (live-inside s.tables.records r (live-of s.tables s.calls x x.word r i f)) ∙ z.shown; lies = z.lies; native = z.native }
+    ] in
+    by x.word refl y
+
+pub sound-readied : (s : State) (p : ℕ) (k : Share) (w b : ℕ) (x : Handle) → IsSound s → call_at s p ≡ Some (Loaded k w) → (l : IsLoading s k w x) → l.block ≡ b → length s.tables.records < 2 ^ 32 → IsSound (called (with_record s 2 b) p (Some (Ready k w (length s.tables.records))))
+sound-readied s p part w b x k at ld same few =
+    let g : Tables = s.tables in
+    let promised : Promised s.tables x w b = subst (λ (n : ℕ). Promised s.tables x w n) same ld.promised in
+    let r : ℕ = length s.tables.records in
+    let g' : Tables = recorded s.tables 2 b in
+    let c : Option Pending = Some (Ready part w (length s.tables.records)) in
+    let next : State = called (with_record s 2 b) p (Some (Ready part w (length s.tables.records))) in
+    let l = at-some s.calls p (Loaded part w) at in
+    let e = recorded-keeps g 2 b in
+    let new = recorded-new g 2 b in
+    let known : b < length g.blocks = promised.says.known in
+    let live : (q : ℕ) → (record_at g q).live ≡ true → (record_at g' q).live ≡ true = λ q t. recorded-live g 2 b q t in
+    let hs = handles-kept g g' s.calls s.handles e k.fit in
+    let cs = calls-read-kept s g' s.calls e (λ i d l q j t. recorded-let_go g 2 b q t) k.calls_fit in
+    let mid : State = with_record s 2 b in
+    let qold : IsQuiet mid (call_at s p) = subst (λ (c : Option Pending). IsQuiet mid c) (sym at) (quiet-loaded mid part w) in
+    let both : (d : ℕ) → (holders (reading next) d ≡ holders (reading s) d) × (users (reading next) d ≡ users (reading s) d) = λ d.
+    let a = called-quiet mid p c d l qold (λ b. refl) (λ b. refl) in
+    (a.0 ∙ holders-tables s g' d hs cs, a.1 ∙ users-tables s g' d hs cs) in
+    let hm : (d : ℕ) → holders (reading next) d ≡ holders (reading s) d = λ d. (both d).0 in
+    let um : (d : ℕ) → users (reading next) d ≡ users (reading s) d = λ d. (both d).1 in
+    let hid : (q : ℕ) → hidden (set s.calls p c) q ≡ hidden s.calls q + cond (q == length s.tables.records) 1 0 = λ q.
+    let n = count-set (readies q) s.calls p c None l in
+    let z : ◌≡◌ {A = ℕ} (cond (readies q (get_or s.calls p None)) 1 0) 0 = ap (λ (o : Option Pending). cond {A = ℕ} (readies q o) 1 0) at in
+    omega (arith, n, z) in
+    let old : (q : ℕ) → q < length g.records → hidden (set s.calls p c) q ≡ hidden s.calls q = λ q m. (let n = rw (not-eqb q (length s.tables.records) (omega arith)) at (hid q) in omega (arith, n)) in
+    let one : hidden (set s.calls p c) r ≡ 1 = (let n = rw (is-eqb (length s.tables.records) (length s.tables.records) refl) at (hid r) in let z = unhidden-next s k in omega (arith, n, z)) in
+    let rel : (d : ℕ) → tally (releases g' d) (set s.calls p c) ≡ tally (releases g d) s.calls = λ d. count-calls (releases g' d) s.calls p c None l (ap (releases g' d) at) refl ∙ releases-kept s g' d s.calls e k.calls_fit in
+    let leaves = λ (o : Option Pending). call-kept s next o (record { tables = e; let_go = λ q j t. recorded-let_go g 2 b q t; live = λ n _ t. live n t; hidden = λ n t. old n (live-inside g.records n t); handle = λ i y _ a. a; owner = λ i y a. owner-kept g g' s.calls y e (fits-at s i y k a); holders = λ n _. hm (record_at g n).block }) in
+    let size = k.size in
+    record {
+      size = record { wide = size.wide; ceiling = size.ceiling; few_blocks = size.few_blocks; few_records = rw length-append (omega arith); few_handles = size.few_handles; few_calls = rw length-set size.few_calls };
+      blocks = (let q = k.blocks in record { places = q.places; apart = q.apart });
+      fit = All-from_get_or (Fits g' (set s.calls p c)) s.handles None (λ i li. fit-readied s 2 b (set s.calls p c) old (get_or s.handles i None) (k.fit i None li));
+      calls_fit = All-from_get_or (FitsCall next) (set s.calls p c) None (λ i li.
+          let lo : i < length s.calls = (let z = rw length-set at li in z) in
+          elim (eqb_tells i p) [
+            | inl z ↦ rw (z.1, get_or-set_same s.calls p c None l) (
+              x,
+              record {
+                shares = shares-kept s next part x (λ a. a) ld.shares;
+                block = b;
+                promised = promised-kept g g' x w b e (owner-kept g g' s.calls x e (fits-at s part.handle x k ld.shares.at)) promised;
+                live = ap (λ (v : Record). v.live) new;
+                same = ap (λ (v : Record). v.block) new;
+              },
+            )
+            | inr z ↦ rw (get_or-set_other s.calls p i c None z.1) (leaves (call_at s i) (k.calls_fit i None lo))
+          ]);
+      one_release = λ d. rw rel (k.one_release d);
+      counted = λ q t. elim (recorded-either g 2 b q t) [
+        | inl u ↦ (let v = k.counted q (ap (λ (v : Record). v.live) (sym u.1) ∙ t) in
+            let h = old q u.0 in
+            subst (λ (v : Record). FitsRecord next q v) (sym u.1) (record { known = v.known; one_maker = rw h v.one_maker; counts = λ z. rw hm (v.counts (sym h ∙ z)); fresh = λ z. v.fresh (sym h ∙ z); used = rw um v.used; undescribed = λ z. describes-kept g g' s.calls (record_at g q).block s.handles e k.fit ∙ v.undescribed (sym h ∙ z) }))
+        | inr i ↦ subst (λ (q : ℕ). FitsRecord next q (record_at g' q)) (sym i) (subst (λ (v : Record). FitsRecord next r v) (sym new) (record { known = known; one_maker = omega (arith, one); counts = λ z. absurd (omega (arith, z, one)); fresh = λ z. refl; used = rw um (owner-used s part.handle x b ld.shares.at promised.owner); undescribed = λ z. absurd (omega (arith, z, one)) }))
+      ];
+      one_record = λ q q' tq tq' hq hq' i. elim (recorded-either g 2 b q tq) [
+        | inl u ↦ elim (recorded-either g 2 b q' tq') [
+          | inl v ↦ k.one_record q q' (ap (λ (v : Record). v.live) (sym u.1) ∙ tq) (ap (λ (v : Record). v.live) (sym v.1) ∙ tq') (sym (old q u.0) ∙ hq) (sym (old q' v.0) ∙ hq') (ap (λ (v : Record). v.block) (sym u.1) ∙ i ∙ ap (λ (v : Record). v.block) v.1)
+          | inr v ↦ absurd (let z = rw v at hq' in omega (arith, z, one))
+        ]
+        | inr u ↦ absurd (let z = rw u at hq in omega (arith, z, one))
+      ];
+      sole = λ d t. rw hm (k.sole d (rw (alone-kept g g' s.calls d s.handles e k.fit) at t));
+      capped = λ d. rw hm (k.capped d);
+      known_users = λ d t. k.known_users d (rw um at t);
+      block_log = block-log-kept g.blocks s.freed_blocks (users (reading s)) (users (reading next)) um k.block_log;
+      record_log = record-log-more g.records s.freed_records (record { count = 2; block = b; live = true }) refl k.record_log;
+    }

@@ -1,0 +1,77 @@
+-- Which handle a call may have, or the lowest cause against it.
+use Rattle.std.specs.Prelude.{◌≡◌, ℕ, ◌==◌, Bool, true, false, List, Option, None, Some, Result, Ok, Err, if◌then◌else◌}
+use Rattle.std.specs.List.{list_any}
+use Rattle.iobufs_owner.specs.declared.owner.types.Handle.{Handle}
+use Rattle.iobufs_owner.specs.declared.owner.types.Kind.{Kind}
+use Rattle.iobufs_owner.specs.declared.owner.types.Kind.TheVariants.{View}
+use Rattle.iobufs_owner.specs.declared.owner.types.Word.{Word}
+use Rattle.iobufs_owner.specs.declared.owner.types.Word.TheVariants.{Empty, Descriptor, Record as Counted}
+use Rattle.iobufs_owner.specs.declared.owner.types.Pending.{Pending}
+use Rattle.iobufs_owner.specs.declared.owner.types.Pending.TheVariants.{Loaded, Ready, Add, Subtract, Release}
+use Rattle.iobufs_owner.specs.declared.owner.types.Refusal.{Refusal}
+use Rattle.iobufs_owner.specs.declared.owner.types.Refusal.TheVariants.{NoHandle, WrongKind, Borrowed}
+use Rattle.iobufs_owner.specs.Kinds.{same_kind}
+use Rattle.iobufs_owner.specs.State.{State, handle_at}
+
+abbrev pub borrows_it : ℕ → Option Pending → Bool
+borrows_it h None = false
+borrows_it h (Some (Loaded k w)) = k.handle == h
+borrows_it h (Some (Ready k w r)) = k.handle == h
+borrows_it h (Some (Add k r)) = k.handle == h
+borrows_it h (Some (Subtract r)) = false
+borrows_it h (Some (Release r)) = false
+
+-- whether one of the calls borrows the handle
+abbrev pub is_lent : ℕ → List (Option Pending) → Bool
+is_lent h calls = list_any (borrows_it h) calls
+
+abbrev pub lend_found : State → ℕ → Kind → Option Handle → Result Handle Refusal
+lend_found s h kind None = Err NoHandle
+lend_found s h kind (Some x) = if same_kind x.kind kind then (if is_lent h s.calls then Err Borrowed else Ok x) else Err WrongKind
+
+-- the handle, for a call that must have it alone, or the lowest cause against it
+abbrev pub lend_of : State → ℕ → Kind → Result Handle Refusal
+lend_of s h kind = lend_found s h kind (handle_at s h)
+
+abbrev pub any_found : State → ℕ → Option Handle → Result Handle Refusal
+any_found s h None = Err NoHandle
+any_found s h (Some x) = if is_lent h s.calls then Err Borrowed else Ok x
+
+-- the same where either kind may be given
+abbrev pub any_of : State → ℕ → Result Handle Refusal
+any_of s h = any_found s h (handle_at s h)
+
+abbrev pub is_empty : Word → Bool
+is_empty Empty = true
+is_empty (Descriptor w) = false
+is_empty (Counted r) = false
+
+abbrev pub owning_found : State → ℕ → Option Handle → Result Handle Refusal
+owning_found s h None = Err NoHandle
+owning_found s h (Some x) = if is_empty x.word then Err WrongKind else (if is_lent h s.calls then Err Borrowed else Ok x)
+
+-- the same for a handle that has a block
+abbrev pub owning_of : State → ℕ → Result Handle Refusal
+owning_of s h = owning_found s h (handle_at s h)
+
+abbrev pub owning_view_found : State → ℕ → Option Handle → Result Handle Refusal
+owning_view_found s h None = Err NoHandle
+owning_view_found s h (Some x) = if same_kind x.kind View then owning_found s h (Some x) else Err WrongKind
+
+-- the same for a view that has a block
+abbrev pub owning_view_of : State → ℕ → Result Handle Refusal
+owning_view_of s h = owning_view_found s h (handle_at s h)
+
+abbrev pub view_found : Option Handle → Result Handle Refusal
+view_found None = Err NoHandle
+view_found (Some x) = if same_kind x.kind View then Ok x else Err WrongKind
+
+-- the view, for a call that shares it
+abbrev pub view_of : State → ℕ → Result Handle Refusal
+view_of s h = view_found (handle_at s h)
+
+-- a handle that may be had alone
+pub record Lends (s : State) (h : ℕ) (kind : Kind) (x : Handle) : Type 0 where
+  pub at : handle_at s h ≡ Some x
+  pub kind_is : x.kind ≡ kind
+  pub free : is_lent h s.calls ≡ false

@@ -1,0 +1,120 @@
+-- What each step of a clone, a slice and a drop makes of a state: the calls that may take several.
+use Rattle.std.specs.Prelude.{ℕ, ◌+◌, ◌-◌, ◌==◌, nat_lt, nat_eq, Bool, Option, None, Some, Result, Ok, Err, ◌||◌, if◌then◌else◌}
+use Rattle.iobufs_owner.specs.declared.owner.types.Handle.{Handle}
+use Rattle.iobufs_owner.specs.declared.owner.types.Kind.{Kind}
+use Rattle.iobufs_owner.specs.declared.owner.types.Kind.TheVariants.{View, Mut}
+use Rattle.iobufs_owner.specs.declared.owner.types.Word.{Word}
+use Rattle.iobufs_owner.specs.declared.owner.types.Word.TheVariants.{Empty, Descriptor, Record as Counted}
+use Rattle.iobufs_owner.specs.declared.owner.types.Share.{Share}
+use Rattle.iobufs_owner.specs.declared.owner.types.Pending.{Pending}
+use Rattle.iobufs_owner.specs.declared.owner.types.Pending.TheVariants.{Loaded, Ready, Add, Subtract, Release}
+use Rattle.iobufs_owner.specs.declared.owner.types.Refusal.{Refusal}
+use Rattle.iobufs_owner.specs.declared.owner.types.Refusal.TheVariants.{Idle, OutOfRange, Memory, Ceiling}
+use Rattle.iobufs_owner.specs.declared.owner.types.Reply.TheVariants.{Refused}
+use Rattle.iobufs_owner.specs.State.{State, handle_at, record_at, recovered, owned_by}
+use Rattle.iobufs_owner.specs.Changes.{Outcome, refused, done, edited, state_without, made, called, unfinished_call, with_record, next_record, with_count, block_freed, record_freed, both_freed, detached, part}
+use Rattle.iobufs_owner.specs.Lending.{any_of, view_of}
+
+-- ---- their first step
+
+-- the word is loaded
+abbrev pub share_by : State → ℕ → Share → Handle → Word → Outcome
+share_by s p k x Empty = made s (part x k.lo k.hi Empty)
+share_by s p k x (Descriptor w) = unfinished_call s p (Loaded k w)
+share_by s p k x (Counted r) = unfinished_call s p (Add k r)
+
+abbrev pub clone_lent : State → ℕ → ℕ → Result Handle Refusal → Outcome
+clone_lent s p h (Err why) = refused s why
+clone_lent s p h (Ok x) = share_by s p (record { handle = h; lo = 0; hi = x.len }) x x.word
+
+abbrev pub clone_of : State → ℕ → ℕ → Outcome
+clone_of s p h = clone_lent s p h (view_of s h)
+
+abbrev pub slice_lent : State → ℕ → (h lo hi : ℕ) → Result Handle Refusal → Outcome
+slice_lent s p h lo hi (Err why) = refused s why
+slice_lent s p h lo hi (Ok x) =
+    if nat_lt hi lo || nat_lt x.len hi then refused s OutOfRange
+    else (if nat_eq lo hi then made s (detached 0)
+    else share_by s p (record { handle = h; lo = lo; hi = hi }) x x.word)
+
+abbrev pub slice_of : State → ℕ → (h lo hi : ℕ) → Outcome
+slice_of s p h lo hi = slice_lent s p h lo hi (view_of s h)
+
+-- a view of a counted block loads the count: the only holder will free, another one subtracts
+abbrev pub after_count : (count r : ℕ) → Pending
+after_count count r = if nat_eq count 1 then Release r else Subtract r
+
+abbrev pub drop_counted : State → (p h r : ℕ) → Kind → Outcome
+drop_counted s p h r Mut = done (state_without (both_freed s r) h)
+drop_counted s p h r View = unfinished_call (state_without s h) p (after_count (record_at s.tables r).count r)
+
+abbrev pub drop_by : State → (p h : ℕ) → Handle → Word → Outcome
+drop_by s p h x Empty = done (state_without s h)
+drop_by s p h x (Descriptor w) = done (state_without (block_freed s (recovered s.tables x w)) h)
+drop_by s p h x (Counted r) = drop_counted s p h r x.kind
+
+abbrev pub drop_lent : State → (p h : ℕ) → Result Handle Refusal → Outcome
+drop_lent s p h (Err why) = refused s why
+drop_lent s p h (Ok x) = drop_by s p h x x.word
+
+abbrev pub drop_of : State → (p h : ℕ) → Outcome
+drop_of s p h = drop_lent s p h (any_of s h)
+
+-- ---- their further steps
+
+-- the call ends without a new handle
+abbrev pub ended : State → ℕ → Refusal → Outcome
+ended s p why = record { reply = Refused why; state = called s p None }
+
+-- a share call has come to its end: one view more, by record r
+abbrev pub shared : State → ℕ → Share → Handle → ℕ → Outcome
+shared s p k x r = made (called s p None) (part x k.lo k.hi (Counted r))
+
+abbrev pub loaded_found : State → ℕ → Option Handle → ℕ
+loaded_found s w None = 0
+loaded_found s w (Some x) = owned_by s.tables (record x { word = Descriptor w })
+
+-- the block that a loaded descriptor recovers, by the place of the handle that it was loaded from
+abbrev pub loaded_block : State → (h w : ℕ) → ℕ
+loaded_block s h w = loaded_found s w (handle_at s h)
+
+-- a record for the block of the loaded descriptor, which counts the handle and the new view
+abbrev pub ready_of : State → ℕ → Share → ℕ → Bool → Outcome
+ready_of s p k w memory =
+    if memory then unfinished_call (with_record s 2 (loaded_block s k.handle w)) p (Ready k w (next_record s)) else ended s p Memory
+
+-- The compare-exchange: the handle's word is still the descriptor, or another record has come first. An unfinished clone
+-- or slice borrows its handle, so that is there, and its word is the loaded one or a record's: here and in `add_found` the
+-- cases `None`, `Empty` and another descriptor can't be reached, and stand only since a function answers everywhere.
+abbrev pub race_by : State → ℕ → Share → (w r : ℕ) → Handle → Word → Outcome
+race_by s p k w r x Empty = refused s Idle
+race_by s p k w r x (Descriptor v) =
+    if v == w then shared (edited s k.handle (record x { word = Counted r })) p k x r else refused s Idle
+race_by s p k w r x (Counted winner) = unfinished_call (record_freed s r) p (Add k winner)
+
+abbrev pub race_found : State → ℕ → Share → (w r : ℕ) → Option Handle → Outcome
+race_found s p k w r None = refused s Idle
+race_found s p k w r (Some x) = race_by s p k w r x x.word
+
+abbrev pub race_of : State → ℕ → Share → (w r : ℕ) → Outcome
+race_of s p k w r = race_found s p k w r (handle_at s k.handle)
+
+abbrev pub add_found : State → ℕ → Share → ℕ → Option Handle → Outcome
+add_found s p k r None = refused s Idle
+add_found s p k r (Some x) =
+    if nat_lt s.ceiling (record_at s.tables r).count then ended s p Ceiling
+    else shared (with_count s r ((record_at s.tables r).count + 1)) p k x r
+
+-- one holder more
+abbrev pub add_of : State → ℕ → Share → ℕ → Outcome
+add_of s p k r = add_found s p k r (handle_at s k.handle)
+
+-- one holder less; the last one will free
+abbrev pub subtract_of : State → (p r : ℕ) → Outcome
+subtract_of s p r =
+    let fewer = with_count s r ((record_at s.tables r).count - 1) in
+    if nat_eq (record_at s.tables r).count 1 then unfinished_call fewer p (Release r) else done (called fewer p None)
+
+-- record and block are freed, and no count is written
+abbrev pub release_of : State → (p r : ℕ) → Outcome
+release_of s p r = done (called (both_freed s r) p None)

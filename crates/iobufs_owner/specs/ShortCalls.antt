@@ -1,0 +1,235 @@
+-- What a call that ends with its first step makes of a state: each call but clones, slices and drops.
+use Rattle.std.specs.Prelude.{◌≡◌, ◌⊎◌, ℕ, ◌+◌, ◌-◌, ◌^◌, nat_lt, nat_eq, Bool, true, false, length, Option, None, Some, Result, Ok, Err, ◌&&◌, ◌||◌, not, if◌then◌else◌, MatchBool}
+use Rattle.iobufs_owner.specs.declared.owner.types.Block.{Block}
+use Rattle.iobufs_owner.specs.declared.owner.types.Handle.{Handle}
+use Rattle.iobufs_owner.specs.declared.owner.types.Kind.TheVariants.{View, Mut}
+use Rattle.iobufs_owner.specs.declared.owner.types.Word.{Word}
+use Rattle.iobufs_owner.specs.declared.owner.types.Word.TheVariants.{Empty, Descriptor, Record as Counted}
+use Rattle.iobufs_owner.specs.declared.owner.types.Refusal.{Refusal}
+use Rattle.iobufs_owner.specs.declared.owner.types.Refusal.TheVariants.{OutOfRange, BadPlace, Memory, Ceiling}
+use Rattle.iobufs_owner.specs.declared.owner.types.Reply.TheVariants.{Declined, Unique}
+use Rattle.iobufs_owner.specs.Kinds.{is_mut}
+use Rattle.iobufs_owner.specs.Places.{IsGoodPlace}
+use Rattle.iobufs_owner.specs.State.{State, Tables, block_at, record_at, tail_in, retailed, recovered, owned_by}
+use Rattle.iobufs_owner.specs.Word.{HasRoom, fits, word_of}
+use Rattle.iobufs_owner.specs.Changes.{Outcome, refused, done, edited, made, with_block, with_record, next_record, with_count, block_freed, record_freed, both_freed, detached, part}
+use Rattle.iobufs_owner.specs.Lending.{lend_of, any_of, owning_of}
+
+-- ---- new blocks
+
+abbrev pub block_of : (base size align : ℕ) → Bool → Block
+block_of base size align external = record { base = base; size = size; align = align; external = external }
+
+-- a new writable handle on a block
+abbrev pub first_handle : Block → Word → Handle
+first_handle b w = record { kind = Mut; ptr = b.base; len = 0; cap = b.size; word = w }
+
+-- a view of a whole block
+abbrev pub whole_view : Block → Word → Handle
+whole_view b w = record { kind = View; ptr = b.base; len = b.size; cap = 0; word = w }
+
+-- a new block that a descriptor describes
+abbrev pub described_of : State → Block → ℕ → Outcome
+described_of s b w = made (with_block s b) (first_handle b (Descriptor w))
+
+-- a new block that a new record counts
+abbrev pub recorded_of : State → Block → Handle → Outcome
+recorded_of s b x = made (with_record (with_block s b) 1 (length s.tables.blocks)) x
+
+-- a new native block that a word describes
+pub record CanDescribe (s : State) (b : Block) (w : ℕ) : Type 0 where
+  pub log : ℕ
+  pub place : IsGoodPlace s.tables.blocks b.base b.size b.align
+  pub native : b.external ≡ false
+  pub align : b.align ≡ 2 ^ log
+  pub room : HasRoom s.tables.align_bits s.tables.tail_bits s.tables.size_bits b.size log 0
+  pub word : w ≡ word_of s.tables.align_bits s.tables.tail_bits b.size log 0
+
+abbrev pub fits_in : Tables → (size log tail : ℕ) → Bool
+fits_in g size log tail = fits g.align_bits g.tail_bits g.size_bits size log tail
+
+-- where the fields have room a descriptor of tail 0, else a record
+abbrev pub placed : State → (base size log : ℕ) → Outcome
+placed s base size log =
+    let b = block_of base size (2 ^ log) false in
+    if fits_in s.tables size log 0
+    then described_of s b (word_of s.tables.align_bits s.tables.tail_bits size log 0)
+    else recorded_of s b (first_handle b (Counted (next_record s)))
+
+abbrev pub IsNew : State → (base size align : ℕ) → Bool → Outcome → Type 0
+IsNew s base size align memory o =
+    ((IsGoodPlace s.tables.blocks base size align → ⊥) × (o ≡ refused s BadPlace))
+    ⊎ (IsGoodPlace s.tables.blocks base size align
+    × MatchBool memory ((log : ℕ) × (align ≡ 2 ^ log) × (o ≡ placed s base size log)) (o ≡ refused s Memory))
+
+abbrev pub external_of : State → (base size : ℕ) → Bool → Outcome
+external_of s base size memory =
+    if memory then recorded_of s (block_of base size 1 true) (whole_view (block_of base size 1 true) (Counted (next_record s))) else refused s Memory
+
+abbrev pub IsExternal : State → (base size : ℕ) → Bool → Outcome → Type 0
+IsExternal s base size memory o =
+    ((IsGoodPlace s.tables.blocks base size 1 → ⊥) × (o ≡ refused s BadPlace))
+    ⊎ (IsGoodPlace s.tables.blocks base size 1 × (o ≡ external_of s base size memory))
+
+abbrev pub static_of : State → ℕ → Outcome
+static_of s len = made s (detached len)
+
+-- ---- Put and Advance
+
+abbrev pub put_lent : State → ℕ → ℕ → Result Handle Refusal → Outcome
+put_lent s h n (Err why) = refused s why
+put_lent s h n (Ok x) =
+    if nat_lt (x.cap - x.len) n then refused s OutOfRange else done (edited s h (record x { len = x.len + n }))
+
+abbrev pub put_of : State → ℕ → ℕ → Outcome
+put_of s h n = put_lent s h n (lend_of s h Mut)
+
+-- a view has capacity 0 and keeps it
+abbrev pub advanced : Handle → ℕ → Handle
+advanced x n = record x { ptr = x.ptr + n; len = x.len - n; cap = x.cap - n }
+
+abbrev pub advance_lent : State → ℕ → ℕ → Result Handle Refusal → Outcome
+advance_lent s h n (Err why) = refused s why
+advance_lent s h n (Ok x) = if nat_lt x.len n then refused s OutOfRange else done (edited s h (advanced x n))
+
+abbrev pub advance_of : State → ℕ → ℕ → Outcome
+advance_of s h n = advance_lent s h n (any_of s h)
+
+-- ---- Freeze
+
+-- something that holds nothing, in the place of a handle that lets its block go
+abbrev pub IsLoose : Option Handle → Type 0
+IsLoose o = (o ≡ None) ⊎ (o ≡ Some (detached 0))
+
+-- what a handle owns alone is freed
+abbrev pub freed_with : State → Handle → Word → State
+freed_with s x Empty = s
+freed_with s x (Descriptor w) = block_freed s (recovered s.tables x w)
+freed_with s x (Counted r) = both_freed s r
+
+-- the writable handle as a view
+abbrev pub frozen : Handle → Word → Handle
+frozen x w = record { kind = View; ptr = x.ptr; len = x.len; cap = 0; word = w }
+
+-- a handle's descriptor becomes a new record with this count
+abbrev pub promoted : State → Handle → ℕ → State
+promoted s x n = with_record s n (owned_by s.tables x)
+
+abbrev pub freeze_by : State → ℕ → Bool → Handle → Word → Outcome
+freeze_by s h memory x Empty = done (edited s h (frozen x Empty))
+freeze_by s h memory x (Descriptor w) =
+    if nat_lt (x.cap - x.len) (2 ^ s.tables.tail_bits)
+    then done (edited s h (frozen x (Descriptor (retailed s.tables w (x.cap - x.len)))))
+    else (if memory then done (edited (promoted s x 1) h (frozen x (Counted (next_record s)))) else refused s Memory)
+freeze_by s h memory x (Counted r) = done (edited s h (frozen x (Counted r)))
+
+abbrev pub freeze_lent : State → ℕ → Bool → Result Handle Refusal → Outcome
+freeze_lent s h memory (Err why) = refused s why
+freeze_lent s h memory (Ok x) =
+    if nat_eq x.len 0 then done (edited (freed_with s x x.word) h (detached 0)) else freeze_by s h memory x x.word
+
+abbrev pub freeze_of : State → ℕ → Bool → Outcome
+freeze_of s h memory = freeze_lent s h memory (lend_of s h Mut)
+
+-- ---- TryIntoMut
+
+-- the view as a writable handle
+abbrev pub thawed : Handle → ℕ → Word → Handle
+thawed x cap w = record { kind = Mut; ptr = x.ptr; len = x.len; cap = cap; word = w }
+
+abbrev pub declined : State → Outcome
+declined s = record { reply = Declined; state = s }
+
+abbrev pub recover_by : State → ℕ → Handle → Word → Outcome
+recover_by s h x Empty = if nat_eq x.len 0 then done (edited s h (thawed x 0 Empty)) else declined s
+recover_by s h x (Descriptor w) =
+    done (edited s h (thawed x (x.len + tail_in s.tables w) (Descriptor (retailed s.tables w 0))))
+recover_by s h x (Counted r) =
+    let b = block_at s.tables (record_at s.tables r).block in
+    if b.external then declined s
+    else (if nat_eq (record_at s.tables r).count 1
+    then done (edited s h (thawed x (b.base + b.size - x.ptr) (Counted r)))
+    else declined s)
+
+abbrev pub recover_lent : State → ℕ → Result Handle Refusal → Outcome
+recover_lent s h (Err why) = refused s why
+recover_lent s h (Ok x) = recover_by s h x x.word
+
+abbrev pub recover_of : State → ℕ → Outcome
+recover_of s h = recover_lent s h (lend_of s h View)
+
+-- ---- SplitTo
+
+-- the handle keeps what is behind the place, and the part before it is a new view; both with this word
+abbrev pub split_with : State → ℕ → ℕ → Handle → Word → Outcome
+split_with s h at x w = made (edited s h (part x at x.len w)) (part x 0 at w)
+
+abbrev pub split_by : State → ℕ → ℕ → Bool → Handle → Word → Outcome
+split_by s h at memory x Empty = split_with s h at x Empty
+split_by s h at memory x (Descriptor w) =
+    if memory
+    then split_with (promoted s x 2) h at x (Counted (next_record s))
+    else refused s Memory
+split_by s h at memory x (Counted r) =
+    if nat_lt s.ceiling (record_at s.tables r).count then refused s Ceiling
+    else split_with (with_count s r ((record_at s.tables r).count + 1)) h at x (Counted r)
+
+abbrev pub split_lent : State → ℕ → ℕ → Bool → Result Handle Refusal → Outcome
+split_lent s h at memory (Err why) = refused s why
+split_lent s h at memory (Ok x) =
+    if nat_lt x.len at then refused s OutOfRange
+    else (if nat_eq at 0 then made s (detached 0)
+    else (if nat_eq at x.len then made (edited s h (detached 0)) x
+    else split_by s h at memory x x.word))
+
+abbrev pub split_of : State → ℕ → ℕ → Bool → Outcome
+split_of s h at memory = split_lent s h at memory (lend_of s h View)
+
+-- ---- IsUnique
+
+abbrev pub is_unique : Tables → Handle → Word → Bool
+is_unique g x Empty = false
+is_unique g x (Descriptor w) = true
+is_unique g x (Counted r) = is_mut x.kind || nat_eq (record_at g r).count 1
+
+abbrev pub unique_lent : State → Result Handle Refusal → Outcome
+unique_lent s (Err why) = refused s why
+unique_lent s (Ok x) = record { reply = Unique (is_unique s.tables x x.word); state = s }
+
+abbrev pub unique_of : State → ℕ → Outcome
+unique_of s h = unique_lent s (owning_of s h)
+
+-- ---- Demote
+
+-- the bytes of a block behind a view
+abbrev pub tail_of : Block → Handle → ℕ
+tail_of b x = b.base + b.size - x.ptr - x.len
+
+-- a record that counts one view of a native block, whose size, alignment 2 ^ log and tail have room in a word
+abbrev pub may_demote : Tables → Handle → (r log : ℕ) → Bool
+may_demote g x r log =
+    let b = block_at g (record_at g r).block in
+    nat_eq (record_at g r).count 1 && not b.external && fits_in g b.size log (tail_of b x)
+
+-- the view by a descriptor of its block
+abbrev pub described : Tables → Handle → (r log : ℕ) → Handle
+described g x r log =
+    let b = block_at g (record_at g r).block in
+    record x { word = Descriptor (word_of g.align_bits g.tail_bits b.size log (tail_of b x)) }
+
+-- the descriptor takes the record's place, and the record alone is freed
+abbrev pub demote_counted : State → ℕ → Handle → (r log : ℕ) → Outcome
+demote_counted s h x r log =
+    if may_demote s.tables x r log then done (edited (record_freed s r) h (described s.tables x r log)) else declined s
+
+-- a word that isn't a record's stays; a view without block doesn't come here
+abbrev pub IsDemotedBy : State → ℕ → Handle → Word → Outcome → Type 0
+IsDemotedBy s h x Empty o = o ≡ declined s
+IsDemotedBy s h x (Descriptor w) o = o ≡ declined s
+IsDemotedBy s h x (Counted r) o =
+    (log : ℕ) × ((block_at s.tables (record_at s.tables r).block).align ≡ 2 ^ log) × (o ≡ demote_counted s h x r log)
+
+-- a view goes back from a record to a descriptor
+abbrev pub IsDemoted : State → ℕ → Result Handle Refusal → Outcome → Type 0
+IsDemoted s h (Err why) o = o ≡ refused s why
+IsDemoted s h (Ok x) o = IsDemotedBy s h x x.word o
