@@ -1,5 +1,5 @@
 -- A session with named buffers: what it reads, and what it prints.
-use Rattle.std.specs.Prelude.{◌≡◌, ℕ, ◌+◌, length, List, [], ◌∷◌, ◌++◌, codes, map, flat_map, replicate, Option, Some, None, Result, Ok, Err, OnOk, ⊤}
+use Rattle.std.specs.Prelude.{◌≡◌, ◌⊎◌, ℕ, ◌+◌, length, List, [], ◌∷◌, ◌++◌, codes, map, flat_map, replicate, Option, Some, None, Result, Ok, Err, OnOk, ⊤}
 use Rattle.std.specs.Fmt.{decimal}
 use Rattle.std.specs.Io.KnownBytes.{Appends}
 use Rattle.std.specs.Str.Lines.{lines}
@@ -43,6 +43,10 @@ abbrev pub Serves : List ℕ → List ℕ → Option (List ℕ) → Result (Unit
 Serves input before written (Ok done) = AllAnswered input before written
 Serves input before written (Err (BadCommand number)) = (count : ℕ) × (number ≡ count + 1) × AnsweredUpTo count input before written
 Serves input before written (Err CannotContinue) = ⊤
+
+-- at the end of the input, at a line that says no command, and where reading, writing or memory failed
+abbrev pub IsStatus : ℕ → Type 0
+IsStatus status = (status ≡ 0) ⊎ (status ≡ 2) ⊎ (status ≡ 3)
 
 -- the same by the status
 abbrev pub HasStatus : List ℕ → List ℕ → Option (List ℕ) → ℕ → Type 0

@@ -3,7 +3,7 @@ ghost use Rattle.std.specs.Prelude.{◌≡◌, ◌≢◌, [], ◌∷◌, codes, 
 ghost use Rattle.std.specs.Io.KnownBytes.{Appends, Keeps};
 ghost use Rattle.iobuf.specs.MachineSession.{HasMachineStatus, HasMachineTold};
 ghost use Rattle.iobuf.specs.Halves.{word_of};
-ghost use Rattle.iobuf.specs.Session.{EndsBy, HasStatus, HasTold, stop_line};
+ghost use Rattle.iobuf.specs.Session.{EndsBy, HasStatus, HasTold, IsStatus, stop_line};
 
 mod buffers;
 mod machine;
@@ -84,6 +84,7 @@ pub fn session<R: Read + Drop, W: Write, E: Write>(
     output: &mut W,
     errors: &mut E,
 ) -> (u8, io::Result<()>)
+    ensures known { IsStatus result.0 }
     ensures buffers { map (λ arg. arg.now) args.now ≡ codes "buf" ∷ [] → IfSome (R.remaining input) (λ read.
         IfSome (W.contents output.old) (λ before. HasStatus read before (W.contents output.new) result.0)) }
     ensures told { map (λ arg. arg.now) args.now ≡ codes "buf" ∷ [] → IfSome (R.remaining input) (λ read.
@@ -124,6 +125,7 @@ fn with_buffers<R: Read + Drop, W: Write, E: Write>(
     output: &mut W,
     errors: &mut E,
 ) -> (u8, io::Result<()>)
+    ensures known { IsStatus result.0 }
     ensures status { IfSome (R.remaining input) (λ read.
         IfSome (W.contents output.old) (λ before. HasStatus read before (W.contents output.new) result.0)) }
     ensures told { IfSome (R.remaining input) (λ read. IfSome (W.contents output.old) (λ before.
@@ -141,6 +143,7 @@ fn with_machine<R: Read + Drop, W: Write, E: Write>(
     output: &mut W,
     errors: &mut E,
 ) -> (u8, io::Result<()>)
+    ensures known { IsStatus result.0 }
     ensures status { IfSome (R.remaining input) (λ read.
         IfSome (W.contents output.old) (λ before. HasMachineStatus read before (W.contents output.new) result.0)) }
     ensures told { IfSome (R.remaining input) (λ read. IfSome (W.contents output.old) (λ before.
@@ -157,6 +160,7 @@ fn end<W: Write, E: Write>(
     output: &mut W,
     errors: &mut E,
 ) -> (u8, io::Result<()>)
+    ensures known { IsStatus result.0 }
     ensures same { Keeps (W.contents output.old) (W.contents output.new) }
     ensures by { EndsBy served result.0 (E.contents errors.old) (E.contents errors.new) result.1 }
     ensures silent { result.0 ≡ 0 → errors.new ≡ errors.old }
@@ -177,6 +181,7 @@ pub fn serve<R: Read + Drop, W: Write, E: Write>(
     output: &mut W,
     errors: &mut E,
 ) -> u8
+    ensures known { IsStatus result }
     ensures buffers { map (λ arg. arg.now) args.now ≡ codes "buf" ∷ [] → IfSome (R.remaining input) (λ read.
         IfSome (W.contents output.old) (λ before. HasStatus read before (W.contents output.new) result)) }
     ensures machine { map (λ arg. arg.now) args.now ≡ codes "owner" ∷ [] → IfSome (R.remaining input) (λ read.
