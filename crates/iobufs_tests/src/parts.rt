@@ -74,7 +74,7 @@ fn printed_text(rt: HostRuntime) -> Result<(), Fail> {
 }
 
 #[test]
-fn each_call_with_a_result_succeeds(rt: HostRuntime) -> Result<(), Fail> {
+fn parts_of_zeros_and_of_bytes(rt: HostRuntime) -> Result<(), Fail> {
     let alloc = rt.alloc();
     assert_eq!(rt; IoBufMut::zeroed(alloc, 2)?.as_ref(), [0; 2].as_slice());
     assert_eq!(rt; IoBufMut::zeroed_with_alignment(alloc, 2, 8)?.capacity(), 2);
@@ -89,10 +89,23 @@ fn each_call_with_a_result_succeeds(rt: HostRuntime) -> Result<(), Fail> {
         part.chunks_vectored(alloc, 1)?.as_slice(),
         [b"abc".as_slice()].as_slice()
     );
+    Ok(())
+}
+
+#[test]
+fn a_part_of_a_frozen_part(rt: HostRuntime) -> Result<(), Fail> {
+    let alloc = rt.alloc();
+    let part = IoBufMut::copy_from_slice(alloc, b"abc")?;
     match IoBufMut::from_view(alloc, part.freeze()?) {
         Ok(part) => assert_eq!(rt; part.as_ref(), b"abc".as_slice()),
         Err(_) => return Err(Fail::new("refused")),
     }
+    Ok(())
+}
+
+#[test]
+fn a_part_of_a_static_view(rt: HostRuntime) -> Result<(), Fail> {
+    let alloc = rt.alloc();
     match IoBufMut::from_view(alloc, IoBuf::from(b"abc".as_slice())) {
         Ok(part) => assert_eq!(rt; (part.as_ref(), part.capacity()), (b"abc".as_slice(), 3)),
         Err(_) => return Err(Fail::new("refused")),
