@@ -303,13 +303,7 @@ sound-thawed_counted s h x r k t i native one =
     (λ c a. rw (block-tells c (record_at s.tables r).block (owner_of s.tables y) oy (sym (alone-written s.tables c y r refl refl) ∙ a)) n)
     (record { live = f.live; known = f.known; shown = f.shown; lies = (lies.0, omega (arith, lies.0, lies.1), omega (arith, lies.0, lies.1)); native = λ m. native })
 
--- ---- what a thawed view finds
-
-pub record BlockBehind (s : State) (x : Handle) (r : ℕ) : Type 0 where
-  pub inside : r < length s.tables.records
-  pub known : (record_at s.tables r).block < length s.tables.blocks
-  pub ends : (block_at s.tables (record_at s.tables r).block).base + (block_at s.tables (record_at s.tables r).block).size < 2 ^ 64
-  pub behind : x.ptr ≤ (block_at s.tables (record_at s.tables r).block).base + (block_at s.tables (record_at s.tables r).block).size
+-- ---- what a handle finds
 
 -- a descriptor is a word of the format, and its tail leads to the end of the block
 pub word-at : (s : State) (h : ℕ) (x : Handle) (w : ℕ) → IsSound s → handle_at s h ≡ Some x → x.word ≡ Descriptor w → IsWord s.tables.align_bits s.tables.tail_bits s.tables.size_bits w

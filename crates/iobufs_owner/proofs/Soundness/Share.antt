@@ -1,5 +1,5 @@
 -- What unfinished clones and slices find, and how one that is counted ends.
-use Rattle.std.proofs.Common.{◌≡◌, inl, ℕ, ◌+◌, ◌^◌, ◌<◌, ◌≤◌, true, length, sym, ◌∙◌, ap, subst, refl, arith, Option, Some, None}
+use Rattle.std.proofs.Common.{◌≡◌, inl, ℕ, ◌+◌, ◌^◌, ◌<◌, ◌≤◌, length, sym, ◌∙◌, ap, subst, refl, arith, Option, Some, None}
 use Rattle.iobufs_owner.specs.State.{State, record_at, block_at, handle_at, call_at}
 use Rattle.iobufs_owner.specs.Sound.{IsSound, FitsCall, IsRacing, IsAdding, Shares, IsDescribed}
 use Rattle.iobufs_owner.specs.Changes.{with_count, called, with_handle, part}
