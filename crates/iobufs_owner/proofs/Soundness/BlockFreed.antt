@@ -7,7 +7,7 @@ use Rattle.std.proofs.lemmas.Bool.Decides.{eqb_tells}
 use Rattle.iobufs_owner.specs.State.{State, Tables, owner_of, record_at, block_at, handle_at, call_at, recovered, triple}
 use Rattle.iobufs_owner.specs.World.{holds, is_block, holders, users, tally}
 use Rattle.iobufs_owner.specs.Reading.{reading, read_handle}
-use Rattle.iobufs_owner.specs.Sound.{IsSound, Fits, FitsCall, alone, describes, hidden}
+use Rattle.iobufs_owner.specs.Sound.{IsSound, Fits, FitsCall, alone, describes}
 use Rattle.iobufs_owner.specs.Changes.{detached, replaced, block_freed, both_freed, tables_without}
 use Rattle.iobufs_owner.specs.Lending.{is_lent}
 use Rattle.iobufs_owner.specs.ShortCalls.{IsLoose}

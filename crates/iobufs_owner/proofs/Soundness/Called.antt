@@ -8,7 +8,7 @@ use Rattle.iobufs_owner.specs.State.{State, Tables, record_at, call_at}
 use Rattle.iobufs_owner.specs.World.{holders, users, still_holds, drops, tally}
 use Rattle.iobufs_owner.specs.Reading.{reading, read_call}
 use Rattle.iobufs_owner.specs.Sound.{IsSound, Fits, FitsCall, hidden, readies, releases}
-use Rattle.iobufs_owner.specs.Changes.{counted, called}
+use Rattle.iobufs_owner.specs.Changes.{called}
 use Rattle.iobufs_owner.specs.declared.owner.types.Handle.{Handle}
 use Rattle.iobufs_owner.specs.declared.owner.types.Share.{Share}
 use Rattle.iobufs_owner.specs.declared.owner.types.Pending.{Pending}

@@ -84,7 +84,7 @@ owner-demoted s h r log x k t xw m =
     let lies = lies-as bl x View t.kind_is f.lies in
     let size = word-size g.align_bits g.tail_bits g.size_bits w bl.size log (tail_of bl x) m.room refl in
     let tail = word-tail g.align_bits g.tail_bits g.size_bits w bl.size log (tail_of bl x) m.room refl in
-    let base : base_by (tables_without s.tables r) y w ≡ bl.base = rw (t.kind_is, size, tail) (omega (arith, lies.0, lies.1)) in
+    let base : base_by (tables_without s.tables r) y w ≡ bl.base = rw (t.kind_is, size, tail) (omega (arith, lies.begins, lies.ends)) in
     owner-described (tables_without s.tables r) y w refl ∙ ap (λ (n : ℕ). block_with n g.blocks) base ∙ found-by-base g b k.blocks f.known
 
 pub described-demoted : (s : State) (h r log : ℕ) (x : Handle) → IsSound s → Lends s h View x → x.word ≡ Counted r → (block_at s.tables (record_at s.tables r).block).align ≡ 2 ^ log → MayDemote s.tables x r log → IsDescribed (tables_without s.tables r) (described s.tables x r log) (word_of s.tables.align_bits s.tables.tail_bits (block_at s.tables (record_at s.tables r).block).size log (tail_of (block_at s.tables (record_at s.tables r).block) x)) (record_at s.tables r).block log (tail_of (block_at s.tables (record_at s.tables r).block) x)
@@ -99,8 +99,8 @@ described-demoted s h r log x k t xw align m =
       align = align;
       native = m.native;
       owner = owner-demoted s h r log x k t xw m;
-      lies = rw t.kind_is (lies.0, lies.1, lies.2);
-      behind = rw t.kind_is (omega (arith, lies.0, lies.1));
+      lies = rw t.kind_is (record { begins = lies.begins; ends = lies.ends; no_room = lies.no_room });
+      behind = rw t.kind_is (omega (arith, lies.begins, lies.ends));
     }
 
 -- ---- Demote
@@ -189,7 +189,7 @@ demoting s h r x k t xw =
     let f = counted-at s h x r k t.at xw in
     let ends = counted-ends s r k f.live in
     let lies = lies-as (block_at s.tables (record_at s.tables r).block) x View t.kind_is f.lies in
-    record { inside = ends.inside; reaches = lies.1; power = (k.blocks.places (record_at s.tables r).block no_block f.known).power; log_room = ends.record_log }
+    record { inside = ends.inside; reaches = lies.ends; power = (k.blocks.places (record_at s.tables r).block no_block f.known).power; log_room = ends.record_log }
 
 pub keeps-record : (s : State) (h r log : ℕ) (x : Handle) → (MayDemote s.tables x r log → ⊥) → (Declined ≡ (demote_counted s h x r log).reply) × (s ≡ (demote_counted s h x r log).state)
 keeps-record s h r log x n = rw (may-false s.tables x r log n) (refl, refl)

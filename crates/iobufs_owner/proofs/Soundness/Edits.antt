@@ -91,8 +91,8 @@ word-fits s x w b log tail k d =
 
 -- what lies in its block ends where addresses end
 end-kind : (b : Block) (x : Handle) (kind : Kind) → b.base + b.size < 2 ^ 64 → LiesIn b x kind → x.ptr + x.len < 2 ^ 64
-end-kind b x View e (low, high, cap) = omega arith
-end-kind b x Mut e (low, high, in') = omega arith
+end-kind b x View e lies = omega (arith, e, lies.ends)
+end-kind b x Mut e lies = omega (arith, e, lies.ends, lies.within)
 
 end-by : (s : State) (x : Handle) (w : Word) → IsSound s → FitsWord s.tables s.calls x w → x.ptr + x.len < 2 ^ 64
 end-by s x Empty k f = f.ends
@@ -109,10 +109,10 @@ put-fits s x n Empty m l o f = let z = f.no_bytes m in record { no_room = f.no_r
 put-fits s x n (Descriptor w) m l o f =
     let d = f.says in
     let lies = rw m at d.lies in
-    record { block = f.block; log = f.log; tail = f.tail; says = record { known = d.known; room = d.room; word = d.word; align = d.align; native = d.native; owner = o ∙ d.owner; lies = rw m (lies.0, lies.1, omega (arith, lies.2)); behind = rw m (rw m at d.behind) } }
+    record { block = f.block; log = f.log; tail = f.tail; says = record { known = d.known; room = d.room; word = d.word; align = d.align; native = d.native; owner = o ∙ d.owner; lies = rw m (record { begins = lies.begins; ends = lies.ends; within = omega (arith, lies.within) }); behind = rw m (rw m at d.behind) } }
 put-fits s x n (Counted r) m l o f =
     let lies = rw m at f.lies in
-    record { live = f.live; known = f.known; shown = f.shown; lies = rw m (lies.0, lies.1, omega (arith, lies.2)); native = f.native }
+    record { live = f.live; known = f.known; shown = f.shown; lies = rw m (record { begins = lies.begins; ends = lies.ends; within = omega (arith, lies.within) }); native = f.native }
 
 pub owner-put : (g : Tables) (x : Handle) (n : ℕ) → x.kind ≡ Mut → owner_of g (record x { len = x.len + n }) ≡ owner_of g x
 owner-put g x n m = owner-same g x (record x { len = x.len + n }) refl (base-mut g x (record x { len = x.len + n }) m m refl)
@@ -135,8 +135,8 @@ and-yes false = refl
 
 within-by : (g : Tables) (calls : List (Option Pending)) (x : Handle) (w : Word) → FitsWord g calls x w → x.kind ≡ Mut → x.len ≤ x.cap
 within-by g calls x Empty f m = let z = f.no_bytes m in omega arith
-within-by g calls x (Descriptor w) d m = (rw m at d.says.lies).2
-within-by g calls x (Counted r) f m = (rw m at f.lies).2
+within-by g calls x (Descriptor w) d m = (rw m at d.says.lies).within
+within-by g calls x (Counted r) f m = (rw m at f.lies).within
 
 -- a writable handle has no more bytes than room
 pub within : (s : State) (h : ℕ) (x : Handle) → IsSound s → handle_at s h ≡ Some x → x.kind ≡ Mut → x.len ≤ x.cap
@@ -150,8 +150,8 @@ pub owner-advanced : (g : Tables) (x : Handle) (n : ℕ) → n ≤ x.len → (x.
 owner-advanced g x n l c = owner-same g x (advanced x n) refl (λ w. base-kind g x n x.kind l c w refl)
 
 advance-lies : (b : Block) (x : Handle) (n : ℕ) (kind : Kind) → n ≤ x.len → LiesIn b x kind → LiesIn b (advanced x n) kind
-advance-lies b x n View l (low, high, cap) = (omega arith, omega arith, omega arith)
-advance-lies b x n Mut l (low, high, in') = (omega arith, omega arith, omega arith)
+advance-lies b x n View l lies = record { begins = omega (arith, lies.begins); ends = omega (arith, l, lies.ends); no_room = omega (arith, lies.no_room) }
+advance-lies b x n Mut l lies = record { begins = omega (arith, lies.begins); ends = omega (arith, l, lies.ends, lies.within); within = omega (arith, l, lies.within) }
 
 advance-behind : (b : Block) (x : Handle) (n tail : ℕ) (kind : Kind) → n ≤ x.len → LeavesBehind b x tail kind → LeavesBehind b (advanced x n) tail kind
 advance-behind b x n tail View l e = omega (arith, e)
@@ -195,6 +195,11 @@ empty-at s h x k at i = subst (λ (v : Word). FitsWord s.tables s.calls x v) i (
 pub lies-as : (b : Block) (x : Handle) (kind : Kind) → x.kind ≡ kind → LiesIn b x x.kind → LiesIn b x kind
 lies-as b x kind e l = subst (λ (q : Kind). LiesIn b x q) e l
 
+-- where a handle lies isn't told by its word
+pub lies-still : (b : Block) (x : Handle) (v : Word) (kind : Kind) → LiesIn b x kind → LiesIn b (record x { word = v }) kind
+lies-still b x v View l = record { begins = l.begins; ends = l.ends; no_room = l.no_room }
+lies-still b x v Mut l = record { begins = l.begins; ends = l.ends; within = l.within }
+
 pub behind-as : (b : Block) (x : Handle) (tail : ℕ) (kind : Kind) → x.kind ≡ kind → LeavesBehind b x tail x.kind → LeavesBehind b x tail kind
 behind-as b x tail kind e l = subst (λ (q : Kind). LeavesBehind b x tail q) e l
 
@@ -235,8 +240,8 @@ sound-frozen_described s h x w k t i l =
     let lies = lies-as (block_at g b) x Mut t.kind_is d.says.lies in
     sound-redescribed s h x (frozen x (Descriptor (retailed s.tables w (x.cap - x.len)))) w d.block d.log d.tail (x.cap - x.len) k t.at t.free i d.says l refl
     (base-frozen g x w d.block d.log d.tail t.kind_is c d.says l)
-    (omega (arith, lies.0), omega (arith, lies.1, c), refl)
-    (omega (arith, lies.1, c))
+    (record { begins = omega (arith, lies.begins); ends = omega (arith, lies.ends, c); no_room = refl })
+    (omega (arith, lies.ends, c))
 
 pub sound-frozen_counted : (s : State) (h : ℕ) (x : Handle) (r : ℕ) → IsSound s → Lends s h Mut x → x.word ≡ Counted r → IsSound (edited s h (frozen x (Counted r)))
 sound-frozen_counted s h x r k t i =
@@ -245,7 +250,7 @@ sound-frozen_counted s h x r k t i =
     let lies = lies-as (block_at s.tables (record_at s.tables r).block) x Mut t.kind_is f.lies in
     let o : owner_of s.tables y ≡ owner_of s.tables x = owner-counted s.tables y r refl ∙ sym (owner-counted s.tables x r i) in
     sound-edited s h x y k t.at t.free o (λ c. describes-counted s.tables c y r refl ∙ sym (describes-counted s.tables c x r i)) (λ c a. absurd (let q = sym (alone-shared s.tables c y r refl refl) ∙ a in cc))
-    (record { live = f.live; known = f.known; shown = f.shown; lies = (lies.0, omega (arith, lies.1, lies.2), refl); native = λ m. absurd (cc) })
+    (record { live = f.live; known = f.known; shown = f.shown; lies = record { begins = lies.begins; ends = omega (arith, lies.ends, lies.within); no_room = refl }; native = λ m. absurd (cc) })
 
 pub sound-frozen_empty : (s : State) (h : ℕ) (x : Handle) → IsSound s → Lends s h Mut x → x.word ≡ Empty → IsSound (edited s h (frozen x Empty))
 sound-frozen_empty s h x k t i =
@@ -287,7 +292,7 @@ sound-thawed_described s h x w k t i =
     let tail = tail-says g x w d.block d.log d.tail d.says in
     sound-redescribed s h x (thawed x (x.len + tail_in s.tables w) (Descriptor (retailed s.tables w 0))) w d.block d.log d.tail 0 k t.at t.free i d.says (pow_pos g.tail_bits) refl
     (base-thawed g x w d.block d.log d.tail t.kind_is d.says)
-    (lies.0, rw tail (omega (arith, behind)), omega arith)
+    (record { begins = lies.begins; ends = rw tail (omega (arith, behind)); within = omega arith })
     refl
 
 pub sound-thawed_counted : (s : State) (h : ℕ) (x : Handle) (r : ℕ) → IsSound s → Lends s h View x → x.word ≡ Counted r → (block_at s.tables (record_at s.tables r).block).external ≡ false → (record_at s.tables r).count ≡ 1 → IsSound (edited s h (thawed x ((block_at s.tables (record_at s.tables r).block).base + (block_at s.tables (record_at s.tables r).block).size - x.ptr) (Counted r)))
@@ -301,15 +306,9 @@ sound-thawed_counted s h x r k t i native one =
     let n : holders (reading s) (record_at s.tables r).block ≡ 1 = sym ((k.counted r f.live).counts f.shown) ∙ one in
     sound-edited s h x y k t.at t.free o (λ c. describes-counted s.tables c y r refl ∙ sym (describes-counted s.tables c x r i))
     (λ c a. rw (block-tells c (record_at s.tables r).block (owner_of s.tables y) oy (sym (alone-written s.tables c y r refl refl) ∙ a)) n)
-    (record { live = f.live; known = f.known; shown = f.shown; lies = (lies.0, omega (arith, lies.0, lies.1), omega (arith, lies.0, lies.1)); native = λ m. native })
+    (record { live = f.live; known = f.known; shown = f.shown; lies = record { begins = lies.begins; ends = omega (arith, lies.begins, lies.ends); within = omega (arith, lies.begins, lies.ends) }; native = λ m. native })
 
--- ---- what a thawed view finds
-
-pub record BlockBehind (s : State) (x : Handle) (r : ℕ) : Type 0 where
-  pub inside : r < length s.tables.records
-  pub known : (record_at s.tables r).block < length s.tables.blocks
-  pub ends : (block_at s.tables (record_at s.tables r).block).base + (block_at s.tables (record_at s.tables r).block).size < 2 ^ 64
-  pub behind : x.ptr ≤ (block_at s.tables (record_at s.tables r).block).base + (block_at s.tables (record_at s.tables r).block).size
+-- ---- what a handle finds
 
 -- a descriptor is a word of the format, and its tail leads to the end of the block
 pub word-at : (s : State) (h : ℕ) (x : Handle) (w : ℕ) → IsSound s → handle_at s h ≡ Some x → x.word ≡ Descriptor w → IsWord s.tables.align_bits s.tables.tail_bits s.tables.size_bits w

@@ -8,7 +8,7 @@ use Rattle.iobufs_owner.specs.State.{State, Tables, owner_of, record_at, handle_
 use Rattle.iobufs_owner.specs.World.{holders, users, still_holds, drops, tally}
 use Rattle.iobufs_owner.specs.Reading.{reading, read_call}
 use Rattle.iobufs_owner.specs.Sound.{IsSound, Fits, FitsWord, FitsCall, Shares, hidden, readies, releases}
-use Rattle.iobufs_owner.specs.Changes.{counted, called, record_freed, tables_without, part}
+use Rattle.iobufs_owner.specs.Changes.{called, record_freed, tables_without, part}
 use Rattle.iobufs_owner.specs.Lending.{borrows_it}
 use Rattle.iobufs_owner.specs.declared.owner.types.Handle.{Handle}
 use Rattle.iobufs_owner.specs.declared.owner.types.Share.{Share}

@@ -89,7 +89,7 @@ sound-made s b log w k good native al room is few fewer =
           align = rw at al;
           native = rw at native;
           owner = o;
-          lies = rw at (omega arith, refl, omega arith);
+          lies = rw at (record { begins = omega arith; ends = refl; within = omega arith });
           behind = refl;
         };
       });

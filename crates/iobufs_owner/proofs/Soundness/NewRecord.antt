@@ -247,4 +247,4 @@ sound-promoted-frozen s h x w b k t i o few =
     let same : d.block ≡ b = (let q = sym d.says.owner ∙ o in cc) in
     let kb = subst (λ (n : ℕ). n < length s.tables.blocks) same d.says.known in
     let lies = subst (λ (n : ℕ). LiesIn (block_at s.tables n) x Mut) same (lies-as (block_at s.tables d.block) x Mut t.kind_is d.says.lies) in
-    sound-promoted s h x (frozen x (Counted (length s.tables.records))) w b k t.at t.free i o kb refl refl (lies.0, omega (arith, lies.1, lies.2), refl) few
+    sound-promoted s h x (frozen x (Counted (length s.tables.records))) w b k t.at t.free i o kb refl refl (record { begins = lies.begins; ends = omega (arith, lies.ends, lies.within); no_room = refl }) few

@@ -8,7 +8,7 @@ use Rattle.iobufs_owner.specs.State.{State, Tables, record_at, call_at}
 use Rattle.iobufs_owner.specs.World.{holders, users, tally}
 use Rattle.iobufs_owner.specs.Reading.{reading}
 use Rattle.iobufs_owner.specs.Sound.{IsSound, Fits, FitsWord, FitsCall, FitsRecord, IsLoading, Promised, hidden, readies, releases}
-use Rattle.iobufs_owner.specs.Changes.{counted, called, with_record, part}
+use Rattle.iobufs_owner.specs.Changes.{called, with_record, part}
 use Rattle.iobufs_owner.specs.LongCalls.{loaded_found, loaded_block}
 use Rattle.iobufs_owner.specs.declared.owner.types.Record.{Record}
 use Rattle.iobufs_owner.specs.declared.owner.types.Handle.{Handle}

@@ -48,7 +48,7 @@ recovered-is s h x w b k at i o =
 
 ends-below : (b : Block) (x : Handle) (tail size : ℕ) (kind : Kind) → x.kind ≡ kind → size ≡ b.size → LiesIn b x kind → LeavesBehind b x tail kind → size ≤ end_of x tail
 ends-below b x tail size View e n lies behind = rw e (omega (arith, n, behind))
-ends-below b x tail size Mut e n lies behind = rw e (omega (arith, n, lies.1))
+ends-below b x tail size Mut e n lies behind = rw e (omega (arith, n, lies.ends))
 
 pub record SaysEnds (g : Tables) (x : Handle) (w : ℕ) : Type 0 where
   pub word : IsWord g.align_bits g.tail_bits g.size_bits w
@@ -65,7 +65,7 @@ says-ends s x w b log tail k d =
     record {
       word = word-fits s x w b log tail k d;
       view = λ e. let behind = behind-as (block_at g b) x tail View e d.behind in rw says (omega (arith, behind, ends));
-      room = λ e. let lies = lies-as (block_at g b) x Mut e d.lies in omega (arith, lies.1, ends);
+      room = λ e. let lies = lies-as (block_at g b) x Mut e d.lies in omega (arith, lies.ends, ends);
       below = rw says (ends-below (block_at g b) x tail (size_in g w) x.kind refl size d.lies d.behind);
     }
 
@@ -86,7 +86,7 @@ described-ends s h x w k at i =
     record {
       word = word-at s h x w k at i;
       view = λ e. let behind = behind-as (block_at s.tables d.block) x d.tail View e d.says.behind in rw tail (omega (arith, behind, ends));
-      room = λ e. let lies = lies-as (block_at s.tables d.block) x Mut e d.says.lies in omega (arith, lies.1, ends);
+      room = λ e. let lies = lies-as (block_at s.tables d.block) x Mut e d.says.lies in omega (arith, lies.ends, ends);
       below = rw tail (ends-below (block_at s.tables d.block) x d.tail (size_in s.tables w) x.kind refl size d.says.lies d.says.behind);
       log = block-log-room s.tables.blocks s.freed_blocks (users (reading s)) d.block d.says.known (owner-used s h x d.block at d.says.owner) k.block_log;
     }

@@ -1,5 +1,5 @@
 -- What unfinished clones and slices find, and how one that is counted ends.
-use Rattle.std.proofs.Common.{◌≡◌, inl, ℕ, ◌+◌, ◌^◌, ◌<◌, ◌≤◌, true, length, sym, ◌∙◌, ap, subst, refl, arith, Option, Some, None}
+use Rattle.std.proofs.Common.{◌≡◌, inl, ℕ, ◌+◌, ◌^◌, ◌<◌, ◌≤◌, length, sym, ◌∙◌, ap, subst, refl, arith, Option, Some, None}
 use Rattle.iobufs_owner.specs.State.{State, record_at, block_at, handle_at, call_at}
 use Rattle.iobufs_owner.specs.Sound.{IsSound, FitsCall, IsRacing, IsAdding, Shares, IsDescribed}
 use Rattle.iobufs_owner.specs.Changes.{with_count, called, with_handle, part}
@@ -48,6 +48,6 @@ sound-added-call s p r k x i at h low few =
     let order = a.shares.order in
     let within = a.shares.within in
     let y : Handle = part x k.lo k.hi (Counted r) in
-    let one = sound-added s k.handle r x y i h a.shares.view a.word refl refl (omega (arith, lies.0), omega (arith, lies.1, order, within), refl) low few in
+    let one = sound-added s k.handle r x y i h a.shares.view a.word refl refl (record { begins = omega (arith, lies.begins); ends = omega (arith, lies.ends, order, within); no_room = refl }) low few in
     let s1 : State = with_handle (with_count s r ((record_at s.tables r).count + 1)) (part x k.lo k.hi (Counted r)) in
     sound-called s1 p None one (at-some s.calls p (Add k r) at) (subst (λ (c : Option Pending). IsQuiet s1 c) (sym at) (quiet-add s1 k r)) (quiet-none s1) tt

@@ -47,7 +47,7 @@ sound-part_counted s h x r lo hi k t i low high =
     let lies = lies-as (block_at s.tables (record_at s.tables r).block) x View t.kind_is f.lies in
     let o : owner_of s.tables y ≡ owner_of s.tables x = owner-counted s.tables y r refl ∙ sym (owner-counted s.tables x r i) in
     sound-edited s h x y k t.at t.free o (λ c. describes-counted s.tables c y r refl ∙ sym (describes-counted s.tables c x r i)) (λ c a. absurd (let q = sym (alone-shared s.tables c y r refl refl) ∙ a in cc))
-    (record { live = f.live; known = f.known; shown = f.shown; lies = (omega (arith, lies.0), omega (arith, lies.1), refl); native = λ m. absurd (cc) })
+    (record { live = f.live; known = f.known; shown = f.shown; lies = record { begins = omega (arith, lies.begins); ends = omega (arith, lies.ends); no_room = refl }; native = λ m. absurd (cc) })
 
 -- ---- the parts
 
@@ -66,7 +66,7 @@ sound-split_counted s h r at x k t i low on few =
     let b : ℕ = (record_at s.tables r).block in
     let lies = lies-as (block_at g b) x View t.kind_is f.lies in
     let y : Handle = part x 0 at (Counted r) in
-    let one = sound-added s h r x y k t.at t.kind_is i refl refl (omega (arith, lies.0), omega (arith, lies.1), refl) on few in
+    let one = sound-added s h r x y k t.at t.kind_is i refl refl (record { begins = omega (arith, lies.begins); ends = omega (arith, lies.ends); no_room = refl }) on few in
     let g' : Tables = counted s.tables r ((record_at s.tables r).count + 1) in
     let two = sound-part_counted (with_handle (with_count s r ((record_at s.tables r).count + 1)) (part x 0 at (Counted r))) h x r at x.len one (lends-more s g' y h x t) i low (omega arith) in
     subst (λ (hs : List (Option Handle)). IsSound (record s { tables = counted s.tables r ((record_at s.tables r).count + 1); handles = hs })) (set-more s.handles h (Some (part x 0 at (Counted r))) (Some (part x at x.len (Counted r))) (at-some s.handles h x t.at)) two
@@ -92,14 +92,14 @@ sound-split_described s h w b at x k t i o low few' few =
     let y : Handle = whole x (length s.tables.records) in
     let front : Handle = part x 0 at (Counted (length s.tables.records)) in
     let l = at-some s.handles h x t.at in
-    let one : IsSound (edited (with_record s 1 b) h (whole x (length s.tables.records))) = sound-promoted s h x y w b k t.at t.free i o kb refl refl (lies.0, lies.1, refl) few' in
+    let one : IsSound (edited (with_record s 1 b) h (whole x (length s.tables.records))) = sound-promoted s h x y w b k t.at t.free i o kb refl refl (record { begins = lies.begins; ends = lies.ends; no_room = refl }) few' in
     let s1 : State = edited (with_record s 1 b) h (whole x (length s.tables.records)) in
     let new = recorded-new g 1 b in
     let new-block : (record_at s1.tables r).block ≡ b = ap (λ (v : Record). v.block) new in
     let new-count : (record_at s1.tables r).count ≡ 1 = ap (λ (v : Record). v.count) new in
     let at1 : handle_at s1 h ≡ Some y = get_or-set_same s.handles h (Some (whole x (length s.tables.records))) None l in
     let ceiling = k.size.ceiling in
-    let two = sound-added s1 h r y front one at1 refl refl refl refl (subst (λ (n : ℕ). LiesIn (block_at g n) front View) (sym new-block) (omega (arith, lies.0), omega (arith, lies.1), refl)) (omega (arith, new-count, ceiling)) (rw length-set few) in
+    let two = sound-added s1 h r y front one at1 refl refl refl refl (subst (λ (n : ℕ). LiesIn (block_at g n) front View) (sym new-block) (record { begins = omega (arith, lies.begins); ends = omega (arith, lies.ends); no_room = refl })) (omega (arith, new-count, ceiling)) (rw length-set few) in
     let g2 : Tables = counted (recorded s.tables 1 b) (length s.tables.records) ((record_at (recorded s.tables 1 b) (length s.tables.records)).count + 1) in
     let t1 : Lends s1 h View y = record { at = at1; kind_is = refl; free = t.free } in
     let three = sound-part_counted (record s1 { tables = g2; handles = s1.handles ++ Some front ∷ [] }) h y r at x.len two (lends-more s1 g2 front h y t1) refl low (omega arith) in

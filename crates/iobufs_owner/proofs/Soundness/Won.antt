@@ -20,7 +20,7 @@ use Rattle.iobufs_owner.proofs.Soundness.Counts.{count-set, count-some}
 use Rattle.iobufs_owner.proofs.Soundness.Keeps.{calls-read-kept, releases-kept, owner-kept, fits-kept, fits-calls, live-of, shares-kept, promised-kept, described-kept}
 use Rattle.iobufs_owner.proofs.Soundness.Kept.{at-some, owner-counted, block-log-kept}
 use Rattle.iobufs_owner.proofs.Soundness.Frames.{handles-kept, alone-kept, describes-kept, not-eqb, is-eqb}
-use Rattle.iobufs_owner.proofs.Soundness.Edits.{fits-at, alone-at, live-inside, lies-as, alone-described, describes-described, describes-counted, alone-shared}
+use Rattle.iobufs_owner.proofs.Soundness.Edits.{fits-at, alone-at, live-inside, lies-as, lies-still, alone-described, describes-described, describes-counted, alone-shared}
 use Rattle.iobufs_owner.proofs.Soundness.Holders.{describes-few}
 use Rattle.iobufs_owner.proofs.Soundness.Logs.{no_record, record-log-counted}
 use Rattle.iobufs_owner.proofs.Soundness.AddHolder.{sound-added, counted-keeps, counted-let_go, counted-block, counted-live, counted-same, counted-other}
@@ -171,7 +171,7 @@ sound-shown s p r w part x k atp at word =
           live = counted-live g r 1 r ∙ f.1.live;
           known = rw (counted-block g r 1 r) me.known;
           shown = mine;
-          lies = rw (counted-block g r 1 r, f.1.same) pr.says.lies;
+          lies = rw (counted-block g r 1 r, f.1.same) (lies-still (block_at g f.1.block) (record x { word = Descriptor w }) (Counted r) x.kind pr.says.lies);
           native = λ m. absurd (let q = sym view ∙ m in cc);
         })
         | inr z ↦ rw (get_or-set_other s.handles h i (Some y) None z.1) (fit-counted s r 1 (set s.calls p None) less (get_or s.handles i None) (k.fit i None (rw length-set at li)))
@@ -258,11 +258,11 @@ sound-won s p r w part' x k at atx xw few =
     let two : (record_at g r).count ≡ 2 = (k.counted r f.1.live).fresh hid in
     let count1 : (record_at s1.tables r).count ≡ 1 = counted-same g r 1 inside in
     let block1 : (record_at s1.tables r).block ≡ (record_at g r).block = counted-block g r 1 r in
-    let lies : LiesIn (block_at g f.1.block) x View = lies-as (block_at g f.1.block) x View sh.view pr.says.lies in
+    let lies : LiesIn (block_at g f.1.block) (record x { word = Descriptor w }) View = lies-as (block_at g f.1.block) (record x { word = Descriptor w }) View sh.view pr.says.lies in
     let order = sh.order in
     let within = sh.within in
     let front : Handle = part x part'.lo part'.hi (Counted r) in
-    let liesf : LiesIn (block_at g f.1.block) front View = (omega (arith, lies.0), omega (arith, lies.1, order, within), refl) in
+    let liesf : LiesIn (block_at g f.1.block) front View = (record { begins = omega (arith, lies.begins); ends = omega (arith, lies.ends, order, within); no_room = refl }) in
     let ceiling = k.size.ceiling in
     let added = sound-added s1 part'.handle r y front one at1 sh.view refl refl refl (subst (λ (n : ℕ). LiesIn (block_at g n) front View) (sym f.1.same ∙ sym block1) liesf) (omega (arith, count1, ceiling)) (rw length-set few) in
     subst (λ (g : Tables). IsSound (record s { tables = g; handles = set s.handles part'.handle (Some (by_record x r)) ++ Some (part x part'.lo part'.hi (Counted r)) ∷ []; calls = set s.calls p None })) (twice s.tables r inside two) added

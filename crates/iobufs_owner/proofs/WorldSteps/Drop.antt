@@ -20,7 +20,7 @@ use Rattle.iobufs_owner.specs.Reading.{reading, read_handle, read_call, has_let_
 use Rattle.iobufs_owner.specs.Sound.{IsSound}
 use Rattle.iobufs_owner.specs.Lending as lending
 use Rattle.iobufs_owner.specs.LongCalls as long
-use Rattle.iobufs_owner.specs.Changes.{done, unfinished_call, called, state_without, replaced, block_freed, both_freed}
+use Rattle.iobufs_owner.specs.Changes.{done, unfinished_call, called, state_without, block_freed, both_freed}
 use Rattle.iobufs_owner.specs.Lending.{Lends}
 use Rattle.iobufs_owner.specs.LongCalls.{after_count}
 use Rattle.iobufs_owner.specs.Steps as world

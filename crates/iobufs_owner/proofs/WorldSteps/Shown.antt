@@ -90,7 +90,7 @@ capacity-reads s h x k at m =
     let by : (w : Word) → x.word ≡ w → FitsWord s.tables s.calls x w → capacity_in (reading s) x.ptr (owner_of s.tables x) ≡ x.cap =
     λ w. elim w as (λ w. x.word ≡ w → FitsWord s.tables s.calls x w → capacity_in (reading s) x.ptr (owner_of s.tables x) ≡ x.cap) [
       | Empty ↦ λ e f. rw (owner-empty s.tables x e) (sym f.no_room)
-      | Descriptor w ↦ λ e d. let lies = rw m at d.says.lies in rw d.says.owner (omega (arith, lies.1))
-      | Counted r ↦ λ e f. let lies = rw m at f.lies in rw (owner-counted s.tables x r e) (omega (arith, lies.1))
+      | Descriptor w ↦ λ e d. let lies = rw m at d.says.lies in rw d.says.owner (omega (arith, lies.ends))
+      | Counted r ↦ λ e f. let lies = rw m at f.lies in rw (owner-counted s.tables x r e) (omega (arith, lies.ends))
     ] in
     by x.word refl (fits-at s h x k at)

@@ -15,7 +15,7 @@ use Rattle.iobufs_owner.specs.Reading.{reading, read_held, read_handle}
 use Rattle.iobufs_owner.specs.Sound.{IsSound}
 use Rattle.iobufs_owner.specs.Lending as lending
 use Rattle.iobufs_owner.specs.ShortCalls as short
-use Rattle.iobufs_owner.specs.Changes.{Outcome, refused, done, edited}
+use Rattle.iobufs_owner.specs.Changes.{done, edited}
 use Rattle.iobufs_owner.specs.Lending.{lend_of, Lends, is_lent}
 use Rattle.iobufs_owner.specs.ShortCalls.{declined, thawed, is_unique}
 use Rattle.iobufs_owner.specs.Steps as world
