@@ -86,6 +86,50 @@ impl IoBufs {
         self.use_up(n);
     }
 
+    // Takes bytes of the first piece out, and drops those in front too.
+    fn take_inside<T: OwnedBytes>(
+        &mut self,
+        alloc: Global,
+        skip: usize,
+        n: usize,
+    ) -> Result<T, BufError>
+        requires some { 0 < n }
+        requires inside { skip + n ≤ length (first_chunk (text_chunks self.old)) }
+        ensures ok { IfOk result (T.makes (taken_view self.old skip n)) }
+        ensures rest { OnOk result (self.new ≡ text_rest self.old (skip + n)) }
+        ensures err { OnErr result (self.new ≡ self.old) }
+        ensures memory { IsOkUnless result BufError.Memory }
+    {
+        let _len = self.len();
+        let (first, end) = (self.pieces.piece(0), skip + n);
+        let view = first.slice(Bound::Included(skip), Bound::Excluded(end))?;
+        let made = T::from_view(alloc, view)?;
+        self.drop_front(end);
+        Ok(made)
+    }
+
+    // The same, where the first piece doesn't hold all of them: apart, so that no view is moved for both.
+    #[inline(never)]
+    fn take_behind<T: OwnedBytes>(
+        &mut self,
+        alloc: Global,
+        skip: usize,
+        n: usize,
+    ) -> Result<T, BufError>
+        requires { skip + n ≤ text_len self.old }
+        ensures ok { IfOk result (T.makes (taken_view self.old skip n)) }
+        ensures rest { OnOk result (self.new ≡ text_rest self.old (skip + n)) }
+        ensures err { OnErr result (self.new ≡ self.old) }
+        ensures memory { IsOkUnless result BufError.Memory }
+        ensures nothing { n ≡ 0 → IsOk result }
+    {
+        let _len = self.len();
+        let view = self.taken(alloc, skip, n)?;
+        let made = T::from_view(alloc, view)?;
+        self.drop_front(skip + n);
+        Ok(made)
+    }
+
     // Bytes from a place on as one buffer: of their piece, or a copy where they span pieces.
     fn taken(&self, alloc: Global, skip: usize, n: usize) -> Result<IoBuf, BufError>
         requires { skip + n ≤ text_len self.now }
@@ -96,21 +140,6 @@ impl IoBufs {
         if n == 0 {
             return Ok(IoBuf::default());
         }
-        let first = self.pieces.piece(0);
-        if skip < first.len() && n <= first.len() - skip {
-            return first.slice(Bound::Included(skip), Bound::Excluded(skip + n));
-        }
-        self.taken_behind(alloc, skip, n)
-    }
-
-    // The same, where the first piece doesn't hold all of them.
-    #[inline(never)]
-    fn taken_behind(&self, alloc: Global, skip: usize, n: usize) -> Result<IoBuf, BufError>
-        requires some { 0 < n }
-        requires inside { skip + n ≤ text_len self.now }
-        ensures ok { IfOk result (λ view. view ≡ taken_view self.now skip n) }
-        ensures memory { IsOkUnless result BufError.Memory }
-    {
         let place = self.pieces.locate(skip);
         let piece = self.pieces.piece(place.index);
         if n <= piece.len() - place.offset {
@@ -270,14 +299,14 @@ impl OwnedBuf for IoBufs {
         skip: usize,
         n: usize,
     ) -> Result<T, BufError> {
-        if skip == 0 && n != 0 && n == self.chunk().len() {
+        let first = self.chunk().len();
+        if n == 0 || first <= skip || first - skip < n {
+            return self.take_behind(alloc, skip, n);
+        }
+        if skip == 0 && n == first {
             return self.take_first(alloc, n);
         }
-        let _len = self.len();
-        let view = self.taken(alloc, skip, n)?;
-        let made = T::from_view(alloc, view)?;
-        self.drop_front(skip + n);
-        Ok(made)
+        self.take_inside(alloc, skip, n)
     }
 
     ghost same_text = { Prim.search rules };

@@ -3,7 +3,7 @@ use Rattle.std.proofs.lemmas.Bool.{false≢true}
 use Rattle.iobufs_core.specs.View.{View}
 use Rattle.iobufs_core.specs.MarkedText.{taken_view}
 use Rattle.iobufs.proofs.Text.TakenLaws.{taken_view-none}
-use Rattle.iobufs.proofs.bufs.buf.IoBufsOwnedBuf.take_owned_after.Goals as goal
+use Rattle.iobufs.proofs.bufs.text.IoBufs.take_behind.Goals as goal
 
 pub returns-in_err-made-clause-nothing : goal.returns-in_err-made-clause-nothing
 returns-in_err-made-clause-nothing g c = λ none.

@@ -1,0 +1,34 @@
+use Rattle.std.proofs.Common.{◌+◌, ◌≤◌, ap, arith, length, subst, sym, ◌∙◌, rules}
+use Rattle.std.specs.declared.ops.Bound.TheVariants.{Included, Excluded}
+use Rattle.iobufs_core.specs.View.{View, view_slice}
+use Rattle.iobufs.specs.Inside.Pieces.{piece_at, view_len}
+use Rattle.iobufs.specs.Inside.Several.{views}
+use Rattle.iobufs.proofs.Text.ReadLaws.{first-kept, length-behind, taken-within}
+use Rattle.iobufs.proofs.Text.SeveralLaws.{place-in_first}
+use Rattle.iobufs.proofs.Text.TextLaws.{length-kept}
+use Rattle.iobufs.proofs.bufs.text.IoBufs.take_inside.Goals as goal
+
+pub overflow_add-end : goal.overflow_add-end
+overflow_add-end g c =
+    let s = c.self.inside in
+    omega (arith, c.requires.inside, ap length (first-kept s.pieces _ c.self.view_is c.self.invariant.pieced), length-behind (views s.pieces), length-kept s _ c.self.view_is, c.len-len.ensures)
+
+pub slice-requires : goal.slice-requires
+slice-requires g c =
+    let s = c.self.inside in
+    let first = ap (λ (v : View). length v.bytes) c.piece-first.ensures in
+    let inside : c.args.skip + c.args.n ≤ length c.piece-first.result.now.bytes = omega (arith, c.requires.inside, ap length (first-kept s.pieces _ c.self.view_is c.self.invariant.pieced)) in
+    Prim.search (rules, inside)
+
+pub drop_front-requires : goal.drop_front-requires
+drop_front-requires g c =
+    let s = c.self.inside in
+    omega (arith, c.requires.inside, ap length (first-kept s.pieces _ c.self.view_is c.self.invariant.pieced), length-behind (views s.pieces), length-kept s _ c.self.view_is)
+
+pub returns-clause-ok : goal.returns-clause-ok
+returns-clause-ok g c =
+    let s = c.self.inside in
+    let vs = views s.pieces in
+    let held = ap length (first-kept s.pieces _ c.self.view_is c.self.invariant.pieced) in
+    let within = taken-within vs _ c.args.skip c.args.n 0 c.args.skip c.self.view_is (place-in_first vs c.args.skip (omega (arith, held, c.requires.inside, c.requires.some))) (omega (arith, held, c.requires.inside, c.requires.some, length-behind vs)) c.requires.some (omega (arith, held, c.requires.inside)) in
+    subst (λ view. g.T.OwnedBytes.makes view c.in_ok-made.made) (c.in_ok-view.ensures.ok ∙ ap (λ v. view_slice v (Included c.args.skip) (Excluded (c.args.skip + c.args.n))) c.piece-first.ensures ∙ within) c.in_ok-made.ensures.ok
