@@ -1,5 +1,5 @@
 -- A session with the owner machine, line by line.
-use Rattle.std.proofs.Common.{◌≡◌, inl, inr, ℕ, ◌+◌, List, [], ◌∷◌, ◌++◌, map, flat_map, length-append, append-nil, true, false, Option, Some, None, Ok, Err, refl, sym, ap, subst, ◌∙◌, arith, codes, IfSome}
+use Rattle.std.proofs.Common.{◌≡◌, inr, ℕ, ◌+◌, List, [], ◌∷◌, ◌++◌, map, flat_map, length-append, append-nil, true, false, Option, Some, None, Ok, Err, refl, sym, ap, subst, ◌∙◌, arith, codes, IfSome}
 use Rattle.std.proofs.lemmas.List.{flat_map_more}
 use Rattle.std.specs.Io.KnownBytes.{Keeps}
 use Rattle.std.specs.Str.Lines.{lines}
