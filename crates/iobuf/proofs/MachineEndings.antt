@@ -19,24 +19,30 @@ all_kept : (input before : List ℕ) (written new : Option (List ℕ)) → AllAn
 all_kept input before written new all keeps =
     elim all [
       | inl none ↦ subst (λ (w : Option (List ℕ)). AllAnswered input before w) (same written new _ none.prints keeps) (inl none)
-      | inr some ↦ subst (λ (w : Option (List ℕ)). AllAnswered input before w) (same written new _ some.1.prints keeps) (inr some)
+      | inr (count, answered) ↦ subst (λ (w : Option (List ℕ)). AllAnswered input before w) (same written new _ answered.prints keeps) (inr (count, answered))
     ]
 
 upto_kept : (count : ℕ) (input before : List ℕ) (written new : Option (List ℕ)) → AnsweredUpTo count input before written → Keeps written new → AnsweredUpTo count input before new
 upto_kept count input before written new upto keeps =
     elim upto [
-      | inl none ↦ subst (λ (w : Option (List ℕ)). AnsweredUpTo count input before w) (same written new _ none.1.prints keeps) (inl none)
-      | inr some ↦ subst (λ (w : Option (List ℕ)). AnsweredUpTo count input before w) (same written new _ some.1.prints keeps) (inr some)
+      | inl (first, refused) ↦ subst (λ (w : Option (List ℕ)). AnsweredUpTo count input before w) (same written new _ refused.prints keeps) (inl (first, refused))
+      | inr (left, answered) ↦ subst (λ (w : Option (List ℕ)). AnsweredUpTo count input before w) (same written new _ answered.prints keeps) (inr (left, answered))
     ]
 
 at_end : (input before : List ℕ) (written new : Option (List ℕ)) (served : Result (Unit {0}) Stop) → ServesMachine input before written served → served ≡ Ok tt → Keeps written new → AllAnswered input before new
 at_end input before written new served is e keeps = all_kept input before written new (subst (λ (r : Result (Unit {0}) Stop). ServesMachine input before written r) e is) keeps
 
+-- so many lines were answered, and the next has this number
+record StoppedAt (input before : List ℕ) (written : Option (List ℕ)) (number : ℕ) : Type 0 where
+  count : ℕ
+  number_is : number ≡ count + 1
+  upto : AnsweredUpTo count input before written
+
 at_stop : (input before : List ℕ) (written new : Option (List ℕ)) (served : Result (Unit {0}) Stop) (number : ℕ) → ServesMachine input before written served → served ≡ Err (BadCommand number) → Keeps written new
-    → (count : ℕ) × (number ≡ count + 1) × AnsweredUpTo count input before new
+    → StoppedAt input before new number
 at_stop input before written new served number is e keeps =
     let (count, next, upto) = subst (λ (r : Result (Unit {0}) Stop). ServesMachine input before written r) e is in
-    (count, next, upto_kept count input before written new upto keeps)
+    record { count = count; number_is = next; upto = upto_kept count input before written new upto keeps }
 
 pub status_of : {E : Type 0} (read told written new : Option (List ℕ)) (served : Result (Unit {0}) Stop) (status : ℕ) (errors after : Option (List ℕ)) (said : Result (Unit {0}) E)
     → IfSome read (λ input. IfSome told (λ before. ServesMachine input before written served)) → Keeps written new → EndsBy served status errors after said
@@ -45,7 +51,7 @@ status_of (Some input) (Some before) written new served status errors after said
   λ zero. at_end input before written new served is (ends.0 zero) keeps,
   λ two.
       let (number, e, tells) = ends.1 two in
-      let (count, next, upto) = at_stop input before written new served number is e keeps in (count, upto),
+      let stopped = at_stop input before written new served number is e keeps in (stopped.count, stopped.upto),
 )
 status_of (Some input) None written new served status errors after said is keeps ends = tt
 status_of None told written new served status errors after said is keeps ends = tt
@@ -55,6 +61,6 @@ pub told_of : {E : Type 0} (read told written new : Option (List ℕ)) (served :
     → IfSome read (λ input. IfSome told (λ before. HasMachineTold input before new errors after status said))
 told_of (Some input) (Some before) written new served status errors after said is keeps ends = λ two.
     let (number, e, tells) = ends.1 two in
-    let (count, next, upto) = at_stop input before written new served number is e keeps in (number, count, next, upto, tells)
+    let stopped = at_stop input before written new served number is e keeps in (number, stopped.count, stopped.number_is, stopped.upto, tells)
 told_of (Some input) None written new served status errors after said is keeps ends = tt
 told_of None told written new served status errors after said is keeps ends = tt

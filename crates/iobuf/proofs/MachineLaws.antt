@@ -1,5 +1,5 @@
 -- A session with the owner machine, line by line.
-use Rattle.std.proofs.Common.{◌≡◌, inl, inr, ℕ, ◌+◌, List, [], ◌∷◌, ◌++◌, map, flat_map, length-append, append-nil, true, false, Option, Some, None, Ok, Err, refl, sym, ap, subst, ◌∙◌, arith, codes, IfSome}
+use Rattle.std.proofs.Common.{◌≡◌, inr, ℕ, ◌+◌, List, [], ◌∷◌, ◌++◌, map, flat_map, length-append, append-nil, true, false, Option, Some, None, Ok, Err, refl, sym, ap, subst, ◌∙◌, arith, codes, IfSome}
 use Rattle.std.proofs.lemmas.List.{flat_map_more}
 use Rattle.std.specs.Io.KnownBytes.{Keeps}
 use Rattle.std.specs.Str.Lines.{lines}
@@ -34,7 +34,7 @@ record Next (bytes line : List ℕ) (next : Option (List ℕ)) : Type 0 where
 next_line : (left next : Option (List ℕ)) (raw line bytes : List ℕ) → left ≡ Some bytes → TakesLine left next raw true → line ≡ line_text raw → Next bytes line next
 next_line left next raw line bytes e takes t =
     let taken = subst (λ (o : Option (List ℕ)). TakesLine o next raw true) e takes in
-    record { rest = taken.0; next_is = taken.1; split = taken.2 ∙ ap (λ l. l ∷ lines taken.0) (sym t) }
+    record { rest = taken.rest; next_is = taken.left_is; split = taken.split ∙ ap (λ l. l ∷ lines taken.rest) (sym t) }
 
 no_line : (left next : Option (List ℕ)) (raw bytes : List ℕ) → left ≡ Some bytes → TakesLine left next raw false → lines bytes ≡ []
 no_line left next raw bytes e takes = subst (λ (o : Option (List ℕ)). TakesLine o next raw false) e takes
@@ -61,28 +61,22 @@ begun input before line rest next written m split e b = record {
   answered = record {
     first = line;
     others = lines rest;
-    setup = b.0;
+    setup = b.setup;
     begin = m;
     end = m;
     asks = [];
     texts = [];
     split = split;
-    asks_for = b.1;
-    begins = b.2;
+    asks_for = b.asks_for;
+    begins = b.begins;
     say = refl;
     counts = refl;
     answers = refl;
-    promises = b.3;
-    prints = b.4 ∙ ap Some (sym (append-nil (before ++ line_of (codes "ok"))));
+    promises = b.promises;
+    prints = b.prints ∙ ap Some (sym (append-nil (before ++ line_of (codes "ok"))));
   };
   ends = refl;
 }
-
-refused : (input before line rest : List ℕ) (written : Option (List ℕ)) (stop : Stop)
-    → lines input ≡ line ∷ lines rest → Begins line before written (Err stop) → ServesMachine input before written (Err stop)
-refused input before line rest written (BadCommand n) split b =
-    (0, b.2, inl (refl, record { first = line; others = lines rest; split = split; asks_for = b.0; prints = b.1 }))
-refused input before line rest written CannotContinue split b = tt
 
 -- ---- a further line
 
@@ -111,16 +105,16 @@ answered_one input before line left next kept written number old new g n h =
         setup = a.setup;
         begin = a.begin;
         end = new;
-        asks = a.asks ++ said.0 ∷ [];
-        texts = a.texts ++ said.1 ∷ [];
+        asks = a.asks ++ said.ask ∷ [];
+        texts = a.texts ++ said.text ∷ [];
         split = a.split;
         asks_for = a.asks_for;
         begins = a.begins;
-        say = a.say ∙ (ap (λ l. map (λ ask. Some ask) a.asks ++ l) (left_is_next g.rest line n.rest (Some said.0) n.split said.2) ∙ says_more a.asks said.0 (map ask_of (lines n.rest)));
-        counts = let e = a.counts in omega (arith, e, length-append a.asks (said.0 ∷ []));
-        answers = answered_more a.begin old new a.asks a.texts said.0 said.1 (subst (λ (s : Seen). AreAnswered a.begin a.asks a.texts s) g.ends a.answers) said.3;
-        promises = promised_after old new said.0 said.1 said.3 (subst (λ (s : Seen). Promises s.state) g.ends a.promises);
-        prints = said.4 ∙ ap Some (flat_map_more line_of (before ++ line_of (codes "ok")) a.texts said.1);
+        say = a.say ∙ (ap (λ l. map (λ ask. Some ask) a.asks ++ l) (left_is_next g.rest line n.rest (Some said.ask) n.split said.says) ∙ says_more a.asks said.ask (map ask_of (lines n.rest)));
+        counts = let e = a.counts in omega (arith, e, length-append a.asks (said.ask ∷ []));
+        answers = answered_more a.begin old new a.asks a.texts said.ask said.text (subst (λ (s : Seen). AreAnswered a.begin a.asks a.texts s) g.ends a.answers) said.answers;
+        promises = promised_after old new said.ask said.text said.answers (subst (λ (s : Seen). Promises s.state) g.ends a.promises);
+        prints = said.prints ∙ ap Some (flat_map_more line_of (before ++ line_of (codes "ok")) a.texts said.text);
       };
       ends = refl;
     }
@@ -130,9 +124,9 @@ stopped_at : (input before line : List ℕ) (left next kept written : Option (Li
     → IfSome kept (λ bytes. AnswersLine line number old new bytes written (Err stop)) → ServesMachine input before written (Err stop)
 stopped_at input before line left next kept written number old new (BadCommand m) g n h =
     let a = g.answered in
-    let said = said_of (λ bytes. AnswersLine line number old new bytes written (Err (BadCommand m))) kept (before ++ line_of (codes "ok") ++ flat_map line_of a.texts) a.prints h in (
+    let (none, stays, told) = said_of (λ bytes. AnswersLine line number old new bytes written (Err (BadCommand m))) kept (before ++ line_of (codes "ok") ++ flat_map line_of a.texts) a.prints h in (
       g.count,
-      said.2 ∙ g.number_is,
+      told ∙ g.number_is,
       inr (
         map ask_of (lines n.rest),
         record {
@@ -146,11 +140,11 @@ stopped_at input before line left next kept written number old new (BadCommand m
           split = a.split;
           asks_for = a.asks_for;
           begins = a.begins;
-          say = a.say ∙ ap (λ l. map (λ ask. Some ask) a.asks ++ l) (left_is_next g.rest line n.rest None n.split said.0);
+          say = a.say ∙ ap (λ l. map (λ ask. Some ask) a.asks ++ l) (left_is_next g.rest line n.rest None n.split none);
           counts = a.counts;
           answers = a.answers;
           promises = a.promises;
-          prints = said.1;
+          prints = stays;
         },
       ),
     )
@@ -212,13 +206,6 @@ ended input before raw left next written number m g takes =
 
 -- ---- where the bytes are known
 
-pub empty_served : (a b left next new : Option (List ℕ)) (raw : List ℕ) → left ≡ a → TakesLine left next raw false → Keeps b new
-    → IfSome a (λ input. IfSome b (λ before. ServesMachine input before new (Ok tt)))
-empty_served (Some input) (Some before) left next new raw e takes keeps =
-    inl (record { split = no_line left next raw input e takes; prints = kept_is (Some before) new before refl keeps })
-empty_served (Some input) None left next new raw e takes keeps = tt
-empty_served None b left next new raw e takes keeps = tt
-
 pub first_begun : (a b left next kept written : Option (List ℕ)) (raw line : List ℕ) (m : Seen) → left ≡ a → TakesLine left next raw true → line ≡ line_text raw → Keeps b kept
     → IfSome kept (λ before. Begins line before written (Ok m)) → IfSome a (λ input. IfSome b (λ before. GoesOn input before next written 2 m))
 first_begun (Some input) (Some before) left next kept written raw line m e takes t keeps h =
@@ -227,15 +214,6 @@ first_begun (Some input) (Some before) left next kept written raw line m e takes
     (said_of (λ before. Begins line before written (Ok m)) kept before (kept_is (Some before) kept before refl keeps) h)
 first_begun (Some input) None left next kept written raw line m e takes t keeps h = tt
 first_begun None b left next kept written raw line m e takes t keeps h = tt
-
-pub first_refused : (a b left next kept written : Option (List ℕ)) (raw line : List ℕ) (stop : Stop) → left ≡ a → TakesLine left next raw true → line ≡ line_text raw → Keeps b kept
-    → IfSome kept (λ before. Begins line before written (Err stop)) → IfSome a (λ input. IfSome b (λ before. ServesMachine input before written (Err stop)))
-first_refused (Some input) (Some before) left next kept written raw line stop e takes t keeps h =
-    let n = next_line left next raw line input e takes t in
-    refused input before line n.rest written stop n.split
-    (said_of (λ before. Begins line before written (Err stop)) kept before (kept_is (Some before) kept before refl keeps) h)
-first_refused (Some input) None left next kept written raw line stop e takes t keeps h = tt
-first_refused None b left next kept written raw line stop e takes t keeps h = tt
 
 pub all_served : (a b left next written new : Option (List ℕ)) (raw : List ℕ) (number : ℕ) (m : Seen)
     → IfSome a (λ input. IfSome b (λ before. GoesOn input before left written number m)) → TakesLine left next raw false → Keeps written new

@@ -107,10 +107,10 @@ reads : (input before line : List ℕ) (old new written mid : Option (List ℕ))
 reads input before line old new written mid number names g takes keeps =
     let taken = rw g.left_is at takes in
     record {
-      rest = taken.0;
-      left_is = taken.1;
-      answered = unmoved input before (before ++ flat_map line_of g.answered.replies) (command_of (line_text line) ∷ commands_of taken.0) written mid g.count names
-          (told_so input before (commands_of g.rest) (command_of (line_text line) ∷ commands_of taken.0) written g.count names (ap (map command_of) taken.2) g.answered)
+      rest = taken.rest;
+      left_is = taken.left_is;
+      answered = unmoved input before (before ++ flat_map line_of g.answered.replies) (command_of (line_text line) ∷ commands_of taken.rest) written mid g.count names
+          (told_so input before (commands_of g.rest) (command_of (line_text line) ∷ commands_of taken.rest) written g.count names (ap (map command_of) taken.split) g.answered)
           g.answered.prints
           (kept (before ++ flat_map line_of g.answered.replies) written mid g.answered.prints keeps);
     }
@@ -130,9 +130,9 @@ goes_on input before line left mid new count number names after read n h =
       left_is = read.left_is;
       count = count + 1;
       number_is = ap (λ k. k + 1) n;
-      answered = answered_more input before bs (commands_of read.rest) mid new count names after a.0 a.1
-          (told_so input before (command_of line ∷ commands_of read.rest) (Some (plain a.0) ∷ commands_of read.rest) mid count names (ap (λ o. o ∷ commands_of read.rest) a.2) read.answered)
-          a.3 read.answered.prints a.4;
+      answered = answered_more input before bs (commands_of read.rest) mid new count names after a.command a.reply
+          (told_so input before (command_of line ∷ commands_of read.rest) (Some (plain a.command) ∷ commands_of read.rest) mid count names (ap (λ o. o ∷ commands_of read.rest) a.says) read.answered)
+          a.step read.answered.prints a.prints;
     }
 
 stops : (input before line : List ℕ) (left mid new : Option (List ℕ)) (count number : ℕ) (names after : List Slot) (stop : Stop)
@@ -140,11 +140,11 @@ stops : (input before line : List ℕ) (left mid new : Option (List ℕ)) (count
     → Serves input before new (Err stop)
 stops input before line left mid new count number names after (BadCommand m) read n h =
     let bs = before ++ flat_map line_of read.answered.replies in
-    let a = answer_at (λ xs. AnswersLine line number names after xs new (Err (BadCommand m))) mid bs read.answered.prints h in
+    let (none, stays, told) = answer_at (λ xs. AnswersLine line number names after xs new (Err (BadCommand m))) mid bs read.answered.prints h in
     let answered = unmoved input before bs (None ∷ commands_of read.rest) mid new count names
-    (told_so input before (command_of line ∷ commands_of read.rest) (None ∷ commands_of read.rest) mid count names (ap (λ o. o ∷ commands_of read.rest) a.0) read.answered)
-    read.answered.prints a.1 in
-    (count, a.2 ∙ n, (names, commands_of read.rest, answered))
+    (told_so input before (command_of line ∷ commands_of read.rest) (None ∷ commands_of read.rest) mid count names (ap (λ o. o ∷ commands_of read.rest) none) read.answered)
+    read.answered.prints stays in
+    (count, told ∙ n, (names, commands_of read.rest, answered))
 stops input before line left mid new count number names after CannotContinue read n h = tt
 
 pub line_answered : (read told left next written mid new : Option (List ℕ)) (line text : List ℕ) (number : ℕ) (names after : List Slot)
@@ -183,6 +183,6 @@ all_answered None told left next written mid line number names g takes keeps = t
 
 pub one_answered : (old new : Option (List ℕ)) (line : List ℕ) (number : ℕ) (names after : List Slot) (c : Cmd) (r : Reply)
     → command_of line ≡ Some (plain c) → Step names c r after → Appends old new (line_of r) → IfSome old (λ before. AnswersLine line number names after before new (Ok tt))
-one_answered (Some bs) (Some ys) line number names after c r e step f = (c, r, e, step, ap Some f)
+one_answered (Some bs) (Some ys) line number names after c r e step f = record { command = c; reply = r; says = e; step = step; prints = ap Some f }
 one_answered (Some bs) None line number names after c r e step f = elim f [ ]
 one_answered None new line number names after c r e step f = tt

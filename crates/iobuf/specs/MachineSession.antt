@@ -11,17 +11,31 @@ use Rattle.iobuf.specs.Session.{stop_line}
 use Rattle.iobuf.specs.declared.serve.Stop.{Stop}
 use Rattle.iobuf.specs.declared.serve.Stop.TheVariants.{BadCommand, CannotContinue}
 
+-- a line asks for a machine, which is made as it is promised, and `ok` is written
+pub record Begun (line before : List ℕ) (written : Option (List ℕ)) (m : Seen) : Type 0 where
+  pub setup : Setup
+  pub asks_for : setup_of line ≡ Some setup
+  pub begins : m.state ≡ machine_of setup
+  pub promises : Promises m.state
+  pub prints : written ≡ Some (before ++ line_of (codes "ok"))
+
 -- the first line asks for a machine, and is answered by `ok`; where it asks for none, nothing is written
 abbrev pub Begins : (line before : List ℕ) → (written : Option (List ℕ)) → Result Seen Stop → Type 0
-Begins line before written (Ok m) =
-    (setup : Setup) × (setup_of line ≡ Some setup) × (m.state ≡ machine_of setup) × Promises m.state × (written ≡ Some (before ++ line_of (codes "ok")))
+Begins line before written (Ok m) = Begun line before written m
 Begins line before written (Err (BadCommand n)) = (setup_of line ≡ None) × (written ≡ Some before) × (n ≡ 1)
 Begins line before written (Err CannotContinue) = ⊤
 
+-- a line asks something, and is answered by a text, which is written
+pub record AskAnswered (line : List ℕ) (old new : Seen) (before : List ℕ) (written : Option (List ℕ)) : Type 0 where
+  pub ask : Ask
+  pub text : List ℕ
+  pub says : ask_of line ≡ Some ask
+  pub answers : Answers old ask text new
+  pub prints : written ≡ Some (before ++ line_of text)
+
 -- a line that asks something is answered; where it asks nothing, nothing is written
 abbrev pub AnswersLine : (line : List ℕ) → (number : ℕ) → (old new : Seen) → (before : List ℕ) → (written : Option (List ℕ)) → Result (Unit {0}) Stop → Type 0
-AnswersLine line number old new before written (Ok done) =
-    (ask : Ask) × (text : List ℕ) × (ask_of line ≡ Some ask) × Answers old ask text new × (written ≡ Some (before ++ line_of text))
+AnswersLine line number old new before written (Ok done) = AskAnswered line old new before written
 AnswersLine line number old new before written (Err (BadCommand n)) = (ask_of line ≡ None) × (written ≡ Some before) × (n ≡ number)
 AnswersLine line number old new before written (Err CannotContinue) = ⊤
 

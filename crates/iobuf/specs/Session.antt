@@ -75,9 +75,16 @@ HasTold input before written old new status told =
     status ≡ 2 → (number : ℕ) × (count : ℕ) × (number ≡ count + 1) × AnsweredUpTo count input before written
     × OnOk told (Appends old new (stop_line (BadCommand number)))
 
+-- a line says a command, which is answered by one step, and its reply is written
+pub record CommandAnswered (line : List ℕ) (old new : List Slot) (before : List ℕ) (written : Option (List ℕ)) : Type 0 where
+  pub command : Cmd
+  pub reply : Reply
+  pub says : command_of line ≡ Some (plain command)
+  pub step : Step old command reply new
+  pub prints : written ≡ Some (before ++ line_of reply)
+
 -- One line: a command is answered by one step, and its reply is written; a line that says none leaves what is written
 abbrev pub AnswersLine : List ℕ → ℕ → List Slot → List Slot → List ℕ → Option (List ℕ) → Result (Unit {0}) Stop → Type 0
-AnswersLine line number old new before written (Ok done) =
-    (command : Cmd) × (reply : Reply) × (command_of line ≡ Some (plain command)) × Step old command reply new × (written ≡ Some (before ++ line_of reply))
+AnswersLine line number old new before written (Ok done) = CommandAnswered line old new before written
 AnswersLine line number old new before written (Err (BadCommand n)) = (command_of line ≡ None) × (written ≡ Some before) × (n ≡ number)
 AnswersLine line number old new before written (Err CannotContinue) = ⊤

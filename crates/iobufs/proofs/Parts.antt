@@ -1,10 +1,10 @@
 -- Writable parts: what is filled, drained, frozen, and read.
 pub mod Coalesced
 pub mod DrainShapes
+pub mod Examples
 pub mod Frozen
 pub mod PartChunks
 pub mod PartLaws
-pub mod PartRows
 pub mod PartRuns
 pub mod PartTurns
 pub mod SumLaws

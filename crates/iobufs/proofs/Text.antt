@@ -2,6 +2,7 @@
 pub mod ChunkLaws
 pub mod CopyLaws
 pub mod EndLaws
+pub mod Examples
 pub mod Halves
 pub mod JoinLaws
 pub mod KeptLaws
@@ -10,7 +11,6 @@ pub mod PieceLaws
 pub mod PlaceLaws
 pub mod ReadLaws
 pub mod RowLaws
-pub mod Rows
 pub mod RunLaws
 pub mod SeveralLaws
 pub mod Sides

@@ -1,3 +1,2 @@
 pub mod Hexes
-pub mod ManyItems
 pub mod Spelling

@@ -3,7 +3,7 @@ use Rattle.std.specs.Prelude.{ℕ, if◌then◌else◌, List, [], ◌∷◌, cod
 use Rattle.std.specs.Option.{option_map, option_and_then}
 use Rattle.std.specs.Str.{bytes_eq}
 use Rattle.iobufs_words.specs.Words.{words_of}
-use Rattle.iobufs_lines.specs.Commands.{Command, NewMut, Zeroed, Adopt, Static, FromBytes, Put, Fill, SetLen, Truncate, Clear, Overwrite, Freeze, Recover, Clone, Slice, Split, Advance, Take, Gather, GatherMut, Append, Prepend, Coalesce, Build, Encode, Decode, Drop, Show}
+use Rattle.iobufs_lines.specs.Commands.{Command, NewMut, Zeroed, Adopt, Static, FromBytes, Put, SetLen, Truncate, Clear, Overwrite, Freeze, Recover, Clone, Split, Advance, Take, Gather, GatherMut, Append, Prepend, Coalesce, Encode, Decode, Drop, Show}
 use Rattle.iobufs_lines.specs.Shapes.{one_of, two_of, three_of, four_of, bytes_for_of, numbers_for_of, fill_of, slice_of, letters_of, build_of}
 
 -- what a name holds is shown, or dropped
@@ -16,7 +16,7 @@ shown_by verb words =
 -- a text is built
 abbrev pub built_by : List ℕ → List (List ℕ) → Option Command
 built_by verb words =
-    if bytes_eq verb (codes "build") then option_map (λ n. Build n.0 n.1 n.2) (build_of words)
+    if bytes_eq verb (codes "build") then build_of words
     else shown_by verb words
 
 -- buffers are gathered
@@ -37,15 +37,15 @@ joined_by verb words =
 -- bytes or views are taken out of the front
 abbrev pub taken_by : List ℕ → List (List ℕ) → Option Command
 taken_by verb words =
-    if bytes_eq verb (codes "split") then option_map (λ n. Split n.0 n.1 n.2) (three_of words)
+    if bytes_eq verb (codes "split") then option_map (λ n. Split n.first n.second n.third) (three_of words)
     else if bytes_eq verb (codes "advance") then option_map (λ n. Advance n.0 n.1) (two_of words)
     else if bytes_eq verb (codes "take") then option_map (λ n. Take n.0 n.1) (two_of words)
-    else if bytes_eq verb (codes "decode") then option_map (λ n. Decode n.0 n.1 n.2 n.3) (four_of words)
+    else if bytes_eq verb (codes "decode") then option_map (λ n. Decode n.first n.second n.third n.fourth) (four_of words)
     else joined_by verb words
 
 -- a view of some letters
 abbrev pub static_of : List (List ℕ) → Option Command
-static_of words = option_and_then (λ n. option_map (Static n.0) (letters_of n.1 n.2)) (three_of words)
+static_of words = option_and_then (λ n. option_map (Static n.first) (letters_of n.second n.third)) (three_of words)
 
 -- views are made, and shared
 abbrev pub made_by : List ℕ → List (List ℕ) → Option Command
@@ -53,7 +53,7 @@ made_by verb words =
     if bytes_eq verb (codes "static") then static_of words
     else if bytes_eq verb (codes "bytes") then option_map (λ n. FromBytes n.0 n.1) (bytes_for_of words)
     else if bytes_eq verb (codes "clone") then option_map (λ n. Clone n.0 n.1) (two_of words)
-    else if bytes_eq verb (codes "slice") then option_map (λ n. Slice n.0 n.1 n.2 n.3) (slice_of words)
+    else if bytes_eq verb (codes "slice") then slice_of words
     else if bytes_eq verb (codes "encode") then option_map (λ n. Encode n.0 n.1) (two_of words)
     else taken_by verb words
 
@@ -61,7 +61,7 @@ made_by verb words =
 abbrev pub written_by : List ℕ → List (List ℕ) → Option Command
 written_by verb words =
     if bytes_eq verb (codes "put") then option_map (λ n. Put n.0 n.1) (bytes_for_of words)
-    else if bytes_eq verb (codes "fill") then option_map (λ n. Fill n.0 n.1 n.2) (fill_of words)
+    else if bytes_eq verb (codes "fill") then fill_of words
     else if bytes_eq verb (codes "setlen") then option_map (λ n. SetLen n.0 n.1) (two_of words)
     else if bytes_eq verb (codes "truncate") then option_map (λ n. Truncate n.0 n.1) (two_of words)
     else if bytes_eq verb (codes "clear") then option_map Clear (one_of words)
@@ -71,8 +71,8 @@ written_by verb words =
 -- parts are made, frozen and recovered
 abbrev pub said_by : List ℕ → List (List ℕ) → Option Command
 said_by verb words =
-    if bytes_eq verb (codes "new") then option_map (λ n. NewMut n.0 n.1 n.2) (three_of words)
-    else if bytes_eq verb (codes "zeroed") then option_map (λ n. Zeroed n.0 n.1 n.2) (three_of words)
+    if bytes_eq verb (codes "new") then option_map (λ n. NewMut n.first n.second n.third) (three_of words)
+    else if bytes_eq verb (codes "zeroed") then option_map (λ n. Zeroed n.first n.second n.third) (three_of words)
     else if bytes_eq verb (codes "adopt") then option_map (λ n. Adopt n.0 n.1) (bytes_for_of words)
     else if bytes_eq verb (codes "freeze") then option_map (λ n. Freeze n.0 n.1) (two_of words)
     else if bytes_eq verb (codes "recover") then option_map (λ n. Recover n.0 n.1) (two_of words)

@@ -5,7 +5,7 @@ use Rattle.std.specs.Prelude.{ℕ, ◌==◌, ◌&&◌, nat_le, if◌then◌else�
 use Rattle.std.specs.Option.{option_map}
 use Rattle.std.specs.Str.{bytes_eq}
 use Rattle.iobufs_words.specs.Words.{both, byte_of, bytes_of, number_of, numbers_of, put_first}
-use Rattle.iobufs_lines.specs.Commands.{Item, Inline, Push}
+use Rattle.iobufs_lines.specs.Commands.{Item, Inline, Push, Command, Fill, Slice, Build}
 
 -- what a word says, where no word follows it
 abbrev pub alone : {A : Type 0} → Option A → List (List ℕ) → Option A
@@ -13,16 +13,30 @@ alone None words = None
 alone (Some x) [] = Some x
 alone (Some x) (word ∷ words) = None
 
--- the first, and the two or three behind it, where all are there
-abbrev pub with_two : {A B C : Type 0} → Option A → Option (B × C) → Option (A × B × C)
-with_two (Some a) (Some n) = Some (a, n.0, n.1)
-with_two (Some a) None = None
-with_two None n = None
+-- what is made of the first and of what is behind it, where both are there
+abbrev pub of_both : {A B C : Type 0} → (A → B → C) → Option A → Option B → Option C
+of_both make (Some a) (Some b) = Some (make a b)
+of_both make (Some a) None = None
+of_both make None b = None
 
-abbrev pub with_three : {A B C D : Type 0} → Option A → Option (B × C × D) → Option (A × B × C × D)
-with_three (Some a) (Some n) = Some (a, n.0, n.1, n.2)
-with_three (Some a) None = None
-with_three None n = None
+-- three numbers
+pub record Three : Type 0 where
+  pub first : ℕ
+  pub second : ℕ
+  pub third : ℕ
+
+abbrev pub three : ℕ → ℕ → ℕ → Three
+three a b c = record { first = a; second = b; third = c }
+
+-- four numbers
+pub record Four : Type 0 where
+  pub first : ℕ
+  pub second : ℕ
+  pub third : ℕ
+  pub fourth : ℕ
+
+abbrev pub four : ℕ → ℕ → ℕ → ℕ → Four
+four a b c d = record { first = a; second = b; third = c; fourth = d }
 
 -- so many numbers, and no word behind them
 abbrev pub one_of : List (List ℕ) → Option ℕ
@@ -33,13 +47,13 @@ abbrev pub two_of : List (List ℕ) → Option (ℕ × ℕ)
 two_of [] = None
 two_of (a ∷ words) = both (number_of a) (one_of words)
 
-abbrev pub three_of : List (List ℕ) → Option (ℕ × ℕ × ℕ)
+abbrev pub three_of : List (List ℕ) → Option Three
 three_of [] = None
-three_of (a ∷ words) = with_two (number_of a) (two_of words)
+three_of (a ∷ words) = of_both (λ first n. three first n.0 n.1) (number_of a) (two_of words)
 
-abbrev pub four_of : List (List ℕ) → Option (ℕ × ℕ × ℕ × ℕ)
+abbrev pub four_of : List (List ℕ) → Option Four
 four_of [] = None
-four_of (a ∷ words) = with_three (number_of a) (three_of words)
+four_of (a ∷ words) = of_both (λ first n. four first n.first n.second n.third) (number_of a) (three_of words)
 
 -- bytes, and no word behind them
 abbrev pub lone_bytes_of : List (List ℕ) → Option (List ℕ)
@@ -62,9 +76,9 @@ byte_and_one_of [] = None
 byte_and_one_of (a ∷ words) = both (byte_of a) (one_of words)
 
 -- a number, a byte and a number
-abbrev pub fill_of : List (List ℕ) → Option (ℕ × ℕ × ℕ)
+abbrev pub fill_of : List (List ℕ) → Option Command
 fill_of [] = None
-fill_of (a ∷ words) = with_two (number_of a) (byte_and_one_of words)
+fill_of (a ∷ words) = of_both (λ target n. Fill target n.0 n.1) (number_of a) (byte_and_one_of words)
 
 -- a place that is included, `i3`, one that is excluded, `e3`, or none, `u`
 abbrev pub bound_of : List ℕ → Option (Bound ℕ)
@@ -90,14 +104,22 @@ bounds_of [] = None
 bounds_of (a ∷ words) = both (bound_of a) (last_bound_of words)
 
 -- a number, and two bounds
-abbrev pub bounds_for_of : List (List ℕ) → Option (ℕ × Bound ℕ × Bound ℕ)
+pub record BoundsFor : Type 0 where
+  pub dst : ℕ
+  pub lo : Bound ℕ
+  pub hi : Bound ℕ
+
+abbrev pub bounds_for : ℕ → Bound ℕ → Bound ℕ → BoundsFor
+bounds_for dst lo hi = record { dst = dst; lo = lo; hi = hi }
+
+abbrev pub bounds_for_of : List (List ℕ) → Option BoundsFor
 bounds_for_of [] = None
-bounds_for_of (a ∷ words) = with_two (number_of a) (bounds_of words)
+bounds_for_of (a ∷ words) = of_both (λ dst bounds. bounds_for dst bounds.0 bounds.1) (number_of a) (bounds_of words)
 
 -- two numbers, and two bounds
-abbrev pub slice_of : List (List ℕ) → Option (ℕ × ℕ × Bound ℕ × Bound ℕ)
+abbrev pub slice_of : List (List ℕ) → Option Command
 slice_of [] = None
-slice_of (a ∷ words) = with_three (number_of a) (bounds_for_of words)
+slice_of (a ∷ words) = of_both (λ src n. Slice src n.dst n.lo n.hi) (number_of a) (bounds_for_of words)
 
 -- what a static view is made of
 abbrev pub letters : List ℕ
@@ -125,6 +147,6 @@ items_for_of [] = None
 items_for_of (a ∷ words) = both (number_of a) (items_of words)
 
 -- two numbers, and any number of items
-abbrev pub build_of : List (List ℕ) → Option (ℕ × ℕ × List Item)
+abbrev pub build_of : List (List ℕ) → Option Command
 build_of [] = None
-build_of (a ∷ words) = with_two (number_of a) (items_for_of words)
+build_of (a ∷ words) = of_both (λ dst n. Build dst n.0 n.1) (number_of a) (items_for_of words)

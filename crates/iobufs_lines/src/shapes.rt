@@ -1,7 +1,7 @@
 // Words that follow one another to the end of a line.
 ghost use Rattle.std.specs.Prelude.{◌≡◌, ◌⊎◌, ℕ, List, ◌∷◌, map, Some, None, IfOk, IfErr};
-ghost use Rattle.iobufs_lines.specs.Commands.{plain_item};
-ghost use Rattle.iobufs_lines.specs.Shapes.{bound_of, build_of, bytes_for_of, fill_of, first_bound, four_of, item_of, items_of, numbers_for_of, one_of, slice_of, three_of, two_of};
+ghost use Rattle.iobufs_lines.specs.Commands.{plain_item, Fill, Slice, Build};
+ghost use Rattle.iobufs_lines.specs.Shapes.{bound_of, build_of, bytes_for_of, fill_of, first_bound, four, four_of, item_of, items_of, numbers_for_of, one_of, slice_of, three, three_of, two_of};
 
 use iobufs_run::command::Item;
 use iobufs_words::words::{LineError, Words, bytes, number};
@@ -30,7 +30,7 @@ pub fn two(words: &mut Words<'_>) -> Result<(usize, usize), LineError>
 
 /// Three numbers, and no word behind them.
 pub fn three(words: &mut Words<'_>) -> Result<(usize, usize, usize), LineError>
-    ensures ok { IfOk result (λ n. three_of words.old ≡ Some (n.0, n.1, n.2)) }
+    ensures ok { IfOk result (λ n. three_of words.old ≡ Some (three n.0 n.1 n.2)) }
     ensures err { IfErr result (λ error. (error ≡ LineError.NoCommand) × (three_of words.old ≡ None)) }
 {
     let a = words.number()?;
@@ -40,7 +40,7 @@ pub fn three(words: &mut Words<'_>) -> Result<(usize, usize, usize), LineError>
 
 /// Four numbers, and no word behind them.
 pub fn four(words: &mut Words<'_>) -> Result<(usize, usize, usize, usize), LineError>
-    ensures ok { IfOk result (λ n. four_of words.old ≡ Some (n.0, n.1, n.2, n.3)) }
+    ensures ok { IfOk result (λ n. four_of words.old ≡ Some (four n.0 n.1 n.2 n.3)) }
     ensures err { IfErr result (λ error. (error ≡ LineError.NoCommand) × (four_of words.old ≡ None)) }
 {
     let a = words.number()?;
@@ -71,7 +71,7 @@ pub fn numbers_for(alloc: Global, words: &mut Words<'_>) -> Result<(usize, Vec<u
 
 /// A number, a byte and a number.
 pub fn fill(words: &mut Words<'_>) -> Result<(usize, u8, usize), LineError>
-    ensures ok { IfOk result (λ n. fill_of words.old ≡ Some (n.0, n.1, n.2)) }
+    ensures ok { IfOk result (λ n. fill_of words.old ≡ Some (Fill n.0 n.1 n.2)) }
     ensures err { IfErr result (λ error. (error ≡ LineError.NoCommand) × (fill_of words.old ≡ None)) }
 {
     let a = words.number()?;
@@ -110,7 +110,7 @@ fn next_bound(words: &mut Words<'_>) -> Result<Bound<usize>, LineError>
 
 /// Two numbers and two bounds, and no word behind them.
 pub fn slice(words: &mut Words<'_>) -> Result<(usize, usize, Bound<usize>, Bound<usize>), LineError>
-    ensures ok { IfOk result (λ n. slice_of words.old ≡ Some (n.0, n.1, n.2, n.3)) }
+    ensures ok { IfOk result (λ n. slice_of words.old ≡ Some (Slice n.0 n.1 n.2 n.3)) }
     ensures err { IfErr result (λ error. (error ≡ LineError.NoCommand) × (slice_of words.old ≡ None)) }
 {
     let src = words.number()?;
@@ -149,7 +149,7 @@ fn items(alloc: Global, words: &mut Words<'_>) -> Result<Vec<Item>, LineError>
 
 /// Two numbers, and any number of items.
 pub fn built(alloc: Global, words: &mut Words<'_>) -> Result<(usize, usize, Vec<Item>), LineError>
-    ensures ok { IfOk result (λ n. build_of words.old ≡ Some (n.0, n.1, map plain_item n.2.items)) }
+    ensures ok { IfOk result (λ n. build_of words.old ≡ Some (Build n.0 n.1 (map plain_item n.2.items))) }
     ensures err { IfErr result (λ error. (error ≡ LineError.Memory) ⊎ (build_of words.old ≡ None)) }
 {
     let dst = words.number()?;

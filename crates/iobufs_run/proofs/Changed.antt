@@ -35,7 +35,7 @@ does_keeps : (old : List Slot) (command : Cmd) (reply : Reply) (new : List Slot)
     → (slot_named new x ≡ slot_named old x) ⊎ (slot_named new x ≡ Free)
 does_keeps old (NewMut dst capacity align) reply new does x first second = one_keeps old new dst x _ does.1 first
 does_keeps old (Zeroed dst len align) reply new does x first second = one_keeps old new dst x _ does.1 first
-does_keeps old (Adopt dst bytes) reply new does x first second = one_keeps old new dst x _ does.1.1 first
+does_keeps old (Adopt dst bytes) reply new (spare, gives) x first second = one_keeps old new dst x _ gives.1 first
 does_keeps old (Static dst text) reply new does x first second = one_keeps old new dst x _ does.1 first
 does_keeps old (FromBytes dst bytes) reply new does x first second = one_keeps old new dst x _ does.1 first
 does_keeps old (Put target bytes) reply new does x first second = one_keeps old new target x _ does.1 first
@@ -58,14 +58,14 @@ does_keeps old (Prepend target src) reply new does x first second = two_keep old
 does_keeps old (Coalesce src dst) reply new does x first second = two_keep old new src dst x _ _ does.1 first second
 does_keeps old (Build dst capacity items) reply new does x first second = freed_keeps old new (pushed_names items.items) dst x _ does.1 first
 does_keeps old (Encode src dst) reply new does x first second = one_keeps old new dst x _ does.1 first
-does_keeps old (Decode src dst range) reply new does x first second = two_keep old new src dst x _ _ does.2.1 first second
+does_keeps old (Decode src dst range) reply new (view, read, gives) x first second = two_keep old new src dst x _ _ gives.1 first second
 does_keeps old (Drop target) reply new does x first second = one_keeps old new target x _ does.1 first
 does_keeps old (Show target) reply new does x first second = inl (ap (λ (names : List Slot). slot_named names x) does.1)
 
 -- a name that a command doesn't change holds what it held, or nothing
 pub step_keeps : (old : List Slot) (command : Cmd) (reply : Reply) (new : List Slot) → Step old command reply new → (x : ℕ) → x ≢ (changed command).0 → x ≢ (changed command).1
     → (slot_named new x ≡ slot_named old x) ⊎ (slot_named new x ≡ Free)
-step_keeps old command (Refused Memory) new step x first second = elim (step.2.1 x) [ inl kept ↦ inl kept | inr freed ↦ inr freed.1 ]
+step_keeps old command (Refused Memory) new (none, wanted, freed) x first second = elim (freed.1 x) [ inl kept ↦ inl kept | inr gone ↦ inr gone.1 ]
 step_keeps old command (Refused refusal) new step x first second = inl (ap (λ (names : List Slot). slot_named names x) step.1)
 step_keeps old command Done new step x first second = does_keeps old command Done new step.1 x first second
 step_keeps old command (Bytes bytes) new step x first second = does_keeps old command (Bytes bytes) new step.1 x first second

@@ -33,8 +33,10 @@ not_both b holds fails = cc
 
 read_same : (text : MarkedText) (range : RangeCfg) (view other : ViewValue) → IsViewRead text range (Ok view) → IsViewRead text range (Ok other) → view ≡ other
 read_same text range view other d e =
-    let same = spelled_as_one text.bytes d.0 e.0 d.1.0.0 e.1.0.0 in
-    d.2 ∙ ap (λ (n : ℕ). taken_view text (length (spell n)) n) same ∙ sym e.2
+    let (n, ((spelled, ranged), fits), is) = d in
+    let (m, ((spelled', ranged'), fits'), is') = e in
+    let same = spelled_as_one text.bytes n m spelled spelled' in
+    is ∙ ap (λ (n : ℕ). taken_view text (length (spell n)) n) same ∙ sym is'
 
 -- a fault that reading meets is another than want of memory
 pub record IsMet (text : MarkedText) (range : RangeCfg) (r : Refusal) : Type 0 where
@@ -83,8 +85,10 @@ shown_same slot reply other d e = absurd d
 decoded_same : (old : List Slot) (src dst : ℕ) (range : RangeCfg) (reply other : Reply) (new another : List Slot)
     → Does old (Decode src dst range) reply new → Does old (Decode src dst range) other another → SameReply reply other × (new ≡ another)
 decoded_same old src dst range reply other new another d e =
-    let same = read_same (marked_held (slot_named old src)) range d.0 e.0 d.1 e.1 in
-    (rw (d.2.0, e.2.0) refl, d.2.1 ∙ ap (λ (view : ViewValue). slice_set (slice_set old src (slot_read (slot_named old src) view)) dst (View view)) same ∙ sym e.2.1)
+    let (view, read, (told, left)) = d in
+    let (view', read', (told', left')) = e in
+    let same = read_same (marked_held (slot_named old src)) range view view' read read' in
+    (rw (told, told') refl, left ∙ ap (λ (view : ViewValue). slice_set (slice_set old src (slot_read (slot_named old src) view)) dst (View view)) same ∙ sym left')
 
 does_same : (old : List Slot) (command : Cmd) (reply other : Reply) (new another : List Slot) → has_choice old command ≡ false
     → Does old command reply new → Does old command other another → SameReply reply other × (new ≡ another)
@@ -176,7 +180,7 @@ fails_not_done old (Prepend target src) r reply new none f d = absurd f
 fails_not_done old (Coalesce src dst) r reply new none f d = absurd f
 fails_not_done old (Build dst capacity items) r reply new none f d = absurd f
 fails_not_done old (Encode src dst) r reply new none f d = absurd f
-fails_not_done old (Decode src dst range) r reply new none f d = fault_not_read (marked_held (slot_named old src)) range r d.0 f d.1
+fails_not_done old (Decode src dst range) r reply new none f (view, read, gives) = fault_not_read (marked_held (slot_named old src)) range r view f read
 fails_not_done old (Drop target) r reply new none f d = absurd f
 fails_not_done old (Show target) r reply new none f d = absurd f
 

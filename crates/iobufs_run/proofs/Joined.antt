@@ -53,17 +53,18 @@ pub back_again : (names : List Slot) (target src : ℕ) (view back : ViewValue) 
     → IsTrue (not (readable (slot_named names src) == 0) && not (readable (slot_named names target) == 0)) × (new ≡ names)
 back_again names target src view back free kept d e new none took refused is =
     let inside = names_inside names target src none in
+    let (same, kept_is, view_some, target_some) = refused in
     let at : slot_named names src ≡ View view = get_or_default names src Free d inside.1 ∙ took.0 in
     let free_is = took.1 in
     let long : target < length (slice_set names src free) = omega (arith, length-set names src free, inside.0) in
     let there : slice_index_or (slice_set names src free) target e ≡ slot_named names target =
     get_or_default (slice_set names src free) target e Free long ∙ target_kept names target src view none at free in
-    let some : 0 < readable (slot_named names src) = subst (λ (s : Slot). 0 < readable s) (sym at) refused.2 in
-    let some' : 0 < readable (slot_named names target) = subst (λ (s : Slot). 0 < readable s) there refused.3 in
+    let some : 0 < readable (slot_named names src) = subst (λ (s : Slot). 0 < readable s) (sym at) view_some in
+    let some' : 0 < readable (slot_named names target) = subst (λ (s : Slot). 0 < readable s) there target_some in
     let all : new ≡ names =
     is ∙ ap (λ (f : Slot). slice_set (slice_set (slice_set names src f) target kept) src (View back)) free_is
-    ∙ ap (λ (k : Slot). slice_set (slice_set (slice_set names src Free) target k) src (View back)) (refused.1 ∙ ap (λ (f : Slot). slice_index_or (slice_set names src f) target e) free_is)
-    ∙ ap (λ (v : ViewValue). slice_set (slice_set (slice_set names src Free) target (slice_index_or (slice_set names src Free) target e)) src (View v)) refused.0
+    ∙ ap (λ (k : Slot). slice_set (slice_set (slice_set names src Free) target k) src (View back)) (kept_is ∙ ap (λ (f : Slot). slice_index_or (slice_set names src f) target e) free_is)
+    ∙ ap (λ (v : ViewValue). slice_set (slice_set (slice_set names src Free) target (slice_index_or (slice_set names src Free) target e)) src (View v)) same
     ∙ restored names target src view e inside.1 at in
     (both_some (readable (slot_named names src)) (readable (slot_named names target)) some some', all)
 

@@ -48,7 +48,13 @@ add-text vs ws v is full =
         let n = length-bytes w ws in
         sym (append-push w ws v (omega (arith, full.0)) some)
 
-pub add-length : (vs ws : List View) (v : View) → ws ≡ (if length v.bytes == 0 then vs else vs ++ v ∷ []) → (length vs ≤ length ws) × (length ws ≤ length vs + 1) × (length (pieces_bytes ws) ≡ length (pieces_bytes vs) + length v.bytes) × (0 < length v.bytes → 0 < length ws)
+-- how many views there are with this one behind others, and how many bytes
+pub record IsAdded (vs ws : List View) (v : View) : Type 0 where
+  pub at_least : length vs ≤ length ws
+  pub at_most : length ws ≤ length vs + 1
+  pub bytes : length (pieces_bytes ws) ≡ length (pieces_bytes vs) + length v.bytes
+
+pub add-length : (vs ws : List View) (v : View) → ws ≡ (if length v.bytes == 0 then vs else vs ++ v ∷ []) → IsAdded vs ws v
 add-length vs ws v is =
     ⊎_elim
     (λ (h : 0 < length v.bytes).
@@ -57,12 +63,12 @@ add-length vs ws v is =
     let l = ap (λ (xs : List View). length xs) e in
     let b = ap (λ (xs : List View). length (pieces_bytes xs)) e ∙ ap length (flat_map-append (λ (x : View). x.bytes) vs (v ∷ [])) ∙ length-append (pieces_bytes vs) (v.bytes ++ []) in
     let z = ap length (append-nil v.bytes) in
-    (omega arith, omega arith, omega arith, λ k. omega arith))
+    record { at_least = omega arith; at_most = omega arith; bytes = omega arith })
     (λ (h : length v.bytes ≤ 0).
     let e : ws ≡ vs = is ∙ rw (same_eq (length v.bytes) 0 (omega arith)) refl in
     let l = ap (λ (xs : List View). length xs) e in
     let b = ap (λ (xs : List View). length (pieces_bytes xs)) e in
-    (omega arith, omega arith, omega arith, λ k. absurd (omega arith)))
+    record { at_least = omega arith; at_most = omega arith; bytes = omega arith })
     (cases_lt 0 (length v.bytes))
 
 -- full views, joined one by one

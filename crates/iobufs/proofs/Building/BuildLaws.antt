@@ -135,7 +135,7 @@ in_turn-front bytes [] h = tt
 in_turn-front bytes (standing view ∷ ss) h = (h.0, in_turn-front bytes ss h.1)
 in_turn-front bytes (gap n ∷ []) h = absurd h
 in_turn-front bytes (gap n ∷ gap m ∷ ss) h = absurd h
-in_turn-front bytes (gap n ∷ standing view ∷ ss) h = in_turn-run (take n bytes) view (items_front (drop n bytes) ss) h.1 (in_turn-front (drop n bytes) ss h.2)
+in_turn-front bytes (gap n ∷ standing view ∷ ss) (some, stands, others) = in_turn-run (take n bytes) view (items_front (drop n bytes) ss) stands (in_turn-front (drop n bytes) ss others)
 
 pub IsBuilding-kept : (part : Part) (ss : List Slot) (placed pushable : ℕ) (b : Building) → gaps_len ss ≡ placed → placed ≤ length part.filled → AreSlots ss → part_capacity part + stood_len ss + pushable + 1 ≡ 2 ^ 64 → building_with part ss placed ≡ b → IsBuilding b
 IsBuilding-kept part ss placed pushable b counted within slots limited is = subst IsBuilding is (

@@ -18,7 +18,7 @@ pub slots-first : (s : Slot) (ss : List Slot) → AreSlots (s ∷ ss) → (0 < s
 slots-first (standing v) ss h = (omega (arith, h.0), h.1)
 slots-first (gap n) [] h = absurd h
 slots-first (gap n) (gap m ∷ ss) h = absurd h
-slots-first (gap n) (standing v ∷ ss) h = (omega (arith, h.0), (h.1, h.2))
+slots-first (gap n) (standing v ∷ ss) (some, stands, others) = (omega (arith, some), (stands, others))
 
 -- one push more
 gaps-append : (ss ts : List Slot) → gaps_len (ss ++ ts) ≡ gaps_len ss + gaps_len ts
@@ -34,10 +34,7 @@ slots-append [] ts h g = g
 slots-append (standing v ∷ ss) ts h g = (h.0, slots-append ss ts h.1 g)
 slots-append (gap n ∷ []) ts h g = absurd h
 slots-append (gap n ∷ gap m ∷ ss) ts h g = absurd h
-slots-append (gap n ∷ standing v ∷ ss) ts h g = (h.0, h.1, slots-append ss ts h.2 g)
-
-pushed-none : (v : View) → slots_pushed 0 v ≡ standing v ∷ []
-pushed-none v = refl
+slots-append (gap n ∷ standing v ∷ ss) ts (some, stands, others) g = (some, stands, slots-append ss ts others g)
 
 pushed-some : (n : ℕ) (v : View) → 0 < n → slots_pushed n v ≡ gap n ∷ standing v ∷ []
 pushed-some n v some = rw (not_zero n some) refl

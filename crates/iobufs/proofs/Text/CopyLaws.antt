@@ -30,8 +30,14 @@ pub copied-turn : (ps : List View) (i o m : ℕ) (bytes : List ℕ) → i < leng
 copied-turn ps i o m bytes l h e =
     rw e (ap (take m) (bytes-from ps i o l h) ∙ take-both m (drop o (piece_at ps i).bytes) (pieces_bytes (drop (i + 1) ps)))
 
+-- these bytes are copied, and the pieces from here on have those that are to come
+pub record IsCopied (ps : List View) (i n : ℕ) (copy target : List ℕ) : Type 0 where
+  pub some : length copy ≤ n
+  pub left : n - length copy ≤ length (pieces_bytes (drop i ps))
+  pub so_far : copy ++ take (n - length copy) (pieces_bytes (drop i ps)) ≡ target
+
 pub copied-step : (ps : List View) (i o n c k : ℕ) (copy more bytes target : List ℕ) → i < length ps → o ≤ view_len (piece_at ps i) → bytes ≡ drop o (piece_at ps i).bytes → c ≤ n → c ≡ length copy → n - c + o ≤ length (pieces_bytes (drop i ps)) → copy ++ take (n - c) (drop o (pieces_bytes (drop i ps))) ≡ target → k ≡ min (length bytes) (n - c) → more ≡ copy ++ take k bytes →
-    (length more ≤ n) × (n - length more ≤ length (pieces_bytes (drop (i + 1) ps))) × (more ++ take (n - length more) (pieces_bytes (drop (i + 1) ps)) ≡ target)
+    IsCopied ps (i + 1) n more target
 copied-step ps i o n c k copy more bytes target l h b s e r t m x =
     let rest = pieces_bytes (drop (i + 1) ps) in
     let whole : drop o (pieces_bytes (drop i ps)) ≡ bytes ++ rest = bytes-from ps i o l h ∙ ap (λ xs. xs ++ rest) (sym b) in
@@ -40,30 +46,38 @@ copied-step ps i o n c k copy more bytes target l h b s e r t m x =
     let longer : length more ≡ c + k = ap length x ∙ length-append copy (take k bytes) ∙ (let q : length copy + length (take k bytes) ≡ c + k = omega arith in q) in
     let left : n - length more ≡ n - c - k = omega arith in
     let turn : take (n - c) (drop o (pieces_bytes (drop i ps))) ≡ take k bytes ++ take (n - c - k) rest =
-    copied-turn ps i o (n - c) bytes l h b ∙ ap (λ j. take j bytes ++ take (n - c - j) rest) (sym m) in (
-      omega arith,
-      omega arith,
-      ap (λ j. more ++ take j rest) left ∙ ap (λ xs. xs ++ take (n - c - k) rest) x ∙ append_assoc copy (take k bytes) (take (n - c - k) rest) ∙ ap (λ xs. copy ++ xs) (sym turn) ∙ t,
-    )
+    copied-turn ps i o (n - c) bytes l h b ∙ ap (λ j. take j bytes ++ take (n - c - j) rest) (sym m) in
+    record {
+      some = omega arith;
+      left = omega arith;
+      so_far = ap (λ j. more ++ take j rest) left ∙ ap (λ xs. xs ++ take (n - c - k) rest) x ∙ append_assoc copy (take k bytes) (take (n - c - k) rest) ∙ ap (λ xs. copy ++ xs) (sym turn) ∙ t;
+    }
 
 -- a slice from a place on
 pub slice_from : (o : ℕ) (b : List ℕ) → take (length b - o) (drop o b) ≡ drop o b
 slice_from o b = take_all (length b - o) (drop o b) (let n = length-drop o b in omega arith)
 
+-- so many bytes of a slice are filled, and the pieces from here on have those that are to come
+pub record IsFilled (ps : List View) (i filled : ℕ) (dst : List ℕ) : Type 0 where
+  pub some : filled ≤ length dst
+  pub left : length dst - filled ≤ length (pieces_bytes (drop i ps))
+  pub so_far : take filled dst ++ take (length dst - filled) (pieces_bytes (drop i ps)) ≡ take (length dst) (pieces_bytes ps)
+
 -- one turn of filling a slice from the front
 pub filled-step : (ps : List View) (i f k : ℕ) (dst now bytes : List ℕ) → i < length ps → bytes ≡ (piece_at ps i).bytes → f ≤ length dst → length dst - f ≤ length (pieces_bytes (drop i ps)) → take f dst ++ take (length dst - f) (pieces_bytes (drop i ps)) ≡ take (length dst) (pieces_bytes ps) → k ≡ min (length bytes) (length dst - f) → length now ≡ length dst → take (f + k) now ≡ take f dst ++ take k bytes →
-    (f + k ≤ length now) × (length now - (f + k) ≤ length (pieces_bytes (drop (i + 1) ps))) × (take (f + k) now ++ take (length now - (f + k)) (pieces_bytes (drop (i + 1) ps)) ≡ take (length now) (pieces_bytes ps))
+    IsFilled ps (i + 1) (f + k) now
 filled-step ps i f k dst now bytes l b s r t m same x =
     let rest = pieces_bytes (drop (i + 1) ps) in
     let whole : pieces_bytes (drop i ps) ≡ bytes ++ rest = bytes-from ps i 0 l (omega arith) ∙ ap (λ xs. xs ++ rest) (sym b) in
     let total : length (pieces_bytes (drop i ps)) ≡ length bytes + length rest = ap length whole ∙ length-append bytes rest in
     let left : length now - (f + k) ≡ length dst - f - k = omega arith in
     let turn : take (length dst - f) (pieces_bytes (drop i ps)) ≡ take k bytes ++ take (length dst - f - k) rest =
-    copied-turn ps i 0 (length dst - f) bytes l (omega arith) b ∙ ap (λ j. take j bytes ++ take (length dst - f - j) rest) (sym m) in (
-      omega arith,
-      omega arith,
-      ap (λ j. take (f + k) now ++ take j rest) left ∙ ap (λ xs. xs ++ take (length dst - f - k) rest) x ∙ append_assoc (take f dst) (take k bytes) (take (length dst - f - k) rest) ∙ ap (λ xs. take f dst ++ xs) (sym turn) ∙ t ∙ ap (λ n. take n (pieces_bytes ps)) (sym same),
-    )
+    copied-turn ps i 0 (length dst - f) bytes l (omega arith) b ∙ ap (λ j. take j bytes ++ take (length dst - f - j) rest) (sym m) in
+    record {
+      some = omega arith;
+      left = omega arith;
+      so_far = ap (λ j. take (f + k) now ++ take j rest) left ∙ ap (λ xs. xs ++ take (length dst - f - k) rest) x ∙ append_assoc (take f dst) (take k bytes) (take (length dst - f - k) rest) ∙ ap (λ xs. take f dst ++ xs) (sym turn) ∙ t ∙ ap (λ n. take n (pieces_bytes ps)) (sym same);
+    }
 
 chunk-next : (ps : List View) (i : ℕ) → i < length ps → take (suc i) (map (λ (p : View). p.bytes) ps) ≡ take i (map (λ (p : View). p.bytes) ps) ++ (piece_at ps i).bytes ∷ []
 chunk-next [] i l = absurd (omega arith)

@@ -32,21 +32,21 @@ length-first v vs = length-append v.bytes (pieces_bytes vs)
 -- bytes before the first piece go
 pub ends-up : (b start n : ℕ) (ps : List Piece) → b < 2 ^ 64 → n ≤ start → AreEnds b start ps → AreEnds ((b + n) % 2 ^ 64) (start - n) ps
 ends-up b start n [] p l h = tt
-ends-up b start n (q ∷ ps) p l h =
-    let first = h.1 in
+ends-up b start n (q ∷ ps) p l (end, others) =
+    let first = end.placed in
     let here : from_base ((b + n) % 2 ^ 64) q.end ≡ start - n + view_len q.view = base-up q.end b n p (omega arith) ∙ (omega arith) in
     let same : start + view_len q.view - n ≡ start - n + view_len q.view = omega arith in
-    (h.0, here, subst (λ m. AreEnds ((b + n) % 2 ^ 64) m ps) same (ends-up b (start + view_len q.view) n ps p (omega arith) h.2))
+    (record { stored = end.stored; placed = here }, subst (λ m. AreEnds ((b + n) % 2 ^ 64) m ps) same (ends-up b (start + view_len q.view) n ps p (omega arith) others))
 
 -- and come
 pub ends-down : (b start n : ℕ) (ps : List Piece) → b < 2 ^ 64 → n < 2 ^ 64 → start + length (pieces_bytes (views_in ps)) + n < 2 ^ 64 → AreEnds b start ps → AreEnds ((b + (2 ^ 64 - n)) % 2 ^ 64) (start + n) ps
 ends-down b start n [] p r l h = tt
-ends-down b start n (q ∷ ps) p r l h =
-    let first = h.1 in
+ends-down b start n (q ∷ ps) p r l (end, others) =
+    let first = end.placed in
     let len = length-first q.view (views_in ps) in
     let here : from_base ((b + (2 ^ 64 - n)) % 2 ^ 64) q.end ≡ start + n + view_len q.view = base-down q.end b n p r (omega arith) ∙ (omega arith) in
     let same : start + view_len q.view + n ≡ start + n + view_len q.view = omega arith in
-    (h.0, here, subst (λ m. AreEnds ((b + (2 ^ 64 - n)) % 2 ^ 64) m ps) same (ends-down b (start + view_len q.view) n ps p r (omega arith) h.2))
+    (record { stored = end.stored; placed = here }, subst (λ m. AreEnds ((b + (2 ^ 64 - n)) % 2 ^ 64) m ps) same (ends-down b (start + view_len q.view) n ps p r (omega arith) others))
 
 -- one piece more behind the others, and several
 pub ends-append : (b start : ℕ) (ps qs : List Piece) → AreEnds b start ps → AreEnds b (start + length (pieces_bytes (views_in ps))) qs → AreEnds b start (ps ++ qs)
@@ -54,12 +54,12 @@ ends-append b start [] qs h g = let z : start + 0 ≡ start = omega arith in sub
 ends-append b start (p ∷ ps) qs h g =
     let len = length-first p.view (views_in ps) in
     let same : start + length (pieces_bytes (views_in (p ∷ ps))) ≡ start + view_len p.view + length (pieces_bytes (views_in ps)) = omega arith in
-    (h.0, h.1, ends-append b (start + view_len p.view) ps qs h.2 (subst (λ m. AreEnds b m qs) same g))
+    (h.0, ends-append b (start + view_len p.view) ps qs h.1 (subst (λ m. AreEnds b m qs) same g))
 
 pub ends-take : (b start n : ℕ) (ps : List Piece) → AreEnds b start ps → AreEnds b start (take n ps)
 ends-take b start zero ps h = tt
 ends-take b start (suc n) [] h = tt
-ends-take b start (suc n) (p ∷ ps) h = (h.0, h.1, ends-take b (start + view_len p.view) n ps h.2)
+ends-take b start (suc n) (p ∷ ps) h = (h.0, ends-take b (start + view_len p.view) n ps h.1)
 
 pub ends-drop : (b start n : ℕ) (ps : List Piece) → AreEnds b start ps → AreEnds b (start + piece_start (views_in ps) n) (drop n ps)
 ends-drop b start zero ps h = let z : start + 0 ≡ start = omega arith in subst (λ m. AreEnds b m ps) (sym z) h
@@ -67,15 +67,15 @@ ends-drop b start (suc n) [] h = tt
 ends-drop b start (suc n) (p ∷ ps) h =
     let len = length-first p.view (take n (views_in ps)) in
     let same : start + view_len p.view + piece_start (views_in ps) n ≡ start + piece_start (views_in (p ∷ ps)) (suc n) = omega arith in
-    subst (λ m. AreEnds b m (drop n ps)) same (ends-drop b (start + view_len p.view) n ps h.2)
+    subst (λ m. AreEnds b m (drop n ps)) same (ends-drop b (start + view_len p.view) n ps h.1)
 
 -- the i-th end is where the next piece begins
 pub end-at : (b start i : ℕ) (ps : List Piece) → AreEnds b start ps → i < length ps → get_or (ends_from b ps) i 0 ≡ start + piece_start (views_in ps) (suc i)
 end-at b start i [] h l = absurd (omega arith)
-end-at b start zero (p ∷ ps) h l = h.1 ∙ ap (λ (bytes : List ℕ). start + length bytes) (sym (append-nil p.view.bytes))
+end-at b start zero (p ∷ ps) (end, others) l = end.placed ∙ ap (λ (bytes : List ℕ). start + length bytes) (sym (append-nil p.view.bytes))
 end-at b start (suc i) (p ∷ ps) h l =
     let len = length-first p.view (take (suc i) (views_in ps)) in
-    end-at b (start + view_len p.view) i ps h.2 (omega arith) ∙ (omega arith)
+    end-at b (start + view_len p.view) i ps h.1 (omega arith) ∙ (omega arith)
 
 pub start-next : (vs : List View) (i : ℕ) → i < length vs → piece_start vs (suc i) ≡ piece_start vs i + view_len (piece_at vs i)
 start-next [] i l = absurd (omega arith)
@@ -159,7 +159,7 @@ row-push b e ps qs v h some fits ends is =
     subst (IsRow b) (sym is) (
     record {
       based = h.based;
-      ended = ends-append b 0 ps _ h.ended (omega arith, stored, tt);
+      ended = ends-append b 0 ps _ h.ended (record { stored = omega arith; placed = stored }, tt);
       full = subst AreFull (sym (views-push ps (record { view = v; end = e }))) (full-push (views_in ps) v h.full some);
     })
 
@@ -171,20 +171,20 @@ row-cons b c ps qs v h some fits base is =
     subst (λ (xs : List Piece). IsRow c xs) (sym is) (subst (λ m. IsRow m (record { view = v; end = b } ∷ ps)) (sym base) (
     record {
       based = omega arith;
-      ended = (h.based, first, ends-down b 0 n ps h.based less (omega arith) h.ended);
+      ended = (record { stored = h.based; placed = first }, ends-down b 0 n ps h.based less (omega arith) h.ended);
       full = (some, h.full);
     }))
 
 pub row-pop : (b : ℕ) (p : Piece) (ps qs : List Piece) → IsRow b qs → qs ≡ p ∷ ps → IsRow p.end ps
 row-pop b p ps qs h is =
     let g = subst (IsRow b) is h in
-    let e = g.ended in
+    let (end, others) = g.ended in
     let z : 0 + view_len p.view ≡ view_len p.view = omega arith in
-    let base : p.end ≡ (b + (0 + view_len p.view)) % 2 ^ 64 = base-after b (0 + view_len p.view) p.end g.based e.0 e.1 in
+    let base : p.end ≡ (b + (0 + view_len p.view)) % 2 ^ 64 = base-after b (0 + view_len p.view) p.end g.based end.stored end.placed in
     let none : 0 + view_len p.view - (0 + view_len p.view) ≡ 0 = omega arith in
-    let up = ends-up b (0 + view_len p.view) (0 + view_len p.view) ps g.based (omega arith) e.2 in
+    let up = ends-up b (0 + view_len p.view) (0 + view_len p.view) ps g.based (omega arith) others in
     record {
-      based = e.0;
+      based = end.stored;
       ended = subst (λ m. AreEnds m 0 ps) (sym base) (subst (λ m. AreEnds ((b + (0 + view_len p.view)) % 2 ^ 64) m ps) none up);
       full = g.full.1;
     }
@@ -214,15 +214,15 @@ row-drop b n start ps h is =
 pub row-shorten : (b n : ℕ) (ps qs : List Piece) → IsRow b ps → n < view_len (piece_at (views_in ps) 0) → qs ≡ shortened ps n → IsRow ((b + n) % 2 ^ 64) qs
 row-shorten b n [] qs h l is = absurd (omega arith)
 row-shorten b n (p ∷ ps) qs h l is =
-    let e = h.ended in
+    let (end, others) = h.ended in
     let d = length-drop n p.view.bytes in
-    let here : from_base ((b + n) % 2 ^ 64) p.end ≡ 0 + view_len (view_advanced p.view n) = base-up p.end b n h.based (omega (arith, e.1)) ∙ (omega (arith, e.1)) in
-    let up = ends-up b (0 + view_len p.view) n ps h.based (omega arith) e.2 in
+    let here : from_base ((b + n) % 2 ^ 64) p.end ≡ 0 + view_len (view_advanced p.view n) = base-up p.end b n h.based (omega (arith, end.placed)) ∙ (omega (arith, end.placed)) in
+    let up = ends-up b (0 + view_len p.view) n ps h.based (omega arith) others in
     let same : 0 + view_len p.view - n ≡ 0 + view_len (view_advanced p.view n) = omega arith in
     subst (λ (xs : List Piece). IsRow ((b + n) % 2 ^ 64) xs) (sym is) (
     record {
       based = omega arith;
-      ended = (e.0, here, subst (λ m. AreEnds ((b + n) % 2 ^ 64) m ps) same up);
+      ended = (record { stored = end.stored; placed = here }, subst (λ m. AreEnds ((b + n) % 2 ^ 64) m ps) same up);
       full = (omega arith, h.full.1);
     })
 

@@ -9,24 +9,24 @@ use Rattle.iobufs.proofs.Text.PieceLaws.{right_pieces-within, right_pieces-past,
 
 pub AreCuts-up : (n k : ℕ) (m : Mark) (es : List (ℕ × Mark)) (end : ℕ) → AreCuts k m es end → AreCuts (n + k) m (map (moved_up n) es) (n + end)
 AreCuts-up n k m [] end h = let d : n + end - (n + k) ≡ end - k = omega arith in rw d h
-AreCuts-up n k m (e ∷ es) end h =
+AreCuts-up n k m (e ∷ es) end (after, before, room, others) =
     let d : n + e.0 - (n + k) ≡ e.0 - k = omega arith in
-    (omega (arith, h.0), omega (arith, h.1), rw d (h.2), AreCuts-up n e.0 e.1 es end h.3)
+    (omega (arith, after), omega (arith, before), rw d room, AreCuts-up n e.0 e.1 es end others)
 
 pub IsMarked-of_pieces : (v : View) (vs : List View) → IsPieces (v ∷ vs) → All IsView (v ∷ vs) → IsMarked (of_pieces (v ∷ vs))
 unfolding of_pieces text_glue
 IsMarked-of_pieces v [] p h = rw (no_sub (view_len v)) (h 0 v (omega arith))
-IsMarked-of_pieces v (w ∷ vs) p h =
+IsMarked-of_pieces v (w ∷ vs) (first, behind) h =
     let y = of_pieces (w ∷ vs) in
     let s = len-of_pieces (w ∷ vs) in
     let n = length-bytes w vs in
-    let ih = IsMarked-of_pieces w vs (IsPieces-from_full w vs p.1) (λ k d l. h (suc k) d (omega arith)) in
+    let ih = IsMarked-of_pieces w vs (IsPieces-from_full w vs behind) (λ k d l. h (suc k) d (omega arith)) in
     let e : length (v.bytes ++ y.bytes) ≡ view_len v + text_len y = length-append v.bytes y.bytes in
     let r : HasRoom v.mark (view_len v) = h 0 v (omega arith) in
     let up : AreCuts (view_len v + 0) y.mark (map (moved_up (view_len v)) y.cuts) (view_len v + text_len y) = AreCuts-up (view_len v) 0 y.mark y.cuts (text_len y) ih in
     let z : view_len v + 0 ≡ view_len v = omega arith in
     let end : AreCuts (view_len v) y.mark (map (moved_up (view_len v)) y.cuts) (length (v.bytes ++ y.bytes)) = rw e (rw z at up) in
-    (omega (arith, p.0), omega (arith, p.1.0), rw (no_sub (view_len v)) r, end)
+    (omega (arith, first), omega (arith, behind.0), rw (no_sub (view_len v)) r, end)
 
 -- the room of the pieces
 pub HasRoom-on : (m : Mark) (n k : ℕ) → HasRoom m n → HasRoom (mark_after k m) (n - k)

@@ -72,15 +72,21 @@ right-of_pieces at (v ∷ w ∷ vs) l =
     (λ (h : view_len v ≤ at). rw (right_pieces-past at v (w ∷ vs) h) (right-glue_past at v (of_pieces (w ∷ vs)) h ∙ right-of_pieces (at - view_len v) (w ∷ vs) (omega arith)))
     (cases_lt at (view_len v)))
 
-pub left_pieces-some : (at : ℕ) (v : View) (vs : List View) → 0 < at → (w : View) × (ws : List View) × (left_pieces (v ∷ vs) at ≡ w ∷ ws)
+-- a first view, and others behind it
+pub record HasFirst (vs : List View) : Type 0 where
+  pub first : View
+  pub others : List View
+  pub is : vs ≡ first ∷ others
+
+pub left_pieces-some : (at : ℕ) (v : View) (vs : List View) → 0 < at → HasFirst (left_pieces (v ∷ vs) at)
 left_pieces-some at v vs p =
     ⊎_elim
-    (λ (h : at < view_len v). (view_front v at, [], left_pieces-within at v vs p h))
-    (λ (h : view_len v ≤ at). (v, left_pieces vs (at - view_len v), left_pieces-past at v vs p h))
+    (λ (h : at < view_len v). record { first = view_front v at; others = []; is = left_pieces-within at v vs p h })
+    (λ (h : view_len v ≤ at). record { first = v; others = left_pieces vs (at - view_len v); is = left_pieces-past at v vs p h })
     (cases_lt at (view_len v))
 
-pub of_pieces-more : (v : View) (vs : List View) → (some : (w : View) × (ws : List View) × (vs ≡ w ∷ ws)) → of_pieces (v ∷ vs) ≡ text_glue (of_view v) (of_pieces vs)
-of_pieces-more v vs some = rw some.2 (of_pieces-cons v some.0 some.1)
+pub of_pieces-more : (v : View) (vs : List View) → HasFirst vs → of_pieces (v ∷ vs) ≡ text_glue (of_view v) (of_pieces vs)
+of_pieces-more v vs some = rw some.is (of_pieces-cons v some.first some.others)
 
 -- three cases of a place against a length
 pub order3 : {A : Type 0} (m n : ℕ) → (m < n → A) → (m ≡ n → A) → (n < m → A) → A

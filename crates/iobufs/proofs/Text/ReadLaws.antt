@@ -133,12 +133,12 @@ first-rest [] ws t n e f p w is = absurd (omega arith)
 first-rest (v ∷ []) ws t n e f p w is =
     let all : n ≡ text_len t = w ∙ ap text_len (sym (of_pieces-one v) ∙ e) in
     ap of_pieces is ∙ of_pieces-one default_view ∙ sym (rest-all n t p all)
-first-rest (v ∷ u ∷ vs) ws t n e f p w is =
+first-rest (v ∷ u ∷ vs) ws t n e (first, behind) p w is =
     let none : n - view_len v ≡ 0 = omega arith in
-    let right = right_pieces-past n v (u ∷ vs) (omega arith) ∙ ap (right_pieces (u ∷ vs)) none ∙ right_pieces-none (u ∷ vs) f.1 in
+    let right = right_pieces-past n v (u ∷ vs) (omega arith) ∙ ap (right_pieces (u ∷ vs)) none ∙ right_pieces-none (u ∷ vs) behind in
     let l = length-bytes v (u ∷ vs) in
     let m = length-bytes u vs in
-    rest-kept (v ∷ u ∷ vs) ws t n e p (omega (arith, f.1.0)) (is ∙ sym right)
+    rest-kept (v ∷ u ∷ vs) ws t n e p (omega (arith, behind.0)) (is ∙ sym right)
 
 pub length-behind : (vs : List View) → length (pieces_bytes vs) ≡ view_len (piece_at vs 0) + length (pieces_bytes (behind_first vs))
 length-behind [] = refl

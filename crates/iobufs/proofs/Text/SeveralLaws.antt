@@ -82,11 +82,18 @@ edge-last vs front last at i o full is edge place =
     (λ h. let r = ap (piece_start vs) h in (omega arith, omega arith))
     (λ h. let r = starts-below vs k i full h (omega arith) in absurd (omega arith))
 
+-- the last of some views is this chunk's
+pub record HasLast (vs : List View) (chunk : List ℕ) : Type 0 where
+  pub before : List View
+  pub last : View
+  pub is : vs ≡ before ++ last ∷ []
+  pub bytes : last.bytes ≡ chunk
+
 -- the last of several chunks is the last piece's
-pub last-view : (vs : List View) (front : List (List ℕ)) (chunk : List ℕ) → map (λ (v : View). v.bytes) vs ≡ front ++ chunk ∷ [] → (before : List View) × (last : View) × (vs ≡ before ++ last ∷ []) × (last.bytes ≡ chunk)
+pub last-view : (vs : List View) (front : List (List ℕ)) (chunk : List ℕ) → map (λ (v : View). v.bytes) vs ≡ front ++ chunk ∷ [] → HasLast vs chunk
 last-view [] [] chunk e = let n = ap (λ (xs : List (List ℕ)). length xs) e in absurd (omega arith)
 last-view [] (x ∷ xs) chunk e = let n = ap (λ (xs : List (List ℕ)). length xs) e in absurd (omega arith)
-last-view (v ∷ []) [] chunk e = ([], v, refl, (let first : v.bytes ≡ chunk = cc in first))
+last-view (v ∷ []) [] chunk e = record { before = []; last = v; is = refl; bytes = (let first : v.bytes ≡ chunk = cc in first) }
 last-view (v ∷ []) (x ∷ xs) chunk e =
     let n = ap (λ (ys : List (List ℕ)). length ys) e in
     let l = length-append xs (chunk ∷ []) in
@@ -95,4 +102,4 @@ last-view (v ∷ w ∷ vs) [] chunk e = let n = ap (λ (xs : List (List ℕ)). l
 last-view (v ∷ w ∷ vs) (x ∷ xs) chunk e =
     let rest : map (λ (u : View). u.bytes) (w ∷ vs) ≡ xs ++ chunk ∷ [] = cc in
     let ih = last-view (w ∷ vs) xs chunk rest in
-    (v ∷ ih.0, ih.1, ap (λ us. v ∷ us) ih.2, ih.3)
+    record { before = v ∷ ih.before; last = ih.last; is = ap (λ us. v ∷ us) ih.is; bytes = ih.bytes }

@@ -16,10 +16,15 @@ views_in pieces = map (λ (piece : Piece). piece.view) pieces
 abbrev pub ends_from : ℕ → List Piece → List ℕ
 ends_from base pieces = map (λ (piece : Piece). from_base base piece.end) pieces
 
+-- a piece's end as it is stored, and where the piece ends, with so many bytes before it
+pub record IsEnd (base start : ℕ) (piece : Piece) : Type 0 where
+  pub stored : piece.end < 2 ^ 64
+  pub placed : from_base base piece.end ≡ start + view_len piece.view
+
 -- so many bytes stand before the first piece, and each end is where its piece ends
 abbrev pub AreEnds : ℕ → ℕ → List Piece → Type 0
 AreEnds base start [] = Unit {0}
-AreEnds base start (piece ∷ pieces) = (piece.end < 2 ^ 64) × (from_base base piece.end ≡ start + view_len piece.view) × AreEnds base (start + view_len piece.view) pieces
+AreEnds base start (piece ∷ pieces) = IsEnd base start piece × AreEnds base (start + view_len piece.view) pieces
 
 -- what a row keeps true: each end, less the base, is where its piece ends in the text, and each piece holds bytes
 pub record IsRow (base : ℕ) (pieces : List Piece) : Type 0 where

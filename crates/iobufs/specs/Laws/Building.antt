@@ -129,17 +129,19 @@ pub built_puts : (a b : Building) (w : List ℕ) → IsPut a w b → IsBuilt a (
 built_puts a b w put = (omega (arith, put.0), omega arith, put.1)
 
 pub built_adds : (a b : Building) (items : List Item) → IsBuilt a items b → building_bytes b ≡ building_bytes a ++ items_bytes items
-built_adds a b items done = ap building_bytes done.2 ∙ bytes-built a items
+built_adds a b items (inline, pushed, is) = ap building_bytes is ∙ bytes-built a items
 
 pub built_uses : (a b : Building) (items : List Item) → IsBuilt a items b → building_room a ≡ building_room b + items_inline items
-built_uses a b items done = omega (arith, done.0, ap building_room done.2, room-built a items)
+built_uses a b items (inline, pushed, is) = omega (arith, inline, ap building_room is, room-built a items)
 
 pub built_spends : (a b : Building) (items : List Item) → IsBuilt a items b → room_for_pushes a ≡ room_for_pushes b + items_pushed items
-built_spends a b items done = omega (arith, done.1, ap room_for_pushes done.2, pushes-built a items)
+built_spends a b items (inline, pushed, is) = omega (arith, pushed, ap room_for_pushes is, pushes-built a items)
 
 pub built_follows : (a b c : Building) (us vs : List Item) → IsBuilt a us b → IsBuilt b vs c → IsBuilt a (us ++ vs) c
-built_follows a b c us vs first second = (
-  omega (arith, items_inline-append us vs, built_uses a b us first, second.0),
-  omega (arith, items_pushed-append us vs, built_spends a b us first, second.1),
-  second.2 ∙ ap (λ (x : Building). building_after x vs) first.2 ∙ sym (built-append a us vs),
-)
+built_follows a b c us vs first second =
+    let (inline, pushed, is) = first in
+    let (inline_behind, pushed_behind, is_behind) = second in (
+      omega (arith, items_inline-append us vs, built_uses a b us first, inline_behind),
+      omega (arith, items_pushed-append us vs, built_spends a b us first, pushed_behind),
+      is_behind ∙ ap (λ (x : Building). building_after x vs) is ∙ sym (built-append a us vs),
+    )

@@ -1,11 +1,12 @@
-use Rattle.std.proofs.Common.{◌≡◌, length, map}
+use Rattle.std.proofs.Common.{◌≡◌, ◌++◌, length, map}
+use Rattle.std.specs.Option.{option_map}
 use Rattle.iobufs_lines.specs.Commands.{plain_item}
 use Rattle.iobufs_lines.specs.Shapes.{items_of}
-use Rattle.iobufs_lines.proofs.ManyItems.{behind}
 use Rattle.iobufs_lines.proofs.shapes.items.Given as goal
 
+-- what all words say is the items so far, and behind them what the words that are left say
 abbrev pub invariant-loop-word : goal.invariant-loop-word
-invariant-loop-word l = items_of l.fn.words ≡ behind (map plain_item l.items.items) (items_of l.words)
+invariant-loop-word l = items_of l.fn.words ≡ option_map (λ items. map plain_item l.items.items ++ items) (items_of l.words)
 
 abbrev pub decreases-loop-word : goal.decreases-loop-word
 decreases-loop-word l = length l.words

@@ -31,8 +31,8 @@ returns-in_err-shape-clause-err g c =
     let part = c.in-Some.part in
     let kept = ap parts_capacity l.invariant.kept ∙ capacity-kept l.yielded in
     let some : 0 < parts_capacity l.yielded = pos_of_ne-zero (λ none. false≢true (c.in_err-shape.ensures.first (kept ∙ none))) in
-    let p = err_from_is_err_and c.from_residual.result c.from_residual.ensures.1 in
-    rw (p.1, p.2) (
+    let (error, told, cause) = err_from_is_err_and c.from_residual.result c.from_residual.ensures.1 in
+    rw (told, cause) (
       run_to_item g.I.Iterator.next_gives _ l.yielded l.yielded_by part c.in-Some.ensures.steps,
       c.into_iter-part-iterator.ensures.into_iter_gives,
       subst (IsRowRefusedAt (l.yielded ++ part ∷ [])) (sym c.in_err-shape.ensures.memory) (refused-short l.yielded part some (omega arith) (omega arith)),

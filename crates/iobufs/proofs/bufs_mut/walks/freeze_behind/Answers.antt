@@ -44,9 +44,9 @@ loop-part-preserved c =
     let len = ap (λ (v : View). length v.bytes) frozen in
     record {
       so_far = ap (λ (text : MarkedText). fold text_append text (map part_frozen rest)) (add-text l.row.views views piece added inv.full ∙ ap (text_append (of_pieces l.row.views)) frozen) ∙ ap (λ parts. fold text_append (of_pieces l.row.views) (map part_frozen parts)) (sym items) ∙ inv.so_far;
-      fits = omega (arith, inv.fits, more.2, len, capacity, sum_by-cons part_capacity part rest, frozen-len part);
-      room = omega (arith, inv.room, more.1, count, c.add-in-Some.ensures.same_room);
+      fits = omega (arith, inv.fits, more.bytes, len, capacity, sum_by-cons part_capacity part rest, frozen-len part);
+      room = omega (arith, inv.room, more.at_most, count, c.add-in-Some.ensures.same_room);
       full = add-full l.row.views views piece added inv.full;
       roomy = add-views l.row.views views piece added inv.roomy c.add-in-Some.ensures.view;
-      some = omega (arith, inv.some, more.0);
+      some = omega (arith, inv.some, more.at_least);
     }

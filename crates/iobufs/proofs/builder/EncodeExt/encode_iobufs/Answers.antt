@@ -20,7 +20,8 @@ returns-in_err-write_bufs-clause-memory g c =
 pub returns-clause-bytes : goal.returns-clause-bytes
 returns-clause-bytes g c =
     let items = g.Self.EncodeSize.items c.args.self.now in
-    ap (λ (text : MarkedText). text.bytes) (c.in_ok-finish.ensures.ok ∙ ap finished (c.in_ok-write_bufs.ensures.ok.2 ∙ ap (λ (b : Building). building_after b items) (c.in_ok-builder.ensures.ok ∙ ap empty_building c.encode_inline_size.ensures)))
+    let (inline, pushed, built) = c.in_ok-write_bufs.ensures.ok in
+    ap (λ (text : MarkedText). text.bytes) (c.in_ok-finish.ensures.ok ∙ ap finished (built ∙ ap (λ (b : Building). building_after b items) (c.in_ok-builder.ensures.ok ∙ ap empty_building c.encode_inline_size.ensures)))
     ∙ encoded-bytes (items_inline items) items
     ∙ g.met.Self.EncodeSize.joins_items c.args.self.now
 
@@ -36,5 +37,6 @@ returns-in_err-finish-clause-nothing g c =
     let items = g.Self.EncodeSize.items c.args.self.now in
     λ (puts : ArePuts items) (none : length (g.Self.EncodeSize.written c.args.self.now) ≡ 0).
     let bytes : length (items_bytes items) ≡ 0 = ap length (g.met.Self.EncodeSize.joins_items c.args.self.now) ∙ none in
-    let is = c.in_ok-write_bufs.ensures.ok.2 ∙ ap (λ (b : Building). building_after b items) (c.in_ok-builder.ensures.ok ∙ ap empty_building c.encode_inline_size.ensures) in
+    let (inline, pushed, built) = c.in_ok-write_bufs.ensures.ok in
+    let is = built ∙ ap (λ (b : Building). building_after b items) (c.in_ok-builder.ensures.ok ∙ ap empty_building c.encode_inline_size.ensures) in
     absurd (false≢true (c.in_err-finish.ensures.nothing (ap building_items is ∙ nothing-put (items_inline items) items puts bytes)))

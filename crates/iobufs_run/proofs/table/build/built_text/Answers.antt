@@ -8,9 +8,9 @@ use Rattle.iobufs_run.proofs.table.build.built_text.Goals as goal
 
 pub returns-in_err-builder-clause-err : goal.returns-in_err-builder-clause-err
 returns-in_err-builder-clause-err c =
-    let refused = err_from_is_err_and c.from_residual.result c.from_residual.ensures.1 in
+    let (refusal, told, cause) = err_from_is_err_and c.from_residual.result c.from_residual.ensures.1 in
     let memory = c.in_err-builder.ensures.memory c.requires.layout in
-    rw (refused.1, refused.2, memory) (refl, MayFree-none (pushed_names c.args.items.now) c.args.slots.now)
+    rw (told, cause, memory) (refl, MayFree-none (pushed_names c.args.items.now) c.args.slots.now)
 
 pub loop-item-init : goal.loop-item-init
 loop-item-init c =
@@ -24,8 +24,8 @@ returns-in_err-add-clause-err c =
     let rest = drop (l.item-index + 1) c.args.items.now in
     let more = drop_more c.args.items.now l.item-index item c.loop-item-test.true in
     let left = rw (more, ← c.item-item.is) at l.invariant in
-    let refused = err_from_is_err_and c.from_residual-in_err-add.result c.from_residual-in_err-add.ensures.1 in
-    rw (refused.1, refused.2, c.in_err-add.ensures.err, c.add.ensures.freed) (refl, left.costs _ (item_costs l.slots item rest))
+    let (refusal, told, cause) = err_from_is_err_and c.from_residual-in_err-add.result c.from_residual-in_err-add.ensures.1 in
+    rw (told, cause, c.in_err-add.ensures.err, c.add.ensures.freed) (refl, left.costs _ (item_costs l.slots item rest))
 
 pub loop-item-preserved : goal.loop-item-preserved
 loop-item-preserved c =

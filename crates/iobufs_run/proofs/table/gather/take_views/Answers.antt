@@ -24,10 +24,10 @@ returns-in_err-append-clause-err c =
     let took = c.in-Some.ensures.some in
     let read = source_read is_view old c.loop-src.slots sources i c.index-slots-src.result refl c.requires.once c.requires.views inv.freed c.loop-src-test.true in
     let fits = source_fits old sources i c.loop-src.text c.in-Some.piece c.requires.fits inv.text (sym read.0 ∙ took.0) c.loop-src-test.true in
-    let cause = c.in_err-append.ensures.memory fits in
+    let memory = c.in_err-append.ensures.memory fits in
     let freed = freed_more old c.loop-src.slots sources i c.take_view.new.slot inv.freed c.loop-src-test.true took.1 in
-    let refused = err_from_is_err_and c.from_residual.result c.from_residual.ensures.1 in
-    rw refused.1 (refused.2 ∙ ap refusal_of cause, subst (MayFree sources old) (sym freed) (MayFree-front sources (i + 1) old))
+    let (refusal, told, cause) = err_from_is_err_and c.from_residual.result c.from_residual.ensures.1 in
+    rw told (cause ∙ ap refusal_of memory, subst (MayFree sources old) (sym freed) (MayFree-front sources (i + 1) old))
 
 pub loop-src-preserved : goal.loop-src-preserved
 loop-src-preserved c =

@@ -25,8 +25,8 @@ loop-offset-preserved c =
     record {
       offset = omega arith;
       room = omega (arith, spare);
-      left = omega (arith, step.1);
-      so_far = step.2;
+      left = omega (arith, step.left);
+      so_far = step.so_far;
     }
 
 pub returns-in_err-copy-clause-memory : goal.returns-in_err-copy-clause-memory

@@ -20,7 +20,7 @@ loop-filled-preserved c =
     let taken = take-put_mid f (f + k - f) dst part (f + k) (omega (arith, count)) some ∙ ap (λ xs. take f dst ++ xs) after in
     let step = filled-step _ c.loop-filled.index f k dst (put_mid f (f + k - f) dst part) bytes (omega arith) (c.as_ref-bytes.ensures ∙ ap (λ (v : View). v.bytes) c.piece.ensures) some c.loop-filled.invariant.left c.loop-filled.invariant.so_far short same taken in
     record {
-      some = step.0;
-      left = step.1;
-      so_far = step.2;
+      some = step.some;
+      left = step.left;
+      so_far = step.so_far;
     }

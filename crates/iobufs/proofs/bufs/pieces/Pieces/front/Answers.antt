@@ -14,7 +14,7 @@ loop-bytes-preserved c =
     let step =
     copied-step (views c.args.self.now) l.index 0 c.args.n (length copy) c.min-some.result copy c.extend_from_slice.new.self.items bytes _ (omega arith) (omega arith) is l.invariant.some refl (omega (arith, l.invariant.left)) l.invariant.so_far count c.in_ok-extend_from_slice.ensures.items in
     record {
-      some = step.0;
-      left = step.1;
-      so_far = step.2;
+      some = step.some;
+      left = step.left;
+      so_far = step.so_far;
     }

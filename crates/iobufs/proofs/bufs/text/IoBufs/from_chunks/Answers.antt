@@ -21,8 +21,8 @@ returns-in_err-append-clause-err g c =
     let refused = c.in_err-append.ensures in
     let some : 0 < text_len l.text = pos_of_ne-zero (λ none. false≢true (refused.onto_nothing none)) in
     let more : 0 < length c.in-Some.chunk.bytes = pos_of_ne-zero (λ none. false≢true (refused.nothing none)) in
-    let p = err_from_is_err_and c.from_residual.result c.from_residual.ensures.1 in
-    rw (p.1, p.2) (
+    let (error, told, cause) = err_from_is_err_and c.from_residual.result c.from_residual.ensures.1 in
+    rw (told, cause) (
       run_to_item g.I.Iterator.next_gives _ l.yielded l.yielded_by c.in-Some.chunk c.in-Some.ensures.steps,
       refl,
       refused-at l.yielded c.in-Some.chunk l.text _ l.invariant.so_far l.invariant.fits some more refused.too_long refused.memory,

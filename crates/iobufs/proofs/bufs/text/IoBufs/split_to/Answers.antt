@@ -43,4 +43,4 @@ returns-in_err-pieces-clause-last c = λ front chunk is edge.
     let full = full-kept s _ c.self.view_is c.self.invariant (omega (arith, c.if-at-eq0.false, edge)) in
     let chunks = chunks-kept (views s.pieces) _ c.self.view_is (some_views s.pieces c.self.invariant.pieced) full in
     let last = last-view (views s.pieces) front chunk (sym chunks ∙ is) in
-    absurd (false≢true (c.in_err-pieces.ensures.last last.0 last.1 last.2 (omega (arith, edge, ap length last.3))))
+    absurd (false≢true (c.in_err-pieces.ensures.last last.before last.last last.is (omega (arith, edge, ap length last.bytes))))
