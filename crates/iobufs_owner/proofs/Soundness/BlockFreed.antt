@@ -75,7 +75,7 @@ sound-freed_described s h x w o k at free xw is =
         tables = keeps-self g;
         let_go = λ q j t. refl;
         live = λ q _ t. t;
-        hidden = λ q _. refl;
+        hidden = λ q _ _. refl;
         handle = λ j y b a. get_or-set_other s.handles h j o None (λ e. let q = rw e at (lent-by j s.calls i None li b) in absurd (cc)) ∙ a;
         owner = λ j y a. refl;
         holders = λ q e. hn (record_at g q).block (undropped s h b i q me li e);
@@ -150,7 +150,7 @@ sound-freed_counted s h x r o k at free xm xw is =
         tables = e;
         let_go = λ q j t. dead-let_go g r q;
         live = λ q m t. calls-live s h r q i once li m t;
-        hidden = λ q _. refl;
+        hidden = λ q _ _. refl;
         handle = λ j y b a. get_or-set_other s.handles h j o None (λ e. let q = rw e at (lent-by j s.calls i None li b) in absurd (cc)) ∙ a;
         owner = λ j y a. owner-kept g g' s.calls y e (fits-at s j y k a);
         holders = λ q e. hn (record_at g q).block (undropped s h b i q me li e);
@@ -191,7 +191,7 @@ sound-gone_empty s h x k at free xw =
         tables = keeps-self g;
         let_go = λ q j t. refl;
         live = λ q _ t. t;
-        hidden = λ q _. refl;
+        hidden = λ q _ _. refl;
         handle = λ j y b a. get_or-set_other s.handles h j None None (λ e. let q = rw e at (lent-by j s.calls i None li b) in absurd (cc)) ∙ a;
         owner = λ j y a. refl;
         holders = λ q e. hm (record_at g q).block;

@@ -81,7 +81,7 @@ sound-called s p c k l q r f =
     let um : (b : ℕ) → users (reading next) b ≡ users (reading s) b = λ b. (called-holders s p c b l q r).1 in
     let hid : (n : ℕ) → hidden (set s.calls p c) n ≡ hidden s.calls n = λ n. count-calls (readies n) s.calls p c None l (q.readies n) (r.readies n) in
     let rel : (b : ℕ) → tally (releases g b) (set s.calls p c) ≡ tally (releases g b) s.calls = λ b. count-calls (releases g b) s.calls p c None l (q.releases b) (r.releases b) in
-    let leaves = λ (o : Option Pending). call-kept s next o (record { tables = keeps-self g; let_go = λ q j t. refl; live = λ n _ t. t; hidden = λ n _. hid n; handle = λ i x _ a. a; owner = λ i x a. refl; holders = λ n _. hm (record_at g n).block }) in
+    let leaves = λ (o : Option Pending). call-kept s next o (record { tables = keeps-self g; let_go = λ q j t. refl; live = λ n _ t. t; hidden = λ n _ _. hid n; handle = λ i x _ a. a; owner = λ i x a. refl; holders = λ n _. hm (record_at g n).block }) in
     let size = k.size in
     record {
       size = record { wide = size.wide; ceiling = size.ceiling; few_blocks = size.few_blocks; few_records = size.few_records; few_handles = size.few_handles; few_calls = rw length-set size.few_calls };
