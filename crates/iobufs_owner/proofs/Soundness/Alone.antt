@@ -2,8 +2,8 @@
 use Rattle.std.proofs.Common.{◌≡◌, ◌≢◌, inl, inr, ℕ, ◌<◌, ◌==◌, ◌&&◌, Bool, true, false, cond, length, sym, ◌∙◌, ap, refl, arith, Option, Some, None}
 use Rattle.std.proofs.lemmas.Bool.Decides.{nat_tests, eqb_tells}
 use Rattle.iobufs_owner.specs.State.{State, owner_of, record_at, handle_at, call_at}
-use Rattle.iobufs_owner.specs.World.{holders, users, tally}
-use Rattle.iobufs_owner.specs.Reading.{reading, has_let_go}
+use Rattle.iobufs_owner.specs.World.{Dropping, drops, holders, users, tally}
+use Rattle.iobufs_owner.specs.Reading.{reading, read_call, has_let_go}
 use Rattle.iobufs_owner.specs.Sound.{IsSound, Fits, FitsCall, hidden, readies}
 use Rattle.iobufs_owner.specs.Changes.{tables_without}
 use Rattle.iobufs_owner.specs.Lending.{is_lent}
@@ -101,15 +101,9 @@ unready s h b q k one free e =
     ]
 
 -- no call drops the block
-pub undropped : (s : State) (h b i r : ℕ) → Only s h b → i < length s.calls → call_at s i ≡ Some (Release r) → (record_at s.tables r).block ≢ b
-undropped s h b i r one l at e =
-    let t = count-some (drops_by s b) s.calls i None l (rw at (is-eqb b (record_at s.tables r).block (sym e))) in
-    let n = one.dropped in
-    omega (arith, t, n)
-
-undropped' : (s : State) (h b i : ℕ) (r : ℕ) → Only s h b → i < length s.calls → call_at s i ≡ Some (Subtract r) → (record_at s.tables r).block ≢ b
-undropped' s h b i r one l at e =
-    let t = count-some (drops_by s b) s.calls i None l (rw at (is-eqb b (record_at s.tables r).block (sym e))) in
+pub undropped : (s : State) (h b i r : ℕ) (let_go : Bool) (left : ℕ) → Only s h b → i < length s.calls → read_call s.tables (call_at s i) ≡ Some (Dropping (record_at s.tables r).block let_go left) → (record_at s.tables r).block ≢ b
+undropped s h b i r let_go left one l at e =
+    let t = count-some (drops_by s b) s.calls i None l (ap (drops b) at ∙ is-eqb b (record_at s.tables r).block (sym e)) in
     let n = one.dropped in
     omega (arith, t, n)
 
@@ -144,10 +138,10 @@ silent s h r i (Some (Add part q)) one free z l at f t =
     cc
 silent s h r i (Some (Subtract q)) one free z l at f t =
     let same : q ≡ r = grind (arith, nat_tests, t) in
-    undropped' s h (record_at s.tables r).block i q one l at (ap (λ (n : ℕ). (record_at s.tables n).block) same)
+    undropped s h (record_at s.tables r).block i q false 2 one l (ap (read_call s.tables) at) (ap (λ (n : ℕ). (record_at s.tables n).block) same)
 silent s h r i (Some (Release q)) one free z l at f t =
     let same : q ≡ r = grind (arith, nat_tests, t) in
-    undropped s h (record_at s.tables r).block i q one l at (ap (λ (n : ℕ). (record_at s.tables n).block) same)
+    undropped s h (record_at s.tables r).block i q (has_let_go s.tables q) 1 one l (ap (read_call s.tables) at) (ap (λ (n : ℕ). (record_at s.tables n).block) same)
 
 -- Another handle, and a drop that hasn't let go, would be a holder more than the one that is counted; a clone or slice that
 -- is to be counted there borrows the handle. So the record can be freed while the block lives on.

@@ -25,7 +25,7 @@ use Rattle.iobufs_owner.proofs.Soundness.Edits.{fits-at, live-inside}
 use Rattle.iobufs_owner.proofs.Soundness.Holders.{owner-used}
 use Rattle.iobufs_owner.proofs.Soundness.Logs.{record-log-more}
 use Rattle.iobufs_owner.proofs.Soundness.NewRecord.{recorded, recorded-new, recorded-keeps, recorded-let_go, recorded-live, recorded-either, unhidden-next}
-use Rattle.iobufs_owner.proofs.Soundness.Called.{IsQuiet, quiet-loaded, count-calls, called-quiet}
+use Rattle.iobufs_owner.proofs.Soundness.Called.{IsQuiet, quiet-loaded, count-calls, called-still}
 
 pub loading : (s : State) (p : ℕ) (k : Share) (w : ℕ) → IsSound s → call_at s p ≡ Some (Loaded k w) → IsLoading s k w
 loading s p k w i at = subst (λ (c : Option Pending). FitsCall s c) at (i.calls_fit p None (at-some s.calls p (Loaded k w) at))
@@ -66,7 +66,7 @@ sound-readied s p part w b k at ld same few =
     let mid : State = with_record s 2 b in
     let qold : IsQuiet mid (call_at s p) = subst (λ (c : Option Pending). IsQuiet mid c) (sym at) (quiet-loaded mid part w) in
     let both : (d : ℕ) → (holders (reading next) d ≡ holders (reading s) d) × (users (reading next) d ≡ users (reading s) d) = λ d.
-    let a = called-quiet mid p c d l qold (λ b. refl) (λ b. refl) in
+    let a = called-still mid p c d l (qold.still d) (qold.drops d) refl refl in
     (a.0 ∙ holders-tables s g' d hs cs, a.1 ∙ users-tables s g' d hs cs) in
     let hm : (d : ℕ) → holders (reading next) d ≡ holders (reading s) d = λ d. (both d).0 in
     let um : (d : ℕ) → users (reading next) d ≡ users (reading s) d = λ d. (both d).1 in
