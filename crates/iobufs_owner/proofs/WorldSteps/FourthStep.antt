@@ -207,6 +207,7 @@ changes-by w next step reply false e r = refuses w next step.party (going_at w s
 
 -- ---- over a run
 
+-- a call that may take three steps more at most
 abbrev pub IsShort : Option Unfinished → Type 0
 IsShort None = Unit {0}
 IsShort (Some c) = left_of c ≤ 3
