@@ -108,8 +108,15 @@ fits-true a t s size log tail r =
     let v : nat_lt size (2 ^ s) ≡ true = (let z = r.size_fits in grind (arith, nat_tests)) in
     rw (p, q, u, v) refl
 
-all-four : (p q u v : Bool) → (p && q && u && v) ≡ true → (p ≡ true) × (q ≡ true) × (u ≡ true) × (v ≡ true)
-all-four true true true true e = (refl, refl, refl, refl)
+-- the tests of the fields, where all pass
+record AllPass (p q u v : Bool) : Type 0 where
+  pub some : p ≡ true
+  pub log : q ≡ true
+  pub tail : u ≡ true
+  pub size : v ≡ true
+
+all-four : (p q u v : Bool) → (p && q && u && v) ≡ true → AllPass p q u v
+all-four true true true true e = record { some = refl; log = refl; tail = refl; size = refl }
 all-four true true true false e = absurd (cc)
 all-four true true false v e = absurd (cc)
 all-four true false u v e = absurd (cc)
@@ -118,7 +125,7 @@ all-four false q u v e = absurd (cc)
 pub fits-room : (a t s size log tail : ℕ) → fits a t s size log tail ≡ true → HasRoom a t s size log tail
 fits-room a t s size log tail e =
     let z = all-four (nat_lt 0 size) (nat_lt log (2 ^ a)) (nat_lt tail (2 ^ t)) (nat_lt size (2 ^ s)) e in
-    record { some = grind (arith, nat_tests, z.0); log_fits = grind (arith, nat_tests, z.1); tail_fits = grind (arith, nat_tests, z.2); size_fits = grind (arith, nat_tests, z.3) }
+    record { some = grind (arith, nat_tests, z.some); log_fits = grind (arith, nat_tests, z.log); tail_fits = grind (arith, nat_tests, z.tail); size_fits = grind (arith, nat_tests, z.size) }
 
 pub fits-false : (a t s size log tail : ℕ) → (HasRoom a t s size log tail → ⊥) → fits a t s size log tail ≡ false
 fits-false a t s size log tail n =

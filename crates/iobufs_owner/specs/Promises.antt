@@ -4,7 +4,7 @@ use Rattle.iobufs_owner.specs.declared.owner.types.Handle.{Handle}
 use Rattle.iobufs_owner.specs.declared.owner.types.Word.TheVariants.{Descriptor}
 use Rattle.iobufs_owner.specs.State as state
 use Rattle.iobufs_owner.specs.State.{State, handle_at, record_at, block_at, owner_of, triple}
-use Rattle.iobufs_owner.specs.Sound.{hidden, is_descriptor, is_logged}
+use Rattle.iobufs_owner.specs.Sound.{IsTripleOf, hidden, is_descriptor, is_logged}
 use Rattle.iobufs_owner.specs.Kinds.{is_mut}
 use Rattle.iobufs_owner.specs.World.{holders, users}
 use Rattle.iobufs_owner.specs.Reading.{reading, is_freed}
@@ -44,7 +44,7 @@ pub record Promises (s : State) : Type 0 where
   -- The logs have no repeats. Each freed triple is that of a block, each freed number that of a record, live no more.
   pub blocks_once : IsOnce s.freed_blocks
   pub records_once : IsOnce s.freed_records
-  pub blocks_known : All (λ f. (b : ℕ) × (b < length s.tables.blocks) × (f ≡ triple (block_at s.tables b))) s.freed_blocks
+  pub blocks_known : All (IsTripleOf s.tables.blocks) s.freed_blocks
   pub records_known : All (λ r. (r < length s.tables.records) × ((record_at s.tables r).live ≡ false)) s.freed_records
   -- No freed block has a holder; one that no handle and no unfinished drop holds is freed, and so is each of its records.
   pub never_held : (b : ℕ) → IsFreed s b → holders (reading s) b ≡ 0

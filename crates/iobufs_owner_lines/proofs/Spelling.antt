@@ -58,18 +58,18 @@ spaceless_ask (Look Freed) h = (refl, tt)
 -- ---- what words say
 
 call_says : (c : Call) (rest : List (List ℕ)) → AreNumbers (numbers_in c) → call_of (verb_of c) (map decimal (numbers_in c) ++ rest) ≡ Some (c, rest)
-call_says (New base size align) rest h = rw (number_spelled base h.0) (rw (number_spelled size h.1.0) (rw (number_spelled align h.1.1.0) refl))
-call_says (External base size) rest h = rw (number_spelled base h.0) (rw (number_spelled size h.1.0) refl)
+call_says (New base size align) rest (b, (s, (a, none))) = rw (number_spelled base b) (rw (number_spelled size s) (rw (number_spelled align a) refl))
+call_says (External base size) rest (b, (s, none)) = rw (number_spelled base b) (rw (number_spelled size s) refl)
 call_says (Static len) rest h = rw (number_spelled len h.0) refl
-call_says (Put x n) rest h = rw (number_spelled x h.0) (rw (number_spelled n h.1.0) refl)
-call_says (Advance x n) rest h = rw (number_spelled x h.0) (rw (number_spelled n h.1.0) refl)
+call_says (Put x n) rest (h, (k, none)) = rw (number_spelled x h) (rw (number_spelled n k) refl)
+call_says (Advance x n) rest (h, (k, none)) = rw (number_spelled x h) (rw (number_spelled n k) refl)
 call_says (Freeze x) rest h = rw (number_spelled x h.0) refl
 call_says (TryIntoMut x) rest h = rw (number_spelled x h.0) refl
-call_says (SplitTo x at) rest h = rw (number_spelled x h.0) (rw (number_spelled at h.1.0) refl)
+call_says (SplitTo x at) rest (h, (a, none)) = rw (number_spelled x h) (rw (number_spelled at a) refl)
 call_says (IsUnique x) rest h = rw (number_spelled x h.0) refl
 call_says (Demote x) rest h = rw (number_spelled x h.0) refl
 call_says (Clone x) rest h = rw (number_spelled x h.0) refl
-call_says (Slice x lo hi) rest h = rw (number_spelled x h.0) (rw (number_spelled lo h.1.0) (rw (number_spelled hi h.1.1.0) refl))
+call_says (Slice x lo hi) rest (h, (l, (k, none))) = rw (number_spelled x h) (rw (number_spelled lo l) (rw (number_spelled hi k) refl))
 call_says (Drop x) rest h = rw (number_spelled x h.0) refl
 
 -- no call is called `go`
@@ -120,9 +120,6 @@ pub line_asks : (ask : Ask) → Fits ask → ask_of (line_of_ask ask) ≡ Some a
 line_asks ask h = ap ask_in (words_joined (first_word_of ask) (other_words_of ask) (spaceless_ask ask h)) ∙ ask_says ask h
 
 -- ---- the first line
-
-width_word : Bool → List ℕ
-width_word is_wide = elim is_wide [ true ↦ codes "64" | false ↦ codes "32" ]
 
 fits_by : (setup : Setup) → FitsSetup setup → setup_by setup.parties setup.ceiling setup.is_wide ≡ Some setup
 fits_by setup h =

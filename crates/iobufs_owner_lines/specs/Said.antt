@@ -19,11 +19,25 @@ abbrev pub one_of : List (List ℕ) → Option (ℕ × List (List ℕ))
 one_of [] = None
 one_of (word ∷ words) = option_map (λ n. (n, words)) (number_of word)
 
-abbrev pub two_of : List (List ℕ) → Option (ℕ × ℕ × List (List ℕ))
-two_of words = option_and_then (λ a. option_map (λ b. (a.0, b.0, b.1)) (one_of a.1)) (one_of words)
+-- two numbers, and the words behind them
+pub record Two : Type 0 where
+  pub first : ℕ
+  pub second : ℕ
+  pub rest : List (List ℕ)
 
-abbrev pub three_of : List (List ℕ) → Option (ℕ × ℕ × ℕ × List (List ℕ))
-three_of words = option_and_then (λ a. option_map (λ b. (a.0, b.0, b.1, b.2)) (two_of a.1)) (one_of words)
+abbrev pub two_of : List (List ℕ) → Option Two
+two_of words = option_and_then (λ a. option_map (λ b. record { first = a.0; second = b.0; rest = b.1 }) (one_of a.1)) (one_of words)
+
+-- three numbers, and the words behind them
+pub record Three : Type 0 where
+  pub first : ℕ
+  pub second : ℕ
+  pub third : ℕ
+  pub rest : List (List ℕ)
+
+abbrev pub three_of : List (List ℕ) → Option Three
+three_of words =
+    option_and_then (λ a. option_map (λ b. record { first = a.0; second = b.first; third = b.second; rest = b.rest }) (two_of a.1)) (one_of words)
 
 -- ---- steps
 
@@ -41,13 +55,13 @@ call_on_of verb words =
 -- a call by its verb and its numbers, and the words behind it
 abbrev pub call_of : List ℕ → List (List ℕ) → Option (Call × List (List ℕ))
 call_of verb words =
-    if bytes_eq verb (codes "new") then option_map (λ n. (New n.0 n.1 n.2, n.3)) (three_of words)
-    else if bytes_eq verb (codes "external") then option_map (λ n. (External n.0 n.1, n.2)) (two_of words)
+    if bytes_eq verb (codes "new") then option_map (λ n. (New n.first n.second n.third, n.rest)) (three_of words)
+    else if bytes_eq verb (codes "external") then option_map (λ n. (External n.first n.second, n.rest)) (two_of words)
     else if bytes_eq verb (codes "static") then option_map (λ n. (Static n.0, n.1)) (one_of words)
-    else if bytes_eq verb (codes "put") then option_map (λ n. (Put n.0 n.1, n.2)) (two_of words)
-    else if bytes_eq verb (codes "advance") then option_map (λ n. (Advance n.0 n.1, n.2)) (two_of words)
-    else if bytes_eq verb (codes "split") then option_map (λ n. (SplitTo n.0 n.1, n.2)) (two_of words)
-    else if bytes_eq verb (codes "slice") then option_map (λ n. (Slice n.0 n.1 n.2, n.3)) (three_of words)
+    else if bytes_eq verb (codes "put") then option_map (λ n. (Put n.first n.second, n.rest)) (two_of words)
+    else if bytes_eq verb (codes "advance") then option_map (λ n. (Advance n.first n.second, n.rest)) (two_of words)
+    else if bytes_eq verb (codes "split") then option_map (λ n. (SplitTo n.first n.second, n.rest)) (two_of words)
+    else if bytes_eq verb (codes "slice") then option_map (λ n. (Slice n.first n.second n.third, n.rest)) (three_of words)
     else call_on_of verb words
 
 -- the end of a step: no word grants memory, and the word `deny` denies it
@@ -115,7 +129,7 @@ abbrev pub setup_in : List (List ℕ) → Option Setup
 setup_in [] = None
 setup_in (verb ∷ words) =
     if bytes_eq verb (codes "machine")
-    then option_and_then (λ n. option_and_then (setup_by n.0 n.1) (width_of n.2)) (two_of words)
+    then option_and_then (λ n. option_and_then (setup_by n.first n.second) (width_of n.rest)) (two_of words)
     else None
 
 -- the machine that a first line asks for, if it asks for one

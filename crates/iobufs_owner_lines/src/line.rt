@@ -188,7 +188,7 @@ fn one(words: &mut Words) -> Result<usize, LineError>
 
 // Two numbers.
 fn two(words: &mut Words) -> Result<(usize, usize), LineError>
-    ensures ok { IfOk result (λ n. two_of words.old ≡ Some (n.0, n.1, words.new)) }
+    ensures ok { IfOk result (λ n. two_of words.old ≡ Some (record { first = n.0; second = n.1; rest = words.new })) }
     ensures err { IfErr result (λ error. (error ≡ LineError.NoCommand) × (two_of words.old ≡ None)) }
 {
     let first = one(words)?;
@@ -197,7 +197,7 @@ fn two(words: &mut Words) -> Result<(usize, usize), LineError>
 
 // Three numbers.
 fn three(words: &mut Words) -> Result<(usize, usize, usize), LineError>
-    ensures ok { IfOk result (λ n. three_of words.old ≡ Some (n.0, n.1, n.2, words.new)) }
+    ensures ok { IfOk result (λ n. three_of words.old ≡ Some (record { first = n.0; second = n.1; third = n.2; rest = words.new })) }
     ensures err { IfErr result (λ error. (error ≡ LineError.NoCommand) × (three_of words.old ≡ None)) }
 {
     let first = one(words)?;

@@ -2,8 +2,8 @@
 use Rattle.std.proofs.Common.{◌≡◌, ◌≢◌, inl, inr, ℕ, ◌<◌, ◌==◌, ◌&&◌, Bool, true, false, cond, length, sym, ◌∙◌, ap, refl, arith, Option, Some, None}
 use Rattle.std.proofs.lemmas.Bool.Decides.{nat_tests, eqb_tells}
 use Rattle.iobufs_owner.specs.State.{State, owner_of, record_at, handle_at, call_at}
-use Rattle.iobufs_owner.specs.World.{holders, users, tally}
-use Rattle.iobufs_owner.specs.Reading.{reading, has_let_go}
+use Rattle.iobufs_owner.specs.World.{Dropping, drops, holders, users, tally}
+use Rattle.iobufs_owner.specs.Reading.{reading, read_call, has_let_go}
 use Rattle.iobufs_owner.specs.Sound.{IsSound, Fits, FitsCall, hidden, readies}
 use Rattle.iobufs_owner.specs.Changes.{tables_without}
 use Rattle.iobufs_owner.specs.Lending.{is_lent}
@@ -49,7 +49,7 @@ only s h b x k at o one =
     let gone : tally (lets_go s.tables b) s.calls ≡ 0 = elim (eqb_tells (tally (lets_go s.tables b) s.calls) 0) [
       | inl z ↦ z.1
       | inr z ↦ absurd (let w = count-find (lets_go s.tables b) None s.calls (let n = z.1 in omega arith) in
-          let n = let-go-call s b w.0 (call_at s w.0) refl w.2 (k.calls_fit w.0 None w.1) in omega (arith, n, one))
+          let n = let-go-call s b w.place (call_at s w.place) refl w.passes (k.calls_fit w.place None w.inside) in omega (arith, n, one))
     ] in
     let dropped : tally (drops_by s b) s.calls ≡ 0 = omega (arith, split, still, gone) in
     record {
@@ -63,7 +63,7 @@ only s h b x k at o one =
     }
 
 -- a handle that a call borrows and that holds the block of a record
-record BorrowedFor (s : State) (q : ℕ) : Type 0 where
+pub record BorrowedFor (s : State) (q : ℕ) : Type 0 where
   pub handle : ℕ
   pub view : Handle
   pub at : handle_at s handle ≡ Some view
@@ -71,14 +71,14 @@ record BorrowedFor (s : State) (q : ℕ) : Type 0 where
   pub lent : is_lent handle s.calls ≡ true
 
 -- a call that has made a record borrows a handle of the record's block
-ready-borrows : (s : State) (q i : ℕ) (c : Option Pending) → i < length s.calls → call_at s i ≡ c → readies q c ≡ true → FitsCall s c → BorrowedFor s q
+pub ready-borrows : (s : State) (q i : ℕ) (c : Option Pending) → i < length s.calls → call_at s i ≡ c → readies q c ≡ true → FitsCall s c → BorrowedFor s q
 ready-borrows s q i None l at t f = absurd (cc)
 ready-borrows s q i (Some (Loaded part w)) l at t f = absurd (cc)
-ready-borrows s q i (Some (Ready part w z)) l at t (x, f) =
+ready-borrows s q i (Some (Ready part w z)) l at t f =
     let e : q ≡ z = grind (arith, nat_tests, t) in
     record {
       handle = part.handle;
-      view = x;
+      view = f.view;
       at = f.shares.at;
       owner = f.promised.owner ∙ ap Some (sym f.same ∙ ap (λ (n : ℕ). (record_at s.tables n).block) (sym e));
       lent = lent-by part.handle s.calls i None l (rw at (is-eqb part.handle part.handle refl));
@@ -93,7 +93,7 @@ unready s h b q k one free e =
     elim (eqb_tells (hidden s.calls q) 0) [
       | inl z ↦ z.1
       | inr z ↦ absurd (let w = count-find (readies q) None s.calls (let n = z.1 in omega arith) in
-          let y = ready-borrows s q w.0 (call_at s w.0) w.1 refl w.2 (k.calls_fit w.0 None w.1) in
+          let y = ready-borrows s q w.place (call_at s w.place) w.inside refl w.passes (k.calls_fit w.place None w.inside) in
           let i = one.handle y.handle y.view y.at (y.owner ∙ ap Some e) in
           let u = ap (λ (n : ℕ). is_lent n s.calls) i in
           let v = y.lent in
@@ -101,15 +101,9 @@ unready s h b q k one free e =
     ]
 
 -- no call drops the block
-pub undropped : (s : State) (h b i r : ℕ) → Only s h b → i < length s.calls → call_at s i ≡ Some (Release r) → (record_at s.tables r).block ≢ b
-undropped s h b i r one l at e =
-    let t = count-some (drops_by s b) s.calls i None l (rw at (is-eqb b (record_at s.tables r).block (sym e))) in
-    let n = one.dropped in
-    omega (arith, t, n)
-
-undropped' : (s : State) (h b i : ℕ) (r : ℕ) → Only s h b → i < length s.calls → call_at s i ≡ Some (Subtract r) → (record_at s.tables r).block ≢ b
-undropped' s h b i r one l at e =
-    let t = count-some (drops_by s b) s.calls i None l (rw at (is-eqb b (record_at s.tables r).block (sym e))) in
+pub undropped : (s : State) (h b i r : ℕ) (let_go : Bool) (left : ℕ) → Only s h b → i < length s.calls → read_call s.tables (call_at s i) ≡ Some (Dropping (record_at s.tables r).block let_go left) → (record_at s.tables r).block ≢ b
+undropped s h b i r let_go left one l at e =
+    let t = count-some (drops_by s b) s.calls i None l (ap (drops b) at ∙ is-eqb b (record_at s.tables r).block (sym e)) in
     let n = one.dropped in
     omega (arith, t, n)
 
@@ -136,18 +130,18 @@ silent s h r i (Some (Ready part w q)) one free z l at f t =
     let same : q ≡ r = grind (arith, nat_tests, t) in
     let some = count-some (readies r) s.calls i None l (rw at (is-eqb r q (sym same))) in
     omega (arith, some, z)
-silent s h r i (Some (Add part q)) one free z l at (x, f) t =
+silent s h r i (Some (Add part q)) one free z l at f t =
     let same : q ≡ r = grind (arith, nat_tests, t) in
-    let j : part.handle ≡ h = one.handle part.handle x f.shares.at (owner-counted s.tables x q f.word ∙ ap (λ (n : ℕ). Some (record_at s.tables n).block) same) in
+    let j : part.handle ≡ h = one.handle part.handle f.view f.shares.at (owner-counted s.tables f.view q f.word ∙ ap (λ (n : ℕ). Some (record_at s.tables n).block) same) in
     let lent = lent-by part.handle s.calls i None l (rw at (is-eqb part.handle part.handle refl)) in
     let u = ap (λ (n : ℕ). is_lent n s.calls) j in
     cc
 silent s h r i (Some (Subtract q)) one free z l at f t =
     let same : q ≡ r = grind (arith, nat_tests, t) in
-    undropped' s h (record_at s.tables r).block i q one l at (ap (λ (n : ℕ). (record_at s.tables n).block) same)
+    undropped s h (record_at s.tables r).block i q false 2 one l (ap (read_call s.tables) at) (ap (λ (n : ℕ). (record_at s.tables n).block) same)
 silent s h r i (Some (Release q)) one free z l at f t =
     let same : q ≡ r = grind (arith, nat_tests, t) in
-    undropped s h (record_at s.tables r).block i q one l at (ap (λ (n : ℕ). (record_at s.tables n).block) same)
+    undropped s h (record_at s.tables r).block i q (has_let_go s.tables q) 1 one l (ap (read_call s.tables) at) (ap (λ (n : ℕ). (record_at s.tables n).block) same)
 
 -- Another handle, and a drop that hasn't let go, would be a holder more than the one that is counted; a clone or slice that
 -- is to be counted there borrows the handle. So the record can be freed while the block lives on.

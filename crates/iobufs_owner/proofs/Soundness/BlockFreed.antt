@@ -6,7 +6,7 @@ use Rattle.std.proofs.lemmas.List.{get_or-set_same, get_or-set_other}
 use Rattle.std.proofs.lemmas.Bool.Decides.{eqb_tells}
 use Rattle.iobufs_owner.specs.State.{State, Tables, owner_of, record_at, block_at, handle_at, call_at, recovered, triple}
 use Rattle.iobufs_owner.specs.World.{holds, is_block, holders, users, tally}
-use Rattle.iobufs_owner.specs.Reading.{reading, read_handle}
+use Rattle.iobufs_owner.specs.Reading.{reading, read_handle, read_call, has_let_go}
 use Rattle.iobufs_owner.specs.Sound.{IsSound, Fits, FitsCall, alone, describes}
 use Rattle.iobufs_owner.specs.Changes.{detached, replaced, block_freed, both_freed, tables_without}
 use Rattle.iobufs_owner.specs.Lending.{is_lent}
@@ -75,10 +75,10 @@ sound-freed_described s h x w o k at free xw is =
         tables = keeps-self g;
         let_go = λ q j t. refl;
         live = λ q _ t. t;
-        hidden = λ q _. refl;
+        hidden = λ q _ _. refl;
         handle = λ j y b a. get_or-set_other s.handles h j o None (λ e. let q = rw e at (lent-by j s.calls i None li b) in absurd (cc)) ∙ a;
         owner = λ j y a. refl;
-        holders = λ q e. hn (record_at g q).block (undropped s h b i q me li e);
+        holders = λ q e. hn (record_at g q).block (undropped s h b i q (has_let_go g q) 1 me li (ap (read_call g) e));
       }) (k.calls_fit i None li));
       one_release = k.one_release;
       counted = λ q t. let c = k.counted q t in let ne = apart q t in record { known = c.known; one_maker = c.one_maker; counts = λ z. rw (hn (record_at g q).block ne) (c.counts z); fresh = c.fresh; used = rw (un (record_at g q).block ne) c.used; undescribed = λ z. omega (arith, dm (record_at g q).block, c.undescribed z) };
@@ -150,10 +150,10 @@ sound-freed_counted s h x r o k at free xm xw is =
         tables = e;
         let_go = λ q j t. dead-let_go g r q;
         live = λ q m t. calls-live s h r q i once li m t;
-        hidden = λ q _. refl;
+        hidden = λ q _ _. refl;
         handle = λ j y b a. get_or-set_other s.handles h j o None (λ e. let q = rw e at (lent-by j s.calls i None li b) in absurd (cc)) ∙ a;
         owner = λ j y a. owner-kept g g' s.calls y e (fits-at s j y k a);
-        holders = λ q e. hn (record_at g q).block (undropped s h b i q me li e);
+        holders = λ q e. hn (record_at g q).block (undropped s h b i q (has_let_go g q) 1 me li (ap (read_call g) e));
       }) (k.calls_fit i None li));
       one_release = λ c. rw (releases-kept s g' c s.calls e k.calls_fit) (k.one_release c);
       counted = λ q t.
@@ -191,7 +191,7 @@ sound-gone_empty s h x k at free xw =
         tables = keeps-self g;
         let_go = λ q j t. refl;
         live = λ q _ t. t;
-        hidden = λ q _. refl;
+        hidden = λ q _ _. refl;
         handle = λ j y b a. get_or-set_other s.handles h j None None (λ e. let q = rw e at (lent-by j s.calls i None li b) in absurd (cc)) ∙ a;
         owner = λ j y a. refl;
         holders = λ q e. hm (record_at g q).block;

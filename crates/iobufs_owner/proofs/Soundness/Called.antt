@@ -42,24 +42,7 @@ count-calls p xs i y d l e f =
     let b : ◌≡◌ {A = ℕ} (cond (p y) 1 0) 0 = ap (λ (v : Bool). cond {A = ℕ} v 1 0) f in
     omega (arith, n, a, b)
 
-called-holders : (s : State) (p : ℕ) (c : Option Pending) (b : ℕ) → p < length s.calls → IsQuiet s (call_at s p) → IsQuiet s c → (holders (reading (called s p c)) b ≡ holders (reading s) b) × (users (reading (called s p c)) b ≡ users (reading s) b)
-unfolding holders users
-called-holders s p c b l q r =
-    let lm : p < length (map (read_call s.tables) s.calls) = rw length-map l in
-    let e = get_or-read (read_call s.tables) s.calls p None in
-    let h = count-calls (still_holds b) (map (read_call s.tables) s.calls) p (read_call s.tables c) None lm (ap (still_holds b) e ∙ q.still b) (r.still b) in
-    let u = count-calls (drops b) (map (read_call s.tables) s.calls) p (read_call s.tables c) None lm (ap (drops b) e ∙ q.drops b) (r.drops b) in
-    (rw (map-set (read_call s.tables) s.calls p c) (omega (arith, h)), rw (map-set (read_call s.tables) s.calls p c) (omega (arith, u)))
-
-pub called-quiet : (s : State) (p : ℕ) (c : Option Pending) (b : ℕ) → p < length s.calls → IsQuiet s (call_at s p) → ((b : ℕ) → still_holds b (read_call s.tables c) ≡ false) → ((b : ℕ) → drops b (read_call s.tables c) ≡ false) → (holders (reading (called s p c)) b ≡ holders (reading s) b) × (users (reading (called s p c)) b ≡ users (reading s) b)
-unfolding holders users
-called-quiet s p c b l q still drop =
-    let lm : p < length (map (read_call s.tables) s.calls) = rw length-map l in
-    let e = get_or-read (read_call s.tables) s.calls p None in
-    let h = count-calls (still_holds b) (map (read_call s.tables) s.calls) p (read_call s.tables c) None lm (ap (still_holds b) e ∙ q.still b) (still b) in
-    let u = count-calls (drops b) (map (read_call s.tables) s.calls) p (read_call s.tables c) None lm (ap (drops b) e ∙ q.drops b) (drop b) in
-    (rw (map-set (read_call s.tables) s.calls p c) (omega (arith, h)), rw (map-set (read_call s.tables) s.calls p c) (omega (arith, u)))
-
+-- a call that neither holds nor drops anything, in the place of another such
 pub called-still : (s : State) (p : ℕ) (c : Option Pending) (b : ℕ) → p < length s.calls → still_holds b (read_call s.tables (call_at s p)) ≡ false → drops b (read_call s.tables (call_at s p)) ≡ false → still_holds b (read_call s.tables c) ≡ false → drops b (read_call s.tables c) ≡ false → (holders (reading (called s p c)) b ≡ holders (reading s) b) × (users (reading (called s p c)) b ≡ users (reading s) b)
 unfolding holders users
 called-still s p c b l a d still drop =
@@ -77,11 +60,11 @@ pub sound-called : (s : State) (p : ℕ) (c : Option Pending) → IsSound s → 
 sound-called s p c k l q r f =
     let g : Tables = s.tables in
     let next : State = called s p c in
-    let hm : (b : ℕ) → holders (reading next) b ≡ holders (reading s) b = λ b. (called-holders s p c b l q r).0 in
-    let um : (b : ℕ) → users (reading next) b ≡ users (reading s) b = λ b. (called-holders s p c b l q r).1 in
+    let hm : (b : ℕ) → holders (reading next) b ≡ holders (reading s) b = λ b. (called-still s p c b l (q.still b) (q.drops b) (r.still b) (r.drops b)).0 in
+    let um : (b : ℕ) → users (reading next) b ≡ users (reading s) b = λ b. (called-still s p c b l (q.still b) (q.drops b) (r.still b) (r.drops b)).1 in
     let hid : (n : ℕ) → hidden (set s.calls p c) n ≡ hidden s.calls n = λ n. count-calls (readies n) s.calls p c None l (q.readies n) (r.readies n) in
     let rel : (b : ℕ) → tally (releases g b) (set s.calls p c) ≡ tally (releases g b) s.calls = λ b. count-calls (releases g b) s.calls p c None l (q.releases b) (r.releases b) in
-    let leaves = λ (o : Option Pending). call-kept s next o (record { tables = keeps-self g; let_go = λ q j t. refl; live = λ n _ t. t; hidden = λ n _. hid n; handle = λ i x _ a. a; owner = λ i x a. refl; holders = λ n _. hm (record_at g n).block }) in
+    let leaves = λ (o : Option Pending). call-kept s next o (record { tables = keeps-self g; let_go = λ q j t. refl; live = λ n _ t. t; hidden = λ n _ _. hid n; handle = λ i x _ a. a; owner = λ i x a. refl; holders = λ n _. hm (record_at g n).block }) in
     let size = k.size in
     record {
       size = record { wide = size.wide; ceiling = size.ceiling; few_blocks = size.few_blocks; few_records = size.few_records; few_handles = size.few_handles; few_calls = rw length-set size.few_calls };

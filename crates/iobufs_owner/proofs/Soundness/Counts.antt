@@ -1,7 +1,6 @@
 -- How a count changes with its list.
-use Rattle.std.proofs.Common.{◌≡◌, ◌≢◌, ℕ, zero, suc, ◌+◌, ◌<◌, ◌≤◌, Bool, true, false, cond, List, [], ◌∷◌, ◌++◌, length, get_or, set, map, ap, refl, arith, All, Option, Some, None}
+use Rattle.std.proofs.Common.{◌≡◌, ◌≢◌, ℕ, zero, suc, ◌+◌, ◌<◌, ◌≤◌, Bool, true, false, cond, List, [], ◌∷◌, ◌++◌, length, get_or, set, map, ap, refl, arith, Option, Some, None}
 use Rattle.std.proofs.lemmas.List.{map-append, map-set, get_or-map, length-map}
-use Rattle.std.proofs.lemmas.List.Elements.{All-head, All-tail}
 use Rattle.iobufs_owner.specs.World.{World, Held, Unfinished, Sharing, Dropping, holds, holders, users, still_holds, drops, tally}
 use Rattle.iobufs_owner.specs.Reading.{reading, read_handle}
 use Rattle.iobufs_owner.specs.State.{State}
@@ -28,13 +27,6 @@ count-some p (x ∷ xs) (suc i) d h e = omega (arith, count-some p xs i d (omega
 pub count-few : {X : Type 0} (p : X → Bool) (xs : List X) → tally p xs ≤ length xs
 count-few p [] = omega arith
 count-few p (x ∷ xs) = elim (p x) as (λ v. cond v 1 0 + tally p xs ≤ length (x ∷ xs)) [ true ↦ omega (arith, count-few p xs) | false ↦ omega (arith, count-few p xs) ]
-
-pub count-agree : {X : Type 0} (p q : X → Bool) (xs : List X) → All (λ x. p x ≡ q x) xs → tally p xs ≡ tally q xs
-count-agree p q [] h = refl
-count-agree p q (x ∷ xs) h =
-    let e = All-head (λ x. p x ≡ q x) x xs h in
-    let t = count-agree p q xs (All-tail (λ x. p x ≡ q x) x xs h) in
-    rw (e, t) refl
 
 -- a test that another implies, and that one element fails, counts less
 one-less : (a b : Bool) → (b ≡ true → a ≡ true) → cond b 1 0 ≤ cond a 1 0
@@ -113,14 +105,23 @@ count-two p (x ∷ xs) zero (suc j) d n h l t u = rw t (omega (arith, count-some
 count-two p (x ∷ xs) (suc i) zero d n h l t u = rw u (omega (arith, count-some p xs i d (omega arith) t))
 count-two p (x ∷ xs) (suc i) (suc j) d n h l t u = omega (arith, count-two p xs i j d (λ e. n (ap suc e)) (omega arith) (omega arith) t u)
 
--- a place that passes, where the count isn't 0
+-- what follows from a test, by its answer
 found-first : {P : Type 0} (v : Bool) {w : Bool} → (w ≡ true → P) → (w ≡ false → P) → w ≡ v → P
 found-first true t f e = t e
 found-first false t f e = f e
 
-pub count-find : {X : Type 0} (p : X → Bool) (d : X) (xs : List X) → 0 < tally p xs → (i : ℕ) × (i < length xs) × (p (get_or xs i d) ≡ true)
+-- a place that passes, where the count isn't 0
+pub record Passing {X : Type 0} (p : X → Bool) (d : X) (xs : List X) : Type 0 where
+  pub place : ℕ
+  pub inside : place < length xs
+  pub passes : p (get_or xs place d) ≡ true
+
+pub count-find : {X : Type 0} (p : X → Bool) (d : X) (xs : List X) → 0 < tally p xs → Passing p d xs
 count-find p d [] h = absurd (omega arith)
-count-find p d (x ∷ xs) h = found-first (p x) (λ t. (0, omega arith, t)) (λ f. let e = rw f at h in let r = count-find p d xs (omega (arith, e)) in (suc r.0, (let l = r.1 in omega arith), r.2)) refl
+count-find p d (x ∷ xs) h =
+    found-first (p x)
+    (λ t. record { place = 0; inside = omega arith; passes = t })
+    (λ f. let e = rw f at h in let r = count-find p d xs (omega (arith, e)) in record { place = suc r.place; inside = (let l = r.inside in omega arith); passes = r.passes }) refl
 
 pub count-sum : {X : Type 0} (p q r : X → Bool) (xs : List X) → ((x : X) → cond (p x) 1 0 ≡ cond (q x) 1 0 + cond (r x) 1 0) → tally p xs ≡ tally q xs + tally r xs
 count-sum p q r [] h = omega arith

@@ -9,14 +9,15 @@ use Rattle.iobufs_owner.specs.State.{State, Tables, owner_of, record_at, block_a
 use Rattle.iobufs_owner.specs.World.{is_block, holders, users, tally}
 use Rattle.iobufs_owner.specs.Reading.{reading}
 use Rattle.iobufs_owner.specs.Sound.{IsSound, ArePlaced, Fits, FitsCall, IsDescribed, alone, describes}
-use Rattle.iobufs_owner.specs.Changes.{edited, tables_without, record_freed}
-use Rattle.iobufs_owner.specs.Lending.{Lends}
-use Rattle.iobufs_owner.specs.ShortCalls.{fits_in, tail_of, may_demote, described, demote_counted, declined, IsDemotedBy}
+use Rattle.iobufs_owner.specs.Changes.{Outcome, edited, tables_without, record_freed}
+use Rattle.iobufs_owner.specs.Lending.{Lends, owning_view_of}
+use Rattle.iobufs_owner.specs.ShortCalls.{fits_in, tail_of, may_demote, described, demote_counted, declined, IsDemotedBy, IsDemoted}
 use Rattle.iobufs_owner.specs.declared.owner.types.Block.{Block}
 use Rattle.iobufs_owner.specs.declared.owner.types.Handle.{Handle}
 use Rattle.iobufs_owner.specs.declared.owner.types.Kind.TheVariants.{View}
 use Rattle.iobufs_owner.specs.declared.owner.types.Word.{Word}
 use Rattle.iobufs_owner.specs.declared.owner.types.Word.TheVariants.{Empty, Descriptor, Record as Counted}
+use Rattle.iobufs_owner.specs.declared.owner.types.Reply.{Reply}
 use Rattle.iobufs_owner.specs.declared.owner.types.Reply.TheVariants.{Declined, Done}
 use Rattle.iobufs_owner.proofs.Words.{word-size, word-tail, fits-room, fits-true}
 use Rattle.iobufs_owner.proofs.Soundness.Counts.{count-set, holders-changed, users-changed}
@@ -36,8 +37,14 @@ pub record MayDemote (g : Tables) (x : Handle) (r log : ℕ) : Type 0 where
   pub native : (block_at g (record_at g r).block).external ≡ false
   pub room : HasRoom g.align_bits g.tail_bits g.size_bits (block_at g (record_at g r).block).size log (tail_of (block_at g (record_at g r).block) x)
 
-all-three : (p q u : Bool) → (p && not q && u) ≡ true → (p ≡ true) × (q ≡ false) × (u ≡ true)
-all-three true false true e = (refl, refl, refl)
+-- the tests of a demotion, where all pass
+record AllPass (p q u : Bool) : Type 0 where
+  pub one : p ≡ true
+  pub native : q ≡ false
+  pub room : u ≡ true
+
+all-three : (p q u : Bool) → (p && not q && u) ≡ true → AllPass p q u
+all-three true false true e = record { one = refl; native = refl; room = refl }
 all-three true false false e = absurd (cc)
 all-three true true u e = absurd (cc)
 all-three false q u e = absurd (cc)
@@ -46,7 +53,7 @@ pub may-tells : (g : Tables) (x : Handle) (r log : ℕ) → may_demote g x r log
 may-tells g x r log e =
     let b : Block = block_at g (record_at g r).block in
     let z = all-three (nat_eq (record_at g r).count 1) b.external (fits_in g b.size log (tail_of b x)) e in
-    record { one = grind (arith, nat_tests, z.0); native = z.1; room = fits-room g.align_bits g.tail_bits g.size_bits b.size log (tail_of b x) z.2 }
+    record { one = grind (arith, nat_tests, z.one); native = z.native; room = fits-room g.align_bits g.tail_bits g.size_bits b.size log (tail_of b x) z.room }
 
 pub may-true : (g : Tables) (x : Handle) (r log : ℕ) → MayDemote g x r log → may_demote g x r log ≡ true
 may-true g x r log m =
@@ -154,7 +161,7 @@ sound-demoted s h r log x k t xw align may =
         tables = e;
         let_go = λ q j t. dead-let_go g r q;
         live = λ q m t. calls-live s h r q i once li m t;
-        hidden = λ q _. refl;
+        hidden = λ q _ _. refl;
         handle = λ j z b a. get_or-set_other s.handles h j (Some y) None (λ e. let q = rw e at (lent-by j s.calls i None li b) in absurd (cc)) ∙ a;
         owner = λ j z a. owner-kept g g' s.calls z e (fits-at s j z k a);
         holders = λ q _. hm (record_at g q).block;
@@ -196,6 +203,10 @@ keeps-record s h r log x n = rw (may-false s.tables x r log n) (refl, refl)
 
 pub frees-record : (s : State) (h r log : ℕ) (x : Handle) → MayDemote s.tables x r log → (Done ≡ (demote_counted s h x r log).reply) × (edited (record_freed s r) h (described s.tables x r log) ≡ (demote_counted s h x r log).state)
 frees-record s h r log x m = rw (may-true s.tables x r log m) (refl, refl)
+
+-- what the call answers and leaves, as a step takes it
+pub demote-takes : (s t : State) (h : ℕ) (reply : Reply) → (o : Outcome) × IsDemoted s h (owning_view_of s h) o × (reply ≡ o.reply) × (t ≡ o.state) → (o : Outcome) × IsDemoted s h (owning_view_of s h) o × ((reply ≡ o.reply) × (t ≡ o.state))
+demote-takes s t h reply (o, is, e, f) = (o, is, (e, f))
 
 pub keeps-word : (s : State) (h : ℕ) (x : Handle) (w : Word) → ((r : ℕ) → w ≡ Counted r → ⊥) → IsDemotedBy s h x w (declined s)
 keeps-word s h x Empty n = refl

@@ -83,7 +83,7 @@ sound-dropping s p h r x c k at word view free none lp d =
             | inr z ↦ rw (get_or-set_other s.calls p i (Some c) None z.1) (call-kept s next (call_at s i) (record {
               tables = keeps-self g;
               live = λ q _ t. t;
-              hidden = λ q _. hid q;
+              hidden = λ q _ _. hid q;
               handle = λ j y b a. get_or-set_other s.handles h j None None (λ e. let q = rw e at (lent-by j s.calls i None lo b) in absurd (cc)) ∙ a;
               owner = λ j y a. refl;
               let_go = λ q j t. refl;
@@ -129,7 +129,7 @@ drop-release s h r x k at word live z one =
     let still : has_let_go s.tables r ≡ false = not-eqb (record_at s.tables r).count 0 (omega (arith, one)) in
     let none : tally (releases s.tables b) s.calls ≡ 0 = elim (eqb_tells (tally (releases s.tables b) s.calls) 0) [
       | inl i ↦ i.1
-      | inr i ↦ absurd (let w = count-find (releases s.tables b) None s.calls (let m = i.1 in omega arith) in release-of s h b w.0 x (call_at s w.0) at o w.1 refl (k.calls_fit w.0 None w.1) w.2)
+      | inr i ↦ absurd (let w = count-find (releases s.tables b) None s.calls (let m = i.1 in omega arith) in release-of s h b w.place x (call_at s w.place) at o w.inside refl (k.calls_fit w.place None w.inside) w.passes)
     ] in
     record {
       left = 1;

@@ -92,12 +92,12 @@ names r (Some (Release q)) = q == r
 abbrev pub KeepsLetGo : Tables → Tables → Option Pending → Type 0
 KeepsLetGo g k c = (r : ℕ) → c ≡ Some (Release r) → (record_at g r).live ≡ true → has_let_go k r ≡ has_let_go g r
 
--- what a call asks of a change: the handle that it borrows stays, hidden records stay hidden, its block keeps its holders,
--- and it has let go where it had
+-- what a call asks of a change: the handle that it borrows stays, and so do the records that it counts on, hidden or not,
+-- its block keeps its holders, and it has let go where it had
 pub record Leaves (s t : State) (c : Option Pending) : Type 0 where
   pub tables : Keeps s.tables t.tables
   pub live : (r : ℕ) → names r c ≡ true → (record_at s.tables r).live ≡ true → (record_at t.tables r).live ≡ true
-  pub hidden : (r : ℕ) → (record_at s.tables r).live ≡ true → hidden t.calls r ≡ hidden s.calls r
+  pub hidden : (r : ℕ) → names r c ≡ true → (record_at s.tables r).live ≡ true → hidden t.calls r ≡ hidden s.calls r
   pub handle : (i : ℕ) (x : Handle) → borrows_it i c ≡ true → handle_at s i ≡ Some x → handle_at t i ≡ Some x
   pub owner : (i : ℕ) (x : Handle) → handle_at s i ≡ Some x → owner_of t.tables x ≡ owner_of s.tables x
   pub let_go : KeepsLetGo s.tables t.tables c
@@ -122,29 +122,25 @@ promised-kept g k x w b e o p =
 
 pub call-kept : (s t : State) (c : Option Pending) → Leaves s t c → FitsCall s c → FitsCall t c
 call-kept s t None l f = f
-call-kept s t (Some (Loaded part w)) l (x, f) = (
-  x,
-  record {
-    shares = shares-kept s t part x (l.handle part.handle x (same-eqb part.handle)) f.shares;
-    block = f.block;
-    promised = promised-kept s.tables t.tables x w f.block l.tables (l.owner part.handle x f.shares.at) f.promised;
-  },
-)
-call-kept s t (Some (Ready part w r)) l (x, f) = (
-  x,
-  record {
-    shares = shares-kept s t part x (l.handle part.handle x (same-eqb part.handle)) f.shares;
-    block = f.block;
-    promised = promised-kept s.tables t.tables x w f.block l.tables (l.owner part.handle x f.shares.at) f.promised;
-    live = l.live r (same-eqb r) f.live;
-    same = l.tables.records r f.live ∙ f.same;
-  },
-)
-call-kept s t (Some (Add part r)) l (x, f) =
-    (x, record { shares = shares-kept s t part x (l.handle part.handle x (same-eqb part.handle)) f.shares; word = f.word })
-call-kept s t (Some (Subtract r)) l (live, hid) = (l.live r (same-eqb r) live, l.hidden r live ∙ hid)
+call-kept s t (Some (Loaded part w)) l f = record {
+  view = f.view;
+  shares = shares-kept s t part f.view (l.handle part.handle f.view (same-eqb part.handle)) f.shares;
+  block = f.block;
+  promised = promised-kept s.tables t.tables f.view w f.block l.tables (l.owner part.handle f.view f.shares.at) f.promised;
+}
+call-kept s t (Some (Ready part w r)) l f = record {
+  view = f.view;
+  shares = shares-kept s t part f.view (l.handle part.handle f.view (same-eqb part.handle)) f.shares;
+  block = f.block;
+  promised = promised-kept s.tables t.tables f.view w f.block l.tables (l.owner part.handle f.view f.shares.at) f.promised;
+  live = l.live r (same-eqb r) f.live;
+  same = l.tables.records r f.live ∙ f.same;
+}
+call-kept s t (Some (Add part r)) l f =
+    record { view = f.view; shares = shares-kept s t part f.view (l.handle part.handle f.view (same-eqb part.handle)) f.shares; word = f.word }
+call-kept s t (Some (Subtract r)) l (live, hid) = (l.live r (same-eqb r) live, l.hidden r (same-eqb r) live ∙ hid)
 call-kept s t (Some (Release r)) l f =
-    record { live = l.live r (same-eqb r) f.live; shown = l.hidden r f.live ∙ f.shown; alone = rw (l.tables.records r f.live, l.let_go r refl f.live) (l.holders r refl ∙ f.alone) }
+    record { live = l.live r (same-eqb r) f.live; shown = l.hidden r (same-eqb r) f.live ∙ f.shown; alone = rw (l.tables.records r f.live, l.let_go r refl f.live) (l.holders r refl ∙ f.alone) }
 
 -- a call of the list borrows what the list borrows
 pub lent-by : (i : ℕ) (cs : List (Option Pending)) (p : ℕ) (d : Option Pending) → p < length cs → borrows_it i (get_or cs p d) ≡ true → is_lent i cs ≡ true
@@ -159,7 +155,7 @@ calls-fit-kept s t same e live at fit inside a n f p d h =
     call-kept s t c (record {
       tables = e;
       live = λ r _ t. live r t;
-      hidden = λ r _. rw same refl;
+      hidden = λ r _ _. rw same refl;
       handle = λ i x b a. at i x (lent-by i s.calls p d h b) a;
       owner = λ i x a. owner-kept s.tables t.tables s.calls x e (rw a at (fit i None (inside i x a)));
       let_go = a p d h;

@@ -8,7 +8,7 @@ use Rattle.std.proofs.lemmas.Bool.Decides.{eqb_tells}
 use Rattle.iobufs_owner.specs.State.{Tables, block_at, triple}
 use Rattle.iobufs_owner.specs.World.{tally}
 use Rattle.iobufs_owner.specs.Reading.{is_freed, same_freed}
-use Rattle.iobufs_owner.specs.Sound.{ArePlaced, LogsBlocks, LogsRecords, is_logged, is_dead}
+use Rattle.iobufs_owner.specs.Sound.{ArePlaced, IsTripleOf, LogsBlocks, LogsRecords, is_logged, is_dead}
 use Rattle.iobufs_owner.specs.declared.owner.types.Block.{Block}
 use Rattle.iobufs_owner.specs.declared.owner.types.Freed.{Freed}
 use Rattle.iobufs_owner.specs.declared.owner.types.Record.{Record}
@@ -161,7 +161,7 @@ block-log-freed g log b used used' p l some none others k =
         | inl i ↦ rw (i.1, none, same-triple (block_at g b)) (or-all (is_freed (block_at g b) log))
         | inr i ↦ rw (others c i.1, not-eqb (block_at g c).base (block_at g b).base (bases g c b p t l i.1)) (or-none (is_freed (block_at g c) log) ∙ k.freed c t)
       ];
-      known = All-push (λ (f : Freed). (c : ℕ) × (c < length g.blocks) × (f ≡ triple (block_at g c))) log (triple (block_at g b)) k.known (b, l, refl);
+      known = All-push (IsTripleOf g.blocks) log (triple (block_at g b)) k.known (record { block = b; known = l; is = refl });
       once = λ i j d h t. once-push log (triple (block_at g b)) (λ i j d h t. k.once i j d h t) (λ i d t. not-logged (block_at g b) log i d before t) i j d h t;
       many =
           let old : Block → Bool = λ (x : Block). is_freed x log in
@@ -194,13 +194,13 @@ block-log-room bs log used b l some k =
     omega (arith, s, m)
 
 -- a new block isn't in the log
-pub fresh-log : (g : Tables) (b : Block) (fs : List Freed) → All (λ (x : Block). x.base ≢ b.base) g.blocks → All (λ (f : Freed). (c : ℕ) × (c < length g.blocks) × (f ≡ triple (block_at g c))) fs → is_freed b fs ≡ false
+pub fresh-log : (g : Tables) (b : Block) (fs : List Freed) → All (λ (x : Block). x.base ≢ b.base) g.blocks → All (IsTripleOf g.blocks) fs → is_freed b fs ≡ false
 fresh-log g b [] other known = refl
 fresh-log g b (f ∷ fs) other known =
-    let one = All-head (λ (f : Freed). (c : ℕ) × (c < length g.blocks) × (f ≡ triple (block_at g c))) f fs known in
-    let ne = other one.0 no_block one.1 in
-    let base : f.base ≡ (block_at g one.0).base = ap (λ (f : Freed). f.base) one.2 in
-    rw (not-eqb b.base f.base (λ i. ne (sym base ∙ sym i)), fresh-log g b fs other (All-tail (λ (f : Freed). (c : ℕ) × (c < length g.blocks) × (f ≡ triple (block_at g c))) f fs known)) refl
+    let one = All-head (IsTripleOf g.blocks) f fs known in
+    let ne = other one.block no_block one.known in
+    let base : f.base ≡ (block_at g one.block).base = ap (λ (f : Freed). f.base) one.is in
+    rw (not-eqb b.base f.base (λ i. ne (sym base ∙ sym i)), fresh-log g b fs other (All-tail (IsTripleOf g.blocks) f fs known)) refl
 
 -- one block more, which has a user
 pub block-log-more : (g : Tables) (b : Block) (log : List Freed) (used used' : ℕ → ℕ) → All (λ (x : Block). x.base ≢ b.base) g.blocks → used' (length g.blocks) ≡ 1 → ((c : ℕ) → c < length g.blocks → used' c ≡ used c) → LogsBlocks g.blocks log used → LogsBlocks (g.blocks ++ b ∷ []) log used'
@@ -212,7 +212,7 @@ block-log-more g b log used used' other one others k =
         | inl m ↦ rw (get_or_append_left g.blocks (b ∷ []) no_block c m, others c m) (k.freed c m)
         | inr m ↦ rw (m, at, one) new
       ];
-      known = All-weaker (λ (f : Freed). (c : ℕ) × (c < length g.blocks) × (f ≡ triple (block_at g c))) (λ (f : Freed). (c : ℕ) × (c < length (g.blocks ++ b ∷ [])) × (f ≡ triple (get_or (g.blocks ++ b ∷ []) c no_block))) (λ f (c, l, i). (c, rw length-append (omega arith), rw (get_or_append_left g.blocks (b ∷ []) no_block c l) i)) log k.known;
+      known = All-weaker (IsTripleOf g.blocks) (IsTripleOf (g.blocks ++ b ∷ [])) (λ f t. record { block = t.block; known = (let l = t.known in rw length-append (omega (arith, l))); is = rw (get_or_append_left g.blocks (b ∷ []) no_block t.block t.known) t.is }) log k.known;
       once = k.once;
       many = let m = k.many in rw (count-append (λ (x : Block). is_freed x log) g.blocks b, new) (omega (arith, m));
     }

@@ -4,12 +4,11 @@ use Rattle.std.proofs.Math.ListN.{length-set}
 use Rattle.std.proofs.lemmas.List.Elements.{All-from_get_or}
 use Rattle.std.proofs.lemmas.List.{get_or-set_same, get_or-set_other}
 use Rattle.std.proofs.lemmas.Bool.Decides.{nat_tests, eqb_tells}
-use Rattle.iobufs_owner.specs.State.{State, Tables, owner_of, record_at, handle_at, call_at}
+use Rattle.iobufs_owner.specs.State.{State, Tables, record_at, handle_at, call_at}
 use Rattle.iobufs_owner.specs.World.{holders, users, still_holds, drops, tally}
 use Rattle.iobufs_owner.specs.Reading.{reading, read_call}
 use Rattle.iobufs_owner.specs.Sound.{IsSound, Fits, FitsWord, FitsCall, Shares, hidden, readies, releases}
 use Rattle.iobufs_owner.specs.Changes.{called, record_freed, tables_without, part}
-use Rattle.iobufs_owner.specs.Lending.{borrows_it}
 use Rattle.iobufs_owner.specs.declared.owner.types.Handle.{Handle}
 use Rattle.iobufs_owner.specs.declared.owner.types.Share.{Share}
 use Rattle.iobufs_owner.specs.declared.owner.types.Pending.{Pending}
@@ -17,7 +16,7 @@ use Rattle.iobufs_owner.specs.declared.owner.types.Pending.TheVariants.{Loaded, 
 use Rattle.iobufs_owner.specs.declared.owner.types.Word.{Word}
 use Rattle.iobufs_owner.specs.declared.owner.types.Word.TheVariants.{Record as Counted}
 use Rattle.iobufs_owner.proofs.Soundness.Counts.{count-set, count-some, count-two}
-use Rattle.iobufs_owner.proofs.Soundness.Keeps.{Keeps, KeepsLetGo, names, calls-read-kept, releases-kept, owner-kept, fits-kept, fits-calls, live-of, shares-kept, promised-kept}
+use Rattle.iobufs_owner.proofs.Soundness.Keeps.{names, call-kept, calls-read-kept, releases-kept, owner-kept, fits-kept, fits-calls, live-of, shares-kept}
 use Rattle.iobufs_owner.proofs.Soundness.Kept.{at-some, block-log-kept}
 use Rattle.iobufs_owner.proofs.Soundness.Frames.{holders-alike, users-alike, handles-kept, alone-kept, describes-kept, holders-tables, users-tables, not-eqb, is-eqb}
 use Rattle.iobufs_owner.proofs.Soundness.Edits.{fits-at, live-inside}
@@ -55,42 +54,6 @@ fit-lost s r cs hid less (Some x) f =
     (fits-kept s.tables (tables_without s.tables r) s.calls x x.word (owner-kept s.tables (tables_without s.tables r) s.calls x e f) e
     (λ q w. dead-other s.tables r q (never q w) ∙ live-of s.tables s.calls x x.word q w f) f)
 
--- a call that doesn't count on the record, where all others stay hidden
-record LeavesBut (s t : State) (r : ℕ) (c : Option Pending) : Type 0 where
-  pub tables : Keeps s.tables t.tables
-  pub live : (q : ℕ) → names q c ≡ true → (record_at s.tables q).live ≡ true → (record_at t.tables q).live ≡ true
-  pub hidden : (q : ℕ) → q ≢ r → hidden t.calls q ≡ hidden s.calls q
-  pub handle : (i : ℕ) (x : Handle) → borrows_it i c ≡ true → handle_at s i ≡ Some x → handle_at t i ≡ Some x
-  pub owner : (i : ℕ) (x : Handle) → handle_at s i ≡ Some x → owner_of t.tables x ≡ owner_of s.tables x
-  pub let_go : KeepsLetGo s.tables t.tables c
-  pub holders : (q : ℕ) → c ≡ Some (Release q) → holders (reading t) (record_at s.tables q).block ≡ holders (reading s) (record_at s.tables q).block
-
-call-kept' : (s t : State) (r : ℕ) (c : Option Pending) → LeavesBut s t r c → (names r c ≡ true → ⊥) → FitsCall s c → FitsCall t c
-call-kept' s t r None l never f = f
-call-kept' s t r (Some (Loaded part w)) l never (x, f) = (
-  x,
-  record {
-    shares = shares-kept s t part x (l.handle part.handle x (is-eqb part.handle part.handle refl)) f.shares;
-    block = f.block;
-    promised = promised-kept s.tables t.tables x w f.block l.tables (l.owner part.handle x f.shares.at) f.promised;
-  },
-)
-call-kept' s t r (Some (Ready part w q)) l never (x, f) = (
-  x,
-  record {
-    shares = shares-kept s t part x (l.handle part.handle x (is-eqb part.handle part.handle refl)) f.shares;
-    block = f.block;
-    promised = promised-kept s.tables t.tables x w f.block l.tables (l.owner part.handle x f.shares.at) f.promised;
-    live = l.live q (is-eqb q q refl) f.live;
-    same = l.tables.records q f.live ∙ f.same;
-  },
-)
-call-kept' s t r (Some (Add part q)) l never (x, f) =
-    (x, record { shares = shares-kept s t part x (l.handle part.handle x (is-eqb part.handle part.handle refl)) f.shares; word = f.word })
-call-kept' s t r (Some (Subtract q)) l never (live, hid) = (l.live q (is-eqb q q refl) live, l.hidden q (λ e. never (is-eqb q r e)) ∙ hid)
-call-kept' s t r (Some (Release q)) l never f =
-    record { live = l.live q (is-eqb q q refl) f.live; shown = l.hidden q (λ e. never (is-eqb q r e)) ∙ f.shown; alone = rw (l.tables.records q f.live, l.let_go q refl f.live) (l.holders q refl ∙ f.alone) }
-
 pub sound-lost : (s : State) (p r w winner : ℕ) (k : Share) (x : Handle) → IsSound s → call_at s p ≡ Some (Ready k w r) → handle_at s k.handle ≡ Some x → x.word ≡ Counted winner → IsSound (called (record_freed s r) p (Some (Add k winner)))
 sound-lost s p r w winner part' x k at atx xw =
     let g : Tables = s.tables in
@@ -99,13 +62,13 @@ sound-lost s p r w winner part' x k at atx xw =
     let next : State = called (record_freed s r) p (Some (Add part' winner)) in
     let l = at-some s.calls p (Ready part' w r) at in
     let f : FitsCall s (Some (Ready part' w r)) = subst (λ (c : Option Pending). FitsCall s c) at (k.calls_fit p None l) in
-    let yx : f.0 ≡ x = some-same f.0 x (sym f.1.shares.at ∙ atx) in
-    let sh : Shares s part' x = subst (λ (y : Handle). Shares s part' y) yx f.1.shares in
-    let inside = live-inside g.records r f.1.live in
+    let yx : f.view ≡ x = some-same f.view x (sym f.shares.at ∙ atx) in
+    let sh : Shares s part' x = subst (λ (y : Handle). Shares s part' y) yx f.shares in
+    let inside = live-inside g.records r f.live in
     let e = dead-keeps g r in
     let hs = handles-kept g g' s.calls s.handles e k.fit in
     let cs = calls-read-kept s g' s.calls e (λ i d l q j t. dead-let_go g r q) k.calls_fit in
-    let hidr : hidden s.calls r ≡ 1 = (let a = count-some (readies r) s.calls p None l (ap (readies r) at ∙ is-eqb r r refl) in let m = (k.counted r f.1.live).one_maker in omega (arith, a, m)) in
+    let hidr : hidden s.calls r ≡ 1 = (let a = count-some (readies r) s.calls p None l (ap (readies r) at ∙ is-eqb r r refl) in let m = (k.counted r f.live).one_maker in omega (arith, a, m)) in
     let mid : State = record s { tables = tables_without s.tables r } in
     let both : (d : ℕ) → (holders (reading next) d ≡ holders (reading s) d) × (users (reading next) d ≡ users (reading s) d) = λ d.
     let a = called-still mid p c d l (ap (λ (o : Option Pending). still_holds d (read_call g' o)) at) (ap (λ (o : Option Pending). drops d (read_call g' o)) at) refl refl in
@@ -127,16 +90,17 @@ sound-lost s p r w winner part' x k at atx xw =
       calls_fit = All-from_get_or (FitsCall next) (set s.calls p c) None (λ i li.
           let lo : i < length s.calls = (let z = rw length-set at li in z) in
           elim (eqb_tells i p) [
-            | inl z ↦ rw (z.1, get_or-set_same s.calls p c None l) (x, record { shares = shares-kept s next part' x (λ a. a) sh; word = xw })
-            | inr z ↦ rw (get_or-set_other s.calls p i c None z.1) (call-kept' s next r (call_at s i) (record {
-              tables = e;
-              live = λ q n t. dead-other g r q (λ y. not-mine s p r i part' w (call_at s i) k at z.1 lo refl (k.calls_fit i None lo) hidr (rw y at n)) ∙ t;
-              hidden = λ q ne. old q ne;
-              handle = λ j y _ a. a;
-              owner = λ j y a. owner-kept g g' s.calls y e (fits-at s j y k a);
-              let_go = λ q j t. dead-let_go g r q;
-              holders = λ q _. hm (record_at g q).block;
-            }) (λ y. not-mine s p r i part' w (call_at s i) k at z.1 lo refl (k.calls_fit i None lo) hidr y) (k.calls_fit i None lo))
+            | inl z ↦ rw (z.1, get_or-set_same s.calls p c None l) (record { view = x; shares = shares-kept s next part' x (λ a. a) sh; word = xw })
+            | inr z ↦ (let never = not-mine s p r i part' w (call_at s i) k at z.1 lo refl (k.calls_fit i None lo) hidr in
+                rw (get_or-set_other s.calls p i c None z.1) (call-kept s next (call_at s i) (record {
+                  tables = e;
+                  live = λ q n t. dead-other g r q (λ y. never (rw y at n)) ∙ t;
+                  hidden = λ q n _. old q (λ y. never (rw y at n));
+                  handle = λ j y _ a. a;
+                  owner = λ j y a. owner-kept g g' s.calls y e (fits-at s j y k a);
+                  let_go = λ q j t. dead-let_go g r q;
+                  holders = λ q _. hm (record_at g q).block;
+                }) (k.calls_fit i None lo)))
           ]);
       one_release = λ d. rw rel (k.one_release d);
       counted = λ q t.
@@ -152,5 +116,5 @@ sound-lost s p r w winner part' x k at atx xw =
       capped = λ d. rw hm (k.capped d);
       known_users = λ d t. k.known_users d (rw um at t);
       block_log = block-log-kept g.blocks s.freed_blocks (users (reading s)) (users (reading next)) um k.block_log;
-      record_log = record-log-dead g.records s.freed_records r (record { count = (record_at g r).count; block = (record_at g r).block; live = false }) inside refl f.1.live k.record_log;
+      record_log = record-log-dead g.records s.freed_records r (record { count = (record_at g r).count; block = (record_at g r).block; live = false }) inside refl f.live k.record_log;
     }

@@ -1,5 +1,5 @@
 -- A new machine is sound.
-use Rattle.std.proofs.Common.{◌≡◌, ℕ, zero, suc, ◌+◌, ◌≤◌, ◌<◌, ◌^◌, Bool, false, List, ◌∷◌, replicate, get_or, map, ap, refl, arith, Option, None}
+use Rattle.std.proofs.Common.{◌≡◌, ℕ, zero, suc, ◌+◌, ◌≤◌, ◌<◌, ◌^◌, Bool, false, List, ◌∷◌, replicate, map, ap, refl, arith, Option, None}
 use Rattle.std.proofs.lemmas.List.{length-replicate}
 use Rattle.std.proofs.lemmas.List.Elements.{All-replicate, All-nil}
 use Rattle.iobufs_owner.specs.declared.owner.types.Block.{Block}
@@ -14,11 +14,6 @@ use Rattle.iobufs_owner.specs.Sound.{IsSound, Fits, FitsCall, releases}
 tally-none : {X : Type 0} (p : Option X → Bool) (n : ℕ) → p None ≡ false → tally p (replicate n None) ≡ 0
 tally-none p zero e = refl
 tally-none p (suc n) e = rw e (omega (arith, tally-none p n e))
-
-pub none-at : {X : Type 0} (n p : ℕ) → get_or {A = Option X} (replicate n None) p None ≡ None
-none-at zero p = refl
-none-at (suc n) zero = refl
-none-at (suc n) (suc p) = none-at n p
 
 calls-none : (g : Tables) (n : ℕ) → map (read_call g) (replicate n None) ≡ replicate n None
 calls-none g zero = refl

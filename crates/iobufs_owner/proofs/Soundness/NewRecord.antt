@@ -69,7 +69,7 @@ recorded-either g n b r e =
 ready-live : (s : State) (r : ℕ) (c : Option Pending) → readies r c ≡ true → FitsCall s c → (record_at s.tables r).live ≡ true
 ready-live s r None t f = absurd (cc)
 ready-live s r (Some (Loaded part w)) t f = absurd (cc)
-ready-live s r (Some (Ready part w q)) t (x, f) =
+ready-live s r (Some (Ready part w q)) t f =
     let e : r ≡ q = grind (arith, nat_tests, t) in
     ap (λ (n : ℕ). (record_at s.tables n).live) e ∙ f.live
 ready-live s r (Some (Add part q)) t f = absurd (cc)
@@ -82,7 +82,7 @@ unhidden-next s k =
     elim (eqb_tells (hidden s.calls (next_record s)) 0) [
       | inl z ↦ z.1
       | inr z ↦ absurd (let w = count-find (readies (next_record s)) None s.calls (let n = z.1 in omega arith) in
-          let l = live-inside s.tables.records (next_record s) (ready-live s (next_record s) (get_or s.calls w.0 None) w.2 (k.calls_fit w.0 None w.1)) in
+          let l = live-inside s.tables.records (next_record s) (ready-live s (next_record s) (get_or s.calls w.place None) w.passes (k.calls_fit w.place None w.inside)) in
           omega arith)
     ]
 

@@ -25,14 +25,14 @@ use Rattle.iobufs_owner.proofs.Soundness.Edits.{fits-at, live-inside}
 use Rattle.iobufs_owner.proofs.Soundness.Holders.{owner-used}
 use Rattle.iobufs_owner.proofs.Soundness.Logs.{record-log-more}
 use Rattle.iobufs_owner.proofs.Soundness.NewRecord.{recorded, recorded-new, recorded-keeps, recorded-let_go, recorded-live, recorded-either, unhidden-next}
-use Rattle.iobufs_owner.proofs.Soundness.Called.{IsQuiet, quiet-loaded, count-calls, called-quiet}
+use Rattle.iobufs_owner.proofs.Soundness.Called.{IsQuiet, quiet-loaded, count-calls, called-still}
 
-pub loading : (s : State) (p : ℕ) (k : Share) (w : ℕ) → IsSound s → call_at s p ≡ Some (Loaded k w) → (x : Handle) × IsLoading s k w x
+pub loading : (s : State) (p : ℕ) (k : Share) (w : ℕ) → IsSound s → call_at s p ≡ Some (Loaded k w) → IsLoading s k w
 loading s p k w i at = subst (λ (c : Option Pending). FitsCall s c) at (i.calls_fit p None (at-some s.calls p (Loaded k w) at))
 
 -- its block is the one that the loaded descriptor recovers
-pub loading-block : (s : State) (k : Share) (w : ℕ) (x : Handle) (l : IsLoading s k w x) → l.block ≡ loaded_block s k.handle w
-loading-block s k w x l = sym (ap (λ (o : Option Handle). loaded_found s w o) l.shares.at ∙ ap (λ (o : Option ℕ). unwrap_or o 0) l.promised.says.owner)
+pub loading-block : (s : State) (k : Share) (w : ℕ) (l : IsLoading s k w) → l.block ≡ loaded_block s k.handle w
+loading-block s k w l = sym (ap (λ (o : Option Handle). loaded_found s w o) l.shares.at ∙ ap (λ (o : Option ℕ). unwrap_or o 0) l.promised.says.owner)
 
 fit-readied : (s : State) (n b : ℕ) (cs : List (Option Pending)) → ((q : ℕ) → q < length s.tables.records → hidden cs q ≡ hidden s.calls q) → (o : Option Handle) → Fits s.tables s.calls o → Fits (recorded s.tables n b) cs o
 fit-readied s n b cs same None f = tt
@@ -48,10 +48,10 @@ fit-readied s n b cs same (Some x) f =
     ] in
     by x.word refl y
 
-pub sound-readied : (s : State) (p : ℕ) (k : Share) (w b : ℕ) (x : Handle) → IsSound s → call_at s p ≡ Some (Loaded k w) → (l : IsLoading s k w x) → l.block ≡ b → length s.tables.records < 2 ^ 32 → IsSound (called (with_record s 2 b) p (Some (Ready k w (length s.tables.records))))
-sound-readied s p part w b x k at ld same few =
+pub sound-readied : (s : State) (p : ℕ) (k : Share) (w b : ℕ) → IsSound s → call_at s p ≡ Some (Loaded k w) → (l : IsLoading s k w) → l.block ≡ b → length s.tables.records < 2 ^ 32 → IsSound (called (with_record s 2 b) p (Some (Ready k w (length s.tables.records))))
+sound-readied s p part w b k at ld same few =
     let g : Tables = s.tables in
-    let promised : Promised s.tables x w b = subst (λ (n : ℕ). Promised s.tables x w n) same ld.promised in
+    let promised : Promised s.tables ld.view w b = subst (λ (n : ℕ). Promised s.tables ld.view w n) same ld.promised in
     let r : ℕ = length s.tables.records in
     let g' : Tables = recorded s.tables 2 b in
     let c : Option Pending = Some (Ready part w (length s.tables.records)) in
@@ -66,7 +66,7 @@ sound-readied s p part w b x k at ld same few =
     let mid : State = with_record s 2 b in
     let qold : IsQuiet mid (call_at s p) = subst (λ (c : Option Pending). IsQuiet mid c) (sym at) (quiet-loaded mid part w) in
     let both : (d : ℕ) → (holders (reading next) d ≡ holders (reading s) d) × (users (reading next) d ≡ users (reading s) d) = λ d.
-    let a = called-quiet mid p c d l qold (λ b. refl) (λ b. refl) in
+    let a = called-still mid p c d l (qold.still d) (qold.drops d) refl refl in
     (a.0 ∙ holders-tables s g' d hs cs, a.1 ∙ users-tables s g' d hs cs) in
     let hm : (d : ℕ) → holders (reading next) d ≡ holders (reading s) d = λ d. (both d).0 in
     let um : (d : ℕ) → users (reading next) d ≡ users (reading s) d = λ d. (both d).1 in
@@ -77,7 +77,7 @@ sound-readied s p part w b x k at ld same few =
     let old : (q : ℕ) → q < length g.records → hidden (set s.calls p c) q ≡ hidden s.calls q = λ q m. (let n = rw (not-eqb q (length s.tables.records) (omega arith)) at (hid q) in omega (arith, n)) in
     let one : hidden (set s.calls p c) r ≡ 1 = (let n = rw (is-eqb (length s.tables.records) (length s.tables.records) refl) at (hid r) in let z = unhidden-next s k in omega (arith, n, z)) in
     let rel : (d : ℕ) → tally (releases g' d) (set s.calls p c) ≡ tally (releases g d) s.calls = λ d. count-calls (releases g' d) s.calls p c None l (ap (releases g' d) at) refl ∙ releases-kept s g' d s.calls e k.calls_fit in
-    let leaves = λ (o : Option Pending). call-kept s next o (record { tables = e; let_go = λ q j t. recorded-let_go g 2 b q t; live = λ n _ t. live n t; hidden = λ n t. old n (live-inside g.records n t); handle = λ i y _ a. a; owner = λ i y a. owner-kept g g' s.calls y e (fits-at s i y k a); holders = λ n _. hm (record_at g n).block }) in
+    let leaves = λ (o : Option Pending). call-kept s next o (record { tables = e; let_go = λ q j t. recorded-let_go g 2 b q t; live = λ n _ t. live n t; hidden = λ n _ t. old n (live-inside g.records n t); handle = λ i y _ a. a; owner = λ i y a. owner-kept g g' s.calls y e (fits-at s i y k a); holders = λ n _. hm (record_at g n).block }) in
     let size = k.size in
     record {
       size = record { wide = size.wide; ceiling = size.ceiling; few_blocks = size.few_blocks; few_records = rw length-append (omega arith); few_handles = size.few_handles; few_calls = rw length-set size.few_calls };
@@ -86,16 +86,14 @@ sound-readied s p part w b x k at ld same few =
       calls_fit = All-from_get_or (FitsCall next) (set s.calls p c) None (λ i li.
           let lo : i < length s.calls = (let z = rw length-set at li in z) in
           elim (eqb_tells i p) [
-            | inl z ↦ rw (z.1, get_or-set_same s.calls p c None l) (
-              x,
-              record {
-                shares = shares-kept s next part x (λ a. a) ld.shares;
-                block = b;
-                promised = promised-kept g g' x w b e (owner-kept g g' s.calls x e (fits-at s part.handle x k ld.shares.at)) promised;
-                live = ap (λ (v : Record). v.live) new;
-                same = ap (λ (v : Record). v.block) new;
-              },
-            )
+            | inl z ↦ rw (z.1, get_or-set_same s.calls p c None l) (record {
+              view = ld.view;
+              shares = shares-kept s next part ld.view (λ a. a) ld.shares;
+              block = b;
+              promised = promised-kept g g' ld.view w b e (owner-kept g g' s.calls ld.view e (fits-at s part.handle ld.view k ld.shares.at)) promised;
+              live = ap (λ (v : Record). v.live) new;
+              same = ap (λ (v : Record). v.block) new;
+            })
             | inr z ↦ rw (get_or-set_other s.calls p i c None z.1) (leaves (call_at s i) (k.calls_fit i None lo))
           ]);
       one_release = λ d. rw rel (k.one_release d);
@@ -103,7 +101,7 @@ sound-readied s p part w b x k at ld same few =
         | inl u ↦ (let v = k.counted q (ap (λ (v : Record). v.live) (sym u.1) ∙ t) in
             let h = old q u.0 in
             subst (λ (v : Record). FitsRecord next q v) (sym u.1) (record { known = v.known; one_maker = rw h v.one_maker; counts = λ z. rw hm (v.counts (sym h ∙ z)); fresh = λ z. v.fresh (sym h ∙ z); used = rw um v.used; undescribed = λ z. describes-kept g g' s.calls (record_at g q).block s.handles e k.fit ∙ v.undescribed (sym h ∙ z) }))
-        | inr i ↦ subst (λ (q : ℕ). FitsRecord next q (record_at g' q)) (sym i) (subst (λ (v : Record). FitsRecord next r v) (sym new) (record { known = known; one_maker = omega (arith, one); counts = λ z. absurd (omega (arith, z, one)); fresh = λ z. refl; used = rw um (owner-used s part.handle x b ld.shares.at promised.owner); undescribed = λ z. absurd (omega (arith, z, one)) }))
+        | inr i ↦ subst (λ (q : ℕ). FitsRecord next q (record_at g' q)) (sym i) (subst (λ (v : Record). FitsRecord next r v) (sym new) (record { known = known; one_maker = omega (arith, one); counts = λ z. absurd (omega (arith, z, one)); fresh = λ z. refl; used = rw um (owner-used s part.handle ld.view b ld.shares.at promised.owner); undescribed = λ z. absurd (omega (arith, z, one)) }))
       ];
       one_record = λ q q' tq tq' hq hq' i. elim (recorded-either g 2 b q tq) [
         | inl u ↦ elim (recorded-either g 2 b q' tq') [

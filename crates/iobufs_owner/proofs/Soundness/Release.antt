@@ -21,6 +21,7 @@ use Rattle.iobufs_owner.proofs.Soundness.Edits.{fits-at, live-inside, and-no}
 use Rattle.iobufs_owner.proofs.Soundness.Holders.{held_by, still_by, drops_by, holders-as, users-as, alone-holds, lets_go, drops-split, go-releases}
 use Rattle.iobufs_owner.proofs.Soundness.Logs.{block-log-freed, record-log-dead}
 use Rattle.iobufs_owner.proofs.Soundness.RecordFreed.{dead-block, dead-count, dead-other, dead-keeps, dead-let_go, dead-live}
+use Rattle.iobufs_owner.proofs.Soundness.Alone.{ready-borrows}
 
 abbrev pub released : State → ℕ → ℕ → State
 released s p r = called (both_freed s r) p None
@@ -105,30 +106,12 @@ other-names s r i (Some (Release q)) at l hid never t =
     let e : q ≡ r = grind (arith, nat_tests, t) in
     never (is-eqb (record_at s.tables r).block (record_at s.tables q).block (ap (λ (n : ℕ). (record_at s.tables n).block) (sym e)))
 
--- a handle that holds the block of a record
-record HeldBy (s : State) (q : ℕ) : Type 0 where
-  pub handle : ℕ
-  pub view : Handle
-  pub at : handle_at s handle ≡ Some view
-  pub owner : owner_of s.tables view ≡ Some (record_at s.tables q).block
-
--- a hidden record is one of a handle's block
-hidden-held : (s : State) (q i : ℕ) (c : Option Pending) → call_at s i ≡ c → readies q c ≡ true → FitsCall s c → HeldBy s q
-hidden-held s q i None at t f = absurd (cc)
-hidden-held s q i (Some (Loaded part w)) at t f = absurd (cc)
-hidden-held s q i (Some (Ready part w z)) at t (x, f) =
-    let e : q ≡ z = grind (arith, nat_tests, t) in
-    record { handle = part.handle; view = x; at = f.shares.at; owner = f.promised.owner ∙ ap Some (sym f.same ∙ ap (λ (n : ℕ). (record_at s.tables n).block) (sym e)) }
-hidden-held s q i (Some (Add part z)) at t f = absurd (cc)
-hidden-held s q i (Some (Subtract z)) at t f = absurd (cc)
-hidden-held s q i (Some (Release z)) at t f = absurd (cc)
-
 other-block : (s : State) (r q : ℕ) → IsSound s → (record_at s.tables r).live ≡ true → hidden s.calls r ≡ 0 → tally (held_by s (record_at s.tables r).block) s.handles ≡ 0 → (record_at s.tables q).live ≡ true → q ≢ r → (record_at s.tables q).block ≢ (record_at s.tables r).block
 other-block s r q k lr hr none lq ne e =
     elim (eqb_tells (hidden s.calls q) 0) [
       | inl z ↦ ne (k.one_record q r lq lr z.1 hr e)
       | inr z ↦ (let w = count-find (readies q) None s.calls (let n = z.1 in omega arith) in
-          let y = hidden-held s q w.0 (call_at s w.0) refl w.2 (k.calls_fit w.0 None w.1) in
+          let y = ready-borrows s q w.place (call_at s w.place) w.inside refl w.passes (k.calls_fit w.place None w.inside) in
           none-holds s (record_at s.tables r).block y.handle y.view none y.at (y.owner ∙ ap Some e))
     ]
 
@@ -164,7 +147,7 @@ sound-released s p r k at =
             | inr z ↦ rw (get_or-set_other s.calls p i None None z.1) (call-kept s next (call_at s i) (record {
               tables = e;
               live = λ q n t. dead-other g r q (λ y. other-names s r i (call_at s i) refl lo f.shown (other-drops s p r i b at refl last.one z.1 lo) (rw y at n)) ∙ t;
-              hidden = λ q _. hid q;
+              hidden = λ q _ _. hid q;
               handle = λ j x y a. a;
               owner = λ j x a. owner-kept g g' s.calls x e (fits-at s j x k a);
               let_go = λ q j t. dead-let_go g r q;

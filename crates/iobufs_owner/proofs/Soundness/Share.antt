@@ -20,34 +20,32 @@ use Rattle.iobufs_owner.proofs.Soundness.Won.{some-same}
 pub loaded-fits : (s : State) (k : Share) (x : Handle) (w : ℕ) → IsSound s → Shares s k x → x.word ≡ Descriptor w → FitsCall s (Some (Loaded k w))
 loaded-fits s k x w i sh xw =
     let d = described-at s k.handle x w i sh.at xw in
-    let e : record x { word = Descriptor w } ≡ x = ap (λ (v : Word). record x { word = v }) (sym xw) in (
-      x,
-      record {
-        shares = sh;
-        block = d.block;
-        promised = record { log = d.log; tail = d.tail; says = subst (λ (y : Handle). IsDescribed s.tables y w d.block d.log d.tail) (sym e) d.says; owner = d.says.owner; now' = inl xw };
-      },
-    )
+    let e : record x { word = Descriptor w } ≡ x = ap (λ (v : Word). record x { word = v }) (sym xw) in
+    record {
+      view = x;
+      shares = sh;
+      block = d.block;
+      promised = record { log = d.log; tail = d.tail; says = subst (λ (y : Handle). IsDescribed s.tables y w d.block d.log d.tail) (sym e) d.says; owner = d.says.owner; now' = inl xw };
+    }
 
-pub racing : (s : State) (p : ℕ) (k : Share) (w r : ℕ) → IsSound s → call_at s p ≡ Some (Ready k w r) → (x : Handle) × IsRacing s k w r x
+pub racing : (s : State) (p : ℕ) (k : Share) (w r : ℕ) → IsSound s → call_at s p ≡ Some (Ready k w r) → IsRacing s k w r
 racing s p k w r i at = subst (λ (c : Option Pending). FitsCall s c) at (i.calls_fit p None (at-some s.calls p (Ready k w r) at))
 
-pub adding : (s : State) (p : ℕ) (k : Share) (r : ℕ) → IsSound s → call_at s p ≡ Some (Add k r) → (x : Handle) × IsAdding s k r x
+pub adding : (s : State) (p : ℕ) (k : Share) (r : ℕ) → IsSound s → call_at s p ≡ Some (Add k r) → IsAdding s k r
 adding s p k r i at = subst (λ (c : Option Pending). FitsCall s c) at (i.calls_fit p None (at-some s.calls p (Add k r) at))
-
--- the same of the handle that was found
-pub adding-at : (s : State) (p : ℕ) (k : Share) (r : ℕ) (x : Handle) → IsSound s → call_at s p ≡ Some (Add k r) → handle_at s k.handle ≡ Some x → IsAdding s k r x
-adding-at s p k r x i at h = let a = adding s p k r i at in subst (λ (y : Handle). IsAdding s k r y) (some-same a.0 x (sym a.1.shares.at ∙ h)) a.1
 
 -- a finished addition
 pub sound-added-call : (s : State) (p r : ℕ) (k : Share) (x : Handle) → IsSound s → call_at s p ≡ Some (Add k r) → handle_at s k.handle ≡ Some x → (record_at s.tables r).count ≤ s.ceiling → length s.handles < 2 ^ 32 → IsSound (with_handle (called (with_count s r ((record_at s.tables r).count + 1)) p None) (part x k.lo k.hi (Counted r)))
 sound-added-call s p r k x i at h low few =
-    let a = adding-at s p k r x i at h in
-    let c = counted-at s k.handle x r i h a.word in
-    let lies = lies-as (block_at s.tables (record_at s.tables r).block) x View a.shares.view c.lies in
-    let order = a.shares.order in
-    let within = a.shares.within in
+    let a = adding s p k r i at in
+    let yx : a.view ≡ x = some-same a.view x (sym a.shares.at ∙ h) in
+    let sh : Shares s k x = subst (λ (y : Handle). Shares s k y) yx a.shares in
+    let xw : x.word ≡ Counted r = subst (λ (y : Handle). y.word ≡ Counted r) yx a.word in
+    let c = counted-at s k.handle x r i h xw in
+    let lies = lies-as (block_at s.tables (record_at s.tables r).block) x View sh.view c.lies in
+    let order = sh.order in
+    let within = sh.within in
     let y : Handle = part x k.lo k.hi (Counted r) in
-    let one = sound-added s k.handle r x y i h a.shares.view a.word refl refl (record { begins = omega (arith, lies.begins); ends = omega (arith, lies.ends, order, within); no_room = refl }) low few in
+    let one = sound-added s k.handle r x y i h sh.view xw refl refl (record { begins = omega (arith, lies.begins); ends = omega (arith, lies.ends, order, within); no_room = refl }) low few in
     let s1 : State = with_handle (with_count s r ((record_at s.tables r).count + 1)) (part x k.lo k.hi (Counted r)) in
     sound-called s1 p None one (at-some s.calls p (Add k r) at) (subst (λ (c : Option Pending). IsQuiet s1 c) (sym at) (quiet-add s1 k r)) (quiet-none s1) tt

@@ -162,7 +162,7 @@ sound-subtracted s p r k at =
     let some : 0 < users (reading next) b = used-after s p r n refl lp m.least is (holders-le-users (reading s) b) (omega (arith, h, one, is)) in
     let none : tally (releases g b) s.calls ≡ 0 = elim (eqb_tells (tally (releases g b) s.calls) 0) [
       | inl i ↦ i.1
-      | inr i ↦ absurd (let w = count-find (releases g b) None s.calls (let m = i.1 in omega arith) in none-release s p r w.0 (call_at s w.0) k at w.1 refl (k.calls_fit w.0 None w.1) w.2)
+      | inr i ↦ absurd (let w = count-find (releases g b) None s.calls (let m = i.1 in omega arith) in none-release s p r w.place (call_at s w.place) k at w.inside refl (k.calls_fit w.place None w.inside) w.passes)
     ] in
     let lonely : tally (alone g b) s.handles ≡ 0 = elim (eqb_tells (tally (alone g b) s.handles) 0) [
       | inl i ↦ i.1
@@ -187,7 +187,7 @@ sound-subtracted s p r k at =
             | inr z ↦ rw (get_or-set_other s.calls p i y None z.1) (call-kept s next (call_at s i) (record {
               tables = e;
               live = λ q _ t. counted-live g r (n - 1) q ∙ t;
-              hidden = λ q _. hid q;
+              hidden = λ q _ _. hid q;
               handle = λ j x b a. a;
               owner = λ j x a. owner-kept g g' s.calls x e (fits-at s j x k a);
               let_go = gone i None lo;

@@ -78,17 +78,17 @@ shown-let_go g r e = rw e refl
 -- the call of another party, where the word of handle h has become a record
 call-shown : (s : State) (p h r i : ℕ) (x : Handle) (b : ℕ) (c : Option Pending) → handle_at s h ≡ Some x → (w : ℕ) → x.word ≡ Descriptor w → h < length s.handles → All (Fits s.tables s.calls) s.handles → owner_of s.tables x ≡ Some b → (record_at s.tables r).block ≡ b → (record_at s.tables r).count ≡ 2 → ((q : ℕ) → hidden (set s.calls p None) q ≤ hidden s.calls q) → ((q : ℕ) → holders (reading (shown s p h r x)) q ≡ holders (reading s) q) → FitsCall s c → FitsCall (shown s p h r x) c
 call-shown s p h r i x b None at w word l fit o bl two hid n f = tt
-call-shown s p h r i x b (Some (Loaded part z)) at w word l fit o bl two hid n (y, f) =
-    let u = share-shown s p h r x b part z y f.block at l fit o bl f.shares f.promised in
-    (u.view, record { shares = u.shares; block = f.block; promised = u.promised })
-call-shown s p h r i x b (Some (Ready part z q)) at w word l fit o bl two hid n (y, f) =
-    let u = share-shown s p h r x b part z y f.block at l fit o bl f.shares f.promised in
-    (u.view, record { shares = u.shares; block = f.block; promised = u.promised; live = counted-live s.tables r 1 q ∙ f.live; same = counted-block s.tables r 1 q ∙ f.same })
-call-shown s p h r i x b (Some (Add part q)) at w word l fit o bl two hid n (y, f) =
+call-shown s p h r i x b (Some (Loaded part z)) at w word l fit o bl two hid n f =
+    let u = share-shown s p h r x b part z f.view f.block at l fit o bl f.shares f.promised in
+    record { view = u.view; shares = u.shares; block = f.block; promised = u.promised }
+call-shown s p h r i x b (Some (Ready part z q)) at w word l fit o bl two hid n f =
+    let u = share-shown s p h r x b part z f.view f.block at l fit o bl f.shares f.promised in
+    record { view = u.view; shares = u.shares; block = f.block; promised = u.promised; live = counted-live s.tables r 1 q ∙ f.live; same = counted-block s.tables r 1 q ∙ f.same }
+call-shown s p h r i x b (Some (Add part q)) at w word l fit o bl two hid n f =
     elim (eqb_tells part.handle h) [
-      | inl j ↦ absurd (let yx : y ≡ x = some-same y x (sym f.shares.at ∙ ap (λ n. get_or s.handles n None) j.1 ∙ at) in
+      | inl j ↦ absurd (let yx : f.view ≡ x = some-same f.view x (sym f.shares.at ∙ ap (λ n. get_or s.handles n None) j.1 ∙ at) in
           let v = ap (λ (y : Handle). y.word) yx in let yw = f.word in cc)
-      | inr j ↦ (y, record { shares = shares-kept s (shown s p h r x) part y (λ a. get_or-set_other s.handles h part.handle (Some (by_record x r)) None j.1 ∙ a) f.shares; word = f.word })
+      | inr j ↦ record { view = f.view; shares = shares-kept s (shown s p h r x) part f.view (λ a. get_or-set_other s.handles h part.handle (Some (by_record x r)) None j.1 ∙ a) f.shares; word = f.word }
     ]
 call-shown s p h r i x b (Some (Subtract q)) at w word l fit o bl two hid n f = (counted-live s.tables r 1 q ∙ f.0, (let z = hid q in let y = f.1 in omega arith))
 call-shown s p h r i x b (Some (Release q)) at w word l fit o bl two hid n f =
@@ -129,23 +129,23 @@ sound-shown s p r w part x k atp at word =
     let lp = at-some s.calls p (Ready part w r) atp in
     let l = at-some s.handles part.handle x at in
     let f : FitsCall s (Some (Ready part w r)) = subst (λ (c : Option Pending). FitsCall s c) atp (k.calls_fit p None lp) in
-    let b : ℕ = f.1.block in
-    let yx : f.0 ≡ x = some-same f.0 x (sym f.1.shares.at ∙ at) in
-    let pr : Promised g x w b = subst (λ (y : Handle). Promised g y w b) yx f.1.promised in
-    let view : x.kind ≡ View = subst (λ (y : Handle). y.kind ≡ View) yx f.1.shares.view in
+    let b : ℕ = f.block in
+    let yx : f.view ≡ x = some-same f.view x (sym f.shares.at ∙ at) in
+    let pr : Promised g x w b = subst (λ (y : Handle). Promised g y w b) yx f.promised in
+    let view : x.kind ≡ View = subst (λ (y : Handle). y.kind ≡ View) yx f.shares.view in
     let o : owner_of g x ≡ Some b = pr.owner in
     let e = counted-keeps g r 1 in
     let ox : owner_of g' x ≡ Some b = owner-kept g g' s.calls x e (fits-at s h x k at) ∙ o in
-    let oy : owner_of g' y ≡ Some b = owner-counted g' y r refl ∙ ap Some (counted-block g r 1 r ∙ f.1.same) in
+    let oy : owner_of g' y ≡ Some b = owner-counted g' y r refl ∙ ap Some (counted-block g r 1 r ∙ f.same) in
     let hs = handles-kept g g' s.calls s.handles e k.fit in
-    let two : (record_at s.tables r).count ≡ 2 = (let a = count-some (readies r) s.calls p None lp (ap (readies r) atp ∙ is-eqb r r refl) in let m = (k.counted r f.1.live).one_maker in (k.counted r f.1.live).fresh (omega (arith, a, m))) in
+    let two : (record_at s.tables r).count ≡ 2 = (let a = count-some (readies r) s.calls p None lp (ap (readies r) atp ∙ is-eqb r r refl) in let m = (k.counted r f.live).one_maker in (k.counted r f.live).fresh (omega (arith, a, m))) in
     let cs = calls-read-kept s g' s.calls e (λ i d l q j t. counted-let_go g r 1 q (shown-let_go g r two)) k.calls_fit in
     let hm : (c : ℕ) → holders (reading next) c ≡ holders (reading s) c = λ c. holders-shown s p h r x part w b c at l atp lp o oy hs cs in
     let um : (c : ℕ) → users (reading next) c ≡ users (reading s) c = λ c. users-shown s p h r x part w b c at l atp lp o oy hs cs in
     let hid : (q : ℕ) → hidden (set s.calls p None) q + cond (q == r) 1 0 ≡ hidden s.calls q = λ q. let c = rw atp at (count-set (readies q) s.calls p None None lp) in omega (arith, c) in
     let less : (q : ℕ) → hidden (set s.calls p None) q ≤ hidden s.calls q = λ q. omega (arith, hid q) in
     let one : holders (reading s) b ≡ 1 = alone-at s h x b k at (alone-described g b x w word ∙ ap (is_block b) o ∙ is-eqb b b refl) in
-    let me = k.counted r f.1.live in
+    let me = k.counted r f.live in
     let mine : hidden (set s.calls p None) r ≡ 0 = (let z = rw (is-eqb r r refl) at (hid r) in let m = me.one_maker in omega (arith, z)) in
     let dm : (c : ℕ) → tally (describes g' c) (set s.handles h (Some y)) + cond (c == b) 1 0 ≡ tally (describes g c) s.handles = λ c.
     let n = count-set (describes g' c) s.handles h (Some y) None l in
@@ -158,7 +158,7 @@ sound-shown s p r w part x k atp at word =
     let ny : ◌≡◌ {A = ℕ} (cond (alone g' c (Some y)) 1 0) 0 = ap (λ (v : Bool). cond {A = ℕ} v 1 0) (alone-shared g' c y r refl view) in
     omega (arith, n, nx, ny, alone-kept g g' s.calls c s.handles e k.fit) in
     let some : 0 < tally (describes g b) s.handles = (let z = rw (is-eqb b b refl) at (dm b) in omega (arith, z)) in
-    let here : (record_at g' r).block ≡ b = counted-block g r 1 r ∙ f.1.same in
+    let here : (record_at g' r).block ≡ b = counted-block g r 1 r ∙ f.same in
     let gone : tally (describes g' b) (set s.handles h (Some y)) ≡ 0 = (let n = rw (is-eqb b b refl) at (dm b) in let m = describes-few s b in omega (arith, n, m, one)) in
     let apart : (q : ℕ) → (record_at g q).live ≡ true → hidden s.calls q ≡ 0 → (record_at g q).block ≢ b = λ q t z i. (let u = rw i at ((k.counted q t).undescribed z) in omega (arith, u, some)) in
     let old : (q : ℕ) → q ≢ r → hidden (set s.calls p None) q ≡ 0 → hidden s.calls q ≡ 0 = λ q ne z. (let u = rw (not-eqb q r ne) at (hid q) in omega (arith, u)) in
@@ -168,10 +168,10 @@ sound-shown s p r w part x k atp at word =
       blocks = (let q = k.blocks in record { places = q.places; apart = q.apart });
       fit = All-from_get_or (Fits g' (set s.calls p None)) (set s.handles h (Some y)) None (λ i li. elim (eqb_tells i h) [
         | inl z ↦ rw (z.1, get_or-set_same s.handles h (Some y) None l) (record {
-          live = counted-live g r 1 r ∙ f.1.live;
+          live = counted-live g r 1 r ∙ f.live;
           known = rw (counted-block g r 1 r) me.known;
           shown = mine;
-          lies = rw (counted-block g r 1 r, f.1.same) (lies-still (block_at g f.1.block) (record x { word = Descriptor w }) (Counted r) x.kind pr.says.lies);
+          lies = rw (counted-block g r 1 r, f.same) (lies-still (block_at g f.block) (record x { word = Descriptor w }) (Counted r) x.kind pr.says.lies);
           native = λ m. absurd (let q = sym view ∙ m in cc);
         })
         | inr z ↦ rw (get_or-set_other s.handles h i (Some y) None z.1) (fit-counted s r 1 (set s.calls p None) less (get_or s.handles i None) (k.fit i None (rw length-set at li)))
@@ -180,7 +180,7 @@ sound-shown s p r w part x k atp at word =
           let lo : i < length s.calls = (let z = rw length-set at li in z) in
           elim (eqb_tells i p) [
             | inl z ↦ rw (z.1, get_or-set_same s.calls p None None lp) tt
-            | inr z ↦ rw (get_or-set_other s.calls p i None None z.1) (call-shown s p h r i x b (call_at s i) at w word l k.fit o f.1.same two less hm (k.calls_fit i None lo))
+            | inr z ↦ rw (get_or-set_other s.calls p i None None z.1) (call-shown s p h r i x b (call_at s i) at w word l k.fit o f.same two less hm (k.calls_fit i None lo))
           ]);
       one_release = λ c. let n = count-set (releases g' c) s.calls p None None lp in let m = releases-kept s g' c s.calls e k.calls_fit in omega (arith, n, m, k.one_release c);
       counted = λ q t.
@@ -190,7 +190,7 @@ sound-shown s p r w part x k atp at word =
             | inl i ↦ rw i.1 (record {
               known = rw (counted-block g r 1 r) me.known;
               one_maker = omega arith;
-              counts = λ z. counted-same g r 1 (live-inside g.records r f.1.live) ∙ sym one ∙ sym (hm b) ∙ ap (λ c. holders (reading next) c) (sym here);
+              counts = λ z. counted-same g r 1 (live-inside g.records r f.live) ∙ sym one ∙ sym (hm b) ∙ ap (λ c. holders (reading next) c) (sym here);
               fresh = λ z. absurd (omega arith);
               used = rw (counted-block g r 1 r, um) me.used;
               undescribed = λ z. subst (λ c. tally (describes g' c) (set s.handles h (Some y)) ≡ 0) (sym here) gone;
@@ -211,10 +211,10 @@ sound-shown s p r w part x k atp at word =
           elim (eqb_tells q r) [
             | inl z ↦ elim (eqb_tells q' r) [
               | inl z' ↦ z.1 ∙ sym z'.1
-              | inr z' ↦ absurd (apart q' lq' (old q' z'.1 hq') (sym bb ∙ ap (λ (n : ℕ). (record_at g n).block) z.1 ∙ f.1.same))
+              | inr z' ↦ absurd (apart q' lq' (old q' z'.1 hq') (sym bb ∙ ap (λ (n : ℕ). (record_at g n).block) z.1 ∙ f.same))
             ]
             | inr z ↦ elim (eqb_tells q' r) [
-              | inl z' ↦ absurd (apart q lq (old q z.1 hq) (bb ∙ ap (λ (n : ℕ). (record_at g n).block) z'.1 ∙ f.1.same))
+              | inl z' ↦ absurd (apart q lq (old q z.1 hq) (bb ∙ ap (λ (n : ℕ). (record_at g n).block) z'.1 ∙ f.same))
               | inr z' ↦ k.one_record q q' lq lq' (old q z.1 hq) (old q' z'.1 hq') bb
             ]
           ];
@@ -222,7 +222,7 @@ sound-shown s p r w part x k atp at word =
       capped = λ c. rw hm (k.capped c);
       known_users = λ c t. k.known_users c (rw um at t);
       block_log = block-log-kept g.blocks s.freed_blocks (users (reading s)) (users (reading next)) um k.block_log;
-      record_log = record-log-counted g.records s.freed_records r (record { count = 1; block = (record_at g r).block; live = (record_at g r).live }) (live-inside g.records r f.1.live) refl k.record_log;
+      record_log = record-log-counted g.records s.freed_records r (record { count = 1; block = (record_at g r).block; live = (record_at g r).live }) (live-inside g.records r f.live) refl k.record_log;
     }
 
 -- ---- the race is won: one more view, and the record counts both
@@ -245,24 +245,24 @@ pub sound-won : (s : State) (p r w : ℕ) (k : Share) (x : Handle) → IsSound s
 sound-won s p r w part' x k at atx xw few =
     let g : Tables = s.tables in
     let f : FitsCall s (Some (Ready part' w r)) = subst (λ (c : Option Pending). FitsCall s c) at (k.calls_fit p None (at-some s.calls p (Ready part' w r) at)) in
-    let yx : f.0 ≡ x = some-same f.0 x (sym f.1.shares.at ∙ atx) in
-    let sh : Shares s part' x = subst (λ (y : Handle). Shares s part' y) yx f.1.shares in
-    let pr : Promised g x w f.1.block = subst (λ (y : Handle). Promised g y w f.1.block) yx f.1.promised in
-    let inside = live-inside g.records r f.1.live in
+    let yx : f.view ≡ x = some-same f.view x (sym f.shares.at ∙ atx) in
+    let sh : Shares s part' x = subst (λ (y : Handle). Shares s part' y) yx f.shares in
+    let pr : Promised g x w f.block = subst (λ (y : Handle). Promised g y w f.block) yx f.promised in
+    let inside = live-inside g.records r f.live in
     let one = sound-shown s p r w part' x k at atx xw in
     let s1 : State = shown s p part'.handle r x in
     let y : Handle = by_record x r in
     let l = at-some s.handles part'.handle x atx in
     let at1 : handle_at s1 part'.handle ≡ Some y = get_or-set_same s.handles part'.handle (Some (by_record x r)) None l in
-    let hid : hidden s.calls r ≡ 1 = (let a = count-some (readies r) s.calls p None (at-some s.calls p (Ready part' w r) at) (ap (readies r) at ∙ is-eqb r r refl) in let m = (k.counted r f.1.live).one_maker in omega (arith, a, m)) in
-    let two : (record_at g r).count ≡ 2 = (k.counted r f.1.live).fresh hid in
+    let hid : hidden s.calls r ≡ 1 = (let a = count-some (readies r) s.calls p None (at-some s.calls p (Ready part' w r) at) (ap (readies r) at ∙ is-eqb r r refl) in let m = (k.counted r f.live).one_maker in omega (arith, a, m)) in
+    let two : (record_at g r).count ≡ 2 = (k.counted r f.live).fresh hid in
     let count1 : (record_at s1.tables r).count ≡ 1 = counted-same g r 1 inside in
     let block1 : (record_at s1.tables r).block ≡ (record_at g r).block = counted-block g r 1 r in
-    let lies : LiesIn (block_at g f.1.block) (record x { word = Descriptor w }) View = lies-as (block_at g f.1.block) (record x { word = Descriptor w }) View sh.view pr.says.lies in
+    let lies : LiesIn (block_at g f.block) (record x { word = Descriptor w }) View = lies-as (block_at g f.block) (record x { word = Descriptor w }) View sh.view pr.says.lies in
     let order = sh.order in
     let within = sh.within in
     let front : Handle = part x part'.lo part'.hi (Counted r) in
-    let liesf : LiesIn (block_at g f.1.block) front View = (record { begins = omega (arith, lies.begins); ends = omega (arith, lies.ends, order, within); no_room = refl }) in
+    let liesf : LiesIn (block_at g f.block) front View = (record { begins = omega (arith, lies.begins); ends = omega (arith, lies.ends, order, within); no_room = refl }) in
     let ceiling = k.size.ceiling in
-    let added = sound-added s1 part'.handle r y front one at1 sh.view refl refl refl (subst (λ (n : ℕ). LiesIn (block_at g n) front View) (sym f.1.same ∙ sym block1) liesf) (omega (arith, count1, ceiling)) (rw length-set few) in
+    let added = sound-added s1 part'.handle r y front one at1 sh.view refl refl refl (subst (λ (n : ℕ). LiesIn (block_at g n) front View) (sym f.same ∙ sym block1) liesf) (omega (arith, count1, ceiling)) (rw length-set few) in
     subst (λ (g : Tables). IsSound (record s { tables = g; handles = set s.handles part'.handle (Some (by_record x r)) ++ Some (part x part'.lo part'.hi (Counted r)) ∷ []; calls = set s.calls p None })) (twice s.tables r inside two) added

@@ -1,5 +1,5 @@
 -- The further steps of calls, read as steps of the world.
-use Rattle.std.proofs.Common.{◌≡◌, ◌≢◌, ◌⊎◌, inl, inr, ℕ, ◌+◌, ◌-◌, ◌<◌, ◌≤◌, Bool, true, false, cond, nat_lt, nat_eq, get_or, map, ◌||◌, Option, Some, None, Result, Ok, Err, MatchOption, ap, sym, ◌∙◌, subst, refl, arith, All}
+use Rattle.std.proofs.Common.{◌≡◌, ◌≢◌, ◌⊎◌, inl, inr, ℕ, ◌+◌, ◌-◌, ◌<◌, Bool, true, false, cond, nat_lt, nat_eq, get_or, map, ◌||◌, Option, Some, None, Result, Ok, Err, MatchOption, ap, sym, ◌∙◌, subst, refl, arith, All}
 use Rattle.std.proofs.Math.ListN.{length-set}
 use Rattle.std.proofs.lemmas.List.{length-map, map-set}
 use Rattle.iobufs_owner.specs.declared.owner.types.Handle.{Handle}
@@ -21,11 +21,11 @@ use Rattle.iobufs_owner.specs.Kinds.{same_kind}
 use Rattle.iobufs_owner.specs.Changes as change
 use Rattle.iobufs_owner.specs.Lending as lending
 use Rattle.iobufs_owner.specs.LongCalls as long
-use Rattle.iobufs_owner.specs.Changes.{Outcome, called, unfinished_call, done, edited, part, made, counted, with_count, with_record, record_freed, both_freed, next_record, tables_without}
-use Rattle.iobufs_owner.specs.LongCalls.{ended, shared, loaded_block, ready_of, race_of, add_of, subtract_of, release_of}
+use Rattle.iobufs_owner.specs.Changes.{called, unfinished_call, done, edited, part, made, counted, with_count, with_record, record_freed, both_freed, next_record, tables_without}
+use Rattle.iobufs_owner.specs.LongCalls.{ended, shared, loaded_block, ready_of}
 use Rattle.iobufs_owner.specs.Moves.{gone_on}
 use Rattle.iobufs_owner.specs.Steps as world
-use Rattle.iobufs_owner.specs.Steps.{NoRoom, Makes, IsOver, GoesOn, SharesOn, Goes, call_set, free_in, part_of, held_set}
+use Rattle.iobufs_owner.specs.Steps.{NoRoom, Makes, IsOver, GoesOnWithin, SharesOn, Goes, call_set, free_in, part_of}
 use Rattle.iobufs_owner.proofs.WorldSteps.Sizes.{IsAnswered, entries, grows-never}
 use Rattle.iobufs_owner.proofs.Soundness.Keeps.{Keeps, KeepsLetGo, calls-read-kept}
 use Rattle.iobufs_owner.proofs.Soundness.Kept.{at-some, owner-empty, owner-counted}
@@ -47,7 +47,7 @@ use Rattle.iobufs_owner.proofs.WorldSteps.Taken.{refused-taken, by-test, reads-d
 -- a call that goes on or ends, where no entry is added
 pub reply-taken : (s u t : State) (w : World) (answer reply : Reply) → entries u ≡ entries s → reading u ≡ w → IsAnswered s (record { reply = answer; state = u }) reply t → (reply ≡ answer) × (reading t ≡ w)
 reply-taken s u t w answer reply n r (inl (e, f)) = (e, ap reading f ∙ r)
-reply-taken s u t w answer reply n r (inr (l, e, f)) = absurd (grows-never s u n l)
+reply-taken s u t w answer reply n r (inr l) = absurd (grows-never s u n l.grows)
 
 called-reads : (s : State) (p : ℕ) (c : Option Pending) → reading (called s p c) ≡ call_set (reading s) p (read_call s.tables c)
 called-reads s p c = rw (map-set (read_call s.tables) s.calls p c) refl
@@ -80,34 +80,34 @@ pub loaded-goes : (s t : State) (p : ℕ) (k : Share) (w : ℕ) (memory : Bool) 
 unfolding Goes gone_on
 loaded-goes s t p k w memory reply i at y =
     let l = loading s p k w i at in
-    subst (λ (o : Option Held). SharesOn (reading s) p k.handle k.lo k.hi 3 memory o reply (reading t)) (sym (held-reads s k.handle ∙ ap (read_handle s.tables) l.1.shares.at)) (loaded-as s t p k w l.0 memory reply i y)
+    subst (λ (o : Option Held). SharesOn (reading s) p k.handle k.lo k.hi 3 memory o reply (reading t)) (sym (held-reads s k.handle ∙ ap (read_handle s.tables) l.shares.at)) (loaded-as s t p k w l.view memory reply i y)
 
 -- the handle whose descriptor becomes a record shows the same
-shown-reads : (s : State) (p : ℕ) (k : Share) (w r : ℕ) (x : Handle) → IsSound s → IsRacing s k w r x → reading (called (edited s k.handle (by_record x r)) p None) ≡ call_set (reading s) p None
-shown-reads s p k w r x i a =
-    let o : owner_of s.tables (by_record x r) ≡ owner_of s.tables x = owner-counted s.tables (by_record x r) r refl ∙ ap Some a.same ∙ sym a.promised.owner in
-    let l = at-some s.handles k.handle x a.shares.at in
-    let e : read_handle s.tables (Some (by_record x r)) ≡ get_or (map (read_handle s.tables) s.handles) k.handle None = ap (λ (b : Option ℕ). Some (record { kind = x.kind; block = b; place = x.ptr; len = x.len })) o ∙ sym (get_or-read (read_handle s.tables) s.handles k.handle None ∙ ap (read_handle s.tables) a.shares.at) in
-    let m = set-get (map (read_handle s.tables) s.handles) k.handle (read_handle s.tables (Some (by_record x r))) None (rw length-map l) e in
-    rw (map-set (read_call s.tables) s.calls p None, map-set (read_handle s.tables) s.handles k.handle (Some (by_record x r)), m) refl
+shown-reads : (s : State) (p : ℕ) (k : Share) (w r : ℕ) → IsSound s → (a : IsRacing s k w r) → reading (called (edited s k.handle (by_record a.view r)) p None) ≡ call_set (reading s) p None
+shown-reads s p k w r i a =
+    let o : owner_of s.tables (by_record a.view r) ≡ owner_of s.tables a.view = owner-counted s.tables (by_record a.view r) r refl ∙ ap Some a.same ∙ sym a.promised.owner in
+    let l = at-some s.handles k.handle a.view a.shares.at in
+    let e : read_handle s.tables (Some (by_record a.view r)) ≡ get_or (map (read_handle s.tables) s.handles) k.handle None = ap (λ (b : Option ℕ). Some (record { kind = a.view.kind; block = b; place = a.view.ptr; len = a.view.len })) o ∙ sym (get_or-read (read_handle s.tables) s.handles k.handle None ∙ ap (read_handle s.tables) a.shares.at) in
+    let m = set-get (map (read_handle s.tables) s.handles) k.handle (read_handle s.tables (Some (by_record a.view r))) None (rw length-map l) e in
+    rw (map-set (read_call s.tables) s.calls p None, map-set (read_handle s.tables) s.handles k.handle (Some (by_record a.view r)), m) refl
 
-race-as : (s t : State) (p : ℕ) (k : Share) (w r : ℕ) (x : Handle) (memory : Bool) (reply : Reply) (v : Word) → IsSound s → IsRacing s k w r x → x.word ≡ v → IsAnswered s (long.race_by s p k w r x v) reply t → GoesAs s p k 2 memory (Some x) reply (reading t)
-race-as s t p k w r x memory reply Empty i a e y = elim a.promised.now' [ inl z ↦ absurd (let q = sym e ∙ z in cc) | inr z ↦ absurd (let q = sym e ∙ z.1 in cc) ]
-race-as s t p k w r x memory reply (Descriptor u) i a e y =
+race-as : (s t : State) (p : ℕ) (k : Share) (w r : ℕ) (memory : Bool) (reply : Reply) (v : Word) → IsSound s → (a : IsRacing s k w r) → a.view.word ≡ v → IsAnswered s (long.race_by s p k w r a.view v) reply t → GoesAs s p k 2 memory (Some a.view) reply (reading t)
+race-as s t p k w r memory reply Empty i a e y = elim a.promised.now' [ inl z ↦ absurd (let q = sym e ∙ z in cc) | inr z ↦ absurd (let q = sym e ∙ z.1 in cc) ]
+race-as s t p k w r memory reply (Descriptor u) i a e y =
     elim a.promised.now' [
       | inl z ↦ (let q = sym e ∙ z in
           let same : u ≡ w = cc in
           let ow = a.promised.owner in
-          let one = alone-at s k.handle x a.block i a.shares.at (alone-described s.tables a.block x u e ∙ ap (is_block a.block) ow ∙ is-eqb a.block a.block refl) in
+          let one = alone-at s k.handle a.view a.block i a.shares.at (alone-described s.tables a.block a.view u e ∙ ap (is_block a.block) ow ∙ is-eqb a.block a.block refl) in
           let c = i.size.ceiling in
-          let y' = subst (λ (b : Bool). IsAnswered s (cond b (shared (edited s k.handle (record x { word = Counted r })) p k x r) (change.refused s Idle)) reply t) (is-eqb u w same) y in
-          let front : Handle = part x k.lo k.hi (Counted r) in
+          let y' = subst (λ (b : Bool). IsAnswered s (cond b (shared (edited s k.handle (record a.view { word = Counted r })) p k a.view r) (change.refused s Idle)) reply t) (is-eqb u w same) y in
+          let front : Handle = part a.view k.lo k.hi (Counted r) in
           let of = owner-counted s.tables front r refl ∙ ap Some a.same ∙ sym ow in
-          let never : IsOver (reading s) (owner_of s.tables x) → ⊥ = subst (λ (o : Option ℕ). IsOver (reading s) o → ⊥) (sym ow) (λ z. omega (arith, z, one, c)) in
-          inr (inr (inr (inr (never, omega arith, made-taken s (called (edited s k.handle (by_record x r)) p None) t (call_set (reading s) p None) front (part_of (read_held s.tables x) k.lo k.hi) reply (shown-reads s p k w r x i a) (ap (λ (b : Option ℕ). record { kind = View; block = b; place = x.ptr + k.lo; len = k.hi - k.lo }) of) y')))))
+          let never : IsOver (reading s) (owner_of s.tables a.view) → ⊥ = subst (λ (o : Option ℕ). IsOver (reading s) o → ⊥) (sym ow) (λ z. omega (arith, z, one, c)) in
+          inr (inr (inr (inr (never, omega arith, made-taken s (called (edited s k.handle (by_record a.view r)) p None) t (call_set (reading s) p None) front (part_of (read_held s.tables a.view) k.lo k.hi) reply (shown-reads s p k w r i a) (ap (λ (b : Option ℕ). record { kind = View; block = b; place = a.view.ptr + k.lo; len = k.hi - k.lo }) of) y')))))
       | inr z ↦ absurd (let q = sym e ∙ z.1 in cc)
     ]
-race-as s t p k w r x memory reply (Counted winner) i a e y =
+race-as s t p k w r memory reply (Counted winner) i a e y =
     let q = dead-keeps s.tables r in
     let n = length-set s.tables.records r (record { count = (record_at s.tables r).count; block = (record_at s.tables r).block; live = false }) in
     let z = reply-taken s (called (record_freed s r) p (Some (Add k winner))) t (call_set (reading s) p (Some (Sharing k.handle k.lo k.hi 1))) More reply (cc n) (called-kept s (tables_without s.tables r) p (Some (Add k winner)) i q (λ n d l v j t. dead-let_go s.tables r v) refl) y in
@@ -117,33 +117,33 @@ pub ready-goes : (s t : State) (p : ℕ) (k : Share) (w r : ℕ) (memory : Bool)
 unfolding Goes gone_on
 ready-goes s t p k w r memory reply i at y =
     let a = racing s p k w r i at in
-    let y' = subst (λ (o : Option Handle). IsAnswered s (long.race_found s p k w r o) reply t) a.1.shares.at y in
-    subst (λ (o : Option Held). SharesOn (reading s) p k.handle k.lo k.hi 2 memory o reply (reading t)) (sym (held-reads s k.handle ∙ ap (read_handle s.tables) a.1.shares.at)) (race-as s t p k w r a.0 memory reply a.0.word i a.1 refl y')
+    let y' = subst (λ (o : Option Handle). IsAnswered s (long.race_found s p k w r o) reply t) a.shares.at y in
+    subst (λ (o : Option Held). SharesOn (reading s) p k.handle k.lo k.hi 2 memory o reply (reading t)) (sym (held-reads s k.handle ∙ ap (read_handle s.tables) a.shares.at)) (race-as s t p k w r memory reply a.view.word i a refl y')
 
-add-as : (s t : State) (p : ℕ) (k : Share) (r : ℕ) (x : Handle) (memory : Bool) (reply : Reply) (v : Bool) → IsSound s → IsAdding s k r x → nat_lt s.ceiling (record_at s.tables r).count ≡ v → IsAnswered s (cond v (ended s p Ceiling) (shared (with_count s r ((record_at s.tables r).count + 1)) p k x r)) reply t → GoesAs s p k 1 memory (Some x) reply (reading t)
-add-as s t p k r x memory reply true i a e y =
-    let c = counted-at s k.handle x r i a.shares.at a.word in
+add-as : (s t : State) (p : ℕ) (k : Share) (r : ℕ) (memory : Bool) (reply : Reply) (v : Bool) → IsSound s → (a : IsAdding s k r) → nat_lt s.ceiling (record_at s.tables r).count ≡ v → IsAnswered s (cond v (ended s p Ceiling) (shared (with_count s r ((record_at s.tables r).count + 1)) p k a.view r)) reply t → GoesAs s p k 1 memory (Some a.view) reply (reading t)
+add-as s t p k r memory reply true i a e y =
+    let c = counted-at s k.handle a.view r i a.shares.at a.word in
     let n = (i.counted r c.live).counts c.shown in
     let m = lt-true s.ceiling (record_at s.tables r).count e in
     let z = reply-taken s (called s p None) t (call_set (reading s) p None) (Refused Ceiling) reply refl (called-reads s p None) y in
-    inr (inr (inr (inl (subst (λ (o : Option ℕ). IsOver (reading s) o) (sym (owner-counted s.tables x r a.word)) (rw (← n) m), z.0, z.1))))
-add-as s t p k r x memory reply false i a e y =
-    let c = counted-at s k.handle x r i a.shares.at a.word in
+    inr (inr (inr (inl (subst (λ (o : Option ℕ). IsOver (reading s) o) (sym (owner-counted s.tables a.view r a.word)) (rw (← n) m), z.0, z.1))))
+add-as s t p k r memory reply false i a e y =
+    let c = counted-at s k.handle a.view r i a.shares.at a.word in
     let n = (i.counted r c.live).counts c.shown in
-    let still = counted-more s k.handle x r i a.shares.at a.word in
+    let still = counted-more s k.handle a.view r i a.shares.at a.word in
     let m = lt-false s.ceiling (record_at s.tables r).count e in
     let g' : Tables = counted s.tables r ((record_at s.tables r).count + 1) in
-    let front : Handle = part x k.lo k.hi (Counted r) in
-    let of = owner-counted g' front r refl ∙ ap Some (counted-block s.tables r ((record_at s.tables r).count + 1) r) ∙ sym (owner-counted s.tables x r a.word) in
-    let never : IsOver (reading s) (owner_of s.tables x) → ⊥ = subst (λ (o : Option ℕ). IsOver (reading s) o → ⊥) (sym (owner-counted s.tables x r a.word)) (λ z. omega (arith, z, n, m)) in
-    inr (inr (inr (inr (never, omega arith, made-taken s (called (with_count s r ((record_at s.tables r).count + 1)) p None) t (call_set (reading s) p None) front (part_of (read_held s.tables x) k.lo k.hi) reply (called-kept s (counted s.tables r ((record_at s.tables r).count + 1)) p None i (counted-keeps s.tables r ((record_at s.tables r).count + 1)) (λ n d l q j t. counted-let_go s.tables r ((record_at s.tables r).count + 1) q still) refl) (ap (λ (b : Option ℕ). record { kind = View; block = b; place = x.ptr + k.lo; len = k.hi - k.lo }) of) y))))
+    let front : Handle = part a.view k.lo k.hi (Counted r) in
+    let of = owner-counted g' front r refl ∙ ap Some (counted-block s.tables r ((record_at s.tables r).count + 1) r) ∙ sym (owner-counted s.tables a.view r a.word) in
+    let never : IsOver (reading s) (owner_of s.tables a.view) → ⊥ = subst (λ (o : Option ℕ). IsOver (reading s) o → ⊥) (sym (owner-counted s.tables a.view r a.word)) (λ z. omega (arith, z, n, m)) in
+    inr (inr (inr (inr (never, omega arith, made-taken s (called (with_count s r ((record_at s.tables r).count + 1)) p None) t (call_set (reading s) p None) front (part_of (read_held s.tables a.view) k.lo k.hi) reply (called-kept s (counted s.tables r ((record_at s.tables r).count + 1)) p None i (counted-keeps s.tables r ((record_at s.tables r).count + 1)) (λ n d l q j t. counted-let_go s.tables r ((record_at s.tables r).count + 1) q still) refl) (ap (λ (b : Option ℕ). record { kind = View; block = b; place = a.view.ptr + k.lo; len = k.hi - k.lo }) of) y))))
 
 pub add-goes : (s t : State) (p : ℕ) (k : Share) (r : ℕ) (memory : Bool) (reply : Reply) → IsSound s → call_at s p ≡ Some (Add k r) → IsAnswered s (gone_on s p (Add k r) memory) reply t → Goes (reading s) p (Sharing k.handle k.lo k.hi 1) memory reply (reading t)
 unfolding Goes gone_on
 add-goes s t p k r memory reply i at y =
     let a = adding s p k r i at in
-    let y' = subst (λ (o : Option Handle). IsAnswered s (long.add_found s p k r o) reply t) a.1.shares.at y in
-    subst (λ (o : Option Held). SharesOn (reading s) p k.handle k.lo k.hi 1 memory o reply (reading t)) (sym (held-reads s k.handle ∙ ap (read_handle s.tables) a.1.shares.at)) (add-as s t p k r a.0 memory reply (nat_lt s.ceiling (record_at s.tables r).count) i a.1 refl y')
+    let y' = subst (λ (o : Option Handle). IsAnswered s (long.add_found s p k r o) reply t) a.shares.at y in
+    subst (λ (o : Option Held). SharesOn (reading s) p k.handle k.lo k.hi 1 memory o reply (reading t)) (sym (held-reads s k.handle ∙ ap (read_handle s.tables) a.shares.at)) (add-as s t p k r memory reply (nat_lt s.ceiling (record_at s.tables r).count) i a refl y')
 
 -- ---- drops
 
@@ -211,7 +211,7 @@ view-tells s h x e =
 abbrev Begun : State → (p h lo hi : ℕ) → Handle → Option ℕ → Reply → World → Type 0
 Begun s p h lo hi x o reply next =
     MatchOption o (NoRoom (reading s) reply next ⊎ Makes (reading s) (part_of (read_held s.tables x) lo hi) reply next)
-    (λ _. (left : ℕ) × (0 < left) × (left ≤ 3) × GoesOn (reading s) p (Sharing h lo hi left) reply next)
+    (λ _. GoesOnWithin (reading s) p (Sharing h lo hi) 3 reply next)
 
 begun-word : (s t : State) (p h lo hi : ℕ) (x : Handle) (reply : Reply) (w : Word) → IsSound s → handle_at s h ≡ Some x → x.word ≡ w → IsAnswered s (long.share_by s p (record { handle = h; lo = lo; hi = hi }) x w) reply t → Begun s p h lo hi x (owner_of s.tables x) reply (reading t)
 begun-word s t p h lo hi x reply Empty k at e y =
@@ -224,11 +224,11 @@ begun-word s t p h lo hi x reply (Descriptor w) k at e y =
     let d = described-at s h x w k at e in
     let k' : Share = record { handle = h; lo = lo; hi = hi } in
     let z = reply-taken s (called s p (Some (Loaded k' w))) t (call_set (reading s) p (Some (Sharing h lo hi 3))) More reply refl (called-reads s p (Some (Loaded k' w))) y in
-    subst (λ (o : Option ℕ). Begun s p h lo hi x o reply (reading t)) (sym d.says.owner) (3, omega arith, omega arith, z)
+    subst (λ (o : Option ℕ). Begun s p h lo hi x o reply (reading t)) (sym d.says.owner) (record { left = 3; some = omega arith; few = omega arith; goes = z })
 begun-word s t p h lo hi x reply (Counted r) k at e y =
     let k' : Share = record { handle = h; lo = lo; hi = hi } in
     let z = reply-taken s (called s p (Some (Add k' r))) t (call_set (reading s) p (Some (Sharing h lo hi 1))) More reply refl (called-reads s p (Some (Add k' r))) y in
-    subst (λ (o : Option ℕ). Begun s p h lo hi x o reply (reading t)) (sym (owner-counted s.tables x r e)) (1, omega arith, omega arith, z)
+    subst (λ (o : Option ℕ). Begun s p h lo hi x o reply (reading t)) (sym (owner-counted s.tables x r e)) (record { left = 1; some = omega arith; few = omega arith; goes = z })
 
 clone-lent : (s t : State) (p h : ℕ) (reply : Reply) (r : Result Handle Refusal) → IsSound s → lending.view_of s h ≡ r → IsAnswered s (long.clone_lent s p h r) reply t → world.CloneIs (reading s) p h (read_lent s.tables r) reply (reading t)
 clone-lent s t p h reply (Err why) k e i = refused-taken s t why reply i

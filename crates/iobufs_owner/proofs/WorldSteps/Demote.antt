@@ -58,6 +58,10 @@ demote-counted s t h r log x reply true k l xw e i =
     inl (may.native, sym ((k.counted r c.live).counts c.shown) ∙ may.one, q.0, q.1)
 demote-counted s t h r log x reply false k l xw e i = inr (declined-taken s t reply i)
 
+demote-recorded : (s t : State) (h r : ℕ) (x : Handle) (o : Outcome) (reply : Reply) → IsSound s → Lends s h View x → x.word ≡ Counted r → short.IsDemotedBy s h x (Counted r) o → IsAnswered s o reply t → world.DemoteIs (reading s) (Ok (record_at s.tables r).block) reply (reading t)
+demote-recorded s t h r x o reply k l xw (log, align, is) i =
+    demote-counted s t h r log x reply (may_demote s.tables x r log) k l xw refl (subst (λ (o : Outcome). IsAnswered s o reply t) is i)
+
 -- ---- the view that is found
 
 declines : (s t : State) (b : ℕ) (o : Outcome) (reply : Reply) → o ≡ declined s → IsAnswered s o reply t → world.DemoteIs (reading s) (Ok b) reply (reading t)
@@ -77,9 +81,8 @@ by-word s t h x o reply (Descriptor n) k at v w e i =
     let d = described-at s h x n k at w in
     rw (d.says.owner, shared-reads s.tables h s.calls) (by-borrow s t h d.block x o reply (is_lent h s.calls) (λ _ z. declines s t d.block o reply (subst (λ (w : Word). short.IsDemotedBy s h x w o) w z) i) e i)
 by-word s t h x o reply (Counted r) k at v w d i =
-    rw (owner-counted s.tables x r w, shared-reads s.tables h s.calls) (by-borrow s t h (record_at s.tables r).block x o reply (is_lent h s.calls) (λ u z.
-    let y : short.IsDemotedBy s h x (Counted r) o = subst (λ (w : Word). short.IsDemotedBy s h x w o) w z in
-    demote-counted s t h r y.0 x reply (may_demote s.tables x r y.0) k (record { at = at; kind_is = v; free = u }) w refl (subst (λ (o : Outcome). IsAnswered s o reply t) y.2 i)) d i)
+    rw (owner-counted s.tables x r w, shared-reads s.tables h s.calls) (by-borrow s t h (record_at s.tables r).block x o reply (is_lent h s.calls)
+    (λ u z. demote-recorded s t h r x o reply k (record { at = at; kind_is = v; free = u }) w (subst (λ (w : Word). short.IsDemotedBy s h x w o) w z) i) d i)
 
 by-kind : (s t : State) (h : ℕ) (x : Handle) (o : Outcome) (reply : Reply) (v : Bool) → IsSound s → handle_at s h ≡ Some x → same_kind x.kind View ≡ v → IsDemoted s h (cond v (owning_found s h (Some x)) (Err WrongKind)) o → IsAnswered s o reply t → world.DemoteIs (reading s) (cond v (world.with_block (reading s) h (owner_of s.tables x)) (Err WrongKind)) reply (reading t)
 by-kind s t h x o reply true k at e d i = by-word s t h x o reply x.word k at (same-kind x.kind View e) refl d i

@@ -1,5 +1,5 @@
 -- A drop begins, read as a step of the world.
-use Rattle.std.proofs.Common.{◌≡◌, ◌⊎◌, inl, inr, ℕ, ◌<◌, ◌≤◌, Bool, true, false, cond, nat_eq, length, set, Option, Some, None, Result, Ok, Err, MatchOption, ap, sym, ◌∙◌, subst, refl, arith}
+use Rattle.std.proofs.Common.{◌≡◌, ◌⊎◌, inl, inr, ℕ, Bool, true, false, cond, nat_eq, length, set, Option, Some, None, Result, Ok, Err, MatchOption, ap, sym, ◌∙◌, subst, refl, arith}
 use Rattle.std.proofs.lemmas.Bool.Decides.{nat_tests}
 use Rattle.std.proofs.Math.ListN.{length-set}
 use Rattle.std.proofs.lemmas.List.{map-set}
@@ -21,10 +21,8 @@ use Rattle.iobufs_owner.specs.Sound.{IsSound}
 use Rattle.iobufs_owner.specs.Lending as lending
 use Rattle.iobufs_owner.specs.LongCalls as long
 use Rattle.iobufs_owner.specs.Changes.{done, unfinished_call, called, state_without, block_freed, both_freed}
-use Rattle.iobufs_owner.specs.Lending.{Lends}
-use Rattle.iobufs_owner.specs.LongCalls.{after_count}
 use Rattle.iobufs_owner.specs.Steps as world
-use Rattle.iobufs_owner.specs.Steps.{GoesOn, free_in, held_gone, call_set}
+use Rattle.iobufs_owner.specs.Steps.{GoesOnWithin, free_in, held_gone, call_set}
 use Rattle.iobufs_owner.proofs.WorldSteps.Sizes.{IsAnswered}
 use Rattle.iobufs_owner.proofs.Soundness.Kept.{owner-empty, owner-counted}
 use Rattle.iobufs_owner.proofs.Soundness.Frames.{is-eqb}
@@ -40,7 +38,7 @@ abbrev Begun : State → (p h : ℕ) → Option ℕ → Reply → World → Type
 Begun s p h o reply next =
     MatchOption o ((reply ≡ Done) × (next ≡ held_gone (reading s) h))
     (λ b. ((holders (reading s) b ≡ 1) × (reply ≡ Done) × (next ≡ free_in (held_gone (reading s) h) b))
-    ⊎ ((left : ℕ) × (0 < left) × (left ≤ 2) × GoesOn (held_gone (reading s) h) p (Dropping b false left) reply next))
+    ⊎ GoesOnWithin (held_gone (reading s) h) p (Dropping b false) 2 reply next)
 
 gone-entries : (s : State) (h : ℕ) → length (set s.handles h None) ≡ length s.handles
 gone-entries s h = length-set s.handles h None
@@ -49,14 +47,14 @@ drop-reads : (s : State) (p h : ℕ) (c : Pending) → reading (called (state_wi
 drop-reads s p h c = rw (map-set (read_handle s.tables) s.handles h None, map-set (read_call s.tables) s.calls p (Some c)) refl
 
 -- beside others it will subtract, alone it will free
-drop-viewed : (s t : State) (p h r : ℕ) (reply : Reply) (v : Bool) → nat_eq (record_at s.tables r).count 1 ≡ v → IsAnswered s (unfinished_call (state_without s h) p (cond v (Release r) (Subtract r))) reply t → (left : ℕ) × (0 < left) × (left ≤ 2) × GoesOn (held_gone (reading s) h) p (Dropping (record_at s.tables r).block false left) reply (reading t)
+drop-viewed : (s t : State) (p h r : ℕ) (reply : Reply) (v : Bool) → nat_eq (record_at s.tables r).count 1 ≡ v → IsAnswered s (unfinished_call (state_without s h) p (cond v (Release r) (Subtract r))) reply t → GoesOnWithin (held_gone (reading s) h) p (Dropping (record_at s.tables r).block false) 2 reply (reading t)
 drop-viewed s t p h r reply true e i =
     let still : has_let_go s.tables r ≡ false = grind (arith, nat_tests, e) in
     let l = gone-entries s h in
-    (1, omega arith, omega arith, reply-taken s (called (state_without s h) p (Some (Release r))) t (call_set (held_gone (reading s) h) p (Some (Dropping (record_at s.tables r).block false 1))) More reply (cc (l)) (drop-reads s p h (Release r) ∙ ap (λ (v : Bool). call_set (held_gone (reading s) h) p (Some (Dropping (record_at s.tables r).block v 1))) still) i)
+    record { left = 1; some = omega arith; few = omega arith; goes = reply-taken s (called (state_without s h) p (Some (Release r))) t (call_set (held_gone (reading s) h) p (Some (Dropping (record_at s.tables r).block false 1))) More reply (cc (l)) (drop-reads s p h (Release r) ∙ ap (λ (v : Bool). call_set (held_gone (reading s) h) p (Some (Dropping (record_at s.tables r).block v 1))) still) i }
 drop-viewed s t p h r reply false e i =
     let l = gone-entries s h in
-    (2, omega arith, omega arith, reply-taken s (called (state_without s h) p (Some (Subtract r))) t (call_set (held_gone (reading s) h) p (Some (Dropping (record_at s.tables r).block false 2))) More reply (cc (l)) (drop-reads s p h (Subtract r)) i)
+    record { left = 2; some = omega arith; few = omega arith; goes = reply-taken s (called (state_without s h) p (Some (Subtract r))) t (call_set (held_gone (reading s) h) p (Some (Dropping (record_at s.tables r).block false 2))) More reply (cc (l)) (drop-reads s p h (Subtract r)) i }
 
 drop-kind : (s t : State) (p h r : ℕ) (x : Handle) (reply : Reply) (kind : Kind) → IsSound s → handle_at s h ≡ Some x → x.word ≡ Counted r → x.kind ≡ kind → IsAnswered s (long.drop_counted s p h r kind) reply t → Begun s p h (Some (record_at s.tables r).block) reply (reading t)
 drop-kind s t p h r x reply View k at w e i = inr (drop-viewed s t p h r reply (nat_eq (record_at s.tables r).count 1) refl i)

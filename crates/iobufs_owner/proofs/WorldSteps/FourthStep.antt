@@ -18,7 +18,7 @@ use Rattle.iobufs_owner.specs.declared.owner.types.Pending.TheVariants.{Loaded, 
 use Rattle.iobufs_owner.specs.World.{World, Held, Unfinished, Sharing, Dropping, going_at, held_at, holders}
 use Rattle.iobufs_owner.specs.Reading.{reading, read_call}
 use Rattle.iobufs_owner.specs.Steps as world
-use Rattle.iobufs_owner.specs.Steps.{Steps, ActsAt, Begins, Goes, SharesOn, ShareIs, GoesOn}
+use Rattle.iobufs_owner.specs.Steps.{ActsAt, Begins, Goes, SharesOn, GoesOn, GoesOnWithin}
 use Rattle.iobufs_owner.specs.State.{State, Seen, Tables, call_at}
 use Rattle.iobufs_owner.specs.Runs.{Runs, EndsInFour, ends_call, taken_after, taken_of}
 use Rattle.iobufs_owner.proofs.WorldSteps.Shown.{get_or-read}
@@ -34,12 +34,24 @@ abbrev IsLess : Option Unfinished → Unfinished → Type 0
 IsLess None c = left_of c ≤ 3
 IsLess (Some d) c = left_of c < left_of d
 
+-- the call of party p goes on, nearer to its end
+record GoesNearer (w : World) (p : ℕ) (o : Option Unfinished) (reply : Reply) (next : World) : Type 0 where
+  pub party : p < length w.calls
+  pub call : Unfinished
+  pub calls : next.calls ≡ set w.calls p (Some call)
+  pub more : reply ≡ More
+  pub some : 0 < left_of call
+  pub less : IsLess o call
+
+-- the call of party p has ended
+record HasEnded (w : World) (p : ℕ) (reply : Reply) (next : World) : Type 0 where
+  pub party : p < length w.calls
+  pub calls : next.calls ≡ set w.calls p None
+  pub none : (n : ℕ) → taken_after n reply ≡ 0
+
 -- what a step of party p does to the calls, where o was its own
 abbrev Changes : World → ℕ → Option Unfinished → Reply → World → Type 0
-Changes w p o reply next =
-    ((next.calls ≡ w.calls) × (reply ≢ More))
-    ⊎ ((p < length w.calls) × (c : Unfinished) × (next.calls ≡ set w.calls p (Some c)) × (reply ≡ More) × (0 < left_of c) × IsLess o c)
-    ⊎ ((p < length w.calls) × (next.calls ≡ set w.calls p None) × ((n : ℕ) → taken_after n reply ≡ 0))
+Changes w p o reply next = ((next.calls ≡ w.calls) × (reply ≢ More)) ⊎ GoesNearer w p o reply next ⊎ HasEnded w p reply next
 
 either : (P Q R : Type 0) (v : Bool) → MatchBool v P Q → (P → R) → (Q → R) → R
 either P Q R true m f g = f m
@@ -83,9 +95,9 @@ freeze-call w next p h memory (Ok x) reply m =
     either _ _ _ (nat_eq x.len 0) m
     (λ r. stays w (world.held_set (world.free_of w x.block) h (world.detached 0)) next p None Done reply (free-calls w x.block) (λ z. absurd (cc)) r.0 r.1)
     (λ r. elim r [
-      | inl a ↦ refuses w next p None Memory reply a.2
+      | inl a ↦ refuses w next p None Memory reply a.refuses
       | inr b ↦ elim b [
-        | inl a ↦ refuses w next p None Room reply a.2
+        | inl a ↦ refuses w next p None Room reply a.no_room
         | inr a ↦ stays w (world.held_set w h (record x { kind = View })) next p None Done reply refl (λ z. absurd (cc)) a.0 a.1
       ]
     ])
@@ -104,7 +116,7 @@ split-call w next p h at memory (Ok x) reply m =
     (λ m. elim m [
       | inl a ↦ refuses w next p None Ceiling reply a.1
       | inr a ↦ elim a.1 [
-        | inl b ↦ refuses w next p None Memory reply b.2
+        | inl b ↦ refuses w next p None Memory reply b.refuses
         | inr b ↦ room-or w (world.held_set w h (world.part_of x at x.len)) next p None (world.part_of x 0 at) reply refl b
       ]
     ])))
@@ -121,14 +133,15 @@ demote-call w next p (Ok b) reply (inr (e, f)) = stays w w next p None Declined 
 -- ---- calls of several steps
 
 goes-on : (w u next : World) (p : ℕ) (o : Option Unfinished) (c : Unfinished) (reply : Reply) → p < length w.calls → u.calls ≡ w.calls → 0 < left_of c → IsLess o c → GoesOn u p c reply next → Changes w p o reply next
-goes-on w u next p o c reply l e some less (m, f) = inr (inl (l, c, ap (λ (w : World). w.calls) f ∙ ap (λ (cs : List (Option Unfinished)). set cs p (Some c)) e, m, some, less))
+goes-on w u next p o c reply l e some less (m, f) =
+    inr (inl (record { party = l; call = c; calls = ap (λ (w : World). w.calls) f ∙ ap (λ (cs : List (Option Unfinished)). set cs p (Some c)) e; more = m; some = some; less = less }))
 
 ends : (w u next : World) (p : ℕ) (o : Option Unfinished) (answer reply : Reply) → p < length w.calls → u.calls ≡ set w.calls p None → ((n : ℕ) → taken_after n answer ≡ 0) → reply ≡ answer → next ≡ u → Changes w p o reply next
-ends w u next p o answer reply l c z e f = inr (inr (l, ap (λ (w : World). w.calls) f ∙ c, λ n. ap (taken_after n) e ∙ z n))
+ends w u next p o answer reply l c z e f = inr (inr (record { party = l; calls = ap (λ (w : World). w.calls) f ∙ c; none = λ n. ap (taken_after n) e ∙ z n }))
 
-share-call : (w next : World) (p h lo hi : ℕ) (x : Held) (o : Option ℕ) (reply : Reply) → p < length w.calls → MatchOption o (world.NoRoom w reply next ⊎ world.Makes w (world.part_of x lo hi) reply next) (λ _. (left : ℕ) × (0 < left) × (left ≤ 3) × GoesOn w p (Sharing h lo hi left) reply next) → Changes w p None reply next
+share-call : (w next : World) (p h lo hi : ℕ) (x : Held) (o : Option ℕ) (reply : Reply) → p < length w.calls → MatchOption o (world.NoRoom w reply next ⊎ world.Makes w (world.part_of x lo hi) reply next) (λ _. GoesOnWithin w p (Sharing h lo hi) 3 reply next) → Changes w p None reply next
 share-call w next p h lo hi x None reply l r = room-or w w next p None (world.part_of x lo hi) reply refl r
-share-call w next p h lo hi x (Some b) reply l (left, some, few, g) = goes-on w w next p None (Sharing h lo hi left) reply l refl some few g
+share-call w next p h lo hi x (Some b) reply l g = goes-on w w next p None (Sharing h lo hi g.left) reply l refl g.some g.few g.goes
 
 clone-call : (w next : World) (p h : ℕ) (r : Result Held Refusal) (reply : Reply) → p < length w.calls → world.CloneIs w p h r reply next → Changes w p None reply next
 clone-call w next p h (Err why) reply l r = refuses w next p None why reply r
@@ -140,10 +153,10 @@ slice-call w next p h lo hi (Ok x) reply l m =
     either _ _ _ (nat_lt hi lo || nat_lt x.len hi) m (λ r. refuses w next p None OutOfRange reply r)
     (λ m. either _ _ _ (nat_eq lo hi) m (λ r. room-or w w next p None (world.detached 0) reply refl r) (λ r. share-call w next p h lo hi x x.block reply l r))
 
-drop-held : (w next : World) (p h : ℕ) (o : Option ℕ) (reply : Reply) → p < length w.calls → MatchOption o ((reply ≡ Done) × (next ≡ world.held_gone w h)) (λ b. ((holders w b ≡ 1) × (reply ≡ Done) × (next ≡ world.free_in (world.held_gone w h) b)) ⊎ ((left : ℕ) × (0 < left) × (left ≤ 2) × GoesOn (world.held_gone w h) p (Dropping b false left) reply next)) → Changes w p None reply next
+drop-held : (w next : World) (p h : ℕ) (o : Option ℕ) (reply : Reply) → p < length w.calls → MatchOption o ((reply ≡ Done) × (next ≡ world.held_gone w h)) (λ b. ((holders w b ≡ 1) × (reply ≡ Done) × (next ≡ world.free_in (world.held_gone w h) b)) ⊎ GoesOnWithin (world.held_gone w h) p (Dropping b false) 2 reply next) → Changes w p None reply next
 drop-held w next p h None reply l (e, f) = stays w (world.held_gone w h) next p None Done reply refl (λ z. absurd (cc)) e f
 drop-held w next p h (Some b) reply l (inl (one, e, f)) = stays w (world.free_in (world.held_gone w h) b) next p None Done reply refl (λ z. absurd (cc)) e f
-drop-held w next p h (Some b) reply l (inr (left, some, few, g)) = goes-on w (world.held_gone w h) next p None (Dropping b false left) reply l refl some (omega (arith, few)) g
+drop-held w next p h (Some b) reply l (inr g) = let few = g.few in goes-on w (world.held_gone w h) next p None (Dropping b false g.left) reply l refl g.some (omega (arith, few)) g.goes
 
 drop-call : (w next : World) (p h : ℕ) (r : Result Held Refusal) (reply : Reply) → p < length w.calls → world.DropIs w p h r reply next → Changes w p None reply next
 drop-call w next p h (Err why) reply l r = refuses w next p None why reply r
@@ -194,16 +207,18 @@ changes-by w next step reply false e r = refuses w next step.party (going_at w s
 
 -- ---- over a run
 
--- n steps of the unfinished call of party p are taken
+-- a call that may take three steps more at most
 abbrev pub IsShort : Option Unfinished → Type 0
 IsShort None = Unit {0}
 IsShort (Some c) = left_of c ≤ 3
 
-pub record IsNear (w : World) (p n : ℕ) (o : Option Unfinished) : Type 0 where
-  pub is : going_at w p ≡ o
-  pub taken : n ≤ taken_of o
+-- n steps of the unfinished call of party p are taken
+pub record IsNear (w : World) (p n : ℕ) : Type 0 where
+  pub call : Option Unfinished
+  pub is : going_at w p ≡ call
+  pub taken : n ≤ taken_of call
   pub few : n < 4
-  pub short : IsShort o
+  pub short : IsShort call
 
 taken-left : (c : Unfinished) → taken_of (Some c) ≡ 4 - left_of c
 taken-left (Sharing h lo hi left) = refl
@@ -227,39 +242,40 @@ one-more None c n t s l = let e = taken-left c in (omega (arith, e, t, l), l)
 one-more (Some d) c n t s l = let e = taken-left c in let f = taken-left d in (omega (arith, e, f, t, s, l), omega (arith, s, l))
 
 -- its own step
-own : (w next : World) (p n : ℕ) (o : Option Unfinished) (reply : Reply) → IsNear w p n o → Changes w p o reply next → (q : Option Unfinished) × IsNear next p (taken_after n reply) q
-own w next p n o reply j (inl (e, f)) =
+own : (w next : World) (p n : ℕ) (reply : Reply) (j : IsNear w p n) → Changes w p j.call reply next → IsNear next p (taken_after n reply)
+own w next p n reply j (inl (e, f)) =
     let a = after-less n reply f in
     let t = j.taken in
     let m = j.few in
-    (o, record { is = ap (λ (cs : List (Option Unfinished)). get_or cs p None) e ∙ j.is; taken = omega (arith, a, t); few = omega (arith, a, m); short = j.short })
-own w next p n o reply j (inr (inl (l, c, e, m, some, less))) =
-    let a : taken_after n reply ≡ n + 1 = ap (taken_after n) m in
-    let b = one-more o c n j.taken j.short less in
-    let f = taken-left c in
+    record { call = j.call; is = ap (λ (cs : List (Option Unfinished)). get_or cs p None) e ∙ j.is; taken = omega (arith, a, t); few = omega (arith, a, m); short = j.short }
+own w next p n reply j (inr (inl g)) =
+    let a : taken_after n reply ≡ n + 1 = ap (taken_after n) g.more in
+    let b = one-more j.call g.call n j.taken j.short g.less in
+    let f = taken-left g.call in
     let d = b.0 in
-    (Some c, record { is = ap (λ (cs : List (Option Unfinished)). get_or cs p None) e ∙ get_or-set_same w.calls p (Some c) None l; taken = rw a b.0; few = omega (arith, a, d, f, some); short = b.1 })
-own w next p n o reply j (inr (inr (l, e, z))) =
-    (None, record { is = ap (λ (cs : List (Option Unfinished)). get_or cs p None) e ∙ get_or-set_same w.calls p None None l; taken = rw (z n) (omega arith); few = rw (z n) (omega arith); short = tt })
+    let some = g.some in
+    record { call = Some g.call; is = ap (λ (cs : List (Option Unfinished)). get_or cs p None) g.calls ∙ get_or-set_same w.calls p (Some g.call) None g.party; taken = rw a b.0; few = omega (arith, a, d, f, some); short = b.1 }
+own w next p n reply j (inr (inr g)) =
+    record { call = None; is = ap (λ (cs : List (Option Unfinished)). get_or cs p None) g.calls ∙ get_or-set_same w.calls p None None g.party; taken = rw (g.none n) (omega arith); few = rw (g.none n) (omega arith); short = tt }
 
 -- that of another party
-others : (w next : World) (p q n : ℕ) (o c : Option Unfinished) (reply : Reply) → p ≢ q → IsNear w p n o → Changes w q c reply next → IsNear next p n o
-others w next p q n o c reply d j (inl (e, f)) = record { is = ap (λ (cs : List (Option Unfinished)). get_or cs p None) e ∙ j.is; taken = j.taken; few = j.few; short = j.short }
-others w next p q n o c reply d j (inr (inl (l, v, e, m, some, less))) = record { is = ap (λ (cs : List (Option Unfinished)). get_or cs p None) e ∙ get_or-set_other w.calls q p (Some v) None d ∙ j.is; taken = j.taken; few = j.few; short = j.short }
-others w next p q n o c reply d j (inr (inr (l, e, z))) = record { is = ap (λ (cs : List (Option Unfinished)). get_or cs p None) e ∙ get_or-set_other w.calls q p None None d ∙ j.is; taken = j.taken; few = j.few; short = j.short }
+others : (w next : World) (p q n : ℕ) (c : Option Unfinished) (reply : Reply) → p ≢ q → IsNear w p n → Changes w q c reply next → IsNear next p n
+others w next p q n c reply d j (inl (e, f)) = record { call = j.call; is = ap (λ (cs : List (Option Unfinished)). get_or cs p None) e ∙ j.is; taken = j.taken; few = j.few; short = j.short }
+others w next p q n c reply d j (inr (inl g)) = record { call = j.call; is = ap (λ (cs : List (Option Unfinished)). get_or cs p None) g.calls ∙ get_or-set_other w.calls q p (Some g.call) None d ∙ j.is; taken = j.taken; few = j.few; short = j.short }
+others w next p q n c reply d j (inr (inr g)) = record { call = j.call; is = ap (λ (cs : List (Option Unfinished)). get_or cs p None) g.calls ∙ get_or-set_other w.calls q p None None d ∙ j.is; taken = j.taken; few = j.few; short = j.short }
 
-pub ends-in-four : (m next : Seen) (p n : ℕ) (o : Option Unfinished) (steps : List Step) (replies : List Reply) → Runs m steps replies next → IsNear (reading m.state) p n o → EndsInFour p n steps replies
-ends-in-four m next p n o [] replies r j = tt
-ends-in-four m next p n o (step ∷ steps) [] r j = tt
-ends-in-four m next p n o (step ∷ steps) (reply ∷ replies) (mid, one, r) j =
+pub ends-in-four : (m next : Seen) (p n : ℕ) (steps : List Step) (replies : List Reply) → Runs m steps replies next → IsNear (reading m.state) p n → EndsInFour p n steps replies
+ends-in-four m next p n [] replies r j = tt
+ends-in-four m next p n (step ∷ steps) [] r j = tt
+ends-in-four m next p n (step ∷ steps) (reply ∷ replies) (mid, one, r) j =
     let c = changes-by (reading m.state) (reading mid.state) step reply (nat_lt step.party (length (reading m.state).calls)) refl one.steps in
     elim (eqb_tells step.party p) [
       | inl e ↦ (
           let c' = subst (λ (q : ℕ). Changes (reading m.state) q (going_at (reading m.state) q) reply (reading mid.state)) e.1 c in
-          let f = own (reading m.state) (reading mid.state) p n o reply j (subst (λ (o : Option Unfinished). Changes (reading m.state) p o reply (reading mid.state)) j.is c') in
-          rw e.0 (f.1.few, ends-in-four mid next p (taken_after n reply) f.0 steps replies r f.1)
+          let f = own (reading m.state) (reading mid.state) p n reply j (subst (λ (o : Option Unfinished). Changes (reading m.state) p o reply (reading mid.state)) j.is c') in
+          rw e.0 (f.few, ends-in-four mid next p (taken_after n reply) steps replies r f)
           )
-      | inr e ↦ rw e.0 (ends-in-four mid next p n o steps replies r (others (reading m.state) (reading mid.state) p step.party n o (going_at (reading m.state) step.party) reply (λ z. e.1 (sym z)) j c))
+      | inr e ↦ rw e.0 (ends-in-four mid next p n steps replies r (others (reading m.state) (reading mid.state) p step.party n (going_at (reading m.state) step.party) reply (λ z. e.1 (sym z)) j c))
     ]
 
 -- where a run begins
@@ -271,8 +287,8 @@ near-call g (Some (Add k r)) = (omega arith, omega arith)
 near-call g (Some (Subtract r)) = (omega arith, omega arith)
 near-call g (Some (Release r)) = (omega arith, omega arith)
 
-pub near-start : (s : State) (p : ℕ) → IsNear (reading s) p (taken_of (going_at (reading s) p)) (going_at (reading s) p)
+pub near-start : (s : State) (p : ℕ) → IsNear (reading s) p (taken_of (going_at (reading s) p))
 near-start s p =
     let e = get_or-read (read_call s.tables) s.calls p None in
     let f = near-call s.tables (call_at s p) in
-    record { is = refl; taken = omega arith; few = rw e f.0; short = rw e f.1 }
+    record { call = going_at (reading s) p; is = refl; taken = omega arith; few = rw e f.0; short = rw e f.1 }

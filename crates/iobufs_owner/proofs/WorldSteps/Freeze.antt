@@ -13,16 +13,16 @@ use Rattle.iobufs_owner.specs.declared.owner.types.Refusal.TheVariants.{Memory}
 use Rattle.iobufs_owner.specs.declared.owner.types.Reply.{Reply}
 use Rattle.iobufs_owner.specs.declared.owner.types.Reply.TheVariants.{Done}
 use Rattle.iobufs_owner.specs.State.{State, Tables, owner_of, owned_by, handle_at, record_at, block_at, triple, retailed}
-use Rattle.iobufs_owner.specs.World.{Held}
+use Rattle.iobufs_owner.specs.World.{World, Held}
 use Rattle.iobufs_owner.specs.Reading.{reading, read_held, read_handle}
 use Rattle.iobufs_owner.specs.Sound.{IsSound}
 use Rattle.iobufs_owner.specs.Changes as change
 use Rattle.iobufs_owner.specs.ShortCalls as short
-use Rattle.iobufs_owner.specs.Changes.{Outcome, refused, done, edited, next_record, tables_without, block_freed, both_freed, replaced}
+use Rattle.iobufs_owner.specs.Changes.{refused, done, edited, next_record, tables_without, block_freed, both_freed, replaced}
 use Rattle.iobufs_owner.specs.Lending.{lend_of, Lends}
 use Rattle.iobufs_owner.specs.ShortCalls.{frozen, promoted}
 use Rattle.iobufs_owner.specs.Steps as world
-use Rattle.iobufs_owner.specs.Steps.{NoRoom, Denied, free_in, free_of, held_set}
+use Rattle.iobufs_owner.specs.Steps.{Denied, GrantedNoRoom, free_in, free_of, held_set}
 use Rattle.iobufs_owner.proofs.WorldSteps.Sizes.{IsAnswered, entries}
 use Rattle.iobufs_owner.proofs.Soundness.Keeps.{calls-read-kept}
 use Rattle.iobufs_owner.proofs.Soundness.Kept.{owner-empty, owner-counted}
@@ -81,19 +81,26 @@ promoted-reads s h b n x y z k at e =
 pub recorded-owner : (g : Tables) (n b : ℕ) (y : Handle) → y.word ≡ Counted (length g.records) → owner_of (recorded g n b) y ≡ Some b
 recorded-owner g n b y e = owner-counted (recorded g n b) y (length g.records) e ∙ ap (λ (v : Record). Some v.block) (recorded-new g n b)
 
-freeze-promoted : (s t : State) (h v : ℕ) (x : Handle) (memory : Bool) (reply : Reply) → IsSound s → Lends s h Mut x → x.word ≡ Descriptor v → IsAnswered s (cond memory (done (edited (promoted s x 1) h (frozen x (Counted (next_record s))))) (refused s Memory)) reply t → Denied (reading s) (owner_of s.tables x) memory reply (reading t) ⊎ (IsSome (owner_of s.tables x) × (memory ≡ true) × NoRoom (reading s) reply (reading t)) ⊎ ((reply ≡ Done) × (reading t ≡ held_set (reading s) h (record { kind = View; block = owner_of s.tables x; place = x.ptr; len = x.len })))
+-- what the world says of a handle with bytes
+abbrev Freezes : State → ℕ → Handle → Bool → Reply → World → Type 0
+Freezes s h x memory reply next =
+    Denied (reading s) (owner_of s.tables x) memory reply next
+    ⊎ GrantedNoRoom (reading s) (owner_of s.tables x) memory reply next
+    ⊎ ((reply ≡ Done) × (next ≡ held_set (reading s) h (record { kind = View; block = owner_of s.tables x; place = x.ptr; len = x.len })))
+
+freeze-promoted : (s t : State) (h v : ℕ) (x : Handle) (memory : Bool) (reply : Reply) → IsSound s → Lends s h Mut x → x.word ≡ Descriptor v → IsAnswered s (cond memory (done (edited (promoted s x 1) h (frozen x (Counted (next_record s))))) (refused s Memory)) reply t → Freezes s h x memory reply (reading t)
 freeze-promoted s t h v x true reply k l w i =
     let d = described-at s h x v k l.at w in
     let y : Handle = frozen x (Counted (length s.tables.records)) in
     let o = recorded-owner s.tables 1 (owned_by s.tables x) y refl in
     let n : owned_by s.tables x ≡ d.block = rw d.says.owner refl in
     let z : read_held (recorded s.tables 1 (owned_by s.tables x)) y ≡ record { kind = View; block = owner_of s.tables x; place = x.ptr; len = x.len } = ap (λ (b : Option ℕ). record { kind = View; block = b; place = x.ptr; len = x.len }) (o ∙ ap Some n ∙ sym d.says.owner) in
-    elim (grown-taken s (edited (promoted s x 1) h y) t (held_set (reading s) h (record { kind = View; block = owner_of s.tables x; place = x.ptr; len = x.len })) Done reply (promoted-reads s h (owned_by s.tables x) 1 x y (record { kind = View; block = owner_of s.tables x; place = x.ptr; len = x.len }) k l.at z) i) [ inl a ↦ inr (inl (subst IsSome (sym d.says.owner) refl, refl, a)) | inr a ↦ inr (inr a) ]
+    elim (grown-taken s (edited (promoted s x 1) h y) t (held_set (reading s) h (record { kind = View; block = owner_of s.tables x; place = x.ptr; len = x.len })) Done reply (promoted-reads s h (owned_by s.tables x) 1 x y (record { kind = View; block = owner_of s.tables x; place = x.ptr; len = x.len }) k l.at z) i) [ inl a ↦ inr (inl (record { some = subst IsSome (sym d.says.owner) refl; granted = refl; no_room = a })) | inr a ↦ inr (inr a) ]
 freeze-promoted s t h v x false reply k l w i =
     let d = described-at s h x v k l.at w in
-    inl (subst IsSome (sym d.says.owner) refl, refl, refused-taken s t Memory reply i)
+    inl (record { some = subst IsSome (sym d.says.owner) refl; denied = refl; refuses = refused-taken s t Memory reply i })
 
-freeze-described : (s t : State) (h v : ℕ) (x : Handle) (memory : Bool) (reply : Reply) (u : Bool) → IsSound s → Lends s h Mut x → x.word ≡ Descriptor v → nat_lt (x.cap - x.len) (2 ^ s.tables.tail_bits) ≡ u → IsAnswered s (cond u (done (edited s h (frozen x (Descriptor (retailed s.tables v (x.cap - x.len)))))) (cond memory (done (edited (promoted s x 1) h (frozen x (Counted (next_record s))))) (refused s Memory))) reply t → Denied (reading s) (owner_of s.tables x) memory reply (reading t) ⊎ (IsSome (owner_of s.tables x) × (memory ≡ true) × NoRoom (reading s) reply (reading t)) ⊎ ((reply ≡ Done) × (reading t ≡ held_set (reading s) h (record { kind = View; block = owner_of s.tables x; place = x.ptr; len = x.len })))
+freeze-described : (s t : State) (h v : ℕ) (x : Handle) (memory : Bool) (reply : Reply) (u : Bool) → IsSound s → Lends s h Mut x → x.word ≡ Descriptor v → nat_lt (x.cap - x.len) (2 ^ s.tables.tail_bits) ≡ u → IsAnswered s (cond u (done (edited s h (frozen x (Descriptor (retailed s.tables v (x.cap - x.len)))))) (cond memory (done (edited (promoted s x 1) h (frozen x (Counted (next_record s))))) (refused s Memory))) reply t → Freezes s h x memory reply (reading t)
 freeze-described s t h v x memory reply true k l w e i =
     let d = described-at s h x v k l.at w in
     let y : Handle = frozen x (Descriptor (retailed s.tables v (x.cap - x.len))) in
@@ -101,7 +108,7 @@ freeze-described s t h v x memory reply true k l w e i =
     inr (inr (edit-taken s t h y (record { kind = View; block = owner_of s.tables x; place = x.ptr; len = x.len }) reply (rw o refl) i))
 freeze-described s t h v x memory reply false k l w e i = freeze-promoted s t h v x memory reply k l w i
 
-freeze-word : (s t : State) (h : ℕ) (x : Handle) (memory : Bool) (reply : Reply) (w : Word) → IsSound s → Lends s h Mut x → x.word ≡ w → IsAnswered s (short.freeze_by s h memory x w) reply t → Denied (reading s) (owner_of s.tables x) memory reply (reading t) ⊎ (IsSome (owner_of s.tables x) × (memory ≡ true) × NoRoom (reading s) reply (reading t)) ⊎ ((reply ≡ Done) × (reading t ≡ held_set (reading s) h (record { kind = View; block = owner_of s.tables x; place = x.ptr; len = x.len })))
+freeze-word : (s t : State) (h : ℕ) (x : Handle) (memory : Bool) (reply : Reply) (w : Word) → IsSound s → Lends s h Mut x → x.word ≡ w → IsAnswered s (short.freeze_by s h memory x w) reply t → Freezes s h x memory reply (reading t)
 freeze-word s t h x memory reply Empty k l w i =
     inr (inr (edit-taken s t h (frozen x Empty) (record { kind = View; block = owner_of s.tables x; place = x.ptr; len = x.len }) reply (rw (owner-empty s.tables (frozen x Empty) refl, owner-empty s.tables x w) refl) i))
 freeze-word s t h x memory reply (Descriptor v) k l w i = freeze-described s t h v x memory reply (nat_lt (x.cap - x.len) (2 ^ s.tables.tail_bits)) k l w refl i

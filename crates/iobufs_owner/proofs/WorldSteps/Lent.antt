@@ -16,19 +16,19 @@ same-kind View Mut e = absurd (cc)
 same-kind Mut View e = absurd (cc)
 same-kind Mut Mut e = refl
 
-free-of : (s : State) (h : ℕ) (kind : Kind) (x y : Handle) (v u : Bool) → same_kind y.kind kind ≡ v → is_lent h s.calls ≡ u → cond v (cond u (Err Borrowed) (Ok y)) (Err WrongKind) ≡ Ok x → (y ≡ x) × (y.kind ≡ kind) × (is_lent h s.calls ≡ false)
-free-of s h kind x y true true e f i = absurd (cc)
-free-of s h kind x y true false e f i = (cc, same-kind y.kind kind e, f)
-free-of s h kind x y false u e f i = absurd (cc)
+free-of : (s : State) (h : ℕ) (kind : Kind) (x y : Handle) (v u : Bool) → handle_at s h ≡ Some y → same_kind y.kind kind ≡ v → is_lent h s.calls ≡ u → cond v (cond u (Err Borrowed) (Ok y)) (Err WrongKind) ≡ Ok x → Lends s h kind x
+free-of s h kind x y true true at e f i = absurd (cc)
+free-of s h kind x y true false at e f i =
+    let q : y ≡ x = cc in
+    record { at = at ∙ ap Some q; kind_is = ap (λ (x : Handle). x.kind) (sym q) ∙ same-kind y.kind kind e; free = f }
+free-of s h kind x y false u at e f i = absurd (cc)
 
 pub lend-tells : (s : State) (h : ℕ) (kind : Kind) (x : Handle) → lend_of s h kind ≡ Ok x → Lends s h kind x
 lend-tells s h kind x e =
     let by : (o : Option Handle) → handle_at s h ≡ o → lend_found s h kind o ≡ Ok x → Lends s h kind x =
     λ o. elim o as (λ o. handle_at s h ≡ o → lend_found s h kind o ≡ Ok x → Lends s h kind x) [
       | None ↦ λ at i. absurd (cc)
-      | Some y ↦ λ at i.
-          let t = free-of s h kind x y (same_kind y.kind kind) (is_lent h s.calls) refl refl i in
-          record { at = at ∙ ap Some t.0; kind_is = ap (λ (x : Handle). x.kind) (sym t.0) ∙ t.1; free = t.2 }
+      | Some y ↦ λ at i. free-of s h kind x y (same_kind y.kind kind) (is_lent h s.calls) at refl refl i
     ] in
     by (handle_at s h) refl e
 

@@ -14,7 +14,7 @@ use Rattle.iobufs_owner.specs.Reading.{reading, read_held, read_handle, has_let_
 use Rattle.iobufs_owner.specs.Sound.{IsSound}
 use Rattle.iobufs_owner.specs.Changes as change
 use Rattle.iobufs_owner.specs.ShortCalls as short
-use Rattle.iobufs_owner.specs.Changes.{refused, made, edited, part, counted, with_count, next_record}
+use Rattle.iobufs_owner.specs.Changes.{refused, made, edited, part, counted, with_count}
 use Rattle.iobufs_owner.specs.Lending.{lend_of, Lends}
 use Rattle.iobufs_owner.specs.ShortCalls.{promoted}
 use Rattle.iobufs_owner.specs.Steps as world
@@ -64,7 +64,7 @@ split-described s t h at v x true reply k l w i =
     inr (made-taken s (edited (promoted s x 2) h back) t (held_set (reading s) h (part_of (read_held s.tables x) at x.len)) front (part_of (read_held s.tables x) 0 at) reply (promoted-reads s h (owned_by s.tables x) 2 x back (part_of (read_held s.tables x) at x.len) k l.at zb) zf i)
 split-described s t h at v x false reply k l w i =
     let d = described-at s h x v k l.at w in
-    inl (subst IsSome (sym d.says.owner) refl, refl, refused-taken s t Memory reply i)
+    inl (record { some = subst IsSome (sym d.says.owner) refl; denied = refl; refuses = refused-taken s t Memory reply i })
 
 split-counted : (s t : State) (h at r : ℕ) (x : Handle) (memory : Bool) (reply : Reply) (u : Bool) → IsSound s → Lends s h View x → x.word ≡ Counted r → nat_lt s.ceiling (record_at s.tables r).count ≡ u → IsAnswered s (cond u (refused s Ceiling) (short.split_with (with_count s r ((record_at s.tables r).count + 1)) h at x (Counted r))) reply t → Splits s h at x memory (Some (record_at s.tables r).block) reply (reading t)
 split-counted s t h at r x memory reply true k l w e i =

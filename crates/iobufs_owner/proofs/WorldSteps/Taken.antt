@@ -17,11 +17,11 @@ use Rattle.iobufs_owner.specs.Sound.{IsSound}
 use Rattle.iobufs_owner.specs.Changes as change
 use Rattle.iobufs_owner.specs.Lending as lending
 use Rattle.iobufs_owner.specs.ShortCalls as short
-use Rattle.iobufs_owner.specs.Changes.{Outcome, refused, done, edited, made, with_handle}
+use Rattle.iobufs_owner.specs.Changes.{Outcome, refused, done, edited, made}
 use Rattle.iobufs_owner.specs.Lending.{lend_of, Lends, is_lent}
 use Rattle.iobufs_owner.specs.ShortCalls.{declined}
 use Rattle.iobufs_owner.specs.Steps as world
-use Rattle.iobufs_owner.specs.Steps.{Refuses, NoRoom, Denied, Makes, Declines, held_set, held_more}
+use Rattle.iobufs_owner.specs.Steps.{Refuses, NoRoom, Makes, Declines, held_set, held_more}
 use Rattle.iobufs_owner.proofs.WorldSteps.Sizes.{IsAnswered, entries, grows-never}
 use Rattle.iobufs_owner.proofs.Soundness.Counts.{reading-set, reading-append}
 use Rattle.iobufs_owner.proofs.Soundness.Kept.{owner-empty}
@@ -33,27 +33,27 @@ use Rattle.iobufs_owner.proofs.Soundness.Edits.{owner-put, owner-advanced, withi
 
 pub refused-taken : (s t : State) (why : Refusal) (reply : Reply) → IsAnswered s (refused s why) reply t → Refuses (reading s) why reply (reading t)
 refused-taken s t why reply (inl (e, f)) = (e, ap reading f)
-refused-taken s t why reply (inr (l, e, f)) = absurd (grows-never s s refl l)
+refused-taken s t why reply (inr l) = absurd (grows-never s s refl l.grows)
 
 pub declined-taken : (s t : State) (reply : Reply) → IsAnswered s (declined s) reply t → Declines (reading s) reply (reading t)
 declined-taken s t reply (inl (e, f)) = (e, ap reading f)
-declined-taken s t reply (inr (l, e, f)) = absurd (grows-never s s refl l)
+declined-taken s t reply (inr l) = absurd (grows-never s s refl l.grows)
 
 -- a change that adds no entry
 pub done-taken : (s u t : State) (w : World) (reply : Reply) → entries u ≡ entries s → reading u ≡ w → IsAnswered s (done u) reply t → (reply ≡ Done) × (reading t ≡ w)
 done-taken s u t w reply n r (inl (e, f)) = (e, ap reading f ∙ r)
-done-taken s u t w reply n r (inr (l, e, f)) = absurd (grows-never s u n l)
+done-taken s u t w reply n r (inr l) = absurd (grows-never s u n l.grows)
 
 -- a change that may add one
 pub grown-taken : (s u t : State) (w : World) (answer reply : Reply) → reading u ≡ w → IsAnswered s (record { reply = answer; state = u }) reply t → NoRoom (reading s) reply (reading t) ⊎ ((reply ≡ answer) × (reading t ≡ w))
 grown-taken s u t w answer reply r (inl (e, f)) = inr (e, ap reading f ∙ r)
-grown-taken s u t w answer reply r (inr (l, e, f)) = inl (e, ap reading f)
+grown-taken s u t w answer reply r (inr l) = inl (l.refused, ap reading l.same)
 
 -- one handle more than u has
 pub made-taken : (s u t : State) (w : World) (x : Handle) (y : Held) (reply : Reply) → reading u ≡ w → read_held u.tables x ≡ y → IsAnswered s (made u x) reply t → NoRoom (reading s) reply (reading t) ⊎ Makes w y reply (reading t)
 made-taken s u t w x y reply r e (inl (i, f)) =
     inr (i ∙ ap Made (sym (ap (λ (w : World). length w.handles) (sym r) ∙ length-map u.handles (read_handle u.tables))), ap reading f ∙ reading-append u (Some x) ∙ ap (λ (w : World). held_more w (read_held u.tables x)) r ∙ ap (held_more w) e)
-made-taken s u t w x y reply r e (inr (l, i, f)) = inl (i, ap reading f)
+made-taken s u t w x y reply r e (inr l) = inl (l.refused, ap reading l.same)
 
 entries-edited : (s : State) (h : ℕ) (y : Handle) → entries (edited s h y) ≡ entries s
 entries-edited s h y = rw length-set refl

@@ -77,7 +77,7 @@ recover-steps s t h reply k i = rw (alone-reads s h View) (recover-lent s t h re
 
 same-taken : (s t : State) (answer reply : Reply) → IsAnswered s (record { reply = answer; state = s }) reply t → (reply ≡ answer) × (reading t ≡ reading s)
 same-taken s t answer reply (inl (e, f)) = (e, ap reading f)
-same-taken s t answer reply (inr (l, e, f)) = absurd (grows-never s s refl l)
+same-taken s t answer reply (inr l) = absurd (grows-never s s refl l.grows)
 
 -- what is answered, by the block and by whether the handle is borrowed
 unique-answers : (s t : State) (h b : ℕ) (x : Handle) (reply : Reply) (u : Bool) → is_unique s.tables x x.word ≡ nat_eq (holders (reading s) b) 1 → IsAnswered s (short.unique_lent s (cond u (Err Borrowed) (Ok x))) reply t → world.UniqueIs (reading s) (cond u (Err Borrowed) (Ok b)) reply (reading t)

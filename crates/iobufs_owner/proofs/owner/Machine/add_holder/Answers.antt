@@ -4,7 +4,7 @@ use Rattle.iobufs_owner.specs.declared.owner.types.Pending.TheVariants.{Add}
 use Rattle.iobufs_owner.specs.Inside.{state_of}
 use Rattle.iobufs_owner.specs.State.{State, Seen, handle_at, call_at, record_at}
 use Rattle.iobufs_owner.proofs.Soundness.Edits.{counted-at, count-small, end-small}
-use Rattle.iobufs_owner.proofs.Soundness.Share.{adding-at, sound-added-call}
+use Rattle.iobufs_owner.proofs.Soundness.Share.{adding, sound-added-call}
 use Rattle.iobufs_owner.proofs.Soundness.Frames.{is-eqb}
 use Rattle.iobufs_owner.proofs.Soundness.Borrows.{counts-less, some-borrowed, counts-pushed, kept-pushed}
 use Rattle.iobufs_owner.proofs.Soundness.Kept.{at-some}
@@ -15,10 +15,9 @@ overflow_add-record c =
     let s : State = state_of c.self.inside in
     let k = c.self.invariant in
     let at = subst (λ (s : State). call_at s c.args.party ≡ Some (Add c.args.range c.args.r)) (sym (ap (λ (m : Seen). m.state) c.self.view_is)) c.requires.call in
-    let found = subst (λ (s : State). handle_at s c.args.range.handle ≡ Some c.args.x) (sym (ap (λ (m : Seen). m.state) c.self.view_is)) c.requires.at in
     let e = subst (λ (s : State). c.record-record.result ≡ record_at s.tables c.args.r) (sym (ap (λ (m : Seen). m.state) c.self.view_is)) c.record-record.ensures in
-    let a = adding-at s c.args.party c.args.range c.args.r c.args.x k.sound at found in
-    let f = counted-at s c.args.range.handle c.args.x c.args.r k.sound found a.word in
+    let a = adding s c.args.party c.args.range c.args.r k.sound at in
+    let f = counted-at s c.args.range.handle a.view c.args.r k.sound a.shares.at a.word in
     let m = count-small s c.args.r k.sound f.live f.shown in
     rw e (omega (arith, m))
 

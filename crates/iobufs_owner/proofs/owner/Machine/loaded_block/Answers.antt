@@ -9,13 +9,13 @@ use Rattle.iobufs_owner.proofs.owner.Machine.loaded_block.Goals as goal
 pub unreachable-requires : goal.unreachable-requires
 unreachable-requires c =
     let l = loading c.args.self.now.state c.args.party c.args.range c.args.word c.find.ensures.sound c.requires in
-    c.in_default.not-Some l.0 (c.find.ensures.value ∙ l.1.shares.at)
+    c.in_default.not-Some l.view (c.find.ensures.value ∙ l.shares.at)
 
 pub described-requires-clause-says : goal.described-requires-clause-says
 described-requires-clause-says c =
     let l = loading c.args.self.now.state c.args.party c.args.range c.args.word c.find.ensures.sound c.requires in
-    let q : l.0 ≡ c.in-Some.x = (let z = sym l.1.shares.at ∙ sym c.find.ensures.value ∙ c.in-Some.is in cc) in
-    subst (λ (x : Handle). DescribesBlock c.args.self.now.state.tables (record x { word = Descriptor c.args.word }) c.args.word) q (record { block = l.1.block; log = l.1.promised.log; tail = l.1.promised.tail; says = l.1.promised.says })
+    let q : l.view ≡ c.in-Some.x = (let z = sym l.shares.at ∙ sym c.find.ensures.value ∙ c.in-Some.is in cc) in
+    subst (λ (x : Handle). DescribesBlock c.args.self.now.state.tables (record x { word = Descriptor c.args.word }) c.args.word) q (record { block = l.block; log = l.promised.log; tail = l.promised.tail; says = l.promised.says })
 
 pub returns : goal.returns
 returns c =

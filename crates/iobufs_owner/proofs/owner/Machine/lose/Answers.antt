@@ -16,7 +16,7 @@ push_reserved-requires c =
     let s : State = state_of c.self.inside in
     let k = c.self.invariant in
     let at = subst (λ (s : State). call_at s c.args.party ≡ Some (Ready c.args.range c.args.word c.args.r)) (sym (ap (λ (m : Seen). m.state) c.self.view_is)) c.requires.call in
-    let e = counted-ends s c.args.r k.sound (racing s c.args.party c.args.range c.args.word c.args.r k.sound at).1.live in
+    let e = counted-ends s c.args.r k.sound (racing s c.args.party c.args.range c.args.word c.args.r k.sound at).live in
     omega (arith, e.record_log, k.record_room)
 
 pub invariant_of-self : goal.invariant_of-self

@@ -19,7 +19,7 @@ invariant_of-self c =
     let s : State = state_of c.self.inside in
     let k = c.self.invariant in
     let at = subst (λ (s : State). call_at s c.args.party ≡ Some (Loaded c.args.range c.args.word)) (sym (ap (λ (m : Seen). m.state) c.self.view_is)) c.requires in
-    record { sound = sound-called s c.args.party None k.sound (at-some s.calls c.args.party (Loaded c.args.range c.args.word) at) (subst (λ (o : Option Pending). IsQuiet s o) (sym at) (quiet-loaded s c.args.range c.args.word)) (quiet-none s) tt; block_room = k.block_room; record_room = k.record_room; borrows_kept = rw (c.borrow_less.ensures.items, length-set) k.borrows_kept; places = k.places; borrowed = rw c.borrow_less.ensures.items (counts-less c.self.inside.borrows.items c.self.inside.calls.items c.args.party c.args.range.handle (Some (Loaded c.args.range c.args.word)) (let l = at-some s.handles c.args.range.handle _ (loading s c.args.party c.args.range c.args.word k.sound at).1.shares.at in let q = k.borrows_kept in omega (arith, l, q)) (at-some s.calls c.args.party (Loaded c.args.range c.args.word) at) at (λ j. refl) k.borrowed) }
+    record { sound = sound-called s c.args.party None k.sound (at-some s.calls c.args.party (Loaded c.args.range c.args.word) at) (subst (λ (o : Option Pending). IsQuiet s o) (sym at) (quiet-loaded s c.args.range c.args.word)) (quiet-none s) tt; block_room = k.block_room; record_room = k.record_room; borrows_kept = rw (c.borrow_less.ensures.items, length-set) k.borrows_kept; places = k.places; borrowed = rw c.borrow_less.ensures.items (counts-less c.self.inside.borrows.items c.self.inside.calls.items c.args.party c.args.range.handle (Some (Loaded c.args.range c.args.word)) (let l = at-some s.handles c.args.range.handle _ (loading s c.args.party c.args.range c.args.word k.sound at).shares.at in let q = k.borrows_kept in omega (arith, l, q)) (at-some s.calls c.args.party (Loaded c.args.range c.args.word) at) at (λ j. refl) k.borrowed) }
 
 pub invariant_of-self-2 : goal.invariant_of-self-2
 invariant_of-self-2 c =
@@ -30,7 +30,7 @@ invariant_of-self-2 c =
     let b = subst (λ (s : State). c.loaded_block-block.result ≡ loaded_block s c.args.range.handle c.args.word) (sym (ap (λ (m : Seen). m.state) c.self.view_is)) c.loaded_block-block.ensures in
     let r : c.len-r.result ≡ length c.self.inside.records.items = omega (arith, c.len-r.ensures, c.in_ok-room_for_record.ensures.len) in
     record {
-      sound = rw (c.push_reserved.ensures.items, c.in_ok-room_for_record.ensures.records, c.in_ok-room_for_record.ensures.freed, r, b) (sound-readied s c.args.party c.args.range c.args.word (loaded_block s c.args.range.handle c.args.word) l.0 k.sound at l.1 (loading-block s c.args.range c.args.word l.0 l.1) (omega (arith, c.in_ok-room_for_record.ensures.few)));
+      sound = rw (c.push_reserved.ensures.items, c.in_ok-room_for_record.ensures.records, c.in_ok-room_for_record.ensures.freed, r, b) (sound-readied s c.args.party c.args.range c.args.word (loaded_block s c.args.range.handle c.args.word) k.sound at l (loading-block s c.args.range c.args.word l) (omega (arith, c.in_ok-room_for_record.ensures.few)));
       block_room = k.block_room;
       record_room = rw (c.push_reserved.ensures.items, c.in_ok-room_for_record.ensures.records, length-append) (omega (arith, c.in_ok-room_for_record.ensures.freed_room));
       borrows_kept = k.borrows_kept;
@@ -50,6 +50,6 @@ borrow_less-requires-clause-known c =
     let s : State = state_of c.self.inside in
     let k = c.self.invariant in
     let at = subst (λ (s : State). call_at s c.args.party ≡ Some (Loaded c.args.range c.args.word)) (sym (ap (λ (m : Seen). m.state) c.self.view_is)) c.requires in
-    let l = at-some s.handles c.args.range.handle _ (loading s c.args.party c.args.range c.args.word k.sound at).1.shares.at in
+    let l = at-some s.handles c.args.range.handle _ (loading s c.args.party c.args.range c.args.word k.sound at).shares.at in
     let q = k.borrows_kept in
     omega (arith, l, q)
