@@ -23,7 +23,7 @@ pub record GoesOn (b n : ℕ) (IsOfRest : ℕ → Type 0) : Type 0 where
   pub sum : n + 128 ≡ b + 128 * high
   pub rest : IsOfRest high
 
--- the same by cases on the bytes: a byte below 128 is the last, and stands for itself; with one from 128 on it goes on
+-- bytes spell a number, by cases: a byte below 128 is the last, and stands for itself; with one from 128 on they go on
 abbrev pub IsSpelling : List ℕ → ℕ → Type 0
 IsSpelling [] n = ⊥
 IsSpelling (b ∷ []) n = (b < 128) × (n ≡ b)
