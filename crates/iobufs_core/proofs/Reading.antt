@@ -66,12 +66,17 @@ one_byte text b e low =
     read_off text 1 b (omega arith) (omega arith) (subst (λ xs. IsSpelling xs b) (sym take_is) (low, refl))
 
 -- numbers stay small for nine bytes
-pub small : (text : List ℕ) (i value place b : ℕ) → IsSoFar text i value place → i ≤ 8 → b ≤ 127 → (place ≤ 2 ^ 56) × (place * b < 2 ^ 63) × (value + place * b < 2 ^ 63)
+pub record IsSmall (value place b : ℕ) : Type 0 where
+  pub factor : place ≤ 2 ^ 56
+  pub product : place * b < 2 ^ 63
+  pub sum : value + place * b < 2 ^ 63
+
+pub small : (text : List ℕ) (i value place b : ℕ) → IsSoFar text i value place → i ≤ 8 → b ≤ 127 → IsSmall value place b
 small text i value place b so h low =
     let few = place_below i place h so.place_is in
     let some = mul-le-mul_left place low in
     let below = so.below in
-    (omega arith, omega arith, omega arith)
+    record { factor = omega arith; product = omega arith; sum = omega arith }
 
 -- no byte is left, and all that there were have the top bit set
 pub still_open : (text : List ℕ) (i value place : ℕ) → IsSoFar text i value place → i ≤ 9 → length text ≤ i → HasNoLength text × IsOpen text

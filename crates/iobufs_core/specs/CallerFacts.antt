@@ -13,7 +13,7 @@ use Rattle.iobufs_core.specs.LayoutLaws.{good_layout}
 use Rattle.iobufs_core.specs.MarkedText.{MarkedText, taken_view, text_advanced, text_rest, text_right}
 use Rattle.iobufs_core.specs.Part.{Part, part_frozen}
 use Rattle.iobufs_core.specs.Ranges.{in_range}
-use Rattle.iobufs_core.specs.ReadBytes.{bytes-taken_view}
+use Rattle.iobufs_core.specs.ReadBytes.{bytes-taken_view, length-taken_view}
 use Rattle.iobufs_core.specs.ReadLaws.{view_back}
 use Rattle.iobufs_core.specs.Spelled.{length-spell, spell_begins}
 use Rattle.iobufs_core.specs.Spelling.{spell}
@@ -26,11 +26,6 @@ use Rattle.iobufs_core.specs.declared.codec.base.RangeCfg.{RangeCfg}
 
 -- ---- reading
 
--- a view that is taken has as many bytes as were asked for
-pub length-taken_view : (text : MarkedText) (skip n : ℕ) → skip + n ≤ length text.bytes → length (taken_view text skip n).bytes ≡ n
-unfolding taken_view
-length-taken_view text skip n within = grind (arith, nat_tests, common_steps)
-
 -- a copy of the first n bytes leaves the others
 pub bytes-rest : (text : MarkedText) (n : ℕ) → n ≤ length text.bytes → (text_rest text n).bytes ≡ drop n text.bytes
 unfolding text_right
@@ -41,9 +36,14 @@ pub bytes-advanced : (text : MarkedText) (n : ℕ) → n ≤ length text.bytes �
 unfolding text_right
 bytes-advanced text n h = grind (arith, nat_tests, common_steps, drop_all)
 
--- the view that stands behind its length, and its length
+-- a view with n bytes stands behind its length in front of a text
+pub record IsThere (text : MarkedText) (n : ℕ) (view : View) : Type 0 where
+  pub long : length view.bytes ≡ n
+  pub within : length (view_written view) ≤ length text.bytes
+  pub whole : text.bytes ≡ view_written view ++ drop (length (view_written view)) text.bytes
+
 pub view_there : (text : MarkedText) (n : ℕ) (view : View) → take (length (spell n)) text.bytes ≡ spell n → length (spell n) + n ≤ length text.bytes → view ≡ taken_view text (length (spell n)) n
-    → (length view.bytes ≡ n) × (length (view_written view) ≤ length text.bytes) × (text.bytes ≡ view_written view ++ drop (length (view_written view)) text.bytes)
+    → IsThere text n view
 view_there text n view at within is =
     let k = length (spell n) in
     let bytes : view.bytes ≡ take n (drop k text.bytes) = ap (λ (v : View). v.bytes) is ∙ bytes-taken_view text k n in
@@ -52,29 +52,29 @@ view_there text n view at within is =
     let whole : spell n ++ (take n (drop k text.bytes) ++ drop (k + n) text.bytes) ≡ text.bytes =
     ap (λ xs. spell n ++ (take n (drop k text.bytes) ++ xs)) (sym (drop-drop n k text.bytes))
     ∙ ap (λ xs. spell n ++ xs) (take-append-drop n (drop k text.bytes)) ∙ ap (λ xs. xs ++ drop k text.bytes) (sym at) ∙ take-append-drop k text.bytes in
-    let front : view_written view ≡ spell n ++ take n (drop k text.bytes) = ap (λ m. spell m ++ view.bytes) len ∙ ap (λ xs. spell n ++ xs) bytes in (
-      len,
-      omega (arith, within, long),
-      sym (ap (λ xs. xs ++ drop (length (view_written view)) text.bytes) front
+    let front : view_written view ≡ spell n ++ take n (drop k text.bytes) = ap (λ m. spell m ++ view.bytes) len ∙ ap (λ xs. spell n ++ xs) bytes in record {
+      long = len;
+      within = omega (arith, within, long);
+      whole =
+          sym (ap (λ xs. xs ++ drop (length (view_written view)) text.bytes) front
           ∙ append_assoc (spell n) (take n (drop k text.bytes)) (drop (length (view_written view)) text.bytes)
-          ∙ ap (λ m. spell n ++ (take n (drop k text.bytes) ++ drop m text.bytes)) long ∙ whole),
-    )
+          ∙ ap (λ m. spell n ++ (take n (drop k text.bytes) ++ drop m text.bytes)) long ∙ whole);
+    }
 
 -- what was read is the view as written, and then what is left
 pub read_and_left : (text rest : MarkedText) (range : RangeCfg) (result : Result View Error) → IsViewRead text range result
     → IfOk result (λ view. rest ≡ text_rest text (length (view_written view))) → IfOk result (λ view. text.bytes ≡ view_written view ++ rest.bytes)
-read_and_left text rest range (Ok view) (n, has, is) left =
-    let (len, fits, whole) = view_there text n view has.0.0.1 has.1 is in
-    whole ∙ ap (λ xs. view_written view ++ xs) (sym (ap (λ (t : MarkedText). t.bytes) left ∙ bytes-rest text (length (view_written view)) fits))
+read_and_left text rest range (Ok view) (n, (((small, at), inside), long), is) left =
+    let there = view_there text n view at long is in
+    there.whole ∙ ap (λ xs. view_written view ++ xs) (sym (ap (λ (t : MarkedText). t.bytes) left ∙ bytes-rest text (length (view_written view)) there.within))
 read_and_left text rest range (Err error) is left = tt
 
 -- its length is in the range
 pub read_in_range : (text : MarkedText) (range : RangeCfg) (result : Result View Error) → IsViewRead text range result
     → IfOk result (λ view. (length view.bytes < 2 ^ 64) × (in_range range (length view.bytes) ≡ true))
-read_in_range text range (Ok view) (n, has, is) =
-    let (len, fits, whole) = view_there text n view has.0.0.1 has.1 is in
-    let small = has.0.0.0 in
-    (omega (arith, len, small), ap (in_range range) len ∙ has.0.1)
+read_in_range text range (Ok view) (n, (((small, at), inside), long), is) =
+    let there = view_there text n view at long is in
+    (omega (arith, there.long, small), ap (in_range range) there.long ∙ inside)
 read_in_range text range (Err error) is = tt
 
 high_end : (range : RangeCfg) (n : ℕ) → in_range range n ≡ true → n ≤ range.hi
@@ -119,9 +119,9 @@ one_front a b x y small least e =
 -- what was read is the number as written, and then what is left
 pub number_and_left : (written : ℕ → List ℕ) (size : ℕ) (text rest : MarkedText) (result : Result ℕ Error) → IsNumberRead written size text.bytes result
     → IfOk result (λ n. rest ≡ text_advanced text size) → IfOk result (λ n. text.bytes ≡ written n ++ rest.bytes)
-number_and_left written size text rest (Ok n) (small, long, is) left =
-    let behind : rest.bytes ≡ drop size text.bytes = ap (λ (t : MarkedText). t.bytes) left ∙ bytes-advanced text size long in
-    sym (take-append-drop size text.bytes) ∙ ap (λ xs. xs ++ drop size text.bytes) (sym is) ∙ ap (λ xs. written n ++ xs) (sym behind)
+number_and_left written size text rest (Ok n) read left =
+    let behind : rest.bytes ≡ drop size text.bytes = ap (λ (t : MarkedText). t.bytes) left ∙ bytes-advanced text size read.long in
+    sym (take-append-drop size text.bytes) ∙ ap (λ xs. xs ++ drop size text.bytes) (sym read.is) ∙ ap (λ xs. written n ++ xs) (sym behind)
 number_and_left written size text rest (Err error) is left = tt
 
 -- ---- writing
@@ -151,12 +151,14 @@ bytes-view_between view from to order within = grind (arith, nat_tests, common_s
 -- behind a first text, a beginning of a second one is a beginning of both and of all that follows
 pub begun_behind : (old first second behind middle new : List ℕ) → middle ≡ old ++ first → IsBegun middle second new → IsBegun old (first ++ (second ++ behind)) new
 begun_behind old first second behind middle new put begun =
-    let (front, back, whole, left) = begun in (
-      first ++ front,
-      back ++ behind,
-      append_assoc first front (back ++ behind) ∙ ap (λ xs. first ++ xs) (sym (append_assoc front back behind) ∙ ap (λ xs. xs ++ behind) whole),
-      left ∙ ap (λ xs. xs ++ front) put ∙ append_assoc old first front,
-    )
+    let front = begun.front in
+    let back = begun.back in record {
+      front = first ++ front;
+      back = back ++ behind;
+      whole =
+          append_assoc first front (back ++ behind) ∙ ap (λ xs. first ++ xs) (sym (append_assoc front back behind) ∙ ap (λ xs. xs ++ behind) begun.whole);
+      left = begun.left ∙ ap (λ xs. xs ++ front) put ∙ append_assoc old first front;
+    }
 
 -- what holds anyway holds where a call is refused
 pub on_err_always : {T E P : Type 0} (result : Result T E) → P → OnErr result P

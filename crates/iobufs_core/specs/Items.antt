@@ -38,5 +38,8 @@ ArePuts (put_item bytes ∷ items) = ArePuts items
 ArePuts (push_item view ∷ items) = ⊥
 
 -- a text behind which a beginning of some bytes was written
-abbrev pub IsBegun : List ℕ → List ℕ → List ℕ → Type 0
-IsBegun old bytes new = (front : List ℕ) × (back : List ℕ) × (front ++ back ≡ bytes) × (new ≡ old ++ front)
+pub record IsBegun (old bytes new : List ℕ) : Type 0 where
+  pub front : List ℕ
+  pub back : List ℕ
+  pub whole : front ++ back ≡ bytes
+  pub left : new ≡ old ++ front

@@ -16,26 +16,41 @@ use Rattle.iobufs_core.specs.declared.codec.base.RangeCfg.{RangeCfg}
 
 -- ---- lengths
 
+-- a length outside the range is spelled, and the error tells it
+pub record IsOutside (bytes : List ℕ) (range : RangeCfg) (error : Error) : Type 0 where
+  pub n : ℕ
+  pub told : error ≡ InvalidLength n
+  pub at : IsSpelledAt bytes n
+  pub outside : in_range range n ≡ false
+
 -- why a length is not read: it is outside the range, or none is spelled, and more bytes may spell one or not
 LengthFault : List ℕ → RangeCfg → Error → Type 0
 LengthFault bytes range error =
-    ((n : ℕ) × (error ≡ InvalidLength n) × IsSpelledAt bytes n × (in_range range n ≡ false))
-    ⊎ (HasNoLength bytes × (((error ≡ EndOfBuffer) × IsOpen bytes) ⊎ ((error ≡ InvalidVarint) × (IsOpen bytes → ⊥))))
+    IsOutside bytes range error ⊎ (HasNoLength bytes × (((error ≡ EndOfBuffer) × IsOpen bytes) ⊎ ((error ≡ InvalidVarint) × (IsOpen bytes → ⊥))))
 
 length_fault : (bytes : List ℕ) (range : RangeCfg) (error : Error) → IsLengthRead bytes range (Err error) → LengthFault bytes range error
 unfolding LengthFault
 length_fault bytes range EndOfBuffer h = inr (h.0, inl (refl, h.1))
 length_fault bytes range InvalidVarint h = inr (h.0, inr (refl, h.1))
-length_fault bytes range (InvalidLength n) h = inl (n, refl, h.0, h.1)
+length_fault bytes range (InvalidLength n) h = inl (record { n = n; told = refl; at = h.0; outside = h.1 })
 length_fault bytes range Memory h = absurd h
 length_fault bytes range BadLayout h = absurd h
 length_fault bytes range TooLong h = absurd h
+
+-- a length in the range and one outside it are two
+pub not_both : (bytes : List ℕ) (range : RangeCfg) (n : ℕ) (error : Error) → IsSpelledAt bytes n → in_range range n ≡ true → IsOutside bytes range error → ⊥
+not_both bytes range n error at inside out =
+    let same : n ≡ out.n = spelled_as_one bytes n out.n at out.at in
+    let both : true ≡ false = sym inside ∙ ap (in_range range) same ∙ out.outside in cc
+
+pub one_outside : (bytes : List ℕ) (range : RangeCfg) (a b : Error) → IsOutside bytes range a → IsOutside bytes range b → a ≡ b
+one_outside bytes range a b out other = out.told ∙ ap InvalidLength (spelled_as_one bytes out.n other.n out.at other.at) ∙ sym other.told
 
 no_fault : (bytes : List ℕ) (range : RangeCfg) (n : ℕ) (error : Error) → IsLengthRead bytes range (Ok n) → IsLengthRead bytes range (Err error) → ⊥
 unfolding LengthFault
 no_fault bytes range n error found fault =
     elim (length_fault bytes range error fault) [
-      | inl out ↦ (let same : n ≡ out.0 = spelled_as_one bytes n out.0 found.0 out.2 in let both : true ≡ false = sym found.1 ∙ ap (in_range range) same ∙ out.3 in cc)
+      | inl out ↦ not_both bytes range n error found.0 found.1 out
       | inr none ↦ none.0 n found.0
     ]
 
@@ -44,11 +59,11 @@ unfolding LengthFault
 one_fault bytes range a b p q =
     elim (length_fault bytes range a p) [
       | inl out ↦ elim (length_fault bytes range b q) [
-        | inl other ↦ out.1 ∙ ap InvalidLength (spelled_as_one bytes out.0 other.0 out.2 other.2) ∙ sym other.1
-        | inr none ↦ absurd (none.0 out.0 out.2)
+        | inl other ↦ one_outside bytes range a b out other
+        | inr none ↦ absurd (none.0 out.n out.at)
       ]
       | inr none ↦ elim (length_fault bytes range b q) [
-        | inl other ↦ absurd (none.0 other.0 other.2)
+        | inl other ↦ absurd (none.0 other.n other.at)
         | inr nor ↦ elim none.1 [
           | inl opened ↦ elim nor.1 [ inl too ↦ opened.0 ∙ sym too.0 | inr ended ↦ absurd (ended.1 opened.1) ]
           | inr ended ↦ elim nor.1 [ inl opened ↦ absurd (ended.1 opened.1) | inr too ↦ ended.0 ∙ sym too.0 ]
@@ -78,16 +93,21 @@ length_back n range bytes rest answer small inside e read =
 
 -- ---- views, and bytes behind their length
 
+-- a length in the range is spelled, and fewer bytes stand behind it than it says
+record IsShort (bytes : List ℕ) (range : RangeCfg) : Type 0 where
+  n : ℕ
+  read : IsLengthRead bytes range (Ok n)
+  few : length bytes < length (spell n) + n
+
 -- why no view is read: there was no memory, or the length has a fault, or it is longer than what is there
 ViewFault : MarkedText → RangeCfg → Error → Type 0
 ViewFault text range error =
-    (error ≡ Memory) ⊎ (IsLengthRead text.bytes range (Err error)
-    ⊎ ((error ≡ EndOfBuffer) × (n : ℕ) × IsLengthRead text.bytes range (Ok n) × (length text.bytes < length (spell n) + n)))
+    (error ≡ Memory) ⊎ (IsLengthRead text.bytes range (Err error) ⊎ ((error ≡ EndOfBuffer) × IsShort text.bytes range))
 
 view_fault : (text : MarkedText) (range : RangeCfg) (error : Error) → IsViewFault text range error → ViewFault text range error
 unfolding ViewFault
 view_fault text range Memory h = inl refl
-view_fault text range EndOfBuffer h = elim h [ inl p ↦ inr (inl p) | inr p ↦ inr (inr (refl, p.0, p.1, p.2)) ]
+view_fault text range EndOfBuffer h = elim h [ inl p ↦ inr (inl p) | inr (n, read, few) ↦ inr (inr (refl, record { n = n; read = read; few = few })) ]
 view_fault text range InvalidVarint h = inr (inl h)
 view_fault text range (InvalidLength n) h = inr (inl h)
 view_fault text range BadLayout h = inr (inl h)
@@ -103,10 +123,10 @@ only_memory s t range n error e has fault =
       | inl memory ↦ memory
       | inr other ↦ elim other [
         | inl wrong ↦ absurd (no_fault t.bytes range n error found wrong)
-        | inr short ↦
-            let same : short.1 ≡ n = spelled_as_one t.bytes short.1 n short.2.0 found.0 in
-            let less = short.3 in
-            let sum : length (spell short.1) + short.1 ≡ length (spell n) + n = ap (λ k. length (spell k) + k) same in absurd (omega arith)
+        | inr (ended, short) ↦
+            let same : short.n ≡ n = spelled_as_one t.bytes short.n n short.read.0 found.0 in
+            let sum : length (spell short.n) + short.n ≡ length (spell n) + n = ap (λ k. length (spell k) + k) same in
+            absurd (omega (arith, long, short.few, sum))
       ]
     ]
 
@@ -123,11 +143,11 @@ faults_alike s t range a b e p q =
               let moved = subst (λ (xs : List ℕ). IsLengthRead xs range (Err a)) e wrong in
               elim two [
                 | inl other ↦ inl (one_fault t.bytes range a b moved other)
-                | inr short ↦ absurd (no_fault t.bytes range short.1 a short.2 moved)
+                | inr (ended, short) ↦ absurd (no_fault t.bytes range short.n a short.read moved)
               ]
-          | inr short ↦ elim two [
-            | inl other ↦ absurd (no_fault t.bytes range short.1 b (subst (λ (xs : List ℕ). IsLengthRead xs range (Ok short.1)) e short.2) other)
-            | inr too ↦ inl (short.0 ∙ sym too.0)
+          | inr (ended, short) ↦ elim two [
+            | inl other ↦ absurd (no_fault t.bytes range short.n b (subst (λ (xs : List ℕ). IsLengthRead xs range (Ok short.n)) e short.read) other)
+            | inr too ↦ inl (ended ∙ sym too.0)
           ]
         ]
       ]
@@ -137,15 +157,16 @@ faults_alike s t range a b e p q =
 same_taken : (s t : MarkedText) (range : RangeCfg) (m n : ℕ) → s.bytes ≡ t.bytes → HasView s range m → HasView t range n
     → take m (drop (length (spell m)) s.bytes) ≡ take n (drop (length (spell n)) t.bytes)
 same_taken s t range m n e p q =
-    let found = subst (λ (xs : List ℕ). IsLengthRead xs range (Ok m)) e p.0 in
-    let same : m ≡ n = spelled_as_one t.bytes m n found.0 q.0.0 in
+    let (at, inside) = subst (λ (xs : List ℕ). IsLengthRead xs range (Ok m)) e p.0 in
+    let (at', inside') = q.0 in
+    let same : m ≡ n = spelled_as_one t.bytes m n at at' in
     ap (λ k. take k (drop (length (spell k)) s.bytes)) same ∙ ap (λ xs. take n (drop (length (spell n)) xs)) e
 
 pub bytes_alike : (s t : MarkedText) (range : RangeCfg) (a b : Result (List ℕ) Error) → s.bytes ≡ t.bytes → IsBytesRead s range a → IsBytesRead t range b
     → IsReadAlike (λ x y. x ≡ y) a b
-bytes_alike s t range (Ok x) (Ok y) e p q = p.2 ∙ same_taken s t range p.0 q.0 e p.1 q.1 ∙ sym q.2
-bytes_alike s t range (Ok x) (Err error) e p q = only_memory s t range p.0 error e p.1 q
-bytes_alike s t range (Err error) (Ok y) e p q = only_memory t s range q.0 error (sym e) q.1 p
+bytes_alike s t range (Ok x) (Ok y) e (m, there, is) (n, there', is') = is ∙ same_taken s t range m n e there there' ∙ sym is'
+bytes_alike s t range (Ok x) (Err error) e (m, there, is) q = only_memory s t range m error e there q
+bytes_alike s t range (Err error) (Ok y) e p (n, there, is) = only_memory t s range n error (sym e) there p
 bytes_alike s t range (Err a) (Err b) e p q = faults_alike s t range a b e p q
 
 -- the bytes of a view that was read were read
@@ -154,9 +175,9 @@ bytes_of_read text n view e = ap (λ (v : View). v.bytes) e ∙ bytes-taken_view
 
 pub views_alike : (s t : MarkedText) (range : RangeCfg) (a b : Result View Error) → s.bytes ≡ t.bytes → IsViewRead s range a → IsViewRead t range b
     → IsReadAlike (λ x y. x.bytes ≡ y.bytes) a b
-views_alike s t range (Ok x) (Ok y) e p q = bytes_of_read s p.0 x p.2 ∙ same_taken s t range p.0 q.0 e p.1 q.1 ∙ sym (bytes_of_read t q.0 y q.2)
-views_alike s t range (Ok x) (Err error) e p q = only_memory s t range p.0 error e p.1 q
-views_alike s t range (Err error) (Ok y) e p q = only_memory t s range q.0 error (sym e) q.1 p
+views_alike s t range (Ok x) (Ok y) e (m, there, is) (n, there', is') = bytes_of_read s m x is ∙ same_taken s t range m n e there there' ∙ sym (bytes_of_read t n y is')
+views_alike s t range (Ok x) (Err error) e (m, there, is) q = only_memory s t range m error e there q
+views_alike s t range (Err error) (Ok y) e p (n, there, is) = only_memory t s range n error (sym e) there p
 views_alike s t range (Err a) (Err b) e p q = faults_alike s t range a b e p q
 
 -- written bytes are there to be read, whatever follows
@@ -173,17 +194,17 @@ written_there text range bytes rest small inside e =
 
 pub bytes_back : (bytes : List ℕ) (range : RangeCfg) (text : MarkedText) (rest : List ℕ) (answer : Result (List ℕ) Error) → length bytes < 2 ^ 64 → in_range range (length bytes) ≡ true
     → text.bytes ≡ bytes_written bytes ++ rest → IsBytesRead text range answer → IsReadBack (λ x y. x ≡ y) bytes answer
-bytes_back bytes range text rest (Ok read) small inside e h =
-    let there = written_there text range bytes rest small inside e in
-    sym (h.2 ∙ same_taken text text range h.0 (length bytes) refl h.1 there.0 ∙ there.1)
+bytes_back bytes range text rest (Ok read) small inside e (n, there, is) =
+    let (written, same) = written_there text range bytes rest small inside e in
+    sym (is ∙ same_taken text text range n (length bytes) refl there written ∙ same)
 bytes_back bytes range text rest (Err error) small inside e h =
     only_memory text text range (length bytes) error refl (written_there text range bytes rest small inside e).0 h
 
 pub view_back : (view : View) (range : RangeCfg) (text : MarkedText) (rest : List ℕ) (answer : Result View Error) → length view.bytes < 2 ^ 64 → in_range range (length view.bytes) ≡ true
     → text.bytes ≡ view_written view ++ rest → IsViewRead text range answer → IsReadBack (λ x y. x.bytes ≡ y.bytes) view answer
-view_back view range text rest (Ok read) small inside e h =
-    let there = written_there text range view.bytes rest small inside e in
-    sym (bytes_of_read text h.0 read h.2 ∙ same_taken text text range h.0 (length view.bytes) refl h.1 there.0 ∙ there.1)
+view_back view range text rest (Ok read) small inside e (n, there, is) =
+    let (written, same) = written_there text range view.bytes rest small inside e in
+    sym (bytes_of_read text n read is ∙ same_taken text text range n (length view.bytes) refl there written ∙ same)
 view_back view range text rest (Err error) small inside e h =
     only_memory text text range (length view.bytes) error refl (written_there text range view.bytes rest small inside e).0 h
 
@@ -208,9 +229,9 @@ no_number_fault written size bytes error long h = let short = (number_fault writ
 
 same_number : (written : ℕ → List ℕ) (size : ℕ) (bytes : List ℕ) (a b : Result ℕ Error) → IsNumberForm written size → IsNumberRead written size bytes a
     → IsNumberRead written size bytes b → IsReadAlike (λ m n. m ≡ n) a b
-same_number written size bytes (Ok m) (Ok n) form p q = form.one m n p.0 q.0 (p.2 ∙ sym q.2)
-same_number written size bytes (Ok m) (Err error) form p q = absurd (no_number_fault written size bytes error p.1 q)
-same_number written size bytes (Err error) (Ok n) form p q = absurd (no_number_fault written size bytes error q.1 p)
+same_number written size bytes (Ok m) (Ok n) form p q = form.one m n p.small q.small (p.is ∙ sym q.is)
+same_number written size bytes (Ok m) (Err error) form p q = absurd (no_number_fault written size bytes error p.long q)
+same_number written size bytes (Err error) (Ok n) form p q = absurd (no_number_fault written size bytes error q.long p)
 same_number written size bytes (Err a) (Err b) form p q = inl ((number_fault written size bytes a p).0 ∙ sym (number_fault written size bytes b q).0)
 
 pub number_alike : (written : ℕ → List ℕ) (size : ℕ) → IsNumberForm written size → (s t : MarkedText) (a b : Result ℕ Error) → s.bytes ≡ t.bytes → IsNumberRead written size s.bytes a
@@ -219,8 +240,8 @@ number_alike written size form s t a b e p q = same_number written size t.bytes 
 
 pub number_back : (written : ℕ → List ℕ) (size n : ℕ) (bytes rest : List ℕ) (answer : Result ℕ Error) → IsNumberForm written size → n < 256 ^ size → bytes ≡ written n ++ rest
     → IsNumberRead written size bytes answer → IsReadBack (λ x y. x ≡ y) n answer
-number_back written size n bytes rest (Ok m) form small e h =
-    form.one n m small h.0 (sym (h.2 ∙ ap (take size) e ∙ take_at (written n) rest size (form.long n)))
+number_back written size n bytes rest (Ok m) form small e read =
+    form.one n m small read.small (sym (read.is ∙ ap (take size) e ∙ take_at (written n) rest size (form.long n)))
 number_back written size n bytes rest (Err error) form small e h =
     let long : size ≤ length bytes = omega (arith, ap (λ (xs : List ℕ). length xs) e, length-append (written n) rest, form.long n) in
     absurd (no_number_fault written size bytes error long h)

@@ -11,8 +11,8 @@ use Rattle.iobufs_core.specs.Spelling.{spell_within, spell, IsSpelledAt, IsSpell
 
 -- a byte with the top bit in front of a spelling
 pub grow : (b high n : ℕ) (xs : List ℕ) → 128 ≤ b → b < 256 → 0 < high → n + 128 ≡ b + 128 * high → IsSpelling xs high → IsSpelling (b ∷ xs) n
-grow b high n [] low top some sum is = elim is [ ]
-grow b high n (c ∷ bs) low top some sum is = (low, top, high, some, sum, is)
+grow b high n [] top byte some sum is = elim is [ ]
+grow b high n (c ∷ bs) top byte some sum is = record { top = top; byte = byte; high = high; some = some; sum = sum; rest = is }
 
 step : (t : Bool) (n : ℕ) (xs : List ℕ) → nat_lt n 128 ≡ t → (128 ≤ n → IsSpelling xs (n / 128)) → IsSpelling (if t then n ∷ [] else (128 + n % 128) ∷ xs) n
 step true n xs e next = (ltb-true n 128 e, refl)
@@ -42,18 +42,15 @@ one_form (b ∷ []) (c ∷ []) x y m n p q e =
     (ap (λ z. z ∷ []) h, p.1 ∙ h ∙ sym q.1)
 one_form (b ∷ []) (c ∷ d ∷ ds) x y m n p q e =
     let h : b ≡ c = cc in
-    let low = p.0 in let high = q.0 in absurd (omega arith)
+    let low = p.0 in let high = q.top in absurd (omega arith)
 one_form (b ∷ c ∷ bs) (d ∷ []) x y m n p q e =
     let h : b ≡ d = cc in
-    let low = q.0 in let high = p.0 in absurd (omega arith)
+    let low = q.0 in let high = p.top in absurd (omega arith)
 one_form (b ∷ c ∷ bs) (d ∷ f ∷ ds) x y m n p q e =
     let h : b ≡ d = cc in
     let t : (c ∷ bs) ++ x ≡ (f ∷ ds) ++ y = cc in
-    let rest = one_form (c ∷ bs) (f ∷ ds) x y p.2 q.2 p.5 q.5 t in
-    let same : p.2 ≡ q.2 = rest.1 in
-    let first = p.4 in
-    let second = q.4 in
-    (cc (rest.0, h), omega arith)
+    let rest = one_form (c ∷ bs) (f ∷ ds) x y p.high q.high p.rest q.rest t in
+    (cc (rest.0, h), omega (arith, h, rest.1, p.sum, q.sum))
 
 -- a number has one spelling
 pub same_form : (a b : List ℕ) (n : ℕ) → IsSpelling a n → IsSpelling b n → a ≡ b
@@ -61,16 +58,14 @@ same_form [] b n p q = elim p [ ]
 same_form a [] n p q = elim q [ ]
 same_form (b ∷ []) (c ∷ []) n p q = ap (λ z. z ∷ []) (sym p.1 ∙ q.1)
 same_form (b ∷ []) (c ∷ d ∷ ds) n p q =
-    let low = p.0 in let is = p.1 in let high = q.0 in let some = q.3 in let sum = q.4 in absurd (omega arith)
+    absurd (omega (arith, p.0, p.1, q.top, q.some, q.sum))
 same_form (b ∷ c ∷ bs) (d ∷ []) n p q =
-    let low = q.0 in let is = q.1 in let high = p.0 in let some = p.3 in let sum = p.4 in absurd (omega arith)
+    absurd (omega (arith, q.0, q.1, p.top, p.some, p.sum))
 same_form (b ∷ c ∷ bs) (d ∷ f ∷ ds) n p q =
-    let low = p.0 in let top = p.1 in let sum = p.4 in
-    let low' = q.0 in let top' = q.1 in let sum' = q.4 in
-    let high : q.2 ≡ p.2 = omega arith in
-    let first : b ≡ d = omega arith in
-    let rest : IsSpelling (f ∷ ds) p.2 = subst (IsSpelling (f ∷ ds)) high q.5 in
-    cc (first, same_form (c ∷ bs) (f ∷ ds) p.2 p.5 rest)
+    let high : q.high ≡ p.high = omega (arith, p.top, p.byte, p.sum, q.top, q.byte, q.sum) in
+    let first : b ≡ d = omega (arith, high, p.sum, q.sum) in
+    let rest : IsSpelling (f ∷ ds) p.high = subst (IsSpelling (f ∷ ds)) high q.rest in
+    cc (first, same_form (c ∷ bs) (f ∷ ds) p.high p.rest rest)
 
 -- ---- what is read is a spelling
 
@@ -106,7 +101,7 @@ spelled_front text n at = subst (λ xs. IsSpelling xs n) (sym at.1) (spelled n a
 no_end : (xs : List ℕ) (n : ℕ) → AreHigh xs → IsSpelling xs n → ⊥
 no_end [] n high is = is
 no_end (b ∷ []) n high is = let low = is.0 in let up = high.0 in absurd (omega arith)
-no_end (b ∷ c ∷ bs) n high is = no_end (c ∷ bs) is.2 high.1 is.5
+no_end (b ∷ c ∷ bs) n high is = no_end (c ∷ bs) is.high high.1 is.rest
 
 pub AreHigh-take : (k : ℕ) (xs : List ℕ) → AreHigh xs → AreHigh (take k xs)
 AreHigh-take zero xs high = tt
@@ -121,10 +116,10 @@ AreHigh-append (b ∷ bs) ys p q = (p.0, AreHigh-append bs ys p.1 q)
 zero_end : (k : ℕ) (h : ℕ) (hs more : List ℕ) (n : ℕ) → AreHigh (h ∷ hs) → IsSpelling (take k ((h ∷ hs) ++ 0 ∷ more)) n → ⊥
 zero_end zero h hs more n high is = is
 zero_end (suc zero) h hs more n high is = let low = is.0 in let up = high.0 in absurd (omega arith)
-zero_end (suc (suc zero)) h [] more n high is = let some = is.3 in let none = is.5.1 in absurd (omega arith)
-zero_end (suc (suc (suc k))) h [] [] n high is = let some = is.3 in let none = is.5.1 in absurd (omega arith)
-zero_end (suc (suc (suc k))) h [] (m ∷ ms) n high is = let low = is.5.0 in absurd (omega arith)
-zero_end (suc (suc k)) h (g ∷ gs) more n high is = zero_end (suc k) g gs more is.2 high.1 is.5
+zero_end (suc (suc zero)) h [] more n high is = let (low, none) = is.rest in absurd (omega (arith, is.some, none))
+zero_end (suc (suc (suc k))) h [] [] n high is = let (low, none) = is.rest in absurd (omega (arith, is.some, none))
+zero_end (suc (suc (suc k))) h [] (m ∷ ms) n high is = let more = is.rest in absurd (omega (arith, more.top))
+zero_end (suc (suc k)) h (g ∷ gs) more n high is = zero_end (suc k) g gs more is.high high.1 is.rest
 
 -- bytes with the top bit set spell no length, though more may follow behind the tenth
 pub none_high : (text : List ℕ) → AreHigh text → HasNoLength text

@@ -14,12 +14,20 @@ spell n = spell_within 9 n
 abbrev pub IsSpelledAt : List ℕ → ℕ → Type 0
 IsSpelledAt bytes n = (n < 2 ^ 64) × (take (length (spell n)) bytes ≡ spell n)
 
--- the same by cases on the bytes: a byte below 128 is the last, and stands for itself; one from 128 on has the low seven
--- bits, and the bytes behind it stand for the rest, which isn't 0
+-- a byte from 128 on has the low seven bits of a number, and what is behind it stands for the rest, which isn't 0
+pub record GoesOn (b n : ℕ) (IsOfRest : ℕ → Type 0) : Type 0 where
+  pub top : 128 ≤ b
+  pub byte : b < 256
+  pub high : ℕ
+  pub some : 0 < high
+  pub sum : n + 128 ≡ b + 128 * high
+  pub rest : IsOfRest high
+
+-- bytes spell a number, by cases: a byte below 128 is the last, and stands for itself; with one from 128 on they go on
 abbrev pub IsSpelling : List ℕ → ℕ → Type 0
 IsSpelling [] n = ⊥
 IsSpelling (b ∷ []) n = (b < 128) × (n ≡ b)
-IsSpelling (b ∷ c ∷ bs) n = (128 ≤ b) × (b < 256) × (high : ℕ) × (0 < high) × (n + 128 ≡ b + 128 * high) × IsSpelling (c ∷ bs) high
+IsSpelling (b ∷ c ∷ bs) n = GoesOn b n (IsSpelling (c ∷ bs))
 
 -- each byte has the top bit set
 abbrev pub AreHigh : List ℕ → Type 0

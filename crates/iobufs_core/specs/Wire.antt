@@ -34,15 +34,28 @@ IsLengthRead bytes range (Ok n) = IsSpelledAt bytes n × (in_range range n ≡ t
 IsLengthRead bytes range (Err (InvalidLength n)) = IsSpelledAt bytes n × (in_range range n ≡ false)
 IsLengthRead bytes range (Err error) = IsNoLength bytes error
 
+-- a number stands in front, written as so many bytes
+pub record IsInFront (written : ℕ → List ℕ) (size : ℕ) (bytes : List ℕ) (n : ℕ) : Type 0 where
+  pub small : n < 256 ^ size
+  pub long : size ≤ length bytes
+  pub is : written n ≡ take size bytes
+
 -- what reading a number of so many bytes answers: the number whose written bytes stand in front; the end of the buffer where there are fewer bytes
 abbrev pub IsNumberRead : (ℕ → List ℕ) → ℕ → List ℕ → Result ℕ Error → Type 0
-IsNumberRead written size bytes (Ok n) = (n < 256 ^ size) × (size ≤ length bytes) × (written n ≡ take size bytes)
+IsNumberRead written size bytes (Ok n) = IsInFront written size bytes n
 IsNumberRead written size bytes (Err EndOfBuffer) = length bytes < size
 IsNumberRead written size bytes (Err error) = ⊥
 
 -- a length in the range is spelled in front, and so many bytes are behind it
 abbrev pub HasView : MarkedText → RangeCfg → ℕ → Type 0
 HasView text range n = IsLengthRead text.bytes range (Ok n) × (length (spell n) + n ≤ length text.bytes)
+
+-- the bytes behind a length were read as this value, which is made of a view of them, and dropped with it
+pub record IsTaken {Value Reader : Type 0} (makes : View → Value → Type 0) (copied : Reader → ℕ → Reader) (text : MarkedText) (range : RangeCfg) (old new : Reader) (value : Value) : Type 0 where
+  pub n : ℕ
+  pub there : HasView text range n
+  pub made : makes (taken_view text (length (spell n)) n) value
+  pub left : new ≡ copied old (length (spell n) + n)
 
 -- why no view is read: the fault of its length, fewer bytes behind it than it says, or bytes that find no memory
 abbrev pub IsViewFault : MarkedText → RangeCfg → Error → Type 0

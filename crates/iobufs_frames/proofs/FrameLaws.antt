@@ -6,6 +6,7 @@ use Rattle.std.proofs.lemmas.Bool.{ltb-true, ltb-false}
 use Rattle.std.proofs.lemmas.List.{append-nil, map-append, length-take, take-append-le}
 use Rattle.iobufs_core.specs.CallerFacts.{one_front, read_and_left, read_in_range, view_there}
 use Rattle.iobufs_core.specs.Ranges.{in_range}
+use Rattle.iobufs_core.specs.ReadLaws.{IsOutside, not_both, one_outside}
 use Rattle.iobufs_core.specs.Spelled.{length-spell, none_high, spelled, spelled_as_one, spelled_before, spelled_front}
 use Rattle.iobufs_core.specs.Spelling.{spell, IsSpelledAt, IsSpelling, AreHigh, HasNoLength, IsOpen}
 use Rattle.iobufs_core.specs.View.{View}
@@ -15,42 +16,40 @@ use Rattle.iobufs_core.specs.declared.codec.base.Error.{Error}
 use Rattle.iobufs_core.specs.declared.codec.base.Error.TheVariants.{EndOfBuffer, InvalidVarint, InvalidLength, Memory, BadLayout, TooLong}
 use Rattle.iobufs_core.specs.declared.codec.base.RangeCfg.{RangeCfg}
 use Rattle.iobufs.specs.Laws.Joined.{bytes-append}
-use Rattle.iobufs_frames.specs.Frames.{frames_written, AreAdmitted, AreMoved, HasBytes, HasNoFrame, IsFramed, IsNext, IsFirst, bodies, found_of}
+use Rattle.iobufs_frames.specs.Frames.{frames_written, AreAdmitted, AreAlike, AreMoved, BeginsWithBytes, HasBytes, HasNoFrame, IsAdmitted, IsFramed, IsNext, IsFirst, IsTaken, bodies, found_of}
 use Rattle.iobufs_frames.specs.declared.End.{End}
 use Rattle.iobufs_frames.specs.declared.End.TheVariants.{Open, Bad}
 
 -- ---- why no frame stands in front
 
+-- no length is spelled in front, nor may one have begun
+record IsUnspelled (bytes : List ℕ) (error : Error) : Type 0 where
+  told : error ≡ InvalidVarint
+  never : HasNoLength bytes
+  closed : IsOpen bytes → ⊥
+
 -- the front is bad
 IsBad : RangeCfg → List ℕ → Error → Type 0
-IsBad range bytes error =
-    ((error ≡ InvalidVarint) × HasNoLength bytes × (IsOpen bytes → ⊥))
-    ⊎ ((n : ℕ) × (error ≡ InvalidLength n) × IsSpelledAt bytes n × (in_range range n ≡ false))
+IsBad range bytes error = IsUnspelled bytes error ⊎ IsOutside bytes range error
 
 bad : (range : RangeCfg) (bytes : List ℕ) (error : Error) → HasNoFrame range bytes (Bad error) → IsBad range bytes error
 unfolding IsBad
 bad range bytes EndOfBuffer h = absurd h
-bad range bytes InvalidVarint h = inl (refl, h.0, h.1)
-bad range bytes (InvalidLength n) h = inr (n, refl, h.0, h.1)
+bad range bytes InvalidVarint h = inl (record { told = refl; never = h.0; closed = h.1 })
+bad range bytes (InvalidLength n) h = inr (record { n = n; told = refl; at = h.0; outside = h.1 })
 bad range bytes Memory h = absurd h
 bad range bytes BadLayout h = absurd h
 bad range bytes TooLong h = absurd h
-
--- a length in the range and one outside it are two
-not_both : (range : RangeCfg) (bytes : List ℕ) (m n : ℕ) → IsSpelledAt bytes m → in_range range m ≡ true → IsSpelledAt bytes n → in_range range n ≡ false → ⊥
-not_both range bytes m n p inside q outside =
-    let same : m ≡ n = spelled_as_one bytes m n p q in
-    let both : true ≡ false = sym inside ∙ ap (in_range range) same ∙ outside in cc
 
 -- open and bad are two
 open_or_bad : (range : RangeCfg) (bytes : List ℕ) (error : Error) → HasNoFrame range bytes Open → HasNoFrame range bytes (Bad error) → ⊥
 unfolding IsBad
 open_or_bad range bytes error p q =
     elim (bad range bytes error q) [
-      | inl none ↦ elim p [ inl opened ↦ none.2 opened.1 | inr short ↦ none.1 short.0 short.1.0 ]
+      | inl none ↦ elim p [ inl opened ↦ none.closed opened.1 | inr (n, (at, inside), few) ↦ none.never n at ]
       | inr out ↦ elim p [
-        | inl opened ↦ opened.0 out.0 out.2
-        | inr short ↦ not_both range bytes short.0 out.0 short.1.0 short.1.1 out.2 out.3
+        | inl opened ↦ opened.0 out.n out.at
+        | inr (n, (at, inside), few) ↦ not_both bytes range n error at inside out
       ]
     ]
 
@@ -58,10 +57,10 @@ one_bad : (range : RangeCfg) (bytes : List ℕ) (a b : Error) → HasNoFrame ran
 unfolding IsBad
 one_bad range bytes a b p q =
     elim (bad range bytes a p) [
-      | inl none ↦ elim (bad range bytes b q) [ inl nor ↦ none.0 ∙ sym nor.0 | inr out ↦ absurd (none.1 out.0 out.2) ]
+      | inl none ↦ elim (bad range bytes b q) [ inl nor ↦ none.told ∙ sym nor.told | inr out ↦ absurd (none.never out.n out.at) ]
       | inr out ↦ elim (bad range bytes b q) [
-        | inl none ↦ absurd (none.1 out.0 out.2)
-        | inr too ↦ out.1 ∙ ap InvalidLength (spelled_as_one bytes out.0 too.0 out.2 too.2) ∙ sym too.1
+        | inl none ↦ absurd (none.never out.n out.at)
+        | inr too ↦ one_outside bytes range a b out too
       ]
     ]
 
@@ -82,24 +81,22 @@ length-in_front : (body more : List ℕ) → length (spell (length body)) + leng
 length-in_front body more = omega (arith, length-append (bytes_written body) more, length-append (spell (length body)) body)
 
 -- it is there
-stands : (range : RangeCfg) (body more : List ℕ) (end : End) → length body < 2 ^ 64 → in_range range (length body) ≡ true
-    → HasNoFrame range (bytes_written body ++ more) end → ⊥
+stands : (range : RangeCfg) (body more : List ℕ) (end : End) → IsAdmitted range body → HasNoFrame range (bytes_written body ++ more) end → ⊥
 unfolding IsBad
-stands range body more Open small inside h =
-    let at = spelled_in_front body more small in
+stands range body more Open admitted h =
+    let spelled = spelled_in_front body more admitted.small in
     elim h [
-      | inl opened ↦ opened.0 (length body) at
-      | inr short ↦
-          let same : short.0 ≡ length body = spelled_as_one (bytes_written body ++ more) short.0 (length body) short.1.0 at in
-          let sum : length (spell short.0) + short.0 ≡ length (spell (length body)) + length body = ap (λ k. length (spell k) + k) same in
-          let less = short.2 in
-          let long = length-in_front body more in absurd (omega arith)
+      | inl opened ↦ opened.0 (length body) spelled
+      | inr (n, (at, inside), few) ↦
+          let same : n ≡ length body = spelled_as_one (bytes_written body ++ more) n (length body) at spelled in
+          let sum : length (spell n) + n ≡ length (spell (length body)) + length body = ap (λ k. length (spell k) + k) same in
+          absurd (omega (arith, few, sum, length-in_front body more))
     ]
-stands range body more (Bad error) small inside h =
-    let at = spelled_in_front body more small in
+stands range body more (Bad error) admitted h =
+    let spelled = spelled_in_front body more admitted.small in
     elim (bad range (bytes_written body ++ more) error h) [
-      | inl none ↦ none.1 (length body) at
-      | inr out ↦ not_both range (bytes_written body ++ more) (length body) out.0 at inside out.2 out.3
+      | inl none ↦ none.never (length body) spelled
+      | inr out ↦ not_both (bytes_written body ++ more) range (length body) error spelled admitted.inside out
     ]
 
 -- ---- one list of frames
@@ -107,30 +104,33 @@ stands range body more (Bad error) small inside h =
 pub framed_once : (range : RangeCfg) (text : List ℕ) (fs gs : List (List ℕ)) (a b : End) (x y : List ℕ)
     → text ≡ frames_written fs ++ x → AreAdmitted range fs → HasNoFrame range x a
     → text ≡ frames_written gs ++ y → AreAdmitted range gs → HasNoFrame range y b
-    → (fs ≡ gs) × (a ≡ b) × (x ≡ y)
+    → AreAlike fs gs a b x y
 framed_once range text [] [] a b x y e p h e' q h' =
     let same : x ≡ y = sym e ∙ e' in
-    (refl, one_end range y a b (subst (λ (xs : List ℕ). HasNoFrame range xs a) same h) h', same)
+    record { same_frames = refl; same_end = one_end range y a b (subst (λ (xs : List ℕ). HasNoFrame range xs a) same h) h'; same_rest = same }
 framed_once range text [] (g ∷ gs) a b x y e p h e' q h' =
     let front : x ≡ bytes_written g ++ (frames_written gs ++ y) = sym e ∙ e' ∙ append_assoc (bytes_written g) (frames_written gs) y in
-    absurd (stands range g (frames_written gs ++ y) a q.0 q.1 (subst (λ (xs : List ℕ). HasNoFrame range xs a) front h))
+    absurd (stands range g (frames_written gs ++ y) a q.0 (subst (λ (xs : List ℕ). HasNoFrame range xs a) front h))
 framed_once range text (f ∷ fs) [] a b x y e p h e' q h' =
     let front : y ≡ bytes_written f ++ (frames_written fs ++ x) = sym e' ∙ e ∙ append_assoc (bytes_written f) (frames_written fs) x in
-    absurd (stands range f (frames_written fs ++ x) b p.0 p.1 (subst (λ (xs : List ℕ). HasNoFrame range xs b) front h'))
-framed_once range text (f ∷ fs) (g ∷ gs) a b x y e p h e' q h' =
+    absurd (stands range f (frames_written fs ++ x) b p.0 (subst (λ (xs : List ℕ). HasNoFrame range xs b) front h'))
+framed_once range text (f ∷ fs) (g ∷ gs) a b x y e (fits, p) h e' (fits', q) h' =
     let left : text ≡ bytes_written f ++ (frames_written fs ++ x) = e ∙ append_assoc (bytes_written f) (frames_written fs) x in
     let right : text ≡ bytes_written g ++ (frames_written gs ++ y) = e' ∙ append_assoc (bytes_written g) (frames_written gs) y in
-    let (first, behind) = one_front f g (frames_written fs ++ x) (frames_written gs ++ y) p.0 q.0 (sym left ∙ right) in
-    let (others, ends, rests) = framed_once range (frames_written fs ++ x) fs gs a b x y refl p.2 h behind q.2 h' in
-    (ap (λ body. body ∷ fs) first ∙ ap (λ more. g ∷ more) others, ends, rests)
+    let (first, behind) = one_front f g (frames_written fs ++ x) (frames_written gs ++ y) fits.small fits'.small (sym left ∙ right) in
+    let others = framed_once range (frames_written fs ++ x) fs gs a b x y refl p h behind q h' in record {
+      same_frames = ap (λ body. body ∷ fs) first ∙ ap (λ more. g ∷ more) others.same_frames;
+      same_end = others.same_end;
+      same_rest = others.same_rest;
+    }
 
 -- ---- a text that grows
 
 -- what is in front of a spelling's last byte has the top bit set
 before_last : (front : List ℕ) (c : ℕ) (behind : List ℕ) (n : ℕ) → IsSpelling (front ++ c ∷ behind) n → AreHigh front
 before_last [] c behind n is = tt
-before_last (b ∷ []) c behind n is = (is.0, tt)
-before_last (b ∷ d ∷ front) c behind n is = (is.0, before_last (d ∷ front) c behind is.2 is.5)
+before_last (b ∷ []) c behind n is = (is.top, tt)
+before_last (b ∷ d ∷ front) c behind n is = (is.top, before_last (d ∷ front) c behind is.high is.rest)
 
 before_end : (front behind : List ℕ) (n : ℕ) → 0 < length behind → IsSpelling (front ++ behind) n → AreHigh front
 before_end front [] n some is = absurd (omega arith)
@@ -191,21 +191,25 @@ stays_bad range bytes more TooLong h = absurd h
 
 -- a view that finds no memory is a frame with bytes
 wanted : (range : RangeCfg) (t : MarkedText) (n : ℕ) → HasView t range n → 0 < n → HasBytes range t.bytes
-wanted range t n has some =
+wanted range t n (((small, at), inside), long) some =
     let view = taken_view t (length (spell n)) n in
-    let (len, fits, whole) = view_there t n view has.0.0.1 has.1 refl in
-    let small = has.0.0.0 in
-    (view.bytes, drop (length (view_written view)) t.bytes, (omega arith, ap (in_range range) len ∙ has.0.1, tt), whole, omega arith)
+    let there = view_there t n view at long refl in record {
+      body = view.bytes;
+      more = drop (length (view_written view)) t.bytes;
+      admitted = record { small = omega (arith, there.long, small); inside = ap (in_range range) there.long ∙ inside };
+      whole = there.whole;
+      some = omega (arith, there.long, some);
+    }
 
 next_by_reading : (range : RangeCfg) (t new : MarkedText) (read : Result View Error) → IsViewRead t range read
     → IfOk read (λ view. new ≡ text_rest t (length (view_written view))) → IsNext range t.bytes (found_of read) new.bytes
 next_by_reading range t new (Ok view) h left =
     let (small, inside) = read_in_range t range (Ok view) h in
-    (small, inside, read_and_left t new range (Ok view) h left)
+    (record { small = small; inside = inside }, read_and_left t new range (Ok view) h left)
 next_by_reading range t new (Err EndOfBuffer) h left = h
 next_by_reading range t new (Err InvalidVarint) h left = h
 next_by_reading range t new (Err (InvalidLength n)) h left = h
-next_by_reading range t new (Err Memory) h left = wanted range t h.0 h.1 h.2
+next_by_reading range t new (Err Memory) (n, there, some) left = wanted range t n there some
 next_by_reading range t new (Err BadLayout) h left = h
 next_by_reading range t new (Err TooLong) h left = h
 
@@ -220,29 +224,33 @@ none_in_front range old end now [] rest h is =
     (refl, one_end range rest end now is.ends (subst (λ (xs : List ℕ). HasNoFrame range xs now) is.whole h))
 none_in_front range old end now (f ∷ fs) rest h is =
     let front : old ≡ bytes_written f ++ (frames_written fs ++ rest) = is.whole ∙ append_assoc (bytes_written f) (frames_written fs) rest in
-    let admitted = is.admitted in
-    absurd (stands range f (frames_written fs ++ rest) now admitted.0 admitted.1 (subst (λ (xs : List ℕ). HasNoFrame range xs now) front h))
+    let (admitted, others) = is.admitted in
+    absurd (stands range f (frames_written fs ++ rest) now admitted (subst (λ (xs : List ℕ). HasNoFrame range xs now) front h))
 
 -- a frame in front is the first
 first_is : (range : RangeCfg) (old new body : List ℕ) (end : End) (frames : List (List ℕ)) (rest : List ℕ)
-    → length body < 2 ^ 64 → in_range range (length body) ≡ true → old ≡ bytes_written body ++ new
-    → IsFramed range old frames end rest → (others : List (List ℕ)) × (frames ≡ body ∷ others) × IsFramed range new others end rest
-first_is range old new body end [] rest small inside e is =
-    absurd (stands range body new end small inside (subst (λ (xs : List ℕ). HasNoFrame range xs end) (sym is.whole ∙ e) is.ends))
-first_is range old new body end (f ∷ fs) rest small inside e is =
-    let admitted = is.admitted in
+    → IsAdmitted range body → old ≡ bytes_written body ++ new
+    → IsFramed range old frames end rest → IsTaken range frames end rest body new
+first_is range old new body end [] rest admitted e is =
+    absurd (stands range body new end admitted (subst (λ (xs : List ℕ). HasNoFrame range xs end) (sym is.whole ∙ e) is.ends))
+first_is range old new body end (f ∷ fs) rest admitted e is =
+    let (first, others) = is.admitted in
     let whole : old ≡ bytes_written f ++ (frames_written fs ++ rest) = is.whole ∙ append_assoc (bytes_written f) (frames_written fs) rest in
-    let (same, behind) = one_front body f new (frames_written fs ++ rest) small admitted.0 (sym e ∙ whole) in
-    (fs, ap (λ first. first ∷ fs) (sym same), record { whole = behind; admitted = admitted.2; ends = is.ends })
+    let (same, behind) = one_front body f new (frames_written fs ++ rest) admitted.small first.small (sym e ∙ whole) in record {
+      others = fs;
+      first = ap (λ first. first ∷ fs) (sym same);
+      behind = record { whole = behind; admitted = others; ends = is.ends };
+    }
 
 first_wanted : (range : RangeCfg) (old : List ℕ) (end : End) (frames : List (List ℕ)) (rest : List ℕ) → HasBytes range old
-    → IsFramed range old frames end rest → (body : List ℕ) × (others : List (List ℕ)) × (frames ≡ body ∷ others) × (0 < length body)
-first_wanted range old end frames rest (body, more, admitted, e, some) is =
-    let (others, first, behind) = first_is range old more body end frames rest admitted.0 admitted.1 e is in (body, others, first, some)
+    → IsFramed range old frames end rest → BeginsWithBytes frames
+first_wanted range old end frames rest has is =
+    let taken = first_is range old has.more has.body end frames rest has.admitted has.whole is in
+    record { body = has.body; others = taken.others; first = taken.first; some = has.some }
 
 pub first_of_next : (range : RangeCfg) (old new : List ℕ) (result : Result (Option View) Error) → IsNext range old result new
     → (frames : List (List ℕ)) (end : End) (rest : List ℕ) → IsFramed range old frames end rest → IsFirst range frames end rest result new
-first_of_next range old new (Ok (Some view)) h frames end rest is = first_is range old new view.bytes end frames rest h.0 h.1 h.2 is
+first_of_next range old new (Ok (Some view)) h frames end rest is = first_is range old new view.bytes end frames rest h.0 h.1 is
 first_of_next range old new (Ok None) h frames end rest is = none_in_front range old end Open frames rest h is
 first_of_next range old new (Err EndOfBuffer) h frames end rest is = absurd h
 first_of_next range old new (Err InvalidVarint) h frames end rest is = none_in_front range old end (Bad InvalidVarint) frames rest h is
@@ -263,9 +271,9 @@ written-append : (fs gs : List (List ℕ)) → frames_written (fs ++ gs) ≡ fra
 written-append [] gs = refl
 written-append (f ∷ fs) gs = ap (λ xs. bytes_written f ++ xs) (written-append fs gs) ∙ sym (append_assoc (bytes_written f) (frames_written fs) (frames_written gs))
 
-one_more : (range : RangeCfg) (fs : List (List ℕ)) (body : List ℕ) → length body < 2 ^ 64 → in_range range (length body) ≡ true → AreAdmitted range fs → AreAdmitted range (fs ++ body ∷ [])
-one_more range [] body small inside fine = (small, inside, tt)
-one_more range (f ∷ fs) body small inside fine = (fine.0, fine.1, one_more range fs body small inside fine.2)
+one_more : (range : RangeCfg) (fs : List (List ℕ)) (body : List ℕ) → IsAdmitted range body → AreAdmitted range fs → AreAdmitted range (fs ++ body ∷ [])
+one_more range [] body admitted fine = (admitted, tt)
+one_more range (f ∷ fs) body admitted fine = (fine.0, one_more range fs body admitted fine.1)
 
 some_byte : (xs : List ℕ) (n : ℕ) → IsSpelling xs n → 0 < length xs
 some_byte [] n is = absurd is
@@ -281,27 +289,20 @@ shorter body old new small e =
 
 moved_body : (range : RangeCfg) (old new : List ℕ) (body : View) (views more : List View) → IsNext range old (Ok (Some body)) new → more ≡ views ++ body ∷ []
     → AreMoved range (bodies views) old (bodies more) new × (length new < length old)
-moved_body range old new body views more h e =
+moved_body range old new body views more (admitted, whole) e =
     let listed : bodies more ≡ bodies views ++ body.bytes ∷ [] = ap bodies e ∙ map-append (λ (v : View). v.bytes) views (body ∷ []) in
     let written : frames_written (bodies more) ≡ frames_written (bodies views) ++ bytes_written body.bytes =
     ap frames_written listed ∙ written-append (bodies views) (body.bytes ∷ []) ∙ ap (λ xs. frames_written (bodies views) ++ xs) (append-nil (bytes_written body.bytes)) in (
       (
-        ap (λ xs. frames_written (bodies views) ++ xs) h.2 ∙ sym (append_assoc (frames_written (bodies views)) (bytes_written body.bytes) new) ∙ ap (λ xs. xs ++ new) (sym written),
-        λ fine. subst (AreAdmitted range) (sym listed) (one_more range (bodies views) body.bytes h.0 h.1 fine),
+        ap (λ xs. frames_written (bodies views) ++ xs) whole ∙ sym (append_assoc (frames_written (bodies views)) (bytes_written body.bytes) new) ∙ ap (λ xs. xs ++ new) (sym written),
+        λ fine. subst (AreAdmitted range) (sym listed) (one_more range (bodies views) body.bytes admitted fine),
       ),
-      shorter body.bytes old new h.0 h.2,
+      shorter body.bytes old new admitted.small whole,
     )
 
 pub moved_one : (range : RangeCfg) (old new : List ℕ) (body : View) (found : Option View) (views more : List View) → found ≡ Some body → IsNext range old (Ok found) new → more ≡ views ++ body ∷ []
     → AreMoved range (bodies views) old (bodies more) new × (length new < length old)
 moved_one range old new body found views more is h e = moved_body range old new body views more (subst (λ (o : Option View). IsNext range old (Ok o) new) is h) e
-
--- frames go over behind others that went over
-pub moved_on : (range : RangeCfg) (fs gs hs : List (List ℕ)) (x y z : List ℕ) → AreMoved range fs x gs y → AreMoved range gs y hs z → AreMoved range fs x hs z
-moved_on range fs gs hs x y z p q = (p.0 ∙ q.0, λ fine. q.1 (p.1 fine))
-
-pub none_moved : (range : RangeCfg) (fs : List (List ℕ)) (x : List ℕ) → AreMoved range fs x fs x
-none_moved range fs x = (refl, λ fine. fine)
 
 -- ---- a text in pieces
 
@@ -324,15 +325,4 @@ fed_bad range text piece rest new frames end error is bad e =
       ends =
           subst (λ (xs : List ℕ). HasNoFrame range xs end) (sym e)
           (subst (λ (d : End). HasNoFrame range (rest ++ piece) d) (sym bad) (stays_bad range rest piece error (subst (λ (d : End). HasNoFrame range rest d) bad is.ends)));
-    }
-
--- the frames of what is left behind a piece stand behind those of before
-pub fed_open : (range : RangeCfg) (text piece rest new left : List ℕ) (frames more : List (List ℕ)) (old end : End) → IsFramed range text frames old rest
-    → new ≡ rest ++ piece → AreMoved range frames new more left → HasNoFrame range left end → IsFramed range (text ++ piece) more end left
-fed_open range text piece rest new left frames more old end is e moved ends =
-    record {
-      whole =
-          ap (λ xs. xs ++ piece) is.whole ∙ append_assoc (frames_written frames) rest piece ∙ ap (λ xs. frames_written frames ++ xs) (sym e) ∙ moved.0;
-      admitted = moved.1 is.admitted;
-      ends = ends;
     }

@@ -20,10 +20,15 @@ abbrev pub frames_written : List (List ℕ) → List ℕ
 frames_written [] = []
 frames_written (body ∷ bodies) = bytes_written body ++ frames_written bodies
 
--- each length is in the range, and below 2 ^ 64
+-- the length of a body is in the range, and below 2 ^ 64
+pub record IsAdmitted (range : RangeCfg) (body : List ℕ) : Type 0 where
+  pub small : length body < 2 ^ 64
+  pub inside : in_range range (length body) ≡ true
+
+-- the same of each body
 abbrev pub AreAdmitted : RangeCfg → List (List ℕ) → Type 0
 AreAdmitted range [] = Unit {0}
-AreAdmitted range (body ∷ bodies) = (length body < 2 ^ 64) × (in_range range (length body) ≡ true) × AreAdmitted range bodies
+AreAdmitted range (body ∷ bodies) = IsAdmitted range body × AreAdmitted range bodies
 
 -- No whole frame stands in front. It is open where its length may go on, or where there are fewer bytes behind the length
 -- than it says; it is bad where no length is spelled there, or one outside the range.
@@ -34,9 +39,12 @@ HasNoFrame range bytes (Bad EndOfBuffer) = ⊥
 HasNoFrame range bytes (Bad error) = IsLengthRead bytes range (Err error)
 
 -- a whole frame with bytes stands in front
-abbrev pub HasBytes : RangeCfg → List ℕ → Type 0
-HasBytes range bytes =
-    (body : List ℕ) × (more : List ℕ) × AreAdmitted range (body ∷ []) × (bytes ≡ bytes_written body ++ more) × (0 < length body)
+pub record HasBytes (range : RangeCfg) (bytes : List ℕ) : Type 0 where
+  pub body : List ℕ
+  pub more : List ℕ
+  pub admitted : IsAdmitted range body
+  pub whole : bytes ≡ bytes_written body ++ more
+  pub some : 0 < length body
 
 -- The frames of a text, why no further one stands behind them, and what is behind them
 pub record IsFramed (range : RangeCfg) (text : List ℕ) (frames : List (List ℕ)) (end : End) (rest : List ℕ) : Type 0 where
@@ -56,16 +64,29 @@ found_of (Err error) = Err error
 
 -- What taking one frame answers of a text, and the text that it leaves. Memory is wanted only for a frame with bytes.
 abbrev pub IsNext : RangeCfg → List ℕ → Result (Option View) Error → List ℕ → Type 0
-IsNext range old (Ok (Some body)) new = (length body.bytes < 2 ^ 64) × (in_range range (length body.bytes) ≡ true) × (old ≡ bytes_written body.bytes ++ new)
+IsNext range old (Ok (Some body)) new = IsAdmitted range body.bytes × (old ≡ bytes_written body.bytes ++ new)
 IsNext range old (Ok None) new = HasNoFrame range old Open
 IsNext range old (Err Memory) new = HasBytes range old
 IsNext range old (Err error) new = HasNoFrame range old (Bad error)
 
+-- the first frame of a text is taken, and what is left are the others
+pub record IsTaken (range : RangeCfg) (frames : List (List ℕ)) (end : End) (rest body new : List ℕ) : Type 0 where
+  pub others : List (List ℕ)
+  pub first : frames ≡ body ∷ others
+  pub behind : IsFramed range new others end rest
+
+-- the first frame has bytes
+pub record BeginsWithBytes (frames : List (List ℕ)) : Type 0 where
+  pub body : List ℕ
+  pub others : List (List ℕ)
+  pub first : frames ≡ body ∷ others
+  pub some : 0 < length body
+
 -- the same of the frames of the text: the first is taken; where there is none, the answer is by the end
 abbrev pub IsFirst : RangeCfg → List (List ℕ) → End → List ℕ → Result (Option View) Error → List ℕ → Type 0
-IsFirst range frames end rest (Ok (Some taken)) new = (others : List (List ℕ)) × (frames ≡ taken.bytes ∷ others) × IsFramed range new others end rest
+IsFirst range frames end rest (Ok (Some taken)) new = IsTaken range frames end rest taken.bytes new
 IsFirst range frames end rest (Ok None) new = (frames ≡ []) × (end ≡ Open)
-IsFirst range frames end rest (Err Memory) new = (body : List ℕ) × (others : List (List ℕ)) × (frames ≡ body ∷ others) × (0 < length body)
+IsFirst range frames end rest (Err Memory) new = BeginsWithBytes frames
 IsFirst range frames end rest (Err error) new = (frames ≡ []) × (end ≡ Bad error)
 
 -- frames went over from the front of a text behind others
@@ -76,8 +97,14 @@ AreMoved range frames text more rest = (frames_written frames ++ text ≡ frames
 abbrev pub joined_bytes : List View → List ℕ
 joined_bytes views = flat_map (λ view. view.bytes) views
 
+-- two readings of a text are the same
+pub record AreAlike (frames others : List (List ℕ)) (end stop : End) (rest left : List ℕ) : Type 0 where
+  pub same_frames : frames ≡ others
+  pub same_end : end ≡ stop
+  pub same_rest : rest ≡ left
+
 -- a text has one list of frames, one end and one rest
 abbrev pub HaveOneReading : Type 0
 HaveOneReading =
     (range : RangeCfg) (text : List ℕ) (frames others : List (List ℕ)) (end stop : End) (rest left : List ℕ)
-    → IsFramed range text frames end rest → IsFramed range text others stop left → (frames ≡ others) × (end ≡ stop) × (rest ≡ left)
+    → IsFramed range text frames end rest → IsFramed range text others stop left → AreAlike frames others end stop rest left

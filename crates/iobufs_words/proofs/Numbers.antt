@@ -1,5 +1,5 @@
 -- What `parse` says of a word with no sign.
-use Rattle.std.proofs.Common.{◌≡◌, ◌≢◌, ℕ, ◌∷◌, [], List, get_or, Ok, Err, Some, None, true, arith, refl, sym, subst}
+use Rattle.std.proofs.Common.{◌≡◌, ◌≢◌, ℕ, ◌∷◌, [], List, get_or, Ok, Err, Some, None, true, arith, refl}
 use Rattle.std.proofs.lemmas.Bool.Decides.{nat_tests}
 use Rattle.std.proofs.lemmas.Str.Parse.{IsNumeralModel, numerals_by_value, tells_all_ascii_digits, parse_plain}
 use Rattle.std.specs.Str.{all_ascii_digits}
@@ -22,7 +22,3 @@ number_ok bs n h p = let k = parse_plain own {E = ℕ} 64 bs (Ok n) h (plain bs 
 
 pub number_err : (bs : List ℕ) → ParsesUnsigned {E = ℕ} 64 10 bs (Err 0) → unwrap_or (slice_get bs 0) 0 ≢ 43 → number_of bs ≡ None
 number_err bs h p = let k = parse_plain own {E = ℕ} 64 bs (Err 0) h (plain bs p) in grind (arith, nat_tests, k)
-
-pub number_signed : (bs : List ℕ) → unwrap_or (slice_get bs 0) 0 ≡ 43 → number_of bs ≡ None
-number_signed [] e = refl
-number_signed (b ∷ bs) e = subst (λ (x : ℕ). number_of (x ∷ bs) ≡ None) (sym e) (grind (arith, nat_tests))

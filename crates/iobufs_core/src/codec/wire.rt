@@ -3,7 +3,7 @@ ghost use Rattle.std.specs.Prelude.{◌≡◌, ◌⊎◌, ℕ, ◌+◌, ◌^◌,
 ghost use Rattle.iobufs_core.specs.View.{View};
 ghost use Rattle.iobufs_core.specs.MarkedText.{MarkedText, taken_view, text_advanced, text_rest};
 ghost use Rattle.iobufs_core.specs.Spelling.{spell};
-ghost use Rattle.iobufs_core.specs.Wire.{HasView, IsViewFault, view_items, view_written};
+ghost use Rattle.iobufs_core.specs.Wire.{IsTaken, IsViewFault, view_items, view_written};
 ghost use Rattle.iobufs_core.specs.ReadBack.{IsReadAlike, IsReadBack};
 ghost use Rattle.iobufs_core.specs.Dropping.{Dropping, by_advance, by_copy, dropped};
 ghost use Rattle.iobufs_core.specs.Items.{Item, put_item, push_item, items_bytes, items_inline, items_pushed, ArePuts, IsBegun};
@@ -268,7 +268,7 @@ pub(super) fn read_bytes<T: OwnedBytes, B: OwnedBuf>(
     buf: &mut B,
     range: &RangeCfg,
 ) -> Result<T, Error>
-    ensures ok { IfOk result (λ made. (n : ℕ) × HasView (B.marked buf.old) range.now n × T.makes (taken_view (B.marked buf.old) (length (spell n)) n) made × (buf.new ≡ B.copied buf.old (length (spell n) + n))) }
+    ensures ok { IfOk result (IsTaken T.makes B.copied (B.marked buf.old) range.now buf.old buf.new) }
     ensures fault { IfErr result (IsViewFault (B.marked buf.old) range.now) }
     ensures err { OnErr result (buf.new ≡ buf.old) }
 {

@@ -5,5 +5,7 @@ use Rattle.iobufs_frames.proofs.Frames.run.Given as goal
 -- what was fed so far is these frames and the rest, and with what is still to be fed it is the whole text
 abbrev pub invariant-loop-piece : goal.invariant-loop-piece
 invariant-loop-piece l = record {
-  so_far : (text : List ℕ) × IsFramed l.range text (bodies l.found.items) l.stop l.frames.bytes × (text ++ joined_bytes l.piece-iterator.rest.items ≡ joined_bytes l.initial.piece-iterator.rest.items);
+  text : List ℕ;
+  framed : IsFramed l.range text (bodies l.found.items) l.stop l.frames.bytes;
+  whole : text ++ joined_bytes l.piece-iterator.rest.items ≡ joined_bytes l.initial.piece-iterator.rest.items;
 }

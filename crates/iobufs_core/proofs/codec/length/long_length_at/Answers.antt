@@ -20,13 +20,13 @@ pub overflow_mul-result : goal.overflow_mul-result
 overflow_mul-result g c =
     let text = g.B.Buf.text c.args.buf.now in
     let fits = small text c.loop-i.i c.loop-i.value c.loop-i.place c.from.result c.loop-i.invariant (omega arith) (omega arith) in
-    omega arith
+    omega (arith, fits.product)
 
 pub overflow_add-result : goal.overflow_add-result
 overflow_add-result g c =
     let text = g.B.Buf.text c.args.buf.now in
     let fits = small text c.loop-i.i c.loop-i.value c.loop-i.place c.from.result c.loop-i.invariant (omega arith) (omega arith) in
-    omega arith
+    omega (arith, fits.sum)
 
 pub returns-then-byte-lt128-clause-ok : goal.returns-then-byte-lt128-clause-ok
 returns-then-byte-lt128-clause-ok g c =
@@ -34,25 +34,25 @@ returns-then-byte-lt128-clause-ok g c =
     let fits = small text c.loop-i.i c.loop-i.value c.loop-i.place c.from.result c.loop-i.invariant (omega arith) (omega arith) in
     let at : slice_get text c.loop-i.i ≡ Some c.from.result = sym c.byte_at.ensures ∙ c.in-Some.is ∙ ap Some (sym c.from.ensures) in
     let some : (c.loop-i.i ≡ 0) ⊎ (0 < c.from.result) = elim c.else-byte-eq0.either [ inl e ↦ inl e.1 | inr ne ↦ inr (omega arith) ] in
-    ends text c.loop-i.i c.loop-i.value c.loop-i.place c.from.result c.loop-i.invariant at (omega arith) some (omega arith)
+    ends text c.loop-i.i c.loop-i.value c.loop-i.place c.from.result c.loop-i.invariant at (omega arith) some (omega (arith, fits.sum))
 
 pub overflow_mul-value : goal.overflow_mul-value
 overflow_mul-value g c =
     let text = g.B.Buf.text c.args.buf.now in
     let fits = small text c.loop-i.i c.loop-i.value c.loop-i.place c.from-in-loop-i.result c.loop-i.invariant (omega arith) (omega arith) in
-    omega arith
+    omega (arith, fits.product)
 
 pub overflow_add-value : goal.overflow_add-value
 overflow_add-value g c =
     let text = g.B.Buf.text c.args.buf.now in
     let fits = small text c.loop-i.i c.loop-i.value c.loop-i.place c.from-in-loop-i.result c.loop-i.invariant (omega arith) (omega arith) in
-    omega arith
+    omega (arith, fits.sum)
 
 pub overflow_mul-place : goal.overflow_mul-place
 overflow_mul-place g c =
     let text = g.B.Buf.text c.args.buf.now in
     let fits = small text c.loop-i.i c.loop-i.value c.loop-i.place 0 c.loop-i.invariant (omega arith) (omega arith) in
-    omega arith
+    omega (arith, fits.factor)
 
 pub loop-i-preserved : goal.loop-i-preserved
 loop-i-preserved g c =
