@@ -15,10 +15,6 @@ view_rest-bytes v n h = grind (arith, nat_tests, common_steps)
 pub marked_view : (v : View) → IsView v → IsMarked (of_view v)
 marked_view v room = let len : length v.bytes - 0 ≡ length v.bytes = omega arith in rw len room
 
-pub right-of_view : (v : View) (n : ℕ) → text_right (of_view v) n ≡ of_view (view_advanced v n)
-unfolding text_right
-right-of_view v n = grind (arith, common_steps)
-
 pub text_rest-of_view : (v : View) (n : ℕ) → n ≤ length v.bytes → of_view (view_rest v n) ≡ text_rest (of_view v) n
 unfolding text_right
 text_rest-of_view v n h = grind (arith, nat_tests, common_steps)

@@ -1,7 +1,6 @@
-use Rattle.std.proofs.Common.{◌+◌, ◌≤◌, ap, arith, length, subst, sym, ◌∙◌, rules}
+use Rattle.std.proofs.Common.{◌+◌, ◌≤◌, ap, arith, length, rules, subst, ◌∙◌}
 use Rattle.std.specs.declared.ops.Bound.TheVariants.{Included, Excluded}
 use Rattle.iobufs_core.specs.View.{View, view_slice}
-use Rattle.iobufs.specs.Inside.Pieces.{piece_at, view_len}
 use Rattle.iobufs.specs.Inside.Several.{views}
 use Rattle.iobufs.proofs.Text.ReadLaws.{first-kept, length-behind, taken-within}
 use Rattle.iobufs.proofs.Text.SeveralLaws.{place-in_first}
