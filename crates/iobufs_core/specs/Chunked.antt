@@ -13,11 +13,11 @@ full_one (byte ∷ bytes) chunks some = refl
 length-cut_up : (bytes : List ℕ) (key : ℕ) (mark : Mark) (cuts : List (ℕ × Mark)) (end : ℕ) → AreCuts key mark cuts end → key < end → length bytes ≡ end - key
     → length (full_chunks (cut_up bytes key cuts)) ≡ suc (length cuts)
 length-cut_up bytes key mark [] end are some long = full_one bytes [] (omega arith)
-length-cut_up bytes key mark (cut ∷ cuts) end (low, high, room, others) some long =
-    let first = length-take-le (cut.0 - key) bytes (omega arith) in
+length-cut_up bytes key mark (cut ∷ cuts) end (is, others) some long =
+    let first = length-take-le (cut.0 - key) bytes (omega (arith, is.below, long)) in
     let rest : length (drop (cut.0 - key) bytes) ≡ end - cut.0 = omega (arith, length-drop (cut.0 - key) bytes) in
-    full_one (take (cut.0 - key) bytes) (cut_up (drop (cut.0 - key) bytes) cut.0 cuts) (omega arith)
-    ∙ ap suc (length-cut_up (drop (cut.0 - key) bytes) cut.0 cut.1 cuts end others high rest)
+    full_one (take (cut.0 - key) bytes) (cut_up (drop (cut.0 - key) bytes) cut.0 cuts) (omega (arith, first, is.rises))
+    ∙ ap suc (length-cut_up (drop (cut.0 - key) bytes) cut.0 cut.1 cuts end others is.below rest)
 
 pub length-text_chunks : (text : MarkedText) → IsMarked text → 0 < text_len text → length (text_chunks text) ≡ length text.cuts + 1
 unfolding text_chunks

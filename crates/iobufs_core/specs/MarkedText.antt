@@ -16,10 +16,16 @@ pub record MarkedText : Type 0 where
   pub mark : Mark
   pub cuts : List (ℕ × Mark)
 
+-- a cut lies behind a key and below the end, and the piece between them has room
+pub record IsCut (key : ℕ) (mark : Mark) (cut : ℕ × Mark) (end : ℕ) : Type 0 where
+  pub rises : key < cut.0
+  pub below : cut.0 < end
+  pub room : HasRoom mark (cut.0 - key)
+
 -- from a key with its mark on: the cuts rise, lie below the end, and each piece has room
 abbrev pub AreCuts : ℕ → Mark → List (ℕ × Mark) → ℕ → Type 0
 AreCuts key mark [] end = HasRoom mark (end - key)
-AreCuts key mark (cut ∷ cuts) end = (key < cut.0) × (cut.0 < end) × HasRoom mark (cut.0 - key) × AreCuts cut.0 cut.1 cuts end
+AreCuts key mark (cut ∷ cuts) end = IsCut key mark cut end × AreCuts cut.0 cut.1 cuts end
 
 abbrev pub IsMarked : MarkedText → Type 0
 IsMarked text = AreCuts 0 text.mark text.cuts (length text.bytes)

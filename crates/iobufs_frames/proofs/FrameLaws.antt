@@ -16,7 +16,7 @@ use Rattle.iobufs_core.specs.declared.codec.base.Error.{Error}
 use Rattle.iobufs_core.specs.declared.codec.base.Error.TheVariants.{EndOfBuffer, InvalidVarint, InvalidLength, Memory, BadLayout, TooLong}
 use Rattle.iobufs_core.specs.declared.codec.base.RangeCfg.{RangeCfg}
 use Rattle.iobufs.specs.Laws.Joined.{bytes-append}
-use Rattle.iobufs_frames.specs.Frames.{frames_written, AreAdmitted, AreAlike, AreMoved, BeginsWithBytes, HasBytes, HasNoFrame, IsAdmitted, IsFramed, IsNext, IsFirst, IsTaken, bodies, found_of}
+use Rattle.iobufs_frames.specs.Frames.{frames_written, AreAdmitted, AreAlike, AreMoved, BeginsWithBytes, HasBytes, HasNoFrame, IsAdmitted, IsFramed, IsNext, IsFirst, FirstTaken, bodies, found_of}
 use Rattle.iobufs_frames.specs.declared.End.{End}
 use Rattle.iobufs_frames.specs.declared.End.TheVariants.{Open, Bad}
 
@@ -230,7 +230,7 @@ none_in_front range old end now (f ∷ fs) rest h is =
 -- a frame in front is the first
 first_is : (range : RangeCfg) (old new body : List ℕ) (end : End) (frames : List (List ℕ)) (rest : List ℕ)
     → IsAdmitted range body → old ≡ bytes_written body ++ new
-    → IsFramed range old frames end rest → IsTaken range frames end rest body new
+    → IsFramed range old frames end rest → FirstTaken range frames end rest body new
 first_is range old new body end [] rest admitted e is =
     absurd (stands range body new end admitted (subst (λ (xs : List ℕ). HasNoFrame range xs end) (sym is.whole ∙ e) is.ends))
 first_is range old new body end (f ∷ fs) rest admitted e is =

@@ -70,7 +70,7 @@ IsNext range old (Err Memory) new = HasBytes range old
 IsNext range old (Err error) new = HasNoFrame range old (Bad error)
 
 -- the first frame of a text is taken, and what is left are the others
-pub record IsTaken (range : RangeCfg) (frames : List (List ℕ)) (end : End) (rest body new : List ℕ) : Type 0 where
+pub record FirstTaken (range : RangeCfg) (frames : List (List ℕ)) (end : End) (rest body new : List ℕ) : Type 0 where
   pub others : List (List ℕ)
   pub first : frames ≡ body ∷ others
   pub behind : IsFramed range new others end rest
@@ -84,7 +84,7 @@ pub record BeginsWithBytes (frames : List (List ℕ)) : Type 0 where
 
 -- the same of the frames of the text: the first is taken; where there is none, the answer is by the end
 abbrev pub IsFirst : RangeCfg → List (List ℕ) → End → List ℕ → Result (Option View) Error → List ℕ → Type 0
-IsFirst range frames end rest (Ok (Some taken)) new = IsTaken range frames end rest taken.bytes new
+IsFirst range frames end rest (Ok (Some taken)) new = FirstTaken range frames end rest taken.bytes new
 IsFirst range frames end rest (Ok None) new = (frames ≡ []) × (end ≡ Open)
 IsFirst range frames end rest (Err Memory) new = BeginsWithBytes frames
 IsFirst range frames end rest (Err error) new = (frames ≡ []) × (end ≡ Bad error)

@@ -9,9 +9,9 @@ use Rattle.iobufs.proofs.Text.PieceLaws.{right_pieces-within, right_pieces-past,
 
 pub AreCuts-up : (n k : ℕ) (m : Mark) (es : List (ℕ × Mark)) (end : ℕ) → AreCuts k m es end → AreCuts (n + k) m (map (moved_up n) es) (n + end)
 AreCuts-up n k m [] end h = let d : n + end - (n + k) ≡ end - k = omega arith in rw d h
-AreCuts-up n k m (e ∷ es) end (after, before, room, others) =
+AreCuts-up n k m (e ∷ es) end (is, others) =
     let d : n + e.0 - (n + k) ≡ e.0 - k = omega arith in
-    (omega (arith, after), omega (arith, before), rw d room, AreCuts-up n e.0 e.1 es end others)
+    (record { rises = omega (arith, is.rises); below = omega (arith, is.below); room = rw d is.room }, AreCuts-up n e.0 e.1 es end others)
 
 pub IsMarked-of_pieces : (v : View) (vs : List View) → IsPieces (v ∷ vs) → All IsView (v ∷ vs) → IsMarked (of_pieces (v ∷ vs))
 unfolding of_pieces text_glue
@@ -26,7 +26,7 @@ IsMarked-of_pieces v (w ∷ vs) (first, behind) h =
     let up : AreCuts (view_len v + 0) y.mark (map (moved_up (view_len v)) y.cuts) (view_len v + text_len y) = AreCuts-up (view_len v) 0 y.mark y.cuts (text_len y) ih in
     let z : view_len v + 0 ≡ view_len v = omega arith in
     let end : AreCuts (view_len v) y.mark (map (moved_up (view_len v)) y.cuts) (length (v.bytes ++ y.bytes)) = rw e (rw z at up) in
-    (omega (arith, first), omega (arith, behind.0), rw (no_sub (view_len v)) r, end)
+    (record { rises = omega (arith, first); below = omega (arith, behind.0); room = rw (no_sub (view_len v)) r }, end)
 
 -- the room of the pieces
 pub HasRoom-on : (m : Mark) (n k : ℕ) → HasRoom m n → HasRoom (mark_after k m) (n - k)
