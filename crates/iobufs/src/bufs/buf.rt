@@ -24,6 +24,7 @@ impl IoBufs {
     }
 
     // Drops the first bytes where the first piece has more. Else nothing changes.
+    #[inline(always)]
     fn shorten(&mut self, n: usize) -> bool
         requires { n ≤ text_len self.old }
         ensures answer { result ≡ nat_lt n (length (first_chunk (text_chunks self.old))) }
@@ -87,6 +88,7 @@ impl IoBufs {
     }
 
     // Takes bytes of the first piece out, and drops those in front too.
+    #[inline(always)]
     fn take_inside<T: OwnedBytes>(
         &mut self,
         alloc: Global,

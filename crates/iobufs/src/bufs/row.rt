@@ -148,6 +148,7 @@ impl Row {
     }
 
     /// Puts a piece behind the others; an empty one changes nothing.
+    #[inline(always)]
     pub(crate) fn add(&mut self, piece: IoBuf)
         requires fits { length (pieces_bytes self.old.views) + length piece.bytes < 2 ^ 64 }
         requires room { length self.old.views < self.old.room }

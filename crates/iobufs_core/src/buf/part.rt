@@ -285,6 +285,7 @@ impl IoBufMut {
     }
 
     /// The bytes as a read-only view (`IoBufMut::freeze`), with no copy. The default view where there are none.
+    #[inline(always)]
     pub fn freeze(self) -> Result<IoBuf, BufError>
         ensures ok { IfOk result (λ b. b ≡ part_frozen self) }
         ensures err { IsOkUnless result BufError.Memory }

@@ -189,6 +189,7 @@ impl IoBuf {
     }
 
     /// Takes the first `at` bytes away, in the same storage (`IoBuf::split_to`).
+    #[inline(always)]
     pub fn split_to(&mut self, at: usize) -> Result<IoBuf, BufError>
         requires { at ≤ length self.old.bytes }
         ensures front { IfOk result (λ front. front ≡ view_split_front self.old at) }

@@ -107,6 +107,7 @@ fn long_length_at<B: Buf>(buf: &B) -> Result<Spelled, Error>
 }
 
 /// The length that a text begins with, if it is in a range.
+#[inline(always)]
 pub(super) fn length_in<B: Buf>(buf: &B, range: &RangeCfg) -> Result<Spelled, Error>
     ensures ok { IfOk result (λ s. IsLengthRead (B.text buf.now) range.now (Ok s.value) × (s.len ≡ length (spell s.value))) }
     ensures err { IfErr result (λ error. IsLengthRead (B.text buf.now) range.now (Err error)) }
