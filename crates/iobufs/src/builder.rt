@@ -155,6 +155,7 @@ impl BufsMut for Builder {
     ghost done = { IsBuilt };
 
     #[tactic(auto, using(crate::proofs::Building::BuildLaws::building))]
+    #[inline(always)]
     fn push(&mut self, view: IoBuf) -> Result<(), Refused<IoBuf>> {
         let len = view.len();
         if len == 0 {

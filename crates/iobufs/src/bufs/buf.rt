@@ -295,6 +295,7 @@ impl OwnedBuf for IoBufs {
         IoBufs::chunk_count(self)
     }
 
+    #[inline(always)]
     fn take_owned_after<T: OwnedBytes>(
         &mut self,
         alloc: Global,

@@ -88,6 +88,7 @@ impl Pieces {
     }
 
     /// Drops the first `n` bytes where the first piece has more. Else nothing changes.
+    #[inline(always)]
     pub(super) fn shorten(&mut self, n: usize) -> bool
         requires pieced { IsPieced self.old }
         ensures answer { result ≡ nat_lt n (view_len (piece_at (views self.old) 0)) }

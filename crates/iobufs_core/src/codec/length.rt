@@ -57,6 +57,7 @@ pub(super) fn put_length<B: BufMut>(buf: &mut B, n: usize)
 }
 
 /// The length that a text begins with.
+#[inline(always)]
 fn length_at<B: Buf>(buf: &B) -> Result<Spelled, Error>
     ensures ok { IfOk result (λ s. IsSpelledAt (B.text buf.now) s.value × (s.len ≡ length (spell s.value))) }
     ensures err { IfErr result (IsNoLength (B.text buf.now)) }

@@ -70,6 +70,7 @@ pub trait OwnedBuf: Buf {
     ghost copies_marked: { (s : Self) (n : ℕ) → n ≤ length (Self.text s) → marked (Self.copied s n) ≡ text_rest (marked s) n };
 
     /// Takes the first `n` bytes out.
+    #[inline(always)]
     final fn take_owned<T: OwnedBytes>(&mut self, alloc: Global, n: usize) -> Result<T, BufError>
     where
         Self: Sized,
