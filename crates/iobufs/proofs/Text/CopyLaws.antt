@@ -1,8 +1,12 @@
 -- Bytes copied piece by piece.
-use Rattle.std.proofs.Common.{◌≡◌, ℕ, ◌+◌, ◌-◌, ◌<◌, ◌≤◌, List, [], ◌∷◌, ◌++◌, length, take, drop, map, zero, suc, min, sym, ap, ◌∙◌, arith, add-one, append-nil, append_assoc, length-append, length-drop, length-take-le, drop-cons, take_all, ⊎_elim, refl}
+use Rattle.std.proofs.Common.{◌≡◌, ℕ, ◌+◌, ◌-◌, ◌<◌, ◌≤◌, List, [], ◌∷◌, ◌++◌, length, take, drop, map, zero, suc, min, sym, ap, ◌∙◌, arith, add-one, append-nil, append_assoc, length-append, length-drop, length-take-le, drop-cons, get_or, take_all, ⊎_elim, refl}
 use Rattle.std.proofs.lemmas.List.{map-append, take-append-le, drop-append-le}
 use Rattle.std.proofs.lemmas.Bool.{cases_lt}
+use Rattle.std.proofs.lemmas.Grind.{flat_map-append}
+use Rattle.iobufs_core.specs.Part.{Part, part_put}
 use Rattle.iobufs_core.specs.View.{View, default_view}
+use Rattle.iobufs.specs.declared.bufs.row.Piece.{Piece}
+use Rattle.iobufs.specs.Inside.Ends.{views_in}
 use Rattle.iobufs.specs.Inside.Pieces.{view_len, piece_at, pieces_bytes}
 use Rattle.std.proofs.Common.{Result, Err, Ok, IsErrAnd, IsOkUnless}
 use Rattle.iobufs.specs.Laws.Filling.{take_past}
@@ -93,3 +97,32 @@ chunks-step now chunks more chunk ps i l h b m =
 pub only-cause : {A E : Type 0} (result : Result A E) (e cause : E) → IsErrAnd result (λ x. x ≡ e) → e ≡ cause → IsOkUnless result cause
 only-cause (Ok a) e cause h same = absurd h
 only-cause (Err x) e cause h same = h ∙ same
+
+-- a piece is put behind what is copied, before those from the next one on
+pub put-step : (ps : List Piece) (i : ℕ) (item : Piece) (copy more target : List ℕ) → drop i ps ≡ item ∷ drop (i + 1) ps → copy ++ pieces_bytes (views_in (drop i ps)) ≡ target → more ≡ copy ++ item.view.bytes → more ++ pieces_bytes (views_in (drop (i + 1) ps)) ≡ target
+put-step ps i item copy more target d s m =
+    let rest = pieces_bytes (views_in (drop (i + 1) ps)) in
+    ap (λ xs. xs ++ rest) m ∙ append_assoc copy item.view.bytes rest ∙ ap (λ (qs : List Piece). copy ++ pieces_bytes (views_in qs)) (sym d) ∙ s
+
+-- and there is room for it where there is for all that are to come
+pub put-fits : (ps : List Piece) (i : ℕ) (item : Piece) (copy target : List ℕ) (spare : ℕ) → drop i ps ≡ item ∷ drop (i + 1) ps → copy ++ pieces_bytes (views_in (drop i ps)) ≡ target → length target ≤ length copy + spare → length item.view.bytes ≤ spare
+put-fits ps i item copy target spare d s l =
+    let rest = pieces_bytes (views_in (drop (i + 1) ps)) in
+    let n = ap length (ap (λ (qs : List Piece). copy ++ pieces_bytes (views_in qs)) (sym d) ∙ s) in
+    omega (arith, length-append copy (item.view.bytes ++ rest), length-append item.view.bytes rest)
+
+-- a piece and those from the next one on
+pub next-piece : (ps : List Piece) (i : ℕ) (item : Piece) → i < length ps → item ≡ get_or ps i item → drop i ps ≡ item ∷ drop (i + 1) ps
+next-piece ps i item l is = drop-cons ps i item l ∙ ap (λ k. get_or ps i item ∷ drop k ps) (sym (add-one i)) ∙ ap (λ (p : Piece). p ∷ drop (i + 1) ps) (sym is)
+
+-- bytes put in turn are put at once
+pub put-both : (part : Part) (a b : List ℕ) → part_put (part_put part a) b ≡ part_put part (a ++ b)
+put-both part a b i = record { filled = append_assoc part.filled a b i; spare = less i }
+  where
+    less : part.spare - length a - length b ≡ part.spare - length (a ++ b)
+    less = omega (arith, length-append a b)
+
+-- the bytes of pieces in two slices
+pub joined-pieces : (front behind ps : List Piece) → front ++ behind ≡ ps → pieces_bytes (views_in front) ++ pieces_bytes (views_in behind) ≡ pieces_bytes (views_in ps)
+joined-pieces front behind ps e =
+    sym (flat_map-append (λ (v : View). v.bytes) (views_in front) (views_in behind)) ∙ ap pieces_bytes (sym (map-append (λ (p : Piece). p.view) front behind)) ∙ ap (λ (qs : List Piece). pieces_bytes (views_in qs)) e

@@ -4,9 +4,8 @@ ghost use Rattle.iobufs_core.specs.Chunks.{first_chunk};
 ghost use Rattle.iobufs_core.specs.MarkedText.{is_single, of_view, taken_view, text_advanced, text_chunks, text_coalesced, text_len, text_rest};
 
 use super::IoBufs;
-use super::row::Located;
 use bytes::Bytes;
-use iobufs_core::buf::IoBuf;
+use iobufs_core::buf::{IoBuf, IoBufMut};
 use iobufs_core::codec::{Buf, BufError, OwnedBuf, OwnedBytes};
 use std::alloc::Global;
 use std::ops::Bound;
@@ -201,12 +200,9 @@ impl IoBufs {
         ensures bad_layout { 2 ^ 63 ≤ text_len self.now → result ≡ Err BufError.BadLayout }
         ensures memory { text_len self.now < 2 ^ 63 → IsOkUnless result BufError.Memory }
     {
-        let start = Located {
-            index: 0,
-            offset: 0,
-            probes: 0,
-        };
-        self.pieces.copied(alloc, start, self.len())
+        let mut copy = IoBufMut::with_capacity(alloc, self.len())?;
+        self.pieces.copy_to(&mut copy);
+        copy.freeze()
     }
 }
 

@@ -1,6 +1,6 @@
 // Copies of the bytes of several pieces, and their chunks.
 ghost use Rattle.std.specs.Prelude.{◌≡◌, ◌+◌, ◌<◌, ◌≤◌, ◌^◌, map, length, take, drop, Err, IfOk, IsOk, IsOkUnless};
-ghost use Rattle.iobufs_core.specs.Part.{part_frozen};
+ghost use Rattle.iobufs_core.specs.Part.{part_frozen, part_put};
 ghost use Rattle.iobufs.specs.Inside.Pieces.{piece_at, pieces_bytes, IsPlace};
 ghost use Rattle.iobufs.specs.Inside.Several.{views};
 
@@ -34,6 +34,17 @@ impl Pieces {
             offset = 0;
         }
         copy.freeze()
+    }
+
+    /// Puts all bytes behind those of a buffer that has room for them.
+    pub(super) fn copy_to(&self, copy: &mut IoBufMut)
+        requires { length (pieces_bytes (views self.now)) ≤ copy.old.spare }
+        ensures { copy.new ≡ part_put copy.old (pieces_bytes (views self.now)) }
+    {
+        match self {
+            Pieces::One(piece) => copy.put_slice(piece.as_ref()),
+            Pieces::Many(row) => row.copy_to(copy),
+        }
     }
 
     /// Fills `dst` with the first bytes.

@@ -249,34 +249,41 @@ impl Pieces {
         Ok(Pieces::Many(row.split_right(place, at)?))
     }
 
+    /// Puts a piece behind the others, which makes them so long.
     pub(super) fn push_back(
         &mut self,
         alloc: Global,
         piece: IoBuf,
+        len: usize,
     ) -> Result<(), AllocFailed<IoBuf>>
         requires pieced { IsPieced self.old }
         requires full { AreFull (views self.old) }
         requires some { 0 < length piece.bytes }
-        requires fits { length (pieces_bytes (views self.old)) + length piece.bytes < 2 ^ 64 }
+        requires total { len ≡ length (pieces_bytes (views self.old)) + length piece.bytes }
         ensures pieced { IsPieced self.new }
         ensures done { OnOk result (views self.new ≡ views self.old ++ piece ∷ []) }
         ensures refused { OnErr result (views self.new ≡ views self.old) }
         ensures handed_back { IfErr result (λ e. e.value ≡ piece) }
     {
         match self {
-            Pieces::One(_) => self.push_second(alloc, piece),
-            Pieces::Many(row) => Ok(row.push_back(piece)?),
+            Pieces::One(_) => self.push_second(alloc, piece, len),
+            Pieces::Many(row) => Ok(row.push_back(piece, len)?),
         }
     }
 
     // The same where there is one piece up to now: a row is made, with room for four.
     #[inline(never)]
-    fn push_second(&mut self, alloc: Global, piece: IoBuf) -> Result<(), AllocFailed<IoBuf>>
+    fn push_second(
+        &mut self,
+        alloc: Global,
+        piece: IoBuf,
+        len: usize,
+    ) -> Result<(), AllocFailed<IoBuf>>
         requires single { length (views self.old) ≡ 1 }
         requires pieced { IsPieced self.old }
         requires full { AreFull (views self.old) }
         requires some { 0 < length piece.bytes }
-        requires fits { length (pieces_bytes (views self.old)) + length piece.bytes < 2 ^ 64 }
+        requires total { len ≡ length (pieces_bytes (views self.old)) + length piece.bytes }
         ensures pieced { IsPieced self.new }
         ensures done { OnOk result (views self.new ≡ views self.old ++ piece ∷ []) }
         ensures refused { OnErr result (views self.new ≡ views self.old) }
@@ -288,8 +295,9 @@ impl Pieces {
         let Ok(mut row) = Row::with_room(alloc, 4) else {
             return Err(AllocFailed { value: piece });
         };
-        row.push_back_reserved(mem::take(only));
-        row.push_back_reserved(piece);
+        let before = only.len();
+        row.push_back_reserved(mem::take(only), before);
+        row.push_back_reserved(piece, len);
         self.set(Pieces::Many(row));
         Ok(())
     }
@@ -333,8 +341,10 @@ impl Pieces {
         let Ok(mut row) = Row::with_room(alloc, 4) else {
             return Err(AllocFailed { value: piece });
         };
-        row.push_back_reserved(piece);
-        row.push_back_reserved(mem::take(only));
+        let ahead = piece.len();
+        let len = ahead + only.len();
+        row.push_back_reserved(piece, ahead);
+        row.push_back_reserved(mem::take(only), len);
         self.set(Pieces::Many(row));
         Ok(())
     }

@@ -4,6 +4,7 @@ ghost use Rattle.std.specs.List.{FoldsTo};
 ghost use Rattle.std.specs.Option.{option_copied};
 ghost use Rattle.std.specs.Prelude.{◌≡◌, List, ◌+◌, ◌-◌, ◌*◌, ◌^◌, ◌<◌, ◌≤◌, ◌++◌, [], ◌∷◌, ◌==◌, if◌then◌else◌, nat_lt, length, map, take, drop, slice_get, IfOk, IfErr, IsOk, OnOk, OnErr, IsOkUnless, IsTrue, IsFalse};
 ghost use Rattle.std.specs.VecDeque.{deque_len, deque_capacity};
+ghost use Rattle.iobufs_core.specs.Part.{part_put};
 ghost use Rattle.iobufs_core.specs.View.{IsView, view_advanced, view_front};
 ghost use Rattle.iobufs.specs.Inside.Ends.{cut_piece, shortened, views_in};
 ghost use Rattle.iobufs.specs.Inside.Gaps.{AreSlots, filled, gap_len, gaps_len, slot_len, slot_of, slots_pushed, stood_len};
@@ -11,8 +12,8 @@ ghost use Rattle.iobufs.specs.Inside.RowValues.{Slot};
 ghost use Rattle.iobufs.specs.Inside.Pieces.{AreFull, AreViews, IsPlace, left_pieces, piece_at, piece_start, pieces_bytes, right_pieces, view_len};
 
 use super::search::{Ends, find_end};
-use iobufs_core::buf::IoBuf;
-use iobufs_core::codec::{Buf, BufError, OwnedBytes};
+use iobufs_core::buf::{IoBuf, IoBufMut};
+use iobufs_core::codec::{Buf, BufError, BufMut, OwnedBytes};
 use std::alloc::{AllocError, AllocFailed, Global};
 use std::collections::VecDeque;
 use std::marker::Model;
@@ -122,9 +123,10 @@ impl Row {
         self.get(i).unwrap()
     }
 
-    pub(super) fn push_back(&mut self, piece: IoBuf) -> Result<(), AllocFailed<IoBuf>>
+    /// Puts a piece behind the others, which makes them so long.
+    pub(super) fn push_back(&mut self, piece: IoBuf, len: usize) -> Result<(), AllocFailed<IoBuf>>
         requires some { 0 < length piece.bytes }
-        requires fits { length (pieces_bytes self.old.views) + length piece.bytes < 2 ^ 64 }
+        requires total { len ≡ length (pieces_bytes self.old.views) + length piece.bytes }
         ensures done { OnOk result (self.new.views ≡ self.old.views ++ piece ∷ []) }
         ensures refused { OnErr result (self.new.views ≡ self.old.views) }
         ensures handed_back { IfErr result (λ e. e.value ≡ piece) }
@@ -132,7 +134,7 @@ impl Row {
         if self.pieces.try_reserve(1).is_err() {
             return Err(AllocFailed { value: piece });
         }
-        self.push_back_reserved(piece);
+        self.push_back_reserved(piece, len);
         Ok(())
     }
 
@@ -147,6 +149,16 @@ impl Row {
         show(behind, visit);
     }
 
+    /// Puts the bytes of all pieces behind those of a buffer that has room for them.
+    pub(super) fn copy_to(&self, copy: &mut IoBufMut)
+        requires { length (pieces_bytes self.now.views) ≤ copy.old.spare }
+        ensures { copy.new ≡ part_put copy.old (pieces_bytes self.now.views) }
+    {
+        let (front, behind) = self.pieces.as_slices();
+        put_all(front, copy);
+        put_all(behind, copy);
+    }
+
     /// Puts a piece behind the others; an empty one changes nothing.
     #[inline(always)]
     pub(crate) fn add(&mut self, piece: IoBuf)
@@ -156,19 +168,22 @@ impl Row {
         ensures same_room { self.new.room ≡ self.old.room }
         ensures view { IsView piece }
     {
-        if piece.len() != 0 {
-            self.push_back_reserved(piece);
+        let more = piece.len();
+        if more != 0 {
+            let len = self.len() + more;
+            self.push_back_reserved(piece, len);
         }
     }
 
-    pub(super) fn push_back_reserved(&mut self, piece: IoBuf)
+    /// As `push_back`, within the row's room.
+    pub(super) fn push_back_reserved(&mut self, piece: IoBuf, len: usize)
         requires some { 0 < length piece.bytes }
-        requires fits { length (pieces_bytes self.old.views) + length piece.bytes < 2 ^ 64 }
+        requires total { len ≡ length (pieces_bytes self.old.views) + length piece.bytes }
         requires room { length self.old.views < self.old.room }
         ensures pushed { self.new.views ≡ self.old.views ++ piece ∷ [] }
         ensures same_room { self.new.room ≡ self.old.room }
     {
-        let end = self.base.wrapping_add((self.len() + piece.len()) as u64);
+        let end = self.base.wrapping_add(len as u64);
         self.pieces.push_back_reserved(Piece { view: piece, end });
     }
 
@@ -540,6 +555,16 @@ fn show<F: FnMut(&[u8])>(pieces: &[Piece], mut visit: F) -> F
         visit(piece.view.as_ref());
     }
     visit
+}
+
+// Puts the bytes of each piece behind those of a buffer that has room for them.
+fn put_all(pieces: &[Piece], copy: &mut IoBufMut)
+    requires { length (pieces_bytes (views_in pieces.now)) ≤ copy.old.spare }
+    ensures { copy.new ≡ part_put copy.old (pieces_bytes (views_in pieces.now)) }
+{
+    for piece in pieces {
+        copy.put_slice(piece.view.as_ref());
+    }
 }
 
 // Drops bytes of the first piece, which has more.

@@ -204,7 +204,7 @@ impl IoBufs {
                 value: piece,
             });
         }
-        if let Err(refused) = self.pieces.push_back(alloc, piece) {
+        if let Err(refused) = self.pieces.push_back(alloc, piece, len + more) {
             return Err(Refused {
                 cause: BufError::Memory,
                 value: refused.value,

@@ -14,5 +14,5 @@ invariant_of-self-2 c = kept-push c.self.inside _ c.args.piece c.self.invariant 
 pub returns-clause-done : goal.returns-clause-done
 returns-clause-done c = ap of_pieces c.in_default.ensures.done ∙ append-pieces _ _ _ c.self.view_is (omega arith) (omega arith)
 
-pub push_back-requires-clause-fits : goal.push_back-requires-clause-fits
-push_back-requires-clause-fits c = omega (arith, length-kept c.self.inside _ c.self.view_is)
+pub push_back-requires-clause-total : goal.push_back-requires-clause-total
+push_back-requires-clause-total c = omega (arith, length-kept c.self.inside _ c.self.view_is)

@@ -1,0 +1,12 @@
+use Rattle.std.proofs.Common.{◌≡◌, ◌+◌, ◌++◌, length, drop}
+use Rattle.iobufs.specs.Inside.Ends.{views_in}
+use Rattle.iobufs.specs.Inside.Pieces.{pieces_bytes}
+use Rattle.iobufs.proofs.bufs.row.put_all.Given as goal
+
+-- what is put and what is to come are what was there and all
+abbrev pub invariant-loop-piece : goal.invariant-loop-piece
+invariant-loop-piece l =
+    record {
+      so_far : l.copy.filled ++ pieces_bytes (views_in (drop l.piece-index l.pieces)) ≡ l.initial.copy.filled ++ pieces_bytes (views_in l.pieces);
+      room : length l.copy.filled + l.copy.spare ≡ length l.initial.copy.filled + l.initial.copy.spare;
+    }
