@@ -233,6 +233,7 @@ impl Buf for IoBufs {
         }
     }
 
+    #[inline(always)]
     fn advance(&mut self, n: usize) {
         if self.shorten(n) {
             return;

@@ -408,6 +408,7 @@ impl BufMut for IoBufMut {
         self.limit - self.storage.len()
     }
 
+    #[inline(always)]
     fn put_slice(&mut self, src: &[u8]) {
         self.storage.extend_from_slice(src).unwrap();
     }

@@ -34,9 +34,9 @@ impl Drop for IoBuf {
 
 #[derive(Drop)]
 enum Storage {
-    Static(&'static [u8]),
-    Shared(Bytes),
     Native(Native),
+    Shared(Bytes),
+    Static(&'static [u8]),
 }
 
 impl Model for IoBuf {
@@ -129,6 +129,7 @@ impl IoBuf {
     }
 
     // The first bytes, in the same storage.
+    #[inline(always)]
     fn front(&self, n: usize) -> Result<IoBuf, BufError>
         requires { n ≤ length self.now.bytes }
         ensures ok { IfOk result (λ front. front ≡ view_front self.now n) }
@@ -170,6 +171,7 @@ impl IoBuf {
     }
 
     /// The bytes of a range, in the same storage (`IoBuf::slice`). Test a range by `fits_range`.
+    #[inline(always)]
     pub fn slice(&self, lo: Bound<usize>, hi: Bound<usize>) -> Result<IoBuf, BufError>
         requires { IsTrue (range_fits lo hi (length self.now.bytes)) }
         ensures ok { IfOk result (λ slice. slice ≡ view_slice self.now lo hi) }
@@ -388,6 +390,7 @@ impl Buf for IoBuf {
         }
     }
 
+    #[inline(always)]
     fn copy_to_slice(&mut self, dst: &mut [u8]) {
         let n = dst.len();
         dst.copy_from_slice(&self.as_ref()[..n]);

@@ -1,8 +1,7 @@
-use Rattle.std.proofs.Common.{◌≡◌, ◌++◌, ◌∷◌, ◌+◌, ap, ◌∙◌, sym, arith, drop, length, length-append}
+use Rattle.std.proofs.Common.{◌++◌, ap, ◌∙◌, arith, length, length-append}
 use Rattle.iobufs_core.specs.Part.{Part}
 use Rattle.iobufs.specs.Inside.Ends.{views_in}
 use Rattle.iobufs.specs.Inside.Pieces.{pieces_bytes}
-use Rattle.iobufs.specs.declared.bufs.row.Piece.{Piece}
 use Rattle.iobufs.proofs.Text.CopyLaws.{put-step, put-fits, next-piece}
 use Rattle.iobufs.proofs.bufs.row.put_all.Goals as goal
 
