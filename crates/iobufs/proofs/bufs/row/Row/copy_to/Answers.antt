@@ -1,12 +1,8 @@
-use Rattle.std.proofs.Common.{◌++◌, ap, ◌∙◌, sym, arith, length, length-append, map}
-use Rattle.std.proofs.lemmas.Grind.{flat_map-append}
-use Rattle.std.proofs.lemmas.List.{map-append}
+use Rattle.std.proofs.Common.{ap, ◌∙◌, arith, length, length-append}
 use Rattle.iobufs_core.specs.Part.{Part, part_put}
-use Rattle.iobufs_core.specs.View.{View}
 use Rattle.iobufs.specs.Inside.Ends.{views_in}
 use Rattle.iobufs.specs.Inside.Pieces.{pieces_bytes}
 use Rattle.iobufs.specs.Inside.RowValues.{ViewRow}
-use Rattle.iobufs.specs.declared.bufs.row.Piece.{Piece}
 use Rattle.iobufs.proofs.Text.CopyLaws.{put-both, joined-pieces}
 use Rattle.iobufs.proofs.bufs.row.Row.copy_to.Goals as goal
 
