@@ -173,6 +173,7 @@ impl Frames {
     pub fn run(alloc: Global, pieces: Vec<IoBuf>, range: &RangeCfg) -> Result<Run, BufError>
         ensures framed { IfOk result (λ run. IsFramed range.now (joined_bytes pieces.items) (bodies run.frames.items) run.stop run.rest.bytes) }
         ensures memory { length (joined_bytes pieces.items) < 2 ^ 64 → IsOkUnless result BufError.Memory }
+        ensures none { length pieces.items ≡ 0 → IsOk result }
         ensures causes { IfErr result (λ cause. (cause ≡ BufError.Memory) ⊎ (cause ≡ BufError.TooLong)) }
     {
         let mut frames = Frames::default();

@@ -1,5 +1,5 @@
 // A journal: numbered records with a CRC-32, one behind the other.
-ghost use Rattle.std.specs.Prelude.{◌≡◌, ℕ, ◌+◌, ◌^◌, ◌<◌, ◌≤◌, List, [], ◌++◌, drop, length, IfErr, IfNone, IfOk, IfSome, IsOkUnless, IsTrue, ◌↔◌, OnErr, OnOk};
+ghost use Rattle.std.specs.Prelude.{◌≡◌, ℕ, ◌+◌, ◌^◌, ◌<◌, ◌≤◌, List, [], ◌++◌, drop, length, Err, Ok, IfErr, IfNone, IfOk, IfSome, IsOk, IsOkUnless, IsTrue, ◌↔◌, OnErr, OnOk};
 ghost use Rattle.iobufs_uses.specs.Journal.{AreShort, IsJournal, HasNoRecord, bodies, record_written, records_written, sealed};
 ghost use Rattle.iobufs_uses.specs.JournalLaws.{IsSealed};
 
@@ -113,6 +113,7 @@ fn next_record(
 ) -> Result<Result<IoBuf, End>, BufError>
     ensures found { IfOk result (λ found. IfOk found (λ body. rest.old.bytes ≡ record_written number body.bytes ++ rest.new.bytes)) }
     ensures none { IfOk result (λ found. IfErr found (λ end. HasNoRecord most number rest.old.bytes end)) }
+    ensures nothing { length rest.old.bytes ≡ 0 → result ≡ Ok (Err End.Whole) }
     ensures memory { IsOkUnless result BufError.Memory }
 {
     if rest.is_empty() {
@@ -134,6 +135,7 @@ fn next_record(
 pub fn replay(alloc: Global, journal: IoBufs, most: usize) -> Result<Records, BufError>
     ensures journal { IfOk result (λ records. IsJournal most 0 journal.bytes (bodies records.found.items) records.end (drop records.whole journal.bytes)) }
     ensures within { IfOk result (λ records. records.whole ≤ length journal.bytes) }
+    ensures nothing { length journal.bytes ≡ 0 → IsOk result }
     ensures memory { IsOkUnless result BufError.Memory }
 {
     let len = journal.len();

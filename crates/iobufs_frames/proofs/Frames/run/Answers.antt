@@ -1,5 +1,6 @@
-use Rattle.std.proofs.Common.{[], ◌++◌, refl, ap, sym, ◌∙◌, append_assoc}
+use Rattle.std.proofs.Common.{[], List, ◌++◌, length, arith, refl, ap, sym, ◌∙◌, append_assoc}
 use Rattle.iobufs_core.specs.MarkedText.{MarkedText}
+use Rattle.iobufs_core.specs.View.{View}
 use Rattle.iobufs_frames.specs.Frames.{joined_bytes}
 use Rattle.iobufs_frames.proofs.FrameLaws.{start}
 use Rattle.iobufs_frames.proofs.Frames.run.Goals as goal
@@ -10,6 +11,7 @@ loop-piece-init c = record {
   text = [];
   framed = start c.args.range.now c.new-found.result.items c.default-frames.result.bytes c.new-found.ensures.items (ap (λ (t : MarkedText). t.bytes) c.default-frames.ensures);
   whole = refl;
+  fewer = omega arith;
 }
 
 -- src/lib.rt:169:9
@@ -22,4 +24,5 @@ loop-piece-preserved c =
       text = text ++ piece;
       framed = c.in_ok-stop.ensures.framed text c.loop-piece.invariant.framed;
       whole = append_assoc text piece (joined_bytes c.next.new.self.rest.items) ∙ ap (λ xs. text ++ xs) (sym taken) ∙ c.loop-piece.invariant.whole;
+      fewer = omega (arith, ap (λ (views : List View). length views) c.in-Some.ensures.steps.0, c.loop-piece.invariant.fewer);
     }
