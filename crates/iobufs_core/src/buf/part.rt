@@ -413,6 +413,11 @@ impl BufMut for IoBufMut {
         self.storage.extend_from_slice(src).unwrap();
     }
 
+    #[inline(always)]
+    fn put_u8(&mut self, n: u8) {
+        self.storage.push_reserved(n);
+    }
+
     fn put_bytes(&mut self, value: u8, n: usize) {
         let end = self.storage.len() + n;
         self.storage.resize(end, value).unwrap();

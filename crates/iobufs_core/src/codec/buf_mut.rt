@@ -25,6 +25,16 @@ pub trait BufMut {
         requires { n ≤ room self.old }
         ensures { filled self.old (replicate n value) self.new };
 
+    /// Fills one byte in.
+    fn put_u8(&mut self, n: u8)
+    where
+        Self: Sized,
+        requires { 1 ≤ room self.old }
+        ensures { filled self.old (n ∷ []) self.new }
+    {
+        self.put_slice(&[n]);
+    }
+
     // To fill nothing in is always possible, and changes nothing.
     ghost nothing: { (s : Self) → filled s [] s };
 
@@ -33,16 +43,6 @@ pub trait BufMut {
     ghost composes: { (a b c : Self) (u v : List ℕ) → filled a u b → filled b v c → filled a (u ++ v) c };
 
     ghost lessens: { (a b : Self) (w : List ℕ) → filled a w b → room a ≡ room b + length w };
-
-    /// Fills one byte in.
-    final fn put_u8(&mut self, n: u8)
-    where
-        Self: Sized,
-        requires { 1 ≤ room self.old }
-        ensures { filled self.old (n ∷ []) self.new }
-    {
-        self.put_slice(&[n]);
-    }
 
     /// Fills two bytes in, the highest of the number first.
     final fn put_u16(&mut self, n: u16)
