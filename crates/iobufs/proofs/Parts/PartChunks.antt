@@ -1,5 +1,5 @@
 -- The bytes of parts, as a reader sees them piece by piece.
-use Rattle.std.proofs.Common.{◌≡◌, ℕ, zero, suc, ◌+◌, ◌-◌, ◌<◌, ◌≤◌, List, [], ◌∷◌, ◌++◌, length, take, map, slice_get, min, refl, sym, ap, ◌∙◌, arith, append-nil, append_assoc, length-take, take_all, ⊎_elim}
+use Rattle.std.proofs.Common.{◌≡◌, ℕ, zero, suc, ◌+◌, ◌-◌, ◌<◌, ◌≤◌, List, [], ◌∷◌, ◌++◌, length, take, map, slice_get, min, refl, sym, ap, ◌∙◌, arith, append-nil, append_assoc, length-append, length-take, take_all, ⊎_elim}
 use Rattle.std.proofs.lemmas.Bool.{cases_lt}
 use Rattle.std.proofs.lemmas.List.{take-append-le}
 use Rattle.std.proofs.Math.Seq.{take-nil}
@@ -22,6 +22,16 @@ full_first (byte ∷ bytes) texts h = refl
 
 pub chunks-full : (p : Part) (parts : List Part) → 0 < length p.filled → parts_chunks (p ∷ parts) ≡ p.filled ∷ parts_chunks parts
 chunks-full p parts h = full_first p.filled (map (λ q. q.filled) parts) h
+
+-- parts without bytes show no chunk, however many are asked for
+chunks-none : (parts : List Part) → length (parts_filled parts) ≡ 0 → parts_chunks parts ≡ []
+chunks-none [] h = refl
+chunks-none (p ∷ parts) h =
+    let both = length-append p.filled (parts_filled parts) in
+    chunks-empty p parts (omega (arith, both, h)) ∙ chunks-none parts (omega (arith, both, h))
+
+pub none-taken : (parts : List Part) (max : ℕ) → length (parts_filled parts) ≡ 0 → take max (parts_chunks parts) ≡ []
+none-taken parts max h = ap (take max) (chunks-none parts h) ∙ take-nil max
 
 -- bytes that are not none are a beginning of what they begin
 chunk_front : (bytes rest : List ℕ) → 0 < length bytes → IsChunkOf bytes (bytes ++ rest)
@@ -87,4 +97,4 @@ chunk-turn before texts text (suc k) h =
     let same : k ≡ suc k - 1 = omega arith in
     sym (append_assoc before (text ∷ []) (take k texts)) ∙ ap (λ m. (before ++ text ∷ []) ++ take m texts) same
 
-pub ruleset reading = (filled-one, first_chunk-front, chunks-empty, chunks-full, byte_in, byte_behind)
+pub ruleset reading = (filled-one, first_chunk-front, chunks-empty, chunks-full, none-taken, byte_in, byte_behind)

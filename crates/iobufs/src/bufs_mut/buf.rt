@@ -93,6 +93,9 @@ impl Buf for IoBufsMut {
 
     #[tactic(auto, using(crate::proofs::Parts::PartChunks::reading))]
     fn chunks_vectored(&self, alloc: Global, max: usize) -> Result<Vec<&[u8]>, BufError> {
+        if max == 0 || self.len() == 0 {
+            return Ok(Vec::new(alloc));
+        }
         match &self.shape {
             Shape::One(part) => part.chunks_vectored(alloc, max),
             Shape::Many(parts) => Ok(walks::chunks(alloc, parts.row(), max)?),

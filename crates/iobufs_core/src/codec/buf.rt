@@ -56,7 +56,9 @@ pub trait Buf {
     /// The first pieces that hold bytes, at most `max` (the original fills `IoSlice`s).
     fn chunks_vectored(&self, alloc: Global, max: usize) -> Result<Vec<&[u8]>, BufError>
         ensures ok { IfOk result (λ chunks. map (λ chunk. chunk.now) chunks.items ≡ take max (pieces self.now)) }
-        ensures memory { IsOkUnless result BufError.Memory };
+        ensures memory { IsOkUnless result BufError.Memory }
+        ensures nothing { max ≡ 0 → IsOk result }
+        ensures empty { length (text self.now) ≡ 0 → IsOk result };
 
     ghost drops: { (s : Self) (n : ℕ) → n ≤ length (text s) → text (advanced s n) ≡ drop n (text s) };
 
