@@ -44,6 +44,8 @@ pub(super) fn room_for_handle(
     ensures room { OnOk result (vec_len handles.new < vec_capacity handles.new) }
     ensures borrow_room { OnOk result (vec_len borrows.new < vec_capacity borrows.new) }
     ensures few { OnOk result (length handles.old.items < 2 ^ 32) }
+    ensures capacity { vec_capacity handles.old ≤ vec_capacity handles.new }
+    ensures borrow_capacity { vec_capacity borrows.old ≤ vec_capacity borrows.new }
     ensures full { OnErr result (IsFull (min (vec_capacity handles.old) (vec_capacity borrows.old)) (length handles.old.items)) }
 {
     room_for_one(handles)?;
@@ -60,6 +62,7 @@ pub(super) fn room_for_record(
     ensures freed { freed.new.items ≡ freed.old.items }
     ensures room { OnOk result (vec_len records.new < vec_capacity records.new) }
     ensures few { OnOk result (length records.old.items < 2 ^ 32) }
+    ensures record_capacity { vec_capacity records.old ≤ vec_capacity records.new }
     ensures capacity { vec_capacity freed.old ≤ vec_capacity freed.new }
     ensures freed_room { OnOk result (length records.new.items + 1 ≤ vec_capacity freed.new) }
     ensures full { OnErr result (IsFull (min (vec_capacity records.old) (vec_capacity freed.old)) (length records.old.items)) }
@@ -78,6 +81,7 @@ pub(super) fn room_for_block(
     ensures freed { freed.new.items ≡ freed.old.items }
     ensures room { OnOk result (vec_len blocks.new < vec_capacity blocks.new) }
     ensures few { OnOk result (length blocks.old.items < 2 ^ 32) }
+    ensures block_capacity { vec_capacity blocks.old ≤ vec_capacity blocks.new }
     ensures capacity { vec_capacity freed.old ≤ vec_capacity freed.new }
     ensures freed_room { OnOk result (length blocks.new.items + 1 ≤ vec_capacity freed.new) }
     ensures full { OnErr result (IsFull (min (vec_capacity blocks.old) (vec_capacity freed.old)) (length blocks.old.items)) }
