@@ -33,6 +33,24 @@ fn room_in_log<T>(log: &mut Vec<T>, entries: usize) -> Result<(), AllocError>
     log.reserve(entries.saturating_sub(log.len()))
 }
 
+/// Room for so many entries more in a table, and for as many in all in what grows beside it. Refused, the first of them may
+/// have room already.
+pub(super) fn room_for_more<T, U>(
+    table: &mut Vec<T>,
+    beside: &mut Vec<U>,
+    more: usize,
+) -> Result<(), AllocError>
+    ensures items { table.new.items ≡ table.old.items }
+    ensures beside { beside.new.items ≡ beside.old.items }
+    ensures capacity { vec_capacity table.old ≤ vec_capacity table.new }
+    ensures beside_capacity { vec_capacity beside.old ≤ vec_capacity beside.new }
+    ensures room { OnOk result (length table.old.items + more ≤ vec_capacity table.new) }
+    ensures beside_room { OnOk result (length table.old.items + more ≤ vec_capacity beside.new) }
+{
+    table.reserve(more)?;
+    room_in_log(beside, table.len() + more)
+}
+
 /// Room for one handle more.
 pub(super) fn room_for_handle(
     handles: &mut Vec<Option<Handle>>,
