@@ -5,7 +5,7 @@ use Rattle.iobufs_owner.specs.declared.owner.types.Refusal.{Refusal}
 use Rattle.iobufs_owner.specs.declared.owner.types.Refusal.TheVariants.{Busy, Idle, NoHandle, WrongKind, Borrowed, OutOfRange, BadPlace, Memory, Ceiling, Room}
 use Rattle.iobufs_owner.specs.declared.owner.types.Reply.{Reply}
 use Rattle.iobufs_owner.specs.declared.owner.types.Reply.TheVariants.{Made, More, Done, Declined, Unique, Refused}
-use Rattle.iobufs_owner.specs.State.{Seen}
+use Rattle.iobufs_owner.specs.State.{Seen, KeepsRoom}
 use Rattle.iobufs_owner.specs.World.{Unfinished, Sharing, Dropping}
 use Rattle.iobufs_owner.specs.Reading.{reading}
 use Rattle.iobufs_owner.specs.Moves.{Moves}
@@ -13,12 +13,14 @@ use Rattle.iobufs_owner.specs.Steps.{Steps}
 use Rattle.iobufs_owner.specs.Sound.{IsSound}
 use Rattle.iobufs_owner.specs.Promises.{Promises}
 
--- a step: a move by the tables, which its users see as a step of the world, and which leaves what is promised
+-- a step: a move by the tables, which its users see as a step of the world, and which leaves what is promised; no table
+-- loses memory, so its free room falls by what is added to it, and by nothing else
 pub record IsStep (m : Seen) (step : Step) (reply : Reply) (next : Seen) : Type 0 where
   pub moves : Moves m step reply next
   pub steps : Steps (reading m.state) step reply (reading next.state)
   pub sound : IsSound next.state
   pub promises : Promises next.state
+  pub room : KeepsRoom m.room next.room
 
 -- a whole run: each step begins where the one before it ended
 abbrev pub Runs : Seen → List Step → List Reply → Seen → Type 0

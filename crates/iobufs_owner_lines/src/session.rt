@@ -1,5 +1,5 @@
 //! Sessions with the owner machine: each answer as it is written, and laws over lines.
-ghost use Rattle.std.specs.Prelude.{◌≡◌, ℕ, ◌<◌, ◌≤◌, ◌^◌, ◌++◌, List, map, codes, Some, IfOk, IfErr, OnOk, IfSome};
+ghost use Rattle.std.specs.Prelude.{◌≡◌, ℕ, ◌<◌, ◌≤◌, ◌^◌, ◌++◌, List, map, codes, Some, IsOk, IfOk, IfErr, OnOk, IfSome};
 ghost use Rattle.iobufs_core.specs.declared.codec.base.BufError.TheVariants.{Memory};
 ghost use Rattle.iobufs_owner.specs.State.{Seen};
 ghost use Rattle.iobufs_owner.specs.Promises.{Promises};
@@ -29,6 +29,7 @@ impl Setup {
         ensures ok { IfOk result (λ machine. machine.state ≡ machine_of self.now) }
         ensures promises { IfOk result (λ machine. Promises machine.state) }
         ensures err { IfErr result (λ error. error ≡ Memory) }
+        ensures none { self.now.parties ≡ 0 → IsOk result }
     {
         let format = if self.is_wide { FORMAT_64 } else { FORMAT_32 };
         Machine::new(alloc, self.parties, self.ceiling, format)

@@ -6,9 +6,12 @@ use Rattle.iobufs_owner.specs.declared.owner.types.Refusal.TheVariants.{Room}
 use Rattle.iobufs_owner.specs.declared.owner.types.Step.{Step}
 use Rattle.iobufs_owner.specs.declared.owner.types.Reply.{Reply}
 use Rattle.iobufs_owner.specs.declared.owner.types.Reply.TheVariants.{Refused}
-use Rattle.iobufs_owner.specs.State.{State, Seen}
+use Rattle.iobufs_owner.specs.State.{State, Seen, Room as Space, KeepsRoom}
 use Rattle.iobufs_owner.specs.Changes.{Outcome}
 use Rattle.iobufs_owner.specs.Moves.{WantsRoom, IsMoved, IsTaken, Moves, Took}
+
+pub keeps-room : (r : Space) → KeepsRoom r r
+keeps-room r = (omega arith, omega arith, omega arith)
 
 -- how many handles, blocks and records there are
 pub record Entries : Type 0 where
@@ -49,8 +52,15 @@ answered m o reply t (inr (w, e, f)) = inr (record { grows = wants-grows m o.sta
 
 -- a result as a reply
 taken-of : (m : Seen) (o : Outcome) (result : Result Reply AllocError) (next : Seen) → Took m o result next → IsTaken m o (result_unwrap_or result (Refused Room)) next.state
-taken-of m o (Ok reply) next i = inl i
-taken-of m o (Err e) next (w, f) = inr (w, refl, f)
+taken-of m o (Ok reply) next (e, f, k) = inl (e, f)
+taken-of m o (Err e) next (w, f, k) = inr (w, refl, f)
+
+room-of : (m : Seen) (o : Outcome) (result : Result Reply AllocError) (next : Seen) → Took m o result next → KeepsRoom m.room next.room
+room-of m o (Ok reply) next (e, f, k) = k
+room-of m o (Err e) next (w, f, k) = k
+
+pub moves-keep : (m : Seen) (step : Step) (result : Result Reply AllocError) (next : Seen) → (o : Outcome) × IsMoved m.state step o × Took m o result next → KeepsRoom m.room next.room
+moves-keep m step result next (o, moved, took) = room-of m o result next took
 
 pub moves-of : (m : Seen) (step : Step) (result : Result Reply AllocError) (next : Seen) → (o : Outcome) × IsMoved m.state step o × Took m o result next → Moves m step (result_unwrap_or result (Refused Room)) next
 moves-of m step result next (o, moved, took) = (o, moved, taken-of m o result next took)

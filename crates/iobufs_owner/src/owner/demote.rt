@@ -6,7 +6,7 @@ ghost use Rattle.iobufs_owner.specs.ShortCalls as short;
 ghost use Rattle.iobufs_owner.specs.Changes.{Outcome};
 ghost use Rattle.iobufs_owner.specs.Lending.{Lends, owning_view_of};
 ghost use Rattle.iobufs_owner.specs.ShortCalls.{IsDemoted};
-ghost use Rattle.iobufs_owner.specs.State.{record_at, block_at};
+ghost use Rattle.iobufs_owner.specs.State.{KeepsRoom, record_at, block_at};
 
 use crate::owner::{Handle, Machine, Record, Reply, Word};
 
@@ -16,7 +16,8 @@ impl Machine {
         ensures { (o : Outcome)
             × IsDemoted self.old.state h (owning_view_of self.old.state h) o
             × (result ≡ o.reply)
-            × (self.new.state ≡ o.state) }
+            × (self.new.state ≡ o.state)
+            × KeepsRoom self.old.room self.new.room }
     {
         let x = match self.lend_owning_view(h) {
             Ok(x) => x,
@@ -35,7 +36,8 @@ impl Machine {
         ensures { (log : ℕ)
             × ((block_at self.old.state.tables (record_at self.old.state.tables r).block).align ≡ 2 ^ log)
             × (result ≡ (short.demote_counted self.old.state h x r log).reply)
-            × (self.new.state ≡ (short.demote_counted self.old.state h x r log).state) }
+            × (self.new.state ≡ (short.demote_counted self.old.state h x r log).state)
+            × KeepsRoom self.old.room self.new.room }
     {
         let record = self.record(r);
         let block = self.block(record.block);

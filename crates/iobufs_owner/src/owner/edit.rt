@@ -4,6 +4,7 @@ ghost use Rattle.iobufs_owner.specs.declared.owner.types.Kind.TheVariants.{View}
 ghost use Rattle.iobufs_owner.specs.declared.owner.types.Word.TheVariants.{Empty, Descriptor, Record as Counted};
 ghost use Rattle.iobufs_owner.specs.Lending.{Lends};
 ghost use Rattle.iobufs_owner.specs.ShortCalls.{put_of, advance_of, recover_of, recover_by, unique_of};
+ghost use Rattle.iobufs_owner.specs.State.{KeepsRoom};
 
 use crate::owner::{Handle, Kind, Machine, Refusal, Reply, Word};
 
@@ -12,6 +13,7 @@ impl Machine {
     pub(super) fn put(&mut self, h: usize, n: u64) -> Reply
         ensures reply { result ≡ (put_of self.old.state h n).reply }
         ensures state { self.new.state ≡ (put_of self.old.state h n).state }
+        ensures room { KeepsRoom self.old.room self.new.room }
     {
         let x = match self.lend(h, Kind::Mut) {
             Ok(x) => x,
@@ -31,6 +33,7 @@ impl Machine {
     pub(super) fn advance(&mut self, h: usize, n: u64) -> Reply
         ensures reply { result ≡ (advance_of self.old.state h n).reply }
         ensures state { self.new.state ≡ (advance_of self.old.state h n).state }
+        ensures room { KeepsRoom self.old.room self.new.room }
     {
         let x = match self.lend_any(h) {
             Ok(x) => x,
@@ -53,6 +56,7 @@ impl Machine {
     pub(super) fn recover(&mut self, h: usize) -> Reply
         ensures reply { result ≡ (recover_of self.old.state h).reply }
         ensures state { self.new.state ≡ (recover_of self.old.state h).state }
+        ensures room { KeepsRoom self.old.room self.new.room }
     {
         let x = match self.lend(h, Kind::View) {
             Ok(x) => x,
@@ -71,6 +75,7 @@ impl Machine {
         requires word { x.word ≡ Empty }
         ensures reply { result ≡ (recover_by self.old.state h x Empty).reply }
         ensures state { self.new.state ≡ (recover_by self.old.state h x Empty).state }
+        ensures room { KeepsRoom self.old.room self.new.room }
     {
         if x.len != 0 {
             return Reply::Declined;
@@ -90,6 +95,7 @@ impl Machine {
         requires word { x.word ≡ Descriptor word }
         ensures reply { result ≡ (recover_by self.old.state h x (Descriptor word)).reply }
         ensures state { self.new.state ≡ (recover_by self.old.state h x (Descriptor word)).state }
+        ensures room { KeepsRoom self.old.room self.new.room }
     {
         let tail = self.format.unpack(word).tail;
         let whole = self.format.with_tail(word, 0).unwrap();
@@ -108,6 +114,7 @@ impl Machine {
         requires word { x.word ≡ Counted r }
         ensures reply { result ≡ (recover_by self.old.state h x (Counted r)).reply }
         ensures state { self.new.state ≡ (recover_by self.old.state h x (Counted r)).state }
+        ensures room { KeepsRoom self.old.room self.new.room }
     {
         let record = self.record(r);
         let block = self.block(record.block);

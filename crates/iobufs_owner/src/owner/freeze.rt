@@ -9,7 +9,7 @@ ghost use Rattle.iobufs_owner.specs.Changes.{done, edited, replaced, next_record
 ghost use Rattle.iobufs_owner.specs.Lending.{Lends};
 ghost use Rattle.iobufs_owner.specs.ShortCalls.{IsLoose, promoted, freeze_by, freeze_of};
 ghost use Rattle.iobufs_owner.specs.Moves.{Took};
-ghost use Rattle.iobufs_owner.specs.State.{recovered, end_of};
+ghost use Rattle.iobufs_owner.specs.State.{KeepsRoom, recovered, end_of};
 
 use crate::owner::lend::detached;
 use crate::owner::room::room_for_record;
@@ -64,6 +64,7 @@ impl Machine {
         requires { Lends self.old.state h Mut x }
         ensures reply { result ≡ Done }
         ensures state { self.new.state ≡ edited (short.freed_with self.old.state x x.word) h (change.detached 0) }
+        ensures room { KeepsRoom self.old.room self.new.room }
     {
         match x.word {
             Word::Empty => self.detach(h, x),
@@ -77,7 +78,8 @@ impl Machine {
     fn detach(&mut self, h: usize, x: Handle)
         requires lent { Lends self.old.state h Mut x }
         requires word { x.word ≡ Empty }
-        ensures { self.new.state ≡ edited self.old.state h (change.detached 0) }
+        ensures state { self.new.state ≡ edited self.old.state h (change.detached 0) }
+        ensures room { KeepsRoom self.old.room self.new.room }
     {
         self.handles[h] = Some(detached());
     }
@@ -87,7 +89,8 @@ impl Machine {
         requires lent { Lends self.old.state h x.kind x }
         requires word { x.word ≡ Descriptor word }
         requires rest { IsLoose rest }
-        ensures { self.new.state ≡ replaced (block_freed self.old.state (recovered self.old.state.tables x word)) h rest }
+        ensures state { self.new.state ≡ replaced (block_freed self.old.state (recovered self.old.state.tables x word)) h rest }
+        ensures room { KeepsRoom self.old.room self.new.room }
     {
         let fields = self.format.unpack(word);
         let base = end(x, fields.tail) - fields.size;
@@ -104,7 +107,8 @@ impl Machine {
         requires lent { Lends self.old.state h Mut x }
         requires word { x.word ≡ Counted r }
         requires rest { IsLoose rest }
-        ensures { self.new.state ≡ replaced (both_freed self.old.state r) h rest }
+        ensures state { self.new.state ≡ replaced (both_freed self.old.state r) h rest }
+        ensures room { KeepsRoom self.old.room self.new.room }
     {
         let record = self.record(r);
         let block = self.block(record.block);
@@ -127,6 +131,7 @@ impl Machine {
         requires word { x.word ≡ Empty }
         ensures reply { result ≡ Done }
         ensures state { self.new.state ≡ edited self.old.state h (short.frozen x Empty) }
+        ensures room { KeepsRoom self.old.room self.new.room }
     {
         self.handles[h] = Some(frozen(x, Word::Empty));
         Reply::Done
@@ -138,6 +143,7 @@ impl Machine {
         requires word { x.word ≡ Counted r }
         ensures reply { result ≡ Done }
         ensures state { self.new.state ≡ edited self.old.state h (short.frozen x (Counted r)) }
+        ensures room { KeepsRoom self.old.room self.new.room }
     {
         self.handles[h] = Some(frozen(x, Word::Record(r)));
         Reply::Done

@@ -33,6 +33,24 @@ fn room_in_log<T>(log: &mut Vec<T>, entries: usize) -> Result<(), AllocError>
     log.reserve(entries.saturating_sub(log.len()))
 }
 
+/// Room for so many entries more in a table, and for as many in all in what grows beside it. Refused, the first of them may
+/// have room already.
+pub(super) fn room_for_more<T, U>(
+    table: &mut Vec<T>,
+    beside: &mut Vec<U>,
+    more: usize,
+) -> Result<(), AllocError>
+    ensures items { table.new.items ≡ table.old.items }
+    ensures beside { beside.new.items ≡ beside.old.items }
+    ensures capacity { vec_capacity table.old ≤ vec_capacity table.new }
+    ensures beside_capacity { vec_capacity beside.old ≤ vec_capacity beside.new }
+    ensures room { OnOk result (length table.old.items + more ≤ vec_capacity table.new) }
+    ensures beside_room { OnOk result (length table.old.items + more ≤ vec_capacity beside.new) }
+{
+    table.reserve(more)?;
+    room_in_log(beside, table.len() + more)
+}
+
 /// Room for one handle more.
 pub(super) fn room_for_handle(
     handles: &mut Vec<Option<Handle>>,
@@ -44,6 +62,8 @@ pub(super) fn room_for_handle(
     ensures room { OnOk result (vec_len handles.new < vec_capacity handles.new) }
     ensures borrow_room { OnOk result (vec_len borrows.new < vec_capacity borrows.new) }
     ensures few { OnOk result (length handles.old.items < 2 ^ 32) }
+    ensures capacity { vec_capacity handles.old ≤ vec_capacity handles.new }
+    ensures borrow_capacity { vec_capacity borrows.old ≤ vec_capacity borrows.new }
     ensures full { OnErr result (IsFull (min (vec_capacity handles.old) (vec_capacity borrows.old)) (length handles.old.items)) }
 {
     room_for_one(handles)?;
@@ -60,6 +80,7 @@ pub(super) fn room_for_record(
     ensures freed { freed.new.items ≡ freed.old.items }
     ensures room { OnOk result (vec_len records.new < vec_capacity records.new) }
     ensures few { OnOk result (length records.old.items < 2 ^ 32) }
+    ensures record_capacity { vec_capacity records.old ≤ vec_capacity records.new }
     ensures capacity { vec_capacity freed.old ≤ vec_capacity freed.new }
     ensures freed_room { OnOk result (length records.new.items + 1 ≤ vec_capacity freed.new) }
     ensures full { OnErr result (IsFull (min (vec_capacity records.old) (vec_capacity freed.old)) (length records.old.items)) }
@@ -78,6 +99,7 @@ pub(super) fn room_for_block(
     ensures freed { freed.new.items ≡ freed.old.items }
     ensures room { OnOk result (vec_len blocks.new < vec_capacity blocks.new) }
     ensures few { OnOk result (length blocks.old.items < 2 ^ 32) }
+    ensures block_capacity { vec_capacity blocks.old ≤ vec_capacity blocks.new }
     ensures capacity { vec_capacity freed.old ≤ vec_capacity freed.new }
     ensures freed_room { OnOk result (length blocks.new.items + 1 ≤ vec_capacity freed.new) }
     ensures full { OnErr result (IsFull (min (vec_capacity blocks.old) (vec_capacity freed.old)) (length blocks.old.items)) }

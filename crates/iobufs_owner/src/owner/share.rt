@@ -11,7 +11,7 @@ ghost use Rattle.iobufs_owner.specs.Changes.{called, edited, record_freed, with_
 ghost use Rattle.iobufs_owner.specs.LongCalls.{shared, share_by, clone_of, slice_of, ready_of, race_of, add_of};
 ghost use Rattle.iobufs_owner.specs.Moves.{Took};
 ghost use Rattle.iobufs_owner.specs.Sound.{IsSound, Shares};
-ghost use Rattle.iobufs_owner.specs.State.{handle_at, call_at, record_at};
+ghost use Rattle.iobufs_owner.specs.State.{KeepsRoom, handle_at, call_at, record_at};
 
 use crate::owner::lend::{borrow_less, borrow_more, part};
 use crate::owner::room::{room_for_handle, room_for_record};
@@ -115,6 +115,7 @@ impl Machine {
         requires word { x.word ≡ Descriptor word }
         ensures reply { result ≡ More }
         ensures state { self.new.state ≡ called self.old.state party (Some (Loaded range word)) }
+        ensures room { KeepsRoom self.old.room self.new.room }
     {
         borrow_more(&mut self.borrows, range.handle);
         self.calls[party] = Some(Pending::Loaded(range, word));
@@ -129,6 +130,7 @@ impl Machine {
         requires word { x.word ≡ Counted r }
         ensures reply { result ≡ More }
         ensures state { self.new.state ≡ called self.old.state party (Some (Add range r)) }
+        ensures room { KeepsRoom self.old.room self.new.room }
     {
         borrow_more(&mut self.borrows, range.handle);
         self.calls[party] = Some(Pending::Add(range, r));
@@ -244,6 +246,7 @@ impl Machine {
         requires word { x.word ≡ Counted winner }
         ensures reply { result ≡ More }
         ensures state { self.new.state ≡ called (record_freed self.old.state r) party (Some (Add range winner)) }
+        ensures room { KeepsRoom self.old.room self.new.room }
     {
         let record = self.record(r);
         self.records[r] = Record {

@@ -7,7 +7,7 @@ pub returns-in-Take : goal.returns-in-Take
 returns-in-Take g c =
     let s = c.step.ensures in
     written c.writeln.result (g.W.Write.contents c.args.output.now) _ c.args.machine.now c.step.new.self c.args.ask (reply_text c.step.result)
-    (rw c.in-Take.is (c.step.result, record { moves = s.moves; steps = s.steps; sound = s.sound; promises = s.promises }, refl)) c.writeln.ensures.bytes
+    (rw c.in-Take.is (c.step.result, record { moves = s.moves; steps = s.steps; sound = s.sound; promises = s.promises; room = s.room }, refl)) c.writeln.ensures.bytes
 
 pub returns-in-Look : goal.returns-in-Look
 returns-in-Look g c =

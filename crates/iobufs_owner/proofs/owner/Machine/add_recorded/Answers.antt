@@ -42,4 +42,4 @@ invariant_of-self-in_err-insert c =
 pub returns-in_err-insert : goal.returns-in_err-insert
 returns-in_err-insert c =
     let p = err_from_is_err_and c.from_residual-in_err-insert.result c.from_residual-in_err-insert.ensures.1 in
-    rw p.1 (inr (inl (rw length-append (omega arith))), rw (c.in_ok-room_for_block.ensures.blocks, c.in_ok-room_for_block.ensures.freed, c.in_ok-room_for_handle.ensures.handles, c.in_ok-room_for_record.ensures.records, c.in_ok-room_for_record.ensures.freed) (ap (λ (m : Seen). m.state) c.self.view_is))
+    rw p.1 (inr (inl (rw length-append (omega arith))), rw (c.in_ok-room_for_block.ensures.blocks, c.in_ok-room_for_block.ensures.freed, c.in_ok-room_for_handle.ensures.handles, c.in_ok-room_for_record.ensures.records, c.in_ok-room_for_record.ensures.freed) (ap (λ (m : Seen). m.state) c.self.view_is), ((let v = ap (λ (m : Seen). m.room.blocks) c.self.view_is in omega (arith, v, c.in_ok-room_for_block.ensures.block_capacity, c.in_ok-room_for_block.ensures.capacity)), (let v = ap (λ (m : Seen). m.room.handles) c.self.view_is in omega (arith, v, c.in_ok-room_for_handle.ensures.capacity, c.in_ok-room_for_handle.ensures.borrow_capacity)), (let v = ap (λ (m : Seen). m.room.records) c.self.view_is in omega (arith, v, c.in_ok-room_for_record.ensures.record_capacity, c.in_ok-room_for_record.ensures.capacity))))

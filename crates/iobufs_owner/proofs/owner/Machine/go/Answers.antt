@@ -15,8 +15,8 @@ returns-in-Add c = rw c.in-Add.is c.add.ensures
 
 pub returns-in-Subtract : goal.returns-in-Subtract
 unfolding gone_on
-returns-in-Subtract c = rw c.in-Subtract.is (c.subtract.ensures.reply, c.subtract.ensures.state)
+returns-in-Subtract c = rw c.in-Subtract.is (c.subtract.ensures.reply, c.subtract.ensures.state, c.subtract.ensures.room)
 
 pub returns-in-Release : goal.returns-in-Release
 unfolding gone_on
-returns-in-Release c = rw c.in-Release.is (c.release.ensures.reply, c.release.ensures.state)
+returns-in-Release c = rw c.in-Release.is (c.release.ensures.reply, c.release.ensures.state, c.release.ensures.room)

@@ -1,5 +1,5 @@
 use Rattle.iobufs_owner.proofs.Soundness.Promised.{promises-of}
-use Rattle.iobufs_owner.proofs.WorldSteps.Sizes.{moves-of}
+use Rattle.iobufs_owner.proofs.WorldSteps.Sizes.{moves-of, moves-keep}
 use Rattle.iobufs_owner.proofs.WorldSteps.Step.{steps-of}
 use Rattle.iobufs_owner.proofs.owner.Machine.step.Goals as goal
 
@@ -9,3 +9,6 @@ returns-clause-steps c =
 
 pub returns-clause-promises : goal.returns-clause-promises
 returns-clause-promises c = promises-of _ c.known-2.ensures
+
+pub returns-clause-room : goal.returns-clause-room
+returns-clause-room c = moves-keep _ _ _ _ c.take.ensures
