@@ -15,7 +15,7 @@ mod serve;
 mod serve_tests;
 
 use serve::Stop;
-pub use serve::{in_memory, serve, session};
+pub use serve::{in_memory, machine_in_memory, serve, session};
 use std::io::BufWriter;
 use std::process::ExitCode;
 use std::{env, io};

@@ -76,27 +76,27 @@ pub fn tell<E: Write>(stop: &Stop, errors: &mut E) -> io::Result<()>
 
 /// Runs the program on the words behind its name, and gives its status: 0 at the end of the input, 2 for a line
 /// that is no command and for other words, 3 where reading, writing or memory failed. Beside it stands whether
-/// `errors` took what it was told. Replies are sent off before more input is waited for.
+/// `errors` took what it was told. Replies are sent off before more input is waited for. For other words nothing is read.
 pub fn session<R: Read + Drop, W: Write, E: Write>(
     alloc: Global,
     args: &[&str],
-    input: R,
+    input: &mut R,
     output: &mut W,
     errors: &mut E,
 ) -> (u8, io::Result<()>)
     ensures known { IsStatus result.0 }
-    ensures buffers { map (λ arg. arg.now) args.now ≡ codes "buf" ∷ [] → IfSome (R.remaining input) (λ read.
+    ensures buffers { map (λ arg. arg.now) args.now ≡ codes "buf" ∷ [] → IfSome (R.remaining input.old) (λ read.
         IfSome (W.contents output.old) (λ before. HasStatus read before (W.contents output.new) result.0)) }
-    ensures told { map (λ arg. arg.now) args.now ≡ codes "buf" ∷ [] → IfSome (R.remaining input) (λ read.
+    ensures told { map (λ arg. arg.now) args.now ≡ codes "buf" ∷ [] → IfSome (R.remaining input.old) (λ read.
         IfSome (W.contents output.old) (λ before.
         HasTold read before (W.contents output.new) (E.contents errors.old) (E.contents errors.new) result.0 result.1)) }
-    ensures machine { map (λ arg. arg.now) args.now ≡ codes "owner" ∷ [] → IfSome (R.remaining input) (λ read.
+    ensures machine { map (λ arg. arg.now) args.now ≡ codes "owner" ∷ [] → IfSome (R.remaining input.old) (λ read.
         IfSome (W.contents output.old) (λ before. HasMachineStatus read before (W.contents output.new) result.0)) }
-    ensures told_of_machine { map (λ arg. arg.now) args.now ≡ codes "owner" ∷ [] → IfSome (R.remaining input) (λ read.
+    ensures told_of_machine { map (λ arg. arg.now) args.now ≡ codes "owner" ∷ [] → IfSome (R.remaining input.old) (λ read.
         IfSome (W.contents output.old) (λ before.
         HasMachineTold read before (W.contents output.new) (E.contents errors.old) (E.contents errors.new) result.0 result.1)) }
     ensures usage { map (λ arg. arg.now) args.now ≢ codes "buf" ∷ [] → map (λ arg. arg.now) args.now ≢ codes "owner" ∷ []
-        → (result.0 ≡ 2) × (output.new ≡ output.old) }
+        → (result.0 ≡ 2) × (input.new ≡ input.old) × (output.new ≡ output.old) }
     ensures silent { result.0 ≡ 0 → errors.new ≡ errors.old }
 {
     match half_of(args) {
@@ -190,7 +190,8 @@ pub fn serve<R: Read + Drop, W: Write, E: Write>(
         → (result ≡ 2) × (output.new ≡ output.old) }
     ensures silent { result ≡ 0 → errors.new ≡ errors.old }
 {
-    let (status, _) = session(alloc, args, input, output, errors);
+    let mut input = input;
+    let (status, _) = session(alloc, args, &mut input, output, errors);
     status
 }
 

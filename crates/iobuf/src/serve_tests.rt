@@ -1,6 +1,6 @@
 // How a run begins and ends: bad lines, other arguments, faults of readers and writers, and when replies are sent off.
 use crate::buf_tests::assert_serves;
-use crate::serve::serve;
+use crate::serve::{in_memory, machine_in_memory, serve};
 use std::cell::Cell;
 use std::io::{self, Read, Write};
 use std::process::Abort;
@@ -251,5 +251,134 @@ fn replies_are_sent_before_more_is_asked_for(rt: HostRuntime) {
         assert!(rt; !log.is_late.get());
         let Telling { log: _ } = output;
         let Full { room: _ } = errors;
+    }
+}
+
+// A writer that holds what it takes until it is flushed.
+#[derive(Drop)]
+struct Holding {
+    held: Vec<u8>,
+    sent: Vec<u8>,
+}
+
+impl Write for Holding {
+    fn write(&mut self, buf: &[u8]) -> io::Result<usize> {
+        self.held.write_all(buf)?;
+        Ok(buf.len())
+    }
+
+    fn flush(&mut self) -> io::Result<()> {
+        self.sent.write_all(&self.held)?;
+        self.held.clear();
+        Ok(())
+    }
+}
+
+#[test]
+fn the_last_replies_are_sent(rt: HostRuntime) {
+    let buffers = b"new 0 4 1\nshow\n".as_slice();
+    let machine = b"machine 1 9 64\nstop\n".as_slice();
+    for (word, input) in [("buf", buffers), ("owner", machine)] {
+        let mut output = Holding {
+            held: Vec::new(rt.alloc()),
+            sent: Vec::new(rt.alloc()),
+        };
+        let mut told = Vec::new(rt.alloc());
+        let got = serve(rt.alloc(), &[word], input, &mut output, &mut told);
+        assert_eq!(rt; got, 2);
+        assert_eq!(rt; output.sent.as_slice(), b"ok\n".as_slice());
+        assert_eq!(rt; told.as_slice(), b"line 2: bad command\n".as_slice());
+    }
+}
+
+// A writer that takes everything, and can't send it off.
+#[derive(Drop)]
+struct Unsent {
+    has_taken: bool,
+}
+
+impl Write for Unsent {
+    fn write(&mut self, buf: &[u8]) -> io::Result<usize> {
+        self.has_taken = true;
+        Ok(buf.len())
+    }
+
+    fn flush(&mut self) -> io::Result<()> {
+        if self.has_taken {
+            return Err(io::Error::from(io::ErrorKind::BrokenPipe));
+        }
+        Ok(())
+    }
+}
+
+#[test]
+fn a_fault_in_sending(rt: HostRuntime) {
+    for (word, input) in [
+        ("buf", b"new 0 4 1\n".as_slice()),
+        ("buf", b"new 0 4 1\nshow\n"),
+        ("owner", b"machine 1 9 64\n"),
+        ("owner", b"machine 1 9 64\nstop\n"),
+    ] {
+        let mut output = Unsent { has_taken: false };
+        let mut told = Vec::new(rt.alloc());
+        let got = serve(rt.alloc(), &[word], input, &mut output, &mut told);
+        assert_eq!(rt; got, 3);
+        assert_eq!(rt; told.as_slice(), b"cannot continue\n".as_slice());
+    }
+}
+
+// A writer of errors, which takes note of how many replies were sent off before its first byte.
+struct Behind<'a> {
+    log: &'a Log,
+    sent: Option<usize>,
+}
+
+impl Write for Behind<'_> {
+    fn write(&mut self, buf: &[u8]) -> io::Result<usize> {
+        if self.sent.is_none() {
+            self.sent = Some(self.log.sent.get());
+        }
+        Ok(buf.len())
+    }
+
+    fn flush(&mut self) -> io::Result<()> {
+        Ok(())
+    }
+}
+
+#[test]
+fn errors_come_behind_the_replies(rt: HostRuntime) {
+    let log = Log {
+        written: Cell::new(0),
+        sent: Cell::new(0),
+        is_late: Cell::new(false),
+    };
+    let mut output = Telling { log: &log };
+    let mut errors = Behind {
+        log: &log,
+        sent: None,
+    };
+    let input = b"new 0 1 1\nshow 0\nshow\n".as_slice();
+    let got = serve(rt.alloc(), &["buf"], input, &mut output, &mut errors);
+    assert_eq!(rt; got, 2);
+    assert_eq!(rt; errors.sent, Some(2));
+    let Telling { log: _ } = output;
+    let Behind { log: _, sent: _ } = errors;
+}
+
+#[test]
+fn sessions_in_memory(rt: HostRuntime) {
+    for (input, status) in [(b"new 0 4 1\n".as_slice(), 0), (b"new 0 4 1\nshow\n", 2)] {
+        let (got, printed) = in_memory(rt.alloc(), input);
+        assert_eq!(rt; got, status);
+        assert_eq!(rt; printed.as_slice(), b"ok\n".as_slice());
+    }
+    for (input, status) in [
+        (b"machine 1 9 64\n".as_slice(), 0),
+        (b"machine 1 9 64\nstop\n", 2),
+    ] {
+        let (got, printed) = machine_in_memory(rt.alloc(), input);
+        assert_eq!(rt; got, status);
+        assert_eq!(rt; printed.as_slice(), b"ok\n".as_slice());
     }
 }
