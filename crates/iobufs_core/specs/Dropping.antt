@@ -1,5 +1,5 @@
 -- How bytes in front of a reader are dropped.
-use Rattle.std.specs.Prelude.{ℕ, List, [], ◌∷◌}
+use Rattle.std.specs.Prelude.{ℕ, ◌+◌, List, [], ◌∷◌}
 
 -- by one `advance`, or by one copy of them
 pub data Dropping : Type 0 where
@@ -11,3 +11,9 @@ abbrev pub dropped : {Reader : Type 0} → (Reader → ℕ → Reader) → (Read
 dropped advanced copied reader [] = reader
 dropped advanced copied reader (by_advance n ∷ more) = dropped advanced copied (advanced reader n) more
 dropped advanced copied reader (by_copy n ∷ more) = dropped advanced copied (copied reader n) more
+
+-- how many bytes these drop
+abbrev pub dropped_len : List Dropping → ℕ
+dropped_len [] = 0
+dropped_len (by_advance n ∷ more) = n + dropped_len more
+dropped_len (by_copy n ∷ more) = n + dropped_len more

@@ -1,5 +1,5 @@
 -- The frames of a text: there is one list of them, and it grows with the text at its end alone.
-use Rattle.std.proofs.Common.{◌≡◌, ◌⊎◌, inl, inr, ℕ, ◌+◌, ◌-◌, ◌^◌, ◌<◌, ◌≤◌, Bool, true, false, Option, None, Some, Result, Ok, Err, IfOk, OnOk, List, [], ◌∷◌, ◌++◌, length, take, drop, ap, sym, subst, ◌∙◌, refl, arith, append_assoc, length-append}
+use Rattle.std.proofs.Common.{◌≡◌, ◌⊎◌, inl, inr, ℕ, ◌+◌, ◌-◌, ◌^◌, ◌<◌, ◌≤◌, Bool, true, false, Option, None, Some, Result, Ok, Err, IfOk, IfSome, OnOk, List, [], ◌∷◌, ◌++◌, length, take, drop, ap, sym, subst, ◌∙◌, refl, arith, append_assoc, length-append}
 use Rattle.std.specs.Prelude.{nat_lt}
 use Rattle.std.proofs.Math.Seq.{take-append-add}
 use Rattle.std.proofs.lemmas.Bool.{ltb-true, ltb-false}
@@ -216,6 +216,22 @@ next_by_reading range t new (Err TooLong) h left = h
 pub next_is : (range : RangeCfg) (t new : MarkedText) (read : Result View Error) (result : Result (Option View) Error) → result ≡ found_of read → IsViewRead t range read
     → IfOk read (λ view. new ≡ text_rest t (length (view_written view))) → IsNext range t.bytes result new.bytes
 next_is range t new read result e h left = subst (λ r. IsNext range t.bytes r new.bytes) (sym e) (next_by_reading range t new read h left)
+
+HasRest : MarkedText → MarkedText → Result (Option View) Error → Type 0
+HasRest old new result = IfOk result (λ found. IfSome found (λ view. new ≡ text_rest old (length (view_written view))))
+
+-- a taken frame leaves the text behind it, with its marks
+pub taken_rest : (old new : MarkedText) (read : Result View Error) (result : Result (Option View) Error) → result ≡ found_of read
+    → IfOk read (λ view. new ≡ text_rest old (length (view_written view)))
+    → IfOk result (λ found. IfSome found (λ view. new ≡ text_rest old (length (view_written view))))
+unfolding HasRest
+taken_rest old new (Ok view) result e h = subst (HasRest old new) (sym e) h
+taken_rest old new (Err EndOfBuffer) result e h = subst (HasRest old new) (sym e) tt
+taken_rest old new (Err InvalidVarint) result e h = subst (HasRest old new) (sym e) tt
+taken_rest old new (Err (InvalidLength n)) result e h = subst (HasRest old new) (sym e) tt
+taken_rest old new (Err Memory) result e h = subst (HasRest old new) (sym e) tt
+taken_rest old new (Err BadLayout) result e h = subst (HasRest old new) (sym e) tt
+taken_rest old new (Err TooLong) result e h = subst (HasRest old new) (sym e) tt
 
 -- a text without a frame in front has none
 none_in_front : (range : RangeCfg) (old : List ℕ) (end now : End) (frames : List (List ℕ)) (rest : List ℕ) → HasNoFrame range old now

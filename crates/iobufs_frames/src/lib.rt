@@ -2,6 +2,8 @@
 #![tactic(auto)]
 
 ghost use Rattle.std.specs.Prelude.{◌≡◌, ◌⊎◌, ℕ, ◌+◌, ◌^◌, ◌<◌, ◌≤◌, List, ◌++◌, length, OnOk, OnErr, IfOk, IfErr, IsOk, IsErrAnd, IsOkUnless, IfNone, IfSome};
+ghost use Rattle.iobufs_core.specs.MarkedText.{text_append, text_rest};
+ghost use Rattle.iobufs_core.specs.Wire.{view_written};
 ghost use Rattle.iobufs_frames.specs.Frames.{AreMoved, HasNoFrame, HaveOneReading, IsFirst, IsFramed, IsNext, bodies, found_of, joined_bytes};
 
 use iobufs::bufs::IoBufs;
@@ -13,7 +15,9 @@ use std::marker::Model;
 /// Why no further frame stands behind the frames of a text.
 #[derive(Clone, Copy, Debug, PartialEq, Eq)]
 pub enum End {
-    /// More bytes may make one whole.
+    /// The spelling of a length may go on, or fewer bytes stand behind a length in the range than it says. That more
+    /// bytes make a frame whole is not said: each length that begins with `80 80 80` is above 1024, and yet these bytes
+    /// are open in 0 to 1024.
     Open,
     /// No bytes behind will: `Error::InvalidVarint`, or `Error::InvalidLength`.
     Bad(Error),
@@ -74,7 +78,8 @@ impl Frames {
 
     /// Puts bytes behind the rest, as `IoBufs::append` does.
     pub fn feed(&mut self, alloc: Global, piece: IoBuf) -> Result<(), Refused<IoBuf>>
-        ensures done { OnOk result (self.new.bytes ≡ self.old.bytes ++ piece.bytes) }
+        ensures done { OnOk result (self.new ≡ text_append self.old piece) }
+        ensures bytes { OnOk result (self.new.bytes ≡ self.old.bytes ++ piece.bytes) }
         ensures refused { OnErr result (self.new ≡ self.old) }
         ensures handed_back { IfErr result (λ refused. refused.value ≡ piece) }
         ensures too_long { 2 ^ 64 ≤ length self.old.bytes + length piece.bytes → IsErrAnd result (λ refused. refused.cause ≡ BufError.TooLong) }
@@ -85,11 +90,12 @@ impl Frames {
         self.rest.append(alloc, piece)
     }
 
-    /// Takes the whole frame in front; none where more bytes may make one whole. `Error::InvalidVarint` and
+    /// Takes the whole frame in front; none where the front is open (`End::Open`). `Error::InvalidVarint` and
     /// `Error::InvalidLength` where no bytes behind will, `Error::Memory` where there is no memory to take it. All
     /// but a taken frame leave the rest as it was.
     pub fn next(&mut self, alloc: Global, range: &RangeCfg) -> Result<Option<IoBuf>, Error>
         ensures next { IsNext range.now self.old.bytes result self.new.bytes }
+        ensures left { IfOk result (λ found. IfSome found (λ body. self.new ≡ text_rest self.old (length (view_written body)))) }
         ensures same { IfOk result (λ found. IfNone found (self.new ≡ self.old)) }
         ensures refused { OnErr result (self.new ≡ self.old) }
         ensures first { (frames : List (List ℕ)) (end : End) (rest : List ℕ) → IsFramed range.now self.old.bytes frames end rest

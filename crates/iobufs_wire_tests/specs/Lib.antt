@@ -1,2 +1,4 @@
+pub mod InOrder
+pub mod InOrderLaws
 pub mod Record
 pub mod RecordLaws

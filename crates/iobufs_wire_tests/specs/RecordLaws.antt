@@ -1,6 +1,7 @@
 -- Reading a record doesn't depend on the cuts, and gives back what was written.
 use Rattle.std.proofs.Common.{◌≡◌, inl, Result, Ok, Err, List, ℕ, ◌++◌, ◌<◌, ◌≤◌, length, take, ap, sym, subst, ◌∙◌, refl, arith, length-append}
 use Rattle.std.proofs.lemmas.List.{take_at}
+use Rattle.std.specs.Bool.{⊤}
 use Rattle.iobufs_core.specs.MarkedText.{MarkedText}
 use Rattle.iobufs_core.specs.ReadBack.{IsReadAlike, IsReadBack}
 use Rattle.iobufs_core.specs.declared.codec.base.Error.{Error}
@@ -35,3 +36,9 @@ record_back r bytes rest (Ok read) e h = sym (h.1 ∙ ap (take 7) e ∙ take_at 
 record_back r bytes rest (Err error) e h =
     let long : 7 ≤ length bytes = omega (arith, ap (λ (xs : List ℕ). length xs) e, length-append (record_written r) rest) in
     absurd (no_fault bytes error long h)
+
+pub record_one : (x y : Record) (u v : List ℕ) → record_written x ++ u ≡ record_written y ++ v → record_written x ≡ record_written y
+record_one x y u v e = sym (take_at (record_written x) u 7 refl) ∙ ap (take 7) e ∙ take_at (record_written y) v 7 refl
+
+pub record_front : (r : Record) (bytes : List ℕ) → IsRecordRead bytes (Ok r) → ⊤ × (take (length (record_written r)) bytes ≡ record_written r)
+record_front r bytes h = (tt, sym h.1)

@@ -1,6 +1,7 @@
 // What the laws of reading give to code that knows neither the value nor the reader.
-ghost use Rattle.std.specs.Prelude.{◌≡◌, IfOk};
+ghost use Rattle.std.specs.Prelude.{◌≡◌, ◌++◌, List, ℕ, IfOk};
 ghost use Rattle.iobufs_core.specs.ReadBack.{IsReadAlike};
+ghost use Rattle.iobufs_wire_tests.specs.InOrder.{AreReadInOrder};
 
 use iobufs_core::codec::{Codec, Encode, Error, OwnedBuf, Read};
 use std::alloc::Global;
@@ -25,4 +26,19 @@ pub fn there_and_back<T: Codec + Drop>(alloc: Global, value: &T, cfg: &T::Cfg) -
 {
     let mut view = value.encode(alloc)?.freeze()?;
     T::read_cfg(alloc, &mut view, cfg)
+}
+
+/// Reads two values, the second behind the first.
+pub fn read_in_order<T: Codec + Drop, U: Codec + Drop, B: OwnedBuf>(
+    alloc: Global,
+    buf: &mut B,
+    first: &T::Cfg,
+    second: &U::Cfg,
+) -> Result<(T, U), Error>
+    ensures { (x : T) (y : U) (rest : List ℕ) → T.admits first.now x → U.admits second.now y
+        → B.text buf.old ≡ T.written x ++ (U.written y ++ rest) → AreReadInOrder T.same U.same x y rest (B.text buf.new) result }
+{
+    let one = T::read_cfg(alloc, buf, first)?;
+    let two = U::read_cfg(alloc, buf, second)?;
+    Ok((one, two))
 }

@@ -93,4 +93,15 @@ impl Codec for Record {
     ghost admits = { λ _ _. ⊤ };
 
     ghost gives_back = { λ r _ text rest answer _ e h. record_back r text.bytes rest answer e h };
+
+    ghost use Rattle.iobufs_wire_tests.specs.RecordLaws.{record_front, record_one};
+    ghost use Rattle.std.proofs.Common.{refl};
+
+    ghost same_written = { λ x y e. e };
+
+    ghost no_front = { λ x y _ _ u v _ _ e. record_one x y u v e };
+
+    ghost read_written = { λ r _ text h. record_front r text.bytes h };
+
+    ghost drops_written = { λ r. refl };
 }

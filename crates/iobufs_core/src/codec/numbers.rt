@@ -67,6 +67,17 @@ impl Codec for u8 {
     ghost admits = { λ _ n. n < 2 ^ 8 };
 
     ghost gives_back = { λ n _ text rest answer ok e h. number_back (λ n. n ∷ []) 1 n text.bytes rest answer form_8 ok e h };
+
+    ghost use Rattle.iobufs_core.specs.CodecLaws.{number_front, number_one};
+    ghost use Rattle.std.proofs.Common.{ap, refl};
+
+    ghost same_written = { λ m n e. ap (λ n. n ∷ []) e };
+
+    ghost no_front = { λ m n _ _ u v p q e. number_one (λ n. n ∷ []) 1 form_8 m n u v p q e };
+
+    ghost read_written = { λ n _ text h. number_front (λ n. n ∷ []) 1 form_8 text.bytes n h };
+
+    ghost drops_written = { λ n. refl };
 }
 
 impl EncodeSize for u16 {
@@ -128,6 +139,17 @@ impl Codec for u16 {
     ghost admits = { λ _ n. n < 2 ^ 16 };
 
     ghost gives_back = { λ n _ text rest answer ok e h. number_back (to_be_bytes w16) 2 n text.bytes rest answer form_16 ok e h };
+
+    ghost use Rattle.iobufs_core.specs.CodecLaws.{number_front, number_one};
+    ghost use Rattle.std.proofs.Common.{ap, refl};
+
+    ghost same_written = { λ m n e. ap (to_be_bytes w16) e };
+
+    ghost no_front = { λ m n _ _ u v p q e. number_one (to_be_bytes w16) 2 form_16 m n u v p q e };
+
+    ghost read_written = { λ n _ text h. number_front (to_be_bytes w16) 2 form_16 text.bytes n h };
+
+    ghost drops_written = { λ n. refl };
 }
 
 impl EncodeSize for u32 {
@@ -189,6 +211,17 @@ impl Codec for u32 {
     ghost admits = { λ _ n. n < 2 ^ 32 };
 
     ghost gives_back = { λ n _ text rest answer ok e h. number_back (to_be_bytes w32) 4 n text.bytes rest answer form_32 ok e h };
+
+    ghost use Rattle.iobufs_core.specs.CodecLaws.{number_front, number_one};
+    ghost use Rattle.std.proofs.Common.{ap, refl};
+
+    ghost same_written = { λ m n e. ap (to_be_bytes w32) e };
+
+    ghost no_front = { λ m n _ _ u v p q e. number_one (to_be_bytes w32) 4 form_32 m n u v p q e };
+
+    ghost read_written = { λ n _ text h. number_front (to_be_bytes w32) 4 form_32 text.bytes n h };
+
+    ghost drops_written = { λ n. refl };
 }
 
 impl EncodeSize for u64 {
@@ -250,6 +283,17 @@ impl Codec for u64 {
     ghost admits = { λ _ n. n < 2 ^ 64 };
 
     ghost gives_back = { λ n _ text rest answer ok e h. number_back (to_be_bytes w64) 8 n text.bytes rest answer form_64 ok e h };
+
+    ghost use Rattle.iobufs_core.specs.CodecLaws.{number_front, number_one};
+    ghost use Rattle.std.proofs.Common.{ap, refl};
+
+    ghost same_written = { λ m n e. ap (to_be_bytes w64) e };
+
+    ghost no_front = { λ m n _ _ u v p q e. number_one (to_be_bytes w64) 8 form_64 m n u v p q e };
+
+    ghost read_written = { λ n _ text h. number_front (to_be_bytes w64) 8 form_64 text.bytes n h };
+
+    ghost drops_written = { λ n. refl };
 }
 
 // The number with these bytes.

@@ -69,4 +69,16 @@ impl Codec for Bytes {
     ghost admits = { λ range bytes. (length bytes < 2 ^ 64) × (in_range range (length bytes) ≡ true) };
 
     ghost gives_back = { λ bytes range text rest answer ok e h. bytes_back bytes range text rest answer ok.0 ok.1 e h };
+
+    ghost use Rattle.iobufs_core.specs.CodecLaws.{bytes_one, bytes_front, one_drop};
+    ghost use Rattle.iobufs_core.specs.Wire.{bytes_written};
+    ghost use Rattle.std.proofs.Common.{ap, refl};
+
+    ghost same_written = { λ x y e. ap bytes_written e };
+
+    ghost no_front = { λ x y _ _ u v p q e. bytes_one x y u v p.0 q.0 e };
+
+    ghost read_written = { λ bytes range text h. bytes_front text range bytes h };
+
+    ghost drops_written = { λ bytes. one_drop (length (bytes_written bytes)) };
 }

@@ -1,11 +1,11 @@
 // The traits to write and read values, with bytes that are pushed and not copied.
-ghost use Rattle.std.specs.Prelude.{◌≡◌, ◌⊎◌, ℕ, ◌+◌, ◌^◌, ◌<◌, ◌≤◌, List, [], ◌∷◌, ◌++◌, length, Result, SomeIff, OnOk, OnErr, IfOk, IfErr, IsOk, IsErrAnd};
+ghost use Rattle.std.specs.Prelude.{◌≡◌, ◌⊎◌, ℕ, ◌+◌, ◌^◌, ◌<◌, ◌≤◌, List, [], ◌∷◌, ◌++◌, length, take, Result, Ok, SomeIff, OnOk, OnErr, IfOk, IfErr, IsOk, IsErrAnd};
 ghost use Rattle.iobufs_core.specs.View.{View};
 ghost use Rattle.iobufs_core.specs.MarkedText.{MarkedText, taken_view, text_advanced, text_rest};
 ghost use Rattle.iobufs_core.specs.Spelling.{spell};
 ghost use Rattle.iobufs_core.specs.Wire.{IsTaken, IsViewFault, view_items, view_written};
 ghost use Rattle.iobufs_core.specs.ReadBack.{IsReadAlike, IsReadBack};
-ghost use Rattle.iobufs_core.specs.Dropping.{Dropping, by_advance, by_copy, dropped};
+ghost use Rattle.iobufs_core.specs.Dropping.{Dropping, by_advance, by_copy, dropped, dropped_len};
 ghost use Rattle.iobufs_core.specs.Items.{Item, put_item, push_item, items_bytes, items_inline, items_pushed, ArePuts, IsBegun};
 ghost use Rattle.iobufs_core.specs.View.{view_of_bytes};
 ghost use Rattle.iobufs_core.specs.declared.codec.base.Error.{Error as AnyError};
@@ -123,6 +123,18 @@ pub trait Codec: Write + Read {
     ghost admits: { Self.Cfg → Self → Type 0 };
 
     ghost gives_back: { (value : Self) (cfg : Self.Cfg) (text : MarkedText) (rest : List ℕ) (answer : Result Self AnyError) → admits cfg value → text.bytes ≡ Self.written value ++ rest → Self.is_read text cfg answer → IsReadBack Self.same value answer };
+
+    // The same value is written as the same bytes, and the bytes of a value begin those of no other.
+    ghost same_written: { (x y : Self) → Self.same x y → Self.written x ≡ Self.written y };
+
+    ghost no_front: { (x y : Self) (cfg other : Self.Cfg) (u v : List ℕ) → admits cfg x → admits other y → Self.written x ++ u ≡ Self.written y ++ v
+        → Self.same x y };
+
+    // What is read is admitted, and stands in front as it is written; and as many bytes are dropped.
+    ghost read_written: { (value : Self) (cfg : Self.Cfg) (text : MarkedText) → Self.is_read text cfg (Ok value)
+        → admits cfg value × (take (length (Self.written value)) text.bytes ≡ Self.written value) };
+
+    ghost drops_written: { (value : Self) → dropped_len (Self.dropping value) ≡ length (Self.written value) };
 }
 
 impl EncodeSize for usize {
@@ -189,6 +201,18 @@ impl Codec for usize {
     ghost admits = { λ range n. (n < 2 ^ 64) × (in_range range n ≡ true) };
 
     ghost gives_back = { λ n range text rest answer ok e h. length_back n range text.bytes rest answer ok.0 ok.1 e h };
+
+    ghost use Rattle.iobufs_core.specs.CodecLaws.{length_front, one_drop};
+    ghost use Rattle.iobufs_core.specs.Spelled.{spell_begins};
+    ghost use Rattle.std.proofs.Common.{ap, refl};
+
+    ghost same_written = { λ m n e. ap spell e };
+
+    ghost no_front = { λ m n _ _ u v p q e. spell_begins m n u v p.0 q.0 e };
+
+    ghost read_written = { λ n range text h. length_front text.bytes range n h };
+
+    ghost drops_written = { λ n. one_drop (length (spell n)) };
 }
 
 impl EncodeSize for IoBuf {
@@ -260,6 +284,18 @@ impl Codec for IoBuf {
     ghost admits = { λ range view. (length view.bytes < 2 ^ 64) × (in_range range (length view.bytes) ≡ true) };
 
     ghost gives_back = { λ view range text rest answer ok e h. view_back view range text rest answer ok.0 ok.1 e h };
+
+    ghost use Rattle.iobufs_core.specs.CodecLaws.{bytes_one, same_view, view_front, one_drop};
+    ghost use Rattle.iobufs_core.specs.Wire.{view_written};
+    ghost use Rattle.std.proofs.Common.{refl};
+
+    ghost same_written = { same_view };
+
+    ghost no_front = { λ x y _ _ u v p q e. bytes_one x.bytes y.bytes u v p.0 q.0 e };
+
+    ghost read_written = { λ view range text h. view_front text range view h };
+
+    ghost drops_written = { λ view. one_drop (length (view_written view)) };
 }
 
 /// Reads the bytes behind a length, as what is made of a view.

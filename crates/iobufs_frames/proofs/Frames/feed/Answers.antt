@@ -4,7 +4,7 @@ use Rattle.iobufs_frames.proofs.FrameLaws.{fed}
 use Rattle.iobufs_frames.proofs.Frames.feed.Goals as goal
 
 -- src/lib.rt:56:5
-pub returns-clause-done : goal.returns-clause-done
-returns-clause-done c =
+pub returns-clause-bytes : goal.returns-clause-bytes
+returns-clause-bytes c =
     subst (λ (t : MarkedText). OnOk c.append.result (c.append.new.self.bytes ≡ t.bytes ++ c.args.piece.bytes)) c.self.view_is
     (fed c.self.inside.rest c.append.new.self c.args.piece c.append.result c.append.ensures.done)

@@ -5,4 +5,5 @@ use Rattle.iobufs_frames.proofs.Frames.feed_and_move.Goals as goal
 -- src/lib.rt:125:5
 pub returns-in-Bad-clause-framed : goal.returns-in-Bad-clause-framed
 returns-in-Bad-clause-framed c = λ text is.
-    fed_bad c.args.range.now text c.args.piece.bytes c.args.self.now.bytes c.feed.new.self.bytes (bodies c.args.found.now.items) c.args.stop c.in-Bad.field-0 is c.in-Bad.is c.in_ok-feed.ensures.done
+    fed_bad c.args.range.now text c.args.piece.bytes c.args.self.now.bytes c.feed.new.self.bytes (bodies c.args.found.now.items)
+    c.args.stop c.in-Bad.field-0 is c.in-Bad.is c.in_ok-feed.ensures.bytes
