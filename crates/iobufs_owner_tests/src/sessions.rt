@@ -309,3 +309,17 @@ fn long_run(rt: HostRuntime) -> Result<(), Fail> {
     assert_eq!(rt; listed.freed_blocks().len(), 40);
     Ok(())
 }
+
+// Room for entries to come changes nothing that is told, and the steps behind it are taken.
+#[test]
+fn reserved_room(rt: HostRuntime) -> Result<(), Fail> {
+    let mut machine = Machine::new(rt.alloc(), 1, 9, FORMAT_64)?;
+    assert_eq!(rt; machine.reserve(2, 3, 2), Ok(()));
+    assert!(rt; machine.handles().is_empty());
+    let made = [
+        (begin(0, Call::New(64, 8, 1)), Reply::Made(0)),
+        (begin(0, Call::Static(5)), Reply::Made(1)),
+    ];
+    shows(&rt, &mut machine, &made);
+    Ok(())
+}
