@@ -16,7 +16,7 @@ use std::{fmt, mem};
 /// and both sides of a split share their storage; none of these copies a byte. A view in native storage:
 ///
 /// ```text
-/// block   | dropped |  len bytes  |  unused  |
+/// block   | dropped |  len bytes  |  behind  |
 ///         0       start      start + len   limit
 ///                   |--------- room ---------|
 /// ```
