@@ -1,7 +1,7 @@
 -- What has been written to a builder: inline bytes and views, in order.
 --     Building, building_items                        what is there; no inline text is empty, and no two are neighbours
 --     IsBuilding                                      what each builder keeps true of it
---     building_put, building_push, built              what a put, a push, and a list of them add
+--     building_put, building_push, building_after     what a put, a push, and a list of them add
 --     building_bytes, building_room, room_for_pushes  all bytes, and how many puts and pushes may still add
 --     finished                                        the text that is made of it
 use Rattle.std.specs.Prelude.{ℕ, ◌+◌, ◌-◌, ◌^◌, ◌<◌, ◌≤◌, ◌==◌, if◌then◌else◌, List, [], ◌∷◌, ◌++◌, length}

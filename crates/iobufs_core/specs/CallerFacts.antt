@@ -1,7 +1,8 @@
 -- Facts for callers, over bytes alone.
---     reading    bytes behind their length: what is read and what is left are the text, and what was written is read back
---     sending    what is left of a text whose front went off
---     writing    how long what is written is, and how many of its bytes are inline
+--     reading           bytes behind their length: what is read and what is left are the text, and what was written is read
+--                       back; what a copy or an advance leaves
+--     writing           how long what is written is, and how many of its bytes are inline
+--     several_writes    one write behind another, and a refusal in their middle
 use Rattle.std.specs.Prelude.{◌≡◌, ℕ, ◌+◌, ◌^◌, ◌<◌, ◌≤◌, true, Result, Ok, Err, IfOk, IsOkUnless, OnErr, List, [], ◌∷◌, ◌++◌, length, take, drop}
 use Rattle.std.proofs.Common.{arith, ap, sym, ◌∙◌, append_assoc, length-append, length-take, take-append-drop}
 use Rattle.std.proofs.Math.Seq.{take-append_seam}

@@ -3,7 +3,8 @@
 --     mark_at, text_left, text_right          a text seen from a place, and the two sides of it
 --     text_split_front, text_rest             what a split answers and leaves
 --     text_advanced, taken_view               what `advance` leaves, and what is taken as one view
---     text_join, joined, text_coalesced       one behind the other, several, and as one piece
+--     text_append, text_prepend, joined       a view behind a text, one in front of it, and several in order
+--     text_coalesced                          a text as one piece
 --     chunk_count, text_chunks                the chunks that a reader sees
 use Rattle.std.specs.Prelude.{ℕ, ◌+◌, ◌-◌, ◌<◌, Bool, ◌==◌, ◌&&◌, nat_lt, nat_le, if◌then◌else◌, List, [], ◌∷◌, ◌++◌, length, take, drop, map, filter, fold}
 use Rattle.std.specs.List.{list_any}

@@ -103,7 +103,7 @@ pub record AreAlike (frames others : List (List ℕ)) (end stop : End) (rest lef
   pub same_end : end ≡ stop
   pub same_rest : rest ≡ left
 
--- a text has one list of frames, one end and one rest
+-- a text has at most one list of frames, one end and one rest
 abbrev pub HaveOneReading : Type 0
 HaveOneReading =
     (range : RangeCfg) (text : List ℕ) (frames others : List (List ℕ)) (end stop : End) (rest left : List ℕ)

@@ -207,7 +207,7 @@ pub struct Run {
     pub rest: IoBufs,
 }
 
-/// Does nothing. Its contract is a law: a text has one list of frames, one end and one rest in a range. So what
+/// Does nothing. Its contract is a law: a text has at most one list of frames, one end and one rest in a range. So what
 /// `Frames::run` answers depends on the joined text alone, however it was cut.
 pub fn frames_law()
     ensures { HaveOneReading }

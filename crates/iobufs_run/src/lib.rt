@@ -1,9 +1,11 @@
 //! Commands over named buffers, and the theorem over every list of them.
 //!
 //! - `command`: what is asked and answered (`Cmd`, `Reply`, `Refusal`).
-//! - `table`: `Table`, with a function for each command in the file of what it works on (`parts`, `made`, `views`,
-//!   `texts`, `gather`, `build`, `shown`); `causes` tests what they share, before anything moves.
-//! - `specs/`: `Slots` and `Causes` (what names hold, and why a command is refused), `Run` (`Step`, `Run`), `Choices`.
+//! - `table`: `Table`, with a function for each command, and one for `Append` and `Prepend`, in the file of what it works
+//!   on (`parts`, `made`, `views`, `texts`, `gather`, `build`, `shown`, `slots`); `causes` has the tests that several
+//!   commands share.
+//! - `specs/`: `Slots` and `Causes` (what names hold, and why a command is refused), `Refusals` and `Printed` (how a
+//!   refusal is told), `Run` and `RunLaws` (`Step`, `Run`), `Choices`.
 #![tactic(auto)]
 
 pub mod command;

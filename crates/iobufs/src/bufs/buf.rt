@@ -177,7 +177,8 @@ impl IoBufs {
         Ok(made)
     }
 
-    /// The text as one piece, with a copy where there are several.
+    /// The text as one piece, with a copy where there are several. `BufError::BadLayout` exactly where these hold over
+    /// `isize::MAX` bytes.
     pub fn coalesce(self, alloc: Global) -> Result<IoBuf, BufError>
         ensures ok { IfOk result (λ view. of_view view ≡ text_coalesced self) }
         ensures single { is_single self ≡ true → IsOk result }

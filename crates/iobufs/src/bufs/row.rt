@@ -1,4 +1,4 @@
-// Two or more pieces in a deque, found by where they end.
+// Pieces in a deque, found by where they end, and a row in the making, with gaps.
 ghost use Rattle.std.specs.Fn.{CalledAt};
 ghost use Rattle.std.specs.List.{FoldsTo};
 ghost use Rattle.std.specs.Option.{option_copied};

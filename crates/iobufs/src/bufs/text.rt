@@ -32,8 +32,8 @@ use std::mem;
 /// end          3      5       9       less the base: how many bytes there are up to there
 /// ```
 ///
-/// Pieces are moved, and never copied; the text shares their storage with whoever else has it. A place is found by a
-/// search among the ends, so `split_to` and `take_owned_after` look at few pieces of many.
+/// To join and to split texts moves pieces and copies none of their bytes; the text shares their storage with whoever
+/// else has it. A place is found by a search among the ends, and a split then moves the pieces of the smaller side.
 pub struct IoBufs {
     pub(super) pieces: Pieces,
 }

@@ -16,11 +16,12 @@ use std::{fmt, mem};
 /// and both sides of a split share their storage; none of these copies a byte. A view in native storage:
 ///
 /// ```text
-/// block   | dropped |  len bytes  |   room   |
+/// block   | dropped |  len bytes  |  behind  |
 ///         0       start      start + len   limit
+///                   |--------- room ---------|
 /// ```
 ///
-/// A view takes 48 bytes. To clone it is to count one more holder of its block, and asks for no memory.
+/// To clone such a view is to count one more holder of its block, and asks for no memory.
 pub struct IoBuf {
     storage: Storage,
 }
