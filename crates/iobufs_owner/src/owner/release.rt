@@ -1,4 +1,5 @@
-//! Drops, step by step. In the original the `Drop` of an `Owner`.
+//! Drops, step by step. In the original `Owner::drop_unless_unique`, which loads the count and subtracts, then
+//! `release_unique` or `drop_shared_race_final`, and `release_record`, which frees.
 ghost use Rattle.std.specs.Prelude.{◌≡◌, ℕ, ◌<◌, Bool, length, None, Some};
 ghost use Rattle.iobufs_owner.specs.declared.owner.types.Kind.TheVariants.{View};
 ghost use Rattle.iobufs_owner.specs.declared.owner.types.Word.TheVariants.{Empty, Record as Counted};

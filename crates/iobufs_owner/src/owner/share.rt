@@ -1,4 +1,5 @@
-//! Clones and slices of a view, step by step. In the original `Owner::share`, whose compare-exchange is the race here.
+//! Clones and slices of a view, step by step. In the original `OwnerCell::promote`, whose compare-exchange is the race
+//! here, and `Owner::clone_shared`, which adds to the count.
 ghost use Rattle.std.specs.Prelude.{◌≡◌, ℕ, ◌+◌, ◌^◌, ◌<◌, ◌≤◌, length, IfOk, None, Some};
 ghost use Rattle.iobufs_owner.specs.declared.owner.types.Kind.TheVariants.{View};
 ghost use Rattle.iobufs_owner.specs.declared.owner.types.Word.TheVariants.{Empty, Descriptor, Record as Counted};

@@ -1,6 +1,7 @@
 //! What the machine holds, and what it is asked and answers.
 
-/// A block of storage; the bytes `base` to `base + size` are its own. In the original an `OwnerCell` and its layout.
+/// A block of storage; the bytes `base` to `base + size` are its own. In the original what a `Storage` keeps alive, a
+/// `Storage::Native` or the `Bytes` of a `Storage::External`, or what a `Descriptor` describes.
 #[derive(Clone, Copy, Debug, PartialEq, Eq, Drop)]
 pub struct Block {
     /// Its first address.
@@ -13,7 +14,7 @@ pub struct Block {
     pub external: bool,
 }
 
-/// A count of the holders of a block. In the original `Record`.
+/// A count of the holders of a block. In the original `Record`, with its `Storage`.
 #[derive(Clone, Copy, Debug, PartialEq, Eq, Drop)]
 pub struct Record {
     /// How many hold the block by this record.
@@ -33,7 +34,7 @@ pub enum Kind {
     Mut,
 }
 
-/// What a handle owns. In the original `Owner`.
+/// What a handle owns. In the original `Owner`, which a view keeps in an `OwnerCell`.
 #[derive(Clone, Copy, Debug, PartialEq, Eq, Drop)]
 pub enum Word {
     /// Nothing.
@@ -137,7 +138,8 @@ pub enum Act {
     Go(bool),
 }
 
-/// One atomic access of one party, which goes by its number.
+/// One step of one party, which goes by its number. It stands for at most one atomic access to a word or a
+/// count of the original.
 #[derive(Clone, Copy, Debug, PartialEq, Eq, Drop)]
 pub struct Step {
     /// The party.
