@@ -1,4 +1,4 @@
-//! Room in the machine's tables: the only place where the machine may come to want it.
+//! Room in the machine's tables. A step wants room here, and in the ordered map of places where it adds a block.
 ghost use Rattle.std.specs.Prelude.{◌≡◌, ℕ, min, ◌+◌, ◌^◌, ◌<◌, ◌≤◌, length, vec_len, vec_capacity, OnOk, OnErr};
 ghost use Rattle.iobufs_owner.specs.State.{IsFull};
 
