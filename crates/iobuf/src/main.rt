@@ -1,24 +1,18 @@
 // Reads commands on named buffers, or steps of the owner machine, a line each, and prints a reply to each.
 #![tactic(auto)]
 
-#[cfg(test)]
-mod buf_tests;
-mod input;
-#[cfg(test)]
-mod owner_tests;
-#[cfg(test)]
-mod sample_tests;
-#[cfg(test)]
-mod schedule_tests;
-mod serve;
-#[cfg(test)]
-mod serve_tests;
-
-use serve::Stop;
-pub use serve::{in_memory, machine_in_memory, serve, session};
+use iobufs_session::fault::{Fault, Stop, status, tell};
+use iobufs_session::output::Stream;
+use iobufs_session::serve::serve;
 use std::io::BufWriter;
 use std::process::ExitCode;
 use std::{env, io};
+
+// Tells why no session begins, and gives the status.
+fn stopped(rt: &HostRuntime, stop: Stop) -> u8 {
+    let _ = tell(&stop, &mut rt.stderr());
+    status(&Err(stop))
+}
 
 // The standard streams are read and written in blocks. An argument that is not UTF-8 is another argument.
 fn run(rt: &HostRuntime) -> io::Result<u8> {
@@ -26,7 +20,7 @@ fn run(rt: &HostRuntime) -> io::Result<u8> {
     let arguments = match env::args(rt) {
         Ok(arguments) => arguments,
         Err(error) if error.kind() == io::ErrorKind::InvalidData => {
-            return Ok(serve::tell_usage(&mut rt.stderr()));
+            return Ok(stopped(rt, Stop::OtherWords));
         }
         Err(error) => return Err(error),
     };
@@ -38,7 +32,7 @@ fn run(rt: &HostRuntime) -> io::Result<u8> {
     for word in &words {
         args.push(word.as_str())?;
     }
-    let mut output = BufWriter::new(alloc, rt.stdout())?;
+    let mut output = Stream::new(BufWriter::new(alloc, rt.stdout())?);
     Ok(serve(
         alloc,
         args.as_slice(),
@@ -51,9 +45,6 @@ fn run(rt: &HostRuntime) -> io::Result<u8> {
 fn main(rt: HostRuntime) -> ExitCode {
     match run(&rt) {
         Ok(status) => ExitCode::from(status),
-        Err(_) => {
-            let _ = serve::tell(&Stop::CannotContinue, &mut rt.stderr());
-            ExitCode::from(3)
-        }
+        Err(_) => ExitCode::from(stopped(&rt, Stop::CannotContinue(Fault::Memory))),
     }
 }

@@ -14,6 +14,7 @@ pub mod RowLaws
 pub mod RunLaws
 pub mod SeveralLaws
 pub mod Sides
+pub mod StaticLaws
 pub mod TakenLaws
 pub mod TextLaws
 pub mod VisitLaws

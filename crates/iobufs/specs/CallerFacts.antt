@@ -63,6 +63,12 @@ sent_on a b c text middle rest p q = record {
 pub sent_front : (held holds : Option (List ℕ)) (text rest : List ℕ) (n : ℕ) → Appends held holds (take n text) → rest ≡ drop n text → IsSent held holds text rest
 sent_front held holds text rest n h is = record { front = take n text; whole = sym (take-append-drop n text) ∙ ap (λ w. take n text ++ w) (sym is); grew = h }
 
+-- where as many bytes are left, nothing did
+pub sent_none : (held holds : Option (List ℕ)) (text rest : List ℕ) → IsSent held holds text rest → length rest ≡ length text → rest ≡ text
+sent_none held holds text rest is same =
+    let none : is.front ≡ [] = nil_from_length is.front (omega (arith, same, ap (λ (w : List ℕ). length w) is.whole, length-append is.front rest)) in
+    sym (is.whole ∙ ap (λ w. w ++ rest) none)
+
 -- all of a text that went off stands behind what the writer held
 pub sent_all : (held holds : Option (List ℕ)) (text rest : List ℕ) → IsSent held holds text rest → rest ≡ [] → Appends held holds text
 sent_all held holds text rest is none = subst (Appends held holds) (sym (is.whole ∙ ap (λ w. is.front ++ w) none ∙ append-nil is.front)) is.grew
@@ -72,13 +78,18 @@ pub length-advanced : (text new : MarkedText) (n : ℕ) → n ≤ length text.by
 length-advanced text new n within is =
     omega (arith, within, ap (λ (t : MarkedText). length t.bytes) is, ap (λ (w : List ℕ). length w) (bytes-advanced text n within), length-drop n text.bytes)
 
--- the first chunks, joined, are a front of the text
+-- a batch is the first chunks, joined
+pub batch_bytes : {A : Type 0} (bytes_of : A → List ℕ) (slices : List A) (text : MarkedText) (most : ℕ) → map bytes_of slices ≡ take most (text_chunks text)
+    → flat_map bytes_of slices ≡ flat_map (λ chunk. chunk) (take most (text_chunks text))
+batch_bytes bytes_of slices text most is = sym (flat_map-map (λ (chunk : List ℕ). chunk) bytes_of slices) ∙ ap (λ chunks. flat_map (λ chunk. chunk) chunks) is
+
+-- and a front of the text
 pub front_of_chunks : {A : Type 0} (bytes_of : A → List ℕ) (slices : List A) (text : MarkedText) (most n : ℕ) → map bytes_of slices ≡ take most (text_chunks text)
     → n ≤ length (flat_map bytes_of slices) → (n ≤ length text.bytes) × (take n (flat_map bytes_of slices) ≡ take n text.bytes)
 front_of_chunks bytes_of slices text most n is fits =
     let batch = flat_map bytes_of slices in
     let behind = flat_map (λ (piece : List ℕ). piece) (drop most (text_chunks text)) in
-    let front : batch ≡ flat_map (λ piece. piece) (take most (text_chunks text)) = sym (flat_map-map (λ (piece : List ℕ). piece) bytes_of slices) ∙ ap (λ pieces. flat_map (λ piece. piece) pieces) is in
+    let front : batch ≡ flat_map (λ piece. piece) (take most (text_chunks text)) = batch_bytes bytes_of slices text most is in
     let whole : batch ++ behind ≡ text.bytes =
     ap (λ w. w ++ behind) front ∙ sym (flat_map-append (λ (piece : List ℕ). piece) (take most (text_chunks text)) (drop most (text_chunks text)))
     ∙ ap (λ pieces. flat_map (λ piece. piece) pieces) (take-append-drop most (text_chunks text)) ∙ joined-chunks text in (
@@ -216,7 +227,7 @@ pub room_less : (old new : List Part) (bytes behind : List ℕ) (n : ℕ) → Ar
 room_less old new bytes behind n filled fits =
     omega (arith, filled_lessens old new (take n (bytes ++ behind)) filled, length-take n (bytes ++ behind), length-append bytes behind, fits)
 
-pub ruleset sending = (sent_kept, sent_nothing, sent_on, sent_front, sent_all, bytes-advanced)
+pub ruleset sending = (sent_kept, sent_nothing, sent_on, sent_front, sent_all, sent_none, bytes-advanced)
 
 pub ruleset storing = (stored_kept, stored_nothing, stored_on, stored_read, filled_lessens, stored_bytes, emptied-filled, emptied-spare, bytes-parts_frozen)
 

@@ -116,18 +116,18 @@ impl IoBufsMut {
     /// The parts of an iterator that can hold a byte; where there are none, one of capacity 0. `BufError::TooLong` where
     /// a part's capacity and those before it together pass `usize::MAX`, tested before memory is asked for. The first
     /// part that can hold a byte asks for none.
-    pub fn from_parts<I: Iterator<Item = IoBufMut> + Drop>(
+    pub fn from_parts<I: Iterator<Item = IoBufMut>>(
         alloc: Global,
-        items: I,
+        mut items: I,
     ) -> Result<IoBufsMut, BufError>
         requires can { I.can_next items }
-        requires ends { IsFinite (I.remaining items) }
+        requires finite { IsFinite (I.remaining items) }
         ensures ok { IfOk result (λ parts. WholeRun I.next_gives items (λ run. (parts_capacity run.items < 2 ^ 64) × (parts ≡ kept_parts run.items))) }
         ensures err { IfErr result (λ cause. SomeRun I.next_gives items (λ run. IsRowRefusedAt run.items cause)) }
     {
         let mut shape = Shape::One(IoBufMut::default(alloc));
         let mut left = usize::MAX;
-        for part in items {
+        while let Some(part) = items.next() {
             let capacity = part.capacity();
             if capacity > left {
                 return Err(BufError::TooLong);

@@ -1,6 +1,6 @@
 // Encoded bytes and existing buffers, put together as one text.
 ghost use Rattle.std.specs.Prelude.{◌≡◌, ◌+◌, ◌<◌, ◌≤◌, ◌^◌, [], length, Err, IfErr, IsErrAnd, IfOk, IsOk, IsOkUnless, OnErr, OnOk};
-ghost use Rattle.iobufs_core.specs.Items.{ArePuts, items_inline};
+ghost use Rattle.iobufs_core.specs.Items.{items_inline};
 ghost use Rattle.iobufs_core.specs.View.{View};
 ghost use Rattle.iobufs.specs.Building.{IsBuilding, building_items, building_room, building_after, empty_building, finished};
 
@@ -146,7 +146,7 @@ impl BufMut for Builder {
 
 impl BufsMut for Builder {
     ghost use Rattle.iobufs.specs.Building.{building_bytes, room_for_pushes};
-    ghost use Rattle.iobufs.specs.Laws.Building.{IsBuilt, built_adds, built_follows, built_idle, built_puts, built_spends, built_uses};
+    ghost use Rattle.iobufs.specs.Laws.Building.{IsBuilt, built_adds, built_follows, built_idle, built_puts, built_skips, built_spends, built_uses};
 
     ghost joined = { building_bytes };
 
@@ -194,6 +194,8 @@ impl BufsMut for Builder {
 
     ghost puts = { built_puts };
 
+    ghost skips = { built_skips };
+
     ghost follows = { built_follows };
 
     ghost adds = { built_adds };
@@ -216,7 +218,7 @@ pub trait EncodeExt: Write {
         ensures too_long { 2 ^ 64 ≤ length (Self.written self.now) → result ≡ Err Error.TooLong }
         ensures bad_layout { length (Self.written self.now) < 2 ^ 64 → 2 ^ 63 ≤ items_inline (Self.items self.now) → result ≡ Err Error.BadLayout }
         ensures memory { length (Self.written self.now) < 2 ^ 64 → items_inline (Self.items self.now) < 2 ^ 63 → IsOkUnless result Error.Memory }
-        ensures nothing { ArePuts (Self.items self.now) → length (Self.written self.now) ≡ 0 → IsOk result }
+        ensures nothing { length (Self.written self.now) ≡ 0 → IsOk result }
     {
         if self.encode_size().is_none() {
             return Err(Error::TooLong);

@@ -1,6 +1,6 @@
 -- Facts for callers, over bytes alone.
 --     reading           bytes behind their length: what is read and what is left are the text, and what was written is read
---                       back; what a copy or an advance leaves
+--                       back; what a copy or an advance leaves, and a split's front
 --     writing           how long what is written is, and how many of its bytes are inline
 --     several_writes    one write behind another, and a refusal in their middle
 use Rattle.std.specs.Prelude.{◌≡◌, ℕ, ◌+◌, ◌^◌, ◌<◌, ◌≤◌, true, Result, Ok, Err, IfOk, IsOkUnless, OnErr, List, [], ◌∷◌, ◌++◌, length, take, drop}
@@ -8,14 +8,14 @@ use Rattle.std.proofs.Common.{arith, ap, sym, ◌∙◌, append_assoc, length-ap
 use Rattle.std.proofs.Math.Seq.{take-append_seam}
 use Rattle.std.proofs.lemmas.Bool.Decides.{nat_tests}
 use Rattle.std.proofs.lemmas.Grind.{common_steps}
-use Rattle.std.proofs.lemmas.List.{drop-drop, drop_all, append_cancel_left, nil_from_length}
+use Rattle.std.proofs.lemmas.List.{drop-drop, drop_all, append_cancel_left, nil_from_length, take_all}
 use Rattle.iobufs_core.specs.Items.{Item, put_item, push_item, items_bytes, items_inline, IsBegun}
 use Rattle.iobufs_core.specs.LayoutLaws.{good_layout}
-use Rattle.iobufs_core.specs.MarkedText.{MarkedText, taken_view, text_advanced, text_rest, text_right}
+use Rattle.iobufs_core.specs.MarkedText.{MarkedText, taken_view, text_advanced, text_left, text_rest, text_right, text_split_front}
 use Rattle.iobufs_core.specs.Part.{Part, part_frozen}
 use Rattle.iobufs_core.specs.Ranges.{in_range}
 use Rattle.iobufs_core.specs.ReadBytes.{bytes-taken_view, length-taken_view}
-use Rattle.iobufs_core.specs.ReadLaws.{view_back}
+use Rattle.iobufs_core.specs.ReadLaws.{number_fault, view_back}
 use Rattle.iobufs_core.specs.Spelled.{length-spell, spell_begins}
 use Rattle.iobufs_core.specs.Spelling.{spell}
 use Rattle.iobufs_core.specs.View.{View, static_mark, view_between}
@@ -36,6 +36,11 @@ bytes-rest text n h = grind (arith, nat_tests, common_steps, drop_all)
 pub bytes-advanced : (text : MarkedText) (n : ℕ) → n ≤ length text.bytes → (text_advanced text n).bytes ≡ drop n text.bytes
 unfolding text_right
 bytes-advanced text n h = grind (arith, nat_tests, common_steps, drop_all)
+
+-- the front that a split answers
+pub bytes-split_front : (text : MarkedText) (at : ℕ) → at ≤ length text.bytes → (text_split_front text at).bytes ≡ take at text.bytes
+unfolding text_left
+bytes-split_front text at h = grind (arith, nat_tests, common_steps, take_all)
 
 -- a view with n bytes stands behind its length in front of a text
 pub record IsThere (text : MarkedText) (n : ℕ) (view : View) : Type 0 where
@@ -166,7 +171,7 @@ pub on_err_always : {T E P : Type 0} (result : Result T E) → P → OnErr resul
 on_err_always (Ok value) p = tt
 on_err_always (Err error) p = p
 
-pub ruleset reading = (read_and_left, read_at_most, written_read_back, read_back_is, read_back_unless, number_and_left, bytes-rest, bytes-advanced)
+pub ruleset reading = (read_and_left, read_at_most, written_read_back, read_back_is, read_back_unless, number_and_left, number_fault, bytes-rest, bytes-advanced, bytes-split_front, bytes-taken_view)
 
 pub ruleset writing = (length-bytes_written, length-spell, inline-view, inline-most, joins-view, bytes-part_frozen, good_layout)
 

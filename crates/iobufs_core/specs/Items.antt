@@ -31,12 +31,6 @@ abbrev pub items_pushed : List Item → ℕ
 items_pushed [] = 0
 items_pushed (item ∷ items) = item_pushed item + items_pushed items
 
--- all bytes are put, and none pushed
-abbrev pub ArePuts : List Item → Type 0
-ArePuts [] = Unit {0}
-ArePuts (put_item bytes ∷ items) = ArePuts items
-ArePuts (push_item view ∷ items) = ⊥
-
 -- a text behind which a beginning of some bytes was written
 pub record IsBegun (old bytes new : List ℕ) : Type 0 where
   pub front : List ℕ

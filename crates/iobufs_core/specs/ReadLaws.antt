@@ -216,7 +216,7 @@ pub record IsNumberForm (written : ℕ → List ℕ) (size : ℕ) : Type 0 where
   pub one : (m n : ℕ) → m < 256 ^ size → n < 256 ^ size → written m ≡ written n → m ≡ n
 
 -- the only fault is the end of the buffer
-number_fault : (written : ℕ → List ℕ) (size : ℕ) (bytes : List ℕ) (error : Error) → IsNumberRead written size bytes (Err error) → (error ≡ EndOfBuffer) × (length bytes < size)
+pub number_fault : (written : ℕ → List ℕ) (size : ℕ) (bytes : List ℕ) (error : Error) → IsNumberRead written size bytes (Err error) → (error ≡ EndOfBuffer) × (length bytes < size)
 number_fault written size bytes EndOfBuffer h = (refl, h)
 number_fault written size bytes InvalidVarint h = absurd h
 number_fault written size bytes (InvalidLength n) h = absurd h

@@ -14,7 +14,7 @@ joins-put bytes = append-nil bytes
 pub joins-view : (view : View) → items_bytes (view_items view) ≡ view_written view
 joins-view view = ap (λ xs. spell (length view.bytes) ++ xs) (append-nil view.bytes)
 
-view_of_bytes-bytes : (bytes : List ℕ) → (view_of_bytes bytes).bytes ≡ bytes
+pub view_of_bytes-bytes : (bytes : List ℕ) → (view_of_bytes bytes).bytes ≡ bytes
 view_of_bytes-bytes [] = refl
 view_of_bytes-bytes (b ∷ bs) = grind (arith, nat_tests, common_steps)
 

@@ -1,22 +1,21 @@
--- The frames of a text: there is at most one list of them, and it grows with the text at its end alone.
-use Rattle.std.proofs.Common.{◌≡◌, ◌⊎◌, inl, inr, ℕ, ◌+◌, ◌-◌, ◌^◌, ◌<◌, ◌≤◌, Bool, true, false, Option, None, Some, Result, Ok, Err, IfOk, IfSome, OnOk, List, [], ◌∷◌, ◌++◌, length, take, drop, ap, sym, subst, ◌∙◌, refl, arith, append_assoc, length-append}
-use Rattle.std.specs.Prelude.{nat_lt}
-use Rattle.std.proofs.Math.Seq.{take-append-add}
-use Rattle.std.proofs.lemmas.Bool.{ltb-true, ltb-false}
-use Rattle.std.proofs.lemmas.List.{append-nil, map-append, length-take, take-append-le}
+-- The frames of a text: there is one list of them, and it grows with the text at its end alone.
+use Rattle.std.proofs.Common.{◌≡◌, ◌⊎◌, inl, inr, ℕ, ◌+◌, ◌-◌, ◌^◌, ◌<◌, ◌≤◌, true, Option, None, Some, Result, Ok, Err, IfOk, IfSome, OnOk, List, [], ◌∷◌, ◌++◌, length, take, drop, zero, suc, ap, sym, subst, ◌∙◌, refl, arith, append_assoc, length-append, length-drop, length-take, take-append-drop}
+use Rattle.std.proofs.lemmas.List.{append-nil, map-append}
 use Rattle.iobufs_core.specs.CallerFacts.{one_front, read_and_left, read_in_range, view_there}
 use Rattle.iobufs_core.specs.Ranges.{in_range}
 use Rattle.iobufs_core.specs.ReadLaws.{IsOutside, not_both, one_outside}
-use Rattle.iobufs_core.specs.Spelled.{length-spell, none_high, spelled, spelled_as_one, spelled_before, spelled_front}
-use Rattle.iobufs_core.specs.Spelling.{spell, IsSpelledAt, IsSpelling, AreHigh, HasNoLength, IsOpen}
+use Rattle.iobufs_core.specs.LengthFacts.{less, some_answer}
+use Rattle.iobufs_core.specs.Spelled.{none_high, spelled, spelled_as_one, spelled_before}
+use Rattle.iobufs_core.specs.Spelling.{spell, IsSpelledAt, IsSpelling, HasNoLength, IsOpen}
 use Rattle.iobufs_core.specs.View.{View}
 use Rattle.iobufs_core.specs.MarkedText.{MarkedText, taken_view, text_append, text_rest}
-use Rattle.iobufs_core.specs.Wire.{HasView, IsViewRead, bytes_written, view_written}
+use Rattle.iobufs_core.specs.Wire.{HasView, IsLengthRead, IsViewRead, bytes_written, view_written}
 use Rattle.iobufs_core.specs.declared.codec.base.Error.{Error}
 use Rattle.iobufs_core.specs.declared.codec.base.Error.TheVariants.{EndOfBuffer, InvalidVarint, InvalidLength, Memory, BadLayout, TooLong}
 use Rattle.iobufs_core.specs.declared.codec.base.RangeCfg.{RangeCfg}
 use Rattle.iobufs.specs.Laws.Joined.{bytes-append}
-use Rattle.iobufs_frames.specs.Frames.{frames_written, AreAdmitted, AreAlike, AreMoved, BeginsWithBytes, HasBytes, HasNoFrame, IsAdmitted, IsFramed, IsNext, IsFirst, FirstTaken, bodies, found_of}
+use Rattle.iobufs_frames.specs.FrameFacts.{stays_bad}
+use Rattle.iobufs_frames.specs.Frames.{frames_written, AreAdmitted, AreAlike, AreMoved, BeginsWithBytes, HasBytes, HasFrames, HasNoFrame, IsAdmitted, IsFramed, IsNext, IsFirst, FirstTaken, bodies, found_of}
 use Rattle.iobufs_frames.specs.declared.End.{End}
 use Rattle.iobufs_frames.specs.declared.End.TheVariants.{Open, Bad}
 
@@ -124,68 +123,75 @@ framed_once range text (f ∷ fs) (g ∷ gs) a b x y e (fits, p) h e' (fits', q)
       same_rest = others.same_rest;
     }
 
--- ---- a text that grows
+some_byte : (xs : List ℕ) (n : ℕ) → IsSpelling xs n → 0 < length xs
+some_byte [] n is = absurd is
+some_byte (x ∷ xs) n is = omega arith
 
--- what is in front of a spelling's last byte has the top bit set
-before_last : (front : List ℕ) (c : ℕ) (behind : List ℕ) (n : ℕ) → IsSpelling (front ++ c ∷ behind) n → AreHigh front
-before_last [] c behind n is = tt
-before_last (b ∷ []) c behind n is = (is.top, tt)
-before_last (b ∷ d ∷ front) c behind n is = (is.top, before_last (d ∷ front) c behind is.high is.rest)
+spelling_long : (n : ℕ) → n < 2 ^ 64 → 0 < length (spell n)
+spelling_long n small = some_byte (spell n) n (spelled n small)
 
-before_end : (front behind : List ℕ) (n : ℕ) → 0 < length behind → IsSpelling (front ++ behind) n → AreHigh front
-before_end front [] n some is = absurd (omega arith)
-before_end front (c ∷ behind) n some is = before_last front c behind n is
+shorter : (body old new : List ℕ) → length body < 2 ^ 64 → old ≡ bytes_written body ++ new → length new < length old
+shorter body old new small e =
+    let some = spelling_long (length body) small in
+    omega (arith, ap (λ (xs : List ℕ). length xs) e, length-append (bytes_written body) new, length-append (spell (length body)) body)
 
-within_or_beyond : (m k : ℕ) (t : Bool) → nat_lt m k ≡ t → (k ≤ m) ⊎ (m < k)
-within_or_beyond m k true e = inr (ltb-true m k e)
-within_or_beyond m k false e = inl (ltb-false m k e)
+-- ---- each text has its frames
 
-take_beyond : (k : ℕ) (xs ys : List ℕ) → length xs < k → take k (xs ++ ys) ≡ xs ++ take (k - length xs) ys
-take_beyond k xs ys beyond =
-    let sum : k ≡ length xs + (k - length xs) = omega arith in
-    ap (λ m. take m (xs ++ ys)) sum ∙ take-append-add xs ys (k - length xs)
+-- a frame in front, or why there is none
+record HasFront (range : RangeCfg) (text : List ℕ) : Type 0 where
+  body : List ℕ
+  more : List ℕ
+  admitted : IsAdmitted range body
+  whole : text ≡ bytes_written body ++ more
 
-high_front : (xs ys : List ℕ) → AreHigh (xs ++ ys) → AreHigh xs
-high_front [] ys high = tt
-high_front (b ∷ bs) ys high = (high.0, high_front bs ys high.1)
+none_in : (range : RangeCfg) (text : List ℕ) (error : Error) → IsLengthRead text range (Err error) → (end : End) × HasNoFrame range text end
+none_in range text EndOfBuffer h = (Open, inl h)
+none_in range text InvalidVarint h = (Bad InvalidVarint, h)
+none_in range text (InvalidLength n) h = (Bad (InvalidLength n), h)
+none_in range text Memory h = absurd h
+none_in range text BadLayout h = absurd h
+none_in range text TooLong h = absurd h
 
-take_whole_length : (k : ℕ) (xs : List ℕ) → length (take k xs) ≡ k → k ≤ length xs
-take_whole_length k xs e = omega (arith, length-take k xs)
+front_by : (range : RangeCfg) (text : List ℕ) (answer : Result ℕ Error) → IsLengthRead text range answer → HasFront range text ⊎ ((end : End) × HasNoFrame range text end)
+front_by range text (Err error) h = inr (none_in range text error h)
+front_by range text (Ok n) (at, inside) = elim (less (length text) (length (spell n) + n)) [
+  | inl few ↦ inr (Open, inr (n, (at, inside), few))
+  | inr enough ↦
+      let k = length (spell n) in
+      let body = take n (drop k text) in
+      let long : length body ≡ n = length-take n (drop k text) ∙ omega (arith, length-drop k text, enough) in
+      inl (record {
+        body = body;
+        more = drop n (drop k text);
+        admitted = record { small = subst (λ m. m < 2 ^ 64) (sym long) at.0; inside = subst (λ m. in_range range m ≡ true) (sym long) inside };
+        whole =
+            sym (take-append-drop k text) ∙ ap (λ w. w ++ drop k text) at.1 ∙ ap (λ w. spell n ++ w) (sym (take-append-drop n (drop k text)))
+            ∙ sym (append_assoc (spell n) body (drop n (drop k text))) ∙ ap (λ m. (spell m ++ body) ++ drop n (drop k text)) (sym long);
+      })
+]
 
--- a length that is spelled in front still is where more bytes follow
-spelled_later : (bytes more : List ℕ) (n : ℕ) → IsSpelledAt bytes n → IsSpelledAt (bytes ++ more) n
-spelled_later bytes more n at =
-    let long : length (spell n) ≤ length bytes = take_whole_length (length (spell n)) bytes (ap (λ (xs : List ℕ). length xs) at.1) in
-    (at.0, take-append-le (length (spell n)) bytes more long ∙ at.1)
-
--- where no length is spelled, nor may one have begun, more bytes behind spell none
-no_length_later : (bytes more : List ℕ) → HasNoLength bytes → (IsOpen bytes → ⊥) → HasNoLength (bytes ++ more)
-no_length_later bytes more none closed n at =
-    let k = length (spell n) in
-    elim (within_or_beyond (length bytes) k (nat_lt (length bytes) k) refl) [
-      | inl within ↦ none n (at.0, sym (take-append-le k bytes more within) ∙ at.1)
-      | inr beyond ↦
-          let is : IsSpelling (take k (bytes ++ more)) n = spelled_front (bytes ++ more) n at in
-          let split : take k (bytes ++ more) ≡ bytes ++ take (k - length bytes) more = take_beyond k bytes more beyond in
-          let short = length-spell n in
-          let long : length (take k (bytes ++ more)) ≡ k = ap (λ (xs : List ℕ). length xs) at.1 in
-          let some : 0 < length (take (k - length bytes) more) =
-          omega (arith, long, ap (λ (xs : List ℕ). length xs) split, length-append bytes (take (k - length bytes) more)) in
-          closed (omega arith, before_end bytes (take (k - length bytes) more) n some (subst (λ (xs : List ℕ). IsSpelling xs n) split is))
+-- frame by frame, each of which shortens what is left
+framed_within : (range : RangeCfg) (fuel : ℕ) (text : List ℕ) → length text < fuel → HasFrames range text
+framed_within range zero text enough = absurd (omega (arith, enough))
+framed_within range (suc fuel) text enough =
+    let read = some_answer text range in
+    elim (front_by range text read.answer read.is) [
+      | inr (end, none) ↦ record { frames = []; end = end; rest = text; is = record { whole = refl; admitted = tt; ends = none } }
+      | inl front ↦
+          let others = framed_within range fuel front.more (omega (arith, enough, shorter front.body text front.more front.admitted.small front.whole)) in record {
+            frames = front.body ∷ others.frames;
+            end = others.end;
+            rest = others.rest;
+            is = record {
+              whole = front.whole ∙ ap (λ w. bytes_written front.body ++ w) others.is.whole ∙ sym (append_assoc (bytes_written front.body) (frames_written others.frames) others.rest);
+              admitted = (front.admitted, others.is.admitted);
+              ends = others.is.ends;
+            };
+          }
     ]
 
-still_closed : (bytes more : List ℕ) → (IsOpen bytes → ⊥) → IsOpen (bytes ++ more) → ⊥
-still_closed bytes more closed opened =
-    closed (let less = opened.0 in omega (arith, length-append bytes more), high_front bytes more opened.1)
-
--- a bad front stays bad, whatever follows
-pub stays_bad : (range : RangeCfg) (bytes more : List ℕ) (error : Error) → HasNoFrame range bytes (Bad error) → HasNoFrame range (bytes ++ more) (Bad error)
-stays_bad range bytes more EndOfBuffer h = absurd h
-stays_bad range bytes more InvalidVarint h = (no_length_later bytes more h.0 h.1, still_closed bytes more h.1)
-stays_bad range bytes more (InvalidLength n) h = (spelled_later bytes more n h.0, h.1)
-stays_bad range bytes more Memory h = absurd h
-stays_bad range bytes more BadLayout h = absurd h
-stays_bad range bytes more TooLong h = absurd h
+pub framed : (range : RangeCfg) (text : List ℕ) → HasFrames range text
+framed range text = framed_within range (suc (length text)) text (omega arith)
 
 -- ---- one frame taken
 
@@ -290,18 +296,6 @@ written-append (f ∷ fs) gs = ap (λ xs. bytes_written f ++ xs) (written-append
 one_more : (range : RangeCfg) (fs : List (List ℕ)) (body : List ℕ) → IsAdmitted range body → AreAdmitted range fs → AreAdmitted range (fs ++ body ∷ [])
 one_more range [] body admitted fine = (admitted, tt)
 one_more range (f ∷ fs) body admitted fine = (fine.0, one_more range fs body admitted fine.1)
-
-some_byte : (xs : List ℕ) (n : ℕ) → IsSpelling xs n → 0 < length xs
-some_byte [] n is = absurd is
-some_byte (x ∷ xs) n is = omega arith
-
-spelling_long : (n : ℕ) → n < 2 ^ 64 → 0 < length (spell n)
-spelling_long n small = some_byte (spell n) n (spelled n small)
-
-shorter : (body old new : List ℕ) → length body < 2 ^ 64 → old ≡ bytes_written body ++ new → length new < length old
-shorter body old new small e =
-    let some = spelling_long (length body) small in
-    omega (arith, ap (λ (xs : List ℕ). length xs) e, length-append (bytes_written body) new, length-append (spell (length body)) body)
 
 moved_body : (range : RangeCfg) (old new : List ℕ) (body : View) (views more : List View) → IsNext range old (Ok (Some body)) new → more ≡ views ++ body ∷ []
     → AreMoved range (bodies views) old (bodies more) new × (length new < length old)

@@ -108,3 +108,18 @@ abbrev pub HaveOneReading : Type 0
 HaveOneReading =
     (range : RangeCfg) (text : List ℕ) (frames others : List (List ℕ)) (end stop : End) (rest left : List ℕ)
     → IsFramed range text frames end rest → IsFramed range text others stop left → AreAlike frames others end stop rest left
+
+-- and it has one
+pub record HasFrames (range : RangeCfg) (text : List ℕ) : Type 0 where
+  pub frames : List (List ℕ)
+  pub end : End
+  pub rest : List ℕ
+  pub is : IsFramed range text frames end rest
+
+-- a beginning of a frame is open
+abbrev pub BeginningsAreOpen : Type 0
+BeginningsAreOpen = (range : RangeCfg) (body front back : List ℕ) → IsAdmitted range body → bytes_written body ≡ front ++ back → 0 < length back → HasNoFrame range front Open
+
+-- what is bad stays bad, whatever follows
+abbrev pub BadStaysBad : Type 0
+BadStaysBad = (range : RangeCfg) (bytes more : List ℕ) (error : Error) → HasNoFrame range bytes (Bad error) → HasNoFrame range (bytes ++ more) (Bad error)

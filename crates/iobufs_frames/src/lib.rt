@@ -4,7 +4,7 @@
 ghost use Rattle.std.specs.Prelude.{◌≡◌, ◌⊎◌, ℕ, ◌+◌, ◌^◌, ◌<◌, ◌≤◌, List, ◌++◌, length, OnOk, OnErr, IfOk, IfErr, IsOk, IsErrAnd, IsOkUnless, IfNone, IfSome};
 ghost use Rattle.iobufs_core.specs.MarkedText.{text_append, text_rest};
 ghost use Rattle.iobufs_core.specs.Wire.{view_written};
-ghost use Rattle.iobufs_frames.specs.Frames.{AreMoved, HasNoFrame, HaveOneReading, IsFirst, IsFramed, IsNext, bodies, found_of, joined_bytes};
+ghost use Rattle.iobufs_frames.specs.Frames.{AreMoved, BadStaysBad, BeginningsAreOpen, HasFrames, HasNoFrame, HaveOneReading, IsFirst, IsFramed, IsNext, bodies, found_of, joined_bytes};
 
 use iobufs::bufs::IoBufs;
 use iobufs_core::buf::IoBuf;
@@ -207,8 +207,12 @@ pub struct Run {
     pub rest: IoBufs,
 }
 
-/// Does nothing. Its contract is a law: a text has at most one list of frames, one end and one rest in a range. So what
-/// `Frames::run` answers depends on the joined text alone, however it was cut.
+/// Does nothing. Its contract is a law: a text has one list of frames, one end and one rest in a range, and no other. So
+/// what `Frames::run` answers depends on the joined text alone, however it was cut. A beginning of a frame is open, and
+/// what is bad stays bad.
 pub fn frames_law()
-    ensures { HaveOneReading }
+    ensures one { HaveOneReading }
+    ensures some { (range : RangeCfg) (text : List ℕ) → HasFrames range text }
+    ensures begun { BeginningsAreOpen }
+    ensures bad { BadStaysBad }
 {}

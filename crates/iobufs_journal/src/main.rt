@@ -1,66 +1,25 @@
-// A journal in a file: puts lines behind it as records, prints its records, and says how it ends.
+// A journal in a file: puts lines behind it as records, prints its records, says how it ends, and cuts off a torn end.
 #![tactic(auto)]
 
-mod serve;
-#[cfg(test)]
-mod tests;
+mod commands;
 
-use iobufs_uses::journal::End;
 use std::env;
-use std::fs::{self, File, OpenOptions};
-use std::io::{self, BufWriter, Write};
+use std::io::{self, Write};
 use std::process::ExitCode;
 
-const USAGE: &[u8] =
-    b"usage: iobufs_journal append FILE, iobufs_journal replay FILE or iobufs_journal check FILE..\n";
+const USAGE: &str = "\
+usage: iobufs_journal append [--sync] FILE    each line of the standard input becomes a record
+       iobufs_journal replay [--all] FILE     prints the records, a line each; --all: those behind damage too
+       iobufs_journal check FILE..            says how many records there are, and how each journal ends
+       iobufs_journal repair [--force] FILE   cuts a torn end off, which goes to FILE.cut; --force: a damaged one too
+       iobufs_journal --help | --version
 
-// A journal that is read from its front, and written at its end.
-fn open_to_append(rt: &HostRuntime, name: &str) -> io::Result<File> {
-    OpenOptions::new()
-        .read(true)
-        .append(true)
-        .create(true)
-        .open(rt, name)
-}
+A line has at most 1048564 bytes. One append takes at most 1 TiB. Writers wait for each other.
+status: 0 done and whole, 1 a journal that is torn or damaged, 2 wrong words,
+        3 a file, a stream or memory failed, or a line is too long (the lines in front of it are kept)
+";
 
-// Puts the lines of the standard input behind a journal.
-fn append(rt: &HostRuntime, name: &str) -> io::Result<End> {
-    let mut journal = open_to_append(rt, name)?;
-    let end = serve::append(rt.alloc(), &mut journal, &mut rt.reader())?;
-    journal.sync_all()?;
-    Ok(end)
-}
-
-// Prints the records of a journal, a line each.
-fn replay(rt: &HostRuntime, name: &str) -> io::Result<End> {
-    let mut output = BufWriter::new(rt.alloc(), rt.stdout())?;
-    let end = serve::replay(rt.alloc(), &mut fs::open(rt, name)?, &mut output)?;
-    output.flush()?;
-    Ok(end)
-}
-
-// Says of each journal how many records it has and how it ends. The status is 1 where one isn't whole.
-fn check(rt: &HostRuntime, names: &[&str]) -> io::Result<u8> {
-    let mut status = 0;
-    for name in names {
-        let mut journal = fs::open(rt, *name)?;
-        if serve::check(rt.alloc(), name, &mut journal, &mut rt.stdout())? != End::Whole {
-            status = 1;
-        }
-    }
-    Ok(status)
-}
-
-// The status of a journal that ends so; one that isn't whole is told on the standard errors.
-fn status(rt: &HostRuntime, end: End) -> u8 {
-    let told: &[u8] = match end {
-        End::Whole => return 0,
-        End::Torn => b"the journal is torn\n",
-        End::Damaged => b"the journal is damaged\n",
-    };
-    let _ = rt.stderr().write_all(told);
-    1
-}
+const VERSION: &str = "iobufs_journal 1, format 1\n";
 
 fn run(rt: &HostRuntime) -> io::Result<u8> {
     let alloc = rt.alloc();
@@ -73,21 +32,32 @@ fn run(rt: &HostRuntime) -> io::Result<u8> {
         args.push(word.as_str())?;
     }
     match args.as_slice() {
-        ["append", name] => Ok(status(rt, append(rt, name)?)),
-        ["replay", name] => Ok(status(rt, replay(rt, name)?)),
-        ["check", names @ ..] if !names.is_empty() => check(rt, names),
+        ["append", "--sync", name] => Ok(commands::append(rt, name, true)),
+        ["append", name] => Ok(commands::append(rt, name, false)),
+        ["replay", "--all", name] => Ok(commands::replay(rt, name, true)),
+        ["replay", name] => Ok(commands::replay(rt, name, false)),
+        ["check", names @ ..] if !names.is_empty() => Ok(commands::check(rt, names)),
+        ["repair", "--force", name] => Ok(commands::repair(rt, name, true)),
+        ["repair", name] => Ok(commands::repair(rt, name, false)),
+        ["--help"] => told(rt, USAGE),
+        ["--version"] => told(rt, VERSION),
         _ => {
-            let _ = rt.stderr().write_all(USAGE);
+            let _ = rt.stderr().write_all(USAGE.as_bytes());
             Ok(2)
         }
     }
+}
+
+fn told(rt: &HostRuntime, text: &str) -> io::Result<u8> {
+    rt.stdout().write_all(text.as_bytes())?;
+    Ok(0)
 }
 
 fn main(rt: HostRuntime) -> ExitCode {
     match run(&rt) {
         Ok(status) => ExitCode::from(status),
         Err(error) => {
-            let _ = writeln!(rt.stderr(), "{error}");
+            let _ = writeln!(rt.stderr(), "iobufs_journal: {error}");
             ExitCode::from(3)
         }
     }

@@ -13,3 +13,7 @@ pub mod CloneAndSlice
 pub mod Drop
 pub mod Step
 pub mod FourthStep
+pub mod Modest
+pub mod Reserved
+pub mod Caused
+pub mod Sole

@@ -36,7 +36,7 @@ pub record Promises (s : State) : Type 0 where
   -- Counts equal holders, and a block has at most one published record; one that isn't belongs to one promotion.
   pub counts : (r : ℕ) → IsPublished s r → (record_at s.tables r).count ≡ holders (reading s) (record_at s.tables r).block
   pub one_record : (q r : ℕ) → IsPublished s q → IsPublished s r → (record_at s.tables q).block ≡ (record_at s.tables r).block → q ≡ r
-  pub one_maker : (r : ℕ) → (record_at s.tables r).live ≡ true → hidden s.calls r ≤ 1
+  pub one_maker : (r : ℕ) → hidden s.calls r ≤ 1
   -- A descriptor or writable handle is the only holder of its block.
   pub exclusive : (h b : ℕ) (x : Handle) → handle_at s h ≡ Some x → owner_of s.tables x ≡ Some b → IsExclusive x → holders (reading s) b ≡ 1
   -- Base, size and alignment recovered from a descriptor are those of the block that it holds.

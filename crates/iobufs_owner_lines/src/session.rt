@@ -3,7 +3,9 @@ ghost use Rattle.std.specs.Prelude.{◌≡◌, ℕ, ◌<◌, ◌≤◌, ◌^◌,
 ghost use Rattle.iobufs_core.specs.declared.codec.base.BufError.TheVariants.{Memory};
 ghost use Rattle.iobufs_owner.specs.State.{Seen};
 ghost use Rattle.iobufs_owner.specs.Promises.{Promises};
-ghost use Rattle.iobufs_owner.specs.Runs.{Runs};
+ghost use Rattle.iobufs_owner.specs.Reading.{reading};
+ghost use Rattle.iobufs_owner.specs.Runs.{Runs, EndsInFour, taken_of};
+ghost use Rattle.iobufs_owner.specs.World.{going_at};
 ghost use Rattle.iobufs_owner.specs.declared.owner.types.Reply.{Reply};
 ghost use Rattle.iobufs_owner_lines.specs.declared.line.Ask.{Ask as Asked};
 ghost use Rattle.iobufs_owner_lines.specs.declared.line.Setup.{Setup as SetUp};
@@ -16,6 +18,7 @@ use crate::line::{Ask, Setup};
 use crate::reply::{AnswerLine, ReplyLine};
 use iobufs_core::codec::BufError;
 use iobufs_owner::format::{FORMAT_32, FORMAT_64};
+use iobufs_owner::laws;
 use iobufs_owner::owner::Machine;
 use std::alloc::Global;
 use std::io;
@@ -69,3 +72,13 @@ pub fn promises_law()
     ensures { (m next : Seen) → (asks : List Asked) → (texts : List (List ℕ)) → AreAnswered m asks texts next
         → Promises m.state → Promises next.state }
 {}
+
+/// In a session each call ends with its fourth taken step at the latest.
+pub fn ends_law()
+    ensures { (m next : Seen) → (asks : List Asked) → (texts : List (List ℕ)) → AreAnswered m asks texts next
+        → (replies : List Reply)
+        × (answers_to_steps asks texts ≡ map reply_text replies)
+        × ((p : ℕ) → EndsInFour p (taken_of (going_at (reading m.state) p)) (steps_of asks) replies) }
+{
+    laws::ends_law();
+}

@@ -6,6 +6,8 @@ mod ledger;
 #[cfg(test)]
 mod runs;
 #[cfg(test)]
+mod scale;
+#[cfg(test)]
 mod schedules;
 #[cfg(test)]
 mod sessions;

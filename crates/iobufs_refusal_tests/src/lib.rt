@@ -58,6 +58,8 @@ mod parts;
 #[cfg(test)]
 mod several;
 #[cfg(test)]
+mod shared;
+#[cfg(test)]
 mod texts;
 #[cfg(test)]
 mod values;

@@ -1,5 +1,23 @@
 // The owner machine, whose tables are refused each growth in turn. Two machines take the same steps, so that what a
 // refused step left can be compared with what was there before.
+//
+// Where the machine asks for room, and the tests in which that is refused:
+//
+// | function | room for | tests |
+// |---|---|---|
+// | `add_described` | a block, its place, a handle | `a_new_block` |
+// | `add_recorded` | a block, its place, a record, a handle | `an_external_block`, `a_block_with_a_record` |
+// | `add_detached` | a handle | `a_static_view`, `a_fifth_static_view`, `an_empty_slice`, `a_split_at_the_front` |
+// | `promote` | a record | `a_freeze_with_a_record` |
+// | `move_whole` | a handle | `a_split_at_the_end` |
+// | `split_empty` | a handle | `a_split_without_block` |
+// | `split_described` | a record, a handle | `a_split` |
+// | `split_counted` | a handle | `a_split_of_a_shared_view` |
+// | `share_empty` | a handle | `a_clone_without_block` |
+// | `make_ready` | a record | `a_clone`, `a_slice` |
+// | `win` | a handle | `a_clone`, `a_slice` |
+// | `add_holder` | a handle | `a_clone_of_a_shared_view` |
+// | `reserve` | each table and what grows beside it | `a_reservation` |
 use crate::word::{Word, ensure, say};
 use iobufs_core::codec::BufError;
 use iobufs_owner::format::FORMAT_64;
@@ -20,6 +38,16 @@ const FOUR: [Row; 6] = [
     (0, Begin(Call::Put(0, 8), true)),
     (0, Begin(Call::Freeze(0), true)),
     (0, Begin(Call::Static(3), true)),
+    (0, Begin(Call::Static(3), true)),
+    (0, Begin(Call::Static(3), true)),
+];
+
+// Four handles again, of which the first two share a block by a record.
+const SHARED: [Row; 6] = [
+    (0, Begin(Call::New(64, 12, 1), true)),
+    (0, Begin(Call::Put(0, 8), true)),
+    (0, Begin(Call::Freeze(0), true)),
+    (0, Begin(Call::SplitTo(0, 3), true)),
     (0, Begin(Call::Static(3), true)),
     (0, Begin(Call::Static(3), true)),
 ];
@@ -115,14 +143,20 @@ fn a_static_view(rt: HostRuntime) -> Result<(), Fail> {
     lockstep(&rt, &[&[(0, Begin(Call::Static(3), true))]])
 }
 
-// A block that is too long for a word: its record is made when it is frozen.
+// A block that is too long for a word: it comes with a record.
+#[test]
+fn a_block_with_a_record(rt: HostRuntime) -> Result<(), Fail> {
+    lockstep(&rt, &[&[(0, Begin(Call::New(64, 1 << 40, 1), true))]])
+}
+
+// What lies behind the one byte is too long for a word: the record is made when the handle is frozen.
 #[test]
 fn a_freeze_with_a_record(rt: HostRuntime) -> Result<(), Fail> {
     lockstep(
         &rt,
         &[&[
-            (0, Begin(Call::New(64, 1 << 40, 1), true)),
-            (0, Begin(Call::Put(0, 8), true)),
+            (0, Begin(Call::New(4096, 131_073, 1), true)),
+            (0, Begin(Call::Put(0, 1), true)),
             (0, Begin(Call::Freeze(0), true)),
         ]],
     )
@@ -132,6 +166,44 @@ fn a_freeze_with_a_record(rt: HostRuntime) -> Result<(), Fail> {
 #[test]
 fn a_split(rt: HostRuntime) -> Result<(), Fail> {
     lockstep(&rt, &[&FOUR, &[(0, Begin(Call::SplitTo(0, 3), true))]])
+}
+
+#[test]
+fn a_split_at_the_front(rt: HostRuntime) -> Result<(), Fail> {
+    lockstep(&rt, &[&FOUR, &[(0, Begin(Call::SplitTo(0, 0), true))]])
+}
+
+#[test]
+fn a_split_at_the_end(rt: HostRuntime) -> Result<(), Fail> {
+    lockstep(&rt, &[&FOUR, &[(0, Begin(Call::SplitTo(0, 8), true))]])
+}
+
+#[test]
+fn a_split_without_block(rt: HostRuntime) -> Result<(), Fail> {
+    lockstep(&rt, &[&FOUR, &[(0, Begin(Call::SplitTo(1, 2), true))]])
+}
+
+#[test]
+fn a_split_of_a_shared_view(rt: HostRuntime) -> Result<(), Fail> {
+    lockstep(&rt, &[&SHARED, &[(0, Begin(Call::SplitTo(0, 2), true))]])
+}
+
+#[test]
+fn a_fifth_static_view(rt: HostRuntime) -> Result<(), Fail> {
+    lockstep(&rt, &[&FOUR, &[(0, Begin(Call::Static(3), true))]])
+}
+
+#[test]
+fn an_empty_slice(rt: HostRuntime) -> Result<(), Fail> {
+    lockstep(&rt, &[&FOUR, &[(0, Begin(Call::Slice(0, 2, 2), true))]])
+}
+
+#[test]
+fn a_clone_of_a_shared_view(rt: HostRuntime) -> Result<(), Fail> {
+    lockstep(
+        &rt,
+        &[&SHARED, &[(0, Begin(Call::Clone(0), true)), (0, Go(true))]],
+    )
 }
 
 #[test]

@@ -24,6 +24,11 @@ pub fn native(alloc: Global, capacity: usize, bytes: &[u8]) -> Result<IoBuf, Buf
     part(alloc, capacity, bytes)?.freeze()
 }
 
+// Another view of the same bytes.
+pub fn twin_of(view: &IoBuf) -> Result<IoBuf, BufError> {
+    Ok(view.clone()?)
+}
+
 // The first of the pieces as a text of static views.
 pub fn pieces(alloc: Global, count: usize) -> Result<IoBufs, BufError> {
     let mut text = IoBufs::default();

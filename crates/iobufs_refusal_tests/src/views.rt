@@ -1,5 +1,5 @@
 // Calls of `IoBuf`.
-use crate::made::native;
+use crate::made::{native, twin_of};
 use crate::word::{Word, end, ensure, say};
 use bytes::{Bytes, BytesMut};
 use iobufs_core::buf::IoBuf;
@@ -7,10 +7,6 @@ use iobufs_core::codec::{Buf, BufError, Error, OwnedBuf, OwnedBytes};
 use std::alloc::Global;
 use std::ops::Bound::{self, Excluded, Included, Unbounded};
 use std::test::Fail;
-
-fn twin_of(view: &IoBuf) -> Result<IoBuf, BufError> {
-    Ok(view.clone()?)
-}
 
 fn split(view: &mut IoBuf, at: usize) -> Result<IoBuf, BufError> {
     if view.len() < at {

@@ -38,6 +38,16 @@ fn numbers_and_a_reader_are_put(rt: HostRuntime) -> Result<(), Fail> {
 }
 
 #[test]
+fn numbers_fill_a_part(rt: HostRuntime) -> Result<(), Fail> {
+    let mut part = IoBufMut::with_capacity(rt.alloc(), 15)?;
+    frame(&mut part, IoBuf::default());
+    let wanted = b"\x01\x00\x63\x00\x00\x00\x07\x00\x00\x00\x00\x00\x00\x01\x02";
+    assert_eq!(rt; part.as_ref(), wanted.as_slice());
+    assert_eq!(rt; part.remaining_mut(), 0);
+    Ok(())
+}
+
+#[test]
 fn bytes_are_taken_and_kept(rt: HostRuntime) -> Result<(), Fail> {
     let mut view = IoBuf::from(b"abcdefg".as_slice());
     assert_eq!(rt;

@@ -1,12 +1,29 @@
-// What no contract says of the buffers: worked examples, calls that succeed, and storage that is shared.
+// What no contract says of the buffers and of what stands on them: worked examples, calls that succeed, storage that is
+// shared, and a thousand times what an example has.
 #![tactic(auto)]
 
+#[cfg(test)]
+mod calls;
+#[cfg(test)]
+mod frames;
 #[cfg(test)]
 mod generic;
 #[cfg(test)]
 mod located;
 #[cfg(test)]
+mod many;
+#[cfg(test)]
 mod parts;
+#[cfg(test)]
+mod pool;
+#[cfg(test)]
+mod printed;
+#[cfg(test)]
+mod records;
+#[cfg(test)]
+mod runs;
+#[cfg(test)]
+mod scale;
 #[cfg(test)]
 mod strung;
 #[cfg(test)]

@@ -135,6 +135,11 @@ fn bytes_are_taken_within_a_piece_and_across(rt: HostRuntime) -> Result<(), Fail
     assert_eq!(rt; bytes.as_slice(), b"bc".as_slice());
     assert_eq!(rt; shown(alloc, &text)?.as_slice(), b"d|ef|gh".as_slice());
     let mut text = pieces(alloc, 4)?;
+    let view: IoBuf = taken(alloc, &mut text, 1, 2)?;
+    assert_eq!(rt; view.as_ref(), b"bc".as_slice());
+    assert_eq!(rt; recovered(&rt, view)?, 2);
+    assert_eq!(rt; shown(alloc, &text)?.as_slice(), b"d|ef|gh".as_slice());
+    let mut text = pieces(alloc, 4)?;
     let view: IoBuf = taken(alloc, &mut text, 2, 2)?;
     assert_eq!(rt; view.as_ref(), b"cd".as_slice());
     assert_eq!(rt; shown(alloc, &text)?.as_slice(), b"ef|gh".as_slice());

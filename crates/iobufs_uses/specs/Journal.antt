@@ -2,7 +2,9 @@
 --     sealed           a number, a body, and the CRC-32 of both
 --     record_written   the same behind its length
 --     HasNoRecord      why no record stands in front: the text is at its end, it is cut off, or what stands there is damaged
---     IsJournal        a text is these records and a rest in front of which none stands
+--     AreShort         each record has at most so many bytes behind its length
+--     IsJournal        a text is these records, each short enough, and a rest in front of which none stands
+--     HasOneJournal    a text has one list of records, one end and one rest, and no other
 use Rattle.std.specs.Prelude.{◌≤◌, ◌≡◌, ◌⊎◌, ℕ, suc, ◌+◌, ◌^◌, ◌<◌, Ok, Err, List, [], ◌∷◌, ◌++◌, length, map}
 use Rattle.std.specs.Int.{w32, w64, to_be_bytes}
 use Rattle.iobufs_core.specs.View.{View}
@@ -63,4 +65,19 @@ bodies views = map (λ view. view.bytes) views
 -- the records of a text from a number on, how it ends, and what is behind them
 pub record IsJournal (most number : ℕ) (text : List ℕ) (found : List (List ℕ)) (end : End) (rest : List ℕ) : Type 0 where
   pub whole : text ≡ records_written number found ++ rest
+  pub admitted : AreShort most found
   pub ends : HasNoRecord most (number + length found) rest end
+
+-- two readings of a text are the same
+pub record AreAlike (found others : List (List ℕ)) (end stop : End) (rest left : List ℕ) : Type 0 where
+  pub same_records : found ≡ others
+  pub same_end : end ≡ stop
+  pub same_rest : rest ≡ left
+
+-- a text has a reading, and each other one is the same
+pub record HasOneJournal (most : ℕ) (text : List ℕ) : Type 0 where
+  pub found : List (List ℕ)
+  pub end : End
+  pub rest : List ℕ
+  pub is : IsJournal most 0 text found end rest
+  pub one : (others : List (List ℕ)) (stop : End) (left : List ℕ) → IsJournal most 0 text others stop left → AreAlike found others end stop rest left

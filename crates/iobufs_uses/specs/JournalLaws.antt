@@ -5,12 +5,12 @@ use Rattle.std.proofs.Common.{append-nil, arith, inr, ap, sym, subst, ◌∙◌,
 use Rattle.std.proofs.Math.Seq.{take-append_seam, drop-append_seam}
 use Rattle.std.proofs.lemmas.Bool.Decides.{nat_tests}
 use Rattle.std.proofs.lemmas.List.{map-append, take-append-le}
-use Rattle.iobufs_core.specs.CallerFacts.{bytes-view_between, length-bytes_written, read_and_left, read_in_range}
+use Rattle.iobufs_core.specs.CallerFacts.{bytes-view_between, length-bytes_written, read_and_left, read_at_most, read_in_range}
 use Rattle.iobufs_core.specs.MarkedText.{MarkedText, text_rest}
 use Rattle.iobufs_core.specs.View.{View, view_slice}
 use Rattle.iobufs_core.specs.Wire.{IsViewRead, bytes_written, view_written}
 use Rattle.iobufs_uses.specs.Crc.{crc32}
-use Rattle.iobufs_uses.specs.Journal.{HasNoRecord, bodies, IsJournal, record_written, records_written, sealed, summed, up_to}
+use Rattle.iobufs_uses.specs.Journal.{AreShort, HasNoRecord, bodies, IsJournal, record_written, records_written, sealed, summed, up_to}
 use Rattle.iobufs_uses.specs.declared.journal.End.{End}
 use Rattle.iobufs_uses.specs.declared.journal.End.TheVariants.{Damaged}
 use Rattle.std.specs.declared.ops.Bound.TheVariants.{Included, Excluded}
@@ -70,6 +70,13 @@ pub found_record : (most number : ℕ) (text left : MarkedText) (framed body : V
 found_record most number text left framed body found is rest e seal =
     read_and_left text left (up_to most) (Ok framed) is rest ∙ ap (λ w. bytes_written w ++ left.bytes) (subst (λ (o : Option View). IfSome o (λ b. framed.bytes ≡ sealed number b.bytes)) e seal)
 
+-- and it is short enough
+pub found_short : (most number : ℕ) (text : MarkedText) (framed body : View) (found : Option View) → IsViewRead text (up_to most) (Ok framed)
+    → found ≡ Some body → IfSome found (λ b. framed.bytes ≡ sealed number b.bytes) → 12 + length body.bytes ≤ most
+found_short most number text framed body found is e seal =
+    let sealed_so : framed.bytes ≡ sealed number body.bytes = subst (λ (o : Option View). IfSome o (λ b. framed.bytes ≡ sealed number b.bytes)) e seal in
+    omega (arith, read_at_most text (up_to most) (Ok framed) is, ap (λ (w : List ℕ). length w) sealed_so, length-sealed number body.bytes)
+
 -- what was taken is no record with this number
 pub no_record : (most number : ℕ) (text left : MarkedText) (framed : View) (found : Option View) (empty : Bool) → IsViewRead text (up_to most) (Ok framed) → left ≡ text_rest text (length (view_written framed))
     → found ≡ None → IfNone found (IsSealed number framed.bytes → ⊥) → empty ≡ (length text.bytes == 0) → empty ≡ false → HasNoRecord most number text.bytes Damaged
@@ -94,26 +101,41 @@ length-bodies (v ∷ views) = ap suc (length-bodies views)
 counted : (views : List View) (number : ℕ) → number ≡ length views → 0 + length (bodies views) ≡ number
 counted views number n = omega (arith, length-bodies views, n)
 
+short_more : (most : ℕ) (fs : List (List ℕ)) (body : List ℕ) → AreShort most fs → 12 + length body ≤ most → AreShort most (fs ++ body ∷ [])
+short_more most [] body short fits = (fits, tt)
+short_more most (f ∷ fs) body short fits = (short.0, short_more most fs body short.1 fits)
+
+-- what is read of a journal: records, each short enough, and what is left
+pub record IsReadSoFar (most : ℕ) (journal : List ℕ) (views : List View) (rest : List ℕ) : Type 0 where
+  pub whole : journal ≡ records_written 0 (bodies views) ++ rest
+  pub short : AreShort most (bodies views)
+
 -- one more record goes over from the rest
-pub one_more : (journal : List ℕ) (rest left : List ℕ) (views more : List View) (body : View) (number count : ℕ) (found : Result View End) → number ≡ count → count ≡ length views
-    → journal ≡ records_written 0 (bodies views) ++ rest → more ≡ views ++ body ∷ [] → found ≡ Ok body → IfOk found (λ b. rest ≡ record_written number b.bytes ++ left)
-    → journal ≡ records_written 0 (bodies more) ++ left
-one_more journal rest left views more body number count found m n whole pushed e h =
+pub one_more : (most : ℕ) (journal : List ℕ) (rest left : List ℕ) (views more : List View) (body : View) (number count : ℕ) (found : Result View End) → number ≡ count → count ≡ length views
+    → IsReadSoFar most journal views rest → more ≡ views ++ body ∷ [] → found ≡ Ok body → IfOk found (λ b. rest ≡ record_written number b.bytes ++ left) → IfOk found (λ b. 12 + length b.bytes ≤ most)
+    → IsReadSoFar most journal more left
+one_more most journal rest left views more body number count found m n so_far pushed e h fits =
     let front : rest ≡ record_written number body.bytes ++ left = subst (λ (r : Result View End). IfOk r (λ b. rest ≡ record_written number b.bytes ++ left)) e h in
+    let small : 12 + length body.bytes ≤ most = subst (λ (r : Result View End). IfOk r (λ b. 12 + length b.bytes ≤ most)) e fits in
     let listed : bodies more ≡ bodies views ++ body.bytes ∷ [] = ap bodies pushed ∙ map-append (λ (v : View). v.bytes) views (body ∷ []) in
     let written : records_written 0 (bodies more) ≡ records_written 0 (bodies views) ++ record_written number body.bytes =
     ap (records_written 0) listed ∙ written_more 0 (bodies views) body.bytes
-    ∙ ap (λ k. records_written 0 (bodies views) ++ record_written k body.bytes) (counted views number (m ∙ n)) in
-    whole ∙ ap (λ w. records_written 0 (bodies views) ++ w) front ∙ sym (append_assoc (records_written 0 (bodies views)) (record_written number body.bytes) left) ∙ ap (λ w. w ++ left) (sym written)
+    ∙ ap (λ k. records_written 0 (bodies views) ++ record_written k body.bytes) (counted views number (m ∙ n)) in record {
+      whole =
+          so_far.whole ∙ ap (λ w. records_written 0 (bodies views) ++ w) front ∙ sym (append_assoc (records_written 0 (bodies views)) (record_written number body.bytes) left)
+          ∙ ap (λ w. w ++ left) (sym written);
+      short = subst (AreShort most) (sym listed) (short_more most (bodies views) body.bytes so_far.short small);
+    }
 
 -- there is no further one: what is left stands behind the records
 pub ended : (most : ℕ) (journal rest : List ℕ) (views : List View) (end : End) (number count len left : ℕ) (found : Result View End) → number ≡ count → count ≡ length views
-    → journal ≡ records_written 0 (bodies views) ++ rest → len ≡ length journal → left ≡ length rest → found ≡ Err end → IfErr found (HasNoRecord most number rest)
+    → IsReadSoFar most journal views rest → len ≡ length journal → left ≡ length rest → found ≡ Err end → IfErr found (HasNoRecord most number rest)
     → IsJournal most 0 journal (bodies views) end (drop (len - left) journal)
-ended most journal rest views end number count len left found m n is long short e h =
+ended most journal rest views end number count len left found m n so_far long short e h =
     let records = records_written 0 (bodies views) in
+    let is = so_far.whole in
     let place : len - left ≡ length records = omega (arith, long, short, ap (λ (w : List ℕ). length w) is, length-append records rest) in
     let behind : rest ≡ drop (len - left) journal = sym (ap (λ k. drop k journal) place ∙ ap (drop (length records)) is ∙ drop-append_seam records rest) in
     let none : HasNoRecord most (0 + length (bodies views)) rest end =
     subst (λ k. HasNoRecord most k rest end) (sym (counted views number (m ∙ n))) (subst (λ (r : Result View End). IfErr r (HasNoRecord most number rest)) e h) in
-    subst (IsJournal most 0 journal (bodies views) end) behind (record { whole = is; ends = none })
+    subst (IsJournal most 0 journal (bodies views) end) behind (record { whole = is; admitted = so_far.short; ends = none })

@@ -1,6 +1,6 @@
 // A journal: numbered records with a CRC-32, one behind the other.
 ghost use Rattle.std.specs.Prelude.{◌≡◌, ℕ, ◌+◌, ◌^◌, ◌<◌, ◌≤◌, List, [], ◌++◌, drop, length, Err, Ok, IfErr, IfNone, IfOk, IfSome, IsOk, IsOkUnless, IsTrue, ◌↔◌, OnErr, OnOk};
-ghost use Rattle.iobufs_uses.specs.Journal.{AreShort, IsJournal, HasNoRecord, bodies, record_written, records_written, sealed};
+ghost use Rattle.iobufs_uses.specs.Journal.{AreShort, HasNoRecord, HasOneJournal, IsJournal, bodies, record_written, records_written, sealed};
 ghost use Rattle.iobufs_uses.specs.JournalLaws.{IsSealed};
 
 use crate::crc::crc32;
@@ -90,9 +90,9 @@ fn is_sealed(framed: &IoBuf, number: u64) -> bool
     &head[..8] == number.to_be_bytes().as_slice() && sum == crc32(head).to_be_bytes().as_slice()
 }
 
-// The body of a sealed record, if it has this number.
+/// The body of a sealed record, if it has this number.
 #[tactic(auto, using(crate::specs::JournalLaws::unsealed_body))]
-fn unsealed(framed: &IoBuf, number: u64) -> Result<Option<IoBuf>, BufError>
+pub fn unsealed(framed: &IoBuf, number: u64) -> Result<Option<IoBuf>, BufError>
     ensures body { IfOk result (λ found. IfSome found (λ body. framed.now.bytes ≡ sealed number body.bytes)) }
     ensures none { IfOk result (λ found. IfNone found (IsSealed number framed.now.bytes → ⊥)) }
     ensures memory { IsOkUnless result BufError.Memory }
@@ -112,6 +112,7 @@ fn next_record(
     most: usize,
 ) -> Result<Result<IoBuf, End>, BufError>
     ensures found { IfOk result (λ found. IfOk found (λ body. rest.old.bytes ≡ record_written number body.bytes ++ rest.new.bytes)) }
+    ensures short { IfOk result (λ found. IfOk found (λ body. 12 + length body.bytes ≤ most)) }
     ensures none { IfOk result (λ found. IfErr found (λ end. HasNoRecord most number rest.old.bytes end)) }
     ensures nothing { length rest.old.bytes ≡ 0 → result ≡ Ok (Err End.Whole) }
     ensures memory { IsOkUnless result BufError.Memory }
@@ -150,10 +151,11 @@ pub fn replay(alloc: Global, journal: IoBufs, most: usize) -> Result<Records, Bu
     }
 }
 
-/// Does nothing. Its contract is a law: whatever `replay` answers of a text of records that were appended, numbered
-/// from 0, are these records, and the end is whole.
+/// Does nothing. Its contract is two laws. A text has one list of records, one end and one rest, and no other; and where
+/// it is records that were appended, numbered from 0, these are its records, and its end is whole.
 pub fn journal_law(most: usize)
-    ensures { (text : List ℕ) (found : List (List ℕ)) (written : List (List ℕ)) (end : End) (rest : List ℕ) → length text < 2 ^ 64 → AreShort most written
+    ensures one { (text : List ℕ) → HasOneJournal most text }
+    ensures written { (text : List ℕ) (found : List (List ℕ)) (written : List (List ℕ)) (end : End) (rest : List ℕ) → AreShort most written
         → text ≡ records_written 0 written → IsJournal most 0 text found end rest → (found ≡ written) × (end ≡ End.Whole) }
 {
     let _ = most;

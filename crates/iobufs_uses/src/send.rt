@@ -1,9 +1,11 @@
 // A text in chunks, handed to a writer.
 ghost use Rattle.std.specs.Prelude.{◌≡◌, ◌+◌, ◌<◌, ◌≤◌, [], length, map, take, IfOk, OnErr, OnOk};
+ghost use Rattle.std.specs.Io.{WritesAtMost};
 ghost use Rattle.std.specs.Io.KnownBytes.{Appends, WriteAppends};
 ghost use Rattle.std.specs.Io.Slices.{io_slice_bytes};
 ghost use Rattle.iobufs.specs.CallerFacts.{IsSent};
 ghost use Rattle.iobufs_core.specs.MarkedText.{text_chunks};
+ghost use Rattle.iobufs_uses.specs.Send.{first_chunks};
 
 use iobufs::bufs::IoBufs;
 use iobufs_core::codec::Buf;
@@ -28,6 +30,7 @@ fn batch(alloc: Global, text: &IoBufs, most: usize) -> io::Result<Vec<IoSlice<'_
 #[tactic(auto, using(iobufs::specs::CallerFacts::sending))]
 fn write_batch<W: Write>(alloc: Global, to: &mut W, text: &IoBufs, most: usize) -> io::Result<usize>
     ensures within { IfOk result (λ n. n ≤ length text.now.bytes) }
+    ensures batch { WritesAtMost result (first_chunks text.now most) }
     ensures bytes { WriteAppends (W.contents to.old) (W.contents to.new) result text.now.bytes }
 {
     let slices = batch(alloc, text, most)?;
@@ -45,6 +48,7 @@ fn send_batch<W: Write>(
     ensures sent { IsSent (W.contents to.old) (W.contents to.new) text.old.bytes text.new.bytes }
     ensures same { OnErr result (text.new ≡ text.old) }
     ensures count { IfOk result (λ n. length text.old.bytes ≡ n + length text.new.bytes) }
+    ensures batch { WritesAtMost result (first_chunks text.old most) }
 {
     let n = write_batch(alloc, to, text, most)?;
     text.advance(n);
@@ -60,6 +64,7 @@ pub fn send<W: Write>(alloc: Global, to: &mut W, text: &mut IoBufs, most: usize)
     ensures all { OnOk result (text.new.bytes ≡ []) }
     ensures left { OnErr result (0 < length text.new.bytes) }
     ensures contents { OnOk result (Appends (W.contents to.old) (W.contents to.new) text.old.bytes) }
+    ensures none { most ≡ 0 → text.new.bytes ≡ text.old.bytes }
 {
     while text.has_remaining() {
         if send_batch(alloc, to, text, most)? == 0 {

@@ -1,8 +1,8 @@
 // Lengths that lie and ranges at their ends: each text as one chunk of a view and of a text, and as a chunk a byte.
 use crate::record::Record;
 use iobufs::bufs::IoBufs;
-use iobufs_core::buf::IoBuf;
-use iobufs_core::codec::{Buf, Encode, Error, OwnedBuf, RangeCfg, Read};
+use iobufs_core::buf::{IoBuf, IoBufMut};
+use iobufs_core::codec::{Buf, BufMut, Encode, Error, OwnedBuf, RangeCfg, Read};
 use std::alloc::Global;
 use std::process::Abort;
 use std::test::Fail;
@@ -25,36 +25,68 @@ fn bytewise(alloc: Global, text: &'static [u8]) -> Result<IoBufs, Fail> {
     Ok(all)
 }
 
-fn assert_length<B: OwnedBuf>(
+// Its chunks, copied.
+fn chunks<B: Buf>(alloc: Global, buf: &B) -> Result<Vec<Vec<u8>>, Fail> {
+    let mut all = Vec::new(alloc);
+    for chunk in buf.chunks_vectored(alloc, usize::MAX)? {
+        all.push(chunk.to_vec(alloc)?)?;
+    }
+    Ok(all)
+}
+
+fn assert_length<B: OwnedBuf + Drop>(
     rt: &(impl Abort + AllocGlobal),
     mut buf: B,
     range: &RangeCfg,
     answer: Result<usize, Error>,
-) -> B {
-    let before = (buf.remaining(), buf.chunk_count());
+) -> Result<B, Fail> {
+    let before = chunks(rt.alloc(), &buf)?;
     assert_eq!(rt; usize::read_cfg(rt.alloc(), &mut buf, range), answer);
     if answer.is_err() {
-        assert_eq!(rt; (buf.remaining(), buf.chunk_count()), before);
+        assert!(rt; chunks(rt.alloc(), &buf)? == before);
     }
-    buf
+    Ok(buf)
 }
 
-fn assert_view<B: OwnedBuf>(
+fn assert_view<B: OwnedBuf + Drop>(
     rt: &(impl Abort + AllocGlobal),
     mut buf: B,
     range: &RangeCfg,
     answer: Result<&[u8], Error>,
-) -> B {
-    let before = (buf.remaining(), buf.chunk_count());
+) -> Result<B, Fail> {
+    let before = chunks(rt.alloc(), &buf)?;
     match (IoBuf::read_cfg(rt.alloc(), &mut buf, range), answer) {
         (Ok(view), Ok(bytes)) => assert_eq!(rt; view.as_ref(), bytes),
         (Err(error), Err(cause)) => {
             assert_eq!(rt; error, cause);
-            assert_eq!(rt; (buf.remaining(), buf.chunk_count()), before);
+            assert!(rt; chunks(rt.alloc(), &buf)? == before);
         }
         (_, _) => assert!(rt; false, "one of the two is a refusal"),
     }
-    buf
+    Ok(buf)
+}
+
+// Both, one after the other. What is accepted is all of the text.
+fn assert_both<B: OwnedBuf + Clone + Drop>(
+    rt: &(impl Abort + AllocGlobal),
+    buf: B,
+    range: &RangeCfg,
+    view: Result<&[u8], Error>,
+    length: Result<usize, Error>,
+) -> Result<(), Fail> {
+    let read = assert_view(rt, buf.clone()?, range, view)?;
+    assert!(rt; view.is_err() || chunks(rt.alloc(), &read)?.is_empty());
+    let read = assert_length(rt, buf, range, length)?;
+    assert!(rt; length.is_err() || chunks(rt.alloc(), &read)?.is_empty());
+    Ok(())
+}
+
+// The room of the part that a view is recovered to.
+fn recovered(rt: &(impl Abort + AllocGlobal), view: IoBuf) -> Result<usize, Fail> {
+    match view.try_into_mut(rt.alloc()) {
+        Ok(part) => Ok(part.capacity()),
+        Err(_) => Err(Fail::new("not recovered")),
+    }
 }
 
 // Reading a view and reading a length answer so, however the text is cut.
@@ -65,13 +97,9 @@ fn assert_read(
     view: Result<&[u8], Error>,
     length: Result<usize, Error>,
 ) -> Result<(), Fail> {
-    drop(assert_view(rt, IoBuf::from(text), range, view));
-    drop(assert_view(rt, IoBufs::from(text), range, view));
-    drop(assert_view(rt, bytewise(rt.alloc(), text)?, range, view));
-    drop(assert_length(rt, IoBuf::from(text), range, length));
-    drop(assert_length(rt, IoBufs::from(text), range, length));
-    drop(assert_length(rt, bytewise(rt.alloc(), text)?, range, length));
-    Ok(())
+    assert_both(rt, IoBuf::from(text), range, view, length)?;
+    assert_both(rt, IoBufs::from(text), range, view, length)?;
+    assert_both(rt, bytewise(rt.alloc(), text)?, range, view, length)
 }
 
 #[test]
@@ -113,13 +141,33 @@ fn views_that_span_chunks(rt: HostRuntime) -> Result<(), Fail> {
     let mut text = IoBufs::from(b"\x04".as_slice());
     text.append(alloc, IoBuf::from(b"wx".as_slice()))?;
     text.append(alloc, IoBuf::from(b"yz".as_slice()))?;
-    let text = assert_view(&rt, text, &SOME, Ok(b"wxyz"));
+    let text = assert_view(&rt, text, &SOME, Ok(b"wxyz"))?;
     assert_eq!(rt; (text.len(), text.chunk_count()), (0, 0));
     let mut text = IoBufs::from(b"\x04".as_slice());
     text.append(alloc, IoBuf::from(b"wxyz".as_slice()))?;
     text.append(alloc, IoBuf::from(b"\xff".as_slice()))?;
-    let text = assert_view(&rt, text, &SOME, Ok(b"wxyz"));
+    let text = assert_view(&rt, text, &SOME, Ok(b"wxyz"))?;
     assert_eq!(rt; text.chunk_at(0), Some(b"\xff".as_slice()));
+    Ok(())
+}
+
+// A part of capacity 8 whose bytes are frozen, so that its length takes one of eight bytes away.
+#[test]
+fn a_read_view_keeps_its_mark(rt: HostRuntime) -> Result<(), Fail> {
+    let alloc = rt.alloc();
+    let mut part = IoBufMut::with_capacity(alloc, 8)?;
+    part.put_slice(b"\x02ab");
+    let mut view = part.freeze()?;
+    let read = IoBuf::read_cfg(alloc, &mut view, &SOME)?;
+    assert!(rt; view.is_empty());
+    drop(view);
+    assert_eq!(rt; recovered(&rt, read)?, 7);
+    let mut across = bytewise(alloc, b"\x02ab")?;
+    let read = IoBuf::read_cfg(alloc, &mut across, &SOME)?;
+    assert_eq!(rt; recovered(&rt, read)?, 2);
+    let mut view = IoBuf::from(b"\x02ab".as_slice());
+    let read = IoBuf::read_cfg(alloc, &mut view, &SOME)?;
+    assert!(rt; read.try_into_mut(alloc).is_err());
     Ok(())
 }
 
@@ -131,8 +179,8 @@ fn each_beginning_of_a_written_view_is_open(rt: HostRuntime) -> Result<(), Fail>
     assert_eq!(rt; whole.len(), 302);
     for n in 0..302 {
         let front = IoBuf::copy_from_slice(alloc, whole.as_ref().get(..n).unwrap_or(&[]))?;
-        drop(assert_view(&rt, front.clone()?, &SOME, Err(Error::EndOfBuffer)));
-        drop(assert_view(&rt, IoBufs::from(front), &SOME, Err(Error::EndOfBuffer)));
+        drop(assert_view(&rt, front.clone()?, &SOME, Err(Error::EndOfBuffer))?);
+        drop(assert_view(&rt, IoBufs::from(front), &SOME, Err(Error::EndOfBuffer))?);
     }
     Ok(())
 }

@@ -6,10 +6,10 @@ use Rattle.std.proofs.lemmas.Grind.{common_steps}
 use Rattle.std.proofs.lemmas.List.{drop-drop, nil_from_length}
 use Rattle.iobufs_core.specs.View.{View, default_view, native_mark, view_rest, view_split_front}
 use Rattle.iobufs_core.specs.MarkedText.{joined}
-use Rattle.iobufs_core.specs.Items.{Item, put_item, push_item, ArePuts, items_bytes, items_inline, items_pushed}
+use Rattle.iobufs_core.specs.Items.{Item, put_item, push_item, items_bytes, items_inline, items_pushed}
 use Rattle.iobufs_core.specs.Part.{Part, part_frozen, part_capacity}
-use Rattle.iobufs.specs.Building.{Building, building_bytes, building_items, building_put, building_after, empty_building, inline_run, room_for_pushes, views_from, finished}
-use Rattle.iobufs.specs.Laws.Building.{bytes-built, items_bytes-append, put-append, put_nothing, run-bytes}
+use Rattle.iobufs.specs.Building.{Building, building_bytes, building_items, building_put, building_push, building_after, empty_building, inline_run, room_for_pushes, views_from, finished}
+use Rattle.iobufs.specs.Laws.Building.{bytes-built, items_bytes-append, push-none, put_nothing, run-bytes}
 use Rattle.iobufs.specs.Inside.Pieces.{pieces_bytes}
 use Rattle.iobufs.proofs.Text.Sides.{not_zero}
 use Rattle.iobufs.specs.Laws.Joined.{bytes-joined}
@@ -145,15 +145,19 @@ pushes-fit b items empty fits long =
     let n = items-len items in
     let room = ap room_for_pushes empty in omega arith
 
--- puts without bytes leave a builder without items
-pub nothing-put : (capacity : ℕ) (items : List Item) → ArePuts items → length (items_bytes items) ≡ 0 → building_items (building_after (empty_building capacity) items) ≡ []
-nothing-put capacity items puts none =
-    ap building_items (built-puts (empty_building capacity) items puts)
-    ∙ ap inline_run (nil_from_length (items_bytes items) none)
-  where
-    built-puts : (b : Building) (items : List Item) → ArePuts items → building_after b items ≡ building_put b (items_bytes items)
-    built-puts b [] puts = (put_nothing b).1
-    built-puts b (put_item bytes ∷ items) puts = built-puts (building_put b bytes) items puts ∙ put-append b bytes (items_bytes items)
-    built-puts b (push_item view ∷ items) puts = absurd puts
+-- puts and pushes without bytes leave a builder as it was
+built-nothing : (b : Building) (items : List Item) → length (items_bytes items) ≡ 0 → building_after b items ≡ b
+built-nothing b [] none = refl
+built-nothing b (put_item bytes ∷ items) none =
+    let n = length-append bytes (items_bytes items) in
+    built-nothing (building_put b bytes) items (omega arith)
+    ∙ ap (λ w. building_put b w) (nil_from_length bytes (omega arith))
+    ∙ sym (put_nothing b).1
+built-nothing b (push_item view ∷ items) none =
+    let n = length-append view.bytes (items_bytes items) in
+    built-nothing (building_push b view) items (omega arith) ∙ push-none b view (omega arith)
+
+pub nothing-built : (capacity : ℕ) (items : List Item) → length (items_bytes items) ≡ 0 → building_items (building_after (empty_building capacity) items) ≡ []
+nothing-built capacity items none = ap building_items (built-nothing (empty_building capacity) items none)
 
 pub ruleset finishing = (len-append, frozen-bytes)

@@ -1,5 +1,5 @@
 -- A width that each probe halves.
-use Rattle.std.proofs.Common.{◌≡◌, ℕ, ◌+◌, ◌-◌, ◌*◌, ◌^◌, ◌<◌, ◌≤◌, arith, ⊎_elim, ap}
+use Rattle.std.proofs.Common.{◌≡◌, ℕ, ◌+◌, ◌-◌, ◌*◌, ◌^◌, ◌<◌, ◌≤◌, arith, ⊎_elim, ap, subst}
 use Rattle.std.proofs.lemmas.Nat.{pow_below, mul-le, pow-add}
 use Rattle.std.proofs.lemmas.Bool.{cases_lt, cases_order}
 
@@ -20,6 +20,20 @@ some x w n l h =
 
 pub one_more : (p q w n : ℕ) → q ≡ p + 1 → 0 < w → 2 ^ p * w < n → 2 ^ q ≤ 2 * n
 one_more p q w n e l h = let d = pow-add 2 p 1 in rw (e, d) (some (2 ^ p) w n l h)
+
+-- a width of which at least half is left, but for one
+scaled : (x w v n : ℕ) → w ≤ v + v → n < x * w → n < (x * 2) * v
+scaled x w v n l h =
+    let more = mul-le x w x (v + v) (omega arith) l in
+    let twice : (x * 2) * v ≡ x * (v + v) = grind arith in
+    omega arith
+
+pub no_less : (p q w v n : ℕ) → q ≡ p + 1 → w ≤ v + v → n < 2 ^ p * w → n < 2 ^ q * v
+no_less p q w v n e l h = let d = pow-add 2 p 1 in rw (e, d) (scaled (2 ^ p) w v n l h)
+
+-- as many probes as this takes, once nothing is left to halve
+pub twice : (p w n : ℕ) → w ≡ 2 → n < 2 ^ p * w → n < 2 ^ (p + 1)
+twice p w n e h = let d = pow-add 2 p 1 in rw d (subst (λ k. n < 2 ^ p * k) e h)
 
 pub few_probes : (p n : ℕ) → 2 ^ p ≤ 2 * n → n < 2 ^ 64 → p < 2 ^ 32 - 1
 few_probes p n l m =

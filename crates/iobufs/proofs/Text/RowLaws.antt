@@ -115,10 +115,12 @@ first-dropped (v ∷ vs) (suc n) = first-dropped vs n
 cut-some : (v : View) (e o : ℕ) → 0 < o → cut_piece v e o ≡ record { view = v; end = e } ∷ []
 cut-some v e o some = rw (not_zero o some) refl
 
+pub piece-dropped : (ps behind : List Piece) (i : ℕ) → behind ≡ drop i ps → piece_at (views_in behind) 0 ≡ piece_at (views_in ps) i
+piece-dropped ps behind i is =
+    ap (λ (xs : List Piece). piece_at (views_in xs) 0) is ∙ ap (λ vs. piece_at vs 0) (views-drop i ps) ∙ first-dropped (views_in ps) i
+
 pub inside-dropped : (ps behind : List Piece) (at i o : ℕ) → IsPlace (views_in ps) at i o → behind ≡ drop i ps → o < view_len (piece_at (views_in behind) 0)
-inside-dropped ps behind at i o place is =
-    let same : piece_at (views_in behind) 0 ≡ piece_at (views_in ps) i = ap (λ (xs : List Piece). piece_at (views_in xs) 0) is ∙ ap (λ vs. piece_at vs 0) (views-drop i ps) ∙ first-dropped (views_in ps) i in
-    omega (arith, place.inside, ap (λ (v : View). view_len v) same)
+inside-dropped ps behind at i o place is = omega (arith, place.inside, ap (λ (v : View). view_len v) (piece-dropped ps behind i is))
 
 pub left-row : (b at i o e : ℕ) (ps moved front : List Piece) (inside : View) → IsRow b ps → IsPlace (views_in ps) at i o → (0 < o → inside ≡ view_front (piece_at (views_in ps) i) o) → at < 2 ^ 64 → e ≡ (b + at) % 2 ^ 64 → moved ≡ take i ps → front ≡ moved ++ cut_piece inside e o → IsRow b front × (views_in front ≡ left_pieces (views_in ps) at)
 left-row b at i o e ps moved front inside h place cut fits end before join =

@@ -128,6 +128,9 @@ built_idle a = (omega arith, omega arith, refl)
 pub built_puts : (a b : Building) (w : List ℕ) → IsPut a w b → IsBuilt a (put_item w ∷ []) b
 built_puts a b w put = (omega (arith, put.0), omega arith, put.1)
 
+pub built_skips : (s : Building) (view : View) → length view.bytes ≡ 0 → IsBuilt s (push_item view ∷ []) s
+built_skips s view none = (omega arith, omega (arith, none), sym (push-none s view none))
+
 pub built_adds : (a b : Building) (items : List Item) → IsBuilt a items b → building_bytes b ≡ building_bytes a ++ items_bytes items
 built_adds a b items (inline, pushed, is) = ap building_bytes is ∙ bytes-built a items
 

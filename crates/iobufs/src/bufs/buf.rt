@@ -1,6 +1,7 @@
 // A text in several pieces, read from the front.
 ghost use Rattle.std.specs.Prelude.{◌≡◌, ◌+◌, ◌<◌, ◌≤◌, ◌^◌, nat_lt, length, map, take, slice_get, false, true, IsTrue, IsFalse, IsOk, IfOk, OnOk, OnErr, Err, IsOkUnless};
 ghost use Rattle.iobufs_core.specs.Chunks.{first_chunk};
+ghost use Rattle.iobufs_core.specs.View.{static_mark};
 ghost use Rattle.iobufs_core.specs.MarkedText.{is_single, of_view, taken_view, text_advanced, text_chunks, text_coalesced, text_len, text_rest};
 
 use super::IoBufs;
@@ -100,6 +101,7 @@ impl IoBufs {
         ensures rest { OnOk result (self.new ≡ text_rest self.old (skip + n)) }
         ensures err { OnErr result (self.new ≡ self.old) }
         ensures memory { IsOkUnless result BufError.Memory }
+        ensures static_text { (taken_view self.old skip n).mark ≡ static_mark → T.is_free (taken_view self.old skip n) → IsOk result }
     {
         let _len = self.len();
         let (first, end) = (self.pieces.piece(0), skip + n);
@@ -122,6 +124,7 @@ impl IoBufs {
         ensures rest { OnOk result (self.new ≡ text_rest self.old (skip + n)) }
         ensures err { OnErr result (self.new ≡ self.old) }
         ensures memory { IsOkUnless result BufError.Memory }
+        ensures static_text { (taken_view self.old skip n).mark ≡ static_mark → T.is_free (taken_view self.old skip n) → IsOk result }
         ensures nothing { n ≡ 0 → IsOk result }
     {
         let _len = self.len();
@@ -136,6 +139,7 @@ impl IoBufs {
         requires { skip + n ≤ text_len self.now }
         ensures ok { IfOk result (λ view. view ≡ taken_view self.now skip n) }
         ensures memory { IsOkUnless result BufError.Memory }
+        ensures static_text { (taken_view self.now skip n).mark ≡ static_mark → IsOk result }
         ensures nothing { n ≡ 0 → IsOk result }
     {
         if n == 0 {
@@ -172,6 +176,7 @@ impl IoBufs {
         ensures rest { OnOk result (self.new ≡ text_rest self.old n) }
         ensures err { OnErr result (self.new ≡ self.old) }
         ensures memory { IsOkUnless result BufError.Memory }
+        ensures free { T.is_free (taken_view self.old 0 n) → IsOk result }
     {
         let made = self.pieces.take_first(alloc)?;
         Ok(made)

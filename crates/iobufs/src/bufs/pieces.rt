@@ -163,6 +163,7 @@ impl Pieces {
         ensures pieced { IsPieced self.new }
         ensures refused { OnErr result (views self.new ≡ views self.old) }
         ensures memory { IsOkUnless result BufError.Memory }
+        ensures free { T.is_free (piece_at (views self.old) 0) → IsOk result }
     {
         match self {
             Pieces::One(piece) => T::take_view(alloc, piece),
@@ -179,6 +180,7 @@ impl Pieces {
         requires { at < length (pieces_bytes (views self.now)) }
         ensures place { IsPlace (views self.now) at result.index result.offset }
         ensures probes { 2 ^ result.probes ≤ 2 * length (views self.now) }
+        ensures halves { length (views self.now) < 2 ^ (result.probes + 1) }
     {
         match self {
             Pieces::One(_) => Located {

@@ -221,6 +221,7 @@ impl Row {
         ensures left { OnOk result (self.new.views ≡ drop 1 self.old.views) }
         ensures refused { OnErr result (self.new.views ≡ self.old.views) }
         ensures memory { IsOkUnless result BufError.Memory }
+        ensures free { T.is_free (piece_at self.old.views 0) → IsOk result }
     {
         let mut piece = self.pieces.pop_front().unwrap();
         match T::take_view(alloc, &mut piece.view) {
@@ -266,6 +267,7 @@ impl Row {
         requires { at < length (pieces_bytes self.now.views) }
         ensures place { IsPlace self.now.views at result.index result.offset }
         ensures probes { 2 ^ result.probes ≤ 2 * length self.now.views }
+        ensures halves { length self.now.views < 2 ^ (result.probes + 1) }
     {
         let mut ends = Looking {
             pieces: &self.pieces,
@@ -355,7 +357,7 @@ impl Row {
     {
         let _count = self.count();
         let mut front = VecDeque::with_capacity(alloc, place.index + 1)?;
-        let inside = front_of(&self.pieces, place)?;
+        let inside = front_of(&self.pieces, place.index, place.offset)?;
         let base = self.base;
         self.base = base.wrapping_add(at as u64);
         move_front(&mut self.pieces, &mut front, place.index);
@@ -372,7 +374,7 @@ impl Row {
         })
     }
 
-    /// The same, with room for the pieces from the place on.
+    /// The same, with room for the pieces from the place on. The room is made first.
     pub(super) fn split_right(&mut self, place: Located, at: usize) -> Result<Row, BufError>
         requires place { IsPlace self.old.views at place.index place.offset }
         ensures answer { IfOk result (λ front. front.views ≡ left_pieces self.old.views at) }
@@ -381,9 +383,16 @@ impl Row {
         ensures memory { IsOkUnless result BufError.Memory }
     {
         let _count = self.count();
-        let inside = front_of(&self.pieces, place)?;
-        let base = self.base.wrapping_add(at as u64);
         let mut pieces = self.pieces.split_off(place.index)?;
+        let inside = match front_of(&pieces, 0, place.offset) {
+            Ok(inside) => inside,
+            Err(refused) => {
+                // The row has kept its room.
+                self.pieces.append(&mut pieces).unwrap();
+                return Err(refused);
+            }
+        };
+        let base = self.base.wrapping_add(at as u64);
         cut(&mut self.pieces, &mut pieces, inside, place.offset, base);
         Ok(mem::replace(self, Row { base, pieces }))
     }
@@ -533,16 +542,14 @@ pub(super) fn split_inside(piece: &mut IoBuf, at: usize) -> Result<IoBuf, BufErr
 }
 
 // The bytes before a place in its piece.
-fn front_of(row: &VecDeque<Piece>, place: Located) -> Result<IoBuf, BufError>
-    requires { place.offset < view_len (piece_at (views_in row.now.items) place.index) }
-    ensures inside { 0 < place.offset → IfOk result (λ front. front ≡ view_front (piece_at (views_in row.now.items) place.index) place.offset) }
-    ensures index { place.index < deque_len row.now }
+fn front_of(row: &VecDeque<Piece>, index: usize, offset: usize) -> Result<IoBuf, BufError>
+    requires { offset < view_len (piece_at (views_in row.now.items) index) }
+    ensures inside { 0 < offset → IfOk result (λ front. front ≡ view_front (piece_at (views_in row.now.items) index) offset) }
+    ensures index { index < deque_len row.now }
     ensures memory { IsOkUnless result BufError.Memory }
 {
-    let piece = row.get(place.index).unwrap();
-    piece
-        .view
-        .slice(Bound::Unbounded, Bound::Excluded(place.offset))
+    let piece = row.get(index).unwrap();
+    piece.view.slice(Bound::Unbounded, Bound::Excluded(offset))
 }
 
 // Shows the bytes of each piece, in order, and hands the closure back.

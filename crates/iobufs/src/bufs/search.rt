@@ -31,12 +31,15 @@ pub trait Ends {
         ensures { result ≡ probed self.now };
 }
 
-/// The first end above the place, by halves: at most as many probes as the number of ends has binary digits.
+/// The first end above the place, by halves: as many probes as the number of ends has binary digits, or one fewer.
 pub fn find_end<E: Ends>(ends: &mut E) -> usize
     requires { E.probed ends.old ≡ 0 }
     ensures found { IsFirstPast (E.ends ends.old) (E.place ends.old) result }
     ensures probes { 2 ^ E.probed ends.new ≤ 2 * length (E.ends ends.old) }
     ensures digits { (d : ℕ) → length (E.ends ends.old) < 2 ^ d → E.probed ends.new ≤ d }
+    ensures halves { length (E.ends ends.old) < 2 ^ (E.probed ends.new + 1) }
+    ensures same_ends { E.ends ends.new ≡ E.ends ends.old }
+    ensures same_place { E.place ends.new ≡ E.place ends.old }
 {
     let mut first = 0;
     let mut last = ends.count() - 1;

@@ -296,7 +296,7 @@ impl IoBufs {
     ) -> Result<IoBufs, BufError>
         requires can { I.can_next chunks }
         requires finite { IsFinite (I.remaining chunks) }
-        ensures ok { IfOk result (λ text. WholeRun I.next_gives chunks (λ run. text ≡ joined run.items)) }
+        ensures ok { IfOk result (λ text. WholeRun I.next_gives chunks (λ run. (text_len (joined run.items) < 2 ^ 64) × (text ≡ joined run.items))) }
         ensures err { IfErr result (λ cause. SomeRun I.next_gives chunks (λ run. IsRefusedAt run.items cause)) }
     {
         let mut text = IoBufs::default();
@@ -314,6 +314,7 @@ impl IoBufs {
         ensures offset { greatest_key self.now at + result.offset ≡ at }
         ensures probes { 2 ^ result.probes ≤ 2 * count_of self.now }
         ensures digits { (d : ℕ) → count_of self.now < 2 ^ d → result.probes ≤ d }
+        ensures halves { count_of self.now < 2 ^ (result.probes + 1) }
     {
         self.pieces.locate(at)
     }

@@ -309,12 +309,16 @@ impl From<Bytes> for IoBuf {
 }
 
 impl Clone for IoBuf {
+    ghost use Rattle.iobufs_core.specs.View.{IsFreelyShared};
+
     ghost is_clone = { λ a b. b ≡ a };
+
+    ghost is_infallible = { IsFreelyShared };
 
     fn clone(&self) -> Result<IoBuf, AllocError> {
         let storage = match &self.storage {
             Storage::Static(text) => Storage::Static(text),
-            Storage::Shared(bytes) => Storage::Shared(bytes.clone()?),
+            Storage::Shared(bytes) => Storage::Shared(bytes.slice(..)?),
             Storage::Native(native) => Storage::Native(native.front(native.len())?),
         };
         Ok(IoBuf { storage })

@@ -1,6 +1,6 @@
 // The traits to take pieces of a text out and keep them.
-ghost use Rattle.std.specs.Prelude.{◌≡◌, ℕ, ◌+◌, ◌≤◌, ◌<◌, List, length, Err, IfOk, IsOk, OnOk, OnErr, IsOkUnless};
-ghost use Rattle.iobufs_core.specs.View.{View, default_view};
+ghost use Rattle.std.specs.Prelude.{◌≡◌, ◌⊎◌, ⊤, ℕ, ◌+◌, ◌≤◌, ◌<◌, List, length, Err, IfOk, IsOk, OnOk, OnErr, IsOkUnless};
+ghost use Rattle.iobufs_core.specs.View.{View, static_mark, bytes_mark, default_view};
 ghost use Rattle.iobufs_core.specs.MarkedText.{MarkedText, IsMarked, chunk_count as count_of, taken_view, text_advanced, text_rest, text_chunks};
 
 use super::{Buf, BufError, Error};
@@ -16,6 +16,9 @@ pub trait OwnedBytes: Sized {
     // What `from_view` makes of a view.
     ghost makes: { View → Self → Type 0 };
 
+    // It is made of such a view without being refused.
+    ghost is_free: { View → Type 0 };
+
     /// The same bytes.
     fn from_bytes(bytes: Bytes) -> Result<Self, BufError>
         ensures ok { IfOk result (λ made. bytes_of made ≡ bytes) }
@@ -25,7 +28,8 @@ pub trait OwnedBytes: Sized {
     fn from_view(alloc: Global, view: IoBuf) -> Result<Self, BufError>
         ensures ok { IfOk result (makes view) }
         ensures memory { IsOkUnless result BufError.Memory }
-        ensures empty { length view.bytes ≡ 0 → IsOk result };
+        ensures empty { length view.bytes ≡ 0 → IsOk result }
+        ensures free { is_free view → IsOk result };
 
     /// What `from_view` makes of a view, which is then empty. A refusal leaves it (the original has no such call).
     fn take_view(alloc: Global, view: &mut IoBuf) -> Result<Self, BufError>
@@ -33,7 +37,8 @@ pub trait OwnedBytes: Sized {
         ensures taken { OnOk result (view.new ≡ default_view) }
         ensures err { OnErr result (view.new ≡ view.old) }
         ensures memory { IsOkUnless result BufError.Memory }
-        ensures empty { length view.old.bytes ≡ 0 → IsOk result };
+        ensures empty { length view.old.bytes ≡ 0 → IsOk result }
+        ensures free { is_free view.old → IsOk result };
 
     ghost same_bytes: { (view : View) (made : Self) → makes view made → bytes_of made ≡ view.bytes };
 }
@@ -59,7 +64,8 @@ pub trait OwnedBuf: Buf {
         ensures rest { OnOk result (self.new ≡ Self.copied self.old (skip + n)) }
         ensures err { OnErr result (self.new ≡ self.old) }
         ensures memory { IsOkUnless result BufError.Memory }
-        ensures nothing { n ≡ 0 → IsOk result };
+        ensures nothing { n ≡ 0 → IsOk result }
+        ensures static_text { (taken_view (marked self.old) skip n).mark ≡ static_mark → T.is_free (taken_view (marked self.old) skip n) → IsOk result };
 
     ghost same_text: { (s : Self) → (marked s).bytes ≡ Self.text s };
 
@@ -80,6 +86,7 @@ pub trait OwnedBuf: Buf {
         ensures err { OnErr result (self.new ≡ self.old) }
         ensures memory { IsOkUnless result BufError.Memory }
         ensures nothing { n ≡ 0 → IsOk result }
+        ensures static_text { (taken_view (marked self.old) 0 n).mark ≡ static_mark → T.is_free (taken_view (marked self.old) 0 n) → IsOk result }
     {
         self.take_owned_after(alloc, 0, n)
     }
@@ -94,6 +101,7 @@ pub trait OwnedBuf: Buf {
         ensures short { length (Self.text self.old) < n → result ≡ Err Error.EndOfBuffer }
         ensures memory { n ≤ length (Self.text self.old) → IsOkUnless result Error.Memory }
         ensures nothing { n ≡ 0 → IsOk result }
+        ensures static_text { n ≤ length (Self.text self.old) → (taken_view (marked self.old) 0 n).mark ≡ static_mark → T.is_free (taken_view (marked self.old) 0 n) → IsOk result }
     {
         if n > self.remaining() {
             return Err(Error::EndOfBuffer);
@@ -106,6 +114,8 @@ impl OwnedBytes for IoBuf {
     ghost bytes_of = { λ view. view.bytes };
 
     ghost makes = { λ view made. made ≡ view };
+
+    ghost is_free = { λ _. ⊤ };
 
     fn from_bytes(bytes: Bytes) -> Result<IoBuf, BufError>
         ensures ok { IfOk result (λ made. made.bytes ≡ bytes) }
@@ -138,6 +148,8 @@ impl OwnedBytes for Bytes {
     ghost bytes_of = { λ bytes. bytes };
 
     ghost makes = { λ view made. made ≡ view.bytes };
+
+    ghost is_free = { λ view. (view.mark ≡ static_mark) ⊎ (view.mark ≡ bytes_mark) };
 
     fn from_bytes(bytes: Bytes) -> Result<Bytes, BufError>
         ensures ok { IfOk result (λ made. made ≡ bytes) }

@@ -35,6 +35,10 @@ impl Write for Bytes {
     }
 
     fn write_bufs<B: BufsMut>(&self, buf: &mut B) -> Result<(), Error> {
+        if self.is_empty() {
+            put_length(buf, 0);
+            return Ok(());
+        }
         let bytes = self.clone()?;
         put_length(buf, self.len());
         buf.push_bytes(bytes)?;

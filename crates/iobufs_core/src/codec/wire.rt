@@ -6,7 +6,7 @@ ghost use Rattle.iobufs_core.specs.Spelling.{spell};
 ghost use Rattle.iobufs_core.specs.Wire.{IsTaken, IsViewFault, view_items, view_written};
 ghost use Rattle.iobufs_core.specs.ReadBack.{IsReadAlike, IsReadBack};
 ghost use Rattle.iobufs_core.specs.Dropping.{Dropping, by_advance, by_copy, dropped, dropped_len};
-ghost use Rattle.iobufs_core.specs.Items.{Item, put_item, push_item, items_bytes, items_inline, items_pushed, ArePuts, IsBegun};
+ghost use Rattle.iobufs_core.specs.Items.{Item, put_item, push_item, items_bytes, items_inline, items_pushed, IsBegun};
 ghost use Rattle.iobufs_core.specs.View.{view_of_bytes};
 ghost use Rattle.iobufs_core.specs.declared.codec.base.Error.{Error as AnyError};
 
@@ -49,6 +49,8 @@ pub trait BufsMut: BufMut {
 
     ghost puts: { (a b : Self) (w : List ℕ) → Self.filled a w b → done a (put_item w ∷ []) b };
 
+    ghost skips: { (s : Self) (view : View) → length view.bytes ≡ 0 → done s (push_item view ∷ []) s };
+
     ghost follows: { (a b c : Self) (us vs : List Item) → done a us b → done b vs c → done a (us ++ vs) c };
 
     ghost adds: { (a b : Self) (items : List Item) → done a items b → joined b ≡ joined a ++ items_bytes items };
@@ -84,13 +86,14 @@ pub trait Write: EncodeSize {
         requires { length (Self.written self.now) ≤ B.room buf.old }
         ensures { B.filled buf.old (Self.written self.now) buf.new };
 
-    /// Puts and pushes the written text. A refusal leaves what was written before it.
+    /// Puts and pushes the written text. A refusal leaves what was written before it; where no byte is pushed, there is
+    /// none.
     fn write_bufs<B: BufsMut>(&self, buf: &mut B) -> Result<(), Error>
         requires { items_inline (Self.items self.now) ≤ B.room buf.old }
         ensures ok { OnOk result (B.done buf.old (Self.items self.now) buf.new) }
         ensures err { OnErr result (IsBegun (B.joined buf.old) (Self.written self.now) (B.joined buf.new)) }
         ensures cause { IfErr result (λ error. (error ≡ Error.Memory) ⊎ ((error ≡ Error.TooLong) × (B.pushable buf.old < items_pushed (Self.items self.now)))) }
-        ensures only_puts { ArePuts (Self.items self.now) → IsOk result };
+        ensures no_push { items_pushed (Self.items self.now) ≡ 0 → IsOk result };
 }
 
 /// A value that can be read (the codec's `Read`).
@@ -248,8 +251,12 @@ impl Write for IoBuf {
         ensures err { OnErr result (IsBegun (B.joined buf.old) (view_written self.now) (B.joined buf.new)) }
         ensures left { OnErr result ((buf.new ≡ buf.old) ⊎ B.done buf.old (put_item (spell (length self.now.bytes)) ∷ []) buf.new) }
         ensures cause { IfErr result (λ error. (error ≡ Error.Memory) ⊎ ((error ≡ Error.TooLong) × (B.pushable buf.old < items_pushed (view_items self.now)))) }
-        ensures only_puts { ArePuts (view_items self.now) → IsOk result }
+        ensures no_push { items_pushed (view_items self.now) ≡ 0 → IsOk result }
     {
+        if self.is_empty() {
+            put_length(buf, 0);
+            return Ok(());
+        }
         let view = self.clone()?;
         put_length(buf, self.len());
         buf.push(view)?;

@@ -1,14 +1,16 @@
 -- A sound machine keeps what is promised.
-use Rattle.std.proofs.Common.{◌≡◌, ℕ, ◌<◌, Bool, true, false, not, List, [], ◌∷◌, length, get_or, Option, Some, None, ap, sym, ◌∙◌, refl, arith, All}
+use Rattle.std.proofs.Common.{◌≡◌, inl, inr, ℕ, ◌<◌, ◌≤◌, Bool, true, false, not, List, [], ◌∷◌, length, get_or, Option, Some, None, ap, sym, ◌∙◌, refl, arith, All}
+use Rattle.std.proofs.lemmas.Bool.Decides.{eqb_tells}
 use Rattle.std.proofs.lemmas.List.Elements.{All-head, All-tail, All-get_or, All-from_get_or}
 use Rattle.iobufs_owner.specs.declared.owner.types.Handle.{Handle}
 use Rattle.iobufs_owner.specs.declared.owner.types.Pending.{Pending}
+use Rattle.iobufs_owner.specs.declared.owner.types.Pending.TheVariants.{Loaded, Ready, Add, Subtract, Release}
 use Rattle.iobufs_owner.specs.State.{State, handle_at, record_at, owner_of}
 use Rattle.iobufs_owner.specs.World.{holders, users, tally}
 use Rattle.iobufs_owner.specs.Reading.{reading}
-use Rattle.iobufs_owner.specs.Sound.{IsSound, is_logged}
+use Rattle.iobufs_owner.specs.Sound.{IsSound, is_logged, hidden, readies, FitsCall}
 use Rattle.iobufs_owner.specs.Promises.{Promises, IsFreed, IsOver, IsExclusive}
-use Rattle.iobufs_owner.proofs.Soundness.Counts.{holders-le-users}
+use Rattle.iobufs_owner.proofs.Soundness.Counts.{holders-le-users, count-find}
 use Rattle.iobufs_owner.proofs.Soundness.Edits.{alone-at, described-at}
 use Rattle.iobufs_owner.proofs.Soundness.Frames.{is-eqb}
 use Rattle.iobufs_owner.proofs.Soundness.Recovered.{recovered-is}
@@ -47,11 +49,30 @@ none-dropped s b (c ∷ cs) a = rw (All-head (λ (c : Option Pending). c ≡ Non
 over-none : (s : State) (b : ℕ) → IsOver s → users (reading s) b ≡ 0
 over-none s b o = omega (arith, users-as s b, none-held s b s.handles o.handles, none-dropped s b s.calls o.calls)
 
+-- a record that a promotion has made is live
+ready-live : (s : State) (r : ℕ) (c : Option Pending) → readies r c ≡ true → FitsCall s c → (record_at s.tables r).live ≡ true
+ready-live s r None t f = absurd (cc)
+ready-live s r (Some (Loaded k w)) t f = absurd (cc)
+ready-live s r (Some (Ready k w q)) t f = elim (eqb_tells r q) [ inl e ↦ rw e.1 f.live | inr e ↦ absurd (let z = sym e.0 ∙ t in cc) ]
+ready-live s r (Some (Add k q)) t f = absurd (cc)
+ready-live s r (Some (Subtract q)) t f = absurd (cc)
+ready-live s r (Some (Release q)) t f = absurd (cc)
+
+one-maker : (s : State) (r : ℕ) → IsSound s → hidden s.calls r ≤ 1
+one-maker s r k = elim (eqb_tells (hidden s.calls r) 0) [
+  | inl e ↦ (let z = e.1 in omega (arith, z))
+  | inr e ↦ (
+      let d = e.1 in
+      let q = count-find (readies r) None s.calls (omega (arith, d)) in
+      (k.counted r (ready-live s r (get_or s.calls q.place None) q.passes (k.calls_fit q.place None q.inside))).one_maker
+      )
+]
+
 pub promises-of : (s : State) → IsSound s → Promises s
 promises-of s k = record {
   counts = λ r p. (k.counted r p.live).counts p.shown;
   one_record = λ q r p t e. k.one_record q r p.live t.live p.shown t.shown e;
-  one_maker = λ r live. (k.counted r live).one_maker;
+  one_maker = λ r. one-maker s r k;
   exclusive = λ h b x at o e. exclusive-alone s h b x k at o e;
   recovered = λ h w x at i. (let d = described-at s h x w k at i in (d.block, d.says.known, d.says.owner, recovered-is s h x w d.block k at i d.says.owner));
   blocks_once = k.block_log.once;

@@ -126,7 +126,7 @@ add-as s t p k r memory reply true i a e y =
     let n = (i.counted r c.live).counts c.shown in
     let m = lt-true s.ceiling (record_at s.tables r).count e in
     let z = reply-taken s (called s p None) t (call_set (reading s) p None) (Refused Ceiling) reply refl (called-reads s p None) y in
-    inr (inr (inr (inl (subst (λ (o : Option ℕ). IsOver (reading s) o) (sym (owner-counted s.tables a.view r a.word)) (rw (← n) m), z.0, z.1))))
+    inr (inr (inr (inl (refl, subst (λ (o : Option ℕ). IsOver (reading s) o) (sym (owner-counted s.tables a.view r a.word)) (rw (← n) m), z.0, z.1))))
 add-as s t p k r memory reply false i a e y =
     let c = counted-at s k.handle a.view r i a.shares.at a.word in
     let n = (i.counted r c.live).counts c.shown in

@@ -18,9 +18,10 @@ use Rattle.iobufs_owner.specs.declared.owner.types.Pending.TheVariants.{Loaded, 
 use Rattle.iobufs_owner.specs.World.{World, Held, Unfinished, Sharing, Dropping, going_at, held_at, holders}
 use Rattle.iobufs_owner.specs.Reading.{reading, read_call}
 use Rattle.iobufs_owner.specs.Steps as world
-use Rattle.iobufs_owner.specs.Steps.{ActsAt, Begins, Goes, SharesOn, GoesOn, GoesOnWithin}
+use Rattle.iobufs_owner.specs.Steps.{ActsAt, Begins, Goes, SharesOn, GoesOn, GoesOnWithin, Steps}
 use Rattle.iobufs_owner.specs.State.{State, Seen, Tables, call_at}
 use Rattle.iobufs_owner.specs.Runs.{Runs, EndsInFour, ends_call, taken_after, taken_of}
+use Rattle.iobufs_owner.specs.Tells.{CountsTaken}
 use Rattle.iobufs_owner.proofs.WorldSteps.Shown.{get_or-read}
 use Rattle.iobufs_owner.proofs.WorldSteps.Taken.{lt-true}
 
@@ -183,7 +184,7 @@ shares w next p h lo hi left memory None reply l r = absurd r
 shares w next p h lo hi left memory (Some x) reply l (inl (three, m, e, f)) = ends w (world.call_set w p None) next p (Some (Sharing h lo hi left)) (Refused Memory) reply l refl (λ n. refl) e f
 shares w next p h lo hi left memory (Some x) reply l (inr (inl (fewer, some, few, g))) = goes-on w w next p (Some (Sharing h lo hi left)) (Sharing h lo hi fewer) reply l refl some few g
 shares w next p h lo hi left memory (Some x) reply l (inr (inr (inl (three, m, r)))) = refuses w next p (Some (Sharing h lo hi left)) Room reply r
-shares w next p h lo hi left memory (Some x) reply l (inr (inr (inr (inl (over, e, f))))) = ends w (world.call_set w p None) next p (Some (Sharing h lo hi left)) (Refused Ceiling) reply l refl (λ n. refl) e f
+shares w next p h lo hi left memory (Some x) reply l (inr (inr (inr (inl (one, over, e, f))))) = ends w (world.call_set w p None) next p (Some (Sharing h lo hi left)) (Refused Ceiling) reply l refl (λ n. refl) e f
 shares w next p h lo hi left memory (Some x) reply l (inr (inr (inr (inr (never, few, inl r))))) = refuses w next p (Some (Sharing h lo hi left)) Room reply r
 shares w next p h lo hi left memory (Some x) reply l (inr (inr (inr (inr (never, few, inr (e, f)))))) = ends w (world.held_more (world.call_set w p None) (world.part_of x lo hi)) next p (Some (Sharing h lo hi left)) (Made (length w.handles)) reply l refl (λ n. refl) e f
 
@@ -264,6 +265,26 @@ others w next p q n c reply d j (inl (e, f)) = record { call = j.call; is = ap (
 others w next p q n c reply d j (inr (inl g)) = record { call = j.call; is = ap (λ (cs : List (Option Unfinished)). get_or cs p None) g.calls ∙ get_or-set_other w.calls q p (Some g.call) None d ∙ j.is; taken = j.taken; few = j.few; short = j.short }
 others w next p q n c reply d j (inr (inr g)) = record { call = j.call; is = ap (λ (cs : List (Option Unfinished)). get_or cs p None) g.calls ∙ get_or-set_other w.calls q p None None d ∙ j.is; taken = j.taken; few = j.few; short = j.short }
 
+-- where a run begins
+near-call : (g : Tables) (c : Option Pending) → (taken_of (read_call g c) < 4) × IsShort (read_call g c)
+near-call g None = (omega arith, tt)
+near-call g (Some (Loaded k w)) = (omega arith, omega arith)
+near-call g (Some (Ready k w r)) = (omega arith, omega arith)
+near-call g (Some (Add k r)) = (omega arith, omega arith)
+near-call g (Some (Subtract r)) = (omega arith, omega arith)
+near-call g (Some (Release r)) = (omega arith, omega arith)
+
+pub counts-taken : (s : State) (next : World) (step : Step) (reply : Reply) → Steps (reading s) step reply next → CountsTaken (reading s) step reply next
+counts-taken s next step reply m = λ n l.
+    let p = step.party in
+    let c = changes-by (reading s) next step reply (nat_lt p (length (reading s).calls)) refl m in
+    let e = get_or-read (read_call s.tables) s.calls p None in
+    let f = near-call s.tables (call_at s p) in
+    let few : taken_of (going_at (reading s) p) < 4 = rw e f.0 in
+    let j : IsNear (reading s) p n = record { call = going_at (reading s) p; is = refl; taken = l; few = omega (arith, few, l); short = rw e f.1 } in
+    let r = own (reading s) next p n reply j c in
+    (r.few, rw r.is r.taken)
+
 pub ends-in-four : (m next : Seen) (p n : ℕ) (steps : List Step) (replies : List Reply) → Runs m steps replies next → IsNear (reading m.state) p n → EndsInFour p n steps replies
 ends-in-four m next p n [] replies r j = tt
 ends-in-four m next p n (step ∷ steps) [] r j = tt
@@ -277,15 +298,6 @@ ends-in-four m next p n (step ∷ steps) (reply ∷ replies) (mid, one, r) j =
           )
       | inr e ↦ rw e.0 (ends-in-four mid next p n steps replies r (others (reading m.state) (reading mid.state) p step.party n (going_at (reading m.state) step.party) reply (λ z. e.1 (sym z)) j c))
     ]
-
--- where a run begins
-near-call : (g : Tables) (c : Option Pending) → (taken_of (read_call g c) < 4) × IsShort (read_call g c)
-near-call g None = (omega arith, tt)
-near-call g (Some (Loaded k w)) = (omega arith, omega arith)
-near-call g (Some (Ready k w r)) = (omega arith, omega arith)
-near-call g (Some (Add k r)) = (omega arith, omega arith)
-near-call g (Some (Subtract r)) = (omega arith, omega arith)
-near-call g (Some (Release r)) = (omega arith, omega arith)
 
 pub near-start : (s : State) (p : ℕ) → IsNear (reading s) p (taken_of (going_at (reading s) p))
 near-start s p =

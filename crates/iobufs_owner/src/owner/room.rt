@@ -1,5 +1,5 @@
 //! Room in the machine's tables. A step wants room here, and in the ordered map of places where it adds a block.
-ghost use Rattle.std.specs.Prelude.{◌≡◌, ℕ, min, ◌+◌, ◌^◌, ◌<◌, ◌≤◌, length, vec_len, vec_capacity, OnOk, OnErr};
+ghost use Rattle.std.specs.Prelude.{◌≡◌, ℕ, min, ◌+◌, ◌^◌, ◌<◌, ◌≤◌, length, vec_len, vec_capacity, None, IfOk, IfSome, OnOk, OnErr};
 ghost use Rattle.iobufs_owner.specs.State.{IsFull};
 
 use crate::owner::{Block, Freed, Handle, Record};
@@ -33,22 +33,41 @@ fn room_in_log<T>(log: &mut Vec<T>, entries: usize) -> Result<(), AllocError>
     log.reserve(entries.saturating_sub(log.len()))
 }
 
-/// Room for so many entries more in a table, and for as many in all in what grows beside it. Refused, the first of them may
-/// have room already.
-pub(super) fn room_for_more<T, U>(
-    table: &mut Vec<T>,
-    beside: &mut Vec<U>,
-    more: usize,
-) -> Result<(), AllocError>
-    ensures items { table.new.items ≡ table.old.items }
-    ensures beside { beside.new.items ≡ beside.old.items }
-    ensures capacity { vec_capacity table.old ≤ vec_capacity table.new }
-    ensures beside_capacity { vec_capacity beside.old ≤ vec_capacity beside.new }
-    ensures room { OnOk result (length table.old.items + more ≤ vec_capacity table.new) }
-    ensures beside_room { OnOk result (length table.old.items + more ≤ vec_capacity beside.new) }
+/// So many entries and so many more, where that is a number of entries at all.
+pub(super) fn total(entries: usize, more: usize) -> Result<usize, AllocError>
+    ensures sum { IfOk result (λ all. all ≡ entries + more) }
+    ensures full { OnErr result (2 ^ 64 ≤ entries + more) }
 {
-    table.reserve(more)?;
-    room_in_log(beside, table.len() + more)
+    entries.checked_add(more).ok_or(AllocError)
+}
+
+/// The entries of a table with memory for so many in all, where the table has less.
+pub(super) fn larger<T: Copy>(table: &Vec<T>, entries: usize) -> Result<Option<Vec<T>>, AllocError>
+    ensures items { IfOk result (λ larger. IfSome larger (λ new. new.items ≡ table.now.items)) }
+    ensures room { IfOk result (λ larger. IfSome larger (λ new. entries ≤ vec_capacity new)) }
+    ensures more { IfOk result (λ larger. IfSome larger (λ new. vec_capacity table.now < vec_capacity new)) }
+    ensures enough { IfOk result (λ larger. larger ≡ None → entries ≤ vec_capacity table.now) }
+    ensures full { OnErr result (vec_capacity table.now < entries) }
+{
+    if entries <= table.capacity() {
+        return Ok(None);
+    }
+    let mut new = Vec::with_capacity(*table.allocator(), entries)?;
+    new.extend_from_slice(table)?;
+    Ok(Some(new))
+}
+
+/// The table moves to its larger memory, if there is one.
+pub(super) fn move_into<T: Drop>(table: &mut Vec<T>, larger: Option<Vec<T>>)
+    requires items { IfSome larger (λ new. new.items ≡ table.old.items) }
+    requires more { IfSome larger (λ new. vec_capacity table.old ≤ vec_capacity new) }
+    ensures items { table.new.items ≡ table.old.items }
+    ensures capacity { vec_capacity table.old ≤ vec_capacity table.new }
+    ensures room { IfSome larger (λ new. vec_capacity table.new ≡ vec_capacity new) }
+{
+    if let Some(new) = larger {
+        *table = new;
+    }
 }
 
 /// Room for one handle more.

@@ -1,7 +1,7 @@
-use Rattle.std.proofs.Common.{◌≡◌, ℕ, ◌+◌, ◌-◌, ◌<◌, ◌≤◌, ◌∙◌, List, length, get_or, arith, ⊎_elim, ap, sym, ◌/◌, subst}
+use Rattle.std.proofs.Common.{◌≡◌, ℕ, ◌+◌, ◌-◌, ◌*◌, ◌^◌, ◌<◌, ◌≤◌, ◌∙◌, List, length, get_or, arith, ⊎_elim, ap, sym, ◌/◌, subst}
 use Rattle.std.proofs.lemmas.Bool.{cases_lt, ltb-false}
 use Rattle.iobufs.specs.Search.{IsRising}
-use Rattle.iobufs.proofs.Text.Halves.{halved, one_more, few_digits, few_probes}
+use Rattle.iobufs.proofs.Text.Halves.{halved, one_more, no_less, twice, few_digits, few_probes}
 use Rattle.iobufs.proofs.bufs.search.find_end.Goals as goal
 
 pub past-requires-clause-more : goal.past-requires-clause-more
@@ -31,6 +31,7 @@ loop-first-preserved-then-past g c =
       same_place = i.same_place;
       work = halved _ _ (c.loop-first.last - c.loop-first.first) _ _ p.probed (omega arith) i.work;
       few = one_more _ _ (c.loop-first.last - c.loop-first.first) _ p.probed (omega arith) i.work;
+      halves = no_less _ _ (c.loop-first.last - c.loop-first.first + 2) _ _ p.probed (omega arith) i.halves;
     })
 
 pub loop-first-preserved : goal.loop-first-preserved
@@ -49,7 +50,13 @@ loop-first-preserved g c =
       same_place = i.same_place;
       work = halved _ _ (c.loop-first.last - c.loop-first.first) _ _ p.probed (omega arith) i.work;
       few = one_more _ _ (c.loop-first.last - c.loop-first.first) _ p.probed (omega arith) i.work;
+      halves = no_less _ _ (c.loop-first.last - c.loop-first.first + 2) _ _ p.probed (omega arith) i.halves;
     })
 
 pub returns-clause-digits : goal.returns-clause-digits
 returns-clause-digits g c = λ d l. few_digits (g.E.Ends.probed c.loop-first.ends) (length (g.E.Ends.ends c.args.ends.now)) d (omega (arith, c.loop-first.invariant.few, ap length c.loop-first.invariant.same_ends)) l
+
+pub returns-clause-halves : goal.returns-clause-halves
+returns-clause-halves g c =
+    let i = c.loop-first.invariant in
+    twice _ _ _ (omega arith) (subst (λ n. n < 2 ^ g.E.Ends.probed c.loop-first.ends * (c.loop-first.last - c.loop-first.first + 2)) (ap length i.same_ends) i.halves)

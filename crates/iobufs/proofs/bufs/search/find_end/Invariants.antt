@@ -1,4 +1,4 @@
-use Rattle.std.proofs.Common.{◌-◌, ◌≡◌, ℕ, ◌*◌, ◌^◌, ◌<◌, ◌≤◌, length, get_or}
+use Rattle.std.proofs.Common.{◌+◌, ◌-◌, ◌≡◌, ℕ, ◌*◌, ◌^◌, ◌<◌, ◌≤◌, length, get_or}
 use Rattle.iobufs.proofs.bufs.search.find_end.Given as goal
 
 abbrev pub invariant-loop-first : goal.invariant-loop-first
@@ -12,6 +12,7 @@ invariant-loop-first g l =
       same_place : g.E.Ends.place l.ends ≡ g.E.Ends.place l.initial.ends;
       work : 2 ^ g.E.Ends.probed l.ends * (l.last - l.first) < length (g.E.Ends.ends l.ends);
       few : 2 ^ g.E.Ends.probed l.ends ≤ 2 * length (g.E.Ends.ends l.ends);
+      halves : length (g.E.Ends.ends l.ends) < 2 ^ g.E.Ends.probed l.ends * (l.last - l.first + 2);
     }
 
 abbrev pub decreases-loop-first : goal.decreases-loop-first

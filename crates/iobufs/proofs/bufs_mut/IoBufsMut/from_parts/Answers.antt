@@ -15,7 +15,7 @@ returns-then-capacity-left-clause-err g c =
     let l = c.loop-part in
     let part = c.in-Some.part in (
       run_to_item g.I.Iterator.next_gives _ l.yielded l.yielded_by part c.in-Some.ensures.steps,
-      c.into_iter-part-iterator.ensures.into_iter_gives,
+      refl,
       refused-long l.yielded part (omega arith) (omega arith) (omega arith),
     )
 
@@ -34,7 +34,7 @@ returns-in_err-shape-clause-err g c =
     let (error, told, cause) = err_from_is_err_and c.from_residual.result c.from_residual.ensures.1 in
     rw (told, cause) (
       run_to_item g.I.Iterator.next_gives _ l.yielded l.yielded_by part c.in-Some.ensures.steps,
-      c.into_iter-part-iterator.ensures.into_iter_gives,
+      refl,
       subst (IsRowRefusedAt (l.yielded ++ part ∷ [])) (sym c.in_err-shape.ensures.memory) (refused-short l.yielded part some (omega arith) (omega arith)),
     )
 
@@ -53,8 +53,8 @@ pub returns-clause-ok : goal.returns-clause-ok
 returns-clause-ok g c =
     let l = c.loop-part in
     let sum = l.invariant.sum in (
-      run_to_end g.I.Iterator.next_gives _ l.yielded l.yielded_by c.in-None.ensures.steps,
-      c.into_iter-part-iterator.ensures.into_iter_gives,
+      run_to_end g.I.Iterator.next_gives _ l.yielded l.yielded_by c.in_default.ensures.steps,
+      refl,
       refl,
       (omega arith, l.invariant.kept),
     )

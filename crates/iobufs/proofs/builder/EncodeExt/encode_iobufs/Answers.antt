@@ -1,10 +1,10 @@
 use Rattle.std.proofs.Common.{◌≡◌, ◌^◌, ◌<◌, arith, length, ap, sym, subst, ◌∙◌, ⊎_elim}
 use Rattle.std.proofs.lemmas.Bool.{false≢true}
-use Rattle.iobufs_core.specs.Items.{ArePuts, items_bytes, items_inline}
+use Rattle.iobufs_core.specs.Items.{items_bytes, items_inline}
 use Rattle.iobufs_core.specs.MarkedText.{MarkedText}
 use Rattle.iobufs.specs.Building.{Building, building_items, building_after, empty_building, finished}
 use Rattle.iobufs.proofs.Text.CopyLaws.{only-cause}
-use Rattle.iobufs.proofs.Building.FinishLaws.{encoded-bytes, items-len, nothing-put, pushes-fit}
+use Rattle.iobufs.proofs.Building.FinishLaws.{encoded-bytes, items-len, nothing-built, pushes-fit}
 use Rattle.iobufs.proofs.builder.EncodeExt.encode_iobufs.Goals as goal
 
 pub returns-in_err-write_bufs-clause-memory : goal.returns-in_err-write_bufs-clause-memory
@@ -28,15 +28,22 @@ returns-clause-bytes g c =
 pub returns-in_err-builder-clause-nothing : goal.returns-in_err-builder-clause-nothing
 returns-in_err-builder-clause-nothing g c =
     let items = g.Self.EncodeSize.items c.args.self.now in
-    λ (puts : ArePuts items) (none : length (g.Self.EncodeSize.written c.args.self.now) ≡ 0).
+    λ (none : length (g.Self.EncodeSize.written c.args.self.now) ≡ 0).
     let bytes = ap length (g.met.Self.EncodeSize.joins_items c.args.self.now) in
     absurd (false≢true (c.in_err-builder.ensures.nothing (omega (arith, none, bytes, items-len items, c.encode_inline_size.ensures))))
+
+pub returns-in_err-write_bufs-clause-nothing : goal.returns-in_err-write_bufs-clause-nothing
+returns-in_err-write_bufs-clause-nothing g c =
+    let items = g.Self.EncodeSize.items c.args.self.now in
+    λ (none : length (g.Self.EncodeSize.written c.args.self.now) ≡ 0).
+    let bytes = ap length (g.met.Self.EncodeSize.joins_items c.args.self.now) in
+    absurd (false≢true (c.in_err-write_bufs.ensures.no_push (omega (arith, none, bytes, items-len items))))
 
 pub returns-in_err-finish-clause-nothing : goal.returns-in_err-finish-clause-nothing
 returns-in_err-finish-clause-nothing g c =
     let items = g.Self.EncodeSize.items c.args.self.now in
-    λ (puts : ArePuts items) (none : length (g.Self.EncodeSize.written c.args.self.now) ≡ 0).
+    λ (none : length (g.Self.EncodeSize.written c.args.self.now) ≡ 0).
     let bytes : length (items_bytes items) ≡ 0 = ap length (g.met.Self.EncodeSize.joins_items c.args.self.now) ∙ none in
     let (inline, pushed, built) = c.in_ok-write_bufs.ensures.ok in
     let is = built ∙ ap (λ (b : Building). building_after b items) (c.in_ok-builder.ensures.ok ∙ ap empty_building c.encode_inline_size.ensures) in
-    absurd (false≢true (c.in_err-finish.ensures.nothing (ap building_items is ∙ nothing-put (items_inline items) items puts bytes)))
+    absurd (false≢true (c.in_err-finish.ensures.nothing (ap building_items is ∙ nothing-built (items_inline items) items bytes)))

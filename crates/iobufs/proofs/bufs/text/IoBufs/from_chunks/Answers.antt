@@ -1,8 +1,8 @@
-use Rattle.std.proofs.Common.{◌<◌, length, refl}
+use Rattle.std.proofs.Common.{◌<◌, ◌^◌, length, refl, subst}
 use Rattle.std.proofs.lemmas.Bool.{false≢true}
 use Rattle.std.proofs.Math.Nat.{pos_of_ne-zero}
 use Rattle.std.proofs.lemmas.Result.{err_from_is_err_and}
-use Rattle.iobufs_core.specs.MarkedText.{text_len}
+use Rattle.iobufs_core.specs.MarkedText.{MarkedText, text_len}
 use Rattle.iobufs.proofs.Text.RunLaws.{run_to_end, run_to_item, joined-more, fits-more, refused-at}
 use Rattle.iobufs.proofs.bufs.text.IoBufs.from_chunks.Goals as goal
 
@@ -29,4 +29,4 @@ returns-in_err-append-clause-err g c =
     )
 
 pub returns-clause-ok : goal.returns-clause-ok
-returns-clause-ok g c = (run_to_end g.I.Iterator.next_gives _ c.loop-chunk.yielded c.loop-chunk.yielded_by c.in_default.ensures.steps, refl, refl, c.loop-chunk.invariant.so_far)
+returns-clause-ok g c = (run_to_end g.I.Iterator.next_gives _ c.loop-chunk.yielded c.loop-chunk.yielded_by c.in_default.ensures.steps, refl, refl, (subst (λ (text : MarkedText). text_len text < 2 ^ 64) c.loop-chunk.invariant.so_far c.loop-chunk.invariant.fits, c.loop-chunk.invariant.so_far))

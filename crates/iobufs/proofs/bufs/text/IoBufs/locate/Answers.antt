@@ -22,3 +22,8 @@ pub returns-clause-digits : goal.returns-clause-digits
 returns-clause-digits c = λ d l.
     let n = count-pieces _ _ c.self.view_is (omega (arith, c.requires, length-kept c.self.inside _ c.self.view_is)) in
     few_digits c.locate.result.probes _ d c.locate.ensures.probes (omega arith)
+
+pub returns-clause-halves : goal.returns-clause-halves
+returns-clause-halves c =
+    let n = count-pieces _ _ c.self.view_is (omega (arith, c.requires, length-kept c.self.inside _ c.self.view_is)) in
+    omega (arith, c.locate.ensures.halves)

@@ -1,4 +1,4 @@
-use Rattle.std.proofs.Common.{ap, length, ◌∙◌}
+use Rattle.std.proofs.Common.{ap, length, subst, sym, ◌∙◌}
 use Rattle.std.proofs.lemmas.Bool.{false≢true}
 use Rattle.iobufs_core.specs.View.{View}
 use Rattle.iobufs_core.specs.MarkedText.{taken_view}
@@ -9,3 +9,10 @@ pub returns-in_err-made-clause-nothing : goal.returns-in_err-made-clause-nothing
 returns-in_err-made-clause-nothing g c = λ none.
     let empty = c.in_ok-view.ensures.ok ∙ ap (taken_view c.args.self.now c.args.skip) none ∙ taken_view-none c.args.skip c.args.self.now in
     absurd (false≢true (c.in_err-made.ensures.empty (ap (λ (v : View). length v.bytes) empty)))
+
+pub returns-in_err-view-clause-static_text : goal.returns-in_err-view-clause-static_text
+returns-in_err-view-clause-static_text g c = λ static free. absurd (false≢true (c.in_err-view.ensures.static_text static))
+
+pub returns-in_err-made-clause-static_text : goal.returns-in_err-made-clause-static_text
+returns-in_err-made-clause-static_text g c = λ static free.
+    absurd (false≢true (c.in_err-made.ensures.free (subst (λ view. g.T.OwnedBytes.is_free view) (sym c.in_ok-view.ensures.ok) free)))

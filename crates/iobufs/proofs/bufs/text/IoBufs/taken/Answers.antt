@@ -4,6 +4,7 @@ use Rattle.iobufs_core.specs.View.{View, view_slice}
 use Rattle.iobufs_core.specs.MarkedText.{taken_view}
 use Rattle.iobufs.specs.Inside.Several.{views}
 use Rattle.iobufs.proofs.Text.ReadLaws.{taken-within, taken-across, rest-length, as_view}
+use Rattle.iobufs.proofs.Text.StaticLaws.{static-within, across-native}
 use Rattle.iobufs.proofs.Text.TakenLaws.{taken_view-none}
 use Rattle.iobufs.proofs.Text.TextLaws.{length-kept}
 use Rattle.iobufs.proofs.bufs.text.IoBufs.taken.Goals as goal
@@ -33,3 +34,15 @@ returns-in-Ok-clause-ok c =
     let n = length-kept c.self.inside _ c.self.view_is in
     let across = taken-across _ c.args.self.now c.args.skip c.args.n _ _ _ c.self.view_is c.locate-place.ensures.place (omega (arith, c.requires, c.if-n-eq0.false)) (omega (arith, ap (λ (v : View). length v.bytes) c.piece-piece.ensures)) refl in
     c.in-Ok.ensures.ok ∙ across
+
+pub returns-then-n-len-clause-static_text : goal.returns-then-n-len-clause-static_text
+returns-then-n-len-clause-static_text c = λ static.
+    let n = length-kept c.self.inside _ c.self.view_is in
+    let o = c.locate-place.result.offset in
+    let piece = static-within _ c.args.self.now c.args.skip c.args.n _ o c.self.view_is c.locate-place.ensures.place (omega (arith, c.requires, c.if-n-eq0.false)) (omega arith) (omega (arith, ap (λ (v : View). length v.bytes) c.piece-piece.ensures)) static in
+    c.slice.ensures.static_text (ap (λ (v : View). v.mark) c.piece-piece.ensures ∙ piece)
+
+pub returns-in-Err-clause-static_text : goal.returns-in-Err-clause-static_text
+returns-in-Err-clause-static_text c = λ static.
+    let n = length-kept c.self.inside _ c.self.view_is in
+    absurd (across-native _ c.args.self.now c.args.skip c.args.n _ _ c.self.view_is c.locate-place.ensures.place (omega (arith, c.requires, c.if-n-eq0.false)) (omega (arith, ap (λ (v : View). length v.bytes) c.piece-piece.ensures)) static)

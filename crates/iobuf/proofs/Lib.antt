@@ -1,5 +1,0 @@
-pub mod BufferEndings
-pub mod MachineEndings
-pub mod MachineLaws
-pub mod Sessions
-pub mod TakenLines

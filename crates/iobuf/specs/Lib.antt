@@ -1,4 +1,0 @@
-pub mod Halves
-pub mod Lines
-pub mod MachineSession
-pub mod Session

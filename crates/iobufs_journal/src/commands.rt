@@ -1,0 +1,261 @@
+// The commands, on files. What they read and write is proved in `iobufs_records`.
+use iobufs_records::ending::Ending;
+use iobufs_records::lines::{self, Appended, MOST, MOST_LINE};
+use iobufs_records::scan::Scan;
+use iobufs_uses::journal::End;
+use std::alloc::Global;
+use std::fs::{self, File, OpenOptions};
+use std::io::{self, BufWriter, Read, Seek, SeekFrom, Write};
+
+// Says something of a journal on the standard errors.
+fn say(rt: &HostRuntime, name: &str, text: &str) {
+    let _ = writeln!(rt.stderr(), "{name}: {text}");
+}
+
+// The status of an error, which is told with the name of its file.
+fn failed(rt: &HostRuntime, name: &str, error: &io::Error) -> u8 {
+    let _ = writeln!(rt.stderr(), "{name}: {error}");
+    3
+}
+
+// The status of a command, whose error is told.
+fn status(rt: &HostRuntime, name: &str, done: io::Result<u8>) -> u8 {
+    match done {
+        Ok(status) => status,
+        Err(error) => failed(rt, name, &error),
+    }
+}
+
+// Whether something else than a regular file stands at a name.
+fn is_strange(rt: &HostRuntime, name: &str) -> bool {
+    match fs::metadata(rt, name) {
+        Ok(found) => !found.is_file(),
+        Err(_) => false,
+    }
+}
+
+// Waits until no other writer has the journal.
+fn lock(rt: &HostRuntime, name: &str, journal: &File) -> io::Result<()> {
+    if journal.try_lock().is_ok() {
+        return Ok(());
+    }
+    say(rt, name, "waiting for another writer");
+    journal.lock()
+}
+
+// Whether a line ends in these bytes, or they are too many for one.
+fn is_enough(ahead: &[u8]) -> bool {
+    ahead.len() > MOST_LINE || ahead.contains(&b'\n')
+}
+
+// The front of the input: up to the end of its first line, or as much as is too long for one. Each turn reads a byte at
+// least.
+fn first_line<R: Read>(alloc: Global, from: &mut R) -> io::Result<Vec<u8>> {
+    let mut ahead = Vec::new(alloc);
+    let mut piece = Vec::new(alloc);
+    piece.resize(1 << 16, 0)?;
+    for _ in 0..=MOST_LINE {
+        let n = from.read(&mut piece)?;
+        ahead.extend_from_slice(&piece[..n])?;
+        if n == 0 || is_enough(ahead.as_slice()) {
+            return Ok(ahead);
+        }
+    }
+    Ok(ahead)
+}
+
+// Whether no line of at most the length that is allowed stands in front.
+fn is_long(ahead: &[u8]) -> bool {
+    ahead.len() > MOST_LINE && !ahead[..MOST_LINE + 1].contains(&b'\n')
+}
+
+// Says which line is too long.
+fn say_long(rt: &HostRuntime, name: &str, done: Appended) {
+    let line = done.records.saturating_add(1);
+    let kept = done.records;
+    let _ = writeln!(
+        rt.stderr(),
+        "{name}: line {line} has more than {MOST_LINE} bytes: {kept} lines in front of it are kept"
+    );
+}
+
+// Puts lines behind a journal that is locked, if it is whole.
+fn append_locked<R: Read>(
+    rt: &HostRuntime,
+    name: &str,
+    journal: &mut File,
+    from: &mut R,
+) -> io::Result<u8> {
+    let alloc = rt.alloc();
+    let mut scan = Scan::new();
+    match scan.print(alloc, journal, MOST, &mut io::sink())? {
+        End::Whole => {}
+        End::Torn => {
+            say(
+                rt,
+                name,
+                "the journal is torn, and nothing is put behind it: see repair",
+            );
+            return Ok(1);
+        }
+        End::Damaged => {
+            say(
+                rt,
+                name,
+                "the journal is damaged, and nothing is put behind it",
+            );
+            return Ok(1);
+        }
+    }
+    let done = lines::append(alloc, scan.number, from, journal)?;
+    if done.is_long {
+        say_long(rt, name, done);
+        return Ok(3);
+    }
+    Ok(0)
+}
+
+fn append_to(rt: &HostRuntime, name: &str, sync: bool) -> io::Result<u8> {
+    let mut input = rt.reader();
+    let ahead = first_line(rt.alloc(), &mut input)?;
+    if is_long(ahead.as_slice()) {
+        say_long(
+            rt,
+            name,
+            Appended {
+                records: 0,
+                is_long: true,
+            },
+        );
+        return Ok(3);
+    }
+    if is_strange(rt, name) {
+        say(rt, name, "no regular file");
+        return Ok(3);
+    }
+    let mut journal = OpenOptions::new()
+        .read(true)
+        .append(true)
+        .create(true)
+        .open(rt, name)?;
+    lock(rt, name, &journal)?;
+    let mut from = ahead.as_slice().chain(input);
+    let status = append_locked(rt, name, &mut journal, &mut from)?;
+    if sync {
+        journal.sync_all()?;
+    }
+    Ok(status)
+}
+
+/// Puts the lines of the standard input behind a journal. They are kept where this answers 0.
+pub fn append(rt: &HostRuntime, name: &str, sync: bool) -> u8 {
+    status(rt, name, append_to(rt, name, sync))
+}
+
+fn replay_from(rt: &HostRuntime, name: &str, all: bool) -> io::Result<u8> {
+    let alloc = rt.alloc();
+    let mut journal = fs::open(rt, name)?;
+    let mut output = BufWriter::new(alloc, rt.stdout())?;
+    let mut scan = Scan::new();
+    let end = scan.print(alloc, &mut journal, MOST, &mut output)?;
+    if all && end != End::Whole {
+        scan.print_behind(alloc, &mut journal, MOST, &mut output)?;
+    }
+    output.flush()?;
+    match end {
+        End::Whole => return Ok(0),
+        End::Torn => say(rt, name, "the journal is torn"),
+        End::Damaged => say(rt, name, "the journal is damaged"),
+    }
+    Ok(1)
+}
+
+/// Prints the records of a journal, a line each, and where all are wanted those behind damage too.
+pub fn replay(rt: &HostRuntime, name: &str, all: bool) -> u8 {
+    status(rt, name, replay_from(rt, name, all))
+}
+
+fn check_one(rt: &HostRuntime, name: &str) -> io::Result<u8> {
+    let ending = Ending::read(rt.alloc(), &mut fs::open(rt, name)?, MOST)?;
+    writeln!(rt.stdout(), "{name}: {ending}")?;
+    Ok(u8::from(ending.end != End::Whole))
+}
+
+/// Says of each journal how many records it has and how it ends. The status is the worst of all.
+pub fn check(rt: &HostRuntime, names: &[&str]) -> u8 {
+    let mut worst = 0;
+    for name in names {
+        worst = worst.max(status(rt, name, check_one(rt, name)));
+    }
+    worst
+}
+
+// What is behind the records, in a file beside the journal.
+fn copy_rest(journal: &mut File, copy: &mut File, taken: u64) -> io::Result<u64> {
+    journal.seek(SeekFrom::Start(taken))?;
+    let len = io::copy(journal, copy)?;
+    copy.sync_all()?;
+    Ok(len)
+}
+
+// What is behind the records goes to a file beside the journal, which isn't there yet, and then from the journal. A copy
+// that fails goes away, and the journal stays.
+fn cut(rt: &HostRuntime, name: &str, journal: &mut File, taken: u64) -> io::Result<u64> {
+    let beside = format!(in rt.alloc(); "{name}.cut")?;
+    let mut copy = OpenOptions::new()
+        .write(true)
+        .create_new(true)
+        .open(rt, beside.as_str())?;
+    match copy_rest(journal, &mut copy, taken) {
+        Ok(len) => {
+            journal.set_len(taken)?;
+            journal.sync_all()?;
+            Ok(len)
+        }
+        Err(error) => {
+            let _ = fs::remove_file(rt, beside.as_str());
+            Err(error)
+        }
+    }
+}
+
+fn repair_file(rt: &HostRuntime, name: &str, force: bool) -> io::Result<u8> {
+    if is_strange(rt, name) {
+        say(rt, name, "no regular file");
+        return Ok(3);
+    }
+    let mut journal = OpenOptions::new().read(true).write(true).open(rt, name)?;
+    lock(rt, name, &journal)?;
+    let Ending {
+        found,
+        taken,
+        end,
+        ..
+    } = Ending::read(rt.alloc(), &mut journal, MOST)?;
+    if end == End::Damaged && !force {
+        say(
+            rt,
+            name,
+            "the journal is damaged: --force cuts off all behind its records",
+        );
+        return Ok(1);
+    }
+    if end == End::Whole {
+        writeln!(
+            rt.stdout(),
+            "{name}: {found} records in {taken} bytes, nothing to repair"
+        )?;
+        return Ok(0);
+    }
+    let len = cut(rt, name, &mut journal, taken)?;
+    writeln!(
+        rt.stdout(),
+        "{name}: {found} records in {taken} bytes are left, {len} bytes are in {name}.cut"
+    )?;
+    Ok(0)
+}
+
+/// Cuts off what is torn behind the records of a journal, or damaged where that is forced. It is copied first.
+pub fn repair(rt: &HostRuntime, name: &str, force: bool) -> u8 {
+    status(rt, name, repair_file(rt, name, force))
+}

@@ -1,0 +1,5 @@
+use Rattle.iobufs_owner.proofs.WorldSteps.Sole.{tells-unique}
+use Rattle.iobufs_owner.proofs.laws.unique_law.Goals as goal
+
+pub returns : goal.returns
+returns c = λ w next step reply s. tells-unique w next step reply s

@@ -1,0 +1,28 @@
+use Rattle.std.proofs.Common.{arith}
+use Rattle.std.proofs.lemmas.Grind.{common_steps}
+use Rattle.iobufs_owner.specs.Runs.{Runs}
+use Rattle.iobufs_owner.proofs.Soundness.Promised.{promises-of}
+use Rattle.iobufs_owner.proofs.WorldSteps.FourthStep.{ends-in-four, near-start}
+use Rattle.iobufs_owner.proofs.WorldSteps.Run.{runs-step}
+use Rattle.iobufs_owner.proofs.WorldSteps.Reserved.{find}
+use Rattle.iobufs_owner.proofs.owner.Machine.run_into.Goals as goal
+
+pub loop-step-preserved : goal.loop-step-preserved
+loop-step-preserved c = record {
+  runs = rw c.push_reserved.ensures.items (runs-step _ c.args.self.now c.args.steps.now c.loop-step.step-index c.loop-step.replies.items c.loop-step.self c.step.result c.step.new.self c.loop-step-test.true c.loop-step.invariant.runs (record { moves = c.step.ensures.moves; steps = c.step.ensures.steps; sound = c.step.ensures.sound; promises = c.step.ensures.promises; room = c.step.ensures.room }));
+  room = omega arith;
+  made = omega arith;
+}
+
+pub returns-clause-promises : goal.returns-clause-promises
+returns-clause-promises c = promises-of _ c.known-2.ensures
+
+pub returns-clause-ends : goal.returns-clause-ends
+returns-clause-ends c =
+    let r : Runs c.args.self.now c.args.steps.now c.loop-step.replies.items c.loop-step.self = grind (arith, common_steps) in
+    λ p. ends-in-four c.args.self.now c.loop-step.self p _ c.args.steps.now c.loop-step.replies.items r (near-start c.args.self.now.state p)
+
+pub returns-clause-within : goal.returns-clause-within
+returns-clause-within c =
+    let r : Runs c.args.self.now c.args.steps.now c.loop-step.replies.items c.loop-step.self = grind (arith, common_steps) in
+    find c.args.self.now c.args.steps.now c.loop-step.replies.items c.loop-step.self r

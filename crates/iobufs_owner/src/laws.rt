@@ -1,0 +1,42 @@
+//! What follows of runs.
+ghost use Rattle.std.specs.Prelude.{ℕ, List, length};
+ghost use Rattle.iobufs_owner.specs.declared.owner.types.Reply.{Reply};
+ghost use Rattle.iobufs_owner.specs.declared.owner.types.Step.{Step};
+ghost use Rattle.iobufs_owner.specs.Causes.{cause_of, may_take, IsCaused};
+ghost use Rattle.iobufs_owner.specs.Reserved.{IsReserved, FindRoom};
+ghost use Rattle.iobufs_owner.specs.Reading.{reading};
+ghost use Rattle.iobufs_owner.specs.Runs.{Runs, EndsInFour, taken_of};
+ghost use Rattle.iobufs_owner.specs.State.{Seen, KeepsLogs};
+ghost use Rattle.iobufs_owner.specs.Steps.{Steps};
+ghost use Rattle.iobufs_owner.specs.Tells.{TellsUnique};
+ghost use Rattle.iobufs_owner.specs.World.{World, going_at};
+
+/// A run of a machine that has room for the handles and records of its steps is refused for want of room only in steps that
+/// make a block.
+pub fn room_law()
+    ensures { (m next : Seen) → (steps : List Step) → (replies : List Reply) → Runs m steps replies next
+        → IsReserved m (length steps) → FindRoom steps replies }
+{}
+
+/// A step is refused by the cause that stands against it, and otherwise only for memory that it is denied or for want of room.
+pub fn cause_law()
+    ensures { (w next : World) → (step : Step) → (reply : Reply) → Steps w step reply next
+        → IsCaused (may_take step.act) (cause_of w step) reply }
+{}
+
+/// `IsUnique` answers true exactly where no other handle and no unfinished drop holds the block.
+pub fn unique_law()
+    ensures { (w next : World) → (step : Step) → (reply : Reply) → Steps w step reply next → TellsUnique w step reply }
+{}
+
+/// A call ends with its fourth taken step at the latest.
+pub fn ends_law()
+    ensures { (m next : Seen) → (steps : List Step) → (replies : List Reply) → Runs m steps replies next
+        → (p : ℕ) → EndsInFour p (taken_of (going_at (reading m.state) p)) steps replies }
+{}
+
+/// What is freed in a run is logged behind what was freed before.
+pub fn logs_law()
+    ensures { (m next : Seen) → (steps : List Step) → (replies : List Reply) → Runs m steps replies next
+        → KeepsLogs m.state next.state }
+{}

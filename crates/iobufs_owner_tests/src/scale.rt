@@ -1,0 +1,47 @@
+// A thousand times what a session has.
+use iobufs_owner::format::FORMAT_64;
+use iobufs_owner::owner::{Act, Call, Machine, Reply, Step};
+use std::test::Fail;
+
+const CEILING: u64 = 9223372036854775807;
+
+fn begin(call: Call) -> Step {
+    Step {
+        party: 0,
+        act: Act::Begin(call, true),
+    }
+}
+
+#[test]
+fn five_thousand_blocks(rt: HostRuntime) -> Result<(), Fail> {
+    let mut machine = Machine::new(rt.alloc(), 1, CEILING, FORMAT_64)?;
+    for handle in 0..5000 {
+        let base = 64 * (handle as u64 + 1);
+        assert_eq!(rt;
+            machine.step(begin(Call::New(base, 16, 1))),
+            Reply::Made(handle)
+        );
+    }
+    assert_eq!(rt;
+        machine.step(begin(Call::IsUnique(4999))),
+        Reply::Unique(true)
+    );
+    Ok(())
+}
+
+#[test]
+fn a_hundred_thousand_steps(rt: HostRuntime) -> Result<(), Fail> {
+    let mut machine = Machine::new(rt.alloc(), 1, CEILING, FORMAT_64)?;
+    let mut steps = Vec::new(rt.alloc());
+    steps.push(begin(Call::New(64, 16, 1)))?;
+    for _ in 1..100000 {
+        steps.push(begin(Call::IsUnique(0)))?;
+    }
+    let replies = machine.run(rt.alloc(), steps.as_slice())?;
+    assert_eq!(rt; replies.len(), 100000);
+    assert_eq!(rt; replies.as_slice().first(), Some(&Reply::Made(0)));
+    for reply in replies.iter().skip(1) {
+        assert_eq!(rt; *reply, Reply::Unique(true));
+    }
+    Ok(())
+}

@@ -1,0 +1,6 @@
+mod BehindLaws
+mod FrontLaws
+mod LineLaws
+mod ScanLaws
+mod StaysLaws
+mod TextLaws

@@ -1,0 +1,4 @@
+pub mod Behind
+pub mod Ending
+pub mod Lines
+pub mod Scan

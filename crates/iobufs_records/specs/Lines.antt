@@ -1,0 +1,102 @@
+-- Lines that become the records of a journal.
+--     lines_of      the lines of a text
+--     IsAppended    these lines went to a writer as records, and why no more of them
+use Rattle.std.specs.Prelude.{◌≡◌, ◌⊎◌, ℕ, ◌+◌, ◌<◌, ◌≤◌, ◌==◌, if◌then◌else◌, Bool, true, false, Option, List, [], ◌∷◌, ◌++◌, length, take, drop}
+use Rattle.std.specs.Io.KnownBytes.{Appends, Keeps}
+use Rattle.iobufs_core.specs.Part.{part_capacity}
+use Rattle.iobufs_uses.specs.Journal.{AreShort, records_written}
+use Rattle.iobufs_records.specs.declared.lines.Lines.{Lines}
+use Rattle.iobufs_records.specs.declared.lines.Tail.{Tail}
+
+-- a byte in front of the first line, or a line of its own
+abbrev pub with_first : ℕ → List (List ℕ) → List (List ℕ)
+with_first byte [] = (byte ∷ []) ∷ []
+with_first byte (line ∷ lines) = (byte ∷ line) ∷ lines
+
+-- the lines of a text: a 10 ends each, which the last may lack
+abbrev pub lines_of : List ℕ → List (List ℕ)
+lines_of [] = []
+lines_of (byte ∷ bytes) = if byte == 10 then [] ∷ lines_of bytes else with_first byte (lines_of bytes)
+
+-- no line ends in these bytes
+abbrev pub HasNoEnd : List ℕ → Type 0
+HasNoEnd [] = Unit {0}
+HasNoEnd (byte ∷ bytes) = ((byte == 10) ≡ false) × HasNoEnd bytes
+
+-- a line that is taken from the front of bytes, and its end
+pub record IsLine (bytes : List ℕ) (at : ℕ) : Type 0 where
+  pub inside : at < length bytes
+  pub free : HasNoEnd (take at bytes)
+  pub whole : bytes ≡ take at bytes ++ 10 ∷ drop (at + 1) bytes
+
+-- how many bytes a record may have behind its length
+abbrev pub most_bytes : ℕ
+most_bytes = 1048576
+
+-- some bytes went from those that are held to a writer, and these were put behind them
+pub record IsPut (held holds : Option (List ℕ)) (old new bytes : List ℕ) : Type 0 where
+  pub went : List ℕ
+  pub grew : Appends held holds went
+  pub whole : old ++ bytes ≡ went ++ new
+
+-- The last line that was taken from a piece may go on: it isn't too long, or what is left of the piece wasn't looked at
+abbrev pub IsOpen : List ℕ → List ℕ → Bool → Type 0
+IsOpen line left true = most_bytes < 12 + length line
+IsOpen line left false = (left ≡ []) × (12 + length line ≤ most_bytes)
+
+-- Lines were taken from a piece behind a line that was begun, and then a line was begun, whatever is behind the piece
+pub record AreTaken (old piece : List ℕ) (lines : List (List ℕ)) (new : List ℕ) (is_long : Bool) : Type 0 where
+  pub left : List ℕ
+  pub whole : (behind : List ℕ) → lines_of (old ++ (piece ++ behind)) ≡ lines ++ lines_of (new ++ (left ++ behind))
+  pub free : HasNoEnd new
+  pub open_so : IsOpen new left is_long
+  pub short : AreShort most_bytes lines
+
+-- records went behind those that are held, as many as a number grew
+pub record ArePut (held holds : Option (List ℕ)) (old new : Tail) (lines : List (List ℕ)) : Type 0 where
+  pub put : IsPut held holds old.out.filled new.out.filled (records_written old.number lines)
+  pub counted : new.number ≡ old.number + length lines
+  pub room : part_capacity new.out ≡ part_capacity old.out
+
+-- the line that was begun went as a record, and another begins; or it is too long, and nothing changed
+abbrev pub IsEnded : Option (List ℕ) → Option (List ℕ) → Lines → Lines → Bool → Type 0
+IsEnded held holds old new true = (most_bytes < 12 + length old.begun.items) × (new ≡ old) × Keeps held holds
+IsEnded held holds old new false = (12 + length old.begun.items ≤ most_bytes) × (new.begun.items ≡ []) × ArePut held holds old.tail new.tail (old.begun.items ∷ [])
+
+-- the lines of a piece went as records
+pub record TakesLines (held holds : Option (List ℕ)) (piece : List ℕ) (old new : Lines) (is_long : Bool) : Type 0 where
+  pub lines : List (List ℕ)
+  pub taken : AreTaken old.begun.items piece lines new.begun.items is_long
+  pub put : ArePut held holds old.tail new.tail lines
+
+-- the same where a line that was begun is the last, unless there is none
+abbrev pub IsFinished : Option (List ℕ) → Option (List ℕ) → Lines → Lines → Bool → Type 0
+IsFinished held holds old new is_long =
+    ((0 < length old.begun.items) × IsEnded held holds old new is_long) ⊎ ((old.begun.items ≡ []) × (new ≡ old) × Keeps held holds × (is_long ≡ false))
+
+-- a line that is too long stands behind those that were taken
+pub record HasLongLine (text : List ℕ) (taken : List (List ℕ)) : Type 0 where
+  pub line : List ℕ
+  pub more : List (List ℕ)
+  pub next : lines_of text ≡ taken ++ line ∷ more
+  pub long : most_bytes < 12 + length line
+
+-- why no more lines were taken: one is too long, or there are none
+abbrev pub IsLast : List ℕ → List (List ℕ) → Bool → Type 0
+IsLast text taken true = HasLongLine text taken
+IsLast text taken false = lines_of text ≡ taken
+
+-- the lines of a text went as records
+pub record TakesAll (held holds : Option (List ℕ)) (text : List ℕ) (old new : Lines) (is_long : Bool) : Type 0 where
+  pub lines : List (List ℕ)
+  pub put : ArePut held holds old.tail new.tail lines
+  pub short : AreShort most_bytes lines
+  pub last : IsLast text lines is_long
+
+-- Lines of a text went to a writer as records, numbered from one on; so many, and all of them but where one is too long
+pub record IsAppended (text : List ℕ) (first count : ℕ) (is_long : Bool) (held holds : Option (List ℕ)) : Type 0 where
+  pub taken : List (List ℕ)
+  pub short : AreShort most_bytes taken
+  pub put : Appends held holds (records_written first taken)
+  pub counted : count ≡ length taken
+  pub last : IsLast text taken is_long

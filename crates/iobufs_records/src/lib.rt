@@ -1,0 +1,12 @@
+//! Journals that are read and written piece by piece.
+//!
+//! - `front`: the record that stands in front of a text. `scan`: a journal that is read from its front, of which no more
+//!   is held than a record takes. `lines`: lines that become records. `behind`: records behind a place where none
+//!   stands. `ending`: how a journal ends.
+#![tactic(auto)]
+
+pub mod behind;
+pub mod ending;
+pub mod front;
+pub mod lines;
+pub mod scan;

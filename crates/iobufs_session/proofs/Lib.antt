@@ -1,0 +1,6 @@
+pub mod Contents
+pub mod Endings
+pub mod MachineLaws
+pub mod Sessions
+pub mod TakenLines
+pub mod Taking

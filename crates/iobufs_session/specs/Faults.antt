@@ -1,0 +1,74 @@
+-- What may fail in a session, and what stands where it does.
+use Rattle.std.specs.Prelude.{◌≡◌, ℕ, ◌-◌, ◌^◌, Bool, true, take, length, List, ◌∷◌, ◌++◌, Option, Some, Result, Ok, Err, IsUtf8, ⊤}
+use Rattle.std.specs.Io.KnownBytes.{Appends, Keeps}
+use Rattle.std.specs.Str.Lines.{lines}
+use Rattle.iobufs_session.specs.declared.fault.Fault.{Fault}
+use Rattle.iobufs_session.specs.declared.fault.Fault.TheVariants.{Reading, Writing, Memory, NotText, TooManyLines}
+
+-- reading may fail for want of memory, or where the reader may fail, or a writer to which something is sent before
+abbrev pub ReadFails : (reads writes : Bool) → Fault → Type 0
+ReadFails reads writes Reading = reads ≡ true
+ReadFails reads writes Writing = writes ≡ true
+ReadFails reads writes Memory = ⊤
+ReadFails reads writes NotText = ⊥
+ReadFails reads writes TooManyLines = ⊥
+
+-- writing may fail for want of memory, or where the writer may fail
+abbrev pub WriteFails : (writes : Bool) → Fault → Type 0
+WriteFails writes Reading = ⊥
+WriteFails writes Writing = writes ≡ true
+WriteFails writes Memory = ⊤
+WriteFails writes NotText = ⊥
+WriteFails writes TooManyLines = ⊥
+
+-- sending off takes no memory, and fails where the writer may
+abbrev pub SendFails : (writes : Bool) → Fault → Type 0
+SendFails writes fault = (fault ≡ Writing) × (writes ≡ true)
+
+-- a session may fail by each of these, and by its lines
+abbrev pub MayFail : (reads writes : Bool) → Fault → Type 0
+MayFail reads writes Reading = reads ≡ true
+MayFail reads writes Writing = writes ≡ true
+MayFail reads writes Memory = ⊤
+MayFail reads writes NotText = ⊤
+MayFail reads writes TooManyLines = ⊤
+
+-- a writer takes a text: all of it, or a front of it where it fails, and nothing for want of memory
+abbrev pub Takes : (old new : Option (List ℕ)) → List ℕ → Result (Unit {0}) Fault → Type 0
+Takes old new text (Ok done) = Appends old new text
+Takes old new text (Err Reading) = ⊥
+Takes old new text (Err Writing) = (n : ℕ) × Appends old new (take n text)
+Takes old new text (Err Memory) = Keeps old new
+Takes old new text (Err NotText) = ⊥
+Takes old new text (Err TooManyLines) = ⊥
+
+-- the line behind so many others
+pub record LineAt (input : List ℕ) (count : ℕ) (line : List ℕ) : Type 0 where
+  pub front : List (List ℕ)
+  pub behind : List (List ℕ)
+  pub split : lines input ≡ front ++ line ∷ behind
+  pub counts : length front ≡ count
+
+-- the line behind so many others is text
+abbrev pub IsTextAt : (input : List ℕ) → (count : ℕ) → Type 0
+IsTextAt input count = (line : List ℕ) × LineAt input count line × IsUtf8 line
+
+-- what is known of a writer is a front of these bytes
+pub record IsFrontOf (whole : List ℕ) (written : Option (List ℕ)) : Type 0 where
+  pub front : List ℕ
+  pub rest : List ℕ
+  pub split : whole ≡ front ++ rest
+  pub written_is : written ≡ Some front
+
+-- The input holds more lines than are counted
+abbrev pub most_lines : ℕ
+most_lines = 2 ^ 64 - 2
+
+-- A session that can't go on, by what failed. `answered count written` says that so many lines of the input, the first
+-- ones, were answered, and that this is what was written
+abbrev pub Halts : (answered : ℕ → Option (List ℕ) → Type 0) → (input : List ℕ) → (written : Option (List ℕ)) → Fault → Type 0
+Halts answered input written Reading = (count : ℕ) × answered count written
+Halts answered input written Writing = (count : ℕ) × (whole : List ℕ) × answered count (Some whole) × IsFrontOf whole written
+Halts answered input written Memory = (count : ℕ) × answered count written
+Halts answered input written NotText = (count : ℕ) × answered count written × (line : List ℕ) × LineAt input count line × (IsUtf8 line → ⊥)
+Halts answered input written TooManyLines = answered most_lines written

@@ -1,0 +1,6 @@
+pub mod Faults
+pub mod Halves
+pub mod Lines
+pub mod MachineSession
+pub mod Session
+pub mod Stops

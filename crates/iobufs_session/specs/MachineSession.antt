@@ -1,0 +1,59 @@
+-- A session with an owner machine: what it reads, and what it prints.
+use Rattle.std.specs.Prelude.{◌≡◌, ◌⊎◌, ℕ, ◌+◌, List, Option, Some, None, Result, Ok, Err, ⊤}
+use Rattle.iobufs_owner.specs.Promises.{Promises}
+use Rattle.iobufs_owner.specs.State.{Seen}
+use Rattle.iobufs_owner_lines.specs.declared.line.Ask.{Ask}
+use Rattle.iobufs_owner_lines.specs.declared.line.Setup.{Setup}
+use Rattle.iobufs_owner_lines.specs.Said.{ask_of, setup_of}
+use Rattle.iobufs_owner_lines.specs.Session.{AllAnswered, Answered, AnsweredUpTo, Answers, line_of, machine_of}
+use Rattle.iobufs_words.specs.declared.words.LineError.{LineError}
+use Rattle.iobufs_words.specs.declared.words.LineError.TheVariants.{NoCommand, Memory}
+use Rattle.iobufs_session.specs.Faults.{Halts, IsTextAt}
+use Rattle.iobufs_session.specs.Stops.{status_of}
+use Rattle.iobufs_session.specs.declared.fault.Stop.{Stop}
+use Rattle.iobufs_session.specs.declared.fault.Stop.TheVariants.{BadCommand, CannotContinue, OtherWords}
+
+-- a line asks for a machine, which is made as it is promised
+pub record Begun (line : List ℕ) (m : Seen) : Type 0 where
+  pub setup : Setup
+  pub asks_for : setup_of line ≡ Some setup
+  pub begins : m.state ≡ machine_of setup
+  pub promises : Promises m.state
+
+-- the first line asks for a machine, which is made
+abbrev pub Begins : (line : List ℕ) → Result Seen LineError → Type 0
+Begins line (Ok m) = Begun line m
+Begins line (Err NoCommand) = setup_of line ≡ None
+Begins line (Err Memory) = ⊤
+
+-- a line asks something, and is answered by a text, which is printed as a line
+pub record AskAnswered (line : List ℕ) (old new : Seen) (printed : List ℕ) : Type 0 where
+  pub ask : Ask
+  pub text : List ℕ
+  pub says : ask_of line ≡ Some ask
+  pub answers : Answers old ask text new
+  pub prints : printed ≡ line_of text
+
+-- a line that asks something is answered
+abbrev pub AnswersLine : (line : List ℕ) → (old new : Seen) → (printed : List ℕ) → Result (Unit {0}) LineError → Type 0
+AnswersLine line old new printed (Ok done) = AskAnswered line old new printed
+AnswersLine line old new printed (Err NoCommand) = ask_of line ≡ None
+AnswersLine line old new printed (Err Memory) = ⊤
+
+-- so many lines were answered, whatever the others ask; where none was, nothing is written
+abbrev pub AnsweredFirst : (input before : List ℕ) → ℕ → Option (List ℕ) → Type 0
+AnsweredFirst input before count written =
+    ((count ≡ 0) × (written ≡ Some before)) ⊎ ((left : List (Option Ask)) × Answered input before left written count)
+
+-- At the end of the input each line was answered, at a line that asks nothing each before it, and that line is text.
+-- Where a session can't go on, lines were answered up to there
+abbrev pub ServesMachine : (input before : List ℕ) → (written : Option (List ℕ)) → Result (Unit {0}) Stop → Type 0
+ServesMachine input before written (Ok done) = AllAnswered input before written
+ServesMachine input before written (Err (BadCommand number)) = (count : ℕ) × (number ≡ count + 1) × AnsweredUpTo count input before written × IsTextAt input count
+ServesMachine input before written (Err (CannotContinue fault)) = Halts (AnsweredFirst input before) input written fault
+ServesMachine input before written (Err OtherWords) = ⊥
+
+-- the same by the status
+abbrev pub HasMachineStatus : (input before : List ℕ) → (written : Option (List ℕ)) → (status : ℕ) → Type 0
+HasMachineStatus input before written status =
+    (ended : Result (Unit {0}) Stop) × (status ≡ status_of ended) × ServesMachine input before written ended

@@ -1,0 +1,26 @@
+-- Why a session ends, as it is told and by its status.
+use Rattle.std.specs.Prelude.{◌≡◌, ◌⊎◌, ℕ, List, ◌++◌, codes, Result, Ok, Err}
+use Rattle.std.specs.Fmt.{decimal}
+use Rattle.iobufs_session.specs.declared.fault.Stop.{Stop}
+use Rattle.iobufs_session.specs.declared.fault.Stop.TheVariants.{BadCommand, CannotContinue, OtherWords}
+
+-- why a session ends, as it is told
+abbrev pub stop_text : Stop → List ℕ
+stop_text (BadCommand number) = codes "line " ++ decimal number ++ codes ": bad command"
+stop_text (CannotContinue fault) = codes "cannot continue"
+stop_text OtherWords = codes "usage: iobuf buf or iobuf owner"
+
+-- the same as a line
+abbrev pub stop_line : Stop → List ℕ
+stop_line stop = stop_text stop ++ codes "\n"
+
+-- 0 at the end of the input, 2 for a line that is no command and for other words, 3 where a session couldn't go on
+abbrev pub status_of : Result (Unit {0}) Stop → ℕ
+status_of (Ok done) = 0
+status_of (Err (BadCommand number)) = 2
+status_of (Err (CannotContinue fault)) = 3
+status_of (Err OtherWords) = 2
+
+-- one of the three
+abbrev pub IsStatus : ℕ → Type 0
+IsStatus status = (status ≡ 0) ⊎ (status ≡ 2) ⊎ (status ≡ 3)

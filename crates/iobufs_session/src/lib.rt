@@ -1,0 +1,21 @@
+//! Sessions: commands on named buffers, or steps of the owner machine, a line each, and a reply to each.
+//!
+//! - `serve`: a session of either half, over any reader and writers, or over bytes in memory.
+//! - `input`: the lines of an input, one by one. `output`: where replies go. `fault`: why a session ends early.
+//! - `specs/`: `Session` and `MachineSession` say what a session answers, `Faults` what stands where it can't go on.
+#![tactic(auto)]
+
+#[cfg(test)]
+mod buf_tests;
+pub mod fault;
+pub mod input;
+pub mod output;
+#[cfg(test)]
+mod owner_tests;
+#[cfg(test)]
+mod sample_tests;
+#[cfg(test)]
+mod schedule_tests;
+pub mod serve;
+#[cfg(test)]
+mod serve_tests;

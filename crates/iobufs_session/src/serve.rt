@@ -1,0 +1,157 @@
+//! A session of either half: over any reader and writers, or over bytes in memory.
+ghost use Rattle.std.specs.Prelude.{◌≡◌, ◌≢◌, [], ◌∷◌, codes, map, true, false, Ok, Err, Some, None, IfErr, IfNone, IfSome, OnOk};
+ghost use Rattle.std.specs.Io.KnownBytes.{Appends};
+ghost use Rattle.iobufs_session.specs.Halves.{IsSentAtEnd, MayEnd, ServesHalf, word_of};
+ghost use Rattle.iobufs_session.specs.MachineSession.{HasMachineStatus, ServesMachine};
+ghost use Rattle.iobufs_session.specs.Session.{HasStatus, Serves};
+ghost use Rattle.iobufs_session.specs.Stops.{IsStatus, stop_line};
+ghost use Rattle.iobufs_session.specs.declared.fault.Stop.TheVariants.{OtherWords};
+
+mod buffers;
+mod machine;
+
+use crate::fault::{Fault, Stop, status, tell};
+use crate::input::{InMemory, Input, Source};
+use crate::output::Sink;
+use std::alloc::Global;
+use std::io::{self, Read, Write};
+
+/// The two halves of the program.
+#[derive(Clone, Copy, Debug, PartialEq, Eq, Drop)]
+pub enum Half {
+    /// Commands on named buffers.
+    Buffers,
+    /// Steps of the owner machine.
+    Machine,
+}
+
+// Answers each line of the input.
+fn serve_half<I: Source, O: Sink>(
+    alloc: Global,
+    half: Half,
+    input: &mut I,
+    output: &mut O,
+) -> Result<(), Stop>
+    ensures serves { IfSome (I.unread input.old) (λ read. IfSome (O.contents output.old) (λ before.
+        ServesHalf half read before (O.contents output.new) result)) }
+    ensures end { MayEnd I.can_fail O.can_fail result }
+{
+    match half {
+        Half::Buffers => buffers::serve(alloc, input, output),
+        Half::Machine => machine::serve(alloc, input, output),
+    }
+}
+
+/// Answers each line of the input, and sends off the last replies.
+pub fn run<I: Source, O: Sink>(
+    alloc: Global,
+    half: Half,
+    input: &mut I,
+    output: &mut O,
+) -> Result<(), Stop>
+    ensures serves { IfSome (I.unread input.old) (λ read. IfSome (O.contents output.old) (λ before.
+        ServesHalf half read before (O.contents output.new) result)) }
+    ensures end { MayEnd I.can_fail O.can_fail result }
+    ensures sent { IsSentAtEnd result (O.is_sent output.new) }
+{
+    let served = serve_half(alloc, half, input, output);
+    if let Err(fault) = output.send() {
+        return Err(Stop::CannotContinue(fault));
+    }
+    served
+}
+
+// The same over a reader.
+fn over_reader<R: Read + Drop, O: Sink>(
+    alloc: Global,
+    half: Half,
+    input: R,
+    output: &mut O,
+) -> Result<(), Stop>
+    ensures serves { IfSome (R.remaining input) (λ read. IfSome (O.contents output.old) (λ before.
+        ServesHalf half read before (O.contents output.new) result)) }
+    ensures end { MayEnd true O.can_fail result }
+    ensures sent { OnOk result (O.is_sent output.new ≡ true) }
+{
+    let mut input = match Input::new(alloc, input) {
+        Ok(input) => input,
+        Err(_) => return Err(Stop::CannotContinue(Fault::Memory)),
+    };
+    run(alloc, half, &mut input, output)
+}
+
+// The half that the words behind the program's name ask for.
+fn half_of(args: &[&str]) -> Option<Half>
+    ensures asks { IfSome result (λ half. map (λ arg. arg.now) args.now ≡ word_of half ∷ []) }
+    ensures none { IfNone result ((map (λ arg. arg.now) args.now ≢ codes "buf" ∷ []) × (map (λ arg. arg.now) args.now ≢ codes "owner" ∷ [])) }
+{
+    match args {
+        ["buf"] => Some(Half::Buffers),
+        ["owner"] => Some(Half::Machine),
+        _ => None,
+    }
+}
+
+/// Runs the program on the words behind its name, and tells `errors` why it ends before the end of the input. Beside
+/// the reason stands whether `errors` took what it was told.
+pub fn session<R: Read + Drop, O: Sink, E: Write>(
+    alloc: Global,
+    args: &[&str],
+    input: &mut R,
+    output: &mut O,
+    errors: &mut E,
+) -> (Result<(), Stop>, io::Result<()>)
+    ensures buffers { map (λ arg. arg.now) args.now ≡ codes "buf" ∷ [] → IfSome (R.remaining input.old) (λ read.
+        IfSome (O.contents output.old) (λ before. Serves read before (O.contents output.new) result.0)) }
+    ensures machine { map (λ arg. arg.now) args.now ≡ codes "owner" ∷ [] → IfSome (R.remaining input.old) (λ read.
+        IfSome (O.contents output.old) (λ before. ServesMachine read before (O.contents output.new) result.0)) }
+    ensures usage { map (λ arg. arg.now) args.now ≢ codes "buf" ∷ [] → map (λ arg. arg.now) args.now ≢ codes "owner" ∷ []
+        → (result.0 ≡ Err OtherWords) × (input.new ≡ input.old) × (output.new ≡ output.old) }
+    ensures sent { OnOk result.0 (O.is_sent output.new ≡ true) }
+    ensures told { IfErr result.0 (λ stop. OnOk result.1 (Appends (E.contents errors.old) (E.contents errors.new) (stop_line stop))) }
+    ensures silent { OnOk result.0 (errors.new ≡ errors.old) }
+{
+    let ended = match half_of(args) {
+        Some(half) => over_reader(alloc, half, input, output),
+        None => Err(Stop::OtherWords),
+    };
+    let told = match &ended {
+        Ok(()) => Ok(()),
+        Err(stop) => tell(stop, errors),
+    };
+    (ended, told)
+}
+
+/// The status of a session. A fault in writing to `errors` changes nothing.
+pub fn serve<R: Read + Drop, O: Sink, E: Write>(
+    alloc: Global,
+    args: &[&str],
+    input: R,
+    output: &mut O,
+    errors: &mut E,
+) -> u8
+    ensures known { IsStatus result }
+    ensures buffers { map (λ arg. arg.now) args.now ≡ codes "buf" ∷ [] → IfSome (R.remaining input) (λ read.
+        IfSome (O.contents output.old) (λ before. HasStatus read before (O.contents output.new) result)) }
+    ensures machine { map (λ arg. arg.now) args.now ≡ codes "owner" ∷ [] → IfSome (R.remaining input) (λ read.
+        IfSome (O.contents output.old) (λ before. HasMachineStatus read before (O.contents output.new) result)) }
+    ensures usage { map (λ arg. arg.now) args.now ≢ codes "buf" ∷ [] → map (λ arg. arg.now) args.now ≢ codes "owner" ∷ []
+        → (result ≡ 2) × (output.new ≡ output.old) }
+    ensures sent { result ≡ 0 → O.is_sent output.new ≡ true }
+    ensures silent { result ≡ 0 → errors.new ≡ errors.old }
+{
+    let mut input = input;
+    let (ended, _) = session(alloc, args, &mut input, output, errors);
+    status(&ended)
+}
+
+/// A session over bytes in memory: how it ends, and what it prints.
+pub fn in_memory(alloc: Global, half: Half, input: &[u8]) -> (Result<(), Stop>, Vec<u8>)
+    ensures serves { ServesHalf half input.now [] (Some result.1.items) result.0 }
+    ensures end { MayEnd false false result.0 }
+{
+    let mut input = InMemory::new(alloc, input);
+    let mut output = Vec::new(alloc);
+    let ended = run(alloc, half, &mut input, &mut output);
+    (ended, output)
+}

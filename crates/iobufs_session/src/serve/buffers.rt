@@ -1,0 +1,70 @@
+// Named buffers, line by line.
+ghost use Rattle.std.specs.Prelude.{IfErr, IfSome};
+ghost use Rattle.iobufs_session.specs.Halves.{MayEnd};
+ghost use Rattle.iobufs_session.specs.Session.{AnswersLine, Serves};
+
+use crate::fault::{Fault, Stop};
+use crate::input::{Source, text};
+use crate::output::Sink;
+use iobufs_lines::line::command;
+use iobufs_lines::reply::Line;
+use iobufs_run::table::Table;
+use iobufs_words::words::LineError;
+use std::alloc::Global;
+use std::io::Write;
+
+// How many names there are.
+const NAMES: usize = 16;
+
+// Answers one line, and prints its reply.
+fn answer(
+    alloc: Global,
+    table: &mut Table,
+    line: &str,
+    reply: &mut Vec<u8>,
+) -> Result<(), LineError>
+    ensures { AnswersLine line.now table.old table.new reply.new.items result }
+{
+    let cmd = match command(alloc, line) {
+        Ok(cmd) => cmd,
+        Err(error) => return Err(error),
+    };
+    let answered = table.apply(&cmd);
+    reply.clear();
+    match writeln!(reply, "{}", Line(&answered)) {
+        Ok(()) => Ok(()),
+        Err(_) => Err(LineError::Memory),
+    }
+}
+
+/// Answers each line of the input by a table of named buffers.
+pub fn serve<I: Source, O: Sink>(alloc: Global, input: &mut I, output: &mut O) -> Result<(), Stop>
+    ensures serves { IfSome (I.unread input.old) (λ read. IfSome (O.contents output.old) (λ before.
+        Serves read before (O.contents output.new) result)) }
+    ensures end { MayEnd I.can_fail O.can_fail result }
+{
+    let Ok(mut table) = Table::new(alloc, NAMES) else {
+        return Err(Stop::CannotContinue(Fault::Memory));
+    };
+    let mut reply = Vec::new(alloc);
+    for number in 1..u64::MAX {
+        match input.read_line(output) {
+            Ok(true) => {}
+            Ok(false) => return Ok(()),
+            Err(fault) => return Err(Stop::CannotContinue(fault)),
+        }
+        let line = match text(input.line()) {
+            Ok(line) => line,
+            Err(fault) => return Err(Stop::CannotContinue(fault)),
+        };
+        match answer(alloc, &mut table, line, &mut reply) {
+            Ok(()) => {}
+            Err(LineError::NoCommand) => return Err(Stop::BadCommand(number)),
+            Err(LineError::Memory) => return Err(Stop::CannotContinue(Fault::Memory)),
+        }
+        if let Err(fault) = output.take(&reply) {
+            return Err(Stop::CannotContinue(fault));
+        }
+    }
+    Err(Stop::CannotContinue(Fault::TooManyLines))
+}

@@ -1,0 +1,41 @@
+// Each text that a cause prints, in one table.
+use iobufs_core::buf::IoBuf;
+use iobufs_core::codec::{BufError, Error, Refused, TryGetError};
+use std::alloc::Global;
+use std::fmt::Display;
+use std::test::Fail;
+
+// Whether a cause prints so.
+fn prints<C: Display>(alloc: Global, cause: &C, wanted: &str) -> Result<bool, Fail> {
+    Ok(format!(in alloc; "{cause}")?.as_str() == wanted)
+}
+
+#[test]
+fn causes_print_their_names(rt: HostRuntime) -> Result<(), Fail> {
+    let alloc = rt.alloc();
+    assert!(rt; prints(alloc, &BufError::Memory, "Memory")?);
+    assert!(rt; prints(alloc, &BufError::BadLayout, "BadLayout")?);
+    assert!(rt; prints(alloc, &BufError::TooLong, "TooLong")?);
+    assert!(rt; prints(alloc, &Error::EndOfBuffer, "EndOfBuffer")?);
+    assert!(rt; prints(alloc, &Error::InvalidVarint, "InvalidVarint")?);
+    assert!(rt; prints(alloc, &Error::InvalidLength(7), "InvalidLength")?);
+    assert!(rt; prints(alloc, &Error::Memory, "Memory")?);
+    assert!(rt; prints(alloc, &Error::BadLayout, "BadLayout")?);
+    assert!(rt; prints(alloc, &Error::TooLong, "TooLong")?);
+    let short = TryGetError {
+        requested: 3,
+        available: 2,
+    };
+    assert!(rt; prints(alloc, &short, "TryGetError")?);
+    Ok(())
+}
+
+#[test]
+fn a_refused_argument_prints_its_cause(rt: HostRuntime) -> Result<(), Fail> {
+    let refused = Refused {
+        cause: BufError::TooLong,
+        value: IoBuf::default(),
+    };
+    assert!(rt; prints(rt.alloc(), &refused, "TooLong")?);
+    Ok(())
+}
