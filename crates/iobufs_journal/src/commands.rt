@@ -1,7 +1,8 @@
 // The commands, on files. What they read and write is proved in `iobufs_records`.
-use iobufs_records::ending::Ending;
+use crate::progress::Progress;
+use iobufs_records::ending::{self, Ending};
 use iobufs_records::lines::{self, Appended, MOST, MOST_LINE};
-use iobufs_records::scan::Scan;
+use iobufs_records::scan::{Scan, read_piece};
 use iobufs_uses::journal::End;
 use std::alloc::Global;
 use std::fs::{self, File, OpenOptions};
@@ -52,12 +53,10 @@ fn is_enough(ahead: &[u8]) -> bool {
 // least.
 fn first_line<R: Read>(alloc: Global, from: &mut R) -> io::Result<Vec<u8>> {
     let mut ahead = Vec::new(alloc);
-    let mut piece = Vec::new(alloc);
-    piece.resize(1 << 16, 0)?;
     for _ in 0..=MOST_LINE {
-        let n = from.read(&mut piece)?;
-        ahead.extend_from_slice(&piece[..n])?;
-        if n == 0 || is_enough(ahead.as_slice()) {
+        let piece = read_piece(alloc, from)?;
+        ahead.extend_from_slice(&piece)?;
+        if piece.is_empty() || is_enough(ahead.as_slice()) {
             return Ok(ahead);
         }
     }
@@ -88,7 +87,8 @@ fn append_locked<R: Read>(
 ) -> io::Result<u8> {
     let alloc = rt.alloc();
     let mut scan = Scan::new();
-    match scan.print(alloc, journal, MOST, &mut io::sink())? {
+    let mut told = Progress::new(rt, name, journal)?;
+    match scan.print(alloc, &mut told, MOST, &mut io::sink())? {
         End::Whole => {}
         End::Torn => {
             say(
@@ -156,18 +156,14 @@ fn replay_from(rt: &HostRuntime, name: &str, all: bool) -> io::Result<u8> {
     let alloc = rt.alloc();
     let mut journal = fs::open(rt, name)?;
     let mut output = BufWriter::new(alloc, rt.stdout())?;
-    let mut scan = Scan::new();
-    let end = scan.print(alloc, &mut journal, MOST, &mut output)?;
-    if all && end != End::Whole {
-        scan.print_behind(alloc, &mut journal, MOST, &mut output)?;
-    }
+    let end = ending::replay(alloc, &mut journal, MOST, all, &mut output)?;
     output.flush()?;
     match end {
-        End::Whole => return Ok(0),
+        End::Whole => {}
         End::Torn => say(rt, name, "the journal is torn"),
         End::Damaged => say(rt, name, "the journal is damaged"),
     }
-    Ok(1)
+    Ok(ending::status(end))
 }
 
 /// Prints the records of a journal, a line each, and where all are wanted those behind damage too.
@@ -176,9 +172,9 @@ pub fn replay(rt: &HostRuntime, name: &str, all: bool) -> u8 {
 }
 
 fn check_one(rt: &HostRuntime, name: &str) -> io::Result<u8> {
-    let ending = Ending::read(rt.alloc(), &mut fs::open(rt, name)?, MOST)?;
-    writeln!(rt.stdout(), "{name}: {ending}")?;
-    Ok(u8::from(ending.end != End::Whole))
+    let mut journal = fs::open(rt, name)?;
+    let mut told = Progress::new(rt, name, &mut journal)?;
+    ending::check(rt.alloc(), name, &mut told, MOST, &mut rt.stdout())
 }
 
 /// Says of each journal how many records it has and how it ends. The status is the worst of all.
@@ -231,7 +227,11 @@ fn repair_file(rt: &HostRuntime, name: &str, force: bool) -> io::Result<u8> {
         taken,
         end,
         ..
-    } = Ending::read(rt.alloc(), &mut journal, MOST)?;
+    } = Ending::read(
+        rt.alloc(),
+        &mut Progress::new(rt, name, &mut journal)?,
+        MOST,
+    )?;
     if end == End::Damaged && !force {
         say(
             rt,

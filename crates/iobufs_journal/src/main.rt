@@ -2,6 +2,7 @@
 #![tactic(auto)]
 
 mod commands;
+mod progress;
 
 use std::env;
 use std::io::{self, Write};

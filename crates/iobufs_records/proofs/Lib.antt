@@ -1,4 +1,5 @@
 mod BehindLaws
+mod EndingLaws
 mod FrontLaws
 mod LineLaws
 mod ScanLaws

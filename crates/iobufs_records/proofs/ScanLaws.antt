@@ -1,14 +1,15 @@
 -- A journal that is read piece by piece.
-use Rattle.std.specs.Prelude.{◌≡◌, ℕ, suc, ◌+◌, ◌-◌, ◌^◌, ◌<◌, ◌≤◌, Bool, false, Option, None, Some, IfSome, IfOk, IfErr, Result, Ok, Err, List, [], ◌∷◌, ◌++◌, length, refl}
+use Rattle.std.specs.Prelude.{◌≡◌, ℕ, suc, ◌+◌, ◌-◌, ◌^◌, ◌<◌, ◌≤◌, Bool, false, Option, None, Some, IfSome, IfOk, IfErr, Result, Ok, Err, List, [], ◌∷◌, ◌++◌, length, drop, refl}
 use Rattle.std.specs.Io.KnownBytes.{Appends, Consumes, IsAtEnd}
 use Rattle.std.proofs.Common.{arith, ap, sym, subst, ◌∙◌, append_assoc, append-nil, length-append}
+use Rattle.std.proofs.Math.Seq.{drop-append_seam}
 use Rattle.std.proofs.lemmas.Bool.Decides.{nat_tests}
 use Rattle.std.proofs.lemmas.List.{nil_from_length}
 use Rattle.iobufs_core.specs.View.{View}
 use Rattle.iobufs_uses.specs.Journal.{AreShort, HasNoRecord, record_written, records_written}
 use Rattle.iobufs_uses.specs.declared.journal.End.{End}
 use Rattle.iobufs_uses.specs.declared.journal.End.TheVariants.{Damaged}
-use Rattle.iobufs_records.specs.Scan.{IsFilled, IsNext, IsPrinted, IsRead, printed}
+use Rattle.iobufs_records.specs.Scan.{IsFilled, IsLeft, IsNext, IsPrinted, IsRead, printed}
 use Rattle.iobufs_records.specs.declared.front.Found.{Found}
 use Rattle.iobufs_records.specs.declared.scan.Scan.{Scan}
 use Rattle.iobufs_records.proofs.StaysLaws.{stays_damaged}
@@ -224,3 +225,18 @@ all_printed most (Some text) (Some middle) (Some left) held holds old new end ne
       counted = number ∙ counted;
       summed = taken ∙ so_far.read.summed;
     }
+
+-- what is held and what is left stand behind the records
+pub all_left : (most : ℕ) (a b c held holds : Option (List ℕ)) (old new : Scan) (end : End) (next : Result View End) → IsPrinting most a b held holds old
+    → next ≡ Err end → IsNext most b c old new next → IfSome a (λ text. IsLeft new text c)
+all_left most None b c held holds old new end next so_far e step = tt
+all_left most (Some text) None c held holds old new end next so_far e step = absurd so_far.read.took
+all_left most (Some text) (Some middle) None held holds old new end next so_far e step = absurd step.took
+all_left most (Some text) (Some middle) (Some left) held holds old new end next so_far e step =
+    let is = subst (IsNext most (Some middle) (Some left) old new) e step in
+    let (same, number, taken, none) = is.front in
+    let records = records_written 0 so_far.found in
+    let behind : old.window.bytes ++ middle ≡ new.window.bytes ++ left =
+    ap (λ w. old.window.bytes ++ w) is.took ∙ sym (append_assoc old.window.bytes is.read left) ∙ ap (λ w. w ++ left) same in
+    let whole : text ≡ records ++ (new.window.bytes ++ left) = so_far.read.took ∙ append_assoc records old.window.bytes middle ∙ ap (λ w. records ++ w) behind in
+    ap (λ k. drop k text) (taken ∙ so_far.read.summed) ∙ ap (drop (length records)) whole ∙ drop-append_seam records (new.window.bytes ++ left)

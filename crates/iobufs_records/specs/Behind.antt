@@ -1,10 +1,33 @@
 -- Records that stand behind a place where the journal is torn or damaged.
-use Rattle.std.specs.Prelude.{◌≡◌, ℕ, ◌+◌, ◌≤◌, Option, None, Some, List, [], ◌∷◌, ◌++◌, length, drop}
-use Rattle.std.specs.Io.KnownBytes.{Appends, Consumes}
+--     StandsInFront   a whole record with a near number stands in front of a text
+--     AreNone         none stands at any byte of a gap
+--     IsFirst         the first record of a text
+--     AreBehind       all of them, one behind the other
+use Rattle.std.specs.Prelude.{◌≡◌, ◌⊎◌, ℕ, ◌+◌, ◌^◌, ◌<◌, ◌≤◌, Option, None, Some, IfSome, List, [], ◌∷◌, ◌++◌, length, drop}
+use Rattle.std.specs.Io.KnownBytes.{Appends, Consumes, IsAtEnd}
 use Rattle.iobufs_core.specs.View.{View}
 use Rattle.iobufs_uses.specs.Journal.{record_written}
 use Rattle.iobufs_records.specs.Scan.{printed}
 use Rattle.iobufs_records.specs.declared.scan.Scan.{Scan}
+
+-- a number from the one that is looked for on, and not too far above it
+abbrev pub IsNear : ℕ → ℕ → Type 0
+IsNear least number = (least ≤ number) × (number ≤ least + 2 ^ 32)
+
+-- a whole record with a near number stands in front of a text
+pub record StandsInFront (most least : ℕ) (text : List ℕ) : Type 0 where
+  pub number : ℕ
+  pub body : List ℕ
+  pub behind : List ℕ
+  pub whole : text ≡ record_written number body ++ behind
+  pub small : number < 2 ^ 64
+  pub near : IsNear least number
+  pub short : 12 + length body ≤ most
+
+-- none stands at any byte of a gap that is in front of a text
+abbrev pub AreNone : ℕ → ℕ → List ℕ → List ℕ → Type 0
+AreNone most least [] text = Unit {0}
+AreNone most least (byte ∷ gap) text = (StandsInFront most least ((byte ∷ gap) ++ text) → ⊥) × AreNone most least gap text
 
 -- a whole record stands behind some bytes, and has at least this number
 pub record StandsBehind (most least : ℕ) (text body : List ℕ) (number : ℕ) (behind : List ℕ) : Type 0 where
@@ -13,11 +36,19 @@ pub record StandsBehind (most least : ℕ) (text body : List ℕ) (number : ℕ)
   pub least_so : least ≤ number
   pub short : 12 + length body ≤ most
 
--- these records stand in a text, one behind the other, and their numbers grow
+-- the first record of a text: none stands in front of it
+pub record IsFirst (most least : ℕ) (text body : List ℕ) (number : ℕ) (behind : List ℕ) : Type 0 where
+  pub gap : List ℕ
+  pub whole : text ≡ gap ++ (record_written number body ++ behind)
+  pub none : AreNone most least gap (record_written number body ++ behind)
+  pub near : IsNear least number
+  pub short : 12 + length body ≤ most
+
+-- these are all records that stand in a text, one behind the other, each with a number near the next one
 abbrev pub AreBehind : ℕ → ℕ → List ℕ → List (List ℕ) → Type 0
-AreBehind most least text [] = Unit {0}
+AreBehind most least text [] = AreNone most least text []
 AreBehind most least text (body ∷ bodies) =
-    (number : ℕ) × (behind : List ℕ) × StandsBehind most least text body number behind × AreBehind most (number + 1) behind bodies
+    (number : ℕ) × (behind : List ℕ) × IsFirst most least text body number behind × AreBehind most (number + 1) behind bodies
 
 -- more bytes were read behind those that are held
 pub record IsHeld (had has : Option (List ℕ)) (old new : Scan) : Type 0 where
@@ -26,18 +57,23 @@ pub record IsHeld (had has : Option (List ℕ)) (old new : Scan) : Type 0 where
   pub grew : new.window.bytes ≡ old.window.bytes ++ read
   pub number_same : new.number ≡ old.number
 
+-- a record of any size that stands in front is held, or all is
+abbrev pub IsEnough : ℕ → Option (List ℕ) → Scan → Type 0
+IsEnough most has scan = (most + 10 ≤ length scan.window.bytes) ⊎ IsAtEnd has
+
 -- one byte went from the front of what is held
 pub record IsSkipped (old new : Scan) : Type 0 where
   pub window : new.window.bytes ≡ drop 1 old.window.bytes
   pub number_same : new.number ≡ old.number
 
--- the next of them is taken from what is held and read behind it
+-- the first of them is taken from what is held and what is read behind it, or none stands there
 abbrev pub IsSought : ℕ → Option (List ℕ) → Option (List ℕ) → Scan → Scan → Option View → Type 0
-IsSought most had has old new None = Unit {0}
+IsSought most had has old new None = IsAtEnd has × IfSome had (λ text. AreNone most old.number (old.window.bytes ++ text) [])
 IsSought most had has old new (Some body) =
     (read : List ℕ) × (number : ℕ) × Consumes had has read × StandsBehind most old.number (old.window.bytes ++ read) body.bytes number new.window.bytes × (new.number ≡ number + 1)
+    × IfSome had (λ text. IfSome has (λ left. IsFirst most old.number (old.window.bytes ++ text) body.bytes number (new.window.bytes ++ left)))
 
--- records that stand in a text were printed and counted
+-- all records that stand in a text were printed and counted
 pub record ArePrinted (most least : ℕ) (text : List ℕ) (held holds : Option (List ℕ)) (count : ℕ) : Type 0 where
   pub found : List (List ℕ)
   pub are : AreBehind most least text found

@@ -2,7 +2,8 @@
 --     IsRead       what was read so far is these records, and then what is held
 --     IsNext       one step: more may have been read, and a record went from what is held, or there is none
 --     IsPrinted    the records of a journal were printed and counted, and it ends so behind them
-use Rattle.std.specs.Prelude.{◌≡◌, ℕ, ◌+◌, ◌^◌, ◌<◌, ◌≤◌, Bool, false, nat_lt, IfSome, Option, Result, Ok, Err, List, [], ◌∷◌, ◌++◌, length}
+--     IsLeft       what is behind them is held, or still to be read
+use Rattle.std.specs.Prelude.{◌≡◌, ℕ, ◌+◌, ◌^◌, ◌<◌, ◌≤◌, Bool, false, nat_lt, IfSome, Option, None, Some, Result, Ok, Err, List, [], ◌∷◌, ◌++◌, length, drop}
 use Rattle.std.specs.Io.KnownBytes.{Appends, Consumes, IsAtEnd}
 use Rattle.iobufs_core.specs.View.{View}
 use Rattle.iobufs_uses.specs.Journal.{AreShort, HasNoRecord, IsJournal, record_written, records_written}
@@ -53,3 +54,8 @@ pub record IsPrinted (most : ℕ) (text : List ℕ) (held holds : Option (List �
   pub put : Appends held holds (printed found)
   pub counted : records ≡ length found
   pub summed : bytes ≡ length (records_written 0 found)
+
+-- what is behind the records of a text is held, or still to be read
+abbrev pub IsLeft : Scan → List ℕ → Option (List ℕ) → Type 0
+IsLeft scan text None = ⊥
+IsLeft scan text (Some left) = drop scan.taken text ≡ scan.window.bytes ++ left

@@ -1,7 +1,8 @@
 // Records behind a place where none stands.
-ghost use Rattle.std.specs.Prelude.{◌≡◌, ◌+◌, ◌<◌, ◌≤◌, ◌++◌, length, IfOk, IfSome, OnOk};
+ghost use Rattle.std.specs.Prelude.{◌≡◌, ℕ, ◌+◌, ◌^◌, ◌<◌, ◌≤◌, ◌++◌, ◌↔◌, nat_lt, length, take, IfNone, IfOk, IfSome, IsTrue, OnOk};
+ghost use Rattle.std.specs.Int.{w64, from_be_bytes};
 ghost use Rattle.iobufs_uses.specs.Journal.{record_written};
-ghost use Rattle.iobufs_records.specs.Behind.{ArePrinted, IsHeld, IsSkipped, IsSought};
+ghost use Rattle.iobufs_records.specs.Behind.{ArePrinted, IsEnough, IsHeld, IsNear, IsSkipped, IsSought, StandsInFront};
 
 use crate::scan::{Scan, fill, out_of_memory, print_line, too_large};
 use iobufs_core::buf::IoBuf;
@@ -24,7 +25,10 @@ struct Numbered {
 }
 
 // The number that a frame begins with, if it has room for a record.
-fn number_of(framed: &[u8]) -> Option<u64> {
+fn number_of(framed: &[u8]) -> Option<u64>
+    ensures some { IfSome result (λ number. number ≡ from_be_bytes w64 (take 8 framed.now)) }
+    ensures none { IfNone result (length framed.now < 12) }
+{
     if framed.len() < 12 {
         return None;
     }
@@ -35,10 +39,17 @@ fn number_of(framed: &[u8]) -> Option<u64> {
 
 // The number of a frame, if it is near enough.
 fn near_number(framed: &[u8], least: u64) -> Option<u64>
-    ensures { IfSome result (λ number. least ≤ number) }
+    ensures some { IfSome result (λ number. (number ≡ from_be_bytes w64 (take 8 framed.now)) × IsNear least number) }
+    ensures none { IfNone result (12 ≤ length framed.now → IsNear least (from_be_bytes w64 (take 8 framed.now)) → ⊥) }
 {
     let number = number_of(framed)?;
     (number >= least && number - least <= MOST_LOST).then_some(number)
+}
+
+fn is_memory(error: Error) -> bool
+    ensures { IsTrue result ↔ (error ≡ Error.Memory) }
+{
+    matches!(error, Error::Memory)
 }
 
 // The record in front of a text, if its number is near enough.
@@ -50,15 +61,20 @@ fn numbered_front(
 ) -> Result<Option<Numbered>, BufError>
     ensures found { IfOk result (λ found. IfSome found (λ f. text.now.bytes ≡ record_written f.number f.body.bytes ++ f.rest.bytes)) }
     ensures short { IfOk result (λ found. IfSome found (λ f. 12 + length f.body.bytes ≤ most)) }
-    ensures near { IfOk result (λ found. IfSome found (λ f. least ≤ f.number)) }
+    ensures near { IfOk result (λ found. IfSome found (λ f. IsNear least f.number)) }
+    ensures none { IfOk result (λ found. IfNone found (StandsInFront most least text.now.bytes → ⊥)) }
 {
     let Ok(mut rest) = text.clone() else {
         return Err(BufError::Memory);
     };
     let framed = match IoBuf::read_cfg(alloc, &mut rest, &RangeCfg { lo: 0, hi: most }) {
         Ok(framed) => framed,
-        Err(Error::Memory) => return Err(BufError::Memory),
-        Err(_) => return Ok(None),
+        Err(error) => {
+            if is_memory(error) {
+                return Err(BufError::Memory);
+            }
+            return Ok(None);
+        }
     };
     let Some(number) = near_number(framed.as_ref(), least) else {
         return Ok(None);
@@ -74,7 +90,8 @@ impl Scan {
     fn sealed_front(&self, alloc: Global, most: usize) -> io::Result<Option<Numbered>>
         ensures found { IfOk result (λ found. IfSome found (λ f. self.now.window.bytes ≡ record_written f.number f.body.bytes ++ f.rest.bytes)) }
         ensures short { IfOk result (λ found. IfSome found (λ f. 12 + length f.body.bytes ≤ most)) }
-        ensures near { IfOk result (λ found. IfSome found (λ f. self.now.number ≤ f.number)) }
+        ensures near { IfOk result (λ found. IfSome found (λ f. IsNear self.now.number f.number)) }
+        ensures none { IfOk result (λ found. IfNone found (StandsInFront most self.now.number self.now.window.bytes → ⊥)) }
     {
         match numbered_front(alloc, &self.window, self.number, most) {
             Ok(found) => Ok(found),
@@ -103,11 +120,20 @@ impl Scan {
         Ok(())
     }
 
-    // Reads until so many bytes are held, or all.
-    fn hold<R: Read>(&mut self, alloc: Global, from: &mut R, room: usize) -> io::Result<()>
-        ensures { OnOk result (IsHeld (R.remaining from.old) (R.remaining from.new) self.old self.new) }
+    // Whether a record of any size that stands in front may not be held.
+    fn is_short(&self, most: usize) -> bool
+        ensures { result ≡ nat_lt (length self.now.window.bytes) (most + 10) }
     {
-        while self.window.len() < room {
+        let len = self.window.len();
+        len < most || len - most < 10
+    }
+
+    // Reads until a record of any size that stands in front is held, or all.
+    fn hold<R: Read>(&mut self, alloc: Global, from: &mut R, most: usize) -> io::Result<()>
+        ensures held { OnOk result (IsHeld (R.remaining from.old) (R.remaining from.new) self.old self.new) }
+        ensures enough { OnOk result (IsEnough most (R.remaining from.new) self.new) }
+    {
+        while self.is_short(most) {
             if !fill(alloc, &mut self.window, from)? {
                 return Ok(());
             }
@@ -125,7 +151,7 @@ impl Scan {
         ensures { IfOk result (IsSought most (R.remaining from.old) (R.remaining from.new) self.old self.new) }
     {
         for _ in 0..u64::MAX {
-            self.hold(alloc, from, most.saturating_add(10))?;
+            self.hold(alloc, from, most)?;
             if self.window.is_empty() {
                 return Ok(None);
             }

@@ -1,12 +1,13 @@
 // How a journal ends, read to its end.
-ghost use Rattle.std.specs.Prelude.{◌≡◌, codes, IfOk, IfSome};
-ghost use Rattle.iobufs_records.specs.Ending.{HasEnding, end_words};
+ghost use Rattle.std.specs.Prelude.{◌≡◌, ◌++◌, nat_lt, if◌then◌else◌, codes, IfOk, IfSome};
+ghost use Rattle.iobufs_uses.specs.declared.journal.End.TheVariants.{Damaged};
+ghost use Rattle.iobufs_records.specs.Ending.{AreFurtherPrinted, HasEnding, IsChecked, IsReplayed, end_words, status_of};
 
 use crate::scan::Scan;
 use iobufs_uses::journal::End;
 use std::alloc::Global;
 use std::fmt;
-use std::io::{self, Read};
+use std::io::{self, Read, Write};
 
 /// How many records a journal has, and how it ends behind them. It is damaged where whole records stand further on.
 #[derive(Clone, Copy, Debug, PartialEq, Eq)]
@@ -21,19 +22,40 @@ pub struct Ending {
     pub behind: u64,
 }
 
+// Prints the records that stand behind a place where a journal isn't at its end, and says how many.
+fn print_further<R: Read, W: Write>(
+    alloc: Global,
+    scan: &mut Scan,
+    first: End,
+    from: &mut R,
+    most: usize,
+    to: &mut W,
+) -> io::Result<u64>
+    ensures { IfOk result (λ count. IfSome (R.remaining from.old) (λ left. AreFurtherPrinted most scan.old.number (scan.old.window.bytes ++ left) first (W.contents to.old) (W.contents to.new) count)) }
+{
+    match first {
+        End::Whole => Ok(0),
+        End::Torn | End::Damaged => scan.print_behind(alloc, from, most, to),
+    }
+}
+
+// How a journal ends that has so many whole records further on.
+fn end_before(first: End, behind: u64) -> End
+    ensures { result ≡ if nat_lt 0 behind then Damaged else first }
+{
+    if behind > 0 { End::Damaged } else { first }
+}
+
 impl Ending {
     /// Reads a journal of records of at most `most` bytes behind their lengths, from its front.
     pub fn read<R: Read>(alloc: Global, from: &mut R, most: usize) -> io::Result<Ending>
         ensures { IfOk result (λ ending. IfSome (R.remaining from.old) (λ text. HasEnding most text ending)) }
     {
         let mut scan = Scan::new();
-        let end = scan.print(alloc, from, most, &mut io::sink())?;
+        let first = scan.print(alloc, from, most, &mut io::sink())?;
         let (found, taken) = (scan.number, scan.taken);
-        let behind = match end {
-            End::Whole => 0,
-            End::Torn | End::Damaged => scan.print_behind(alloc, from, most, &mut io::sink())?,
-        };
-        let end = if behind > 0 { End::Damaged } else { end };
+        let behind = print_further(alloc, &mut scan, first, from, most, &mut io::sink())?;
+        let end = end_before(first, behind);
         Ok(Ending {
             found,
             taken,
@@ -41,6 +63,51 @@ impl Ending {
             behind,
         })
     }
+}
+
+/// The exit status of a program that read a journal: 0 where it is whole, and 1 else.
+pub fn status(end: End) -> u8
+    ensures { result ≡ status_of end }
+{
+    match end {
+        End::Whole => 0,
+        End::Torn | End::Damaged => 1,
+    }
+}
+
+/// Prints how a journal ends, a line behind its name, and answers the status.
+pub fn check<R: Read, W: Write>(
+    alloc: Global,
+    name: &str,
+    from: &mut R,
+    most: usize,
+    to: &mut W,
+) -> io::Result<u8>
+    ensures { IfOk result (λ status. IfSome (R.remaining from.old) (λ text. IsChecked most name.now text (W.contents to.old) (W.contents to.new) status)) }
+{
+    let ending = Ending::read(alloc, from, most)?;
+    writeln!(to, "{name}: {ending}")?;
+    Ok(status(ending.end))
+}
+
+/// Prints the records of a journal, a line each, and where all are wanted those that stand behind damage too. Answers how
+/// it ends behind those in front.
+pub fn replay<R: Read, W: Write>(
+    alloc: Global,
+    from: &mut R,
+    most: usize,
+    all: bool,
+    to: &mut W,
+) -> io::Result<End>
+    ensures { IfOk result (λ end. IfSome (R.remaining from.old) (λ text. IsReplayed most all text (W.contents to.old) (W.contents to.new) end)) }
+{
+    let mut scan = Scan::new();
+    let end = scan.print(alloc, from, most, to)?;
+    if !all {
+        return Ok(end);
+    }
+    print_further(alloc, &mut scan, end, from, most, to)?;
+    Ok(end)
 }
 
 // What stands behind the records.

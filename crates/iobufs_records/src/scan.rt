@@ -1,8 +1,10 @@
 // A journal that is read from its front, piece by piece.
-ghost use Rattle.std.specs.Prelude.{◌≡◌, ℕ, ◌+◌, ◌^◌, ◌<◌, ◌≤◌, ◌++◌, List, [], ◌∷◌, length, IfErr, IfOk, IfSome, OnOk, vec_len};
+ghost use Rattle.std.specs.Prelude.{◌≡◌, ◌≢◌, ℕ, ◌+◌, ◌^◌, ◌<◌, ◌≤◌, ◌++◌, List, [], ◌∷◌, length, take, IfErr, IfOk, IfSome, OnOk, vec_len};
+ghost use Rattle.std.specs.IoError.{error_kind};
+ghost use Rattle.std.specs.declared.io.ErrorKind.TheVariants.{FileTooLarge, Interrupted};
 ghost use Rattle.std.specs.Io.KnownBytes.{Appends, Consumes, IsAtEnd};
 ghost use Rattle.iobufs_uses.specs.Journal.{HasNoRecord, record_written};
-ghost use Rattle.iobufs_records.specs.Scan.{IsFilled, IsNext, IsPrinted, IsRead};
+ghost use Rattle.iobufs_records.specs.Scan.{IsFilled, IsLeft, IsNext, IsPrinted, IsRead};
 
 use crate::front::{Found, front_record};
 use iobufs_core::buf::IoBuf;
@@ -42,14 +44,34 @@ pub(crate) fn out_of_memory(_error: BufError) -> io::Error {
     io::Error::from(ErrorKind::OutOfMemory)
 }
 
-// Reads once.
-pub(crate) fn read_piece<R: Read>(alloc: Global, from: &mut R) -> io::Result<Vec<u8>>
+// Reads once, and again where a signal interrupts it.
+fn read_again<R: Read>(from: &mut R, piece: &mut [u8]) -> io::Result<usize>
+    ensures bound { IfOk result (λ n. n ≤ length piece.new) }
+    ensures took { IfOk result (λ n. Consumes (R.remaining from.old) (R.remaining from.new) (take n piece.new)) }
+    ensures end { IfOk result (λ n. n ≡ 0 → 0 < length piece.old → IsAtEnd (R.remaining from.new)) }
+    ensures retried { IfErr result (λ error. error_kind error ≢ Interrupted) }
+{
+    for _ in 0..u64::MAX {
+        match from.read(piece) {
+            Ok(n) => return Ok(n),
+            Err(error) => {
+                if error.kind() != ErrorKind::Interrupted {
+                    return Err(error);
+                }
+            }
+        }
+    }
+    Err(too_large())
+}
+
+/// Reads at most 64 KiB by one read, which is tried again where a signal interrupts it. Nothing comes at the end alone.
+pub fn read_piece<R: Read>(alloc: Global, from: &mut R) -> io::Result<Vec<u8>>
     ensures took { IfOk result (λ piece. Consumes (R.remaining from.old) (R.remaining from.new) piece.items) }
     ensures end { IfOk result (λ piece. vec_len piece ≡ 0 → IsAtEnd (R.remaining from.new)) }
 {
     let mut piece = Vec::new(alloc);
     piece.resize(PIECE, 0)?;
-    let n = from.read(&mut piece)?;
+    let n = read_again(from, &mut piece)?;
     piece.truncate(n);
     Ok(piece)
 }
@@ -67,7 +89,9 @@ pub(crate) fn fill<R: Read>(alloc: Global, window: &mut IoBuf, from: &mut R) -> 
     Ok(!piece.is_empty())
 }
 
-pub(crate) fn too_large() -> io::Error {
+pub(crate) fn too_large() -> io::Error
+    ensures { error_kind result ≡ FileTooLarge }
+{
     io::Error::from(ErrorKind::FileTooLarge)
 }
 
@@ -142,7 +166,8 @@ impl Scan {
         to: &mut W,
     ) -> io::Result<End>
         requires { (self.old.window.bytes ≡ []) × (self.old.number ≡ 0) × (self.old.taken ≡ 0) }
-        ensures { IfOk result (λ end. IfSome (R.remaining from.old) (λ text. IsPrinted most text (W.contents to.old) (W.contents to.new) self.new.number self.new.taken end)) }
+        ensures printed { IfOk result (λ end. IfSome (R.remaining from.old) (λ text. IsPrinted most text (W.contents to.old) (W.contents to.new) self.new.number self.new.taken end)) }
+        ensures left { OnOk result (IfSome (R.remaining from.old) (λ text. IsLeft self.new text (R.remaining from.new))) }
     {
         loop {
             match self.next(alloc, from, most)? {
