@@ -48,7 +48,11 @@ mod builder;
 #[cfg(test)]
 mod commands;
 #[cfg(test)]
+mod each;
+#[cfg(test)]
 mod frames;
+#[cfg(test)]
+mod kinds;
 #[cfg(test)]
 mod machine;
 #[cfg(test)]
