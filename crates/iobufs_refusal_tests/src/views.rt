@@ -1,5 +1,5 @@
-// Calls of `IoBuf`.
-use crate::made::{native, twin_of};
+// Calls of `IoBuf`: those on each kind of storage are in `kinds`.
+use crate::made::native;
 use crate::word::{Word, end, ensure, say};
 use bytes::{Bytes, BytesMut};
 use iobufs_core::buf::IoBuf;
@@ -78,69 +78,6 @@ fn from_bytes_mut(rt: HostRuntime) -> Result<(), Fail> {
 }
 
 #[test]
-fn clone_of_a_native_view(rt: HostRuntime) -> Result<(), Fail> {
-    let view = fixture!(rt, native(rt.alloc(), 8, b"abc"));
-    let (twin, word) = lent!(
-        twin_of(&view),
-        BufError::Memory,
-        view.as_ref() == b"abc".as_slice()
-    );
-    end(&rt, word, twin == view)
-}
-
-#[test]
-fn clone_of_bytes(rt: HostRuntime) -> Result<(), Fail> {
-    let view = IoBuf::from(fixture!(rt, Bytes::copy_from_slice(rt.alloc(), b"abc")));
-    let (twin, word) = lent!(
-        twin_of(&view),
-        BufError::Memory,
-        view.as_ref() == b"abc".as_slice()
-    );
-    end(&rt, word, twin == view)
-}
-
-#[test]
-fn clone_of_a_static_view(rt: HostRuntime) -> Result<(), Fail> {
-    let view = IoBuf::from(b"abc".as_slice());
-    let (twin, word) = lent!(
-        twin_of(&view),
-        BufError::Memory,
-        view.as_ref() == b"abc".as_slice()
-    );
-    end(&rt, word, twin == view)
-}
-
-#[test]
-fn slice_of_a_native_view(rt: HostRuntime) -> Result<(), Fail> {
-    let view = fixture!(rt, native(rt.alloc(), 8, b"abcd"));
-    let (part, word) = lent!(
-        slice(&view, Included(1), Excluded(3)),
-        BufError::Memory,
-        view.as_ref() == b"abcd".as_slice()
-    );
-    end(
-        &rt,
-        word,
-        part.as_ref() == b"bc".as_slice() && view.as_ref() == b"abcd".as_slice(),
-    )
-}
-
-#[test]
-fn slice_of_bytes(rt: HostRuntime) -> Result<(), Fail> {
-    let view = IoBuf::from(fixture!(rt, Bytes::copy_from_slice(rt.alloc(), b"abcd")));
-    let (part, word) = lent!(
-        slice(&view, Included(1), Excluded(3)),
-        BufError::Memory,
-        view.as_ref() == b"abcd".as_slice()
-    );
-    end(
-        &rt,
-        word,
-        part.as_ref() == b"bc".as_slice() && view.as_ref() == b"abcd".as_slice(),
-    )
-}
-
-#[test]
 fn slice_of_a_static_view(rt: HostRuntime) -> Result<(), Fail> {
     let view = IoBuf::from(b"abcd".as_slice());
     let (part, word) = lent!(
@@ -160,47 +97,6 @@ fn slice_of_an_empty_range(rt: HostRuntime) -> Result<(), Fail> {
         false
     );
     end(&rt, word, part.is_empty())
-}
-
-#[test]
-fn split_of_a_native_view(rt: HostRuntime) -> Result<(), Fail> {
-    let mut view = fixture!(rt, native(rt.alloc(), 8, b"abcd"));
-    let (front, word) = lent!(
-        split(&mut view, 1),
-        BufError::Memory,
-        view.as_ref() == b"abcd".as_slice()
-    );
-    end(
-        &rt,
-        word,
-        front.as_ref() == b"a".as_slice() && view.as_ref() == b"bcd".as_slice(),
-    )
-}
-
-#[test]
-fn split_of_bytes(rt: HostRuntime) -> Result<(), Fail> {
-    let mut view = IoBuf::from(fixture!(rt, Bytes::copy_from_slice(rt.alloc(), b"abcd")));
-    let (front, word) = lent!(
-        split(&mut view, 1),
-        BufError::Memory,
-        view.as_ref() == b"abcd".as_slice()
-    );
-    end(
-        &rt,
-        word,
-        front.as_ref() == b"a".as_slice() && view.as_ref() == b"bcd".as_slice(),
-    )
-}
-
-#[test]
-fn split_of_a_static_view(rt: HostRuntime) -> Result<(), Fail> {
-    let mut view = IoBuf::from(b"abcd".as_slice());
-    let (front, word) = lent!(split(&mut view, 3), BufError::Memory, false);
-    end(
-        &rt,
-        word,
-        front.as_ref() == b"abc".as_slice() && view.as_ref() == b"d".as_slice(),
-    )
 }
 
 #[test]
@@ -297,21 +193,6 @@ fn chunks_vectored(rt: HostRuntime) -> Result<(), Fail> {
 }
 
 #[test]
-fn taken_as_a_view(rt: HostRuntime) -> Result<(), Fail> {
-    let mut view = fixture!(rt, native(rt.alloc(), 8, b"abcd"));
-    let (part, word) = lent!(
-        taken::<IoBuf>(rt.alloc(), &mut view, 1, 2),
-        BufError::Memory,
-        view.as_ref() == b"abcd".as_slice()
-    );
-    end(
-        &rt,
-        word,
-        part.as_ref() == b"bc".as_slice() && view.as_ref() == b"d".as_slice(),
-    )
-}
-
-#[test]
 fn taken_as_bytes(rt: HostRuntime) -> Result<(), Fail> {
     let mut view = fixture!(rt, native(rt.alloc(), 8, b"abcd"));
     let (part, word) = lent!(
@@ -352,16 +233,6 @@ fn view_of_bytes_as_a_view(rt: HostRuntime) -> Result<(), Fail> {
 }
 
 #[test]
-fn view_as_a_view(rt: HostRuntime) -> Result<(), Fail> {
-    let (view, word) = consumed!(
-        rt, native(rt.alloc(), 8, b"abc") => view,
-        <IoBuf as OwnedBytes>::from_view(rt.alloc(), view),
-        BufError::Memory
-    );
-    end(&rt, word, view.as_ref() == b"abc".as_slice())
-}
-
-#[test]
 fn view_as_bytes(rt: HostRuntime) -> Result<(), Fail> {
     let (bytes, word) = consumed!(
         rt, native(rt.alloc(), 8, b"abc") => view,
@@ -383,21 +254,6 @@ fn taken_whole_as_bytes(rt: HostRuntime) -> Result<(), Fail> {
         &rt,
         word,
         bytes.as_slice() == b"abc".as_slice() && view.is_empty(),
-    )
-}
-
-#[test]
-fn taken_whole_as_a_view(rt: HostRuntime) -> Result<(), Fail> {
-    let mut view = fixture!(rt, native(rt.alloc(), 8, b"abc"));
-    let (whole, word) = lent!(
-        <IoBuf as OwnedBytes>::take_view(rt.alloc(), &mut view),
-        BufError::Memory,
-        false
-    );
-    end(
-        &rt,
-        word,
-        whole.as_ref() == b"abc".as_slice() && view.is_empty(),
     )
 }
 
