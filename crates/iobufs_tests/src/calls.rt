@@ -8,6 +8,7 @@ use iobufs_uses::journal::{End, append_record, replay};
 use iobufs_uses::send::send;
 use iobufs_uses::store::store;
 use std::alloc::Global;
+use std::io::{self, ErrorKind, Write};
 use std::test::Fail;
 
 // The bytes of a text.
@@ -53,6 +54,54 @@ fn chunks_are_sent_two_at_a_time(rt: HostRuntime) -> Result<(), Fail> {
     assert!(rt; send(alloc, &mut to, &mut text, 2).is_ok());
     assert_eq!(rt; to.as_slice(), b">abcdef".as_slice());
     assert!(rt; text.is_empty());
+    Ok(())
+}
+
+// A writer that takes all, but for one of its writes, of which so many are before that one.
+#[derive(Drop)]
+struct Refuses {
+    before: usize,
+}
+
+impl Write for Refuses {
+    fn write(&mut self, buf: &[u8]) -> io::Result<usize> {
+        if self.before == 0 {
+            self.before = usize::MAX;
+            return Err(io::Error::from(ErrorKind::StorageFull));
+        }
+        self.before -= 1;
+        Ok(buf.len())
+    }
+
+    fn flush(&mut self) -> io::Result<()> {
+        Ok(())
+    }
+}
+
+// What is left of three chunks where the write behind so many is refused, or `None` where all are sent.
+fn left_behind(alloc: Global, most: usize, before: usize) -> Result<Option<usize>, Fail> {
+    let mut text = pieces(alloc)?;
+    let sent = send(alloc, &mut Refuses { before }, &mut text, most);
+    Ok(sent.is_err().then_some(text.len()))
+}
+
+// Each chunk is a write. A refusal of the first of a batch is the sender's answer; behind it the writer says how many
+// bytes it took before, and the next batch begins there. So the answers tell where batches begin.
+#[test]
+fn batches_begin_where_they_should(rt: HostRuntime) -> Result<(), Fail> {
+    for (most, before, left) in [
+        (1, 0, Some(6)),
+        (1, 1, Some(4)),
+        (1, 2, Some(2)),
+        (2, 0, Some(6)),
+        (2, 1, None),
+        (2, 2, Some(2)),
+        (3, 1, None),
+        (3, 2, None),
+        (3, 3, None),
+    ] {
+        assert_eq!(rt; left_behind(rt.alloc(), most, before)?, left);
+    }
     Ok(())
 }
 

@@ -1,14 +1,18 @@
 // A thousand times what an example has.
 use bytes::Bytes;
 use iobufs::bufs::IoBufs;
+use iobufs::bufs_mut::IoBufsMut;
 use iobufs_core::buf::{IoBuf, IoBufMut};
 use iobufs_core::codec::{Buf, BufMut, OwnedBuf};
+use iobufs_uses::store::store;
 use std::alloc::Global;
 use std::test::Fail;
 
 const PIECES: u16 = 5000;
 
 const MEBIBYTE: usize = 1048576;
+
+const HALF: usize = 524288;
 
 // Pieces of two bytes, each with its number.
 fn numbered(alloc: Global) -> Result<IoBufs, Fail> {
@@ -83,5 +87,30 @@ fn a_mebibyte_is_taken(rt: HostRuntime) -> Result<(), Fail> {
         Some([1, 2].as_slice())
     );
     assert_eq!(rt; (text.len(), text.chunk_count()), (MEBIBYTE - 1, 1));
+    Ok(())
+}
+
+// Two parts of half a mebibyte.
+fn halves(alloc: Global) -> Result<IoBufsMut, Fail> {
+    let mut parts = Vec::new(alloc);
+    parts.push(IoBufMut::with_capacity(alloc, HALF)?)?;
+    parts.push(IoBufMut::with_capacity(alloc, HALF)?)?;
+    Ok(IoBufsMut::from_parts(alloc, parts.into_iter())?)
+}
+
+#[test]
+fn a_mebibyte_is_stored(rt: HostRuntime) -> Result<(), Fail> {
+    let alloc = rt.alloc();
+    let mut bytes = Vec::with_capacity(alloc, 2 * HALF)?;
+    for i in 0..HALF as u32 {
+        bytes.extend_from_slice(&i.to_be_bytes()[2..])?;
+    }
+    bytes.push(b'!')?;
+    let mut from = bytes.as_slice();
+    let text = store(alloc, &mut from, halves(alloc)?)?;
+    assert_eq!(rt; from, b"!".as_slice());
+    assert_eq!(rt; (text.len(), text.chunk_count()), (MEBIBYTE, 2));
+    assert!(rt; text.chunk_at(0) == bytes.as_slice().get(..HALF));
+    assert!(rt; text.chunk_at(1) == bytes.as_slice().get(HALF..MEBIBYTE));
     Ok(())
 }
