@@ -1,2 +1,3 @@
 pub mod Hexes
+pub mod Replies
 pub mod Spelling

@@ -1,13 +1,17 @@
 -- Replies as lines of text.
-use Rattle.std.specs.Prelude.{ℕ, List, ◌++◌, codes, flat_map}
+use Rattle.std.specs.Prelude.{◌≡◌, ℕ, ◌<◌, ◌^◌, List, [], ◌∷◌, ◌++◌, codes, flat_map}
 use Rattle.std.specs.Fmt.{decimal}
+use Rattle.iobufs_core.specs.declared.codec.base.Error.TheVariants as fault
+use Rattle.iobufs_run.specs.Choices.{SameReply}
 use Rattle.iobufs_run.specs.Printed.{refusal_text}
 use Rattle.iobufs_run.specs.declared.command.Kind.{Kind}
 use Rattle.iobufs_run.specs.declared.command.Kind.TheVariants as kind
 use Rattle.iobufs_run.specs.declared.command.Piece.{Piece}
+use Rattle.iobufs_run.specs.declared.command.Refusal.{Refusal}
+use Rattle.iobufs_run.specs.declared.command.Refusal.TheVariants.{Codec}
 use Rattle.iobufs_run.specs.declared.command.Reply.{Reply}
 use Rattle.iobufs_run.specs.declared.command.Reply.TheVariants.{Done, Bytes, Shown, Refused}
-use Rattle.iobufs_words.specs.Spelled.{hex_text}
+use Rattle.iobufs_words.specs.Spelled.{AreBytes, hex_text}
 
 -- the first word of what is shown
 abbrev pub kind_text : Kind → List ℕ
@@ -33,3 +37,28 @@ reply_text (Shown kind pieces) = kind_text kind ++ flat_map (piece_text kind) pi
 -- the line of a reply
 abbrev pub line_of : Reply → List ℕ
 line_of reply = reply_text reply ++ codes "\n"
+
+-- what is printed of a reply: its bytes are bytes, its numbers fit a `usize`, and no piece of a view or a text has room
+abbrev pub PieceFits : Kind → Piece → Type 0
+PieceFits kind.Part piece = AreBytes piece.bytes.items × (piece.spare < 2 ^ 64)
+PieceFits kind.Parts piece = AreBytes piece.bytes.items × (piece.spare < 2 ^ 64)
+PieceFits kind.View piece = AreBytes piece.bytes.items × (piece.spare ≡ 0)
+PieceFits kind.Text piece = AreBytes piece.bytes.items × (piece.spare ≡ 0)
+
+abbrev pub PiecesFit : Kind → List Piece → Type 0
+PiecesFit kind [] = Unit {0}
+PiecesFit kind (piece ∷ pieces) = PieceFits kind piece × PiecesFit kind pieces
+
+abbrev pub RefusalFits : Refusal → Type 0
+RefusalFits (Codec (fault.InvalidLength len)) = len < 2 ^ 64
+RefusalFits refusal = Unit {0}
+
+abbrev pub ReplyFits : Reply → Type 0
+ReplyFits Done = Unit {0}
+ReplyFits (Bytes bytes) = AreBytes bytes
+ReplyFits (Refused refusal) = RefusalFits refusal
+ReplyFits (Shown kind pieces) = PiecesFit kind pieces.items
+
+-- replies with one line say the same
+abbrev pub OneReplyALine : Type 0
+OneReplyALine = (a b : Reply) → ReplyFits a → ReplyFits b → line_of a ≡ line_of b → SameReply a b

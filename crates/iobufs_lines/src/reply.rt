@@ -1,7 +1,7 @@
 // Replies as lines of text.
 ghost use Rattle.std.specs.Prelude.{◌≡◌, ◌≤◌, flat_map, length};
 ghost use Rattle.std.specs.Fmt.{WritesOnOk};
-ghost use Rattle.iobufs_lines.specs.Printed.{kind_text};
+ghost use Rattle.iobufs_lines.specs.Printed.{kind_text, OneReplyALine};
 ghost use Rattle.iobufs_words.specs.Spelled.{two_digits};
 
 use iobufs_run::command::{Kind, Piece, Reply};
@@ -114,3 +114,8 @@ impl fmt::Display for Line<'_> {
         }
     }
 }
+
+/// Does nothing. Its contract is a law: replies that are printed as the same line say the same.
+pub fn reply_law()
+    ensures { OneReplyALine }
+{}

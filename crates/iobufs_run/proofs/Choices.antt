@@ -1,5 +1,5 @@
--- No command leaves another choice open.
-use Rattle.std.proofs.Common.{◌≡◌, ◌≢◌, ℕ, ◌⊎◌, inl, inr, Bool, true, false, IsTrue, Some, None, Ok, Err, List, length, ap, sym, refl, ◌∙◌}
+-- No command leaves another choice open, and what a refusal leaves.
+use Rattle.std.proofs.Common.{◌≡◌, ◌≢◌, ℕ, zero, suc, ◌⊎◌, inl, inr, true, false, IsTrue, Some, None, Ok, Err, List, [], ◌∷◌, length, ap, sym, refl, ◌∙◌}
 use Rattle.iobufs_core.specs.MarkedText.{MarkedText, taken_view}
 use Rattle.iobufs_core.specs.Spelling.{spell}
 use Rattle.iobufs_core.specs.View.{View as ViewValue}
@@ -10,24 +10,21 @@ use Rattle.iobufs_core.specs.declared.codec.base.Error.{Error}
 use Rattle.iobufs_core.specs.ReadLaws.{views_alike}
 use Rattle.iobufs_core.specs.Spelled.{spelled_as_one}
 use Rattle.iobufs_run.specs.declared.table.Slot.{Slot}
-use Rattle.iobufs_run.specs.declared.table.Slot.TheVariants.{View}
+use Rattle.iobufs_run.specs.declared.table.Slot.TheVariants.{Free, View}
 use Rattle.iobufs_run.specs.declared.command.Cmd.{Cmd}
-use Rattle.iobufs_run.specs.declared.command.Cmd.TheVariants.{NewMut, Zeroed, Adopt, Static, FromBytes, Put, Fill, SetLen, Truncate, Clear, Overwrite, Freeze, Recover, Clone, Slice, Split, Advance, Take, Gather, GatherMut, Append, Prepend, Coalesce, Build, Encode, Decode, Drop, Show}
+use Rattle.iobufs_run.specs.declared.command.Cmd.TheVariants.{Adopt, Recover, Decode, Show}
 use Rattle.iobufs_run.specs.declared.command.Reply.{Reply}
 use Rattle.iobufs_run.specs.declared.command.Reply.TheVariants.{Done, Bytes, Shown, Refused}
 use Rattle.iobufs_run.specs.declared.command.Refusal.{Refusal}
 use Rattle.iobufs_run.specs.declared.command.Refusal.TheVariants.{Codec, Memory}
 use Rattle.std.specs.Prelude.{slice_set}
-use Rattle.iobufs_run.specs.Causes.{refusal_for}
-use Rattle.iobufs_run.specs.Choices.{has_choice, is_want_of_memory, NoOtherChoices, SameReply}
+use Rattle.iobufs_run.specs.Causes.{is_listed, refusal_for}
+use Rattle.iobufs_run.specs.Choices.{is_other_refusal, is_want_of_memory, NoOtherChoices, OnlyWants, RefusalsKeep, SameOutcome, SameReply}
 use Rattle.iobufs_run.specs.Slots.{slot_named, marked_held, slot_read, IsShown}
-use Rattle.iobufs_run.specs.Run.{Does, Gives, IsFault, MayFail, Step}
+use Rattle.iobufs_run.specs.Run.{consumed, Does, Gives, IsFault, MayFail, MayWantMemory, Step, with_bytes}
 
 true_not_false : true ≡ false → ⊥
 true_not_false e = cc
-
-not_both : (b : Bool) → IsTrue b → b ≡ false → ⊥
-not_both b holds fails = cc
 
 -- ---- reading a view
 
@@ -90,99 +87,51 @@ decoded_same old src dst range reply other new another d e =
     let same = read_same (marked_held (slot_named old src)) range view view' read read' in
     (rw (told, told') refl, left ∙ ap (λ (view : ViewValue). slice_set (slice_set old src (slot_read (slot_named old src) view)) dst (View view)) same ∙ sym left')
 
-does_same : (old : List Slot) (command : Cmd) (reply other : Reply) (new another : List Slot) → has_choice old command ≡ false
-    → Does old command reply new → Does old command other another → SameReply reply other × (new ≡ another)
-does_same old (NewMut dst capacity align) reply other new another none d e = gives_same _ _ reply other new another d e
-does_same old (Zeroed dst len align) reply other new another none d e = gives_same _ _ reply other new another d e
-does_same old (Adopt dst bytes) reply other new another none d e = absurd (true_not_false none)
-does_same old (Static dst text) reply other new another none d e = gives_same _ _ reply other new another d e
-does_same old (FromBytes dst bytes) reply other new another none d e = gives_same _ _ reply other new another d e
-does_same old (Put target bytes) reply other new another none d e = gives_same _ _ reply other new another d e
-does_same old (Fill target byte n) reply other new another none d e = gives_same _ _ reply other new another d e
-does_same old (SetLen target n) reply other new another none d e = gives_same _ _ reply other new another d e
-does_same old (Truncate target n) reply other new another none d e = gives_same _ _ reply other new another d e
-does_same old (Clear target) reply other new another none d e = gives_same _ _ reply other new another d e
-does_same old (Overwrite target bytes) reply other new another none d e = gives_same _ _ reply other new another d e
-does_same old (Freeze src dst) reply other new another none d e = gives_same _ _ reply other new another d e
-does_same old (Recover src dst) reply other new another none d e = gives_same _ _ reply other new another d e
-does_same old (Clone src dst) reply other new another none d e = gives_same _ _ reply other new another d e
-does_same old (Slice src dst lo hi) reply other new another none d e = gives_same _ _ reply other new another d e
-does_same old (Split src dst at) reply other new another none d e = gives_same _ _ reply other new another d e
-does_same old (Advance target n) reply other new another none d e = gives_same _ _ reply other new another d e
-does_same old (Take target n) reply other new another none d e = gives_same _ _ reply other new another d e
-does_same old (Gather dst sources) reply other new another none d e = gives_same _ _ reply other new another d e
-does_same old (GatherMut dst sources) reply other new another none d e = gives_same _ _ reply other new another d e
-does_same old (Append target src) reply other new another none d e = gives_same _ _ reply other new another d e
-does_same old (Prepend target src) reply other new another none d e = gives_same _ _ reply other new another d e
-does_same old (Coalesce src dst) reply other new another none d e = gives_same _ _ reply other new another d e
-does_same old (Build dst capacity items) reply other new another none d e = gives_same _ _ reply other new another d e
-does_same old (Encode src dst) reply other new another none d e = gives_same _ _ reply other new another d e
-does_same old (Decode src dst range) reply other new another none d e = decoded_same old src dst range reply other new another d e
-does_same old (Drop target) reply other new another none d e = gives_same _ _ reply other new another d e
-does_same old (Show target) reply other new another none d e = (shown_same (slot_named old target) reply other d.0 e.0, d.1 ∙ sym e.1)
+same_is : (old : List Slot) (command : Cmd) (reply other : Reply) (new another : List Slot) → SameReply reply other × (new ≡ another)
+    → SameOutcome old command reply other new another
+same_is old (Adopt dst bytes) reply other new another same = (same.0, inl same.1)
+same_is old (Recover src dst) reply other new another same = inl same
+same_is old command reply other new another same = same
+
+set_again : (old : List Slot) (name : ℕ) (slot other : Slot) → slice_set (slice_set old name slot) name other ≡ slice_set old name other
+set_again [] name slot other = refl
+set_again (s ∷ old) zero slot other = refl
+set_again (s ∷ old) (suc name) slot other = ap (λ (names : List Slot). s ∷ names) (set_again old name slot other)
+
+adopted_same : (old : List Slot) (dst : ℕ) (bytes : List ℕ) (reply other : Reply) (new another : List Slot)
+    → (spare : ℕ) × Gives Done (with_bytes old dst bytes spare) reply new → (spare : ℕ) × Gives Done (with_bytes old dst bytes spare) other another
+    → SameReply reply other × ((new ≡ another) ⊎ ((room : ℕ) × (another ≡ with_bytes new dst bytes room)))
+adopted_same old dst bytes reply other new another (spare, (told, left)) (spare', (told', left')) =
+    (rw (told, told') refl, inr (spare', left' ∙ sym (rw left (set_again old dst _ _))))
+
+does_same : (old : List Slot) (command : Cmd) (reply other : Reply) (new another : List Slot)
+    → Does old command reply new → Does old command other another → SameOutcome old command reply other new another
+does_same old (Adopt dst bytes) reply other new another d e = adopted_same old dst bytes.items reply other new another d e
+does_same old (Recover src dst) reply other new another d e = inl (gives_same _ _ reply other new another d e)
+does_same old (Decode src dst range) reply other new another d e = decoded_same old src dst range reply other new another d e
+does_same old (Show target) reply other new another d e = (shown_same (slot_named old target) reply other d.0 e.0, d.1 ∙ sym e.1)
+does_same old command reply other new another d e = gives_same _ _ reply other new another d e
 
 -- ---- commands that fail
 
-fails_same : (old : List Slot) (command : Cmd) (r q : Refusal) → has_choice old command ≡ false → MayFail old command r → MayFail old command q → r ≡ q
-fails_same old (NewMut dst capacity align) r q none f g = absurd f
-fails_same old (Zeroed dst len align) r q none f g = absurd f
-fails_same old (Adopt dst bytes) r q none f g = absurd f
-fails_same old (Static dst text) r q none f g = absurd f
-fails_same old (FromBytes dst bytes) r q none f g = absurd f
-fails_same old (Put target bytes) r q none f g = absurd f
-fails_same old (Fill target byte n) r q none f g = absurd f
-fails_same old (SetLen target n) r q none f g = absurd f
-fails_same old (Truncate target n) r q none f g = absurd f
-fails_same old (Clear target) r q none f g = absurd f
-fails_same old (Overwrite target bytes) r q none f g = absurd f
-fails_same old (Freeze src dst) r q none f g = absurd f
-fails_same old (Recover src dst) r q none f g = absurd (not_both _ f.1 none)
-fails_same old (Clone src dst) r q none f g = absurd f
-fails_same old (Slice src dst lo hi) r q none f g = absurd f
-fails_same old (Split src dst at) r q none f g = absurd f
-fails_same old (Advance target n) r q none f g = absurd f
-fails_same old (Take target n) r q none f g = absurd f
-fails_same old (Gather dst sources) r q none f g = absurd f
-fails_same old (GatherMut dst sources) r q none f g = absurd f
-fails_same old (Append target src) r q none f g = absurd f
-fails_same old (Prepend target src) r q none f g = absurd f
-fails_same old (Coalesce src dst) r q none f g = absurd f
-fails_same old (Build dst capacity items) r q none f g = absurd f
-fails_same old (Encode src dst) r q none f g = absurd f
-fails_same old (Decode src dst range) r q none f g = fault_same (marked_held (slot_named old src)) range r q f g
-fails_same old (Drop target) r q none f g = absurd f
-fails_same old (Show target) r q none f g = absurd f
+fails_same : (old : List Slot) (command : Cmd) (r q : Refusal) → MayFail old command r → MayFail old command q → r ≡ q
+fails_same old (Recover src dst) r q f g = f.0 ∙ sym g.0
+fails_same old (Decode src dst range) r q f g = fault_same (marked_held (slot_named old src)) range r q f g
+fails_same old command r q f g = absurd f
 
-fails_not_done : (old : List Slot) (command : Cmd) (r : Refusal) (reply : Reply) (new : List Slot) → has_choice old command ≡ false
-    → MayFail old command r → Does old command reply new → ⊥
-fails_not_done old (NewMut dst capacity align) r reply new none f d = absurd f
-fails_not_done old (Zeroed dst len align) r reply new none f d = absurd f
-fails_not_done old (Adopt dst bytes) r reply new none f d = absurd f
-fails_not_done old (Static dst text) r reply new none f d = absurd f
-fails_not_done old (FromBytes dst bytes) r reply new none f d = absurd f
-fails_not_done old (Put target bytes) r reply new none f d = absurd f
-fails_not_done old (Fill target byte n) r reply new none f d = absurd f
-fails_not_done old (SetLen target n) r reply new none f d = absurd f
-fails_not_done old (Truncate target n) r reply new none f d = absurd f
-fails_not_done old (Clear target) r reply new none f d = absurd f
-fails_not_done old (Overwrite target bytes) r reply new none f d = absurd f
-fails_not_done old (Freeze src dst) r reply new none f d = absurd f
-fails_not_done old (Recover src dst) r reply new none f d = absurd (not_both _ f.1 none)
-fails_not_done old (Clone src dst) r reply new none f d = absurd f
-fails_not_done old (Slice src dst lo hi) r reply new none f d = absurd f
-fails_not_done old (Split src dst at) r reply new none f d = absurd f
-fails_not_done old (Advance target n) r reply new none f d = absurd f
-fails_not_done old (Take target n) r reply new none f d = absurd f
-fails_not_done old (Gather dst sources) r reply new none f d = absurd f
-fails_not_done old (GatherMut dst sources) r reply new none f d = absurd f
-fails_not_done old (Append target src) r reply new none f d = absurd f
-fails_not_done old (Prepend target src) r reply new none f d = absurd f
-fails_not_done old (Coalesce src dst) r reply new none f d = absurd f
-fails_not_done old (Build dst capacity items) r reply new none f d = absurd f
-fails_not_done old (Encode src dst) r reply new none f d = absurd f
-fails_not_done old (Decode src dst range) r reply new none f (view, read, gives) = fault_not_read (marked_held (slot_named old src)) range r view f read
-fails_not_done old (Drop target) r reply new none f d = absurd f
-fails_not_done old (Show target) r reply new none f d = absurd f
+fails_not_done : (old : List Slot) (command : Cmd) (r : Refusal) (reply : Reply) (new : List Slot) → MayFail old command r → Does old command reply new
+    → SameOutcome old command (Refused r) reply old new × SameOutcome old command reply (Refused r) new old
+fails_not_done old (Recover src dst) r reply new (told, native) (done, left) =
+    (inr (native, rw told refl, rw done left), inr (native, rw done left, rw told refl))
+fails_not_done old (Decode src dst range) r reply new f (view, read, gives) = absurd (fault_not_read (marked_held (slot_named old src)) range r view f read)
+fails_not_done old command r reply new f d = absurd f
+
+-- a command that may want memory does not fail
+wants_not_fails : (old : List Slot) (command : Cmd) (r : Refusal) → MayWantMemory old command → MayFail old command r → ⊥
+wants_not_fails old (Recover src dst) r wants f = wants
+wants_not_fails old (Decode src dst range) r (n, there, some) f =
+    fault_not_read (marked_held (slot_named old src)) range r (taken_view (marked_held (slot_named old src)) (length (spell n)) n) f (n, there, refl)
+wants_not_fails old command r wants f = f
 
 -- ---- a step is one of three
 
@@ -221,21 +170,52 @@ step_is old command (Shown kind pieces) new step wanted = inr (inr (record { non
 refused_same : (r q : Refusal) (reply other : Reply) → reply ≡ Refused r → other ≡ Refused q → r ≡ q → SameReply reply other
 refused_same r q reply other one two e = rw (one, two) (ap (λ (refusal : Refusal). Refused refusal) e)
 
-two_same : (old : List Slot) (command : Cmd) (reply other : Reply) (new another : List Slot) → has_choice old command ≡ false
+two_same : (old : List Slot) (command : Cmd) (reply other : Reply) (new another : List Slot)
     → IsCaused old command reply new ⊎ IsFailed old command reply new ⊎ IsDone old command reply new
-    → IsCaused old command other another ⊎ IsFailed old command other another ⊎ IsDone old command other another → SameReply reply other × (new ≡ another)
-two_same old command reply other new another fixed (inl a) (inl b) =
-    (refused_same a.refusal b.refusal reply other a.told b.told (let both = sym a.stands ∙ b.stands in cc), a.kept ∙ sym b.kept)
-two_same old command reply other new another fixed (inl a) (inr (inl b)) = absurd (let both = sym a.stands ∙ b.none in cc)
-two_same old command reply other new another fixed (inl a) (inr (inr b)) = absurd (let both = sym a.stands ∙ b.none in cc)
-two_same old command reply other new another fixed (inr (inl a)) (inl b) = absurd (let both = sym b.stands ∙ a.none in cc)
-two_same old command reply other new another fixed (inr (inl a)) (inr (inl b)) =
-    (refused_same a.refusal b.refusal reply other a.told b.told (fails_same old command a.refusal b.refusal fixed a.may b.may), a.kept ∙ sym b.kept)
-two_same old command reply other new another fixed (inr (inl a)) (inr (inr b)) = absurd (fails_not_done old command a.refusal other another fixed a.may b.does)
-two_same old command reply other new another fixed (inr (inr a)) (inl b) = absurd (let both = sym b.stands ∙ a.none in cc)
-two_same old command reply other new another fixed (inr (inr a)) (inr (inl b)) = absurd (fails_not_done old command b.refusal reply new fixed b.may a.does)
-two_same old command reply other new another fixed (inr (inr a)) (inr (inr b)) = does_same old command reply other new another fixed a.does b.does
+    → IsCaused old command other another ⊎ IsFailed old command other another ⊎ IsDone old command other another → SameOutcome old command reply other new another
+two_same old command reply other new another (inl a) (inl b) =
+    same_is old command reply other new another (refused_same a.refusal b.refusal reply other a.told b.told (let both = sym a.stands ∙ b.stands in cc), a.kept ∙ sym b.kept)
+two_same old command reply other new another (inl a) (inr (inl b)) = absurd (let both = sym a.stands ∙ b.none in cc)
+two_same old command reply other new another (inl a) (inr (inr b)) = absurd (let both = sym a.stands ∙ b.none in cc)
+two_same old command reply other new another (inr (inl a)) (inl b) = absurd (let both = sym b.stands ∙ a.none in cc)
+two_same old command reply other new another (inr (inl a)) (inr (inl b)) =
+    let same = fails_same old command a.refusal b.refusal a.may b.may in
+    same_is old command reply other new another (refused_same a.refusal b.refusal reply other a.told b.told same, a.kept ∙ sym b.kept)
+two_same old command reply other new another (inr (inl a)) (inr (inr b)) =
+    rw (a.told, a.kept) (fails_not_done old command a.refusal other another a.may b.does).0
+two_same old command reply other new another (inr (inr a)) (inl b) = absurd (let both = sym b.stands ∙ a.none in cc)
+two_same old command reply other new another (inr (inr a)) (inr (inl b)) =
+    rw (b.told, b.kept) (fails_not_done old command b.refusal reply new b.may a.does).1
+two_same old command reply other new another (inr (inr a)) (inr (inr b)) = does_same old command reply other new another a.does b.does
 
 pub no_other_choices : NoOtherChoices
-no_other_choices old command fixed reply other new another one two wanted wanted' =
-    two_same old command reply other new another fixed (step_is old command reply new one wanted) (step_is old command other another two wanted')
+no_other_choices old command reply other new another one two wanted wanted' =
+    two_same old command reply other new another (step_is old command reply new one wanted) (step_is old command other another two wanted')
+
+-- ---- want of memory, and what a refusal leaves
+
+refused_for_memory : (old : List Slot) (command : Cmd) (refusal : Refusal) (another : List Slot) → refusal_for old command ≡ None → MayWantMemory old command
+    → (refusal_for old command ≡ Some refusal) ⊎ ((refusal_for old command ≡ None) × MayFail old command refusal) → ⊥
+refused_for_memory old command refusal another none wants (inl stands) = (let both = sym stands ∙ none in cc)
+refused_for_memory old command refusal another none wants (inr fails) = wants_not_fails old command refusal wants fails.1
+
+done_where_wanted : (old : List Slot) (command : Cmd) (other : Reply) (another : List Slot) → refusal_for old command ≡ None → MayWantMemory old command
+    → Step old command other another → is_other_refusal other ≡ false
+done_where_wanted old command (Refused Memory) another none wants step = refl
+done_where_wanted old command (Refused refusal) another none wants step = absurd (refused_for_memory old command refusal another none wants step.0)
+done_where_wanted old command Done another none wants step = refl
+done_where_wanted old command (Bytes bytes) another none wants step = refl
+done_where_wanted old command (Shown kind pieces) another none wants step = refl
+
+pub only_wants : OnlyWants
+only_wants old command new (none, wants, freed) = (none, wants, freed, λ other another step. done_where_wanted old command other another none wants step)
+
+freed_or_kept : (old new : List Slot) (names : List ℕ) (refusal : Refusal) (name : ℕ) → refusal ≡ Memory
+    → (slot_named new name ≡ slot_named old name) ⊎ (IsTrue (is_listed names name) × (slot_named new name ≡ Free))
+    → (slot_named new name ≡ slot_named old name) ⊎ ((refusal ≡ Memory) × IsTrue (is_listed names name) × (slot_named new name ≡ Free))
+freed_or_kept old new names refusal name memory (inl kept) = inl kept
+freed_or_kept old new names refusal name memory (inr freed) = inr (memory, freed.0, freed.1)
+
+pub refusals_keep : RefusalsKeep
+refusals_keep old command Memory new (none, wants, freed) = (freed.0, λ name. freed_or_kept old new (consumed command) Memory name refl (freed.1 name))
+refusals_keep old command refusal new step = (ap (λ (names : List Slot). length names) step.1, λ name. inl (ap (λ (names : List Slot). slot_named names name) step.1))

@@ -1,61 +1,67 @@
--- Which choices a command leaves open: none but want of memory, how much room is behind adopted bytes, and whether a
--- native view, whose storage may be shared, is recovered.
-use Rattle.std.specs.Prelude.{◌≡◌, Bool, true, false, List, map}
+-- What a command leaves open, and nothing else: whether it is refused for want of memory, and which of the consumed names
+-- are then free; how much room is behind adopted bytes; and whether a native view, whose storage may be shared, is
+-- recovered. And what a refusal leaves.
+use Rattle.std.specs.Prelude.{◌≡◌, ◌⊎◌, ℕ, Bool, true, false, List, length, map, None, IsTrue}
 use Rattle.iobufs_run.specs.declared.table.Slot.{Slot}
+use Rattle.iobufs_run.specs.declared.table.Slot.TheVariants.{Free}
 use Rattle.iobufs_run.specs.declared.command.Cmd.{Cmd}
-use Rattle.iobufs_run.specs.declared.command.Cmd.TheVariants.{NewMut, Zeroed, Adopt, Static, FromBytes, Put, Fill, SetLen, Truncate, Clear, Overwrite, Freeze, Recover, Clone, Slice, Split, Advance, Take, Gather, GatherMut, Append, Prepend, Coalesce, Build, Encode, Decode, Drop, Show}
+use Rattle.iobufs_run.specs.declared.command.Cmd.TheVariants.{Adopt, Recover}
 use Rattle.iobufs_run.specs.declared.command.Reply.{Reply}
-use Rattle.iobufs_run.specs.declared.command.Reply.TheVariants.{Shown, Refused}
-use Rattle.iobufs_run.specs.declared.command.Refusal.TheVariants.{Memory}
-use Rattle.iobufs_run.specs.Slots.{slot_named, is_native_view, shown_piece}
-use Rattle.iobufs_run.specs.Run.{Step}
+use Rattle.iobufs_run.specs.declared.command.Reply.TheVariants.{Done, Shown, Refused}
+use Rattle.iobufs_run.specs.declared.command.Refusal.{Refusal}
+use Rattle.iobufs_run.specs.declared.command.Refusal.TheVariants.{Declined, Memory}
+use Rattle.iobufs_run.specs.Causes.{is_listed, refusal_for}
+use Rattle.iobufs_run.specs.Slots.{slot_named, slot_recovered, is_native_view, shown_piece}
+use Rattle.iobufs_run.specs.Run.{consumed, MayFree, MayWantMemory, moved_to, Step, with_bytes}
 
--- the command adopts bytes, or recovers a native view
-abbrev pub has_choice : List Slot → Cmd → Bool
-has_choice names (NewMut dst capacity align) = false
-has_choice names (Zeroed dst len align) = false
-has_choice names (Adopt dst bytes) = true
-has_choice names (Static dst text) = false
-has_choice names (FromBytes dst bytes) = false
-has_choice names (Put target bytes) = false
-has_choice names (Fill target byte n) = false
-has_choice names (SetLen target n) = false
-has_choice names (Truncate target n) = false
-has_choice names (Clear target) = false
-has_choice names (Overwrite target bytes) = false
-has_choice names (Freeze src dst) = false
-has_choice names (Recover src dst) = is_native_view (slot_named names src)
-has_choice names (Clone src dst) = false
-has_choice names (Slice src dst lo hi) = false
-has_choice names (Split src dst at) = false
-has_choice names (Advance target n) = false
-has_choice names (Take target n) = false
-has_choice names (Gather dst sources) = false
-has_choice names (GatherMut dst sources) = false
-has_choice names (Append target src) = false
-has_choice names (Prepend target src) = false
-has_choice names (Coalesce src dst) = false
-has_choice names (Build dst capacity items) = false
-has_choice names (Encode src dst) = false
-has_choice names (Decode src dst range) = false
-has_choice names (Drop target) = false
-has_choice names (Show target) = false
-
--- the reply is want of memory
+-- the reply is want of memory; it is a refusal for another reason
 abbrev pub is_want_of_memory : Reply → Bool
 is_want_of_memory (Refused Memory) = true
 is_want_of_memory _ = false
+
+abbrev pub is_other_refusal : Reply → Bool
+is_other_refusal (Refused Memory) = false
+is_other_refusal (Refused refusal) = true
+is_other_refusal _ = false
 
 -- replies that say the same: what is shown by its kind, and the bytes and the room of each piece
 abbrev pub SameReply : Reply → Reply → Type 0
 SameReply (Shown kind pieces) (Shown kind' pieces') = (kind ≡ kind') × (map shown_piece pieces.items ≡ map shown_piece pieces'.items)
 SameReply reply other = reply ≡ other
 
--- two steps by a command that leaves no choice open, neither of them refused for want of memory, are the same
-abbrev pub AreSame : List Slot → Cmd → Type 0
-AreSame old command =
-    (reply other : Reply) (new another : List Slot) → Step old command reply new → Step old command other another
-    → is_want_of_memory reply ≡ false → is_want_of_memory other ≡ false → SameReply reply other × (new ≡ another)
+-- a view was recovered, or declined and kept
+abbrev pub IsRecoveredOrDeclined : List Slot → (src dst : ℕ) → Reply → List Slot → Type 0
+IsRecoveredOrDeclined old src dst Done new = new ≡ moved_to old src dst (slot_recovered (slot_named old src))
+IsRecoveredOrDeclined old src dst (Refused Declined) new = new ≡ old
+IsRecoveredOrDeclined old src dst reply new = ⊥
+
+-- two outcomes of a command, neither of them want of memory, are the same, but for the room behind adopted bytes, and for
+-- whether a native view is recovered
+abbrev pub SameOutcome : List Slot → Cmd → (reply other : Reply) → (new another : List Slot) → Type 0
+SameOutcome old (Adopt dst bytes) reply other new another =
+    SameReply reply other × ((new ≡ another) ⊎ ((room : ℕ) × (another ≡ with_bytes new dst bytes.items room)))
+SameOutcome old (Recover src dst) reply other new another =
+    (SameReply reply other × (new ≡ another))
+    ⊎ (IsTrue (is_native_view (slot_named old src)) × IsRecoveredOrDeclined old src dst reply new × IsRecoveredOrDeclined old src dst other another)
+SameOutcome old command reply other new another = SameReply reply other × (new ≡ another)
 
 abbrev pub NoOtherChoices : Type 0
-NoOtherChoices = (old : List Slot) (command : Cmd) → has_choice old command ≡ false → AreSame old command
+NoOtherChoices =
+    (old : List Slot) (command : Cmd) (reply other : Reply) (new another : List Slot) → Step old command reply new → Step old command other another
+    → is_want_of_memory reply ≡ false → is_want_of_memory other ≡ false → SameOutcome old command reply other new another
+
+-- a command is refused for want of memory only where it may want it and no cause stands; this costs at most what it
+-- consumes; and where it isn't refused so, it is done
+abbrev pub OnlyWants : Type 0
+OnlyWants =
+    (old : List Slot) (command : Cmd) (new : List Slot) → Step old command (Refused Memory) new
+    → (refusal_for old command ≡ None) × MayWantMemory old command × MayFree (consumed command) old new
+    × ((other : Reply) (another : List Slot) → Step old command other another → is_other_refusal other ≡ false)
+
+-- a refused command leaves what each name holds, bytes and all, but for names that it consumes: want of memory may free
+-- them
+abbrev pub RefusalsKeep : Type 0
+RefusalsKeep =
+    (old : List Slot) (command : Cmd) (refusal : Refusal) (new : List Slot) → Step old command (Refused refusal) new
+    → (length new ≡ length old)
+    × ((name : ℕ) → (slot_named new name ≡ slot_named old name) ⊎ ((refusal ≡ Memory) × IsTrue (is_listed (consumed command) name) × (slot_named new name ≡ Free)))

@@ -1,6 +1,6 @@
 // Named buffers, and the commands on them.
 ghost use Rattle.std.specs.Prelude.{◌≡◌, length, replicate, IfOk, IsOk, IsOkUnless, OnErr};
-ghost use Rattle.iobufs_run.specs.Choices.{NoOtherChoices};
+ghost use Rattle.iobufs_run.specs.Choices.{NoOtherChoices, OnlyWants, RefusalsKeep};
 ghost use Rattle.iobufs_run.specs.Run.{Run, Step, changed as changed_by, outcome as outcome_of, reply_of};
 ghost use Rattle.iobufs_run.specs.Slots.{AreSlots, IsSlot, slot_named};
 
@@ -240,9 +240,16 @@ impl Table {
     }
 }
 
-/// Does nothing. Its contract is a law: two steps of the same command on the same names, neither of them refused for
-/// want of memory, have the same reply and leave the same names, unless the command is `Adopt` or recovers a native
-/// view.
+/// Does nothing. Its contract is a law of all commands: two steps of the same command on the same names, neither of
+/// them refused for want of memory, have the same outcome, but for the room behind adopted bytes, and whether a native
+/// view is recovered; and a step is refused for want of memory only where the command may want it and is else done.
 pub fn choices_law()
-    ensures { NoOtherChoices }
+    ensures same { NoOtherChoices }
+    ensures memory { OnlyWants }
+{}
+
+/// Does nothing. Its contract is a law: a refused command leaves what each name holds, but for names that it consumes,
+/// which want of memory may free.
+pub fn refusal_law()
+    ensures { RefusalsKeep }
 {}

@@ -30,13 +30,18 @@ front_by b bs false e h = record { byte = e; others = h }
 front : (b : ℕ) (bs : List ℕ) → spaceless (b ∷ bs) ≡ true → Front b bs
 front b bs h = front_by b bs (eqb b 32) refl h
 
-last_word : (w : List ℕ) → spaceless w ≡ true → words_of w ≡ w ∷ []
+pub last_word : (w : List ℕ) → spaceless w ≡ true → words_of w ≡ w ∷ []
 last_word [] e = refl
 last_word (b ∷ bs) e = let f = front b bs e in rw f.byte (rw (last_word bs f.others) refl)
 
-next_word : (w rest : List ℕ) → spaceless w ≡ true → words_of (w ++ 32 ∷ rest) ≡ w ∷ words_of rest
+pub next_word : (w rest : List ℕ) → spaceless w ≡ true → words_of (w ++ 32 ∷ rest) ≡ w ∷ words_of rest
 next_word [] rest e = refl
 next_word (b ∷ bs) rest e = let f = front b bs e in rw f.byte (rw (next_word bs rest f.others) refl)
+
+-- two words with a plus between them are one
+pub spaceless_seam : (xs ys : List ℕ) → spaceless xs ≡ true → spaceless ys ≡ true → spaceless (xs ++ 43 ∷ ys) ≡ true
+spaceless_seam [] ys g h = h
+spaceless_seam (x ∷ xs) ys g h = let f = front x xs g in rw f.byte (spaceless_seam xs ys f.others h)
 
 spaceless_digits : (ds : List ℕ) → AllDigits 10 ds → spaceless ds ≡ true
 spaceless_digits [] h = refl
