@@ -16,7 +16,7 @@ unfolding way
 way-done ps zero i q e = refl
 way-done ps (suc f) i q e = rw (way, e) refl
 
-way-step : (ps : List Place) (f i j q : ℕ) → side (place_at ps i) q ≡ Some j → way ps (suc f) i q ≡ way ps f j q
+pub way-step : (ps : List Place) (f i j q : ℕ) → side (place_at ps i) q ≡ Some j → way ps (suc f) i q ≡ way ps f j q
 unfolding way
 way-step ps f i j q e = rw (way, e) refl
 
