@@ -59,15 +59,15 @@ opened-rises x n i false l b a = (further n i x.below b, (l, omega arith))
 
 same-base : (ps : List Place) (p q m i : ℕ) → p < length ps → i < length ps → (place_at (grown ps p q m) i).base ≡ (place_at ps i).base
 same-base ps p q m i k l = elim (eqb_tells i p) [
-    | inl z ↦ subst (λ (i : ℕ). (place_at (grown ps p q m) i).base ≡ (place_at ps i).base) (sym z.1) (ap (λ (x : Place). x.base) (at-end ps p q m k) ∙ opened-base (place_at ps p) (length ps) (nat_lt q (place_at ps p).middle))
-    | inr z ↦ ap (λ (x : Place). x.base) (at-other ps p q m i l z.1)
-  ]
+  | inl z ↦ subst (λ (i : ℕ). (place_at (grown ps p q m) i).base ≡ (place_at ps i).base) (sym z.1) (ap (λ (x : Place). x.base) (at-end ps p q m k) ∙ opened-base (place_at ps p) (length ps) (nat_lt q (place_at ps p).middle))
+  | inr z ↦ ap (λ (x : Place). x.base) (at-other ps p q m i l z.1)
+]
 
 keeps : (ps : List Place) (p q m i k j : ℕ) → p < length ps → i < length ps → side (place_at ps p) q ≡ None → side (place_at ps i) k ≡ Some j → side (place_at (grown ps p q m) i) k ≡ Some j
 keeps ps p q m i k j pl l o e = elim (eqb_tells i p) [
-    | inl z ↦ (let e' = subst (λ (i : ℕ). side (place_at ps i) k ≡ Some j) z.1 e in subst (λ (i : ℕ). side (place_at (grown ps p q m) i) k ≡ Some j) (sym z.1) (ap (λ (x : Place). side x k) (at-end ps p q m pl) ∙ keeps-by (place_at ps p) (length ps) k j (nat_lt q (place_at ps p).middle) (nat_lt k (place_at ps p).middle) refl o e'))
-    | inr z ↦ ap (λ (x : Place). side x k) (at-other ps p q m i l z.1) ∙ e
-  ]
+  | inl z ↦ (let e' = subst (λ (i : ℕ). side (place_at ps i) k ≡ Some j) z.1 e in subst (λ (i : ℕ). side (place_at (grown ps p q m) i) k ≡ Some j) (sym z.1) (ap (λ (x : Place). side x k) (at-end ps p q m pl) ∙ keeps-by (place_at ps p) (length ps) k j (nat_lt q (place_at ps p).middle) (nat_lt k (place_at ps p).middle) refl o e'))
+  | inr z ↦ ap (λ (x : Place). side x k) (at-other ps p q m i l z.1) ∙ e
+]
 
 leads : (ps : List Place) (p q m : ℕ) → p < length ps → side (place_at (grown ps p q m) p) q ≡ Some (length ps)
 leads ps p q m l = ap (λ (x : Place). side x q) (at-end ps p q m l) ∙ leads-by (place_at ps p) (length ps) q (nat_lt q (place_at ps p).middle) refl
@@ -77,9 +77,9 @@ Rises n i x = LiesBehind n i x.below × LiesBehind n i x.above
 
 rises-at : (ps : List Place) (p q m i : ℕ) → AreRising ps → p < length ps → i < length ps → Rises (length ps + 1) i (place_at (grown ps p q m) i)
 rises-at ps p q m i r k l = elim (eqb_tells i p) [
-    | inl z ↦ subst (λ (i : ℕ). Rises (length ps + 1) i (place_at (grown ps p q m) i)) (sym z.1) (subst (λ (x : Place). Rises (length ps + 1) p x) (sym (at-end ps p q m k)) (opened-rises (place_at ps p) (length ps) p (nat_lt q (place_at ps p).middle) k (r p k).0 (r p k).1))
-    | inr z ↦ subst (λ (x : Place). Rises (length ps + 1) i x) (sym (at-other ps p q m i l z.1)) (further (length ps) i (place_at ps i).below (r i l).0, further (length ps) i (place_at ps i).above (r i l).1)
-  ]
+  | inl z ↦ subst (λ (i : ℕ). Rises (length ps + 1) i (place_at (grown ps p q m) i)) (sym z.1) (subst (λ (x : Place). Rises (length ps + 1) p x) (sym (at-end ps p q m k)) (opened-rises (place_at ps p) (length ps) p (nat_lt q (place_at ps p).middle) k (r p k).0 (r p k).1))
+  | inr z ↦ subst (λ (x : Place). Rises (length ps + 1) i x) (sym (at-other ps p q m i l z.1)) (further (length ps) i (place_at ps i).below (r i l).0, further (length ps) i (place_at ps i).above (r i l).1)
+]
 
 -- ---- what is found
 
