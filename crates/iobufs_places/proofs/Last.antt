@@ -83,3 +83,38 @@ none-found ps (suc f) q = refl
 pub none-of : (o : Option ℕ) → is_some o ≡ false → o ≡ None
 none-of None e = refl
 none-of (Some n) e = absurd (cc)
+
+-- a place that lies out of the range, with the range on its one side
+skip-below-by : (ps : List Place) (i f low end : ℕ) (o : Option ℕ) → ((place_at ps i).base < low) ⊎ (end ≤ (place_at ps i).base) → end ≤ (place_at ps i).middle → IsLastFound ps (found ps f (place_at ps i).below) low end o → IsLastFound ps (found ps (suc f) (Some i)) low end o
+unfolding found
+skip-below-by ps i f low end None out le h =
+    let x = place_at ps i in
+    λ q lo hi. not-found ps i f q x (x.base == q) (nat_lt q x.middle) refl refl (λ z. omega (arith, z, lo, hi, out)) (λ z. absurd (omega (arith, z, hi, le))) (λ z. h q lo hi)
+skip-below-by ps i f low end (Some b) out le (l, m, h) =
+    let x = place_at ps i in
+    (l, m, λ q lo hi s. at-most ps i f q (place_at ps b).base x (x.base == q) (nat_lt q x.middle) refl refl (λ z. absurd (omega (arith, z, lo, hi, out))) (λ z t. absurd (omega (arith, z, hi, le))) (λ z t. h q lo hi t) s)
+
+skip-above-by : (ps : List Place) (i f low end : ℕ) (o : Option ℕ) → ((place_at ps i).base < low) ⊎ (end ≤ (place_at ps i).base) → (place_at ps i).middle ≤ low → IsLastFound ps (found ps f (place_at ps i).above) low end o → IsLastFound ps (found ps (suc f) (Some i)) low end o
+unfolding found
+skip-above-by ps i f low end None out le h =
+    let x = place_at ps i in
+    λ q lo hi. not-found ps i f q x (x.base == q) (nat_lt q x.middle) refl refl (λ z. omega (arith, z, lo, hi, out)) (λ z. h q lo hi) (λ z. absurd (omega (arith, z, lo, le)))
+skip-above-by ps i f low end (Some b) out le (l, m, h) =
+    let x = place_at ps i in
+    (l, m, λ q lo hi s. at-most ps i f q (place_at ps b).base x (x.base == q) (nat_lt q x.middle) refl refl (λ z. absurd (omega (arith, z, lo, hi, out))) (λ z t. h q lo hi t) (λ z t. absurd (omega (arith, z, lo, le))) s)
+
+out-of : (b low end : ℕ) (u v : Bool) → nat_lt b low ≡ u → nat_le end b ≡ v → (u || v) ≡ true → (b < low) ⊎ (end ≤ b)
+out-of b low end true v e f t = inl (grind (arith, nat_tests, e))
+out-of b low end false true e f t = inr (grind (arith, nat_tests, f))
+out-of b low end false false e f t = absurd (cc)
+
+pub is-out : (b low end : ℕ) → (nat_lt b low || nat_le end b) ≡ true → (b < low) ⊎ (end ≤ b)
+is-out b low end t = out-of b low end (nat_lt b low) (nat_le end b) refl refl t
+
+pub skip-below : (ps : List Place) (i f low end : ℕ) (o : Option ℕ) → i < length ps → LiesBehind (length ps) i (place_at ps i).below → length ps ≤ i + f → ((place_at ps i).base < low) ⊎ (end ≤ (place_at ps i).base) → end ≤ (place_at ps i).middle → ((g : ℕ) → Reaches (length ps) (place_at ps i).below g → IsLastFound ps (found ps g (place_at ps i).below) low end o) → IsLastFound ps (found ps f (Some i)) low end o
+skip-below ps i zero low end o k b l out le h = absurd (omega (arith, k, l))
+skip-below ps i (suc f) low end o k b l out le h = skip-below-by ps i f low end o out le (h f (reach (length ps) i f (place_at ps i).below b l))
+
+pub skip-above : (ps : List Place) (i f low end : ℕ) (o : Option ℕ) → i < length ps → LiesBehind (length ps) i (place_at ps i).above → length ps ≤ i + f → ((place_at ps i).base < low) ⊎ (end ≤ (place_at ps i).base) → (place_at ps i).middle ≤ low → ((g : ℕ) → Reaches (length ps) (place_at ps i).above g → IsLastFound ps (found ps g (place_at ps i).above) low end o) → IsLastFound ps (found ps f (Some i)) low end o
+skip-above ps i zero low end o k b l out le h = absurd (omega (arith, k, l))
+skip-above ps i (suc f) low end o k b l out le h = skip-above-by ps i f low end o out le (h f (reach (length ps) i f (place_at ps i).above b l))

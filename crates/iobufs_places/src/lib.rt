@@ -1,7 +1,7 @@
 //! Where blocks lie: which of them is the last before an address, in a table that is asked for its memory beforehand.
 #![tactic(auto)]
 
-ghost use Rattle.std.specs.Prelude.{◌≡◌, ◌≢◌, ℕ, ◌+◌, ◌<◌, ◌≤◌, [], ◌∷◌, ◌++◌, All, None, Some, length, OnOk, OnErr, IfSome, IsOk};
+ghost use Rattle.std.specs.Prelude.{◌≡◌, ◌≢◌, ℕ, ◌+◌, ◌<◌, ◌≤◌, ◌||◌, nat_lt, nat_le, [], ◌∷◌, ◌++◌, All, None, Some, length, OnOk, OnErr, IfSome, IsOk};
 ghost use Rattle.iobufs_places.specs.Places.{IsLast};
 ghost use Rattle.iobufs_places.specs.Inside.{AreRising, IsLastFound, Reaches, found, later, leaf, opened, place_at, side, way};
 
@@ -42,12 +42,62 @@ impl Place {
         place
     }
 
-    /// The middle of the half in which a base lies. Where it is changes what a way costs, and nothing else.
-    fn middle_of_half(self, base: u64, quarter: u64) -> u64 {
+    /// Whether its base lies out of a range.
+    fn is_outside(self, low: u64, end: u64) -> bool
+        ensures { result ≡ (nat_lt self.base low || nat_le end self.base) }
+    {
+        self.base < low || end <= self.base
+    }
+
+    /// The part of a span on the side of a base.
+    fn side_span(self, base: u64, span: Span) -> Span {
         if base < self.middle {
-            self.middle.saturating_sub(quarter)
+            Span {
+                low: span.low,
+                high: self.middle.saturating_sub(1),
+            }
         } else {
-            self.middle.saturating_add(quarter)
+            Span {
+                low: self.middle,
+                high: span.high,
+            }
+        }
+    }
+}
+
+/// The numbers that lie behind a place, both ends included.
+#[derive(Clone, Copy)]
+struct Span {
+    low: u64,
+    high: u64,
+}
+
+impl Span {
+    /// Where a place divides it: by halves, or while one end is much farther from the first base than the other, by
+    /// halves of the number of bits of that distance. This changes what a way costs, and nothing else.
+    fn middle(self, first: u64) -> u64 {
+        let is_behind = first <= self.low;
+        let before = first.saturating_sub(1);
+        let near = if is_behind {
+            self.low.saturating_sub(first)
+        } else {
+            before.saturating_sub(self.high)
+        };
+        let far = if is_behind {
+            self.high.saturating_sub(first)
+        } else {
+            before.saturating_sub(self.low)
+        };
+        let near_bits = near.checked_ilog2().unwrap_or(0);
+        let far_bits = far.checked_ilog2().unwrap_or(0);
+        if far_bits <= near_bits.saturating_add(1) {
+            return self.low.saturating_add(self.high.saturating_sub(self.low) / 2 + 1);
+        }
+        let distance = 2u64.saturating_pow(near_bits.saturating_add(far_bits) / 2 + 1);
+        if is_behind {
+            first.saturating_add(distance)
+        } else {
+            first.saturating_sub(distance)
         }
     }
 }
@@ -64,9 +114,9 @@ fn leaf(base: u64, middle: u64) -> Place
     }
 }
 
-/// The bases of blocks, which are numbered from 0 in the order of adding. It is a digital search tree: a place divides its
-/// numbers in two halves, and those of the first place are all of 64 bits, so no way has more than 65 places, whatever the
-/// bases are and in whatever order they come.
+/// The bases of blocks, which are numbered from 0 in the order of adding. It is a search tree: a place divides the
+/// numbers behind it, at the first base first, then by the number of bits of the distance from it, then in halves, so no
+/// way has more than 72 places, whatever the bases are and in whatever order they come; near bases have few.
 #[derive(Drop)]
 pub struct Places {
     table: Vec<Place>,
@@ -84,11 +134,11 @@ impl Model for Places {
     ghost invariant = { λ places. IsTree places.table.items };
 }
 
-/// Where the way of a base ends, and a quarter of the numbers there.
+/// Where the way of a base ends, and the numbers that lie behind that place.
 #[derive(Clone, Copy)]
 struct WayEnd {
     at: usize,
-    quarter: u64,
+    span: Span,
 }
 
 /// Follows the way of a base from the first place to the last.
@@ -100,12 +150,15 @@ fn way_end(places: &[Place], base: u64) -> WayEnd
     ensures way { way places.now (length places.now) 0 base ≡ result.at }
 {
     let mut at = 0;
-    let mut quarter = 1 << 62;
+    let mut span = Span {
+        low: 0,
+        high: u64::MAX,
+    };
     while let Some(next) = places[at].side(base) {
+        span = places[at].side_span(base, span);
         at = next;
-        quarter /= 2;
     }
-    WayEnd { at, quarter }
+    WayEnd { at, span }
 }
 
 /// The later of a place, where it lies in a range, and what was found in the range.
@@ -138,6 +191,14 @@ fn last_in(places: &[Place], at: Option<usize>, low: u64, end: u64) -> Option<us
         return None;
     }
     let here = places[at];
+    if here.is_outside(low, end) {
+        if end <= here.middle {
+            return last_in(places, here.below, low, end);
+        }
+        if here.middle <= low {
+            return last_in(places, here.above, low, end);
+        }
+    }
     let above = last_in(places, here.above, low.max(here.middle), end);
     if above.is_some() {
         return later(places, at, above, low, end);
@@ -176,14 +237,15 @@ impl Places {
     {
         let number = self.table.len();
         if number == 0 {
-            self.table.push_reserved(leaf(base, 1 << 63));
+            self.table.push_reserved(leaf(base, base));
             return;
         }
         let end = way_end(&self.table, base);
+        let first = self.table[0].base;
         let last = self.table[end.at];
+        let middle = last.side_span(base, end.span).middle(first);
         self.table[end.at] = last.opened(base, number);
-        self.table
-            .push_reserved(leaf(base, last.middle_of_half(base, end.quarter)));
+        self.table.push_reserved(leaf(base, middle));
     }
 
     /// The number of the block with the greatest base in a range.

@@ -9,7 +9,7 @@ use Rattle.iobufs_places.proofs.Places.add.Goals as goal
 pub invariant_of-self : goal.invariant_of-self
 invariant_of-self c =
     let e = none-there c.self.inside.table.items (omega (arith, c.len-number.ensures, c.if-number-eq0.true)) in
-    rw (c.push_reserved.ensures.items, e, c.leaf.ensures) (tree-first c.args.base 9223372036854775808)
+    rw (c.push_reserved.ensures.items, e, c.leaf.ensures) (tree-first c.args.base c.args.base)
 
 pub invariant_of-self-2 : goal.invariant_of-self-2
 invariant_of-self-2 c =
@@ -19,7 +19,7 @@ invariant_of-self-2 c =
     let d = c.deref.ensures.value in
     let known = rw d at c.way_end-end.ensures.known in
     let x = get_or_read ps c.way_end-end.result.at c.index-last.result.now known c.index-last.ensures no_place in
-    rw (c.push_reserved-2.ensures.items, c.opened.ensures, c.leaf-2.ensures, n, x) (tree-grown ps c.way_end-end.result.at c.args.base c.middle_of_half.result c.self.invariant known (rw d at c.way_end-end.ensures.open) (rw d at c.way_end-end.ensures.way) all)
+    rw (c.push_reserved-2.ensures.items, c.opened.ensures, c.leaf-2.ensures, n, x) (tree-grown ps c.way_end-end.result.at c.args.base c.middle-middle.result c.self.invariant known (rw d at c.way_end-end.ensures.open) (rw d at c.way_end-end.ensures.way) all)
 
 pub returns-clause-bases : goal.returns-clause-bases
 returns-clause-bases c =
@@ -27,4 +27,4 @@ returns-clause-bases c =
     let n : c.len-number.result ≡ length ps = omega (arith, c.len-number.ensures) in
     let known = rw c.deref.ensures.value at c.way_end-end.ensures.known in
     let x = get_or_read ps c.way_end-end.result.at c.index-last.result.now known c.index-last.ensures no_place in
-    rw (c.push_reserved-2.ensures.items, c.opened.ensures, c.leaf-2.ensures, n, x) (bases-grown ps c.way_end-end.result.at c.args.base c.middle_of_half.result ∙ ap (λ (m : Seen). m.bases ++ c.args.base ∷ []) c.self.view_is)
+    rw (c.push_reserved-2.ensures.items, c.opened.ensures, c.leaf-2.ensures, n, x) (bases-grown ps c.way_end-end.result.at c.args.base c.middle-middle.result ∙ ap (λ (m : Seen). m.bases ++ c.args.base ∷ []) c.self.view_is)
