@@ -75,14 +75,14 @@ last-below ps i (suc f) low end (Some a) b k bb ba l z ha hb = absurd (cc)
 last-below ps i (suc f) low end None None k bb ba l z ha hb = own-by ps i f low end (nat_lt (place_at ps i).base low || nat_le end (place_at ps i).base) refl (ha f (reach (length ps) i f (place_at ps i).above ba l)) (hb f (reach (length ps) i f (place_at ps i).below bb l))
 last-below ps i (suc f) low end None (Some b) k bb ba l z ha hb = below-by ps i f low end b (nat_lt (place_at ps i).base low || nat_le end (place_at ps i).base) (nat_le (place_at ps i).base (place_at ps b).base) refl refl (ha f (reach (length ps) i f (place_at ps i).above ba l)) (hb f (reach (length ps) i f (place_at ps i).below bb l))
 
+pub none-of : (o : Option ℕ) → is_some o ≡ false → o ≡ None
+none-of None e = refl
+none-of (Some n) e = absurd (cc)
+
 pub none-found : (ps : List Place) (f q : ℕ) → found ps f None q ≡ None
 unfolding found
 none-found ps zero q = refl
 none-found ps (suc f) q = refl
-
-pub none-of : (o : Option ℕ) → is_some o ≡ false → o ≡ None
-none-of None e = refl
-none-of (Some n) e = absurd (cc)
 
 -- a place that lies out of the range, with the range on its one side
 skip-below-by : (ps : List Place) (i f low end : ℕ) (o : Option ℕ) → ((place_at ps i).base < low) ⊎ (end ≤ (place_at ps i).base) → end ≤ (place_at ps i).middle → IsLastFound ps (found ps f (place_at ps i).below) low end o → IsLastFound ps (found ps (suc f) (Some i)) low end o
@@ -118,3 +118,17 @@ skip-below ps i (suc f) low end o k b l out le h = skip-below-by ps i f low end 
 pub skip-above : (ps : List Place) (i f low end : ℕ) (o : Option ℕ) → i < length ps → LiesBehind (length ps) i (place_at ps i).above → length ps ≤ i + f → ((place_at ps i).base < low) ⊎ (end ≤ (place_at ps i).base) → (place_at ps i).middle ≤ low → ((g : ℕ) → Reaches (length ps) (place_at ps i).above g → IsLastFound ps (found ps g (place_at ps i).above) low end o) → IsLastFound ps (found ps f (Some i)) low end o
 skip-above ps i zero low end o k b l out le h = absurd (omega (arith, k, l))
 skip-above ps i (suc f) low end o k b l out le h = skip-above-by ps i f low end o out le (h f (reach (length ps) i f (place_at ps i).above b l))
+
+-- a place that lies out of the range, with nothing below it
+only-above-by : (ps : List Place) (i f low end : ℕ) (o : Option ℕ) → ((place_at ps i).base < low) ⊎ (end ≤ (place_at ps i).base) → (place_at ps i).below ≡ None → low < (place_at ps i).middle → IsLastFound ps (found ps f (place_at ps i).above) (place_at ps i).middle end o → IsLastFound ps (found ps (suc f) (Some i)) low end o
+unfolding found
+only-above-by ps i f low end None out e le h =
+    let x = place_at ps i in
+    λ q lo hi. not-found ps i f q x (x.base == q) (nat_lt q x.middle) refl refl (λ z. omega (arith, z, lo, hi, out)) (λ z. h q z hi) (λ z. rw e (none-found ps f q))
+only-above-by ps i f low end (Some b) out e le (l, m, h) =
+    let x = place_at ps i in
+    (omega (arith, l, le), m, λ q lo hi s. at-most ps i f q (place_at ps b).base x (x.base == q) (nat_lt q x.middle) refl refl (λ z. absurd (omega (arith, z, lo, hi, out))) (λ z t. h q z hi t) (λ z t. omega (arith, z, l)) s)
+
+pub only-above : (ps : List Place) (i f low end : ℕ) (o : Option ℕ) → i < length ps → LiesBehind (length ps) i (place_at ps i).above → length ps ≤ i + f → ((place_at ps i).base < low) ⊎ (end ≤ (place_at ps i).base) → (place_at ps i).below ≡ None → low < (place_at ps i).middle → ((g : ℕ) → Reaches (length ps) (place_at ps i).above g → IsLastFound ps (found ps g (place_at ps i).above) (place_at ps i).middle end o) → IsLastFound ps (found ps f (Some i)) low end o
+only-above ps i zero low end o k b l out e le h = absurd (omega (arith, k, l))
+only-above ps i (suc f) low end o k b l out e le h = only-above-by ps i f low end o out e le (h f (reach (length ps) i f (place_at ps i).above b l))

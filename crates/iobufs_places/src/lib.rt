@@ -91,7 +91,9 @@ impl Span {
         let near_bits = near.checked_ilog2().unwrap_or(0);
         let far_bits = far.checked_ilog2().unwrap_or(0);
         if far_bits <= near_bits.saturating_add(1) {
-            return self.low.saturating_add(self.high.saturating_sub(self.low) / 2 + 1);
+            return self
+                .low
+                .saturating_add(self.high.saturating_sub(self.low) / 2 + 1);
         }
         let distance = 2u64.saturating_pow(near_bits.saturating_add(far_bits) / 2 + 1);
         if is_behind {
@@ -197,6 +199,9 @@ fn last_in(places: &[Place], at: Option<usize>, low: u64, end: u64) -> Option<us
         }
         if here.middle <= low {
             return last_in(places, here.above, low, end);
+        }
+        if here.below.is_none() {
+            return last_in(places, here.above, here.middle, end);
         }
     }
     let above = last_in(places, here.above, low.max(here.middle), end);
