@@ -1,7 +1,8 @@
 -- Steps of a machine with room find it.
 use Rattle.std.proofs.Common.{◌≡◌, ℕ, ◌+◌, ◌≤◌, arith, List, [], ◌∷◌, ◌++◌, length, subst, Bool, true, false, cond, All, inl, inr, sym, ◌∙◌, refl, ap}
 use Rattle.std.proofs.lemmas.List.{append_assoc}
-use Rattle.std.proofs.lemmas.List.Elements.{ByRecursion, All-from_recursion}
+use Rattle.std.specs.List.{AllByRecursion as ByRecursion}
+use Rattle.std.proofs.lemmas.List.Elements.{All-from_recursion}
 use Rattle.iobufs_owner.specs.declared.owner.types.Step.{Step}
 use Rattle.iobufs_owner.specs.declared.owner.types.Reply.{Reply}
 use Rattle.iobufs_owner.specs.State.{Seen, State, KeepsRoom, KeepsLogs, IsBeginning}
