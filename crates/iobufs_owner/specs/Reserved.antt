@@ -1,5 +1,5 @@
 -- When a step isn't refused for want of room.
-use Rattle.std.specs.Prelude.{◌≡◌, ℕ, ◌+◌, ◌^◌, ◌≤◌, Bool, true, false, List, [], ◌∷◌, length}
+use Rattle.std.specs.Prelude.{◌≢◌, ℕ, ◌+◌, ◌^◌, ◌<◌, ◌≤◌, Bool, true, false, if◌then◌else◌, List, [], ◌∷◌, length}
 use Rattle.iobufs_owner.specs.declared.owner.types.Call.{Call}
 use Rattle.iobufs_owner.specs.declared.owner.types.Call.TheVariants.{New, External, Static, Put, Advance, Freeze, TryIntoMut, SplitTo, IsUnique, Demote, Clone, Slice, Drop}
 use Rattle.iobufs_owner.specs.declared.owner.types.Act.{Act}
@@ -10,10 +10,13 @@ use Rattle.iobufs_owner.specs.declared.owner.types.Reply.{Reply}
 use Rattle.iobufs_owner.specs.declared.owner.types.Reply.TheVariants.{Refused}
 use Rattle.iobufs_owner.specs.State.{Seen}
 
--- the tables have memory for a handle and a record more for each of so many steps, and come to no more than 2^32 entries
-pub record IsReserved (m : Seen) (steps : ℕ) : Type 0 where
+-- the tables have memory for so many blocks more, and for a handle and a record more for each of so many steps, and come to
+-- no more than 2^32 entries; where no block is added nothing is asked of theirs
+pub record IsReserved (m : Seen) (made steps : ℕ) : Type 0 where
+  pub blocks : 0 < made → length m.state.tables.blocks + made ≤ m.room.blocks
   pub handles : length m.state.handles + steps ≤ m.room.handles
   pub records : length m.state.tables.records + steps ≤ m.room.records
+  pub few_blocks : 0 < made → length m.state.tables.blocks + made ≤ 2 ^ 32
   pub few_handles : length m.state.handles + steps ≤ 2 ^ 32
   pub few_records : length m.state.tables.records + steps ≤ 2 ^ 32
 
@@ -32,18 +35,19 @@ makes_block (Clone h) = false
 makes_block (Slice h lo hi) = false
 makes_block (Drop h) = false
 
--- Whether a step makes a block. The place of a block goes into std's ordered map, of whose memory nothing is known: such a
--- step may want room whatever is reserved.
 abbrev pub adds_block : Act → Bool
 adds_block (Begin call memory) = makes_block call
 adds_block (Go memory) = false
 
--- a step is refused for want of room only if it makes a block
-abbrev pub FindsRoom : Step → Reply → Type 0
-FindsRoom step reply = reply ≡ Refused Room → adds_block step.act ≡ true
+-- how many blocks a step may add
+abbrev pub new_blocks : Act → ℕ
+new_blocks act = if adds_block act then 1 else 0
 
--- each step of a run finds room
-abbrev pub FindRoom : List Step → List Reply → Type 0
-FindRoom [] replies = Unit {0}
-FindRoom (step ∷ steps) [] = Unit {0}
-FindRoom (step ∷ steps) (reply ∷ replies) = FindsRoom step reply × FindRoom steps replies
+-- and a run
+abbrev pub blocks_of : List Step → ℕ
+blocks_of [] = 0
+blocks_of (step ∷ steps) = new_blocks step.act + blocks_of steps
+
+-- a step that isn't refused for want of room
+abbrev pub FindsRoom : Reply → Type 0
+FindsRoom reply = reply ≢ Refused Room

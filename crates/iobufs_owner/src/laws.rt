@@ -1,9 +1,9 @@
 //! What follows of runs.
-ghost use Rattle.std.specs.Prelude.{ℕ, List, length};
+ghost use Rattle.std.specs.Prelude.{ℕ, List, All, length};
 ghost use Rattle.iobufs_owner.specs.declared.owner.types.Reply.{Reply};
 ghost use Rattle.iobufs_owner.specs.declared.owner.types.Step.{Step};
 ghost use Rattle.iobufs_owner.specs.Causes.{cause_of, may_take, IsCaused};
-ghost use Rattle.iobufs_owner.specs.Reserved.{IsReserved, FindRoom};
+ghost use Rattle.iobufs_owner.specs.Reserved.{IsReserved, FindsRoom, blocks_of};
 ghost use Rattle.iobufs_owner.specs.Reading.{reading};
 ghost use Rattle.iobufs_owner.specs.Runs.{Runs, EndsInFour, taken_of};
 ghost use Rattle.iobufs_owner.specs.State.{Seen, KeepsLogs};
@@ -11,11 +11,10 @@ ghost use Rattle.iobufs_owner.specs.Steps.{Steps};
 ghost use Rattle.iobufs_owner.specs.Tells.{TellsUnique};
 ghost use Rattle.iobufs_owner.specs.World.{World, going_at};
 
-/// A run of a machine that has room for the handles and records of its steps is refused for want of room only in steps that
-/// make a block.
+/// A run of a machine that has room for what its steps may add is nowhere refused for want of room.
 pub fn room_law()
     ensures { (m next : Seen) → (steps : List Step) → (replies : List Reply) → Runs m steps replies next
-        → IsReserved m (length steps) → FindRoom steps replies }
+        → IsReserved m (blocks_of steps) (length steps) → All FindsRoom replies }
 {}
 
 /// A step is refused by the cause that stands against it, and otherwise only for memory that it is denied or for want of room.

@@ -37,7 +37,7 @@ pub record IsModest (s : State) (block : Bool) (o : Outcome) : Type 0 where
   pub answers : o.reply ≡ Refused Room → ⊥
   pub handles : length o.state.handles ≤ length s.handles + 1
   pub records : length o.state.tables.records ≤ length s.tables.records + 1
-  pub blocks : block ≡ false → length o.state.tables.blocks ≤ length s.tables.blocks
+  pub blocks : length o.state.tables.blocks ≤ length s.tables.blocks + cond block 1 0
   pub logs : KeepsLogs s o.state
 
 -- another cause than want of room
@@ -67,7 +67,7 @@ by P true a b p q = p
 by P false a b p q = q
 
 refuses : (s : State) (block : Bool) (why : Refusal) → IsOther why → IsModest s block (refused s why)
-refuses s block why n = record { answers = λ e. n (cc); handles = omega arith; records = omega arith; blocks = λ _. omega arith; logs = logs-same s }
+refuses s block why n = record { answers = λ e. n (cc); handles = omega arith; records = omega arith; blocks = omega arith; logs = logs-same s }
 
 -- ---- which handle
 
@@ -99,18 +99,18 @@ view-other (Some x) = other-by (same_kind x.kind View) (Ok x) (Err WrongKind) tt
 
 -- no entry more
 same : (s u : State) → u.freed_blocks ≡ s.freed_blocks → u.freed_records ≡ s.freed_records → (reply : Reply) (block : Bool) → (reply ≡ Refused Room → ⊥) → length u.handles ≡ length s.handles → length u.tables.records ≡ length s.tables.records → length u.tables.blocks ≡ length s.tables.blocks → IsModest s block (record { reply = reply; state = u })
-same s u e f reply block n h r b = record { answers = n; handles = omega (arith, h); records = omega (arith, r); blocks = λ _. omega (arith, b); logs = rw (e, f) (logs-same s) }
+same s u e f reply block n h r b = record { answers = n; handles = omega (arith, h); records = omega (arith, r); blocks = omega (arith, b); logs = rw (e, f) (logs-same s) }
 
 -- the same, where something is freed
 frees : (s u : State) (reply : Reply) → KeepsLogs s u → (reply ≡ Refused Room → ⊥) → length u.handles ≡ length s.handles → length u.tables.records ≡ length s.tables.records → length u.tables.blocks ≡ length s.tables.blocks → IsModest s false (record { reply = reply; state = u })
-frees s u reply g n h r b = record { answers = n; handles = omega (arith, h); records = omega (arith, r); blocks = λ _. omega (arith, b); logs = g }
+frees s u reply g n h r b = record { answers = n; handles = omega (arith, h); records = omega (arith, r); blocks = omega (arith, b); logs = g }
 
 -- a record more, perhaps
 recorded : (s u : State) → u.freed_blocks ≡ s.freed_blocks → u.freed_records ≡ s.freed_records → (reply : Reply) (block : Bool) → (reply ≡ Refused Room → ⊥) → length u.handles ≡ length s.handles → length u.tables.records ≡ length s.tables.records + 1 → length u.tables.blocks ≡ length s.tables.blocks → IsModest s block (record { reply = reply; state = u })
-recorded s u e f reply block n h r b = record { answers = n; handles = omega (arith, h); records = omega (arith, r); blocks = λ _. omega (arith, b); logs = rw (e, f) (logs-same s) }
+recorded s u e f reply block n h r b = record { answers = n; handles = omega (arith, h); records = omega (arith, r); blocks = omega (arith, b); logs = rw (e, f) (logs-same s) }
 
 -- one handle more than u has
-made : (s u : State) → u.freed_blocks ≡ s.freed_blocks → u.freed_records ≡ s.freed_records → (x : Handle) (block : Bool) → length u.handles ≡ length s.handles → length u.tables.records ≤ length s.tables.records + 1 → (block ≡ false → length u.tables.blocks ≤ length s.tables.blocks) → IsModest s block (change.made u x)
+made : (s u : State) → u.freed_blocks ≡ s.freed_blocks → u.freed_records ≡ s.freed_records → (x : Handle) (block : Bool) → length u.handles ≡ length s.handles → length u.tables.records ≤ length s.tables.records + 1 → length u.tables.blocks ≤ length s.tables.blocks + cond block 1 0 → IsModest s block (change.made u x)
 made s u e f x block h r b = record { answers = λ e. absurd (cc); handles = rw length-append (omega (arith, h)); records = r; blocks = b; logs = rw (e, f) (logs-same s) }
 
 -- ---- calls that end with their first step
@@ -118,8 +118,8 @@ made s u e f x block h r b = record { answers = λ e. absurd (cc); handles = rw 
 placed : (s : State) (base size log : ℕ) → IsModest s true (short.placed s base size log)
 placed s base size log =
     by (IsModest s true) (short.fits_in s.tables size log 0) _ _
-    (made s _ refl refl _ true refl (omega arith) (λ e. absurd (cc)))
-    (made s _ refl refl _ true refl (rw length-append (omega arith)) (λ e. absurd (cc)))
+    (made s _ refl refl _ true refl (omega arith) (rw length-append (omega arith)))
+    (made s _ refl refl _ true refl (rw length-append (omega arith)) (rw length-append (omega arith)))
 
 new-granted : (s : State) (base size align : ℕ) (memory : Bool) (o : Outcome) → MatchBool memory ((log : ℕ) × (align ≡ 2 ^ log) × (o ≡ short.placed s base size log)) (o ≡ refused s Memory) → IsModest s true o
 new-granted s base size align true o (log, e, f) = subst (IsModest s true) (sym f) (placed s base size log)
@@ -132,7 +132,7 @@ new-modest s base size align memory o (inr (good, m)) = new-granted s base size 
 external-modest : (s : State) (base size : ℕ) (memory : Bool) (o : Outcome) → short.IsExternal s base size memory o → IsModest s true o
 external-modest s base size memory o (inl (bad, f)) = subst (IsModest s true) (sym f) (refuses s true BadPlace (λ e. absurd (cc)))
 external-modest s base size memory o (inr (good, f)) =
-    subst (IsModest s true) (sym f) (by (IsModest s true) memory _ _ (made s _ refl refl _ true refl (rw length-append (omega arith)) (λ e. absurd (cc))) (refuses s true Memory (λ e. absurd (cc))))
+    subst (IsModest s true) (sym f) (by (IsModest s true) memory _ _ (made s _ refl refl _ true refl (rw length-append (omega arith)) (rw length-append (omega arith))) (refuses s true Memory (λ e. absurd (cc))))
 
 edited : (s : State) (h : ℕ) (x : Handle) → IsModest s false (change.done (change.edited s h x))
 edited s h x = same s _ refl refl Done false (λ e. absurd (cc)) (length-set _ _ _) refl refl
@@ -183,18 +183,18 @@ recover-modest s h (Err why) a = refuses s false why a
 recover-modest s h (Ok x) a = recover-by s h x x.word
 
 split-by : (s : State) (h at : ℕ) (memory : Bool) (x : Handle) (w : Word) → IsModest s false (short.split_by s h at memory x w)
-split-by s h at memory x Empty = made s _ refl refl _ false (length-set _ _ _) (omega arith) (λ _. omega arith)
+split-by s h at memory x Empty = made s _ refl refl _ false (length-set _ _ _) (omega arith) (omega arith)
 split-by s h at memory x (Descriptor w) =
-    by (IsModest s false) memory _ _ (made s _ refl refl _ false (length-set _ _ _) (rw length-append (omega arith)) (λ _. omega arith)) (refuses s false Memory (λ e. absurd (cc)))
+    by (IsModest s false) memory _ _ (made s _ refl refl _ false (length-set _ _ _) (rw length-append (omega arith)) (omega arith)) (refuses s false Memory (λ e. absurd (cc)))
 split-by s h at memory x (Counted r) =
-    by (IsModest s false) _ _ _ (refuses s false Ceiling (λ e. absurd (cc))) (made s _ refl refl _ false (length-set _ _ _) (rw length-set (omega arith)) (λ _. omega arith))
+    by (IsModest s false) _ _ _ (refuses s false Ceiling (λ e. absurd (cc))) (made s _ refl refl _ false (length-set _ _ _) (rw length-set (omega arith)) (omega arith))
 
 split-modest : (s : State) (h at : ℕ) (memory : Bool) (r : Result Handle Refusal) → AreOther r → IsModest s false (short.split_lent s h at memory r)
 split-modest s h at memory (Err why) a = refuses s false why a
 split-modest s h at memory (Ok x) a =
     by (IsModest s false) (nat_lt x.len at) _ _ (refuses s false OutOfRange (λ e. absurd (cc)))
-    (by (IsModest s false) (nat_eq at 0) _ _ (made s s refl refl _ false refl (omega arith) (λ _. omega arith))
-    (by (IsModest s false) (nat_eq at x.len) _ _ (made s _ refl refl _ false (length-set _ _ _) (omega arith) (λ _. omega arith))
+    (by (IsModest s false) (nat_eq at 0) _ _ (made s s refl refl _ false refl (omega arith) (omega arith))
+    (by (IsModest s false) (nat_eq at x.len) _ _ (made s _ refl refl _ false (length-set _ _ _) (omega arith) (omega arith))
     (split-by s h at memory x x.word)))
 
 unique-modest : (s : State) (r : Result Handle Refusal) → AreOther r → IsModest s false (short.unique_lent s r)
@@ -214,7 +214,7 @@ demote-modest s h (Ok x) o a f = demote-by s h x x.word o f
 -- ---- calls of several steps
 
 share-by : (s : State) (p : ℕ) (k : Share) (x : Handle) (w : Word) → IsModest s false (long.share_by s p k x w)
-share-by s p k x Empty = made s s refl refl _ false refl (omega arith) (λ _. omega arith)
+share-by s p k x Empty = made s s refl refl _ false refl (omega arith) (omega arith)
 share-by s p k x (Descriptor w) = same s _ refl refl More false (λ e. absurd (cc)) refl refl refl
 share-by s p k x (Counted r) = same s _ refl refl More false (λ e. absurd (cc)) refl refl refl
 
@@ -226,7 +226,7 @@ slice-modest : (s : State) (p h lo hi : ℕ) (r : Result Handle Refusal) → Are
 slice-modest s p h lo hi (Err why) a = refuses s false why a
 slice-modest s p h lo hi (Ok x) a =
     by (IsModest s false) _ _ _ (refuses s false OutOfRange (λ e. absurd (cc)))
-    (by (IsModest s false) (nat_eq lo hi) _ _ (made s s refl refl _ false refl (omega arith) (λ _. omega arith)) (share-by s p _ x x.word))
+    (by (IsModest s false) (nat_eq lo hi) _ _ (made s s refl refl _ false refl (omega arith) (omega arith)) (share-by s p _ x x.word))
 
 drop-counted : (s : State) (p h r : ℕ) (kind : Kind) → IsModest s false (long.drop_counted s p h r kind)
 drop-counted s p h r Mut = frees s (change.state_without (change.both_freed s r) h) Done (logs-both s r) (λ e. absurd (cc)) (length-set _ _ _) (length-set _ _ _) refl
@@ -252,7 +252,7 @@ idle s = refuses s false Idle (λ e. absurd (cc))
 
 race-by : (s : State) (p : ℕ) (k : Share) (w r : ℕ) (x : Handle) (now : Word) → IsModest s false (long.race_by s p k w r x now)
 race-by s p k w r x Empty = idle s
-race-by s p k w r x (Descriptor v) = by (IsModest s false) (v == w) _ _ (made s _ refl refl _ false (length-set _ _ _) (omega arith) (λ _. omega arith)) (idle s)
+race-by s p k w r x (Descriptor v) = by (IsModest s false) (v == w) _ _ (made s _ refl refl _ false (length-set _ _ _) (omega arith) (omega arith)) (idle s)
 race-by s p k w r x (Counted winner) = frees s (change.called (change.record_freed s r) p (Some (Add k winner))) More (logs-record s r) (λ e. absurd (cc)) refl (length-set _ _ _) refl
 
 race-modest : (s : State) (p : ℕ) (k : Share) (w r : ℕ) (o : Option Handle) → IsModest s false (long.race_found s p k w r o)
@@ -262,7 +262,7 @@ race-modest s p k w r (Some x) = race-by s p k w r x x.word
 add-modest : (s : State) (p : ℕ) (k : Share) (r : ℕ) (o : Option Handle) → IsModest s false (long.add_found s p k r o)
 add-modest s p k r None = idle s
 add-modest s p k r (Some x) =
-    by (IsModest s false) _ _ _ (same s _ refl refl (Refused Ceiling) false (λ e. absurd (cc)) refl refl refl) (made s _ refl refl _ false refl (rw length-set (omega arith)) (λ _. omega arith))
+    by (IsModest s false) _ _ _ (same s _ refl refl (Refused Ceiling) false (λ e. absurd (cc)) refl refl refl) (made s _ refl refl _ false refl (rw length-set (omega arith)) (omega arith))
 
 subtract-modest : (s : State) (p r : ℕ) → IsModest s false (long.subtract_of s p r)
 subtract-modest s p r =
@@ -288,7 +288,7 @@ begun-modest : (s : State) (p : ℕ) (call : Call) (memory : Bool) (o : Outcome)
 unfolding IsBegun
 begun-modest s p (New base size align) memory o b = new-modest s base size align memory o b
 begun-modest s p (External base size) memory o b = external-modest s base size memory o b
-begun-modest s p (Static len) memory o b = same-as s _ o b (made s s refl refl _ false refl (omega arith) (λ _. omega arith))
+begun-modest s p (Static len) memory o b = same-as s _ o b (made s s refl refl _ false refl (omega arith) (omega arith))
 begun-modest s p (Put h n) memory o b = same-as s _ o b (put-modest s h n (lending.lend_of s h Mut) (lend-other s h Mut (handle_at s h)))
 begun-modest s p (Advance h n) memory o b = same-as s _ o b (advance-modest s h n (lending.any_of s h) (any-other s h (handle_at s h)))
 begun-modest s p (Freeze h) memory o b = same-as s _ o b (freeze-modest s h memory (lending.lend_of s h Mut) (lend-other s h Mut (handle_at s h)))
@@ -302,7 +302,7 @@ begun-modest s p (Drop h) memory o b = same-as s _ o b (drop-modest s p h (lendi
 
 -- what adds no block adds none where it might
 loosely : (s : State) (block : Bool) (o : Outcome) → IsModest s false o → IsModest s block o
-loosely s block o m = record { answers = m.answers; handles = m.handles; records = m.records; blocks = λ _. m.blocks refl; logs = m.logs }
+loosely s block o m = record { answers = m.answers; handles = m.handles; records = m.records; blocks = (let l = m.blocks in omega (arith, l)); logs = m.logs }
 
 at-modest : (s : State) (p : ℕ) (act : Act) (c : Option Pending) (o : Outcome) → IsMovedAt s p act c o → IsModest s (adds_block act) o
 at-modest s p (Begin call memory) None o m = begun-modest s p call memory o m

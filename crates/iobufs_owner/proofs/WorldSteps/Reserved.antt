@@ -1,30 +1,32 @@
 -- Steps of a machine with room find it.
-use Rattle.std.proofs.Common.{◌≡◌, ℕ, ◌+◌, ◌≤◌, arith, List, [], ◌∷◌, ◌++◌, length, subst, Bool, true, false, inl, inr, sym, ◌∙◌, refl, ap}
+use Rattle.std.proofs.Common.{◌≡◌, ℕ, ◌+◌, ◌≤◌, arith, List, [], ◌∷◌, ◌++◌, length, subst, Bool, true, false, cond, All, inl, inr, sym, ◌∙◌, refl, ap}
 use Rattle.std.proofs.lemmas.List.{append_assoc}
+use Rattle.std.specs.List.{AllByRecursion as ByRecursion}
+use Rattle.std.proofs.lemmas.List.Elements.{All-from_recursion}
 use Rattle.iobufs_owner.specs.declared.owner.types.Step.{Step}
 use Rattle.iobufs_owner.specs.declared.owner.types.Reply.{Reply}
 use Rattle.iobufs_owner.specs.State.{Seen, State, KeepsRoom, KeepsLogs, IsBeginning}
 use Rattle.iobufs_owner.specs.Changes.{Outcome}
 use Rattle.iobufs_owner.specs.Moves.{IsTaken, Moves, WantsRoom}
 use Rattle.iobufs_owner.specs.Runs.{Runs}
-use Rattle.iobufs_owner.specs.Reserved.{IsReserved, adds_block, FindsRoom, FindRoom}
+use Rattle.iobufs_owner.specs.Reserved.{IsReserved, FindsRoom, adds_block, blocks_of, new_blocks}
 use Rattle.iobufs_owner.proofs.WorldSteps.Modest.{IsModest, modest, logs-same}
 
--- a step that wants room makes a block, where there is room for the other entries
-wants-block : (m : Seen) (o : Outcome) (block : Bool) → IsReserved m 1 → IsModest m.state block o → WantsRoom m o.state → block ≡ true
-wants-block m o true r n w = refl
-wants-block m o false r n (inl (grows, inl full)) = let l = r.handles in absurd (omega (arith, l, full))
-wants-block m o false r n (inl (grows, inr many)) = let l = r.few_handles in absurd (omega (arith, l, many))
-wants-block m o false r n (inr (inl grows)) = let l = n.blocks refl in absurd (omega (arith, l, grows))
-wants-block m o false r n (inr (inr (grows, inl full))) = let l = r.records in absurd (omega (arith, l, full))
-wants-block m o false r n (inr (inr (grows, inr many))) = let l = r.few_records in absurd (omega (arith, l, many))
+-- no table is full where there is room
+wants-none : (m : Seen) (o : Outcome) (block : Bool) → IsReserved m (cond block 1 0) 1 → IsModest m.state block o → WantsRoom m o.state → ⊥
+wants-none m o block r n (inl (grows, inl full)) = let l = r.handles in omega (arith, l, full)
+wants-none m o block r n (inl (grows, inr many)) = let l = r.few_handles in omega (arith, l, many)
+wants-none m o block r n (inr (inl (grows, inl full))) = let g = n.blocks in let l = r.blocks (omega (arith, g, grows)) in omega (arith, g, grows, l, full)
+wants-none m o block r n (inr (inl (grows, inr many))) = let g = n.blocks in let l = r.few_blocks (omega (arith, g, grows)) in omega (arith, g, grows, l, many)
+wants-none m o block r n (inr (inr (grows, inl full))) = let l = r.records in omega (arith, l, full)
+wants-none m o block r n (inr (inr (grows, inr many))) = let l = r.few_records in omega (arith, l, many)
 
-taken-finds : (m : Seen) (step : Step) (o : Outcome) (reply : Reply) (next : State) → IsReserved m 1 → IsModest m.state (adds_block step.act) o → IsTaken m o reply next → FindsRoom step reply
-taken-finds m step o reply next r n (inl (e, f)) = λ q. absurd (n.answers (sym e ∙ q))
-taken-finds m step o reply next r n (inr (w, e, f)) = λ _. wants-block m o (adds_block step.act) r n w
+taken-finds : (m : Seen) (o : Outcome) (block : Bool) (reply : Reply) (next : State) → IsReserved m (cond block 1 0) 1 → IsModest m.state block o → IsTaken m o reply next → FindsRoom reply
+taken-finds m o block reply next r n (inl (e, f)) = λ q. n.answers (sym e ∙ q)
+taken-finds m o block reply next r n (inr (w, e, f)) = λ _. wants-none m o block r n w
 
-pub finds : (m : Seen) (step : Step) (reply : Reply) (next : Seen) → Moves m step reply next → IsReserved m 1 → FindsRoom step reply
-finds m step reply next (o, moved, taken) r = taken-finds m step o reply next.state r (modest m.state step o moved) taken
+pub finds : (m : Seen) (step : Step) (reply : Reply) (next : Seen) → Moves m step reply next → IsReserved m (new_blocks step.act) 1 → FindsRoom reply
+finds m step reply next (o, moved, taken) r = taken-finds m o (adds_block step.act) reply next.state r (modest m.state step o moved) taken
 
 -- ---- the logs
 
@@ -38,35 +40,48 @@ keeps-logs m step reply next (o, moved, taken) = taken-logs m o (adds_block step
 -- ---- a run
 
 -- room for one step less is left after one
-taken-left : (m : Seen) (o : Outcome) (block : Bool) (reply : Reply) (next : Seen) → IsModest m.state block o → IsTaken m o reply next.state → (length next.state.handles ≤ length m.state.handles + 1) × (length next.state.tables.records ≤ length m.state.tables.records + 1)
-taken-left m o block reply next n (inl (e, f)) = (rw f n.handles, rw f n.records)
-taken-left m o block reply next n (inr (w, e, f)) = (rw f (omega arith), rw f (omega arith))
+record IsLeft (m next : Seen) (blocks : ℕ) : Type 0 where
+  handles : length next.state.handles ≤ length m.state.handles + 1
+  records : length next.state.tables.records ≤ length m.state.tables.records + 1
+  more : length next.state.tables.blocks ≤ length m.state.tables.blocks + blocks
 
-moves-left : (m : Seen) (step : Step) (reply : Reply) (next : Seen) (k n : ℕ) → k ≡ n + 1 → Moves m step reply next → KeepsRoom m.room next.room → IsReserved m k → IsReserved next n
-moves-left m step reply next k n e (o, moved, taken) (b, h, r) i =
-    let l = taken-left m o (adds_block step.act) reply next (modest m.state step o moved) taken in
-    record {
-      handles = let a = i.handles in omega (arith, e, a, h, l.0);
-      records = let a = i.records in omega (arith, e, a, r, l.1);
-      few_handles = let a = i.few_handles in omega (arith, e, a, l.0);
-      few_records = let a = i.few_records in omega (arith, e, a, l.1);
-    }
+taken-left : (m : Seen) (o : Outcome) (block : Bool) (reply : Reply) (next : Seen) → IsModest m.state block o → IsTaken m o reply next.state → IsLeft m next (cond block 1 0)
+taken-left m o block reply next n (inl (e, f)) = record { handles = rw f n.handles; records = rw f n.records; more = rw f n.blocks }
+taken-left m o block reply next n (inr (w, e, f)) = record { handles = rw f (omega arith); records = rw f (omega arith); more = rw f (omega arith) }
 
-fewer : (m : Seen) (k n : ℕ) → k ≡ n + 1 → IsReserved m k → IsReserved m 1
-fewer m k n e i = record {
-  handles = let a = i.handles in omega (arith, e, a);
-  records = let a = i.records in omega (arith, e, a);
-  few_handles = let a = i.few_handles in omega (arith, e, a);
-  few_records = let a = i.few_records in omega (arith, e, a);
+left : (m next : Seen) (a b k n : ℕ) → k ≡ n + 1 → IsLeft m next a → KeepsRoom m.room next.room → IsReserved m (a + b) k → IsReserved next b n
+left m next a b k n e l (kb, kh, kr) i = record {
+  blocks = λ p. (let q = i.blocks (omega (arith, p)) in let g = l.more in omega (arith, q, g, kb));
+  handles = let q = i.handles in let g = l.handles in omega (arith, e, q, kh, g);
+  records = let q = i.records in let g = l.records in omega (arith, e, q, kr, g);
+  few_blocks = λ p. (let q = i.few_blocks (omega (arith, p)) in let g = l.more in omega (arith, q, g));
+  few_handles = let q = i.few_handles in let g = l.handles in omega (arith, e, q, g);
+  few_records = let q = i.few_records in let g = l.records in omega (arith, e, q, g);
 }
 
-pub find : (m : Seen) (steps : List Step) (replies : List Reply) (next : Seen) → Runs m steps replies next → IsReserved m (length steps) → FindRoom steps replies
-find m [] [] next r i = tt
-find m [] (reply ∷ replies) next r i = tt
-find m (step ∷ steps) [] next r i = tt
-find m (step ∷ steps) (reply ∷ replies) next (mid, one, others) i =
+moves-left : (m : Seen) (step : Step) (reply : Reply) (next : Seen) (b k n : ℕ) → k ≡ n + 1 → Moves m step reply next → KeepsRoom m.room next.room → IsReserved m (new_blocks step.act + b) k → IsReserved next b n
+moves-left m step reply next b k n e (o, moved, taken) room i = left m next (new_blocks step.act) b k n e (taken-left m o (adds_block step.act) reply next (modest m.state step o moved) taken) room i
+
+fewer : (m : Seen) (a b k n : ℕ) → k ≡ n + 1 → IsReserved m (a + b) k → IsReserved m a 1
+fewer m a b k n e i = record {
+  blocks = λ p. (let q = i.blocks (omega (arith, p)) in omega (arith, q));
+  handles = let q = i.handles in omega (arith, e, q);
+  records = let q = i.records in omega (arith, e, q);
+  few_blocks = λ p. (let q = i.few_blocks (omega (arith, p)) in omega (arith, q));
+  few_handles = let q = i.few_handles in omega (arith, e, q);
+  few_records = let q = i.few_records in omega (arith, e, q);
+}
+
+find-each : (m : Seen) (steps : List Step) (replies : List Reply) (next : Seen) → Runs m steps replies next → IsReserved m (blocks_of steps) (length steps) → ByRecursion FindsRoom replies
+find-each m [] [] next r i = tt
+find-each m [] (reply ∷ replies) next r i = absurd r
+find-each m (step ∷ steps) [] next r i = tt
+find-each m (step ∷ steps) (reply ∷ replies) next (mid, one, others) i =
     let e : length (step ∷ steps) ≡ length steps + 1 = omega arith in
-    (finds m step reply mid one.moves (fewer m _ (length steps) e i), find mid steps replies next others (moves-left m step reply mid _ (length steps) e one.moves one.room i))
+    (finds m step reply mid one.moves (fewer m (new_blocks step.act) (blocks_of steps) _ (length steps) e i), find-each mid steps replies next others (moves-left m step reply mid (blocks_of steps) _ (length steps) e one.moves one.room i))
+
+pub find : (m : Seen) (steps : List Step) (replies : List Reply) (next : Seen) → Runs m steps replies next → IsReserved m (blocks_of steps) (length steps) → All FindsRoom replies
+find m steps replies next r i = All-from_recursion FindsRoom replies (find-each m steps replies next r i)
 
 begins-through : {X : Type 0} (a b c : List X) → IsBeginning a b → IsBeginning b c → IsBeginning a c
 begins-through a b c (m, e) (n, f) = (m ++ n, f ∙ ap (λ l. l ++ n) e ∙ append_assoc a m n)

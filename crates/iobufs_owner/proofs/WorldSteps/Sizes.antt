@@ -43,7 +43,7 @@ IsAnswered s o reply next = ((reply ≡ o.reply) × (next ≡ o.state)) ⊎ Find
 
 wants-grows : (m : Seen) (t : State) → WantsRoom m t → Grows m.state t
 wants-grows m t (inl w) = inl w.0
-wants-grows m t (inr (inl w)) = inr (inl w)
+wants-grows m t (inr (inl w)) = inr (inl w.0)
 wants-grows m t (inr (inr w)) = inr (inr w.0)
 
 pub answered : (m : Seen) (o : Outcome) (reply : Reply) (t : State) → IsTaken m o reply t → IsAnswered m.state o reply t

@@ -181,8 +181,8 @@ impl Machine {
     {
         let fields = self.format.unpack(word);
         let base = end(x, fields.tail) - fields.size;
-        match self.places.get(&base) {
-            Some(number) => *number,
+        match self.places.last(base, base + 1) {
+            Some(number) => number,
             None => unreachable!(),
         }
     }

@@ -39,10 +39,10 @@ impl Machine {
         ensures yes { result ≡ true → All (λ b. ApartFrom b base size) self.now.state.tables.blocks }
         ensures no { result ≡ false → All (λ b. ApartFrom b base size) self.now.state.tables.blocks → ⊥ }
     {
-        match self.places.range(..base + size).next_back() {
+        match self.places.last(0, base + size) {
             None => true,
-            Some((_, number)) => {
-                let last = self.blocks[*number];
+            Some(number) => {
+                let last = self.blocks[number];
                 last.base + last.size <= base
             }
         }
@@ -150,10 +150,9 @@ impl Machine {
         requires { CanDescribe self.old.state block word }
         ensures { Took self.old (described_of self.old.state block word) result self.new }
     {
-        room_for_block(&mut self.blocks, &mut self.freed_blocks)?;
+        room_for_block(&mut self.blocks, &mut self.freed_blocks, &mut self.places)?;
         room_for_handle(&mut self.handles, &mut self.borrows)?;
-        let number = self.blocks.len();
-        self.places.insert(block.base, number)?;
+        self.places.add(block.base);
         let h = self.handles.len();
         self.blocks.push_reserved(block);
         self.handles.push_reserved(Some(Handle {
@@ -175,11 +174,11 @@ impl Machine {
         requires native { x.kind ≡ Mut → block.external ≡ false }
         ensures { Took self.old (recorded_of self.old.state block x) result self.new }
     {
-        room_for_block(&mut self.blocks, &mut self.freed_blocks)?;
+        room_for_block(&mut self.blocks, &mut self.freed_blocks, &mut self.places)?;
         room_for_record(&mut self.records, &mut self.freed_records)?;
         room_for_handle(&mut self.handles, &mut self.borrows)?;
         let number = self.blocks.len();
-        self.places.insert(block.base, number)?;
+        self.places.add(block.base);
         let h = self.handles.len();
         self.blocks.push_reserved(block);
         self.records.push_reserved(Record {

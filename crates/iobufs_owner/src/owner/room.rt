@@ -1,8 +1,9 @@
-//! Room in the machine's tables. A step wants room here, and in the ordered map of places where it adds a block.
+//! Room in the machine's tables. A step wants room here alone.
 ghost use Rattle.std.specs.Prelude.{◌≡◌, ℕ, min, ◌+◌, ◌^◌, ◌<◌, ◌≤◌, length, vec_len, vec_capacity, None, IfOk, IfSome, OnOk, OnErr};
 ghost use Rattle.iobufs_owner.specs.State.{IsFull};
 
 use crate::owner::{Block, Freed, Handle, Record};
+use iobufs_places::Places;
 use std::alloc::AllocError;
 
 /// A table may have this many entries.
@@ -108,11 +109,13 @@ pub(super) fn room_for_record(
     room_in_log(freed, records.len() + 1)
 }
 
-/// Room for one block more, and for each block in the log of freed ones.
+/// Room for one block more and its place, and for each block in the log of freed ones.
 pub(super) fn room_for_block(
     blocks: &mut Vec<Block>,
     freed: &mut Vec<Freed>,
+    places: &mut Places,
 ) -> Result<(), AllocError>
+    requires { length places.old.bases ≡ length blocks.old.items }
     ensures blocks { blocks.new.items ≡ blocks.old.items }
     ensures len { vec_len blocks.new ≡ vec_len blocks.old }
     ensures freed { freed.new.items ≡ freed.old.items }
@@ -121,8 +124,12 @@ pub(super) fn room_for_block(
     ensures block_capacity { vec_capacity blocks.old ≤ vec_capacity blocks.new }
     ensures capacity { vec_capacity freed.old ≤ vec_capacity freed.new }
     ensures freed_room { OnOk result (length blocks.new.items + 1 ≤ vec_capacity freed.new) }
-    ensures full { OnErr result (IsFull (min (vec_capacity blocks.old) (vec_capacity freed.old)) (length blocks.old.items)) }
+    ensures bases { places.new.bases ≡ places.old.bases }
+    ensures place_capacity { places.old.room ≤ places.new.room }
+    ensures place_room { OnOk result (length places.new.bases < places.new.room) }
+    ensures full { OnErr result (IsFull (min (vec_capacity blocks.old) (min (vec_capacity freed.old) places.old.room)) (length blocks.old.items)) }
 {
     room_for_one(blocks)?;
+    places.reserve(1)?;
     room_in_log(freed, blocks.len() + 1)
 }

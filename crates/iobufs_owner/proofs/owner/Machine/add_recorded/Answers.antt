@@ -1,5 +1,4 @@
 use Rattle.std.proofs.Common.{◌≡◌, length, arith, sym, subst, length-append, ap, inl, inr}
-use Rattle.std.proofs.lemmas.Result.{err_from_is_err_and}
 use Rattle.iobufs_owner.specs.Inside.{state_of}
 use Rattle.iobufs_owner.specs.State.{State, Seen}
 use Rattle.iobufs_owner.specs.Places.{IsGoodPlace}
@@ -7,7 +6,7 @@ use Rattle.iobufs_owner.specs.Changes.{next_record}
 use Rattle.iobufs_owner.specs.declared.owner.types.Word.TheVariants.{Record as Counted}
 use Rattle.iobufs_owner.proofs.Soundness.NewRecord.{sound-recorded}
 use Rattle.iobufs_owner.proofs.Soundness.Borrows.{kept-pushed, counts-pushed}
-use Rattle.iobufs_owner.proofs.Soundness.Finds.{known-more, known-same}
+use Rattle.iobufs_owner.proofs.Soundness.Finds.{bases-more, other-bases}
 use Rattle.iobufs_owner.proofs.Soundness.New.{other-base}
 use Rattle.iobufs_owner.proofs.owner.Machine.add_recorded.Goals as goal
 
@@ -23,23 +22,12 @@ invariant_of-self-2 c =
       block_room = rw (c.push_reserved.ensures.items, c.in_ok-room_for_block.ensures.blocks, length-append) (omega (arith, c.in_ok-room_for_block.ensures.freed_room));
       record_room = rw (c.push_reserved-2.ensures.items, c.in_ok-room_for_record.ensures.records, length-append) (omega (arith, c.in_ok-room_for_record.ensures.freed_room));
       borrows_kept = rw (c.push_reserved-4.ensures.items, c.in_ok-room_for_handle.ensures.borrows, c.push_reserved-3.ensures.items, c.in_ok-room_for_handle.ensures.handles) (kept-pushed _ _ _ k.borrows_kept);
-      places = rw (c.push_reserved.ensures.items, c.in_ok-room_for_block.ensures.blocks) (known-more c.self.inside.places _ c.self.inside.blocks.items c.args.block c.len-number.result k.places (other-base c.self.inside.blocks.items c.args.block k.sound.blocks.places good) n c.in_ok-insert.ensures.updates.0);
+      places = rw (c.add.ensures.bases, c.in_ok-room_for_block.ensures.bases, c.push_reserved.ensures.items, c.in_ok-room_for_block.ensures.blocks) (bases-more c.self.inside.places.bases c.self.inside.blocks.items c.args.block k.places);
       borrowed = rw (c.push_reserved-4.ensures.items, c.in_ok-room_for_handle.ensures.borrows) (counts-pushed c.self.inside.borrows.items c.self.inside.calls.items k.borrowed);
     }
 
-pub invariant_of-self-in_err-insert : goal.invariant_of-self-in_err-insert
-invariant_of-self-in_err-insert c =
+pub add-requires-clause-new : goal.add-requires-clause-new
+add-requires-clause-new c =
     let k = c.self.invariant in
-    record {
-      sound = rw (c.in_ok-room_for_block.ensures.blocks, c.in_ok-room_for_block.ensures.freed, c.in_ok-room_for_handle.ensures.handles, c.in_ok-room_for_record.ensures.records, c.in_ok-room_for_record.ensures.freed) k.sound;
-      block_room = rw c.in_ok-room_for_block.ensures.blocks (omega (arith, k.block_room, c.in_ok-room_for_block.ensures.capacity));
-      record_room = rw c.in_ok-room_for_record.ensures.records (omega (arith, k.record_room, c.in_ok-room_for_record.ensures.capacity));
-      borrows_kept = rw (c.in_ok-room_for_handle.ensures.borrows, c.in_ok-room_for_handle.ensures.handles) k.borrows_kept;
-      places = rw c.in_ok-room_for_block.ensures.blocks (known-same c.self.inside.places _ c.self.inside.blocks.items c.in_err-insert.ensures.err k.places);
-      borrowed = rw c.in_ok-room_for_handle.ensures.borrows k.borrowed;
-    }
-
-pub returns-in_err-insert : goal.returns-in_err-insert
-returns-in_err-insert c =
-    let p = err_from_is_err_and c.from_residual-in_err-insert.result c.from_residual-in_err-insert.ensures.1 in
-    rw p.1 (inr (inl (rw length-append (omega arith))), rw (c.in_ok-room_for_block.ensures.blocks, c.in_ok-room_for_block.ensures.freed, c.in_ok-room_for_handle.ensures.handles, c.in_ok-room_for_record.ensures.records, c.in_ok-room_for_record.ensures.freed) (ap (λ (m : Seen). m.state) c.self.view_is), ((let v = ap (λ (m : Seen). m.room.blocks) c.self.view_is in omega (arith, v, c.in_ok-room_for_block.ensures.block_capacity, c.in_ok-room_for_block.ensures.capacity)), (let v = ap (λ (m : Seen). m.room.handles) c.self.view_is in omega (arith, v, c.in_ok-room_for_handle.ensures.capacity, c.in_ok-room_for_handle.ensures.borrow_capacity)), (let v = ap (λ (m : Seen). m.room.records) c.self.view_is in omega (arith, v, c.in_ok-room_for_record.ensures.record_capacity, c.in_ok-room_for_record.ensures.capacity))))
+    let good = subst (λ (s : State). IsGoodPlace s.tables.blocks c.args.block.base c.args.block.size c.args.block.align) (sym (ap (λ (m : Seen). m.state) c.self.view_is)) c.requires.place in
+    rw c.in_ok-room_for_block.ensures.bases (other-bases c.self.inside.places.bases c.self.inside.blocks.items c.args.block k.places (other-base c.self.inside.blocks.items c.args.block k.sound.blocks.places good))

@@ -45,9 +45,9 @@ unreachable-requires c =
     let k = c.self.invariant in
     let d = subst (λ (s : State). DescribesBlock s.tables c.args.x c.args.word) (sym (ap (λ (m : Seen). m.state) c.self.view_is)) c.requires.says in
     let e : c.end.result ≡ end_of c.args.x (tail_in s.tables c.args.word) = c.end.ensures ∙ ap (λ (n : ℕ). end_of c.args.x n) c.unpack-fields.ensures.tail in
-    let f = finds s.tables c.self.inside.places c.args.x c.args.word d.block d.log d.tail k.places c.requires.word d.says in
-    let v = rw (e, c.unpack-fields.ensures.size) at c.in-None.ensures.value in
-    let z : None ≡ Some d.block = v ∙ f in
+    let h = rw (k.places, e, c.unpack-fields.ensures.size) at c.last.ensures in
+    let f = finds s.tables c.args.x c.args.word d.block d.log d.tail c.last.result k.sound.blocks c.requires.word d.says h in
+    let z : None ≡ Some d.block = sym c.in-None.is ∙ f in
     absurd (cc)
 
 pub returns : goal.returns
@@ -56,6 +56,6 @@ returns c =
     let k = c.self.invariant in
     let d = subst (λ (s : State). DescribesBlock s.tables c.args.x c.args.word) (sym (ap (λ (m : Seen). m.state) c.self.view_is)) c.requires.says in
     let e : c.end.result ≡ end_of c.args.x (tail_in s.tables c.args.word) = c.end.ensures ∙ ap (λ (n : ℕ). end_of c.args.x n) c.unpack-fields.ensures.tail in
-    let f = finds s.tables c.self.inside.places c.args.x c.args.word d.block d.log d.tail k.places c.requires.word d.says in
-    let v = rw (e, c.unpack-fields.ensures.size) at c.in-Some.ensures.value in
-    subst (λ (s : State). owner_of s.tables c.args.x ≡ Some c.in-Some.number.now) (ap (λ (m : Seen). m.state) c.self.view_is) (d.says.owner ∙ sym f ∙ sym v)
+    let h = rw (k.places, e, c.unpack-fields.ensures.size) at c.last.ensures in
+    let f = finds s.tables c.args.x c.args.word d.block d.log d.tail c.last.result k.sound.blocks c.requires.word d.says h in
+    subst (λ (s : State). owner_of s.tables c.args.x ≡ Some c.in-Some.number) (ap (λ (m : Seen). m.state) c.self.view_is) (d.says.owner ∙ sym f ∙ c.in-Some.is)

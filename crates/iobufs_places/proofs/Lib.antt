@@ -1,0 +1,4 @@
+pub mod Last
+pub mod Way
+pub mod Grown
+pub mod Bases
