@@ -1,6 +1,7 @@
 use Rattle.std.proofs.Common.{◌≡◌, length, arith, sym, subst, length-append, ap, inl, inr}
+use Rattle.std.proofs.lemmas.Result.{err_from_is_err_and}
 use Rattle.iobufs_owner.specs.Inside.{state_of}
-use Rattle.iobufs_owner.specs.State.{State, Seen}
+use Rattle.iobufs_owner.specs.State.{IsFull, State, Seen}
 use Rattle.iobufs_owner.specs.Places.{IsGoodPlace}
 use Rattle.iobufs_owner.specs.Changes.{next_record}
 use Rattle.iobufs_owner.specs.declared.owner.types.Word.TheVariants.{Record as Counted}
@@ -31,3 +32,41 @@ add-requires-clause-new c =
     let k = c.self.invariant in
     let good = subst (λ (s : State). IsGoodPlace s.tables.blocks c.args.block.base c.args.block.size c.args.block.align) (sym (ap (λ (m : Seen). m.state) c.self.view_is)) c.requires.place in
     rw c.in_ok-room_for_block.ensures.bases (other-bases c.self.inside.places.bases c.self.inside.blocks.items c.args.block k.places (other-base c.self.inside.blocks.items c.args.block k.sound.blocks.places good))
+
+pub returns-in_err-room_for_record : goal.returns-in_err-room_for_record
+returns-in_err-room_for_record c =
+    let p = err_from_is_err_and c.from_residual-in_err-room_for_record.result c.from_residual-in_err-room_for_record.ensures.1 in
+    let blocks = ap (λ (m : Seen). m.room.blocks) c.self.view_is in
+    let handles = ap (λ (m : Seen). m.room.handles) c.self.view_is in
+    let records = ap (λ (m : Seen). m.room.records) c.self.view_is in
+    rw p.1 (
+      inr (inr (
+        rw length-append (omega arith),
+        subst (λ (m : Seen). IsFull m.room.records (length m.state.tables.records)) c.self.view_is c.in_err-room_for_record.ensures.full,
+      )),
+      rw (c.in_ok-room_for_block.ensures.blocks, c.in_ok-room_for_block.ensures.freed, c.in_err-room_for_record.ensures.records, c.in_err-room_for_record.ensures.freed) (ap (λ (m : Seen). m.state) c.self.view_is),
+      (
+        omega (arith, blocks, c.in_ok-room_for_block.ensures.block_capacity, c.in_ok-room_for_block.ensures.capacity, c.in_ok-room_for_block.ensures.place_capacity),
+        omega (arith, handles),
+        omega (arith, records, c.in_err-room_for_record.ensures.record_capacity, c.in_err-room_for_record.ensures.capacity),
+      ),
+    )
+
+pub returns-in_err-room_for_handle : goal.returns-in_err-room_for_handle
+returns-in_err-room_for_handle c =
+    let p = err_from_is_err_and c.from_residual-in_err-room_for_handle.result c.from_residual-in_err-room_for_handle.ensures.1 in
+    let blocks = ap (λ (m : Seen). m.room.blocks) c.self.view_is in
+    let handles = ap (λ (m : Seen). m.room.handles) c.self.view_is in
+    let records = ap (λ (m : Seen). m.room.records) c.self.view_is in
+    rw p.1 (
+      inl (
+        rw length-append (omega arith),
+        subst (λ (m : Seen). IsFull m.room.handles (length m.state.handles)) c.self.view_is c.in_err-room_for_handle.ensures.full,
+      ),
+      rw (c.in_ok-room_for_block.ensures.blocks, c.in_ok-room_for_block.ensures.freed, c.in_ok-room_for_record.ensures.records, c.in_ok-room_for_record.ensures.freed, c.in_err-room_for_handle.ensures.handles) (ap (λ (m : Seen). m.state) c.self.view_is),
+      (
+        omega (arith, blocks, c.in_ok-room_for_block.ensures.block_capacity, c.in_ok-room_for_block.ensures.capacity, c.in_ok-room_for_block.ensures.place_capacity),
+        omega (arith, handles, c.in_err-room_for_handle.ensures.capacity, c.in_err-room_for_handle.ensures.borrow_capacity),
+        omega (arith, records, c.in_ok-room_for_record.ensures.record_capacity, c.in_ok-room_for_record.ensures.capacity),
+      ),
+    )
