@@ -267,7 +267,7 @@ fn two_clones_and_three_drops(rt: HostRuntime) -> Result<(), Fail> {
     )
 }
 
-// A reservation that is refused leaves what the machine shows; each of its six tables asks for room once.
+// A reservation that is refused leaves what the machine shows; each of its seven tables asks for room once.
 #[test]
 fn a_reservation(rt: HostRuntime) -> Result<(), Fail> {
     let mut machine = fixture!(rt, new_machine(rt.alloc()));
