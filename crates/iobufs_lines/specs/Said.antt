@@ -1,87 +1,85 @@
 -- The command that a line says: its first word names it, and the words behind say its numbers, bytes and lists.
-use Rattle.std.specs.Prelude.{ℕ, if◌then◌else◌, List, [], ◌∷◌, codes, Option, None}
+use Rattle.std.specs.Prelude.{ℕ, if◌then◌else◌, List, [], ◌∷◌, codes, Option, Some, None}
 use Rattle.std.specs.Option.{option_map, option_and_then}
 use Rattle.std.specs.Str.{bytes_eq}
 use Rattle.iobufs_words.specs.Words.{words_of}
+use Rattle.iobufs_lines.specs.declared.line.Verb.{Verb}
+use Rattle.iobufs_lines.specs.declared.line.Verb.TheVariants as verb
 use Rattle.iobufs_lines.specs.Commands.{Command, NewMut, Zeroed, Adopt, Static, FromBytes, Put, SetLen, Truncate, Clear, Overwrite, Freeze, Recover, Clone, Split, Advance, Take, Gather, GatherMut, Append, Prepend, Coalesce, Encode, Decode, Drop, Show}
 use Rattle.iobufs_lines.specs.Shapes.{one_of, two_of, three_of, four_of, bytes_for_of, numbers_for_of, fill_of, slice_of, letters_of, build_of}
 
--- what a name holds is shown, or dropped
-abbrev pub shown_by : List ℕ → List (List ℕ) → Option Command
-shown_by verb words =
-    if bytes_eq verb (codes "show") then option_map Show (one_of words)
-    else if bytes_eq verb (codes "drop") then option_map Drop (one_of words)
+-- what a first word asks for
+abbrev pub verb_of : List ℕ → Option Verb
+verb_of word =
+    if bytes_eq word (codes "new") then Some verb.New
+    else if bytes_eq word (codes "zeroed") then Some verb.Zeroed
+    else if bytes_eq word (codes "adopt") then Some verb.Adopt
+    else if bytes_eq word (codes "static") then Some verb.Static
+    else if bytes_eq word (codes "bytes") then Some verb.Bytes
+    else if bytes_eq word (codes "put") then Some verb.Put
+    else if bytes_eq word (codes "fill") then Some verb.Fill
+    else if bytes_eq word (codes "setlen") then Some verb.SetLen
+    else if bytes_eq word (codes "truncate") then Some verb.Truncate
+    else if bytes_eq word (codes "clear") then Some verb.Clear
+    else if bytes_eq word (codes "overwrite") then Some verb.Overwrite
+    else if bytes_eq word (codes "freeze") then Some verb.Freeze
+    else if bytes_eq word (codes "recover") then Some verb.Recover
+    else if bytes_eq word (codes "clone") then Some verb.Clone
+    else if bytes_eq word (codes "slice") then Some verb.Slice
+    else if bytes_eq word (codes "split") then Some verb.Split
+    else if bytes_eq word (codes "advance") then Some verb.Advance
+    else if bytes_eq word (codes "take") then Some verb.Take
+    else if bytes_eq word (codes "gather") then Some verb.Gather
+    else if bytes_eq word (codes "gathermut") then Some verb.GatherMut
+    else if bytes_eq word (codes "append") then Some verb.Append
+    else if bytes_eq word (codes "prepend") then Some verb.Prepend
+    else if bytes_eq word (codes "coalesce") then Some verb.Coalesce
+    else if bytes_eq word (codes "build") then Some verb.Build
+    else if bytes_eq word (codes "encode") then Some verb.Encode
+    else if bytes_eq word (codes "decode") then Some verb.Decode
+    else if bytes_eq word (codes "drop") then Some verb.Drop
+    else if bytes_eq word (codes "show") then Some verb.Show
     else None
-
--- a text is built
-abbrev pub built_by : List ℕ → List (List ℕ) → Option Command
-built_by verb words =
-    if bytes_eq verb (codes "build") then build_of words
-    else shown_by verb words
-
--- buffers are gathered
-abbrev pub gathered_by : List ℕ → List (List ℕ) → Option Command
-gathered_by verb words =
-    if bytes_eq verb (codes "gather") then option_map (λ n. Gather n.0 n.1) (numbers_for_of words)
-    else if bytes_eq verb (codes "gathermut") then option_map (λ n. GatherMut n.0 n.1) (numbers_for_of words)
-    else built_by verb words
-
--- texts are joined, or become one piece
-abbrev pub joined_by : List ℕ → List (List ℕ) → Option Command
-joined_by verb words =
-    if bytes_eq verb (codes "append") then option_map (λ n. Append n.0 n.1) (two_of words)
-    else if bytes_eq verb (codes "prepend") then option_map (λ n. Prepend n.0 n.1) (two_of words)
-    else if bytes_eq verb (codes "coalesce") then option_map (λ n. Coalesce n.0 n.1) (two_of words)
-    else gathered_by verb words
-
--- bytes or views are taken out of the front
-abbrev pub taken_by : List ℕ → List (List ℕ) → Option Command
-taken_by verb words =
-    if bytes_eq verb (codes "split") then option_map (λ n. Split n.first n.second n.third) (three_of words)
-    else if bytes_eq verb (codes "advance") then option_map (λ n. Advance n.0 n.1) (two_of words)
-    else if bytes_eq verb (codes "take") then option_map (λ n. Take n.0 n.1) (two_of words)
-    else if bytes_eq verb (codes "decode") then option_map (λ n. Decode n.first n.second n.third n.fourth) (four_of words)
-    else joined_by verb words
 
 -- a view of some letters
 abbrev pub static_of : List (List ℕ) → Option Command
 static_of words = option_and_then (λ n. option_map (Static n.first) (letters_of n.second n.third)) (three_of words)
 
--- views are made, and shared
-abbrev pub made_by : List ℕ → List (List ℕ) → Option Command
-made_by verb words =
-    if bytes_eq verb (codes "static") then static_of words
-    else if bytes_eq verb (codes "bytes") then option_map (λ n. FromBytes n.0 n.1) (bytes_for_of words)
-    else if bytes_eq verb (codes "clone") then option_map (λ n. Clone n.0 n.1) (two_of words)
-    else if bytes_eq verb (codes "slice") then slice_of words
-    else if bytes_eq verb (codes "encode") then option_map (λ n. Encode n.0 n.1) (two_of words)
-    else taken_by verb words
-
--- parts are written in place
-abbrev pub written_by : List ℕ → List (List ℕ) → Option Command
-written_by verb words =
-    if bytes_eq verb (codes "put") then option_map (λ n. Put n.0 n.1) (bytes_for_of words)
-    else if bytes_eq verb (codes "fill") then fill_of words
-    else if bytes_eq verb (codes "setlen") then option_map (λ n. SetLen n.0 n.1) (two_of words)
-    else if bytes_eq verb (codes "truncate") then option_map (λ n. Truncate n.0 n.1) (two_of words)
-    else if bytes_eq verb (codes "clear") then option_map Clear (one_of words)
-    else if bytes_eq verb (codes "overwrite") then option_map (λ n. Overwrite n.0 n.1) (bytes_for_of words)
-    else made_by verb words
-
--- parts are made, frozen and recovered
-abbrev pub said_by : List ℕ → List (List ℕ) → Option Command
-said_by verb words =
-    if bytes_eq verb (codes "new") then option_map (λ n. NewMut n.first n.second n.third) (three_of words)
-    else if bytes_eq verb (codes "zeroed") then option_map (λ n. Zeroed n.first n.second n.third) (three_of words)
-    else if bytes_eq verb (codes "adopt") then option_map (λ n. Adopt n.0 n.1) (bytes_for_of words)
-    else if bytes_eq verb (codes "freeze") then option_map (λ n. Freeze n.0 n.1) (two_of words)
-    else if bytes_eq verb (codes "recover") then option_map (λ n. Recover n.0 n.1) (two_of words)
-    else written_by verb words
+-- the command that the words behind the first say
+abbrev pub said_by : Verb → List (List ℕ) → Option Command
+said_by verb.New words = option_map (λ n. NewMut n.first n.second n.third) (three_of words)
+said_by verb.Zeroed words = option_map (λ n. Zeroed n.first n.second n.third) (three_of words)
+said_by verb.Adopt words = option_map (λ n. Adopt n.0 n.1) (bytes_for_of words)
+said_by verb.Static words = static_of words
+said_by verb.Bytes words = option_map (λ n. FromBytes n.0 n.1) (bytes_for_of words)
+said_by verb.Put words = option_map (λ n. Put n.0 n.1) (bytes_for_of words)
+said_by verb.Fill words = fill_of words
+said_by verb.SetLen words = option_map (λ n. SetLen n.0 n.1) (two_of words)
+said_by verb.Truncate words = option_map (λ n. Truncate n.0 n.1) (two_of words)
+said_by verb.Clear words = option_map Clear (one_of words)
+said_by verb.Overwrite words = option_map (λ n. Overwrite n.0 n.1) (bytes_for_of words)
+said_by verb.Freeze words = option_map (λ n. Freeze n.0 n.1) (two_of words)
+said_by verb.Recover words = option_map (λ n. Recover n.0 n.1) (two_of words)
+said_by verb.Clone words = option_map (λ n. Clone n.0 n.1) (two_of words)
+said_by verb.Slice words = slice_of words
+said_by verb.Split words = option_map (λ n. Split n.first n.second n.third) (three_of words)
+said_by verb.Advance words = option_map (λ n. Advance n.0 n.1) (two_of words)
+said_by verb.Take words = option_map (λ n. Take n.0 n.1) (two_of words)
+said_by verb.Gather words = option_map (λ n. Gather n.0 n.1) (numbers_for_of words)
+said_by verb.GatherMut words = option_map (λ n. GatherMut n.0 n.1) (numbers_for_of words)
+said_by verb.Append words = option_map (λ n. Append n.0 n.1) (two_of words)
+said_by verb.Prepend words = option_map (λ n. Prepend n.0 n.1) (two_of words)
+said_by verb.Coalesce words = option_map (λ n. Coalesce n.0 n.1) (two_of words)
+said_by verb.Build words = build_of words
+said_by verb.Encode words = option_map (λ n. Encode n.0 n.1) (two_of words)
+said_by verb.Decode words = option_map (λ n. Decode n.first n.second n.third n.fourth) (four_of words)
+said_by verb.Drop words = option_map Drop (one_of words)
+said_by verb.Show words = option_map Show (one_of words)
 
 -- the command that words say
 abbrev pub command_by : List (List ℕ) → Option Command
 command_by [] = None
-command_by (verb ∷ words) = said_by verb words
+command_by (word ∷ words) = option_and_then (λ verb. said_by verb words) (verb_of word)
 
 -- the command that a line says, if it says one
 abbrev pub command_of : List ℕ → Option Command

@@ -1,9 +1,9 @@
 // Words that follow one another to the end of a line.
 ghost use Rattle.std.specs.Prelude.{◌≡◌, ◌⊎◌, ℕ, List, ◌∷◌, map, Some, None, IfOk, IfErr};
-ghost use Rattle.iobufs_lines.specs.Commands.{plain_item, Fill, Slice, Build};
+ghost use Rattle.iobufs_lines.specs.Commands.{plain, plain_item, Fill, Slice};
 ghost use Rattle.iobufs_lines.specs.Shapes.{bound_of, build_of, bytes_for_of, fill_of, first_bound, four, four_of, item_of, items_of, numbers_for_of, one_of, slice_of, three, three_of, two_of};
 
-use iobufs_run::command::Item;
+use iobufs_run::command::{Cmd, Item};
 use iobufs_words::words::{LineError, Words, bytes, number};
 use std::alloc::Global;
 use std::ops::Bound;
@@ -148,12 +148,16 @@ fn items(alloc: Global, words: &mut Words<'_>) -> Result<Vec<Item>, LineError>
 }
 
 /// Two numbers, and any number of items.
-pub fn built(alloc: Global, words: &mut Words<'_>) -> Result<(usize, usize, Vec<Item>), LineError>
-    ensures ok { IfOk result (λ n. build_of words.old ≡ Some (Build n.0 n.1 (map plain_item n.2.items))) }
+pub fn build(alloc: Global, words: &mut Words<'_>) -> Result<Cmd, LineError>
+    ensures ok { IfOk result (λ cmd. build_of words.old ≡ Some (plain cmd)) }
     ensures err { IfErr result (λ error. (error ≡ LineError.Memory) ⊎ (build_of words.old ≡ None)) }
 {
     let dst = words.number()?;
     let capacity = words.number()?;
     let items = items(alloc, words)?;
-    Ok((dst, capacity, items))
+    Ok(Cmd::Build {
+        dst,
+        capacity,
+        items,
+    })
 }
