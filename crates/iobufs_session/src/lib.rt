@@ -5,17 +5,9 @@
 //! - `specs/`: `Session` and `MachineSession` say what a session answers, `Faults` what stands where it can't go on.
 #![tactic(auto)]
 
-#[cfg(test)]
-mod buf_tests;
 pub mod fault;
 pub mod input;
 pub mod output;
-#[cfg(test)]
-mod owner_tests;
-#[cfg(test)]
-mod sample_tests;
-#[cfg(test)]
-mod schedule_tests;
 pub mod serve;
 #[cfg(test)]
 mod serve_tests;

@@ -1,90 +1,9 @@
-// How a run begins and ends: bad lines, other arguments, faults of readers and writers, and when replies are sent off.
-use crate::buf_tests::assert_serves;
+// What the program cannot be shown by: faults of readers and writers, and when replies are sent off.
 use crate::fault::{Fault, Stop};
 use crate::output::Stream;
 use crate::serve::{Half, in_memory, serve};
 use std::cell::Cell;
 use std::io::{self, Read, Write};
-use std::process::Abort;
-use std::test::Fail;
-
-#[test]
-fn bad_lines_end_the_run(rt: HostRuntime) -> Result<(), Fail> {
-    for line in [
-        "",
-        "show",
-        "show +1",
-        "show 0 ",
-        " show 0",
-        "show  0",
-        "show 0 0",
-        "Show 0",
-        "put 0 ",
-        "put 0 6",
-        "put 0 6g",
-        "put 0 --",
-        "show 18446744073709551616",
-        "show \u{661}",
-        "show 0\r\r",
-        "grab 0 1",
-        "static 0 4 3",
-        "static 0 0 27",
-        "slice 0 1 i u",
-        "slice 0 1 x1 u",
-        "slice 0 1 u u1",
-        "take 0",
-        "decode 0 1 0",
-        "fill 0 256 1",
-        "fill 0 1",
-        "fill 0 -1 1",
-        "zeroed 0 1",
-        "adopt 0",
-        "clear 0 0",
-        "recover 0",
-        "encode 0",
-        "build 0",
-        "build 0 1 61",
-        "build 0 1 i",
-        "build 0 1 i6",
-        "build 0 1 p",
-        "machine 1 1 64",
-    ] {
-        let input = format!(in rt.alloc(); "new 0 1 1\n{line}\nnew 1 1 1\n")?;
-        let errors = "line 2: bad command\n";
-        assert_serves(&rt, &["buf"], input.as_bytes(), "ok\n", errors, 2);
-    }
-    assert_serves(
-        &rt,
-        &["buf"],
-        b"new 0 1 1\r",
-        "",
-        "line 1: bad command\n",
-        2,
-    );
-    Ok(())
-}
-
-#[test]
-fn text_that_is_no_utf8_ends_the_run(rt: HostRuntime) {
-    let input = b"new 0 1 1\n\xff\nnew 1 1 1\n";
-    assert_serves(&rt, &["buf"], input, "ok\n", "cannot continue\n", 3);
-    let input = b"new 0 1 1\nnew\n\xff\n";
-    assert_serves(&rt, &["buf"], input, "ok\n", "line 2: bad command\n", 2);
-}
-
-#[test]
-fn other_arguments_print_the_usage(rt: HostRuntime) {
-    let usage = "usage: iobuf buf or iobuf owner\n";
-    for args in [
-        [].as_slice(),
-        &["owner", "buf"],
-        &["buf", "buf"],
-        &["bufs"],
-        &[""],
-    ] {
-        assert_serves(&rt, args, b"new 0 1 1\n", "", usage, 2);
-    }
-}
 
 // A writer that takes this many bytes, and then fails.
 #[derive(Drop)]
