@@ -1,6 +1,9 @@
 // Reads commands on named buffers, or steps of the owner machine, a line each, and prints a reply to each.
 #![tactic(auto)]
 
+#[cfg(test)]
+mod tests;
+
 use iobufs_session::fault::{Fault, Stop, status, tell};
 use iobufs_session::output::Stream;
 use iobufs_session::serve::serve;

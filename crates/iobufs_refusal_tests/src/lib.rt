@@ -46,8 +46,6 @@ macro_rules! consumed {
 #[cfg(test)]
 mod builder;
 #[cfg(test)]
-mod commands;
-#[cfg(test)]
 mod each;
 #[cfg(test)]
 mod frames;
@@ -63,6 +61,8 @@ mod parts;
 mod several;
 #[cfg(test)]
 mod shared;
+#[cfg(test)]
+mod table;
 #[cfg(test)]
 mod texts;
 #[cfg(test)]

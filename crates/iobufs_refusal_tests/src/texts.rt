@@ -1,4 +1,5 @@
-// Calls of `IoBufs`.
+// Calls of `IoBufs` that no line of the program says, and those that hand back what they were given.
+use crate::each::on_each;
 use crate::made::{PIECES, native, natives, part, pieces, shows, shows_pieces};
 use crate::word::{Word, end, ensure, say};
 use bytes::Bytes;
@@ -8,254 +9,66 @@ use iobufs_core::codec::{Buf, BufError, Error, OwnedBuf, OwnedBytes};
 use std::alloc::Global;
 use std::test::Fail;
 
-fn twin_of(text: &IoBufs) -> Result<IoBufs, BufError> {
-    Ok(text.clone()?)
-}
+// A text of so many of the pieces.
+type Counted = (IoBufs, usize);
 
-fn split(alloc: Global, text: &mut IoBufs, at: usize) -> Result<IoBufs, BufError> {
-    if text.len() < at {
-        return Err(BufError::TooLong);
+// Texts of no piece, of one to four, and of eight.
+fn texts(alloc: Global) -> Result<Vec<Counted>, BufError> {
+    let mut texts = Vec::with_capacity(alloc, 6)?;
+    for count in [0, 1, 2, 3, 4, 8] {
+        texts.push((pieces(alloc, count)?, count))?;
     }
-    text.split_to(alloc, at)
+    Ok(texts)
 }
 
-// How many of at most so many chunks there are.
-fn counted(alloc: Global, text: &IoBufs, max: usize) -> Result<usize, BufError> {
-    Ok(text.chunks_vectored(alloc, max)?.len())
+fn is_counted(counted: &Counted) -> bool {
+    shows_pieces(&counted.0, counted.1)
 }
 
-fn copied(alloc: Global, text: &mut IoBufs, n: usize) -> Result<Bytes, BufError> {
-    if text.remaining() < n {
-        return Err(BufError::TooLong);
+// The pieces of a text, without the first where that is skipped.
+fn shows_behind(text: &IoBufs, first: &[u8], count: usize) -> bool {
+    let mut behind = PIECES.iter().take(count);
+    let mut is_same = text.chunk_at(0) == Some(first);
+    for i in 1..text.chunk_count() {
+        is_same = is_same && text.chunk_at(i) == behind.next().copied();
     }
-    text.copy_to_bytes(alloc, n)
-}
-
-fn taken<T: OwnedBytes>(
-    alloc: Global,
-    text: &mut IoBufs,
-    skip: usize,
-    n: usize,
-) -> Result<T, BufError> {
-    let len = text.len();
-    if len < skip || len - skip < n {
-        return Err(BufError::TooLong);
-    }
-    text.take_owned_after(alloc, skip, n)
-}
-
-// Puts the next piece behind a text of so many.
-fn appended(rt: &(impl Print + AllocGlobal), count: usize) -> Result<(), Fail> {
-    let mut text = match pieces(rt.alloc(), count) {
-        Ok(text) => text,
-        Err(_) => return say(rt, Word::Fixture),
-    };
-    let piece = *PIECES.get(count).ok_or("no such piece")?;
-    let word = match text.append(rt.alloc(), IoBuf::from(piece)) {
-        Ok(()) => Word::Whole,
-        Err(refused) => {
-            ensure(refused.cause == BufError::Memory, "another refusal")?;
-            ensure(refused.value.as_ref() == piece, "another piece")?;
-            ensure(shows_pieces(&text, count), "changed by a refusal")?;
-            let again = text.append(rt.alloc(), refused.value);
-            again.ok().ok_or("refused twice")?;
-            Word::Refused
-        }
-    };
-    end(rt, word, shows_pieces(&text, count.saturating_add(1)))
-}
-
-// Puts a piece in front of a text of so many.
-fn prepended(rt: &(impl Print + AllocGlobal), count: usize) -> Result<(), Fail> {
-    let mut text = match pieces(rt.alloc(), count) {
-        Ok(text) => text,
-        Err(_) => return say(rt, Word::Fixture),
-    };
-    let piece = b"yz".as_slice();
-    let word = match text.prepend(rt.alloc(), IoBuf::from(piece)) {
-        Ok(()) => Word::Whole,
-        Err(refused) => {
-            ensure(refused.cause == BufError::Memory, "another refusal")?;
-            ensure(refused.value.as_ref() == piece, "another piece")?;
-            ensure(shows_pieces(&text, count), "changed by a refusal")?;
-            let again = text.prepend(rt.alloc(), refused.value);
-            again.ok().ok_or("refused twice")?;
-            Word::Refused
-        }
-    };
-    let (first, second) = (text.chunk_at(0), text.chunk_at(1));
-    let whole = first == Some(piece)
-        && second == PIECES.get(..count).and_then(|all| all.first()).copied();
-    end(
-        rt,
-        word,
-        whole && text.chunk_count() == count.saturating_add(1),
-    )
+    is_same && behind.next().is_none()
 }
 
 #[test]
-fn append_to_no_piece(rt: HostRuntime) -> Result<(), Fail> {
-    appended(&rt, 0)
-}
-
-#[test]
-fn append_to_one_piece(rt: HostRuntime) -> Result<(), Fail> {
-    appended(&rt, 1)
-}
-
-#[test]
-fn append_to_two_pieces(rt: HostRuntime) -> Result<(), Fail> {
-    appended(&rt, 2)
-}
-
-#[test]
-fn append_to_three_pieces(rt: HostRuntime) -> Result<(), Fail> {
-    appended(&rt, 3)
-}
-
-#[test]
-fn append_to_four_pieces(rt: HostRuntime) -> Result<(), Fail> {
-    appended(&rt, 4)
-}
-
-#[test]
-fn append_to_eight_pieces(rt: HostRuntime) -> Result<(), Fail> {
-    appended(&rt, 8)
-}
-
-#[test]
-fn append_of_no_bytes(rt: HostRuntime) -> Result<(), Fail> {
-    let mut text = fixture!(rt, pieces(rt.alloc(), 8));
-    let done = text.append(rt.alloc(), IoBuf::default()).is_ok();
-    end(&rt, Word::Whole, done && shows_pieces(&text, 8))
-}
-
-#[test]
-fn prepend_to_no_piece(rt: HostRuntime) -> Result<(), Fail> {
-    prepended(&rt, 0)
-}
-
-#[test]
-fn prepend_to_one_piece(rt: HostRuntime) -> Result<(), Fail> {
-    prepended(&rt, 1)
-}
-
-#[test]
-fn prepend_to_two_pieces(rt: HostRuntime) -> Result<(), Fail> {
-    prepended(&rt, 2)
-}
-
-#[test]
-fn prepend_to_three_pieces(rt: HostRuntime) -> Result<(), Fail> {
-    prepended(&rt, 3)
-}
-
-#[test]
-fn prepend_to_four_pieces(rt: HostRuntime) -> Result<(), Fail> {
-    prepended(&rt, 4)
-}
-
-#[test]
-fn prepend_to_eight_pieces(rt: HostRuntime) -> Result<(), Fail> {
-    prepended(&rt, 8)
-}
-
-#[test]
-fn prepend_of_no_bytes(rt: HostRuntime) -> Result<(), Fail> {
-    let mut text = fixture!(rt, pieces(rt.alloc(), 8));
-    let done = text.prepend(rt.alloc(), IoBuf::default()).is_ok();
-    end(&rt, Word::Whole, done && shows_pieces(&text, 8))
-}
-
-// Splits a text of eight pieces inside the fifth, whose front is the longer side.
-#[test]
-fn split_inside_the_fifth_of_eight_pieces(rt: HostRuntime) -> Result<(), Fail> {
-    let mut text = fixture!(rt, pieces(rt.alloc(), 8));
-    let (front, word) = lent!(
-        split(rt.alloc(), &mut text, 9),
-        BufError::Memory,
-        shows_pieces(&text, 8)
-    );
-    let whole = shows(&front, &[b"ab", b"cd", b"ef", b"gh", b"i"]);
-    end(
+fn appended(rt: HostRuntime) -> Result<(), Fail> {
+    on_each(
         &rt,
-        word,
-        whole && shows(&text, &[b"j", b"kl", b"mn", b"op"]),
+        texts(rt.alloc()),
+        is_counted,
+        |counted: &mut Counted| {
+            let (text, count) = counted;
+            let piece = PIECES.get(*count).copied().unwrap_or_default();
+            match text.append(rt.alloc(), IoBuf::from(piece)) {
+                Ok(()) => Ok(shows_pieces(text, count.saturating_add(1))),
+                Err(refused) if refused.value.as_ref() == piece => Err(refused.cause),
+                Err(_) => Ok(false),
+            }
+        },
     )
 }
 
 #[test]
-fn split_inside_the_third_of_eight_pieces(rt: HostRuntime) -> Result<(), Fail> {
-    let mut text = fixture!(rt, pieces(rt.alloc(), 8));
-    let (front, word) = lent!(
-        split(rt.alloc(), &mut text, 5),
-        BufError::Memory,
-        shows_pieces(&text, 8)
-    );
-    let rest = [b"f".as_slice(), b"gh", b"ij", b"kl", b"mn", b"op"];
-    end(
+fn prepended(rt: HostRuntime) -> Result<(), Fail> {
+    on_each(
         &rt,
-        word,
-        shows(&front, &[b"ab", b"cd", b"e"]) && shows(&text, &rest),
+        texts(rt.alloc()),
+        is_counted,
+        |counted: &mut Counted| {
+            let (text, count) = counted;
+            let piece = b"yz".as_slice();
+            match text.prepend(rt.alloc(), IoBuf::from(piece)) {
+                Ok(()) => Ok(shows_behind(text, piece, *count)),
+                Err(refused) if refused.value.as_ref() == piece => Err(refused.cause),
+                Err(_) => Ok(false),
+            }
+        },
     )
-}
-
-#[test]
-fn split_inside_the_first_of_eight_pieces(rt: HostRuntime) -> Result<(), Fail> {
-    let mut text = fixture!(rt, pieces(rt.alloc(), 8));
-    let (front, word) = lent!(
-        split(rt.alloc(), &mut text, 1),
-        BufError::Memory,
-        shows_pieces(&text, 8)
-    );
-    end(&rt, word, shows(&front, &[b"a"]) && text.chunk_count() == 8)
-}
-
-#[test]
-fn split_at_an_edge_of_eight_pieces(rt: HostRuntime) -> Result<(), Fail> {
-    let mut text = fixture!(rt, pieces(rt.alloc(), 8));
-    let (front, word) = lent!(
-        split(rt.alloc(), &mut text, 8),
-        BufError::Memory,
-        shows_pieces(&text, 8)
-    );
-    let rest = [b"ij".as_slice(), b"kl", b"mn", b"op"];
-    end(&rt, word, shows_pieces(&front, 4) && shows(&text, &rest))
-}
-
-#[test]
-fn split_inside_a_native_piece(rt: HostRuntime) -> Result<(), Fail> {
-    let mut text = fixture!(rt, natives(rt.alloc()));
-    let (front, word) = lent!(
-        split(rt.alloc(), &mut text, 4),
-        BufError::Memory,
-        shows(&text, &[b"abc", b"def"])
-    );
-    end(
-        &rt,
-        word,
-        shows(&front, &[b"abc", b"d"]) && shows(&text, &[b"ef"]),
-    )
-}
-
-#[test]
-fn split_of_one_native_piece(rt: HostRuntime) -> Result<(), Fail> {
-    let mut text = IoBufs::from(fixture!(rt, native(rt.alloc(), 4, b"abc")));
-    let (front, word) = lent!(
-        split(rt.alloc(), &mut text, 1),
-        BufError::Memory,
-        shows(&text, &[b"abc"])
-    );
-    end(&rt, word, shows(&front, &[b"a"]) && shows(&text, &[b"bc"]))
-}
-
-#[test]
-fn split_at_either_end(rt: HostRuntime) -> Result<(), Fail> {
-    let mut text = fixture!(rt, pieces(rt.alloc(), 5));
-    let (none, word) = lent!(split(rt.alloc(), &mut text, 0), BufError::Memory, false);
-    ensure(none.is_empty(), "bytes before the front")?;
-    let (all, _) = lent!(split(rt.alloc(), &mut text, 10), BufError::Memory, false);
-    end(&rt, word, shows_pieces(&all, 5) && text.is_empty())
 }
 
 #[test]
@@ -278,45 +91,6 @@ fn from_vec(rt: HostRuntime) -> Result<(), Fail> {
     end(&rt, word, shows(&text, &[b"abc"]))
 }
 
-// The first of the pieces, in a list.
-fn listed(alloc: Global, count: usize) -> Result<Vec<IoBuf>, BufError> {
-    let mut views = Vec::with_capacity(alloc, count)?;
-    for piece in PIECES.iter().take(count) {
-        views.push(IoBuf::from(*piece))?;
-    }
-    Ok(views)
-}
-
-#[test]
-fn from_nine_chunks(rt: HostRuntime) -> Result<(), Fail> {
-    let (text, word) = consumed!(
-        rt, listed(rt.alloc(), 9) => views,
-        IoBufs::from_chunks(rt.alloc(), views.into_iter()),
-        BufError::Memory
-    );
-    end(&rt, word, shows_pieces(&text, 9))
-}
-
-#[test]
-fn coalesce(rt: HostRuntime) -> Result<(), Fail> {
-    let (view, word) = consumed!(
-        rt, pieces(rt.alloc(), 4) => text,
-        text.coalesce(rt.alloc()),
-        BufError::Memory
-    );
-    end(&rt, word, view.as_ref() == b"abcdefgh".as_slice())
-}
-
-#[test]
-fn coalesce_of_one_piece(rt: HostRuntime) -> Result<(), Fail> {
-    let (view, word) = consumed!(
-        rt, native(rt.alloc(), 8, b"abc") => view,
-        IoBufs::from(view).coalesce(rt.alloc()),
-        BufError::Memory
-    );
-    end(&rt, word, view.as_ref() == b"abc".as_slice())
-}
-
 #[test]
 fn into_single(rt: HostRuntime) -> Result<(), Fail> {
     let text = IoBufs::from(fixture!(rt, native(rt.alloc(), 8, b"abc")));
@@ -324,54 +98,16 @@ fn into_single(rt: HostRuntime) -> Result<(), Fail> {
     end(&rt, Word::Whole, view.as_ref() == b"abc".as_slice())
 }
 
-#[test]
-fn clone_of_native_pieces(rt: HostRuntime) -> Result<(), Fail> {
-    let text = fixture!(rt, natives(rt.alloc()));
-    let (twin, word) = lent!(
-        twin_of(&text),
-        BufError::Memory,
-        shows(&text, &[b"abc", b"def"])
-    );
-    end(&rt, word, shows(&twin, &[b"abc", b"def"]))
+// How many of at most so many chunks there are.
+fn counted(alloc: Global, text: &IoBufs, max: usize) -> Result<usize, BufError> {
+    Ok(text.chunks_vectored(alloc, max)?.len())
 }
 
 #[test]
-fn clone_of_five_pieces(rt: HostRuntime) -> Result<(), Fail> {
-    let text = fixture!(rt, pieces(rt.alloc(), 5));
-    let (twin, word) = lent!(twin_of(&text), BufError::Memory, shows_pieces(&text, 5));
-    end(&rt, word, shows_pieces(&twin, 5))
-}
-
-#[test]
-fn copy_to_bytes_across_pieces(rt: HostRuntime) -> Result<(), Fail> {
-    let mut text = fixture!(rt, pieces(rt.alloc(), 4));
-    let (front, word) = lent!(
-        copied(rt.alloc(), &mut text, 3),
-        BufError::Memory,
-        shows_pieces(&text, 4)
-    );
-    let rest = shows(&text, &[b"d", b"ef", b"gh"]);
-    end(&rt, word, front.as_slice() == b"abc".as_slice() && rest)
-}
-
-#[test]
-fn copy_to_bytes_of_the_first_piece(rt: HostRuntime) -> Result<(), Fail> {
-    let mut text = fixture!(rt, natives(rt.alloc()));
-    let (front, word) = lent!(
-        copied(rt.alloc(), &mut text, 3),
-        BufError::Memory,
-        shows(&text, &[b"abc", b"def"])
-    );
-    end(
-        &rt,
-        word,
-        front.as_slice() == b"abc".as_slice() && shows(&text, &[b"def"]),
-    )
-}
-
-#[test]
-fn chunks_vectored(rt: HostRuntime) -> Result<(), Fail> {
+fn chunks(rt: HostRuntime) -> Result<(), Fail> {
     let text = fixture!(rt, pieces(rt.alloc(), 4));
+    let (none, _) = lent!(counted(rt.alloc(), &text, 0), BufError::Memory, false);
+    ensure(none == 0, "chunks where none are wanted")?;
     let (chunks, word) = lent!(
         counted(rt.alloc(), &text, 2),
         BufError::Memory,
@@ -380,69 +116,61 @@ fn chunks_vectored(rt: HostRuntime) -> Result<(), Fail> {
     end(&rt, word, chunks == 2)
 }
 
-#[test]
-fn no_chunks(rt: HostRuntime) -> Result<(), Fail> {
-    let text = fixture!(rt, pieces(rt.alloc(), 4));
-    let (chunks, word) = lent!(
-        counted(rt.alloc(), &text, 0),
-        BufError::Memory,
-        shows_pieces(&text, 4)
-    );
-    end(&rt, word, chunks == 0)
+// Two native pieces, and four static ones: what is taken lies within a piece, and across three of them.
+fn taken<T: OwnedBytes>(
+    alloc: Global,
+    text: &mut IoBufs,
+    skip: usize,
+    n: usize,
+) -> Result<T, BufError> {
+    let len = text.len();
+    if len < skip || len - skip < n {
+        return Err(BufError::TooLong);
+    }
+    text.take_owned_after(alloc, skip, n)
+}
+
+fn cut(alloc: Global) -> Result<Vec<IoBufs>, BufError> {
+    let mut texts = Vec::with_capacity(alloc, 2)?;
+    texts.push(natives(alloc)?)?;
+    texts.push(pieces(alloc, 4)?)?;
+    Ok(texts)
+}
+
+fn is_cut(text: &IoBufs) -> bool {
+    shows(text, &[b"abc", b"def"]) || shows_pieces(text, 4)
+}
+
+// Whether a text shows what is left of the one or the other behind so many bytes.
+fn shows_rest(text: &IoBufs, natives: &[&[u8]], pieces: &[&[u8]]) -> bool {
+    shows(text, natives) || shows(text, pieces)
 }
 
 #[test]
-fn taken_within_a_piece_as_a_view(rt: HostRuntime) -> Result<(), Fail> {
-    let mut text = fixture!(rt, natives(rt.alloc()));
-    let (part, word) = lent!(
-        taken::<IoBuf>(rt.alloc(), &mut text, 1, 1),
-        BufError::Memory,
-        shows(&text, &[b"abc", b"def"])
-    );
-    end(
-        &rt,
-        word,
-        part.as_ref() == b"b".as_slice() && shows(&text, &[b"c", b"def"]),
-    )
+fn taken_as_views(rt: HostRuntime) -> Result<(), Fail> {
+    on_each(&rt, cut(rt.alloc()), is_cut, |text: &mut IoBufs| {
+        let part = taken::<IoBuf>(rt.alloc(), text, 0, 2)?;
+        let rest = shows_rest(text, &[b"c", b"def"], &[b"cd", b"ef", b"gh"]);
+        Ok(part.as_ref() == b"ab".as_slice() && rest)
+    })
 }
 
 #[test]
-fn taken_whole_as_a_view(rt: HostRuntime) -> Result<(), Fail> {
-    let mut text = fixture!(rt, natives(rt.alloc()));
-    let (part, word) = lent!(
-        taken::<IoBuf>(rt.alloc(), &mut text, 0, 3),
-        BufError::Memory,
-        shows(&text, &[b"abc", b"def"])
-    );
-    end(
-        &rt,
-        word,
-        part.as_ref() == b"abc".as_slice() && shows(&text, &[b"def"]),
-    )
-}
-
-#[test]
-fn taken_across_pieces_as_a_view(rt: HostRuntime) -> Result<(), Fail> {
-    let mut text = fixture!(rt, pieces(rt.alloc(), 4));
-    let (part, word) = lent!(
-        taken::<IoBuf>(rt.alloc(), &mut text, 1, 4),
-        BufError::Memory,
-        shows_pieces(&text, 4)
-    );
-    let rest = shows(&text, &[b"f", b"gh"]);
-    end(&rt, word, part.as_ref() == b"bcde".as_slice() && rest)
+fn taken_across_pieces_as_views(rt: HostRuntime) -> Result<(), Fail> {
+    on_each(&rt, cut(rt.alloc()), is_cut, |text: &mut IoBufs| {
+        let part = taken::<IoBuf>(rt.alloc(), text, 1, 4)?;
+        let rest = shows_rest(text, &[b"f"], &[b"f", b"gh"]);
+        Ok(part.as_ref() == b"bcde".as_slice() && rest)
+    })
 }
 
 #[test]
 fn taken_across_pieces_as_bytes(rt: HostRuntime) -> Result<(), Fail> {
-    let mut text = fixture!(rt, pieces(rt.alloc(), 4));
-    let (part, word) = lent!(
-        taken::<Bytes>(rt.alloc(), &mut text, 1, 4),
-        BufError::Memory,
-        shows_pieces(&text, 4)
-    );
-    let rest = shows(&text, &[b"f", b"gh"]);
-    end(&rt, word, part.as_slice() == b"bcde".as_slice() && rest)
+    on_each(&rt, cut(rt.alloc()), is_cut, |text: &mut IoBufs| {
+        let part = taken::<Bytes>(rt.alloc(), text, 1, 4)?;
+        let rest = shows_rest(text, &[b"f"], &[b"f", b"gh"]);
+        Ok(part.as_slice() == b"bcde".as_slice() && rest)
+    })
 }
 
 #[test]
@@ -451,21 +179,6 @@ fn tried_to_take(rt: HostRuntime) -> Result<(), Fail> {
     let (part, word) = lent!(
         text.try_take_owned::<IoBuf>(rt.alloc(), 3),
         Error::Memory,
-        shows_pieces(&text, 4)
-    );
-    let rest = shows(&text, &[b"d", b"ef", b"gh"]);
-    end(&rt, word, part.as_ref() == b"abc".as_slice() && rest)
-}
-
-#[test]
-fn taken_from_the_front(rt: HostRuntime) -> Result<(), Fail> {
-    let mut text = fixture!(rt, pieces(rt.alloc(), 4));
-    if text.len() < 3 {
-        return Err(Fail::new("too short"));
-    }
-    let (part, word) = lent!(
-        text.take_owned::<IoBuf>(rt.alloc(), 3),
-        BufError::Memory,
         shows_pieces(&text, 4)
     );
     let rest = shows(&text, &[b"d", b"ef", b"gh"]);

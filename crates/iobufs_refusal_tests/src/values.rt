@@ -25,36 +25,6 @@ const IN_ONE: [&'static [u8]; 2] = [b"\x04wxyz", b"!"];
 const IN_TWO: [&'static [u8]; 3] = [b"\x04", b"wx", b"yz!"];
 
 #[test]
-fn a_view_is_read_from_one_piece(rt: HostRuntime) -> Result<(), Fail> {
-    let mut text = fixture!(rt, spelled(rt.alloc(), &IN_ONE));
-    let (view, word) = lent!(
-        IoBuf::read_cfg(rt.alloc(), &mut text, &RANGE),
-        Error::Memory,
-        shows(&text, &IN_ONE)
-    );
-    end(
-        &rt,
-        word,
-        view.as_ref() == b"wxyz".as_slice() && shows(&text, &[b"!"]),
-    )
-}
-
-#[test]
-fn a_view_is_read_across_pieces(rt: HostRuntime) -> Result<(), Fail> {
-    let mut text = fixture!(rt, spelled(rt.alloc(), &IN_TWO));
-    let (view, word) = lent!(
-        IoBuf::read_cfg(rt.alloc(), &mut text, &RANGE),
-        Error::Memory,
-        shows(&text, &IN_TWO)
-    );
-    end(
-        &rt,
-        word,
-        view.as_ref() == b"wxyz".as_slice() && shows(&text, &[b"!"]),
-    )
-}
-
-#[test]
 fn bytes_are_read_from_one_piece(rt: HostRuntime) -> Result<(), Fail> {
     let mut text = fixture!(rt, spelled(rt.alloc(), &IN_ONE));
     let (bytes, word) = lent!(
@@ -81,21 +51,6 @@ fn bytes_are_read_across_pieces(rt: HostRuntime) -> Result<(), Fail> {
         &rt,
         word,
         bytes.as_slice() == b"wxyz".as_slice() && shows(&text, &[b"!"]),
-    )
-}
-
-#[test]
-fn a_view_is_read_from_a_native_view(rt: HostRuntime) -> Result<(), Fail> {
-    let mut view = fixture!(rt, native(rt.alloc(), 8, b"\x02ab!"));
-    let (read, word) = lent!(
-        IoBuf::read_cfg(rt.alloc(), &mut view, &RANGE),
-        Error::Memory,
-        view.as_ref() == b"\x02ab!".as_slice()
-    );
-    end(
-        &rt,
-        word,
-        read.as_ref() == b"ab".as_slice() && view.as_ref() == b"!".as_slice(),
     )
 }
 
@@ -131,16 +86,6 @@ fn number<T: Read<Cfg = ()> + PartialEq + Drop>(
 #[test]
 fn a_byte_is_read(rt: HostRuntime) -> Result<(), Fail> {
     number(&rt, b'a')
-}
-
-#[test]
-fn two_bytes_are_read(rt: HostRuntime) -> Result<(), Fail> {
-    number(&rt, u16::from_be_bytes(*b"ab"))
-}
-
-#[test]
-fn four_bytes_are_read(rt: HostRuntime) -> Result<(), Fail> {
-    number(&rt, u32::from_be_bytes(*b"abcd"))
 }
 
 #[test]
@@ -209,14 +154,4 @@ fn encoded_into_one_buffer(rt: HostRuntime) -> Result<(), Fail> {
 #[test]
 fn a_byte_is_written(rt: HostRuntime) -> Result<(), Fail> {
     written(&rt, &b'a', &[])
-}
-
-#[test]
-fn two_bytes_are_written(rt: HostRuntime) -> Result<(), Fail> {
-    written(&rt, &258u16, &[])
-}
-
-#[test]
-fn eight_bytes_are_written(rt: HostRuntime) -> Result<(), Fail> {
-    written(&rt, &258u64, &[])
 }

@@ -9,5 +9,3 @@ pub mod fault;
 pub mod input;
 pub mod output;
 pub mod serve;
-#[cfg(test)]
-mod serve_tests;

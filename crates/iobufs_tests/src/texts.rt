@@ -2,7 +2,7 @@
 use bytes::Bytes;
 use iobufs::bufs::IoBufs;
 use iobufs_core::buf::{IoBuf, IoBufMut};
-use iobufs_core::codec::{Buf, BufMut, OwnedBuf, OwnedBytes, RangeCfg, Read};
+use iobufs_core::codec::{Buf, BufMut};
 use std::alloc::Global;
 use std::process::Abort;
 use std::test::Fail;
@@ -73,33 +73,6 @@ fn advanced(text: &mut IoBufs, n: usize) -> Result<(), Fail> {
     Ok(())
 }
 
-fn taken<T: OwnedBytes>(
-    alloc: Global,
-    text: &mut IoBufs,
-    skip: usize,
-    n: usize,
-) -> Result<T, Fail> {
-    let len = text.len();
-    if len < skip || len - skip < n {
-        return Err(Fail::new("too short"));
-    }
-    Ok(text.take_owned_after::<T>(alloc, skip, n)?)
-}
-
-#[test]
-fn splits_inside_a_piece_and_at_its_edge(rt: HostRuntime) -> Result<(), Fail> {
-    let alloc = rt.alloc();
-    let mut text = pieces(alloc, 4)?;
-    let front = split(alloc, &mut text, 5)?;
-    assert_eq!(rt; shown(alloc, &front)?.as_slice(), b"ab|cd|e".as_slice());
-    assert_eq!(rt; shown(alloc, &text)?.as_slice(), b"f|gh".as_slice());
-    let mut text = pieces(alloc, 4)?;
-    let front = split(alloc, &mut text, 4)?;
-    assert_eq!(rt; shown(alloc, &front)?.as_slice(), b"ab|cd".as_slice());
-    assert_eq!(rt; shown(alloc, &text)?.as_slice(), b"ef|gh".as_slice());
-    Ok(())
-}
-
 #[test]
 fn emptied_pieces(rt: HostRuntime) -> Result<(), Fail> {
     let alloc = rt.alloc();
@@ -117,33 +90,6 @@ fn emptied_pieces(rt: HostRuntime) -> Result<(), Fail> {
         Ok(view) => assert_eq!(rt; recovered(&rt, view)?, 0),
         Err(_) => return Err(Fail::new("several pieces")),
     }
-    Ok(())
-}
-
-#[test]
-fn bytes_are_taken_within_a_piece_and_across(rt: HostRuntime) -> Result<(), Fail> {
-    let alloc = rt.alloc();
-    let mut text = pieces(alloc, 2)?;
-    let view: IoBuf = taken(alloc, &mut text, 0, 1)?;
-    assert_eq!(rt; view.as_ref(), b"a".as_slice());
-    let view: IoBuf = taken(alloc, &mut text, 0, 2)?;
-    assert_eq!(rt; view.as_ref(), b"bc".as_slice());
-    assert_eq!(rt; recovered(&rt, view)?, 2);
-    assert_eq!(rt; shown(alloc, &text)?.as_slice(), b"d".as_slice());
-    let mut text = pieces(alloc, 4)?;
-    let bytes: Bytes = taken(alloc, &mut text, 1, 2)?;
-    assert_eq!(rt; bytes.as_slice(), b"bc".as_slice());
-    assert_eq!(rt; shown(alloc, &text)?.as_slice(), b"d|ef|gh".as_slice());
-    let mut text = pieces(alloc, 4)?;
-    let view: IoBuf = taken(alloc, &mut text, 1, 2)?;
-    assert_eq!(rt; view.as_ref(), b"bc".as_slice());
-    assert_eq!(rt; recovered(&rt, view)?, 2);
-    assert_eq!(rt; shown(alloc, &text)?.as_slice(), b"d|ef|gh".as_slice());
-    let mut text = pieces(alloc, 4)?;
-    let view: IoBuf = taken(alloc, &mut text, 2, 2)?;
-    assert_eq!(rt; view.as_ref(), b"cd".as_slice());
-    assert_eq!(rt; shown(alloc, &text)?.as_slice(), b"ef|gh".as_slice());
-    assert!(rt; view.try_into_mut(alloc).is_err());
     Ok(())
 }
 
@@ -168,24 +114,6 @@ fn chunks_of_four_pieces(rt: HostRuntime) -> Result<(), Fail> {
         }
     });
     assert_eq!(rt; seen, u64::from_be_bytes(*b"abcdefgh"));
-    Ok(())
-}
-
-#[test]
-fn pieces_in_front_behind_and_as_one(rt: HostRuntime) -> Result<(), Fail> {
-    let alloc = rt.alloc();
-    let mut text = pieces(alloc, 4)?;
-    joined(text.prepend(alloc, IoBuf::from(b"xy".as_slice())).is_ok())?;
-    assert_eq!(rt;
-        shown(alloc, &text)?.as_slice(),
-        b"xy|ab|cd|ef|gh".as_slice()
-    );
-    let mut text = pieces(alloc, 4)?;
-    joined(text.append(alloc, IoBuf::default()).is_ok())?;
-    assert_eq!(rt; text.chunk_count(), 4);
-    let view = text.coalesce(alloc)?;
-    assert_eq!(rt; view.as_ref(), b"abcdefgh".as_slice());
-    assert_eq!(rt; recovered(&rt, view)?, 8);
     Ok(())
 }
 
@@ -247,16 +175,6 @@ fn every_shape_is_cut_at_every_place(rt: HostRuntime) -> Result<(), Fail> {
 }
 
 #[test]
-fn a_clone_shows_the_same(rt: HostRuntime) -> Result<(), Fail> {
-    let alloc = rt.alloc();
-    for count in 0..7usize {
-        let text = pieces(alloc, count)?;
-        assert!(rt; shown(alloc, &text.clone()?)? == cut_up(alloc, 0, 2 * count)?);
-    }
-    Ok(())
-}
-
-#[test]
 fn texts_of_other_types(rt: HostRuntime) -> Result<(), Fail> {
     let alloc = rt.alloc();
     let mut part = IoBufMut::with_capacity(alloc, 4)?;
@@ -296,19 +214,5 @@ fn a_destination_is_filled_across_pieces(rt: HostRuntime) -> Result<(), Fail> {
     assert_eq!(rt; shown(alloc, &text)?.as_slice(), b"d|ef".as_slice());
     assert!(rt; text.try_copy_to_slice(&mut [0; 4]).is_err());
     assert_eq!(rt; text.chunk(), b"d".as_slice());
-    Ok(())
-}
-
-// The spelled length 4 ends one piece, and its bytes are in the next two.
-#[test]
-fn a_view_is_read_across_pieces(rt: HostRuntime) -> Result<(), Fail> {
-    let alloc = rt.alloc();
-    let mut text = IoBufs::from(b"\x04".as_slice());
-    joined(text.append(alloc, IoBuf::from(b"wx".as_slice())).is_ok())?;
-    joined(text.append(alloc, IoBuf::from(b"yz!".as_slice())).is_ok())?;
-    let view = IoBuf::read_cfg(alloc, &mut text, &RangeCfg { lo: 0, hi: 1024 })?;
-    assert_eq!(rt; view.as_ref(), b"wxyz".as_slice());
-    assert_eq!(rt; recovered(&rt, view)?, 4);
-    assert_eq!(rt; shown(alloc, &text)?.as_slice(), b"!".as_slice());
     Ok(())
 }
