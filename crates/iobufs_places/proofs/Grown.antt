@@ -1,5 +1,5 @@
 -- One place more, behind the end of its base's way.
-use Rattle.std.proofs.Common.{◌≡◌, ◌≢◌, ◌∙◌, sym, ◌⊎◌, inl, inr, ℕ, zero, suc, ◌+◌, ◌<◌, ◌≤◌, ◌==◌, nat_lt, Bool, true, false, List, [], ◌∷◌, ◌++◌, Option, None, Some, IfSome, All, if◌then◌else◌, length, length-append, set, get_or, map, refl, arith, ap, subst}
+use Rattle.std.proofs.Common.{◌≡◌, ◌≢◌, ◌∙◌, sym, ◌⊎◌, inl, inr, ℕ, zero, suc, ◌+◌, ◌<◌, ◌≤◌, ◌==◌, nat_lt, Bool, true, false, List, [], ◌∷◌, ◌++◌, Option, None, Some, All, if◌then◌else◌, length, length-append, set, map, refl, arith, ap, subst}
 use Rattle.std.proofs.lemmas.Bool.Decides.{nat_tests, eqb_tells}
 use Rattle.std.proofs.lemmas.List.{get_or-set_same, get_or-set_other, get_or_append_left, get_or-map, length-map, map-append}
 use Rattle.std.proofs.lemmas.List.Elements.{All-get_or}
@@ -16,21 +16,21 @@ no_place = record { base = 0; middle = 0; below = None; above = None }
 abbrev pub grown : List Place → (p q middle : ℕ) → List Place
 grown ps p q middle = set ps p (opened (place_at ps p) q (length ps)) ++ leaf q middle ∷ []
 
-at-other : (ps : List Place) (p q m i : ℕ) → i < length ps → i ≢ p → place_at (grown ps p q m) i ≡ place_at ps i
+pub at-other : (ps : List Place) (p q m i : ℕ) → i < length ps → i ≢ p → place_at (grown ps p q m) i ≡ place_at ps i
 at-other ps p q m i l n = get_or_append_left (set ps p (opened (place_at ps p) q (length ps))) (leaf q m ∷ []) no_place i (rw length-set l) ∙ get_or-set_other ps p i (opened (place_at ps p) q (length ps)) no_place n
 
-at-end : (ps : List Place) (p q m : ℕ) → p < length ps → place_at (grown ps p q m) p ≡ opened (place_at ps p) q (length ps)
+pub at-end : (ps : List Place) (p q m : ℕ) → p < length ps → place_at (grown ps p q m) p ≡ opened (place_at ps p) q (length ps)
 at-end ps p q m l = get_or_append_left (set ps p (opened (place_at ps p) q (length ps))) (leaf q m ∷ []) no_place p (rw length-set l) ∙ get_or-set_same ps p (opened (place_at ps p) q (length ps)) no_place l
 
-at-new : (ps : List Place) (p q m : ℕ) → place_at (grown ps p q m) (length ps) ≡ leaf q m
+pub at-new : (ps : List Place) (p q m : ℕ) → place_at (grown ps p q m) (length ps) ≡ leaf q m
 at-new ps p q m = subst (λ (k : ℕ). place_at (grown ps p q m) k ≡ leaf q m) (length-set ps p (opened (place_at ps p) q (length ps))) (get_or-append_seam (set ps p (opened (place_at ps p) q (length ps))) (leaf q m) [] no_place)
 
-long : (ps : List Place) (p q m : ℕ) → length (grown ps p q m) ≡ length ps + 1
+pub long : (ps : List Place) (p q m : ℕ) → length (grown ps p q m) ≡ length ps + 1
 long ps p q m = length-append (set ps p (opened (place_at ps p) q (length ps))) (leaf q m ∷ []) ∙ rw length-set refl
 
 -- ---- the place that is opened
 
-abbrev opened-by : Place → ℕ → Bool → Place
+abbrev pub opened-by : Place → ℕ → Bool → Place
 opened-by x n u = if u then record { base = x.base; middle = x.middle; below = Some n; above = x.above } else record { base = x.base; middle = x.middle; below = x.below; above = Some n }
 
 opened-base : (x : Place) (n : ℕ) (u : Bool) → (opened-by x n u).base ≡ x.base
@@ -57,7 +57,7 @@ opened-rises x n i false l b a = (further n i x.below b, (l, omega arith))
 
 -- ---- each place
 
-same-base : (ps : List Place) (p q m i : ℕ) → p < length ps → i < length ps → (place_at (grown ps p q m) i).base ≡ (place_at ps i).base
+pub same-base : (ps : List Place) (p q m i : ℕ) → p < length ps → i < length ps → (place_at (grown ps p q m) i).base ≡ (place_at ps i).base
 same-base ps p q m i k l = elim (eqb_tells i p) [
   | inl z ↦ subst (λ (i : ℕ). (place_at (grown ps p q m) i).base ≡ (place_at ps i).base) (sym z.1) (ap (λ (x : Place). x.base) (at-end ps p q m k) ∙ opened-base (place_at ps p) (length ps) (nat_lt q (place_at ps p).middle))
   | inr z ↦ ap (λ (x : Place). x.base) (at-other ps p q m i l z.1)
@@ -75,7 +75,7 @@ leads ps p q m l = ap (λ (x : Place). side x q) (at-end ps p q m l) ∙ leads-b
 abbrev pub Rises : ℕ → ℕ → Place → Type 0
 Rises n i x = LiesBehind n i x.below × LiesBehind n i x.above
 
-rises-at : (ps : List Place) (p q m i : ℕ) → AreRising ps → p < length ps → i < length ps → Rises (length ps + 1) i (place_at (grown ps p q m) i)
+pub rises-at : (ps : List Place) (p q m i : ℕ) → AreRising ps → p < length ps → i < length ps → Rises (length ps + 1) i (place_at (grown ps p q m) i)
 rises-at ps p q m i r k l = elim (eqb_tells i p) [
   | inl z ↦ subst (λ (i : ℕ). Rises (length ps + 1) i (place_at (grown ps p q m) i)) (sym z.1) (subst (λ (x : Place). Rises (length ps + 1) p x) (sym (at-end ps p q m k)) (opened-rises (place_at ps p) (length ps) p (nat_lt q (place_at ps p).middle) k (r p k).0 (r p k).1))
   | inr z ↦ subst (λ (x : Place). Rises (length ps + 1) i x) (sym (at-other ps p q m i l z.1)) (further (length ps) i (place_at ps i).below (r i l).0, further (length ps) i (place_at ps i).above (r i l).1)
@@ -123,7 +123,7 @@ is-new ps p q m (suc f) (suc g) i r pl o ne lt l en w =
 
 -- ---- the tree
 
-below-or : (i n : ℕ) → i < n + 1 → (i < n) ⊎ (i ≡ n)
+pub below-or : (i n : ℕ) → i < n + 1 → (i < n) ⊎ (i ≡ n)
 below-or i n l = elim (eqb_tells i n) [ inl z ↦ inr z.1 | inr z ↦ inl (let e = z.1 in grind (arith, e, l)) ]
 
 complete-at : (ps : List Place) (p q m i : ℕ) → IsTree ps → p < length ps → side (place_at ps p) q ≡ None → way ps (length ps) 0 q ≡ p → ((i : ℕ) → i < length ps → (place_at ps i).base ≢ q) → (i < length ps) ⊎ (i ≡ length ps) → found (grown ps p q m) (length ps + 1) (Some 0) (place_at (grown ps p q m) i).base ≡ Some i
@@ -137,9 +137,13 @@ rising-at : (ps : List Place) (p q m i : ℕ) → AreRising ps → p < length ps
 rising-at ps p q m i r k (inl l) = rises-at ps p q m i r k l
 rising-at ps p q m i r k (inr z) = subst (λ (i : ℕ). Rises (length ps + 1) i (place_at (grown ps p q m) i)) (sym z) (subst (λ (x : Place). Rises (length ps + 1) (length ps) x) (sym (at-new ps p q m)) (tt, tt))
 
+-- a new base is no place's
+pub apart : (ps : List Place) (i q : ℕ) → i < length ps → All (λ b. b ≢ q) (map (λ x. x.base) ps) → (place_at ps i).base ≢ q
+apart ps i q l all e = All-get_or (λ b. b ≢ q) (map (λ x. x.base) ps) i 0 (rw length-map l) all (get_or-map (λ (x : Place). x.base) ps i no_place 0 l ∙ e)
+
 pub tree-grown : (ps : List Place) (p q m : ℕ) → IsTree ps → p < length ps → side (place_at ps p) q ≡ None → way ps (length ps) 0 q ≡ p → All (λ b. b ≢ q) (map (λ x. x.base) ps) → IsTree (grown ps p q m)
 tree-grown ps p q m t pl o w all =
-    let ne : (i : ℕ) → i < length ps → (place_at ps i).base ≢ q = λ i l e. All-get_or (λ b. b ≢ q) (map (λ x. x.base) ps) i 0 (rw length-map l) all (get_or-map (λ (x : Place). x.base) ps i no_place 0 l ∙ e) in
+    let ne : (i : ℕ) → i < length ps → (place_at ps i).base ≢ q = λ i l. apart ps i q l all in
     record {
       rising = λ i l. rw long (rising-at ps p q m i t.rising pl (below-or i (length ps) (rw long at l)));
       complete = λ i l. rw long (complete-at ps p q m i t pl o w ne (below-or i (length ps) (rw long at l)));

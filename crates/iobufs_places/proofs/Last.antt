@@ -1,8 +1,8 @@
 -- The last base that is found in a range.
-use Rattle.std.proofs.Common.{◌≡◌, ◌⊎◌, inl, inr, ℕ, zero, suc, ◌+◌, ◌<◌, ◌≤◌, ◌==◌, ◌||◌, nat_lt, nat_le, min, max, Bool, true, false, List, Option, None, Some, is_some, IsSome, IfSome, if◌then◌else◌, length, refl, arith}
+use Rattle.std.proofs.Common.{◌≡◌, ◌⊎◌, inl, inr, ℕ, zero, suc, ◌+◌, ◌<◌, ◌≤◌, ◌==◌, ◌||◌, nat_lt, nat_le, min, max, Bool, true, false, List, Option, None, Some, is_some, IsSome, if◌then◌else◌, length, refl, arith}
 use Rattle.std.proofs.lemmas.Bool.Decides.{nat_tests}
 use Rattle.iobufs_places.specs.declared.Place.{Place}
-use Rattle.iobufs_places.specs.Inside.{IsLastFound, Reaches, LiesBehind, found, later, latest, place_at, side}
+use Rattle.iobufs_places.specs.Inside.{IsLastFound, Reaches, LiesBehind, found, later, place_at}
 
 no-some : {G : Type 0} (o : Option ℕ) → o ≡ None → IsSome o → G
 no-some o e s = let t = rw e at s in absurd (cc)

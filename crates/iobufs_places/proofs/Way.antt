@@ -1,5 +1,5 @@
 -- The way of a base through the tree.
-use Rattle.std.proofs.Common.{◌≡◌, ◌∙◌, inl, inr, ℕ, zero, suc, ◌+◌, ◌<◌, ◌≤◌, nat_lt, Bool, true, false, List, Option, None, Some, IfSome, if◌then◌else◌, length, refl, arith, subst}
+use Rattle.std.proofs.Common.{◌≡◌, ◌∙◌, ℕ, zero, suc, ◌+◌, ◌<◌, ◌≤◌, nat_lt, Bool, true, false, List, None, Some, if◌then◌else◌, length, refl, arith}
 use Rattle.iobufs_places.specs.declared.Place.{Place}
 use Rattle.iobufs_places.specs.Inside.{AreRising, LiesBehind, way, place_at, side}
 

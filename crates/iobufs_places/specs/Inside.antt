@@ -1,5 +1,5 @@
 -- The search tree in the table.
-use Rattle.std.specs.Prelude.{◌≡◌, ◌⊎◌, ℕ, zero, suc, ◌+◌, ◌<◌, ◌≤◌, ◌==◌, ◌||◌, nat_lt, nat_le, List, Option, None, Some, IfSome, IsSome, if◌then◌else◌, slice_index_or, length, map, vec_capacity}
+use Rattle.std.specs.Prelude.{◌≡◌, ℕ, zero, suc, ◌+◌, ◌<◌, ◌≤◌, ◌==◌, ◌||◌, nat_lt, nat_le, List, Option, None, Some, IfSome, IsSome, if◌then◌else◌, slice_index_or, length, map, vec_capacity}
 use Rattle.iobufs_places.specs.Places.{Seen}
 use Rattle.iobufs_places.specs.declared.Place.{Place}
 use Rattle.iobufs_places.specs.declared.Places.TheInside.{Inside}

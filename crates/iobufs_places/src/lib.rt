@@ -1,12 +1,16 @@
 //! Where blocks lie: which of them is the last before an address, in a table that is asked for its memory beforehand.
 #![tactic(auto)]
 
-ghost use Rattle.std.specs.Prelude.{◌≡◌, ◌≢◌, ℕ, ◌+◌, ◌<◌, ◌≤◌, ◌||◌, nat_lt, nat_le, [], ◌∷◌, ◌++◌, All, None, Some, length, OnOk, OnErr, IfSome, IsOk};
+ghost use Rattle.std.specs.Prelude.{◌≡◌, ◌≢◌, ℕ, ◌+◌, ◌-◌, ◌<◌, ◌≤◌, ◌||◌, nat_lt, nat_le, [], ◌∷◌, ◌++◌, All, None, Some, length, OnOk, OnErr, IfSome, IsOk};
 ghost use Rattle.iobufs_places.specs.Places.{IsLast};
 ghost use Rattle.iobufs_places.specs.Inside.{AreRising, IsLastFound, Reaches, found, later, leaf, opened, place_at, side, way};
+ghost use Rattle.iobufs_places.specs.Spread.{AreEnough, IsBetween, IsEnough, IsSpread, part};
 
 use std::alloc::{AllocError, Global};
 use std::marker::Model;
+
+#[cfg(test)]
+mod worked;
 
 /// A block's place in the search tree: blocks below a number in the middle lie on the one side, the others on the other.
 #[derive(Clone, Copy)]
@@ -50,7 +54,9 @@ impl Place {
     }
 
     /// The part of a span on the side of a base.
-    fn side_span(self, base: u64, span: Span) -> Span {
+    fn side_span(self, base: u64, span: Span) -> Span
+        ensures { result ≡ part self base span }
+    {
         if base < self.middle {
             Span {
                 low: span.low,
@@ -73,35 +79,42 @@ struct Span {
 }
 
 impl Span {
-    /// Where a place divides it: by halves, or while one end is much farther from the first base than the other, by
-    /// halves of the number of bits of that distance. This changes what a way costs, and nothing else.
-    fn middle(self, first: u64) -> u64 {
-        let is_behind = first <= self.low;
-        let before = first.saturating_sub(1);
-        let near = if is_behind {
-            self.low.saturating_sub(first)
+    /// Where a place divides it: by halves, or while one end is much farther from the first base than the other, at a
+    /// distance between theirs. Each part needs one place less than the whole.
+    fn middle(self, first: u64) -> u64
+        ensures { (n : ℕ) → self.low < self.high → IsEnough first self n → AreEnough first self result (n - 1) }
+    {
+        if first <= self.low {
+            if let Some(distance) = power_between(
+                self.low.saturating_sub(first),
+                self.high.saturating_sub(first),
+            ) {
+                return first.saturating_add(distance);
+            }
         } else {
-            before.saturating_sub(self.high)
-        };
-        let far = if is_behind {
-            self.high.saturating_sub(first)
-        } else {
-            before.saturating_sub(self.low)
-        };
-        let near_bits = near.checked_ilog2().unwrap_or(0);
-        let far_bits = far.checked_ilog2().unwrap_or(0);
-        if far_bits <= near_bits.saturating_add(1) {
-            return self
-                .low
-                .saturating_add(self.high.saturating_sub(self.low) / 2 + 1);
+            let before = first.saturating_sub(1);
+            if let Some(distance) = power_between(
+                before.saturating_sub(self.high),
+                before.saturating_sub(self.low),
+            ) {
+                return first.saturating_sub(distance);
+            }
         }
-        let distance = 2u64.saturating_pow(near_bits.saturating_add(far_bits) / 2 + 1);
-        if is_behind {
-            first.saturating_add(distance)
-        } else {
-            first.saturating_sub(distance)
-        }
+        self.low
+            .saturating_add(self.high.saturating_sub(self.low) / 2 + 1)
     }
+}
+
+/// The power of two that divides the numbers of bits of two distances into halves, where they differ by two or more.
+fn power_between(near: u64, far: u64) -> Option<u64>
+    ensures { IfSome result (λ power. IsBetween near far power) }
+{
+    let near_bits = near.checked_ilog2().unwrap_or(0);
+    let far_bits = far.checked_ilog2().unwrap_or(0);
+    if far_bits <= near_bits.saturating_add(1) {
+        return None;
+    }
+    Some(2u64.saturating_pow(near_bits.saturating_add(far_bits) / 2 + 1))
 }
 
 /// A place with nothing on either side.
@@ -118,7 +131,7 @@ fn leaf(base: u64, middle: u64) -> Place
 
 /// The bases of blocks, which are numbered from 0 in the order of adding. It is a search tree: a place divides the
 /// numbers behind it, at the first base first, then by the number of bits of the distance from it, then in halves, so no
-/// way has more than 72 places, whatever the bases are and in whatever order they come; near bases have few.
+/// way has more than 71 places, whatever the bases are and in whatever order they come; near bases have few.
 #[derive(Drop)]
 pub struct Places {
     table: Vec<Place>,
@@ -129,11 +142,12 @@ impl Model for Places {
 
     ghost Value = { Seen };
 
-    ghost use Rattle.iobufs_places.specs.Inside.{seen_of, IsTree};
+    ghost use Rattle.iobufs_places.specs.Inside.{seen_of};
+    ghost use Rattle.iobufs_places.specs.Spread.{IsTable};
 
     ghost view = { seen_of };
 
-    ghost invariant = { λ places. IsTree places.table.items };
+    ghost invariant = { λ places. IsTable places.table.items };
 }
 
 /// Where the way of a base ends, and the numbers that lie behind that place.
@@ -150,6 +164,9 @@ fn way_end(places: &[Place], base: u64) -> WayEnd
     ensures known { result.at < length places.now }
     ensures open { side (place_at places.now result.at) base ≡ None }
     ensures way { way places.now (length places.now) 0 base ≡ result.at }
+    ensures span { (s : IsSpread places.now) → result.span ≡ s.span result.at }
+    ensures from { result.span.low ≤ base }
+    ensures to { base ≤ result.span.high }
 {
     let mut at = 0;
     let mut span = Span {

@@ -1,7 +1,6 @@
-use Rattle.std.proofs.Common.{rules, ◌≡◌, ◌∙◌, sym, ℕ, None, Some, not, length, arith, subst, ap, List, Option}
+use Rattle.std.proofs.Common.{◌∙◌, sym, not, arith, ap}
 use Rattle.std.proofs.lemmas.Bool.Decides.{nat_tests}
-use Rattle.iobufs_places.specs.declared.Place.{Place}
-use Rattle.iobufs_places.specs.Inside.{IsLastFound, Reaches, found, place_at}
+use Rattle.iobufs_places.specs.Inside.{place_at}
 use Rattle.iobufs_places.proofs.Last.{last-above, last-below, none-found, none-of, only-above, is-out, skip-above, skip-below}
 use Rattle.iobufs_places.proofs.+last_in.Goals as goal
 

@@ -1,9 +1,9 @@
-use Rattle.std.proofs.Common.{◌≡◌, ◌-◌, ◌+◌, ◌<◌, ◌≤◌, ℕ, length}
-use Rattle.iobufs_places.specs.Inside.{way}
+use Rattle.std.proofs.Common.{◌-◌, length}
+use Rattle.iobufs_places.proofs.Along.{IsAlong}
 use Rattle.iobufs_places.proofs.way_end.Given as goal
 
 abbrev pub invariant-loop-next : goal.invariant-loop-next
-invariant-loop-next l = (l.at < length l.places) × ((f : ℕ) × (length l.places ≤ l.at + f) × (way l.places (length l.places) 0 l.base ≡ way l.places f l.at l.base))
+invariant-loop-next l = IsAlong l.places l.base l.at l.span
 
 abbrev pub decreases-loop-next : goal.decreases-loop-next
 decreases-loop-next l = length l.places - l.at

@@ -1,4 +1,4 @@
-use Rattle.std.proofs.Common.{◌≡◌, ◌+◌, ◌≤◌, ℕ, sym, ap, arith, subst, length, List, Option, Some, nat_eq}
+use Rattle.std.proofs.Common.{ℕ, arith, subst, length, List, Option}
 use Rattle.std.proofs.lemmas.Bool.Decides.{nat_tests}
 use Rattle.iobufs_places.specs.Places.{Seen, IsLast}
 use Rattle.iobufs_places.specs.Inside.{IsLastFound, Reaches, found}
@@ -16,5 +16,7 @@ returns c =
     subst (λ (m : Seen). IsLast m.bases c.args.low c.args.end c.last_in.result) c.self.view_is
     (elim c.if-is_empty.branch [
       | then-is_empty w ↦ last-of-none ps c.args.low c.args.end c.last_in.result (let e = w.if-is_empty.true in grind (arith, nat_tests, e, c.is_empty.ensures)) known
-      | else-is_empty w ↦ last-of ps c.args.low c.args.end c.last_in.result c.self.invariant known (subst (λ (o : Option ℕ). (f : ℕ) → Reaches (length ps) o f → IsLastFound ps (found ps f o) c.args.low c.args.end c.last_in.result) w.first-is last (length ps) (omega arith))
+      | else-is_empty w ↦ last-of ps c.args.low c.args.end c.last_in.result c.self.invariant.tree known
+          (subst (λ (o : Option ℕ). (f : ℕ) → Reaches (length ps) o f → IsLastFound ps
+          (found ps f o) c.args.low c.args.end c.last_in.result) w.first-is last (length ps) (omega arith))
     ])
