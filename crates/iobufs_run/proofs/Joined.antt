@@ -1,5 +1,5 @@
 -- A view that is taken from its name to be put behind or in front of a text, and comes back.
-use Rattle.std.proofs.Common.{◌≡◌, ◌≢◌, ℕ, ◌<◌, true, false, List, [], ◌∷◌, length, arith, ap, sym, subst, ◌∙◌, None, get_or-set_other}
+use Rattle.std.proofs.Common.{◌≡◌, ◌≢◌, ℕ, ◌⊎◌, inl, inr, ◌<◌, true, false, List, [], ◌∷◌, length, arith, ap, sym, subst, ◌∙◌, None, get_or-set_other}
 use Rattle.std.specs.Prelude.{slice_set, slice_index_or, IsTrue, not, ◌==◌, ◌&&◌}
 use Rattle.std.proofs.lemmas.Bool.Decides.{nat_tests}
 use Rattle.std.proofs.lemmas.List.{set-get_or, get_or_default, length-set}
@@ -44,21 +44,30 @@ names_inside names target src none = (grind (arith, nat_tests), grind (arith, na
 both_some : (m n : ℕ) → 0 < m → 0 < n → IsTrue (not (m == 0) && not (n == 0))
 both_some m n p q = grind (arith, nat_tests)
 
+true_not_false : true ≡ false → ⊥
+true_not_false e = cc
+
+both_held : (s : Slot) (view : ViewValue) → is_text s ≡ true → ((0 < length view.bytes) × (0 < readable s)) ⊎ (is_text s ≡ false) → (0 < length view.bytes) × (0 < readable s)
+both_held s view text (inl some) = some
+both_held s view text (inr other) = absurd (true_not_false (sym text ∙ other))
+
 -- a refused joining leaves all as it was, and both were not empty
 pub back_again : (names : List Slot) (target src : ℕ) (view back : ViewValue) (free kept d e : Slot) (new : List Slot)
     → first_cause (join_causes names target src) ≡ None
     → (slice_index_or names src d ≡ View view) × (free ≡ Free)
-    → (back ≡ view) × (kept ≡ slice_index_or (slice_set names src free) target e) × (0 < length view.bytes) × (0 < readable (slice_index_or (slice_set names src free) target e))
+    → (back ≡ view) × (kept ≡ slice_index_or (slice_set names src free) target e)
+    → ((0 < length view.bytes) × (0 < readable (slice_index_or (slice_set names src free) target e))) ⊎ (is_text (slice_index_or (slice_set names src free) target e) ≡ false)
     → new ≡ slice_set (slice_set (slice_set names src free) target kept) src (View back)
     → IsTrue (not (readable (slot_named names src) == 0) && not (readable (slot_named names target) == 0)) × (new ≡ names)
-back_again names target src view back free kept d e new none took refused is =
+back_again names target src view back free kept d e new none took stays refused is =
     let inside = names_inside names target src none in
-    let (same, kept_is, view_some, target_some) = refused in
+    let (same, kept_is) = stays in
     let at : slot_named names src ≡ View view = get_or_default names src Free d inside.1 ∙ took.0 in
     let free_is = took.1 in
     let long : target < length (slice_set names src free) = omega (arith, length-set names src free, inside.0) in
     let there : slice_index_or (slice_set names src free) target e ≡ slot_named names target =
     get_or_default (slice_set names src free) target e Free long ∙ target_kept names target src view none at free in
+    let (view_some, target_some) = both_held (slice_index_or (slice_set names src free) target e) view (ap is_text there ∙ target_is_text names target src none) refused in
     let some : 0 < readable (slot_named names src) = subst (λ (s : Slot). 0 < readable s) (sym at) view_some in
     let some' : 0 < readable (slot_named names target) = subst (λ (s : Slot). 0 < readable s) there target_some in
     let all : new ≡ names =

@@ -4,7 +4,6 @@
 --     consumed, MayFree  the names that such a refusal may cost
 --     Does               what a command that is done leaves, and its reply
 --     Step, Run          one command; any list of them
---     changed            the names whose buffers may be others after a command
 use Rattle.std.specs.Prelude.{◌≡◌, ◌⊎◌, ℕ, ◌==◌, ◌&&◌, not, List, [], ◌∷◌, map, length, take, replicate, slice_set, None, Some, IsTrue, Result, Ok, Err}
 use Rattle.iobufs_core.specs.Part.{empty_part}
 use Rattle.iobufs_core.specs.Items.{Item as Written, put_item, push_item}
@@ -213,47 +212,10 @@ Run old [] [] new = new ≡ old
 Run old (command ∷ commands) (reply ∷ replies) new = (mid : List Slot) × Step old command reply mid × Run mid commands replies new
 Run old _ _ new = ⊥
 
--- the names, two or one twice, that may hold another buffer after the command; each other name holds what it held, or
--- is freed
-abbrev pub changed : Cmd → ℕ × ℕ
-changed (NewMut dst capacity align) = (dst, dst)
-changed (Zeroed dst len align) = (dst, dst)
-changed (Adopt dst bytes) = (dst, dst)
-changed (Static dst text) = (dst, dst)
-changed (FromBytes dst bytes) = (dst, dst)
-changed (Put target bytes) = (target, target)
-changed (Fill target byte n) = (target, target)
-changed (SetLen target n) = (target, target)
-changed (Truncate target n) = (target, target)
-changed (Clear target) = (target, target)
-changed (Overwrite target bytes) = (target, target)
-changed (Freeze src dst) = (src, dst)
-changed (Recover src dst) = (src, dst)
-changed (Clone src dst) = (dst, dst)
-changed (Slice src dst lo hi) = (dst, dst)
-changed (Split src dst at) = (src, dst)
-changed (Advance target n) = (target, target)
-changed (Take target n) = (target, target)
-changed (Gather dst sources) = (dst, dst)
-changed (GatherMut dst sources) = (dst, dst)
-changed (Append target src) = (target, src)
-changed (Prepend target src) = (target, src)
-changed (Coalesce src dst) = (src, dst)
-changed (Build dst capacity items) = (dst, dst)
-changed (Encode src dst) = (dst, dst)
-changed (Decode src dst range) = (src, dst)
-changed (Drop target) = (target, target)
-changed (Show target) = (target, target)
-
 -- the command that puts a view at this end of a text
 abbrev pub joining : End → ℕ → ℕ → Cmd
 joining Back target src = Append target src
 joining Front target src = Prepend target src
-
--- the reply of a command that only says whether it is done
-abbrev pub outcome : Result (Unit {0}) Refusal → Reply
-outcome (Ok done) = Done
-outcome (Err refusal) = Refused refusal
 
 -- the answer, or the refusal
 abbrev pub reply_of : Result Reply Refusal → Reply

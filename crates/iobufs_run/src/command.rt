@@ -226,6 +226,9 @@ pub enum Refusal {
     Memory,
 }
 
+// What a command comes to: its reply, or why it is refused.
+pub(crate) type Outcome = Result<Reply, Refusal>;
+
 impl fmt::Display for Refusal {
     ghost use Rattle.std.specs.Prelude.{Some};
     ghost use Rattle.iobufs_run.specs.Printed.{refusal_text};

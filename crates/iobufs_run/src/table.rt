@@ -1,8 +1,8 @@
 // Named buffers, and the commands on them.
-ghost use Rattle.std.specs.Prelude.{◌≡◌, length, replicate, IfOk, IsOk, IsOkUnless, OnErr};
+ghost use Rattle.std.specs.Prelude.{◌≡◌, true, length, replicate, IfOk, IsOk, IsOkUnless, OnErr};
 ghost use Rattle.iobufs_run.specs.Choices.{NoOtherChoices, OnlyWants, RefusalsKeep};
-ghost use Rattle.iobufs_run.specs.Run.{Run, Step, changed as changed_by, outcome as outcome_of, reply_of};
-ghost use Rattle.iobufs_run.specs.Slots.{AreSlots, IsSlot, slot_named};
+ghost use Rattle.iobufs_run.specs.Run.{Run, Step, reply_of};
+ghost use Rattle.iobufs_run.specs.Slots.{AreSlots, IsSlot, kind_of};
 
 mod build;
 mod causes;
@@ -14,11 +14,11 @@ mod slots;
 mod texts;
 mod views;
 
-use crate::command::{Cmd, Refusal, Reply};
+use crate::command::{Cmd, Kind, Outcome, Reply};
 use iobufs::bufs::IoBufs;
 use iobufs::bufs_mut::IoBufsMut;
 use iobufs_core::buf::{IoBuf, IoBufMut};
-use iobufs_core::codec::BufError;
+use iobufs_core::codec::{BufError, BufMut};
 use std::alloc::Global;
 use std::marker::Model;
 
@@ -35,6 +35,21 @@ pub enum Slot {
     Text(IoBufs),
     /// Several writable buffers in a row.
     Parts(IoBufsMut),
+}
+
+impl Slot {
+    /// The kind of what is held, if anything is.
+    pub fn kind(&self) -> Option<Kind>
+        ensures { result ≡ kind_of self.now }
+    {
+        match self {
+            Slot::Free => None,
+            Slot::Part(_) => Some(Kind::Part),
+            Slot::View(_) => Some(Kind::View),
+            Slot::Text(_) => Some(Kind::Text),
+            Slot::Parts(_) => Some(Kind::Parts),
+        }
+    }
 }
 
 /// Buffers under the names 0, 1, and so on.
@@ -69,133 +84,75 @@ impl Model for Table {
     ghost invariant = { λ t. AreSlots t.slots.items };
 }
 
-// A refusal as a reply, or that the command is done.
-fn reply(outcome: Result<(), Refusal>) -> Reply
-    ensures { result ≡ outcome_of outcome }
-{
-    match outcome {
-        Ok(()) => Reply::Done,
-        Err(refusal) => Reply::Refused(refusal),
-    }
-}
-
-// A refusal as a reply, or the answer.
-fn answer(outcome: Result<Reply, Refusal>) -> Reply
-    ensures { result ≡ reply_of outcome }
-{
-    match outcome {
-        Ok(answer) => answer,
-        Err(refusal) => Reply::Refused(refusal),
-    }
-}
-
 // Does one command.
-fn done(alloc: Global, slots: &mut [Slot], cmd: &Cmd) -> Reply
-    ensures { Step slots.old cmd.now result slots.new }
+fn done(alloc: Global, slots: &mut [Slot], cmd: &Cmd) -> Outcome
+    ensures { Step slots.old cmd.now (reply_of result) slots.new }
 {
     match cmd {
         Cmd::NewMut {
             dst,
             capacity,
             align,
-        } => reply(parts::new_mut(alloc, slots, *dst, *capacity, *align)),
-        Cmd::Zeroed { dst, len, align } => {
-            reply(parts::zeroed(alloc, slots, *dst, *len, *align))
-        }
-        Cmd::Adopt { dst, bytes } => reply(parts::adopt(alloc, slots, *dst, bytes)),
-        Cmd::Static { dst, text } => reply(made::of_static(slots, *dst, text)),
-        Cmd::FromBytes { dst, bytes } => reply(made::of_bytes(alloc, slots, *dst, bytes)),
-        Cmd::Put { target, bytes } => reply(parts::put(slots, *target, bytes)),
-        Cmd::Fill { target, byte, n } => reply(parts::fill(slots, *target, *byte, *n)),
-        Cmd::SetLen { target, n } => reply(parts::set_len(slots, *target, *n)),
-        Cmd::Truncate { target, n } => reply(parts::truncate(slots, *target, *n)),
-        Cmd::Clear { target } => reply(parts::clear(slots, *target)),
-        Cmd::Overwrite { target, bytes } => reply(parts::overwrite(slots, *target, bytes)),
-        Cmd::Freeze { src, dst } => reply(parts::freeze(alloc, slots, *src, *dst)),
-        Cmd::Recover { src, dst } => reply(parts::recover(alloc, slots, *src, *dst)),
-        Cmd::Clone { src, dst } => reply(made::clone(slots, *src, *dst)),
-        Cmd::Slice { src, dst, lo, hi } => reply(made::slice(slots, *src, *dst, *lo, *hi)),
-        Cmd::Split { src, dst, at } => reply(views::split(alloc, slots, *src, *dst, *at)),
-        Cmd::Advance { target, n } => reply(views::advance(slots, *target, *n)),
-        Cmd::Take { target, n } => answer(views::take(alloc, slots, *target, *n)),
-        Cmd::Gather { dst, sources } => reply(gather::gather(alloc, slots, *dst, sources)),
-        Cmd::GatherMut { dst, sources } => {
-            reply(gather::gather_mut(alloc, slots, *dst, sources))
-        }
-        Cmd::Append { target, src } => reply(texts::join(alloc, slots, *target, *src, End::Back)),
-        Cmd::Prepend { target, src } => reply(texts::join(alloc, slots, *target, *src, End::Front)),
-        Cmd::Coalesce { src, dst } => reply(texts::coalesce(alloc, slots, *src, *dst)),
+        } => parts::new_mut(alloc, slots, *dst, *capacity, *align),
+        Cmd::Zeroed { dst, len, align } => parts::zeroed(alloc, slots, *dst, *len, *align),
+        Cmd::Adopt { dst, bytes } => parts::adopt(alloc, slots, *dst, bytes),
+        Cmd::Static { dst, text } => made::of_static(slots, *dst, text),
+        Cmd::FromBytes { dst, bytes } => made::of_bytes(alloc, slots, *dst, bytes),
+        Cmd::Put { target, bytes } => parts::put(slots, *target, bytes),
+        Cmd::Fill { target, byte, n } => parts::fill(slots, *target, *byte, *n),
+        Cmd::SetLen { target, n } => parts::set_len(slots, *target, *n),
+        Cmd::Truncate { target, n } => parts::truncate(slots, *target, *n),
+        Cmd::Clear { target } => parts::clear(slots, *target),
+        Cmd::Overwrite { target, bytes } => parts::overwrite(slots, *target, bytes),
+        Cmd::Freeze { src, dst } => parts::freeze(alloc, slots, *src, *dst),
+        Cmd::Recover { src, dst } => parts::recover(alloc, slots, *src, *dst),
+        Cmd::Clone { src, dst } => made::clone(slots, *src, *dst),
+        Cmd::Slice { src, dst, lo, hi } => made::slice(slots, *src, *dst, *lo, *hi),
+        Cmd::Split { src, dst, at } => views::split(alloc, slots, *src, *dst, *at),
+        Cmd::Advance { target, n } => views::advance(slots, *target, *n),
+        Cmd::Take { target, n } => views::take(alloc, slots, *target, *n),
+        Cmd::Gather { dst, sources } => gather::gather(alloc, slots, *dst, sources),
+        Cmd::GatherMut { dst, sources } => gather::gather_mut(alloc, slots, *dst, sources),
+        Cmd::Append { target, src } => texts::join(alloc, slots, *target, *src, End::Back),
+        Cmd::Prepend { target, src } => texts::join(alloc, slots, *target, *src, End::Front),
+        Cmd::Coalesce { src, dst } => texts::coalesce(alloc, slots, *src, *dst),
         Cmd::Build {
             dst,
             capacity,
             items,
-        } => reply(build::build(alloc, slots, *dst, *capacity, items)),
-        Cmd::Encode { src, dst } => reply(made::encode(alloc, slots, *src, *dst)),
-        Cmd::Decode { src, dst, range } => { reply(views::decode(alloc, slots, *src, *dst, range)) }
-        Cmd::Drop { target } => reply(slots::free(slots, *target)),
-        Cmd::Show { target } => answer(shown::show(alloc, slots, *target)),
+        } => build::build(alloc, slots, *dst, *capacity, items),
+        Cmd::Encode { src, dst } => made::encode(alloc, slots, *src, *dst),
+        Cmd::Decode { src, dst, range } => views::decode(alloc, slots, *src, *dst, range),
+        Cmd::Drop { target } => slots::free(slots, *target),
+        Cmd::Show { target } => shown::show(alloc, slots, *target),
     }
 }
 
-// The names that may hold another buffer after the command.
-fn changed(cmd: &Cmd) -> (usize, usize)
-    ensures { result ≡ changed_by cmd.now }
+// Whether what is held is well formed, as it always is.
+fn is_well_formed(slot: &Slot) -> bool
+    ensures always { result ≡ true }
+    ensures slot { IsSlot slot.now }
 {
-    match cmd {
-        Cmd::NewMut { dst, .. }
-        | Cmd::Zeroed { dst, .. }
-        | Cmd::Adopt { dst, .. }
-        | Cmd::Static { dst, .. }
-        | Cmd::FromBytes { dst, .. }
-        | Cmd::Clone { dst, .. }
-        | Cmd::Slice { dst, .. }
-        | Cmd::Gather { dst, .. }
-        | Cmd::GatherMut { dst, .. }
-        | Cmd::Build { dst, .. }
-        | Cmd::Encode { dst, .. } => (*dst, *dst),
-        Cmd::Put { target, .. }
-        | Cmd::Fill { target, .. }
-        | Cmd::SetLen { target, .. }
-        | Cmd::Truncate { target, .. }
-        | Cmd::Clear { target }
-        | Cmd::Overwrite { target, .. }
-        | Cmd::Advance { target, .. }
-        | Cmd::Take { target, .. }
-        | Cmd::Drop { target }
-        | Cmd::Show { target } => (*target, *target),
-        Cmd::Freeze { src, dst }
-        | Cmd::Recover { src, dst }
-        | Cmd::Split { src, dst, .. }
-        | Cmd::Coalesce { src, dst }
-        | Cmd::Decode { src, dst, .. } => (*src, *dst),
-        Cmd::Append { target, src } | Cmd::Prepend { target, src } => (*target, *src),
+    match slot {
+        Slot::Free => true,
+        Slot::Part(part) => part.len() <= part.capacity(),
+        Slot::View(view) => view.is_empty() == (view.len() == 0),
+        Slot::Text(text) => text.is_empty() == (text.len() == 0),
+        Slot::Parts(parts) => parts.len() <= parts.capacity(),
     }
 }
 
-// What a name holds is well formed, as the length of each buffer tells.
-fn observe(slots: &[Slot], name: usize)
-    ensures { IsSlot (slot_named slots.now name) }
+// Whether this stands of each name.
+fn are_well_formed(slots: &[Slot]) -> bool
+    ensures always { result ≡ true }
+    ensures slots { AreSlots slots.now }
 {
-    let _ = match slots.get(name) {
-        None | Some(Slot::Free) => 0,
-        Some(Slot::Part(part)) => part.capacity(),
-        Some(Slot::View(view)) => view.len(),
-        Some(Slot::Text(text)) => text.len(),
-        Some(Slot::Parts(parts)) => parts.capacity(),
-    };
-}
-
-// Does one command, and observes the names that it changed.
-fn step(alloc: Global, slots: &mut [Slot], cmd: &Cmd) -> Reply
-    requires { AreSlots slots.old }
-    ensures step { Step slots.old cmd.now result slots.new }
-    ensures slots { AreSlots slots.new }
-{
-    let reply = done(alloc, slots, cmd);
-    let (first, second) = changed(cmd);
-    observe(slots, first);
-    observe(slots, second);
-    reply
+    for slot in slots {
+        if !is_well_formed(slot) {
+            return false;
+        }
+    }
+    true
 }
 
 impl Table {
@@ -219,7 +176,12 @@ impl Table {
         ensures slots { AreSlots self.new }
     {
         let alloc = *self.slots.allocator();
-        step(alloc, self.slots.as_mut_slice(), cmd)
+        let outcome = done(alloc, self.slots.as_mut_slice(), cmd);
+        prove!(are_well_formed(self.slots.as_slice()));
+        match outcome {
+            Ok(reply) => reply,
+            Err(refusal) => Reply::Refused(refusal),
+        }
     }
 
     /// Does commands in order, and gives a reply for each. `BufError::Memory` comes before the first.

@@ -5,13 +5,13 @@ ghost use Rattle.iobufs_core.specs.Items.{item_inline, item_pushed};
 ghost use Rattle.iobufs.specs.Building.{building_push, building_room, building_after, building_with, empty_building, finished, room_for_pushes};
 ghost use Rattle.iobufs_run.specs.declared.command.Cmd.{Cmd};
 ghost use Rattle.iobufs_run.specs.Causes.{build_causes, first_cause, has_twice, inline_len, is_listed, is_no_name, is_too_long, pushed_names, total_extent};
-ghost use Rattle.iobufs_run.specs.Run.{Step, outcome, all_freed, item_held, MayFree};
+ghost use Rattle.iobufs_run.specs.Run.{Step, reply_of, all_freed, item_held, MayFree};
 ghost use Rattle.iobufs_run.specs.Slots.{extent, slot_named, is_of as of, view_held};
 
 use super::Slot;
 use super::gather::{extent_at, holds};
-use super::slots::{hold, is_free, take_view};
-use crate::command::{Item, Kind, Refusal};
+use super::slots::{hold, take_view};
+use crate::command::{Item, Kind, Outcome, Refusal, Reply};
 use iobufs::bufs::IoBufs;
 use iobufs::builder::Builder;
 use iobufs_core::codec::{BufMut, BufsMut};
@@ -117,7 +117,7 @@ fn building(slots: &[Slot], dst: usize, capacity: usize, items: &[Item]) -> Resu
     if !push_views(slots, items) {
         return Err(Refusal::WrongKind);
     }
-    if (!is_free(&slots[dst]) && !is_pushed(items, dst)) || push_twice(items) {
+    if (slots[dst].kind().is_some() && !is_pushed(items, dst)) || push_twice(items) {
         return Err(Refusal::InUse);
     }
     if pass(items, capacity) {
@@ -140,9 +140,7 @@ fn push(slots: &mut [Slot], name: usize, builder: &mut Builder) -> Result<(), Re
     ensures freed { slots.new ≡ slice_set slots.old name Slot.Free }
     ensures err { IsOkUnless result Refusal.Memory }
 {
-    let Some(view) = take_view(&mut slots[name]) else {
-        unreachable!()
-    };
+    let view = take_view(&mut slots[name])?;
     builder.push(view)?;
     Ok(())
 }
@@ -194,11 +192,11 @@ pub(super) fn build(
     dst: usize,
     capacity: usize,
     items: &Vec<Item>,
-) -> Result<(), Refusal>
-    ensures { Step slots.old (Cmd.Build dst capacity items.now) (outcome result) slots.new }
+) -> Outcome
+    ensures { Step slots.old (Cmd.Build dst capacity items.now) (reply_of result) slots.new }
 {
     building(slots, dst, capacity, items)?;
     let text = built_text(alloc, slots, capacity, items)?;
     hold(slots, dst, Slot::Text(text));
-    Ok(())
+    Ok(Reply::Done)
 }

@@ -1,11 +1,11 @@
 // The causes that several commands have in common, each told in its order. None of these asks for memory.
-ghost use Rattle.std.specs.Prelude.{◌≡◌, ◌≢◌, ◌<◌, ◌≤◌, true, false, length, [], IfErr, MatchResult, Some, None};
+ghost use Rattle.std.specs.Prelude.{◌≡◌, ◌≢◌, ◌<◌, ◌≤◌, true, false, length, [], ◌∷◌, IfErr, MatchResult, Some, None};
 ghost use Rattle.iobufs_run.specs.Causes.{any_kind, first_cause, free_name as free_name_causes, lent as lent_causes, moved as moved_causes, one_of};
-ghost use Rattle.iobufs_run.specs.Slots.{is_free as free, is_one_of as of_one};
+ghost use Rattle.iobufs_run.specs.Slots.{is_free as free, is_one_of as of_one, slot_named};
 
 use super::Slot;
-use super::slots::{is_free, is_of};
 use crate::command::{Kind, Refusal};
+use iobufs_core::buf::IoBuf;
 
 /// A name that there is.
 pub(super) fn known(slots: &[Slot], name: usize) -> Result<(), Refusal>
@@ -21,7 +21,7 @@ pub(super) fn known(slots: &[Slot], name: usize) -> Result<(), Refusal>
 fn is_one_of(kinds: &[Kind], slot: &Slot) -> bool
     ensures { result ≡ of_one kinds.now slot.now }
 {
-    kinds.iter().any(|kind| is_of(*kind, slot))
+    kinds.iter().any(|kind| slot.kind() == Some(*kind))
 }
 
 // A buffer of one of these kinds.
@@ -38,10 +38,10 @@ fn of_kind(kinds: &[Kind], slot: &Slot) -> Result<(), Refusal>
 fn unused(slot: &Slot) -> Result<(), Refusal>
     ensures { MatchResult result (λ _. free slot.now ≡ true) (λ refusal. (refusal ≡ Refusal.InUse) × (free slot.now ≡ false)) }
 {
-    if !is_free(slot) {
-        return Err(Refusal::InUse);
+    match slot.kind() {
+        Some(_) => Err(Refusal::InUse),
+        None => Ok(()),
     }
-    Ok(())
 }
 
 /// A number that is at most another.
@@ -60,10 +60,10 @@ pub(super) fn in_use(slots: &[Slot], target: usize) -> Result<(), Refusal>
     ensures known { IfErr result (λ refusal. refusal ≢ Refusal.Memory) }
 {
     known(slots, target)?;
-    if is_free(&slots[target]) {
-        return Err(Refusal::WrongKind);
+    match slots[target].kind() {
+        Some(_) => Ok(()),
+        None => Err(Refusal::WrongKind),
     }
-    Ok(())
 }
 
 /// A destination that has to be free.
@@ -86,6 +86,22 @@ pub(super) fn lent(kinds: &[Kind], slots: &[Slot], src: usize, dst: usize) -> Re
     of_kind(kinds, &slots[src])?;
     unused(&slots[dst])?;
     Ok(())
+}
+
+/// A view that keeps its name, and a free destination.
+pub(super) fn lent_view(slots: &[Slot], src: usize, dst: usize) -> Result<&IoBuf, Refusal>
+    ensures causes { MatchResult result
+        (λ view. (first_cause (lent_causes (Kind.View ∷ []) slots.now src dst []) ≡ None) × (slot_named slots.now src ≡ Slot.View view.now))
+        (λ refusal. first_cause (lent_causes (Kind.View ∷ []) slots.now src dst []) ≡ Some refusal) }
+    ensures known { IfErr result (λ refusal. refusal ≢ Refusal.Memory) }
+{
+    known(slots, src)?;
+    known(slots, dst)?;
+    let Slot::View(view) = &slots[src] else {
+        return Err(Refusal::WrongKind);
+    };
+    unused(&slots[dst])?;
+    Ok(view)
 }
 
 /// A source of one of these kinds that is consumed, and a destination that is free or the source.

@@ -5,12 +5,12 @@ ghost use Rattle.iobufs_core.specs.MarkedText.{joined};
 ghost use Rattle.iobufs.specs.Parts.{kept_parts, parts_capacity};
 ghost use Rattle.iobufs_run.specs.declared.command.Cmd.{Cmd};
 ghost use Rattle.iobufs_run.specs.Causes.{first_cause, gather_causes, has_twice as twice, is_no_name};
-ghost use Rattle.iobufs_run.specs.Run.{Step, outcome, all_freed, MayFree};
+ghost use Rattle.iobufs_run.specs.Run.{Step, reply_of, all_freed, MayFree};
 ghost use Rattle.iobufs_run.specs.Slots.{extent, slot_named, is_of as of, part_held, view_held};
 
 use super::Slot;
-use super::slots::{hold, is_free, is_of, readable, take_part, take_view};
-use crate::command::{Kind, Refusal};
+use super::slots::{hold, readable, take_part, take_view};
+use crate::command::{Kind, Outcome, Refusal, Reply};
 use iobufs::bufs::IoBufs;
 use iobufs::bufs_mut::IoBufsMut;
 use iobufs_core::buf::IoBufMut;
@@ -47,7 +47,7 @@ pub(super) fn holds(slots: &[Slot], name: usize, kind: Kind) -> bool
     ensures { result ≡ of kind (slot_named slots.now name) }
 {
     match slots.get(name) {
-        Some(slot) => is_of(kind, slot),
+        Some(slot) => slot.kind() == Some(kind),
         None => false,
     }
 }
@@ -85,7 +85,7 @@ fn gathering(slots: &[Slot], dst: usize, sources: &[usize], kind: Kind) -> Resul
     if !hold_all(slots, sources, kind) {
         return Err(Refusal::WrongKind);
     }
-    if (!is_free(&slots[dst]) && !sources.contains(&dst)) || has_twice(sources) {
+    if (slots[dst].kind().is_some() && !sources.contains(&dst)) || has_twice(sources) {
         return Err(Refusal::InUse);
     }
     if total(slots, sources).is_none() {
@@ -106,9 +106,7 @@ fn take_views(alloc: Global, slots: &mut [Slot], sources: &[usize]) -> Result<Io
 {
     let mut text = IoBufs::default();
     for src in sources {
-        let Some(piece) = take_view(&mut slots[*src]) else {
-            unreachable!()
-        };
+        let piece = take_view(&mut slots[*src])?;
         text.append(alloc, piece)?;
     }
     Ok(text)
@@ -125,9 +123,7 @@ fn take_row(alloc: Global, slots: &mut [Slot], sources: &[usize]) -> Result<Vec<
 {
     let mut row = Vec::with_capacity(alloc, sources.len())?;
     for src in sources {
-        let Some(part) = take_part(&mut slots[*src]) else {
-            unreachable!()
-        };
+        let part = take_part(&mut slots[*src])?;
         row.push(part).unwrap();
     }
     Ok(row)
@@ -162,25 +158,20 @@ pub(super) fn gather_mut(
     slots: &mut [Slot],
     dst: usize,
     sources: &Vec<usize>,
-) -> Result<(), Refusal>
-    ensures { Step slots.old (Cmd.GatherMut dst sources.now) (outcome result) slots.new }
+) -> Outcome
+    ensures { Step slots.old (Cmd.GatherMut dst sources.now) (reply_of result) slots.new }
 {
     gathering(slots, dst, sources, Kind::Part)?;
     let parts = take_parts(alloc, slots, sources)?;
     hold(slots, dst, Slot::Parts(parts));
-    Ok(())
+    Ok(Reply::Done)
 }
 
-pub(super) fn gather(
-    alloc: Global,
-    slots: &mut [Slot],
-    dst: usize,
-    sources: &Vec<usize>,
-) -> Result<(), Refusal>
-    ensures { Step slots.old (Cmd.Gather dst sources.now) (outcome result) slots.new }
+pub(super) fn gather(alloc: Global, slots: &mut [Slot], dst: usize, sources: &Vec<usize>) -> Outcome
+    ensures { Step slots.old (Cmd.Gather dst sources.now) (reply_of result) slots.new }
 {
     gathering(slots, dst, sources, Kind::View)?;
     let text = take_views(alloc, slots, sources)?;
     hold(slots, dst, Slot::Text(text));
-    Ok(())
+    Ok(Reply::Done)
 }

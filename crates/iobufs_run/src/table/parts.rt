@@ -1,13 +1,13 @@
 // The commands on parts.
-ghost use Rattle.std.specs.Prelude.{◌≡◌, ◌⊎◌, false, length, IfNone, IfOk, IfSome, IsOk, IsOkUnless, IsTrue};
+ghost use Rattle.std.specs.Prelude.{◌≡◌, ◌⊎◌, ◌<◌, false, length, [], ◌∷◌, IfErr, IfOk, IsOk, IsTrue, OnErr};
 ghost use Rattle.iobufs_run.specs.declared.command.Cmd.{Cmd};
-ghost use Rattle.iobufs_run.specs.Run.{Step, outcome};
-ghost use Rattle.iobufs_run.specs.Slots.{is_fixed_view as fixed_view, is_native_view as native_view, is_part as part, is_parts as parts, is_view as view, readable as readable_bytes, slot_frozen, slot_recovered};
+ghost use Rattle.iobufs_run.specs.Run.{Step, reply_of};
+ghost use Rattle.iobufs_run.specs.Slots.{is_fixed_view, is_native_view, is_one_of, is_view, readable as readable_bytes, slot_frozen, slot_recovered};
 
 use super::Slot;
 use super::causes::{free_name, known, moved, within};
-use super::slots::hold;
-use crate::command::{Kind, Refusal};
+use super::slots::{hold, take_view};
+use crate::command::{Kind, Outcome, Refusal, Reply};
 use iobufs_core::buf::IoBufMut;
 use iobufs_core::codec::BufMut;
 use std::alloc::{AllocError, Global};
@@ -19,13 +19,13 @@ pub(super) fn new_mut(
     dst: usize,
     capacity: usize,
     align: usize,
-) -> Result<(), Refusal>
-    ensures { Step slots.old (Cmd.NewMut dst capacity align) (outcome result) slots.new }
+) -> Outcome
+    ensures { Step slots.old (Cmd.NewMut dst capacity align) (reply_of result) slots.new }
 {
     free_name(slots, dst)?;
     let part = IoBufMut::with_alignment(alloc, capacity, align)?;
     hold(slots, dst, Slot::Part(part));
-    Ok(())
+    Ok(Reply::Done)
 }
 
 pub(super) fn zeroed(
@@ -34,13 +34,13 @@ pub(super) fn zeroed(
     dst: usize,
     len: usize,
     align: usize,
-) -> Result<(), Refusal>
-    ensures { Step slots.old (Cmd.Zeroed dst len align) (outcome result) slots.new }
+) -> Outcome
+    ensures { Step slots.old (Cmd.Zeroed dst len align) (reply_of result) slots.new }
 {
     free_name(slots, dst)?;
     let part = IoBufMut::zeroed_with_alignment(alloc, len, align)?;
     hold(slots, dst, Slot::Part(part));
-    Ok(())
+    Ok(Reply::Done)
 }
 
 // A copy of these bytes, which asks for no memory where there are none.
@@ -54,22 +54,17 @@ fn copied(alloc: Global, bytes: &[u8]) -> Result<Vec<u8>, AllocError>
     Vec::from_slice(alloc, bytes)
 }
 
-pub(super) fn adopt(
-    alloc: Global,
-    slots: &mut [Slot],
-    dst: usize,
-    bytes: &Vec<u8>,
-) -> Result<(), Refusal>
-    ensures { Step slots.old (Cmd.Adopt dst bytes.now) (outcome result) slots.new }
+pub(super) fn adopt(alloc: Global, slots: &mut [Slot], dst: usize, bytes: &Vec<u8>) -> Outcome
+    ensures { Step slots.old (Cmd.Adopt dst bytes.now) (reply_of result) slots.new }
 {
     free_name(slots, dst)?;
     let part = IoBufMut::from(copied(alloc, bytes.as_slice())?);
     hold(slots, dst, Slot::Part(part));
-    Ok(())
+    Ok(Reply::Done)
 }
 
-pub(super) fn put(slots: &mut [Slot], target: usize, bytes: &Vec<u8>) -> Result<(), Refusal>
-    ensures { Step slots.old (Cmd.Put target bytes.now) (outcome result) slots.new }
+pub(super) fn put(slots: &mut [Slot], target: usize, bytes: &Vec<u8>) -> Outcome
+    ensures { Step slots.old (Cmd.Put target bytes.now) (reply_of result) slots.new }
 {
     known(slots, target)?;
     match &mut slots[target] {
@@ -83,11 +78,11 @@ pub(super) fn put(slots: &mut [Slot], target: usize, bytes: &Vec<u8>) -> Result<
         }
         _ => return Err(Refusal::WrongKind),
     }
-    Ok(())
+    Ok(Reply::Done)
 }
 
-pub(super) fn fill(slots: &mut [Slot], target: usize, byte: u8, n: usize) -> Result<(), Refusal>
-    ensures { Step slots.old (Cmd.Fill target byte n) (outcome result) slots.new }
+pub(super) fn fill(slots: &mut [Slot], target: usize, byte: u8, n: usize) -> Outcome
+    ensures { Step slots.old (Cmd.Fill target byte n) (reply_of result) slots.new }
 {
     known(slots, target)?;
     match &mut slots[target] {
@@ -101,11 +96,11 @@ pub(super) fn fill(slots: &mut [Slot], target: usize, byte: u8, n: usize) -> Res
         }
         _ => return Err(Refusal::WrongKind),
     }
-    Ok(())
+    Ok(Reply::Done)
 }
 
-pub(super) fn set_len(slots: &mut [Slot], target: usize, n: usize) -> Result<(), Refusal>
-    ensures { Step slots.old (Cmd.SetLen target n) (outcome result) slots.new }
+pub(super) fn set_len(slots: &mut [Slot], target: usize, n: usize) -> Outcome
+    ensures { Step slots.old (Cmd.SetLen target n) (reply_of result) slots.new }
 {
     known(slots, target)?;
     match &mut slots[target] {
@@ -119,33 +114,33 @@ pub(super) fn set_len(slots: &mut [Slot], target: usize, n: usize) -> Result<(),
         }
         _ => return Err(Refusal::WrongKind),
     }
-    Ok(())
+    Ok(Reply::Done)
 }
 
-pub(super) fn truncate(slots: &mut [Slot], target: usize, n: usize) -> Result<(), Refusal>
-    ensures { Step slots.old (Cmd.Truncate target n) (outcome result) slots.new }
+pub(super) fn truncate(slots: &mut [Slot], target: usize, n: usize) -> Outcome
+    ensures { Step slots.old (Cmd.Truncate target n) (reply_of result) slots.new }
 {
     known(slots, target)?;
     let Slot::Part(part) = &mut slots[target] else {
         return Err(Refusal::WrongKind);
     };
     part.truncate(n);
-    Ok(())
+    Ok(Reply::Done)
 }
 
-pub(super) fn clear(slots: &mut [Slot], target: usize) -> Result<(), Refusal>
-    ensures { Step slots.old (Cmd.Clear target) (outcome result) slots.new }
+pub(super) fn clear(slots: &mut [Slot], target: usize) -> Outcome
+    ensures { Step slots.old (Cmd.Clear target) (reply_of result) slots.new }
 {
     known(slots, target)?;
     let Slot::Part(part) = &mut slots[target] else {
         return Err(Refusal::WrongKind);
     };
     part.clear();
-    Ok(())
+    Ok(Reply::Done)
 }
 
-pub(super) fn overwrite(slots: &mut [Slot], target: usize, bytes: &Vec<u8>) -> Result<(), Refusal>
-    ensures { Step slots.old (Cmd.Overwrite target bytes.now) (outcome result) slots.new }
+pub(super) fn overwrite(slots: &mut [Slot], target: usize, bytes: &Vec<u8>) -> Outcome
+    ensures { Step slots.old (Cmd.Overwrite target bytes.now) (reply_of result) slots.new }
 {
     known(slots, target)?;
     match &mut slots[target] {
@@ -156,68 +151,50 @@ pub(super) fn overwrite(slots: &mut [Slot], target: usize, bytes: &Vec<u8>) -> R
         Slot::Part(_) | Slot::Parts(_) => return Err(Refusal::OutOfRange),
         _ => return Err(Refusal::WrongKind),
     }
-    Ok(())
+    Ok(Reply::Done)
 }
 
-// Freezes what a slot holds, a part or parts, which leaves it.
-fn freeze_slot(alloc: Global, slot: &mut Slot) -> Result<Slot, Refusal>
-    requires { IsTrue (part slot.old) ⊎ IsTrue (parts slot.old) }
-    ensures ok { IfOk result (λ frozen. frozen ≡ slot_frozen slot.old) }
-    ensures free { slot.new ≡ Slot.Free }
-    ensures err { IsOkUnless result Refusal.Memory }
-    ensures empty { readable_bytes slot.old ≡ 0 → IsOk result }
+// A part or parts, frozen.
+fn frozen(alloc: Global, slot: Slot) -> Result<Slot, Refusal>
+    ensures ok { IfOk result (λ frozen. frozen ≡ slot_frozen slot) }
+    ensures err { IfErr result (λ refusal. ((refusal ≡ Refusal.Memory) × (0 < readable_bytes slot)) ⊎ (is_one_of (Kind.Part ∷ Kind.Parts ∷ []) slot ≡ false)) }
 {
-    match mem::replace(slot, Slot::Free) {
+    match slot {
         Slot::Part(part) => Ok(Slot::View(part.freeze()?)),
         Slot::Parts(parts) => Ok(Slot::Text(parts.freeze(alloc)?)),
-        _ => unreachable!(),
+        Slot::Free | Slot::View(_) | Slot::Text(_) => Err(Refusal::WrongKind),
     }
 }
 
-pub(super) fn freeze(
-    alloc: Global,
-    slots: &mut [Slot],
-    src: usize,
-    dst: usize,
-) -> Result<(), Refusal>
-    ensures { Step slots.old (Cmd.Freeze src dst) (outcome result) slots.new }
+pub(super) fn freeze(alloc: Global, slots: &mut [Slot], src: usize, dst: usize) -> Outcome
+    ensures { Step slots.old (Cmd.Freeze src dst) (reply_of result) slots.new }
 {
     moved(&[Kind::Part, Kind::Parts], slots, src, dst)?;
-    let frozen = freeze_slot(alloc, &mut slots[src])?;
-    hold(slots, dst, frozen);
-    Ok(())
+    let slot = mem::replace(&mut slots[src], Slot::Free);
+    hold(slots, dst, frozen(alloc, slot)?);
+    Ok(Reply::Done)
 }
 
 // Takes the view that a slot holds as a part, which leaves the slot. It stays where it can't be written.
-fn recover_slot(alloc: Global, slot: &mut Slot) -> Option<IoBufMut>
-    requires { IsTrue (view slot.old) }
-    ensures some { IfSome result (λ part. (Slot.Part part ≡ slot_recovered slot.old) × (slot.new ≡ Slot.Free) × (fixed_view slot.old ≡ false)) }
-    ensures none { IfNone result ((slot.new ≡ slot.old) × (IsTrue (fixed_view slot.old) ⊎ IsTrue (native_view slot.old))) }
+fn recover_slot(alloc: Global, slot: &mut Slot) -> Result<IoBufMut, Refusal>
+    ensures ok { IfOk result (λ part. (Slot.Part part ≡ slot_recovered slot.old) × (slot.new ≡ Slot.Free) × (is_fixed_view slot.old ≡ false)) }
+    ensures kept { OnErr result (slot.new ≡ slot.old) }
+    ensures err { IfErr result (λ refusal. ((refusal ≡ Refusal.Declined) × (IsTrue (is_fixed_view slot.old) ⊎ IsTrue (is_native_view slot.old))) ⊎ (is_view slot.old ≡ false)) }
 {
-    match mem::replace(slot, Slot::Free) {
-        Slot::View(view) => match view.try_into_mut(alloc) {
-            Ok(part) => Some(part),
-            Err(view) => {
-                *slot = Slot::View(view);
-                None
-            }
-        },
-        _ => unreachable!(),
+    match take_view(slot)?.try_into_mut(alloc) {
+        Ok(part) => Ok(part),
+        Err(view) => {
+            *slot = Slot::View(view);
+            Err(Refusal::Declined)
+        }
     }
 }
 
-pub(super) fn recover(
-    alloc: Global,
-    slots: &mut [Slot],
-    src: usize,
-    dst: usize,
-) -> Result<(), Refusal>
-    ensures { Step slots.old (Cmd.Recover src dst) (outcome result) slots.new }
+pub(super) fn recover(alloc: Global, slots: &mut [Slot], src: usize, dst: usize) -> Outcome
+    ensures { Step slots.old (Cmd.Recover src dst) (reply_of result) slots.new }
 {
     moved(&[Kind::View], slots, src, dst)?;
-    let Some(part) = recover_slot(alloc, &mut slots[src]) else {
-        return Err(Refusal::Declined);
-    };
+    let part = recover_slot(alloc, &mut slots[src])?;
     hold(slots, dst, Slot::Part(part));
-    Ok(())
+    Ok(Reply::Done)
 }

@@ -7,7 +7,7 @@ ghost use Rattle.iobufs_core.specs.MarkedText.{text_chunks};
 
 use super::Slot;
 use super::causes::known;
-use crate::command::{Kind, Piece, Refusal, Reply};
+use crate::command::{Kind, Outcome, Piece, Refusal, Reply};
 use iobufs::bufs::IoBufs;
 use iobufs::bufs_mut::IoBufsMut;
 use iobufs_core::codec::BufMut;
@@ -28,10 +28,7 @@ fn chunks(alloc: Global, text: &IoBufs) -> Result<Vec<Piece>, AllocError>
     ensures { IfOk result (λ pieces. map shown_piece pieces.items ≡ map (λ chunk. (chunk, 0)) (text_chunks text.now)) }
 {
     let mut pieces = Vec::new(alloc);
-    for i in 0..text.chunk_count() {
-        let Some(chunk) = text.chunk_at(i) else {
-            unreachable!()
-        };
+    while let Some(chunk) = text.chunk_at(pieces.len()) {
         let bytes = Vec::from_slice(alloc, chunk)?;
         pieces.push(Piece { bytes, spare: 0 })?;
     }
@@ -43,10 +40,7 @@ fn parts_shown(alloc: Global, parts: &IoBufsMut) -> Result<Vec<Piece>, AllocErro
     ensures { IfOk result (λ pieces. map shown_piece pieces.items ≡ map (λ part. (part.filled, part.spare)) parts.now) }
 {
     let mut pieces = Vec::new(alloc);
-    for i in 0..parts.part_count() {
-        let Some(part) = parts.part_at(i) else {
-            unreachable!()
-        };
+    while let Some(part) = parts.part_at(pieces.len()) {
         let bytes = Vec::from_slice(alloc, part.as_ref())?;
         let spare = part.remaining_mut();
         pieces.push(Piece { bytes, spare })?;
@@ -72,7 +66,7 @@ fn shown(alloc: Global, slot: &Slot) -> Result<(Kind, Vec<Piece>), Refusal>
     }
 }
 
-pub(super) fn show(alloc: Global, slots: &[Slot], target: usize) -> Result<Reply, Refusal>
+pub(super) fn show(alloc: Global, slots: &[Slot], target: usize) -> Outcome
     ensures { Step slots.now (Cmd.Show target) (reply_of result) slots.now }
 {
     known(slots, target)?;

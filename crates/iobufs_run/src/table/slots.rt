@@ -1,56 +1,14 @@
-// Tests of what names hold, what is taken from a slot, and the command that frees a name.
-ghost use Rattle.std.specs.Prelude.{◌≡◌, ◌<◌, slice_set, length, false, IfSome, IfNone};
+// What is taken from a slot and put there, and the command that frees a name.
+ghost use Rattle.std.specs.Prelude.{◌≡◌, ◌<◌, slice_set, length, false, IfErr, IfOk};
 ghost use Rattle.iobufs_run.specs.declared.command.Cmd.{Cmd};
-ghost use Rattle.iobufs_run.specs.Run.{Step, outcome};
-ghost use Rattle.iobufs_run.specs.Slots.{is_free as free, is_part as part, is_view as view, is_text as text, is_parts as parts, is_of as of, readable as readable_bytes};
+ghost use Rattle.iobufs_run.specs.Run.{Step, reply_of};
+ghost use Rattle.iobufs_run.specs.Slots.{is_part, is_view, readable as readable_bytes};
 
 use super::Slot;
 use super::causes::in_use;
-use crate::command::{Kind, Refusal};
+use crate::command::{Outcome, Refusal, Reply};
 use iobufs_core::buf::{IoBuf, IoBufMut};
 use std::mem;
-
-pub(super) fn is_free(slot: &Slot) -> bool
-    ensures { result ≡ free slot.now }
-{
-    matches!(slot, Slot::Free)
-}
-
-pub(super) fn is_part(slot: &Slot) -> bool
-    ensures { result ≡ part slot.now }
-{
-    matches!(slot, Slot::Part(_))
-}
-
-pub(super) fn is_view(slot: &Slot) -> bool
-    ensures { result ≡ view slot.now }
-{
-    matches!(slot, Slot::View(_))
-}
-
-pub(super) fn is_text(slot: &Slot) -> bool
-    ensures { result ≡ text slot.now }
-{
-    matches!(slot, Slot::Text(_))
-}
-
-pub(super) fn is_parts(slot: &Slot) -> bool
-    ensures { result ≡ parts slot.now }
-{
-    matches!(slot, Slot::Parts(_))
-}
-
-/// Whether a slot holds a buffer of this kind.
-pub(super) fn is_of(kind: Kind, slot: &Slot) -> bool
-    ensures { result ≡ of kind slot.now }
-{
-    match kind {
-        Kind::Part => is_part(slot),
-        Kind::View => is_view(slot),
-        Kind::Text => is_text(slot),
-        Kind::Parts => is_parts(slot),
-    }
-}
 
 /// How many bytes can be read from what a name holds.
 pub(super) fn readable(slot: &Slot) -> usize
@@ -74,38 +32,38 @@ pub(super) fn hold(slots: &mut [Slot], name: usize, slot: Slot)
     slots[name] = slot;
 }
 
-/// Takes the part out of a slot.
-pub(super) fn take_part(slot: &mut Slot) -> Option<IoBufMut>
-    ensures some { IfSome result (λ part. (slot.old ≡ Slot.Part part) × (slot.new ≡ Slot.Free)) }
-    ensures none { IfNone result ((part slot.old ≡ false) × (slot.new ≡ slot.old)) }
+/// Takes the part out of a slot. What is of another kind stays.
+pub(super) fn take_part(slot: &mut Slot) -> Result<IoBufMut, Refusal>
+    ensures ok { IfOk result (λ part. (slot.old ≡ Slot.Part part) × (slot.new ≡ Slot.Free)) }
+    ensures err { IfErr result (λ refusal. (refusal ≡ Refusal.WrongKind) × (is_part slot.old ≡ false) × (slot.new ≡ slot.old)) }
 {
     match mem::replace(slot, Slot::Free) {
-        Slot::Part(part) => Some(part),
+        Slot::Part(part) => Ok(part),
         other => {
             *slot = other;
-            None
+            Err(Refusal::WrongKind)
         }
     }
 }
 
-/// Takes the view out of a slot.
-pub(super) fn take_view(slot: &mut Slot) -> Option<IoBuf>
-    ensures some { IfSome result (λ view. (slot.old ≡ Slot.View view) × (slot.new ≡ Slot.Free)) }
-    ensures none { IfNone result ((view slot.old ≡ false) × (slot.new ≡ slot.old)) }
+/// Takes the view out of a slot. What is of another kind stays.
+pub(super) fn take_view(slot: &mut Slot) -> Result<IoBuf, Refusal>
+    ensures ok { IfOk result (λ view. (slot.old ≡ Slot.View view) × (slot.new ≡ Slot.Free)) }
+    ensures err { IfErr result (λ refusal. (refusal ≡ Refusal.WrongKind) × (is_view slot.old ≡ false) × (slot.new ≡ slot.old)) }
 {
     match mem::replace(slot, Slot::Free) {
-        Slot::View(view) => Some(view),
+        Slot::View(view) => Ok(view),
         other => {
             *slot = other;
-            None
+            Err(Refusal::WrongKind)
         }
     }
 }
 
-pub(super) fn free(slots: &mut [Slot], target: usize) -> Result<(), Refusal>
-    ensures { Step slots.old (Cmd.Drop target) (outcome result) slots.new }
+pub(super) fn free(slots: &mut [Slot], target: usize) -> Outcome
+    ensures { Step slots.old (Cmd.Drop target) (reply_of result) slots.new }
 {
     in_use(slots, target)?;
     hold(slots, target, Slot::Free);
-    Ok(())
+    Ok(Reply::Done)
 }

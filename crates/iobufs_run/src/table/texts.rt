@@ -1,27 +1,27 @@
 // The commands that join texts and views, and make one piece of several.
-ghost use Rattle.std.specs.Prelude.{◌≡◌, ◌≢◌, ◌⊎◌, ◌+◌, ◌^◌, ◌<◌, false, length, IfOk, IfErr, IsTrue, OnOk, MatchResult, Some, None};
+ghost use Rattle.std.specs.Prelude.{◌≡◌, ◌≢◌, ◌⊎◌, ◌+◌, ◌^◌, ◌<◌, false, length, [], ◌∷◌, IfOk, IfErr, IsTrue, OnErr, OnOk, MatchResult, Some, None};
 ghost use Rattle.iobufs_run.specs.declared.command.Cmd.{Cmd};
 ghost use Rattle.iobufs_run.specs.Causes.{first_cause, join_causes};
-ghost use Rattle.iobufs_run.specs.Run.{Step, joining as joining_at, outcome};
-ghost use Rattle.iobufs_run.specs.Slots.{is_text as text, is_parts as parts, is_in_pieces as in_pieces, is_too_large as too_large, readable as readable_bytes, slot_coalesced, slot_joined};
+ghost use Rattle.iobufs_run.specs.Run.{Step, joining as joining_at, reply_of};
+ghost use Rattle.iobufs_run.specs.Slots.{is_text, is_in_pieces, is_one_of, is_too_large as too_large, readable as readable_bytes, slot_coalesced, slot_joined};
 
 use super::causes::{known, moved};
-use super::slots::{hold, is_text, is_view, readable, take_view};
+use super::slots::{hold, readable, take_view};
 use super::{End, Slot};
-use crate::command::{Kind, Refusal};
+use crate::command::{Kind, Outcome, Refusal, Reply};
 use iobufs_core::buf::IoBuf;
 use std::alloc::Global;
 use std::mem;
 
 // Puts a view at an end of the text that a slot holds; it comes back where memory is refused.
 fn join_to(alloc: Global, slot: &mut Slot, piece: IoBuf, end: End) -> Result<(), IoBuf>
-    requires kind { IsTrue (text slot.old) }
     requires fits { readable_bytes slot.old + length piece.bytes < 2 ^ 64 }
     ensures ok { OnOk result (slot.new ≡ slot_joined end slot.old (Slot.View piece)) }
-    ensures err { IfErr result (λ back. (back ≡ piece) × (slot.new ≡ slot.old) × (0 < length piece.bytes) × (0 < readable_bytes slot.old)) }
+    ensures kept { IfErr result (λ back. (back ≡ piece) × (slot.new ≡ slot.old)) }
+    ensures err { OnErr result (((0 < length piece.bytes) × (0 < readable_bytes slot.old)) ⊎ (is_text slot.old ≡ false)) }
 {
     let Slot::Text(text) = slot else {
-        unreachable!()
+        return Err(piece);
     };
     match end {
         End::Back => text.append(alloc, piece).map_err(|refused| refused.value),
@@ -36,7 +36,7 @@ fn joining(slots: &[Slot], target: usize, src: usize) -> Result<(), Refusal>
 {
     known(slots, target)?;
     known(slots, src)?;
-    if !is_text(&slots[target]) || !is_view(&slots[src]) {
+    if slots[target].kind() != Some(Kind::Text) || slots[src].kind() != Some(Kind::View) {
         return Err(Refusal::WrongKind);
     }
     if readable(&slots[target])
@@ -55,50 +55,41 @@ pub(super) fn join(
     target: usize,
     src: usize,
     end: End,
-) -> Result<(), Refusal>
-    ensures { Step slots.old (joining_at end target src) (outcome result) slots.new }
+) -> Outcome
+    ensures { Step slots.old (joining_at end target src) (reply_of result) slots.new }
 {
     joining(slots, target, src)?;
-    let Some(piece) = take_view(&mut slots[src]) else {
-        unreachable!()
-    };
+    let piece = take_view(&mut slots[src])?;
     if let Err(piece) = join_to(alloc, &mut slots[target], piece, end) {
         hold(slots, src, Slot::View(piece));
         return Err(Refusal::Memory);
     }
-    Ok(())
+    Ok(Reply::Done)
 }
 
-// Takes what a slot holds, a text or parts, as one piece, which leaves the slot.
-fn coalesce_slot(alloc: Global, slot: &mut Slot) -> Result<Slot, Refusal>
-    requires kind { IsTrue (text slot.old) ⊎ IsTrue (parts slot.old) }
-    requires fits { too_large slot.old ≡ false }
-    ensures ok { IfOk result (λ whole. whole ≡ slot_coalesced slot.old) }
-    ensures free { slot.new ≡ Slot.Free }
-    ensures err { IfErr result (λ refusal. (refusal ≡ Refusal.Memory) × IsTrue (in_pieces slot.old)) }
+// A text or parts, as one piece.
+fn whole(alloc: Global, slot: Slot) -> Result<Slot, Refusal>
+    requires fits { too_large slot ≡ false }
+    ensures ok { IfOk result (λ whole. whole ≡ slot_coalesced slot) }
+    ensures err { IfErr result (λ refusal. ((refusal ≡ Refusal.Memory) × IsTrue (is_in_pieces slot)) ⊎ (is_one_of (Kind.Text ∷ Kind.Parts ∷ []) slot ≡ false)) }
 {
-    match mem::replace(slot, Slot::Free) {
+    match slot {
         Slot::Text(text) => Ok(Slot::View(text.coalesce(alloc)?)),
         Slot::Parts(parts) => Ok(Slot::Part(parts.coalesce(alloc)?)),
-        _ => unreachable!(),
+        Slot::Free | Slot::Part(_) | Slot::View(_) => Err(Refusal::WrongKind),
     }
 }
 
-pub(super) fn coalesce(
-    alloc: Global,
-    slots: &mut [Slot],
-    src: usize,
-    dst: usize,
-) -> Result<(), Refusal>
-    ensures { Step slots.old (Cmd.Coalesce src dst) (outcome result) slots.new }
+pub(super) fn coalesce(alloc: Global, slots: &mut [Slot], src: usize, dst: usize) -> Outcome
+    ensures { Step slots.old (Cmd.Coalesce src dst) (reply_of result) slots.new }
 {
     moved(&[Kind::Text, Kind::Parts], slots, src, dst)?;
     if is_too_large(&slots[src]) {
         return Err(Refusal::BadLayout);
     }
-    let whole = coalesce_slot(alloc, &mut slots[src])?;
-    hold(slots, dst, whole);
-    Ok(())
+    let slot = mem::replace(&mut slots[src], Slot::Free);
+    hold(slots, dst, whole(alloc, slot)?);
+    Ok(Reply::Done)
 }
 
 // Whether no storage has room for all bytes of several pieces.

@@ -1,77 +1,70 @@
 // The commands that take bytes from the front.
-ghost use Rattle.std.specs.Prelude.{◌≡◌, ◌≤◌, ◌⊎◌, false, take as first, IfOk, IsOk, IsOkUnless, IfErr, IsTrue, OnErr, OnOk, nat_eq};
+ghost use Rattle.std.specs.Prelude.{◌≡◌, ◌≤◌, ◌<◌, ◌⊎◌, true, false, [], ◌∷◌, take as first, nat_eq, IfErr, IfOk, OnErr, OnOk, Err, Ok};
 ghost use Rattle.iobufs_core.specs.Wire.{IsViewRead};
 ghost use Rattle.iobufs_run.specs.declared.command.Cmd.{Cmd};
-ghost use Rattle.iobufs_run.specs.Run.{Step, outcome, reply_of};
-ghost use Rattle.iobufs_run.specs.Slots.{bytes_held, is_free as free, is_view as view, is_text as text, is_static_view as static_view, readable as readable_bytes, marked_held, slot_copied, slot_read, slot_split_front, slot_rest};
+ghost use Rattle.iobufs_core.specs.declared.codec.base.Error.{Error};
+ghost use Rattle.iobufs_run.specs.Refusals.{codec_refusal};
+ghost use Rattle.iobufs_run.specs.Run.{Step, reply_of};
+ghost use Rattle.iobufs_run.specs.Slots.{bytes_held, is_free, is_one_of, is_static_view, readable as readable_bytes, marked_held, slot_copied, slot_read, slot_split_front, slot_rest};
 
 use super::Slot;
 use super::causes::{in_use, lent, within};
 use super::slots::{hold, readable};
-use crate::command::{Kind, Refusal, Reply};
+use crate::command::{Kind, Outcome, Refusal, Reply};
 use bytes::Bytes;
 use iobufs_core::buf::IoBuf;
-use iobufs_core::codec::{Buf, Error, RangeCfg, Read};
+use iobufs_core::codec::{Buf, RangeCfg, Read};
 use std::alloc::Global;
 
-// Splits the view or the text that a slot holds.
+// Splits a view or a text that a slot holds.
 fn split_slot(alloc: Global, slot: &mut Slot, at: usize) -> Result<Slot, Refusal>
-    requires kind { IsTrue (view slot.old) ⊎ IsTrue (text slot.old) }
     requires within { at ≤ readable_bytes slot.old }
     ensures ok { IfOk result (λ front. (front ≡ slot_split_front slot.old at) × (slot.new ≡ slot_rest slot.old at)) }
-    ensures err { OnErr result (slot.new ≡ slot.old) }
-    ensures memory { IfErr result (λ refusal. (refusal ≡ Refusal.Memory) × (nat_eq at 0 ≡ false) × (nat_eq at (readable_bytes slot.old) ≡ false) × (static_view slot.old ≡ false)) }
+    ensures kept { OnErr result (slot.new ≡ slot.old) }
+    ensures err { IfErr result (λ refusal. ((refusal ≡ Refusal.Memory) × (nat_eq at 0 ≡ false) × (nat_eq at (readable_bytes slot.old) ≡ false) × (is_static_view slot.old ≡ false)) ⊎ (is_one_of (Kind.View ∷ Kind.Text ∷ []) slot.old ≡ false)) }
 {
     match slot {
         Slot::View(view) => Ok(Slot::View(view.split_to(at)?)),
         Slot::Text(text) => Ok(Slot::Text(text.split_to(alloc, at)?)),
-        _ => unreachable!(),
+        Slot::Free | Slot::Part(_) | Slot::Parts(_) => Err(Refusal::WrongKind),
     }
 }
 
-pub(super) fn split(
-    alloc: Global,
-    slots: &mut [Slot],
-    src: usize,
-    dst: usize,
-    at: usize,
-) -> Result<(), Refusal>
-    ensures { Step slots.old (Cmd.Split src dst at) (outcome result) slots.new }
+pub(super) fn split(alloc: Global, slots: &mut [Slot], src: usize, dst: usize, at: usize) -> Outcome
+    ensures { Step slots.old (Cmd.Split src dst at) (reply_of result) slots.new }
 {
     lent(&[Kind::View, Kind::Text], slots, src, dst)?;
     within(at, readable(&slots[src]))?;
     let front = split_slot(alloc, &mut slots[src], at)?;
     hold(slots, dst, front);
-    Ok(())
+    Ok(Reply::Done)
 }
 
-pub(super) fn advance(slots: &mut [Slot], target: usize, n: usize) -> Result<(), Refusal>
-    ensures { Step slots.old (Cmd.Advance target n) (outcome result) slots.new }
+pub(super) fn advance(slots: &mut [Slot], target: usize, n: usize) -> Outcome
+    ensures { Step slots.old (Cmd.Advance target n) (reply_of result) slots.new }
 {
     in_use(slots, target)?;
     within(n, readable(&slots[target]))?;
     match &mut slots[target] {
-        Slot::Free => unreachable!(),
+        Slot::Free => return Err(Refusal::WrongKind),
         Slot::Part(part) => part.advance(n),
         Slot::View(view) => view.advance(n),
         Slot::Text(text) => text.advance(n),
         Slot::Parts(parts) => parts.advance(n),
     }
-    Ok(())
+    Ok(Reply::Done)
 }
 
 // Takes the first bytes of what a slot holds out.
 fn take_slot(alloc: Global, slot: &mut Slot, n: usize) -> Result<Bytes, Refusal>
-    requires kind { free slot.old ≡ false }
     requires within { n ≤ readable_bytes slot.old }
     ensures ok { IfOk result (λ bytes. bytes ≡ first n (bytes_held slot.old)) }
     ensures rest { OnOk result (slot.new ≡ slot_copied slot.old n) }
-    ensures err { OnErr result (slot.new ≡ slot.old) }
-    ensures memory { IsOkUnless result Refusal.Memory }
-    ensures nothing { n ≡ 0 → IsOk result }
+    ensures kept { OnErr result (slot.new ≡ slot.old) }
+    ensures err { IfErr result (λ refusal. ((refusal ≡ Refusal.Memory) × (0 < n)) ⊎ (is_free slot.old ≡ true)) }
 {
     match slot {
-        Slot::Free => unreachable!(),
+        Slot::Free => Err(Refusal::WrongKind),
         Slot::Part(part) => Ok(part.copy_to_bytes(alloc, n)?),
         Slot::View(view) => Ok(view.copy_to_bytes(alloc, n)?),
         Slot::Text(text) => Ok(text.copy_to_bytes(alloc, n)?),
@@ -79,12 +72,7 @@ fn take_slot(alloc: Global, slot: &mut Slot, n: usize) -> Result<Bytes, Refusal>
     }
 }
 
-pub(super) fn take(
-    alloc: Global,
-    slots: &mut [Slot],
-    target: usize,
-    n: usize,
-) -> Result<Reply, Refusal>
+pub(super) fn take(alloc: Global, slots: &mut [Slot], target: usize, n: usize) -> Outcome
     ensures { Step slots.old (Cmd.Take target n) (reply_of result) slots.new }
 {
     in_use(slots, target)?;
@@ -93,17 +81,16 @@ pub(super) fn take(
     Ok(Reply::Bytes(bytes))
 }
 
-// Reads a view from the view or the text that a slot holds.
-fn read_slot(alloc: Global, slot: &mut Slot, range: &RangeCfg) -> Result<IoBuf, Error>
-    requires kind { IsTrue (view slot.old) ⊎ IsTrue (text slot.old) }
-    ensures answer { IsViewRead (marked_held slot.old) range.now result }
-    ensures rest { IfOk result (λ taken. slot.new ≡ slot_read slot.old taken) }
-    ensures err { OnErr result (slot.new ≡ slot.old) }
+// Reads a view from a view or a text that a slot holds.
+fn read_slot(alloc: Global, slot: &mut Slot, range: &RangeCfg) -> Result<IoBuf, Refusal>
+    ensures ok { IfOk result (λ taken. IsViewRead (marked_held slot.old) range.now (Ok taken) × (slot.new ≡ slot_read slot.old taken)) }
+    ensures kept { OnErr result (slot.new ≡ slot.old) }
+    ensures err { IfErr result (λ refusal. ((error : Error) × IsViewRead (marked_held slot.old) range.now (Err error) × (refusal ≡ codec_refusal error)) ⊎ (is_one_of (Kind.View ∷ Kind.Text ∷ []) slot.old ≡ false)) }
 {
     match slot {
-        Slot::View(view) => IoBuf::read_cfg(alloc, view, range),
-        Slot::Text(text) => IoBuf::read_cfg(alloc, text, range),
-        _ => unreachable!(),
+        Slot::View(view) => Ok(IoBuf::read_cfg(alloc, view, range)?),
+        Slot::Text(text) => Ok(IoBuf::read_cfg(alloc, text, range)?),
+        Slot::Free | Slot::Part(_) | Slot::Parts(_) => Err(Refusal::WrongKind),
     }
 }
 
@@ -113,11 +100,11 @@ pub(super) fn decode(
     src: usize,
     dst: usize,
     range: &RangeCfg,
-) -> Result<(), Refusal>
-    ensures { Step slots.old (Cmd.Decode src dst range.now) (outcome result) slots.new }
+) -> Outcome
+    ensures { Step slots.old (Cmd.Decode src dst range.now) (reply_of result) slots.new }
 {
     lent(&[Kind::View, Kind::Text], slots, src, dst)?;
     let view = read_slot(alloc, &mut slots[src], range)?;
     hold(slots, dst, Slot::View(view));
-    Ok(())
+    Ok(Reply::Done)
 }
