@@ -1,8 +1,8 @@
 -- The words of a line, and what they say.
 --     words_of                                 a line cut at each space, so that two spaces have an empty word
 --                                              between them
---     number_of, byte_of, number_below         a word of decimal digits, as a number that a `usize`, a byte, or a
---                                              type of fewer values can say
+--     number_of, byte_of, number_below         a word of decimal digits as a number: of a `usize`, of a byte, and
+--                                              below any end
 --     bytes_of, decoded                        a word of hexadecimal digits as bytes, and the answer of their reader
 --                                              as an option
 --     first_number, first_byte, first_bytes    the same of a first word, which may be wanting
