@@ -1,4 +1,6 @@
 -- Why a row of parts was not made.
+--     IsRowRefusedAt    with the last part, the capacity is more than a number holds (`TooLong`), or there was no
+--                       memory
 use Rattle.std.specs.Prelude.{◌≡◌, ◌<◌, ◌^◌, nat_lt, if◌then◌else◌, List, [], ◌∷◌, ◌++◌}
 use Rattle.iobufs_core.specs.Part.{Part, part_capacity}
 use Rattle.iobufs_core.specs.declared.codec.base.BufError.{BufError}

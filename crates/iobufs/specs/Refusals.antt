@@ -1,4 +1,5 @@
 -- Why views were not joined.
+--     IsRefusedAt    with the last view, the bytes are more than a number counts (`TooLong`), or there was no memory
 use Rattle.std.specs.Prelude.{◌≡◌, ◌<◌, ◌^◌, nat_lt, if◌then◌else◌, List, [], ◌∷◌, ◌++◌, length}
 use Rattle.iobufs_core.specs.View.{View}
 use Rattle.iobufs_core.specs.MarkedText.{joined, text_len}

@@ -1,8 +1,15 @@
--- Facts for callers, over bytes alone.
---     reading           bytes behind their length: what is read and what is left are the text, and what was written is read
---                       back; what a copy or an advance leaves, and a split's front
---     writing           how long what is written is, and how many of its bytes are inline
---     several_writes    one write behind another, and a refusal in their middle
+-- Facts for callers, over bytes alone, and the rulesets that hand them to a proof.
+--     reading                        bytes behind their length: what is read and what is left are the text, and what
+--                                    was written is read back; what a copy or an advance leaves, and a split's front
+--     writing                        how long what is written is, and how many of its bytes are inline
+--     several_writes                 one write behind another, and a refusal in their middle
+--     IsThere                        a view of n bytes stands behind its spelled length in front of a text
+--     AreReadBack                    bytes that were written are read back and what stood behind them is left, or
+--                                    memory was wanting
+--     view_there, one_front          where a view stands; two texts that begin with a body each, and are alike, have
+--                                    the same body
+--     read_in_range, read_at_most    the length of what was read is in the range, and no more than its end
+--     the rest                       what the rulesets cite
 use Rattle.std.specs.Prelude.{◌≡◌, ℕ, ◌+◌, ◌^◌, ◌<◌, ◌≤◌, true, Result, Ok, Err, IfOk, IsOkUnless, OnErr, List, [], ◌∷◌, ◌++◌, length, take, drop}
 use Rattle.std.proofs.Common.{arith, ap, sym, ◌∙◌, append_assoc, length-append, length-take, take-append-drop}
 use Rattle.std.proofs.Math.Seq.{take-append_seam}

@@ -1,4 +1,5 @@
 -- The chunks of a marked text are as many as its keys.
+--     length-text_chunks    a text that isn't empty shows a chunk for each cut, and one more
 use Rattle.std.proofs.Common.{◌≡◌, ℕ, suc, ◌+◌, ◌-◌, ◌<◌, List, [], ◌∷◌, length, take, drop, arith, ap, refl, ◌∙◌, length-take-le, length-drop}
 use Rattle.iobufs_core.specs.Chunks.{full_chunks}
 use Rattle.iobufs_core.specs.View.{Mark}

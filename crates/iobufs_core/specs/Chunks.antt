@@ -1,4 +1,7 @@
 -- Texts in chunks: what a reader of a text sees piece by piece.
+--     is_full, full_chunks    a chunk that holds bytes; those of several that do, in order
+--     first_chunk             what a reader is shown: the first of several, or no bytes
+--     IsChunkOf               a beginning of the text, which is empty only where the text is
 use Rattle.std.specs.Prelude.{◌≡◌, ℕ, Bool, true, false, List, [], ◌∷◌, filter, length, take}
 
 -- whether a chunk holds bytes

@@ -1,4 +1,11 @@
--- What is written and what the same value is: the written bytes of a value begin those of no other, and what is read stands in front as it would be written.
+-- What is written and what the same value is: the written bytes of a value begin those of no other, and what is read
+-- stands in front as it would be written.
+--     bytes_one, number_one                     no two bodies, and no two numbers, are written at the front of the
+--                                               same text
+--     bytes_front, view_front, length_front,    what was read, written again, is what stands in front
+--     number_front
+--     same_view                                 views of the same bytes are written alike, whatever their storage
+--     one_drop, bytes-dropped, left_behind      what stays behind written bytes once they are dropped
 use Rattle.std.proofs.Common.{◌≡◌, ℕ, ◌+◌, ◌^◌, ◌<◌, ◌≤◌, true, Ok, List, [], ◌∷◌, ◌++◌, length, take, drop, ap, sym, subst, ◌∙◌, refl, arith, append_assoc, length-append, length-drop}
 use Rattle.std.proofs.Math.Seq.{take-append_seam}
 use Rattle.std.proofs.lemmas.List.{take_at, append_cancel_left, drop-drop, drop_at}

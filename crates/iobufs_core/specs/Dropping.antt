@@ -1,4 +1,8 @@
 -- How bytes in front of a reader are dropped.
+--     Dropping       so many bytes dropped, `by_advance`, which keeps the mark of an only piece that is used up, or
+--                    `by_copy`
+--     dropped        the reader behind a list of these
+--     dropped_len    how many bytes they take away
 use Rattle.std.specs.Prelude.{ℕ, ◌+◌, List, [], ◌∷◌}
 
 -- by one `advance`, or by one copy of them

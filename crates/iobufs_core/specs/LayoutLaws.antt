@@ -1,4 +1,6 @@
 -- Layouts: which capacities storage can have.
+--     bad_layout_one, good_layout, large_layout    at alignment 1 any capacity below 2 ^ 63 has storage, and no
+--                                                  larger one
 use Rattle.std.specs.Prelude.{◌≡◌, ℕ, ◌-◌, ◌%◌, ◌^◌, ◌<◌, ◌≤◌, false, nat_lt, IsTrue}
 use Rattle.std.specs.Int.{next_multiple_of}
 use Rattle.std.specs.Int.Count.{ones}

@@ -1,4 +1,5 @@
 -- The written forms of numbers: so many bytes, and no two numbers alike.
+--     form_8, form_16, form_32, form_64    each width is written in its number of bytes, highest first
 use Rattle.std.proofs.Common.{◌≡◌, ℕ, [], ◌∷◌, refl, ap, sym, ◌∙◌}
 use Rattle.std.proofs.lemmas.Nat.{from_be_bytes-to_be_bytes_2, from_be_bytes-to_be_bytes_4, from_be_bytes-to_be_bytes_8}
 use Rattle.std.specs.Int.{w16, w32, w64, to_be_bytes, from_be_bytes}

@@ -1,4 +1,7 @@
--- Ranges of lengths.
+-- Ranges of lengths, and of places.
+--     in_range                           a length is one that a reader was told to admit, both ends included
+--     is_above, is_below, lies_within    a number satisfies the lower bound, the upper bound, and both
+--     highest_place                      the last number that an upper bound admits, if any
 use Rattle.std.specs.Prelude.{ℕ, ◌-◌, ◌^◌, Bool, true, ◌&&◌, ◌==◌, nat_le, nat_lt, Option, Some, None, if◌then◌else◌}
 use Rattle.std.specs.declared.ops.Bound.{Bound}
 use Rattle.std.specs.declared.ops.Bound.TheVariants.{Included, Excluded, Unbounded}

@@ -1,4 +1,5 @@
 -- What the storage of a view stands for.
+--     view_of    the bytes that a storage keeps, under the mark of its kind
 use Rattle.iobufs_core.specs.View.{View, static_mark, bytes_mark, native_mark}
 use Rattle.iobufs_core.specs.declared.buf.view.Storage.{Storage}
 use Rattle.iobufs_core.specs.declared.buf.view.Storage.TheVariants.{Static, Shared, Native}

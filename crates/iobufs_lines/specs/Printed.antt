@@ -1,4 +1,10 @@
 -- Replies as lines of text.
+--     reply_text, line_of                             a reply as it is printed, and its line
+--     kind_text, piece_text                           the first word of what is shown; each piece in hexadecimal
+--                                                     digits, of a part with the room behind it
+--     ReplyFits, PieceFits, PiecesFit, RefusalFits    what the program replies: bytes are bytes, lengths fit a
+--                                                     `usize`, and only parts have room
+--     OneReplyALine                                   replies that print the same line say the same
 use Rattle.std.specs.Prelude.{◌≡◌, ℕ, ◌<◌, ◌^◌, List, [], ◌∷◌, ◌++◌, codes, flat_map}
 use Rattle.std.specs.Fmt.{decimal}
 use Rattle.iobufs_core.specs.declared.codec.base.Error.TheVariants as fault

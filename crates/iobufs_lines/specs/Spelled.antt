@@ -1,4 +1,9 @@
 -- The line of a command.
+--     line_of_command, words_of_command    the line that says a command, and its words
+--     bound_text, item_text                the word of a range's end, and of an item
+--     first_letter                         where in the alphabet the bytes of a static view begin
+--     Fits, BoundFits, ItemsFit            the commands that have a line: numbers fit a `usize`, bytes are bytes,
+--                                          static bytes a run of letters
 use Rattle.std.specs.declared.ops.Bound.{Bound}
 use Rattle.std.specs.declared.ops.Bound.TheVariants.{Included, Excluded, Unbounded}
 use Rattle.std.specs.Prelude.{◌≡◌, ℕ, ◌+◌, ◌-◌, ◌^◌, ◌<◌, List, [], ◌∷◌, ◌++◌, codes, length, map, Some}

@@ -1,4 +1,5 @@
 -- Whether handles read or write.
+--     same_kind, is_mut    two kinds are alike; a handle writes
 use Rattle.std.specs.Prelude.{Bool, true, false}
 use Rattle.iobufs_owner.specs.declared.owner.types.Kind.{Kind}
 use Rattle.iobufs_owner.specs.declared.owner.types.Kind.TheVariants.{View, Mut}

@@ -1,4 +1,12 @@
 -- Which handle a call may have, or the lowest cause against it.
+--     borrows_it, is_lent                     an unfinished clone or slice has the handle; one of the calls has
+--     lend_of, any_of                         a handle that a call must have alone: of a kind, and of any
+--     owning_of, owning_view_of               the same of one that holds a block, and of such a view
+--     view_of                                 a view to be shared, which others may borrow meanwhile
+--     is_empty                                the word of a handle without block
+--     lend_found, any_found, owning_found,    the same of what stands under the number
+--     owning_view_found, view_found
+--     Lends                                   a handle that stands there, of that kind and borrowed by none
 use Rattle.std.specs.Prelude.{◌≡◌, ℕ, ◌==◌, Bool, true, false, List, Option, None, Some, Result, Ok, Err, if◌then◌else◌}
 use Rattle.std.specs.List.{list_any}
 use Rattle.iobufs_owner.specs.declared.owner.types.Handle.{Handle}

@@ -1,4 +1,10 @@
 -- What a user of the machine may rely on after every step of every run.
+--     Promises       all of them: counts, sole holders, recovered blocks, and logs that say what is freed, once
+--     IsPublished    a live record that its block goes by, and not one that a clone has just made
+--     IsFreed        the log says that the block was given back
+--     IsExclusive    a handle that has to be the only holder of its block
+--     IsOnce         a log in which nothing stands twice
+--     IsOver         all handles are gone, and no call is unfinished
 use Rattle.std.specs.Prelude.{◌≡◌, ◌≢◌, ℕ, ◌+◌, ◌<◌, ◌≤◌, ◌||◌, true, false, List, None, Some, length, All, AllPairs}
 use Rattle.iobufs_owner.specs.declared.owner.types.Handle.{Handle}
 use Rattle.iobufs_owner.specs.declared.owner.types.Word.TheVariants.{Descriptor}

@@ -1,4 +1,9 @@
 -- When a step isn't refused for want of room.
+--     IsReserved                 memory for so many blocks more and for so many steps, within the 2 ^ 32 entries of
+--                                each table
+--     makes_block, adds_block    a call, and a step, that adds a block if it succeeds
+--     new_blocks, blocks_of      how many blocks a step adds at most, and a run
+--     FindsRoom                  the answer isn't want of room
 use Rattle.std.specs.Prelude.{◌≢◌, ℕ, ◌+◌, ◌^◌, ◌<◌, ◌≤◌, Bool, true, false, if◌then◌else◌, List, [], ◌∷◌, length}
 use Rattle.iobufs_owner.specs.declared.owner.types.Call.{Call}
 use Rattle.iobufs_owner.specs.declared.owner.types.Call.TheVariants.{New, External, Static, Put, Advance, Freeze, TryIntoMut, SplitTo, IsUnique, Demote, Clone, Slice, Drop}

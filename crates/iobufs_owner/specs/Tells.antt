@@ -1,4 +1,6 @@
 -- What the answers of a machine tell.
+--     IsSole, TellsUnique    no other handle and no drop holds the block; and `IsUnique` answers just that
+--     CountsTaken            a step leaves its party's call with fewer than four steps taken
 use Rattle.std.specs.Prelude.{◌≡◌, ◌≢◌, ◌↔◌, ℕ, ◌<◌, ◌≤◌, Bool, true, false, Some}
 use Rattle.iobufs_owner.specs.declared.owner.types.Call.TheVariants.{IsUnique}
 use Rattle.iobufs_owner.specs.declared.owner.types.Act.TheVariants.{Begin}

@@ -1,5 +1,11 @@
--- Descriptor words: a size, an alignment and a tail in one number, of a format with a, t and s bits for alignment, tail
+-- Descriptor words: a size, an alignment and a tail in one number, of a format with a, t and s bits for alignment,
+-- tail
 -- and size.
+--     IsPowerOfTwo                an alignment that a word can tell by its logarithm
+--     word_of, IsWord             the number that packs a size, an alignment and a tail; a number that is one
+--     HasRoom, fits               the fields are wide enough for them; and whether they are
+--     size_in, tail_in, log_in    what is read off a word
+--     retailed                    the same block with another tail
 use Rattle.std.specs.Prelude.{◌≡◌, ℕ, ◌+◌, ◌*◌, ◌/◌, ◌%◌, ◌^◌, ◌<◌, ◌&&◌, nat_lt, Bool}
 
 -- an alignment is a power of two

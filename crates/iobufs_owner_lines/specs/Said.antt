@@ -1,4 +1,14 @@
 -- What a line asks of the machine.
+--     ask_of, ask_in, ask_by                  what a line behind the first asks, if anything; its words; its first
+--                                             word and the others
+--     freed_of, last_number_of                nothing but the question for the logs; a number and nothing behind it
+--     step_of, act_of, act_by                 a party and what it does; that alone: it goes on, or begins a call
+--     call_of, call_on_of                     a call, and one that only names a handle, with the words behind it
+--     grant_of                                memory is granted, or `deny` denies it
+--     one_of, Two, two_of, Three, three_of    so many numbers in front, and the words behind them
+--     setup_of, setup_in, setup_by            the machine that a first line asks for; its words; its numbers, which
+--                                             have limits
+--     width_of                                whether descriptors have 64 bits or 32
 use Rattle.std.specs.Prelude.{ℕ, ◌^◌, ◌&&◌, nat_lt, nat_le, Bool, true, false, if◌then◌else◌, List, [], ◌∷◌, codes, Option, Some, None, option_map}
 use Rattle.std.specs.Option.{option_and_then}
 use Rattle.std.specs.Str.{bytes_eq}

@@ -1,4 +1,6 @@
 -- Bases of blocks, and the last of them in a range.
+--     Seen      bases in the order in which they were added, and for how many there is memory
+--     IsLast    the number of the greatest base in a range, or none where no base is in it
 use Rattle.std.specs.Prelude.{◌⊎◌, ℕ, ◌<◌, ◌≤◌, List, Option, None, Some, All, length, slice_index_or}
 
 -- what is seen of them: the bases in the order of adding, and for how many there is memory

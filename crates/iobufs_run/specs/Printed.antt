@@ -1,4 +1,6 @@
 -- Refusals as they are printed.
+--     fault_text      a fault of reading, by the number and the name of its kind, and a length if it tells one
+--     refusal_text    a refusal, by its number and name, which the lines of replies carry
 use Rattle.std.specs.Prelude.{ℕ, List, ◌++◌, codes}
 use Rattle.std.specs.Fmt.{decimal}
 use Rattle.iobufs_core.specs.declared.codec.base.Error.{Error}

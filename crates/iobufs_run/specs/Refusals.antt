@@ -1,4 +1,6 @@
 -- How an error of a buffer or of reading is told by a command.
+--     refusal_of       a buffer's error, as the refusal of the same name
+--     codec_refusal    a fault of reading, as that fault; but want of memory as any want of memory
 use Rattle.iobufs_core.specs.declared.codec.base.BufError.{BufError}
 use Rattle.iobufs_core.specs.declared.codec.base.BufError.TheVariants as cause
 use Rattle.iobufs_core.specs.declared.codec.base.Error.{Error}

@@ -1,9 +1,16 @@
 -- Runs of commands over named buffers. A state gives each name what it holds.
---     MayFail            what a command may be refused for where no cause of `Causes` stands
---     MayWantMemory      the commands that may be refused for want of memory
---     consumed, MayFree  the names that such a refusal may cost
---     Does               what a command that is done leaves, and its reply
---     Step, Run          one command; any list of them
+--     MayFail, IsFault                what a command may be refused for where no cause of `Causes` stands; a fault of
+--                                     reading a view
+--     MayWantMemory                   the commands that may be refused for want of memory
+--     consumed, MayFree, all_freed    the names that such a refusal may cost; that it costs no others; and all of
+--                                     them free
+--     moved_to, with_bytes            a source gone and its destination filled; a name with a part of these bytes
+--     item_held                       what an item of a built text stands for, with the views that the names hold
+--     Gives                           a reply and the names that are left, and no other
+--     Does                            what a command that is done leaves, and its reply
+--     Step, Run                       one command; any list of them
+--     joining                         the command that puts a view at this end of a text
+--     reply_of                        the reply of a command that is done, or refused
 use Rattle.std.specs.Prelude.{◌≡◌, ◌⊎◌, ℕ, ◌==◌, ◌&&◌, not, List, [], ◌∷◌, map, length, take, replicate, slice_set, None, Some, IsTrue, Result, Ok, Err}
 use Rattle.iobufs_core.specs.Part.{empty_part}
 use Rattle.iobufs_core.specs.Items.{Item as Written, put_item, push_item}

@@ -1,4 +1,5 @@
 -- A run goes on.
+--     run_more    a step more at the end of a run makes a run
 use Rattle.std.proofs.Common.{List, [], ◌∷◌, ◌++◌, refl, subst}
 use Rattle.iobufs_run.specs.declared.table.Slot.{Slot}
 use Rattle.iobufs_run.specs.declared.command.Cmd.{Cmd}

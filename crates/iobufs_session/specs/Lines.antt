@@ -1,4 +1,6 @@
 -- The lines of an input, one by one.
+--     line_text              a line without the LF or CR LF at its end
+--     TakesLine, TookLine    the first line of the input was taken, if there is one, and what is left are the others
 use Rattle.std.specs.Prelude.{◌≡◌, ℕ, if◌then◌else◌, Bool, List, [], ◌∷◌, Option, Some, MatchBool, IfSome}
 use Rattle.std.specs.Str.Lines.{lines}
 use Rattle.std.specs.Io.BufRead.{ends_with_byte, strip_last}

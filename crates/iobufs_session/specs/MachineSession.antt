@@ -1,4 +1,9 @@
 -- A session with an owner machine: what it reads, and what it prints.
+--     Begins, Begun               the first line makes the machine that it asks for, or says none
+--     AnswersLine, AskAnswered    what one further line makes of the machine, and the line that it prints
+--     AnsweredFirst               so many lines of the input were answered, whatever is in the others
+--     ServesMachine               what a session has read and written when it ends, by how it ends
+--     HasMachineStatus            the same by the program's status
 use Rattle.std.specs.Prelude.{◌≡◌, ◌⊎◌, ℕ, ◌+◌, List, Option, Some, None, Result, Ok, Err, ⊤}
 use Rattle.iobufs_owner.specs.Promises.{Promises}
 use Rattle.iobufs_owner.specs.State.{Seen}

@@ -1,4 +1,11 @@
 -- A session with named buffers: what it reads, and what it prints.
+--     commands_of                                 the command of each line of an input, if it says one
+--     Answered                                    the first lines, so many, ran from the empty table of 16 names, and
+--                                                 their replies are written
+--     AllAnswered, AnsweredUpTo, AnsweredFirst    all lines, those up to the first that says no command, and so many
+--     Serves, HasStatus                           what a session has read and written when it ends, by how it ends
+--                                                 and by the program's status
+--     AnswersLine, CommandAnswered                what one line makes of the names, and the line that it prints
 use Rattle.std.specs.Prelude.{◌≡◌, ℕ, ◌+◌, length, List, [], ◌∷◌, ◌++◌, map, flat_map, replicate, Option, Some, None, Result, Ok, Err, ⊤}
 use Rattle.std.specs.Str.Lines.{lines}
 use Rattle.iobufs_run.specs.Run.{Run, Step}

@@ -1,4 +1,6 @@
 -- Why a session ends, as it is told and by its status.
+--     stop_text, stop_line    what the program says where it stops early, and this as a line
+--     status_of, IsStatus     the status that it ends with, and that it is one of 0, 2 and 3
 use Rattle.std.specs.Prelude.{◌≡◌, ◌⊎◌, ℕ, List, ◌++◌, codes, Result, Ok, Err}
 use Rattle.std.specs.Fmt.{decimal}
 use Rattle.iobufs_session.specs.declared.fault.Stop.{Stop}

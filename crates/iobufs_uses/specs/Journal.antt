@@ -1,10 +1,17 @@
 -- Journals: records one behind the other, numbered from 0.
---     sealed           a number, a body, and the CRC-32 of both
---     record_written   the same behind its length
---     HasNoRecord      why no record stands in front: the text is at its end, it is cut off, or what stands there is damaged
---     AreShort         each record has at most so many bytes behind its length
---     IsJournal        a text is these records, each short enough, and a rest in front of which none stands
---     HasOneJournal    a text has one list of records, one end and one rest, and no other
+--     sealed, summed                     a number, a body, and the CRC-32 of both; any bytes with theirs
+--     record_written, records_written    a sealed body behind its length; several, numbered from one on
+--     up_to                              the range of lengths that a record may have
+--     HasNoRecord                        why no record stands in front: the text is at its end, it is cut off, or
+--                                        what stands there is damaged
+--     IsCut, HasBadLength, IsUnsealed    fewer bytes than the length says, no length or too large a one, and bytes
+--                                        that aren't sealed with the number
+--     AreShort                           each record has at most so many bytes behind its length
+--     bodies                             the bytes of records that were read as views
+--     IsJournal                          a text is these records, each short enough, and a rest in front of which
+--                                        none stands
+--     HasOneJournal, AreAlike            a text has one list of records, one end and one rest, and no other; two of
+--                                        these are the same
 use Rattle.std.specs.Prelude.{◌≤◌, ◌≡◌, ◌⊎◌, ℕ, suc, ◌+◌, ◌^◌, ◌<◌, Ok, Err, List, [], ◌∷◌, ◌++◌, length, map}
 use Rattle.std.specs.Int.{w32, w64, to_be_bytes}
 use Rattle.iobufs_core.specs.View.{View}

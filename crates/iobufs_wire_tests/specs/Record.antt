@@ -1,4 +1,6 @@
 -- A record of three numbers: how it is written, and what reading one answers.
+--     record_written    a byte, then two numbers of two and of four bytes, highest first
+--     IsRecordRead      a record of these seven bytes was read, or there are fewer
 use Rattle.std.specs.Prelude.{◌≡◌, ℕ, ◌<◌, ◌≤◌, Result, Ok, Err, List, ◌∷◌, ◌++◌, length, take}
 use Rattle.std.specs.Int.{w16, w32, to_be_bytes}
 use Rattle.iobufs_core.specs.declared.codec.base.Error.{Error}

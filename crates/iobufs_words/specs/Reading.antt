@@ -1,4 +1,5 @@
 -- How a reader of words means the words that are left.
+--     words_left    the words of what is still to be read: of no text none, not even an empty one
 use Rattle.std.specs.Prelude.{ℕ, List, [], Option, Some, None}
 use Rattle.std.specs.Borrow.{Bor}
 use Rattle.iobufs_words.specs.Words.{words_of}

@@ -1,4 +1,7 @@
 -- Words and lines as they are written. A number is written by `decimal` of std.
+--     two_digits, hex_text    a byte as two hexadecimal digits; bytes so, in one word
+--     line_of_words           words with one space between them
+--     AreBytes, AreNumbers    each is below 256; each is a number that a `usize` can say
 use Rattle.std.specs.Prelude.{ℕ, ◌/◌, ◌%◌, ◌^◌, ◌<◌, false, slice_index, List, [], ◌∷◌, flat_map, codes}
 use Rattle.std.specs.Fmt.{digit_glyph}
 use Rattle.std.specs.List.{join_with_byte}

@@ -1,9 +1,11 @@
 -- A row in the making: views that stand in order, and gaps before them for bytes that are to come.
---     slots_in            how pieces are read: one without bytes is a gap, and its end says how many are to come
---     gaps_len, stood_len how many bytes are to come, and how many stand
---     AreSlots            no slot is empty, and behind each gap stands a view
---     slots_pushed        a view behind a gap
---     filled              the views, once the bytes of one view have filled the gaps
+--     slot_of, slots_in                    how pieces are read: one without bytes is a gap, and its end says how many
+--                                          are to come
+--     gap_len, gaps_len                    how many bytes are to come, at a slot and in all
+--     standing_len, stood_len, slot_len    how many stand, at a slot and in all; and both of a slot
+--     AreSlots                             no slot is empty, and behind each gap stands a view
+--     slots_pushed                         a view behind a gap
+--     filled                               the views, once the bytes of one view have filled the gaps
 use Rattle.std.specs.Prelude.{ℕ, ◌+◌, ◌<◌, ◌==◌, if◌then◌else◌, List, [], ◌∷◌, ◌++◌, length, map}
 use Rattle.iobufs_core.specs.View.{View, view_rest, view_split_front}
 use Rattle.iobufs.specs.Inside.Pieces.{view_len}

@@ -1,4 +1,6 @@
 -- What a text in several pieces keeps true of its fields.
+--     text_of    the marked text that the fields stand for
+--     IsKept     one piece, or several of which none is empty; and native storage reaches to each piece's end
 use Rattle.iobufs_core.specs.MarkedText.{MarkedText}
 use Rattle.iobufs.specs.Inside.Pieces.{of_pieces, AreViews}
 use Rattle.iobufs.specs.Inside.Several.{views, IsPieced}

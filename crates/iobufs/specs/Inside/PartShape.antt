@@ -1,4 +1,7 @@
 -- How the code keeps parts, as a list of parts.
+--     shape_parts, shape_single    one part or a row of them, as a list; and the only part, if one is kept by itself
+--     AreSeveral, IsShape          a row has two parts or more, each with capacity, and a number holds all of it; one
+--                                  part may be any
 use Rattle.std.specs.Prelude.{◌<◌, ◌^◌, Option, None, Some, List, [], ◌∷◌, length}
 use Rattle.iobufs_core.specs.Part.{Part}
 use Rattle.iobufs.specs.Parts.{HaveCapacity, parts_capacity}

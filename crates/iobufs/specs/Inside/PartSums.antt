@@ -1,4 +1,5 @@
 -- The sums that are kept beside several parts.
+--     AreSummed    the numbers kept are how many bytes all parts hold, and how many they can
 use Rattle.std.specs.Prelude.{◌≡◌, ℕ, List, length}
 use Rattle.iobufs_core.specs.Part.{Part}
 use Rattle.iobufs.specs.Parts.{parts_capacity, parts_filled}

@@ -1,4 +1,8 @@
 -- What a row of pieces, a row in the making, and a search among ends are seen as.
+--     ViewRow          views in order, and how many there is room for
+--     Slot, SlotRow    a `gap` for bytes to come or a `standing` view; several in order, and how many there is room
+--                      for
+--     Sought           a search under way: ends, the place looked for, and how many ends were looked at
 use Rattle.std.specs.Prelude.{ℕ, List}
 use Rattle.iobufs_core.specs.View.{View}
 

@@ -1,4 +1,6 @@
 -- One piece or several, as a list of views.
+--     views       the one piece, or those of the row
+--     IsPieced    a row has two pieces or more, and none is empty
 use Rattle.std.specs.Prelude.{◌<◌, List, [], ◌∷◌, length}
 use Rattle.iobufs_core.specs.View.{View}
 use Rattle.iobufs.specs.Inside.Pieces.{AreFull}

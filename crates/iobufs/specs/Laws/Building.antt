@@ -1,4 +1,16 @@
 -- Laws of building, for the traits that a builder meets.
+--     IsPut                                       bytes that fit were put into a builder
+--     IsBuilt                                     puts and pushes that fit were done, one after another
+--     items_bytes-append, items_inline-append,    of items joined, the bytes join and the counts add up
+--     items_pushed-append
+--     run-bytes, run-inline, run-pushed           inline bytes as an item are these bytes, all of them copied
+--     put-append, put_nothing, put_unchanged,     two puts are one, none changes nothing, each uses up its room
+--     put_lessens, put_composes
+--     built-append, bytes-built, room-built,      what a list of items adds, and what a push of nothing and of
+--     pushes-built, push-none, push-some          something does
+--     built_idle, built_puts, built_skips,        what the trait of puts and pushes asks for
+--     built_adds, built_uses, built_spends,
+--     built_follows
 use Rattle.std.proofs.Common.{◌≡◌, ℕ, ◌+◌, ◌-◌, ◌<◌, ◌≤◌, List, [], ◌∷◌, ◌++◌, length, refl, sym, ap, ◌∙◌, arith, append_assoc, append-nil, length-append, ⊎_elim}
 use Rattle.std.proofs.lemmas.Bool.{cases_lt}
 use Rattle.std.proofs.lemmas.List.{nil_from_length}

@@ -1,4 +1,7 @@
 -- The laws of draining several parts, which hold for all parts.
+--     filled-drained                the bytes behind the first n are left
+--     joined-chunks, full-chunks    the chunks join to the bytes, and none is empty
+--     the rest                      the same of parts that are dropped for want of capacity, or share out n bytes
 use Rattle.std.specs.Prelude.{◌≡◌, ℕ, ◌-◌, ◌==◌, List, [], ◌∷◌, ◌++◌, length, drop, map, refl, nat_lt}
 use Rattle.std.specs.List.{flat_map}
 use Rattle.std.proofs.Common.{sym, ap, ◌∙◌, arith, append-nil}

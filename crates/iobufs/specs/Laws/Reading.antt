@@ -1,4 +1,5 @@
 -- The laws of a reader, for marked texts.
+--     joined-chunks, full-chunks    the chunks join to the text, and none is empty
 use Rattle.std.specs.Prelude.{◌≡◌, ℕ, ◌-◌, List, [], ◌∷◌, ◌++◌, take, drop}
 use Rattle.std.specs.List.{flat_map}
 use Rattle.std.proofs.Common.{ap, ◌∙◌, append-nil}
