@@ -11,7 +11,7 @@
 --     Step, Run                       one command; any list of them
 --     changed                         the names whose buffers may be others after a command
 --     joining                         the command that puts a view at this end of a text
---     outcome, reply_of               the reply of a call that only succeeds, and of one that answers
+--     outcome, reply_of               the reply by a call's result: done or refused, and its answer or refused
 use Rattle.std.specs.Prelude.{◌≡◌, ◌⊎◌, ℕ, ◌==◌, ◌&&◌, not, List, [], ◌∷◌, map, length, take, replicate, slice_set, None, Some, IsTrue, Result, Ok, Err}
 use Rattle.iobufs_core.specs.Part.{empty_part}
 use Rattle.iobufs_core.specs.Items.{Item as Written, put_item, push_item}
