@@ -1,19 +1,18 @@
 -- Facts for callers of texts and parts, over bytes alone, and the rulesets that hand them to a proof.
---     joining                                          what a text holds when a buffer or a text was put to it
---     sending                                          a batch of chunks is a front of the text, and what several
---                                                      writes took is what they took one behind the other
---     storing                                          what fills empty parts is their bytes, and those of the text
---                                                      that they freeze to
---     IsSent                                           a front of a text went on to a writer, behind what that held,
---                                                      and the rest is left
---     IsStored                                         bytes that a reader gave up fill the room of parts
---     length-advanced, batch_bytes, front_of_chunks    an advance by n drops n bytes; a batch of chunks is a front of
---                                                      the text
---     written_front, written_within                    what a writer took of a batch it took of the text, and no more
---                                                      than there is
---     stored_done, stored_none, room_less              parts filled anew are full or their reader is at its end; none
---                                                      has room for none; n bytes use up n bytes of room
---     the rest                                         what the rulesets cite
+--     joining                   what a text holds when a buffer or a text was put to it
+--     sending                   a batch of chunks is a front of the text, and what several writes took is what they
+--                               took one behind the other
+--     storing                   what fills empty parts is their bytes, and those of the text that they freeze to
+--     IsSent                    a front of a text went on to a writer, behind what that held, and the rest is left
+--     IsStored                  bytes that a reader gave up fill the room of parts
+--     length-advanced,          an advance by n drops n bytes; a batch of chunks is a front of the text
+--     batch_bytes,
+--     front_of_chunks
+--     written_front,            what a writer took of a batch it took of the text, and no more than there is
+--     written_within
+--     stored_done,              emptied parts are full again or their reader is at its end; they hold nothing if they
+--     stored_none, room_less    can't; n bytes use up n bytes of room
+--     the rest                  what the rulesets cite
 use Rattle.std.specs.Prelude.{◌≡◌, ◌⊎◌, ℕ, ◌+◌, ◌-◌, ◌≤◌, min, Option, None, Some, Result, Ok, Err, List, [], ◌∷◌, ◌++◌, length, take, drop, map, refl}
 use Rattle.std.specs.List.{flat_map}
 use Rattle.std.specs.Io.{WritesAtMost}

@@ -1,8 +1,8 @@
 -- Puts into a part compose, and each lessens the room by its length.
---     IsPut                                        these bytes fit, and the part became what it is with them put
---     put_nothing, put_unchanged, put_composes,    no bytes change nothing, two puts are one, and each uses up its
---     put_lessens                                  bytes of room
---     part_copied-filled                           a copy leaves the other bytes
+--     IsPut                          these bytes fit, and the part became what it is with them put
+--     put_nothing, put_unchanged,    no bytes change nothing, two puts are one, and each uses up its bytes of room
+--     put_composes, put_lessens
+--     part_copied-filled             a copy leaves the other bytes
 use Rattle.std.specs.Prelude.{◌≡◌, ℕ, ◌+◌, ◌-◌, ◌≤◌, List, [], ◌++◌, length, drop}
 use Rattle.std.proofs.Common.{arith, append-nil, append_assoc, length-append, ap, refl, sym, ◌∙◌}
 use Rattle.std.proofs.lemmas.Grind.{common_steps}

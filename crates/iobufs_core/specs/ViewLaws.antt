@@ -1,10 +1,9 @@
 -- Views as marked texts without cuts.
---     view_rest-bytes, marked_view            what a split leaves are the other bytes; a view makes a text that is
---                                             well marked
---     text_rest-of_view, advanced-of_view,    a view's rest, advance and chunk are those of its text
---     chunks-of_view
---     taken_of_view, taken-whole              bytes taken from a view are a slice of it, and all of them the view
---                                             itself
+--     view_rest-bytes, marked_view        what a split leaves are the other bytes; a view makes a text that is well
+--                                         marked
+--     text_rest-of_view,                  a view's rest, advance and chunk are those of its text
+--     advanced-of_view, chunks-of_view
+--     taken_of_view, taken-whole          bytes taken from a view are a slice of it, and all of them the view itself
 use Rattle.std.specs.Prelude.{◌≡◌, ◌≢◌, ℕ, ◌+◌, ◌-◌, ◌≤◌, length, drop, refl, [], ◌∷◌}
 use Rattle.std.specs.declared.ops.Bound.TheVariants.{Included, Excluded}
 use Rattle.std.proofs.Common.{arith, take_all, ◌∙◌}

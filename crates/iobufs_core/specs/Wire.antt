@@ -1,17 +1,15 @@
 -- How lengths, numbers and views are written and read.
---     bytes_written, view_written             bytes behind their spelled length, as a reader will see them
---     bytes_items, view_items                 the same with the bytes handed over as a view, and just their length
---                                             copied
---     IsLengthRead, IsNoLength                what reading a length answers, and why none is read: the text ends too
---                                             early, or is none
---     IsNumberRead, IsInFront                 what reading a number of so many bytes answers, and that it stands in
---                                             front
---     HasView                                 a length in the range, and as many bytes behind it
---     IsViewRead, IsBytesRead, IsViewFault    what reading a view, or a copy of its bytes, answers; and why it is
---                                             refused
---     IsTaken                                 a value was made of the bytes behind a length, and both are gone from
---                                             the reader
---     view_left                               the text once a view and its length are read
+--     bytes_written, view_written    bytes behind their spelled length, as a reader will see them
+--     bytes_items, view_items        the same with the bytes handed over as a view, and just their length copied
+--     IsLengthRead, IsNoLength       what reading a length answers, and why none is read: the text ends inside it, or
+--                                    it isn't one
+--     IsNumberRead, IsInFront        what reading a number of so many bytes answers, and that it stands in front
+--     HasView                        a length in the range, and as many bytes behind it
+--     IsViewRead, IsBytesRead,       what reading a view, or a copy of its bytes, answers; and why it is refused
+--     IsViewFault
+--     IsTaken                        a value was made of the bytes behind a length, and one copy took both from the
+--                                    reader
+--     view_left                      the text once a view and its length are read
 use Rattle.std.specs.Prelude.{◌≡◌, ◌⊎◌, ℕ, ◌+◌, ◌^◌, ◌<◌, ◌≤◌, true, false, Result, Ok, Err, List, [], ◌∷◌, ◌++◌, length, take, drop}
 use Rattle.iobufs_core.specs.Ranges.{in_range}
 use Rattle.iobufs_core.specs.Spelling.{spell, IsSpelledAt, HasNoLength, IsOpen}

@@ -1,7 +1,7 @@
 -- What is written is joined of its items.
---     joins-put, joins-view, joins-bytes    the items of bytes, of a view and of a `Bytes` join to what is written of
---                                           them
---     view_of_bytes-bytes                   the view of a `Bytes` has its bytes
+--     joins-put, joins-view,    the items of bytes, of a view and of a `Bytes` join to what is written of them
+--     joins-bytes
+--     view_of_bytes-bytes       the view of a `Bytes` has its bytes
 use Rattle.std.specs.Prelude.{◌≡◌, ℕ, List, ◌∷◌, [], ◌++◌, length}
 use Rattle.std.proofs.Common.{append-nil, ap, refl, arith, ◌∙◌}
 use Rattle.std.proofs.lemmas.Grind.{common_steps}

@@ -1,6 +1,6 @@
 -- Facts about frames, for callers.
---     begins_open, stays_bad    a beginning of a frame may go on, and what can't be one stays so with more bytes
---                               behind
+--     begins_open,    a beginning of a frame may go on, and what can't be one stays so with more bytes behind
+--     stays_bad
 use Rattle.iobufs_core.specs.LengthFacts.{begun_open, no_length_later, spelled_later, still_closed}
 use Rattle.iobufs_core.specs.declared.codec.base.Error.{Error}
 use Rattle.iobufs_core.specs.declared.codec.base.Error.TheVariants.{EndOfBuffer, InvalidVarint, InvalidLength, Memory, BadLayout, TooLong}

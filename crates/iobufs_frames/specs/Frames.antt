@@ -1,20 +1,18 @@
 -- The frames of a text. A frame is its length as it is spelled, and behind it so many bytes, its body.
---     frames_written                          frames, one behind the other
---     bodies, joined_bytes                    the bytes of bodies that are views: each by itself, and all in one
---     IsAdmitted, AreAdmitted                 the length of a body is in the range, and of each
---     HasNoFrame                              no whole frame stands in front, and why: more bytes may complete it, or
---                                             none can
---     HasBytes                                a whole frame with bytes stands in front
---     IsFramed, HasFrames                     a text is these frames and a rest in front of which none stands; it is
---                                             some
---     IsNext, found_of                        what taking one frame answers and leaves; the answer told by that of
---                                             reading a view
---     IsFirst, FirstTaken, BeginsWithBytes    the same told by the frames of the text: the first went, or has bytes
---                                             that found no memory
---     AreMoved                                frames went over from the front of a text to the end of a list
---     AreAlike, HaveOneReading                two readings of a text are the same; and so are any two
---     BeginningsAreOpen, BadStaysBad          a beginning of a frame may go on; what can't be a frame stays so
---                                             whatever follows
+--     frames_written              frames, one behind the other
+--     bodies, joined_bytes        the bytes of bodies that are views: each by itself, and all in one
+--     IsAdmitted, AreAdmitted     the length of a body is in the range, and of each
+--     HasNoFrame                  no whole frame stands in front, and why: more bytes may complete it, or none can
+--     HasBytes                    a whole frame with bytes stands in front
+--     IsFramed, HasFrames         a text is these frames and a rest in front of which none stands; and it has such
+--                                 frames
+--     IsNext, found_of            what taking one frame answers and leaves; the answer told by that of reading a view
+--     IsFirst, FirstTaken,        the same told by the frames of the text: the first went, or has bytes that found no
+--     BeginsWithBytes             memory
+--     AreMoved                    frames went over from the front of a text to the end of a list
+--     AreAlike, HaveOneReading    two readings of a text are the same; and so are any two
+--     BeginningsAreOpen,          a beginning of a frame may go on; what can't be a frame stays so whatever follows
+--     BadStaysBad
 use Rattle.std.specs.Prelude.{◌≡◌, ◌⊎◌, ℕ, ◌+◌, ◌^◌, ◌<◌, true, Option, None, Some, Result, Ok, Err, List, [], ◌∷◌, ◌++◌, map, flat_map, length}
 use Rattle.iobufs_core.specs.Ranges.{in_range}
 use Rattle.iobufs_core.specs.Spelling.{spell}

@@ -1,7 +1,7 @@
 -- Commands as plain values: what a command says, wherever its bytes and lists lie.
 --     Command, Item        every command with what it says, and an item of a text that is built: bytes, or the name
 --                          of a view
---     plain, plain_item    what a command says as the program keeps it, and such an item
+--     plain, plain_item    such a value for a command as the program keeps it, and for an item
 use Rattle.std.specs.Prelude.{ℕ, List, map}
 use Rattle.std.specs.declared.ops.Bound.{Bound}
 use Rattle.iobufs_run.specs.declared.command.Cmd.{Cmd}

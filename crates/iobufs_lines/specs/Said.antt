@@ -1,8 +1,8 @@
 -- The command that a line says: its first word names it, and the words behind say its numbers, bytes and lists.
---     command_of, command_by    the command that a line says, if any, and that its words say
---     verb_of                   what the first word asks for
---     said_by, static_of        the command that the words behind it say; of `static`, where they name a run of
---                               letters
+--     command_of,           the command that a line says, if any, and that its words say
+--     command_by
+--     verb_of               what the first word asks for
+--     said_by, static_of    the command that the words behind it say; of `static`, where they name a run of letters
 use Rattle.std.specs.Prelude.{ℕ, if◌then◌else◌, List, [], ◌∷◌, codes, Option, Some, None}
 use Rattle.std.specs.Option.{option_map, option_and_then}
 use Rattle.std.specs.Str.{bytes_eq}

@@ -10,8 +10,8 @@
 --     cause_begun, cause_gone              against a call that begins, and against one that goes on
 --     cause_at, cause_of                   against an act where a call stands or doesn't, and against a step
 --     may_take                             the step is granted memory, if it needs some
---     IsBeside, IsCaused                   want of memory or room, which any step may meet; and the answer is the
---                                          cause that stands, or one of these
+--     IsBeside, IsCaused                   a refusal for denied memory or for want of room; the answer is the cause
+--                                          that stands, or where none does at most one of these
 use Rattle.std.specs.Prelude.{◌≡◌, ◌⊎◌, ℕ, ◌+◌, ◌-◌, ◌%◌, ◌^◌, ◌&&◌, ◌||◌, not, nat_lt, nat_eq, zero, suc, Bool, false, List, [], ◌∷◌, length, Option, None, Some, Result, Ok, Err, if◌then◌else◌}
 use Rattle.std.specs.Int.{next_multiple_of}
 use Rattle.iobufs_owner.specs.declared.owner.types.Block.{Block}

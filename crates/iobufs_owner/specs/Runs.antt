@@ -2,8 +2,8 @@
 --     IsStep                   a move of the machine, what its users see of it, and what holds behind it
 --     Runs                     a list of steps with its answers, from one machine to another
 --     ends_call                a refusal that ends the call that it meets
---     taken_after, taken_of    how many steps of its call a party has taken: told from an answer, and from the call
---                              as it stands
+--     taken_after, taken_of    how many steps of its call a party has taken: told from an answer, and at most, from
+--                              the call as it stands
 --     EndsInFour               no call of the party is unfinished after four steps
 use Rattle.std.specs.Prelude.{◌≡◌, ℕ, ◌+◌, ◌-◌, ◌<◌, ◌==◌, Bool, true, false, List, [], ◌∷◌, Option, None, Some, if◌then◌else◌, MatchBool}
 use Rattle.iobufs_owner.specs.declared.owner.types.Step.{Step}

@@ -1,6 +1,5 @@
 -- Descriptor words: a size, an alignment and a tail in one number, of a format with a, t and s bits for alignment,
--- tail
--- and size.
+-- tail and size.
 --     IsPowerOfTwo                an alignment that a word can tell by its logarithm
 --     word_of, IsWord             the number that packs a size, an alignment and a tail; a number that is one
 --     HasRoom, fits               the fields are wide enough for them; and whether they are

@@ -1,13 +1,12 @@
 -- Answers of the machine as lines of text.
---     reply_text, refusal_text, truth_text              the answer to a step; a cause by its place in the order of
---                                                       causes and its name; a yes or no
---     answer_text, shown                                the answer to a question, and `none` where nothing has that
---                                                       number
---     given_text, handle_text, place_text, word_text    a handle, or that it is gone: its kind, where it reads, how
---                                                       far it may write, what it owns
---     record_text, life_text                            a record: its count, its block, and whether it lives
---     freed_text, block_text                            the logs of what is freed, in order, and a block in them
---     number_text                                       a space and a number
+--     reply_text, refusal_text, truth_text    the answer to a step; a cause by its place in the order of causes and
+--                                             its name; a yes or no
+--     answer_text, shown                      the answer to a question, and `none` where nothing has that number
+--     given_text, handle_text, place_text,    a handle, or that it is gone: its kind, where it reads, how far it may
+--     word_text                               write, what it owns
+--     record_text, life_text                  a record: its count, its block, and whether it lives
+--     freed_text, block_text                  the logs of what is freed, in order, and a block in them
+--     number_text                             a space and a number
 use Rattle.std.specs.Prelude.{ℕ, Bool, if◌then◌else◌, List, ◌++◌, flat_map, slice_get, codes, Option, Some, None}
 use Rattle.std.specs.Fmt.{decimal}
 use Rattle.iobufs_owner.specs.declared.owner.types.Freed.{Freed}

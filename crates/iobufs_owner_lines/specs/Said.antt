@@ -1,7 +1,8 @@
 -- What a line asks of the machine.
 --     ask_of, ask_in, ask_by                  what a line behind the first asks, if anything; its words; its first
 --                                             word and the others
---     freed_of, last_number_of                nothing but the question for the logs; a number and nothing behind it
+--     freed_of, last_number_of                nothing stands behind the question for the logs; only a number does
+--                                             behind another one
 --     step_of, act_of, act_by                 a party and what it does; that alone: it goes on, or begins a call
 --     call_of, call_on_of                     a call, and one that only names a handle, with the words behind it
 --     grant_of                                memory is granted, or `deny` denies it

@@ -1,16 +1,16 @@
 -- What a command leaves open, and nothing else: whether it is refused for want of memory, and which of the consumed
 -- names are then free; how much room is behind adopted bytes; and whether a native view, whose storage may be shared,
 -- is recovered. And what a refusal leaves.
---     is_want_of_memory, is_other_refusal    a reply is refused for want of memory, or for another cause
---     SameReply                              two replies say the same, and show the same pieces
---     SameOutcome, IsRecoveredOrDeclined     two outcomes differ at most in that room, or in whether the view was
---                                            recovered or declined
---     NoOtherChoices                         a command that isn't refused for want of memory has one outcome, up to
---                                            these
---     OnlyWants                              want of memory is told only where no cause stands and memory may be
---                                            wanted; else the command is done
---     RefusalsKeep                           a refused command leaves each name its buffer, unless want of memory
---                                            costs what is consumed
+--     is_want_of_memory,       a reply is refused for want of memory, or for another cause
+--     is_other_refusal
+--     SameReply                two replies say the same, and show the same pieces
+--     SameOutcome,             two outcomes differ at most in that room, or in whether the view was recovered or
+--     IsRecoveredOrDeclined    declined
+--     NoOtherChoices           a command that isn't refused for want of memory has one outcome, up to these
+--     OnlyWants                want of memory is told only where no cause stands and memory may be wanted; else the
+--                              command is done
+--     RefusalsKeep             a refused command leaves each name its buffer, unless want of memory costs what is
+--                              consumed
 use Rattle.std.specs.Prelude.{◌≡◌, ◌⊎◌, ℕ, Bool, true, false, List, length, map, None, IsTrue}
 use Rattle.iobufs_run.specs.declared.table.Slot.{Slot}
 use Rattle.iobufs_run.specs.declared.table.Slot.TheVariants.{Free}

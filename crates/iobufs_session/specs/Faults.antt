@@ -1,15 +1,14 @@
 -- What may fail in a session, and what stands where it does.
---     ReadFails, WriteFails, SendFails    the faults that reading, writing and sending off can meet, by which of the
---                                         two ends may fail
---     MayFail                             the faults that a whole session can meet
---     Takes                               what a writer has got of a text: all of it, a front where it failed,
---                                         nothing for want of memory
---     LineAt, IsTextAt                    a line of the input by its number, and that it is UTF-8
---     IsFrontOf                           what is known to be written is a front of these bytes
---     most_lines                          the most lines that a session counts: a longer input can't be served to its
---                                         end
---     Halts                               where a session stood when it met a fault: the lines answered, and what of
---                                         their replies is written
+--     ReadFails,               the faults that reading, writing and sending off can meet, by which of the two ends
+--     WriteFails, SendFails    may fail
+--     MayFail                  the faults that a whole session can meet
+--     Takes                    what a writer has got of a text: all of it, a front where it failed, nothing for want
+--                              of memory
+--     LineAt, IsTextAt         a line of the input by its number, and that it is UTF-8
+--     IsFrontOf                what is known to be written is a front of these bytes
+--     most_lines               the most lines that a session counts: a longer input can't be served to its end
+--     Halts                    where a session stood when it met a fault: the lines answered, and what of their
+--                              replies is written
 use Rattle.std.specs.Prelude.{◌≡◌, ℕ, ◌-◌, ◌^◌, Bool, true, take, length, List, ◌∷◌, ◌++◌, Option, Some, Result, Ok, Err, IsUtf8, ⊤}
 use Rattle.std.specs.Io.KnownBytes.{Appends, Keeps}
 use Rattle.std.specs.Str.Lines.{lines}

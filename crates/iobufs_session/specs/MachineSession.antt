@@ -1,5 +1,5 @@
 -- A session with an owner machine: what it reads, and what it prints.
---     Begins, Begun               the first line makes the machine that it asks for, or says none
+--     Begins, Begun               the first line makes the machine that it asks for, or asks for none
 --     AnswersLine, AskAnswered    what one further line makes of the machine, and the line that it prints
 --     AnsweredFirst               so many lines of the input were answered, whatever is in the others
 --     ServesMachine               what a session has read and written when it ends, by how it ends

@@ -1,12 +1,11 @@
 -- The laws of journals: a record is sealed by its bytes alone, and a text of records is that journal and no other.
---     IsSealed                                    bytes are a sealed record, told by their first eight and their last
---                                                 four
---     length-sealed, record_small, record_fits    how long a record is: 12 bytes more than its body, and at most 10
---                                                 for its length
---     sealed_is, is_sealed, unsealed_body         such bytes are sealed, and the other way; their body is a slice of
---                                                 them
---     found_record, found_short, no_record        a frame that was taken is a record, short enough, or there is none
---     IsReadSoFar, one_more, ended                the first records of a journal were read; one more; and no more
+--     IsSealed                               bytes are a sealed record, told by their first eight and their last four
+--     length-sealed, record_small,           how long a record is: 12 bytes more than its body, and at most 10 for
+--     record_fits                            its length
+--     sealed_is, is_sealed, unsealed_body    such bytes are sealed, and the other way; their body is a slice of them
+--     found_record, found_short,             a frame that was taken is a record, short enough, or there is none
+--     no_record
+--     IsReadSoFar, one_more, ended           the first records of a journal were read; one more; and no more
 use Rattle.std.specs.Prelude.{Bool, false, ◌==◌, Option, None, Some, IfSome, IfNone, IfOk, IfErr, Result, Ok, Err, ◌≡◌, ℕ, suc, ◌+◌, ◌-◌, ◌^◌, ◌<◌, ◌≤◌, List, [], ◌∷◌, ◌++◌, length, take, drop, refl}
 use Rattle.std.specs.Int.{w32, w64, to_be_bytes}
 use Rattle.std.proofs.Common.{append-nil, arith, inr, ap, sym, subst, ◌∙◌, append_assoc, length-append, length-take, take-append-drop}

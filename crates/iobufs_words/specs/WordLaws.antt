@@ -1,12 +1,11 @@
 -- What is written is read again: numbers, bytes, and words with one space between them.
---     spaceless, AreSpaceless                           a word that a reader of words takes whole: it has no space;
---                                                       and each of some
---     last_word, next_word, words_joined                words that are written with one space between them are read
---                                                       again
---     number_spelled, byte_spelled, numbers_spelled,    so are numbers and bytes
---     bytes_spelled
---     digits_are                                        bytes are written as the crate `hex` writes them
---     the rest                                          what is written of numbers and bytes has no space
+--     spaceless, AreSpaceless           a word that a reader of words takes whole: it has no space; and each of some
+--     last_word, next_word,             words that are written with one space between them are read again
+--     words_joined
+--     number_spelled, byte_spelled,     so are numbers and bytes
+--     numbers_spelled, bytes_spelled
+--     digits_are                        bytes are written as the crate `hex` writes them
+--     the rest                          what is written of numbers and bytes has no space
 use Rattle.std.proofs.Common.{◌≡◌, ℕ, zero, suc, ◌/◌, ◌%◌, ◌^◌, ◌<◌, ◌≤◌, Bool, false, ◌&&◌, not, List, [], ◌∷◌, ◌++◌, length, get_or, eqb, map, flat_map, true, Some, codes, refl, ap, ◌∙◌, arith}
 use Rattle.std.proofs.lemmas.Bool.Decides.{nat_tests}
 use Rattle.std.proofs.lemmas.Fmt.{decimal_is_IsNumeral}

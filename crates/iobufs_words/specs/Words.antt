@@ -1,13 +1,12 @@
 -- The words of a line, and what they say.
---     words_of                                 a line cut at each space, so that two spaces have an empty word
---                                              between them
---     number_of, byte_of, number_below         a word of decimal digits as a number: of a `usize`, of a byte, and
---                                              below any end
---     bytes_of, decoded                        a word of hexadecimal digits as bytes, and the answer of their reader
---                                              as an option
---     first_number, first_byte, first_bytes    the same of a first word, which may be wanting
---     both, put_first, numbers_of              two values where both are said, a first one with others, and a number
---                                              of each word
+--     words_of                   a line cut at each space, so that two spaces have an empty word between them
+--     number_of, byte_of,        a word of decimal digits as a number: of a `usize`, of a byte, and below any end
+--     number_below
+--     bytes_of, decoded          a word of hexadecimal digits as bytes, and the answer of their reader as an option
+--     first_number,              the same of a first word, which may be wanting
+--     first_byte, first_bytes
+--     both, put_first,           two values where both are said, a first one with others, and a number of each word
+--     numbers_of
 use Rattle.std.specs.Prelude.{ℕ, ◌^◌, ◌==◌, ◌&&◌, nat_lt, if◌then◌else◌, List, [], ◌∷◌, length, codes, Option, Some, None, Result, Ok, Err}
 use Rattle.std.specs.List.{slice_split}
 use Rattle.std.specs.Str.{bytes_eq, all_ascii_digits}

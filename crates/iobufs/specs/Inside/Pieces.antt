@@ -1,13 +1,13 @@
 -- How a list of views, as the code keeps them, is read as a marked text.
---     of_pieces                    one view as it is; more, one behind the other
---     IsPieces, AreFull            what the code keeps true: at least one piece, and where there are more, none is
---                                  empty
---     AreViews                     native storage reaches to the end of each piece
---     view_len, pieces_bytes       how many bytes a piece has, and the bytes of all
---     piece_at, piece_start        the i-th piece, and how many bytes stand before it
---     IsPlace                      a place, told as a piece and how far in it
---     left_pieces, right_pieces    the pieces of the two sides of a place
---     behind_first                 the pieces but the first; the empty view where it was the only one
+--     of_pieces                 one view as it is; more, one behind the other
+--     IsPieces, AreFull         what the code keeps true: at least one piece, and where there are more, none is empty
+--     AreViews                  native storage reaches to the end of each piece
+--     view_len, pieces_bytes    how many bytes a piece has, and the bytes of all
+--     piece_at, piece_start     the i-th piece, and how many bytes stand before it
+--     IsPlace                   a place, told as a piece and how far in it
+--     left_pieces,              the pieces of the two sides of a place
+--     right_pieces
+--     behind_first              the pieces but the first; the empty view where it was the only one
 use Rattle.std.specs.Prelude.{◌≡◌, ℕ, ◌+◌, ◌-◌, ◌<◌, get_or, nat_lt, ◌==◌, if◌then◌else◌, List, [], ◌∷◌, length, take, flat_map}
 use Rattle.iobufs_core.specs.View.{View, IsView, default_view, view_front, view_advanced}
 use Rattle.iobufs_core.specs.MarkedText.{MarkedText, of_view, default_text, text_glue}

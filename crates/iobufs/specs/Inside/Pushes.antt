@@ -2,8 +2,8 @@
 --     items_front                   inline bytes shared out to the gaps between the views pushed, as items in order
 --     building_with, building_of    what has been written, read off the bytes, the slots and how many bytes have
 --                                   their place; and off a builder
---     IsBuilder                     what a builder keeps true of its fields: the counts of bytes placed, and room for
---                                   one more push and what may still be pushed
+--     IsBuilder                     what a builder keeps true of its fields: how many bytes have their place, a free
+--                                   place in the row for those behind the last view, how much may still be pushed
 use Rattle.std.specs.Prelude.{◌≡◌, ◌≤◌, ◌<◌, ℕ, ◌+◌, ◌^◌, List, [], ◌∷◌, ◌++◌, length, take, drop}
 use Rattle.iobufs_core.specs.Items.{Item, push_item}
 use Rattle.iobufs_core.specs.Part.{Part, part_capacity}
