@@ -1,3 +1,4 @@
 pub mod Hexes
+pub mod Numerals
 pub mod Replies
 pub mod Spelling

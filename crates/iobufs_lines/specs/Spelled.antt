@@ -1,67 +1,126 @@
--- The line of a command.
---     line_of_command, words_of_command    the line that says a command, and its words
---     bound_text, item_text                the word of a range's end, and of an item
---     first_letter                         where in the alphabet the bytes of a static view begin
---     Fits, BoundFits, ItemsFit            the commands that have a line: numbers fit a `usize`, bytes are bytes,
---                                          static bytes a run of letters
+-- How the words of a line may be written, and the lines of a command.
+--     Word                         what a word says
+--     IsNumber, AreDigits          how a number and bytes may be written: zeros in front, digits of either case
+--     lower_digit                  a letter of a digit in lower case
+--     Spells, AreSpelled, written  the words that say it; a list of them; the one that stands in a command's own line
+--     bound_word, item_word        the word of a range's end, and of an item
+--     words_from, StandsAt         the words of each command; where the bytes of a static view may begin
+--     IsLineOf                     a line is one of a command: its words spell the command's
+--     first_letter, first_of       where in the alphabet the bytes of a static view first stand
+--     line_of_command              a command's own line
+--     Fits, BoundFits, ItemsFit    the commands that have a line: numbers fit a `usize`, bytes are bytes, static
+--                                  bytes a run of letters
 use Rattle.std.specs.declared.ops.Bound.{Bound}
 use Rattle.std.specs.declared.ops.Bound.TheVariants.{Included, Excluded, Unbounded}
-use Rattle.std.specs.Prelude.{◌≡◌, ℕ, ◌+◌, ◌-◌, ◌^◌, ◌<◌, List, [], ◌∷◌, ◌++◌, codes, length, map, Some}
+use Rattle.std.specs.Prelude.{◌≡◌, ℕ, ◌+◌, ◌-◌, ◌^◌, ◌<◌, ◌&&◌, nat_le, if◌then◌else◌, List, [], ◌∷◌, ◌++◌, codes, length, map, replicate, Some}
 use Rattle.std.specs.Fmt.{decimal}
 use Rattle.iobufs_words.specs.Spelled.{AreBytes, AreNumbers, hex_text, line_of_words}
+use Rattle.iobufs_words.specs.Words.{words_of}
 use Rattle.iobufs_lines.specs.Commands.{Item, Inline, Push, Command, NewMut, Zeroed, Adopt, Static, FromBytes, Put, Fill, SetLen, Truncate, Clear, Overwrite, Freeze, Recover, Clone, Slice, Split, Advance, Take, Gather, GatherMut, Append, Prepend, Coalesce, Build, Encode, Decode, Drop, Show}
 use Rattle.iobufs_lines.specs.Shapes.{letters_of}
 
--- the word of a bound
-abbrev pub bound_text : Bound ℕ → List ℕ
-bound_text (Included place) = codes "i" ++ decimal place
-bound_text (Excluded place) = codes "e" ++ decimal place
-bound_text Unbounded = codes "u"
+-- what a word says: itself, a number, a number that is a byte, bytes, or such a thing behind a letter
+pub data Word : Type 0 where
+  Verb : (name : List ℕ) → Word
+  Number : (n : ℕ) → Word
+  Byte : (n : ℕ) → Word
+  Digits : (bytes : List ℕ) → Word
+  Behind : (letter : List ℕ) → (word : Word) → Word
 
--- the word of an item
-abbrev pub item_text : Item → List ℕ
-item_text (Inline bytes) = codes "i" ++ hex_text bytes
-item_text (Push name) = codes "p" ++ decimal name
+-- a number in decimal digits, behind any number of zeros
+abbrev pub IsNumber : ℕ → List ℕ → Type 0
+IsNumber n text = (zeros : ℕ) × (text ≡ replicate zeros 48 ++ decimal n)
+
+-- bytes in hexadecimal digits of either case, or a dash for none
+abbrev pub lower_digit : ℕ → ℕ
+lower_digit c = if nat_le 65 c && nat_le c 70 then c + 32 else c
+
+abbrev pub AreDigits : List ℕ → List ℕ → Type 0
+AreDigits bytes text = map lower_digit text ≡ hex_text bytes
+
+-- a text says a word; texts say words one by one
+abbrev pub Spells : Word → List ℕ → Type 0
+Spells (Verb name) text = text ≡ name
+Spells (Number n) text = (n < 2 ^ 64) × IsNumber n text
+Spells (Byte n) text = (n < 256) × IsNumber n text
+Spells (Digits bytes) text = AreBytes bytes × AreDigits bytes text
+Spells (Behind letter word) text = (rest : List ℕ) × (text ≡ letter ++ rest) × Spells word rest
+
+abbrev pub AreSpelled : List Word → List (List ℕ) → Type 0
+AreSpelled [] [] = Unit {0}
+AreSpelled (word ∷ words) (text ∷ texts) = Spells word text × AreSpelled words texts
+AreSpelled words texts = ⊥
+
+-- no zeros in front, and digits in lower case
+abbrev pub written : Word → List ℕ
+written (Verb name) = name
+written (Number n) = decimal n
+written (Byte n) = decimal n
+written (Digits bytes) = hex_text bytes
+written (Behind letter word) = letter ++ written word
+
+-- the word of a bound, and of an item
+abbrev pub bound_word : Bound ℕ → Word
+bound_word (Included place) = Behind (codes "i") (Number place)
+bound_word (Excluded place) = Behind (codes "e") (Number place)
+bound_word Unbounded = Verb (codes "u")
+
+abbrev pub item_word : Item → Word
+item_word (Inline bytes) = Behind (codes "i") (Digits bytes)
+item_word (Push name) = Behind (codes "p") (Number name)
+
+-- the words of a command, where a static text is the letters from this place on
+abbrev pub words_from : ℕ → Command → List Word
+words_from first (NewMut dst capacity align) = Verb (codes "new") ∷ Number dst ∷ Number capacity ∷ Number align ∷ []
+words_from first (Zeroed dst len align) = Verb (codes "zeroed") ∷ Number dst ∷ Number len ∷ Number align ∷ []
+words_from first (Adopt dst bytes) = Verb (codes "adopt") ∷ Number dst ∷ Digits bytes ∷ []
+words_from first (Static dst text) = Verb (codes "static") ∷ Number dst ∷ Number first ∷ Number (first + length text) ∷ []
+words_from first (FromBytes dst bytes) = Verb (codes "bytes") ∷ Number dst ∷ Digits bytes ∷ []
+words_from first (Put target bytes) = Verb (codes "put") ∷ Number target ∷ Digits bytes ∷ []
+words_from first (Fill target byte n) = Verb (codes "fill") ∷ Number target ∷ Byte byte ∷ Number n ∷ []
+words_from first (SetLen target n) = Verb (codes "setlen") ∷ Number target ∷ Number n ∷ []
+words_from first (Truncate target n) = Verb (codes "truncate") ∷ Number target ∷ Number n ∷ []
+words_from first (Clear target) = Verb (codes "clear") ∷ Number target ∷ []
+words_from first (Overwrite target bytes) = Verb (codes "overwrite") ∷ Number target ∷ Digits bytes ∷ []
+words_from first (Freeze src dst) = Verb (codes "freeze") ∷ Number src ∷ Number dst ∷ []
+words_from first (Recover src dst) = Verb (codes "recover") ∷ Number src ∷ Number dst ∷ []
+words_from first (Clone src dst) = Verb (codes "clone") ∷ Number src ∷ Number dst ∷ []
+words_from first (Slice src dst lo hi) = Verb (codes "slice") ∷ Number src ∷ Number dst ∷ bound_word lo ∷ bound_word hi ∷ []
+words_from first (Split src dst at) = Verb (codes "split") ∷ Number src ∷ Number dst ∷ Number at ∷ []
+words_from first (Advance target n) = Verb (codes "advance") ∷ Number target ∷ Number n ∷ []
+words_from first (Take target n) = Verb (codes "take") ∷ Number target ∷ Number n ∷ []
+words_from first (Gather dst sources) = Verb (codes "gather") ∷ Number dst ∷ map Number sources
+words_from first (GatherMut dst sources) = Verb (codes "gathermut") ∷ Number dst ∷ map Number sources
+words_from first (Append target src) = Verb (codes "append") ∷ Number target ∷ Number src ∷ []
+words_from first (Prepend target src) = Verb (codes "prepend") ∷ Number target ∷ Number src ∷ []
+words_from first (Coalesce src dst) = Verb (codes "coalesce") ∷ Number src ∷ Number dst ∷ []
+words_from first (Build dst capacity items) = Verb (codes "build") ∷ Number dst ∷ Number capacity ∷ map item_word items
+words_from first (Encode src dst) = Verb (codes "encode") ∷ Number src ∷ Number dst ∷ []
+words_from first (Decode src dst lo hi) = Verb (codes "decode") ∷ Number src ∷ Number dst ∷ Number lo ∷ Number hi ∷ []
+words_from first (Drop target) = Verb (codes "drop") ∷ Number target ∷ []
+words_from first (Show target) = Verb (codes "show") ∷ Number target ∷ []
+
+-- where letters are taken from, they are the text of the command
+abbrev pub StandsAt : ℕ → Command → Type 0
+StandsAt first (Static dst text) = letters_of first (first + length text) ≡ Some text
+StandsAt first command = Unit {0}
+
+-- a line of a command: its words spell the command's. (An empty static text stands at each place.)
+abbrev pub IsLineOf : Command → List ℕ → Type 0
+IsLineOf command line = (first : ℕ) × StandsAt first command × AreSpelled (words_from first command) (words_of line)
 
 -- the place of the first letter among all letters; 0 where there is none
 abbrev pub first_letter : List ℕ → ℕ
 first_letter [] = 0
 first_letter (letter ∷ letters) = letter - 97
 
--- the words of a command
-abbrev pub words_of_command : Command → List (List ℕ)
-words_of_command (NewMut dst capacity align) = codes "new" ∷ decimal dst ∷ decimal capacity ∷ decimal align ∷ []
-words_of_command (Zeroed dst len align) = codes "zeroed" ∷ decimal dst ∷ decimal len ∷ decimal align ∷ []
-words_of_command (Adopt dst bytes) = codes "adopt" ∷ decimal dst ∷ hex_text bytes ∷ []
-words_of_command (Static dst text) = codes "static" ∷ decimal dst ∷ decimal (first_letter text) ∷ decimal (first_letter text + length text) ∷ []
-words_of_command (FromBytes dst bytes) = codes "bytes" ∷ decimal dst ∷ hex_text bytes ∷ []
-words_of_command (Put target bytes) = codes "put" ∷ decimal target ∷ hex_text bytes ∷ []
-words_of_command (Fill target byte n) = codes "fill" ∷ decimal target ∷ decimal byte ∷ decimal n ∷ []
-words_of_command (SetLen target n) = codes "setlen" ∷ decimal target ∷ decimal n ∷ []
-words_of_command (Truncate target n) = codes "truncate" ∷ decimal target ∷ decimal n ∷ []
-words_of_command (Clear target) = codes "clear" ∷ decimal target ∷ []
-words_of_command (Overwrite target bytes) = codes "overwrite" ∷ decimal target ∷ hex_text bytes ∷ []
-words_of_command (Freeze src dst) = codes "freeze" ∷ decimal src ∷ decimal dst ∷ []
-words_of_command (Recover src dst) = codes "recover" ∷ decimal src ∷ decimal dst ∷ []
-words_of_command (Clone src dst) = codes "clone" ∷ decimal src ∷ decimal dst ∷ []
-words_of_command (Slice src dst lo hi) = codes "slice" ∷ decimal src ∷ decimal dst ∷ bound_text lo ∷ bound_text hi ∷ []
-words_of_command (Split src dst at) = codes "split" ∷ decimal src ∷ decimal dst ∷ decimal at ∷ []
-words_of_command (Advance target n) = codes "advance" ∷ decimal target ∷ decimal n ∷ []
-words_of_command (Take target n) = codes "take" ∷ decimal target ∷ decimal n ∷ []
-words_of_command (Gather dst sources) = codes "gather" ∷ decimal dst ∷ map decimal sources
-words_of_command (GatherMut dst sources) = codes "gathermut" ∷ decimal dst ∷ map decimal sources
-words_of_command (Append target src) = codes "append" ∷ decimal target ∷ decimal src ∷ []
-words_of_command (Prepend target src) = codes "prepend" ∷ decimal target ∷ decimal src ∷ []
-words_of_command (Coalesce src dst) = codes "coalesce" ∷ decimal src ∷ decimal dst ∷ []
-words_of_command (Build dst capacity items) = codes "build" ∷ decimal dst ∷ decimal capacity ∷ map item_text items
-words_of_command (Encode src dst) = codes "encode" ∷ decimal src ∷ decimal dst ∷ []
-words_of_command (Decode src dst lo hi) = codes "decode" ∷ decimal src ∷ decimal dst ∷ decimal lo ∷ decimal hi ∷ []
-words_of_command (Drop target) = codes "drop" ∷ decimal target ∷ []
-words_of_command (Show target) = codes "show" ∷ decimal target ∷ []
+abbrev pub first_of : Command → ℕ
+first_of (Static dst text) = first_letter text
+first_of command = 0
 
--- the line that says a command
+-- a command's own line
 abbrev pub line_of_command : Command → List ℕ
-line_of_command command = line_of_words (words_of_command command)
+line_of_command command = line_of_words (map written (words_from (first_of command) command))
 
 -- a bound's place fits a `usize`
 abbrev pub BoundFits : Bound ℕ → Type 0

@@ -1,8 +1,8 @@
 // The command that a line says.
-ghost use Rattle.std.specs.Prelude.{◌≡◌, ◌⊎◌, Some, None, IfOk, IfErr};
+ghost use Rattle.std.specs.Prelude.{◌≡◌, ◌⊎◌, ℕ, List, Some, None, IfOk, IfErr};
 ghost use Rattle.iobufs_lines.specs.Commands.{Command, plain};
 ghost use Rattle.iobufs_lines.specs.Said.{command_of, said_by, static_of, verb_of};
-ghost use Rattle.iobufs_lines.specs.Spelled.{Fits, line_of_command};
+ghost use Rattle.iobufs_lines.specs.Spelled.{Fits, IsLineOf, line_of_command};
 
 use crate::shapes::{build, bytes_for, fill, four, numbers_for, one, slice, three, two};
 use iobufs_core::codec::RangeCfg;
@@ -164,8 +164,10 @@ fn of_static(words: &mut Words<'_>) -> Result<Cmd, LineError>
     }
 }
 
-/// The line of a command says that command.
+/// The line of a command says that command, and a line says a command exactly where its words spell it.
 pub fn line_law()
     ensures says { (command : Command) → Fits command → command_of (line_of_command command) ≡ Some command }
     ensures different { (a b : Command) → Fits a → Fits b → line_of_command a ≡ line_of_command b → a ≡ b }
+    ensures spelled { (line : List ℕ) (command : Command) → command_of line ≡ Some command → IsLineOf command line }
+    ensures read { (line : List ℕ) (command : Command) → IsLineOf command line → command_of line ≡ Some command }
 {}
