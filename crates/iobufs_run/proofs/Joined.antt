@@ -47,7 +47,8 @@ both_some m n p q = grind (arith, nat_tests)
 true_not_false : true ≡ false → ⊥
 true_not_false e = cc
 
-both_held : (s : Slot) (view : ViewValue) → is_text s ≡ true → ((0 < length view.bytes) × (0 < readable s)) ⊎ (is_text s ≡ false) → (0 < length view.bytes) × (0 < readable s)
+both_held : (s : Slot) (view : ViewValue) → is_text s ≡ true
+    → ((0 < length view.bytes) × (0 < readable s)) ⊎ (is_text s ≡ false) → (0 < length view.bytes) × (0 < readable s)
 both_held s view text (inl some) = some
 both_held s view text (inr other) = absurd (true_not_false (sym text ∙ other))
 
@@ -56,7 +57,8 @@ pub back_again : (names : List Slot) (target src : ℕ) (view back : ViewValue) 
     → first_cause (join_causes names target src) ≡ None
     → (slice_index_or names src d ≡ View view) × (free ≡ Free)
     → (back ≡ view) × (kept ≡ slice_index_or (slice_set names src free) target e)
-    → ((0 < length view.bytes) × (0 < readable (slice_index_or (slice_set names src free) target e))) ⊎ (is_text (slice_index_or (slice_set names src free) target e) ≡ false)
+    → ((0 < length view.bytes) × (0 < readable (slice_index_or (slice_set names src free) target e)))
+    ⊎ (is_text (slice_index_or (slice_set names src free) target e) ≡ false)
     → new ≡ slice_set (slice_set (slice_set names src free) target kept) src (View back)
     → IsTrue (not (readable (slot_named names src) == 0) && not (readable (slot_named names target) == 0)) × (new ≡ names)
 back_again names target src view back free kept d e new none took stays refused is =
@@ -67,7 +69,8 @@ back_again names target src view back free kept d e new none took stays refused 
     let long : target < length (slice_set names src free) = omega (arith, length-set names src free, inside.0) in
     let there : slice_index_or (slice_set names src free) target e ≡ slot_named names target =
     get_or_default (slice_set names src free) target e Free long ∙ target_kept names target src view none at free in
-    let (view_some, target_some) = both_held (slice_index_or (slice_set names src free) target e) view (ap is_text there ∙ target_is_text names target src none) refused in
+    let text = ap is_text there ∙ target_is_text names target src none in
+    let (view_some, target_some) = both_held (slice_index_or (slice_set names src free) target e) view text refused in
     let some : 0 < readable (slot_named names src) = subst (λ (s : Slot). 0 < readable s) (sym at) view_some in
     let some' : 0 < readable (slot_named names target) = subst (λ (s : Slot). 0 < readable s) there target_some in
     let all : new ≡ names =

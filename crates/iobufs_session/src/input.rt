@@ -6,6 +6,7 @@ ghost use Rattle.iobufs_session.specs.declared.fault.Fault.TheVariants.{NotText}
 
 use crate::fault::Fault;
 use crate::output::Sink;
+use memchr::memchr;
 use std::alloc::Global;
 use std::io::{self, BufRead, BufReader, Read};
 use std::str;
@@ -84,10 +85,14 @@ impl<R: Read + Drop> Source for Input<R> {
     ghost can_fail = { true };
 
     fn read_line<S: Sink>(&mut self, replies: &mut S) -> Result<bool, Fault> {
-        if !self.reader.buffer().contains(&b'\n') {
-            replies.send()?;
-        }
         self.line.clear();
+        let buffer = self.reader.buffer();
+        if let Some(place) = memchr(b'\n', buffer) {
+            self.line.extend_from_slice(&buffer[..place + 1])?;
+            self.reader.consume(place + 1);
+            return Ok(true);
+        }
+        replies.send()?;
         match self.reader.read_until(b'\n', &mut self.line) {
             Ok(n) => Ok(n > 0),
             Err(error) if error.kind() == io::ErrorKind::OutOfMemory => Err(Fault::Memory),

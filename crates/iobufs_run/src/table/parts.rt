@@ -179,7 +179,9 @@ pub(super) fn freeze(alloc: Global, slots: &mut [Slot], src: usize, dst: usize) 
 fn recover_slot(alloc: Global, slot: &mut Slot) -> Result<IoBufMut, Refusal>
     ensures ok { IfOk result (λ part. (Slot.Part part ≡ slot_recovered slot.old) × (slot.new ≡ Slot.Free) × (is_fixed_view slot.old ≡ false)) }
     ensures kept { OnErr result (slot.new ≡ slot.old) }
-    ensures err { IfErr result (λ refusal. ((refusal ≡ Refusal.Declined) × (IsTrue (is_fixed_view slot.old) ⊎ IsTrue (is_native_view slot.old))) ⊎ (is_view slot.old ≡ false)) }
+    ensures err { IfErr result (λ refusal.
+        ((refusal ≡ Refusal.Declined) × (IsTrue (is_fixed_view slot.old) ⊎ IsTrue (is_native_view slot.old)))
+        ⊎ (is_view slot.old ≡ false)) }
 {
     match take_view(slot)?.try_into_mut(alloc) {
         Ok(part) => Ok(part),

@@ -21,7 +21,9 @@ fn split_slot(alloc: Global, slot: &mut Slot, at: usize) -> Result<Slot, Refusal
     requires within { at ≤ readable_bytes slot.old }
     ensures ok { IfOk result (λ front. (front ≡ slot_split_front slot.old at) × (slot.new ≡ slot_rest slot.old at)) }
     ensures kept { OnErr result (slot.new ≡ slot.old) }
-    ensures err { IfErr result (λ refusal. ((refusal ≡ Refusal.Memory) × (nat_eq at 0 ≡ false) × (nat_eq at (readable_bytes slot.old) ≡ false) × (is_static_view slot.old ≡ false)) ⊎ (is_one_of (Kind.View ∷ Kind.Text ∷ []) slot.old ≡ false)) }
+    ensures err { IfErr result (λ refusal.
+        ((refusal ≡ Refusal.Memory) × (nat_eq at 0 ≡ false) × (nat_eq at (readable_bytes slot.old) ≡ false) × (is_static_view slot.old ≡ false))
+        ⊎ (is_one_of (Kind.View ∷ Kind.Text ∷ []) slot.old ≡ false)) }
 {
     match slot {
         Slot::View(view) => Ok(Slot::View(view.split_to(at)?)),
@@ -85,7 +87,9 @@ pub(super) fn take(alloc: Global, slots: &mut [Slot], target: usize, n: usize) -
 fn read_slot(alloc: Global, slot: &mut Slot, range: &RangeCfg) -> Result<IoBuf, Refusal>
     ensures ok { IfOk result (λ taken. IsViewRead (marked_held slot.old) range.now (Ok taken) × (slot.new ≡ slot_read slot.old taken)) }
     ensures kept { OnErr result (slot.new ≡ slot.old) }
-    ensures err { IfErr result (λ refusal. ((error : Error) × IsViewRead (marked_held slot.old) range.now (Err error) × (refusal ≡ codec_refusal error)) ⊎ (is_one_of (Kind.View ∷ Kind.Text ∷ []) slot.old ≡ false)) }
+    ensures err { IfErr result (λ refusal.
+        ((error : Error) × IsViewRead (marked_held slot.old) range.now (Err error) × (refusal ≡ codec_refusal error))
+        ⊎ (is_one_of (Kind.View ∷ Kind.Text ∷ []) slot.old ≡ false)) }
 {
     match slot {
         Slot::View(view) => Ok(IoBuf::read_cfg(alloc, view, range)?),
