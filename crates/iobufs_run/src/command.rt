@@ -10,7 +10,7 @@ use std::ops::Bound;
 
 /// A command on the named buffers of a table. `dst` is a name that becomes used, `src` a source, `target` a buffer
 /// that is changed or shown in place.
-#[derive(Drop)]
+#[derive(Debug, Clone, PartialEq, Eq, Drop)]
 pub enum Cmd {
     /// An empty part of this capacity and alignment.
     NewMut {
@@ -160,7 +160,7 @@ pub enum Cmd {
 }
 
 /// An item of a text that is built.
-#[derive(Drop)]
+#[derive(Debug, Clone, PartialEq, Eq, Drop)]
 pub enum Item {
     /// Bytes that are put.
     Inline(Vec<u8>),

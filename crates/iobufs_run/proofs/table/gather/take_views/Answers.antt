@@ -10,7 +10,8 @@ use Rattle.iobufs_run.proofs.table.gather.take_views.Goals as goal
 pub returns-in_err-piece-clause-err : goal.returns-in_err-piece-clause-err
 returns-in_err-piece-clause-err c =
     let inv = c.loop-src.invariant in
-    let read = source_read is_view c.args.slots.now c.loop-src.slots c.args.sources.now c.loop-src.src-index c.index-slots-src.result refl c.requires.once c.requires.views inv.freed c.loop-src-test.true in
+    let read = source_read is_view c.args.slots.now c.loop-src.slots c.args.sources.now c.loop-src.src-index c.index-slots-src.result refl c.requires.once
+    c.requires.views inv.freed c.loop-src-test.true in
     let not_view = c.in_err-piece.ensures.err.1 in
     let view = ap is_view read.0 ∙ read.1 in
     absurd cc
@@ -22,7 +23,8 @@ returns-in_err-append-clause-err c =
     let sources = c.args.sources.now in
     let i = c.loop-src.src-index in
     let took = c.in_ok-piece.ensures.ok in
-    let read = source_read is_view old c.loop-src.slots sources i c.index-slots-src.result refl c.requires.once c.requires.views inv.freed c.loop-src-test.true in
+    let read = source_read is_view old c.loop-src.slots sources i c.index-slots-src.result refl c.requires.once c.requires.views inv.freed
+    c.loop-src-test.true in
     let fits = source_fits old sources i c.loop-src.text c.in_ok-piece.piece c.requires.fits inv.text (sym read.0 ∙ took.0) c.loop-src-test.true in
     let memory = c.in_err-append.ensures.memory fits in
     let freed = freed_more old c.loop-src.slots sources i c.take_view.new.slot inv.freed c.loop-src-test.true took.1 in
@@ -36,8 +38,10 @@ loop-src-preserved c =
     let sources = c.args.sources.now in
     let i = c.loop-src.src-index in
     let took = c.in_ok-piece.ensures.ok in
-    let read = source_read is_view old c.loop-src.slots sources i c.index-slots-src.result refl c.requires.once c.requires.views inv.freed c.loop-src-test.true in
+    let read = source_read is_view old c.loop-src.slots sources i c.index-slots-src.result refl c.requires.once c.requires.views inv.freed
+    c.loop-src-test.true in
     let piece = ap view_held (sym took.0 ∙ read.0) in record {
       freed = freed_more old c.loop-src.slots sources i c.take_view.new.slot inv.freed c.loop-src-test.true took.1;
-      text = text_more (λ src. view_held (slot_named old src)) sources i c.loop-src.text c.append.new.self c.in_ok-piece.piece inv.text c.in_ok-append.ensures.done piece c.loop-src-test.true;
+      text = text_more (λ src. view_held (slot_named old src)) sources i c.loop-src.text c.append.new.self c.in_ok-piece.piece inv.text
+          c.in_ok-append.ensures.done piece c.loop-src-test.true;
     }
