@@ -1,6 +1,7 @@
-// Each text that a cause prints, in one table.
+// Each text that a cause prints, in one table, and a command as it is printed and compared.
 use iobufs_core::buf::IoBuf;
-use iobufs_core::codec::{BufError, Error, Refused, TryGetError};
+use iobufs_core::codec::{BufError, Error, RangeCfg, Refused, TryGetError};
+use iobufs_run::command::Cmd;
 use std::alloc::Global;
 use std::fmt::Display;
 use std::test::Fail;
@@ -37,5 +38,25 @@ fn a_refused_argument_prints_its_cause(rt: HostRuntime) -> Result<(), Fail> {
         value: IoBuf::default(),
     };
     assert!(rt; prints(rt.alloc(), &refused, "TooLong")?);
+    Ok(())
+}
+
+#[test]
+fn a_command_is_printed_copied_and_compared(rt: HostRuntime) -> Result<(), Fail> {
+    let alloc = rt.alloc();
+    let put = Cmd::Put {
+        target: 1,
+        bytes: Vec::from_slice(alloc, &[7, 8])?,
+    };
+    let decode = Cmd::Decode {
+        src: 0,
+        dst: 1,
+        range: RangeCfg { lo: 0, hi: 9 },
+    };
+    let text = format!(in alloc; "{put:?}")?;
+    assert_eq!(rt; text.as_str(), "Put { target: 1, bytes: [7, 8] }");
+    assert!(rt; put.clone()? == put);
+    assert!(rt; decode.clone()? == decode);
+    assert!(rt; put != decode);
     Ok(())
 }
