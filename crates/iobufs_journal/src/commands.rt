@@ -1,8 +1,9 @@
 // The commands, on files. What they read and write is proved in `iobufs_records`.
 use crate::progress::Progress;
-use iobufs_records::ending::{self, Ending};
-use iobufs_records::lines::{self, Appended, MOST, MOST_LINE};
-use iobufs_records::scan::{Scan, read_piece};
+use iobufs_records::ending::{self, Ending, Repair};
+use iobufs_records::growth::{Outcome, put_behind};
+use iobufs_records::lines::{Appended, MOST, MOST_LINE};
+use iobufs_records::scan::read_piece;
 use iobufs_uses::journal::End;
 use std::alloc::Global;
 use std::fs::{self, File, OpenOptions};
@@ -78,6 +79,27 @@ fn say_long(rt: &HostRuntime, name: &str, done: Appended) {
     );
 }
 
+// Says what became of lines that not all went behind a journal.
+fn say_outcome(rt: &HostRuntime, name: &str, outcome: Outcome) {
+    match outcome {
+        Outcome::Put(done) => {
+            if done.is_long {
+                say_long(rt, name, done);
+            }
+        }
+        Outcome::NotWhole(End::Damaged) => say(
+            rt,
+            name,
+            "the journal is damaged, and nothing is put behind it",
+        ),
+        Outcome::NotWhole(_) => say(
+            rt,
+            name,
+            "the journal is torn, and nothing is put behind it: see repair",
+        ),
+    }
+}
+
 // Puts lines behind a journal that is locked, if it is whole.
 fn append_locked<R: Read>(
     rt: &HostRuntime,
@@ -85,34 +107,11 @@ fn append_locked<R: Read>(
     journal: &mut File,
     from: &mut R,
 ) -> io::Result<u8> {
-    let alloc = rt.alloc();
-    let mut scan = Scan::new();
+    let mut to = journal.try_clone()?;
     let mut told = Progress::new(rt, name, journal)?;
-    match scan.print(alloc, &mut told, MOST, &mut io::sink())? {
-        End::Whole => {}
-        End::Torn => {
-            say(
-                rt,
-                name,
-                "the journal is torn, and nothing is put behind it: see repair",
-            );
-            return Ok(1);
-        }
-        End::Damaged => {
-            say(
-                rt,
-                name,
-                "the journal is damaged, and nothing is put behind it",
-            );
-            return Ok(1);
-        }
-    }
-    let done = lines::append(alloc, scan.number, from, journal)?;
-    if done.is_long {
-        say_long(rt, name, done);
-        return Ok(3);
-    }
-    Ok(0)
+    let outcome = put_behind(rt.alloc(), &mut told, from, &mut to)?;
+    say_outcome(rt, name, outcome);
+    Ok(outcome.status())
 }
 
 fn append_to(rt: &HostRuntime, name: &str, sync: bool) -> io::Result<u8> {
@@ -222,30 +221,26 @@ fn repair_file(rt: &HostRuntime, name: &str, force: bool) -> io::Result<u8> {
     }
     let mut journal = OpenOptions::new().read(true).write(true).open(rt, name)?;
     lock(rt, name, &journal)?;
-    let Ending {
-        found,
-        taken,
-        end,
-        ..
-    } = Ending::read(
-        rt.alloc(),
-        &mut Progress::new(rt, name, &mut journal)?,
-        MOST,
-    )?;
-    if end == End::Damaged && !force {
-        say(
-            rt,
-            name,
-            "the journal is damaged: --force cuts off all behind its records",
-        );
-        return Ok(1);
-    }
-    if end == End::Whole {
-        writeln!(
-            rt.stdout(),
-            "{name}: {found} records in {taken} bytes, nothing to repair"
-        )?;
-        return Ok(0);
+    let mut told = Progress::new(rt, name, &mut journal)?;
+    let ending = Ending::read(rt.alloc(), &mut told, MOST)?;
+    let Ending { found, taken, .. } = ending;
+    match ending.repair(force) {
+        Repair::Nothing => {
+            writeln!(
+                rt.stdout(),
+                "{name}: {found} records in {taken} bytes, nothing to repair"
+            )?;
+            return Ok(0);
+        }
+        Repair::Refused => {
+            say(
+                rt,
+                name,
+                "the journal is damaged: --force cuts off all behind its records",
+            );
+            return Ok(1);
+        }
+        Repair::Cut => {}
     }
     let len = cut(rt, name, &mut journal, taken)?;
     writeln!(

@@ -1,6 +1,7 @@
 mod BehindLaws
 mod EndingLaws
 mod FrontLaws
+mod GrowthLaws
 mod LineLaws
 mod ScanLaws
 mod StaysLaws

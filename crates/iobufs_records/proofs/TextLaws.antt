@@ -185,11 +185,11 @@ nothing_read had held lines none = record {
   whole = λ behind. ap (λ w. lines_of (w ++ behind)) (sym none);
 }
 
-short_on : (most : ℕ) (fs gs : List (List ℕ)) → AreShort most fs → AreShort most gs → AreShort most (fs ++ gs)
+pub short_on : (most : ℕ) (fs gs : List (List ℕ)) → AreShort most fs → AreShort most gs → AreShort most (fs ++ gs)
 short_on most [] gs p q = q
 short_on most (f ∷ fs) gs p q = (p.0, short_on most fs gs p.1 q)
 
-written_on : (k : ℕ) (fs gs : List (List ℕ)) → records_written k (fs ++ gs) ≡ records_written k fs ++ records_written (k + length fs) gs
+pub written_on : (k : ℕ) (fs gs : List (List ℕ)) → records_written k (fs ++ gs) ≡ records_written k fs ++ records_written (k + length fs) gs
 written_on k [] gs = ap (λ n. records_written n gs) (let z : k ≡ k + 0 = omega arith in z)
 written_on k (f ∷ fs) gs =
     let next : suc k + length fs ≡ k + suc (length fs) = omega arith in

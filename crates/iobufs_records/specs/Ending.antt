@@ -15,6 +15,8 @@ use Rattle.iobufs_records.specs.Scan.{printed}
 use Rattle.iobufs_uses.specs.declared.journal.End.{End}
 use Rattle.iobufs_uses.specs.declared.journal.End.TheVariants.{Whole, Torn, Damaged}
 use Rattle.iobufs_records.specs.declared.ending.Ending.{Ending}
+use Rattle.iobufs_records.specs.declared.ending.Repair.{Repair}
+use Rattle.iobufs_records.specs.declared.ending.Repair.TheVariants.{Nothing, Cut, Refused}
 
 -- the whole records that stand further on, where a journal isn't at its end
 abbrev pub AreFurther : ℕ → ℕ → List ℕ → End → List (List ℕ) → Type 0
@@ -82,3 +84,10 @@ pub record IsReplayed (most : ℕ) (all : Bool) (text : List ℕ) (held holds : 
   pub further : List (List ℕ)
   pub further_so : AreWanted all most (length found) rest end further
   pub put : Appends held holds (printed found ++ printed further)
+
+-- what makes a journal whole that ends so: what is torn is cut off, what is damaged only where that is forced
+abbrev pub repair_of : End → (is_forced : Bool) → Repair
+repair_of Whole force = Nothing
+repair_of Torn force = Cut
+repair_of Damaged true = Cut
+repair_of Damaged false = Refused

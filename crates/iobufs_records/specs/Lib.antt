@@ -1,4 +1,5 @@
 pub mod Behind
 pub mod Ending
+pub mod Growth
 pub mod Lines
 pub mod Scan

@@ -1,5 +1,5 @@
 // Records behind a place where none stands.
-ghost use Rattle.std.specs.Prelude.{◌≡◌, ℕ, ◌+◌, ◌^◌, ◌<◌, ◌≤◌, ◌++◌, ◌↔◌, nat_lt, length, take, IfNone, IfOk, IfSome, IsTrue, OnOk};
+ghost use Rattle.std.specs.Prelude.{◌≡◌, ℕ, ◌+◌, ◌^◌, ◌<◌, ◌≤◌, ◌++◌, ◌↔◌, nat_lt, length, take, IfNone, IfOk, IfSome, IsOkUnless, IsTrue, OnOk};
 ghost use Rattle.std.specs.Int.{w64, from_be_bytes};
 ghost use Rattle.iobufs_uses.specs.Journal.{record_written};
 ghost use Rattle.iobufs_records.specs.Behind.{ArePrinted, IsEnough, IsHeld, IsNear, IsSkipped, IsSought, StandsInFront};
@@ -63,6 +63,7 @@ fn numbered_front(
     ensures short { IfOk result (λ found. IfSome found (λ f. 12 + length f.body.bytes ≤ most)) }
     ensures near { IfOk result (λ found. IfSome found (λ f. IsNear least f.number)) }
     ensures none { IfOk result (λ found. IfNone found (StandsInFront most least text.now.bytes → ⊥)) }
+    ensures memory { IsOkUnless result BufError.Memory }
 {
     let Ok(mut rest) = text.clone() else {
         return Err(BufError::Memory);

@@ -1,7 +1,7 @@
 // How a journal ends, read to its end.
 ghost use Rattle.std.specs.Prelude.{◌≡◌, ◌++◌, nat_lt, if◌then◌else◌, codes, IfOk, IfSome};
 ghost use Rattle.iobufs_uses.specs.declared.journal.End.TheVariants.{Damaged};
-ghost use Rattle.iobufs_records.specs.Ending.{AreFurtherPrinted, HasEnding, IsChecked, IsReplayed, end_words, status_of};
+ghost use Rattle.iobufs_records.specs.Ending.{AreFurtherPrinted, HasEnding, IsChecked, IsReplayed, end_words, repair_of, status_of};
 
 use crate::scan::Scan;
 use iobufs_uses::journal::End;
@@ -20,6 +20,17 @@ pub struct Ending {
     pub end: End,
     /// How many whole records stand behind that place.
     pub behind: u64,
+}
+
+/// What makes a journal whole.
+#[derive(Clone, Copy, Debug, PartialEq, Eq)]
+pub enum Repair {
+    /// It is.
+    Nothing,
+    /// What is behind its records is cut off.
+    Cut,
+    /// The same, if it is forced.
+    Refused,
 }
 
 // Prints the records that stand behind a place where a journal isn't at its end, and says how many.
@@ -62,6 +73,18 @@ impl Ending {
             end,
             behind,
         })
+    }
+
+    /// What makes the journal whole: its records stay, and what is torn behind them is cut off, or damaged where that is
+    /// forced.
+    pub fn repair(self, force: bool) -> Repair
+        ensures { result ≡ repair_of self.end force }
+    {
+        match self.end {
+            End::Whole => Repair::Nothing,
+            End::Torn => Repair::Cut,
+            End::Damaged => { if force { Repair::Cut } else { Repair::Refused } }
+        }
     }
 }
 

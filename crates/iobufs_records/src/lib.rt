@@ -1,12 +1,13 @@
 //! Journals that are read and written piece by piece.
 //!
 //! - `front`: the record that stands in front of a text. `scan`: a journal that is read from its front, of which no more
-//!   is held than a record takes. `lines`: lines that become records. `behind`: records behind a place where none
-//!   stands. `ending`: how a journal ends.
+//!   is held than a record takes. `lines`: lines that become records. `growth`: those that go behind a whole
+//!   journal. `behind`: records behind a place where none stands. `ending`: how a journal ends, and what mends it.
 #![tactic(auto)]
 
 pub mod behind;
 pub mod ending;
 pub mod front;
+pub mod growth;
 pub mod lines;
 pub mod scan;

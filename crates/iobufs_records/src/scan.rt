@@ -81,12 +81,16 @@ pub(crate) fn fill<R: Read>(alloc: Global, window: &mut IoBuf, from: &mut R) -> 
     ensures { IfOk result (λ more. IsFilled (R.remaining from.old) (R.remaining from.new) window.old.bytes window.new.bytes more) }
 {
     let piece = read_piece(alloc, from)?;
-    let len = window.len().saturating_add(piece.len());
+    let held = window.len();
+    if piece.is_empty() {
+        return Ok(false);
+    }
+    let len = held.saturating_add(piece.len());
     let mut bytes = Vec::with_capacity(alloc, len)?;
     bytes.extend_from_slice(window.as_ref())?;
     bytes.extend_from_slice(&piece)?;
     *window = IoBuf::from_vec(bytes).map_err(out_of_memory)?;
-    Ok(!piece.is_empty())
+    Ok(true)
 }
 
 pub(crate) fn too_large() -> io::Error
