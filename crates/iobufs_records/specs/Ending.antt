@@ -6,6 +6,7 @@
 --     status_of, IsChecked      the exit status: 0 where nothing is behind the records, else 1; that was printed of
 --                               it, with this status
 --     AreWanted, IsReplayed     those further on if they are wanted; a journal's records were printed, and these
+--     repair_of                 what a repair does to a journal that ends so: nothing, a cut, or a refusal
 use Rattle.std.specs.Prelude.{◌≡◌, ℕ, ◌<◌, ◌==◌, if◌then◌else◌, Bool, true, false, Option, List, [], ◌∷◌, ◌++◌, length, codes}
 use Rattle.std.specs.Fmt.{decimal}
 use Rattle.std.specs.Io.KnownBytes.{Appends}

@@ -1,6 +1,8 @@
 -- Lines that are put behind a journal.
---     Grew          a whole journal was continued by lines as records, and is one journal with them
---     HasOutcome    that, or nothing was put, since the journal isn't whole
+--     Grew              a whole journal was continued by lines as records, and is one journal with them
+--     Ends              a text is a journal that ends so
+--     HasOutcome        lines were put behind it, or nothing was put, since the journal isn't whole
+--     outcome_status    the exit status of a program that put them
 use Rattle.std.specs.Prelude.{◌≡◌, ℕ, if◌then◌else◌, Option, List, [], ◌++◌, length}
 use Rattle.std.specs.Io.KnownBytes.{Appends, Keeps}
 use Rattle.iobufs_uses.specs.Journal.{IsJournal, records_written}
