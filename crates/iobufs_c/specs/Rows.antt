@@ -1,0 +1,38 @@
+-- What lies at a place, and how a place that holds no buffer reads.
+use denote.RattleType.{RattleType}
+use Rattle.std.specs.Prelude.{ℕ, Option, Some, None, List, [], ◌∷◌, length, ◌==◌, if◌then◌else◌}
+use Rattle.iobufs_core.specs.Part.{Part, empty_part}
+use Rattle.iobufs.specs.Building.{Building, empty_building}
+use Rattle.std.specs.declared.ops.Bound.{Bound}
+use Rattle.std.specs.declared.ops.Bound.TheVariants.{Included, Excluded, Unbounded}
+use Rattle.std.specs.contracts.option.Option.{the_row as option_row}
+use Rattle.iobufs_core.specs.contracts.buf.part.IoBufMut.{the_row as of_part}
+use Rattle.iobufs.specs.contracts.bufs_mut.IoBufsMut.{the_row as of_parts}
+use Rattle.iobufs.specs.contracts.builder.Builder.{the_row as of_builder}
+
+-- a buffer to write, or none
+abbrev pub part_row : RattleType
+part_row = option_row of_part
+
+abbrev pub parts_row : RattleType
+parts_row = option_row of_parts
+
+abbrev pub builder_row : RattleType
+builder_row = option_row of_builder
+
+-- none reads as one that holds nothing and takes nothing
+abbrev pub part_of : Option Part → Part
+part_of (Some part) = part
+part_of None = empty_part 0
+
+abbrev pub parts_of : Option (List Part) → List Part
+parts_of (Some parts) = parts
+parts_of None = empty_part 0 ∷ []
+
+abbrev pub building_of : Option Building → Building
+building_of (Some building) = building
+building_of None = empty_building 0
+
+-- a bound as C says it: 0 for one that belongs to the range, 1 for one that doesn't, else none
+abbrev pub bound_of : ℕ → ℕ → Bound ℕ
+bound_of kind n = if kind == 0 then Included n else if kind == 1 then Excluded n else Unbounded
