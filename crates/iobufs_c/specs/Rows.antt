@@ -33,6 +33,17 @@ abbrev pub building_of : Option Building → Building
 building_of (Some building) = building
 building_of None = empty_building 0
 
+-- the length of a piece that may be there
+abbrev pub chunk_len : Option (List ℕ) → ℕ
+chunk_len (Some chunk) = length chunk
+chunk_len None = 0
+
+-- the buffers at places, in order
+abbrev pub held_parts : List (Option Part) → List Part
+held_parts [] = []
+held_parts (Some part ∷ places) = part ∷ held_parts places
+held_parts (None ∷ places) = held_parts places
+
 -- a bound as C says it: 0 for one that belongs to the range, 1 for one that doesn't, else none
 abbrev pub bound_of : ℕ → ℕ → Bound ℕ
 bound_of kind n = if kind == 0 then Included n else if kind == 1 then Excluded n else Unbounded

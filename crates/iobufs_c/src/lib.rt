@@ -8,9 +8,5 @@
 
 pub mod part;
 pub mod status;
+pub mod text;
 pub mod view;
-// pub mod text;
-// pub mod parts;
-// pub mod builder;
-// pub mod frames;
-// pub mod lengths;

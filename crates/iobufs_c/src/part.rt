@@ -1,9 +1,9 @@
 // Buffers to write at their places.
-ghost use Rattle.std.specs.Prelude.{◌≡◌, ◌≤◌, ◌<◌, ◌==◌, if◌then◌else◌, ◌∷◌, [], length, take, replicate, nat_le, Option, Some, None, IsTrue, true, false, MatchOption, Ok, Err};
+ghost use Rattle.std.specs.Prelude.{◌≡◌, ◌≤◌, ◌<◌, ◌==◌, if◌then◌else◌, ◌∷◌, [], length, take, drop, replicate, ◌++◌, ◌+◌, nat_le, Option, Some, None, IsTrue, true, false, MatchOption, Ok, Err};
 ghost use Rattle.std.specs.Borrow.{sem, Lends, full_share};
 ghost use Rattle.std.specs.Option.{option_map};
 ghost use Rattle.std.specs.Ptr.{lies_at, room_at};
-ghost use Rattle.iobufs_core.specs.Part.{Part, empty_part, is_bad_layout as bad_layout, part_capacity, part_drained, part_frozen, part_put, part_truncated, part_with_len};
+ghost use Rattle.iobufs_core.specs.Part.{Part, empty_part, is_bad_layout as bad_layout, part_capacity, part_drained, part_frozen, part_overwritten, part_put, part_truncated, part_with_len};
 ghost use Rattle.iobufs_core.specs.Recovery.{IsPartOf, IsRecovery};
 ghost use Rattle.iobufs_core.specs.View.{View, default_view};
 ghost use Rattle.iobufs_c.specs.Codes.{IsDoneUnless, code_of};
@@ -273,9 +273,10 @@ pub extern "C" fn iobufmut_remaining_mut(part: &mut PartAt) -> usize
     }
 }
 
-/// Writes where the readable bytes lie, if there are any, and answers how many there are.
+/// Writes where the readable bytes lie, if there are any, and answers how many there are. The buffer shares them with
+/// nobody, so the caller may write over them there; what is written so, no contract knows.
 #[unsafe(no_mangle)]
-pub extern "C" fn iobufmut_chunk(part: &mut PartAt, out: &mut *const u8) -> usize
+pub extern "C" fn iobufmut_chunk(part: &mut PartAt, out: &mut *mut u8) -> usize
     ensures same { (part.new.at ≡ part.old.at) × (part.new.value ≡ part.old.value) }
     ensures value { result ≡ length (part_of part.old.value).filled }
 {
@@ -284,7 +285,7 @@ pub extern "C" fn iobufmut_chunk(part: &mut PartAt, out: &mut *const u8) -> usiz
     };
     let chunk = part.as_ref();
     if !chunk.is_empty() {
-        *out = ptr::from_ref(&chunk[0]);
+        *out = ptr::from_ref(&chunk[0]) as *mut u8;
     }
     chunk.len()
 }
@@ -307,7 +308,7 @@ pub extern "C" fn iobufmut_put_slice(part: &mut PartAt, src: &[u8]) -> u8
 }
 
 // Whether so many bytes are within the room or the bytes.
-fn fits(n: usize, most: usize) -> u8
+pub(crate) fn fits(n: usize, most: usize) -> u8
     ensures { result ≡ (if nat_le n most then 0 else code_of Status.OutOfRange) }
 {
     if n <= most {
@@ -433,9 +434,15 @@ pub extern "C" fn iobufmut_copy_to_slice(part: &mut PartAt, dst: &mut [u8]) -> u
 #[unsafe(no_mangle)]
 pub extern "C" fn iobufmut_write_at(part: &mut PartAt, at: usize, src: &[u8]) -> u8
     ensures at { part.new.at ≡ part.old.at }
+    ensures value { part.new.value ≡ (if result == 0 then option_map (λ part. part_overwritten part (take at part.filled ++ src.now ++ drop (at + length src.now) part.filled)) part.old.value else part.old.value) }
+    ensures result { result ≡ (if nat_le (at + length src.now) (length (part_of part.old.value).filled) then 0 else code_of Status.OutOfRange) }
 {
     let Some(part) = part.get() else {
-        return fits(src.len(), 0);
+        return if at == 0 && src.is_empty() {
+            Status::Done.code()
+        } else {
+            Status::OutOfRange.code()
+        };
     };
     if at > part.len() || src.len() > part.len() - at {
         return Status::OutOfRange.code();
