@@ -6,7 +6,9 @@
 //! duty, as the header `bindings/include/iobufs.h` says.
 #![tactic(auto)]
 
+pub mod builder;
 pub mod part;
+pub mod parts;
 pub mod status;
 pub mod text;
 pub mod view;
