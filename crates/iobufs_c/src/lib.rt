@@ -7,6 +7,7 @@
 #![tactic(auto)]
 
 pub mod builder;
+pub mod frames;
 pub mod part;
 pub mod parts;
 pub mod status;
