@@ -8,6 +8,7 @@
 
 pub mod builder;
 pub mod frames;
+pub mod lengths;
 pub mod part;
 pub mod parts;
 pub mod status;

@@ -12,11 +12,12 @@ ghost use Rattle.iobufs_c.specs.Rows.{chunk_len, held_parts, part_of, parts_of, 
 
 use crate::part::{PartAt, fits};
 use crate::status::{Status, refusal};
-use crate::text::TextAt;
+use crate::text::{Chunk, TextAt, chunk_of};
 use iobufs::bufs::IoBufs;
 use iobufs::bufs_mut::IoBufsMut;
+use iobufs_core::buf::IoBufMut;
 use iobufs_core::codec::{Buf, BufMut};
-use std::alloc::Global;
+use std::alloc::{AllocError, Global};
 use std::marker::{Model, Send};
 use std::{mem, ptr};
 
@@ -98,6 +99,47 @@ pub extern "C" fn iobufsmut_from_mut(part: &mut PartAt, out: &mut PartsAt)
         return;
     };
     *out.get() = Some(IoBufsMut::from(part));
+}
+
+// Takes the buffers of places, in order; none are left there. Where memory is refused, all stay.
+fn take_row(alloc: Global, places: &mut [PartAt]) -> Result<Vec<IoBufMut>, AllocError>
+    ensures ok { IfOk result (λ row. row.items ≡ held_parts (map (λ place. place.value) places.old)) }
+    ensures taken { OnOk result (map (λ place. place.value) places.new ≡ replicate (length places.old) None) }
+    ensures err { OnErr result (places.new ≡ places.old) }
+    ensures at { map (λ place. place.at) places.new ≡ map (λ place. place.at) places.old }
+{
+    let mut row = Vec::with_capacity(alloc, places.len())?;
+    for i in 0..places.len() {
+        if let Some(part) = mem::replace(places[i].get(), None) {
+            row.push(part).unwrap();
+        }
+    }
+    Ok(row)
+}
+
+/// The buffers of several places, strung together; none are left there. Where the first memory is refused all stay; later
+/// refusals give the buffers up.
+#[unsafe(no_mangle)]
+pub extern "C" fn iobufsmut_from_parts(
+    alloc: Global,
+    places: &mut [PartAt],
+    out: &mut PartsAt,
+) -> u8
+    ensures at { (map (λ place. place.at) places.new ≡ map (λ place. place.at) places.old) × (out.new.at ≡ out.old.at) }
+    ensures value { out.new.value ≡ (if result == 0 then Some (kept_parts (held_parts (map (λ place. place.value) places.old))) else out.old.value) }
+    ensures taken { result ≡ 0 → map (λ place. place.value) places.new ≡ replicate (length places.old) None }
+    ensures fits { parts_capacity (held_parts (map (λ place. place.value) places.old)) < 2 ^ 64 → IsDoneUnless result Status.Memory }
+{
+    let Ok(row) = take_row(alloc, places) else {
+        return Status::Memory.code();
+    };
+    match IoBufsMut::from_parts(alloc, row.into_iter()) {
+        Ok(parts) => {
+            *out.get() = Some(parts);
+            Status::Done.code()
+        }
+        Err(cause) => refusal(cause),
+    }
 }
 
 /// The number of readable bytes.
@@ -215,6 +257,42 @@ pub extern "C" fn iobufsmut_part_at(
         *out = ptr::from_ref(&chunk[0]) as *mut u8;
     }
     chunk.len()
+}
+
+// Fills a list with where the first pieces of the readable bytes lie, and answers how many it filled.
+fn fill_chunks(parts: &IoBufsMut, out: &mut [Chunk]) -> usize
+    ensures count { result ≡ min (length out.old) (length (parts_chunks parts.now)) }
+    ensures lengths { map (λ chunk. chunk.len) (take result out.new) ≡ map length (take result (parts_chunks parts.now)) }
+    ensures rest { drop result out.new ≡ drop result out.old }
+{
+    let mut count = 0;
+    let mut i = 0;
+    while count < out.len() && i < parts.part_count() {
+        let Some(part) = parts.part_at(i) else {
+            return count;
+        };
+        if !part.is_empty() {
+            out[count] = chunk_of(part.as_ref());
+            count += 1;
+        }
+        i += 1;
+    }
+    count
+}
+
+/// Fills a list for `readv` or `writev` with where the first pieces of the readable bytes lie, and answers how many it
+/// filled.
+#[unsafe(no_mangle)]
+pub extern "C" fn iobufsmut_chunks(parts: &mut PartsAt, out: &mut [Chunk]) -> usize
+    ensures same { (parts.new.at ≡ parts.old.at) × (parts.new.value ≡ parts.old.value) }
+    ensures count { result ≡ min (length out.old) (length (parts_chunks (parts_of parts.old.value))) }
+    ensures lengths { map (λ chunk. chunk.len) (take result out.new) ≡ map length (take result (parts_chunks (parts_of parts.old.value))) }
+    ensures rest { drop result out.new ≡ drop result out.old }
+{
+    match parts.get() {
+        Some(parts) => fill_chunks(parts, out),
+        None => 0,
+    }
 }
 
 /// Writes the readable byte at a place, if there is one.
