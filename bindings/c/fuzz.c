@@ -1,8 +1,10 @@
 /*
  * Random calls beside a plain model: bytes in arrays, blocks as counts of their holders. Every status, every length, every
- * byte, and which views can be written again has to agree. The seed is fixed; the argument is the number of calls.
+ * byte, and which views can be written again has to agree. The seed is fixed; the arguments are how many calls are made,
+ * and after how many seconds it stops before.
  */
 #include "test.h"
+#include <time.h>
 
 enum { MOST = 240, VIEWS = 6, TEXTS = 4, ROWS = 3, PIECES = 40, BLOCKS = 8192 };
 
@@ -504,14 +506,16 @@ static void frames_call(int k) {
 }
 
 int main(int argc, char **argv) {
-    long calls = argc > 1 ? atol(argv[1]) : 100000;
+    long calls = argc > 1 ? atol(argv[1]) : 100000, made = 0;
+    time_t began = time(NULL), seconds = argc > 2 ? (time_t)atol(argv[2]) : 1000000;
     for (int i = 0; i < MOST; i++) fixed[i] = (uint8_t)(i * 7);
     for (int i = 0; i < VIEWS; i++) { view_at[i].at = &view_memory[i]; iobuf_init(view_at[i].at); part_at[i].at = &part_memory[i]; iobufmut_init(part_at[i].at); }
     for (int i = 0; i < TEXTS; i++) { text_at[i].at = &text_memory[i]; iobufs_init(text_at[i].at); no_text(&texts[i]); }
     for (int i = 0; i < ROWS; i++) { row_at[i].at = &row_memory[i]; iobufsmut_init(row_at[i].at); rows[i].count = 1; }
     builder_at.at = &builder_memory; iobufs_builder_init(builder_at.at);
     frames_at.at = &frames_memory; iobufs_frames_init(frames_at.at); no_text(&frames);
-    for (long call = 0; call < calls; call++) {
+    while (made < calls && (made % 10000 || time(NULL) - began < seconds)) {
+        made++;
         int i = (int)below(VIEWS), j = (i + 1 + (int)below(VIEWS - 1)) % VIEWS, t = (int)below(TEXTS);
         switch (below(12)) {
         case 0: case 1: case 2: view_call(i, j); break;
@@ -526,6 +530,6 @@ int main(int argc, char **argv) {
     for (int i = 0; i < TEXTS; i++) iobufs_drop(&text_at[i]);
     for (int i = 0; i < ROWS; i++) iobufsmut_drop(&row_at[i]);
     iobufs_builder_drop(&builder_at); iobufs_frames_drop(&frames_at);
-    printf("%ld calls agree\n", calls);
+    printf("%ld calls agree\n", made);
     return 0;
 }

@@ -1,6 +1,6 @@
 /*
  * Views of one block, cloned, read, sliced and dropped by eight threads at once, and recovered by the last. Blocks are
- * counted (as in refused.c): each is given back once. Run under valgrind's helgrind too.
+ * counted (as in refused.c): each is given back once. Run under valgrind's helgrind too. The argument is the number of turns.
  */
 #include "test.h"
 #include <pthread.h>
@@ -18,7 +18,9 @@ void *__wrap_malloc(size_t n) { blocks++; return __real_malloc(n); }
 void *__wrap_realloc(void *old, size_t n) { blocks += old == NULL; return __real_realloc(old, n); }
 void __wrap_free(void *old) { blocks -= old != NULL; __real_free(old); }
 
-enum { THREADS = 8, TURNS = 1000, LEN = 64 };
+enum { THREADS = 8, LEN = 64 };
+
+static int turns = 5000;
 
 struct job { struct iobuf mine; size_t sum; };
 
@@ -26,7 +28,7 @@ static void *work(void *data) {
     struct job *job = (struct job *)data;
     struct iobuf_at mine = { &job->mine };
     VIEW(other); VIEW(part); TEXT(text);
-    for (int i = 0; i < TURNS; i++) {
+    for (int i = 0; i < turns; i++) {
         const uint8_t *at;
         OK(iobuf_clone(&mine, &other));
         OK(iobuf_slice(&other, IOBUFS_INCLUDED, 3, IOBUFS_EXCLUDED, 60, &part));
@@ -41,7 +43,8 @@ static void *work(void *data) {
     return NULL;
 }
 
-int main(void) {
+int main(int argc, char **argv) {
+    if (argc > 1) turns = atoi(argv[1]);
     PART(whole); VIEW(first);
     static struct job jobs[THREADS];
     pthread_t threads[THREADS];
@@ -59,7 +62,7 @@ int main(void) {
         CHECK(!pthread_join(threads[i], NULL));
         sum += jobs[i].sum;
     }
-    CHECK(sum == (size_t)THREADS * TURNS * (LEN - 10) * 2);
+    CHECK(sum == (size_t)THREADS * (size_t)turns * (LEN - 10) * 2);
     OK(iobuf_try_into_mut(&first, &whole)); /* the last view recovers the block */
     CHECK(iobufmut_len(&whole) == LEN);
     iobufmut_drop(&whole); iobuf_drop(&first);
