@@ -308,7 +308,7 @@ static void text_call(int i, int j, int k) {
     struct view *v = &views[k];
     size_t len = text_len(t), n = about(len), m;
     uint8_t byte;
-    int full = t->count > 12 || len > MOST / 2;
+    int full = t->count > 12 || len + v->len > MOST;
     switch (full ? 4 + below(9) : below(13)) {
     case 0: OK(iobufs_append(at, &view_at[k])); push(t, v); *v = no_bytes; break;
     case 1:
@@ -382,7 +382,7 @@ static void row_call(int i, int j, int k) {
         keep_parts(r);
         OK(iobufsmut_from_parts(places, count, at));
         for (size_t p = 0; p < count; p++) same_part((int)p);
-        if (row_capacity(r) > 2 * MOST) { iobufsmut_drop(at); memset(r, 0, sizeof *r); r->count = 1; }
+        if (row_capacity(r) > MOST) { iobufsmut_drop(at); memset(r, 0, sizeof *r); r->count = 1; }
         break;
     }
     case 1:
@@ -408,7 +408,7 @@ static void row_call(int i, int j, int k) {
         if (m > len) { CHECK(iobufsmut_advance(at, m) == IOBUFS_OUT_OF_RANGE); break; }
         OK(iobufsmut_advance(at, m)); row_drain(r, m); break;
     case 6:
-        if (m > len) { CHECK(iobufsmut_copy_to_slice(at, some, m > 2 * MOST ? 2 * MOST : m) == (m > 2 * MOST && 2 * MOST <= len ? IOBUFS_OK : IOBUFS_END_OF_BUFFER)); break; }
+        if (m > len) { CHECK(iobufsmut_copy_to_slice(at, some, m > 2 * MOST ? 2 * MOST : m) == IOBUFS_END_OF_BUFFER); break; }
         OK(iobufsmut_copy_to_slice(at, some, m)); CHECK(!memcmp(some, all, m)); row_drain(r, m); break;
     case 7:
         any_bytes(len); OK(iobufsmut_copy_from_slice(at, some, len));
@@ -419,7 +419,6 @@ static void row_call(int i, int j, int k) {
         for (size_t p = 0; p < r->count; p++) { struct view v = frozen(&r->part[p]); push(&texts[j], &v); }
         memset(r, 0, sizeof *r); r->count = 1; same_text(j); break;
     case 9:
-        if (len > MOST) break;
         OK(iobufsmut_coalesce(at, &part_at[k]));
         if (r->count == 1) parts[k] = r->part[0];
         else { memcpy(parts[k].at, all, len); parts[k].len = parts[k].capacity = len; parts[k].there = 1; }
