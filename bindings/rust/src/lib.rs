@@ -33,6 +33,27 @@ pub enum Error {
     InvalidLength,
 }
 
+/// A destination was longer than the bytes left.
+#[derive(Clone, Copy, Debug, PartialEq, Eq)]
+pub struct TryGetError {
+    /// How many bytes were asked for.
+    pub requested: usize,
+    /// How many were left.
+    pub available: usize,
+}
+
+impl fmt::Display for TryGetError {
+    fn fmt(&self, f: &mut fmt::Formatter<'_>) -> fmt::Result {
+        write!(
+            f,
+            "{} bytes were asked for, and {} are left",
+            self.requested, self.available
+        )
+    }
+}
+
+impl std::error::Error for TryGetError {}
+
 impl fmt::Display for Error {
     fn fmt(&self, f: &mut fmt::Formatter<'_>) -> fmt::Result {
         fmt::Debug::fmt(self, f)
@@ -150,3 +171,19 @@ macro_rules! puts {
     };
 }
 pub(crate) use puts;
+
+/// As `copy_to_slice`, where there are enough bytes.
+macro_rules! try_copy {
+    () => {
+        /// As `copy_to_slice`, where there are enough bytes; else nothing changes, and both lengths are told (`Buf`).
+        pub fn try_copy_to_slice(&mut self, dst: &mut [u8]) -> Result<(), crate::TryGetError> {
+            let (requested, available) = (dst.len(), self.remaining());
+            if requested > available {
+                return Err(crate::TryGetError { requested, available });
+            }
+            self.copy_to_slice(dst);
+            Ok(())
+        }
+    };
+}
+pub(crate) use try_copy;

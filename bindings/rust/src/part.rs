@@ -1,7 +1,7 @@
 //! `IoBufMut`.
 use crate::sys::{self, Memory};
 use crate::view::IoBuf;
-use crate::{done, no_bytes, puts, same_bytes};
+use crate::{done, no_bytes, puts, same_bytes, try_copy};
 use std::num::NonZeroUsize;
 use std::{fmt, io, slice};
 
@@ -32,7 +32,10 @@ impl IoBufMut {
     pub fn with_alignment(capacity: usize, alignment: NonZeroUsize) -> Self {
         let out = Self::none();
         // SAFETY: duty 1.
-        done(unsafe { sys::iobufmut_with_alignment(capacity, alignment.get(), &mut out.0.at()) }, LAYOUT);
+        done(
+            unsafe { sys::iobufmut_with_alignment(capacity, alignment.get(), &mut out.0.at()) },
+            LAYOUT,
+        );
         out
     }
 
@@ -47,7 +50,10 @@ impl IoBufMut {
     pub fn zeroed_with_alignment(len: usize, alignment: NonZeroUsize) -> Self {
         let out = Self::none();
         // SAFETY: duty 1.
-        done(unsafe { sys::iobufmut_zeroed_with_alignment(len, alignment.get(), &mut out.0.at()) }, LAYOUT);
+        done(
+            unsafe { sys::iobufmut_zeroed_with_alignment(len, alignment.get(), &mut out.0.at()) },
+            LAYOUT,
+        );
         out
     }
 
@@ -72,7 +78,10 @@ impl IoBufMut {
     #[track_caller]
     pub fn set_len(&mut self, n: usize) {
         // SAFETY: duties 1 and 3.
-        done(unsafe { sys::iobufmut_set_len(&mut self.0.at(), n) }, "set_len past the capacity");
+        done(
+            unsafe { sys::iobufmut_set_len(&mut self.0.at(), n) },
+            "set_len past the capacity",
+        );
     }
 
     /// Keeps at most the first `len` bytes.
@@ -90,7 +99,10 @@ impl IoBufMut {
     pub fn freeze(self) -> IoBuf {
         let out = IoBuf::default();
         // SAFETY: duties 1 to 3.
-        done(unsafe { sys::iobufmut_freeze(&mut self.0.at(), &mut out.memory().at()) }, "");
+        done(
+            unsafe { sys::iobufmut_freeze(&mut self.0.at(), &mut out.memory().at()) },
+            "",
+        );
         out
     }
 
@@ -115,8 +127,27 @@ impl IoBufMut {
     #[track_caller]
     pub fn copy_to_slice(&mut self, dst: &mut [u8]) {
         // SAFETY: duty 4: the slice's pointer is not null, and its bytes may be written during the call.
-        done(unsafe { sys::iobufmut_copy_to_slice(&mut self.0.at(), dst.as_mut_ptr(), dst.len()) }, "Not enough bytes remaining in buffer");
+        done(
+            unsafe { sys::iobufmut_copy_to_slice(&mut self.0.at(), dst.as_mut_ptr(), dst.len()) },
+            "Not enough bytes remaining in buffer",
+        );
     }
+
+    /// A copy of the first `n` bytes, which are dropped. Panics where there are fewer (`Buf`).
+    #[track_caller]
+    pub fn copy_to_bytes(&mut self, n: usize) -> IoBuf {
+        assert!(n <= self.len(), "copy_to_bytes out of bounds");
+        let out = IoBuf::copy_from_slice(&self.as_ref()[..n]);
+        self.advance(n);
+        out
+    }
+
+    /// Where the readable bytes lie.
+    pub fn as_mut_ptr(&mut self) -> *mut u8 {
+        self.as_mut().as_mut_ptr()
+    }
+
+    try_copy!();
 
     /// How many bytes may still be put (`BufMut`).
     pub fn remaining_mut(&self) -> usize {
@@ -127,7 +158,10 @@ impl IoBufMut {
     #[track_caller]
     pub fn put_slice(&mut self, src: &[u8]) {
         // SAFETY: duty 4: the slice's pointer is not null, and it outlives the call.
-        done(unsafe { sys::iobufmut_put_slice(&mut self.0.at(), src.as_ptr(), src.len()) }, PAST);
+        done(
+            unsafe { sys::iobufmut_put_slice(&mut self.0.at(), src.as_ptr(), src.len()) },
+            PAST,
+        );
     }
 
     /// Puts a byte `n` times. Panics where they don't fit (`BufMut`).
@@ -184,7 +218,10 @@ impl AsMut<[u8]> for IoBufMut {
 
 impl fmt::Debug for IoBufMut {
     fn fmt(&self, f: &mut fmt::Formatter<'_>) -> fmt::Result {
-        f.debug_struct("IoBufMut").field("len", &self.len()).field("cap", &self.capacity()).finish()
+        f.debug_struct("IoBufMut")
+            .field("len", &self.len())
+            .field("cap", &self.capacity())
+            .finish()
     }
 }
 
@@ -200,7 +237,10 @@ impl From<&[u8]> for IoBufMut {
     fn from(bytes: &[u8]) -> Self {
         let out = Self::none();
         // SAFETY: duty 4: the slice's pointer is not null, and it outlives the call.
-        done(unsafe { sys::iobufmut_copy_from_slice(bytes.as_ptr(), bytes.len(), &mut out.0.at()) }, "");
+        done(
+            unsafe { sys::iobufmut_copy_from_slice(bytes.as_ptr(), bytes.len(), &mut out.0.at()) },
+            "",
+        );
         out
     }
 }
@@ -231,7 +271,10 @@ impl From<IoBuf> for IoBufMut {
     fn from(view: IoBuf) -> Self {
         let out = Self::none();
         // SAFETY: duties 1 to 3.
-        done(unsafe { sys::iobufmut_from_view(&mut view.memory().at(), &mut out.0.at()) }, "");
+        done(
+            unsafe { sys::iobufmut_from_view(&mut view.memory().at(), &mut out.0.at()) },
+            "",
+        );
         out
     }
 }

@@ -3,7 +3,7 @@ use crate::part::IoBufMut;
 use crate::sys::{self, At, Memory};
 use crate::text::{IoBufs, NO_CHUNK, piece};
 use crate::view::IoBuf;
-use crate::{done, no_bytes, puts};
+use crate::{done, no_bytes, puts, try_copy};
 use std::io::{self, IoSlice};
 use std::{fmt, slice};
 
@@ -44,21 +44,30 @@ impl IoBufsMut {
     #[track_caller]
     pub fn set_len(&mut self, n: usize) {
         // SAFETY: duties 1 and 3.
-        done(unsafe { sys::iobufsmut_set_len(&mut self.0.at(), n) }, "set_len past the capacity");
+        done(
+            unsafe { sys::iobufsmut_set_len(&mut self.0.at(), n) },
+            "set_len past the capacity",
+        );
     }
 
     /// Writes over the readable bytes. Panics where there are not just as many.
     #[track_caller]
     pub fn copy_from_slice(&mut self, src: &[u8]) {
         // SAFETY: duty 4: the slice's pointer is not null, and it outlives the call.
-        done(unsafe { sys::iobufsmut_copy_from_slice(&mut self.0.at(), src.as_ptr(), src.len()) }, "source slice length must match buffer length");
+        done(
+            unsafe { sys::iobufsmut_copy_from_slice(&mut self.0.at(), src.as_ptr(), src.len()) },
+            "source slice length must match buffer length",
+        );
     }
 
     /// The parts that hold bytes as the pieces of one text.
     pub fn freeze(self) -> IoBufs {
         let out = IoBufs::default();
         // SAFETY: duties 1 to 3.
-        done(unsafe { sys::iobufsmut_freeze(&mut self.0.at(), &mut out.memory().at()) }, "");
+        done(
+            unsafe { sys::iobufsmut_freeze(&mut self.0.at(), &mut out.memory().at()) },
+            "",
+        );
         out
     }
 
@@ -67,7 +76,10 @@ impl IoBufsMut {
     pub fn coalesce(self) -> IoBufMut {
         let out = IoBufMut::none();
         // SAFETY: duties 1 to 3.
-        done(unsafe { sys::iobufsmut_coalesce(&mut self.0.at(), &mut out.memory().at()) }, "the parts are too long for one buffer");
+        done(
+            unsafe { sys::iobufsmut_coalesce(&mut self.0.at(), &mut out.memory().at()) },
+            "the parts are too long for one buffer",
+        );
         out
     }
 
@@ -119,8 +131,13 @@ impl IoBufsMut {
     #[track_caller]
     pub fn copy_to_slice(&mut self, dst: &mut [u8]) {
         // SAFETY: duty 4: the slice's pointer is not null, and its bytes may be written during the call.
-        done(unsafe { sys::iobufsmut_copy_to_slice(&mut self.0.at(), dst.as_mut_ptr(), dst.len()) }, "Not enough bytes remaining in buffer");
+        done(
+            unsafe { sys::iobufsmut_copy_to_slice(&mut self.0.at(), dst.as_mut_ptr(), dst.len()) },
+            "Not enough bytes remaining in buffer",
+        );
     }
+
+    try_copy!();
 
     /// How many bytes may still be put (`BufMut`).
     pub fn remaining_mut(&self) -> usize {
@@ -132,7 +149,10 @@ impl IoBufsMut {
     #[track_caller]
     pub fn put_slice(&mut self, src: &[u8]) {
         // SAFETY: duty 4: the slice's pointer is not null, and it outlives the call.
-        done(unsafe { sys::iobufsmut_put_slice(&mut self.0.at(), src.as_ptr(), src.len()) }, PAST);
+        done(
+            unsafe { sys::iobufsmut_put_slice(&mut self.0.at(), src.as_ptr(), src.len()) },
+            PAST,
+        );
     }
 
     /// Puts a byte `n` times. Panics where they don't fit (`BufMut`).
@@ -167,7 +187,10 @@ impl Drop for IoBufsMut {
 
 impl fmt::Debug for IoBufsMut {
     fn fmt(&self, f: &mut fmt::Formatter<'_>) -> fmt::Result {
-        f.debug_struct("IoBufsMut").field("len", &self.len()).field("cap", &self.capacity()).finish()
+        f.debug_struct("IoBufsMut")
+            .field("len", &self.len())
+            .field("cap", &self.capacity())
+            .finish()
     }
 }
 
@@ -201,7 +224,10 @@ impl FromIterator<IoBufMut> for IoBufsMut {
         let mut places: Vec<At<{ sys::PART }>> = parts.iter().map(|part| part.memory().at()).collect();
         // SAFETY: duty 4: `as_mut_ptr` is not null, and there are so many places. Duties 1 to 3: `parts` is owned, and
         // stays where it is during the call.
-        done(unsafe { sys::iobufsmut_from_parts(places.as_mut_ptr(), places.len(), &mut out.0.at()) }, "capacity overflow");
+        done(
+            unsafe { sys::iobufsmut_from_parts(places.as_mut_ptr(), places.len(), &mut out.0.at()) },
+            "capacity overflow",
+        );
         out
     }
 }
@@ -254,7 +280,10 @@ impl Builder {
     pub fn new(capacity: usize) -> Self {
         let out = Builder(Memory::new(sys::iobufs_builder_size, sys::iobufs_builder_init));
         // SAFETY: duty 1.
-        done(unsafe { sys::iobufs_builder_new(capacity, &mut out.0.at()) }, "alignment must be a power of two and the size must fit a layout");
+        done(
+            unsafe { sys::iobufs_builder_new(capacity, &mut out.0.at()) },
+            "alignment must be a power of two and the size must fit a layout",
+        );
         out
     }
 
@@ -262,7 +291,10 @@ impl Builder {
     pub fn finish(self) -> IoBufs {
         let out = IoBufs::default();
         // SAFETY: duties 1 to 3.
-        done(unsafe { sys::iobufs_builder_finish(&mut self.0.at(), &mut out.memory().at()) }, "");
+        done(
+            unsafe { sys::iobufs_builder_finish(&mut self.0.at(), &mut out.memory().at()) },
+            "",
+        );
         out
     }
 
@@ -276,14 +308,20 @@ impl Builder {
     #[track_caller]
     pub fn put_slice(&mut self, src: &[u8]) {
         // SAFETY: duty 4: the slice's pointer is not null, and it outlives the call.
-        done(unsafe { sys::iobufs_builder_put_slice(&mut self.0.at(), src.as_ptr(), src.len()) }, PAST);
+        done(
+            unsafe { sys::iobufs_builder_put_slice(&mut self.0.at(), src.as_ptr(), src.len()) },
+            PAST,
+        );
     }
 
     /// Puts a byte `n` times. Panics where they don't fit (`BufMut`).
     #[track_caller]
     pub fn put_bytes(&mut self, value: u8, n: usize) {
         // SAFETY: duties 1 and 3.
-        done(unsafe { sys::iobufs_builder_put_bytes(&mut self.0.at(), value, n) }, PAST);
+        done(
+            unsafe { sys::iobufs_builder_put_bytes(&mut self.0.at(), value, n) },
+            PAST,
+        );
     }
 
     /// Puts the spelling of a length. Panics where it doesn't fit (`usize::write`).
@@ -298,7 +336,10 @@ impl Builder {
     pub fn push(&mut self, chunk: impl Into<IoBuf>) {
         let chunk = chunk.into();
         // SAFETY: duties 1 to 3.
-        done(unsafe { sys::iobufs_builder_push(&mut self.0.at(), &mut chunk.memory().at()) }, "length overflow");
+        done(
+            unsafe { sys::iobufs_builder_push(&mut self.0.at(), &mut chunk.memory().at()) },
+            "length overflow",
+        );
     }
 
     puts!();

@@ -38,13 +38,10 @@ impl<const N: usize> std::panic::RefUnwindSafe for Memory<N> {}
 
 pub const OK: u8 = 0;
 pub const MEMORY: u8 = 1;
-pub const BAD_LAYOUT: u8 = 2;
-pub const TOO_LONG: u8 = 3;
 pub const OUT_OF_RANGE: u8 = 4;
 pub const END_OF_BUFFER: u8 = 5;
 pub const INVALID_VARINT: u8 = 6;
 pub const INVALID_LENGTH: u8 = 7;
-pub const DECLINED: u8 = 8;
 
 /// A piece, as `struct iovec` and `IoSlice` say it.
 #[repr(C)]

@@ -2,7 +2,7 @@
 use crate::part::IoBufMut;
 use crate::sys::{self, Chunk, Memory};
 use crate::view::IoBuf;
-use crate::{Error, done, limits, no_bytes, read};
+use crate::{Error, done, limits, no_bytes, read, try_copy};
 use std::io::{self, IoSlice};
 use std::ops::RangeBounds;
 use std::{fmt, slice};
@@ -16,7 +16,10 @@ pub(crate) unsafe fn piece<'a>(chunk: &Chunk) -> &'a [u8] {
     unsafe { slice::from_raw_parts(chunk.base, chunk.len) }
 }
 
-pub(crate) const NO_CHUNK: Chunk = Chunk { base: std::ptr::null(), len: 0 };
+pub(crate) const NO_CHUNK: Chunk = Chunk {
+    base: std::ptr::null(),
+    len: 0,
+};
 
 /// A read-only text in pieces, none of which is copied.
 pub struct IoBufs(Memory<{ sys::TEXT }>);
@@ -70,14 +73,20 @@ impl IoBufs {
     #[track_caller]
     pub fn append(&mut self, piece: IoBuf) {
         // SAFETY: duties 1 to 3.
-        done(unsafe { sys::iobufs_append(&mut self.0.at(), &mut piece.memory().at()) }, "length overflow");
+        done(
+            unsafe { sys::iobufs_append(&mut self.0.at(), &mut piece.memory().at()) },
+            "length overflow",
+        );
     }
 
     /// Puts a buffer in front of the text.
     #[track_caller]
     pub fn prepend(&mut self, piece: IoBuf) {
         // SAFETY: duties 1 to 3.
-        done(unsafe { sys::iobufs_prepend(&mut self.0.at(), &mut piece.memory().at()) }, "length overflow");
+        done(
+            unsafe { sys::iobufs_prepend(&mut self.0.at(), &mut piece.memory().at()) },
+            "length overflow",
+        );
     }
 
     /// Takes the first `at` bytes away. Panics where there are fewer.
@@ -85,7 +94,10 @@ impl IoBufs {
     pub fn split_to(&mut self, at: usize) -> Self {
         let out = IoBufs::default();
         // SAFETY: duties 1 to 3.
-        done(unsafe { sys::iobufs_split_to(&mut self.0.at(), at, &mut out.0.at()) }, "split_to out of bounds");
+        done(
+            unsafe { sys::iobufs_split_to(&mut self.0.at(), at, &mut out.0.at()) },
+            "split_to out of bounds",
+        );
         out
     }
 
@@ -94,7 +106,10 @@ impl IoBufs {
     pub fn coalesce(self) -> IoBuf {
         let out = IoBuf::default();
         // SAFETY: duties 1 to 3.
-        done(unsafe { sys::iobufs_coalesce(&mut self.0.at(), &mut out.memory().at()) }, "the text is too long for one buffer");
+        done(
+            unsafe { sys::iobufs_coalesce(&mut self.0.at(), &mut out.memory().at()) },
+            "the text is too long for one buffer",
+        );
         out
     }
 
@@ -156,14 +171,20 @@ impl IoBufs {
     #[track_caller]
     pub fn advance(&mut self, n: usize) {
         // SAFETY: duties 1 and 3.
-        done(unsafe { sys::iobufs_advance(&mut self.0.at(), n) }, "cannot advance past end of buffer");
+        done(
+            unsafe { sys::iobufs_advance(&mut self.0.at(), n) },
+            "cannot advance past end of buffer",
+        );
     }
 
     /// Fills `dst` with the first bytes, and drops these. Panics where there are fewer (`Buf`).
     #[track_caller]
     pub fn copy_to_slice(&mut self, dst: &mut [u8]) {
         // SAFETY: duty 4: the slice's pointer is not null, and its bytes may be written during the call.
-        done(unsafe { sys::iobufs_copy_to_slice(&mut self.0.at(), dst.as_mut_ptr(), dst.len()) }, "Not enough bytes remaining in buffer");
+        done(
+            unsafe { sys::iobufs_copy_to_slice(&mut self.0.at(), dst.as_mut_ptr(), dst.len()) },
+            "Not enough bytes remaining in buffer",
+        );
     }
 
     /// Takes the first `n` bytes out as one view: shared within a piece, copied across pieces. Panics where there are
@@ -172,9 +193,21 @@ impl IoBufs {
     pub fn take_owned(&mut self, n: usize) -> IoBuf {
         let out = IoBuf::default();
         // SAFETY: duties 1 to 3.
-        done(unsafe { sys::iobufs_take(&mut self.0.at(), n, &mut out.memory().at()) }, "take_owned out of bounds");
+        done(
+            unsafe { sys::iobufs_take(&mut self.0.at(), n, &mut out.memory().at()) },
+            "take_owned out of bounds",
+        );
         out
     }
+
+    /// The same, by the name that the original has for an answer of `Bytes`.
+    #[track_caller]
+    pub fn copy_to_bytes(&mut self, n: usize) -> IoBuf {
+        assert!(n <= self.len(), "copy_to_bytes out of bounds");
+        self.take_owned(n)
+    }
+
+    try_copy!();
 
     /// Reads the length in front, if it is in the range (`usize::read_cfg`).
     pub fn read_length(&mut self, range: impl RangeBounds<usize>) -> Result<usize, Error> {
@@ -209,7 +242,10 @@ impl Clone for IoBufs {
 
 impl fmt::Debug for IoBufs {
     fn fmt(&self, f: &mut fmt::Formatter<'_>) -> fmt::Result {
-        f.debug_struct("IoBufs").field("len", &self.len()).field("chunks", &self.chunk_count()).finish()
+        f.debug_struct("IoBufs")
+            .field("len", &self.len())
+            .field("chunks", &self.chunk_count())
+            .finish()
     }
 }
 
@@ -309,7 +345,10 @@ impl Frames {
     #[track_caller]
     pub fn feed(&mut self, piece: IoBuf) {
         // SAFETY: duties 1 to 3.
-        done(unsafe { sys::iobufs_frames_feed(&mut self.0.at(), &mut piece.memory().at()) }, "length overflow");
+        done(
+            unsafe { sys::iobufs_frames_feed(&mut self.0.at(), &mut piece.memory().at()) },
+            "length overflow",
+        );
     }
 
     /// Takes the frame in front; none where it is not whole yet. An error where no bytes behind will make it so.

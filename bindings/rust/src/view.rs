@@ -1,7 +1,7 @@
 //! `IoBuf`.
 use crate::part::IoBufMut;
 use crate::sys::{self, Memory};
-use crate::{Error, done, limits, no_bytes, read, same_bytes};
+use crate::{Error, done, limits, no_bytes, read, same_bytes, try_copy};
 use std::ops::{Bound, RangeBounds};
 use std::{fmt, io, slice};
 
@@ -17,7 +17,10 @@ impl IoBuf {
     pub fn copy_from_slice(data: &[u8]) -> Self {
         let out = IoBuf::default();
         // SAFETY: duty 4: the slice's pointer is not null, and it outlives the call.
-        done(unsafe { sys::iobuf_copy_from_slice(data.as_ptr(), data.len(), &mut out.0.at()) }, "");
+        done(
+            unsafe { sys::iobuf_copy_from_slice(data.as_ptr(), data.len(), &mut out.0.at()) },
+            "",
+        );
         out
     }
 
@@ -52,7 +55,11 @@ impl IoBuf {
         // SAFETY: it only looks at `self` (duty 3).
         let status = unsafe { sys::iobuf_slice(&mut self.0.at(), lo_kind, lo, hi_kind, hi, &mut out.0.at()) };
         if status == sys::OUT_OF_RANGE {
-            let from = if lo_kind == 1 { lo.checked_add(1).expect("range start overflow") } else { lo };
+            let from = if lo_kind == 1 {
+                lo.checked_add(1).expect("range start overflow")
+            } else {
+                lo
+            };
             let to = match hi_kind {
                 0 => hi.checked_add(1).expect("range end overflow"),
                 1 => hi,
@@ -69,7 +76,10 @@ impl IoBuf {
     pub fn split_to(&mut self, at: usize) -> Self {
         let out = IoBuf::default();
         // SAFETY: duties 1 to 3.
-        done(unsafe { sys::iobuf_split_to(&mut self.0.at(), at, &mut out.0.at()) }, "split_to out of bounds");
+        done(
+            unsafe { sys::iobuf_split_to(&mut self.0.at(), at, &mut out.0.at()) },
+            "split_to out of bounds",
+        );
         out
     }
 
@@ -102,14 +112,20 @@ impl IoBuf {
     #[track_caller]
     pub fn advance(&mut self, n: usize) {
         // SAFETY: duties 1 to 3.
-        done(unsafe { sys::iobuf_advance(&mut self.0.at(), n) }, "cannot advance past end of buffer");
+        done(
+            unsafe { sys::iobuf_advance(&mut self.0.at(), n) },
+            "cannot advance past end of buffer",
+        );
     }
 
     /// Fills `dst` with the first bytes, and drops these. Panics where there are fewer (`Buf`).
     #[track_caller]
     pub fn copy_to_slice(&mut self, dst: &mut [u8]) {
         // SAFETY: duty 4: the slice's pointer is not null, and its bytes may be written during the call.
-        done(unsafe { sys::iobuf_copy_to_slice(&mut self.0.at(), dst.as_mut_ptr(), dst.len()) }, "Not enough bytes remaining in buffer");
+        done(
+            unsafe { sys::iobuf_copy_to_slice(&mut self.0.at(), dst.as_mut_ptr(), dst.len()) },
+            "Not enough bytes remaining in buffer",
+        );
     }
 
     /// Takes the first `n` bytes out, in the same storage. Panics where there are fewer (`Buf`).
@@ -117,9 +133,21 @@ impl IoBuf {
     pub fn take_owned(&mut self, n: usize) -> IoBuf {
         let out = IoBuf::default();
         // SAFETY: duties 1 to 3.
-        done(unsafe { sys::iobuf_take(&mut self.0.at(), n, &mut out.0.at()) }, "take_owned out of bounds");
+        done(
+            unsafe { sys::iobuf_take(&mut self.0.at(), n, &mut out.0.at()) },
+            "take_owned out of bounds",
+        );
         out
     }
+
+    /// The same, by the name that the original has for an answer of `Bytes`.
+    #[track_caller]
+    pub fn copy_to_bytes(&mut self, n: usize) -> IoBuf {
+        assert!(n <= self.len(), "copy_to_bytes out of bounds");
+        self.take_owned(n)
+    }
+
+    try_copy!();
 
     /// Reads the length in front, if it is in the range (`usize::read_cfg`).
     pub fn read_length(&mut self, range: impl RangeBounds<usize>) -> Result<usize, Error> {
