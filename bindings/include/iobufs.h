@@ -19,7 +19,9 @@
  *     what the buffer holds is leaked). It may be moved (memcpy), and the buffer with it; never two copies may be used.
  *  2. The places and other pointers of one call don't overlap: `iobuf_clone(&a, &a)` is not allowed.
  *  3. One call at a time uses a buffer. Another thread may use it after what orders the two (a lock, a thread's start or
- *     join, a SEQ_CST atomic); clones and parts of one block may be used by several threads at once.
+ *     join, a SEQ_CST atomic); buffers that share a block may be used by several threads at once. Calls that only look
+ *     (`.._len`, `.._chunk`, `.._clone`, `iobuf_slice`, ..) may be several at once on one buffer: that is read off the code
+ *     and tested, not proved.
  *  4. Pointers to bytes are not NULL, also for 0 bytes, and outlive the call; those of `iobuf_from_static` outlive every
  *     buffer that is made of it, and the bytes never change.
  *  5. What `.._chunk` and its like answer may be read until the next call that changes or drops that buffer. Only the
