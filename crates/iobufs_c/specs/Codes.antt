@@ -37,3 +37,7 @@ of_error error.TooLong = TooLong
 -- done, unless there is this cause
 abbrev pub IsDoneUnless : ℕ → Status → Type 0
 IsDoneUnless code status = (code ≡ 0) ⊎ (code ≡ code_of status)
+
+-- what reading a length answers: it asks for no memory
+abbrev pub IsReadCode : ℕ → Type 0
+IsReadCode code = (code ≡ 0) ⊎ (code ≡ code_of EndOfBuffer) ⊎ (code ≡ code_of InvalidVarint) ⊎ (code ≡ code_of InvalidLength)

@@ -1,19 +1,19 @@
 // Frames at their places.
-ghost use Rattle.std.specs.Prelude.{◌≡◌, ◌+◌, ◌≤◌, ◌<◌, ◌^◌, ◌==◌, if◌then◌else◌, length, nat_le, true, false, Ok, Err, Some, None};
+ghost use Rattle.std.specs.Prelude.{◌≡◌, ℕ, ◌+◌, ◌≤◌, ◌<◌, ◌^◌, ◌==◌, if◌then◌else◌, length, false, Ok, Some};
 ghost use Rattle.std.specs.Borrow.{sem, Lends, full_share};
 ghost use Rattle.std.specs.Ptr.{lies_at, room_at};
 ghost use Rattle.iobufs_core.specs.MarkedText.{MarkedText, default_text, text_append, text_len, text_rest};
 ghost use Rattle.iobufs_core.specs.View.{default_view};
 ghost use Rattle.iobufs_core.specs.Wire.{view_written};
-ghost use Rattle.iobufs_frames.specs.Frames.{HasNoFrame, IsNext};
+ghost use Rattle.iobufs_frames.specs.Frames.{HasBytes, HasNoFrame, IsNext};
 ghost use Rattle.iobufs_frames.specs.contracts.Frames.{the_row as frames_row};
-ghost use Rattle.iobufs_c.specs.Codes.{IsDoneUnless, code_of, of_error};
+ghost use Rattle.iobufs_c.specs.Codes.{IsDoneUnless, code_of};
 
 use crate::status::{Status, fault, refusal};
 use crate::text::TextAt;
 use crate::view::ViewAt;
-use iobufs_core::codec::RangeCfg;
-use iobufs_frames::Frames;
+use iobufs_core::codec::{Error, RangeCfg};
+use iobufs_frames::{End, Frames};
 use std::alloc::Global;
 use std::marker::{Model, Send};
 use std::mem;
@@ -145,7 +145,10 @@ pub extern "C" fn iobufs_frames_next(
     ensures taken { result ≡ 0 → IsNext (record { lo = lo; hi = hi }) frames.old.value.bytes (Ok (Some out.new.value)) frames.new.value.bytes }
     ensures left { result ≡ 0 → frames.new.value ≡ text_rest frames.old.value (length (view_written out.new.value)) }
     ensures same { (result == 0) ≡ false → (frames.new.value ≡ frames.old.value) × (out.new.value ≡ out.old.value) }
-    ensures open { result ≡ code_of Status.EndOfBuffer → IsNext (record { lo = lo; hi = hi }) frames.old.value.bytes (Ok None) frames.new.value.bytes }
+    ensures open { result ≡ code_of Status.EndOfBuffer → HasNoFrame (record { lo = lo; hi = hi }) frames.old.value.bytes End.Open }
+    ensures invalid { result ≡ code_of Status.InvalidVarint → HasNoFrame (record { lo = lo; hi = hi }) frames.old.value.bytes (End.Bad Error.InvalidVarint) }
+    ensures outside { result ≡ code_of Status.InvalidLength → (n : ℕ) × HasNoFrame (record { lo = lo; hi = hi }) frames.old.value.bytes (End.Bad (Error.InvalidLength n)) }
+    ensures memory { result ≡ code_of Status.Memory → HasBytes (record { lo = lo; hi = hi }) frames.old.value.bytes }
 {
     let range = RangeCfg { lo, hi };
     match frames.get().next(alloc, &range) {

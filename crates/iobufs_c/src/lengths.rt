@@ -1,5 +1,5 @@
 // Lengths as they are spelled, and bytes behind their length.
-ghost use Rattle.std.specs.Prelude.{◌≡◌, ◌≤◌, ◌==◌, if◌then◌else◌, length, nat_le, false, Ok, Err};
+ghost use Rattle.std.specs.Prelude.{◌≡◌, ℕ, ◌==◌, if◌then◌else◌, length, nat_le, false, Ok, Err};
 ghost use Rattle.std.specs.Option.{option_map};
 ghost use Rattle.iobufs.specs.Building.{building_put, building_room};
 ghost use Rattle.iobufs.specs.Parts.{parts_fill, parts_spare};
@@ -7,8 +7,8 @@ ghost use Rattle.iobufs_core.specs.MarkedText.{of_view, text_advanced, text_rest
 ghost use Rattle.iobufs_core.specs.Part.{part_put};
 ghost use Rattle.iobufs_core.specs.Spelling.{spell};
 ghost use Rattle.iobufs_core.specs.View.{view_advanced};
-ghost use Rattle.iobufs_core.specs.Wire.{IsLengthRead, IsViewRead, view_written};
-ghost use Rattle.iobufs_c.specs.Codes.{code_of, of_error};
+ghost use Rattle.iobufs_core.specs.Wire.{IsLengthRead, IsViewFault, IsViewRead, view_written};
+ghost use Rattle.iobufs_c.specs.Codes.{IsReadCode, code_of};
 ghost use Rattle.iobufs_c.specs.Rows.{building_of, part_of, parts_of};
 
 use crate::builder::BuilderAt;
@@ -94,6 +94,10 @@ pub extern "C" fn iobufs_read_length(
     ensures read { result ≡ 0 → IsLengthRead text.old.value.bytes (record { lo = lo; hi = hi }) (Ok out.new) }
     ensures rest { result ≡ 0 → text.new.value ≡ text_advanced text.old.value (length (spell out.new)) }
     ensures same { (result == 0) ≡ false → text.new.value ≡ text.old.value }
+    ensures open { result ≡ code_of Status.EndOfBuffer → IsLengthRead text.old.value.bytes (record { lo = lo; hi = hi }) (Err Error.EndOfBuffer) }
+    ensures invalid { result ≡ code_of Status.InvalidVarint → IsLengthRead text.old.value.bytes (record { lo = lo; hi = hi }) (Err Error.InvalidVarint) }
+    ensures outside { result ≡ code_of Status.InvalidLength → IsLengthRead text.old.value.bytes (record { lo = lo; hi = hi }) (Err (Error.InvalidLength out.new)) }
+    ensures causes { IsReadCode result }
 {
     let range = RangeCfg { lo, hi };
     match usize::read_cfg(alloc, text.get(), &range) {
@@ -122,6 +126,10 @@ pub extern "C" fn iobuf_read_length(
     ensures read { result ≡ 0 → IsLengthRead src.old.value.bytes (record { lo = lo; hi = hi }) (Ok out.new) }
     ensures rest { result ≡ 0 → src.new.value ≡ view_advanced src.old.value (length (spell out.new)) }
     ensures same { (result == 0) ≡ false → src.new.value ≡ src.old.value }
+    ensures open { result ≡ code_of Status.EndOfBuffer → IsLengthRead src.old.value.bytes (record { lo = lo; hi = hi }) (Err Error.EndOfBuffer) }
+    ensures invalid { result ≡ code_of Status.InvalidVarint → IsLengthRead src.old.value.bytes (record { lo = lo; hi = hi }) (Err Error.InvalidVarint) }
+    ensures outside { result ≡ code_of Status.InvalidLength → IsLengthRead src.old.value.bytes (record { lo = lo; hi = hi }) (Err (Error.InvalidLength out.new)) }
+    ensures causes { IsReadCode result }
 {
     let range = RangeCfg { lo, hi };
     match usize::read_cfg(alloc, src.get(), &range) {
@@ -150,6 +158,10 @@ pub extern "C" fn iobufs_read_view(
     ensures read { result ≡ 0 → IsViewRead text.old.value (record { lo = lo; hi = hi }) (Ok out.new.value) }
     ensures rest { result ≡ 0 → text.new.value ≡ text_rest text.old.value (length (view_written out.new.value)) }
     ensures same { (result == 0) ≡ false → (text.new.value ≡ text.old.value) × (out.new.value ≡ out.old.value) }
+    ensures open { result ≡ code_of Status.EndOfBuffer → IsViewFault text.old.value (record { lo = lo; hi = hi }) Error.EndOfBuffer }
+    ensures invalid { result ≡ code_of Status.InvalidVarint → IsViewFault text.old.value (record { lo = lo; hi = hi }) Error.InvalidVarint }
+    ensures outside { result ≡ code_of Status.InvalidLength → (n : ℕ) × IsViewFault text.old.value (record { lo = lo; hi = hi }) (Error.InvalidLength n) }
+    ensures memory { result ≡ code_of Status.Memory → IsViewFault text.old.value (record { lo = lo; hi = hi }) Error.Memory }
 {
     let range = RangeCfg { lo, hi };
     match IoBuf::read_cfg(alloc, text.get(), &range) {
