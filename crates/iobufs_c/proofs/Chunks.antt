@@ -1,5 +1,5 @@
 -- A list that is filled place by place.
-use Rattle.std.proofs.Common.{◌≡◌, ℕ, ◌<◌, ◌≤◌, ◌+◌, ◌==◌, true, false, Option, None, replicate, slice_index_or, List, [], ◌∷◌, ◌++◌, length, map, filter, min, take, drop, Some, slice_get, slice_set, arith, ap, sym, refl, ◌∙◌, length-take, take-append-drop, append-nil}
+use Rattle.std.proofs.Common.{◌≡◌, ℕ, ◌<◌, ◌≤◌, ◌+◌, ◌==◌, true, false, Option, None, replicate, slice_index_or, List, [], ◌∷◌, ◌++◌, length, map, take, drop, Some, slice_get, slice_set, arith, ap, sym, refl, ◌∙◌, length-take, take-append-drop, append-nil}
 use Rattle.std.proofs.Math.Seq.{map-set_same, take-append_seam}
 use Rattle.std.proofs.lemmas.Bool.Decides.{nat_tests}
 use Rattle.std.proofs.lemmas.Grind.{common_steps, replicate_next}

@@ -1,21 +1,20 @@
 -- `iobufs_builder_init` writes none into the room.
-use Rattle.std.proofs.Common.{◌≡◌, ℕ, List, [], ◌∷◌, ◌++◌, refl}
+use Rattle.std.proofs.Common.{◌≡◌, List, [], ◌∷◌, ◌++◌, refl}
 use seplogic.Ra.Ura.{Ura}
 use base.Fraction.{full_share}
-use mir.Syntax.{Ty}
 use mir.Val.{Val, vunit, vptr}
 use base.Logic.{SProp, ent, sep, emp, via, snd∗, ex_e, never, never_e, id⊢}
-use base.Fml.{ftrue, fat, froom}
+use base.Fml.{ftrue, froom}
 use prog.Model.{Model}
 use prog.Wired.{Wired}
 use types.Logic.{Logic, sem}
 use contract.Monad.{fact}
 use contract.Running.{Running, MachineTables, tables}
-use types.Kit.{‵, raw, ◌⊛◌, some, later, ◌$◌, ◌∵◌, !, qed, by, move, keep, use0, use1, use2, split, join, pick, await, rewrite, feq_i, suffices, drop, done}
+use types.Kit.{‵, raw, ◌⊛◌, some, later, ◌$◌, ◌∵◌, !, qed, move, use0, use1, use2, split, join, pick, await, rewrite, feq_i, suffices, drop, done}
 use types.Run.{init, stop, unit_lit, of_opd, no_more, assigns, returns, enter}
-use types.ByLocal.{alloc_all, pass_all, free_all, look_at, get, through, sets, lands_as, env}
+use types.ByLocal.{alloc_all, pass_all, free_all, look_at, get, through, sets, lands_as}
 use denote.Exit.{yes}
-use denote.RattleType.{RattleType, owns}
+use denote.RattleType.{owns}
 use denote.Memory.{lone, part_at}
 use denote.Laws.{Is, shows}
 use denote.Steps.{nothing, peeks, heard}

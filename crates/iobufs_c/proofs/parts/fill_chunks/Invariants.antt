@@ -1,4 +1,4 @@
-use Rattle.std.proofs.Common.{◌≡◌, ◌≤◌, ◌-◌, ℕ, length, map, take, drop}
+use Rattle.std.proofs.Common.{◌≡◌, ◌≤◌, ◌-◌, length, map, take, drop}
 use Rattle.iobufs.specs.Parts.{parts_chunks}
 use Rattle.iobufs_c.proofs.parts.fill_chunks.Given as goal
 

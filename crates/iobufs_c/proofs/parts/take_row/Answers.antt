@@ -1,4 +1,4 @@
-use Rattle.std.proofs.Common.{◌≡◌, ◌+◌, ◌∷◌, [], ◌++◌, None, Some, arith, ap, sym, refl, ◌∙◌, slice_index_or}
+use Rattle.std.proofs.Common.{◌∷◌, [], ◌++◌, None, arith, ap, sym, refl, ◌∙◌, slice_index_or}
 use Rattle.std.proofs.lemmas.Grind.{common_steps}
 use Rattle.iobufs_c.specs.declared.part.PartAt.{PartAt}
 use Rattle.iobufs_c.proofs.Chunks.{held_next, held_same, place_kept, places_same, rest_more, taken_more}

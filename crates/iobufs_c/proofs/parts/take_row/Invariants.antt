@@ -1,4 +1,4 @@
-use Rattle.std.proofs.Common.{◌≡◌, ◌≤◌, ℕ, None, length, map, take, drop, replicate, vec_len, vec_capacity}
+use Rattle.std.proofs.Common.{◌≡◌, ◌≤◌, None, length, map, take, drop, replicate, vec_len, vec_capacity}
 use Rattle.iobufs_c.specs.Rows.{held_parts}
 use Rattle.iobufs_c.proofs.parts.take_row.Given as goal
 

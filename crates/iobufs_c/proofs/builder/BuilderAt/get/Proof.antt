@@ -5,15 +5,15 @@ use base.Fraction.{full_share}
 use mir.Syntax.{Fn, named}
 use mir.Val.{Val, vptr, vstruct, of_list}
 use base.Logic.{SProp, ent, sep, never, id⊢}
-use base.Fml.{Lft, GName, Share, Fml, ftrue, fsep, flft}
+use base.Fml.{Lft, GName, Share, ftrue, fsep, flft}
 use types.Logic.{Logic, sem}
-use types.Kit.{‵, raw, ◌⊛◌, some, later, at_ret, ◌$◌, ◌∵◌, !, qed, by, move, keep, drop, split, split3, join, fsplit, fsplit3, fjoin, fpick, fpack, pick, group, rewrite, feq_i, feq_l, use1, await, suffices, frame, done}
+use types.Kit.{‵, raw, ◌⊛◌, some, later, at_ret, ◌$◌, ◌∵◌, !, qed, move, keep, drop, split, split3, join, fsplit, fsplit3, fjoin, fpick, fpack, pick, group, rewrite, feq_i, feq_l, use1, await, suffices, frame, done}
 use types.Part.{whole, sub, look_in}
 use types.Run.{stop, fld, load, addr, of_opd, first, blocks, exec, returns, enter}
 use types.ByLocal.{alloc_all, pass_all, free_all, look_at, get, through, sets, sets_last, env}
 use contract.Running.{tables}
 use denote.Exit.{no}
-use denote.RattleType.{RattleType, Valss, owns}
+use denote.RattleType.{Valss, owns}
 use denote.Memory.{part_at, mem, cell_at, part_of}
 use denote.Signature.{types_at, plain}
 use denote.Builtin.{RefMutOf, RawPtr}

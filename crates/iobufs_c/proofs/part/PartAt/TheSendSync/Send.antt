@@ -1,5 +1,4 @@
 -- A place of a buffer may go to another thread, as the buffer may.
-use denote.RattleType.{RattleType}
 use denote.Exit.{Exit, unchanged, leaves, hidden, under}
 use denote.Param.Send.{IsSend, Quiet, part_keyless, owning_send, struct_send, sendable}
 use denote.RawPtr.{Ptr, block_ptr, null_ptr, RawPtr, lies_at}
@@ -7,7 +6,6 @@ use denote.Struct.Struct.{exits_of}
 use denote.Struct.Owning.{shape, fields, to}
 use base.Fraction.{full_share}
 use base.Shift.{Keyless}
-use mathlib.Core.List.{[], ◌∷◌}
 use Rattle.iobufs_c.specs.Rows.{part_row as V}
 use Rattle.std.proofs.option.Option.TheSendSync.{the_send as option_send}
 use Rattle.iobufs_core.specs.contracts.buf.part.IoBufMut.{the_row as row}

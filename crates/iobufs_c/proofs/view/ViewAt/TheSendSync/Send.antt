@@ -1,5 +1,4 @@
 -- A place of a view may go to another thread, as the view may.
-use denote.RattleType.{RattleType}
 use denote.Exit.{Exit, unchanged, leaves, hidden, under}
 use denote.Param.Send.{IsSend, Quiet, part_keyless, owning_send, struct_send, sendable}
 use denote.RawPtr.{Ptr, block_ptr, null_ptr, RawPtr, lies_at}
@@ -7,7 +6,6 @@ use denote.Struct.Struct.{exits_of}
 use denote.Struct.Owning.{shape, fields, to}
 use base.Fraction.{full_share}
 use base.Shift.{Keyless}
-use mathlib.Core.List.{[], ◌∷◌}
 use Rattle.iobufs_core.specs.contracts.buf.view.IoBuf.{the_row as V}
 use Rattle.iobufs_core.proofs.buf.view.IoBuf.TheSendSync.{the_send}
 use Rattle.iobufs_c.specs.contracts.view.ViewAt.{the_row, the_type}
