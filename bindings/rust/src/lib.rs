@@ -142,13 +142,17 @@ macro_rules! same_bytes {
 }
 pub(crate) use same_bytes;
 
-/// Numbers are put with the highest byte first.
+/// Numbers are put with the highest byte first; one byte by the call of that name.
 macro_rules! puts {
-    () => {
+    ($put_u8:path) => {
         /// Puts one byte; panics where there is no room.
         #[track_caller]
         pub fn put_u8(&mut self, n: u8) {
-            self.put_slice(&[n]);
+            // SAFETY: duties 1 and 3.
+            done(
+                unsafe { $put_u8(&mut self.0.at(), n) },
+                "cannot advance past end of buffer",
+            );
         }
 
         /// Puts two bytes, the highest of the number first.

@@ -178,7 +178,7 @@ impl IoBufMut {
         done(unsafe { sys::iobufmut_put_length(&mut self.0.at(), n) }, PAST);
     }
 
-    puts!();
+    puts!(sys::iobufmut_put_u8);
 }
 
 impl Default for IoBufMut {

@@ -169,7 +169,7 @@ impl IoBufsMut {
         done(unsafe { sys::iobufsmut_put_length(&mut self.0.at(), n) }, PAST);
     }
 
-    puts!();
+    puts!(sys::iobufsmut_put_u8);
 }
 
 impl Default for IoBufsMut {
@@ -342,7 +342,7 @@ impl Builder {
         );
     }
 
-    puts!();
+    puts!(sys::iobufs_builder_put_u8);
 }
 
 impl Drop for Builder {

@@ -96,6 +96,7 @@ unsafe extern "C" {
     pub fn iobufmut_chunk(part: &mut Part, out: &mut *mut u8) -> usize;
     pub fn iobufmut_put_slice(part: &mut Part, src: *const u8, n: usize) -> u8;
     pub fn iobufmut_put_bytes(part: &mut Part, value: u8, n: usize) -> u8;
+    pub fn iobufmut_put_u8(part: &mut Part, n: u8) -> u8;
     pub fn iobufmut_put_length(part: &mut Part, n: usize) -> u8;
     pub fn iobufmut_set_len(part: &mut Part, n: usize) -> u8;
     pub fn iobufmut_truncate(part: &mut Part, n: usize);
@@ -137,6 +138,7 @@ unsafe extern "C" {
     pub fn iobufsmut_chunks(parts: &mut Parts, out: *mut Chunk, n: usize) -> usize;
     pub fn iobufsmut_put_slice(parts: &mut Parts, src: *const u8, n: usize) -> u8;
     pub fn iobufsmut_put_bytes(parts: &mut Parts, value: u8, n: usize) -> u8;
+    pub fn iobufsmut_put_u8(parts: &mut Parts, n: u8) -> u8;
     pub fn iobufsmut_put_length(parts: &mut Parts, n: usize) -> u8;
     pub fn iobufsmut_set_len(parts: &mut Parts, n: usize) -> u8;
     pub fn iobufsmut_advance(parts: &mut Parts, n: usize) -> u8;
@@ -153,6 +155,7 @@ unsafe extern "C" {
     pub fn iobufs_builder_remaining_mut(builder: &mut Builder) -> usize;
     pub fn iobufs_builder_put_slice(builder: &mut Builder, src: *const u8, n: usize) -> u8;
     pub fn iobufs_builder_put_bytes(builder: &mut Builder, value: u8, n: usize) -> u8;
+    pub fn iobufs_builder_put_u8(builder: &mut Builder, n: u8) -> u8;
     pub fn iobufs_builder_put_length(builder: &mut Builder, n: usize) -> u8;
     pub fn iobufs_builder_push(builder: &mut Builder, piece: &mut View) -> u8;
     pub fn iobufs_builder_finish(builder: &mut Builder, out: &mut Text) -> u8;

@@ -86,6 +86,12 @@ fn parts() {
 }
 
 #[test]
+#[should_panic(expected = "cannot advance past end of buffer")]
+fn one_byte_too_many() {
+    IoBufsMut::from([1u8, 2]).put_u8(3);
+}
+
+#[test]
 #[should_panic(expected = "source slice length must match buffer length")]
 fn copy_of_another_length() {
     IoBufsMut::from([1u8, 2]).copy_from_slice(b"abc");
