@@ -18,7 +18,7 @@ impl IoBufMut {
 
     /// A place without a buffer, which is like one of capacity 0.
     pub(crate) fn none() -> Self {
-        IoBufMut(Memory::new(sys::iobufmut_size, sys::iobufmut_init))
+        IoBufMut(Memory::new(sys::iobufmut_init))
     }
 
     /// An empty buffer of this capacity.

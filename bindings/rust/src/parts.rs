@@ -14,7 +14,7 @@ pub struct IoBufsMut(Memory<{ sys::PARTS }>);
 
 impl IoBufsMut {
     fn none() -> Self {
-        IoBufsMut(Memory::new(sys::iobufsmut_size, sys::iobufsmut_init))
+        IoBufsMut(Memory::new(sys::iobufsmut_init))
     }
 
     /// The number of readable bytes.
@@ -278,7 +278,7 @@ impl Builder {
     /// A builder for so many bytes that are put, and no more.
     #[track_caller]
     pub fn new(capacity: usize) -> Self {
-        let out = Builder(Memory::new(sys::iobufs_builder_size, sys::iobufs_builder_init));
+        let out = Builder(Memory::new(sys::iobufs_builder_init));
         // SAFETY: duty 1.
         done(
             unsafe { sys::iobufs_builder_new(capacity, &mut out.0.at()) },

@@ -1,10 +1,35 @@
 //! What the library exports (`bindings/include/iobufs.h`), and the memory of a buffer.
 use std::cell::UnsafeCell;
 use std::mem::MaybeUninit;
+use std::sync::atomic::{AtomicBool, Ordering::Relaxed};
 
 /// The memory of a buffer of `N` words. It lies in an `UnsafeCell`, since also calls that only look are lent it.
 #[repr(transparent)]
 pub struct Memory<const N: usize>(UnsafeCell<[MaybeUninit<u64>; N]>);
+
+/// Whether the sizes below are the library's.
+static COMPARED: AtomicBool = AtomicBool::new(false);
+
+/// Panics where a size isn't the library's: it would write beyond a buffer's memory.
+#[cold]
+fn compare_sizes() {
+    // SAFETY: they ask for nothing.
+    let sizes = unsafe {
+        [
+            iobuf_size(),
+            iobufmut_size(),
+            iobufs_size(),
+            iobufsmut_size(),
+            iobufs_builder_size(),
+            iobufs_frames_size(),
+        ]
+    };
+    let words = [VIEW, PART, TEXT, PARTS, BUILDER, FRAMES].map(|words| 8 * words);
+    assert_eq!(sizes, words, "libiobufs.a is of another version than this crate");
+    // SAFETY: it asks for nothing.
+    assert_eq!(unsafe { iobuf_align() }, align_of::<u64>());
+    COMPARED.store(true, Relaxed);
+}
 
 /// A place: where that memory is, for one call.
 #[repr(C)]
@@ -12,14 +37,15 @@ pub struct At<const N: usize>(*mut [MaybeUninit<u64>; N]);
 
 impl<const N: usize> Memory<N> {
     /// An empty buffer, made by `init` of memory of the size that the library asks for.
-    pub fn new(size: unsafe extern "C" fn() -> usize, init: unsafe extern "C" fn(*mut [MaybeUninit<u64>; N])) -> Self {
-        let memory = Memory(UnsafeCell::new([MaybeUninit::uninit(); N]));
-        // SAFETY: `size` asks for nothing. Duty 1: the memory has that size and the alignment of a word, and it may move
-        // behind `init`.
-        unsafe {
-            assert_eq!(size(), 8 * N, "libiobufs.a is of another version than this crate");
-            init(memory.0.get());
+    #[inline]
+    pub fn new(init: unsafe extern "C" fn(*mut [MaybeUninit<u64>; N])) -> Self {
+        if !COMPARED.load(Relaxed) {
+            compare_sizes();
         }
+        let memory = Memory(UnsafeCell::new([MaybeUninit::uninit(); N]));
+        // SAFETY: duty 1: the memory has the library's size, as was compared, and the alignment of a word; it may move
+        // behind `init`.
+        unsafe { init(memory.0.get()) };
         memory
     }
 
@@ -69,6 +95,7 @@ type Room<const N: usize> = *mut [MaybeUninit<u64>; N];
 
 unsafe extern "C" {
     pub fn iobuf_size() -> usize;
+    pub fn iobuf_align() -> usize;
     pub fn iobuf_init(at: Room<VIEW>);
     pub fn iobuf_drop(src: &mut View);
     pub fn iobuf_copy_from_slice(src: *const u8, n: usize, out: &mut View) -> u8;

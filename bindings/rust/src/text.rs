@@ -220,7 +220,7 @@ impl IoBufs {
 
 impl Default for IoBufs {
     fn default() -> Self {
-        IoBufs(Memory::new(sys::iobufs_size, sys::iobufs_init))
+        IoBufs(Memory::new(sys::iobufs_init))
     }
 }
 
@@ -376,7 +376,7 @@ impl Frames {
 
 impl Default for Frames {
     fn default() -> Self {
-        Frames(Memory::new(sys::iobufs_frames_size, sys::iobufs_frames_init))
+        Frames(Memory::new(sys::iobufs_frames_init))
     }
 }
 

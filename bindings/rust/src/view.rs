@@ -160,7 +160,7 @@ impl IoBuf {
 
 impl Default for IoBuf {
     fn default() -> Self {
-        IoBuf(Memory::new(sys::iobuf_size, sys::iobuf_init))
+        IoBuf(Memory::new(sys::iobuf_init))
     }
 }
 

@@ -1,7 +1,7 @@
 -- What lies at a place, and how a place that holds no buffer reads.
 use denote.RattleType.{RattleType}
-use Rattle.std.specs.Prelude.{ℕ, Option, Some, None, List, [], ◌∷◌, length, ◌==◌, if◌then◌else◌}
-use Rattle.iobufs_core.specs.Part.{Part, empty_part}
+use Rattle.std.specs.Prelude.{ℕ, ◌+◌, Option, Some, None, List, [], ◌∷◌, ◌++◌, length, take, drop, ◌==◌, if◌then◌else◌}
+use Rattle.iobufs_core.specs.Part.{Part, empty_part, part_overwritten}
 use Rattle.iobufs.specs.Building.{Building, empty_building}
 use Rattle.std.specs.declared.ops.Bound.{Bound}
 use Rattle.std.specs.declared.ops.Bound.TheVariants.{Included, Excluded, Unbounded}
@@ -32,6 +32,10 @@ parts_of None = empty_part 0 ∷ []
 abbrev pub building_of : Option Building → Building
 building_of (Some building) = building
 building_of None = empty_building 0
+
+-- other bytes written over those that are filled, from a place on
+abbrev pub part_written_at : Part → ℕ → List ℕ → Part
+part_written_at part at bytes = part_overwritten part (take at part.filled ++ bytes ++ drop (at + length bytes) part.filled)
 
 -- the length of a piece that may be there
 abbrev pub chunk_len : Option (List ℕ) → ℕ

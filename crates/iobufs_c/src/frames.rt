@@ -147,7 +147,8 @@ pub extern "C" fn iobufs_frames_next(
     ensures same { (result == 0) ≡ false → (frames.new.value ≡ frames.old.value) × (out.new.value ≡ out.old.value) }
     ensures open { result ≡ code_of Status.EndOfBuffer → HasNoFrame (record { lo = lo; hi = hi }) frames.old.value.bytes End.Open }
     ensures invalid { result ≡ code_of Status.InvalidVarint → HasNoFrame (record { lo = lo; hi = hi }) frames.old.value.bytes (End.Bad Error.InvalidVarint) }
-    ensures outside { result ≡ code_of Status.InvalidLength → (n : ℕ) × HasNoFrame (record { lo = lo; hi = hi }) frames.old.value.bytes (End.Bad (Error.InvalidLength n)) }
+    ensures outside { result ≡ code_of Status.InvalidLength → (n : ℕ)
+        × HasNoFrame (record { lo = lo; hi = hi }) frames.old.value.bytes (End.Bad (Error.InvalidLength n)) }
     ensures memory { result ≡ code_of Status.Memory → HasBytes (record { lo = lo; hi = hi }) frames.old.value.bytes }
 {
     let range = RangeCfg { lo, hi };

@@ -3,7 +3,7 @@ ghost use Rattle.std.specs.Prelude.{◌≡◌, ℕ, ◌==◌, if◌then◌else�
 ghost use Rattle.std.specs.Option.{option_map};
 ghost use Rattle.iobufs.specs.Building.{building_put, building_room};
 ghost use Rattle.iobufs.specs.Parts.{parts_fill, parts_spare};
-ghost use Rattle.iobufs_core.specs.MarkedText.{of_view, text_advanced, text_rest};
+ghost use Rattle.iobufs_core.specs.MarkedText.{text_advanced, text_rest};
 ghost use Rattle.iobufs_core.specs.Part.{part_put};
 ghost use Rattle.iobufs_core.specs.Spelling.{spell};
 ghost use Rattle.iobufs_core.specs.View.{view_advanced};
@@ -96,7 +96,8 @@ pub extern "C" fn iobufs_read_length(
     ensures same { (result == 0) ≡ false → text.new.value ≡ text.old.value }
     ensures open { result ≡ code_of Status.EndOfBuffer → IsLengthRead text.old.value.bytes (record { lo = lo; hi = hi }) (Err Error.EndOfBuffer) }
     ensures invalid { result ≡ code_of Status.InvalidVarint → IsLengthRead text.old.value.bytes (record { lo = lo; hi = hi }) (Err Error.InvalidVarint) }
-    ensures outside { result ≡ code_of Status.InvalidLength → IsLengthRead text.old.value.bytes (record { lo = lo; hi = hi }) (Err (Error.InvalidLength out.new)) }
+    ensures outside { result ≡ code_of Status.InvalidLength
+        → IsLengthRead text.old.value.bytes (record { lo = lo; hi = hi }) (Err (Error.InvalidLength out.new)) }
     ensures causes { IsReadCode result }
 {
     let range = RangeCfg { lo, hi };
@@ -128,7 +129,8 @@ pub extern "C" fn iobuf_read_length(
     ensures same { (result == 0) ≡ false → src.new.value ≡ src.old.value }
     ensures open { result ≡ code_of Status.EndOfBuffer → IsLengthRead src.old.value.bytes (record { lo = lo; hi = hi }) (Err Error.EndOfBuffer) }
     ensures invalid { result ≡ code_of Status.InvalidVarint → IsLengthRead src.old.value.bytes (record { lo = lo; hi = hi }) (Err Error.InvalidVarint) }
-    ensures outside { result ≡ code_of Status.InvalidLength → IsLengthRead src.old.value.bytes (record { lo = lo; hi = hi }) (Err (Error.InvalidLength out.new)) }
+    ensures outside { result ≡ code_of Status.InvalidLength
+        → IsLengthRead src.old.value.bytes (record { lo = lo; hi = hi }) (Err (Error.InvalidLength out.new)) }
     ensures causes { IsReadCode result }
 {
     let range = RangeCfg { lo, hi };

@@ -1,13 +1,13 @@
 // Buffers to write at their places.
-ghost use Rattle.std.specs.Prelude.{◌≡◌, ◌≤◌, ◌<◌, ◌==◌, if◌then◌else◌, ◌∷◌, [], length, take, drop, replicate, ◌++◌, ◌+◌, nat_le, Option, Some, None, IsTrue, true, false, MatchOption, Ok, Err};
+ghost use Rattle.std.specs.Prelude.{◌≡◌, ◌<◌, ◌==◌, if◌then◌else◌, ◌∷◌, [], length, take, replicate, ◌+◌, nat_le, Option, Some, None, IsTrue, true, false, MatchOption, Ok, Err};
 ghost use Rattle.std.specs.Borrow.{sem, Lends, full_share};
 ghost use Rattle.std.specs.Option.{option_map};
 ghost use Rattle.std.specs.Ptr.{lies_at, room_at};
-ghost use Rattle.iobufs_core.specs.Part.{Part, empty_part, is_bad_layout as bad_layout, part_capacity, part_drained, part_frozen, part_overwritten, part_put, part_truncated, part_with_len};
+ghost use Rattle.iobufs_core.specs.Part.{Part, empty_part, is_bad_layout as bad_layout, part_capacity, part_drained, part_frozen, part_put, part_truncated, part_with_len};
 ghost use Rattle.iobufs_core.specs.Recovery.{IsPartOf, IsRecovery};
-ghost use Rattle.iobufs_core.specs.View.{View, default_view};
+ghost use Rattle.iobufs_core.specs.View.{default_view};
 ghost use Rattle.iobufs_c.specs.Codes.{IsDoneUnless, code_of};
-ghost use Rattle.iobufs_c.specs.Rows.{part_of, part_row};
+ghost use Rattle.iobufs_c.specs.Rows.{part_of, part_row, part_written_at};
 
 use crate::status::{Status, refusal};
 use crate::view::ViewAt;
@@ -188,7 +188,8 @@ pub extern "C" fn iobufmut_copy_from_slice(alloc: Global, src: &[u8], out: &mut 
 pub extern "C" fn iobuf_try_into_mut(alloc: Global, src: &mut ViewAt, out: &mut PartAt) -> u8
     ensures at { (src.new.at ≡ src.old.at) × (out.new.at ≡ out.old.at) }
     ensures recovered { result ≡ 0 → (src.new.value ≡ default_view) × MatchOption out.new.value ⊥ (λ part. IsRecovery src.old.value (Ok part)) }
-    ensures declined { (result == 0) ≡ false → (src.new.value ≡ src.old.value) × (out.new.value ≡ out.old.value) × IsRecovery src.old.value (Err src.old.value) }
+    ensures declined { (result == 0) ≡ false → (src.new.value ≡ src.old.value) × (out.new.value ≡ out.old.value)
+        × IsRecovery src.old.value (Err src.old.value) }
     ensures result { IsDoneUnless result Status.Declined }
 {
     match mem::take(src.get()).try_into_mut(alloc) {
@@ -434,7 +435,7 @@ pub extern "C" fn iobufmut_copy_to_slice(part: &mut PartAt, dst: &mut [u8]) -> u
 #[unsafe(no_mangle)]
 pub extern "C" fn iobufmut_write_at(part: &mut PartAt, at: usize, src: &[u8]) -> u8
     ensures at { part.new.at ≡ part.old.at }
-    ensures value { part.new.value ≡ (if result == 0 then option_map (λ part. part_overwritten part (take at part.filled ++ src.now ++ drop (at + length src.now) part.filled)) part.old.value else part.old.value) }
+    ensures value { part.new.value ≡ (if result == 0 then option_map (λ part. part_written_at part at src.now) part.old.value else part.old.value) }
     ensures result { result ≡ (if nat_le (at + length src.now) (length (part_of part.old.value).filled) then 0 else code_of Status.OutOfRange) }
 {
     let Some(part) = part.get() else {

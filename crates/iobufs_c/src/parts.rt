@@ -1,14 +1,13 @@
 // Parts strung together, at their places.
-ghost use Rattle.std.specs.Prelude.{◌≡◌, ◌⊎◌, ◌≤◌, ◌<◌, ◌^◌, ◌==◌, ◌∷◌, [], ◌++◌, if◌then◌else◌, List, length, map, take, drop, min, replicate, nat_le, slice_get, Option, Some, None, Ok, IfOk, OnOk, OnErr, true, false, MatchOption};
+ghost use Rattle.std.specs.Prelude.{◌≡◌, ◌⊎◌, ◌≤◌, ◌<◌, ◌^◌, ◌==◌, ◌∷◌, [], if◌then◌else◌, List, length, map, take, drop, min, replicate, nat_le, slice_get, Option, Some, None, Ok, IfOk, OnOk, OnErr, true, false, MatchOption};
 ghost use Rattle.std.specs.Borrow.{sem, Lends, full_share};
 ghost use Rattle.std.specs.Option.{option_map};
 ghost use Rattle.std.specs.Ptr.{lies_at, room_at};
 ghost use Rattle.iobufs.specs.Parts.{kept_parts, parts_capacity, parts_chunks, parts_coalesced, parts_drained, parts_fill, parts_filled, parts_frozen, parts_overwritten, parts_spare, parts_with_len, single_part};
 ghost use Rattle.iobufs_core.specs.Chunks.{first_chunk};
-ghost use Rattle.iobufs_core.specs.MarkedText.{MarkedText};
-ghost use Rattle.iobufs_core.specs.Part.{Part, empty_part, part_capacity};
+ghost use Rattle.iobufs_core.specs.Part.{Part, part_capacity};
 ghost use Rattle.iobufs_c.specs.Codes.{IsDoneUnless, code_of};
-ghost use Rattle.iobufs_c.specs.Rows.{chunk_len, held_parts, part_of, parts_of, parts_row};
+ghost use Rattle.iobufs_c.specs.Rows.{chunk_len, held_parts, parts_of, parts_row};
 
 use crate::part::{PartAt, fits};
 use crate::status::{Status, refusal};
@@ -129,7 +128,8 @@ pub extern "C" fn iobufsmut_from_parts(
     ensures value { out.new.value ≡ (if result == 0 then Some (kept_parts (held_parts (map (λ place. place.value) places.old))) else out.old.value) }
     ensures taken { result ≡ 0 → map (λ place. place.value) places.new ≡ replicate (length places.old) None }
     ensures refused { (result == 0) ≡ false → (places.new ≡ places.old) ⊎ (map (λ place. place.value) places.new ≡ replicate (length places.old) None) }
-    ensures too_long { 2 ^ 64 ≤ parts_capacity (held_parts (map (λ place. place.value) places.old)) → (result ≡ code_of Status.Memory) ⊎ (result ≡ code_of Status.TooLong) }
+    ensures too_long { 2 ^ 64 ≤ parts_capacity (held_parts (map (λ place. place.value) places.old))
+        → (result ≡ code_of Status.Memory) ⊎ (result ≡ code_of Status.TooLong) }
     ensures fits { parts_capacity (held_parts (map (λ place. place.value) places.old)) < 2 ^ 64 → IsDoneUnless result Status.Memory }
 {
     let Ok(row) = take_row(alloc, places) else {
@@ -489,7 +489,8 @@ pub extern "C" fn iobufsmut_coalesce(alloc: Global, parts: &mut PartsAt, out: &m
 pub extern "C" fn iobufsmut_try_into_single(parts: &mut PartsAt, out: &mut PartAt) -> u8
     ensures at { (parts.new.at ≡ parts.old.at) × (out.new.at ≡ out.old.at) }
     ensures single { result ≡ 0 → (parts.old.value ≡ option_map (λ part. part ∷ []) out.new.value) × (parts.new.value ≡ None) }
-    ensures declined { (result == 0) ≡ false → (single_part (parts_of parts.old.value) ≡ None) × (parts.new.value ≡ parts.old.value) × (out.new.value ≡ out.old.value) }
+    ensures declined { (result == 0) ≡ false → (single_part (parts_of parts.old.value) ≡ None) × (parts.new.value ≡ parts.old.value)
+        × (out.new.value ≡ out.old.value) }
     ensures result { IsDoneUnless result Status.Declined }
 {
     let Some(whole) = mem::replace(parts.get(), None) else {

@@ -1,5 +1,5 @@
 // Texts in pieces at their places.
-ghost use Rattle.std.specs.Prelude.{◌≡◌, ◌⊎◌, ℕ, List, ◌++◌, ◌∷◌, [], ◌+◌, ◌≤◌, ◌<◌, ◌^◌, ◌==◌, if◌then◌else◌, length, take, drop, map, min, nat_le, slice_get, Ok, Err, Some, None, true, false};
+ghost use Rattle.std.specs.Prelude.{◌≡◌, ◌+◌, ◌≤◌, ◌<◌, ◌^◌, ◌==◌, if◌then◌else◌, length, take, drop, map, min, nat_le, slice_get, Ok, Err, Some, None, true, false};
 ghost use Rattle.std.specs.Borrow.{sem, Lends, full_share};
 ghost use Rattle.std.specs.Ptr.{lies_at, room_at};
 ghost use Rattle.iobufs.specs.Located.{greatest_key, keys_upto};
@@ -7,7 +7,7 @@ ghost use Rattle.iobufs.specs.contracts.bufs.text.IoBufs.{the_row as text_row};
 ghost use Rattle.iobufs_core.specs.Chunks.{first_chunk};
 ghost use Rattle.iobufs_core.specs.MarkedText.{MarkedText, chunk_count as count_of, default_text, is_single, of_view, taken_view, text_advanced, text_append, text_chunks, text_coalesced, text_len, text_prepend, text_rest, text_split_front};
 ghost use Rattle.iobufs_core.specs.Part.{part_frozen};
-ghost use Rattle.iobufs_core.specs.View.{View, default_view};
+ghost use Rattle.iobufs_core.specs.View.{default_view};
 ghost use Rattle.iobufs_c.specs.Codes.{IsDoneUnless, code_of};
 ghost use Rattle.iobufs_c.specs.Rows.{chunk_len, part_of};
 
@@ -328,7 +328,8 @@ pub extern "C" fn iobufs_advance(text: &mut TextAt, n: usize) -> u8
 #[unsafe(no_mangle)]
 pub extern "C" fn iobufs_copy_to_slice(text: &mut TextAt, dst: &mut [u8]) -> u8
     ensures at { text.new.at ≡ text.old.at }
-    ensures value { text.new.value ≡ (if nat_le (length dst.old) (text_len text.old.value) then text_advanced text.old.value (length dst.old) else text.old.value) }
+    ensures value { text.new.value ≡ (if nat_le (length dst.old) (text_len text.old.value) then text_advanced text.old.value (length dst.old)
+        else text.old.value) }
     ensures bytes { dst.new ≡ (if nat_le (length dst.old) (text_len text.old.value) then take (length dst.old) text.old.value.bytes else dst.old) }
     ensures result { result ≡ (if nat_le (length dst.old) (text_len text.old.value) then 0 else code_of Status.EndOfBuffer) }
 {

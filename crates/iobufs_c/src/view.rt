@@ -221,7 +221,8 @@ pub extern "C" fn iobuf_take(alloc: Global, src: &mut ViewAt, n: usize, out: &mu
 #[unsafe(no_mangle)]
 pub extern "C" fn iobuf_copy_to_slice(src: &mut ViewAt, dst: &mut [u8]) -> u8
     ensures at { src.new.at ≡ src.old.at }
-    ensures value { src.new.value ≡ (if nat_le (length dst.old) (length src.old.value.bytes) then view_advanced src.old.value (length dst.old) else src.old.value) }
+    ensures value { src.new.value ≡ (if nat_le (length dst.old) (length src.old.value.bytes) then view_advanced src.old.value (length dst.old)
+        else src.old.value) }
     ensures bytes { dst.new ≡ (if nat_le (length dst.old) (length src.old.value.bytes) then take (length dst.old) src.old.value.bytes else dst.old) }
     ensures result { result ≡ (if nat_le (length dst.old) (length src.old.value.bytes) then 0 else code_of Status.EndOfBuffer) }
 {
@@ -286,7 +287,8 @@ pub extern "C" fn iobuf_from_static(text: &'static [u8], out: &mut ViewAt)
 #[unsafe(no_mangle)]
 pub extern "C" fn iobuf_copy_from_slice(alloc: Global, src: &[u8], out: &mut ViewAt) -> u8
     ensures at { out.new.at ≡ out.old.at }
-    ensures value { out.new.value ≡ (if result == 0 then if length src.now == 0 then default_view else record { bytes = src.now; mark = native_mark (length src.now) } else out.old.value) }
+    ensures value { out.new.value ≡ (if result == 0 then if length src.now == 0 then default_view
+        else record { bytes = src.now; mark = native_mark (length src.now) } else out.old.value) }
     ensures nothing { length src.now ≡ 0 → result ≡ 0 }
     ensures memory { IsDoneUnless result Status.Memory }
 {

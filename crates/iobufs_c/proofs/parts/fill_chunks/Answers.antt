@@ -20,14 +20,17 @@ loop-count-preserved c =
         size = grind (arith, common_steps, inv.size);
         within = grind (arith, common_steps);
         parts = omega (arith, there);
-        lengths = lengths_more (λ chunk. chunk.len) c.loop-count.out (parts_chunks (take i parts)) (parts_chunks (take (i + 1) parts)) n w.chunk_of.result c.in-Some.part.now.filled c.loop-count-test.true (w.chunk_of.ensures ∙ ap length w.as_ref.ensures) (chunks_more parts i c.in-Some.part.now at (sym c.is_empty.ensures ∙ w.if-not-is_empty.true)) inv.lengths;
+        lengths = lengths_more (λ chunk. chunk.len) c.loop-count.out (parts_chunks (take i parts)) (parts_chunks (take
+            (i + 1) parts)) n w.chunk_of.result c.in-Some.part.now.filled c.loop-count-test.true (w.chunk_of.ensures
+            ∙ ap length w.as_ref.ensures) (chunks_more parts i c.in-Some.part.now at (sym c.is_empty.ensures ∙ w.if-not-is_empty.true)) inv.lengths;
         rest = rest_more c.loop-count.out c.args.out.now n w.chunk_of.result (omega arith) inv.rest;
       }))
       | else-not-is_empty w ↦ rw w.out-is (rw w.count-is (record {
         size = inv.size;
         within = inv.within;
         parts = omega (arith, there);
-        lengths = inv.lengths ∙ ap (λ pieces. map length pieces) (sym (chunks_same parts i c.in-Some.part.now at (sym c.is_empty.ensures ∙ w.if-not-is_empty.false)));
+        lengths = inv.lengths ∙ ap (λ pieces. map length pieces) (sym (chunks_same parts i c.in-Some.part.now at (sym c.is_empty.ensures
+            ∙ w.if-not-is_empty.false)));
         rest = inv.rest;
       }))
     ]

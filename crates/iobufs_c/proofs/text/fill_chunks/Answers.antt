@@ -16,6 +16,7 @@ loop-count-preserved c =
       size = grind (arith, common_steps, inv.size);
       within = grind (arith, common_steps);
       there = omega (arith, there);
-      lengths = filled_more (λ chunk. chunk.len) length c.loop-count.out pieces i c.chunk_of.result c.in-Some.chunk.now c.loop-count-test.true at c.chunk_of.ensures inv.lengths;
+      lengths = filled_more (λ chunk. chunk.len) length c.loop-count.out pieces i c.chunk_of.result c.in-Some.chunk.now
+          c.loop-count-test.true at c.chunk_of.ensures inv.lengths;
       rest = rest_more c.loop-count.out c.args.out.now i c.chunk_of.result (omega arith) inv.rest;
     }

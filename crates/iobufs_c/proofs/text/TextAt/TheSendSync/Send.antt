@@ -22,4 +22,5 @@ ps : IsSend RawPtr
 ps = search sendable
 
 pub send : IsSend the_row
-send = owning_send the_type (ps, tt) (λ d. lies d.at d.value) (λ k. quiet (to the_type) (exits_of k (fields the_type)) ((struct_send (shape the_type) (ps, tt)).leaving k))
+send = owning_send the_type (ps, tt) (λ d. lies d.at d.value) (λ k. quiet (to the_type) (exits_of k (fields the_type)) ((struct_send (shape the_type)
+    (ps, tt)).leaving k))
