@@ -47,6 +47,13 @@ fn texts() {
 }
 
 #[test]
+fn a_text_of_many_pieces() {
+    let text: IoBufs = (0..100u8).map(|i| IoBuf::from(vec![i; 3])).collect();
+    let all: Vec<u8> = (0..100u8).flat_map(|i| [i; 3]).collect();
+    assert_eq!((bytes(&text), text.chunk_count()), (all, 100));
+}
+
+#[test]
 #[should_panic(expected = "split_to out of bounds")]
 fn split_past_the_end() {
     text().split_to(10);
