@@ -4,6 +4,10 @@
 //! Names, arguments and panics are the original's. It has no dependency, so what the original takes from the traits of the
 //! crate `bytes` are methods here. A `Vec` is copied, since Rust's memory can't be handed over to the library.
 //!
+//! What differs: `copy_to_bytes` answers an `IoBuf`; `set_len` is safe, and what was not readable is zero; an alignment is
+//! tested and not promised; of a buffer without readable bytes no place is told (`as_mut_ptr`). `put` of any reader,
+//! `copy_to_bytes` of several parts, values (`Read`, `Write`) and all that takes or answers `Bytes` aren't there.
+//!
 //! What each `unsafe` block does is call the library; the comment names the duties of `iobufs.h` that it meets. Duties
 //! that all meet: (1) a buffer's memory is made by `.._init` in `Memory::new`, is dropped once by `Drop`, and may move;
 //! (2) places of one call are of different variables, since a `&mut` or an owned buffer is one of them; (3) a call that
