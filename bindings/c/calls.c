@@ -1,0 +1,318 @@
+/* Every call once or more, with values that are worked by hand. */
+#include "test.h"
+
+#define HELLO(view) OK(iobuf_copy_from_slice(bytes("hello world"), 11, &view))
+
+static void sizes(void) {
+    CHECK(iobuf_size() == sizeof(struct iobuf) && iobuf_align() == IOBUFS_ALIGN);
+    CHECK(iobufmut_size() == sizeof(struct iobufmut) && iobufmut_align() == IOBUFS_ALIGN);
+    CHECK(iobufs_size() == sizeof(struct iobufs) && iobufs_align() == IOBUFS_ALIGN);
+    CHECK(iobufsmut_size() == sizeof(struct iobufsmut) && iobufsmut_align() == IOBUFS_ALIGN);
+    CHECK(iobufs_builder_size() == sizeof(struct iobufs_builder) && iobufs_builder_align() == IOBUFS_ALIGN);
+    CHECK(iobufs_frames_size() == sizeof(struct iobufs_frames) && iobufs_frames_align() == IOBUFS_ALIGN);
+}
+
+static void views(void) {
+    VIEW(a); VIEW(b); VIEW(c);
+    CHECK(iobuf_is_empty(&a) && view_is(&a, ""));
+    OK(iobuf_copy_from_slice(bytes(""), 0, &a));
+    HELLO(a);
+    CHECK(!iobuf_is_empty(&a) && view_is(&a, "hello world"));
+    uint8_t byte = 7;
+    CHECK(iobuf_byte_at(&a, 4, &byte) && byte == 'o');
+    CHECK(!iobuf_byte_at(&a, 11, &byte) && byte == 'o');
+    OK(iobuf_clone(&a, &b));
+    CHECK(iobuf_eq(&a, &b) && !iobuf_eq(&a, &c));
+    CHECK(iobuf_split_to(&b, 12, &c) == IOBUFS_OUT_OF_RANGE && view_is(&b, "hello world") && view_is(&c, ""));
+    OK(iobuf_split_to(&b, 5, &c));
+    CHECK(view_is(&c, "hello") && view_is(&b, " world"));
+    CHECK(iobuf_advance(&b, 7) == IOBUFS_OUT_OF_RANGE && view_is(&b, " world"));
+    OK(iobuf_advance(&b, 1));
+    CHECK(view_is(&b, "world"));
+    OK(iobuf_slice(&a, IOBUFS_INCLUDED, 2, IOBUFS_EXCLUDED, 4, &c));
+    CHECK(view_is(&c, "ll"));
+    OK(iobuf_slice(&a, IOBUFS_EXCLUDED, 5, IOBUFS_INCLUDED, 7, &c));
+    CHECK(view_is(&c, "wo"));
+    OK(iobuf_slice(&a, IOBUFS_UNBOUNDED, 0, IOBUFS_UNBOUNDED, 0, &c));
+    CHECK(view_is(&c, "hello world"));
+    CHECK(iobuf_slice(&a, IOBUFS_INCLUDED, 4, IOBUFS_EXCLUDED, 2, &c) == IOBUFS_OUT_OF_RANGE);
+    CHECK(iobuf_slice(&a, IOBUFS_INCLUDED, 4, IOBUFS_INCLUDED, 11, &c) == IOBUFS_OUT_OF_RANGE);
+    CHECK(iobuf_slice(&a, IOBUFS_INCLUDED, 0, IOBUFS_INCLUDED, SIZE_MAX, &c) == IOBUFS_OUT_OF_RANGE);
+    CHECK(view_is(&c, "hello world"));
+    CHECK(iobuf_take(&c, 12, &b) == IOBUFS_END_OF_BUFFER && view_is(&b, "world"));
+    OK(iobuf_take(&c, 6, &b));
+    CHECK(view_is(&b, "hello ") && view_is(&c, "world"));
+    uint8_t out[5] = { 0 };
+    CHECK(iobuf_copy_to_slice(&c, out, 5) == IOBUFS_OK && !memcmp(out, "world", 5) && view_is(&c, ""));
+    CHECK(iobuf_copy_to_slice(&c, out, 1) == IOBUFS_END_OF_BUFFER && out[0] == 'w');
+    OK(iobuf_copy_to_slice(&c, out, 0));
+    iobuf_from_static(bytes("for good"), 8, &c);
+    CHECK(view_is(&c, "for good"));
+    iobuf_drop(&a); iobuf_drop(&a); iobuf_drop(&b); iobuf_drop(&c);
+    CHECK(view_is(&a, "") && view_is(&c, ""));
+}
+
+/* The memory moves, and the buffer with it. */
+static void moved(void) {
+    struct iobuf *old = (struct iobuf *)malloc(sizeof *old), *new_ = (struct iobuf *)malloc(sizeof *new_);
+    struct iobuf_at place = { old };
+    iobuf_init(old);
+    HELLO(place);
+    memcpy(new_, old, sizeof *old);
+    free(old);
+    place.at = new_;
+    CHECK(view_is(&place, "hello world"));
+    iobuf_drop(&place);
+    free(new_);
+}
+
+static void buffers(void) {
+    PART(p); PART(q); VIEW(v); VIEW(w);
+    CHECK(iobufmut_is_empty(&p) && iobufmut_capacity(&p) == 0 && iobufmut_remaining_mut(&p) == 0);
+    OK(iobufmut_put_slice(&p, bytes(""), 0));
+    CHECK(iobufmut_put_slice(&p, bytes("x"), 1) == IOBUFS_OUT_OF_RANGE);
+    CHECK(iobufmut_put_u8(&p, 1) == IOBUFS_OUT_OF_RANGE && iobufmut_put_bytes(&p, 1, 1) == IOBUFS_OUT_OF_RANGE);
+    CHECK(iobufmut_set_len(&p, 1) == IOBUFS_OUT_OF_RANGE && iobufmut_advance(&p, 1) == IOBUFS_OUT_OF_RANGE);
+    CHECK(iobufmut_with_capacity(SIZE_MAX, &p) == IOBUFS_BAD_LAYOUT);
+    CHECK(iobufmut_with_alignment(8, 3, &p) == IOBUFS_BAD_LAYOUT && iobufmut_zeroed(SIZE_MAX, &p) == IOBUFS_BAD_LAYOUT);
+    CHECK(iobufmut_zeroed_with_alignment(8, 3, &p) == IOBUFS_BAD_LAYOUT);
+    OK(iobufmut_with_capacity(16, &p));
+    OK(iobufmut_put_slice(&p, bytes("hello"), 5));
+    OK(iobufmut_put_u8(&p, ' '));
+    OK(iobufmut_put_bytes(&p, 'x', 3));
+    CHECK(part_is(&p, "hello xxx") && iobufmut_capacity(&p) == 16 && iobufmut_remaining_mut(&p) == 7);
+    CHECK(iobufmut_put_slice(&p, bytes("too long"), 8) == IOBUFS_OUT_OF_RANGE);
+    OK(iobufmut_write_at(&p, 6, bytes("yz"), 2));
+    CHECK(part_is(&p, "hello yzx") && iobufmut_write_at(&p, 8, bytes("yz"), 2) == IOBUFS_OUT_OF_RANGE);
+    CHECK(iobufmut_write_at(&p, SIZE_MAX, bytes("yz"), 2) == IOBUFS_OUT_OF_RANGE);
+    uint8_t *at;
+    CHECK(iobufmut_chunk(&p, &at) == 9);
+    at[0] = 'j';
+    CHECK(part_is(&p, "jello yzx"));
+    iobufmut_truncate(&p, 20);
+    iobufmut_truncate(&p, 5);
+    CHECK(part_is(&p, "jello"));
+    OK(iobufmut_advance(&p, 2));
+    CHECK(part_is(&p, "llo") && iobufmut_capacity(&p) == 14);
+    OK(iobufmut_set_len(&p, 5));
+    CHECK(iobufmut_chunk(&p, &at) == 5 && !memcmp(at, "llo\0\0", 5));
+    uint8_t out[4];
+    CHECK(iobufmut_copy_to_slice(&p, out, 3) == IOBUFS_OK && !memcmp(out, "llo", 3) && iobufmut_len(&p) == 2);
+    CHECK(iobufmut_copy_to_slice(&p, out, 3) == IOBUFS_END_OF_BUFFER);
+    iobufmut_clear(&p);
+    CHECK(part_is(&p, "") && iobufmut_capacity(&p) == 11);
+    OK(iobufmut_put_length(&p, 300));
+    CHECK(iobufmut_chunk(&p, &at) == 2 && at[0] == 0xac && at[1] == 0x02);
+    iobufmut_clear(&p);
+    OK(iobufmut_put_slice(&p, bytes("abc"), 3));
+    OK(iobufmut_freeze(&p, &v));
+    CHECK(view_is(&v, "abc") && iobufmut_capacity(&p) == 0);
+    OK(iobufmut_freeze(&p, &w));
+    CHECK(view_is(&w, ""));
+    OK(iobuf_clone(&v, &w));
+    CHECK(iobuf_try_into_mut(&v, &p) == IOBUFS_DECLINED && view_is(&v, "abc") && iobufmut_capacity(&p) == 0);
+    iobuf_drop(&w);
+    OK(iobuf_try_into_mut(&v, &p));
+    CHECK(part_is(&p, "abc") && iobufmut_capacity(&p) == 11 && view_is(&v, ""));
+    OK(iobufmut_freeze(&p, &v));
+    OK(iobuf_clone(&v, &w));
+    OK(iobufmut_from_view(&v, &q));
+    CHECK(part_is(&q, "abc") && iobufmut_capacity(&q) == 3 && view_is(&v, ""));
+    OK(iobufmut_from_view(&w, &q));
+    CHECK(part_is(&q, "abc") && iobufmut_capacity(&q) == 11);
+    OK(iobufmut_zeroed(2, &q));
+    OK(iobufmut_with_alignment(2, 64, &q));
+    OK(iobufmut_zeroed_with_alignment(2, 64, &q));
+    CHECK(iobufmut_len(&q) == 2 && iobufmut_capacity(&q) == 2);
+    OK(iobufmut_copy_from_slice(bytes("xyz"), 3, &q));
+    CHECK(part_is(&q, "xyz") && iobufmut_remaining_mut(&q) == 0);
+    iobufmut_drop(&p); iobufmut_drop(&q); iobufmut_drop(&q); iobuf_drop(&v); iobuf_drop(&w);
+}
+
+/* A text of pieces that are copies. */
+static void put_behind(struct iobufs_at *text, const char *piece) {
+    VIEW(v);
+    OK(iobuf_copy_from_slice(bytes(piece), strlen(piece), &v));
+    OK(iobufs_append(text, &v));
+    CHECK(view_is(&v, ""));
+    iobuf_drop(&v);
+}
+
+static void texts(void) {
+    TEXT(t); TEXT(u); VIEW(v); PART(p);
+    const uint8_t *at = NULL;
+    uint8_t byte;
+    CHECK(iobufs_is_empty(&t) && iobufs_is_single(&t) && iobufs_chunk_count(&t) == 0 && iobufs_chunk(&t, &at) == 0);
+    CHECK(!iobufs_byte_at(&t, 0, &byte) && iobufs_chunk_at(&t, 0, &at) == 0);
+    put_behind(&t, "abc"); put_behind(&t, "de"); put_behind(&t, ""); put_behind(&t, "fghi");
+    CHECK(text_is(&t, "abcdefghi") && iobufs_chunk_count(&t) == 3 && !iobufs_is_single(&t) && !iobufs_is_empty(&t));
+    CHECK(iobufs_chunk(&t, &at) == 3 && iobufs_chunk_at(&t, 1, &at) == 2 && iobufs_chunk_at(&t, 3, &at) == 0);
+    CHECK(iobufs_byte_at(&t, 5, &byte) && byte == 'f' && !iobufs_byte_at(&t, 9, &byte));
+    size_t index, offset;
+    OK(iobufs_locate(&t, 4, &index, &offset));
+    CHECK(index == 1 && offset == 1 && iobufs_locate(&t, 9, &index, &offset) == IOBUFS_OUT_OF_RANGE);
+    struct iobufs_chunk list[4];
+    CHECK(iobufs_chunks(&t, list, 2) == 2 && list[1].len == 2 && list[1].base[0] == 'd');
+    CHECK(iobufs_chunks(&t, list, 4) == 3 && list[0].len == 3 && list[2].len == 4 && list[2].base[3] == 'i');
+    CHECK(iobufs_chunks(&t, list, 0) == 0);
+    HELLO(v);
+    OK(iobufs_prepend(&t, &v));
+    CHECK(text_is(&t, "hello worldabcdefghi") && view_is(&v, ""));
+    OK(iobufs_clone(&t, &u));
+    CHECK(iobufs_split_to(&t, 21, &u) == IOBUFS_OUT_OF_RANGE && text_is(&u, "hello worldabcdefghi"));
+    OK(iobufs_split_to(&t, 12, &u));
+    CHECK(text_is(&u, "hello worlda") && text_is(&t, "bcdefghi"));
+    CHECK(iobufs_advance(&t, 9) == IOBUFS_OUT_OF_RANGE);
+    OK(iobufs_advance(&t, 3));
+    CHECK(text_is(&t, "efghi"));
+    uint8_t out[3];
+    CHECK(iobufs_copy_to_slice(&t, out, 2) == IOBUFS_OK && !memcmp(out, "ef", 2) && text_is(&t, "ghi"));
+    uint8_t more[4];
+    CHECK(iobufs_copy_to_slice(&t, more, 4) == IOBUFS_END_OF_BUFFER && text_is(&t, "ghi"));
+    CHECK(iobufs_take(&u, 13, &v) == IOBUFS_END_OF_BUFFER);
+    OK(iobufs_take(&u, 5, &v));
+    CHECK(view_is(&v, "hello") && text_is(&u, " worlda"));
+    OK(iobufs_take_after(&u, 1, 6, &v));
+    CHECK(view_is(&v, "worlda") && text_is(&u, ""));
+    CHECK(iobufs_take_after(&t, 2, 2, &v) == IOBUFS_END_OF_BUFFER && iobufs_take_after(&t, SIZE_MAX, 2, &v) == IOBUFS_END_OF_BUFFER);
+    put_behind(&t, "jk");
+    CHECK(iobufs_try_into_single(&t, &v) == IOBUFS_DECLINED && text_is(&t, "ghijk"));
+    OK(iobufs_coalesce(&t, &v));
+    CHECK(view_is(&v, "ghijk") && text_is(&t, ""));
+    iobufs_from_view(&v, &t);
+    CHECK(text_is(&t, "ghijk") && view_is(&v, ""));
+    OK(iobufs_try_into_single(&t, &v));
+    CHECK(view_is(&v, "ghijk") && text_is(&t, ""));
+    OK(iobufmut_copy_from_slice(bytes("xyz"), 3, &p));
+    OK(iobufs_from_mut(&p, &t));
+    CHECK(text_is(&t, "xyz") && iobufmut_capacity(&p) == 0);
+    OK(iobufs_from_mut(&p, &t));
+    CHECK(text_is(&t, ""));
+    iobufs_drop(&t); iobufs_drop(&t); iobufs_drop(&u); iobuf_drop(&v); iobufmut_drop(&p);
+}
+
+static void parts(void) {
+    PART(a); PART(b); PART(c); PARTS(s); TEXT(t);
+    uint8_t *at = NULL, byte;
+    size_t capacity;
+    CHECK(iobufsmut_is_empty(&s) && iobufsmut_capacity(&s) == 0 && iobufsmut_part_count(&s) == 1 && iobufsmut_is_single(&s));
+    CHECK(iobufsmut_put_u8(&s, 1) == IOBUFS_OUT_OF_RANGE && iobufsmut_chunk(&s, &at) == 0);
+    OK(iobufmut_with_capacity(4, &a));
+    iobufsmut_from_mut(&a, &s);
+    CHECK(iobufsmut_capacity(&s) == 4 && iobufsmut_is_single(&s) && iobufmut_capacity(&a) == 0);
+    OK(iobufsmut_try_into_single(&s, &a));
+    CHECK(iobufmut_capacity(&a) == 4 && iobufsmut_capacity(&s) == 0);
+    OK(iobufmut_with_capacity(2, &b));
+    struct iobufmut_at row[3] = { a, b, c };
+    OK(iobufsmut_from_parts(row, 3, &s));
+    CHECK(iobufsmut_part_count(&s) == 2 && iobufsmut_capacity(&s) == 6 && iobufmut_capacity(&a) == 0 && iobufmut_capacity(&b) == 0);
+    CHECK(iobufsmut_remaining_mut(&s) == 6 && !iobufsmut_is_single(&s));
+    OK(iobufsmut_put_slice(&s, bytes("abc"), 3));
+    OK(iobufsmut_put_bytes(&s, 'x', 2));
+    OK(iobufsmut_put_u8(&s, 'y'));
+    CHECK(parts_are(&s, "abcxxy") && iobufsmut_put_u8(&s, 'z') == IOBUFS_OUT_OF_RANGE);
+    CHECK(iobufsmut_put_slice(&s, bytes("z"), 1) == IOBUFS_OUT_OF_RANGE && iobufsmut_put_bytes(&s, 'z', 1) == IOBUFS_OUT_OF_RANGE);
+    CHECK(iobufsmut_chunk(&s, &at) == 4 && !memcmp(at, "abcx", 4));
+    CHECK(iobufsmut_part_at(&s, 1, &at, &capacity) == 2 && capacity == 2 && !memcmp(at, "xy", 2));
+    CHECK(iobufsmut_part_at(&s, 2, &at, &capacity) == 0 && capacity == 0);
+    struct iobufs_chunk list[3];
+    CHECK(iobufsmut_chunks(&s, list, 3) == 2 && list[0].len == 4 && list[1].len == 2 && list[1].base[1] == 'y');
+    CHECK(iobufsmut_chunks(&s, list, 1) == 1);
+    CHECK(iobufsmut_byte_at(&s, 4, &byte) && byte == 'x' && !iobufsmut_byte_at(&s, 6, &byte));
+    CHECK(iobufsmut_copy_from_slice(&s, bytes("short"), 5) == IOBUFS_OUT_OF_RANGE);
+    OK(iobufsmut_copy_from_slice(&s, bytes("ABCDEF"), 6));
+    CHECK(parts_are(&s, "ABCDEF"));
+    uint8_t out[3];
+    CHECK(iobufsmut_copy_to_slice(&s, out, 3) == IOBUFS_OK && !memcmp(out, "ABC", 3) && parts_are(&s, "DEF"));
+    CHECK(iobufsmut_advance(&s, 4) == IOBUFS_OUT_OF_RANGE);
+    OK(iobufsmut_advance(&s, 2));
+    CHECK(parts_are(&s, "F"));
+    CHECK(iobufsmut_copy_to_slice(&s, out, 3) == IOBUFS_END_OF_BUFFER);
+    CHECK(iobufsmut_set_len(&s, 9) == IOBUFS_OUT_OF_RANGE);
+    OK(iobufsmut_freeze(&s, &t));
+    CHECK(text_is(&t, "F") && iobufsmut_capacity(&s) == 0);
+    OK(iobufsmut_freeze(&s, &t));
+    CHECK(text_is(&t, ""));
+    OK(iobufmut_with_capacity(3, &a)); OK(iobufmut_with_capacity(3, &b));
+    row[0] = a; row[1] = b;
+    OK(iobufsmut_from_parts(row, 2, &s));
+    OK(iobufsmut_set_len(&s, 4));
+    OK(iobufsmut_put_length(&s, 5));
+    CHECK(iobufsmut_put_length(&s, 300) == IOBUFS_OUT_OF_RANGE && iobufsmut_len(&s) == 5);
+    CHECK(iobufsmut_try_into_single(&s, &a) == IOBUFS_DECLINED && iobufsmut_len(&s) == 5);
+    OK(iobufsmut_coalesce(&s, &a));
+    CHECK(iobufmut_chunk(&a, &at) == 5 && !memcmp(at, "\0\0\0\0\5", 5) && iobufmut_capacity(&a) == 5);
+    OK(iobufsmut_from_parts(row, 0, &s));
+    CHECK(iobufsmut_capacity(&s) == 0 && iobufsmut_part_count(&s) == 1);
+    iobufmut_drop(&a); iobufmut_drop(&b); iobufmut_drop(&c); iobufsmut_drop(&s); iobufsmut_drop(&s); iobufs_drop(&t);
+}
+
+static void builders(void) {
+    BUILDER(b); VIEW(v); TEXT(t);
+    HELLO(v);
+    CHECK(iobufs_builder_push(&b, &v) == IOBUFS_DECLINED && view_is(&v, "hello world"));
+    CHECK(iobufs_builder_put_u8(&b, 1) == IOBUFS_OUT_OF_RANGE && iobufs_builder_remaining_mut(&b) == 0);
+    OK(iobufs_builder_finish(&b, &t));
+    CHECK(text_is(&t, ""));
+    CHECK(iobufs_builder_new(SIZE_MAX, &b) == IOBUFS_BAD_LAYOUT);
+    OK(iobufs_builder_new(6, &b));
+    OK(iobufs_builder_put_length(&b, 11));
+    OK(iobufs_builder_push(&b, &v));
+    CHECK(view_is(&v, ""));
+    OK(iobufs_builder_push(&b, &v));
+    OK(iobufs_builder_put_slice(&b, bytes("abc"), 3));
+    OK(iobufs_builder_put_bytes(&b, '-', 1));
+    OK(iobufs_builder_put_u8(&b, '.'));
+    CHECK(iobufs_builder_remaining_mut(&b) == 0 && iobufs_builder_put_slice(&b, bytes("x"), 1) == IOBUFS_OUT_OF_RANGE);
+    CHECK(iobufs_builder_put_bytes(&b, 'x', 1) == IOBUFS_OUT_OF_RANGE && iobufs_builder_put_length(&b, 0) == IOBUFS_OUT_OF_RANGE);
+    OK(iobufs_builder_finish(&b, &t));
+    CHECK(text_is(&t, "\13hello worldabc-.") && iobufs_chunk_count(&t) == 3 && iobufs_builder_remaining_mut(&b) == 0);
+    OK(iobufs_builder_new(6, &b));
+    iobufs_builder_drop(&b); iobufs_builder_drop(&b); iobufs_drop(&t); iobuf_drop(&v);
+}
+
+static void lengths(void) {
+    TEXT(t); VIEW(v);
+    size_t n = 77;
+    CHECK(iobufs_length_size(0) == 1 && iobufs_length_size(127) == 1 && iobufs_length_size(128) == 2 && iobufs_length_size(SIZE_MAX) == 10);
+    CHECK(iobufs_read_length(&t, 0, 9, &n) == IOBUFS_END_OF_BUFFER && n == 77);
+    put_behind(&t, "\xac"); put_behind(&t, "\x02\x03hi!\x80");
+    CHECK(iobufs_read_length(&t, 0, 299, &n) == IOBUFS_INVALID_LENGTH && n == 300 && iobufs_len(&t) == 7);
+    OK(iobufs_read_length(&t, 0, 300, &n));
+    CHECK(n == 300 && iobufs_len(&t) == 5);
+    CHECK(iobufs_read_view(&t, 4, 9, &v) == IOBUFS_INVALID_LENGTH);
+    OK(iobufs_read_view(&t, 0, 9, &v));
+    CHECK(view_is(&v, "hi!") && iobufs_len(&t) == 1 && iobufs_read_view(&t, 0, 9, &v) == IOBUFS_END_OF_BUFFER);
+    OK(iobuf_copy_from_slice(bytes("\x80\0"), 2, &v));
+    CHECK(iobuf_read_length(&v, 0, 9, &n) == IOBUFS_INVALID_VARINT && iobuf_len(&v) == 2);
+    OK(iobuf_copy_from_slice(bytes("\x07z"), 2, &v));
+    CHECK(iobuf_read_length(&v, 8, 9, &n) == IOBUFS_INVALID_LENGTH && n == 7);
+    OK(iobuf_read_length(&v, 7, 9, &n));
+    CHECK(view_is(&v, "z") && iobuf_read_length(&v, 0, 9, &n) == IOBUFS_INVALID_LENGTH && n == 'z');
+    iobufs_drop(&t); iobuf_drop(&v);
+}
+
+static void frames(void) {
+    FRAMES(f); VIEW(v); TEXT(t);
+    const char *pieces[] = { "\x05" "hel", "lo\x00" "x" };
+    CHECK(iobufs_frames_len(&f) == 0 && iobufs_frames_next(&f, 0, 9, &v) == IOBUFS_END_OF_BUFFER);
+    OK(iobuf_copy_from_slice(bytes(pieces[0]), 4, &v));
+    OK(iobufs_frames_feed(&f, &v));
+    CHECK(view_is(&v, "") && iobufs_frames_next(&f, 0, 9, &v) == IOBUFS_END_OF_BUFFER && iobufs_frames_len(&f) == 4);
+    CHECK(iobufs_frames_next(&f, 0, 4, &v) == IOBUFS_INVALID_LENGTH);
+    OK(iobuf_copy_from_slice(bytes(pieces[1]), 4, &v));
+    OK(iobufs_frames_feed(&f, &v));
+    OK(iobufs_frames_next(&f, 0, 9, &v));
+    CHECK(view_is(&v, "hello"));
+    OK(iobufs_frames_next(&f, 0, 9, &v));
+    CHECK(view_is(&v, "") && iobufs_frames_len(&f) == 1);
+    OK(iobufs_frames_rest(&f, &t));
+    CHECK(text_is(&t, "x"));
+    iobufs_frames_drop(&f); iobufs_frames_drop(&f); iobufs_drop(&t); iobuf_drop(&v);
+    CHECK(iobufs_frames_len(&f) == 0);
+}
+
+int main(void) {
+    sizes(); views(); moved(); buffers(); texts(); parts(); builders(); lengths(); frames();
+    return 0;
+}

@@ -1,0 +1,534 @@
+/*
+ * Random calls beside a plain model: bytes in arrays, blocks as counts of their holders. Every status, every length, every
+ * byte, and which views can be written again has to agree. The seed is fixed; the arguments are how many calls are made,
+ * and after how many seconds it stops before.
+ */
+#include "test.h"
+#include <time.h>
+
+enum { MOST = 240, VIEWS = 6, TEXTS = 4, ROWS = 3, PIECES = 40, BLOCKS = 8192 };
+
+/* ---- the model ---- */
+
+struct view { uint8_t at[MOST]; size_t len; int block; size_t room; }; /* block 0: bytes that stay for good */
+struct part { int there; uint8_t at[MOST]; size_t len, capacity; };
+struct text { struct view piece[PIECES]; size_t count; };
+struct row { int there; struct part part[8]; size_t count; };
+struct builder { int there; size_t room, inline_len; struct text text; };
+
+static int holders[BLOCKS];
+static const struct view no_bytes;
+
+static int new_block(void) {
+    static int last = 1;
+    do last = last % (BLOCKS - 1) + 1; while (holders[last]);
+    holders[last] = 1;
+    return last;
+}
+static void let_go(struct view *v) { if (v->block) holders[v->block]--; *v = no_bytes; }
+static struct view shared(const struct view *v) { if (v->block) holders[v->block]++; return *v; }
+static struct view copied(const uint8_t *at, size_t n) {
+    struct view v = no_bytes;
+    if (n == 0) return v;
+    memcpy(v.at, at, n);
+    v.len = v.room = n; v.block = new_block();
+    return v;
+}
+static void advanced(struct view *v, size_t n) {
+    memmove(v->at, v->at + n, v->len - n);
+    v->len -= n;
+    if (v->block) v->room -= n;
+}
+static struct view between(const struct view *v, size_t from, size_t to) {
+    if (from == to) return no_bytes;
+    struct view part = shared(v);
+    part.len = to;
+    advanced(&part, from);
+    return part;
+}
+static struct view frozen(struct part *p) {
+    struct view v = no_bytes;
+    if (p->there && p->len) { memcpy(v.at, p->at, p->len); v.len = p->len; v.room = p->capacity; v.block = new_block(); }
+    p->there = 0; p->len = p->capacity = 0;
+    return v;
+}
+static size_t text_len(const struct text *t) {
+    size_t n = 0;
+    for (size_t i = 0; i < t->count; i++) n += t->piece[i].len;
+    return n;
+}
+static void no_text(struct text *t) { t->count = 1; t->piece[0] = no_bytes; }
+static void drop_text(struct text *t) {
+    for (size_t i = 0; i < t->count; i++) let_go(&t->piece[i]);
+    no_text(t);
+}
+static void drop_first(struct text *t) {
+    let_go(&t->piece[0]);
+    memmove(t->piece, t->piece + 1, --t->count * sizeof *t->piece);
+}
+/* What a copy of the first n bytes leaves. */
+static void text_rest(struct text *t, size_t n) {
+    if (n == 0) return;
+    if (n == text_len(t)) { drop_text(t); return; }
+    while (n >= t->piece[0].len) { n -= t->piece[0].len; drop_first(t); }
+    advanced(&t->piece[0], n);
+}
+static void text_advance(struct text *t, size_t n) {
+    if (t->count == 1 && n == t->piece[0].len) { advanced(&t->piece[0], n); return; }
+    text_rest(t, n);
+}
+static void push(struct text *t, const struct view *v) {
+    if (v->len == 0) { struct view gone = *v; let_go(&gone); return; }
+    if (text_len(t) == 0) { drop_text(t); t->piece[0] = *v; return; }
+    t->piece[t->count++] = *v;
+}
+static void bytes_of(const struct text *t, uint8_t *out) {
+    for (size_t i = 0; i < t->count; i++) { memcpy(out, t->piece[i].at, t->piece[i].len); out += t->piece[i].len; }
+}
+/* n bytes behind `skip` as one view. */
+static struct view taken(const struct text *t, size_t skip, size_t n) {
+    uint8_t all[PIECES * MOST];
+    if (n == 0) return no_bytes;
+    size_t at = 0, i = 0;
+    while (i + 1 < t->count && at + t->piece[i].len <= skip) at += t->piece[i++].len;
+    if (skip + n <= at + t->piece[i].len) return between(&t->piece[i], skip - at, skip - at + n);
+    bytes_of(t, all);
+    return copied(all + skip, n);
+}
+static struct text split(struct text *t, size_t at) {
+    struct text front;
+    no_text(&front);
+    if (at == 0) return front;
+    if (at == text_len(t)) { front = *t; no_text(t); return front; }
+    size_t left = at;
+    for (size_t i = 0; left; i++) {
+        size_t n = left < t->piece[i].len ? left : t->piece[i].len;
+        struct view v = between(&t->piece[i], 0, n);
+        push(&front, &v);
+        left -= n;
+    }
+    text_rest(t, at);
+    return front;
+}
+static size_t row_len(const struct row *r) { size_t n = 0; for (size_t i = 0; i < r->count; i++) n += r->part[i].len; return n; }
+static size_t row_capacity(const struct row *r) { size_t n = 0; for (size_t i = 0; i < r->count; i++) n += r->part[i].capacity; return n; }
+static void keep_parts(struct row *r) {
+    size_t kept = 0;
+    for (size_t i = 0; i < r->count; i++) if (r->part[i].capacity) { struct part p = r->part[i]; r->part[kept++] = p; }
+    if (kept == 0) { memset(&r->part[0], 0, sizeof r->part[0]); r->part[0].there = 1; kept = 1; }
+    r->count = kept;
+}
+static void row_put(struct row *r, const uint8_t *at, size_t n) {
+    for (size_t i = 0; i < r->count; i++) {
+        struct part *p = &r->part[i];
+        size_t some = n < p->capacity - p->len ? n : p->capacity - p->len;
+        memcpy(p->at + p->len, at, some);
+        p->len += some; at += some; n -= some;
+    }
+}
+static void part_drain(struct part *p, size_t n) {
+    memmove(p->at, p->at + n, p->len - n);
+    p->len -= n; p->capacity -= n;
+}
+static void row_drain(struct row *r, size_t n) {
+    if (n == 0) return;
+    size_t several = r->count > 1;
+    for (size_t i = 0; i < r->count; i++) {
+        size_t some = n < r->part[i].len ? n : r->part[i].len;
+        part_drain(&r->part[i], some);
+        n -= some;
+    }
+    if (several) keep_parts(r);
+}
+static void part_set_len(struct part *p, size_t n) {
+    if (n > p->len) memset(p->at + p->len, 0, n - p->len);
+    p->len = n;
+}
+
+/* ---- the buffers beside it ---- */
+
+static struct view views[VIEWS]; static struct iobuf view_memory[VIEWS]; static struct iobuf_at view_at[VIEWS];
+static struct part parts[VIEWS]; static struct iobufmut part_memory[VIEWS]; static struct iobufmut_at part_at[VIEWS];
+static struct text texts[TEXTS]; static struct iobufs text_memory[TEXTS]; static struct iobufs_at text_at[TEXTS];
+static struct row rows[ROWS]; static struct iobufsmut row_memory[ROWS]; static struct iobufsmut_at row_at[ROWS];
+static struct builder builder; static struct iobufs_builder builder_memory; static struct iobufs_builder_at builder_at;
+static struct text frames; static struct iobufs_frames frames_memory; static struct iobufs_frames_at frames_at;
+static uint8_t fixed[MOST];
+
+static uint64_t state = 47;
+static uint64_t number(void) {
+    uint64_t z = state += 0x9e3779b97f4a7c15u;
+    z = (z ^ z >> 30) * 0xbf58476d1ce4e5b9u;
+    z = (z ^ z >> 27) * 0x94d049bb133111ebu;
+    return z ^ z >> 31;
+}
+static size_t below(size_t n) { return (size_t)(number() % n); }
+/* A length that is often within n, and at times just outside or far. */
+static size_t about(size_t n) {
+    switch (below(16)) {
+    case 0: return n + 1;
+    case 1: return SIZE_MAX - below(3);
+    case 2: return n;
+    case 3: return 0;
+    default: return below(n + 1);
+    }
+}
+
+static void same_view(int i) {
+    const uint8_t *at;
+    CHECK(iobuf_chunk(&view_at[i], &at) == views[i].len && iobuf_len(&view_at[i]) == views[i].len);
+    CHECK(views[i].len == 0 || !memcmp(at, views[i].at, views[i].len));
+}
+static void same_part(int i) {
+    uint8_t *at;
+    CHECK(iobufmut_chunk(&part_at[i], &at) == parts[i].len && iobufmut_capacity(&part_at[i]) == parts[i].capacity);
+    CHECK(iobufmut_remaining_mut(&part_at[i]) == parts[i].capacity - parts[i].len);
+    CHECK(parts[i].len == 0 || !memcmp(at, parts[i].at, parts[i].len));
+}
+static void same_pieces(struct iobufs_at *at, const struct text *t) {
+    struct iobufs_chunk list[PIECES];
+    size_t len = text_len(t), n = iobufs_chunks(at, list, PIECES);
+    CHECK(iobufs_len(at) == len && n == (len ? t->count : 0) && iobufs_chunk_count(at) == n);
+    for (size_t i = 0; i < n; i++) CHECK(list[i].len == t->piece[i].len && !memcmp(list[i].base, t->piece[i].at, list[i].len));
+}
+static void same_text(int i) { same_pieces(&text_at[i], &texts[i]); }
+static void same_row(int i) {
+    struct row *r = &rows[i];
+    CHECK(iobufsmut_part_count(&row_at[i]) == r->count && iobufsmut_len(&row_at[i]) == row_len(r) && iobufsmut_capacity(&row_at[i]) == row_capacity(r));
+    for (size_t k = 0; r->there && k < r->count; k++) {
+        uint8_t *at;
+        size_t capacity;
+        CHECK(iobufsmut_part_at(&row_at[i], k, &at, &capacity) == r->part[k].len && capacity == r->part[k].capacity);
+        CHECK(r->part[k].len == 0 || !memcmp(at, r->part[k].at, r->part[k].len));
+    }
+}
+
+/* ---- the calls ---- */
+
+static uint8_t some[2 * MOST];
+static void any_bytes(size_t n) { for (size_t i = 0; i < n; i++) some[i] = (uint8_t)number(); }
+
+static void view_call(int i, int j) {
+    struct view *v = &views[i], *out = &views[j];
+    struct iobuf_at *at = &view_at[i], *to = &view_at[j];
+    size_t n = about(v->len), m;
+    uint8_t byte;
+    switch (below(12)) {
+    case 0: n = below(60); any_bytes(n); OK(iobuf_copy_from_slice(some, n, to)); let_go(out); *out = copied(some, n); break;
+    case 1: n = below(60); iobuf_from_static(fixed, n, to); let_go(out); memcpy(out->at, fixed, n); out->len = n; break;
+    case 2: OK(iobuf_clone(at, to)); let_go(out); *out = shared(v); break;
+    case 3:
+        if (n > v->len) { CHECK(iobuf_advance(at, n) == IOBUFS_OUT_OF_RANGE); break; }
+        OK(iobuf_advance(at, n)); advanced(v, n); break;
+    case 4:
+        if (n > v->len) { CHECK(iobuf_split_to(at, n, to) == IOBUFS_OUT_OF_RANGE); break; }
+        OK(iobuf_split_to(at, n, to)); let_go(out);
+        if (n == v->len && n) { *out = *v; *v = no_bytes; }
+        else if (n) { *out = between(v, 0, n); advanced(v, n); }
+        break;
+    case 5:
+        if (n > v->len) { CHECK(iobuf_take(at, n, to) == IOBUFS_END_OF_BUFFER); break; }
+        OK(iobuf_take(at, n, to)); let_go(out);
+        *out = between(v, 0, n);
+        if (n == v->len && n) let_go(v); else if (n) advanced(v, n);
+        break;
+    case 6:
+        if (n > v->len) { CHECK(iobuf_copy_to_slice(at, some, n > MOST ? MOST : n) == IOBUFS_END_OF_BUFFER); break; }
+        OK(iobuf_copy_to_slice(at, some, n)); CHECK(!memcmp(some, v->at, n)); advanced(v, n); break;
+    case 7:
+        m = about(v->len);
+        if (n > m || m > v->len) { CHECK(iobuf_slice(at, IOBUFS_INCLUDED, n, IOBUFS_EXCLUDED, m, to) == IOBUFS_OUT_OF_RANGE); break; }
+        OK(iobuf_slice(at, IOBUFS_INCLUDED, n, IOBUFS_EXCLUDED, m, to)); let_go(out); *out = between(v, n, m); break;
+    case 8: {
+        struct part *p = &parts[j];
+        int can = v->block ? holders[v->block] == 1 : v->len == 0;
+        CHECK(iobuf_try_into_mut(at, &part_at[j]) == (can ? IOBUFS_OK : IOBUFS_DECLINED));
+        if (!can) break;
+        p->there = 1; p->len = v->len; p->capacity = v->block ? v->room : 0;
+        memcpy(p->at, v->at, v->len); let_go(v); same_part(j); break;
+    }
+    case 9: CHECK(iobuf_eq(at, to) == (v->len == out->len && !memcmp(v->at, out->at, v->len))); break;
+    case 10:
+        CHECK(iobuf_byte_at(at, n, &byte) == (n < v->len));
+        if (n < v->len) CHECK(byte == v->at[n]);
+        break;
+    case 11: iobuf_drop(at); let_go(v); break;
+    }
+    same_view(i); same_view(j);
+}
+
+static void part_call(int i, int j) {
+    struct part *p = &parts[i];
+    struct iobufmut_at *at = &part_at[i];
+    size_t room = p->capacity - p->len, n = about(room), m = about(p->len);
+    switch (below(14)) {
+    case 0: n = below(80); OK(iobufmut_with_capacity(n, at)); p->there = 1; p->len = 0; p->capacity = n; break;
+    case 1: n = below(80); OK(iobufmut_zeroed(n, at)); p->there = 1; p->len = p->capacity = n; memset(p->at, 0, n); break;
+    case 2: n = below(80); any_bytes(n); OK(iobufmut_copy_from_slice(some, n, at)); p->there = 1; p->len = p->capacity = n; memcpy(p->at, some, n); break;
+    case 3: {
+        struct view *v = &views[j];
+        int can = v->block ? holders[v->block] == 1 : 0;
+        OK(iobufmut_from_view(&view_at[j], at));
+        p->there = 1; p->len = v->len; p->capacity = can ? v->room : v->len;
+        memcpy(p->at, v->at, v->len); let_go(v); same_view(j); break;
+    }
+    case 4:
+        if (n > room) { CHECK(iobufmut_put_slice(at, some, n) == IOBUFS_OUT_OF_RANGE); break; }
+        any_bytes(n); OK(iobufmut_put_slice(at, some, n)); memcpy(p->at + p->len, some, n); p->len += n; break;
+    case 5:
+        if (n > room) { CHECK(iobufmut_put_bytes(at, 9, n) == IOBUFS_OUT_OF_RANGE); break; }
+        OK(iobufmut_put_bytes(at, 9, n)); memset(p->at + p->len, 9, n); p->len += n; break;
+    case 6:
+        CHECK(iobufmut_put_u8(at, 8) == (room ? IOBUFS_OK : IOBUFS_OUT_OF_RANGE));
+        if (room) p->at[p->len++] = 8;
+        break;
+    case 7:
+        n = about(p->capacity);
+        if (n > p->capacity) { CHECK(iobufmut_set_len(at, n) == IOBUFS_OUT_OF_RANGE); break; }
+        OK(iobufmut_set_len(at, n)); part_set_len(p, n); break;
+    case 8: iobufmut_truncate(at, m); if (m < p->len) p->len = m; break;
+    case 9: iobufmut_clear(at); p->len = 0; break;
+    case 10:
+        if (m > p->len) { CHECK(iobufmut_advance(at, m) == IOBUFS_OUT_OF_RANGE); break; }
+        OK(iobufmut_advance(at, m)); part_drain(p, m); break;
+    case 11:
+        if (m > p->len) { CHECK(iobufmut_copy_to_slice(at, some, m > MOST ? MOST : m) == IOBUFS_END_OF_BUFFER); break; }
+        OK(iobufmut_copy_to_slice(at, some, m)); CHECK(!memcmp(some, p->at, m)); part_drain(p, m); break;
+    case 12: n = below(4); any_bytes(n);
+        if (m > p->len || n > p->len - m) { CHECK(iobufmut_write_at(at, m, some, n) == IOBUFS_OUT_OF_RANGE); break; }
+        OK(iobufmut_write_at(at, m, some, n)); memcpy(p->at + m, some, n); break;
+    case 13: OK(iobufmut_freeze(at, &view_at[j])); let_go(&views[j]); views[j] = frozen(p); same_view(j); break;
+    }
+    same_part(i);
+}
+
+static void text_call(int i, int j, int k) {
+    struct text *t = &texts[i], *out = &texts[j];
+    struct iobufs_at *at = &text_at[i], *to = &text_at[j];
+    struct view *v = &views[k];
+    size_t len = text_len(t), n = about(len), m;
+    uint8_t byte;
+    int full = t->count > 12 || len + v->len > MOST;
+    switch (full ? 4 + below(9) : below(13)) {
+    case 0: OK(iobufs_append(at, &view_at[k])); push(t, v); *v = no_bytes; break;
+    case 1:
+        OK(iobufs_prepend(at, &view_at[k]));
+        if (v->len == 0) let_go(v);
+        else if (len == 0) { drop_text(t); t->piece[0] = *v; }
+        else { memmove(t->piece + 1, t->piece, t->count++ * sizeof *t->piece); t->piece[0] = *v; }
+        *v = no_bytes; break;
+    case 2: iobufs_from_view(&view_at[k], at); drop_text(t); t->piece[0] = *v; *v = no_bytes; break;
+    case 3: OK(iobufs_from_mut(&part_at[k], at)); drop_text(t); t->piece[0] = frozen(&parts[k]); same_part(k); break;
+    case 4:
+        if (n > len) { CHECK(iobufs_split_to(at, n, to) == IOBUFS_OUT_OF_RANGE); break; }
+        OK(iobufs_split_to(at, n, to)); drop_text(out); *out = split(t, n); break;
+    case 5:
+        if (n > len) { CHECK(iobufs_advance(at, n) == IOBUFS_OUT_OF_RANGE); break; }
+        OK(iobufs_advance(at, n)); text_advance(t, n); break;
+    case 6: {
+        uint8_t all[PIECES * MOST];
+        if (n > len) { CHECK(iobufs_copy_to_slice(at, some, n > 2 * MOST ? 2 * MOST : n) == IOBUFS_END_OF_BUFFER); break; }
+        bytes_of(t, all);
+        OK(iobufs_copy_to_slice(at, some, n)); CHECK(!memcmp(some, all, n)); text_advance(t, n); break;
+    }
+    case 7:
+        if (n > len) { CHECK(iobufs_take(at, n, &view_at[k]) == IOBUFS_END_OF_BUFFER); break; }
+        OK(iobufs_take(at, n, &view_at[k])); let_go(v); *v = taken(t, 0, n); text_rest(t, n); break;
+    case 8:
+        m = about(len);
+        if (m > len || n > len - m) { CHECK(iobufs_take_after(at, m, n, &view_at[k]) == IOBUFS_END_OF_BUFFER); break; }
+        OK(iobufs_take_after(at, m, n, &view_at[k])); let_go(v); *v = taken(t, m, n); text_rest(t, m + n); break;
+    case 9:
+        OK(iobufs_clone(at, to)); drop_text(out); out->count = t->count;
+        for (size_t p = 0; p < t->count; p++) out->piece[p] = shared(&t->piece[p]);
+        break;
+    case 10:
+        OK(iobufs_coalesce(at, &view_at[k])); let_go(v);
+        if (t->count == 1) { *v = t->piece[0]; no_text(t); } else { *v = taken(t, 0, len); drop_text(t); }
+        break;
+    case 11:
+        CHECK(iobufs_try_into_single(at, &view_at[k]) == (t->count == 1 ? IOBUFS_OK : IOBUFS_DECLINED));
+        if (t->count == 1) { let_go(v); *v = t->piece[0]; no_text(t); }
+        break;
+    case 12: {
+        size_t index, offset, before = 0, p = 0;
+        CHECK(iobufs_locate(at, n, &index, &offset) == (n < len ? IOBUFS_OK : IOBUFS_OUT_OF_RANGE));
+        CHECK(iobufs_byte_at(at, n, &byte) == (n < len));
+        if (n >= len) break;
+        while (before + t->piece[p].len <= n) before += t->piece[p++].len;
+        CHECK(index == p && offset == n - before && byte == t->piece[p].at[offset]); break;
+    }
+    }
+    same_text(i); same_text(j); same_view(k);
+}
+
+static void row_call(int i, int j, int k) {
+    struct row *r = &rows[i];
+    struct iobufsmut_at *at = &row_at[i];
+    size_t len = row_len(r), room = row_capacity(r) - len, n = about(room), m = about(len);
+    uint8_t all[8 * MOST];
+    size_t used = 0;
+    for (size_t p = 0; p < r->count; p++) { memcpy(all + used, r->part[p].at, r->part[p].len); used += r->part[p].len; }
+    switch (below(11)) {
+    case 0: {
+        struct iobufmut_at places[VIEWS];
+        size_t count = below(VIEWS + 1);
+        memset(r, 0, sizeof *r); r->there = 1;
+        for (size_t p = 0; p < count; p++) {
+            places[p] = part_at[p];
+            if (parts[p].there) r->part[r->count++] = parts[p];
+            memset(&parts[p], 0, sizeof parts[p]);
+        }
+        keep_parts(r);
+        OK(iobufsmut_from_parts(places, count, at));
+        for (size_t p = 0; p < count; p++) same_part((int)p);
+        if (row_capacity(r) > MOST) { iobufsmut_drop(at); memset(r, 0, sizeof *r); r->count = 1; }
+        break;
+    }
+    case 1:
+        iobufsmut_from_mut(&part_at[k], at);
+        memset(r, 0, sizeof *r); r->count = 1; r->there = parts[k].there; r->part[0] = parts[k];
+        memset(&parts[k], 0, sizeof parts[k]); same_part(k); break;
+    case 2:
+        if (n > room) { CHECK(iobufsmut_put_slice(at, some, n) == IOBUFS_OUT_OF_RANGE); break; }
+        any_bytes(n); OK(iobufsmut_put_slice(at, some, n)); row_put(r, some, n); break;
+    case 3:
+        if (n > room) { CHECK(iobufsmut_put_bytes(at, 5, n) == IOBUFS_OUT_OF_RANGE); break; }
+        OK(iobufsmut_put_bytes(at, 5, n)); memset(some, 5, n); row_put(r, some, n); break;
+    case 4:
+        n = about(len + room);
+        if (n > len + room) { CHECK(iobufsmut_set_len(at, n) == IOBUFS_OUT_OF_RANGE); break; }
+        OK(iobufsmut_set_len(at, n));
+        for (size_t p = 0; p < r->count; p++) {
+            size_t part = n < r->part[p].capacity ? n : r->part[p].capacity;
+            part_set_len(&r->part[p], part); n -= part;
+        }
+        break;
+    case 5:
+        if (m > len) { CHECK(iobufsmut_advance(at, m) == IOBUFS_OUT_OF_RANGE); break; }
+        OK(iobufsmut_advance(at, m)); row_drain(r, m); break;
+    case 6:
+        if (m > len) { CHECK(iobufsmut_copy_to_slice(at, some, m > 2 * MOST ? 2 * MOST : m) == IOBUFS_END_OF_BUFFER); break; }
+        OK(iobufsmut_copy_to_slice(at, some, m)); CHECK(!memcmp(some, all, m)); row_drain(r, m); break;
+    case 7:
+        any_bytes(len); OK(iobufsmut_copy_from_slice(at, some, len));
+        for (size_t p = 0, seen = 0; p < r->count; seen += r->part[p++].len) memcpy(r->part[p].at, some + seen, r->part[p].len);
+        break;
+    case 8:
+        OK(iobufsmut_freeze(at, &text_at[j])); drop_text(&texts[j]);
+        for (size_t p = 0; p < r->count; p++) { struct view v = frozen(&r->part[p]); push(&texts[j], &v); }
+        memset(r, 0, sizeof *r); r->count = 1; same_text(j); break;
+    case 9:
+        OK(iobufsmut_coalesce(at, &part_at[k]));
+        if (r->count == 1) parts[k] = r->part[0];
+        else { memcpy(parts[k].at, all, len); parts[k].len = parts[k].capacity = len; parts[k].there = 1; }
+        memset(r, 0, sizeof *r); r->count = 1; same_part(k); break;
+    case 10:
+        CHECK(iobufsmut_try_into_single(at, &part_at[k]) == (r->count == 1 ? IOBUFS_OK : IOBUFS_DECLINED));
+        if (r->count == 1) { parts[k] = r->part[0]; memset(r, 0, sizeof *r); r->count = 1; }
+        same_part(k); break;
+    }
+    same_row(i);
+}
+
+static void builder_put(const uint8_t *at, size_t n) {
+    struct view *last = builder.text.count ? &builder.text.piece[builder.text.count - 1] : NULL;
+    builder.room -= n;
+    if (n == 0) return;
+    if (builder.inline_len == 0) { last = &builder.text.piece[builder.text.count++]; *last = no_bytes; last->block = -1; last->room = builder.room + n; }
+    memcpy(last->at + last->len, at, n);
+    last->len += n; builder.inline_len += n;
+}
+
+static void builder_call(int j, int k) {
+    size_t n = about(builder.room);
+    switch (below(5)) {
+    case 0:
+        if (builder.there) break;
+        n = below(40); OK(iobufs_builder_new(n, &builder_at));
+        memset(&builder, 0, sizeof builder); builder.there = 1; builder.room = n; break;
+    case 1:
+        if (n > builder.room) { CHECK(iobufs_builder_put_slice(&builder_at, some, n) == IOBUFS_OUT_OF_RANGE); break; }
+        any_bytes(n); OK(iobufs_builder_put_slice(&builder_at, some, n)); builder_put(some, n); break;
+    case 2:
+        if (builder.text.count > 10) break;
+        CHECK(iobufs_builder_push(&builder_at, &view_at[k]) == (builder.there ? IOBUFS_OK : IOBUFS_DECLINED));
+        if (!builder.there) break;
+        if (views[k].len == 0) { let_go(&views[k]); break; }
+        builder.text.piece[builder.text.count++] = views[k]; builder.inline_len = 0; views[k] = no_bytes; break;
+    case 3: {
+        int block = 0;
+        if (below(4)) break;
+        OK(iobufs_builder_finish(&builder_at, &text_at[j])); drop_text(&texts[j]);
+        for (size_t p = 0; p < builder.text.count; p++) {
+            struct view v = builder.text.piece[p];
+            if (v.block == -1) { if (block) holders[block]++; else block = new_block(); v.block = block; }
+            push(&texts[j], &v);
+        }
+        memset(&builder, 0, sizeof builder);
+        if (text_len(&texts[j]) > MOST) { iobufs_drop(&text_at[j]); drop_text(&texts[j]); }
+        same_text(j); break;
+    }
+    case 4: CHECK(iobufs_builder_remaining_mut(&builder_at) == builder.room); break;
+    }
+    same_view(k);
+}
+
+/* Frames are fed with bodies below 30 bytes behind their length, cut anywhere. */
+static void frames_call(int k) {
+    size_t len = text_len(&frames), n;
+    uint8_t all[PIECES * MOST];
+    struct view *v = &views[k];
+    if (below(2) && frames.count < 20) {
+        n = below(30); any_bytes(n + 1); some[0] = (uint8_t)n; n = below(n + 2);
+        OK(iobuf_copy_from_slice(some, n, &view_at[k])); let_go(v);
+        OK(iobufs_frames_feed(&frames_at, &view_at[k]));
+        *v = copied(some, n); push(&frames, v); *v = no_bytes; same_view(k);
+        CHECK(iobufs_frames_len(&frames_at) == text_len(&frames));
+        return;
+    }
+    bytes_of(&frames, all);
+    iobufs_status status = iobufs_frames_next(&frames_at, 0, 40, &view_at[k]);
+    size_t i = 0, shift = 0, body = 0;
+    while (i < len && i < 9 && all[i] >= 128) { body += (size_t)(all[i] & 127) << shift; shift += 7; i++; }
+    if (i == len) { CHECK(status == IOBUFS_END_OF_BUFFER); return; }
+    if ((i == 9 && all[9] != 1) || (i && all[i] == 0)) CHECK(status == IOBUFS_INVALID_VARINT);
+    else if ((body += (size_t)all[i] << shift) > 40) CHECK(status == IOBUFS_INVALID_LENGTH);
+    else if (len - i - 1 < body) { CHECK(status == IOBUFS_END_OF_BUFFER); return; }
+    else {
+        CHECK(status == IOBUFS_OK); let_go(v);
+        *v = taken(&frames, i + 1, body); text_rest(&frames, i + 1 + body); same_view(k);
+        CHECK(iobufs_frames_len(&frames_at) == text_len(&frames));
+        return;
+    }
+    iobufs_frames_drop(&frames_at); drop_text(&frames);
+}
+
+int main(int argc, char **argv) {
+    long calls = argc > 1 ? atol(argv[1]) : 100000, made = 0;
+    time_t began = time(NULL), seconds = argc > 2 ? (time_t)atol(argv[2]) : 1000000;
+    for (int i = 0; i < MOST; i++) fixed[i] = (uint8_t)(i * 7);
+    for (int i = 0; i < VIEWS; i++) { view_at[i].at = &view_memory[i]; iobuf_init(view_at[i].at); part_at[i].at = &part_memory[i]; iobufmut_init(part_at[i].at); }
+    for (int i = 0; i < TEXTS; i++) { text_at[i].at = &text_memory[i]; iobufs_init(text_at[i].at); no_text(&texts[i]); }
+    for (int i = 0; i < ROWS; i++) { row_at[i].at = &row_memory[i]; iobufsmut_init(row_at[i].at); rows[i].count = 1; }
+    builder_at.at = &builder_memory; iobufs_builder_init(builder_at.at);
+    frames_at.at = &frames_memory; iobufs_frames_init(frames_at.at); no_text(&frames);
+    while (made < calls && (made % 10000 || time(NULL) - began < seconds)) {
+        made++;
+        int i = (int)below(VIEWS), j = (i + 1 + (int)below(VIEWS - 1)) % VIEWS, t = (int)below(TEXTS);
+        switch (below(12)) {
+        case 0: case 1: case 2: view_call(i, j); break;
+        case 3: case 4: case 5: part_call(i, j); break;
+        case 6: case 7: case 8: text_call(t, (t + 1 + (int)below(TEXTS - 1)) % TEXTS, i); break;
+        case 9: row_call((int)below(ROWS), t, i); break;
+        case 10: builder_call(t, i); break;
+        case 11: frames_call(i); break;
+        }
+    }
+    for (int i = 0; i < VIEWS; i++) { iobuf_drop(&view_at[i]); iobufmut_drop(&part_at[i]); }
+    for (int i = 0; i < TEXTS; i++) iobufs_drop(&text_at[i]);
+    for (int i = 0; i < ROWS; i++) iobufsmut_drop(&row_at[i]);
+    iobufs_builder_drop(&builder_at); iobufs_frames_drop(&frames_at);
+    printf("%ld calls agree\n", made);
+    return 0;
+}

@@ -1,0 +1,163 @@
+/*
+ * Every call that may ask for memory, with its first request refused, then its second, and so on until none is: the status
+ * is IOBUFS_MEMORY, what the header says stays, and every block is given back. Linked with --wrap=malloc, --wrap=realloc
+ * and --wrap=free, which count blocks and refuse.
+ */
+#include "test.h"
+
+void *__real_malloc(size_t);
+void *__real_realloc(void *, size_t);
+void __real_free(void *);
+void *__wrap_malloc(size_t);
+void *__wrap_realloc(void *, size_t);
+void __wrap_free(void *);
+
+static long blocks, requests, refuse_at; /* refuse_at is 0 while nothing is refused */
+
+static int refuses(void) { return ++requests == refuse_at; }
+void *__wrap_malloc(size_t n) {
+    if (refuses()) return NULL;
+    blocks++;
+    return __real_malloc(n);
+}
+void *__wrap_realloc(void *old, size_t n) {
+    if (refuses()) return NULL;
+    blocks += old == NULL;
+    return __real_realloc(old, n);
+}
+void __wrap_free(void *old) {
+    blocks -= old != NULL;
+    __real_free(old);
+}
+
+/* What each case is given, made anew for every refusal; `long_text` has pieces of "abcdefghi". */
+struct made {
+    struct iobuf_at view, out_view, shared;
+    struct iobufmut_at part, out_part;
+    struct iobufs_at text, out_text;
+    struct iobufsmut_at parts;
+    struct iobufs_builder_at builder;
+    struct iobufs_frames_at frames;
+};
+
+typedef iobufs_status run(struct made *);
+typedef void kept(struct made *);
+
+static iobufs_status copy(struct made *m) { return iobuf_copy_from_slice(bytes("abc"), 3, &m->out_view); }
+static iobufs_status with_capacity(struct made *m) { return iobufmut_with_capacity(9, &m->out_part); }
+static iobufs_status with_alignment(struct made *m) { return iobufmut_with_alignment(9, 8, &m->out_part); }
+static iobufs_status zeroed(struct made *m) { return iobufmut_zeroed(9, &m->out_part); }
+static iobufs_status zeroed_aligned(struct made *m) { return iobufmut_zeroed_with_alignment(9, 8, &m->out_part); }
+static iobufs_status part_copy(struct made *m) { return iobufmut_copy_from_slice(bytes("abc"), 3, &m->out_part); }
+static iobufs_status from_view(struct made *m) { return iobufmut_from_view(&m->shared, &m->out_part); }
+static iobufs_status freeze(struct made *m) { return iobufmut_freeze(&m->part, &m->out_view); }
+static iobufs_status clone(struct made *m) { return iobuf_clone(&m->view, &m->out_view); }
+static iobufs_status split(struct made *m) { return iobuf_split_to(&m->view, 1, &m->out_view); }
+static iobufs_status take(struct made *m) { return iobuf_take(&m->view, 2, &m->out_view); }
+static iobufs_status slice(struct made *m) { return iobuf_slice(&m->view, 0, 1, 2, 0, &m->out_view); }
+static iobufs_status text_clone(struct made *m) { return iobufs_clone(&m->text, &m->out_text); }
+static iobufs_status append(struct made *m) { return iobufs_append(&m->text, &m->view); }
+static iobufs_status prepend(struct made *m) { return iobufs_prepend(&m->text, &m->view); }
+static iobufs_status text_split(struct made *m) { return iobufs_split_to(&m->text, 4, &m->out_text); }
+static iobufs_status text_take(struct made *m) { return iobufs_take(&m->text, 5, &m->out_view); }
+static iobufs_status text_take_after(struct made *m) { return iobufs_take_after(&m->text, 1, 5, &m->out_view); }
+static iobufs_status coalesce(struct made *m) { return iobufs_coalesce(&m->text, &m->out_view); }
+static iobufs_status text_from_mut(struct made *m) { return iobufs_from_mut(&m->part, &m->out_text); }
+static iobufs_status parts_freeze(struct made *m) { return iobufsmut_freeze(&m->parts, &m->out_text); }
+static iobufs_status parts_coalesce(struct made *m) { return iobufsmut_coalesce(&m->parts, &m->out_part); }
+static iobufs_status from_parts(struct made *m) {
+    struct iobufmut_at row[2] = { m->part, m->out_part };
+    struct iobufsmut memory;
+    struct iobufsmut_at out = { &memory };
+    iobufsmut_init(out.at);
+    iobufs_status status = iobufsmut_from_parts(row, 2, &out);
+    iobufsmut_drop(&out);
+    return status;
+}
+static iobufs_status builder_new(struct made *m) { return iobufs_builder_new(9, &m->builder); }
+static iobufs_status push(struct made *m) { return iobufs_builder_push(&m->builder, &m->view); }
+static iobufs_status finish(struct made *m) { return iobufs_builder_finish(&m->builder, &m->out_text); }
+static iobufs_status feed(struct made *m) { return iobufs_frames_feed(&m->frames, &m->view); }
+static iobufs_status next(struct made *m) { return iobufs_frames_next(&m->frames, 0, 99, &m->out_view); }
+static iobufs_status rest(struct made *m) { return iobufs_frames_rest(&m->frames, &m->out_text); }
+static iobufs_status read_view(struct made *m) { return iobufs_read_view(&m->text, 0, 99, &m->out_view); }
+
+static void view_stays(struct made *m) { CHECK(view_is(&m->view, "\3abc") && view_is(&m->out_view, "old")); }
+static void shared_stays(struct made *m) { CHECK(view_is(&m->shared, "\3abc")); }
+static void text_stays(struct made *m) {
+    CHECK(text_is(&m->text, "\5abcdefghi") && view_is(&m->view, "\3abc") && view_is(&m->out_view, "old") && text_is(&m->out_text, ""));
+}
+static void builder_stays(struct made *m) { CHECK(iobufs_builder_remaining_mut(&m->builder) == 0 && view_is(&m->view, "\3abc")); }
+static void frames_stay(struct made *m) {
+    CHECK(iobufs_frames_len(&m->frames) == 10 && view_is(&m->view, "\3abc") && view_is(&m->out_view, "old"));
+}
+static void given_up(struct made *m) { (void)m; }
+
+static const struct { const char *name; run *call; kept *stays; } cases[] = {
+    { "copy", copy, view_stays }, { "with_capacity", with_capacity, given_up }, { "with_alignment", with_alignment, given_up },
+    { "zeroed", zeroed, given_up }, { "zeroed_with_alignment", zeroed_aligned, given_up }, { "part copy", part_copy, given_up },
+    { "from_view", from_view, shared_stays }, { "freeze", freeze, given_up }, { "clone", clone, view_stays },
+    { "split_to", split, view_stays }, { "take", take, view_stays }, { "slice", slice, view_stays },
+    { "text clone", text_clone, text_stays }, { "append", append, text_stays }, { "prepend", prepend, text_stays },
+    { "text split_to", text_split, text_stays }, { "text take", text_take, text_stays },
+    { "text take_after", text_take_after, text_stays }, { "coalesce", coalesce, given_up },
+    { "from_mut", text_from_mut, given_up }, { "parts freeze", parts_freeze, given_up },
+    { "parts coalesce", parts_coalesce, given_up }, { "from_parts", from_parts, given_up },
+    { "builder", builder_new, builder_stays }, { "push", push, builder_stays }, { "finish", finish, given_up },
+    { "feed", feed, frames_stay }, { "next", next, frames_stay }, { "rest", rest, frames_stay },
+    { "read_view", read_view, text_stays },
+};
+
+static void pieces(struct iobufs_at *text) {
+    static const char *const all[] = { "\5ab", "cde", "f", "ghi" };
+    VIEW(v);
+    for (int i = 0; i < 4; i++) {
+        OK(iobuf_copy_from_slice(bytes(all[i]), strlen(all[i]), &v));
+        OK(iobufs_append(text, &v));
+    }
+}
+
+/* One case with its k-th request refused; answers whether it made so many. */
+static int refused(run *call, kept *stays, long k) {
+    VIEW(view); VIEW(out_view); VIEW(shared); VIEW(other); PART(part); PART(out_part); TEXT(text); TEXT(out_text); PARTS(parts); BUILDER(builder); FRAMES(frames);
+    struct made m = { view, out_view, shared, part, out_part, text, out_text, parts, builder, frames };
+    OK(iobuf_copy_from_slice(bytes("\3abc"), 4, &view));
+    OK(iobuf_copy_from_slice(bytes("\3abc"), 4, &shared));
+    OK(iobuf_clone(&shared, &other));
+    OK(iobuf_copy_from_slice(bytes("old"), 3, &out_view));
+    OK(iobufmut_with_capacity(3, &part)); OK(iobufmut_with_capacity(5, &out_part));
+    struct iobufmut_at row[2] = { part, out_part };
+    OK(iobufsmut_from_parts(row, 2, &parts)); OK(iobufsmut_set_len(&parts, 7));
+    OK(iobufmut_copy_from_slice(bytes("xyz"), 3, &part)); OK(iobufmut_with_capacity(5, &out_part));
+    OK(iobufs_builder_new(1, &builder)); OK(iobufs_builder_put_u8(&builder, 1));
+    pieces(&text);
+    for (size_t i = 0; i < iobufs_chunk_count(&text); i++) {
+        const uint8_t *at;
+        size_t n = iobufs_chunk_at(&text, i, &at);
+        OK(iobuf_copy_from_slice(at, n, &other));
+        OK(iobufs_frames_feed(&frames, &other));
+    }
+    OK(iobuf_clone(&shared, &other));
+    requests = 0; refuse_at = k;
+    iobufs_status status = call(&m);
+    refuse_at = 0;
+    int was = requests >= k;
+    CHECK(was ? status == IOBUFS_MEMORY : status == IOBUFS_OK);
+    if (was) stays(&m);
+    iobuf_drop(&view); iobuf_drop(&out_view); iobuf_drop(&shared); iobuf_drop(&other); iobufmut_drop(&part); iobufmut_drop(&out_part);
+    iobufs_drop(&text); iobufs_drop(&out_text); iobufsmut_drop(&parts); iobufs_builder_drop(&builder); iobufs_frames_drop(&frames);
+    CHECK(blocks == 0);
+    return was;
+}
+
+int main(void) {
+    long all = 0;
+    for (size_t i = 0; i < sizeof cases / sizeof *cases; i++) {
+        long k = 1;
+        while (refused(cases[i].call, cases[i].stays, k)) k++;
+        all += k - 1;
+        fprintf(stderr, "%s: %ld refused\n", cases[i].name, k - 1);
+    }
+    CHECK(all >= 20);
+    return 0;
+}

@@ -1,0 +1,49 @@
+/* What the tests share: buffers with their places, and checks that say where they failed. */
+#include "iobufs.h"
+#include <stdio.h>
+#include <stdlib.h>
+#include <string.h>
+
+#define CHECK(x) do { if (!(x)) { fprintf(stderr, "%s:%d: %s\n", __FILE__, __LINE__, #x); exit(1); } } while (0)
+#define OK(x) CHECK((x) == IOBUFS_OK)
+
+#define VIEW(name) struct iobuf name##_memory; struct iobuf_at name = { &name##_memory }; iobuf_init(name.at)
+#define PART(name) struct iobufmut name##_memory; struct iobufmut_at name = { &name##_memory }; iobufmut_init(name.at)
+#define TEXT(name) struct iobufs name##_memory; struct iobufs_at name = { &name##_memory }; iobufs_init(name.at)
+#define PARTS(name) struct iobufsmut name##_memory; struct iobufsmut_at name = { &name##_memory }; iobufsmut_init(name.at)
+#define BUILDER(name) struct iobufs_builder name##_memory; struct iobufs_builder_at name = { &name##_memory }; iobufs_builder_init(name.at)
+#define FRAMES(name) struct iobufs_frames name##_memory; struct iobufs_frames_at name = { &name##_memory }; iobufs_frames_init(name.at)
+
+static const uint8_t *bytes(const char *text) { return (const uint8_t *)text; }
+
+/* Whether a buffer holds just these bytes. */
+static inline int view_is(struct iobuf_at *view, const char *text) {
+    const uint8_t *at = NULL;
+    size_t n = iobuf_chunk(view, &at);
+    return n == strlen(text) && n == iobuf_len(view) && (n == 0 || !memcmp(at, text, n));
+}
+static inline int part_is(struct iobufmut_at *part, const char *text) {
+    uint8_t *at = NULL;
+    size_t n = iobufmut_chunk(part, &at);
+    return n == strlen(text) && n == iobufmut_len(part) && (n == 0 || !memcmp(at, text, n));
+}
+static inline int text_is(struct iobufs_at *text, const char *wanted) {
+    size_t len = strlen(wanted), seen = 0;
+    if (iobufs_len(text) != len) return 0;
+    for (size_t i = 0; i < iobufs_chunk_count(text); i++) {
+        const uint8_t *at;
+        size_t n = iobufs_chunk_at(text, i, &at);
+        if (n == 0 || memcmp(at, wanted + seen, n)) return 0;
+        seen += n;
+    }
+    return seen == len;
+}
+static inline int parts_are(struct iobufsmut_at *parts, const char *wanted) {
+    size_t len = strlen(wanted);
+    if (iobufsmut_len(parts) != len) return 0;
+    for (size_t i = 0; i < len; i++) {
+        uint8_t byte;
+        if (!iobufsmut_byte_at(parts, i, &byte) || byte != (uint8_t)wanted[i]) return 0;
+    }
+    return 1;
+}

@@ -1,0 +1,71 @@
+/*
+ * Views of one block, cloned, read, sliced and dropped by eight threads at once, and recovered by the last. Blocks are
+ * counted (as in refused.c): each is given back once. Run under valgrind's helgrind too. The argument is the number of turns.
+ */
+#include "test.h"
+#include <pthread.h>
+#include <stdatomic.h>
+
+void *__real_malloc(size_t);
+void *__real_realloc(void *, size_t);
+void __real_free(void *);
+void *__wrap_malloc(size_t);
+void *__wrap_realloc(void *, size_t);
+void __wrap_free(void *);
+
+static atomic_long blocks;
+void *__wrap_malloc(size_t n) { blocks++; return __real_malloc(n); }
+void *__wrap_realloc(void *old, size_t n) { blocks += old == NULL; return __real_realloc(old, n); }
+void __wrap_free(void *old) { blocks -= old != NULL; __real_free(old); }
+
+enum { THREADS = 8, LEN = 64 };
+
+static int turns = 5000;
+
+struct job { struct iobuf mine; size_t sum; };
+
+static void *work(void *data) {
+    struct job *job = (struct job *)data;
+    struct iobuf_at mine = { &job->mine };
+    VIEW(other); VIEW(part); TEXT(text);
+    for (int i = 0; i < turns; i++) {
+        const uint8_t *at;
+        OK(iobuf_clone(&mine, &other));
+        OK(iobuf_slice(&other, IOBUFS_INCLUDED, 3, IOBUFS_EXCLUDED, 60, &part));
+        OK(iobuf_split_to(&other, 10, &part));
+        OK(iobufs_append(&text, &part));
+        size_t n = iobuf_chunk(&other, &at);
+        for (size_t k = 0; k < n; k++) job->sum += at[k];
+        if (i % 16 == 15) iobufs_drop(&text);
+        iobuf_drop(&other);
+    }
+    iobufs_drop(&text); iobuf_drop(&part); iobuf_drop(&mine);
+    return NULL;
+}
+
+int main(int argc, char **argv) {
+    if (argc > 1) turns = atoi(argv[1]);
+    PART(whole); VIEW(first);
+    static struct job jobs[THREADS];
+    pthread_t threads[THREADS];
+    OK(iobufmut_with_capacity(LEN, &whole));
+    OK(iobufmut_put_bytes(&whole, 2, LEN));
+    OK(iobufmut_freeze(&whole, &first));
+    for (int i = 0; i < THREADS; i++) {
+        struct iobuf_at mine = { &jobs[i].mine };
+        iobuf_init(mine.at);
+        OK(iobuf_clone(&first, &mine));
+    }
+    for (int i = 0; i < THREADS; i++) CHECK(!pthread_create(&threads[i], NULL, work, &jobs[i]));
+    size_t sum = 0;
+    for (int i = 0; i < THREADS; i++) {
+        CHECK(!pthread_join(threads[i], NULL));
+        sum += jobs[i].sum;
+    }
+    CHECK(sum == (size_t)THREADS * (size_t)turns * (LEN - 10) * 2);
+    OK(iobuf_try_into_mut(&first, &whole)); /* the last view recovers the block */
+    CHECK(iobufmut_len(&whole) == LEN);
+    iobufmut_drop(&whole); iobuf_drop(&first);
+    CHECK(blocks == 0);
+    return 0;
+}

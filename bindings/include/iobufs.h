@@ -1,0 +1,353 @@
+/*
+ * iobufs: the byte buffers of commonware-runtime (src/iobuf), proved in Rattle, for C99 and C++.
+ *
+ * A buffer lies in memory of the caller: a `struct iobuf`, `struct iobufs`, .. of the size and the alignment that stand
+ * here. `.._init` makes a buffer of such memory, and a place (`struct iobuf_at`, ..) names it to every other call:
+ *
+ *     struct iobuf memory;
+ *     struct iobuf_at view = { &memory };
+ *     iobuf_init(&memory);
+ *     if (iobuf_copy_from_slice(bytes, n, &view) != IOBUFS_OK) ..
+ *     iobuf_drop(&view);
+ *
+ * Every call but `.._size`, `.._align`, `.._len` and their like answers a status. What it asks of ranges, places in a text
+ * and room is tested: where it doesn't hold, the status says so, and unless the comment says otherwise nothing has
+ * changed. What is moved into another buffer leaves its own place empty; an empty place may be used, and dropped, again.
+ *
+ * The caller's duties, which nothing tests:
+ *  1. A place names memory that an `.._init` made a buffer of. Memory is freed or given up only behind a `.._drop` (or
+ *     what the buffer holds is leaked). It may be moved (memcpy), and the buffer with it; never two copies may be used.
+ *  2. The places and other pointers of one call don't overlap: `iobuf_clone(&a, &a)` is not allowed.
+ *  3. One call at a time uses a buffer. Another thread may use it after what orders the two (a lock, a thread's start or
+ *     join, a SEQ_CST atomic); buffers that share a block may be used by several threads at once. Calls that only look
+ *     (`.._len`, `.._chunk`, `.._clone`, `iobuf_slice`, ..) may be several at once on one buffer: that is read off the code
+ *     and tested, not proved.
+ *  4. Pointers to bytes are not NULL, also for 0 bytes, and outlive the call; those of `iobuf_from_static` outlive every
+ *     buffer that is made of it, and the bytes never change.
+ *  5. What `.._chunk` and its like answer may be read until the next call that changes or drops that buffer. Only the
+ *     bytes of a buffer to write (`iobufmut`, `iobufsmut`) may be written over there.
+ *  6. malloc, realloc and free are one allocator's; no call comes from a signal handler, or from the forked child of a
+ *     process with threads.
+ *
+ * "memory" in a comment: the call may ask malloc for some, and answers IOBUFS_MEMORY where that is refused.
+ */
+#ifndef IOBUFS_H
+#define IOBUFS_H
+
+#include <stdbool.h>
+#include <stddef.h>
+#include <stdint.h>
+
+#ifdef __cplusplus
+extern "C" {
+#endif
+
+/* What a call answers. */
+enum iobufs_code {
+    IOBUFS_OK = 0,             /* done */
+    IOBUFS_MEMORY = 1,         /* a request for memory was refused */
+    IOBUFS_BAD_LAYOUT = 2,     /* the alignment is no power of two, or the capacity above SSIZE_MAX */
+    IOBUFS_TOO_LONG = 3,       /* a sum of lengths or capacities would pass SIZE_MAX */
+    IOBUFS_OUT_OF_RANGE = 4,   /* a range or a place is outside the bytes, or bytes outside the room */
+    IOBUFS_END_OF_BUFFER = 5,  /* more bytes are asked for than are left */
+    IOBUFS_INVALID_VARINT = 6, /* the bytes spell no length */
+    IOBUFS_INVALID_LENGTH = 7, /* the length is outside the range */
+    IOBUFS_DECLINED = 8        /* the buffer can't become what was asked for, and stays */
+};
+typedef uint8_t iobufs_status;
+
+/* Sizes and alignments, of which a buffer's memory has to be; `iobuf_size()` .. say the library's. */
+#define IOBUF_SIZE 48
+#define IOBUFMUT_SIZE 64
+#define IOBUFS_SIZE 56
+#define IOBUFSMUT_SIZE 72
+#define IOBUFS_BUILDER_SIZE 120
+#define IOBUFS_FRAMES_SIZE 56
+#define IOBUFS_ALIGN 8
+
+struct iobuf { uint64_t room[IOBUF_SIZE / 8]; };                   /* IoBuf: bytes to read, in one piece */
+struct iobufmut { uint64_t room[IOBUFMUT_SIZE / 8]; };             /* IoBufMut: a buffer to write, or none */
+struct iobufs { uint64_t room[IOBUFS_SIZE / 8]; };                 /* IoBufs: a text in pieces */
+struct iobufsmut { uint64_t room[IOBUFSMUT_SIZE / 8]; };           /* IoBufsMut: parts to write, or none */
+struct iobufs_builder { uint64_t room[IOBUFS_BUILDER_SIZE / 8]; }; /* Builder: a text that is put together, or none */
+struct iobufs_frames { uint64_t room[IOBUFS_FRAMES_SIZE / 8]; };   /* Frames: frames out of a text that comes in pieces */
+
+/* Places. */
+struct iobuf_at { struct iobuf *at; };
+struct iobufmut_at { struct iobufmut *at; };
+struct iobufs_at { struct iobufs *at; };
+struct iobufsmut_at { struct iobufsmut *at; };
+struct iobufs_builder_at { struct iobufs_builder *at; };
+struct iobufs_frames_at { struct iobufs_frames *at; };
+
+/* As `struct iovec` of <sys/uio.h>, which may be cast to it. */
+struct iobufs_chunk { const uint8_t *base; size_t len; };
+
+/* The bounds of a range. */
+enum iobufs_bound { IOBUFS_INCLUDED = 0, IOBUFS_EXCLUDED = 1, IOBUFS_UNBOUNDED = 2 };
+
+/* ---- iobuf (IoBuf): a view of bytes, which shares their storage with its clones and slices ---- */
+
+/* The library's size and alignment of a `struct iobuf`. */
+size_t iobuf_size(void);
+size_t iobuf_align(void);
+/* Makes the empty view of memory. No memory. (IoBuf::default) */
+void iobuf_init(struct iobuf *at);
+/* Gives the bytes up; the empty view is left. (Drop) */
+void iobuf_drop(struct iobuf_at *src);
+/* A copy of n bytes; memory but for 0 bytes. (IoBuf::copy_from_slice) */
+iobufs_status iobuf_copy_from_slice(const uint8_t *src, size_t n, struct iobuf_at *out);
+/* A view of n bytes that stay where they are for good (duty 4). No memory. (From<&'static [u8]>) */
+void iobuf_from_static(const uint8_t *text, size_t n, struct iobuf_at *out);
+/* The number of bytes. (IoBuf::len) */
+size_t iobuf_len(struct iobuf_at *src);
+/* Whether there are none. (IoBuf::is_empty) */
+bool iobuf_is_empty(struct iobuf_at *src);
+/* Writes where the bytes lie, if there are any, and answers how many there are. (AsRef, Buf::chunk) */
+size_t iobuf_chunk(struct iobuf_at *src, const uint8_t **out);
+/* Writes the byte at place i, and answers whether there is one. */
+bool iobuf_byte_at(struct iobuf_at *src, size_t i, uint8_t *out);
+/* Whether two views hold the same bytes. (PartialEq) */
+bool iobuf_eq(struct iobuf_at *src, struct iobuf_at *other);
+/* Another view of the same bytes, in their storage: no byte is copied. (Clone) */
+iobufs_status iobuf_clone(struct iobuf_at *src, struct iobuf_at *out);
+/* Drops the first n bytes; IOBUFS_OUT_OF_RANGE where there are fewer. (Buf::advance) */
+iobufs_status iobuf_advance(struct iobuf_at *src, size_t n);
+/* Takes the first `at` bytes away, in the same storage; IOBUFS_OUT_OF_RANGE where there are fewer. (IoBuf::split_to) */
+iobufs_status iobuf_split_to(struct iobuf_at *src, size_t at, struct iobuf_at *out);
+/* Takes the first n bytes out, in the same storage; IOBUFS_END_OF_BUFFER where there are fewer. (take_owned) */
+iobufs_status iobuf_take(struct iobuf_at *src, size_t n, struct iobuf_at *out);
+/* Copies the first n bytes out and drops them; IOBUFS_END_OF_BUFFER where there are fewer. (Buf::copy_to_slice) */
+iobufs_status iobuf_copy_to_slice(struct iobuf_at *src, uint8_t *dst, size_t n);
+/* The bytes of a range, in the same storage; bounds are `enum iobufs_bound`. IOBUFS_OUT_OF_RANGE where the range doesn't
+ * lie within the bytes. (IoBuf::slice) */
+iobufs_status iobuf_slice(struct iobuf_at *src, uint8_t lo_kind, size_t lo, uint8_t hi_kind, size_t hi, struct iobuf_at *out);
+/* The same bytes as a buffer to write, with the room behind them, if no other view shares their storage; the empty view is
+ * left. Else IOBUFS_DECLINED. (IoBuf::try_into_mut) */
+iobufs_status iobuf_try_into_mut(struct iobuf_at *src, struct iobufmut_at *out);
+
+/* ---- iobufmut (IoBufMut): a buffer to write, of a fixed capacity. None reads as one of capacity 0 ---- */
+
+size_t iobufmut_size(void);
+size_t iobufmut_align(void);
+/* Makes a place with no buffer of memory. */
+void iobufmut_init(struct iobufmut *at);
+/* Gives the buffer up; none is left. (Drop) */
+void iobufmut_drop(struct iobufmut_at *part);
+/* An empty buffer of capacity n: memory but for 0; IOBUFS_BAD_LAYOUT above SSIZE_MAX. (IoBufMut::with_capacity) */
+iobufs_status iobufmut_with_capacity(size_t n, struct iobufmut_at *out);
+/* The same for a caller who asks for an alignment, a power of two; addresses are not promised. (with_alignment) */
+iobufs_status iobufmut_with_alignment(size_t n, size_t align, struct iobufmut_at *out);
+/* A buffer of n bytes, all zero. (IoBufMut::zeroed) */
+iobufs_status iobufmut_zeroed(size_t n, struct iobufmut_at *out);
+/* The same for a caller who asks for an alignment. (zeroed_with_alignment) */
+iobufs_status iobufmut_zeroed_with_alignment(size_t n, size_t align, struct iobufmut_at *out);
+/* A copy of n bytes, with no room behind them; memory but for 0 bytes. (From<&[u8]>) */
+iobufs_status iobufmut_copy_from_slice(const uint8_t *src, size_t n, struct iobufmut_at *out);
+/* The bytes of a view: recovered as by iobuf_try_into_mut, else copied; the empty view is left. (From<IoBuf>) */
+iobufs_status iobufmut_from_view(struct iobuf_at *src, struct iobufmut_at *out);
+/* The number of readable bytes. (len) */
+size_t iobufmut_len(struct iobufmut_at *part);
+bool iobufmut_is_empty(struct iobufmut_at *part);
+/* How many bytes fit, counted from the first readable one. (capacity) */
+size_t iobufmut_capacity(struct iobufmut_at *part);
+/* How many bytes may still be put. (BufMut::remaining_mut) */
+size_t iobufmut_remaining_mut(struct iobufmut_at *part);
+/* Writes where the readable bytes lie, if there are any, and answers how many there are; they may be written over there.
+ * (AsRef, AsMut) */
+size_t iobufmut_chunk(struct iobufmut_at *part, uint8_t **out);
+/* Puts bytes behind those that are readable; IOBUFS_OUT_OF_RANGE where they don't fit. No memory. (BufMut::put_slice) */
+iobufs_status iobufmut_put_slice(struct iobufmut_at *part, const uint8_t *src, size_t n);
+/* Puts a byte n times. (BufMut::put_bytes) */
+iobufs_status iobufmut_put_bytes(struct iobufmut_at *part, uint8_t value, size_t n);
+/* Puts one byte. (BufMut::put_u8) */
+iobufs_status iobufmut_put_u8(struct iobufmut_at *part, uint8_t n);
+/* Puts the spelling of a length (see iobufs_length_size). */
+iobufs_status iobufmut_put_length(struct iobufmut_at *part, size_t n);
+/* Writes over n readable bytes from `at` on; IOBUFS_OUT_OF_RANGE where they pass the readable bytes. */
+iobufs_status iobufmut_write_at(struct iobufmut_at *part, size_t at, const uint8_t *src, size_t n);
+/* Makes n bytes readable; those that were not are zero. IOBUFS_OUT_OF_RANGE above the capacity. (set_len) */
+iobufs_status iobufmut_set_len(struct iobufmut_at *part, size_t n);
+/* Keeps at most the first n bytes. (truncate) */
+void iobufmut_truncate(struct iobufmut_at *part, size_t n);
+/* Keeps no byte, and the room of all. (clear) */
+void iobufmut_clear(struct iobufmut_at *part);
+/* Drops the first n readable bytes; IOBUFS_OUT_OF_RANGE where there are fewer. (Buf::advance) */
+iobufs_status iobufmut_advance(struct iobufmut_at *part, size_t n);
+/* Copies the first n bytes out and drops them; IOBUFS_END_OF_BUFFER where there are fewer. (Buf::copy_to_slice) */
+iobufs_status iobufmut_copy_to_slice(struct iobufmut_at *part, uint8_t *dst, size_t n);
+/* The bytes as a view, not copied; no buffer is left. On IOBUFS_MEMORY the buffer is given up. (freeze) */
+iobufs_status iobufmut_freeze(struct iobufmut_at *part, struct iobuf_at *out);
+
+/* ---- iobufs (IoBufs): a text in pieces, none of which is copied ---- */
+
+size_t iobufs_size(void);
+size_t iobufs_align(void);
+/* Makes the empty text of memory. No memory. (IoBufs::default) */
+void iobufs_init(struct iobufs *at);
+/* Gives the bytes up; the empty text is left. (Drop) */
+void iobufs_drop(struct iobufs_at *text);
+/* The text of one view, which is left empty. No memory. (From<IoBuf>) */
+void iobufs_from_view(struct iobuf_at *src, struct iobufs_at *out);
+/* The text of a buffer; none is left. On IOBUFS_MEMORY the buffer is given up. (From<IoBufMut>) */
+iobufs_status iobufs_from_mut(struct iobufmut_at *part, struct iobufs_at *out);
+/* Another text of the same bytes, in their storage; memory for the row of pieces. (Clone) */
+iobufs_status iobufs_clone(struct iobufs_at *text, struct iobufs_at *out);
+/* The number of bytes. (IoBufs::len) */
+size_t iobufs_len(struct iobufs_at *text);
+bool iobufs_is_empty(struct iobufs_at *text);
+/* Whether all bytes are in one piece. (is_single) */
+bool iobufs_is_single(struct iobufs_at *text);
+/* The number of pieces that hold bytes. (chunk_count) */
+size_t iobufs_chunk_count(struct iobufs_at *text);
+/* Writes where the first piece lies, if there are bytes, and answers its length. (Buf::chunk) */
+size_t iobufs_chunk(struct iobufs_at *text, const uint8_t **out);
+/* Writes where piece i lies, counted from 0, and answers its length; 0 where there is none. */
+size_t iobufs_chunk_at(struct iobufs_at *text, size_t i, const uint8_t **out);
+/* Fills a list of n for writev with where the first pieces lie, and answers how many it filled. No memory.
+ * iobufs_advance then takes the count that writev answers. (Buf::chunks_vectored) */
+size_t iobufs_chunks(struct iobufs_at *text, struct iobufs_chunk *out, size_t n);
+/* Writes the byte at place i, and answers whether there is one. */
+bool iobufs_byte_at(struct iobufs_at *text, size_t i, uint8_t *out);
+/* Writes the number of the piece that holds a place, and the bytes before it there; IOBUFS_OUT_OF_RANGE at the end. */
+iobufs_status iobufs_locate(struct iobufs_at *text, size_t at, size_t *index, size_t *offset);
+/* Puts a view behind the text, and leaves its place empty; at times memory for the row of pieces. (append) */
+iobufs_status iobufs_append(struct iobufs_at *text, struct iobuf_at *piece);
+/* The same in front of the text. (prepend) */
+iobufs_status iobufs_prepend(struct iobufs_at *text, struct iobuf_at *piece);
+/* Takes the first `at` bytes away; IOBUFS_OUT_OF_RANGE where there are fewer; at times memory. (IoBufs::split_to) */
+iobufs_status iobufs_split_to(struct iobufs_at *text, size_t at, struct iobufs_at *out);
+/* Drops the first n bytes; IOBUFS_OUT_OF_RANGE where there are fewer. No memory. (Buf::advance) */
+iobufs_status iobufs_advance(struct iobufs_at *text, size_t n);
+/* Copies the first n bytes out and drops them; IOBUFS_END_OF_BUFFER where there are fewer. (Buf::copy_to_slice) */
+iobufs_status iobufs_copy_to_slice(struct iobufs_at *text, uint8_t *dst, size_t n);
+/* Takes the first n bytes out as one view: shared within a piece, a copy (memory) across pieces; IOBUFS_END_OF_BUFFER
+ * where there are fewer. (take_owned, Buf::copy_to_bytes) */
+iobufs_status iobufs_take(struct iobufs_at *text, size_t n, struct iobuf_at *out);
+/* The same behind the first `skip` bytes, which are dropped too. */
+iobufs_status iobufs_take_after(struct iobufs_at *text, size_t skip, size_t n, struct iobuf_at *out);
+/* The text as one view, with a copy (memory) of several pieces; the empty text is left, also where that is refused:
+ * clone it first to keep it. (coalesce) */
+iobufs_status iobufs_coalesce(struct iobufs_at *text, struct iobuf_at *out);
+/* The only piece as a view; the empty text is left. IOBUFS_DECLINED where there are more. (try_into_single) */
+iobufs_status iobufs_try_into_single(struct iobufs_at *text, struct iobuf_at *out);
+
+/* ---- iobufsmut (IoBufsMut): buffers to write, strung together. None reads as one part of capacity 0 ---- */
+
+size_t iobufsmut_size(void);
+size_t iobufsmut_align(void);
+/* Makes a place with no parts of memory. */
+void iobufsmut_init(struct iobufsmut *at);
+/* Gives the parts up; none are left. (Drop) */
+void iobufsmut_drop(struct iobufsmut_at *parts);
+/* The one part of a buffer; none is left. No memory. (From<IoBufMut>) */
+void iobufsmut_from_mut(struct iobufmut_at *part, struct iobufsmut_at *out);
+/* The buffers of n places in order, without those that can hold no byte; none are left there. Memory; where that is
+ * refused, or IOBUFS_TOO_LONG, the buffers may be given up. (FromIterator) */
+iobufs_status iobufsmut_from_parts(struct iobufmut_at *places, size_t n, struct iobufsmut_at *out);
+/* The number of readable bytes. (len) */
+size_t iobufsmut_len(struct iobufsmut_at *parts);
+bool iobufsmut_is_empty(struct iobufsmut_at *parts);
+/* How many bytes fit, counted from the first readable one. (capacity) */
+size_t iobufsmut_capacity(struct iobufsmut_at *parts);
+/* How many bytes may still be put. (BufMut::remaining_mut) */
+size_t iobufsmut_remaining_mut(struct iobufsmut_at *parts);
+/* The number of parts. */
+size_t iobufsmut_part_count(struct iobufsmut_at *parts);
+/* Whether there is just one. (is_single) */
+bool iobufsmut_is_single(struct iobufsmut_at *parts);
+/* Writes where the first piece of the readable bytes lies, if there are any, and answers its length; it may be written
+ * over there. (Buf::chunk) */
+size_t iobufsmut_chunk(struct iobufsmut_at *parts, uint8_t **out);
+/* Writes where the readable bytes of part i lie, if it has some, and its capacity (0 where there is no such part), and
+ * answers how many they are. */
+size_t iobufsmut_part_at(struct iobufsmut_at *parts, size_t i, uint8_t **out, size_t *capacity);
+/* Fills a list of n for readv (or writev) with where the first pieces of the readable bytes lie, and answers how many it
+ * filled. No memory. To read into parts, set their length first. */
+size_t iobufsmut_chunks(struct iobufsmut_at *parts, struct iobufs_chunk *out, size_t n);
+/* Writes the readable byte at place i, and answers whether there is one. */
+bool iobufsmut_byte_at(struct iobufsmut_at *parts, size_t i, uint8_t *out);
+/* Puts bytes, part after part; IOBUFS_OUT_OF_RANGE where they don't fit. No memory. (BufMut::put_slice) */
+iobufs_status iobufsmut_put_slice(struct iobufsmut_at *parts, const uint8_t *src, size_t n);
+/* Puts a byte n times. (BufMut::put_bytes) */
+iobufs_status iobufsmut_put_bytes(struct iobufsmut_at *parts, uint8_t value, size_t n);
+/* Puts one byte. (BufMut::put_u8) */
+iobufs_status iobufsmut_put_u8(struct iobufsmut_at *parts, uint8_t n);
+/* Puts the spelling of a length. */
+iobufs_status iobufsmut_put_length(struct iobufsmut_at *parts, size_t n);
+/* Makes n bytes readable, the parts filled in order; those that were not are zero. (set_len) */
+iobufs_status iobufsmut_set_len(struct iobufsmut_at *parts, size_t n);
+/* Drops the first n readable bytes; a part that is used up keeps its room. (Buf::advance) */
+iobufs_status iobufsmut_advance(struct iobufsmut_at *parts, size_t n);
+/* Copies the first n bytes out and drops them; IOBUFS_END_OF_BUFFER where there are fewer. (Buf::copy_to_slice) */
+iobufs_status iobufsmut_copy_to_slice(struct iobufsmut_at *parts, uint8_t *dst, size_t n);
+/* Writes over the readable bytes, of which there have to be n: else IOBUFS_OUT_OF_RANGE. (copy_from_slice) */
+iobufs_status iobufsmut_copy_from_slice(struct iobufsmut_at *parts, const uint8_t *src, size_t n);
+/* The parts that hold bytes as the pieces of one text, not copied; none are left. Memory for the row; where that is
+ * refused, the parts are given up. (freeze) */
+iobufs_status iobufsmut_freeze(struct iobufsmut_at *parts, struct iobufs_at *out);
+/* The parts as one buffer, with a copy (memory) of several; none are left, also where that is refused. (coalesce) */
+iobufs_status iobufsmut_coalesce(struct iobufsmut_at *parts, struct iobufmut_at *out);
+/* The only part as a buffer; none are left. IOBUFS_DECLINED where there are more. (try_into_single) */
+iobufs_status iobufsmut_try_into_single(struct iobufsmut_at *parts, struct iobufmut_at *out);
+
+/* ---- iobufs_builder (Builder): bytes that are put, and views that are pushed, as one text ---- */
+
+size_t iobufs_builder_size(void);
+size_t iobufs_builder_align(void);
+/* Makes a place with no builder of memory. */
+void iobufs_builder_init(struct iobufs_builder *at);
+/* Gives the builder up; none is left. (Drop) */
+void iobufs_builder_drop(struct iobufs_builder_at *builder);
+/* A builder for so many bytes that are put: memory but for 0; IOBUFS_BAD_LAYOUT above SSIZE_MAX. (Builder::new) */
+iobufs_status iobufs_builder_new(size_t capacity, struct iobufs_builder_at *out);
+/* How many bytes may still be put. (BufMut::remaining_mut) */
+size_t iobufs_builder_remaining_mut(struct iobufs_builder_at *builder);
+/* Puts bytes; IOBUFS_OUT_OF_RANGE where they don't fit. No memory. (BufMut::put_slice) */
+iobufs_status iobufs_builder_put_slice(struct iobufs_builder_at *builder, const uint8_t *src, size_t n);
+/* Puts a byte n times. (BufMut::put_bytes) */
+iobufs_status iobufs_builder_put_bytes(struct iobufs_builder_at *builder, uint8_t value, size_t n);
+/* Puts one byte. (BufMut::put_u8) */
+iobufs_status iobufs_builder_put_u8(struct iobufs_builder_at *builder, uint8_t n);
+/* Puts the spelling of a length. */
+iobufs_status iobufs_builder_put_length(struct iobufs_builder_at *builder, size_t n);
+/* Pushes a view, not copied, and leaves its place empty; memory for the row. IOBUFS_DECLINED where there is no builder.
+ * (Builder::push) */
+iobufs_status iobufs_builder_push(struct iobufs_builder_at *builder, struct iobuf_at *piece);
+/* All that was put and pushed as a text; no builder is left. No memory is asked for. (Builder::finish) */
+iobufs_status iobufs_builder_finish(struct iobufs_builder_at *builder, struct iobufs_at *out);
+
+/* ---- lengths, as they are spelled: seven bits a byte, lowest first, in the shortest form ---- */
+
+/* How many bytes spell a length: at most ten. (EncodeSize) */
+size_t iobufs_length_size(size_t n);
+/* Reads the length in front, from lo to hi, and drops its spelling. IOBUFS_END_OF_BUFFER where the spelling may go on
+ * behind the end, IOBUFS_INVALID_VARINT, or IOBUFS_INVALID_LENGTH, which writes the length that is outside. (Read) */
+iobufs_status iobufs_read_length(struct iobufs_at *text, size_t lo, size_t hi, size_t *out);
+iobufs_status iobuf_read_length(struct iobuf_at *src, size_t lo, size_t hi, size_t *out);
+/* Reads the bytes behind a length from lo to hi, as one view: shared within a piece, a copy (memory) across pieces. */
+iobufs_status iobufs_read_view(struct iobufs_at *text, size_t lo, size_t hi, struct iobuf_at *out);
+
+/* ---- iobufs_frames (Frames): bytes behind their length, out of a text that comes in pieces ---- */
+
+size_t iobufs_frames_size(void);
+size_t iobufs_frames_align(void);
+/* Makes frames of memory, to which nothing was fed. */
+void iobufs_frames_init(struct iobufs_frames *at);
+/* Gives what was fed up. */
+void iobufs_frames_drop(struct iobufs_frames_at *frames);
+/* How many bytes were fed and not taken. */
+size_t iobufs_frames_len(struct iobufs_frames_at *frames);
+/* What was fed and not taken, as a text that shares its storage; memory for the row. */
+iobufs_status iobufs_frames_rest(struct iobufs_frames_at *frames, struct iobufs_at *out);
+/* Puts a view behind what was fed, and leaves its place empty; at times memory. */
+iobufs_status iobufs_frames_feed(struct iobufs_frames_at *frames, struct iobuf_at *piece);
+/* Takes the frame in front, whose length is from lo to hi. IOBUFS_END_OF_BUFFER where it is not whole yet,
+ * IOBUFS_INVALID_VARINT or IOBUFS_INVALID_LENGTH where no bytes behind will make it so, IOBUFS_MEMORY. */
+iobufs_status iobufs_frames_next(struct iobufs_frames_at *frames, size_t lo, size_t hi, struct iobuf_at *out);
+
+#ifdef __cplusplus
+}
+#endif
+
+#endif

@@ -1,0 +1,321 @@
+//! The workloads of one buffer, of texts and of parts, as a library that exports what `bench/README.md` says of a timing
+//! over the border: how many workloads there are, their names, and one run of each with its nanoseconds, its number of
+//! operations and the sum of what it saw. They do what the workloads of these names in `crates/iobufs_bench` do.
+use iobufs::{IoBuf, IoBufMut, IoBufs, IoBufsMut};
+use std::ffi::{CString, c_char};
+use std::hint::black_box;
+use std::sync::OnceLock;
+use std::time::Instant;
+
+const MIB: usize = 1 << 20;
+
+/// Nanoseconds, operations, sum.
+type Run = (u64, usize, u64);
+
+fn pattern(n: usize) -> Vec<u8> {
+    (0..n).map(|i| (31 * i + 7) as u8).collect()
+}
+
+fn filled(n: usize) -> IoBufMut {
+    let mut part = IoBufMut::with_capacity(n);
+    part.put_slice(&pattern(n));
+    part
+}
+
+fn native(n: usize) -> IoBuf {
+    filled(n).freeze()
+}
+
+fn mark(bytes: &[u8]) -> u64 {
+    bytes.len() as u64 + bytes.first().map_or(0, |byte| u64::from(*byte))
+}
+
+fn views(n: usize) -> Vec<IoBuf> {
+    let whole = native(256 * n);
+    (0..n).map(|i| whole.slice(256 * i..256 * (i + 1))).collect()
+}
+
+fn text(n: usize) -> IoBufs {
+    views(n).into()
+}
+
+/// How many texts of n chunks a run has.
+fn count(n: usize) -> usize {
+    (4096 / n).clamp(2, 512)
+}
+
+fn timed(operations: usize, call: impl FnOnce() -> u64) -> Run {
+    let began = Instant::now();
+    let sum = black_box(call());
+    (began.elapsed().as_nanos() as u64, operations, sum)
+}
+
+fn put64() -> Run {
+    let piece = pattern(64);
+    timed(MIB / 64, || {
+        let mut part = IoBufMut::with_capacity(MIB);
+        for _ in 0..MIB / 64 {
+            part.put_slice(black_box(&piece));
+        }
+        mark(part.freeze().chunk())
+    })
+}
+
+fn put_u8() -> Run {
+    timed(65536, || {
+        let mut part = IoBufMut::with_capacity(65536);
+        for i in 0..65536 {
+            part.put_u8(black_box(i) as u8);
+        }
+        mark(part.freeze().chunk())
+    })
+}
+
+fn split_drop() -> Run {
+    let whole = native(MIB);
+    let mut views: Vec<IoBuf> = (0..8).map(|_| whole.clone()).collect();
+    timed(8 * 1024, || {
+        views
+            .iter_mut()
+            .map(|view| (0..1024).map(|_| mark(view.split_to(1024).chunk())).sum::<u64>())
+            .sum()
+    })
+}
+
+fn clone_drop(view: IoBuf) -> Run {
+    let _shared = view.clone();
+    timed(10_000, || {
+        (0..10_000).map(|_| black_box(&view).clone().len() as u64).sum()
+    })
+}
+
+fn new_share_drop() -> Run {
+    let piece = pattern(64);
+    timed(1000, || {
+        let turn = |_| {
+            let mut part = IoBufMut::with_capacity(64);
+            part.put_slice(black_box(&piece));
+            let view = part.freeze();
+            mark(black_box(&view).clone().chunk())
+        };
+        (0..1000).map(turn).sum()
+    })
+}
+
+fn slice_drop() -> Run {
+    let (view, n) = (native(1024), 10_000);
+    let _shared = view.clone();
+    timed(n, || {
+        (0..n)
+            .map(|i| mark(black_box(&view).slice(i % 960..i % 960 + 64).chunk()))
+            .sum()
+    })
+}
+
+fn read_bytewise() -> Run {
+    let whole = native(MIB);
+    let mut view = whole.clone();
+    timed(MIB, || {
+        let mut sum = 0;
+        while view.has_remaining() {
+            sum += u64::from(view.chunk()[0]);
+            view.advance(1);
+        }
+        sum
+    })
+}
+
+fn read64() -> Run {
+    let (whole, mut room) = (native(MIB), [0; 64]);
+    let mut view = whole.clone();
+    let mut read = |_| {
+        view.copy_to_slice(&mut room);
+        mark(black_box(&room))
+    };
+    timed(MIB / 64, || (0..MIB / 64).map(&mut read).sum())
+}
+
+fn recover() -> Run {
+    let (piece, mut view) = (pattern(64), native(4096));
+    timed(10_000, || {
+        let mut sum = 0;
+        for _ in 0..10_000 {
+            let mut part = view.try_into_mut().unwrap();
+            part.clear();
+            part.put_slice(black_box(&piece));
+            view = part.freeze();
+            sum += mark(view.chunk());
+        }
+        sum
+    })
+}
+
+fn joined(n: usize, join: fn(&mut IoBufs, IoBuf)) -> Run {
+    let lists: Vec<Vec<IoBuf>> = (0..count(n)).map(|_| views(n)).collect();
+    let mut texts = Vec::with_capacity(lists.len());
+    let (ns, operations, _) = timed(n * lists.len(), || {
+        for list in lists {
+            let mut text = IoBufs::default();
+            for view in list {
+                join(&mut text, view);
+            }
+            texts.push(text);
+        }
+        0
+    });
+    (ns, operations, texts.iter().map(|text| text.len() as u64).sum())
+}
+
+/// Texts from whose front `step` takes `size` bytes as often as it can; and what is done with the rest.
+fn drained(n: usize, size: usize, step: fn(&mut IoBufs) -> u64, rest: usize) -> Run {
+    let mut texts: Vec<IoBufs> = (0..count(n)).map(|_| text(n)).collect();
+    let turns = 256 * n / size;
+    timed(texts.len() * (turns + rest), || {
+        let mut sum = 0;
+        for text in &mut texts {
+            for _ in 0..turns {
+                sum += step(text);
+            }
+            text.advance(if rest == 1 { text.len() } else { 0 });
+        }
+        sum
+    })
+}
+
+fn coalesced(n: usize) -> Run {
+    let texts: Vec<IoBufs> = (0..count(n)).map(|_| text(n)).collect();
+    let mut views = Vec::with_capacity(texts.len());
+    let (ns, operations, _) = timed(texts.len(), || {
+        views.extend(texts.into_iter().map(IoBufs::coalesce));
+        0
+    });
+    (ns, operations, views.iter().map(|view| mark(view.chunk())).sum())
+}
+
+fn text_clone_drop(n: usize) -> Run {
+    let text = text(n);
+    timed(count(n), || {
+        (0..count(n)).map(|_| mark(black_box(&text).clone().chunk())).sum()
+    })
+}
+
+fn walk(n: usize) -> Run {
+    let text = text(n);
+    timed(n * count(n), || {
+        let mut sum = 0;
+        for _ in 0..count(n) {
+            black_box(&text).for_each_chunk(|chunk| sum += mark(chunk));
+        }
+        sum
+    })
+}
+
+fn parts_put(n: usize, len: usize) -> Run {
+    let piece = pattern(len);
+    let empty = |_| (0..n).map(|_| IoBufMut::with_capacity(256)).collect();
+    let mut rows: Vec<IoBufsMut> = (0..[512, 64][usize::from(n > 3)]).map(empty).collect();
+    let turns = 256 * n / len;
+    let (ns, operations, _) = timed(rows.len() * turns, || {
+        for row in &mut rows {
+            (0..turns).for_each(|_| row.put_slice(black_box(&piece)));
+        }
+        0
+    });
+    (ns, operations, rows.iter().map(|row| row.len() as u64).sum())
+}
+
+fn parts_freeze(n: usize) -> Run {
+    let full = |_| (0..n).map(|_| filled(256)).collect();
+    let rows: Vec<IoBufsMut> = (0..[512, 64][usize::from(n > 3)]).map(full).collect();
+    let mut texts = Vec::with_capacity(rows.len());
+    let (ns, operations, _) = timed(rows.len(), || {
+        texts.extend(rows.into_iter().map(IoBufsMut::freeze));
+        0
+    });
+    (
+        ns,
+        operations,
+        texts.iter().map(|text| text.len() as u64 + mark(text.chunk())).sum(),
+    )
+}
+
+type Workload = (CString, Box<dyn Fn() -> Run + Send + Sync>);
+
+fn workloads() -> &'static [Workload] {
+    static ALL: OnceLock<Vec<Workload>> = OnceLock::new();
+    ALL.get_or_init(|| {
+        let mut all: Vec<Workload> = Vec::new();
+        let mut add =
+            |name: String, run: Box<dyn Fn() -> Run + Send + Sync>| all.push((CString::new(name).unwrap(), run));
+        add("put64_1m_freeze".into(), Box::new(put64));
+        add("put_u8_64k_freeze".into(), Box::new(put_u8));
+        add("split_1m_1k_drop".into(), Box::new(split_drop));
+        add("clone_drop_native".into(), Box::new(|| clone_drop(native(1024))));
+        add(
+            "clone_drop_static".into(),
+            Box::new(|| clone_drop(IoBuf::from(b"abcdefghijklmnopqrstuvwxyz"))),
+        );
+        add("new_share_drop_64".into(), Box::new(new_share_drop));
+        add("slice_drop_64".into(), Box::new(slice_drop));
+        add("read_view_bytewise_1m".into(), Box::new(read_bytewise));
+        add("read_view_64_1m".into(), Box::new(read64));
+        add("recover_put64_freeze".into(), Box::new(recover));
+        for n in [4, 64, 4096] {
+            add(format!("text{n}_append"), Box::new(move || joined(n, IoBufs::append)));
+            add(format!("text{n}_prepend"), Box::new(move || joined(n, IoBufs::prepend)));
+            let advance = |text: &mut IoBufs| {
+                text.advance(100);
+                mark(text.chunk())
+            };
+            add(
+                format!("text{n}_advance100"),
+                Box::new(move || drained(n, 100, advance, 1)),
+            );
+            add(
+                format!("text{n}_take300"),
+                Box::new(move || drained(n, 300, |text| mark(text.take_owned(300).chunk()), 0)),
+            );
+            add(
+                format!("text{n}_split1000"),
+                Box::new(move || drained(n, 1000, |text| mark(text.split_to(1000).chunk()), 0)),
+            );
+            add(format!("text{n}_coalesce"), Box::new(move || coalesced(n)));
+            add(format!("text{n}_clone_drop"), Box::new(move || text_clone_drop(n)));
+            add(format!("text{n}_walk"), Box::new(move || walk(n)));
+        }
+        for n in [2, 3, 64] {
+            add(format!("parts{n}_put64"), Box::new(move || parts_put(n, 64)));
+            add(format!("parts{n}_freeze"), Box::new(move || parts_freeze(n)));
+        }
+        all
+    })
+}
+
+/// The number of workloads.
+#[unsafe(no_mangle)]
+pub extern "C" fn bench_count() -> u32 {
+    workloads().len() as u32
+}
+
+/// The name of a workload; null behind the last.
+#[unsafe(no_mangle)]
+pub extern "C" fn bench_name(index: u32) -> *const c_char {
+    workloads()
+        .get(index as usize)
+        .map_or(std::ptr::null(), |(name, _)| name.as_ptr())
+}
+
+/// One run of a workload.
+///
+/// # Safety
+/// `operations` and `sum` may be written.
+#[unsafe(no_mangle)]
+pub unsafe extern "C" fn bench_run(index: u32, operations: *mut u64, sum: *mut u64) -> u64 {
+    let (ns, count, seen) = workloads()[index as usize].1();
+    // SAFETY: the caller's.
+    unsafe {
+        *operations = count as u64;
+        *sum = seen;
+    }
+    ns
+}

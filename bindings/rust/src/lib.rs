@@ -1,0 +1,197 @@
+//! The byte buffers of commonware-runtime (`src/iobuf`): `IoBuf`, `IoBufMut`, `IoBufs`, `IoBufsMut`, `Builder`, `Frames`,
+//! over the static library `libiobufs.a`, which is proved in Rattle.
+//!
+//! Names, arguments and panics are the original's. It has no dependency, so what the original takes from the traits of the
+//! crate `bytes` are methods here. A `Vec` is copied, since Rust's memory can't be handed over to the library.
+//!
+//! What differs: `copy_to_bytes` answers an `IoBuf`; `set_len` is safe, and what was not readable is zero; an alignment is
+//! tested and not promised; of a buffer without readable bytes no place is told (`as_mut_ptr`). `put` of any reader,
+//! `copy_to_bytes` of several parts, values (`Read`, `Write`) and all that takes or answers `Bytes` aren't there.
+//!
+//! What each `unsafe` block does is call the library; the comment names the duties of `iobufs.h` that it meets. Duties
+//! that all meet: (1) a buffer's memory is made by `.._init` in `Memory::new`, is dropped once by `Drop`, and may move;
+//! (2) places of one call are of different variables, since a `&mut` or an owned buffer is one of them; (3) a call that
+//! changes a buffer has it by `&mut` or owned, and others only look; (6) Rust doesn't call from signal handlers.
+mod part;
+mod parts;
+mod sys;
+mod text;
+mod view;
+
+pub use part::IoBufMut;
+pub use parts::{Builder, IoBufsMut};
+pub use text::{Frames, IoBufs};
+pub use view::IoBuf;
+
+use std::fmt;
+use std::ops::{Bound, RangeBounds};
+
+/// Why a value was not read (the codec's `Error`).
+#[derive(Clone, Copy, Debug, PartialEq, Eq)]
+pub enum Error {
+    /// Fewer bytes are left than were asked for.
+    EndOfBuffer,
+    /// The bytes spell no length.
+    InvalidVarint,
+    /// The length is outside the range.
+    InvalidLength,
+}
+
+/// A destination was longer than the bytes left.
+#[derive(Clone, Copy, Debug, PartialEq, Eq)]
+pub struct TryGetError {
+    /// How many bytes were asked for.
+    pub requested: usize,
+    /// How many were left.
+    pub available: usize,
+}
+
+impl fmt::Display for TryGetError {
+    fn fmt(&self, f: &mut fmt::Formatter<'_>) -> fmt::Result {
+        write!(
+            f,
+            "{} bytes were asked for, and {} are left",
+            self.requested, self.available
+        )
+    }
+}
+
+impl std::error::Error for TryGetError {}
+
+impl fmt::Display for Error {
+    fn fmt(&self, f: &mut fmt::Formatter<'_>) -> fmt::Result {
+        fmt::Debug::fmt(self, f)
+    }
+}
+
+impl std::error::Error for Error {}
+
+/// How many bytes spell a length.
+pub fn length_size(n: usize) -> usize {
+    // SAFETY: it asks for nothing.
+    unsafe { sys::iobufs_length_size(n) }
+}
+
+/// Ends as the original does where memory is refused.
+fn out_of_memory() -> ! {
+    std::alloc::handle_alloc_error(std::alloc::Layout::new::<u8>())
+}
+
+/// Takes a status: done, or a panic with `message`, or the end where memory was refused.
+#[inline]
+#[track_caller]
+fn done(status: u8, message: &str) {
+    match status {
+        sys::OK => {}
+        sys::MEMORY => out_of_memory(),
+        _ => panic!("{message}"),
+    }
+}
+
+/// A pointer that is not null, for no bytes (duty 4).
+fn no_bytes() -> *const u8 {
+    std::ptr::NonNull::dangling().as_ptr()
+}
+
+/// The lowest and the highest length of a range; of an empty one, none.
+fn limits(range: impl RangeBounds<usize>) -> (usize, usize) {
+    let lo = match range.start_bound() {
+        Bound::Included(n) => Some(*n),
+        Bound::Excluded(n) => n.checked_add(1),
+        Bound::Unbounded => Some(0),
+    };
+    let hi = match range.end_bound() {
+        Bound::Included(n) => Some(*n),
+        Bound::Excluded(n) => n.checked_sub(1),
+        Bound::Unbounded => Some(usize::MAX),
+    };
+    lo.zip(hi).unwrap_or((1, 0))
+}
+
+/// What reading a length or a frame answers.
+fn read(status: u8) -> Result<(), Error> {
+    match status {
+        sys::OK => Ok(()),
+        sys::END_OF_BUFFER => Err(Error::EndOfBuffer),
+        sys::INVALID_VARINT => Err(Error::InvalidVarint),
+        sys::INVALID_LENGTH => Err(Error::InvalidLength),
+        _ => out_of_memory(),
+    }
+}
+
+/// Equality with bytes, as the original has it.
+macro_rules! same_bytes {
+    ($buffer:ty) => {
+        impl PartialEq<[u8]> for $buffer {
+            fn eq(&self, other: &[u8]) -> bool {
+                self.as_ref() == other
+            }
+        }
+        impl PartialEq<&[u8]> for $buffer {
+            fn eq(&self, other: &&[u8]) -> bool {
+                self.as_ref() == *other
+            }
+        }
+        impl<const N: usize> PartialEq<[u8; N]> for $buffer {
+            fn eq(&self, other: &[u8; N]) -> bool {
+                self.as_ref() == other
+            }
+        }
+        impl<const N: usize> PartialEq<&[u8; N]> for $buffer {
+            fn eq(&self, other: &&[u8; N]) -> bool {
+                self.as_ref() == *other
+            }
+        }
+    };
+}
+pub(crate) use same_bytes;
+
+/// Numbers are put with the highest byte first; one byte by the call of that name.
+macro_rules! puts {
+    ($put_u8:path) => {
+        /// Puts one byte; panics where there is no room.
+        #[track_caller]
+        pub fn put_u8(&mut self, n: u8) {
+            // SAFETY: duties 1 and 3.
+            done(
+                unsafe { $put_u8(&mut self.0.at(), n) },
+                "cannot advance past end of buffer",
+            );
+        }
+
+        /// Puts two bytes, the highest of the number first.
+        #[track_caller]
+        pub fn put_u16(&mut self, n: u16) {
+            self.put_slice(&n.to_be_bytes());
+        }
+
+        /// Puts four bytes, the highest of the number first.
+        #[track_caller]
+        pub fn put_u32(&mut self, n: u32) {
+            self.put_slice(&n.to_be_bytes());
+        }
+
+        /// Puts eight bytes, the highest of the number first.
+        #[track_caller]
+        pub fn put_u64(&mut self, n: u64) {
+            self.put_slice(&n.to_be_bytes());
+        }
+    };
+}
+pub(crate) use puts;
+
+/// As `copy_to_slice`, where there are enough bytes.
+macro_rules! try_copy {
+    () => {
+        /// As `copy_to_slice`, where there are enough bytes; else nothing changes, and both lengths are told (`Buf`).
+        pub fn try_copy_to_slice(&mut self, dst: &mut [u8]) -> Result<(), crate::TryGetError> {
+            let (requested, available) = (dst.len(), self.remaining());
+            if requested > available {
+                return Err(crate::TryGetError { requested, available });
+            }
+            self.copy_to_slice(dst);
+            Ok(())
+        }
+    };
+}
+pub(crate) use try_copy;

@@ -1,0 +1,353 @@
+//! `IoBufsMut` and `Builder`.
+use crate::part::IoBufMut;
+use crate::sys::{self, At, Memory};
+use crate::text::{IoBufs, NO_CHUNK, piece};
+use crate::view::IoBuf;
+use crate::{done, no_bytes, puts, try_copy};
+use std::io::{self, IoSlice};
+use std::{fmt, slice};
+
+const PAST: &str = "cannot advance past end of buffer";
+
+/// Writable buffers in a row, read from the front and filled in order.
+pub struct IoBufsMut(Memory<{ sys::PARTS }>);
+
+impl IoBufsMut {
+    fn none() -> Self {
+        IoBufsMut(Memory::new(sys::iobufsmut_init))
+    }
+
+    /// The number of readable bytes.
+    pub fn len(&self) -> usize {
+        // SAFETY: it only looks (duty 3).
+        unsafe { sys::iobufsmut_len(&mut self.0.at()) }
+    }
+
+    /// Whether no byte is readable.
+    pub fn is_empty(&self) -> bool {
+        self.len() == 0
+    }
+
+    /// Whether there is just one part.
+    pub fn is_single(&self) -> bool {
+        // SAFETY: it only looks (duty 3).
+        unsafe { sys::iobufsmut_is_single(&mut self.0.at()) }
+    }
+
+    /// How many bytes fit, counted from the first readable one.
+    pub fn capacity(&self) -> usize {
+        // SAFETY: it only looks (duty 3).
+        unsafe { sys::iobufsmut_capacity(&mut self.0.at()) }
+    }
+
+    /// Makes `n` bytes readable, the parts filled in order. Those that were not are zero. Panics above the capacity.
+    #[track_caller]
+    pub fn set_len(&mut self, n: usize) {
+        // SAFETY: duties 1 and 3.
+        done(
+            unsafe { sys::iobufsmut_set_len(&mut self.0.at(), n) },
+            "set_len past the capacity",
+        );
+    }
+
+    /// Writes over the readable bytes. Panics where there are not just as many.
+    #[track_caller]
+    pub fn copy_from_slice(&mut self, src: &[u8]) {
+        // SAFETY: duty 4: the slice's pointer is not null, and it outlives the call.
+        done(
+            unsafe { sys::iobufsmut_copy_from_slice(&mut self.0.at(), src.as_ptr(), src.len()) },
+            "source slice length must match buffer length",
+        );
+    }
+
+    /// The parts that hold bytes as the pieces of one text.
+    pub fn freeze(self) -> IoBufs {
+        let out = IoBufs::default();
+        // SAFETY: duties 1 to 3.
+        done(
+            unsafe { sys::iobufsmut_freeze(&mut self.0.at(), &mut out.memory().at()) },
+            "",
+        );
+        out
+    }
+
+    /// The parts as one buffer, with a copy of several.
+    #[track_caller]
+    pub fn coalesce(self) -> IoBufMut {
+        let out = IoBufMut::none();
+        // SAFETY: duties 1 to 3.
+        done(
+            unsafe { sys::iobufsmut_coalesce(&mut self.0.at(), &mut out.memory().at()) },
+            "the parts are too long for one buffer",
+        );
+        out
+    }
+
+    /// The only part; the parts themselves where there are more.
+    pub fn try_into_single(self) -> Result<IoBufMut, Self> {
+        let out = IoBufMut::none();
+        // SAFETY: duties 1 to 3.
+        match unsafe { sys::iobufsmut_try_into_single(&mut self.0.at(), &mut out.memory().at()) } {
+            sys::OK => Ok(out),
+            _ => Err(self),
+        }
+    }
+
+    /// How many bytes are readable (`Buf`).
+    pub fn remaining(&self) -> usize {
+        self.len()
+    }
+
+    /// The first piece of the readable bytes (`Buf`).
+    pub fn chunk(&self) -> &[u8] {
+        let mut at = no_bytes().cast_mut();
+        // SAFETY: duty 5: the bytes may be read until `self` is changed or dropped, which the borrow rules out.
+        unsafe {
+            let n = sys::iobufsmut_chunk(&mut self.0.at(), &mut at);
+            slice::from_raw_parts(at, n)
+        }
+    }
+
+    /// Fills `dst` with the first pieces of the readable bytes, and says how many (`Buf`).
+    pub fn chunks_vectored<'a>(&'a self, dst: &mut [IoSlice<'a>]) -> usize {
+        let mut chunks = vec![NO_CHUNK; dst.len()];
+        // SAFETY: duty 4: the list has so many places, and `as_mut_ptr` is not null. It only looks (duty 3).
+        let n = unsafe { sys::iobufsmut_chunks(&mut self.0.at(), chunks.as_mut_ptr(), chunks.len()) };
+        for (slice, chunk) in dst.iter_mut().zip(&chunks[..n]) {
+            // SAFETY: it is a piece of `self`, which is borrowed.
+            *slice = IoSlice::new(unsafe { piece(chunk) });
+        }
+        n
+    }
+
+    /// Drops the first `n` bytes. Panics where there are fewer (`Buf`).
+    #[track_caller]
+    pub fn advance(&mut self, n: usize) {
+        // SAFETY: duties 1 and 3.
+        done(unsafe { sys::iobufsmut_advance(&mut self.0.at(), n) }, PAST);
+    }
+
+    /// Fills `dst` with the first bytes, and drops these. Panics where there are fewer (`Buf`).
+    #[track_caller]
+    pub fn copy_to_slice(&mut self, dst: &mut [u8]) {
+        // SAFETY: duty 4: the slice's pointer is not null, and its bytes may be written during the call.
+        done(
+            unsafe { sys::iobufsmut_copy_to_slice(&mut self.0.at(), dst.as_mut_ptr(), dst.len()) },
+            "Not enough bytes remaining in buffer",
+        );
+    }
+
+    try_copy!();
+
+    /// How many bytes may still be put (`BufMut`).
+    pub fn remaining_mut(&self) -> usize {
+        // SAFETY: it only looks (duty 3).
+        unsafe { sys::iobufsmut_remaining_mut(&mut self.0.at()) }
+    }
+
+    /// Puts bytes, part after part. Panics where they don't fit (`BufMut`).
+    #[track_caller]
+    pub fn put_slice(&mut self, src: &[u8]) {
+        // SAFETY: duty 4: the slice's pointer is not null, and it outlives the call.
+        done(
+            unsafe { sys::iobufsmut_put_slice(&mut self.0.at(), src.as_ptr(), src.len()) },
+            PAST,
+        );
+    }
+
+    /// Puts a byte `n` times. Panics where they don't fit (`BufMut`).
+    #[track_caller]
+    pub fn put_bytes(&mut self, value: u8, n: usize) {
+        // SAFETY: duties 1 and 3.
+        done(unsafe { sys::iobufsmut_put_bytes(&mut self.0.at(), value, n) }, PAST);
+    }
+
+    /// Puts the spelling of a length. Panics where it doesn't fit (`usize::write`).
+    #[track_caller]
+    pub fn put_length(&mut self, n: usize) {
+        // SAFETY: duties 1 and 3.
+        done(unsafe { sys::iobufsmut_put_length(&mut self.0.at(), n) }, PAST);
+    }
+
+    puts!(sys::iobufsmut_put_u8);
+}
+
+impl Default for IoBufsMut {
+    fn default() -> Self {
+        IoBufMut::default().into()
+    }
+}
+
+impl Drop for IoBufsMut {
+    fn drop(&mut self) {
+        // SAFETY: duty 1: the memory isn't used behind it.
+        unsafe { sys::iobufsmut_drop(&mut self.0.at()) }
+    }
+}
+
+impl fmt::Debug for IoBufsMut {
+    fn fmt(&self, f: &mut fmt::Formatter<'_>) -> fmt::Result {
+        f.debug_struct("IoBufsMut")
+            .field("len", &self.len())
+            .field("cap", &self.capacity())
+            .finish()
+    }
+}
+
+impl From<IoBufMut> for IoBufsMut {
+    fn from(part: IoBufMut) -> Self {
+        let out = Self::none();
+        // SAFETY: duties 1 to 3.
+        unsafe { sys::iobufsmut_from_mut(&mut part.memory().at(), &mut out.0.at()) };
+        out
+    }
+}
+
+/// Copies, and keeps the capacity.
+impl From<Vec<u8>> for IoBufsMut {
+    fn from(bytes: Vec<u8>) -> Self {
+        IoBufMut::from(bytes).into()
+    }
+}
+
+impl<const N: usize> From<[u8; N]> for IoBufsMut {
+    fn from(bytes: [u8; N]) -> Self {
+        IoBufMut::from(bytes).into()
+    }
+}
+
+/// The parts that can hold a byte. Panics where their capacities pass `usize::MAX`.
+impl FromIterator<IoBufMut> for IoBufsMut {
+    #[track_caller]
+    fn from_iter<I: IntoIterator<Item = IoBufMut>>(parts: I) -> Self {
+        let (parts, out): (Vec<IoBufMut>, _) = (parts.into_iter().collect(), Self::none());
+        let mut places: Vec<At<{ sys::PART }>> = parts.iter().map(|part| part.memory().at()).collect();
+        // SAFETY: duty 4: `as_mut_ptr` is not null, and there are so many places. Duties 1 to 3: `parts` is owned, and
+        // stays where it is during the call.
+        done(
+            unsafe { sys::iobufsmut_from_parts(places.as_mut_ptr(), places.len(), &mut out.0.at()) },
+            "capacity overflow",
+        );
+        out
+    }
+}
+
+impl From<Vec<IoBufMut>> for IoBufsMut {
+    fn from(parts: Vec<IoBufMut>) -> Self {
+        parts.into_iter().collect()
+    }
+}
+
+impl<const N: usize> From<[IoBufMut; N]> for IoBufsMut {
+    fn from(parts: [IoBufMut; N]) -> Self {
+        parts.into_iter().collect()
+    }
+}
+
+impl From<IoBufsMut> for IoBufs {
+    fn from(parts: IoBufsMut) -> Self {
+        parts.freeze()
+    }
+}
+
+impl io::Read for IoBufsMut {
+    fn read(&mut self, dst: &mut [u8]) -> io::Result<usize> {
+        let n = dst.len().min(self.len());
+        self.copy_to_slice(&mut dst[..n]);
+        Ok(n)
+    }
+}
+
+/// Takes what fits.
+impl io::Write for IoBufsMut {
+    fn write(&mut self, src: &[u8]) -> io::Result<usize> {
+        let n = src.len().min(self.remaining_mut());
+        self.put_slice(&src[..n]);
+        Ok(n)
+    }
+
+    fn flush(&mut self) -> io::Result<()> {
+        Ok(())
+    }
+}
+
+/// Encoded bytes and existing buffers, put together as one text.
+pub struct Builder(Memory<{ sys::BUILDER }>);
+
+impl Builder {
+    /// A builder for so many bytes that are put, and no more.
+    #[track_caller]
+    pub fn new(capacity: usize) -> Self {
+        let out = Builder(Memory::new(sys::iobufs_builder_init));
+        // SAFETY: duty 1.
+        done(
+            unsafe { sys::iobufs_builder_new(capacity, &mut out.0.at()) },
+            "alignment must be a power of two and the size must fit a layout",
+        );
+        out
+    }
+
+    /// All that was put and pushed, in order.
+    pub fn finish(self) -> IoBufs {
+        let out = IoBufs::default();
+        // SAFETY: duties 1 to 3.
+        done(
+            unsafe { sys::iobufs_builder_finish(&mut self.0.at(), &mut out.memory().at()) },
+            "",
+        );
+        out
+    }
+
+    /// How many bytes may still be put (`BufMut`).
+    pub fn remaining_mut(&self) -> usize {
+        // SAFETY: it only looks (duty 3).
+        unsafe { sys::iobufs_builder_remaining_mut(&mut self.0.at()) }
+    }
+
+    /// Puts bytes. Panics where they don't fit (`BufMut`).
+    #[track_caller]
+    pub fn put_slice(&mut self, src: &[u8]) {
+        // SAFETY: duty 4: the slice's pointer is not null, and it outlives the call.
+        done(
+            unsafe { sys::iobufs_builder_put_slice(&mut self.0.at(), src.as_ptr(), src.len()) },
+            PAST,
+        );
+    }
+
+    /// Puts a byte `n` times. Panics where they don't fit (`BufMut`).
+    #[track_caller]
+    pub fn put_bytes(&mut self, value: u8, n: usize) {
+        // SAFETY: duties 1 and 3.
+        done(
+            unsafe { sys::iobufs_builder_put_bytes(&mut self.0.at(), value, n) },
+            PAST,
+        );
+    }
+
+    /// Puts the spelling of a length. Panics where it doesn't fit (`usize::write`).
+    #[track_caller]
+    pub fn put_length(&mut self, n: usize) {
+        // SAFETY: duties 1 and 3.
+        done(unsafe { sys::iobufs_builder_put_length(&mut self.0.at(), n) }, PAST);
+    }
+
+    /// Pushes a buffer, which is not copied (`BufsMut`).
+    #[track_caller]
+    pub fn push(&mut self, chunk: impl Into<IoBuf>) {
+        let chunk = chunk.into();
+        // SAFETY: duties 1 to 3.
+        done(
+            unsafe { sys::iobufs_builder_push(&mut self.0.at(), &mut chunk.memory().at()) },
+            "length overflow",
+        );
+    }
+
+    puts!(sys::iobufs_builder_put_u8);
+}
+
+impl Drop for Builder {
+    fn drop(&mut self) {
+        // SAFETY: duty 1: the memory isn't used behind it.
+        unsafe { sys::iobufs_builder_drop(&mut self.0.at()) }
+    }
+}

@@ -1,0 +1,261 @@
+//! `IoBuf`.
+use crate::part::IoBufMut;
+use crate::sys::{self, Memory};
+use crate::{Error, done, limits, no_bytes, read, same_bytes, try_copy};
+use std::ops::{Bound, RangeBounds};
+use std::{fmt, io, slice};
+
+/// A read-only text of one piece. Clones, slices and both sides of a split share their storage.
+pub struct IoBuf(Memory<{ sys::VIEW }>);
+
+impl IoBuf {
+    pub(crate) fn memory(&self) -> &Memory<{ sys::VIEW }> {
+        &self.0
+    }
+
+    /// A copy of these bytes.
+    pub fn copy_from_slice(data: &[u8]) -> Self {
+        let out = IoBuf::default();
+        // SAFETY: duty 4: the slice's pointer is not null, and it outlives the call.
+        done(
+            unsafe { sys::iobuf_copy_from_slice(data.as_ptr(), data.len(), &mut out.0.at()) },
+            "",
+        );
+        out
+    }
+
+    /// The number of bytes.
+    #[inline]
+    pub fn len(&self) -> usize {
+        // SAFETY: it only looks (duty 3).
+        unsafe { sys::iobuf_len(&mut self.0.at()) }
+    }
+
+    /// Whether there are no bytes.
+    #[inline]
+    pub fn is_empty(&self) -> bool {
+        self.len() == 0
+    }
+
+    /// Where the bytes lie.
+    pub fn as_ptr(&self) -> *const u8 {
+        self.as_ref().as_ptr()
+    }
+
+    /// The bytes of a range, in the same storage. Panics where it does not lie within the bytes.
+    #[track_caller]
+    pub fn slice(&self, range: impl RangeBounds<usize>) -> Self {
+        let kind = |bound: Bound<&usize>| match bound {
+            Bound::Included(n) => (0, *n),
+            Bound::Excluded(n) => (1, *n),
+            Bound::Unbounded => (2, 0),
+        };
+        let ((lo_kind, lo), (hi_kind, hi)) = (kind(range.start_bound()), kind(range.end_bound()));
+        let out = IoBuf::default();
+        // SAFETY: it only looks at `self` (duty 3).
+        let status = unsafe { sys::iobuf_slice(&mut self.0.at(), lo_kind, lo, hi_kind, hi, &mut out.0.at()) };
+        if status == sys::OUT_OF_RANGE {
+            let from = if lo_kind == 1 {
+                lo.checked_add(1).expect("range start overflow")
+            } else {
+                lo
+            };
+            let to = match hi_kind {
+                0 => hi.checked_add(1).expect("range end overflow"),
+                1 => hi,
+                _ => self.len(),
+            };
+            assert!(from <= to, "slice start must be <= end");
+        }
+        done(status, "slice out of bounds");
+        out
+    }
+
+    /// Takes the first `at` bytes away, in the same storage. Panics where there are fewer.
+    #[track_caller]
+    pub fn split_to(&mut self, at: usize) -> Self {
+        let out = IoBuf::default();
+        // SAFETY: duties 1 to 3.
+        done(
+            unsafe { sys::iobuf_split_to(&mut self.0.at(), at, &mut out.0.at()) },
+            "split_to out of bounds",
+        );
+        out
+    }
+
+    /// The same bytes as a buffer to write, with the room behind them, if no other view shares their storage.
+    pub fn try_into_mut(self) -> Result<IoBufMut, Self> {
+        let out = IoBufMut::none();
+        // SAFETY: duties 1 to 3.
+        match unsafe { sys::iobuf_try_into_mut(&mut self.0.at(), &mut out.memory().at()) } {
+            sys::OK => Ok(out),
+            _ => Err(self),
+        }
+    }
+
+    /// How many bytes are left (`Buf`).
+    pub fn remaining(&self) -> usize {
+        self.len()
+    }
+
+    /// Whether bytes are left (`Buf`).
+    pub fn has_remaining(&self) -> bool {
+        !self.is_empty()
+    }
+
+    /// The bytes (`Buf`).
+    pub fn chunk(&self) -> &[u8] {
+        self.as_ref()
+    }
+
+    /// Drops the first `n` bytes. Panics where there are fewer (`Buf`).
+    #[track_caller]
+    pub fn advance(&mut self, n: usize) {
+        // SAFETY: duties 1 to 3.
+        done(
+            unsafe { sys::iobuf_advance(&mut self.0.at(), n) },
+            "cannot advance past end of buffer",
+        );
+    }
+
+    /// Fills `dst` with the first bytes, and drops these. Panics where there are fewer (`Buf`).
+    #[track_caller]
+    pub fn copy_to_slice(&mut self, dst: &mut [u8]) {
+        // SAFETY: duty 4: the slice's pointer is not null, and its bytes may be written during the call.
+        done(
+            unsafe { sys::iobuf_copy_to_slice(&mut self.0.at(), dst.as_mut_ptr(), dst.len()) },
+            "Not enough bytes remaining in buffer",
+        );
+    }
+
+    /// Takes the first `n` bytes out, in the same storage. Panics where there are fewer (`Buf`).
+    #[track_caller]
+    pub fn take_owned(&mut self, n: usize) -> IoBuf {
+        let out = IoBuf::default();
+        // SAFETY: duties 1 to 3.
+        done(
+            unsafe { sys::iobuf_take(&mut self.0.at(), n, &mut out.0.at()) },
+            "take_owned out of bounds",
+        );
+        out
+    }
+
+    /// The same, by the name that the original has for an answer of `Bytes`.
+    #[track_caller]
+    pub fn copy_to_bytes(&mut self, n: usize) -> IoBuf {
+        assert!(n <= self.len(), "copy_to_bytes out of bounds");
+        self.take_owned(n)
+    }
+
+    try_copy!();
+
+    /// Reads the length in front, if it is in the range (`usize::read_cfg`).
+    pub fn read_length(&mut self, range: impl RangeBounds<usize>) -> Result<usize, Error> {
+        let ((lo, hi), mut n) = (limits(range), 0);
+        // SAFETY: duties 1 to 3.
+        read(unsafe { sys::iobuf_read_length(&mut self.0.at(), lo, hi, &mut n) })?;
+        Ok(n)
+    }
+}
+
+impl Default for IoBuf {
+    fn default() -> Self {
+        IoBuf(Memory::new(sys::iobuf_init))
+    }
+}
+
+impl Drop for IoBuf {
+    fn drop(&mut self) {
+        // SAFETY: duty 1: the memory isn't used behind it.
+        unsafe { sys::iobuf_drop(&mut self.0.at()) }
+    }
+}
+
+impl Clone for IoBuf {
+    fn clone(&self) -> Self {
+        let out = IoBuf::default();
+        // SAFETY: it only looks at `self` (duty 3).
+        done(unsafe { sys::iobuf_clone(&mut self.0.at(), &mut out.0.at()) }, "");
+        out
+    }
+}
+
+impl AsRef<[u8]> for IoBuf {
+    #[inline]
+    fn as_ref(&self) -> &[u8] {
+        let mut at = no_bytes();
+        // SAFETY: duty 5: the bytes may be read until `self` is changed or dropped, which the borrow rules out.
+        unsafe {
+            let n = sys::iobuf_chunk(&mut self.0.at(), &mut at);
+            slice::from_raw_parts(at, n)
+        }
+    }
+}
+
+impl fmt::Debug for IoBuf {
+    fn fmt(&self, f: &mut fmt::Formatter<'_>) -> fmt::Result {
+        f.debug_struct("IoBuf").field("len", &self.len()).finish()
+    }
+}
+
+impl PartialEq for IoBuf {
+    fn eq(&self, other: &Self) -> bool {
+        self.as_ref() == other.as_ref()
+    }
+}
+
+impl Eq for IoBuf {}
+same_bytes!(IoBuf);
+
+impl From<&'static [u8]> for IoBuf {
+    fn from(bytes: &'static [u8]) -> Self {
+        let out = IoBuf::default();
+        // SAFETY: duty 4: `'static` bytes outlive every buffer, and never change.
+        unsafe { sys::iobuf_from_static(bytes.as_ptr(), bytes.len(), &mut out.0.at()) };
+        out
+    }
+}
+
+impl<const N: usize> From<&'static [u8; N]> for IoBuf {
+    fn from(bytes: &'static [u8; N]) -> Self {
+        Self::from(&bytes[..])
+    }
+}
+
+/// Copies.
+impl From<Vec<u8>> for IoBuf {
+    fn from(bytes: Vec<u8>) -> Self {
+        Self::copy_from_slice(&bytes)
+    }
+}
+
+impl From<IoBufMut> for IoBuf {
+    fn from(part: IoBufMut) -> Self {
+        part.freeze()
+    }
+}
+
+/// Copies.
+impl From<IoBuf> for Vec<u8> {
+    fn from(view: IoBuf) -> Self {
+        view.as_ref().to_vec()
+    }
+}
+
+impl io::Read for IoBuf {
+    fn read(&mut self, dst: &mut [u8]) -> io::Result<usize> {
+        let n = dst.len().min(self.len());
+        self.copy_to_slice(&mut dst[..n]);
+        Ok(n)
+    }
+}
+
+impl io::BufRead for IoBuf {
+    fn fill_buf(&mut self) -> io::Result<&[u8]> {
+        Ok(self.chunk())
+    }
+
+    fn consume(&mut self, n: usize) {
+        self.advance(n);
+    }
+}

@@ -1,0 +1,163 @@
+// Frames at their places.
+ghost use Rattle.std.specs.Prelude.{◌≡◌, ℕ, ◌+◌, ◌≤◌, ◌<◌, ◌^◌, ◌==◌, if◌then◌else◌, length, false, Ok, Some};
+ghost use Rattle.std.specs.Borrow.{sem, Lends, full_share};
+ghost use Rattle.std.specs.Ptr.{lies_at, room_at};
+ghost use Rattle.iobufs_core.specs.MarkedText.{MarkedText, default_text, text_append, text_len, text_rest};
+ghost use Rattle.iobufs_core.specs.View.{default_view};
+ghost use Rattle.iobufs_core.specs.Wire.{view_written};
+ghost use Rattle.iobufs_frames.specs.Frames.{HasBytes, HasNoFrame, IsNext};
+ghost use Rattle.iobufs_frames.specs.contracts.Frames.{the_row as frames_row};
+ghost use Rattle.iobufs_c.specs.Codes.{IsDoneUnless, code_of};
+
+use crate::status::{Status, fault, refusal};
+use crate::text::TextAt;
+use crate::view::ViewAt;
+use iobufs_core::codec::{Error, RangeCfg};
+use iobufs_frames::{End, Frames};
+use std::alloc::Global;
+use std::marker::{Model, Send};
+use std::mem;
+
+/// The place of a text that is fed at its end, and of which frames are taken from the front.
+#[repr(C)]
+pub struct FramesAt {
+    at: *mut u8,
+    ghost value: { MarkedText },
+}
+
+impl Model for FramesAt {
+    ghost use Rattle.std.specs.Borrow.{full_share};
+    ghost use Rattle.std.specs.Ptr.{lies_at};
+    ghost use Rattle.iobufs_frames.specs.contracts.Frames.{the_row as frames_row};
+
+    ghost also_owns = { λ h. lies_at frames_row full_share h.at h.value };
+}
+
+// Frames may go to another thread, and their place with them (proofs/frames/FramesAt/TheSendSync).
+unsafe impl Send for FramesAt {}
+
+impl FramesAt {
+    ghost use Rattle.iobufs_c.specs.contracts.frames.FramesAt.{the_row};
+
+    /// The frames at the place.
+    pub(crate) fn get(&mut self) -> &mut Frames
+        ensures* writes_back { sem 𝓛 (Lends the_row frames_row self.entry result (λ v. record { at = self.old.at; value = v })) }
+        ensures value { result.now ≡ self.old.value }
+    {
+        unsafe { &mut *(self.at as *mut Frames) }
+    }
+}
+
+fn empty() -> Frames
+    ensures { result ≡ default_text }
+{
+    Frames::default()
+}
+
+/// How many bytes frames take.
+#[unsafe(no_mangle)]
+pub extern "C" fn iobufs_frames_size() -> usize {
+    mem::size_of::<Frames>()
+}
+
+/// To what frames are aligned.
+#[unsafe(no_mangle)]
+pub extern "C" fn iobufs_frames_align() -> usize {
+    mem::align_of::<Frames>()
+}
+
+/// Makes frames of memory, to which nothing was fed.
+#[unsafe(no_mangle)]
+pub unsafe extern "C" fn iobufs_frames_init(at: *mut u8)
+    requires* { sem 𝓛 (room_at frames_row at) }
+    ensures* { sem 𝓛 (lies_at frames_row full_share at default_text) }
+{
+    (at as *mut Frames).write(empty());
+}
+
+/// Gives what was fed up.
+#[unsafe(no_mangle)]
+pub extern "C" fn iobufs_frames_drop(frames: &mut FramesAt)
+    ensures at { frames.new.at ≡ frames.old.at }
+    ensures value { frames.new.value ≡ default_text }
+{
+    *frames.get() = Frames::default();
+}
+
+/// How many bytes were fed and not taken.
+#[unsafe(no_mangle)]
+pub extern "C" fn iobufs_frames_len(frames: &mut FramesAt) -> usize
+    ensures same { (frames.new.at ≡ frames.old.at) × (frames.new.value ≡ frames.old.value) }
+    ensures value { result ≡ text_len frames.old.value }
+{
+    frames.get().rest().len()
+}
+
+/// What was fed and not taken, as a text that shares its storage.
+#[unsafe(no_mangle)]
+pub extern "C" fn iobufs_frames_rest(frames: &mut FramesAt, out: &mut TextAt) -> u8
+    ensures same { (frames.new.at ≡ frames.old.at) × (frames.new.value ≡ frames.old.value) }
+    ensures at { out.new.at ≡ out.old.at }
+    ensures value { out.new.value ≡ (if result == 0 then frames.old.value else out.old.value) }
+    ensures memory { IsDoneUnless result Status.Memory }
+{
+    match frames.get().rest().clone() {
+        Ok(text) => {
+            *out.get() = text;
+            Status::Done.code()
+        }
+        Err(_) => Status::Memory.code(),
+    }
+}
+
+/// Puts a view behind what was fed, and leaves its place empty. Where that is refused, both are as before.
+#[unsafe(no_mangle)]
+pub extern "C" fn iobufs_frames_feed(alloc: Global, frames: &mut FramesAt, piece: &mut ViewAt) -> u8
+    ensures at { (frames.new.at ≡ frames.old.at) × (piece.new.at ≡ piece.old.at) }
+    ensures frames { frames.new.value ≡ (if result == 0 then text_append frames.old.value piece.old.value else frames.old.value) }
+    ensures piece { piece.new.value ≡ (if result == 0 then default_view else piece.old.value) }
+    ensures too_long { 2 ^ 64 ≤ text_len frames.old.value + length piece.old.value.bytes → result ≡ code_of Status.TooLong }
+    ensures memory { text_len frames.old.value + length piece.old.value.bytes < 2 ^ 64 → IsDoneUnless result Status.Memory }
+    ensures nothing { length piece.old.value.bytes ≡ 0 → result ≡ 0 }
+{
+    let view = mem::take(piece.get());
+    match frames.get().feed(alloc, view) {
+        Ok(()) => Status::Done.code(),
+        Err(refused) => {
+            *piece.get() = refused.value;
+            refusal(refused.cause)
+        }
+    }
+}
+
+/// Takes the frame in front, whose length is from `lo` to `hi`. `Status::EndOfBuffer` where it is not whole yet,
+/// `Status::InvalidVarint` and `Status::InvalidLength` where no bytes behind will make it so. All but a taken frame leave
+/// both as before.
+#[unsafe(no_mangle)]
+pub extern "C" fn iobufs_frames_next(
+    alloc: Global,
+    frames: &mut FramesAt,
+    lo: usize,
+    hi: usize,
+    out: &mut ViewAt,
+) -> u8
+    ensures at { (frames.new.at ≡ frames.old.at) × (out.new.at ≡ out.old.at) }
+    ensures taken { result ≡ 0 → IsNext (record { lo = lo; hi = hi }) frames.old.value.bytes (Ok (Some out.new.value)) frames.new.value.bytes }
+    ensures left { result ≡ 0 → frames.new.value ≡ text_rest frames.old.value (length (view_written out.new.value)) }
+    ensures same { (result == 0) ≡ false → (frames.new.value ≡ frames.old.value) × (out.new.value ≡ out.old.value) }
+    ensures open { result ≡ code_of Status.EndOfBuffer → HasNoFrame (record { lo = lo; hi = hi }) frames.old.value.bytes End.Open }
+    ensures invalid { result ≡ code_of Status.InvalidVarint → HasNoFrame (record { lo = lo; hi = hi }) frames.old.value.bytes (End.Bad Error.InvalidVarint) }
+    ensures outside { result ≡ code_of Status.InvalidLength → (n : ℕ)
+        × HasNoFrame (record { lo = lo; hi = hi }) frames.old.value.bytes (End.Bad (Error.InvalidLength n)) }
+    ensures memory { result ≡ code_of Status.Memory → HasBytes (record { lo = lo; hi = hi }) frames.old.value.bytes }
+{
+    let range = RangeCfg { lo, hi };
+    match frames.get().next(alloc, &range) {
+        Ok(Some(view)) => {
+            *out.get() = view;
+            Status::Done.code()
+        }
+        Ok(None) => Status::EndOfBuffer.code(),
+        Err(error) => fault(error),
+    }
+}

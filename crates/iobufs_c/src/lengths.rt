@@ -1,0 +1,176 @@
+// Lengths as they are spelled, and bytes behind their length.
+ghost use Rattle.std.specs.Prelude.{◌≡◌, ℕ, ◌==◌, if◌then◌else◌, length, nat_le, false, Ok, Err};
+ghost use Rattle.std.specs.Option.{option_map};
+ghost use Rattle.iobufs.specs.Building.{building_put, building_room};
+ghost use Rattle.iobufs.specs.Parts.{parts_fill, parts_spare};
+ghost use Rattle.iobufs_core.specs.MarkedText.{text_advanced, text_rest};
+ghost use Rattle.iobufs_core.specs.Part.{part_put};
+ghost use Rattle.iobufs_core.specs.Spelling.{spell};
+ghost use Rattle.iobufs_core.specs.View.{view_advanced};
+ghost use Rattle.iobufs_core.specs.Wire.{IsLengthRead, IsViewFault, IsViewRead, view_written};
+ghost use Rattle.iobufs_c.specs.Codes.{IsReadCode, code_of};
+ghost use Rattle.iobufs_c.specs.Rows.{building_of, part_of, parts_of};
+
+use crate::builder::BuilderAt;
+use crate::part::{PartAt, fits};
+use crate::parts::PartsAt;
+use crate::status::{Status, fault};
+use crate::text::TextAt;
+use crate::view::ViewAt;
+use iobufs_core::buf::IoBuf;
+use iobufs_core::codec::{BufMut, EncodeSize, Error, RangeCfg, Read, Write};
+use std::alloc::Global;
+
+/// How many bytes spell a length.
+#[unsafe(no_mangle)]
+pub extern "C" fn iobufs_length_size(n: usize) -> usize
+    ensures { result ≡ length (spell n) }
+{
+    n.encode_inline_size()
+}
+
+/// Puts the spelling of a length. `Status::OutOfRange` where it doesn't fit, and then nothing changes.
+#[unsafe(no_mangle)]
+pub extern "C" fn iobufmut_put_length(part: &mut PartAt, n: usize) -> u8
+    ensures at { part.new.at ≡ part.old.at }
+    ensures value { part.new.value ≡ (if result == 0 then option_map (λ part. part_put part (spell n)) part.old.value else part.old.value) }
+    ensures result { result ≡ (if nat_le (length (spell n)) (part_of part.old.value).spare then 0 else code_of Status.OutOfRange) }
+{
+    let Some(part) = part.get() else {
+        return fits(iobufs_length_size(n), 0);
+    };
+    if iobufs_length_size(n) > part.remaining_mut() {
+        return Status::OutOfRange.code();
+    }
+    n.write(part);
+    Status::Done.code()
+}
+
+/// The same of parts.
+#[unsafe(no_mangle)]
+pub extern "C" fn iobufsmut_put_length(parts: &mut PartsAt, n: usize) -> u8
+    ensures at { parts.new.at ≡ parts.old.at }
+    ensures value { parts.new.value ≡ (if result == 0 then option_map (λ parts. parts_fill parts (spell n)) parts.old.value else parts.old.value) }
+    ensures result { result ≡ (if nat_le (length (spell n)) (parts_spare (parts_of parts.old.value)) then 0 else code_of Status.OutOfRange) }
+{
+    let Some(parts) = parts.get() else {
+        return fits(iobufs_length_size(n), 0);
+    };
+    if iobufs_length_size(n) > parts.remaining_mut() {
+        return Status::OutOfRange.code();
+    }
+    n.write(parts);
+    Status::Done.code()
+}
+
+/// The same of a builder.
+#[unsafe(no_mangle)]
+pub extern "C" fn iobufs_builder_put_length(builder: &mut BuilderAt, n: usize) -> u8
+    ensures at { builder.new.at ≡ builder.old.at }
+    ensures value { builder.new.value ≡ (if result == 0 then option_map (λ b. building_put b (spell n)) builder.old.value else builder.old.value) }
+    ensures result { result ≡ (if nat_le (length (spell n)) (building_room (building_of builder.old.value)) then 0 else code_of Status.OutOfRange) }
+{
+    let Some(builder) = builder.get() else {
+        return fits(iobufs_length_size(n), 0);
+    };
+    if iobufs_length_size(n) > builder.remaining_mut() {
+        return Status::OutOfRange.code();
+    }
+    n.write(builder);
+    Status::Done.code()
+}
+
+/// Reads the length in front of a text, from `lo` to `hi`, and drops its spelling. A length outside is told too; but it
+/// and each fault leave the text.
+#[unsafe(no_mangle)]
+pub extern "C" fn iobufs_read_length(
+    alloc: Global,
+    text: &mut TextAt,
+    lo: usize,
+    hi: usize,
+    out: &mut usize,
+) -> u8
+    ensures at { text.new.at ≡ text.old.at }
+    ensures read { result ≡ 0 → IsLengthRead text.old.value.bytes (record { lo = lo; hi = hi }) (Ok out.new) }
+    ensures rest { result ≡ 0 → text.new.value ≡ text_advanced text.old.value (length (spell out.new)) }
+    ensures same { (result == 0) ≡ false → text.new.value ≡ text.old.value }
+    ensures open { result ≡ code_of Status.EndOfBuffer → IsLengthRead text.old.value.bytes (record { lo = lo; hi = hi }) (Err Error.EndOfBuffer) }
+    ensures invalid { result ≡ code_of Status.InvalidVarint → IsLengthRead text.old.value.bytes (record { lo = lo; hi = hi }) (Err Error.InvalidVarint) }
+    ensures outside { result ≡ code_of Status.InvalidLength
+        → IsLengthRead text.old.value.bytes (record { lo = lo; hi = hi }) (Err (Error.InvalidLength out.new)) }
+    ensures causes { IsReadCode result }
+{
+    let range = RangeCfg { lo, hi };
+    match usize::read_cfg(alloc, text.get(), &range) {
+        Ok(n) => {
+            *out = n;
+            Status::Done.code()
+        }
+        Err(Error::InvalidLength(n)) => {
+            *out = n;
+            Status::InvalidLength.code()
+        }
+        Err(error) => fault(error),
+    }
+}
+
+/// The same of a view.
+#[unsafe(no_mangle)]
+pub extern "C" fn iobuf_read_length(
+    alloc: Global,
+    src: &mut ViewAt,
+    lo: usize,
+    hi: usize,
+    out: &mut usize,
+) -> u8
+    ensures at { src.new.at ≡ src.old.at }
+    ensures read { result ≡ 0 → IsLengthRead src.old.value.bytes (record { lo = lo; hi = hi }) (Ok out.new) }
+    ensures rest { result ≡ 0 → src.new.value ≡ view_advanced src.old.value (length (spell out.new)) }
+    ensures same { (result == 0) ≡ false → src.new.value ≡ src.old.value }
+    ensures open { result ≡ code_of Status.EndOfBuffer → IsLengthRead src.old.value.bytes (record { lo = lo; hi = hi }) (Err Error.EndOfBuffer) }
+    ensures invalid { result ≡ code_of Status.InvalidVarint → IsLengthRead src.old.value.bytes (record { lo = lo; hi = hi }) (Err Error.InvalidVarint) }
+    ensures outside { result ≡ code_of Status.InvalidLength
+        → IsLengthRead src.old.value.bytes (record { lo = lo; hi = hi }) (Err (Error.InvalidLength out.new)) }
+    ensures causes { IsReadCode result }
+{
+    let range = RangeCfg { lo, hi };
+    match usize::read_cfg(alloc, src.get(), &range) {
+        Ok(n) => {
+            *out = n;
+            Status::Done.code()
+        }
+        Err(Error::InvalidLength(n)) => {
+            *out = n;
+            Status::InvalidLength.code()
+        }
+        Err(error) => fault(error),
+    }
+}
+
+/// Reads the bytes behind a length from `lo` to `hi` in front of a text, as a view. Each fault leaves both.
+#[unsafe(no_mangle)]
+pub extern "C" fn iobufs_read_view(
+    alloc: Global,
+    text: &mut TextAt,
+    lo: usize,
+    hi: usize,
+    out: &mut ViewAt,
+) -> u8
+    ensures at { (text.new.at ≡ text.old.at) × (out.new.at ≡ out.old.at) }
+    ensures read { result ≡ 0 → IsViewRead text.old.value (record { lo = lo; hi = hi }) (Ok out.new.value) }
+    ensures rest { result ≡ 0 → text.new.value ≡ text_rest text.old.value (length (view_written out.new.value)) }
+    ensures same { (result == 0) ≡ false → (text.new.value ≡ text.old.value) × (out.new.value ≡ out.old.value) }
+    ensures open { result ≡ code_of Status.EndOfBuffer → IsViewFault text.old.value (record { lo = lo; hi = hi }) Error.EndOfBuffer }
+    ensures invalid { result ≡ code_of Status.InvalidVarint → IsViewFault text.old.value (record { lo = lo; hi = hi }) Error.InvalidVarint }
+    ensures outside { result ≡ code_of Status.InvalidLength → (n : ℕ) × IsViewFault text.old.value (record { lo = lo; hi = hi }) (Error.InvalidLength n) }
+    ensures memory { result ≡ code_of Status.Memory → IsViewFault text.old.value (record { lo = lo; hi = hi }) Error.Memory }
+{
+    let range = RangeCfg { lo, hi };
+    match IoBuf::read_cfg(alloc, text.get(), &range) {
+        Ok(view) => {
+            *out.get() = view;
+            Status::Done.code()
+        }
+        Err(error) => fault(error),
+    }
+}

@@ -1,0 +1,477 @@
+// Buffers to write at their places.
+ghost use Rattle.std.specs.Prelude.{◌≡◌, ◌<◌, ◌==◌, if◌then◌else◌, ◌∷◌, [], length, take, replicate, ◌+◌, nat_le, Option, Some, None, IsTrue, true, false, MatchOption, Ok, Err};
+ghost use Rattle.std.specs.Borrow.{sem, Lends, full_share};
+ghost use Rattle.std.specs.Option.{option_map};
+ghost use Rattle.std.specs.Ptr.{lies_at, room_at};
+ghost use Rattle.iobufs_core.specs.Part.{Part, empty_part, is_bad_layout as bad_layout, part_capacity, part_drained, part_frozen, part_put, part_truncated, part_with_len};
+ghost use Rattle.iobufs_core.specs.Recovery.{IsPartOf, IsRecovery};
+ghost use Rattle.iobufs_core.specs.View.{default_view};
+ghost use Rattle.iobufs_c.specs.Codes.{IsDoneUnless, code_of};
+ghost use Rattle.iobufs_c.specs.Rows.{part_of, part_row, part_written_at};
+
+use crate::status::{Status, refusal};
+use crate::view::ViewAt;
+use iobufs_core::buf::{IoBuf, IoBufMut};
+use iobufs_core::codec::{Buf, BufError, BufMut};
+use std::alloc::Global;
+use std::marker::{Model, Send};
+use std::{mem, ptr};
+
+/// The place of a buffer to write, or of none, in the caller's memory. None reads as a buffer of capacity 0.
+#[repr(C)]
+pub struct PartAt {
+    at: *mut u8,
+    ghost value: { Option Part },
+}
+
+impl Model for PartAt {
+    ghost use Rattle.std.specs.Borrow.{full_share};
+    ghost use Rattle.std.specs.Ptr.{lies_at};
+    ghost use Rattle.iobufs_c.specs.Rows.{part_row};
+
+    ghost also_owns = { λ h. lies_at part_row full_share h.at h.value };
+}
+
+// A buffer may go to another thread, and its place with it (proofs/part/PartAt/TheSendSync).
+unsafe impl Send for PartAt {}
+
+impl PartAt {
+    ghost use Rattle.iobufs_c.specs.contracts.part.PartAt.{the_row};
+
+    /// What is at the place.
+    pub(crate) fn get(&mut self) -> &mut Option<IoBufMut>
+        ensures* writes_back { sem 𝓛 (Lends the_row part_row self.entry result (λ v. record { at = self.old.at; value = v })) }
+        ensures value { result.now ≡ self.old.value }
+    {
+        unsafe { &mut *(self.at as *mut Option<IoBufMut>) }
+    }
+}
+
+fn none() -> Option<IoBufMut>
+    ensures { result ≡ None }
+{
+    None
+}
+
+/// How many bytes a buffer takes.
+#[unsafe(no_mangle)]
+pub extern "C" fn iobufmut_size() -> usize {
+    mem::size_of::<Option<IoBufMut>>()
+}
+
+/// To what a buffer is aligned.
+#[unsafe(no_mangle)]
+pub extern "C" fn iobufmut_align() -> usize {
+    mem::align_of::<Option<IoBufMut>>()
+}
+
+/// Makes a place of memory, with no buffer.
+#[unsafe(no_mangle)]
+pub unsafe extern "C" fn iobufmut_init(at: *mut u8)
+    requires* { sem 𝓛 (room_at part_row at) }
+    ensures* { sem 𝓛 (lies_at part_row full_share at None) }
+{
+    (at as *mut Option<IoBufMut>).write(none());
+}
+
+/// Gives the buffer up; none is left.
+#[unsafe(no_mangle)]
+pub extern "C" fn iobufmut_drop(part: &mut PartAt)
+    ensures at { part.new.at ≡ part.old.at }
+    ensures value { part.new.value ≡ None }
+{
+    *part.get() = None;
+}
+
+/// An empty buffer of exactly this capacity.
+#[unsafe(no_mangle)]
+pub extern "C" fn iobufmut_with_capacity(alloc: Global, n: usize, out: &mut PartAt) -> u8
+    ensures at { out.new.at ≡ out.old.at }
+    ensures value { out.new.value ≡ (if result == 0 then Some (empty_part n) else out.old.value) }
+    ensures bad_layout { IsTrue (bad_layout n 1) → result ≡ code_of Status.BadLayout }
+    ensures good_layout { bad_layout n 1 ≡ false → IsDoneUnless result Status.Memory }
+    ensures nothing { n ≡ 0 → result ≡ 0 }
+{
+    match IoBufMut::with_capacity(alloc, n) {
+        Ok(part) => {
+            *out.get() = Some(part);
+            Status::Done.code()
+        }
+        Err(cause) => refusal(cause),
+    }
+}
+
+/// The same, for a caller who asks for an alignment.
+#[unsafe(no_mangle)]
+pub extern "C" fn iobufmut_with_alignment(
+    alloc: Global,
+    n: usize,
+    align: usize,
+    out: &mut PartAt,
+) -> u8
+    ensures at { out.new.at ≡ out.old.at }
+    ensures value { out.new.value ≡ (if result == 0 then Some (empty_part n) else out.old.value) }
+    ensures bad_layout { IsTrue (bad_layout n align) → result ≡ code_of Status.BadLayout }
+    ensures good_layout { bad_layout n align ≡ false → IsDoneUnless result Status.Memory }
+    ensures nothing { n ≡ 0 → result ≡ 0 }
+{
+    match IoBufMut::with_alignment(alloc, n, align) {
+        Ok(part) => {
+            *out.get() = Some(part);
+            Status::Done.code()
+        }
+        Err(cause) => refusal(cause),
+    }
+}
+
+/// A buffer of exactly this capacity, filled with zeros.
+#[unsafe(no_mangle)]
+pub extern "C" fn iobufmut_zeroed(alloc: Global, n: usize, out: &mut PartAt) -> u8
+    ensures at { out.new.at ≡ out.old.at }
+    ensures value { out.new.value ≡ (if result == 0 then Some (record { filled = replicate n 0; spare = 0 }) else out.old.value) }
+    ensures bad_layout { IsTrue (bad_layout n 1) → result ≡ code_of Status.BadLayout }
+    ensures good_layout { bad_layout n 1 ≡ false → IsDoneUnless result Status.Memory }
+    ensures nothing { n ≡ 0 → result ≡ 0 }
+{
+    match IoBufMut::zeroed(alloc, n) {
+        Ok(part) => {
+            *out.get() = Some(part);
+            Status::Done.code()
+        }
+        Err(cause) => refusal(cause),
+    }
+}
+
+/// The same, for a caller who asks for an alignment.
+#[unsafe(no_mangle)]
+pub extern "C" fn iobufmut_zeroed_with_alignment(
+    alloc: Global,
+    n: usize,
+    align: usize,
+    out: &mut PartAt,
+) -> u8
+    ensures at { out.new.at ≡ out.old.at }
+    ensures value { out.new.value ≡ (if result == 0 then Some (record { filled = replicate n 0; spare = 0 }) else out.old.value) }
+    ensures bad_layout { IsTrue (bad_layout n align) → result ≡ code_of Status.BadLayout }
+    ensures good_layout { bad_layout n align ≡ false → IsDoneUnless result Status.Memory }
+    ensures nothing { n ≡ 0 → result ≡ 0 }
+{
+    match IoBufMut::zeroed_with_alignment(alloc, n, align) {
+        Ok(part) => {
+            *out.get() = Some(part);
+            Status::Done.code()
+        }
+        Err(cause) => refusal(cause),
+    }
+}
+
+/// A copy of bytes, with no room behind them.
+#[unsafe(no_mangle)]
+pub extern "C" fn iobufmut_copy_from_slice(alloc: Global, src: &[u8], out: &mut PartAt) -> u8
+    ensures at { out.new.at ≡ out.old.at }
+    ensures value { out.new.value ≡ (if result == 0 then Some (record { filled = src.now; spare = 0 }) else out.old.value) }
+    ensures memory { IsDoneUnless result Status.Memory }
+    ensures nothing { length src.now ≡ 0 → result ≡ 0 }
+{
+    match IoBufMut::copy_from_slice(alloc, src) {
+        Ok(part) => {
+            *out.get() = Some(part);
+            Status::Done.code()
+        }
+        Err(cause) => refusal(cause),
+    }
+}
+
+/// The view as a buffer to write, if no other shares its bytes; the empty view is left. Else `Status::Declined`, and
+/// both are as before.
+#[unsafe(no_mangle)]
+pub extern "C" fn iobuf_try_into_mut(alloc: Global, src: &mut ViewAt, out: &mut PartAt) -> u8
+    ensures at { (src.new.at ≡ src.old.at) × (out.new.at ≡ out.old.at) }
+    ensures recovered { result ≡ 0 → (src.new.value ≡ default_view) × MatchOption out.new.value ⊥ (λ part. IsRecovery src.old.value (Ok part)) }
+    ensures declined { (result == 0) ≡ false → (src.new.value ≡ src.old.value) × (out.new.value ≡ out.old.value)
+        × IsRecovery src.old.value (Err src.old.value) }
+    ensures result { IsDoneUnless result Status.Declined }
+{
+    match mem::take(src.get()).try_into_mut(alloc) {
+        Ok(part) => {
+            *out.get() = Some(part);
+            Status::Done.code()
+        }
+        Err(view) => {
+            *src.get() = view;
+            Status::Declined.code()
+        }
+    }
+}
+
+/// The bytes of a view: recovered where `iobuf_try_into_mut` does, else copied. The empty view is left; where memory is
+/// refused, both are as before.
+#[unsafe(no_mangle)]
+pub extern "C" fn iobufmut_from_view(alloc: Global, src: &mut ViewAt, out: &mut PartAt) -> u8
+    ensures at { (src.new.at ≡ src.old.at) × (out.new.at ≡ out.old.at) }
+    ensures made { result ≡ 0 → (src.new.value ≡ default_view) × MatchOption out.new.value ⊥ (IsPartOf src.old.value) }
+    ensures refused { (result == 0) ≡ false → (src.new.value ≡ src.old.value) × (out.new.value ≡ out.old.value) }
+    ensures memory { IsDoneUnless result Status.Memory }
+    ensures nothing { length src.old.value.bytes ≡ 0 → result ≡ 0 }
+{
+    match IoBufMut::from_view(alloc, mem::take(src.get())) {
+        Ok(part) => {
+            *out.get() = Some(part);
+            Status::Done.code()
+        }
+        Err(view) => {
+            *src.get() = view;
+            Status::Memory.code()
+        }
+    }
+}
+
+/// The number of readable bytes.
+#[unsafe(no_mangle)]
+pub extern "C" fn iobufmut_len(part: &mut PartAt) -> usize
+    ensures same { (part.new.at ≡ part.old.at) × (part.new.value ≡ part.old.value) }
+    ensures value { result ≡ length (part_of part.old.value).filled }
+{
+    match part.get() {
+        Some(part) => part.len(),
+        None => 0,
+    }
+}
+
+/// Whether no byte is readable.
+#[unsafe(no_mangle)]
+pub extern "C" fn iobufmut_is_empty(part: &mut PartAt) -> bool
+    ensures same { (part.new.at ≡ part.old.at) × (part.new.value ≡ part.old.value) }
+    ensures value { result ≡ (length (part_of part.old.value).filled == 0) }
+{
+    match part.get() {
+        Some(part) => part.is_empty(),
+        None => true,
+    }
+}
+
+/// How many bytes fit, counted from the first readable one.
+#[unsafe(no_mangle)]
+pub extern "C" fn iobufmut_capacity(part: &mut PartAt) -> usize
+    ensures same { (part.new.at ≡ part.old.at) × (part.new.value ≡ part.old.value) }
+    ensures value { result ≡ part_capacity (part_of part.old.value) }
+{
+    match part.get() {
+        Some(part) => part.capacity(),
+        None => 0,
+    }
+}
+
+/// How many bytes may still be put.
+#[unsafe(no_mangle)]
+pub extern "C" fn iobufmut_remaining_mut(part: &mut PartAt) -> usize
+    ensures same { (part.new.at ≡ part.old.at) × (part.new.value ≡ part.old.value) }
+    ensures value { result ≡ (part_of part.old.value).spare }
+{
+    match part.get() {
+        Some(part) => part.remaining_mut(),
+        None => 0,
+    }
+}
+
+/// Writes where the readable bytes lie, if there are any, and answers how many there are. The buffer shares them with
+/// nobody, so the caller may write over them there; what is written so, no contract knows.
+#[unsafe(no_mangle)]
+pub extern "C" fn iobufmut_chunk(part: &mut PartAt, out: &mut *mut u8) -> usize
+    ensures same { (part.new.at ≡ part.old.at) × (part.new.value ≡ part.old.value) }
+    ensures value { result ≡ length (part_of part.old.value).filled }
+{
+    let Some(part) = part.get() else {
+        return 0;
+    };
+    let chunk = part.as_ref();
+    if !chunk.is_empty() {
+        *out = ptr::from_ref(&chunk[0]) as *mut u8;
+    }
+    chunk.len()
+}
+
+/// Puts bytes behind those that are readable. `Status::OutOfRange` where they don't fit, and then nothing changes.
+#[unsafe(no_mangle)]
+pub extern "C" fn iobufmut_put_slice(part: &mut PartAt, src: &[u8]) -> u8
+    ensures at { part.new.at ≡ part.old.at }
+    ensures value { part.new.value ≡ (if result == 0 then option_map (λ part. part_put part src.now) part.old.value else part.old.value) }
+    ensures result { result ≡ (if nat_le (length src.now) (part_of part.old.value).spare then 0 else code_of Status.OutOfRange) }
+{
+    let Some(part) = part.get() else {
+        return fits(src.len(), 0);
+    };
+    if src.len() > part.remaining_mut() {
+        return Status::OutOfRange.code();
+    }
+    part.put_slice(src);
+    Status::Done.code()
+}
+
+// Whether so many bytes are within the room or the bytes.
+pub(crate) fn fits(n: usize, most: usize) -> u8
+    ensures { result ≡ (if nat_le n most then 0 else code_of Status.OutOfRange) }
+{
+    if n <= most {
+        Status::Done.code()
+    } else {
+        Status::OutOfRange.code()
+    }
+}
+
+/// Puts a byte `n` times.
+#[unsafe(no_mangle)]
+pub extern "C" fn iobufmut_put_bytes(part: &mut PartAt, value: u8, n: usize) -> u8
+    ensures at { part.new.at ≡ part.old.at }
+    ensures value { part.new.value ≡ (if result == 0 then option_map (λ part. part_put part (replicate n value)) part.old.value else part.old.value) }
+    ensures result { result ≡ (if nat_le n (part_of part.old.value).spare then 0 else code_of Status.OutOfRange) }
+{
+    let Some(part) = part.get() else {
+        return fits(n, 0);
+    };
+    if n > part.remaining_mut() {
+        return Status::OutOfRange.code();
+    }
+    part.put_bytes(value, n);
+    Status::Done.code()
+}
+
+/// Puts one byte.
+#[unsafe(no_mangle)]
+pub extern "C" fn iobufmut_put_u8(part: &mut PartAt, n: u8) -> u8
+    ensures at { part.new.at ≡ part.old.at }
+    ensures value { part.new.value ≡ (if result == 0 then option_map (λ part. part_put part (n ∷ [])) part.old.value else part.old.value) }
+    ensures result { result ≡ (if nat_le 1 (part_of part.old.value).spare then 0 else code_of Status.OutOfRange) }
+{
+    let Some(part) = part.get() else {
+        return Status::OutOfRange.code();
+    };
+    if part.remaining_mut() == 0 {
+        return Status::OutOfRange.code();
+    }
+    part.put_u8(n);
+    Status::Done.code()
+}
+
+/// Makes `n` bytes readable; those that were not are zero.
+#[unsafe(no_mangle)]
+pub extern "C" fn iobufmut_set_len(part: &mut PartAt, n: usize) -> u8
+    ensures at { part.new.at ≡ part.old.at }
+    ensures value { part.new.value ≡ (if result == 0 then option_map (λ part. part_with_len part n) part.old.value else part.old.value) }
+    ensures result { result ≡ (if nat_le n (part_capacity (part_of part.old.value)) then 0 else code_of Status.OutOfRange) }
+{
+    let Some(part) = part.get() else {
+        return fits(n, 0);
+    };
+    if n > part.capacity() {
+        return Status::OutOfRange.code();
+    }
+    part.set_len(n);
+    Status::Done.code()
+}
+
+/// Keeps at most the first `n` bytes.
+#[unsafe(no_mangle)]
+pub extern "C" fn iobufmut_truncate(part: &mut PartAt, n: usize)
+    ensures at { part.new.at ≡ part.old.at }
+    ensures value { part.new.value ≡ option_map (λ part. part_truncated part n) part.old.value }
+{
+    if let Some(part) = part.get() {
+        part.truncate(n);
+    }
+}
+
+/// Keeps no byte, and the room of all.
+#[unsafe(no_mangle)]
+pub extern "C" fn iobufmut_clear(part: &mut PartAt)
+    ensures at { part.new.at ≡ part.old.at }
+    ensures value { part.new.value ≡ option_map (λ part. part_truncated part 0) part.old.value }
+{
+    if let Some(part) = part.get() {
+        part.clear();
+    }
+}
+
+/// Drops the first bytes. `Status::OutOfRange` where there are fewer, and then nothing changes.
+#[unsafe(no_mangle)]
+pub extern "C" fn iobufmut_advance(part: &mut PartAt, n: usize) -> u8
+    ensures at { part.new.at ≡ part.old.at }
+    ensures value { part.new.value ≡ (if result == 0 then option_map (λ part. part_drained part n) part.old.value else part.old.value) }
+    ensures result { result ≡ (if nat_le n (length (part_of part.old.value).filled) then 0 else code_of Status.OutOfRange) }
+{
+    let Some(part) = part.get() else {
+        return fits(n, 0);
+    };
+    if n > part.len() {
+        return Status::OutOfRange.code();
+    }
+    part.advance(n);
+    Status::Done.code()
+}
+
+/// Copies the first bytes out, and drops them. `Status::EndOfBuffer` where there are fewer, and then nothing changes.
+#[unsafe(no_mangle)]
+pub extern "C" fn iobufmut_copy_to_slice(part: &mut PartAt, dst: &mut [u8]) -> u8
+    ensures at { part.new.at ≡ part.old.at }
+    ensures value { part.new.value ≡ (if result == 0 then option_map (λ part. part_drained part (length dst.old)) part.old.value else part.old.value) }
+    ensures bytes { dst.new ≡ (if result == 0 then take (length dst.old) (part_of part.old.value).filled else dst.old) }
+    ensures result { result ≡ (if nat_le (length dst.old) (length (part_of part.old.value).filled) then 0 else code_of Status.EndOfBuffer) }
+{
+    let Some(part) = part.get() else {
+        return if dst.is_empty() {
+            Status::Done.code()
+        } else {
+            Status::EndOfBuffer.code()
+        };
+    };
+    if dst.len() > part.len() {
+        return Status::EndOfBuffer.code();
+    }
+    part.copy_to_slice(dst);
+    Status::Done.code()
+}
+
+/// Writes over the readable bytes from a place on. `Status::OutOfRange` where these are fewer, and then nothing changes.
+#[unsafe(no_mangle)]
+pub extern "C" fn iobufmut_write_at(part: &mut PartAt, at: usize, src: &[u8]) -> u8
+    ensures at { part.new.at ≡ part.old.at }
+    ensures value { part.new.value ≡ (if result == 0 then option_map (λ part. part_written_at part at src.now) part.old.value else part.old.value) }
+    ensures result { result ≡ (if nat_le (at + length src.now) (length (part_of part.old.value).filled) then 0 else code_of Status.OutOfRange) }
+{
+    let Some(part) = part.get() else {
+        return if at == 0 && src.is_empty() {
+            Status::Done.code()
+        } else {
+            Status::OutOfRange.code()
+        };
+    };
+    if at > part.len() || src.len() > part.len() - at {
+        return Status::OutOfRange.code();
+    }
+    let end = at + src.len();
+    part.as_mut()[at..end].copy_from_slice(src);
+    Status::Done.code()
+}
+
+/// The bytes as a view; no buffer is left. Where memory is refused (which only a buffer without a shared count asks
+/// for), it is given up, and the view stays.
+#[unsafe(no_mangle)]
+pub extern "C" fn iobufmut_freeze(part: &mut PartAt, out: &mut ViewAt) -> u8
+    ensures at { (part.new.at ≡ part.old.at) × (out.new.at ≡ out.old.at) }
+    ensures part { part.new.value ≡ None }
+    ensures value { out.new.value ≡ (if result == 0 then part_frozen (part_of part.old.value) else out.old.value) }
+    ensures memory { IsDoneUnless result Status.Memory }
+    ensures nothing { length (part_of part.old.value).filled ≡ 0 → result ≡ 0 }
+{
+    let Some(part) = mem::replace(part.get(), None) else {
+        *out.get() = IoBuf::default();
+        return Status::Done.code();
+    };
+    match part.freeze() {
+        Ok(view) => {
+            *out.get() = view;
+            Status::Done.code()
+        }
+        Err(_) => Status::Memory.code(),
+    }
+}

@@ -1,0 +1,510 @@
+// Parts strung together, at their places.
+ghost use Rattle.std.specs.Prelude.{◌≡◌, ◌⊎◌, ◌≤◌, ◌<◌, ◌^◌, ◌==◌, ◌∷◌, [], if◌then◌else◌, List, length, map, take, drop, min, replicate, nat_le, slice_get, Option, Some, None, Ok, IfOk, OnOk, OnErr, true, false, MatchOption};
+ghost use Rattle.std.specs.Borrow.{sem, Lends, full_share};
+ghost use Rattle.std.specs.Option.{option_map};
+ghost use Rattle.std.specs.Ptr.{lies_at, room_at};
+ghost use Rattle.iobufs.specs.Parts.{kept_parts, parts_capacity, parts_chunks, parts_coalesced, parts_drained, parts_fill, parts_filled, parts_frozen, parts_overwritten, parts_spare, parts_with_len, single_part};
+ghost use Rattle.iobufs_core.specs.Chunks.{first_chunk};
+ghost use Rattle.iobufs_core.specs.Part.{Part, part_capacity};
+ghost use Rattle.iobufs_c.specs.Codes.{IsDoneUnless, code_of};
+ghost use Rattle.iobufs_c.specs.Rows.{chunk_len, held_parts, parts_of, parts_row};
+
+use crate::part::{PartAt, fits};
+use crate::status::{Status, refusal};
+use crate::text::{Chunk, TextAt, chunk_of};
+use iobufs::bufs::IoBufs;
+use iobufs::bufs_mut::IoBufsMut;
+use iobufs_core::buf::IoBufMut;
+use iobufs_core::codec::{Buf, BufMut};
+use std::alloc::{AllocError, Global};
+use std::marker::{Model, Send};
+use std::{mem, ptr};
+
+/// The place of parts strung together, or of none, in the caller's memory. None reads as one part of capacity 0.
+#[repr(C)]
+pub struct PartsAt {
+    at: *mut u8,
+    ghost value: { Option (List Part) },
+}
+
+impl Model for PartsAt {
+    ghost use Rattle.std.specs.Borrow.{full_share};
+    ghost use Rattle.std.specs.Ptr.{lies_at};
+    ghost use Rattle.iobufs_c.specs.Rows.{parts_row};
+
+    ghost also_owns = { λ h. lies_at parts_row full_share h.at h.value };
+}
+
+// Parts may go to another thread, and their place with them (proofs/parts/PartsAt/TheSendSync).
+unsafe impl Send for PartsAt {}
+
+impl PartsAt {
+    ghost use Rattle.iobufs_c.specs.contracts.parts.PartsAt.{the_row};
+
+    /// What is at the place.
+    pub(crate) fn get(&mut self) -> &mut Option<IoBufsMut>
+        ensures* writes_back { sem 𝓛 (Lends the_row parts_row self.entry result (λ v. record { at = self.old.at; value = v })) }
+        ensures value { result.now ≡ self.old.value }
+    {
+        unsafe { &mut *(self.at as *mut Option<IoBufsMut>) }
+    }
+}
+
+fn none() -> Option<IoBufsMut>
+    ensures { result ≡ None }
+{
+    None
+}
+
+/// How many bytes parts take.
+#[unsafe(no_mangle)]
+pub extern "C" fn iobufsmut_size() -> usize {
+    mem::size_of::<Option<IoBufsMut>>()
+}
+
+/// To what parts are aligned.
+#[unsafe(no_mangle)]
+pub extern "C" fn iobufsmut_align() -> usize {
+    mem::align_of::<Option<IoBufsMut>>()
+}
+
+/// Makes a place of memory, with no parts.
+#[unsafe(no_mangle)]
+pub unsafe extern "C" fn iobufsmut_init(at: *mut u8)
+    requires* { sem 𝓛 (room_at parts_row at) }
+    ensures* { sem 𝓛 (lies_at parts_row full_share at None) }
+{
+    (at as *mut Option<IoBufsMut>).write(none());
+}
+
+/// Gives the parts up; none are left.
+#[unsafe(no_mangle)]
+pub extern "C" fn iobufsmut_drop(parts: &mut PartsAt)
+    ensures at { parts.new.at ≡ parts.old.at }
+    ensures value { parts.new.value ≡ None }
+{
+    *parts.get() = None;
+}
+
+/// The one part of a buffer, which is left empty; where there is none, none are there.
+#[unsafe(no_mangle)]
+pub extern "C" fn iobufsmut_from_mut(part: &mut PartAt, out: &mut PartsAt)
+    ensures at { (part.new.at ≡ part.old.at) × (out.new.at ≡ out.old.at) }
+    ensures part { part.new.value ≡ None }
+    ensures value { out.new.value ≡ option_map (λ part. part ∷ []) part.old.value }
+{
+    let Some(part) = mem::replace(part.get(), None) else {
+        *out.get() = None;
+        return;
+    };
+    *out.get() = Some(IoBufsMut::from(part));
+}
+
+// Takes the buffers of places, in order; none are left there. Where memory is refused, all stay.
+fn take_row(alloc: Global, places: &mut [PartAt]) -> Result<Vec<IoBufMut>, AllocError>
+    ensures ok { IfOk result (λ row. row.items ≡ held_parts (map (λ place. place.value) places.old)) }
+    ensures taken { OnOk result (map (λ place. place.value) places.new ≡ replicate (length places.old) None) }
+    ensures err { OnErr result (places.new ≡ places.old) }
+    ensures at { map (λ place. place.at) places.new ≡ map (λ place. place.at) places.old }
+{
+    let mut row = Vec::with_capacity(alloc, places.len())?;
+    for i in 0..places.len() {
+        if let Some(part) = mem::replace(places[i].get(), None) {
+            row.push(part).unwrap();
+        }
+    }
+    Ok(row)
+}
+
+/// The buffers of several places, strung together; none are left there. Where the first memory is refused all stay; later
+/// refusals give the buffers up.
+#[unsafe(no_mangle)]
+pub extern "C" fn iobufsmut_from_parts(
+    alloc: Global,
+    places: &mut [PartAt],
+    out: &mut PartsAt,
+) -> u8
+    ensures at { (map (λ place. place.at) places.new ≡ map (λ place. place.at) places.old) × (out.new.at ≡ out.old.at) }
+    ensures value { out.new.value ≡ (if result == 0 then Some (kept_parts (held_parts (map (λ place. place.value) places.old))) else out.old.value) }
+    ensures taken { result ≡ 0 → map (λ place. place.value) places.new ≡ replicate (length places.old) None }
+    ensures refused { (result == 0) ≡ false → (places.new ≡ places.old) ⊎ (map (λ place. place.value) places.new ≡ replicate (length places.old) None) }
+    ensures too_long { 2 ^ 64 ≤ parts_capacity (held_parts (map (λ place. place.value) places.old))
+        → (result ≡ code_of Status.Memory) ⊎ (result ≡ code_of Status.TooLong) }
+    ensures fits { parts_capacity (held_parts (map (λ place. place.value) places.old)) < 2 ^ 64 → IsDoneUnless result Status.Memory }
+{
+    let Ok(row) = take_row(alloc, places) else {
+        return Status::Memory.code();
+    };
+    match IoBufsMut::from_parts(alloc, row.into_iter()) {
+        Ok(parts) => {
+            *out.get() = Some(parts);
+            Status::Done.code()
+        }
+        Err(cause) => refusal(cause),
+    }
+}
+
+/// The number of readable bytes.
+#[unsafe(no_mangle)]
+pub extern "C" fn iobufsmut_len(parts: &mut PartsAt) -> usize
+    ensures same { (parts.new.at ≡ parts.old.at) × (parts.new.value ≡ parts.old.value) }
+    ensures value { result ≡ length (parts_filled (parts_of parts.old.value)) }
+{
+    match parts.get() {
+        Some(parts) => parts.len(),
+        None => 0,
+    }
+}
+
+/// Whether no byte is readable.
+#[unsafe(no_mangle)]
+pub extern "C" fn iobufsmut_is_empty(parts: &mut PartsAt) -> bool
+    ensures same { (parts.new.at ≡ parts.old.at) × (parts.new.value ≡ parts.old.value) }
+    ensures value { result ≡ (length (parts_filled (parts_of parts.old.value)) == 0) }
+{
+    match parts.get() {
+        Some(parts) => parts.is_empty(),
+        None => true,
+    }
+}
+
+/// How many bytes fit, counted from the first readable one.
+#[unsafe(no_mangle)]
+pub extern "C" fn iobufsmut_capacity(parts: &mut PartsAt) -> usize
+    ensures same { (parts.new.at ≡ parts.old.at) × (parts.new.value ≡ parts.old.value) }
+    ensures value { result ≡ parts_capacity (parts_of parts.old.value) }
+{
+    match parts.get() {
+        Some(parts) => parts.capacity(),
+        None => 0,
+    }
+}
+
+/// How many bytes may still be put.
+#[unsafe(no_mangle)]
+pub extern "C" fn iobufsmut_remaining_mut(parts: &mut PartsAt) -> usize
+    ensures same { (parts.new.at ≡ parts.old.at) × (parts.new.value ≡ parts.old.value) }
+    ensures value { result ≡ parts_spare (parts_of parts.old.value) }
+{
+    match parts.get() {
+        Some(parts) => parts.remaining_mut(),
+        None => 0,
+    }
+}
+
+/// The number of parts.
+#[unsafe(no_mangle)]
+pub extern "C" fn iobufsmut_part_count(parts: &mut PartsAt) -> usize
+    ensures same { (parts.new.at ≡ parts.old.at) × (parts.new.value ≡ parts.old.value) }
+    ensures value { result ≡ length (parts_of parts.old.value) }
+{
+    match parts.get() {
+        Some(parts) => parts.part_count(),
+        None => 1,
+    }
+}
+
+/// Whether there is just one part.
+#[unsafe(no_mangle)]
+pub extern "C" fn iobufsmut_is_single(parts: &mut PartsAt) -> bool
+    ensures same { (parts.new.at ≡ parts.old.at) × (parts.new.value ≡ parts.old.value) }
+    ensures value { result ≡ (length (parts_of parts.old.value) == 1) }
+{
+    match parts.get() {
+        Some(parts) => parts.is_single(),
+        None => true,
+    }
+}
+
+/// Writes where the first piece of the readable bytes lies, if there are any, and answers its length. The parts share it
+/// with nobody, so the caller may write over it there; what is written so, no contract knows.
+#[unsafe(no_mangle)]
+pub extern "C" fn iobufsmut_chunk(parts: &mut PartsAt, out: &mut *mut u8) -> usize
+    ensures same { (parts.new.at ≡ parts.old.at) × (parts.new.value ≡ parts.old.value) }
+    ensures value { result ≡ length (first_chunk (parts_chunks (parts_of parts.old.value))) }
+{
+    let Some(parts) = parts.get() else {
+        return 0;
+    };
+    let chunk = parts.chunk();
+    if !chunk.is_empty() {
+        *out = ptr::from_ref(&chunk[0]) as *mut u8;
+    }
+    chunk.len()
+}
+
+/// Writes where the readable bytes of a part lie, if it has some, and its capacity; answers how many these bytes are. 0
+/// where there is no such part.
+#[unsafe(no_mangle)]
+pub extern "C" fn iobufsmut_part_at(
+    parts: &mut PartsAt,
+    i: usize,
+    out: &mut *mut u8,
+    capacity: &mut usize,
+) -> usize
+    ensures same { (parts.new.at ≡ parts.old.at) × (parts.new.value ≡ parts.old.value) }
+    ensures value { result ≡ chunk_len (option_map (λ part. part.filled) (slice_get (parts_of parts.old.value) i)) }
+    ensures capacity { MatchOption (slice_get (parts_of parts.old.value) i) (capacity.new ≡ 0) (λ part. capacity.new ≡ part_capacity part) }
+{
+    *capacity = 0;
+    let Some(parts) = parts.get() else {
+        return 0;
+    };
+    let Some(part) = parts.part_at(i) else {
+        return 0;
+    };
+    *capacity = part.capacity();
+    let chunk = part.as_ref();
+    if !chunk.is_empty() {
+        *out = ptr::from_ref(&chunk[0]) as *mut u8;
+    }
+    chunk.len()
+}
+
+// Fills a list with where the first pieces of the readable bytes lie, and answers how many it filled.
+fn fill_chunks(parts: &IoBufsMut, out: &mut [Chunk]) -> usize
+    ensures count { result ≡ min (length out.old) (length (parts_chunks parts.now)) }
+    ensures lengths { map (λ chunk. chunk.len) (take result out.new) ≡ map length (take result (parts_chunks parts.now)) }
+    ensures rest { drop result out.new ≡ drop result out.old }
+{
+    let mut count = 0;
+    let mut i = 0;
+    while count < out.len() && i < parts.part_count() {
+        let Some(part) = parts.part_at(i) else {
+            return count;
+        };
+        if !part.is_empty() {
+            out[count] = chunk_of(part.as_ref());
+            count += 1;
+        }
+        i += 1;
+    }
+    count
+}
+
+/// Fills a list for `readv` or `writev` with where the first pieces of the readable bytes lie, and answers how many it
+/// filled.
+#[unsafe(no_mangle)]
+pub extern "C" fn iobufsmut_chunks(parts: &mut PartsAt, out: &mut [Chunk]) -> usize
+    ensures same { (parts.new.at ≡ parts.old.at) × (parts.new.value ≡ parts.old.value) }
+    ensures count { result ≡ min (length out.old) (length (parts_chunks (parts_of parts.old.value))) }
+    ensures lengths { map (λ chunk. chunk.len) (take result out.new) ≡ map length (take result (parts_chunks (parts_of parts.old.value))) }
+    ensures rest { drop result out.new ≡ drop result out.old }
+{
+    match parts.get() {
+        Some(parts) => fill_chunks(parts, out),
+        None => 0,
+    }
+}
+
+/// Writes the readable byte at a place, if there is one.
+#[unsafe(no_mangle)]
+pub extern "C" fn iobufsmut_byte_at(parts: &mut PartsAt, i: usize, out: &mut u8) -> bool
+    ensures same { (parts.new.at ≡ parts.old.at) × (parts.new.value ≡ parts.old.value) }
+    ensures found { result ≡ true → slice_get (parts_filled (parts_of parts.old.value)) i ≡ Some out.new }
+    ensures none { result ≡ false → (slice_get (parts_filled (parts_of parts.old.value)) i ≡ None) × (out.new ≡ out.old) }
+{
+    let Some(parts) = parts.get() else {
+        return false;
+    };
+    let Some(byte) = parts.byte_at(i) else {
+        return false;
+    };
+    *out = byte;
+    true
+}
+
+/// Puts bytes behind those that are readable. `Status::OutOfRange` where they don't fit, and then nothing changes.
+#[unsafe(no_mangle)]
+pub extern "C" fn iobufsmut_put_slice(parts: &mut PartsAt, src: &[u8]) -> u8
+    ensures at { parts.new.at ≡ parts.old.at }
+    ensures value { parts.new.value ≡ (if result == 0 then option_map (λ parts. parts_fill parts src.now) parts.old.value else parts.old.value) }
+    ensures result { result ≡ (if nat_le (length src.now) (parts_spare (parts_of parts.old.value)) then 0 else code_of Status.OutOfRange) }
+{
+    let Some(parts) = parts.get() else {
+        return fits(src.len(), 0);
+    };
+    if src.len() > parts.remaining_mut() {
+        return Status::OutOfRange.code();
+    }
+    parts.put_slice(src);
+    Status::Done.code()
+}
+
+/// Puts a byte `n` times.
+#[unsafe(no_mangle)]
+pub extern "C" fn iobufsmut_put_bytes(parts: &mut PartsAt, value: u8, n: usize) -> u8
+    ensures at { parts.new.at ≡ parts.old.at }
+    ensures value { parts.new.value ≡ (if result == 0 then option_map (λ parts. parts_fill parts (replicate n value)) parts.old.value else parts.old.value) }
+    ensures result { result ≡ (if nat_le n (parts_spare (parts_of parts.old.value)) then 0 else code_of Status.OutOfRange) }
+{
+    let Some(parts) = parts.get() else {
+        return fits(n, 0);
+    };
+    if n > parts.remaining_mut() {
+        return Status::OutOfRange.code();
+    }
+    parts.put_bytes(value, n);
+    Status::Done.code()
+}
+
+/// Puts one byte.
+#[unsafe(no_mangle)]
+pub extern "C" fn iobufsmut_put_u8(parts: &mut PartsAt, n: u8) -> u8
+    ensures at { parts.new.at ≡ parts.old.at }
+    ensures value { parts.new.value ≡ (if result == 0 then option_map (λ parts. parts_fill parts (n ∷ [])) parts.old.value else parts.old.value) }
+    ensures result { result ≡ (if nat_le 1 (parts_spare (parts_of parts.old.value)) then 0 else code_of Status.OutOfRange) }
+{
+    let Some(parts) = parts.get() else {
+        return fits(1, 0);
+    };
+    if 1 > parts.remaining_mut() {
+        return Status::OutOfRange.code();
+    }
+    parts.put_u8(n);
+    Status::Done.code()
+}
+
+/// Makes `n` bytes readable; those that were not are zero.
+#[unsafe(no_mangle)]
+pub extern "C" fn iobufsmut_set_len(parts: &mut PartsAt, n: usize) -> u8
+    ensures at { parts.new.at ≡ parts.old.at }
+    ensures value { parts.new.value ≡ (if result == 0 then option_map (λ parts. parts_with_len parts n) parts.old.value else parts.old.value) }
+    ensures result { result ≡ (if nat_le n (parts_capacity (parts_of parts.old.value)) then 0 else code_of Status.OutOfRange) }
+{
+    let Some(parts) = parts.get() else {
+        return fits(n, 0);
+    };
+    if n > parts.capacity() {
+        return Status::OutOfRange.code();
+    }
+    parts.set_len(n);
+    Status::Done.code()
+}
+
+/// Drops the first bytes. `Status::OutOfRange` where there are fewer, and then nothing changes.
+#[unsafe(no_mangle)]
+pub extern "C" fn iobufsmut_advance(parts: &mut PartsAt, n: usize) -> u8
+    ensures at { parts.new.at ≡ parts.old.at }
+    ensures value { parts.new.value ≡ (if result == 0 then option_map (λ parts. parts_drained parts n) parts.old.value else parts.old.value) }
+    ensures result { result ≡ (if nat_le n (length (parts_filled (parts_of parts.old.value))) then 0 else code_of Status.OutOfRange) }
+{
+    let Some(parts) = parts.get() else {
+        return fits(n, 0);
+    };
+    if n > parts.len() {
+        return Status::OutOfRange.code();
+    }
+    parts.advance(n);
+    Status::Done.code()
+}
+
+/// Copies the first bytes out, and drops them. `Status::EndOfBuffer` where there are fewer, and then nothing changes.
+#[unsafe(no_mangle)]
+pub extern "C" fn iobufsmut_copy_to_slice(parts: &mut PartsAt, dst: &mut [u8]) -> u8
+    ensures at { parts.new.at ≡ parts.old.at }
+    ensures value { parts.new.value ≡ (if result == 0 then option_map (λ parts. parts_drained parts (length dst.old)) parts.old.value else parts.old.value) }
+    ensures bytes { dst.new ≡ (if result == 0 then take (length dst.old) (parts_filled (parts_of parts.old.value)) else dst.old) }
+    ensures result { result ≡ (if nat_le (length dst.old) (length (parts_filled (parts_of parts.old.value))) then 0 else code_of Status.EndOfBuffer) }
+{
+    let Some(parts) = parts.get() else {
+        return if dst.is_empty() {
+            Status::Done.code()
+        } else {
+            Status::EndOfBuffer.code()
+        };
+    };
+    if dst.len() > parts.len() {
+        return Status::EndOfBuffer.code();
+    }
+    parts.copy_to_slice(dst);
+    Status::Done.code()
+}
+
+/// Writes over the readable bytes. `Status::OutOfRange` where there are not just as many, and then nothing changes.
+#[unsafe(no_mangle)]
+pub extern "C" fn iobufsmut_copy_from_slice(parts: &mut PartsAt, src: &[u8]) -> u8
+    ensures at { parts.new.at ≡ parts.old.at }
+    ensures value { parts.new.value ≡ (if result == 0 then option_map (λ parts. parts_overwritten parts src.now) parts.old.value else parts.old.value) }
+    ensures result { result ≡ (if length src.now == length (parts_filled (parts_of parts.old.value)) then 0 else code_of Status.OutOfRange) }
+{
+    let Some(parts) = parts.get() else {
+        return fits(src.len(), 0);
+    };
+    if src.len() != parts.len() {
+        return Status::OutOfRange.code();
+    }
+    parts.copy_from_slice(src);
+    Status::Done.code()
+}
+
+/// The parts that hold bytes as the pieces of one text; none are left. Where memory is refused, they are given up, and
+/// the text stays.
+#[unsafe(no_mangle)]
+pub extern "C" fn iobufsmut_freeze(alloc: Global, parts: &mut PartsAt, out: &mut TextAt) -> u8
+    ensures at { (parts.new.at ≡ parts.old.at) × (out.new.at ≡ out.old.at) }
+    ensures parts { parts.new.value ≡ None }
+    ensures value { out.new.value ≡ (if result == 0 then parts_frozen (parts_of parts.old.value) else out.old.value) }
+    ensures memory { IsDoneUnless result Status.Memory }
+    ensures nothing { length (parts_filled (parts_of parts.old.value)) ≡ 0 → result ≡ 0 }
+{
+    let Some(parts) = mem::replace(parts.get(), None) else {
+        *out.get() = IoBufs::default();
+        return Status::Done.code();
+    };
+    match parts.freeze(alloc) {
+        Ok(text) => {
+            *out.get() = text;
+            Status::Done.code()
+        }
+        Err(_) => Status::Memory.code(),
+    }
+}
+
+/// The parts as one buffer, with a copy where there are several; none are left. Where that is refused, they are given up.
+#[unsafe(no_mangle)]
+pub extern "C" fn iobufsmut_coalesce(alloc: Global, parts: &mut PartsAt, out: &mut PartAt) -> u8
+    ensures at { (parts.new.at ≡ parts.old.at) × (out.new.at ≡ out.old.at) }
+    ensures parts { parts.new.value ≡ None }
+    ensures value { out.new.value ≡ (if result == 0 then option_map parts_coalesced parts.old.value else out.old.value) }
+    ensures single { length (parts_of parts.old.value) ≡ 1 → result ≡ 0 }
+    ensures bad_layout { 1 < length (parts_of parts.old.value) → 2 ^ 63 ≤ length (parts_filled (parts_of parts.old.value)) → result ≡ code_of Status.BadLayout }
+    ensures memory { length (parts_filled (parts_of parts.old.value)) < 2 ^ 63 → IsDoneUnless result Status.Memory }
+{
+    let Some(parts) = mem::replace(parts.get(), None) else {
+        *out.get() = None;
+        return Status::Done.code();
+    };
+    match parts.coalesce(alloc) {
+        Ok(part) => {
+            *out.get() = Some(part);
+            Status::Done.code()
+        }
+        Err(cause) => refusal(cause),
+    }
+}
+
+/// The only part as a buffer; none are left. `Status::Declined` where there are more, and then both are as before.
+#[unsafe(no_mangle)]
+pub extern "C" fn iobufsmut_try_into_single(parts: &mut PartsAt, out: &mut PartAt) -> u8
+    ensures at { (parts.new.at ≡ parts.old.at) × (out.new.at ≡ out.old.at) }
+    ensures single { result ≡ 0 → (parts.old.value ≡ option_map (λ part. part ∷ []) out.new.value) × (parts.new.value ≡ None) }
+    ensures declined { (result == 0) ≡ false → (single_part (parts_of parts.old.value) ≡ None) × (parts.new.value ≡ parts.old.value)
+        × (out.new.value ≡ out.old.value) }
+    ensures result { IsDoneUnless result Status.Declined }
+{
+    let Some(whole) = mem::replace(parts.get(), None) else {
+        *out.get() = None;
+        return Status::Done.code();
+    };
+    match whole.try_into_single() {
+        Ok(part) => {
+            *out.get() = Some(part);
+            Status::Done.code()
+        }
+        Err(whole) => {
+            *parts.get() = Some(whole);
+            Status::Declined.code()
+        }
+    }
+}

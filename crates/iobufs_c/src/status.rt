@@ -1,0 +1,72 @@
+// What calls answer.
+ghost use Rattle.std.specs.Prelude.{◌≡◌};
+ghost use Rattle.iobufs_c.specs.Codes.{code_of, of_buf_error, of_error};
+
+use iobufs_core::codec::{BufError, Error};
+
+/// What a call answers, as its number in the header's `enum iobufs_status`.
+#[derive(Clone, Copy)]
+pub enum Status {
+    /// Done.
+    Done,
+    /// A request for memory was refused.
+    Memory,
+    /// The alignment is no power of two, or the capacity is too large.
+    BadLayout,
+    /// A sum of lengths or capacities would be too large.
+    TooLong,
+    /// A range or a place is outside the bytes, or the bytes outside the room.
+    OutOfRange,
+    /// More bytes are asked for than are left.
+    EndOfBuffer,
+    /// The bytes spell no length.
+    InvalidVarint,
+    /// The length is outside the range.
+    InvalidLength,
+    /// The buffer can't become what was asked for, and stays.
+    Declined,
+}
+
+impl Status {
+    /// The number that C gets.
+    pub(crate) fn code(self) -> u8
+        ensures { result ≡ code_of self }
+    {
+        match self {
+            Status::Done => 0,
+            Status::Memory => 1,
+            Status::BadLayout => 2,
+            Status::TooLong => 3,
+            Status::OutOfRange => 4,
+            Status::EndOfBuffer => 5,
+            Status::InvalidVarint => 6,
+            Status::InvalidLength => 7,
+            Status::Declined => 8,
+        }
+    }
+}
+
+/// The number of a refusal of a buffer.
+pub(crate) fn refusal(cause: BufError) -> u8
+    ensures { result ≡ code_of (of_buf_error cause) }
+{
+    match cause {
+        BufError::Memory => Status::Memory.code(),
+        BufError::BadLayout => Status::BadLayout.code(),
+        BufError::TooLong => Status::TooLong.code(),
+    }
+}
+
+/// The number of an error of reading.
+pub(crate) fn fault(error: Error) -> u8
+    ensures { result ≡ code_of (of_error error) }
+{
+    match error {
+        Error::EndOfBuffer => Status::EndOfBuffer.code(),
+        Error::InvalidVarint => Status::InvalidVarint.code(),
+        Error::InvalidLength(_) => Status::InvalidLength.code(),
+        Error::Memory => Status::Memory.code(),
+        Error::BadLayout => Status::BadLayout.code(),
+        Error::TooLong => Status::TooLong.code(),
+    }
+}

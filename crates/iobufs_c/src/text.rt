@@ -1,0 +1,488 @@
+// Texts in pieces at their places.
+ghost use Rattle.std.specs.Prelude.{◌≡◌, ◌+◌, ◌≤◌, ◌<◌, ◌^◌, ◌==◌, if◌then◌else◌, length, take, drop, map, min, nat_le, slice_get, Ok, Err, Some, None, true, false};
+ghost use Rattle.std.specs.Borrow.{sem, Lends, full_share};
+ghost use Rattle.std.specs.Ptr.{lies_at, room_at};
+ghost use Rattle.iobufs.specs.Located.{greatest_key, keys_upto};
+ghost use Rattle.iobufs.specs.contracts.bufs.text.IoBufs.{the_row as text_row};
+ghost use Rattle.iobufs_core.specs.Chunks.{first_chunk};
+ghost use Rattle.iobufs_core.specs.MarkedText.{MarkedText, chunk_count as count_of, default_text, is_single, of_view, taken_view, text_advanced, text_append, text_chunks, text_coalesced, text_len, text_prepend, text_rest, text_split_front};
+ghost use Rattle.iobufs_core.specs.Part.{part_frozen};
+ghost use Rattle.iobufs_core.specs.View.{default_view};
+ghost use Rattle.iobufs_c.specs.Codes.{IsDoneUnless, code_of};
+ghost use Rattle.iobufs_c.specs.Rows.{chunk_len, part_of};
+
+use crate::part::PartAt;
+use crate::status::{Status, refusal};
+use crate::view::ViewAt;
+use iobufs::bufs::IoBufs;
+use iobufs_core::buf::IoBuf;
+use iobufs_core::codec::{Buf, OwnedBuf};
+use std::alloc::Global;
+use std::marker::{Model, Send};
+use std::{mem, ptr};
+
+/// The place of a text in the caller's memory.
+#[repr(C)]
+pub struct TextAt {
+    at: *mut u8,
+    ghost value: { MarkedText },
+}
+
+impl Model for TextAt {
+    ghost use Rattle.std.specs.Borrow.{full_share};
+    ghost use Rattle.std.specs.Ptr.{lies_at};
+    ghost use Rattle.iobufs.specs.contracts.bufs.text.IoBufs.{the_row as text_row};
+
+    ghost also_owns = { λ h. lies_at text_row full_share h.at h.value };
+}
+
+// A text may go to another thread, and its place with it (proofs/text/TextAt/TheSendSync).
+unsafe impl Send for TextAt {}
+
+impl TextAt {
+    ghost use Rattle.iobufs_c.specs.contracts.text.TextAt.{the_row};
+
+    /// The text at the place.
+    pub(crate) fn get(&mut self) -> &mut IoBufs
+        ensures* writes_back { sem 𝓛 (Lends the_row text_row self.entry result (λ v. record { at = self.old.at; value = v })) }
+        ensures value { result.now ≡ self.old.value }
+    {
+        unsafe { &mut *(self.at as *mut IoBufs) }
+    }
+}
+
+fn empty() -> IoBufs
+    ensures { result ≡ default_text }
+{
+    IoBufs::default()
+}
+
+/// How many bytes a text takes.
+#[unsafe(no_mangle)]
+pub extern "C" fn iobufs_size() -> usize {
+    mem::size_of::<IoBufs>()
+}
+
+/// To what a text is aligned.
+#[unsafe(no_mangle)]
+pub extern "C" fn iobufs_align() -> usize {
+    mem::align_of::<IoBufs>()
+}
+
+/// Makes the empty text of memory.
+#[unsafe(no_mangle)]
+pub unsafe extern "C" fn iobufs_init(at: *mut u8)
+    requires* { sem 𝓛 (room_at text_row at) }
+    ensures* { sem 𝓛 (lies_at text_row full_share at default_text) }
+{
+    (at as *mut IoBufs).write(empty());
+}
+
+/// Gives the text's bytes up; the empty text is left.
+#[unsafe(no_mangle)]
+pub extern "C" fn iobufs_drop(text: &mut TextAt)
+    ensures at { text.new.at ≡ text.old.at }
+    ensures value { text.new.value ≡ default_text }
+{
+    *text.get() = IoBufs::default();
+}
+
+/// The text of one view, which is left empty.
+#[unsafe(no_mangle)]
+pub extern "C" fn iobufs_from_view(src: &mut ViewAt, out: &mut TextAt)
+    ensures at { (src.new.at ≡ src.old.at) × (out.new.at ≡ out.old.at) }
+    ensures src { src.new.value ≡ default_view }
+    ensures value { out.new.value ≡ of_view src.old.value }
+{
+    let view = mem::take(src.get());
+    *out.get() = IoBufs::from(view);
+}
+
+/// The text of a buffer; none is left. Where memory is refused, it is given up, and the text stays.
+#[unsafe(no_mangle)]
+pub extern "C" fn iobufs_from_mut(part: &mut PartAt, out: &mut TextAt) -> u8
+    ensures at { (part.new.at ≡ part.old.at) × (out.new.at ≡ out.old.at) }
+    ensures part { part.new.value ≡ None }
+    ensures value { out.new.value ≡ (if result == 0 then of_view (part_frozen (part_of part.old.value)) else out.old.value) }
+    ensures memory { IsDoneUnless result Status.Memory }
+    ensures nothing { length (part_of part.old.value).filled ≡ 0 → result ≡ 0 }
+{
+    let Some(part) = mem::replace(part.get(), None) else {
+        *out.get() = IoBufs::default();
+        return Status::Done.code();
+    };
+    match IoBufs::from_mut(part) {
+        Ok(text) => {
+            *out.get() = text;
+            Status::Done.code()
+        }
+        Err(_) => Status::Memory.code(),
+    }
+}
+
+/// Another text of the same bytes, in their storage.
+#[unsafe(no_mangle)]
+pub extern "C" fn iobufs_clone(text: &mut TextAt, out: &mut TextAt) -> u8
+    ensures same { (text.new.at ≡ text.old.at) × (text.new.value ≡ text.old.value) }
+    ensures at { out.new.at ≡ out.old.at }
+    ensures value { out.new.value ≡ (if result == 0 then text.old.value else out.old.value) }
+    ensures memory { IsDoneUnless result Status.Memory }
+{
+    match text.get().clone() {
+        Ok(other) => {
+            *out.get() = other;
+            Status::Done.code()
+        }
+        Err(_) => Status::Memory.code(),
+    }
+}
+
+/// The number of bytes.
+#[unsafe(no_mangle)]
+pub extern "C" fn iobufs_len(text: &mut TextAt) -> usize
+    ensures same { (text.new.at ≡ text.old.at) × (text.new.value ≡ text.old.value) }
+    ensures value { result ≡ text_len text.old.value }
+{
+    text.get().len()
+}
+
+/// Whether there are no bytes.
+#[unsafe(no_mangle)]
+pub extern "C" fn iobufs_is_empty(text: &mut TextAt) -> bool
+    ensures same { (text.new.at ≡ text.old.at) × (text.new.value ≡ text.old.value) }
+    ensures value { result ≡ (text_len text.old.value == 0) }
+{
+    text.get().is_empty()
+}
+
+/// Whether all bytes are in one piece.
+#[unsafe(no_mangle)]
+pub extern "C" fn iobufs_is_single(text: &mut TextAt) -> bool
+    ensures same { (text.new.at ≡ text.old.at) × (text.new.value ≡ text.old.value) }
+    ensures value { result ≡ is_single text.old.value }
+{
+    text.get().is_single()
+}
+
+/// The number of pieces that hold bytes.
+#[unsafe(no_mangle)]
+pub extern "C" fn iobufs_chunk_count(text: &mut TextAt) -> usize
+    ensures same { (text.new.at ≡ text.old.at) × (text.new.value ≡ text.old.value) }
+    ensures value { result ≡ count_of text.old.value }
+{
+    IoBufs::chunk_count(text.get())
+}
+
+/// Writes where the first piece lies, if there are bytes, and answers its length.
+#[unsafe(no_mangle)]
+pub extern "C" fn iobufs_chunk(text: &mut TextAt, out: &mut *const u8) -> usize
+    ensures same { (text.new.at ≡ text.old.at) × (text.new.value ≡ text.old.value) }
+    ensures value { result ≡ length (first_chunk (text_chunks text.old.value)) }
+{
+    let chunk = text.get().chunk();
+    if !chunk.is_empty() {
+        *out = ptr::from_ref(&chunk[0]);
+    }
+    chunk.len()
+}
+
+/// Writes where a piece lies, counted from 0, and answers its length; 0 where there is none.
+#[unsafe(no_mangle)]
+pub extern "C" fn iobufs_chunk_at(text: &mut TextAt, i: usize, out: &mut *const u8) -> usize
+    ensures same { (text.new.at ≡ text.old.at) × (text.new.value ≡ text.old.value) }
+    ensures value { result ≡ chunk_len (slice_get (text_chunks text.old.value) i) }
+{
+    let Some(chunk) = text.get().chunk_at(i) else {
+        return 0;
+    };
+    if !chunk.is_empty() {
+        *out = ptr::from_ref(&chunk[0]);
+    }
+    chunk.len()
+}
+
+/// Writes the byte at a place, if there is one.
+#[unsafe(no_mangle)]
+pub extern "C" fn iobufs_byte_at(text: &mut TextAt, i: usize, out: &mut u8) -> bool
+    ensures same { (text.new.at ≡ text.old.at) × (text.new.value ≡ text.old.value) }
+    ensures found { result ≡ true → slice_get text.old.value.bytes i ≡ Some out.new }
+    ensures none { result ≡ false → (slice_get text.old.value.bytes i ≡ None) × (out.new ≡ out.old) }
+{
+    let Some(byte) = text.get().byte_at(i) else {
+        return false;
+    };
+    *out = byte;
+    true
+}
+
+/// Writes the number of the piece that holds a place, and how many of its bytes stand before the place.
+#[unsafe(no_mangle)]
+pub extern "C" fn iobufs_locate(
+    text: &mut TextAt,
+    at: usize,
+    index: &mut usize,
+    offset: &mut usize,
+) -> u8
+    ensures same { (text.new.at ≡ text.old.at) × (text.new.value ≡ text.old.value) }
+    ensures result { result ≡ (if nat_le (text_len text.old.value) at then code_of Status.OutOfRange else 0) }
+    ensures index { result ≡ 0 → index.new + 1 ≡ keys_upto text.old.value at }
+    ensures offset { result ≡ 0 → greatest_key text.old.value at + offset.new ≡ at }
+{
+    let text = text.get();
+    if at >= text.len() {
+        return Status::OutOfRange.code();
+    }
+    let place = text.locate(at);
+    *index = place.index;
+    *offset = place.offset;
+    Status::Done.code()
+}
+
+/// Puts a view behind the text, and leaves its place empty. Where that is refused, both are as before.
+#[unsafe(no_mangle)]
+pub extern "C" fn iobufs_append(alloc: Global, text: &mut TextAt, piece: &mut ViewAt) -> u8
+    ensures at { (text.new.at ≡ text.old.at) × (piece.new.at ≡ piece.old.at) }
+    ensures text { text.new.value ≡ (if result == 0 then text_append text.old.value piece.old.value else text.old.value) }
+    ensures piece { piece.new.value ≡ (if result == 0 then default_view else piece.old.value) }
+    ensures too_long { 2 ^ 64 ≤ text_len text.old.value + length piece.old.value.bytes → result ≡ code_of Status.TooLong }
+    ensures memory { text_len text.old.value + length piece.old.value.bytes < 2 ^ 64 → IsDoneUnless result Status.Memory }
+    ensures nothing { length piece.old.value.bytes ≡ 0 → result ≡ 0 }
+    ensures onto_nothing { text_len text.old.value ≡ 0 → result ≡ 0 }
+{
+    let view = mem::take(piece.get());
+    match text.get().append(alloc, view) {
+        Ok(()) => Status::Done.code(),
+        Err(refused) => {
+            *piece.get() = refused.value;
+            refusal(refused.cause)
+        }
+    }
+}
+
+/// Puts a view in front of the text, and leaves its place empty. Where that is refused, both are as before.
+#[unsafe(no_mangle)]
+pub extern "C" fn iobufs_prepend(alloc: Global, text: &mut TextAt, piece: &mut ViewAt) -> u8
+    ensures at { (text.new.at ≡ text.old.at) × (piece.new.at ≡ piece.old.at) }
+    ensures text { text.new.value ≡ (if result == 0 then text_prepend text.old.value piece.old.value else text.old.value) }
+    ensures piece { piece.new.value ≡ (if result == 0 then default_view else piece.old.value) }
+    ensures too_long { 2 ^ 64 ≤ text_len text.old.value + length piece.old.value.bytes → result ≡ code_of Status.TooLong }
+    ensures memory { text_len text.old.value + length piece.old.value.bytes < 2 ^ 64 → IsDoneUnless result Status.Memory }
+    ensures nothing { length piece.old.value.bytes ≡ 0 → result ≡ 0 }
+    ensures onto_nothing { text_len text.old.value ≡ 0 → result ≡ 0 }
+{
+    let view = mem::take(piece.get());
+    match text.get().prepend(alloc, view) {
+        Ok(()) => Status::Done.code(),
+        Err(refused) => {
+            *piece.get() = refused.value;
+            refusal(refused.cause)
+        }
+    }
+}
+
+/// Takes the first bytes away, as a text.
+#[unsafe(no_mangle)]
+pub extern "C" fn iobufs_split_to(
+    alloc: Global,
+    text: &mut TextAt,
+    at: usize,
+    out: &mut TextAt,
+) -> u8
+    ensures at { (text.new.at ≡ text.old.at) × (out.new.at ≡ out.old.at) }
+    ensures text { text.new.value ≡ (if result == 0 then text_rest text.old.value at else text.old.value) }
+    ensures out { out.new.value ≡ (if result == 0 then text_split_front text.old.value at else out.old.value) }
+    ensures outside { text_len text.old.value < at → result ≡ code_of Status.OutOfRange }
+    ensures inside { at ≤ text_len text.old.value → IsDoneUnless result Status.Memory }
+    ensures nothing { at ≡ 0 → result ≡ 0 }
+    ensures whole { at ≡ text_len text.old.value → result ≡ 0 }
+{
+    let text = text.get();
+    if at > text.len() {
+        return Status::OutOfRange.code();
+    }
+    match text.split_to(alloc, at) {
+        Ok(front) => {
+            *out.get() = front;
+            Status::Done.code()
+        }
+        Err(_) => Status::Memory.code(),
+    }
+}
+
+/// Drops the first bytes. `Status::OutOfRange` where there are fewer, and then nothing changes.
+#[unsafe(no_mangle)]
+pub extern "C" fn iobufs_advance(text: &mut TextAt, n: usize) -> u8
+    ensures at { text.new.at ≡ text.old.at }
+    ensures value { text.new.value ≡ (if nat_le n (text_len text.old.value) then text_advanced text.old.value n else text.old.value) }
+    ensures result { result ≡ (if nat_le n (text_len text.old.value) then 0 else code_of Status.OutOfRange) }
+{
+    let text = text.get();
+    if n > text.len() {
+        return Status::OutOfRange.code();
+    }
+    text.advance(n);
+    Status::Done.code()
+}
+
+/// Copies the first bytes out, and drops them. `Status::EndOfBuffer` where there are fewer, and then nothing changes.
+#[unsafe(no_mangle)]
+pub extern "C" fn iobufs_copy_to_slice(text: &mut TextAt, dst: &mut [u8]) -> u8
+    ensures at { text.new.at ≡ text.old.at }
+    ensures value { text.new.value ≡ (if nat_le (length dst.old) (text_len text.old.value) then text_advanced text.old.value (length dst.old)
+        else text.old.value) }
+    ensures bytes { dst.new ≡ (if nat_le (length dst.old) (text_len text.old.value) then take (length dst.old) text.old.value.bytes else dst.old) }
+    ensures result { result ≡ (if nat_le (length dst.old) (text_len text.old.value) then 0 else code_of Status.EndOfBuffer) }
+{
+    let text = text.get();
+    if dst.len() > text.len() {
+        return Status::EndOfBuffer.code();
+    }
+    text.copy_to_slice(dst);
+    Status::Done.code()
+}
+
+/// Takes the first bytes out as one view: in the storage of their piece, or a copy where they span pieces.
+#[unsafe(no_mangle)]
+pub extern "C" fn iobufs_take(alloc: Global, text: &mut TextAt, n: usize, out: &mut ViewAt) -> u8
+    ensures at { (text.new.at ≡ text.old.at) × (out.new.at ≡ out.old.at) }
+    ensures text { text.new.value ≡ (if result == 0 then text_rest text.old.value n else text.old.value) }
+    ensures out { out.new.value ≡ (if result == 0 then taken_view text.old.value 0 n else out.old.value) }
+    ensures outside { text_len text.old.value < n → result ≡ code_of Status.EndOfBuffer }
+    ensures inside { n ≤ text_len text.old.value → IsDoneUnless result Status.Memory }
+    ensures nothing { n ≡ 0 → result ≡ 0 }
+{
+    let text = text.get();
+    if n > text.len() {
+        return Status::EndOfBuffer.code();
+    }
+    match text.take_owned::<IoBuf>(alloc, n) {
+        Ok(view) => {
+            *out.get() = view;
+            Status::Done.code()
+        }
+        Err(_) => Status::Memory.code(),
+    }
+}
+
+/// The same behind the first `skip` bytes, which are dropped too.
+#[unsafe(no_mangle)]
+pub extern "C" fn iobufs_take_after(
+    alloc: Global,
+    text: &mut TextAt,
+    skip: usize,
+    n: usize,
+    out: &mut ViewAt,
+) -> u8
+    ensures at { (text.new.at ≡ text.old.at) × (out.new.at ≡ out.old.at) }
+    ensures text { text.new.value ≡ (if result == 0 then text_rest text.old.value (skip + n) else text.old.value) }
+    ensures out { out.new.value ≡ (if result == 0 then taken_view text.old.value skip n else out.old.value) }
+    ensures outside { text_len text.old.value < skip + n → result ≡ code_of Status.EndOfBuffer }
+    ensures inside { skip + n ≤ text_len text.old.value → IsDoneUnless result Status.Memory }
+{
+    let text = text.get();
+    let len = text.len();
+    if skip > len || n > len - skip {
+        return Status::EndOfBuffer.code();
+    }
+    match text.take_owned_after::<IoBuf>(alloc, skip, n) {
+        Ok(view) => {
+            *out.get() = view;
+            Status::Done.code()
+        }
+        Err(_) => Status::Memory.code(),
+    }
+}
+
+/// The text as one view, with a copy where there are several pieces; the empty text is left. Where that is refused, the
+/// bytes are given up: clone the text first to keep them.
+#[unsafe(no_mangle)]
+pub extern "C" fn iobufs_coalesce(alloc: Global, text: &mut TextAt, out: &mut ViewAt) -> u8
+    ensures at { (text.new.at ≡ text.old.at) × (out.new.at ≡ out.old.at) }
+    ensures text { text.new.value ≡ default_text }
+    ensures out { result ≡ 0 → of_view out.new.value ≡ text_coalesced text.old.value }
+    ensures refused { (result == 0) ≡ false → out.new.value ≡ out.old.value }
+    ensures single { is_single text.old.value ≡ true → result ≡ 0 }
+    ensures bad_layout { is_single text.old.value ≡ false → 2 ^ 63 ≤ text_len text.old.value → result ≡ code_of Status.BadLayout }
+    ensures memory { text_len text.old.value < 2 ^ 63 → IsDoneUnless result Status.Memory }
+{
+    match mem::take(text.get()).coalesce(alloc) {
+        Ok(view) => {
+            *out.get() = view;
+            Status::Done.code()
+        }
+        Err(cause) => refusal(cause),
+    }
+}
+
+/// The text's only piece as a view; the empty text is left. `Status::Declined` where there are more, and then both are
+/// as before.
+#[unsafe(no_mangle)]
+pub extern "C" fn iobufs_try_into_single(text: &mut TextAt, out: &mut ViewAt) -> u8
+    ensures at { (text.new.at ≡ text.old.at) × (out.new.at ≡ out.old.at) }
+    ensures single { result ≡ 0 → (text.old.value ≡ of_view out.new.value) × (text.new.value ≡ default_text) }
+    ensures declined { (result == 0) ≡ false → (is_single text.old.value ≡ false) × (text.new.value ≡ text.old.value) × (out.new.value ≡ out.old.value) }
+    ensures result { IsDoneUnless result Status.Declined }
+{
+    match mem::take(text.get()).try_into_single() {
+        Ok(piece) => {
+            *out.get() = piece;
+            Status::Done.code()
+        }
+        Err(whole) => {
+            *text.get() = whole;
+            Status::Declined.code()
+        }
+    }
+}
+
+/// Where a piece lies, and its length, as in `struct iovec`.
+#[repr(C)]
+#[derive(Clone, Copy)]
+pub struct Chunk {
+    pub(crate) base: *const u8,
+    pub(crate) len: usize,
+}
+
+// Where bytes lie, and how many they are.
+pub(crate) fn chunk_of(bytes: &[u8]) -> Chunk
+    ensures { result.len ≡ length bytes.now }
+{
+    if bytes.is_empty() {
+        return Chunk {
+            base: ptr::null(),
+            len: 0,
+        };
+    }
+    Chunk {
+        base: ptr::from_ref(&bytes[0]),
+        len: bytes.len(),
+    }
+}
+
+// Fills a list with where the first pieces lie, and answers how many it filled.
+fn fill_chunks(text: &IoBufs, out: &mut [Chunk]) -> usize
+    ensures count { result ≡ min (length out.old) (length (text_chunks text.now)) }
+    ensures lengths { map (λ chunk. chunk.len) (take result out.new) ≡ map length (take result (text_chunks text.now)) }
+    ensures rest { drop result out.new ≡ drop result out.old }
+{
+    let mut count = 0;
+    while count < out.len() {
+        let Some(chunk) = text.chunk_at(count) else {
+            return count;
+        };
+        out[count] = chunk_of(chunk);
+        count += 1;
+    }
+    count
+}
+
+/// Fills a list for `writev` with where the first pieces lie, and answers how many it filled.
+#[unsafe(no_mangle)]
+pub extern "C" fn iobufs_chunks(text: &mut TextAt, out: &mut [Chunk]) -> usize
+    ensures same { (text.new.at ≡ text.old.at) × (text.new.value ≡ text.old.value) }
+    ensures count { result ≡ min (length out.old) (length (text_chunks text.old.value)) }
+    ensures lengths { map (λ chunk. chunk.len) (take result out.new) ≡ map length (take result (text_chunks text.old.value)) }
+    ensures rest { drop result out.new ≡ drop result out.old }
+{
+    fill_chunks(text.get(), out)
+}

@@ -1,0 +1,302 @@
+// Views at their places.
+ghost use Rattle.std.specs.Prelude.{◌≡◌, ◌≤◌, ◌<◌, ◌==◌, if◌then◌else◌, length, take, nat_le, slice_get, Some, None, true, false};
+ghost use Rattle.std.specs.Borrow.{sem, Lends, full_share};
+ghost use Rattle.std.specs.Ptr.{lies_at, room_at};
+ghost use Rattle.iobufs_core.specs.MarkedText.{of_view, taken_view};
+ghost use Rattle.iobufs_core.specs.View.{View, default_view, range_fits, static_mark, native_mark, view_advanced, view_rest, view_slice, view_split_front};
+ghost use Rattle.iobufs_core.specs.contracts.buf.view.IoBuf.{the_row as view_row};
+ghost use Rattle.iobufs_c.specs.Codes.{IsDoneUnless, code_of};
+ghost use Rattle.iobufs_c.specs.Rows.{bound_of};
+
+use crate::status::Status;
+use iobufs_core::buf::IoBuf;
+use iobufs_core::codec::{Buf, OwnedBuf};
+use std::alloc::Global;
+use std::marker::{Model, Send};
+use std::ops::Bound;
+use std::{mem, ptr};
+
+/// The place of a view in the caller's memory.
+#[repr(C)]
+pub struct ViewAt {
+    at: *mut u8,
+    ghost value: { View },
+}
+
+impl Model for ViewAt {
+    ghost use Rattle.std.specs.Borrow.{full_share};
+    ghost use Rattle.std.specs.Ptr.{lies_at};
+    ghost use Rattle.iobufs_core.specs.contracts.buf.view.IoBuf.{the_row as view_row};
+
+    ghost also_owns = { λ h. lies_at view_row full_share h.at h.value };
+}
+
+// A view may go to another thread, and its place with it (proofs/view/ViewAt/TheSendSync).
+unsafe impl Send for ViewAt {}
+
+impl ViewAt {
+    ghost use Rattle.iobufs_c.specs.contracts.view.ViewAt.{the_row};
+
+    /// The view at the place.
+    pub(crate) fn get(&mut self) -> &mut IoBuf
+        ensures* writes_back { sem 𝓛 (Lends the_row view_row self.entry result (λ v. record { at = self.old.at; value = v })) }
+        ensures value { result.now ≡ self.old.value }
+    {
+        unsafe { &mut *(self.at as *mut IoBuf) }
+    }
+}
+
+fn empty() -> IoBuf
+    ensures { result ≡ default_view }
+{
+    IoBuf::default()
+}
+
+/// How many bytes a view takes.
+#[unsafe(no_mangle)]
+pub extern "C" fn iobuf_size() -> usize {
+    mem::size_of::<IoBuf>()
+}
+
+/// To what a view is aligned.
+#[unsafe(no_mangle)]
+pub extern "C" fn iobuf_align() -> usize {
+    mem::align_of::<IoBuf>()
+}
+
+/// Makes the empty view of memory.
+#[unsafe(no_mangle)]
+pub unsafe extern "C" fn iobuf_init(at: *mut u8)
+    requires* { sem 𝓛 (room_at view_row at) }
+    ensures* { sem 𝓛 (lies_at view_row full_share at default_view) }
+{
+    (at as *mut IoBuf).write(empty());
+}
+
+/// Gives the view's bytes up; the empty view is left.
+#[unsafe(no_mangle)]
+pub extern "C" fn iobuf_drop(src: &mut ViewAt)
+    ensures at { src.new.at ≡ src.old.at }
+    ensures value { src.new.value ≡ default_view }
+{
+    *src.get() = IoBuf::default();
+}
+
+/// The number of bytes.
+#[unsafe(no_mangle)]
+pub extern "C" fn iobuf_len(src: &mut ViewAt) -> usize
+    ensures same { (src.new.at ≡ src.old.at) × (src.new.value ≡ src.old.value) }
+    ensures value { result ≡ length src.old.value.bytes }
+{
+    src.get().len()
+}
+
+/// Whether there are no bytes.
+#[unsafe(no_mangle)]
+pub extern "C" fn iobuf_is_empty(src: &mut ViewAt) -> bool
+    ensures same { (src.new.at ≡ src.old.at) × (src.new.value ≡ src.old.value) }
+    ensures value { result ≡ (length src.old.value.bytes == 0) }
+{
+    src.get().is_empty()
+}
+
+/// Writes where the bytes lie, if there are any, and answers how many there are.
+#[unsafe(no_mangle)]
+pub extern "C" fn iobuf_chunk(src: &mut ViewAt, out: &mut *const u8) -> usize
+    ensures same { (src.new.at ≡ src.old.at) × (src.new.value ≡ src.old.value) }
+    ensures value { result ≡ length src.old.value.bytes }
+{
+    let chunk = src.get().as_ref();
+    if !chunk.is_empty() {
+        *out = ptr::from_ref(&chunk[0]);
+    }
+    chunk.len()
+}
+
+/// Writes the byte at a place, if there is one.
+#[unsafe(no_mangle)]
+pub extern "C" fn iobuf_byte_at(src: &mut ViewAt, i: usize, out: &mut u8) -> bool
+    ensures same { (src.new.at ≡ src.old.at) × (src.new.value ≡ src.old.value) }
+    ensures found { result ≡ true → slice_get src.old.value.bytes i ≡ Some out.new }
+    ensures none { result ≡ false → (slice_get src.old.value.bytes i ≡ None) × (out.new ≡ out.old) }
+{
+    let Some(byte) = src.get().byte_at(i) else {
+        return false;
+    };
+    *out = byte;
+    true
+}
+
+/// Whether two views hold the same bytes.
+#[unsafe(no_mangle)]
+pub extern "C" fn iobuf_eq(src: &mut ViewAt, other: &mut ViewAt) -> bool
+    ensures same { (src.new.at ≡ src.old.at) × (src.new.value ≡ src.old.value) }
+    ensures other { (other.new.at ≡ other.old.at) × (other.new.value ≡ other.old.value) }
+    ensures yes { result ≡ true → src.old.value.bytes ≡ other.old.value.bytes }
+    ensures no { src.old.value.bytes ≡ other.old.value.bytes → result ≡ true }
+{
+    let (bytes, others) = (src.get().as_ref(), other.get().as_ref());
+    bytes == others
+}
+
+/// Another view of the same bytes, in their storage.
+#[unsafe(no_mangle)]
+pub extern "C" fn iobuf_clone(src: &mut ViewAt, out: &mut ViewAt) -> u8
+    ensures same { (src.new.at ≡ src.old.at) × (src.new.value ≡ src.old.value) }
+    ensures at { out.new.at ≡ out.old.at }
+    ensures value { out.new.value ≡ (if result == 0 then src.old.value else out.old.value) }
+    ensures memory { IsDoneUnless result Status.Memory }
+{
+    match src.get().clone() {
+        Ok(view) => {
+            *out.get() = view;
+            Status::Done.code()
+        }
+        Err(_) => Status::Memory.code(),
+    }
+}
+
+/// Drops the first bytes. `Status::OutOfRange` where there are fewer, and then the view stays.
+#[unsafe(no_mangle)]
+pub extern "C" fn iobuf_advance(src: &mut ViewAt, n: usize) -> u8
+    ensures at { src.new.at ≡ src.old.at }
+    ensures value { src.new.value ≡ (if nat_le n (length src.old.value.bytes) then view_advanced src.old.value n else src.old.value) }
+    ensures result { result ≡ (if nat_le n (length src.old.value.bytes) then 0 else code_of Status.OutOfRange) }
+{
+    let view = src.get();
+    if n > view.len() {
+        return Status::OutOfRange.code();
+    }
+    view.advance(n);
+    Status::Done.code()
+}
+
+/// Takes the first bytes away, in the same storage.
+#[unsafe(no_mangle)]
+pub extern "C" fn iobuf_split_to(src: &mut ViewAt, at: usize, out: &mut ViewAt) -> u8
+    ensures at { (src.new.at ≡ src.old.at) × (out.new.at ≡ out.old.at) }
+    ensures src { src.new.value ≡ (if result == 0 then view_rest src.old.value at else src.old.value) }
+    ensures out { out.new.value ≡ (if result == 0 then view_split_front src.old.value at else out.old.value) }
+    ensures outside { length src.old.value.bytes < at → result ≡ code_of Status.OutOfRange }
+    ensures inside { at ≤ length src.old.value.bytes → IsDoneUnless result Status.Memory }
+    ensures nothing { at ≡ 0 → result ≡ 0 }
+    ensures whole { at ≡ length src.old.value.bytes → result ≡ 0 }
+{
+    let view = src.get();
+    if at > view.len() {
+        return Status::OutOfRange.code();
+    }
+    match view.split_to(at) {
+        Ok(front) => {
+            *out.get() = front;
+            Status::Done.code()
+        }
+        Err(_) => Status::Memory.code(),
+    }
+}
+
+/// Takes the first bytes out, as one view that may be kept.
+#[unsafe(no_mangle)]
+pub extern "C" fn iobuf_take(alloc: Global, src: &mut ViewAt, n: usize, out: &mut ViewAt) -> u8
+    ensures at { (src.new.at ≡ src.old.at) × (out.new.at ≡ out.old.at) }
+    ensures src { src.new.value ≡ (if result == 0 then view_rest src.old.value n else src.old.value) }
+    ensures out { out.new.value ≡ (if result == 0 then taken_view (of_view src.old.value) 0 n else out.old.value) }
+    ensures outside { length src.old.value.bytes < n → result ≡ code_of Status.EndOfBuffer }
+    ensures inside { n ≤ length src.old.value.bytes → IsDoneUnless result Status.Memory }
+{
+    let view = src.get();
+    if n > view.len() {
+        return Status::EndOfBuffer.code();
+    }
+    match view.take_owned::<IoBuf>(alloc, n) {
+        Ok(front) => {
+            *out.get() = front;
+            Status::Done.code()
+        }
+        Err(_) => Status::Memory.code(),
+    }
+}
+
+/// Copies the first bytes out, and drops them. `Status::EndOfBuffer` where there are fewer, and then nothing changes.
+#[unsafe(no_mangle)]
+pub extern "C" fn iobuf_copy_to_slice(src: &mut ViewAt, dst: &mut [u8]) -> u8
+    ensures at { src.new.at ≡ src.old.at }
+    ensures value { src.new.value ≡ (if nat_le (length dst.old) (length src.old.value.bytes) then view_advanced src.old.value (length dst.old)
+        else src.old.value) }
+    ensures bytes { dst.new ≡ (if nat_le (length dst.old) (length src.old.value.bytes) then take (length dst.old) src.old.value.bytes else dst.old) }
+    ensures result { result ≡ (if nat_le (length dst.old) (length src.old.value.bytes) then 0 else code_of Status.EndOfBuffer) }
+{
+    let view = src.get();
+    if dst.len() > view.len() {
+        return Status::EndOfBuffer.code();
+    }
+    view.copy_to_slice(dst);
+    Status::Done.code()
+}
+
+fn bound(kind: u8, n: usize) -> Bound<usize>
+    ensures { result ≡ bound_of kind n }
+{
+    match kind {
+        0 => Bound::Included(n),
+        1 => Bound::Excluded(n),
+        _ => Bound::Unbounded,
+    }
+}
+
+/// The bytes of a range, in the same storage.
+#[unsafe(no_mangle)]
+pub extern "C" fn iobuf_slice(
+    src: &mut ViewAt,
+    lo_kind: u8,
+    lo: usize,
+    hi_kind: u8,
+    hi: usize,
+    out: &mut ViewAt,
+) -> u8
+    ensures at { (src.new.at ≡ src.old.at) × (out.new.at ≡ out.old.at) }
+    ensures same { src.new.value ≡ src.old.value }
+    ensures out { out.new.value ≡ (if result == 0 then view_slice src.old.value (bound_of lo_kind lo) (bound_of hi_kind hi) else out.old.value) }
+    ensures outside { range_fits (bound_of lo_kind lo) (bound_of hi_kind hi) (length src.old.value.bytes) ≡ false → result ≡ code_of Status.OutOfRange }
+    ensures inside { range_fits (bound_of lo_kind lo) (bound_of hi_kind hi) (length src.old.value.bytes) ≡ true → IsDoneUnless result Status.Memory }
+{
+    let view = src.get();
+    let (from, to) = (bound(lo_kind, lo), bound(hi_kind, hi));
+    if !view.fits_range(from, to) {
+        return Status::OutOfRange.code();
+    }
+    match view.slice(from, to) {
+        Ok(slice) => {
+            *out.get() = slice;
+            Status::Done.code()
+        }
+        Err(_) => Status::Memory.code(),
+    }
+}
+
+/// A view of bytes that stay where they are for good.
+#[unsafe(no_mangle)]
+pub extern "C" fn iobuf_from_static(text: &'static [u8], out: &mut ViewAt)
+    ensures at { out.new.at ≡ out.old.at }
+    ensures value { out.new.value ≡ record { bytes = text.now; mark = static_mark } }
+{
+    *out.get() = IoBuf::from(text);
+}
+
+/// A copy of bytes.
+#[unsafe(no_mangle)]
+pub extern "C" fn iobuf_copy_from_slice(alloc: Global, src: &[u8], out: &mut ViewAt) -> u8
+    ensures at { out.new.at ≡ out.old.at }
+    ensures value { out.new.value ≡ (if result == 0 then if length src.now == 0 then default_view
+        else record { bytes = src.now; mark = native_mark (length src.now) } else out.old.value) }
+    ensures nothing { length src.now ≡ 0 → result ≡ 0 }
+    ensures memory { IsDoneUnless result Status.Memory }
+{
+    match IoBuf::copy_from_slice(alloc, src) {
+        Ok(view) => {
+            *out.get() = view;
+            Status::Done.code()
+        }
+        Err(_) => Status::Memory.code(),
+    }
+}
