@@ -46,13 +46,15 @@ parted_at (b ∷ bytes) behind (suc place) inside here before =
     not_true false never = refl
 
 -- what is known of a reader begins with its buffer
-pub buffer_first : (empty : Bool) (buffer : List ℕ) (inner : Option (List ℕ)) → IfSome (if empty then None else prepend_known buffer inner) (λ bytes. (behind : List ℕ) × (bytes ≡ buffer ++ behind))
+pub buffer_first : (empty : Bool) (buffer : List ℕ) (inner : Option (List ℕ))
+    → IfSome (if empty then None else prepend_known buffer inner) (λ bytes. (behind : List ℕ) × (bytes ≡ buffer ++ behind))
 buffer_first true buffer inner = tt
 buffer_first false buffer (Some behind) = (behind, refl)
 buffer_first false buffer None = tt
 
 pub takes_found : (old new : Option (List ℕ)) (buffer line : List ℕ) (place : ℕ) → IfSome old (λ bytes. (behind : List ℕ) × (bytes ≡ buffer ++ behind))
-    → IsFirstByte (is_byte 10) buffer (Some place) → line ≡ take (place + 1) buffer → DropsConsumable old new (Some (length buffer)) (place + 1) → TakesLine old new line true
+    → IsFirstByte (is_byte 10) buffer (Some place) → line ≡ take (place + 1) buffer
+    → DropsConsumable old new (Some (length buffer)) (place + 1) → TakesLine old new line true
 takes_found None new buffer line place known first taken drops = tt
 takes_found (Some bytes) new buffer line place (behind, is) first taken drops =
     let parted = parted_at buffer behind place first.0.high first.1 (λ k low. first.0.before k (omega arith) low) in
