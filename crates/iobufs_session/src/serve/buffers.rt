@@ -1,5 +1,5 @@
 // Named buffers, line by line.
-ghost use Rattle.std.specs.Prelude.{IfErr, IfSome};
+ghost use Rattle.std.specs.Prelude.{IfErr, IfSome, string_bytes};
 ghost use Rattle.iobufs_session.specs.Halves.{MayEnd};
 ghost use Rattle.iobufs_session.specs.Session.{AnswersLine, Serves};
 
@@ -11,19 +11,14 @@ use iobufs_lines::reply::Line;
 use iobufs_run::table::Table;
 use iobufs_words::words::LineError;
 use std::alloc::Global;
-use std::io::Write;
+use std::fmt::Write;
 
 // How many names there are.
 const NAMES: usize = 16;
 
 // Answers one line, and prints its reply.
-fn answer(
-    alloc: Global,
-    table: &mut Table,
-    line: &str,
-    reply: &mut Vec<u8>,
-) -> Result<(), LineError>
-    ensures { AnswersLine line.now table.old table.new reply.new.items result }
+fn answer(alloc: Global, table: &mut Table, line: &str, reply: &mut String) -> Result<(), LineError>
+    ensures { AnswersLine line.now table.old table.new (string_bytes reply.new) result }
 {
     let cmd = match command(alloc, line) {
         Ok(cmd) => cmd,
@@ -46,7 +41,7 @@ pub fn serve<I: Source, O: Sink>(alloc: Global, input: &mut I, output: &mut O) -
     let Ok(mut table) = Table::new(alloc, NAMES) else {
         return Err(Stop::CannotContinue(Fault::Memory));
     };
-    let mut reply = Vec::new(alloc);
+    let mut reply = String::new(alloc);
     for number in 1..u64::MAX {
         match input.read_line(output) {
             Ok(true) => {}
@@ -62,7 +57,7 @@ pub fn serve<I: Source, O: Sink>(alloc: Global, input: &mut I, output: &mut O) -
             Err(LineError::NoCommand) => return Err(Stop::BadCommand(number)),
             Err(LineError::Memory) => return Err(Stop::CannotContinue(Fault::Memory)),
         }
-        if let Err(fault) = output.take(&reply) {
+        if let Err(fault) = output.take(reply.as_bytes()) {
             return Err(Stop::CannotContinue(fault));
         }
     }

@@ -44,7 +44,7 @@ returns-in-Err-NoCommand-clause-serves g c =
     let at = reads_as _ _ _ _ (line_text (g.I.Source.last c.read_line.new.self)) c.in-Ok-text.line.now c.loop-number.number c.loop-number.table
     (c.in-Ok-text.ensures.cases.0 ∙ ap line_text c.line.ensures) read in
     bad_line (g.I.Source.unread c.args.input.now) (g.O.Sink.contents c.args.output.now) (g.I.Source.unread c.read_line.new.self) (g.O.Sink.contents c.read_line.new.replies)
-    c.in-Ok-text.line.now c.answer.new.reply.items c.loop-number.number c.loop-number.table c.answer.new.table at
+    c.in-Ok-text.line.now c.answer.new.reply.bytes.items c.loop-number.number c.loop-number.table c.answer.new.table at
     (subst (λ (l : List ℕ). IsUtf8 l) (sym c.in-Ok-text.ensures.cases.0) c.in-Ok-text.ensures.cases.1)
     (rw c.in-Err-NoCommand.field-0-is at c.in-Err-NoCommand.ensures)
 
@@ -64,9 +64,9 @@ returns-in-Err-take-clause-serves g c =
     let at = reads_as _ _ _ _ (line_text (g.I.Source.last c.read_line.new.self)) c.in-Ok-text.line.now c.loop-number.number c.loop-number.table
     (c.in-Ok-text.ensures.cases.0 ∙ ap line_text c.line.ensures) read in
     not_written (g.I.Source.unread c.args.input.now) (g.O.Sink.contents c.args.output.now) (g.I.Source.unread c.read_line.new.self) (g.O.Sink.contents c.read_line.new.replies) (g.O.Sink.contents c.take.new.self)
-    c.in-Ok-text.line.now c.answer.new.reply.items c.loop-number.number c.loop-number.table c.answer.new.table c.in-Err-take.fault at
+    c.in-Ok-text.line.now c.answer.new.reply.bytes.items c.loop-number.number c.loop-number.table c.answer.new.table c.in-Err-take.fault at
     (rw c.in-Ok-answer.is at c.answer.ensures)
-    (subst (λ (l : List ℕ). Takes (g.O.Sink.contents c.read_line.new.replies) (g.O.Sink.contents c.take.new.self) l (Err c.in-Err-take.fault)) c.deref.ensures.value c.in-Err-take.ensures.bytes)
+    (subst (λ (l : List ℕ). Takes (g.O.Sink.contents c.read_line.new.replies) (g.O.Sink.contents c.take.new.self) l (Err c.in-Err-take.fault)) c.as_bytes.ensures.value c.in-Err-take.ensures.bytes)
 
 pub loop-number-preserved : goal.loop-number-preserved
 loop-number-preserved g c =
@@ -76,9 +76,9 @@ loop-number-preserved g c =
     let at = reads_as _ _ _ _ (line_text (g.I.Source.last c.read_line.new.self)) c.in-Ok-text.line.now c.loop-number.number c.loop-number.table
     (c.in-Ok-text.ensures.cases.0 ∙ ap line_text c.line.ensures) read in
     line_answered (g.I.Source.unread c.args.input.now) (g.O.Sink.contents c.args.output.now) (g.I.Source.unread c.read_line.new.self) (g.O.Sink.contents c.read_line.new.replies) (g.O.Sink.contents c.take.new.self)
-    c.in-Ok-text.line.now c.answer.new.reply.items c.loop-number.number c.loop-number.table c.answer.new.table at
+    c.in-Ok-text.line.now c.answer.new.reply.bytes.items c.loop-number.number c.loop-number.table c.answer.new.table at
     (rw c.in-Ok-answer.is at c.answer.ensures)
-    (subst (λ (l : List ℕ). Appends (g.O.Sink.contents c.read_line.new.replies) (g.O.Sink.contents c.take.new.self) l) c.deref.ensures.value c.in_default-take.ensures.bytes)
+    (subst (λ (l : List ℕ). Appends (g.O.Sink.contents c.read_line.new.replies) (g.O.Sink.contents c.take.new.self) l) c.as_bytes.ensures.value c.in_default-take.ensures.bytes)
 
 pub returns-clause-serves : goal.returns-clause-serves
 returns-clause-serves g c =
