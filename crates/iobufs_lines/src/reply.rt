@@ -5,7 +5,8 @@ ghost use Rattle.iobufs_lines.specs.Printed.{kind_text, OneReplyALine};
 ghost use Rattle.iobufs_words.specs.Spelled.{two_digits};
 
 use iobufs_run::command::{Kind, Piece, Reply};
-use std::{fmt, str};
+use std::fmt::{self, Display};
+use std::str;
 
 /// A reply, as it is printed.
 #[derive(Clone, Copy)]
@@ -84,11 +85,14 @@ impl fmt::Display for Shown<'_> {
     ghost output = { λ shown. Some (piece_text shown.0 shown.1.now) };
 
     fn fmt<W: fmt::Write>(&self, f: &mut fmt::Formatter<W>) -> fmt::Result {
-        let digits = Hex(self.1.bytes.as_slice());
-        let spare = self.1.spare;
+        f.write_str(" ")?;
+        Hex(self.1.bytes.as_slice()).fmt(f)?;
         match self.0 {
-            Kind::Part | Kind::Parts => write!(f, " {digits}+{spare}"),
-            Kind::View | Kind::Text => write!(f, " {digits}"),
+            Kind::Part | Kind::Parts => {
+                f.write_str("+")?;
+                self.1.spare.fmt(f)
+            }
+            Kind::View | Kind::Text => Ok(()),
         }
     }
 }
@@ -102,12 +106,18 @@ impl fmt::Display for Line<'_> {
     fn fmt<W: fmt::Write>(&self, f: &mut fmt::Formatter<W>) -> fmt::Result {
         match self.0 {
             Reply::Done => f.write_str("ok"),
-            Reply::Bytes(bytes) => write!(f, "bytes {}", Hex(bytes.as_slice())),
-            Reply::Refused(refusal) => write!(f, "refused {refusal}"),
+            Reply::Bytes(bytes) => {
+                f.write_str("bytes ")?;
+                Hex(bytes.as_slice()).fmt(f)
+            }
+            Reply::Refused(refusal) => {
+                f.write_str("refused ")?;
+                refusal.fmt(f)
+            }
             Reply::Shown { kind, pieces } => {
                 f.write_str(name(*kind))?;
                 for piece in pieces {
-                    write!(f, "{}", Shown(*kind, piece))?;
+                    Shown(*kind, piece).fmt(f)?;
                 }
                 Ok(())
             }
