@@ -6,8 +6,6 @@ ghost use Rattle.iobufs_core.specs.Recovery.{IsPartOf};
 ghost use Rattle.std.specs.Borrow.{Lends, Array, sem, u8 as byte};
 ghost use Rattle.iobufs_core.specs.contracts.buf.part.IoBufMut.{the_row};
 
-use super::IoBuf;
-use super::native::Native;
 use crate::codec::{Buf, BufError, BufMut};
 use bytes::{Bytes, BytesMut};
 use std::alloc::{Global, Layout};
@@ -173,19 +171,20 @@ impl IoBufMut {
         }
     }
 
-    /// The bytes of a view (`From<IoBuf>`): recovered where `IoBuf::try_into_mut` does, else copied. `Err` for
-    /// want of memory alone, with the view.
-    pub fn from_view(alloc: Global, view: IoBuf) -> Result<IoBufMut, IoBuf>
-        ensures same { MatchResult result (IsPartOf view) (λ other. other ≡ view) }
-        ensures empty { length view.bytes ≡ 0 → IsOk result }
+    /// The storage, where the bytes begin in it, where their room ends, and the empty block, if there is one.
+    #[inline(always)]
+    pub(super) fn into_storage(self) -> (Vec<u8>, usize, usize, Option<Arc<Vec<u8>>>)
+        ensures filled { drop result.1 result.0.items ≡ self.filled }
+        ensures spare { result.2 - vec_len result.0 ≡ self.spare }
+        ensures inside { (result.1 ≤ vec_len result.0) × (vec_len result.0 ≤ result.2) × (result.2 ≤ vec_capacity result.0) }
     {
-        match view.try_into_mut(alloc) {
-            Ok(part) => Ok(part),
-            Err(view) => match IoBufMut::copy_from_slice(alloc, view.as_ref()) {
-                Ok(part) => Ok(part),
-                Err(_) => Err(view),
-            },
-        }
+        let IoBufMut {
+            storage,
+            start,
+            limit,
+            shell,
+        } = self;
+        (storage, start, limit, shell)
     }
 
     pub(super) fn from_storage(storage: Vec<u8>, start: usize, limit: usize) -> IoBufMut
@@ -282,26 +281,6 @@ impl IoBufMut {
         ensures { self.new ≡ part_truncated self.old 0 }
     {
         self.truncate(0);
-    }
-
-    /// The bytes as a read-only view (`IoBufMut::freeze`), with no copy. The default view where there are none.
-    #[inline(always)]
-    pub fn freeze(self) -> Result<IoBuf, BufError>
-        ensures ok { IfOk result (λ b. b ≡ part_frozen self) }
-        ensures err { IsOkUnless result BufError.Memory }
-        ensures empty { length self.filled ≡ 0 → IsOk result }
-    {
-        let IoBufMut {
-            storage,
-            start,
-            limit,
-            shell,
-        } = self;
-        if start == storage.len() {
-            return Ok(IoBuf::default());
-        }
-        let alloc = *storage.allocator();
-        Ok(IoBuf::from_native(Native::new(alloc, shell, storage, start, limit)?))
     }
 }
 

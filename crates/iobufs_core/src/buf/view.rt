@@ -5,7 +5,7 @@ ghost use Rattle.iobufs_core.specs.Recovery.{IsAdopted, IsRecovery};
 
 use super::IoBufMut;
 use super::native::Native;
-use crate::codec::{Buf, BufError, OwnedBuf, OwnedBytes};
+use crate::codec::{Buf, BufError};
 use bytes::{Bytes, BytesMut};
 use std::alloc::{AllocError, Global};
 use std::marker::Model;
@@ -145,8 +145,8 @@ impl IoBuf {
         Ok(IoBuf { storage })
     }
 
-    // Drops the first bytes, as a copy of them does.
-    fn drop_front(&mut self, n: usize)
+    /// Drops the first bytes, as a copy of them does.
+    pub(crate) fn drop_front(&mut self, n: usize)
         requires { n ≤ length self.old.bytes }
         ensures { self.new ≡ view_rest self.old n }
     {
@@ -261,6 +261,25 @@ impl IoBuf {
                 Ok(bytes) => Ok(bytes),
                 Err(_) => Err(IoBuf::from_native(native)),
             },
+        }
+    }
+
+    /// The bytes as `into_bytes` has them, and an empty view is left. A refusal leaves the view as it was.
+    pub(crate) fn take_bytes(&mut self, alloc: Global) -> Result<Bytes, BufError>
+        ensures ok { IfOk result (λ bytes. bytes ≡ self.old.bytes) }
+        ensures taken { OnOk result (self.new ≡ default_view) }
+        ensures err { OnErr result (self.new ≡ self.old) }
+        ensures memory { IsOkUnless result BufError.Memory }
+        ensures static_text { self.old.mark ≡ static_mark → IsOk result }
+        ensures shared_text { self.old.mark ≡ bytes_mark → IsOk result }
+        ensures empty { length self.old.bytes ≡ 0 → IsOk result }
+    {
+        match mem::take(self).into_bytes(alloc) {
+            Ok(bytes) => Ok(bytes),
+            Err(same) => {
+                *self = same;
+                Err(BufError::Memory)
+            }
         }
     }
 }
@@ -407,7 +426,7 @@ impl Buf for IoBuf {
             return Ok(Bytes::new());
         }
         if n == self.len() {
-            return Bytes::take_view(alloc, self);
+            return self.take_bytes(alloc);
         }
         let bytes = match &self.storage {
             Storage::Static(text) => Bytes::from_static(&text[..n]),
@@ -433,46 +452,4 @@ impl Buf for IoBuf {
     ghost joins = { λ v. joined-one v.bytes };
 
     ghost full = { λ v. full-one v.bytes };
-}
-
-impl OwnedBuf for IoBuf {
-    ghost use Rattle.iobufs_core.specs.MarkedText.{of_view};
-    ghost use Rattle.iobufs_core.specs.ViewLaws.{advanced-of_view, chunks-of_view, text_rest-of_view};
-    ghost use Rattle.std.proofs.Common.{rules};
-
-    ghost marked = { of_view };
-
-    #[tactic(auto, using(crate::specs::ViewLaws::marked_view))]
-    fn chunk_count(&self) -> usize {
-        match self.len() {
-            0 => 0,
-            _ => 1,
-        }
-    }
-
-    #[tactic(auto, using(crate::specs::ViewLaws::taken_of_view))]
-    fn take_owned_after<T: OwnedBytes>(
-        &mut self,
-        alloc: Global,
-        skip: usize,
-        n: usize,
-    ) -> Result<T, BufError> {
-        if n != 0 && n == self.len() {
-            return T::take_view(alloc, self);
-        }
-        let _len = self.len();
-        let end = skip + n;
-        let view = self.slice(Bound::Included(skip), Bound::Excluded(end))?;
-        let made = T::from_view(alloc, view)?;
-        self.drop_front(end);
-        Ok(made)
-    }
-
-    ghost same_text = { Prim.search rules };
-
-    ghost same_pieces = { chunks-of_view };
-
-    ghost advances_marked = { advanced-of_view };
-
-    ghost copies_marked = { text_rest-of_view };
 }

@@ -8,6 +8,7 @@ use crate::buf::IoBuf;
 use bytes::Bytes;
 use std::alloc::Global;
 use std::mem;
+use std::ops::Bound;
 
 /// What is made of bytes that were taken out (the codec's `OwnedBytes`; `from_view` stands for its `claim`).
 pub trait OwnedBytes: Sized {
@@ -163,16 +164,52 @@ impl OwnedBytes for Bytes {
     }
 
     fn take_view(alloc: Global, view: &mut IoBuf) -> Result<Bytes, BufError> {
-        match mem::take(view).into_bytes(alloc) {
-            Ok(bytes) => Ok(bytes),
-            Err(same) => {
-                *view = same;
-                Err(BufError::Memory)
-            }
-        }
+        view.take_bytes(alloc)
     }
 
     ghost use Rattle.std.proofs.Common.{rules};
 
     ghost same_bytes = { Prim.search rules };
+}
+
+impl OwnedBuf for IoBuf {
+    ghost use Rattle.iobufs_core.specs.MarkedText.{of_view};
+    ghost use Rattle.iobufs_core.specs.ViewLaws.{advanced-of_view, chunks-of_view, text_rest-of_view};
+    ghost use Rattle.std.proofs.Common.{rules};
+
+    ghost marked = { of_view };
+
+    #[tactic(auto, using(crate::specs::ViewLaws::marked_view))]
+    fn chunk_count(&self) -> usize {
+        match self.len() {
+            0 => 0,
+            _ => 1,
+        }
+    }
+
+    #[tactic(auto, using(crate::specs::ViewLaws::taken_of_view))]
+    fn take_owned_after<T: OwnedBytes>(
+        &mut self,
+        alloc: Global,
+        skip: usize,
+        n: usize,
+    ) -> Result<T, BufError> {
+        if n != 0 && n == self.len() {
+            return T::take_view(alloc, self);
+        }
+        let _len = self.len();
+        let end = skip + n;
+        let view = self.slice(Bound::Included(skip), Bound::Excluded(end))?;
+        let made = T::from_view(alloc, view)?;
+        self.drop_front(end);
+        Ok(made)
+    }
+
+    ghost same_text = { Prim.search rules };
+
+    ghost same_pieces = { chunks-of_view };
+
+    ghost advances_marked = { advanced-of_view };
+
+    ghost copies_marked = { text_rest-of_view };
 }

@@ -1,7 +1,7 @@
 use Rattle.std.proofs.Common.{◌∙◌, sym, subst, IfOk}
 use Rattle.iobufs_core.specs.View.{View}
 use Rattle.iobufs_core.specs.ViewLaws.{taken-whole}
-use Rattle.iobufs_core.proofs.buf.view.IoBufOwnedBuf.take_owned_after.Goals as goal
+use Rattle.iobufs_core.proofs.codec.owned_buf.IoBufOwnedBuf.take_owned_after.Goals as goal
 
 pub returns-then-n-len-clause-ok : goal.returns-then-n-len-clause-ok
 returns-then-n-len-clause-ok g c =

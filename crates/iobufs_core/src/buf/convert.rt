@@ -1,0 +1,41 @@
+// From parts to views and back, in the same storage.
+ghost use Rattle.std.specs.Prelude.{◌≡◌, length, IfOk, IsOk, IsOkUnless, MatchResult};
+ghost use Rattle.iobufs_core.specs.Part.{part_frozen};
+ghost use Rattle.iobufs_core.specs.Recovery.{IsPartOf};
+
+use super::native::Native;
+use super::{IoBuf, IoBufMut};
+use crate::codec::BufError;
+use std::alloc::Global;
+
+impl IoBufMut {
+    /// The bytes of a view (`From<IoBuf>`): recovered where `IoBuf::try_into_mut` does, else copied. `Err` for
+    /// want of memory alone, with the view.
+    pub fn from_view(alloc: Global, view: IoBuf) -> Result<IoBufMut, IoBuf>
+        ensures same { MatchResult result (IsPartOf view) (λ other. other ≡ view) }
+        ensures empty { length view.bytes ≡ 0 → IsOk result }
+    {
+        match view.try_into_mut(alloc) {
+            Ok(part) => Ok(part),
+            Err(view) => match IoBufMut::copy_from_slice(alloc, view.as_ref()) {
+                Ok(part) => Ok(part),
+                Err(_) => Err(view),
+            },
+        }
+    }
+
+    /// The bytes as a read-only view (`IoBufMut::freeze`), with no copy. The default view where there are none.
+    #[inline(always)]
+    pub fn freeze(self) -> Result<IoBuf, BufError>
+        ensures ok { IfOk result (λ b. b ≡ part_frozen self) }
+        ensures err { IsOkUnless result BufError.Memory }
+        ensures empty { length self.filled ≡ 0 → IsOk result }
+    {
+        let (storage, start, limit, shell) = self.into_storage();
+        if start == storage.len() {
+            return Ok(IoBuf::default());
+        }
+        let alloc = *storage.allocator();
+        Ok(IoBuf::from_native(Native::new(alloc, shell, storage, start, limit)?))
+    }
+}
