@@ -138,6 +138,14 @@ impl Row {
         Ok(())
     }
 
+    /// Whether one more piece asks for no memory.
+    #[inline(always)]
+    pub(super) fn has_room(&self) -> bool
+        ensures { result ≡ nat_lt (length self.now.views) self.now.room }
+    {
+        self.pieces.len() < self.pieces.capacity()
+    }
+
     /// Shows the bytes of each piece, in order.
     pub(super) fn for_each<F: FnMut(&[u8])>(&self, visit: F)
         requires { F.IsAlwaysCallable visit }
@@ -187,6 +195,7 @@ impl Row {
         self.pieces.push_back_reserved(Piece { view: piece, end });
     }
 
+    /// Puts a piece in front of the others.
     pub(super) fn push_front(&mut self, piece: IoBuf) -> Result<(), AllocFailed<IoBuf>>
         requires some { 0 < length piece.bytes }
         requires fits { length (pieces_bytes self.old.views) + length piece.bytes < 2 ^ 64 }
@@ -194,15 +203,27 @@ impl Row {
         ensures refused { OnErr result (self.new.views ≡ self.old.views) }
         ensures handed_back { IfErr result (λ e. e.value ≡ piece) }
     {
-        let _len = self.len();
-        let base = self.base.wrapping_sub(piece.len() as u64);
         if self.pieces.try_reserve(1).is_err() {
             return Err(AllocFailed { value: piece });
         }
+        let ahead = piece.len();
+        self.push_front_reserved(piece, ahead);
+        Ok(())
+    }
+
+    /// As `push_front`, within the row's room, a piece of so many bytes.
+    #[inline(always)]
+    pub(super) fn push_front_reserved(&mut self, piece: IoBuf, ahead: usize)
+        requires some { 0 < length piece.bytes }
+        requires ahead { ahead ≡ length piece.bytes }
+        requires fits { length (pieces_bytes self.old.views) + length piece.bytes < 2 ^ 64 }
+        requires room { length self.old.views < self.old.room }
+        ensures pushed { self.new.views ≡ piece ∷ self.old.views }
+        ensures same_room { self.new.room ≡ self.old.room }
+    {
         let end = self.base;
         self.pieces.push_front_reserved(Piece { view: piece, end });
-        self.base = base;
-        Ok(())
+        self.base = end.wrapping_sub(ahead as u64);
     }
 
     pub(super) fn pop_front(&mut self) -> IoBuf

@@ -190,6 +190,27 @@ impl IoBufs {
         ensures nothing { length piece.bytes ≡ 0 → IsOk result }
         ensures onto_nothing { text_len self.old ≡ 0 → IsOk result }
     {
+        if let Pieces::Many(row) = &mut self.pieces {
+            let (len, more) = (row.len(), piece.len());
+            if more != 0 && more <= usize::MAX - len && row.has_room() {
+                row.push_back_reserved(piece, len + more);
+                return Ok(());
+            }
+        }
+        self.append_any(alloc, piece)
+    }
+
+    // The same of any text and any buffer.
+    #[inline(never)]
+    fn append_any(&mut self, alloc: Global, piece: IoBuf) -> Result<(), Refused<IoBuf>>
+        ensures done { OnOk result (self.new ≡ text_append self.old piece) }
+        ensures refused { OnErr result (self.new ≡ self.old) }
+        ensures handed_back { IfErr result (λ refused. refused.value ≡ piece) }
+        ensures too_long { 2 ^ 64 ≤ text_len self.old + length piece.bytes → IsErrAnd result (λ refused. refused.cause ≡ BufError.TooLong) }
+        ensures memory { text_len self.old + length piece.bytes < 2 ^ 64 → IfErr result (λ refused. refused.cause ≡ BufError.Memory) }
+        ensures nothing { length piece.bytes ≡ 0 → IsOk result }
+        ensures onto_nothing { text_len self.old ≡ 0 → IsOk result }
+    {
         let (len, more) = (self.len(), piece.len());
         if more == 0 {
             return Ok(());
@@ -215,6 +236,27 @@ impl IoBufs {
 
     /// Puts a buffer in front of the text. An empty one changes nothing, and an empty text is replaced.
     pub fn prepend(&mut self, alloc: Global, piece: IoBuf) -> Result<(), Refused<IoBuf>>
+        ensures done { OnOk result (self.new ≡ text_prepend self.old piece) }
+        ensures refused { OnErr result (self.new ≡ self.old) }
+        ensures handed_back { IfErr result (λ refused. refused.value ≡ piece) }
+        ensures too_long { 2 ^ 64 ≤ text_len self.old + length piece.bytes → IsErrAnd result (λ refused. refused.cause ≡ BufError.TooLong) }
+        ensures memory { text_len self.old + length piece.bytes < 2 ^ 64 → IfErr result (λ refused. refused.cause ≡ BufError.Memory) }
+        ensures nothing { length piece.bytes ≡ 0 → IsOk result }
+        ensures onto_nothing { text_len self.old ≡ 0 → IsOk result }
+    {
+        if let Pieces::Many(row) = &mut self.pieces {
+            let (len, ahead) = (row.len(), piece.len());
+            if ahead != 0 && ahead <= usize::MAX - len && row.has_room() {
+                row.push_front_reserved(piece, ahead);
+                return Ok(());
+            }
+        }
+        self.prepend_any(alloc, piece)
+    }
+
+    // The same of any text and any buffer.
+    #[inline(never)]
+    fn prepend_any(&mut self, alloc: Global, piece: IoBuf) -> Result<(), Refused<IoBuf>>
         ensures done { OnOk result (self.new ≡ text_prepend self.old piece) }
         ensures refused { OnErr result (self.new ≡ self.old) }
         ensures handed_back { IfErr result (λ refused. refused.value ≡ piece) }
