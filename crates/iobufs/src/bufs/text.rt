@@ -15,7 +15,8 @@ ghost use Rattle.iobufs_core.specs.View.{View, default_view, bytes_mark, static_
 ghost use Rattle.iobufs_core.specs.MarkedText.{IsMarked, chunk_count as count_of, default_text, is_single, joined, of_view, text_append, text_chunks, text_len, text_prepend, text_rest, text_split_front};
 
 use super::pieces::Pieces;
-use super::row::{Located, Row};
+use super::row::Row;
+use super::search::Located;
 use bytes::Bytes;
 use iobufs_core::buf::{IoBuf, IoBufMut};
 use iobufs_core::codec::{BufError, Refused};
