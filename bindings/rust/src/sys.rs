@@ -81,7 +81,7 @@ pub struct Chunk {
 pub const VIEW: usize = 6;
 pub const PART: usize = 8;
 pub const TEXT: usize = 7;
-pub const PARTS: usize = 9;
+pub const PARTS: usize = 10;
 pub const BUILDER: usize = 15;
 pub const FRAMES: usize = 7;
 

@@ -1,8 +1,10 @@
 -- Writable parts: what is filled, drained, frozen, and read.
 pub mod Coalesced
 pub mod DrainShapes
+pub mod DrainTurns
 pub mod Examples
 pub mod Frozen
+pub mod OrderLaws
 pub mod PartChunks
 pub mod PartLaws
 pub mod PartRuns

@@ -10,6 +10,7 @@ pub mod LocateLaws
 pub mod PieceLaws
 pub mod PlaceLaws
 pub mod ReadLaws
+pub mod RoomLaws
 pub mod RowLaws
 pub mod RunLaws
 pub mod SeveralLaws

@@ -2,6 +2,7 @@
 pub mod Ends
 pub mod Gaps
 pub mod Kept
+pub mod PartOrder
 pub mod PartShape
 pub mod PartSums
 pub mod Pieces

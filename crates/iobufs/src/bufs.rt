@@ -6,6 +6,5 @@ pub(crate) mod row;
 mod search;
 mod text;
 
-pub use row::Located;
-pub use search::{Ends, find_end};
+pub use search::{Ends, Located, find_end};
 pub use text::IoBufs;

@@ -16,7 +16,7 @@ mod walks;
 
 use crate::bufs::IoBufs;
 use iobufs_core::buf::IoBufMut;
-use iobufs_core::codec::{BufError, BufMut};
+use iobufs_core::codec::BufError;
 use several::Several;
 use std::alloc::Global;
 use std::marker::Model;
@@ -272,12 +272,13 @@ impl IoBufsMut {
         ensures good_layout { length (parts_filled self) < 2 ^ 63 → IsOkUnless result BufError.Memory }
         ensures nothing { length (parts_filled self) ≡ 0 → IsOk result }
     {
-        let parts = match self.try_into_single() {
-            Ok(part) => return Ok(part),
-            Err(parts) => parts,
+        let IoBufsMut { shape } = self;
+        let parts = match shape {
+            Shape::One(part) => return Ok(part),
+            Shape::Many(parts) => parts,
         };
         let mut whole = IoBufMut::with_capacity(alloc, parts.len())?;
-        whole.put(parts);
+        walks::put_all(parts.into_row(), &mut whole);
         Ok(whole)
     }
 

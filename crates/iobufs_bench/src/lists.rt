@@ -2,7 +2,7 @@
 ghost use Rattle.std.specs.Prelude.{◌≡◌, length};
 ghost use Rattle.iobufs.specs.Parts.{parts_filled};
 
-use crate::run::{PART, Run, Stop, copies, lists, mark, parts, pattern, since};
+use crate::run::{PART, Run, Stop, copies, lists, mark, parts, pattern, roomy_lists, since};
 use iobufs::bufs_mut::IoBufsMut;
 use iobufs_core::codec::{Buf, BufMut};
 use std::alloc::Global;
@@ -127,6 +127,56 @@ pub fn freeze(rt: &HostRuntime, n: usize) -> Result<Run, Stop> {
     }
     Ok(Run {
         ops: k as u64,
+        nanos,
+        sum,
+    })
+}
+
+pub fn coalesce(rt: &HostRuntime, n: usize) -> Result<Run, Stop> {
+    let alloc = rt.alloc();
+    let k = copies(n);
+    let lists = roomy_lists(alloc, k, n)?;
+    let mut kept = Vec::with_capacity(alloc, k)?;
+    let start = Instant::now(rt)?;
+    for list in lists {
+        kept.push(list.coalesce(alloc)?)?;
+    }
+    let nanos = since(rt, start)?;
+    let mut sum = 0u64;
+    for part in &kept {
+        sum = sum.wrapping_add(mark(part.as_ref()));
+    }
+    Ok(Run {
+        ops: k as u64,
+        nanos,
+        sum,
+    })
+}
+
+// Reads so many chunks, each to its end.
+fn read_turns<B: Buf>(buf: &mut B, turns: usize) -> u64 {
+    let mut sum = 0u64;
+    'turns: for _ in 0..turns {
+        let chunk = buf.chunk();
+        sum = sum.wrapping_add(mark(chunk));
+        let len = chunk.len();
+        buf.advance(len);
+    }
+    sum
+}
+
+/// Parts that are read to their ends, and keep their room.
+pub fn drained_read(rt: &HostRuntime, n: usize) -> Result<Run, Stop> {
+    let k = copies(n);
+    let mut lists = roomy_lists(rt.alloc(), k, n)?;
+    let start = Instant::now(rt)?;
+    let mut sum = 0u64;
+    for list in &mut lists {
+        sum = sum.wrapping_add(read_turns(list, n));
+    }
+    let nanos = since(rt, start)?;
+    Ok(Run {
+        ops: (k as u64).wrapping_mul(n as u64),
         nanos,
         sum,
     })

@@ -3,7 +3,7 @@ use crate::run::{Run, Stop};
 use crate::{codec, lists, single, streams, texts};
 
 /// All of them, in the order in which they are run.
-pub static NAMES: [&str; 76] = [
+pub static NAMES: [&str; 80] = [
     "put64_1m_freeze",
     "put_u8_64k_freeze",
     "split_1m_1k_drop",
@@ -78,6 +78,10 @@ pub static NAMES: [&str; 76] = [
     "parts64_take300",
     "parts64_freeze",
     "parts64_overwrite",
+    "parts64_coalesce",
+    "parts64_drained_read",
+    "parts4096_coalesce",
+    "parts4096_drained_read",
     "frames_there_and_back",
     "frames_there_and_back_take",
 ];
@@ -180,6 +184,8 @@ fn run_parts(rt: &HostRuntime, n: usize, name: &str) -> Result<Run, Stop> {
         "take300" => lists::take300(rt, n),
         "freeze" => lists::freeze(rt, n),
         "overwrite" => lists::overwrite(rt, n),
+        "coalesce" => lists::coalesce(rt, n),
+        "drained_read" => lists::drained_read(rt, n),
         _ => Err(Stop::NoName),
     }
 }

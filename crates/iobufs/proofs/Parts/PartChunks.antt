@@ -24,7 +24,7 @@ pub chunks-full : (p : Part) (parts : List Part) → 0 < length p.filled → par
 chunks-full p parts h = full_first p.filled (map (λ q. q.filled) parts) h
 
 -- parts without bytes show no chunk, however many are asked for
-chunks-none : (parts : List Part) → length (parts_filled parts) ≡ 0 → parts_chunks parts ≡ []
+pub chunks-none : (parts : List Part) → length (parts_filled parts) ≡ 0 → parts_chunks parts ≡ []
 chunks-none [] h = refl
 chunks-none (p ∷ parts) h =
     let both = length-append p.filled (parts_filled parts) in

@@ -3,9 +3,9 @@ use Rattle.std.proofs.Common.{◌≡◌, ℕ, ◌+◌, ◌-◌, ◌<◌, ◌≤�
 use Rattle.std.proofs.lemmas.Bool.{cases_lt}
 use Rattle.std.proofs.Math.Seq.{drop-set-lt}
 use Rattle.std.proofs.lemmas.List.{drop_all, drop_more, take_more_set}
-use Rattle.iobufs_core.specs.Part.{Part, part_drained, part_put}
+use Rattle.iobufs_core.specs.Part.{Part, part_put}
 use Rattle.iobufs.specs.Laws.Filling.{fill-nil, same_part}
-use Rattle.iobufs.specs.Parts.{parts_fill, parts_shared_out}
+use Rattle.iobufs.specs.Parts.{parts_fill}
 
 -- f works on one part after the other, and carries s along; the part at i was x and is y
 pub turn : {S : Type 0} (f : List Part → S → List Part) (g : Part → S → Part) (h : Part → S → S) → ((p : Part) (ps : List Part) (s : S) → f (p ∷ ps) s ≡ g p s ∷ f ps (h p s))
@@ -52,13 +52,3 @@ fill-past all now i x w l e none so_far =
 -- nothing is left to fill in
 pub fill-done : (all now : List Part) (i : ℕ) → all ≡ take i now ++ parts_fill (drop i now) [] → now ≡ all
 fill-done all now i so_far = sym (so_far ∙ ap (λ ps. take i now ++ ps) (fill-nil (drop i now)) ∙ take-append-drop i now)
-
--- the part loses its share, n, of the bytes that are to go
-pub shared-turn : (all now : List Part) (i : ℕ) (x y : Part) (rest n : ℕ) → i < length now → x ≡ get_or now i x → y ≡ part_drained x n → n ≡ min rest (length x.filled)
-    → all ≡ take i now ++ parts_shared_out (drop i now) rest → all ≡ take (i + 1) (set now i y) ++ parts_shared_out (drop (i + 1) (set now i y)) (rest - n)
-shared-turn all now i x y rest n l e q m so_far =
-    let less : rest - n ≡ rest - length x.filled = omega arith in
-    let most : n ≡ min (length x.filled) rest = omega arith in
-    let gone : drop n x.filled ≡ drop rest x.filled = share_dropped x.filled n rest most in
-    turn parts_shared_out part_drained (λ p k. k - length p.filled) (λ p ps k. refl) all now i x y rest (rest - n) l e
-    (q ∙ (λ j. record { filled = gone j; spare = x.spare })) less so_far

@@ -5,7 +5,7 @@ ghost use Rattle.iobufs.specs.Inside.Pieces.{piece_at, pieces_bytes, IsPlace};
 ghost use Rattle.iobufs.specs.Inside.Several.{views};
 
 use super::pieces::Pieces;
-use super::row::Located;
+use super::search::Located;
 use iobufs_core::buf::{IoBuf, IoBufMut};
 use iobufs_core::codec::{BufError, BufMut};
 use std::alloc::{AllocError, Global};

@@ -5,7 +5,8 @@ ghost use Rattle.iobufs_core.specs.View.{View, view_advanced};
 ghost use Rattle.iobufs.specs.Inside.Pieces.{AreFull, IsPlace, behind_first, left_pieces, right_pieces, piece_at, pieces_bytes, view_len};
 ghost use Rattle.iobufs.specs.Inside.Several.{views, IsPieced};
 
-use super::row::{Located, Row, split_inside};
+use super::row::{Row, split_inside};
+use super::search::Located;
 use iobufs_core::buf::IoBuf;
 use iobufs_core::codec::{Buf, BufError, OwnedBytes};
 use std::alloc::{AllocError, AllocFailed, Global};

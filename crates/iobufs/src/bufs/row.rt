@@ -1,4 +1,4 @@
-// Pieces in a deque, found by where they end, and a row in the making, with gaps.
+// Pieces in a deque, found by where they end.
 ghost use Rattle.std.specs.Fn.{CalledAt};
 ghost use Rattle.std.specs.List.{FoldsTo};
 ghost use Rattle.std.specs.Option.{option_copied};
@@ -7,11 +7,12 @@ ghost use Rattle.std.specs.VecDeque.{deque_len, deque_capacity};
 ghost use Rattle.iobufs_core.specs.Part.{part_put};
 ghost use Rattle.iobufs_core.specs.View.{IsView, view_advanced, view_front};
 ghost use Rattle.iobufs.specs.Inside.Ends.{cut_piece, shortened, views_in};
-ghost use Rattle.iobufs.specs.Inside.Gaps.{AreSlots, filled, gap_len, gaps_len, slot_len, slot_of, slots_pushed, stood_len};
-ghost use Rattle.iobufs.specs.Inside.RowValues.{Slot};
-ghost use Rattle.iobufs.specs.Inside.Pieces.{AreFull, AreViews, IsPlace, left_pieces, piece_at, piece_start, pieces_bytes, right_pieces, view_len};
+ghost use Rattle.iobufs.specs.Inside.Pieces.{AreFull, IsPlace, left_pieces, piece_at, piece_start, pieces_bytes, right_pieces, view_len};
 
-use super::search::{Ends, find_end};
+mod gaps;
+
+use super::search::{Ends, Located, find_end};
+pub(crate) use gaps::Gapped;
 use iobufs_core::buf::{IoBuf, IoBufMut};
 use iobufs_core::codec::{Buf, BufError, BufMut, OwnedBytes};
 use std::alloc::{AllocError, AllocFailed, Global};
@@ -19,14 +20,6 @@ use std::collections::VecDeque;
 use std::marker::Model;
 use std::mem;
 use std::ops::Bound;
-
-/// A place in a text: the piece that holds it, the number of bytes before it there, and how many ends were looked at.
-#[derive(Clone, Copy)]
-pub struct Located {
-    pub index: usize,
-    pub offset: usize,
-    pub probes: u32,
-}
 
 // A piece, and its end: the base of its row more than the number of bytes up to where it ends, modulo 2^64.
 #[derive(Drop)]
@@ -138,6 +131,14 @@ impl Row {
         Ok(())
     }
 
+    /// Whether one more piece asks for no memory.
+    #[inline(always)]
+    pub(super) fn has_room(&self) -> bool
+        ensures { result ≡ nat_lt (length self.now.views) self.now.room }
+    {
+        self.pieces.len() < self.pieces.capacity()
+    }
+
     /// Shows the bytes of each piece, in order.
     pub(super) fn for_each<F: FnMut(&[u8])>(&self, visit: F)
         requires { F.IsAlwaysCallable visit }
@@ -187,6 +188,7 @@ impl Row {
         self.pieces.push_back_reserved(Piece { view: piece, end });
     }
 
+    /// Puts a piece in front of the others.
     pub(super) fn push_front(&mut self, piece: IoBuf) -> Result<(), AllocFailed<IoBuf>>
         requires some { 0 < length piece.bytes }
         requires fits { length (pieces_bytes self.old.views) + length piece.bytes < 2 ^ 64 }
@@ -194,15 +196,27 @@ impl Row {
         ensures refused { OnErr result (self.new.views ≡ self.old.views) }
         ensures handed_back { IfErr result (λ e. e.value ≡ piece) }
     {
-        let _len = self.len();
-        let base = self.base.wrapping_sub(piece.len() as u64);
         if self.pieces.try_reserve(1).is_err() {
             return Err(AllocFailed { value: piece });
         }
+        let ahead = piece.len();
+        self.push_front_reserved(piece, ahead);
+        Ok(())
+    }
+
+    /// As `push_front`, within the row's room, a piece of so many bytes.
+    #[inline(always)]
+    pub(super) fn push_front_reserved(&mut self, piece: IoBuf, ahead: usize)
+        requires some { 0 < length piece.bytes }
+        requires ahead { ahead ≡ length piece.bytes }
+        requires fits { length (pieces_bytes self.old.views) + length piece.bytes < 2 ^ 64 }
+        requires room { length self.old.views < self.old.room }
+        ensures pushed { self.new.views ≡ piece ∷ self.old.views }
+        ensures same_room { self.new.room ≡ self.old.room }
+    {
         let end = self.base;
         self.pieces.push_front_reserved(Piece { view: piece, end });
-        self.base = base;
-        Ok(())
+        self.base = end.wrapping_sub(ahead as u64);
     }
 
     pub(super) fn pop_front(&mut self) -> IoBuf
@@ -396,137 +410,6 @@ impl Row {
         cut(&mut self.pieces, &mut pieces, inside, place.offset, base);
         Ok(mem::replace(self, Row { base, pieces }))
     }
-}
-
-/// A row in the making: pieces that stand, and gaps before them for bytes that are to come. A gap is a piece without
-/// bytes, and its end says how many are to come:
-///
-/// ```text
-/// pushed | gap 2 | X | gap 1 | Y |
-/// filled |  a b  | X |   c   | Y | d e |      by the bytes a b c d e
-/// ```
-pub(crate) struct Gapped {
-    pieces: VecDeque<Piece>,
-}
-
-// Written out, so that what a caller proves about one that it drops names no field.
-impl Drop for Gapped {
-    fn drop(self) {
-        let Gapped { pieces: _ } = self;
-    }
-}
-
-impl Model for Gapped {
-    ghost use Rattle.iobufs.specs.Inside.RowValues.{SlotRow};
-
-    ghost Value = { SlotRow };
-
-    ghost use Rattle.std.specs.VecDeque.{deque_capacity};
-    ghost use Rattle.iobufs.specs.Inside.Gaps.{slots_in};
-
-    ghost view = { λ g. record { slots = slots_in g.pieces.items; room = deque_capacity g.pieces } };
-}
-
-impl Gapped {
-    /// Nothing yet, and no room.
-    pub(crate) fn new(alloc: Global) -> Gapped
-        ensures { result.slots ≡ [] }
-    {
-        Gapped {
-            pieces: VecDeque::new(alloc),
-        }
-    }
-
-    pub(crate) fn is_empty(&self) -> bool
-        ensures { result ≡ (length self.now.slots == 0) }
-    {
-        self.pieces.is_empty()
-    }
-
-    /// Room for a gap and a piece, and for the bytes behind them; the first room is for two of each.
-    pub(crate) fn make_room(&mut self) -> Result<(), AllocError>
-        ensures same { self.new.slots ≡ self.old.slots }
-        ensures more { self.old.room ≤ self.new.room }
-        ensures room { OnOk result (length self.new.slots + 3 ≤ self.new.room) }
-    {
-        if self.pieces.is_empty() {
-            return self.pieces.try_reserve(5);
-        }
-        self.pieces.try_reserve(3)
-    }
-
-    /// Puts a piece behind a gap; there is none where it is for no bytes.
-    pub(crate) fn push(&mut self, run: usize, view: IoBuf)
-        requires some { 0 < length view.bytes }
-        requires room { length self.old.slots + 3 ≤ self.old.room }
-        ensures pushed { self.new.slots ≡ self.old.slots ++ slots_pushed run view }
-        ensures room { length self.new.slots < self.new.room }
-    {
-        if run != 0 {
-            self.pieces.push_back_reserved(Piece {
-                view: IoBuf::default(),
-                end: run as u64,
-            });
-        }
-        self.pieces.push_back_reserved(Piece { view, end: 0 });
-    }
-
-    /// Fills each gap by the next bytes of a buffer. What none got stands behind.
-    pub(crate) fn fill(self, rest: IoBuf) -> Result<Row, BufError>
-        requires slots { AreSlots self.slots }
-        requires within { gaps_len self.slots ≤ length rest.bytes }
-        requires fits { stood_len self.slots + length rest.bytes < 2 ^ 64 }
-        requires room { length self.slots < self.room }
-        ensures filled { IfOk result (λ row. row.views ≡ filled rest self.slots) }
-        ensures full { IfOk result (λ row. AreFull row.views) }
-        ensures roomy { IfOk result (λ row. AreViews row.views) }
-        ensures memory { IsOkUnless result BufError.Memory }
-    {
-        let Gapped { mut pieces } = self;
-        let mut rest = rest;
-        let mut end = 0;
-        for i in 0..pieces.len() {
-            let Some(piece) = pieces.get_mut(i) else {
-                unreachable!()
-            };
-            end = fill_piece(piece, &mut rest, end)?;
-        }
-        let mut row = Row { base: 0, pieces };
-        row.add(rest);
-        Ok(row)
-    }
-}
-
-// Fills a gap by the next bytes of a buffer. A piece that stands stays.
-fn fill_gap(piece: &mut Piece, rest: &mut IoBuf) -> Result<(), BufError>
-    requires { gap_len (slot_of piece.old) ≤ length rest.old.bytes }
-    ensures filled { OnOk result ((slots : List Slot) → filled rest.old (slot_of piece.old ∷ slots) ≡ piece.new.view ∷ filled rest.new slots) }
-    ensures len { OnOk result (view_len piece.new.view ≡ slot_len (slot_of piece.old)) }
-    ensures left { OnOk result (length rest.new.bytes + gap_len (slot_of piece.old) ≡ length rest.old.bytes) }
-    ensures memory { IsOkUnless result BufError.Memory }
-{
-    if !piece.view.is_empty() {
-        return Ok(());
-    }
-    piece.view = rest.split_to(piece.end as usize)?;
-    Ok(())
-}
-
-// The same, and tells where the piece ends behind so many bytes.
-fn fill_piece(piece: &mut Piece, rest: &mut IoBuf, start: u64) -> Result<u64, BufError>
-    requires within { gap_len (slot_of piece.old) ≤ length rest.old.bytes }
-    requires fits { start + slot_len (slot_of piece.old) < 2 ^ 64 }
-    ensures filled { OnOk result ((slots : List Slot) → filled rest.old (slot_of piece.old ∷ slots) ≡ piece.new.view ∷ filled rest.new slots) }
-    ensures len { OnOk result (view_len piece.new.view ≡ slot_len (slot_of piece.old)) }
-    ensures left { OnOk result (length rest.new.bytes + gap_len (slot_of piece.old) ≡ length rest.old.bytes) }
-    ensures end { IfOk result (λ end. (end ≡ start + view_len piece.new.view) × (piece.new.end ≡ end)) }
-    ensures roomy { OnOk result (IsView piece.new.view) }
-    ensures memory { IsOkUnless result BufError.Memory }
-{
-    fill_gap(piece, rest)?;
-    let end = start + piece.view.len() as u64;
-    piece.end = end;
-    Ok(end)
 }
 
 /// Takes the first `at` bytes off, some but not all.

@@ -1,6 +1,14 @@
-// A search among rising end places.
+// A search among rising end places, and what it finds in a text.
 ghost use Rattle.std.specs.Prelude.{◌≡◌, ℕ, ◌+◌, ◌-◌, ◌*◌, ◌^◌, ◌<◌, ◌≤◌, nat_lt, List, length, get_or};
 ghost use Rattle.iobufs.specs.Search.{IsFirstPast, IsRising};
+
+/// A place in a text: the piece that holds it, the number of bytes before it there, and how many ends were looked at.
+#[derive(Clone, Copy)]
+pub struct Located {
+    pub index: usize,
+    pub offset: usize,
+    pub probes: u32,
+}
 
 /// Rising end places, a place below the last of them, and a number of probes. A probe compares the place with one end.
 pub trait Ends {

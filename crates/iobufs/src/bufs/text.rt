@@ -15,7 +15,8 @@ ghost use Rattle.iobufs_core.specs.View.{View, default_view, bytes_mark, static_
 ghost use Rattle.iobufs_core.specs.MarkedText.{IsMarked, chunk_count as count_of, default_text, is_single, joined, of_view, text_append, text_chunks, text_len, text_prepend, text_rest, text_split_front};
 
 use super::pieces::Pieces;
-use super::row::{Located, Row};
+use super::row::Row;
+use super::search::Located;
 use bytes::Bytes;
 use iobufs_core::buf::{IoBuf, IoBufMut};
 use iobufs_core::codec::{BufError, Refused};
@@ -190,6 +191,27 @@ impl IoBufs {
         ensures nothing { length piece.bytes ≡ 0 → IsOk result }
         ensures onto_nothing { text_len self.old ≡ 0 → IsOk result }
     {
+        if let Pieces::Many(row) = &mut self.pieces {
+            let (len, more) = (row.len(), piece.len());
+            if more != 0 && more <= usize::MAX - len && row.has_room() {
+                row.push_back_reserved(piece, len + more);
+                return Ok(());
+            }
+        }
+        self.append_any(alloc, piece)
+    }
+
+    // The same of any text and any buffer.
+    #[inline(never)]
+    fn append_any(&mut self, alloc: Global, piece: IoBuf) -> Result<(), Refused<IoBuf>>
+        ensures done { OnOk result (self.new ≡ text_append self.old piece) }
+        ensures refused { OnErr result (self.new ≡ self.old) }
+        ensures handed_back { IfErr result (λ refused. refused.value ≡ piece) }
+        ensures too_long { 2 ^ 64 ≤ text_len self.old + length piece.bytes → IsErrAnd result (λ refused. refused.cause ≡ BufError.TooLong) }
+        ensures memory { text_len self.old + length piece.bytes < 2 ^ 64 → IfErr result (λ refused. refused.cause ≡ BufError.Memory) }
+        ensures nothing { length piece.bytes ≡ 0 → IsOk result }
+        ensures onto_nothing { text_len self.old ≡ 0 → IsOk result }
+    {
         let (len, more) = (self.len(), piece.len());
         if more == 0 {
             return Ok(());
@@ -215,6 +237,27 @@ impl IoBufs {
 
     /// Puts a buffer in front of the text. An empty one changes nothing, and an empty text is replaced.
     pub fn prepend(&mut self, alloc: Global, piece: IoBuf) -> Result<(), Refused<IoBuf>>
+        ensures done { OnOk result (self.new ≡ text_prepend self.old piece) }
+        ensures refused { OnErr result (self.new ≡ self.old) }
+        ensures handed_back { IfErr result (λ refused. refused.value ≡ piece) }
+        ensures too_long { 2 ^ 64 ≤ text_len self.old + length piece.bytes → IsErrAnd result (λ refused. refused.cause ≡ BufError.TooLong) }
+        ensures memory { text_len self.old + length piece.bytes < 2 ^ 64 → IfErr result (λ refused. refused.cause ≡ BufError.Memory) }
+        ensures nothing { length piece.bytes ≡ 0 → IsOk result }
+        ensures onto_nothing { text_len self.old ≡ 0 → IsOk result }
+    {
+        if let Pieces::Many(row) = &mut self.pieces {
+            let (len, ahead) = (row.len(), piece.len());
+            if ahead != 0 && ahead <= usize::MAX - len && row.has_room() {
+                row.push_front_reserved(piece, ahead);
+                return Ok(());
+            }
+        }
+        self.prepend_any(alloc, piece)
+    }
+
+    // The same of any text and any buffer.
+    #[inline(never)]
+    fn prepend_any(&mut self, alloc: Global, piece: IoBuf) -> Result<(), Refused<IoBuf>>
         ensures done { OnOk result (self.new ≡ text_prepend self.old piece) }
         ensures refused { OnErr result (self.new ≡ self.old) }
         ensures handed_back { IfErr result (λ refused. refused.value ≡ piece) }

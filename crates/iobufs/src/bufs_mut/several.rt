@@ -1,8 +1,8 @@
 // Several parts with their sums.
 ghost use Rattle.std.specs.Option.{option_copied};
-ghost use Rattle.std.specs.Prelude.{◌≡◌, ◌+◌, ◌^◌, ◌<◌, ◌≤◌, ◌++◌, [], ◌∷◌, false, length, nat_lt, replicate, slice_get, slice_index_or, IfNone, IfOk, IfSome, IsTrue, OnOk};
-ghost use Rattle.iobufs_core.specs.Part.{empty_part, part_capacity};
-ghost use Rattle.iobufs.specs.Parts.{HaveCapacity, parts_capacity, parts_drained, parts_fill, parts_filled, parts_or_default, parts_overwritten, parts_spare, parts_with_len};
+ghost use Rattle.std.specs.Prelude.{◌≡◌, ◌+◌, ◌^◌, ◌<◌, ◌≤◌, ◌++◌, [], ◌∷◌, false, length, replicate, slice_get, IfNone, IfOk, IfSome, IsTrue, OnOk};
+ghost use Rattle.iobufs_core.specs.Part.{part_capacity};
+ghost use Rattle.iobufs.specs.Parts.{HaveCapacity, parts_capacity, parts_chunks, parts_drained, parts_fill, parts_filled, parts_overwritten, parts_spare, parts_with_len};
 
 use super::walks;
 use iobufs_core::buf::IoBufMut;
@@ -10,10 +10,17 @@ use std::alloc::{AllocError, Global};
 use std::collections::VecDeque;
 use std::marker::Model;
 
-/// Parts in a deque, and beside it how many bytes they hold and how many fit, so that neither asks for a walk.
+/// Parts in a deque, and beside it how many bytes they hold and how many fit, so that neither asks for a walk. Parts
+/// that were used up stand behind the others, so that no call walks over them again before bytes are put into them:
+///
+/// ```text
+/// in order | . . | . . | b c | d e |
+/// row      | b c | d e | . . | . . |    used: 2
+/// ```
 #[derive(Drop)]
 pub(super) struct Several {
-    parts: VecDeque<IoBufMut>,
+    row: VecDeque<IoBufMut>,
+    used: usize,
     len: usize,
     capacity: usize,
 }
@@ -21,13 +28,13 @@ pub(super) struct Several {
 impl Model for Several {
     ghost use Rattle.std.specs.Prelude.{List};
     ghost use Rattle.iobufs_core.specs.Part.{Part};
-    ghost use Rattle.iobufs.specs.Inside.PartSums.{AreSummed};
+    ghost use Rattle.iobufs.specs.Inside.PartOrder.{AreKept, in_order};
 
     ghost Value = { List Part };
 
-    ghost view = { λ s. s.parts.items };
+    ghost view = { λ s. in_order s.row.items s.used };
 
-    ghost invariant = { λ s. AreSummed s.parts.items s.len s.capacity };
+    ghost invariant = { λ s. AreKept s.row.items s.used s.len s.capacity };
 }
 
 impl Several {
@@ -41,22 +48,25 @@ impl Several {
     {
         let len = first.len() + second.len();
         let capacity = first.capacity() + second.capacity();
-        let mut parts = VecDeque::with_capacity(alloc, 4)?;
-        parts.push_back_reserved(first);
-        parts.push_back_reserved(second);
+        let mut row = VecDeque::with_capacity(alloc, 4)?;
+        row.push_back_reserved(first);
+        row.push_back_reserved(second);
         Ok(Several {
-            parts,
+            row,
+            used: 0,
             len,
             capacity,
         })
     }
 
+    #[tactic(auto, using(crate::proofs::Parts::OrderLaws::ordered))]
     pub(super) fn push(&mut self, part: IoBufMut) -> Result<(), AllocError>
         requires { parts_capacity self.old + part_capacity part < 2 ^ 64 }
         ensures { OnOk result (self.new ≡ self.old ++ part ∷ []) }
     {
         let (len, capacity) = (part.len(), part.capacity());
-        if self.parts.push_back(part).is_err() {
+        walks::settle(&mut self.row, &mut self.used);
+        if self.row.push_back(part).is_err() {
             return Err(AllocError);
         }
         self.len += len;
@@ -64,33 +74,46 @@ impl Several {
         Ok(())
     }
 
+    #[tactic(auto, using(crate::proofs::Parts::OrderLaws::ordered))]
     pub(super) fn count(&self) -> usize
         ensures { result ≡ length self.now }
     {
-        self.parts.len()
+        self.row.len()
     }
 
     pub(super) fn get(&self, i: usize) -> Option<&IoBufMut>
         ensures { option_copied result ≡ slice_get self.now i }
     {
-        self.parts.get(i)
+        let others = self.row.len() - self.used;
+        if i < self.used {
+            return self.row.get(others + i);
+        }
+        let at = i - self.used;
+        if at < others {
+            return self.row.get(at);
+        }
+        None
     }
 
+    /// The parts as a reader goes over them: those that are used up stand last.
     pub(super) fn row(&self) -> &VecDeque<IoBufMut>
-        ensures { result.now.items ≡ self.now }
+        ensures filled { parts_filled result.now.items ≡ parts_filled self.now }
+        ensures chunks { parts_chunks result.now.items ≡ parts_chunks self.now }
     {
-        &self.parts
+        &self.row
     }
 
     pub(super) fn into_row(self) -> VecDeque<IoBufMut>
         ensures { result.items ≡ self }
     {
         let Several {
-            parts,
+            mut row,
+            mut used,
             len: _,
             capacity: _,
         } = self;
-        parts
+        walks::settle(&mut row, &mut used);
+        row
     }
 
     pub(super) fn len(&self) -> usize
@@ -112,27 +135,39 @@ impl Several {
         self.capacity - self.len
     }
 
+    #[tactic(auto, using(crate::proofs::Parts::OrderLaws::ordered))]
     pub(super) fn put(&mut self, src: &[u8])
         requires { length src.now ≤ parts_spare self.old }
         ensures { self.new ≡ parts_fill self.old src.now }
     {
-        walks::put(&mut self.parts, src);
+        if src.is_empty() {
+            return;
+        }
+        walks::settle(&mut self.row, &mut self.used);
+        walks::put(&mut self.row, src);
         self.len += src.len();
     }
 
+    #[tactic(auto, using(crate::proofs::Parts::OrderLaws::ordered))]
     pub(super) fn put_bytes(&mut self, value: u8, n: usize)
         requires { n ≤ parts_spare self.old }
         ensures { self.new ≡ parts_fill self.old (replicate n value) }
     {
-        walks::put_bytes(&mut self.parts, value, n);
+        if n == 0 {
+            return;
+        }
+        walks::settle(&mut self.row, &mut self.used);
+        walks::put_bytes(&mut self.row, value, n);
         self.len += n;
     }
 
+    #[tactic(auto, using(crate::proofs::Parts::OrderLaws::ordered))]
     pub(super) fn set_len(&mut self, n: usize)
         requires { n ≤ parts_capacity self.old }
         ensures { self.new ≡ parts_with_len self.old n }
     {
-        walks::set_len(&mut self.parts, n);
+        walks::settle(&mut self.row, &mut self.used);
+        walks::set_len(&mut self.row, n);
         self.len = n;
     }
 
@@ -140,22 +175,21 @@ impl Several {
         requires { length src.now ≡ length (parts_filled self.old) }
         ensures { self.new ≡ parts_overwritten self.old src.now }
     {
-        walks::copy_from_slice(&mut self.parts, src);
+        walks::copy_from_slice(&mut self.row, src);
     }
 
-    /// Drops the first `n` bytes if the first part holds more, and tells whether it does.
+    /// Drops the first `n` bytes if the first part of the row holds more, and tells whether it does.
     pub(super) fn shorten(&mut self, n: usize) -> bool
         requires several { 1 < length self.old }
         requires have_capacity { HaveCapacity self.old }
         requires some { n ≤ length (parts_filled self.old) }
-        ensures tells { result ≡ nat_lt n (length (slice_index_or self.old 0 (empty_part 0)).filled) }
         ensures drained { IsTrue result → self.new ≡ parts_drained self.old n }
         ensures have_capacity { IsTrue result → HaveCapacity self.new }
         ensures several { IsTrue result → 1 < length self.new }
         ensures fits { IsTrue result → parts_capacity self.new ≤ parts_capacity self.old }
         ensures same { result ≡ false → self.new ≡ self.old }
     {
-        if !walks::shorten(&mut self.parts, n) {
+        if !walks::shorten(&mut self.row, n) {
             return false;
         }
         self.len -= n;
@@ -175,12 +209,13 @@ impl Several {
         ensures have_capacity { IfNone result (HaveCapacity self.new) }
         ensures fits { IfNone result (parts_capacity self.new ≤ parts_capacity self.old) }
     {
-        walks::advance(&mut self.parts, n);
+        self.used = walks::advance(&mut self.row, n, self.used);
         self.len -= n;
         self.capacity -= n;
-        let Some(part) = walks::take_single(&mut self.parts) else {
+        let Some(part) = walks::take_single(&mut self.row) else {
             return None;
         };
+        self.used = 0;
         self.len = 0;
         self.capacity = 0;
         Some(part)

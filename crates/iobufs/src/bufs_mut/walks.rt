@@ -2,8 +2,9 @@
 ghost use Rattle.std.specs.Prelude.{◌≡◌, ◌+◌, ◌^◌, ◌<◌, ◌≤◌, [], ◌∷◌, length, drop, fold, map, nat_lt, replicate, slice_get, slice_index_or, take, false, IfNone, IfOk, IfSome, IsOk, IsOkUnless, IsTrue};
 ghost use Rattle.iobufs_core.specs.Chunks.{first_chunk};
 ghost use Rattle.iobufs_core.specs.MarkedText.{of_view, text_append};
-ghost use Rattle.iobufs_core.specs.Part.{empty_part, part_frozen};
-ghost use Rattle.iobufs.specs.Parts.{HaveCapacity, parts_capacity, parts_chunks, parts_drained, parts_fill, parts_filled, parts_frozen, parts_or_default, parts_overwritten, parts_shared_out, parts_spare, parts_with_len, with_capacity};
+ghost use Rattle.iobufs_core.specs.Part.{empty_part, part_frozen, part_put};
+ghost use Rattle.iobufs.specs.Inside.PartOrder.{AreBehind, first_drained, in_order};
+ghost use Rattle.iobufs.specs.Parts.{HaveCapacity, parts_capacity, parts_chunks, parts_fill, parts_filled, parts_frozen, parts_or_default, parts_overwritten, parts_shared_out, parts_spare, parts_with_len, with_capacity};
 
 use crate::bufs::IoBufs;
 use crate::bufs::row::Row;
@@ -81,18 +82,35 @@ pub(super) fn copy_from_slice(parts: &mut VecDeque<IoBufMut>, src: &[u8])
     }
 }
 
-// Drops the first `n` bytes if the first part holds more, and tells whether it does.
-pub(super) fn shorten(parts: &mut VecDeque<IoBufMut>, n: usize) -> bool
-    requires several { 1 < length parts.old.items }
-    requires have_capacity { HaveCapacity parts.old.items }
-    ensures tells { result ≡ nat_lt n (length (slice_index_or parts.old.items 0 (empty_part 0)).filled) }
-    ensures drained { IsTrue result → parts.new.items ≡ parts_drained parts.old.items n }
-    ensures have_capacity { IsTrue result → HaveCapacity parts.new.items }
-    ensures several { IsTrue result → 1 < length parts.new.items }
-    ensures fits { IsTrue result → parts_capacity parts.new.items ≤ parts_capacity parts.old.items }
-    ensures same { result ≡ false → parts.new.items ≡ parts.old.items }
+// Puts the parts that are used up, which stand behind the others, back in front of these.
+#[inline(always)]
+pub(super) fn settle(row: &mut VecDeque<IoBufMut>, used: &mut usize)
+    requires { used.old ≤ length row.old.items }
+    ensures ordered { row.new.items ≡ in_order row.old.items used.old }
+    ensures none { used.new ≡ 0 }
 {
-    let part = &mut parts[0];
+    if *used > 0 {
+        turn_back(row, *used);
+        *used = 0;
+    }
+}
+
+#[inline(never)]
+fn turn_back(row: &mut VecDeque<IoBufMut>, used: usize)
+    requires { used ≤ length row.old.items }
+    ensures { row.new.items ≡ in_order row.old.items used }
+{
+    row.rotate_right(used);
+}
+
+// Drops the first `n` bytes if the first part of the row holds more, and tells whether it does.
+pub(super) fn shorten(row: &mut VecDeque<IoBufMut>, n: usize) -> bool
+    requires { 0 < length row.old.items }
+    ensures tells { result ≡ nat_lt n (length (slice_index_or row.old.items 0 (empty_part 0)).filled) }
+    ensures drained { IsTrue result → row.new.items ≡ first_drained row.old.items n }
+    ensures same { result ≡ false → row.new.items ≡ row.old.items }
+{
+    let part = &mut row[0];
     if n < part.len() {
         part.advance(n);
         return true;
@@ -100,64 +118,31 @@ pub(super) fn shorten(parts: &mut VecDeque<IoBufMut>, n: usize) -> bool
     false
 }
 
-// Drops the first `n` bytes, and the parts that can't hold a byte any more.
-#[tactic(auto, using(crate::proofs::Parts::DrainShapes::draining))]
-pub(super) fn advance(parts: &mut VecDeque<IoBufMut>, n: usize)
-    requires several { 1 < length parts.old.items }
-    requires have_capacity { HaveCapacity parts.old.items }
-    ensures rest { parts_or_default parts.new.items ≡ parts_drained parts.old.items n }
-    ensures have_capacity { HaveCapacity parts.new.items }
-    ensures fits { parts_capacity parts.new.items ≤ parts_capacity parts.old.items }
-{
-    let end = share_out(parts, n);
-    if end > 0 {
-        drop_spent(parts, end);
-    }
-}
-
-// Drops the first `n` bytes, each part its share of them; no part is looked at behind the last byte that goes. Answers
-// a place from which on each part can still hold a byte.
-fn share_out(parts: &mut VecDeque<IoBufMut>, n: usize) -> usize
-    requires { HaveCapacity parts.old.items }
-    ensures shared { parts.new.items ≡ parts_shared_out parts.old.items n }
-    ensures have_capacity { HaveCapacity (drop result parts.new.items) }
-    ensures inside { result ≤ length parts.new.items }
+// Drops the first `n` bytes. A part that is used up goes behind the others, where `used` stand already, if it can still
+// hold a byte. Answers how many stand there then. No part is looked at behind the last byte that goes.
+pub(super) fn advance(row: &mut VecDeque<IoBufMut>, n: usize, used: usize) -> usize
+    requires behind { AreBehind row.old.items used }
+    requires have_capacity { HaveCapacity (in_order row.old.items used) }
+    requires some { n ≤ length (parts_filled row.old.items) }
+    ensures rest { in_order row.new.items result ≡ with_capacity (parts_shared_out (in_order row.old.items used) n) }
+    ensures behind { AreBehind row.new.items result }
 {
     let mut rest = n;
-    let mut end = 0;
-    for i in 0..parts.len() {
-        if rest == 0 {
-            return end;
+    let mut behind = used;
+    while rest > 0 {
+        if shorten(row, rest) {
+            break;
         }
-        let part = &mut parts[i];
-        let share = rest.min(part.len());
-        part.advance(share);
-        if part.capacity() == 0 {
-            end = i + 1;
-        }
-        rest -= share;
-    }
-    end
-}
-
-// Drops the parts that can't hold a byte, all of which stand before a place.
-#[inline(never)]
-fn drop_spent(parts: &mut VecDeque<IoBufMut>, end: usize)
-    requires inside { end ≤ length parts.old.items }
-    requires have_capacity { HaveCapacity (drop end parts.old.items) }
-    ensures { parts.new.items ≡ with_capacity parts.old.items }
-{
-    let mut kept = 0;
-    for i in 0..end {
-        let part = parts.pop_front().unwrap();
+        let mut part = row.pop_front().unwrap();
+        let len = part.len();
+        part.advance(len);
+        rest -= len;
         if part.capacity() > 0 {
-            parts.push_back_reserved(part);
-            kept += 1;
+            row.push_back_reserved(part);
+            behind += 1;
         }
     }
-    if kept > 0 {
-        parts.rotate_right(kept);
-    }
+    behind
 }
 
 // Where fewer than two parts are left: the one that is left, or one of capacity 0, and then none is.
@@ -238,6 +223,17 @@ pub(super) fn front(
         rest -= share;
     }
     Ok(bytes)
+}
+
+// Puts the bytes of all parts into one that has the room.
+#[tactic(auto, using(crate::proofs::Parts::PartChunks::reading))]
+pub(super) fn put_all(mut parts: VecDeque<IoBufMut>, whole: &mut IoBufMut)
+    requires { length (parts_filled parts.items) ≤ whole.old.spare }
+    ensures { whole.new ≡ part_put whole.old (parts_filled parts.items) }
+{
+    while let Some(part) = parts.pop_front() {
+        whole.put_slice(part.as_ref());
+    }
 }
 
 // The first parts that hold bytes, at most `max`.

@@ -1,18 +1,18 @@
-use Rattle.std.proofs.Common.{ap, ◌∙◌, arith}
-use Rattle.iobufs.specs.Inside.Pieces.{of_pieces}
-use Rattle.iobufs.proofs.Text.TextLaws.{length-kept, full-kept, append-pieces, kept-push}
+use Rattle.std.proofs.Common.{arith}
+use Rattle.iobufs.proofs.Text.RoomLaws.{behind-row, length-row}
 use Rattle.iobufs.proofs.bufs.text.IoBufs.append.Goals as goal
 
-pub push_back-requires-clause-full : goal.push_back-requires-clause-full
-push_back-requires-clause-full c =
-    let n = length-kept c.self.inside _ c.self.view_is in
-    full-kept c.self.inside _ c.self.view_is c.self.invariant (omega arith)
+pub invariant_of-self : goal.invariant_of-self
+invariant_of-self c =
+    let pushed = c.push_back_reserved in
+    (behind-row c.self.inside c.in-Many.row _ c.in-Many.is c.self.invariant c.self.view_is pushed.new.self c.args.piece (omega arith) c.len-more.ensures.room pushed.ensures.pushed).1
 
-pub invariant_of-self-2 : goal.invariant_of-self-2
-invariant_of-self-2 c = kept-push c.self.inside _ c.args.piece c.self.invariant c.push_back.ensures.pieced c.in_default.ensures.done c.len-more.ensures.room
+pub returns-then-has_room-clause-done : goal.returns-then-has_room-clause-done
+returns-then-has_room-clause-done c =
+    let pushed = c.push_back_reserved in
+    (behind-row c.self.inside c.in-Many.row _ c.in-Many.is c.self.invariant c.self.view_is pushed.new.self c.args.piece (omega arith) c.len-more.ensures.room pushed.ensures.pushed).0
 
-pub returns-clause-done : goal.returns-clause-done
-returns-clause-done c = ap of_pieces c.in_default.ensures.done ∙ append-pieces _ _ _ c.self.view_is (omega arith) (omega arith)
-
-pub push_back-requires-clause-total : goal.push_back-requires-clause-total
-push_back-requires-clause-total c = omega (arith, length-kept c.self.inside _ c.self.view_is)
+pub returns-then-has_room-clause-too_long : goal.returns-then-has_room-clause-too_long
+returns-then-has_room-clause-too_long c =
+    let len = length-row c.self.inside c.in-Many.row _ c.in-Many.is c.self.invariant c.self.view_is in
+    λ long. absurd (omega (arith, long, len, c.len-len.ensures.value, c.len-more.ensures.value, c.if-more-len.true))

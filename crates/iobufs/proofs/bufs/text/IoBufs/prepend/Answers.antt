@@ -1,18 +1,18 @@
-use Rattle.std.proofs.Common.{ap, ◌∙◌, arith}
-use Rattle.iobufs.specs.Inside.Pieces.{of_pieces}
-use Rattle.iobufs.proofs.Text.TextLaws.{length-kept, full-kept, prepend-pieces, kept-cons}
+use Rattle.std.proofs.Common.{arith}
+use Rattle.iobufs.proofs.Text.RoomLaws.{ahead-row, length-row}
 use Rattle.iobufs.proofs.bufs.text.IoBufs.prepend.Goals as goal
 
-pub push_front-requires-clause-full : goal.push_front-requires-clause-full
-push_front-requires-clause-full c =
-    let n = length-kept c.self.inside _ c.self.view_is in
-    full-kept c.self.inside _ c.self.view_is c.self.invariant (omega arith)
+pub invariant_of-self : goal.invariant_of-self
+invariant_of-self c =
+    let pushed = c.push_front_reserved in
+    (ahead-row c.self.inside c.in-Many.row _ c.in-Many.is c.self.invariant c.self.view_is pushed.new.self c.args.piece (omega arith) c.len-ahead.ensures.room pushed.ensures.pushed).1
 
-pub invariant_of-self-2 : goal.invariant_of-self-2
-invariant_of-self-2 c = kept-cons c.self.inside _ c.args.piece c.self.invariant c.push_front.ensures.pieced c.in_default.ensures.done c.len-ahead.ensures.room
+pub returns-then-has_room-clause-done : goal.returns-then-has_room-clause-done
+returns-then-has_room-clause-done c =
+    let pushed = c.push_front_reserved in
+    (ahead-row c.self.inside c.in-Many.row _ c.in-Many.is c.self.invariant c.self.view_is pushed.new.self c.args.piece (omega arith) c.len-ahead.ensures.room pushed.ensures.pushed).0
 
-pub returns-clause-done : goal.returns-clause-done
-returns-clause-done c = ap of_pieces c.in_default.ensures.done ∙ prepend-pieces _ _ _ c.self.view_is (omega arith) (omega arith)
-
-pub push_front-requires-clause-fits : goal.push_front-requires-clause-fits
-push_front-requires-clause-fits c = omega (arith, length-kept c.self.inside _ c.self.view_is)
+pub returns-then-has_room-clause-too_long : goal.returns-then-has_room-clause-too_long
+returns-then-has_room-clause-too_long c =
+    let len = length-row c.self.inside c.in-Many.row _ c.in-Many.is c.self.invariant c.self.view_is in
+    λ long. absurd (omega (arith, long, len, c.len-len.ensures.value, c.len-ahead.ensures.value, c.if-ahead-len.true))

@@ -1,7 +1,27 @@
+use Rattle.std.proofs.Common.{ap, ◌∙◌, length, sym}
+use Rattle.iobufs.specs.Inside.PartOrder.{in_order}
+use Rattle.iobufs.specs.Parts.{parts_filled, parts_overwritten}
+use Rattle.iobufs.proofs.Parts.OrderLaws.{filled-order, overwritten-order}
 use Rattle.iobufs.proofs.Parts.SumLaws.{summed-overwritten}
 use Rattle.iobufs.proofs.bufs_mut.several.Several.copy_from_slice.Goals as goal
+
+pub copy_from_slice-requires : goal.copy_from_slice-requires
+copy_from_slice-requires c =
+    let s = c.self.inside in
+    c.requires ∙ ap length (sym (filled-order s.row.items s.used c.self.invariant.behind ∙ ap parts_filled c.self.view_is))
 
 pub invariant_of-self : goal.invariant_of-self
 invariant_of-self c =
     let s = c.self.inside in
-    summed-overwritten s.parts.items _ c.args.src.now s.len s.capacity c.self.invariant c.copy_from_slice.ensures
+    let src = c.args.src.now in
+    let over = overwritten-order s.row.items _ s.used src c.self.invariant.behind c.copy_from_slice.ensures in
+    record {
+      behind = over.1;
+      sums = summed-overwritten (in_order s.row.items s.used) _ src s.len s.capacity c.self.invariant.sums over.0;
+    }
+
+pub returns : goal.returns
+returns c =
+    let s = c.self.inside in
+    let src = c.args.src.now in
+    (overwritten-order s.row.items _ s.used src c.self.invariant.behind c.copy_from_slice.ensures).0 ∙ ap (λ ps. parts_overwritten ps src) c.self.view_is

@@ -1,14 +1,19 @@
-use Rattle.std.proofs.Common.{ap, arith}
-use Rattle.iobufs.specs.Parts.{parts_spare}
+use Rattle.std.proofs.Common.{ap, arith, ◌∙◌}
+use Rattle.iobufs.specs.Inside.PartOrder.{in_order}
+use Rattle.iobufs.specs.Parts.{parts_fill, parts_spare}
+use Rattle.iobufs.proofs.Parts.OrderLaws.{kept-none}
 use Rattle.iobufs.proofs.Parts.SumLaws.{spare-summed, summed-fill}
 use Rattle.iobufs.proofs.bufs_mut.several.Several.put.Goals as goal
 
 pub overflow_add-self : goal.overflow_add-self
 overflow_add-self c =
     let s = c.self.inside in
-    omega (arith, spare-summed s.parts.items s.len s.capacity c.self.invariant, ap parts_spare c.self.view_is, c.requires)
+    omega (arith, spare-summed (in_order s.row.items s.used) s.len s.capacity c.self.invariant.sums, ap parts_spare c.self.view_is, c.requires)
 
 pub invariant_of-self : goal.invariant_of-self
 invariant_of-self c =
     let s = c.self.inside in
-    summed-fill s.parts.items _ c.args.src.now s.len s.capacity c.self.invariant (omega (arith, ap parts_spare c.self.view_is, c.requires)) c.put.ensures
+    let src = c.args.src.now in
+    let filled = c.put.ensures ∙ ap (λ ps. parts_fill ps src) c.settle.ensures.ordered in
+    kept-none _ _ _ s.capacity c.settle.ensures.none
+    (summed-fill (in_order s.row.items s.used) _ src s.len s.capacity c.self.invariant.sums (omega (arith, ap parts_spare c.self.view_is, c.requires)) filled)

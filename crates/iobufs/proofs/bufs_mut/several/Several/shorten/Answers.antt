@@ -1,17 +1,16 @@
-use Rattle.std.proofs.Common.{ap, arith, length, refl}
-use Rattle.iobufs.specs.Parts.{parts_filled}
-use Rattle.iobufs.proofs.Parts.SumLaws.{spare-summed, summed-drained}
+use Rattle.std.proofs.Common.{refl, sym}
+use Rattle.std.proofs.lemmas.Bool.{ltb-true}
+use Rattle.iobufs.proofs.Parts.DrainTurns.{shortened-row}
 use Rattle.iobufs.proofs.bufs_mut.several.Several.shorten.Goals as goal
 
-pub overflow_sub-self : goal.overflow_sub-self
-overflow_sub-self c = omega (arith, ap (λ ps. length (parts_filled ps)) c.self.view_is, c.self.invariant.len_is, c.requires.some)
-
-pub overflow_sub-self-2 : goal.overflow_sub-self-2
-overflow_sub-self-2 c =
+pub returns-clause-drained : goal.returns-clause-drained
+returns-clause-drained c =
     let s = c.self.inside in
-    omega (arith, spare-summed s.parts.items s.len s.capacity c.self.invariant, ap (λ ps. length (parts_filled ps)) c.self.view_is, c.self.invariant.len_is, c.requires.some)
+    let less = ltb-true c.args.n _ (sym c.if-not-shorten.ensures.tells) in
+    λ _. (shortened-row s.row.items _ _ s.used c.args.n c.self.view_is c.self.invariant.behind c.requires.several c.requires.have_capacity c.requires.some less (c.if-not-shorten.ensures.drained refl)).0
 
-pub invariant_of-self-2 : goal.invariant_of-self-2
-invariant_of-self-2 c =
+pub returns-clause-have_capacity : goal.returns-clause-have_capacity
+returns-clause-have_capacity c =
     let s = c.self.inside in
-    summed-drained s.parts.items _ c.args.n s.len s.capacity c.self.invariant (omega (arith, ap (λ ps. length (parts_filled ps)) c.self.view_is, c.requires.some)) (c.if-not-shorten.ensures.drained refl)
+    let less = ltb-true c.args.n _ (sym c.if-not-shorten.ensures.tells) in
+    λ _. (shortened-row s.row.items _ _ s.used c.args.n c.self.view_is c.self.invariant.behind c.requires.several c.requires.have_capacity c.requires.some less (c.if-not-shorten.ensures.drained refl)).2

@@ -7,7 +7,7 @@ use Rattle.iobufs.specs.Inside.RowValues.{SlotRow}
 use Rattle.iobufs.specs.declared.bufs.row.Piece.{Piece}
 use Rattle.iobufs.proofs.Building.AddLaws.{add-full, add-views}
 use Rattle.iobufs.proofs.Building.GapLaws.{IsFilling, filled-last, filling-first, filling-none, filling-set}
-use Rattle.iobufs.proofs.bufs.row.Gapped.fill.Goals as goal
+use Rattle.iobufs.proofs.bufs.row.gaps.Gapped.fill.Goals as goal
 
 pub loop-i-init : goal.loop-i-init
 loop-i-init c =

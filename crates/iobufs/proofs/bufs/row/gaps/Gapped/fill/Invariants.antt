@@ -1,7 +1,7 @@
 use Rattle.std.proofs.Common.{◌≡◌, take, drop, deque_len, deque_capacity}
 use Rattle.iobufs.specs.Inside.Gaps.{filled, slots_in}
 use Rattle.iobufs.proofs.Building.GapLaws.{IsFilling}
-use Rattle.iobufs.proofs.bufs.row.Gapped.fill.Given as goal
+use Rattle.iobufs.proofs.bufs.row.gaps.Gapped.fill.Given as goal
 
 abbrev pub invariant-loop-i : goal.invariant-loop-i
 invariant-loop-i l = record {

@@ -1,0 +1,150 @@
+-- Parts in order, and as they stand in their row, those that are used up behind the others.
+use Rattle.std.proofs.Common.{◌≡◌, ℕ, zero, suc, ◌+◌, ◌-◌, ◌<◌, ◌≤◌, List, [], ◌∷◌, ◌++◌, length, take, drop, refl, sym, subst, ap, ◌∙◌, arith, append-nil, length-append, length-drop, length-take, take-append-drop, take_all, drop-drop, get_or, set, ⊎_elim}
+use Rattle.std.proofs.lemmas.Bool.{cases_lt}
+use Rattle.std.proofs.lemmas.List.{drop_all, drop_at, take_at, nil_from_length}
+use Rattle.std.proofs.lemmas.List.Concat.{flat_map-append}
+use Rattle.iobufs_core.specs.Part.{Part, empty_part, part_drained, part_overwritten}
+use Rattle.iobufs.specs.Laws.Filling.{fill-nil, same_part}
+use Rattle.iobufs.specs.Inside.PartOrder.{AreBehind, AreKept, first_drained, in_order}
+use Rattle.iobufs.specs.Inside.PartSums.{AreSummed}
+use Rattle.iobufs.specs.Parts.{parts_chunks, parts_fill, parts_filled, parts_or_default, parts_overwritten}
+use Rattle.iobufs.proofs.Parts.PartChunks.{chunks-empty, chunks-full, chunks-none}
+
+-- a row of which none is used up
+pub order-none : (row : List Part) (used : ℕ) → used ≡ 0 → in_order row used ≡ row
+order-none row used none =
+    let all : length row - used ≡ length row = omega arith in
+    ap (λ k. drop k row ++ take k row) all ∙ (λ i. drop_all (length row) row (omega arith) i ++ take_all (length row) row (omega arith) i)
+
+pub kept-none : (row : List Part) (used len capacity : ℕ) → used ≡ 0 → AreSummed row len capacity → AreKept row used len capacity
+kept-none row used len capacity none sums = record {
+  behind = record {
+    within = omega arith;
+    empty = ap (λ ps. length (parts_filled ps)) (drop_all (length row - used) row (omega arith));
+  };
+  sums = subst (λ ps. AreSummed ps len capacity) (sym (order-none row used none)) sums;
+}
+
+-- those at the back stand in front of the others
+pub order-both : (others behind : List Part) (used : ℕ) → used ≡ length behind → in_order (others ++ behind) used ≡ behind ++ others
+order-both others behind used e =
+    let sum = length-append others behind in
+    let k : length (others ++ behind) - used ≡ length others = omega arith in
+    ap (λ n. drop n (others ++ behind) ++ take n (others ++ behind)) k
+    ∙ (λ i. drop_at others behind (length others) refl i ++ take_at others behind (length others) refl i)
+
+pub behind-both : (others behind : List Part) (used : ℕ) → used ≡ length behind → length (parts_filled behind) ≡ 0 → AreBehind (others ++ behind) used
+behind-both others behind used e none =
+    let sum = length-append others behind in
+    let k : length others ≡ length (others ++ behind) - used = omega arith in
+    record {
+      within = omega arith;
+      empty = ap (λ ps. length (parts_filled ps)) (drop_at others behind (length (others ++ behind) - used) k) ∙ none;
+    }
+
+pub order-length : (row : List Part) (used : ℕ) → length (in_order row used) ≡ length row
+order-length row used =
+    let k = length row - used in
+    omega (arith, length-append (drop k row) (take k row), length-drop k row, length-take k row)
+
+-- the bytes of two rows
+pub filled-both : (ps qs : List Part) → parts_filled (ps ++ qs) ≡ parts_filled ps ++ parts_filled qs
+filled-both ps qs = flat_map-append (λ (p : Part). p.filled) ps qs
+
+pub filled-length : (ps qs : List Part) → length (parts_filled (ps ++ qs)) ≡ length (parts_filled ps) + length (parts_filled qs)
+filled-length ps qs = ap length (filled-both ps qs) ∙ length-append (parts_filled ps) (parts_filled qs)
+
+chunks-both : (ps qs : List Part) → parts_chunks (ps ++ qs) ≡ parts_chunks ps ++ parts_chunks qs
+chunks-both [] qs = refl
+chunks-both (p ∷ ps) qs =
+    let ih = chunks-both ps qs in
+    ⊎_elim
+    (λ (h : 0 < length p.filled).
+    chunks-full p (ps ++ qs) h ∙ ap (λ texts. p.filled ∷ texts) ih ∙ ap (λ texts. texts ++ parts_chunks qs) (sym (chunks-full p ps h)))
+    (λ (h : length p.filled ≤ 0).
+    let none : length p.filled ≡ 0 = omega arith in
+    chunks-empty p (ps ++ qs) none ∙ ih ∙ ap (λ texts. texts ++ parts_chunks qs) (sym (chunks-empty p ps none)))
+    (cases_lt 0 (length p.filled))
+
+-- a reader sees the same of the row and of the parts in order
+pub filled-order : (row : List Part) (used : ℕ) → AreBehind row used → parts_filled row ≡ parts_filled (in_order row used)
+filled-order row used behind =
+    let k = length row - used in
+    let none = nil_from_length (parts_filled (drop k row)) behind.empty in
+    ap parts_filled (sym (take-append-drop k row))
+    ∙ filled-both (take k row) (drop k row) ∙ ap (λ w. parts_filled (take k row) ++ w) none ∙ append-nil (parts_filled (take k row))
+    ∙ sym (filled-both (drop k row) (take k row) ∙ ap (λ w. w ++ parts_filled (take k row)) none)
+
+pub chunks-order : (row : List Part) (used : ℕ) → AreBehind row used → parts_chunks row ≡ parts_chunks (in_order row used)
+chunks-order row used behind =
+    let k = length row - used in
+    let none = chunks-none (drop k row) behind.empty in
+    ap parts_chunks (sym (take-append-drop k row))
+    ∙ chunks-both (take k row) (drop k row) ∙ ap (λ texts. parts_chunks (take k row) ++ texts) none ∙ append-nil (parts_chunks (take k row))
+    ∙ sym (chunks-both (drop k row) (take k row) ∙ ap (λ texts. texts ++ parts_chunks (take k row)) none)
+
+-- a row of at most one part
+pub order-single : (row : List Part) (used : ℕ) (part : Part) → parts_or_default row ≡ part ∷ [] → parts_or_default (in_order row used) ≡ part ∷ []
+order-single [] used part e =
+    let none = nil_from_length (in_order [] used) (order-length [] used) in
+    ap parts_or_default none ∙ e
+order-single (p ∷ []) zero part e = e
+order-single (p ∷ []) (suc used) part e =
+    let k : 1 - suc used ≡ 0 = omega arith in
+    ap (λ n. parts_or_default (drop n (p ∷ []) ++ take n (p ∷ []))) k ∙ e
+order-single (p ∷ q ∷ row) used part e = absurd (omega (arith, ap length e))
+
+-- the first part of a row
+pub first-filled : (row : List Part) → length (get_or row 0 (empty_part 0)).filled ≤ length (parts_filled row)
+first-filled [] = omega arith
+first-filled (p ∷ row) = omega (arith, length-append p.filled (parts_filled row))
+
+pub first-length : (row : List Part) (n : ℕ) → length (first_drained row n) ≡ length row
+first-length [] n = refl
+first-length (p ∷ row) n = refl
+
+pub first-set : (row : List Part) (p q : Part) (n : ℕ) → 0 < length row → p ≡ get_or row 0 p → q ≡ part_drained p n → set row 0 q ≡ first_drained row n
+first-set [] p q n some first is = absurd (omega arith)
+first-set (r ∷ row) p q n some first is = ap (λ x. x ∷ row) (is ∙ ap (λ x. part_drained x n) first)
+
+-- parts are written over where they stand
+overwritten-both : (ps qs : List Part) (w : List ℕ)
+    → parts_overwritten (ps ++ qs) w ≡ parts_overwritten ps w ++ parts_overwritten qs (drop (length (parts_filled ps)) w)
+overwritten-both [] qs w = refl
+overwritten-both (p ∷ ps) qs w =
+    let n = length p.filled in
+    let all : n + length (parts_filled ps) ≡ length (parts_filled (p ∷ ps)) = omega (arith, length-append p.filled (parts_filled ps)) in
+    let rest = drop-drop (length (parts_filled ps)) n w ∙ ap (λ m. drop m w) all in
+    ap (λ qs. part_overwritten p (take n w) ∷ qs)
+    (overwritten-both ps qs (drop n w) ∙ ap (λ v. parts_overwritten ps (drop n w) ++ parts_overwritten qs v) rest)
+
+overwritten-empty : (ps : List Part) (w : List ℕ) → length (parts_filled ps) ≡ 0 → parts_overwritten ps w ≡ ps
+overwritten-empty [] w none = refl
+overwritten-empty (p ∷ ps) w none =
+    let both = length-append p.filled (parts_filled ps) in
+    let nil = nil_from_length p.filled (omega (arith, both, none)) in
+    let bytes = ap (λ (u : List ℕ). take (length u) (take (length u) w ++ drop (length (take (length u) w)) u)) nil ∙ sym nil in
+    let same : part_overwritten p (take (length p.filled) w) ≡ p = same_part _ p bytes refl in
+    let rest : parts_overwritten ps (drop (length p.filled) w) ≡ ps = overwritten-empty ps (drop (length p.filled) w) (omega (arith, both, none)) in
+    λ i. same i ∷ rest i
+
+pub overwritten-order : (row new : List Part) (used : ℕ) (w : List ℕ) → AreBehind row used → new ≡ parts_overwritten row w
+    → (in_order new used ≡ parts_overwritten (in_order row used) w) × AreBehind new used
+overwritten-order row new used w behind is =
+    let k = length row - used in
+    let others = take k row in
+    let last = drop k row in
+    let count : used ≡ length last = omega (arith, length-drop k row, behind.within) in
+    let whole = is ∙ ap (λ ps. parts_overwritten ps w) (sym (take-append-drop k row)) ∙ overwritten-both others last w
+    ∙ ap (λ ps. parts_overwritten others w ++ ps) (overwritten-empty last (drop (length (parts_filled others)) w) behind.empty) in
+    let turned = overwritten-both last others w
+    ∙ (λ i. overwritten-empty last w behind.empty i ++ parts_overwritten others (drop (behind.empty i) w)) in (
+      ap (λ ps. in_order ps used) whole ∙ order-both (parts_overwritten others w) last used count ∙ sym turned,
+      subst (λ ps. AreBehind ps used) (sym whole) (behind-both (parts_overwritten others w) last used count behind.empty),
+    )
+
+-- nothing is filled in
+pub fill-nothing : (parts : List Part) (w : List ℕ) → length w ≡ 0 → parts_fill parts w ≡ parts
+fill-nothing parts w none = ap (parts_fill parts) (nil_from_length w none) ∙ fill-nil parts
+
+pub ruleset ordered = (order-none, order-length, fill-nothing)

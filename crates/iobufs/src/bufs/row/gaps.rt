@@ -1,0 +1,144 @@
+// A row in the making, with gaps.
+ghost use Rattle.std.specs.Prelude.{◌≡◌, List, ◌+◌, ◌^◌, ◌<◌, ◌≤◌, ◌++◌, [], ◌∷◌, ◌==◌, length, IfOk, OnOk, IsOkUnless};
+ghost use Rattle.iobufs_core.specs.View.{IsView};
+ghost use Rattle.iobufs.specs.Inside.Gaps.{AreSlots, filled, gap_len, gaps_len, slot_len, slot_of, slots_pushed, stood_len};
+ghost use Rattle.iobufs.specs.Inside.RowValues.{Slot};
+ghost use Rattle.iobufs.specs.Inside.Pieces.{AreFull, AreViews, view_len};
+
+use super::{Piece, Row};
+use iobufs_core::buf::IoBuf;
+use iobufs_core::codec::BufError;
+use std::alloc::{AllocError, Global};
+use std::collections::VecDeque;
+use std::marker::Model;
+
+/// A row in the making: pieces that stand, and gaps before them for bytes that are to come. A gap is a piece without
+/// bytes, and its end says how many are to come:
+///
+/// ```text
+/// pushed | gap 2 | X | gap 1 | Y |
+/// filled |  a b  | X |   c   | Y | d e |      by the bytes a b c d e
+/// ```
+pub(crate) struct Gapped {
+    pieces: VecDeque<Piece>,
+}
+
+// Written out, so that what a caller proves about one that it drops names no field.
+impl Drop for Gapped {
+    fn drop(self) {
+        let Gapped { pieces: _ } = self;
+    }
+}
+
+impl Model for Gapped {
+    ghost use Rattle.iobufs.specs.Inside.RowValues.{SlotRow};
+
+    ghost Value = { SlotRow };
+
+    ghost use Rattle.std.specs.VecDeque.{deque_capacity};
+    ghost use Rattle.iobufs.specs.Inside.Gaps.{slots_in};
+
+    ghost view = { λ g. record { slots = slots_in g.pieces.items; room = deque_capacity g.pieces } };
+}
+
+impl Gapped {
+    /// Nothing yet, and no room.
+    pub(crate) fn new(alloc: Global) -> Gapped
+        ensures { result.slots ≡ [] }
+    {
+        Gapped {
+            pieces: VecDeque::new(alloc),
+        }
+    }
+
+    pub(crate) fn is_empty(&self) -> bool
+        ensures { result ≡ (length self.now.slots == 0) }
+    {
+        self.pieces.is_empty()
+    }
+
+    /// Room for a gap and a piece, and for the bytes behind them; the first room is for two of each.
+    pub(crate) fn make_room(&mut self) -> Result<(), AllocError>
+        ensures same { self.new.slots ≡ self.old.slots }
+        ensures more { self.old.room ≤ self.new.room }
+        ensures room { OnOk result (length self.new.slots + 3 ≤ self.new.room) }
+    {
+        if self.pieces.is_empty() {
+            return self.pieces.try_reserve(5);
+        }
+        self.pieces.try_reserve(3)
+    }
+
+    /// Puts a piece behind a gap; there is none where it is for no bytes.
+    pub(crate) fn push(&mut self, run: usize, view: IoBuf)
+        requires some { 0 < length view.bytes }
+        requires room { length self.old.slots + 3 ≤ self.old.room }
+        ensures pushed { self.new.slots ≡ self.old.slots ++ slots_pushed run view }
+        ensures room { length self.new.slots < self.new.room }
+    {
+        if run != 0 {
+            self.pieces.push_back_reserved(Piece {
+                view: IoBuf::default(),
+                end: run as u64,
+            });
+        }
+        self.pieces.push_back_reserved(Piece { view, end: 0 });
+    }
+
+    /// Fills each gap by the next bytes of a buffer. What none got stands behind.
+    pub(crate) fn fill(self, rest: IoBuf) -> Result<Row, BufError>
+        requires slots { AreSlots self.slots }
+        requires within { gaps_len self.slots ≤ length rest.bytes }
+        requires fits { stood_len self.slots + length rest.bytes < 2 ^ 64 }
+        requires room { length self.slots < self.room }
+        ensures filled { IfOk result (λ row. row.views ≡ filled rest self.slots) }
+        ensures full { IfOk result (λ row. AreFull row.views) }
+        ensures roomy { IfOk result (λ row. AreViews row.views) }
+        ensures memory { IsOkUnless result BufError.Memory }
+    {
+        let Gapped { mut pieces } = self;
+        let mut rest = rest;
+        let mut end = 0;
+        for i in 0..pieces.len() {
+            let Some(piece) = pieces.get_mut(i) else {
+                unreachable!()
+            };
+            end = fill_piece(piece, &mut rest, end)?;
+        }
+        let mut row = Row { base: 0, pieces };
+        row.add(rest);
+        Ok(row)
+    }
+}
+
+// Fills a gap by the next bytes of a buffer. A piece that stands stays.
+fn fill_gap(piece: &mut Piece, rest: &mut IoBuf) -> Result<(), BufError>
+    requires { gap_len (slot_of piece.old) ≤ length rest.old.bytes }
+    ensures filled { OnOk result ((slots : List Slot) → filled rest.old (slot_of piece.old ∷ slots) ≡ piece.new.view ∷ filled rest.new slots) }
+    ensures len { OnOk result (view_len piece.new.view ≡ slot_len (slot_of piece.old)) }
+    ensures left { OnOk result (length rest.new.bytes + gap_len (slot_of piece.old) ≡ length rest.old.bytes) }
+    ensures memory { IsOkUnless result BufError.Memory }
+{
+    if !piece.view.is_empty() {
+        return Ok(());
+    }
+    piece.view = rest.split_to(piece.end as usize)?;
+    Ok(())
+}
+
+// The same, and tells where the piece ends behind so many bytes.
+fn fill_piece(piece: &mut Piece, rest: &mut IoBuf, start: u64) -> Result<u64, BufError>
+    requires within { gap_len (slot_of piece.old) ≤ length rest.old.bytes }
+    requires fits { start + slot_len (slot_of piece.old) < 2 ^ 64 }
+    ensures filled { OnOk result ((slots : List Slot) → filled rest.old (slot_of piece.old ∷ slots) ≡ piece.new.view ∷ filled rest.new slots) }
+    ensures len { OnOk result (view_len piece.new.view ≡ slot_len (slot_of piece.old)) }
+    ensures left { OnOk result (length rest.new.bytes + gap_len (slot_of piece.old) ≡ length rest.old.bytes) }
+    ensures end { IfOk result (λ end. (end ≡ start + view_len piece.new.view) × (piece.new.end ≡ end)) }
+    ensures roomy { OnOk result (IsView piece.new.view) }
+    ensures memory { IsOkUnless result BufError.Memory }
+{
+    fill_gap(piece, rest)?;
+    let end = start + piece.view.len() as u64;
+    piece.end = end;
+    Ok(end)
+}
