@@ -178,7 +178,12 @@ impl IoBufMut {
         done(unsafe { sys::iobufmut_put_length(&mut self.0.at(), n) }, PAST);
     }
 
-    puts!(sys::iobufmut_put_u8);
+    puts! {
+        u8, put_u8, sys::iobufmut_put_u8;
+        u16, put_u16, sys::iobufmut_put_u16;
+        u32, put_u32, sys::iobufmut_put_u32;
+        u64, put_u64, sys::iobufmut_put_u64;
+    }
 }
 
 impl Default for IoBufMut {

@@ -169,7 +169,12 @@ impl IoBufsMut {
         done(unsafe { sys::iobufsmut_put_length(&mut self.0.at(), n) }, PAST);
     }
 
-    puts!(sys::iobufsmut_put_u8);
+    puts! {
+        u8, put_u8, sys::iobufsmut_put_u8;
+        u16, put_u16, sys::iobufsmut_put_u16;
+        u32, put_u32, sys::iobufsmut_put_u32;
+        u64, put_u64, sys::iobufsmut_put_u64;
+    }
 }
 
 impl Default for IoBufsMut {
@@ -342,7 +347,12 @@ impl Builder {
         );
     }
 
-    puts!(sys::iobufs_builder_put_u8);
+    puts! {
+        u8, put_u8, sys::iobufs_builder_put_u8;
+        u16, put_u16, sys::iobufs_builder_put_u16;
+        u32, put_u32, sys::iobufs_builder_put_u32;
+        u64, put_u64, sys::iobufs_builder_put_u64;
+    }
 }
 
 impl Drop for Builder {

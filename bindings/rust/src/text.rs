@@ -2,7 +2,7 @@
 use crate::part::IoBufMut;
 use crate::sys::{self, Chunk, Memory};
 use crate::view::IoBuf;
-use crate::{Error, done, limits, no_bytes, read, try_copy};
+use crate::{Error, done, gets, limits, no_bytes, read, try_copy};
 use std::io::{self, IoSlice};
 use std::ops::RangeBounds;
 use std::{fmt, slice};
@@ -217,12 +217,12 @@ impl IoBufs {
 
     try_copy!();
 
-    /// Reads the length in front, if it is in the range (`usize::read_cfg`).
-    pub fn read_length(&mut self, range: impl RangeBounds<usize>) -> Result<usize, Error> {
-        let ((lo, hi), mut n) = (limits(range), 0);
-        // SAFETY: duties 1 to 3.
-        read(unsafe { sys::iobufs_read_length(&mut self.0.at(), lo, hi, &mut n) })?;
-        Ok(n)
+    gets! {
+        sys::iobufs_read_length, sys::iobufs_read_view;
+        u8, get_u8, try_get_u8, sys::iobufs_get_u8;
+        u16, get_u16, try_get_u16, sys::iobufs_get_u16;
+        u32, get_u32, try_get_u32, sys::iobufs_get_u32;
+        u64, get_u64, try_get_u64, sys::iobufs_get_u64;
     }
 }
 
@@ -363,11 +363,24 @@ impl Frames {
     pub fn next(&mut self, range: impl RangeBounds<usize>) -> Result<Option<IoBuf>, Error> {
         let ((lo, hi), out) = (limits(range), IoBuf::default());
         // SAFETY: duties 1 to 3.
-        match read(unsafe { sys::iobufs_frames_next(&mut self.0.at(), lo, hi, &mut out.memory().at()) }) {
+        let status = unsafe { sys::iobufs_frames_next(&mut self.0.at(), lo, hi, &mut out.memory().at()) };
+        match read(status, || self.length_in_front(lo, hi)) {
             Ok(()) => Ok(Some(out)),
             Err(Error::EndOfBuffer) => Ok(None),
             Err(error) => Err(error),
         }
+    }
+
+    /// The length in front, which is outside these bounds.
+    #[cold]
+    fn length_in_front(&self, lo: usize, hi: usize) -> usize {
+        let (rest, mut n) = (IoBufs::default(), 0);
+        // SAFETY: it only looks at `self` (duty 3), and then at a text of its own.
+        unsafe {
+            done(sys::iobufs_frames_rest(&mut self.0.at(), &mut rest.0.at()), "");
+            sys::iobufs_read_length(&mut rest.0.at(), lo, hi, &mut n);
+        }
+        n
     }
 
     /// How many bytes were fed and not taken.

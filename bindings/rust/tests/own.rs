@@ -114,7 +114,7 @@ fn builders_and_lengths() {
     assert_eq!(builder.remaining_mut(), 1);
     let mut text = builder.finish();
     assert_eq!((text.len(), text.chunk_count(), length_size(300)), (303, 3, 2));
-    assert_eq!(text.read_length(..300), Err(Error::InvalidLength));
+    assert_eq!(text.read_length(..300), Err(Error::InvalidLength(300)));
     assert_eq!(text.read_length(..=300), Ok(300));
     assert_eq!(text.take_owned(300), body);
     assert_eq!(IoBuf::from(b"\x80").read_length(..), Err(Error::EndOfBuffer));
@@ -129,7 +129,7 @@ fn frames() {
     frames.feed(IoBuf::from(b"lo\x00\x09"));
     assert_eq!(frames.next(..9).unwrap().unwrap(), b"hello");
     assert!(frames.next(..9).unwrap().unwrap().is_empty());
-    assert_eq!(frames.next(..9), Err(Error::InvalidLength));
+    assert_eq!(frames.next(..9), Err(Error::InvalidLength(9)));
     assert_eq!(frames.len(), 1);
 }
 
