@@ -4,7 +4,11 @@
 //! Names, arguments and panics are the original's. It has no dependency, so what the original takes from the traits of the
 //! crate `bytes` are methods here. A `Vec` is copied, since Rust's memory can't be handed over to the library.
 //!
-//! What differs: `copy_to_bytes` answers an `IoBuf`; `set_len` is safe, and what
+//! With the feature `bytes` the buffers have the traits `Buf` and `BufMut` of that crate, and `Bytes` and `BytesMut` are
+//! copied into them and out of them. What is put by `chunk_mut` and `advance_mut` is copied once more than by `put_slice`,
+//! since the library lends no room that isn't readable.
+//!
+//! What differs: the method `copy_to_bytes` answers an `IoBuf` (that of the trait a `Bytes`); `set_len` is safe, and what
 //! was not readable is zero; an alignment is tested and not promised; of a buffer without readable bytes no place is told
 //! (`as_mut_ptr`). `copy_to_bytes` of several parts isn't there. Values (`codec`) are numbers, lengths, views, and what a
 //! caller makes of them.
@@ -18,6 +22,8 @@ mod part;
 mod parts;
 mod sys;
 mod text;
+#[cfg(feature = "bytes")]
+mod traits;
 mod view;
 
 pub use part::IoBufMut;

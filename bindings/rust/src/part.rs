@@ -1,5 +1,7 @@
 //! `IoBufMut`.
 use crate::sys::{self, Memory};
+#[cfg(feature = "bytes")]
+use crate::traits::Scratch;
 use crate::view::IoBuf;
 use crate::{done, no_bytes, puts, same_bytes, try_copy};
 use std::num::NonZeroUsize;
@@ -9,7 +11,7 @@ const LAYOUT: &str = "alignment must be a power of two and the size must fit a l
 const PAST: &str = "cannot advance past end of buffer";
 
 /// One piece of storage to write, of a fixed capacity. It shares its storage with nobody.
-pub struct IoBufMut(Memory<{ sys::PART }>);
+pub struct IoBufMut(Memory<{ sys::PART }>, #[cfg(feature = "bytes")] pub(crate) Scratch);
 
 impl IoBufMut {
     pub(crate) fn memory(&self) -> &Memory<{ sys::PART }> {
@@ -18,7 +20,11 @@ impl IoBufMut {
 
     /// A place without a buffer, which is like one of capacity 0.
     pub(crate) fn none() -> Self {
-        IoBufMut(Memory::new(sys::iobufmut_init))
+        IoBufMut {
+            0: Memory::new(sys::iobufmut_init),
+            #[cfg(feature = "bytes")]
+            1: Scratch::default(),
+        }
     }
 
     /// An empty buffer of this capacity.
