@@ -64,17 +64,20 @@ impl IoBufMut {
     }
 
     /// The number of readable bytes.
+    #[inline]
     pub fn len(&self) -> usize {
         // SAFETY: it only looks (duty 3).
         unsafe { sys::iobufmut_len(&mut self.0.at()) }
     }
 
     /// Whether no byte is readable.
+    #[inline]
     pub fn is_empty(&self) -> bool {
         self.len() == 0
     }
 
     /// How many bytes fit, counted from the first readable one.
+    #[inline]
     pub fn capacity(&self) -> usize {
         // SAFETY: it only looks (duty 3).
         unsafe { sys::iobufmut_capacity(&mut self.0.at()) }
@@ -113,11 +116,13 @@ impl IoBufMut {
     }
 
     /// How many bytes are readable (`Buf`).
+    #[inline]
     pub fn remaining(&self) -> usize {
         self.len()
     }
 
     /// The readable bytes (`Buf`).
+    #[inline]
     pub fn chunk(&self) -> &[u8] {
         self.as_ref()
     }
@@ -156,8 +161,10 @@ impl IoBufMut {
     try_copy!();
 
     /// How many bytes may still be put (`BufMut`).
+    #[inline]
     pub fn remaining_mut(&self) -> usize {
-        self.capacity() - self.len()
+        // SAFETY: it only looks (duty 3).
+        unsafe { sys::iobufmut_remaining_mut(&mut self.0.at()) }
     }
 
     /// Puts bytes behind those that are readable. Panics where they don't fit (`BufMut`).
@@ -206,6 +213,7 @@ impl Drop for IoBufMut {
 }
 
 impl AsRef<[u8]> for IoBufMut {
+    #[inline]
     fn as_ref(&self) -> &[u8] {
         let mut at = no_bytes().cast_mut();
         // SAFETY: duty 5: the bytes may be read until `self` is changed or dropped, which the borrow rules out.

@@ -24,23 +24,27 @@ impl IoBufsMut {
     }
 
     /// The number of readable bytes.
+    #[inline]
     pub fn len(&self) -> usize {
         // SAFETY: it only looks (duty 3).
         unsafe { sys::iobufsmut_len(&mut self.0.at()) }
     }
 
     /// Whether no byte is readable.
+    #[inline]
     pub fn is_empty(&self) -> bool {
         self.len() == 0
     }
 
     /// Whether there is just one part.
+    #[inline]
     pub fn is_single(&self) -> bool {
         // SAFETY: it only looks (duty 3).
         unsafe { sys::iobufsmut_is_single(&mut self.0.at()) }
     }
 
     /// How many bytes fit, counted from the first readable one.
+    #[inline]
     pub fn capacity(&self) -> usize {
         // SAFETY: it only looks (duty 3).
         unsafe { sys::iobufsmut_capacity(&mut self.0.at()) }
@@ -100,11 +104,13 @@ impl IoBufsMut {
     }
 
     /// How many bytes are readable (`Buf`).
+    #[inline]
     pub fn remaining(&self) -> usize {
         self.len()
     }
 
     /// The first piece of the readable bytes (`Buf`).
+    #[inline]
     pub fn chunk(&self) -> &[u8] {
         let mut at = no_bytes().cast_mut();
         // SAFETY: duty 5: the bytes may be read until `self` is changed or dropped, which the borrow rules out.
@@ -146,6 +152,7 @@ impl IoBufsMut {
     try_copy!();
 
     /// How many bytes may still be put (`BufMut`).
+    #[inline]
     pub fn remaining_mut(&self) -> usize {
         // SAFETY: it only looks (duty 3).
         unsafe { sys::iobufsmut_remaining_mut(&mut self.0.at()) }
@@ -314,6 +321,7 @@ impl Builder {
     }
 
     /// How many bytes may still be put (`BufMut`).
+    #[inline]
     pub fn remaining_mut(&self) -> usize {
         // SAFETY: it only looks (duty 3).
         unsafe { sys::iobufs_builder_remaining_mut(&mut self.0.at()) }

@@ -50,6 +50,7 @@ impl<const N: usize> Memory<N> {
     }
 
     /// The place, which is made anew for each call: the memory may have moved.
+    #[inline]
     pub fn at(&self) -> At<N> {
         At(self.0.get())
     }
@@ -125,6 +126,7 @@ unsafe extern "C" {
     pub fn iobufmut_from_view(src: &mut View, out: &mut Part) -> u8;
     pub fn iobufmut_len(part: &mut Part) -> usize;
     pub fn iobufmut_capacity(part: &mut Part) -> usize;
+    pub fn iobufmut_remaining_mut(part: &mut Part) -> usize;
     pub fn iobufmut_chunk(part: &mut Part, out: &mut *mut u8) -> usize;
     pub fn iobufmut_put_slice(part: &mut Part, src: *const u8, n: usize) -> u8;
     pub fn iobufmut_put_bytes(part: &mut Part, value: u8, n: usize) -> u8;

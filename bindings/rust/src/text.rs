@@ -30,17 +30,20 @@ impl IoBufs {
     }
 
     /// The number of bytes.
+    #[inline]
     pub fn len(&self) -> usize {
         // SAFETY: it only looks (duty 3).
         unsafe { sys::iobufs_len(&mut self.0.at()) }
     }
 
     /// Whether there are no bytes.
+    #[inline]
     pub fn is_empty(&self) -> bool {
         self.len() == 0
     }
 
     /// Whether all bytes are in one piece.
+    #[inline]
     pub fn is_single(&self) -> bool {
         // SAFETY: it only looks (duty 3).
         unsafe { sys::iobufs_is_single(&mut self.0.at()) }
@@ -132,16 +135,19 @@ impl IoBufs {
     }
 
     /// How many bytes are left (`Buf`).
+    #[inline]
     pub fn remaining(&self) -> usize {
         self.len()
     }
 
     /// Whether bytes are left (`Buf`).
+    #[inline]
     pub fn has_remaining(&self) -> bool {
         !self.is_empty()
     }
 
     /// The first piece (`Buf`).
+    #[inline]
     pub fn chunk(&self) -> &[u8] {
         let mut at = no_bytes();
         // SAFETY: duty 5: the bytes may be read until `self` is changed or dropped, which the borrow rules out.
@@ -384,12 +390,14 @@ impl Frames {
     }
 
     /// How many bytes were fed and not taken.
+    #[inline]
     pub fn len(&self) -> usize {
         // SAFETY: it only looks (duty 3).
         unsafe { sys::iobufs_frames_len(&mut self.0.at()) }
     }
 
     /// Whether all that was fed was taken.
+    #[inline]
     pub fn is_empty(&self) -> bool {
         self.len() == 0
     }

@@ -94,16 +94,19 @@ impl IoBuf {
     }
 
     /// How many bytes are left (`Buf`).
+    #[inline]
     pub fn remaining(&self) -> usize {
         self.len()
     }
 
     /// Whether bytes are left (`Buf`).
+    #[inline]
     pub fn has_remaining(&self) -> bool {
         !self.is_empty()
     }
 
     /// The bytes (`Buf`).
+    #[inline]
     pub fn chunk(&self) -> &[u8] {
         self.as_ref()
     }
