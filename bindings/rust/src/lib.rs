@@ -10,8 +10,8 @@
 //!
 //! What differs: the method `copy_to_bytes` answers an `IoBuf` (that of the trait a `Bytes`); `set_len` is safe, and what
 //! was not readable is zero; an alignment is tested and not promised; of a buffer without readable bytes no place is told
-//! (`as_mut_ptr`). `copy_to_bytes` of several parts isn't there. Values (`codec`) are numbers, lengths, views, and what a
-//! caller makes of them.
+//! (`as_mut_ptr`). `put` of any reader is there with the feature alone. Values (`codec`) are numbers, lengths, views, and what
+//! a caller makes of them.
 //!
 //! What each `unsafe` block does is call the library; the comment names the duties of `iobufs.h` that it meets. Duties
 //! that all meet: (1) a buffer's memory is made by `.._init` in `Memory::new`, is dropped once by `Drop`, and may move;

@@ -149,6 +149,15 @@ impl IoBufsMut {
         );
     }
 
+    /// A copy of the first `n` bytes, which are dropped. Panics where there are fewer (`Buf`).
+    #[track_caller]
+    pub fn copy_to_bytes(&mut self, n: usize) -> IoBuf {
+        assert!(n <= self.len(), "IoBufsMut::copy_to_bytes: not enough data");
+        let mut out = IoBufMut::zeroed(n);
+        self.copy_to_slice(out.as_mut());
+        out.freeze()
+    }
+
     try_copy!();
 
     /// How many bytes may still be put (`BufMut`).
