@@ -31,6 +31,13 @@ pub use parts::{Builder, IoBufsMut};
 pub use text::{Frames, IoBufs};
 pub use view::IoBuf;
 
+#[cfg(feature = "bytes")]
+use traits::Scratch;
+
+/// Without the feature `bytes` nothing is lent.
+#[cfg(not(feature = "bytes"))]
+type Scratch = std::marker::PhantomData<()>;
+
 use std::fmt;
 use std::ops::{Bound, RangeBounds};
 

@@ -1,9 +1,7 @@
 //! `IoBufMut`.
 use crate::sys::{self, Memory};
-#[cfg(feature = "bytes")]
-use crate::traits::Scratch;
 use crate::view::IoBuf;
-use crate::{done, no_bytes, puts, same_bytes, try_copy};
+use crate::{Scratch, done, no_bytes, puts, same_bytes, try_copy};
 use std::num::NonZeroUsize;
 use std::{fmt, io, slice};
 
@@ -11,7 +9,7 @@ const LAYOUT: &str = "alignment must be a power of two and the size must fit a l
 const PAST: &str = "cannot advance past end of buffer";
 
 /// One piece of storage to write, of a fixed capacity. It shares its storage with nobody.
-pub struct IoBufMut(Memory<{ sys::PART }>, #[cfg(feature = "bytes")] pub(crate) Scratch);
+pub struct IoBufMut(Memory<{ sys::PART }>, pub(crate) Scratch);
 
 impl IoBufMut {
     pub(crate) fn memory(&self) -> &Memory<{ sys::PART }> {
@@ -20,11 +18,7 @@ impl IoBufMut {
 
     /// A place without a buffer, which is like one of capacity 0.
     pub(crate) fn none() -> Self {
-        IoBufMut {
-            0: Memory::new(sys::iobufmut_init),
-            #[cfg(feature = "bytes")]
-            1: Scratch::default(),
-        }
+        IoBufMut(Memory::new(sys::iobufmut_init), Scratch::default())
     }
 
     /// An empty buffer of this capacity.

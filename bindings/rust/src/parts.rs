@@ -2,25 +2,19 @@
 use crate::part::IoBufMut;
 use crate::sys::{self, At, Memory};
 use crate::text::{IoBufs, NO_CHUNK, piece};
-#[cfg(feature = "bytes")]
-use crate::traits::Scratch;
 use crate::view::IoBuf;
-use crate::{done, no_bytes, puts, try_copy};
+use crate::{Scratch, done, no_bytes, puts, try_copy};
 use std::io::{self, IoSlice};
 use std::{fmt, slice};
 
 const PAST: &str = "cannot advance past end of buffer";
 
 /// Writable buffers in a row, read from the front and filled in order.
-pub struct IoBufsMut(Memory<{ sys::PARTS }>, #[cfg(feature = "bytes")] pub(crate) Scratch);
+pub struct IoBufsMut(Memory<{ sys::PARTS }>, pub(crate) Scratch);
 
 impl IoBufsMut {
     fn none() -> Self {
-        IoBufsMut {
-            0: Memory::new(sys::iobufsmut_init),
-            #[cfg(feature = "bytes")]
-            1: Scratch::default(),
-        }
+        IoBufsMut(Memory::new(sys::iobufsmut_init), Scratch::default())
     }
 
     /// The number of readable bytes.
@@ -299,17 +293,13 @@ impl io::Write for IoBufsMut {
 }
 
 /// Encoded bytes and existing buffers, put together as one text.
-pub struct Builder(Memory<{ sys::BUILDER }>, #[cfg(feature = "bytes")] pub(crate) Scratch);
+pub struct Builder(Memory<{ sys::BUILDER }>, pub(crate) Scratch);
 
 impl Builder {
     /// A builder for so many bytes that are put, and no more.
     #[track_caller]
     pub fn new(capacity: usize) -> Self {
-        let out = Builder {
-            0: Memory::new(sys::iobufs_builder_init),
-            #[cfg(feature = "bytes")]
-            1: Scratch::default(),
-        };
+        let out = Builder(Memory::new(sys::iobufs_builder_init), Scratch::default());
         // SAFETY: duty 1.
         done(
             unsafe { sys::iobufs_builder_new(capacity, &mut out.0.at()) },
