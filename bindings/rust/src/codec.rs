@@ -208,6 +208,43 @@ pub trait Read: Sized {
     fn read_cfg(buf: &mut impl Buf, cfg: &Self::Cfg) -> Result<Self, Error>;
 }
 
+/// What a whole value is decoded from: a buffer to write is frozen first.
+pub trait Input: Into<Self::Buf> {
+    /// What is read.
+    type Buf: Buf;
+}
+
+impl Input for IoBuf {
+    type Buf = IoBuf;
+}
+
+impl Input for IoBufMut {
+    type Buf = IoBuf;
+}
+
+impl Input for IoBufs {
+    type Buf = IoBufs;
+}
+
+impl Input for IoBufsMut {
+    type Buf = IoBufs;
+}
+
+/// Decoding of a whole buffer.
+pub trait Decode: Read {
+    /// The value that is all of the buffer; `Error::ExtraData` where bytes are left behind it.
+    fn decode_cfg(buf: impl Input, cfg: &Self::Cfg) -> Result<Self, Error> {
+        let mut buf = buf.into();
+        let value = Self::read_cfg(&mut buf, cfg)?;
+        match buf.remaining() {
+            0 => Ok(value),
+            left => Err(Error::ExtraData(left)),
+        }
+    }
+}
+
+impl<T: Read> Decode for T {}
+
 /// Encoding into one buffer.
 pub trait Encode: EncodeSize + Write {
     /// The written value, in a buffer of exactly its size.

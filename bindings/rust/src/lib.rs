@@ -50,6 +50,8 @@ pub enum Error {
     InvalidVarint,
     /// The length, which is told, is outside the range.
     InvalidLength(usize),
+    /// So many bytes are left behind a value that was to be all.
+    ExtraData(usize),
 }
 
 /// A destination was longer than the bytes left.

@@ -1,26 +1,50 @@
 //! Values that are written and read: worked by hand, and the original's test of a view as a value.
-use iobufs::codec::{Buf, BufMut, BufsMut, Encode, EncodeExt, EncodeSize, RangeCfg, Read, Write};
-use iobufs::{Builder, Error, IoBuf, IoBufMut, IoBufs};
+use iobufs::codec::{Buf, BufMut, BufsMut, Decode, Encode, EncodeExt, EncodeSize, RangeCfg, Read, Write};
+use iobufs::{Builder, Error, IoBuf, IoBufMut, IoBufs, IoBufsMut};
 
 #[test]
 fn test_iobuf_codec_roundtrip() {
     let cfg: RangeCfg<usize> = (0..=1024).into();
-    let large_cfg: RangeCfg<usize> = (0..=20000).into();
-    for (original, cfg) in [
-        (IoBuf::from(b"hello world"), &cfg),
-        (IoBuf::default(), &cfg),
-        (IoBuf::from(vec![42u8; 10000]), &large_cfg),
-    ] {
-        let mut encoded = original.encode().freeze();
-        assert_eq!(IoBuf::read_cfg(&mut encoded, cfg).unwrap(), original);
-        assert!(encoded.is_empty());
-    }
 
-    let mut truncated = IoBuf::from(b"\x04xy");
-    assert_eq!(IoBuf::read_cfg(&mut truncated, &cfg), Err(Error::EndOfBuffer));
-    assert_eq!(truncated, b"\x04xy");
-    let mut direct = IoBuf::from(b"\x04wxyz");
-    assert_eq!(IoBuf::read_cfg(&mut direct, &cfg).unwrap(), b"wxyz");
+    let original = IoBuf::from(b"hello world");
+    let encoded = original.encode();
+    let decoded = IoBuf::decode_cfg(encoded, &cfg).unwrap();
+    assert_eq!(original, decoded);
+
+    let empty = IoBuf::default();
+    let encoded = empty.encode();
+    let decoded = IoBuf::decode_cfg(encoded, &cfg).unwrap();
+    assert_eq!(empty, decoded);
+
+    let large_cfg: RangeCfg<usize> = (0..=20000).into();
+    let large = IoBuf::from(vec![42u8; 10000]);
+    let encoded = large.encode();
+    let decoded = IoBuf::decode_cfg(encoded, &large_cfg).unwrap();
+    assert_eq!(large, decoded);
+
+    let mut truncated = IoBufMut::with_capacity(3);
+    4usize.write(&mut truncated);
+    truncated.put_slice(b"xy");
+    let mut truncated = truncated.freeze();
+    assert!(matches!(IoBuf::read_cfg(&mut truncated, &cfg), Err(Error::EndOfBuffer)));
+
+    // Directly exercise the successful `read_cfg` path, not just decode helpers.
+    let mut direct = IoBufMut::with_capacity(5);
+    4usize.write(&mut direct);
+    direct.put_slice(b"wxyz");
+    let mut direct = direct.freeze();
+    let decoded = IoBuf::read_cfg(&mut direct, &cfg).unwrap();
+    assert_eq!(decoded, b"wxyz");
+}
+
+#[test]
+fn bytes_behind_a_value() {
+    let text = IoBufs::from([IoBuf::from(b"\x01\x02"), IoBuf::from(b"\x03\x04\x05")]);
+    assert_eq!(u32::decode_cfg(text.clone(), &()), Err(Error::ExtraData(1)));
+    let mut parts = IoBufsMut::from([IoBufMut::with_capacity(1), IoBufMut::with_capacity(3)]);
+    parts.put_u32(0x0102_0304);
+    assert_eq!(u32::decode_cfg(parts, &()), Ok(0x0102_0304));
+    assert_eq!(u64::decode_cfg(text, &()), Err(Error::EndOfBuffer));
 }
 
 /// Cut behind each byte, so that every value lies across pieces.
