@@ -214,7 +214,8 @@ int main(int argc, char **argv) {
     uint64_t sum = (plain ? read_plain : read_frames)(ends[1], count);
     CHECK(waitpid(child, &status, 0) == child && status == 0);
     clock_gettime(CLOCK_MONOTONIC, &ended);
-    CHECK(sum == told->sum && told->short_writes > 0);
+    /* A list of short frames is no more than the socket takes. */
+    CHECK(sum == told->sum && (body < 4096 || told->short_writes > 0));
     double seconds = (double)(ended.tv_sec - began.tv_sec) + (double)(ended.tv_nsec - began.tv_nsec) / 1e9;
     printf("%zu MiB in %zu frames of %zu bytes%s: %.2f s, %zu writes, %zu of them short\n", mebibytes, count, body, plain ? " by plain copies" : "",
            seconds, told->writes, told->short_writes);
