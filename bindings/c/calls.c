@@ -292,6 +292,52 @@ static void lengths(void) {
     iobufs_drop(&t); iobuf_drop(&v);
 }
 
+static void numbers(void) {
+    static const uint8_t all[] = { 1, 2, 3, 4, 5, 6, 7, 8, 9, 10, 11, 12, 13, 14 };
+    PART(p); PART(q); PARTS(s); BUILDER(b); VIEW(v); TEXT(t);
+    uint8_t one = 0, *at;
+    uint16_t two = 0;
+    uint32_t four = 0;
+    uint64_t eight = 0;
+    CHECK(iobufmut_put_u16(&p, 1) == IOBUFS_OUT_OF_RANGE && iobufsmut_put_u32(&s, 1) == IOBUFS_OUT_OF_RANGE);
+    CHECK(iobufs_builder_put_u64(&b, 1) == IOBUFS_OUT_OF_RANGE);
+    OK(iobufmut_with_capacity(15, &p));
+    OK(iobufmut_put_u16(&p, 0x0102)); OK(iobufmut_put_u32(&p, 0x03040506)); OK(iobufmut_put_u64(&p, 0x0708090a0b0c0d0e));
+    CHECK(iobufmut_chunk(&p, &at) == 14 && !memcmp(at, all, 14));
+    CHECK(iobufmut_put_u16(&p, 1) == IOBUFS_OUT_OF_RANGE && iobufmut_put_u32(&p, 1) == IOBUFS_OUT_OF_RANGE);
+    CHECK(iobufmut_put_u64(&p, 1) == IOBUFS_OUT_OF_RANGE && iobufmut_len(&p) == 14);
+    OK(iobufmut_freeze(&p, &v));
+    OK(iobuf_get_u16(&v, &two)); OK(iobuf_get_u32(&v, &four)); OK(iobuf_get_u64(&v, &eight));
+    CHECK(two == 0x0102 && four == 0x03040506 && eight == 0x0708090a0b0c0d0e && iobuf_is_empty(&v));
+    CHECK(iobuf_get_u8(&v, &one) == IOBUFS_END_OF_BUFFER && one == 0);
+    OK(iobufmut_with_capacity(5, &p)); OK(iobufmut_with_capacity(10, &q));
+    struct iobufmut_at row[2] = { p, q };
+    OK(iobufsmut_from_parts(row, 2, &s));
+    OK(iobufsmut_put_u16(&s, 0x0102)); OK(iobufsmut_put_u32(&s, 0x03040506)); OK(iobufsmut_put_u64(&s, 0x0708090a0b0c0d0e));
+    CHECK(iobufsmut_put_u16(&s, 1) == IOBUFS_OUT_OF_RANGE && iobufsmut_put_u64(&s, 1) == IOBUFS_OUT_OF_RANGE);
+    OK(iobufsmut_freeze(&s, &t));
+    CHECK(iobufs_chunk_count(&t) == 2);
+    OK(iobufs_get_u8(&t, &one)); OK(iobufs_get_u16(&t, &two)); OK(iobufs_get_u32(&t, &four));
+    CHECK(one == 1 && two == 0x0203 && four == 0x04050607 && iobufs_get_u64(&t, &eight) == IOBUFS_END_OF_BUFFER && iobufs_len(&t) == 7);
+    OK(iobufs_builder_new(15, &b));
+    OK(iobufs_builder_put_u16(&b, 0x0102)); OK(iobufs_builder_put_u32(&b, 0x03040506)); OK(iobufs_builder_put_u64(&b, 0x0708090a0b0c0d0e));
+    CHECK(iobufs_builder_put_u16(&b, 1) == IOBUFS_OUT_OF_RANGE && iobufs_builder_put_u32(&b, 1) == IOBUFS_OUT_OF_RANGE);
+    OK(iobufs_builder_finish(&b, &t));
+    OK(iobufs_get_u64(&t, &eight));
+    CHECK(eight == 0x0102030405060708 && iobufs_len(&t) == 6);
+    OK(iobuf_copy_from_slice(bytes("\3hi!\4no"), 7, &v));
+    OK(iobuf_get_u8(&v, &one));
+    CHECK(one == 3);
+    OK(iobuf_copy_from_slice(bytes("\3hi!\4no"), 7, &v));
+    VIEW(w);
+    CHECK(iobuf_read_view(&v, 4, 9, &w) == IOBUFS_INVALID_LENGTH && iobuf_len(&v) == 7);
+    OK(iobuf_read_view(&v, 0, 3, &w));
+    CHECK(view_is(&w, "hi!") && view_is(&v, "\4no"));
+    CHECK(iobuf_read_view(&v, 0, 9, &w) == IOBUFS_END_OF_BUFFER && view_is(&w, "hi!") && view_is(&v, "\4no"));
+    CHECK(iobuf_get_u32(&v, &four) == IOBUFS_END_OF_BUFFER && iobuf_get_u64(&v, &eight) == IOBUFS_END_OF_BUFFER && iobuf_len(&v) == 3);
+    iobufmut_drop(&p); iobufmut_drop(&q); iobufsmut_drop(&s); iobufs_builder_drop(&b); iobufs_drop(&t); iobuf_drop(&v); iobuf_drop(&w);
+}
+
 static void frames(void) {
     FRAMES(f); VIEW(v); TEXT(t);
     const char *pieces[] = { "\x05" "hel", "lo\x00" "x" };
@@ -313,6 +359,6 @@ static void frames(void) {
 }
 
 int main(void) {
-    sizes(); views(); moved(); buffers(); texts(); parts(); builders(); lengths(); frames();
+    sizes(); views(); moved(); buffers(); texts(); parts(); builders(); lengths(); numbers(); frames();
     return 0;
 }

@@ -174,6 +174,14 @@ static size_t about(size_t n) {
     }
 }
 
+/* The bytes of a number, the highest first, and the number of so many bytes. */
+static void number_bytes(uint8_t *at, uint64_t n, size_t size) { while (size) { at[--size] = (uint8_t)n; n >>= 8; } }
+static uint64_t number_of(const uint8_t *at, size_t size) {
+    uint64_t n = 0;
+    for (size_t i = 0; i < size; i++) n = n << 8 | at[i];
+    return n;
+}
+
 static void same_view(int i) {
     const uint8_t *at;
     CHECK(iobuf_chunk(&view_at[i], &at) == views[i].len && iobuf_len(&view_at[i]) == views[i].len);
@@ -213,7 +221,9 @@ static void view_call(int i, int j) {
     struct iobuf_at *at = &view_at[i], *to = &view_at[j];
     size_t n = about(v->len), m;
     uint8_t byte;
-    switch (below(12)) {
+    uint32_t four;
+    uint64_t eight;
+    switch (below(14)) {
     case 0: n = below(60); any_bytes(n); OK(iobuf_copy_from_slice(some, n, to)); let_go(out); *out = copied(some, n); break;
     case 1: n = below(60); iobuf_from_static(fixed, n, to); let_go(out); memcpy(out->at, fixed, n); out->len = n; break;
     case 2: OK(iobuf_clone(at, to)); let_go(out); *out = shared(v); break;
@@ -253,6 +263,12 @@ static void view_call(int i, int j) {
         if (n < v->len) CHECK(byte == v->at[n]);
         break;
     case 11: iobuf_drop(at); let_go(v); break;
+    case 12:
+        if (v->len < 4) { CHECK(iobuf_get_u32(at, &four) == IOBUFS_END_OF_BUFFER); break; }
+        OK(iobuf_get_u32(at, &four)); CHECK(four == number_of(v->at, 4)); advanced(v, 4); break;
+    case 13:
+        if (v->len < 8) { CHECK(iobuf_get_u64(at, &eight) == IOBUFS_END_OF_BUFFER); break; }
+        OK(iobuf_get_u64(at, &eight)); CHECK(eight == number_of(v->at, 8)); advanced(v, 8); break;
     }
     same_view(i); same_view(j);
 }
@@ -261,7 +277,8 @@ static void part_call(int i, int j) {
     struct part *p = &parts[i];
     struct iobufmut_at *at = &part_at[i];
     size_t room = p->capacity - p->len, n = about(room), m = about(p->len);
-    switch (below(14)) {
+    uint64_t eight = number();
+    switch (below(16)) {
     case 0: n = below(80); OK(iobufmut_with_capacity(n, at)); p->there = 1; p->len = 0; p->capacity = n; break;
     case 1: n = below(80); OK(iobufmut_zeroed(n, at)); p->there = 1; p->len = p->capacity = n; memset(p->at, 0, n); break;
     case 2: n = below(80); any_bytes(n); OK(iobufmut_copy_from_slice(some, n, at)); p->there = 1; p->len = p->capacity = n; memcpy(p->at, some, n); break;
@@ -298,6 +315,14 @@ static void part_call(int i, int j) {
         if (m > p->len || n > p->len - m) { CHECK(iobufmut_write_at(at, m, some, n) == IOBUFS_OUT_OF_RANGE); break; }
         OK(iobufmut_write_at(at, m, some, n)); memcpy(p->at + m, some, n); break;
     case 13: OK(iobufmut_freeze(at, &view_at[j])); let_go(&views[j]); views[j] = frozen(p); same_view(j); break;
+    case 14:
+        CHECK(iobufmut_put_u16(at, (uint16_t)eight) == (room < 2 ? IOBUFS_OUT_OF_RANGE : IOBUFS_OK));
+        if (room >= 2) { number_bytes(p->at + p->len, eight, 2); p->len += 2; }
+        break;
+    case 15:
+        CHECK(iobufmut_put_u64(at, eight) == (room < 8 ? IOBUFS_OUT_OF_RANGE : IOBUFS_OK));
+        if (room >= 8) { number_bytes(p->at + p->len, eight, 8); p->len += 8; }
+        break;
     }
     same_part(i);
 }
@@ -309,7 +334,7 @@ static void text_call(int i, int j, int k) {
     size_t len = text_len(t), n = about(len), m;
     uint8_t byte;
     int full = t->count > 12 || len + v->len > MOST;
-    switch (full ? 4 + below(9) : below(13)) {
+    switch (full ? 4 + below(10) : below(14)) {
     case 0: OK(iobufs_append(at, &view_at[k])); push(t, v); *v = no_bytes; break;
     case 1:
         OK(iobufs_prepend(at, &view_at[k]));
@@ -358,6 +383,13 @@ static void text_call(int i, int j, int k) {
         while (before + t->piece[p].len <= n) before += t->piece[p++].len;
         CHECK(index == p && offset == n - before && byte == t->piece[p].at[offset]); break;
     }
+    case 13: {
+        uint8_t all[PIECES * MOST];
+        uint32_t four;
+        if (len < 4) { CHECK(iobufs_get_u32(at, &four) == IOBUFS_END_OF_BUFFER); break; }
+        bytes_of(t, all);
+        OK(iobufs_get_u32(at, &four)); CHECK(four == number_of(all, 4)); text_advance(t, 4); break;
+    }
     }
     same_text(i); same_text(j); same_view(k);
 }
@@ -369,7 +401,8 @@ static void row_call(int i, int j, int k) {
     uint8_t all[8 * MOST];
     size_t used = 0;
     for (size_t p = 0; p < r->count; p++) { memcpy(all + used, r->part[p].at, r->part[p].len); used += r->part[p].len; }
-    switch (below(11)) {
+    uint64_t eight = number();
+    switch (below(12)) {
     case 0: {
         struct iobufmut_at places[VIEWS];
         size_t count = below(VIEWS + 1);
@@ -427,6 +460,10 @@ static void row_call(int i, int j, int k) {
         CHECK(iobufsmut_try_into_single(at, &part_at[k]) == (r->count == 1 ? IOBUFS_OK : IOBUFS_DECLINED));
         if (r->count == 1) { parts[k] = r->part[0]; memset(r, 0, sizeof *r); r->count = 1; }
         same_part(k); break;
+    case 11:
+        CHECK(iobufsmut_put_u64(at, eight) == (room < 8 ? IOBUFS_OUT_OF_RANGE : IOBUFS_OK));
+        if (room >= 8) { number_bytes(some, eight, 8); row_put(r, some, 8); }
+        break;
     }
     same_row(i);
 }
@@ -442,7 +479,8 @@ static void builder_put(const uint8_t *at, size_t n) {
 
 static void builder_call(int j, int k) {
     size_t n = about(builder.room);
-    switch (below(5)) {
+    uint64_t eight = number();
+    switch (below(6)) {
     case 0:
         if (builder.there) break;
         n = below(40); OK(iobufs_builder_new(n, &builder_at));
@@ -470,6 +508,10 @@ static void builder_call(int j, int k) {
         same_text(j); break;
     }
     case 4: CHECK(iobufs_builder_remaining_mut(&builder_at) == builder.room); break;
+    case 5:
+        CHECK(iobufs_builder_put_u32(&builder_at, (uint32_t)eight) == (builder.room < 4 ? IOBUFS_OUT_OF_RANGE : IOBUFS_OK));
+        if (builder.room >= 4) { number_bytes(some, eight, 4); builder_put(some, 4); }
+        break;
     }
     same_view(k);
 }

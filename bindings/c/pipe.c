@@ -1,16 +1,31 @@
 /*
- * A sender and a reader over a socketpair: frames of views, written by writev from the chunks of a text, with short writes
- * (a small socket buffer), read in pieces and taken out as frames. Sums have to be equal. An argument gives the mebibytes.
- * With `plain` behind it, the same by a copy of each frame into one block, to compare times.
+ * A sender and a reader over a socketpair: frames of views, written by writev from the chunks of a text, with short writes (a
+ * small socket buffer that isn't waited for), read in pieces and taken out as frames. Sums at both ends have to be equal.
+ *
+ *     pipe [MEBIBYTES [BODY [plain]]]
+ *
+ * BODY is the bytes of a frame. With `plain`, the same frames and writes by plain copies: each body into one block behind its
+ * length, and out of what was read into memory of its own. By the buffers no byte is copied, but of frames that came in two
+ * pieces.
  */
 #include "test.h"
+#include <errno.h>
+#include <fcntl.h>
+#include <poll.h>
+#include <sys/mman.h>
 #include <sys/socket.h>
 #include <sys/uio.h>
 #include <sys/wait.h>
 #include <time.h>
 #include <unistd.h>
 
-enum { BODY = 4096, FRAMES_A_TEXT = 32, PIECE = 65536 };
+enum { MOST = 1 << 20, BATCH = 1 << 17, LIST = 64, PIECE = 32768 };
+
+/* What the sender tells the reader's process. */
+struct told { uint64_t sum; size_t writes, short_writes; };
+
+static struct told *told;
+static size_t body; /* the bytes of a frame */
 
 static uint64_t sum_of(uint64_t sum, const uint8_t *at, size_t n) {
     for (size_t i = 0; i + 8 <= n; i += 8) {
@@ -21,36 +36,61 @@ static uint64_t sum_of(uint64_t sum, const uint8_t *at, size_t n) {
     return sum;
 }
 
-static void fill(uint8_t *body, size_t i) {
-    memset(body, (int)(i * 31 % 251), BODY);
-    memcpy(body, &i, sizeof i);
-}
+/* The byte that fills frame i, which begins with its number. */
+static uint8_t filler(size_t i) { return (uint8_t)(i * 31 % 251); }
 
-/* Writes a text until nothing of it is left. */
-static void send_text(int to, struct iobufs_at *text) {
-    while (!iobufs_is_empty(text)) {
-        struct iobufs_chunk chunks[64];
-        struct iovec list[64];
-        size_t n = iobufs_chunks(text, chunks, 64);
-        for (size_t i = 0; i < n; i++) { list[i].iov_base = (void *)chunks[i].base; list[i].iov_len = chunks[i].len; }
+/* Frames that are sent at a time. */
+static size_t batch(void) { return body < BATCH ? BATCH / body : 1; }
+
+/* Writes some of a list, and waits where nothing can be written. */
+static size_t write_some(int to, struct iovec *list, size_t n, size_t len) {
+    for (;;) {
         ssize_t wrote = writev(to, list, (int)n);
-        CHECK(wrote > 0);
-        OK(iobufs_advance(text, (size_t)wrote));
+        if (wrote > 0) {
+            told->writes++;
+            told->short_writes += (size_t)wrote < len;
+            return (size_t)wrote;
+        }
+        CHECK(wrote < 0 && errno == EAGAIN);
+        struct pollfd ready = { to, POLLOUT, 0 };
+        CHECK(poll(&ready, 1, -1) == 1);
     }
 }
 
-static void send_all(int to, size_t count) {
-    BUILDER(b); PART(p); VIEW(v); TEXT(t);
+static size_t read_some(int from, uint8_t *room) {
+    ssize_t n = read(from, room, PIECE);
+    CHECK(n > 0);
+    return (size_t)n;
+}
+
+/* ---- by the buffers ---- */
+
+static void make_frame(struct iobufmut_at *part, struct iobuf_at *out, size_t i) {
     uint8_t *at;
-    for (size_t i = 0; i < count; i += FRAMES_A_TEXT) {
-        OK(iobufs_builder_new(FRAMES_A_TEXT * 2, &b));
-        for (size_t k = i; k < i + FRAMES_A_TEXT && k < count; k++) {
-            OK(iobufmut_with_capacity(BODY, &p));
-            OK(iobufmut_set_len(&p, BODY));
-            CHECK(iobufmut_chunk(&p, &at) == BODY);
-            fill(at, k);
-            OK(iobufmut_freeze(&p, &v));
-            OK(iobufs_builder_put_length(&b, BODY));
+    OK(iobufmut_with_capacity(body, part));
+    OK(iobufmut_put_bytes(part, filler(i), body));
+    OK(iobufmut_write_at(part, 0, (const uint8_t *)&i, sizeof i));
+    CHECK(iobufmut_chunk(part, &at) == body);
+    told->sum = sum_of(told->sum, at, body);
+    OK(iobufmut_freeze(part, out));
+}
+
+static void send_text(int to, struct iobufs_at *text) {
+    while (!iobufs_is_empty(text)) {
+        struct iovec list[LIST];
+        size_t len = 0, n = iobufs_chunks(text, (struct iobufs_chunk *)list, LIST);
+        for (size_t i = 0; i < n; i++) len += list[i].iov_len;
+        OK(iobufs_advance(text, write_some(to, list, n, len)));
+    }
+}
+
+static void send_frames(int to, size_t count) {
+    BUILDER(b); PART(p); VIEW(v); TEXT(t);
+    for (size_t i = 0; i < count;) {
+        OK(iobufs_builder_new(batch() * 10, &b));
+        for (size_t k = 0; k < batch() && i < count; k++, i++) {
+            make_frame(&p, &v, i);
+            OK(iobufs_builder_put_length(&b, body));
             OK(iobufs_builder_push(&b, &v));
         }
         OK(iobufs_builder_finish(&b, &t));
@@ -59,98 +99,125 @@ static void send_all(int to, size_t count) {
     iobufs_builder_drop(&b); iobufs_drop(&t); iobuf_drop(&v);
 }
 
-static uint64_t read_all(int from, size_t count) {
-    FRAMES(f); PART(p); VIEW(v);
+/* Reads into the memory of an earlier piece, if no frame holds that any more, or else into new memory, which stays with
+ * `earlier`; what was read is a slice of it. */
+static void read_piece(int from, struct iobuf_at *earlier, struct iobufmut_at *part, struct iobuf_at *out) {
+    uint8_t *at;
+    if (iobuf_try_into_mut(earlier, part) != IOBUFS_OK || iobufmut_len(part) < PIECE) OK(iobufmut_zeroed(PIECE, part));
+    CHECK(iobufmut_chunk(part, &at) == PIECE);
+    size_t n = read_some(from, at);
+    OK(iobufmut_freeze(part, earlier));
+    OK(iobuf_slice(earlier, IOBUFS_INCLUDED, 0, IOBUFS_EXCLUDED, n, out));
+}
+
+static uint64_t read_frames(int from, size_t count) {
+    FRAMES(f); PART(p); VIEW(v); VIEW(a); VIEW(b);
+    struct iobuf_at *earlier = &a, *later = &b;
     uint64_t sum = 0;
-    uint8_t *room;
     const uint8_t *at;
     for (size_t seen = 0; seen < count;) {
-        OK(iobufmut_with_capacity(PIECE, &p));
-        OK(iobufmut_set_len(&p, PIECE));
-        CHECK(iobufmut_chunk(&p, &room) == PIECE);
-        ssize_t n = read(from, room, PIECE);
-        CHECK(n > 0);
-        iobufmut_truncate(&p, (size_t)n);
-        OK(iobufmut_freeze(&p, &v));
+        read_piece(from, earlier, &p, &v);
+        struct iobuf_at *last = earlier;
+        earlier = later; later = last;
         OK(iobufs_frames_feed(&f, &v));
         iobufs_status status;
-        while ((status = iobufs_frames_next(&f, 0, BODY, &v)) == IOBUFS_OK) {
-            CHECK(iobuf_chunk(&v, &at) == BODY);
-            sum = sum_of(sum, at, BODY);
+        while ((status = iobufs_frames_next(&f, 0, MOST, &v)) == IOBUFS_OK) {
+            CHECK(iobuf_chunk(&v, &at) == body);
+            sum = sum_of(sum, at, body);
             seen++;
         }
         CHECK(status == IOBUFS_END_OF_BUFFER);
     }
-    iobufs_frames_drop(&f); iobuf_drop(&v);
+    iobufs_frames_drop(&f); iobuf_drop(&v); iobuf_drop(&a); iobuf_drop(&b);
     return sum;
 }
 
-/* The same with plain copies. */
+/* ---- by plain copies ---- */
+
+static size_t put_length(uint8_t *at, size_t n) {
+    size_t used = 0;
+    for (; n >= 128; n >>= 7) at[used++] = (uint8_t)(n | 128);
+    at[used++] = (uint8_t)n;
+    return used;
+}
+
 static void send_plain(int to, size_t count) {
-    static uint8_t block[FRAMES_A_TEXT * (BODY + 2)];
+    uint8_t *block = (uint8_t *)malloc(batch() * (body + 10));
     for (size_t i = 0; i < count;) {
-        size_t used = 0, wrote = 0;
-        for (size_t k = 0; k < FRAMES_A_TEXT && i < count; k++, i++) {
-            uint8_t *body = (uint8_t *)malloc(BODY);
-            fill(body, i);
-            block[used++] = 0x80 | (BODY & 127); block[used++] = BODY >> 7;
-            memcpy(block + used, body, BODY);
-            used += BODY;
-            free(body);
+        size_t used = 0;
+        for (size_t k = 0; k < batch() && i < count; k++, i++) {
+            uint8_t *made = (uint8_t *)malloc(body);
+            memset(made, filler(i), body);
+            memcpy(made, &i, sizeof i);
+            told->sum = sum_of(told->sum, made, body);
+            used += put_length(block + used, body);
+            memcpy(block + used, made, body);
+            used += body;
+            free(made);
         }
-        while (wrote < used) {
-            ssize_t n = write(to, block + wrote, used - wrote);
-            CHECK(n > 0);
-            wrote += (size_t)n;
+        for (size_t sent = 0; sent < used;) {
+            struct iovec rest = { block + sent, used - sent };
+            sent += write_some(to, &rest, 1, used - sent);
         }
     }
+    free(block);
 }
 
 static uint64_t read_plain(int from, size_t count) {
-    static uint8_t room[PIECE], frame[BODY + 2];
+    static uint8_t room[PIECE];
+    uint8_t *taken = NULL;
     uint64_t sum = 0;
-    size_t have = 0;
-    for (size_t seen = 0; seen < count;) {
-        ssize_t n = read(from, room, PIECE);
-        CHECK(n > 0);
-        for (size_t at = 0; at < (size_t)n;) {
-            size_t part = sizeof frame - have < (size_t)n - at ? sizeof frame - have : (size_t)n - at;
-            memcpy(frame + have, room + at, part);
-            have += part; at += part;
-            if (have == sizeof frame) {
-                uint8_t *body = (uint8_t *)malloc(BODY);
-                memcpy(body, frame + 2, BODY);
-                sum = sum_of(sum, body, BODY);
-                free(body);
-                have = 0; seen++;
+    for (size_t seen = 0, len = 0, shift = 0, have = 0; seen < count;) {
+        size_t n = read_some(from, room);
+        for (size_t at = 0; at < n;) {
+            if (taken == NULL) {
+                uint8_t byte = room[at++];
+                len |= (size_t)(byte & 127) << shift;
+                shift += 7;
+                if (byte & 128) continue;
+                CHECK(len <= MOST);
+                taken = (uint8_t *)malloc(len);
+                have = 0;
             }
+            size_t part = len - have < n - at ? len - have : n - at;
+            memcpy(taken + have, room + at, part);
+            have += part; at += part;
+            if (have < len) continue;
+            CHECK(len == body);
+            sum = sum_of(sum, taken, len);
+            free(taken);
+            taken = NULL; len = shift = 0; seen++;
         }
     }
     return sum;
 }
 
 int main(int argc, char **argv) {
-    size_t mebibytes = argc > 1 ? (size_t)atol(argv[1]) : 64, count = mebibytes * (1048576 / BODY);
-    int plain = argc > 2, ends[2], size = 16384;
-    CHECK(!socketpair(AF_UNIX, SOCK_STREAM, 0, ends));
-    CHECK(!setsockopt(ends[0], SOL_SOCKET, SO_SNDBUF, &size, sizeof size));
+    size_t mebibytes = argc > 1 ? (size_t)atol(argv[1]) : 64;
+    body = argc > 2 ? (size_t)atol(argv[2]) : 4096;
+    CHECK(body >= sizeof(size_t) && body <= MOST);
+    size_t count = mebibytes * 1048576 / body;
+    int plain = argc > 3, ends[2], size = 16384, status;
+    told = (struct told *)mmap(NULL, sizeof *told, PROT_READ | PROT_WRITE, MAP_SHARED | MAP_ANONYMOUS, -1, 0);
+    CHECK(told != MAP_FAILED && !socketpair(AF_UNIX, SOCK_STREAM, 0, ends));
+    CHECK(!setsockopt(ends[0], SOL_SOCKET, SO_SNDBUF, &size, sizeof size) && !fcntl(ends[0], F_SETFL, O_NONBLOCK));
     struct timespec began, ended;
     clock_gettime(CLOCK_MONOTONIC, &began);
     pid_t child = fork();
     CHECK(child >= 0);
     if (child == 0) {
         close(ends[1]);
-        (plain ? send_plain : send_all)(ends[0], count);
+        (plain ? send_plain : send_frames)(ends[0], count);
         return 0;
     }
     close(ends[0]);
-    uint64_t sum = (plain ? read_plain : read_all)(ends[1], count), wanted = 0;
-    int status;
+    uint64_t sum = (plain ? read_plain : read_frames)(ends[1], count);
     CHECK(waitpid(child, &status, 0) == child && status == 0);
     clock_gettime(CLOCK_MONOTONIC, &ended);
-    static uint8_t body[BODY];
-    for (size_t i = 0; i < count; i++) { fill(body, i); wanted = sum_of(wanted, body, BODY); }
-    CHECK(sum == wanted);
-    printf("%zu MiB in %.2f s\n", mebibytes, (double)(ended.tv_sec - began.tv_sec) + (double)(ended.tv_nsec - began.tv_nsec) / 1e9);
+    /* A list of short frames is no more than the socket takes. */
+    CHECK(sum == told->sum && (body < 4096 || told->short_writes > 0));
+    double seconds = (double)(ended.tv_sec - began.tv_sec) + (double)(ended.tv_nsec - began.tv_nsec) / 1e9;
+    printf("%zu MiB in %zu frames of %zu bytes%s: %.2f s, %zu writes, %zu of them short\n", mebibytes, count, body, plain ? " by plain copies" : "",
+           seconds, told->writes, told->short_writes);
     return 0;
 }

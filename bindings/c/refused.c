@@ -81,6 +81,7 @@ static iobufs_status feed(struct made *m) { return iobufs_frames_feed(&m->frames
 static iobufs_status next(struct made *m) { return iobufs_frames_next(&m->frames, 0, 99, &m->out_view); }
 static iobufs_status rest(struct made *m) { return iobufs_frames_rest(&m->frames, &m->out_text); }
 static iobufs_status read_view(struct made *m) { return iobufs_read_view(&m->text, 0, 99, &m->out_view); }
+static iobufs_status view_read(struct made *m) { return iobuf_read_view(&m->view, 0, 99, &m->out_view); }
 
 static void view_stays(struct made *m) { CHECK(view_is(&m->view, "\3abc") && view_is(&m->out_view, "old")); }
 static void shared_stays(struct made *m) { CHECK(view_is(&m->shared, "\3abc")); }
@@ -105,7 +106,7 @@ static const struct { const char *name; run *call; kept *stays; } cases[] = {
     { "parts coalesce", parts_coalesce, given_up }, { "from_parts", from_parts, given_up },
     { "builder", builder_new, builder_stays }, { "push", push, builder_stays }, { "finish", finish, given_up },
     { "feed", feed, frames_stay }, { "next", next, frames_stay }, { "rest", rest, frames_stay },
-    { "read_view", read_view, text_stays },
+    { "read_view", read_view, text_stays }, { "view read_view", view_read, view_stays },
 };
 
 static void pieces(struct iobufs_at *text) {

@@ -14,7 +14,7 @@
 #define BUILDER(name) struct iobufs_builder name##_memory; struct iobufs_builder_at name = { &name##_memory }; iobufs_builder_init(name.at)
 #define FRAMES(name) struct iobufs_frames name##_memory; struct iobufs_frames_at name = { &name##_memory }; iobufs_frames_init(name.at)
 
-static const uint8_t *bytes(const char *text) { return (const uint8_t *)text; }
+static inline const uint8_t *bytes(const char *text) { return (const uint8_t *)text; }
 
 /* Whether a buffer holds just these bytes. */
 static inline int view_is(struct iobuf_at *view, const char *text) {

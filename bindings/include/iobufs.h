@@ -29,7 +29,9 @@
  *  6. malloc, realloc and free are one allocator's; no call comes from a signal handler, or from the forked child of a
  *     process with threads.
  *
- * "memory" in a comment: the call may ask malloc for some, and answers IOBUFS_MEMORY where that is refused.
+ * "memory" in a comment: the call may ask malloc for some, and answers IOBUFS_MEMORY where that is refused; where a comment
+ * says nothing of it the call asks for none. "Memory none today": it asks for none as it is, but no contract promises that.
+ * The name in brackets is the original's; "own" stands where it has none.
  */
 #ifndef IOBUFS_H
 #define IOBUFS_H
@@ -88,8 +90,9 @@ enum iobufs_bound { IOBUFS_INCLUDED = 0, IOBUFS_EXCLUDED = 1, IOBUFS_UNBOUNDED =
 
 /* ---- iobuf (IoBuf): a view of bytes, which shares their storage with its clones and slices ---- */
 
-/* The library's size and alignment of a `struct iobuf`. */
+/* The library's size of a `struct iobuf`. */
 size_t iobuf_size(void);
+/* The library's alignment of a `struct iobuf`. */
 size_t iobuf_align(void);
 /* Makes the empty view of memory. No memory. (IoBuf::default) */
 void iobuf_init(struct iobuf *at);
@@ -105,49 +108,56 @@ size_t iobuf_len(struct iobuf_at *src);
 bool iobuf_is_empty(struct iobuf_at *src);
 /* Writes where the bytes lie, if there are any, and answers how many there are. (AsRef, Buf::chunk) */
 size_t iobuf_chunk(struct iobuf_at *src, const uint8_t **out);
-/* Writes the byte at place i, and answers whether there is one. */
+/* Writes the byte at place i, and answers whether there is one. (own) */
 bool iobuf_byte_at(struct iobuf_at *src, size_t i, uint8_t *out);
 /* Whether two views hold the same bytes. (PartialEq) */
 bool iobuf_eq(struct iobuf_at *src, struct iobuf_at *other);
-/* Another view of the same bytes, in their storage: no byte is copied. (Clone) */
+/* Another view of the same bytes, in their storage: no byte is copied. Memory none today. (Clone) */
 iobufs_status iobuf_clone(struct iobuf_at *src, struct iobuf_at *out);
 /* Drops the first n bytes; IOBUFS_OUT_OF_RANGE where there are fewer. (Buf::advance) */
 iobufs_status iobuf_advance(struct iobuf_at *src, size_t n);
-/* Takes the first `at` bytes away, in the same storage; IOBUFS_OUT_OF_RANGE where there are fewer. (IoBuf::split_to) */
+/* Takes the first `at` bytes away, in the same storage; IOBUFS_OUT_OF_RANGE where there are fewer. Memory none today.
+ * (IoBuf::split_to) */
 iobufs_status iobuf_split_to(struct iobuf_at *src, size_t at, struct iobuf_at *out);
-/* Takes the first n bytes out, in the same storage; IOBUFS_END_OF_BUFFER where there are fewer. (take_owned) */
+/* Takes the first n bytes out, in the same storage; IOBUFS_END_OF_BUFFER where there are fewer. Memory none today.
+ * (take_owned, Buf::copy_to_bytes) */
 iobufs_status iobuf_take(struct iobuf_at *src, size_t n, struct iobuf_at *out);
 /* Copies the first n bytes out and drops them; IOBUFS_END_OF_BUFFER where there are fewer. (Buf::copy_to_slice) */
 iobufs_status iobuf_copy_to_slice(struct iobuf_at *src, uint8_t *dst, size_t n);
 /* The bytes of a range, in the same storage; bounds are `enum iobufs_bound`. IOBUFS_OUT_OF_RANGE where the range doesn't
- * lie within the bytes. (IoBuf::slice) */
+ * lie within the bytes. Memory none today. (IoBuf::slice) */
 iobufs_status iobuf_slice(struct iobuf_at *src, uint8_t lo_kind, size_t lo, uint8_t hi_kind, size_t hi, struct iobuf_at *out);
 /* The same bytes as a buffer to write, with the room behind them, if no other view shares their storage; the empty view is
- * left. Else IOBUFS_DECLINED. (IoBuf::try_into_mut) */
+ * left. Else IOBUFS_DECLINED, and the view stays. No memory. (IoBuf::try_into_mut) */
 iobufs_status iobuf_try_into_mut(struct iobuf_at *src, struct iobufmut_at *out);
 
 /* ---- iobufmut (IoBufMut): a buffer to write, of a fixed capacity. None reads as one of capacity 0 ---- */
 
+/* The library's size of a `struct iobufmut`. */
 size_t iobufmut_size(void);
+/* The library's alignment of a `struct iobufmut`. */
 size_t iobufmut_align(void);
-/* Makes a place with no buffer of memory. */
+/* Makes a place with no buffer of memory. No memory. */
 void iobufmut_init(struct iobufmut *at);
 /* Gives the buffer up; none is left. (Drop) */
 void iobufmut_drop(struct iobufmut_at *part);
 /* An empty buffer of capacity n: memory but for 0; IOBUFS_BAD_LAYOUT above SSIZE_MAX. (IoBufMut::with_capacity) */
 iobufs_status iobufmut_with_capacity(size_t n, struct iobufmut_at *out);
-/* The same for a caller who asks for an alignment, a power of two; addresses are not promised. (with_alignment) */
+/* The same for a caller who asks for an alignment, a power of two (else IOBUFS_BAD_LAYOUT, but for 0 bytes); addresses are
+ * not promised. Memory but for 0. (with_alignment) */
 iobufs_status iobufmut_with_alignment(size_t n, size_t align, struct iobufmut_at *out);
-/* A buffer of n bytes, all zero. (IoBufMut::zeroed) */
+/* A buffer of n bytes, all zero: memory but for 0; IOBUFS_BAD_LAYOUT above SSIZE_MAX. (IoBufMut::zeroed) */
 iobufs_status iobufmut_zeroed(size_t n, struct iobufmut_at *out);
-/* The same for a caller who asks for an alignment. (zeroed_with_alignment) */
+/* The same for a caller who asks for an alignment, as above. Memory but for 0. (zeroed_with_alignment) */
 iobufs_status iobufmut_zeroed_with_alignment(size_t n, size_t align, struct iobufmut_at *out);
 /* A copy of n bytes, with no room behind them; memory but for 0 bytes. (From<&[u8]>) */
 iobufs_status iobufmut_copy_from_slice(const uint8_t *src, size_t n, struct iobufmut_at *out);
-/* The bytes of a view: recovered as by iobuf_try_into_mut, else copied; the empty view is left. (From<IoBuf>) */
+/* The bytes of a view: recovered as by iobuf_try_into_mut, else copied (memory); the empty view is left, but where memory
+ * is refused both stay. (From<IoBuf>) */
 iobufs_status iobufmut_from_view(struct iobuf_at *src, struct iobufmut_at *out);
 /* The number of readable bytes. (len) */
 size_t iobufmut_len(struct iobufmut_at *part);
+/* Whether there are none. (is_empty) */
 bool iobufmut_is_empty(struct iobufmut_at *part);
 /* How many bytes fit, counted from the first readable one. (capacity) */
 size_t iobufmut_capacity(struct iobufmut_at *part);
@@ -158,15 +168,22 @@ size_t iobufmut_remaining_mut(struct iobufmut_at *part);
 size_t iobufmut_chunk(struct iobufmut_at *part, uint8_t **out);
 /* Puts bytes behind those that are readable; IOBUFS_OUT_OF_RANGE where they don't fit. No memory. (BufMut::put_slice) */
 iobufs_status iobufmut_put_slice(struct iobufmut_at *part, const uint8_t *src, size_t n);
-/* Puts a byte n times. (BufMut::put_bytes) */
+/* Puts a byte n times; IOBUFS_OUT_OF_RANGE where they don't fit. No memory. (BufMut::put_bytes) */
 iobufs_status iobufmut_put_bytes(struct iobufmut_at *part, uint8_t value, size_t n);
-/* Puts one byte. (BufMut::put_u8) */
+/* Puts one byte; IOBUFS_OUT_OF_RANGE where it doesn't fit. No memory. (BufMut::put_u8) */
 iobufs_status iobufmut_put_u8(struct iobufmut_at *part, uint8_t n);
-/* Puts the spelling of a length (see iobufs_length_size). */
+/* Puts a number of two bytes, the highest first; IOBUFS_OUT_OF_RANGE where it doesn't fit. No memory. (BufMut::put_u16) */
+iobufs_status iobufmut_put_u16(struct iobufmut_at *part, uint16_t n);
+/* The same of four bytes. (BufMut::put_u32) */
+iobufs_status iobufmut_put_u32(struct iobufmut_at *part, uint32_t n);
+/* The same of eight bytes. (BufMut::put_u64) */
+iobufs_status iobufmut_put_u64(struct iobufmut_at *part, uint64_t n);
+/* Puts the spelling of a length (see iobufs_length_size); IOBUFS_OUT_OF_RANGE where it doesn't fit. No memory.
+ * (usize::write) */
 iobufs_status iobufmut_put_length(struct iobufmut_at *part, size_t n);
-/* Writes over n readable bytes from `at` on; IOBUFS_OUT_OF_RANGE where they pass the readable bytes. */
+/* Writes over n readable bytes from `at` on; IOBUFS_OUT_OF_RANGE where they pass the readable bytes. No memory. (AsMut) */
 iobufs_status iobufmut_write_at(struct iobufmut_at *part, size_t at, const uint8_t *src, size_t n);
-/* Makes n bytes readable; those that were not are zero. IOBUFS_OUT_OF_RANGE above the capacity. (set_len) */
+/* Makes n bytes readable; those that were not are zero. IOBUFS_OUT_OF_RANGE above the capacity. No memory. (set_len) */
 iobufs_status iobufmut_set_len(struct iobufmut_at *part, size_t n);
 /* Keeps at most the first n bytes. (truncate) */
 void iobufmut_truncate(struct iobufmut_at *part, size_t n);
@@ -176,12 +193,14 @@ void iobufmut_clear(struct iobufmut_at *part);
 iobufs_status iobufmut_advance(struct iobufmut_at *part, size_t n);
 /* Copies the first n bytes out and drops them; IOBUFS_END_OF_BUFFER where there are fewer. (Buf::copy_to_slice) */
 iobufs_status iobufmut_copy_to_slice(struct iobufmut_at *part, uint8_t *dst, size_t n);
-/* The bytes as a view, not copied; no buffer is left. On IOBUFS_MEMORY the buffer is given up. (freeze) */
+/* The bytes as a view, not copied; no buffer is left. Memory none today; on IOBUFS_MEMORY the buffer is given up. (freeze) */
 iobufs_status iobufmut_freeze(struct iobufmut_at *part, struct iobuf_at *out);
 
 /* ---- iobufs (IoBufs): a text in pieces, none of which is copied ---- */
 
+/* The library's size of a `struct iobufs`. */
 size_t iobufs_size(void);
+/* The library's alignment of a `struct iobufs`. */
 size_t iobufs_align(void);
 /* Makes the empty text of memory. No memory. (IoBufs::default) */
 void iobufs_init(struct iobufs *at);
@@ -189,12 +208,13 @@ void iobufs_init(struct iobufs *at);
 void iobufs_drop(struct iobufs_at *text);
 /* The text of one view, which is left empty. No memory. (From<IoBuf>) */
 void iobufs_from_view(struct iobuf_at *src, struct iobufs_at *out);
-/* The text of a buffer; none is left. On IOBUFS_MEMORY the buffer is given up. (From<IoBufMut>) */
+/* The text of a buffer; none is left. Memory none today; on IOBUFS_MEMORY the buffer is given up. (From<IoBufMut>) */
 iobufs_status iobufs_from_mut(struct iobufmut_at *part, struct iobufs_at *out);
 /* Another text of the same bytes, in their storage; memory for the row of pieces. (Clone) */
 iobufs_status iobufs_clone(struct iobufs_at *text, struct iobufs_at *out);
 /* The number of bytes. (IoBufs::len) */
 size_t iobufs_len(struct iobufs_at *text);
+/* Whether there are none. (IoBufs::is_empty) */
 bool iobufs_is_empty(struct iobufs_at *text);
 /* Whether all bytes are in one piece. (is_single) */
 bool iobufs_is_single(struct iobufs_at *text);
@@ -202,18 +222,20 @@ bool iobufs_is_single(struct iobufs_at *text);
 size_t iobufs_chunk_count(struct iobufs_at *text);
 /* Writes where the first piece lies, if there are bytes, and answers its length. (Buf::chunk) */
 size_t iobufs_chunk(struct iobufs_at *text, const uint8_t **out);
-/* Writes where piece i lies, counted from 0, and answers its length; 0 where there is none. */
+/* Writes where piece i lies, counted from 0, and answers its length; 0 where there is none. (own) */
 size_t iobufs_chunk_at(struct iobufs_at *text, size_t i, const uint8_t **out);
 /* Fills a list of n for writev with where the first pieces lie, and answers how many it filled. No memory.
  * iobufs_advance then takes the count that writev answers. (Buf::chunks_vectored) */
 size_t iobufs_chunks(struct iobufs_at *text, struct iobufs_chunk *out, size_t n);
-/* Writes the byte at place i, and answers whether there is one. */
+/* Writes the byte at place i, and answers whether there is one. (own) */
 bool iobufs_byte_at(struct iobufs_at *text, size_t i, uint8_t *out);
-/* Writes the number of the piece that holds a place, and the bytes before it there; IOBUFS_OUT_OF_RANGE at the end. */
+/* Writes the number of the piece that holds a place, and the bytes before it there; IOBUFS_OUT_OF_RANGE at the end. No
+ * memory. (own) */
 iobufs_status iobufs_locate(struct iobufs_at *text, size_t at, size_t *index, size_t *offset);
-/* Puts a view behind the text, and leaves its place empty; at times memory for the row of pieces. (append) */
+/* Puts a view behind the text, and leaves its place empty; at times memory for the row of pieces. IOBUFS_TOO_LONG where the
+ * length would pass SIZE_MAX. A refusal leaves both. (append) */
 iobufs_status iobufs_append(struct iobufs_at *text, struct iobuf_at *piece);
-/* The same in front of the text. (prepend) */
+/* The same in front of the text; IOBUFS_TOO_LONG too. (prepend) */
 iobufs_status iobufs_prepend(struct iobufs_at *text, struct iobuf_at *piece);
 /* Takes the first `at` bytes away; IOBUFS_OUT_OF_RANGE where there are fewer; at times memory. (IoBufs::split_to) */
 iobufs_status iobufs_split_to(struct iobufs_at *text, size_t at, struct iobufs_at *out);
@@ -224,19 +246,22 @@ iobufs_status iobufs_copy_to_slice(struct iobufs_at *text, uint8_t *dst, size_t 
 /* Takes the first n bytes out as one view: shared within a piece, a copy (memory) across pieces; IOBUFS_END_OF_BUFFER
  * where there are fewer. (take_owned, Buf::copy_to_bytes) */
 iobufs_status iobufs_take(struct iobufs_at *text, size_t n, struct iobuf_at *out);
-/* The same behind the first `skip` bytes, which are dropped too. */
+/* The same behind the first `skip` bytes, which are dropped too. (own) */
 iobufs_status iobufs_take_after(struct iobufs_at *text, size_t skip, size_t n, struct iobuf_at *out);
 /* The text as one view, with a copy (memory) of several pieces; the empty text is left, also where that is refused:
  * clone it first to keep it. (coalesce) */
 iobufs_status iobufs_coalesce(struct iobufs_at *text, struct iobuf_at *out);
-/* The only piece as a view; the empty text is left. IOBUFS_DECLINED where there are more. (try_into_single) */
+/* The only piece as a view; the empty text is left. IOBUFS_DECLINED where there are more, and the text stays. No memory.
+ * (try_into_single) */
 iobufs_status iobufs_try_into_single(struct iobufs_at *text, struct iobuf_at *out);
 
 /* ---- iobufsmut (IoBufsMut): buffers to write, strung together. None reads as one part of capacity 0 ---- */
 
+/* The library's size of a `struct iobufsmut`. */
 size_t iobufsmut_size(void);
+/* The library's alignment of a `struct iobufsmut`. */
 size_t iobufsmut_align(void);
-/* Makes a place with no parts of memory. */
+/* Makes a place with no parts of memory. No memory. */
 void iobufsmut_init(struct iobufsmut *at);
 /* Gives the parts up; none are left. (Drop) */
 void iobufsmut_drop(struct iobufsmut_at *parts);
@@ -247,12 +272,13 @@ void iobufsmut_from_mut(struct iobufmut_at *part, struct iobufsmut_at *out);
 iobufs_status iobufsmut_from_parts(struct iobufmut_at *places, size_t n, struct iobufsmut_at *out);
 /* The number of readable bytes. (len) */
 size_t iobufsmut_len(struct iobufsmut_at *parts);
+/* Whether there are none. (is_empty) */
 bool iobufsmut_is_empty(struct iobufsmut_at *parts);
 /* How many bytes fit, counted from the first readable one. (capacity) */
 size_t iobufsmut_capacity(struct iobufsmut_at *parts);
 /* How many bytes may still be put. (BufMut::remaining_mut) */
 size_t iobufsmut_remaining_mut(struct iobufsmut_at *parts);
-/* The number of parts. */
+/* The number of parts. (own) */
 size_t iobufsmut_part_count(struct iobufsmut_at *parts);
 /* Whether there is just one. (is_single) */
 bool iobufsmut_is_single(struct iobufsmut_at *parts);
@@ -260,24 +286,32 @@ bool iobufsmut_is_single(struct iobufsmut_at *parts);
  * over there. (Buf::chunk) */
 size_t iobufsmut_chunk(struct iobufsmut_at *parts, uint8_t **out);
 /* Writes where the readable bytes of part i lie, if it has some, and its capacity (0 where there is no such part), and
- * answers how many they are. */
+ * answers how many they are. (own) */
 size_t iobufsmut_part_at(struct iobufsmut_at *parts, size_t i, uint8_t **out, size_t *capacity);
 /* Fills a list of n for readv (or writev) with where the first pieces of the readable bytes lie, and answers how many it
- * filled. No memory. To read into parts, set their length first. */
+ * filled. No memory. To read into parts, set their length first. (Buf::chunks_vectored) */
 size_t iobufsmut_chunks(struct iobufsmut_at *parts, struct iobufs_chunk *out, size_t n);
-/* Writes the readable byte at place i, and answers whether there is one. */
+/* Writes the readable byte at place i, and answers whether there is one. (own) */
 bool iobufsmut_byte_at(struct iobufsmut_at *parts, size_t i, uint8_t *out);
 /* Puts bytes, part after part; IOBUFS_OUT_OF_RANGE where they don't fit. No memory. (BufMut::put_slice) */
 iobufs_status iobufsmut_put_slice(struct iobufsmut_at *parts, const uint8_t *src, size_t n);
-/* Puts a byte n times. (BufMut::put_bytes) */
+/* Puts a byte n times; IOBUFS_OUT_OF_RANGE where they don't fit. No memory. (BufMut::put_bytes) */
 iobufs_status iobufsmut_put_bytes(struct iobufsmut_at *parts, uint8_t value, size_t n);
-/* Puts one byte. (BufMut::put_u8) */
+/* Puts one byte; IOBUFS_OUT_OF_RANGE where it doesn't fit. No memory. (BufMut::put_u8) */
 iobufs_status iobufsmut_put_u8(struct iobufsmut_at *parts, uint8_t n);
-/* Puts the spelling of a length. */
+/* Puts a number of two bytes, the highest first; IOBUFS_OUT_OF_RANGE where it doesn't fit. No memory. (BufMut::put_u16) */
+iobufs_status iobufsmut_put_u16(struct iobufsmut_at *parts, uint16_t n);
+/* The same of four bytes. (BufMut::put_u32) */
+iobufs_status iobufsmut_put_u32(struct iobufsmut_at *parts, uint32_t n);
+/* The same of eight bytes. (BufMut::put_u64) */
+iobufs_status iobufsmut_put_u64(struct iobufsmut_at *parts, uint64_t n);
+/* Puts the spelling of a length; IOBUFS_OUT_OF_RANGE where it doesn't fit. No memory. (usize::write) */
 iobufs_status iobufsmut_put_length(struct iobufsmut_at *parts, size_t n);
-/* Makes n bytes readable, the parts filled in order; those that were not are zero. (set_len) */
+/* Makes n bytes readable, the parts filled in order; those that were not are zero. IOBUFS_OUT_OF_RANGE above the capacity.
+ * No memory. (set_len) */
 iobufs_status iobufsmut_set_len(struct iobufsmut_at *parts, size_t n);
-/* Drops the first n readable bytes; a part that is used up keeps its room. (Buf::advance) */
+/* Drops the first n readable bytes; a part that is used up keeps its room. IOBUFS_OUT_OF_RANGE where there are fewer. No
+ * memory. (Buf::advance) */
 iobufs_status iobufsmut_advance(struct iobufsmut_at *parts, size_t n);
 /* Copies the first n bytes out and drops them; IOBUFS_END_OF_BUFFER where there are fewer. (Buf::copy_to_slice) */
 iobufs_status iobufsmut_copy_to_slice(struct iobufsmut_at *parts, uint8_t *dst, size_t n);
@@ -288,14 +322,17 @@ iobufs_status iobufsmut_copy_from_slice(struct iobufsmut_at *parts, const uint8_
 iobufs_status iobufsmut_freeze(struct iobufsmut_at *parts, struct iobufs_at *out);
 /* The parts as one buffer, with a copy (memory) of several; none are left, also where that is refused. (coalesce) */
 iobufs_status iobufsmut_coalesce(struct iobufsmut_at *parts, struct iobufmut_at *out);
-/* The only part as a buffer; none are left. IOBUFS_DECLINED where there are more. (try_into_single) */
+/* The only part as a buffer; none are left. IOBUFS_DECLINED where there are more, and they stay. No memory.
+ * (try_into_single) */
 iobufs_status iobufsmut_try_into_single(struct iobufsmut_at *parts, struct iobufmut_at *out);
 
 /* ---- iobufs_builder (Builder): bytes that are put, and views that are pushed, as one text ---- */
 
+/* The library's size of a `struct iobufs_builder`. */
 size_t iobufs_builder_size(void);
+/* The library's alignment of a `struct iobufs_builder`. */
 size_t iobufs_builder_align(void);
-/* Makes a place with no builder of memory. */
+/* Makes a place with no builder of memory. No memory. */
 void iobufs_builder_init(struct iobufs_builder *at);
 /* Gives the builder up; none is left. (Drop) */
 void iobufs_builder_drop(struct iobufs_builder_at *builder);
@@ -305,45 +342,81 @@ iobufs_status iobufs_builder_new(size_t capacity, struct iobufs_builder_at *out)
 size_t iobufs_builder_remaining_mut(struct iobufs_builder_at *builder);
 /* Puts bytes; IOBUFS_OUT_OF_RANGE where they don't fit. No memory. (BufMut::put_slice) */
 iobufs_status iobufs_builder_put_slice(struct iobufs_builder_at *builder, const uint8_t *src, size_t n);
-/* Puts a byte n times. (BufMut::put_bytes) */
+/* Puts a byte n times; IOBUFS_OUT_OF_RANGE where they don't fit. No memory. (BufMut::put_bytes) */
 iobufs_status iobufs_builder_put_bytes(struct iobufs_builder_at *builder, uint8_t value, size_t n);
-/* Puts one byte. (BufMut::put_u8) */
+/* Puts one byte; IOBUFS_OUT_OF_RANGE where it doesn't fit. No memory. (BufMut::put_u8) */
 iobufs_status iobufs_builder_put_u8(struct iobufs_builder_at *builder, uint8_t n);
-/* Puts the spelling of a length. */
+/* Puts a number of two bytes, the highest first; IOBUFS_OUT_OF_RANGE where it doesn't fit. No memory. (BufMut::put_u16) */
+iobufs_status iobufs_builder_put_u16(struct iobufs_builder_at *builder, uint16_t n);
+/* The same of four bytes. (BufMut::put_u32) */
+iobufs_status iobufs_builder_put_u32(struct iobufs_builder_at *builder, uint32_t n);
+/* The same of eight bytes. (BufMut::put_u64) */
+iobufs_status iobufs_builder_put_u64(struct iobufs_builder_at *builder, uint64_t n);
+/* Puts the spelling of a length; IOBUFS_OUT_OF_RANGE where it doesn't fit. No memory. (usize::write) */
 iobufs_status iobufs_builder_put_length(struct iobufs_builder_at *builder, size_t n);
-/* Pushes a view, not copied, and leaves its place empty; memory for the row. IOBUFS_DECLINED where there is no builder.
- * (Builder::push) */
+/* Pushes a view, not copied, and leaves its place empty; memory for the row. IOBUFS_DECLINED where there is no builder,
+ * IOBUFS_TOO_LONG where the text would pass SIZE_MAX. A refusal leaves both. (Builder::push) */
 iobufs_status iobufs_builder_push(struct iobufs_builder_at *builder, struct iobuf_at *piece);
 /* All that was put and pushed as a text; no builder is left. No memory is asked for. (Builder::finish) */
 iobufs_status iobufs_builder_finish(struct iobufs_builder_at *builder, struct iobufs_at *out);
 
 /* ---- lengths, as they are spelled: seven bits a byte, lowest first, in the shortest form ---- */
 
-/* How many bytes spell a length: at most ten. (EncodeSize) */
+/* How many bytes spell a length: at most ten. No memory. (usize::encode_size) */
 size_t iobufs_length_size(size_t n);
 /* Reads the length in front, from lo to hi, and drops its spelling. IOBUFS_END_OF_BUFFER where the spelling may go on
- * behind the end, IOBUFS_INVALID_VARINT, or IOBUFS_INVALID_LENGTH, which writes the length that is outside. (Read) */
+ * behind the end, IOBUFS_INVALID_VARINT, or IOBUFS_INVALID_LENGTH, which writes the length that is outside; each leaves the
+ * text. No memory. (usize::read_cfg) */
 iobufs_status iobufs_read_length(struct iobufs_at *text, size_t lo, size_t hi, size_t *out);
+/* The same of a view. (Read) */
 iobufs_status iobuf_read_length(struct iobuf_at *src, size_t lo, size_t hi, size_t *out);
-/* Reads the bytes behind a length from lo to hi, as one view: shared within a piece, a copy (memory) across pieces. */
+/* Reads the bytes behind a length from lo to hi, as one view: shared within a piece, a copy (memory) across pieces. The
+ * statuses of iobufs_read_length, and IOBUFS_END_OF_BUFFER where fewer bytes follow; each leaves both. (IoBuf::read_cfg) */
 iobufs_status iobufs_read_view(struct iobufs_at *text, size_t lo, size_t hi, struct iobuf_at *out);
+/* The same of a view, in its storage. Memory none today. (IoBuf::read_cfg) */
+iobufs_status iobuf_read_view(struct iobuf_at *src, size_t lo, size_t hi, struct iobuf_at *out);
+
+/* ---- numbers of a fixed size, the highest byte first ---- */
+
+/* Reads the byte in front, and drops it; IOBUFS_END_OF_BUFFER where there is none, which leaves both. No memory.
+ * (u8::read_cfg, Buf::get_u8) */
+iobufs_status iobuf_get_u8(struct iobuf_at *src, uint8_t *out);
+/* The same of two bytes. (u16::read_cfg, Buf::get_u16) */
+iobufs_status iobuf_get_u16(struct iobuf_at *src, uint16_t *out);
+/* The same of four bytes. (u32::read_cfg, Buf::get_u32) */
+iobufs_status iobuf_get_u32(struct iobuf_at *src, uint32_t *out);
+/* The same of eight bytes. (u64::read_cfg, Buf::get_u64) */
+iobufs_status iobuf_get_u64(struct iobuf_at *src, uint64_t *out);
+/* Reads the byte in front of a text, and drops it; IOBUFS_END_OF_BUFFER where there is none, which leaves both. No memory.
+ * (u8::read_cfg, Buf::get_u8) */
+iobufs_status iobufs_get_u8(struct iobufs_at *text, uint8_t *out);
+/* The same of two bytes, also across pieces. (u16::read_cfg, Buf::get_u16) */
+iobufs_status iobufs_get_u16(struct iobufs_at *text, uint16_t *out);
+/* The same of four bytes. (u32::read_cfg, Buf::get_u32) */
+iobufs_status iobufs_get_u32(struct iobufs_at *text, uint32_t *out);
+/* The same of eight bytes. (u64::read_cfg, Buf::get_u64) */
+iobufs_status iobufs_get_u64(struct iobufs_at *text, uint64_t *out);
 
 /* ---- iobufs_frames (Frames): bytes behind their length, out of a text that comes in pieces ---- */
 
+/* The library's size of a `struct iobufs_frames`. */
 size_t iobufs_frames_size(void);
+/* The library's alignment of a `struct iobufs_frames`. */
 size_t iobufs_frames_align(void);
-/* Makes frames of memory, to which nothing was fed. */
+/* Makes frames of memory, to which nothing was fed. No memory. (own) */
 void iobufs_frames_init(struct iobufs_frames *at);
-/* Gives what was fed up. */
+/* Gives what was fed up; nothing is left. (Drop) */
 void iobufs_frames_drop(struct iobufs_frames_at *frames);
-/* How many bytes were fed and not taken. */
+/* How many bytes were fed and not taken. (own) */
 size_t iobufs_frames_len(struct iobufs_frames_at *frames);
-/* What was fed and not taken, as a text that shares its storage; memory for the row. */
+/* What was fed and not taken, as a text that shares its storage; memory for the row. (own) */
 iobufs_status iobufs_frames_rest(struct iobufs_frames_at *frames, struct iobufs_at *out);
-/* Puts a view behind what was fed, and leaves its place empty; at times memory. */
+/* Puts a view behind what was fed, and leaves its place empty; at times memory. IOBUFS_TOO_LONG where that would pass
+ * SIZE_MAX. A refusal leaves both. (own) */
 iobufs_status iobufs_frames_feed(struct iobufs_frames_at *frames, struct iobuf_at *piece);
-/* Takes the frame in front, whose length is from lo to hi. IOBUFS_END_OF_BUFFER where it is not whole yet,
- * IOBUFS_INVALID_VARINT or IOBUFS_INVALID_LENGTH where no bytes behind will make it so, IOBUFS_MEMORY. */
+/* Takes the frame in front, whose length is from lo to hi: shared within a piece, a copy (memory) across pieces.
+ * IOBUFS_END_OF_BUFFER where it is not whole yet, IOBUFS_INVALID_VARINT or IOBUFS_INVALID_LENGTH where no bytes behind will
+ * make it so; each leaves both. A loop of iobufs_frames_feed and this call is `Frames::run`. (own) */
 iobufs_status iobufs_frames_next(struct iobufs_frames_at *frames, size_t lo, size_t hi, struct iobuf_at *out);
 
 #ifdef __cplusplus

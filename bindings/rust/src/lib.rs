@@ -4,24 +4,39 @@
 //! Names, arguments and panics are the original's. It has no dependency, so what the original takes from the traits of the
 //! crate `bytes` are methods here. A `Vec` is copied, since Rust's memory can't be handed over to the library.
 //!
-//! What differs: `copy_to_bytes` answers an `IoBuf`; `set_len` is safe, and what was not readable is zero; an alignment is
-//! tested and not promised; of a buffer without readable bytes no place is told (`as_mut_ptr`). `put` of any reader,
-//! `copy_to_bytes` of several parts, values (`Read`, `Write`) and all that takes or answers `Bytes` aren't there.
+//! With the feature `bytes` the buffers have the traits `Buf` and `BufMut` of that crate, and `Bytes` and `BytesMut` are
+//! copied into them and out of them. What is put by `chunk_mut` and `advance_mut` is copied once more than by `put_slice`,
+//! since the library lends no room that isn't readable.
+//!
+//! What differs: the method `copy_to_bytes` answers an `IoBuf` (that of the trait a `Bytes`); `set_len` is safe, and what
+//! was not readable is zero; an alignment is tested and not promised; of a buffer without readable bytes no place is told
+//! (`as_mut_ptr`). `put` of any reader is there with the feature alone. Values (`codec`) are numbers, lengths, views, and what
+//! a caller makes of them.
 //!
 //! What each `unsafe` block does is call the library; the comment names the duties of `iobufs.h` that it meets. Duties
 //! that all meet: (1) a buffer's memory is made by `.._init` in `Memory::new`, is dropped once by `Drop`, and may move;
 //! (2) places of one call are of different variables, since a `&mut` or an owned buffer is one of them; (3) a call that
 //! changes a buffer has it by `&mut` or owned, and others only look; (6) Rust doesn't call from signal handlers.
+pub mod codec;
 mod part;
 mod parts;
 mod sys;
 mod text;
+#[cfg(feature = "bytes")]
+mod traits;
 mod view;
 
 pub use part::IoBufMut;
 pub use parts::{Builder, IoBufsMut};
 pub use text::{Frames, IoBufs};
 pub use view::IoBuf;
+
+#[cfg(feature = "bytes")]
+use traits::Scratch;
+
+/// Without the feature `bytes` nothing is lent.
+#[cfg(not(feature = "bytes"))]
+type Scratch = std::marker::PhantomData<()>;
 
 use std::fmt;
 use std::ops::{Bound, RangeBounds};
@@ -33,8 +48,10 @@ pub enum Error {
     EndOfBuffer,
     /// The bytes spell no length.
     InvalidVarint,
-    /// The length is outside the range.
-    InvalidLength,
+    /// The length, which is told, is outside the range.
+    InvalidLength(usize),
+    /// So many bytes are left behind a value that was to be all.
+    ExtraData(usize),
 }
 
 /// A destination was longer than the bytes left.
@@ -108,13 +125,13 @@ fn limits(range: impl RangeBounds<usize>) -> (usize, usize) {
     lo.zip(hi).unwrap_or((1, 0))
 }
 
-/// What reading a length or a frame answers.
-fn read(status: u8) -> Result<(), Error> {
+/// What reading a length, a view or a frame answers; `length` tells one that is outside the range.
+fn read(status: u8, length: impl FnOnce() -> usize) -> Result<(), Error> {
     match status {
         sys::OK => Ok(()),
         sys::END_OF_BUFFER => Err(Error::EndOfBuffer),
         sys::INVALID_VARINT => Err(Error::InvalidVarint),
-        sys::INVALID_LENGTH => Err(Error::InvalidLength),
+        sys::INVALID_LENGTH => Err(Error::InvalidLength(length())),
         _ => out_of_memory(),
     }
 }
@@ -146,37 +163,16 @@ macro_rules! same_bytes {
 }
 pub(crate) use same_bytes;
 
-/// Numbers are put with the highest byte first; one byte by the call of that name.
+/// Numbers are put by the calls of their names.
 macro_rules! puts {
-    ($put_u8:path) => {
-        /// Puts one byte; panics where there is no room.
+    ($($number:ty, $put:ident, $call:path;)*) => {$(
+        /// Puts a number, the highest byte first. Panics where there is no room (`BufMut`).
         #[track_caller]
-        pub fn put_u8(&mut self, n: u8) {
+        pub fn $put(&mut self, n: $number) {
             // SAFETY: duties 1 and 3.
-            done(
-                unsafe { $put_u8(&mut self.0.at(), n) },
-                "cannot advance past end of buffer",
-            );
+            done(unsafe { $call(&mut self.0.at(), n) }, "cannot advance past end of buffer");
         }
-
-        /// Puts two bytes, the highest of the number first.
-        #[track_caller]
-        pub fn put_u16(&mut self, n: u16) {
-            self.put_slice(&n.to_be_bytes());
-        }
-
-        /// Puts four bytes, the highest of the number first.
-        #[track_caller]
-        pub fn put_u32(&mut self, n: u32) {
-            self.put_slice(&n.to_be_bytes());
-        }
-
-        /// Puts eight bytes, the highest of the number first.
-        #[track_caller]
-        pub fn put_u64(&mut self, n: u64) {
-            self.put_slice(&n.to_be_bytes());
-        }
-    };
+    )*};
 }
 pub(crate) use puts;
 
@@ -195,3 +191,55 @@ macro_rules! try_copy {
     };
 }
 pub(crate) use try_copy;
+
+/// Numbers, lengths and views are read by the calls of their names.
+macro_rules! gets {
+    ($length:path, $view:path; $($number:ty, $get:ident, $try_get:ident, $call:path;)*) => {
+        $(
+            /// Reads the number in front, the highest byte first. Panics where there are fewer bytes (`Buf`).
+            #[track_caller]
+            pub fn $get(&mut self) -> $number {
+                match self.$try_get() {
+                    Ok(n) => n,
+                    Err(crate::TryGetError { requested, available }) => {
+                        panic!("advance out of bounds: the len is {available} but advancing by {requested}")
+                    }
+                }
+            }
+
+            /// Reads the number in front, the highest byte first; where there are fewer bytes, nothing changes (`Buf`).
+            pub fn $try_get(&mut self) -> Result<$number, crate::TryGetError> {
+                let mut n = 0;
+                // SAFETY: duties 1 to 3.
+                match unsafe { $call(&mut self.0.at(), &mut n) } {
+                    sys::OK => Ok(n),
+                    _ => Err(crate::TryGetError { requested: size_of::<$number>(), available: self.len() }),
+                }
+            }
+        )*
+
+        /// Reads the length in front, if it is in the range (`usize::read_cfg`).
+        pub fn read_length(&mut self, range: impl RangeBounds<usize>) -> Result<usize, Error> {
+            let ((lo, hi), mut n) = (limits(range), 0);
+            // SAFETY: duties 1 to 3.
+            let status = unsafe { $length(&mut self.0.at(), lo, hi, &mut n) };
+            read(status, || n)?;
+            Ok(n)
+        }
+
+        /// Reads the bytes behind a length in the range, as one view: shared within a piece, copied across pieces
+        /// (`IoBuf::read_cfg`).
+        pub fn read_view(&mut self, range: impl RangeBounds<usize>) -> Result<IoBuf, Error> {
+            let ((lo, hi), mut n, out) = (limits(range), 0, IoBuf::default());
+            // SAFETY: duties 1 to 3.
+            let status = unsafe { $view(&mut self.0.at(), lo, hi, &mut out.memory().at()) };
+            // SAFETY: the same. The length is refused again, and told.
+            read(status, || unsafe {
+                $length(&mut self.0.at(), lo, hi, &mut n);
+                n
+            })?;
+            Ok(out)
+        }
+    };
+}
+pub(crate) use gets;

@@ -1,7 +1,7 @@
 //! `IoBufMut`.
 use crate::sys::{self, Memory};
 use crate::view::IoBuf;
-use crate::{done, no_bytes, puts, same_bytes, try_copy};
+use crate::{Scratch, done, no_bytes, puts, same_bytes, try_copy};
 use std::num::NonZeroUsize;
 use std::{fmt, io, slice};
 
@@ -9,7 +9,7 @@ const LAYOUT: &str = "alignment must be a power of two and the size must fit a l
 const PAST: &str = "cannot advance past end of buffer";
 
 /// One piece of storage to write, of a fixed capacity. It shares its storage with nobody.
-pub struct IoBufMut(Memory<{ sys::PART }>);
+pub struct IoBufMut(Memory<{ sys::PART }>, pub(crate) Scratch);
 
 impl IoBufMut {
     pub(crate) fn memory(&self) -> &Memory<{ sys::PART }> {
@@ -18,7 +18,7 @@ impl IoBufMut {
 
     /// A place without a buffer, which is like one of capacity 0.
     pub(crate) fn none() -> Self {
-        IoBufMut(Memory::new(sys::iobufmut_init))
+        IoBufMut(Memory::new(sys::iobufmut_init), Scratch::default())
     }
 
     /// An empty buffer of this capacity.
@@ -58,17 +58,20 @@ impl IoBufMut {
     }
 
     /// The number of readable bytes.
+    #[inline]
     pub fn len(&self) -> usize {
         // SAFETY: it only looks (duty 3).
         unsafe { sys::iobufmut_len(&mut self.0.at()) }
     }
 
     /// Whether no byte is readable.
+    #[inline]
     pub fn is_empty(&self) -> bool {
         self.len() == 0
     }
 
     /// How many bytes fit, counted from the first readable one.
+    #[inline]
     pub fn capacity(&self) -> usize {
         // SAFETY: it only looks (duty 3).
         unsafe { sys::iobufmut_capacity(&mut self.0.at()) }
@@ -107,11 +110,13 @@ impl IoBufMut {
     }
 
     /// How many bytes are readable (`Buf`).
+    #[inline]
     pub fn remaining(&self) -> usize {
         self.len()
     }
 
     /// The readable bytes (`Buf`).
+    #[inline]
     pub fn chunk(&self) -> &[u8] {
         self.as_ref()
     }
@@ -150,8 +155,10 @@ impl IoBufMut {
     try_copy!();
 
     /// How many bytes may still be put (`BufMut`).
+    #[inline]
     pub fn remaining_mut(&self) -> usize {
-        self.capacity() - self.len()
+        // SAFETY: it only looks (duty 3).
+        unsafe { sys::iobufmut_remaining_mut(&mut self.0.at()) }
     }
 
     /// Puts bytes behind those that are readable. Panics where they don't fit (`BufMut`).
@@ -178,7 +185,12 @@ impl IoBufMut {
         done(unsafe { sys::iobufmut_put_length(&mut self.0.at(), n) }, PAST);
     }
 
-    puts!(sys::iobufmut_put_u8);
+    puts! {
+        u8, put_u8, sys::iobufmut_put_u8;
+        u16, put_u16, sys::iobufmut_put_u16;
+        u32, put_u32, sys::iobufmut_put_u32;
+        u64, put_u64, sys::iobufmut_put_u64;
+    }
 }
 
 impl Default for IoBufMut {
@@ -195,6 +207,7 @@ impl Drop for IoBufMut {
 }
 
 impl AsRef<[u8]> for IoBufMut {
+    #[inline]
     fn as_ref(&self) -> &[u8] {
         let mut at = no_bytes().cast_mut();
         // SAFETY: duty 5: the bytes may be read until `self` is changed or dropped, which the borrow rules out.

@@ -3,38 +3,42 @@ use crate::part::IoBufMut;
 use crate::sys::{self, At, Memory};
 use crate::text::{IoBufs, NO_CHUNK, piece};
 use crate::view::IoBuf;
-use crate::{done, no_bytes, puts, try_copy};
+use crate::{Scratch, done, no_bytes, puts, try_copy};
 use std::io::{self, IoSlice};
 use std::{fmt, slice};
 
 const PAST: &str = "cannot advance past end of buffer";
 
 /// Writable buffers in a row, read from the front and filled in order.
-pub struct IoBufsMut(Memory<{ sys::PARTS }>);
+pub struct IoBufsMut(Memory<{ sys::PARTS }>, pub(crate) Scratch);
 
 impl IoBufsMut {
     fn none() -> Self {
-        IoBufsMut(Memory::new(sys::iobufsmut_init))
+        IoBufsMut(Memory::new(sys::iobufsmut_init), Scratch::default())
     }
 
     /// The number of readable bytes.
+    #[inline]
     pub fn len(&self) -> usize {
         // SAFETY: it only looks (duty 3).
         unsafe { sys::iobufsmut_len(&mut self.0.at()) }
     }
 
     /// Whether no byte is readable.
+    #[inline]
     pub fn is_empty(&self) -> bool {
         self.len() == 0
     }
 
     /// Whether there is just one part.
+    #[inline]
     pub fn is_single(&self) -> bool {
         // SAFETY: it only looks (duty 3).
         unsafe { sys::iobufsmut_is_single(&mut self.0.at()) }
     }
 
     /// How many bytes fit, counted from the first readable one.
+    #[inline]
     pub fn capacity(&self) -> usize {
         // SAFETY: it only looks (duty 3).
         unsafe { sys::iobufsmut_capacity(&mut self.0.at()) }
@@ -94,11 +98,13 @@ impl IoBufsMut {
     }
 
     /// How many bytes are readable (`Buf`).
+    #[inline]
     pub fn remaining(&self) -> usize {
         self.len()
     }
 
     /// The first piece of the readable bytes (`Buf`).
+    #[inline]
     pub fn chunk(&self) -> &[u8] {
         let mut at = no_bytes().cast_mut();
         // SAFETY: duty 5: the bytes may be read until `self` is changed or dropped, which the borrow rules out.
@@ -137,9 +143,19 @@ impl IoBufsMut {
         );
     }
 
+    /// A copy of the first `n` bytes, which are dropped. Panics where there are fewer (`Buf`).
+    #[track_caller]
+    pub fn copy_to_bytes(&mut self, n: usize) -> IoBuf {
+        assert!(n <= self.len(), "IoBufsMut::copy_to_bytes: not enough data");
+        let mut out = IoBufMut::zeroed(n);
+        self.copy_to_slice(out.as_mut());
+        out.freeze()
+    }
+
     try_copy!();
 
     /// How many bytes may still be put (`BufMut`).
+    #[inline]
     pub fn remaining_mut(&self) -> usize {
         // SAFETY: it only looks (duty 3).
         unsafe { sys::iobufsmut_remaining_mut(&mut self.0.at()) }
@@ -169,7 +185,12 @@ impl IoBufsMut {
         done(unsafe { sys::iobufsmut_put_length(&mut self.0.at(), n) }, PAST);
     }
 
-    puts!(sys::iobufsmut_put_u8);
+    puts! {
+        u8, put_u8, sys::iobufsmut_put_u8;
+        u16, put_u16, sys::iobufsmut_put_u16;
+        u32, put_u32, sys::iobufsmut_put_u32;
+        u64, put_u64, sys::iobufsmut_put_u64;
+    }
 }
 
 impl Default for IoBufsMut {
@@ -272,13 +293,13 @@ impl io::Write for IoBufsMut {
 }
 
 /// Encoded bytes and existing buffers, put together as one text.
-pub struct Builder(Memory<{ sys::BUILDER }>);
+pub struct Builder(Memory<{ sys::BUILDER }>, pub(crate) Scratch);
 
 impl Builder {
     /// A builder for so many bytes that are put, and no more.
     #[track_caller]
     pub fn new(capacity: usize) -> Self {
-        let out = Builder(Memory::new(sys::iobufs_builder_init));
+        let out = Builder(Memory::new(sys::iobufs_builder_init), Scratch::default());
         // SAFETY: duty 1.
         done(
             unsafe { sys::iobufs_builder_new(capacity, &mut out.0.at()) },
@@ -299,6 +320,7 @@ impl Builder {
     }
 
     /// How many bytes may still be put (`BufMut`).
+    #[inline]
     pub fn remaining_mut(&self) -> usize {
         // SAFETY: it only looks (duty 3).
         unsafe { sys::iobufs_builder_remaining_mut(&mut self.0.at()) }
@@ -342,7 +364,12 @@ impl Builder {
         );
     }
 
-    puts!(sys::iobufs_builder_put_u8);
+    puts! {
+        u8, put_u8, sys::iobufs_builder_put_u8;
+        u16, put_u16, sys::iobufs_builder_put_u16;
+        u32, put_u32, sys::iobufs_builder_put_u32;
+        u64, put_u64, sys::iobufs_builder_put_u64;
+    }
 }
 
 impl Drop for Builder {

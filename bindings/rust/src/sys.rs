@@ -50,6 +50,7 @@ impl<const N: usize> Memory<N> {
     }
 
     /// The place, which is made anew for each call: the memory may have moved.
+    #[inline]
     pub fn at(&self) -> At<N> {
         At(self.0.get())
     }
@@ -110,6 +111,11 @@ unsafe extern "C" {
     pub fn iobuf_slice(src: &mut View, lo_kind: u8, lo: usize, hi_kind: u8, hi: usize, out: &mut View) -> u8;
     pub fn iobuf_try_into_mut(src: &mut View, out: &mut Part) -> u8;
     pub fn iobuf_read_length(src: &mut View, lo: usize, hi: usize, out: &mut usize) -> u8;
+    pub fn iobuf_read_view(src: &mut View, lo: usize, hi: usize, out: &mut View) -> u8;
+    pub fn iobuf_get_u8(src: &mut View, out: &mut u8) -> u8;
+    pub fn iobuf_get_u16(src: &mut View, out: &mut u16) -> u8;
+    pub fn iobuf_get_u32(src: &mut View, out: &mut u32) -> u8;
+    pub fn iobuf_get_u64(src: &mut View, out: &mut u64) -> u8;
 
     pub fn iobufmut_size() -> usize;
     pub fn iobufmut_init(at: Room<PART>);
@@ -120,10 +126,14 @@ unsafe extern "C" {
     pub fn iobufmut_from_view(src: &mut View, out: &mut Part) -> u8;
     pub fn iobufmut_len(part: &mut Part) -> usize;
     pub fn iobufmut_capacity(part: &mut Part) -> usize;
+    pub fn iobufmut_remaining_mut(part: &mut Part) -> usize;
     pub fn iobufmut_chunk(part: &mut Part, out: &mut *mut u8) -> usize;
     pub fn iobufmut_put_slice(part: &mut Part, src: *const u8, n: usize) -> u8;
     pub fn iobufmut_put_bytes(part: &mut Part, value: u8, n: usize) -> u8;
     pub fn iobufmut_put_u8(part: &mut Part, n: u8) -> u8;
+    pub fn iobufmut_put_u16(part: &mut Part, n: u16) -> u8;
+    pub fn iobufmut_put_u32(part: &mut Part, n: u32) -> u8;
+    pub fn iobufmut_put_u64(part: &mut Part, n: u64) -> u8;
     pub fn iobufmut_put_length(part: &mut Part, n: usize) -> u8;
     pub fn iobufmut_set_len(part: &mut Part, n: usize) -> u8;
     pub fn iobufmut_truncate(part: &mut Part, n: usize);
@@ -151,6 +161,11 @@ unsafe extern "C" {
     pub fn iobufs_coalesce(text: &mut Text, out: &mut View) -> u8;
     pub fn iobufs_try_into_single(text: &mut Text, out: &mut View) -> u8;
     pub fn iobufs_read_length(text: &mut Text, lo: usize, hi: usize, out: &mut usize) -> u8;
+    pub fn iobufs_read_view(text: &mut Text, lo: usize, hi: usize, out: &mut View) -> u8;
+    pub fn iobufs_get_u8(text: &mut Text, out: &mut u8) -> u8;
+    pub fn iobufs_get_u16(text: &mut Text, out: &mut u16) -> u8;
+    pub fn iobufs_get_u32(text: &mut Text, out: &mut u32) -> u8;
+    pub fn iobufs_get_u64(text: &mut Text, out: &mut u64) -> u8;
 
     pub fn iobufsmut_size() -> usize;
     pub fn iobufsmut_init(at: Room<PARTS>);
@@ -166,6 +181,9 @@ unsafe extern "C" {
     pub fn iobufsmut_put_slice(parts: &mut Parts, src: *const u8, n: usize) -> u8;
     pub fn iobufsmut_put_bytes(parts: &mut Parts, value: u8, n: usize) -> u8;
     pub fn iobufsmut_put_u8(parts: &mut Parts, n: u8) -> u8;
+    pub fn iobufsmut_put_u16(parts: &mut Parts, n: u16) -> u8;
+    pub fn iobufsmut_put_u32(parts: &mut Parts, n: u32) -> u8;
+    pub fn iobufsmut_put_u64(parts: &mut Parts, n: u64) -> u8;
     pub fn iobufsmut_put_length(parts: &mut Parts, n: usize) -> u8;
     pub fn iobufsmut_set_len(parts: &mut Parts, n: usize) -> u8;
     pub fn iobufsmut_advance(parts: &mut Parts, n: usize) -> u8;
@@ -183,6 +201,9 @@ unsafe extern "C" {
     pub fn iobufs_builder_put_slice(builder: &mut Builder, src: *const u8, n: usize) -> u8;
     pub fn iobufs_builder_put_bytes(builder: &mut Builder, value: u8, n: usize) -> u8;
     pub fn iobufs_builder_put_u8(builder: &mut Builder, n: u8) -> u8;
+    pub fn iobufs_builder_put_u16(builder: &mut Builder, n: u16) -> u8;
+    pub fn iobufs_builder_put_u32(builder: &mut Builder, n: u32) -> u8;
+    pub fn iobufs_builder_put_u64(builder: &mut Builder, n: u64) -> u8;
     pub fn iobufs_builder_put_length(builder: &mut Builder, n: usize) -> u8;
     pub fn iobufs_builder_push(builder: &mut Builder, piece: &mut View) -> u8;
     pub fn iobufs_builder_finish(builder: &mut Builder, out: &mut Text) -> u8;
@@ -192,6 +213,7 @@ unsafe extern "C" {
     pub fn iobufs_frames_drop(frames: &mut Frames);
     pub fn iobufs_frames_len(frames: &mut Frames) -> usize;
     pub fn iobufs_frames_feed(frames: &mut Frames, piece: &mut View) -> u8;
+    pub fn iobufs_frames_rest(frames: &mut Frames, out: &mut Text) -> u8;
     pub fn iobufs_frames_next(frames: &mut Frames, lo: usize, hi: usize, out: &mut View) -> u8;
     pub fn iobufs_length_size(n: usize) -> usize;
 }

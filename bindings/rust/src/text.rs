@@ -2,7 +2,7 @@
 use crate::part::IoBufMut;
 use crate::sys::{self, Chunk, Memory};
 use crate::view::IoBuf;
-use crate::{Error, done, limits, no_bytes, read, try_copy};
+use crate::{Error, done, gets, limits, no_bytes, read, try_copy};
 use std::io::{self, IoSlice};
 use std::ops::RangeBounds;
 use std::{fmt, slice};
@@ -30,17 +30,20 @@ impl IoBufs {
     }
 
     /// The number of bytes.
+    #[inline]
     pub fn len(&self) -> usize {
         // SAFETY: it only looks (duty 3).
         unsafe { sys::iobufs_len(&mut self.0.at()) }
     }
 
     /// Whether there are no bytes.
+    #[inline]
     pub fn is_empty(&self) -> bool {
         self.len() == 0
     }
 
     /// Whether all bytes are in one piece.
+    #[inline]
     pub fn is_single(&self) -> bool {
         // SAFETY: it only looks (duty 3).
         unsafe { sys::iobufs_is_single(&mut self.0.at()) }
@@ -132,16 +135,19 @@ impl IoBufs {
     }
 
     /// How many bytes are left (`Buf`).
+    #[inline]
     pub fn remaining(&self) -> usize {
         self.len()
     }
 
     /// Whether bytes are left (`Buf`).
+    #[inline]
     pub fn has_remaining(&self) -> bool {
         !self.is_empty()
     }
 
     /// The first piece (`Buf`).
+    #[inline]
     pub fn chunk(&self) -> &[u8] {
         let mut at = no_bytes();
         // SAFETY: duty 5: the bytes may be read until `self` is changed or dropped, which the borrow rules out.
@@ -217,12 +223,12 @@ impl IoBufs {
 
     try_copy!();
 
-    /// Reads the length in front, if it is in the range (`usize::read_cfg`).
-    pub fn read_length(&mut self, range: impl RangeBounds<usize>) -> Result<usize, Error> {
-        let ((lo, hi), mut n) = (limits(range), 0);
-        // SAFETY: duties 1 to 3.
-        read(unsafe { sys::iobufs_read_length(&mut self.0.at(), lo, hi, &mut n) })?;
-        Ok(n)
+    gets! {
+        sys::iobufs_read_length, sys::iobufs_read_view;
+        u8, get_u8, try_get_u8, sys::iobufs_get_u8;
+        u16, get_u16, try_get_u16, sys::iobufs_get_u16;
+        u32, get_u32, try_get_u32, sys::iobufs_get_u32;
+        u64, get_u64, try_get_u64, sys::iobufs_get_u64;
     }
 }
 
@@ -363,20 +369,35 @@ impl Frames {
     pub fn next(&mut self, range: impl RangeBounds<usize>) -> Result<Option<IoBuf>, Error> {
         let ((lo, hi), out) = (limits(range), IoBuf::default());
         // SAFETY: duties 1 to 3.
-        match read(unsafe { sys::iobufs_frames_next(&mut self.0.at(), lo, hi, &mut out.memory().at()) }) {
+        let status = unsafe { sys::iobufs_frames_next(&mut self.0.at(), lo, hi, &mut out.memory().at()) };
+        match read(status, || self.length_in_front(lo, hi)) {
             Ok(()) => Ok(Some(out)),
             Err(Error::EndOfBuffer) => Ok(None),
             Err(error) => Err(error),
         }
     }
 
+    /// The length in front, which is outside these bounds.
+    #[cold]
+    fn length_in_front(&self, lo: usize, hi: usize) -> usize {
+        let (rest, mut n) = (IoBufs::default(), 0);
+        // SAFETY: it only looks at `self` (duty 3), and then at a text of its own.
+        unsafe {
+            done(sys::iobufs_frames_rest(&mut self.0.at(), &mut rest.0.at()), "");
+            sys::iobufs_read_length(&mut rest.0.at(), lo, hi, &mut n);
+        }
+        n
+    }
+
     /// How many bytes were fed and not taken.
+    #[inline]
     pub fn len(&self) -> usize {
         // SAFETY: it only looks (duty 3).
         unsafe { sys::iobufs_frames_len(&mut self.0.at()) }
     }
 
     /// Whether all that was fed was taken.
+    #[inline]
     pub fn is_empty(&self) -> bool {
         self.len() == 0
     }

@@ -1,7 +1,7 @@
 //! `IoBuf`.
 use crate::part::IoBufMut;
 use crate::sys::{self, Memory};
-use crate::{Error, done, limits, no_bytes, read, same_bytes, try_copy};
+use crate::{Error, done, gets, limits, no_bytes, read, same_bytes, try_copy};
 use std::ops::{Bound, RangeBounds};
 use std::{fmt, io, slice};
 
@@ -94,16 +94,19 @@ impl IoBuf {
     }
 
     /// How many bytes are left (`Buf`).
+    #[inline]
     pub fn remaining(&self) -> usize {
         self.len()
     }
 
     /// Whether bytes are left (`Buf`).
+    #[inline]
     pub fn has_remaining(&self) -> bool {
         !self.is_empty()
     }
 
     /// The bytes (`Buf`).
+    #[inline]
     pub fn chunk(&self) -> &[u8] {
         self.as_ref()
     }
@@ -149,12 +152,12 @@ impl IoBuf {
 
     try_copy!();
 
-    /// Reads the length in front, if it is in the range (`usize::read_cfg`).
-    pub fn read_length(&mut self, range: impl RangeBounds<usize>) -> Result<usize, Error> {
-        let ((lo, hi), mut n) = (limits(range), 0);
-        // SAFETY: duties 1 to 3.
-        read(unsafe { sys::iobuf_read_length(&mut self.0.at(), lo, hi, &mut n) })?;
-        Ok(n)
+    gets! {
+        sys::iobuf_read_length, sys::iobuf_read_view;
+        u8, get_u8, try_get_u8, sys::iobuf_get_u8;
+        u16, get_u16, try_get_u16, sys::iobuf_get_u16;
+        u32, get_u32, try_get_u32, sys::iobuf_get_u32;
+        u64, get_u64, try_get_u64, sys::iobuf_get_u64;
     }
 }
 

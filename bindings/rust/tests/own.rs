@@ -84,6 +84,9 @@ fn parts() {
     assert_eq!(parts.chunks_vectored(&mut list), 2);
     assert_eq!(&list[1][..], b"y");
     parts.copy_from_slice(b"ABCDE");
+    assert_eq!(parts.copy_to_bytes(5), b"ABCDE");
+    assert_eq!((parts.len(), parts.capacity()), (0, 1));
+    let mut parts = IoBufsMut::from([IoBufMut::from(b"ABCD"), IoBufMut::from(b"E")]);
     parts.advance(1);
     assert_eq!(bytes(&parts.freeze()), b"BCDE");
     let mut parts: IoBufsMut = (0..3).map(|_| IoBufMut::zeroed(2)).collect();
@@ -114,7 +117,7 @@ fn builders_and_lengths() {
     assert_eq!(builder.remaining_mut(), 1);
     let mut text = builder.finish();
     assert_eq!((text.len(), text.chunk_count(), length_size(300)), (303, 3, 2));
-    assert_eq!(text.read_length(..300), Err(Error::InvalidLength));
+    assert_eq!(text.read_length(..300), Err(Error::InvalidLength(300)));
     assert_eq!(text.read_length(..=300), Ok(300));
     assert_eq!(text.take_owned(300), body);
     assert_eq!(IoBuf::from(b"\x80").read_length(..), Err(Error::EndOfBuffer));
@@ -129,7 +132,7 @@ fn frames() {
     frames.feed(IoBuf::from(b"lo\x00\x09"));
     assert_eq!(frames.next(..9).unwrap().unwrap(), b"hello");
     assert!(frames.next(..9).unwrap().unwrap().is_empty());
-    assert_eq!(frames.next(..9), Err(Error::InvalidLength));
+    assert_eq!(frames.next(..9), Err(Error::InvalidLength(9)));
     assert_eq!(frames.len(), 1);
 }
 

@@ -3,10 +3,10 @@ ghost use Rattle.std.specs.Prelude.{◌≡◌, ℕ, ◌==◌, if◌then◌else�
 ghost use Rattle.std.specs.Option.{option_map};
 ghost use Rattle.iobufs.specs.Building.{building_put, building_room};
 ghost use Rattle.iobufs.specs.Parts.{parts_fill, parts_spare};
-ghost use Rattle.iobufs_core.specs.MarkedText.{text_advanced, text_rest};
+ghost use Rattle.iobufs_core.specs.MarkedText.{of_view, text_advanced, text_rest};
 ghost use Rattle.iobufs_core.specs.Part.{part_put};
 ghost use Rattle.iobufs_core.specs.Spelling.{spell};
-ghost use Rattle.iobufs_core.specs.View.{view_advanced};
+ghost use Rattle.iobufs_core.specs.View.{view_advanced, view_rest};
 ghost use Rattle.iobufs_core.specs.Wire.{IsLengthRead, IsViewFault, IsViewRead, view_written};
 ghost use Rattle.iobufs_c.specs.Codes.{IsReadCode, code_of};
 ghost use Rattle.iobufs_c.specs.Rows.{building_of, part_of, parts_of};
@@ -167,6 +167,35 @@ pub extern "C" fn iobufs_read_view(
 {
     let range = RangeCfg { lo, hi };
     match IoBuf::read_cfg(alloc, text.get(), &range) {
+        Ok(view) => {
+            *out.get() = view;
+            Status::Done.code()
+        }
+        Err(error) => fault(error),
+    }
+}
+
+/// The same of a view: the bytes behind the length, in the same storage.
+#[unsafe(no_mangle)]
+pub extern "C" fn iobuf_read_view(
+    alloc: Global,
+    src: &mut ViewAt,
+    lo: usize,
+    hi: usize,
+    out: &mut ViewAt,
+) -> u8
+    ensures at { (src.new.at ≡ src.old.at) × (out.new.at ≡ out.old.at) }
+    ensures read { result ≡ 0 → IsViewRead (of_view src.old.value) (record { lo = lo; hi = hi }) (Ok out.new.value) }
+    ensures rest { result ≡ 0 → src.new.value ≡ view_rest src.old.value (length (view_written out.new.value)) }
+    ensures same { (result == 0) ≡ false → (src.new.value ≡ src.old.value) × (out.new.value ≡ out.old.value) }
+    ensures open { result ≡ code_of Status.EndOfBuffer → IsViewFault (of_view src.old.value) (record { lo = lo; hi = hi }) Error.EndOfBuffer }
+    ensures invalid { result ≡ code_of Status.InvalidVarint → IsViewFault (of_view src.old.value) (record { lo = lo; hi = hi }) Error.InvalidVarint }
+    ensures outside { result ≡ code_of Status.InvalidLength
+        → (n : ℕ) × IsViewFault (of_view src.old.value) (record { lo = lo; hi = hi }) (Error.InvalidLength n) }
+    ensures memory { result ≡ code_of Status.Memory → IsViewFault (of_view src.old.value) (record { lo = lo; hi = hi }) Error.Memory }
+{
+    let range = RangeCfg { lo, hi };
+    match IoBuf::read_cfg(alloc, src.get(), &range) {
         Ok(view) => {
             *out.get() = view;
             Status::Done.code()

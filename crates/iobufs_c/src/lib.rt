@@ -9,6 +9,7 @@
 pub mod builder;
 pub mod frames;
 pub mod lengths;
+pub mod numbers;
 pub mod part;
 pub mod parts;
 pub mod status;

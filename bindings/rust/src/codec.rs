@@ -1,0 +1,359 @@
+//! Values that are written and read, by traits with the names of the original's codec: `EncodeSize`, `Write`, `Read`, and
+//! what they write to and read from, `BufMut`, `BufsMut` and `Buf`.
+//!
+//! A number of a fixed size is written with its highest byte first, a `usize` as a length, and an `IoBuf` behind its length.
+//! What is read is a view of the buffer's own storage, where it lies in one piece. Where a value isn't read, the buffer is as
+//! it was (the original has dropped the length in front of a view then).
+use crate::{Builder, Error, IoBuf, IoBufMut, IoBufs, IoBufsMut, TryGetError, length_size};
+use std::ops::{Bound, RangeBounds};
+
+/// Which lengths are admitted.
+#[derive(Clone, Copy, Debug, PartialEq, Eq)]
+pub struct RangeCfg<T>(Bound<T>, Bound<T>);
+
+impl<T: Copy> RangeCfg<T> {
+    /// Those of a range.
+    pub fn new(range: impl RangeBounds<T>) -> Self {
+        RangeCfg(range.start_bound().cloned(), range.end_bound().cloned())
+    }
+
+    /// This one alone.
+    pub fn exact(n: T) -> Self {
+        RangeCfg(Bound::Included(n), Bound::Included(n))
+    }
+}
+
+impl<T> RangeBounds<T> for RangeCfg<T> {
+    fn start_bound(&self) -> Bound<&T> {
+        self.0.as_ref()
+    }
+
+    fn end_bound(&self) -> Bound<&T> {
+        self.1.as_ref()
+    }
+}
+
+macro_rules! ranges {
+    ($($range:ident)*) => {$(
+        impl<T: Copy> From<std::ops::$range<T>> for RangeCfg<T> {
+            fn from(range: std::ops::$range<T>) -> Self {
+                RangeCfg::new(range)
+            }
+        }
+    )*};
+}
+
+ranges! { Range RangeFrom RangeInclusive RangeTo RangeToInclusive }
+
+impl<T: Copy> From<std::ops::RangeFull> for RangeCfg<T> {
+    fn from(_: std::ops::RangeFull) -> Self {
+        RangeCfg(Bound::Unbounded, Bound::Unbounded)
+    }
+}
+
+/// What values are read from: `IoBuf` and `IoBufs`. A refusal changes nothing.
+pub trait Buf {
+    /// How many bytes are left.
+    fn remaining(&self) -> usize;
+    /// Reads one byte.
+    fn try_get_u8(&mut self) -> Result<u8, TryGetError>;
+    /// Reads a number of two bytes.
+    fn try_get_u16(&mut self) -> Result<u16, TryGetError>;
+    /// Reads a number of four bytes.
+    fn try_get_u32(&mut self) -> Result<u32, TryGetError>;
+    /// Reads a number of eight bytes.
+    fn try_get_u64(&mut self) -> Result<u64, TryGetError>;
+    /// Reads the length in front, if it is in the range.
+    fn read_length(&mut self, range: &RangeCfg<usize>) -> Result<usize, Error>;
+    /// Reads the bytes behind a length, if this is in the range.
+    fn read_view(&mut self, range: &RangeCfg<usize>) -> Result<IoBuf, Error>;
+}
+
+macro_rules! reads {
+    ($($buffer:ty)*) => {$(
+        impl Buf for $buffer {
+            fn remaining(&self) -> usize {
+                self.len()
+            }
+
+            fn try_get_u8(&mut self) -> Result<u8, TryGetError> {
+                <$buffer>::try_get_u8(self)
+            }
+
+            fn try_get_u16(&mut self) -> Result<u16, TryGetError> {
+                <$buffer>::try_get_u16(self)
+            }
+
+            fn try_get_u32(&mut self) -> Result<u32, TryGetError> {
+                <$buffer>::try_get_u32(self)
+            }
+
+            fn try_get_u64(&mut self) -> Result<u64, TryGetError> {
+                <$buffer>::try_get_u64(self)
+            }
+
+            fn read_length(&mut self, range: &RangeCfg<usize>) -> Result<usize, Error> {
+                <$buffer>::read_length(self, *range)
+            }
+
+            fn read_view(&mut self, range: &RangeCfg<usize>) -> Result<IoBuf, Error> {
+                <$buffer>::read_view(self, *range)
+            }
+        }
+    )*};
+}
+
+reads! { IoBuf IoBufs }
+
+/// What values are written to: `IoBufMut`, `IoBufsMut` and `Builder`. A put panics where there is no room.
+pub trait BufMut {
+    /// How many bytes may still be put.
+    fn remaining_mut(&self) -> usize;
+    /// Puts bytes.
+    fn put_slice(&mut self, src: &[u8]);
+    /// Puts a byte `n` times.
+    fn put_bytes(&mut self, value: u8, n: usize);
+    /// Puts one byte.
+    fn put_u8(&mut self, n: u8);
+    /// Puts two bytes, the highest of the number first.
+    fn put_u16(&mut self, n: u16);
+    /// Puts four bytes, the highest of the number first.
+    fn put_u32(&mut self, n: u32);
+    /// Puts eight bytes, the highest of the number first.
+    fn put_u64(&mut self, n: u64);
+    /// Puts the spelling of a length.
+    fn put_length(&mut self, n: usize);
+}
+
+macro_rules! writes {
+    ($($buffer:ty)*) => {$(
+        impl BufMut for $buffer {
+            fn remaining_mut(&self) -> usize {
+                <$buffer>::remaining_mut(self)
+            }
+
+            fn put_slice(&mut self, src: &[u8]) {
+                <$buffer>::put_slice(self, src)
+            }
+
+            fn put_bytes(&mut self, value: u8, n: usize) {
+                <$buffer>::put_bytes(self, value, n)
+            }
+
+            fn put_u8(&mut self, n: u8) {
+                <$buffer>::put_u8(self, n)
+            }
+
+            fn put_u16(&mut self, n: u16) {
+                <$buffer>::put_u16(self, n)
+            }
+
+            fn put_u32(&mut self, n: u32) {
+                <$buffer>::put_u32(self, n)
+            }
+
+            fn put_u64(&mut self, n: u64) {
+                <$buffer>::put_u64(self, n)
+            }
+
+            fn put_length(&mut self, n: usize) {
+                <$buffer>::put_length(self, n)
+            }
+        }
+    )*};
+}
+
+writes! { IoBufMut IoBufsMut Builder }
+
+/// What also takes whole views, with no copy: `Builder`.
+pub trait BufsMut: BufMut {
+    /// Puts a view behind what was put and pushed.
+    fn push(&mut self, chunk: impl Into<IoBuf>);
+}
+
+impl BufsMut for Builder {
+    fn push(&mut self, chunk: impl Into<IoBuf>) {
+        Builder::push(self, chunk)
+    }
+}
+
+/// How many bytes a value is written as.
+pub trait EncodeSize {
+    /// All of them. Panics where they are more than `usize::MAX`.
+    fn encode_size(&self) -> usize;
+
+    /// Those that `write_bufs` doesn't push.
+    fn encode_inline_size(&self) -> usize {
+        self.encode_size()
+    }
+}
+
+/// A value that is written.
+pub trait Write {
+    /// Puts it. Panics where there is no room.
+    fn write(&self, buf: &mut impl BufMut);
+
+    /// The same, with views pushed and not copied.
+    fn write_bufs(&self, buf: &mut impl BufsMut) {
+        self.write(buf)
+    }
+}
+
+/// A value that is read.
+pub trait Read: Sized {
+    /// What is asked of it.
+    type Cfg;
+
+    /// Reads a value from the front. Where that is refused, the buffer is as it was.
+    fn read_cfg(buf: &mut impl Buf, cfg: &Self::Cfg) -> Result<Self, Error>;
+}
+
+/// What a whole value is decoded from: a buffer to write is frozen first.
+pub trait Input: Into<Self::Buf> {
+    /// What is read.
+    type Buf: Buf;
+}
+
+impl Input for IoBuf {
+    type Buf = IoBuf;
+}
+
+impl Input for IoBufMut {
+    type Buf = IoBuf;
+}
+
+impl Input for IoBufs {
+    type Buf = IoBufs;
+}
+
+impl Input for IoBufsMut {
+    type Buf = IoBufs;
+}
+
+/// Decoding of a whole buffer.
+pub trait Decode: Read {
+    /// The value that is all of the buffer; `Error::ExtraData` where bytes are left behind it.
+    fn decode_cfg(buf: impl Input, cfg: &Self::Cfg) -> Result<Self, Error> {
+        let mut buf = buf.into();
+        let value = Self::read_cfg(&mut buf, cfg)?;
+        match buf.remaining() {
+            0 => Ok(value),
+            left => Err(Error::ExtraData(left)),
+        }
+    }
+}
+
+impl<T: Read> Decode for T {}
+
+/// Encoding into one buffer.
+pub trait Encode: EncodeSize + Write {
+    /// The written value, in a buffer of exactly its size.
+    fn encode(&self) -> IoBufMut {
+        let mut buf = IoBufMut::with_capacity(self.encode_size());
+        self.write(&mut buf);
+        assert_eq!(buf.remaining_mut(), 0, "write() must write exactly encode_size() bytes");
+        buf
+    }
+}
+
+impl<T: EncodeSize + Write> Encode for T {}
+
+/// Encoding into a text.
+pub trait EncodeExt: EncodeSize + Write {
+    /// The written value, whose views are not copied.
+    fn encode_iobufs(&self) -> IoBufs {
+        let mut builder = Builder::new(self.encode_inline_size());
+        self.write_bufs(&mut builder);
+        let bufs = builder.finish();
+        assert_eq!(
+            bufs.len(),
+            self.encode_size(),
+            "write_bufs() must write exactly encode_size() bytes"
+        );
+        bufs
+    }
+}
+
+impl<T: EncodeSize + Write> EncodeExt for T {}
+
+macro_rules! numbers {
+    ($($number:ty, $put:ident, $get:ident;)*) => {$(
+        impl EncodeSize for $number {
+            fn encode_size(&self) -> usize {
+                size_of::<$number>()
+            }
+        }
+
+        impl Write for $number {
+            fn write(&self, buf: &mut impl BufMut) {
+                buf.$put(*self)
+            }
+        }
+
+        impl Read for $number {
+            type Cfg = ();
+
+            fn read_cfg(buf: &mut impl Buf, _: &()) -> Result<Self, Error> {
+                buf.$get().map_err(|_| Error::EndOfBuffer)
+            }
+        }
+    )*};
+}
+
+numbers! {
+    u8, put_u8, try_get_u8;
+    u16, put_u16, try_get_u16;
+    u32, put_u32, try_get_u32;
+    u64, put_u64, try_get_u64;
+}
+
+impl EncodeSize for usize {
+    fn encode_size(&self) -> usize {
+        length_size(*self)
+    }
+}
+
+impl Write for usize {
+    fn write(&self, buf: &mut impl BufMut) {
+        buf.put_length(*self)
+    }
+}
+
+impl Read for usize {
+    type Cfg = RangeCfg<usize>;
+
+    fn read_cfg(buf: &mut impl Buf, range: &Self::Cfg) -> Result<Self, Error> {
+        buf.read_length(range)
+    }
+}
+
+impl EncodeSize for IoBuf {
+    fn encode_size(&self) -> usize {
+        let size = self.encode_inline_size().checked_add(self.len());
+        size.expect("length overflow")
+    }
+
+    fn encode_inline_size(&self) -> usize {
+        length_size(self.len())
+    }
+}
+
+impl Write for IoBuf {
+    fn write(&self, buf: &mut impl BufMut) {
+        buf.put_length(self.len());
+        buf.put_slice(self.as_ref());
+    }
+
+    fn write_bufs(&self, buf: &mut impl BufsMut) {
+        buf.put_length(self.len());
+        buf.push(self.clone());
+    }
+}
+
+impl Read for IoBuf {
+    type Cfg = RangeCfg<usize>;
+
+    fn read_cfg(buf: &mut impl Buf, range: &Self::Cfg) -> Result<Self, Error> {
+        buf.read_view(range)
+    }
+}

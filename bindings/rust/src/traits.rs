@@ -1,0 +1,153 @@
+//! The traits of the crate `bytes` (feature `bytes`), and conversions from and to `Bytes` and `BytesMut`. These copy, in
+//! both directions: Rust's memory can't be handed over to the library, nor the library's to them.
+use crate::{Builder, IoBuf, IoBufMut, IoBufs, IoBufsMut};
+use bytes::buf::UninitSlice;
+use bytes::{Buf, BufMut, Bytes, BytesMut};
+use std::io::IoSlice;
+
+/// Bytes that `chunk_mut` lends, of which `advance_mut` puts the first into the buffer. The library lends only room that is
+/// readable, so what is written by way of `chunk_mut` is copied once more; the other calls of `BufMut` aren't.
+#[derive(Default)]
+pub struct Scratch(Vec<u8>);
+
+/// How many bytes are lent at a time.
+const LENT: usize = 4096;
+
+impl Scratch {
+    fn lend(&mut self, most: usize) -> &mut UninitSlice {
+        let n = most.min(LENT);
+        self.0.resize(n, 0);
+        // SAFETY: the bytes are borrowed for as long, and are initialized.
+        unsafe { UninitSlice::from_raw_parts_mut(self.0.as_mut_ptr(), n) }
+    }
+
+    #[track_caller]
+    fn first(&self, n: usize) -> &[u8] {
+        self.0.get(..n).expect("cannot advance past end of buffer")
+    }
+}
+
+macro_rules! reads {
+    ($($buffer:ident { $($more:tt)* })*) => {$(
+        impl Buf for $buffer {
+            fn remaining(&self) -> usize {
+                <$buffer>::remaining(self)
+            }
+
+            fn chunk(&self) -> &[u8] {
+                <$buffer>::chunk(self)
+            }
+
+            fn advance(&mut self, n: usize) {
+                <$buffer>::advance(self, n)
+            }
+
+            fn copy_to_slice(&mut self, dst: &mut [u8]) {
+                <$buffer>::copy_to_slice(self, dst)
+            }
+
+            /// Copies.
+            fn copy_to_bytes(&mut self, n: usize) -> Bytes {
+                assert!(n <= self.len(), "copy_to_bytes out of bounds");
+                let mut bytes = vec![0; n];
+                <$buffer>::copy_to_slice(self, &mut bytes);
+                bytes.into()
+            }
+
+            $($more)*
+        }
+    )*};
+}
+
+reads! {
+    IoBuf {}
+    IoBufMut {}
+    IoBufs {
+        fn chunks_vectored<'a>(&'a self, dst: &mut [IoSlice<'a>]) -> usize {
+            IoBufs::chunks_vectored(self, dst)
+        }
+    }
+    IoBufsMut {
+        fn chunks_vectored<'a>(&'a self, dst: &mut [IoSlice<'a>]) -> usize {
+            IoBufsMut::chunks_vectored(self, dst)
+        }
+    }
+}
+
+macro_rules! writes {
+    ($($buffer:ty)*) => {$(
+        // SAFETY: `chunk_mut` lends no more than fits, of initialized bytes that are the buffer's own, and these alone
+        // does `advance_mut` put.
+        unsafe impl BufMut for $buffer {
+            fn remaining_mut(&self) -> usize {
+                <$buffer>::remaining_mut(self)
+            }
+
+            unsafe fn advance_mut(&mut self, n: usize) {
+                let scratch = std::mem::take(&mut self.1);
+                <$buffer>::put_slice(self, scratch.first(n));
+                self.1 = scratch;
+            }
+
+            fn chunk_mut(&mut self) -> &mut UninitSlice {
+                let most = <$buffer>::remaining_mut(self);
+                self.1.lend(most)
+            }
+
+            fn put_slice(&mut self, src: &[u8]) {
+                <$buffer>::put_slice(self, src)
+            }
+
+            fn put_bytes(&mut self, value: u8, n: usize) {
+                <$buffer>::put_bytes(self, value, n)
+            }
+
+            fn put_u8(&mut self, n: u8) {
+                <$buffer>::put_u8(self, n)
+            }
+
+            fn put<B: Buf>(&mut self, mut src: B) {
+                let fits = src.remaining() <= <$buffer>::remaining_mut(self);
+                assert!(fits, "cannot advance past end of buffer");
+                while src.has_remaining() {
+                    let chunk = src.chunk();
+                    let n = chunk.len();
+                    <$buffer>::put_slice(self, chunk);
+                    src.advance(n);
+                }
+            }
+        }
+    )*};
+}
+
+writes! { IoBufMut IoBufsMut Builder }
+
+macro_rules! copies {
+    ($($from:ty => $to:ty, $make:expr;)*) => {$(
+        /// Copies.
+        impl From<$from> for $to {
+            fn from(bytes: $from) -> Self {
+                $make(bytes)
+            }
+        }
+    )*};
+}
+
+copies! {
+    Bytes => IoBuf, |bytes: Bytes| IoBuf::copy_from_slice(&bytes);
+    BytesMut => IoBuf, |bytes: BytesMut| IoBuf::copy_from_slice(&bytes);
+    IoBuf => Bytes, |view: IoBuf| Bytes::copy_from_slice(view.as_ref());
+    Bytes => IoBufMut, |bytes: Bytes| IoBufMut::from(&bytes[..]);
+    Bytes => IoBufs, |bytes: Bytes| IoBuf::from(bytes).into();
+    BytesMut => IoBufs, |bytes: BytesMut| IoBuf::from(bytes).into();
+    BytesMut => IoBufsMut, |bytes: BytesMut| IoBufMut::from(bytes).into();
+}
+
+/// Copies, and keeps the capacity.
+impl From<BytesMut> for IoBufMut {
+    fn from(bytes: BytesMut) -> Self {
+        let mut out = IoBufMut::with_capacity(bytes.capacity());
+        out.put_slice(&bytes);
+        out
+    }
+}

@@ -1,0 +1,335 @@
+// Numbers of a fixed size, the highest byte first.
+ghost use Rattle.std.specs.Prelude.{◌≡◌, ◌<◌, ◌==◌, ◌∷◌, [], if◌then◌else◌, length, nat_le, false, Ok};
+ghost use Rattle.std.specs.Int.{to_be_bytes, w16, w32, w64};
+ghost use Rattle.std.specs.Option.{option_map};
+ghost use Rattle.iobufs.specs.Building.{building_put, building_room};
+ghost use Rattle.iobufs.specs.Parts.{parts_fill, parts_spare};
+ghost use Rattle.iobufs_core.specs.MarkedText.{text_advanced};
+ghost use Rattle.iobufs_core.specs.Part.{part_put};
+ghost use Rattle.iobufs_core.specs.View.{view_advanced};
+ghost use Rattle.iobufs_core.specs.Wire.{IsNumberRead};
+ghost use Rattle.iobufs_c.specs.Codes.{IsDoneUnless, code_of};
+ghost use Rattle.iobufs_c.specs.Rows.{building_of, part_of, parts_of};
+
+use crate::builder::BuilderAt;
+use crate::part::{PartAt, fits};
+use crate::parts::PartsAt;
+use crate::status::Status;
+use crate::text::TextAt;
+use crate::view::ViewAt;
+use iobufs_core::codec::{BufMut, Read};
+use std::alloc::Global;
+
+/// Puts a number of two bytes into a buffer. `Status::OutOfRange` where it doesn't fit, and then nothing changes.
+#[unsafe(no_mangle)]
+pub extern "C" fn iobufmut_put_u16(part: &mut PartAt, n: u16) -> u8
+    ensures at { part.new.at ≡ part.old.at }
+    ensures value { part.new.value ≡ (if result == 0 then option_map (λ part. part_put part (to_be_bytes w16 n)) part.old.value else part.old.value) }
+    ensures result { result ≡ (if nat_le 2 (part_of part.old.value).spare then 0 else code_of Status.OutOfRange) }
+{
+    let Some(part) = part.get() else {
+        return fits(2, 0);
+    };
+    if 2 > part.remaining_mut() {
+        return Status::OutOfRange.code();
+    }
+    part.put_u16(n);
+    Status::Done.code()
+}
+
+/// The same of four bytes.
+#[unsafe(no_mangle)]
+pub extern "C" fn iobufmut_put_u32(part: &mut PartAt, n: u32) -> u8
+    ensures at { part.new.at ≡ part.old.at }
+    ensures value { part.new.value ≡ (if result == 0 then option_map (λ part. part_put part (to_be_bytes w32 n)) part.old.value else part.old.value) }
+    ensures result { result ≡ (if nat_le 4 (part_of part.old.value).spare then 0 else code_of Status.OutOfRange) }
+{
+    let Some(part) = part.get() else {
+        return fits(4, 0);
+    };
+    if 4 > part.remaining_mut() {
+        return Status::OutOfRange.code();
+    }
+    part.put_u32(n);
+    Status::Done.code()
+}
+
+/// The same of eight bytes.
+#[unsafe(no_mangle)]
+pub extern "C" fn iobufmut_put_u64(part: &mut PartAt, n: u64) -> u8
+    ensures at { part.new.at ≡ part.old.at }
+    ensures value { part.new.value ≡ (if result == 0 then option_map (λ part. part_put part (to_be_bytes w64 n)) part.old.value else part.old.value) }
+    ensures result { result ≡ (if nat_le 8 (part_of part.old.value).spare then 0 else code_of Status.OutOfRange) }
+{
+    let Some(part) = part.get() else {
+        return fits(8, 0);
+    };
+    if 8 > part.remaining_mut() {
+        return Status::OutOfRange.code();
+    }
+    part.put_u64(n);
+    Status::Done.code()
+}
+
+/// The same of two bytes, into parts.
+#[unsafe(no_mangle)]
+pub extern "C" fn iobufsmut_put_u16(parts: &mut PartsAt, n: u16) -> u8
+    ensures at { parts.new.at ≡ parts.old.at }
+    ensures value { parts.new.value ≡ (if result == 0 then option_map (λ parts. parts_fill parts (to_be_bytes w16 n)) parts.old.value else parts.old.value) }
+    ensures result { result ≡ (if nat_le 2 (parts_spare (parts_of parts.old.value)) then 0 else code_of Status.OutOfRange) }
+{
+    let Some(parts) = parts.get() else {
+        return fits(2, 0);
+    };
+    if 2 > parts.remaining_mut() {
+        return Status::OutOfRange.code();
+    }
+    parts.put_u16(n);
+    Status::Done.code()
+}
+
+/// The same of four bytes, into parts.
+#[unsafe(no_mangle)]
+pub extern "C" fn iobufsmut_put_u32(parts: &mut PartsAt, n: u32) -> u8
+    ensures at { parts.new.at ≡ parts.old.at }
+    ensures value { parts.new.value ≡ (if result == 0 then option_map (λ parts. parts_fill parts (to_be_bytes w32 n)) parts.old.value else parts.old.value) }
+    ensures result { result ≡ (if nat_le 4 (parts_spare (parts_of parts.old.value)) then 0 else code_of Status.OutOfRange) }
+{
+    let Some(parts) = parts.get() else {
+        return fits(4, 0);
+    };
+    if 4 > parts.remaining_mut() {
+        return Status::OutOfRange.code();
+    }
+    parts.put_u32(n);
+    Status::Done.code()
+}
+
+/// The same of eight bytes, into parts.
+#[unsafe(no_mangle)]
+pub extern "C" fn iobufsmut_put_u64(parts: &mut PartsAt, n: u64) -> u8
+    ensures at { parts.new.at ≡ parts.old.at }
+    ensures value { parts.new.value ≡ (if result == 0 then option_map (λ parts. parts_fill parts (to_be_bytes w64 n)) parts.old.value else parts.old.value) }
+    ensures result { result ≡ (if nat_le 8 (parts_spare (parts_of parts.old.value)) then 0 else code_of Status.OutOfRange) }
+{
+    let Some(parts) = parts.get() else {
+        return fits(8, 0);
+    };
+    if 8 > parts.remaining_mut() {
+        return Status::OutOfRange.code();
+    }
+    parts.put_u64(n);
+    Status::Done.code()
+}
+
+/// The same of two bytes, into a builder.
+#[unsafe(no_mangle)]
+pub extern "C" fn iobufs_builder_put_u16(builder: &mut BuilderAt, n: u16) -> u8
+    ensures at { builder.new.at ≡ builder.old.at }
+    ensures value { builder.new.value ≡ (if result == 0 then option_map (λ b. building_put b (to_be_bytes w16 n)) builder.old.value else builder.old.value) }
+    ensures result { result ≡ (if nat_le 2 (building_room (building_of builder.old.value)) then 0 else code_of Status.OutOfRange) }
+{
+    let Some(builder) = builder.get() else {
+        return fits(2, 0);
+    };
+    if 2 > builder.remaining_mut() {
+        return Status::OutOfRange.code();
+    }
+    builder.put_u16(n);
+    Status::Done.code()
+}
+
+/// The same of four bytes, into a builder.
+#[unsafe(no_mangle)]
+pub extern "C" fn iobufs_builder_put_u32(builder: &mut BuilderAt, n: u32) -> u8
+    ensures at { builder.new.at ≡ builder.old.at }
+    ensures value { builder.new.value ≡ (if result == 0 then option_map (λ b. building_put b (to_be_bytes w32 n)) builder.old.value else builder.old.value) }
+    ensures result { result ≡ (if nat_le 4 (building_room (building_of builder.old.value)) then 0 else code_of Status.OutOfRange) }
+{
+    let Some(builder) = builder.get() else {
+        return fits(4, 0);
+    };
+    if 4 > builder.remaining_mut() {
+        return Status::OutOfRange.code();
+    }
+    builder.put_u32(n);
+    Status::Done.code()
+}
+
+/// The same of eight bytes, into a builder.
+#[unsafe(no_mangle)]
+pub extern "C" fn iobufs_builder_put_u64(builder: &mut BuilderAt, n: u64) -> u8
+    ensures at { builder.new.at ≡ builder.old.at }
+    ensures value { builder.new.value ≡ (if result == 0 then option_map (λ b. building_put b (to_be_bytes w64 n)) builder.old.value else builder.old.value) }
+    ensures result { result ≡ (if nat_le 8 (building_room (building_of builder.old.value)) then 0 else code_of Status.OutOfRange) }
+{
+    let Some(builder) = builder.get() else {
+        return fits(8, 0);
+    };
+    if 8 > builder.remaining_mut() {
+        return Status::OutOfRange.code();
+    }
+    builder.put_u64(n);
+    Status::Done.code()
+}
+
+/// Reads the number of one byte in front of a view, and drops it. `Status::EndOfBuffer` where there are fewer bytes, and then nothing
+/// changes.
+#[unsafe(no_mangle)]
+#[tactic(auto, using(iobufs_core::specs::CallerFacts::reading))]
+pub extern "C" fn iobuf_get_u8(alloc: Global, src: &mut ViewAt, out: &mut u8) -> u8
+    ensures at { src.new.at ≡ src.old.at }
+    ensures read { result ≡ 0 → IsNumberRead (λ n. n ∷ []) 1 src.old.value.bytes (Ok out.new) }
+    ensures rest { result ≡ 0 → src.new.value ≡ view_advanced src.old.value 1 }
+    ensures same { (result == 0) ≡ false → (src.new.value ≡ src.old.value) × (out.new ≡ out.old) }
+    ensures short { (result == 0) ≡ false → length src.old.value.bytes < 1 }
+    ensures causes { IsDoneUnless result Status.EndOfBuffer }
+{
+    match u8::read_cfg(alloc, src.get(), &()) {
+        Ok(n) => {
+            *out = n;
+            Status::Done.code()
+        }
+        Err(_) => Status::EndOfBuffer.code(),
+    }
+}
+
+/// The same of two bytes.
+#[unsafe(no_mangle)]
+#[tactic(auto, using(iobufs_core::specs::CallerFacts::reading))]
+pub extern "C" fn iobuf_get_u16(alloc: Global, src: &mut ViewAt, out: &mut u16) -> u8
+    ensures at { src.new.at ≡ src.old.at }
+    ensures read { result ≡ 0 → IsNumberRead (to_be_bytes w16) 2 src.old.value.bytes (Ok out.new) }
+    ensures rest { result ≡ 0 → src.new.value ≡ view_advanced src.old.value 2 }
+    ensures same { (result == 0) ≡ false → (src.new.value ≡ src.old.value) × (out.new ≡ out.old) }
+    ensures short { (result == 0) ≡ false → length src.old.value.bytes < 2 }
+    ensures causes { IsDoneUnless result Status.EndOfBuffer }
+{
+    match u16::read_cfg(alloc, src.get(), &()) {
+        Ok(n) => {
+            *out = n;
+            Status::Done.code()
+        }
+        Err(_) => Status::EndOfBuffer.code(),
+    }
+}
+
+/// The same of four bytes.
+#[unsafe(no_mangle)]
+#[tactic(auto, using(iobufs_core::specs::CallerFacts::reading))]
+pub extern "C" fn iobuf_get_u32(alloc: Global, src: &mut ViewAt, out: &mut u32) -> u8
+    ensures at { src.new.at ≡ src.old.at }
+    ensures read { result ≡ 0 → IsNumberRead (to_be_bytes w32) 4 src.old.value.bytes (Ok out.new) }
+    ensures rest { result ≡ 0 → src.new.value ≡ view_advanced src.old.value 4 }
+    ensures same { (result == 0) ≡ false → (src.new.value ≡ src.old.value) × (out.new ≡ out.old) }
+    ensures short { (result == 0) ≡ false → length src.old.value.bytes < 4 }
+    ensures causes { IsDoneUnless result Status.EndOfBuffer }
+{
+    match u32::read_cfg(alloc, src.get(), &()) {
+        Ok(n) => {
+            *out = n;
+            Status::Done.code()
+        }
+        Err(_) => Status::EndOfBuffer.code(),
+    }
+}
+
+/// The same of eight bytes.
+#[unsafe(no_mangle)]
+#[tactic(auto, using(iobufs_core::specs::CallerFacts::reading))]
+pub extern "C" fn iobuf_get_u64(alloc: Global, src: &mut ViewAt, out: &mut u64) -> u8
+    ensures at { src.new.at ≡ src.old.at }
+    ensures read { result ≡ 0 → IsNumberRead (to_be_bytes w64) 8 src.old.value.bytes (Ok out.new) }
+    ensures rest { result ≡ 0 → src.new.value ≡ view_advanced src.old.value 8 }
+    ensures same { (result == 0) ≡ false → (src.new.value ≡ src.old.value) × (out.new ≡ out.old) }
+    ensures short { (result == 0) ≡ false → length src.old.value.bytes < 8 }
+    ensures causes { IsDoneUnless result Status.EndOfBuffer }
+{
+    match u64::read_cfg(alloc, src.get(), &()) {
+        Ok(n) => {
+            *out = n;
+            Status::Done.code()
+        }
+        Err(_) => Status::EndOfBuffer.code(),
+    }
+}
+
+/// The same of one byte, in front of a text.
+#[unsafe(no_mangle)]
+#[tactic(auto, using(iobufs_core::specs::CallerFacts::reading))]
+pub extern "C" fn iobufs_get_u8(alloc: Global, text: &mut TextAt, out: &mut u8) -> u8
+    ensures at { text.new.at ≡ text.old.at }
+    ensures read { result ≡ 0 → IsNumberRead (λ n. n ∷ []) 1 text.old.value.bytes (Ok out.new) }
+    ensures rest { result ≡ 0 → text.new.value ≡ text_advanced text.old.value 1 }
+    ensures same { (result == 0) ≡ false → (text.new.value ≡ text.old.value) × (out.new ≡ out.old) }
+    ensures short { (result == 0) ≡ false → length text.old.value.bytes < 1 }
+    ensures causes { IsDoneUnless result Status.EndOfBuffer }
+{
+    match u8::read_cfg(alloc, text.get(), &()) {
+        Ok(n) => {
+            *out = n;
+            Status::Done.code()
+        }
+        Err(_) => Status::EndOfBuffer.code(),
+    }
+}
+
+/// The same of two bytes, in front of a text.
+#[unsafe(no_mangle)]
+#[tactic(auto, using(iobufs_core::specs::CallerFacts::reading))]
+pub extern "C" fn iobufs_get_u16(alloc: Global, text: &mut TextAt, out: &mut u16) -> u8
+    ensures at { text.new.at ≡ text.old.at }
+    ensures read { result ≡ 0 → IsNumberRead (to_be_bytes w16) 2 text.old.value.bytes (Ok out.new) }
+    ensures rest { result ≡ 0 → text.new.value ≡ text_advanced text.old.value 2 }
+    ensures same { (result == 0) ≡ false → (text.new.value ≡ text.old.value) × (out.new ≡ out.old) }
+    ensures short { (result == 0) ≡ false → length text.old.value.bytes < 2 }
+    ensures causes { IsDoneUnless result Status.EndOfBuffer }
+{
+    match u16::read_cfg(alloc, text.get(), &()) {
+        Ok(n) => {
+            *out = n;
+            Status::Done.code()
+        }
+        Err(_) => Status::EndOfBuffer.code(),
+    }
+}
+
+/// The same of four bytes, in front of a text.
+#[unsafe(no_mangle)]
+#[tactic(auto, using(iobufs_core::specs::CallerFacts::reading))]
+pub extern "C" fn iobufs_get_u32(alloc: Global, text: &mut TextAt, out: &mut u32) -> u8
+    ensures at { text.new.at ≡ text.old.at }
+    ensures read { result ≡ 0 → IsNumberRead (to_be_bytes w32) 4 text.old.value.bytes (Ok out.new) }
+    ensures rest { result ≡ 0 → text.new.value ≡ text_advanced text.old.value 4 }
+    ensures same { (result == 0) ≡ false → (text.new.value ≡ text.old.value) × (out.new ≡ out.old) }
+    ensures short { (result == 0) ≡ false → length text.old.value.bytes < 4 }
+    ensures causes { IsDoneUnless result Status.EndOfBuffer }
+{
+    match u32::read_cfg(alloc, text.get(), &()) {
+        Ok(n) => {
+            *out = n;
+            Status::Done.code()
+        }
+        Err(_) => Status::EndOfBuffer.code(),
+    }
+}
+
+/// The same of eight bytes, in front of a text.
+#[unsafe(no_mangle)]
+#[tactic(auto, using(iobufs_core::specs::CallerFacts::reading))]
+pub extern "C" fn iobufs_get_u64(alloc: Global, text: &mut TextAt, out: &mut u64) -> u8
+    ensures at { text.new.at ≡ text.old.at }
+    ensures read { result ≡ 0 → IsNumberRead (to_be_bytes w64) 8 text.old.value.bytes (Ok out.new) }
+    ensures rest { result ≡ 0 → text.new.value ≡ text_advanced text.old.value 8 }
+    ensures same { (result == 0) ≡ false → (text.new.value ≡ text.old.value) × (out.new ≡ out.old) }
+    ensures short { (result == 0) ≡ false → length text.old.value.bytes < 8 }
+    ensures causes { IsDoneUnless result Status.EndOfBuffer }
+{
+    match u64::read_cfg(alloc, text.get(), &()) {
+        Ok(n) => {
+            *out = n;
+            Status::Done.code()
+        }
+        Err(_) => Status::EndOfBuffer.code(),
+    }
+}
