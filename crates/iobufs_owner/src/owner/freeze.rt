@@ -9,12 +9,11 @@ ghost use Rattle.iobufs_owner.specs.Changes.{done, edited, replaced, next_record
 ghost use Rattle.iobufs_owner.specs.Lending.{Lends};
 ghost use Rattle.iobufs_owner.specs.ShortCalls.{IsLoose, promoted, freeze_by, freeze_of};
 ghost use Rattle.iobufs_owner.specs.Moves.{Took};
-ghost use Rattle.iobufs_owner.specs.State.{KeepsRoom, recovered, end_of};
+ghost use Rattle.iobufs_owner.specs.State.{recovered, end_of};
 
 use crate::owner::lend::detached;
 use crate::owner::room::room_for_record;
-use crate::owner::{Freed, Handle, Kind, Machine, Record, Refusal, Reply, Word};
-use std::alloc::AllocError;
+use crate::owner::{Freed, Full, Handle, Kind, Machine, Record, Refusal, Reply, Word};
 
 /// A writable handle as a view, which owns what the word says.
 fn frozen(x: Handle, word: Word) -> Handle
@@ -42,7 +41,7 @@ pub(super) fn end(x: Handle, tail: u64) -> u64
 
 impl Machine {
     /// A writable handle becomes a view; an empty one lets its block go.
-    pub(super) fn freeze(&mut self, h: usize, memory: bool) -> Result<Reply, AllocError>
+    pub(super) fn freeze(&mut self, h: usize, memory: bool) -> Result<Reply, Full>
         ensures { Took self.old (freeze_of self.old.state h memory) result self.new }
     {
         let x = match self.lend(h, Kind::Mut) {
@@ -64,7 +63,7 @@ impl Machine {
         requires { Lends self.old.state h Mut x }
         ensures reply { result ≡ Done }
         ensures state { self.new.state ≡ edited (short.freed_with self.old.state x x.word) h (change.detached 0) }
-        ensures room { KeepsRoom self.old.room self.new.room }
+        ensures room { self.new.room ≡ self.old.room }
     {
         match x.word {
             Word::Empty => self.detach(h, x),
@@ -79,7 +78,7 @@ impl Machine {
         requires lent { Lends self.old.state h Mut x }
         requires word { x.word ≡ Empty }
         ensures state { self.new.state ≡ edited self.old.state h (change.detached 0) }
-        ensures room { KeepsRoom self.old.room self.new.room }
+        ensures room { self.new.room ≡ self.old.room }
     {
         self.handles[h] = Some(detached());
     }
@@ -90,7 +89,7 @@ impl Machine {
         requires word { x.word ≡ Descriptor word }
         requires rest { IsLoose rest }
         ensures state { self.new.state ≡ replaced (block_freed self.old.state (recovered self.old.state.tables x word)) h rest }
-        ensures room { KeepsRoom self.old.room self.new.room }
+        ensures room { self.new.room ≡ self.old.room }
     {
         let fields = self.format.unpack(word);
         let base = end(x, fields.tail) - fields.size;
@@ -108,7 +107,7 @@ impl Machine {
         requires word { x.word ≡ Counted r }
         requires rest { IsLoose rest }
         ensures state { self.new.state ≡ replaced (both_freed self.old.state r) h rest }
-        ensures room { KeepsRoom self.old.room self.new.room }
+        ensures room { self.new.room ≡ self.old.room }
     {
         let record = self.record(r);
         let block = self.block(record.block);
@@ -131,7 +130,7 @@ impl Machine {
         requires word { x.word ≡ Empty }
         ensures reply { result ≡ Done }
         ensures state { self.new.state ≡ edited self.old.state h (short.frozen x Empty) }
-        ensures room { KeepsRoom self.old.room self.new.room }
+        ensures room { self.new.room ≡ self.old.room }
     {
         self.handles[h] = Some(frozen(x, Word::Empty));
         Reply::Done
@@ -143,7 +142,7 @@ impl Machine {
         requires word { x.word ≡ Counted r }
         ensures reply { result ≡ Done }
         ensures state { self.new.state ≡ edited self.old.state h (short.frozen x (Counted r)) }
-        ensures room { KeepsRoom self.old.room self.new.room }
+        ensures room { self.new.room ≡ self.old.room }
     {
         self.handles[h] = Some(frozen(x, Word::Record(r)));
         Reply::Done
@@ -157,7 +156,7 @@ impl Machine {
         memory: bool,
         x: Handle,
         word: u64,
-    ) -> Result<Reply, AllocError>
+    ) -> Result<Reply, Full>
         requires lent { Lends self.old.state h Mut x }
         requires word { x.word ≡ Descriptor word }
         ensures { Took self.old (freeze_by self.old.state h memory x (Descriptor word)) result self.new }
@@ -173,7 +172,7 @@ impl Machine {
     }
 
     /// A record takes the place of a writable handle's descriptor, and the handle becomes a view.
-    fn promote(&mut self, h: usize, x: Handle, word: u64) -> Result<Reply, AllocError>
+    fn promote(&mut self, h: usize, x: Handle, word: u64) -> Result<Reply, Full>
         requires lent { Lends self.old.state h Mut x }
         requires word { x.word ≡ Descriptor word }
         ensures { Took self.old
@@ -181,7 +180,7 @@ impl Machine {
             result self.new }
     {
         let block = self.owned(h, x, word);
-        room_for_record(&mut self.records, &mut self.freed_records)?;
+        room_for_record(&self.records, &self.freed_records)?;
         let r = self.records.len();
         self.records.push_reserved(Record {
             count: 1,

@@ -4,6 +4,7 @@ ghost use Rattle.iobufs_owner.specs.declared.owner.types.Kind.TheVariants.{View}
 ghost use Rattle.iobufs_owner.specs.declared.owner.types.Word.TheVariants.{Descriptor};
 ghost use Rattle.iobufs_owner.specs.Changes as change;
 ghost use Rattle.iobufs_owner.specs.Lending.{is_lent, lend_of, any_of, owning_of, owning_view_of, Lends};
+ghost use Rattle.iobufs_owner.specs.Reserved.{HasMemory};
 ghost use Rattle.iobufs_owner.specs.Sound.{IsSound, DescribesBlock};
 ghost use Rattle.iobufs_owner.specs.State.{handle_at, record_at, block_at, owner_of, owned_by};
 
@@ -64,7 +65,8 @@ pub(super) fn detached() -> Handle
 impl Machine {
     /// What the machine keeps true, for the prover: a look at a field tells it.
     pub(super) fn known(&self)
-        ensures { IsSound self.now.state }
+        ensures sound { IsSound self.now.state }
+        ensures held { HasMemory self.now 0 0 0 }
     {
         let _ = &self.format;
     }

@@ -9,7 +9,7 @@ ghost use Rattle.iobufs_owner.specs.LongCalls as long;
 ghost use Rattle.iobufs_owner.specs.Changes.{called, state_without};
 ghost use Rattle.iobufs_owner.specs.Lending.{Lends};
 ghost use Rattle.iobufs_owner.specs.LongCalls.{drop_of, subtract_of, release_of};
-ghost use Rattle.iobufs_owner.specs.State.{KeepsRoom, call_at, record_at};
+ghost use Rattle.iobufs_owner.specs.State.{call_at, record_at};
 
 use crate::owner::{Freed, Handle, Kind, Machine, Pending, Record, Reply, Word};
 
@@ -31,7 +31,7 @@ impl Machine {
         requires idle { call_at self.old.state party ≡ None }
         ensures reply { result ≡ (drop_of self.old.state party h).reply }
         ensures state { self.new.state ≡ (drop_of self.old.state party h).state }
-        ensures room { KeepsRoom self.old.room self.new.room }
+        ensures room { self.new.room ≡ self.old.room }
     {
         let x = match self.lend_any(h) {
             Ok(x) => x,
@@ -53,7 +53,7 @@ impl Machine {
         requires word { x.word ≡ Empty }
         ensures reply { result ≡ Done }
         ensures state { self.new.state ≡ state_without self.old.state h }
-        ensures room { KeepsRoom self.old.room self.new.room }
+        ensures room { self.new.room ≡ self.old.room }
     {
         self.handles[h] = None;
         Reply::Done
@@ -67,7 +67,7 @@ impl Machine {
         requires word { x.word ≡ Counted r }
         ensures reply { result ≡ (long.drop_counted self.old.state party h r x.kind).reply }
         ensures state { self.new.state ≡ (long.drop_counted self.old.state party h r x.kind).state }
-        ensures room { KeepsRoom self.old.room self.new.room }
+        ensures room { self.new.room ≡ self.old.room }
     {
         match x.kind {
             Kind::Mut => {
@@ -88,7 +88,7 @@ impl Machine {
         ensures state { self.new.state
             ≡ called (state_without self.old.state h) party
             (Some (long.after_count (record_at self.old.state.tables r).count r)) }
-        ensures room { KeepsRoom self.old.room self.new.room }
+        ensures room { self.new.room ≡ self.old.room }
     {
         let record = self.record(r);
         let next = after_count(record.count, r);
@@ -102,7 +102,7 @@ impl Machine {
         requires { call_at self.old.state party ≡ Some (Subtract r) }
         ensures reply { result ≡ (subtract_of self.old.state party r).reply }
         ensures state { self.new.state ≡ (subtract_of self.old.state party r).state }
-        ensures room { KeepsRoom self.old.room self.new.room }
+        ensures room { self.new.room ≡ self.old.room }
     {
         let record = self.record(r);
         self.records[r] = Record {
@@ -122,7 +122,7 @@ impl Machine {
         requires { call_at self.old.state party ≡ Some (Release r) }
         ensures reply { result ≡ (release_of self.old.state party r).reply }
         ensures state { self.new.state ≡ (release_of self.old.state party r).state }
-        ensures room { KeepsRoom self.old.room self.new.room }
+        ensures room { self.new.room ≡ self.old.room }
     {
         let record = self.record(r);
         let block = self.block(record.block);
