@@ -1,17 +1,16 @@
 //! A writable handle becomes a view, and handles let their blocks go.
-ghost use Rattle.std.specs.Prelude.{◌≡◌, ℕ, ◌+◌, ◌^◌, ◌<◌, ◌≤◌};
+ghost use Rattle.std.specs.Prelude.{◌≡◌, ◌<◌};
 ghost use Rattle.iobufs_owner.specs.declared.owner.types.Kind.TheVariants.{View, Mut};
 ghost use Rattle.iobufs_owner.specs.declared.owner.types.Reply.TheVariants.{Done};
 ghost use Rattle.iobufs_owner.specs.declared.owner.types.Word.TheVariants.{Empty, Descriptor, Record as Counted};
 ghost use Rattle.iobufs_owner.specs.Changes as change;
 ghost use Rattle.iobufs_owner.specs.ShortCalls as short;
-ghost use Rattle.iobufs_owner.specs.Changes.{done, edited, replaced, next_record, block_freed, both_freed};
+ghost use Rattle.iobufs_owner.specs.Changes.{done, edited, next_record};
 ghost use Rattle.iobufs_owner.specs.Lending.{Lends};
-ghost use Rattle.iobufs_owner.specs.ShortCalls.{IsLoose, promoted, freeze_by, freeze_of};
+ghost use Rattle.iobufs_owner.specs.ShortCalls.{promoted, freeze_by, freeze_of};
 ghost use Rattle.iobufs_owner.specs.Moves.{Took};
-ghost use Rattle.iobufs_owner.specs.State.{recovered, end_of};
 
-use crate::owner::lend::detached;
+use crate::owner::handle::detached;
 use crate::owner::room::room_for_record;
 use crate::owner::{Freed, Full, Handle, Kind, Machine, Record, Refusal, Reply, Word};
 
@@ -24,18 +23,6 @@ fn frozen(x: Handle, word: Word) -> Handle
         cap: 0,
         word,
         ..x
-    }
-}
-
-/// Where the block ends under a descriptor with this tail.
-pub(super) fn end(x: Handle, tail: u64) -> u64
-    requires behind_view { x.kind ≡ View → x.ptr + x.len + tail < 2 ^ 64 }
-    requires behind_room { x.kind ≡ Mut → x.ptr + x.cap < 2 ^ 64 }
-    ensures { result ≡ end_of x tail }
-{
-    match x.kind {
-        Kind::View => x.ptr + x.len + tail,
-        Kind::Mut => x.ptr + x.cap,
     }
 }
 
@@ -81,47 +68,6 @@ impl Machine {
         ensures room { self.new.room ≡ self.old.room }
     {
         self.handles[h] = Some(detached());
-    }
-
-    /// A handle with a descriptor is replaced, and its block is freed, as the word and the handle describe it.
-    pub(super) fn free_described(&mut self, h: usize, x: Handle, word: u64, rest: Option<Handle>)
-        requires lent { Lends self.old.state h x.kind x }
-        requires word { x.word ≡ Descriptor word }
-        requires rest { IsLoose rest }
-        ensures state { self.new.state ≡ replaced (block_freed self.old.state (recovered self.old.state.tables x word)) h rest }
-        ensures room { self.new.room ≡ self.old.room }
-    {
-        let fields = self.format.unpack(word);
-        let base = end(x, fields.tail) - fields.size;
-        self.handles[h] = rest;
-        self.freed_blocks.push_reserved(Freed {
-            base,
-            size: fields.size,
-            align: fields.align,
-        });
-    }
-
-    /// A writable handle with a record is replaced, and its record and block are freed.
-    pub(super) fn free_counted(&mut self, h: usize, x: Handle, r: usize, rest: Option<Handle>)
-        requires lent { Lends self.old.state h Mut x }
-        requires word { x.word ≡ Counted r }
-        requires rest { IsLoose rest }
-        ensures state { self.new.state ≡ replaced (both_freed self.old.state r) h rest }
-        ensures room { self.new.room ≡ self.old.room }
-    {
-        let record = self.record(r);
-        let block = self.block(record.block);
-        self.handles[h] = rest;
-        self.records[r] = Record {
-            live: false,
-            ..record
-        };
-        self.freed_blocks.push_reserved(Freed {
-            base: block.base,
-            size: block.size,
-            align: block.align,
-        });
-        self.freed_records.push_reserved(r);
     }
 
     /// A writable handle without block becomes a view.

@@ -1,6 +1,6 @@
 //! Clones and slices of a view, step by step. In the original `OwnerCell::promote`, whose compare-exchange is the race
 //! here, and `Owner::clone_shared`, which adds to the count.
-ghost use Rattle.std.specs.Prelude.{◌≡◌, ℕ, ◌+◌, ◌^◌, ◌<◌, ◌≤◌, length, IfOk, None, Some};
+ghost use Rattle.std.specs.Prelude.{◌≡◌, ◌+◌, ◌-◌, ◌^◌, ◌<◌, ◌≤◌, length, slice_index_or, slice_set, vec_capacity, IfOk, None, Some};
 ghost use Rattle.iobufs_owner.specs.declared.owner.types.Kind.TheVariants.{View};
 ghost use Rattle.iobufs_owner.specs.declared.owner.types.Word.TheVariants.{Empty, Descriptor, Record as Counted};
 ghost use Rattle.iobufs_owner.specs.declared.owner.types.Pending.TheVariants.{Loaded, Ready, Add};
@@ -14,9 +14,31 @@ ghost use Rattle.iobufs_owner.specs.Moves.{Took};
 ghost use Rattle.iobufs_owner.specs.Sound.{IsSound, Shares};
 ghost use Rattle.iobufs_owner.specs.State.{handle_at, call_at, record_at};
 
-use crate::owner::lend::{borrow_less, borrow_more, part};
+use crate::owner::handle::part;
 use crate::owner::room::{room_for_handle, room_for_record};
 use crate::owner::{Full, Handle, Kind, Machine, Pending, Record, Refusal, Reply, Share, Word};
+
+// One borrow more of a handle.
+fn borrow_more(borrows: &mut Vec<usize>, h: usize)
+    requires known { h < length borrows.old.items }
+    requires few { slice_index_or borrows.old.items h 0 < 2 ^ 63 }
+    ensures items { borrows.new.items
+        ≡ slice_set borrows.old.items h (slice_index_or borrows.old.items h 0 + 1) }
+    ensures capacity { vec_capacity borrows.new ≡ vec_capacity borrows.old }
+{
+    borrows[h] += 1;
+}
+
+// One borrow less of a handle.
+fn borrow_less(borrows: &mut Vec<usize>, h: usize)
+    requires known { h < length borrows.old.items }
+    requires some { 0 < slice_index_or borrows.old.items h 0 }
+    ensures items { borrows.new.items
+        ≡ slice_set borrows.old.items h (slice_index_or borrows.old.items h 0 - 1) }
+    ensures capacity { vec_capacity borrows.new ≡ vec_capacity borrows.old }
+{
+    borrows[h] -= 1;
+}
 
 impl Machine {
     /// The view, for a call that shares it.

@@ -1,5 +1,5 @@
 //! A view is split in two.
-ghost use Rattle.std.specs.Prelude.{◌≡◌, ℕ, ◌+◌, ◌^◌, ◌<◌, ◌≤◌, true};
+ghost use Rattle.std.specs.Prelude.{◌≡◌, ◌+◌, ◌^◌, ◌<◌, ◌≤◌, true};
 ghost use Rattle.iobufs_owner.specs.declared.owner.types.Kind.TheVariants.{View};
 ghost use Rattle.iobufs_owner.specs.declared.owner.types.Word.TheVariants.{Empty, Descriptor, Record as Counted};
 ghost use Rattle.iobufs_owner.specs.Changes as change;
@@ -9,7 +9,7 @@ ghost use Rattle.iobufs_owner.specs.Lending.{Lends};
 ghost use Rattle.iobufs_owner.specs.ShortCalls.{split_by, split_of};
 ghost use Rattle.iobufs_owner.specs.Moves.{Took};
 
-use crate::owner::lend::{detached, part};
+use crate::owner::handle::{detached, part};
 use crate::owner::room::{room_for_handle, room_for_record};
 use crate::owner::{Full, Handle, Kind, Machine, Record, Refusal, Reply, Word};
 
