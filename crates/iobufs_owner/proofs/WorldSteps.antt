@@ -17,3 +17,4 @@ pub mod Modest
 pub mod Reserved
 pub mod Caused
 pub mod Sole
+pub mod OneAnswer

@@ -1,4 +1,6 @@
 -- When a step isn't refused for want of room.
+--     HasMemory                  the tables have memory for so many blocks, handles and records more
+--     IsFew                      so many blocks more, and so many steps, leave each table within 2 ^ 32 entries
 --     IsReserved                 memory for so many blocks more and for so many steps, within the 2 ^ 32 entries of
 --                                each table
 --     makes_block, adds_block    a call, and a step, that adds a block if it succeeds
@@ -13,7 +15,20 @@ use Rattle.iobufs_owner.specs.declared.owner.types.Step.{Step}
 use Rattle.iobufs_owner.specs.declared.owner.types.Refusal.TheVariants.{Room}
 use Rattle.iobufs_owner.specs.declared.owner.types.Reply.{Reply}
 use Rattle.iobufs_owner.specs.declared.owner.types.Reply.TheVariants.{Refused}
-use Rattle.iobufs_owner.specs.State.{Seen}
+use Rattle.iobufs_owner.specs.State.{State, Seen}
+
+-- the tables have memory for so many blocks, handles and records more
+pub record HasMemory (m : Seen) (more_blocks more_handles more_records : ℕ) : Type 0 where
+  pub blocks : length m.state.tables.blocks + more_blocks ≤ m.room.blocks
+  pub handles : length m.state.handles + more_handles ≤ m.room.handles
+  pub records : length m.state.tables.records + more_records ≤ m.room.records
+
+-- with so many blocks more, and a handle and a record more for each of so many steps, the tables come to no more than 2^32
+-- entries; where no block is added nothing is asked of theirs
+pub record IsFew (s : State) (made steps : ℕ) : Type 0 where
+  pub few_blocks : 0 < made → length s.tables.blocks + made ≤ 2 ^ 32
+  pub few_handles : length s.handles + steps ≤ 2 ^ 32
+  pub few_records : length s.tables.records + steps ≤ 2 ^ 32
 
 -- the tables have memory for so many blocks more, and for a handle and a record more for each of so many steps, and come to
 -- no more than 2^32 entries; where no block is added nothing is asked of theirs

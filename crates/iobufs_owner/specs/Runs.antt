@@ -1,6 +1,7 @@
 -- Whole runs.
 --     IsStep                   a move of the machine, what its users see of it, and what holds behind it
 --     Runs                     a list of steps with its answers, from one machine to another
+--     GrowingRuns              the same, where tables may get more room between the steps
 --     ends_call                a refusal that ends the call that it meets
 --     taken_after, taken_of    how many steps of its call a party has taken: told from an answer, and at most, from
 --                              the call as it stands
@@ -11,7 +12,7 @@ use Rattle.iobufs_owner.specs.declared.owner.types.Refusal.{Refusal}
 use Rattle.iobufs_owner.specs.declared.owner.types.Refusal.TheVariants.{Busy, Idle, NoHandle, WrongKind, Borrowed, OutOfRange, BadPlace, Memory, Ceiling, Room}
 use Rattle.iobufs_owner.specs.declared.owner.types.Reply.{Reply}
 use Rattle.iobufs_owner.specs.declared.owner.types.Reply.TheVariants.{Made, More, Done, Declined, Unique, Refused}
-use Rattle.iobufs_owner.specs.State.{Seen, KeepsRoom}
+use Rattle.iobufs_owner.specs.State.{Seen, HasGrown}
 use Rattle.iobufs_owner.specs.World.{Unfinished, Sharing, Dropping}
 use Rattle.iobufs_owner.specs.Reading.{reading}
 use Rattle.iobufs_owner.specs.Moves.{Moves}
@@ -20,13 +21,13 @@ use Rattle.iobufs_owner.specs.Sound.{IsSound}
 use Rattle.iobufs_owner.specs.Promises.{Promises}
 
 -- a step: a move by the tables, which its users see as a step of the world, and which leaves what is promised; no table
--- loses memory, so its free room falls by what is added to it, and by nothing else
+-- gets or loses memory, so its free room falls by what is added to it, and by nothing else
 pub record IsStep (m : Seen) (step : Step) (reply : Reply) (next : Seen) : Type 0 where
   pub moves : Moves m step reply next
   pub steps : Steps (reading m.state) step reply (reading next.state)
   pub sound : IsSound next.state
   pub promises : Promises next.state
-  pub room : KeepsRoom m.room next.room
+  pub room : next.room ≡ m.room
 
 -- a whole run: each step begins where the one before it ended
 abbrev pub Runs : Seen → List Step → List Reply → Seen → Type 0
@@ -34,6 +35,14 @@ Runs m [] [] next = next ≡ m
 Runs m (step ∷ steps) (reply ∷ replies) next = (mid : Seen) × IsStep m step reply mid × Runs mid steps replies next
 Runs m [] (reply ∷ replies) next = ⊥
 Runs m (step ∷ steps) [] next = ⊥
+
+-- the same, where tables may get more room before each step
+abbrev pub GrowingRuns : Seen → List Step → List Reply → Seen → Type 0
+GrowingRuns m [] [] next = next ≡ m
+GrowingRuns m (step ∷ steps) (reply ∷ replies) next =
+    (grown mid : Seen) × HasGrown m grown × IsStep grown step reply mid × GrowingRuns mid steps replies next
+GrowingRuns m [] (reply ∷ replies) next = ⊥
+GrowingRuns m (step ∷ steps) [] next = ⊥
 
 -- ---- a call ends with its fourth taken step at the latest
 

@@ -1,30 +1,42 @@
 -- The steps among what is asked are a run of the machine.
-use Rattle.std.proofs.Common.{◌≡◌, ℕ, List, [], ◌∷◌, ◌++◌, map, refl, sym, ap, subst}
+use Rattle.std.proofs.Common.{◌≡◌, inl, inr, ℕ, ◌+◌, ◌≤◌, length, arith, List, [], ◌∷◌, ◌++◌, map, refl, sym, ap, subst, Result, Ok, Err, OnOk, OnErr}
+use Rattle.iobufs_core.specs.declared.codec.base.BufError.{BufError}
 use Rattle.iobufs_owner.specs.declared.owner.types.Reply.{Reply}
 use Rattle.iobufs_owner.specs.Promises.{Promises}
-use Rattle.iobufs_owner.specs.Runs.{Runs}
-use Rattle.iobufs_owner.specs.State.{Seen}
+use Rattle.iobufs_owner.specs.Runs.{GrowingRuns}
+use Rattle.iobufs_owner.specs.State.{Seen, HasGrown, KeepsRoom}
 use Rattle.iobufs_owner_lines.specs.declared.line.Ask.{Ask}
 use Rattle.iobufs_owner_lines.specs.declared.line.Ask.TheVariants.{Take, Look}
 use Rattle.iobufs_owner_lines.specs.Printed.{reply_text}
-use Rattle.iobufs_owner_lines.specs.Session.{AreAnswered, Answers, answers_to_steps, steps_of}
+use Rattle.iobufs_owner_lines.specs.Session.{AreAnswered, Answers, MakesRoom, answers_to_steps, steps_of}
+
+-- room was made, or nothing has changed
+pub room_made : (m grown : Seen) (result : Result (Unit {0}) BufError) → grown.state ≡ m.state → KeepsRoom m.room grown.room
+    → OnOk result (length m.state.tables.blocks + 1 ≤ grown.room.blocks) → OnOk result (length m.state.handles + 1 ≤ grown.room.handles)
+    → OnOk result (length m.state.tables.records + 1 ≤ grown.room.records) → OnErr result (grown ≡ m) → MakesRoom m grown
+room_made m grown (Ok done) e k blocks handles records same = inl (record { state = e; room = k }, record { blocks = rw e blocks; handles = rw e handles; records = rw e records })
+room_made m grown (Err why) e k blocks handles records same = inr same
+
+grown_by : (m grown : Seen) → MakesRoom m grown → HasGrown m grown
+grown_by m grown (inl (has, held)) = has
+grown_by m grown (inr same) = rw same (record { state = refl; room = (omega arith, omega arith, omega arith) })
 
 -- the steps are a run, and the answers to them are its replies
 pub record AreSteps (m : Seen) (asks : List Ask) (texts : List (List ℕ)) (next : Seen) : Type 0 where
   pub replies : List Reply
-  pub runs : Runs m (steps_of asks) replies next
+  pub runs : GrowingRuns m (steps_of asks) replies next
   pub says : answers_to_steps asks texts ≡ map reply_text replies
 
 pub stepped : (m next : Seen) (asks : List Ask) (texts : List (List ℕ)) → AreAnswered m asks texts next → AreSteps m asks texts next
 stepped m next [] [] h = record { replies = []; runs = h; says = refl }
 stepped m next [] (text ∷ texts) h = elim h [ ]
 stepped m next (ask ∷ asks) [] h = elim h [ ]
-stepped m next (Take step ∷ asks) (text ∷ texts) (mid, (reply, one, says), others) =
+stepped m next (Take step ∷ asks) (text ∷ texts) (mid, (grown, reply, has, one, says), others) =
     let rest = stepped mid next asks texts others in
-    record { replies = reply ∷ rest.replies; runs = (mid, one, rest.runs); says = rw says (ap (λ l. reply_text reply ∷ l) rest.says) }
+    record { replies = reply ∷ rest.replies; runs = (grown, mid, grown_by m grown has, one, rest.runs); says = rw says (ap (λ l. reply_text reply ∷ l) rest.says) }
 stepped m next (Look question ∷ asks) (text ∷ texts) (mid, (same, says), others) =
     let rest = stepped mid next asks texts others in
-    record { replies = rest.replies; runs = subst (λ (s : Seen). Runs s (steps_of asks) rest.replies next) same rest.runs; says = rest.says }
+    record { replies = rest.replies; runs = subst (λ (s : Seen). GrowingRuns s (steps_of asks) rest.replies next) same rest.runs; says = rest.says }
 
 -- one more is answered
 pub answered_more : (m mid next : Seen) (asks : List Ask) (texts : List (List ℕ)) (ask : Ask) (text : List ℕ)
@@ -36,7 +48,7 @@ answered_more m mid next (first ∷ asks) (t ∷ texts) ask text (between, one, 
 
 -- what is promised stays so
 pub promised_after : (m next : Seen) (ask : Ask) (text : List ℕ) → Answers m ask text next → Promises m.state → Promises next.state
-promised_after m next (Take step) text (reply, one, says) p = one.promises
+promised_after m next (Take step) text (grown, reply, has, one, says) p = one.promises
 promised_after m next (Look question) text (same, says) p = subst (λ (s : Seen). Promises s.state) (sym same) p
 
 pub promised : (m next : Seen) (asks : List Ask) (texts : List (List ℕ)) → AreAnswered m asks texts next → Promises m.state → Promises next.state

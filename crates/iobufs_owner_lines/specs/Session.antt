@@ -1,5 +1,6 @@
 -- What a session with the machine answers.
 --     machine_of                    the machine that a first line asks for, in which nothing has happened yet
+--     MakesRoom                     before a step the tables get room for an entry each, or that is refused
 --     Answers, AreAnswered          a step is taken and its reply told, a question changes nothing; and a list of
 --                                   these
 --     line_of                       a text as a line
@@ -13,8 +14,9 @@ use Rattle.std.specs.Str.Lines.{lines}
 use Rattle.iobufs_owner.specs.declared.owner.types.Reply.{Reply}
 use Rattle.iobufs_owner.specs.declared.owner.types.Step.{Step}
 use Rattle.iobufs_owner.specs.Promises.{Promises}
+use Rattle.iobufs_owner.specs.Reserved.{HasMemory}
 use Rattle.iobufs_owner.specs.Runs.{IsStep}
-use Rattle.iobufs_owner.specs.State.{State, Seen, fresh}
+use Rattle.iobufs_owner.specs.State.{State, Seen, HasGrown, fresh}
 use Rattle.iobufs_owner_lines.specs.declared.line.Ask.{Ask}
 use Rattle.iobufs_owner_lines.specs.declared.line.Ask.TheVariants.{Take, Look}
 use Rattle.iobufs_owner_lines.specs.declared.line.Setup.{Setup}
@@ -26,9 +28,14 @@ abbrev pub machine_of : Setup → State
 machine_of setup =
     if setup.is_wide then fresh 6 17 40 setup.ceiling setup.parties else fresh 0 7 24 setup.ceiling setup.parties
 
--- a step of the machine is answered by its reply; a question changes nothing, and is answered by what is looked at
+-- room is made for a block, a handle and a record more; or it is refused, and nothing has changed
+abbrev pub MakesRoom : (m grown : Seen) → Type 0
+MakesRoom m grown = (HasGrown m grown × HasMemory grown 1 1 1) ⊎ (grown ≡ m)
+
+-- a step of the machine, before which room is made, is answered by its reply; a question changes nothing, and is answered by
+-- what is looked at
 abbrev pub Answers : Seen → Ask → List ℕ → Seen → Type 0
-Answers m (Take step) text next = (reply : Reply) × IsStep m step reply next × (text ≡ reply_text reply)
+Answers m (Take step) text next = (grown : Seen) × (reply : Reply) × MakesRoom m grown × IsStep grown step reply next × (text ≡ reply_text reply)
 Answers m (Look question) text next = (next ≡ m) × (text ≡ answer_text m.state question)
 
 -- all of them, one after another: each begins where the one before it ended

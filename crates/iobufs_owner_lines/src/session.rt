@@ -4,7 +4,7 @@ ghost use Rattle.iobufs_core.specs.declared.codec.base.BufError.TheVariants.{Mem
 ghost use Rattle.iobufs_owner.specs.State.{Seen};
 ghost use Rattle.iobufs_owner.specs.Promises.{Promises};
 ghost use Rattle.iobufs_owner.specs.Reading.{reading};
-ghost use Rattle.iobufs_owner.specs.Runs.{Runs, EndsInFour, taken_of};
+ghost use Rattle.iobufs_owner.specs.Runs.{GrowingRuns, EndsInFour, taken_of};
 ghost use Rattle.iobufs_owner.specs.World.{going_at};
 ghost use Rattle.iobufs_owner.specs.declared.owner.types.Reply.{Reply};
 ghost use Rattle.iobufs_owner_lines.specs.declared.line.Ask.{Ask as Asked};
@@ -40,13 +40,17 @@ impl Setup {
 }
 
 /// Takes a step, or looks at what a question asks for, and writes the answer as a line. Where writing fails, a step is taken
-/// all the same.
+/// all the same. Before a step room is made for a block, a handle and a record, where it can be had.
 pub fn answer<W: Write>(machine: &mut Machine, ask: Ask, output: &mut W) -> io::Result<()>
     ensures { OnOk result (IfSome (W.contents output.old) (λ before.
         (text : List ℕ) × Answers machine.old ask text machine.new × (W.contents output.new ≡ Some (before ++ line_of text)))) }
 {
     match ask {
-        Ask::Take(step) => writeln!(output, "{}", ReplyLine(machine.step(step))),
+        Ask::Take(step) => {
+            // Refused, it leaves the step to say whether that wants the room.
+            let _ = machine.reserve(1, 1, 1);
+            writeln!(output, "{}", ReplyLine(machine.step(step)))
+        }
         Ask::Look(question) => writeln!(output, "{}", AnswerLine(machine, question)),
     }
 }
@@ -61,10 +65,11 @@ pub fn setup_law()
     ensures { (setup : SetUp) → FitsSetup setup → setup_of (line_of_setup setup) ≡ Some setup }
 {}
 
-/// The steps that are asked of a machine, questions left out, are a run of it, and their answers are its replies.
+/// The steps that are asked of a machine, questions left out, are a run of it, in which tables may get more room before each
+/// step, and their answers are its replies.
 pub fn run_law()
     ensures { (m next : Seen) → (asks : List Asked) → (texts : List (List ℕ)) → AreAnswered m asks texts next
-        → (replies : List Reply) × Runs m (steps_of asks) replies next × (answers_to_steps asks texts ≡ map reply_text replies) }
+        → (replies : List Reply) × GrowingRuns m (steps_of asks) replies next × (answers_to_steps asks texts ≡ map reply_text replies) }
 {}
 
 /// What a user of the machine may rely on holds at the end of a session, where it held at its beginning.

@@ -113,6 +113,7 @@ fn schedules_step_by_step(rt: HostRuntime) -> Result<(), Fail> {
                 party: *party,
                 act: *act,
             };
+            machine.reserve(1, 1, 1)?;
             assert_eq!(rt; machine.step(step), *reply, "at {step:?}");
             ledger.enter(&rt, step, *reply);
             assert_state(&rt, &machine, &ledger, step);

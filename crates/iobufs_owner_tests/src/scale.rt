@@ -17,6 +17,7 @@ fn five_thousand_blocks(rt: HostRuntime) -> Result<(), Fail> {
     let mut machine = Machine::new(rt.alloc(), 1, CEILING, FORMAT_64)?;
     for handle in 0..5000 {
         let base = 64 * (handle as u64 + 1);
+        machine.reserve(1, 1, 0)?;
         assert_eq!(rt;
             machine.step(begin(Call::New(base, 16, 1))),
             Reply::Made(handle)

@@ -29,6 +29,7 @@ fn go(party: usize) -> Step {
 
 fn shows(rt: &impl Abort, machine: &mut Machine, rows: &[(Step, Reply)]) {
     for (step, want) in rows {
+        assert_eq!(rt; machine.reserve(1, 1, 1), Ok(()));
         assert_eq!(rt; machine.step(*step), *want, "at {step:?}");
     }
 }
@@ -266,6 +267,7 @@ fn ample_memory(rt: HostRuntime) -> Result<(), Fail> {
     ];
     assert_eq!(rt; machine.handles(), handles.as_slice());
     for made in 12..40 {
+        machine.reserve(0, 1, 0)?;
         assert_eq!(rt; machine.step(begin(0, Call::Static(1))), Reply::Made(made));
     }
     Ok(())
@@ -298,6 +300,7 @@ fn long_run(rt: HostRuntime) -> Result<(), Fail> {
     let replies = listed.run(rt.alloc(), &steps)?;
     let mut single = Machine::new(rt.alloc(), 2, 9, FORMAT_64)?;
     for (step, reply) in steps.iter().zip(&replies) {
+        single.reserve(1, 1, 1)?;
         assert_eq!(rt; single.step(*step), *reply, "at {step:?}");
     }
     assert_eq!(rt; replies.len(), 400);
@@ -310,16 +313,18 @@ fn long_run(rt: HostRuntime) -> Result<(), Fail> {
     Ok(())
 }
 
-// Room for entries to come changes nothing that is told, and the steps behind it are taken.
+// A machine in which no room was made refuses what adds an entry. Room for entries to come changes nothing that is told, and
+// the steps behind it are taken, and no more of them.
 #[test]
 fn reserved_room(rt: HostRuntime) -> Result<(), Fail> {
     let mut machine = Machine::new(rt.alloc(), 1, 9, FORMAT_64)?;
-    assert_eq!(rt; machine.reserve(2, 3, 2), Ok(()));
+    let step = begin(0, Call::Static(5));
+    assert_eq!(rt; machine.step(step), Reply::Refused(Refusal::Room));
+    assert_eq!(rt; machine.reserve(1, 3, 1), Ok(()));
     assert!(rt; machine.handles().is_empty());
-    let made = [
-        (begin(0, Call::New(64, 8, 1)), Reply::Made(0)),
-        (begin(0, Call::Static(5)), Reply::Made(1)),
-    ];
-    shows(&rt, &mut machine, &made);
+    assert_eq!(rt; machine.step(begin(0, Call::New(64, 8, 1))), Reply::Made(0));
+    assert_eq!(rt; machine.step(step), Reply::Made(1));
+    assert_eq!(rt; machine.step(step), Reply::Made(2));
+    assert_eq!(rt; machine.step(step), Reply::Refused(Refusal::Room));
     Ok(())
 }

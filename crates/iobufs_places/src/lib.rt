@@ -250,6 +250,13 @@ impl Places {
         self.table.reserve(more)
     }
 
+    /// Whether there is room for so many blocks more.
+    pub fn has_room(&self, more: usize) -> bool
+        ensures { result ≡ nat_le (length self.now.bases + more) self.now.room }
+    {
+        more <= self.table.capacity() - self.table.len()
+    }
+
     /// One block more, with the next number.
     pub fn add(&mut self, base: u64)
         requires room { length self.old.bases < self.old.room }

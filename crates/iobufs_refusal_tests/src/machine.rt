@@ -1,7 +1,8 @@
-// The owner machine, whose tables are refused each growth in turn. Two machines take the same steps, so that what a
-// refused step left can be compared with what was there before.
+// The owner machine, whose tables are refused each growth in turn: room is made before each step, and where that is refused
+// the step is taken or wants it. Another machine, which had room for all from the beginning, takes the same steps, so that
+// what a refusal left can be compared with what was there before.
 //
-// Where the machine asks for room, and the tests in which that is refused:
+// Where a step wants room, and the tests in which there is none:
 //
 // | function | room for | tests |
 // |---|---|---|
@@ -31,6 +32,9 @@ type Row = (usize, Act);
 
 // How many parties there are.
 const PARTIES: usize = 3;
+
+// No test has more steps than this.
+const MOST: usize = 32;
 
 // The first four handles, after which the table of handles has to grow.
 const FOUR: [Row; 6] = [
@@ -66,38 +70,43 @@ fn is_same(one: &Machine, other: &Machine) -> bool {
         && one.freed_records() == other.freed_records()
 }
 
-// A step, which is taken again where a table couldn't grow, and whether that was so.
-fn stepped(machine: &mut Machine, step: Step) -> Result<(Reply, bool), Fail> {
-    match machine.step(step) {
-        Reply::Refused(Refusal::Room) => Ok((machine.step(step), true)),
-        Reply::Refused(_) => Err(Fail::new("refused for another reason")),
-        reply => Ok((reply, false)),
+// Makes room for a step and takes it, and whether that room was refused. A step that wants it then has left all as in a
+// machine that is like this one, and is taken once it is there.
+fn stepped(machine: &mut Machine, like: &Machine, step: Step) -> Result<(Reply, bool), Fail> {
+    let made = machine.reserve(1, 1, 1);
+    ensure(is_same(machine, like), "changed by room")?;
+    let reply = machine.step(step);
+    if made.is_ok() {
+        return Ok((reply, false));
     }
+    if reply != Reply::Refused(Refusal::Room) {
+        return Ok((reply, true));
+    }
+    ensure(is_same(machine, like), "changed by a refusal")?;
+    machine.reserve(1, 1, 1)?;
+    Ok((machine.step(step), true))
 }
 
-// Takes steps on two machines. A step that was refused for want of room has left all as it was.
+// Takes steps on a machine in which room is made for each, and on one that has room.
 fn lockstep(rt: &(impl Print + AllocGlobal), steps: &[&[Row]]) -> Result<(), Fail> {
     let (mut one, mut other) = match (new_machine(rt.alloc()), new_machine(rt.alloc())) {
         (Ok(one), Ok(other)) => (one, other),
         _ => return say(rt, Word::Fixture),
     };
+    if other.reserve(MOST, MOST, MOST).is_err() {
+        return say(rt, Word::Fixture);
+    }
     let mut word = Word::Whole;
     for (party, act) in steps.iter().copied().flatten() {
         let step = Step {
             party: *party,
             act: *act,
         };
-        let mut reply = one.step(step);
-        if reply == Reply::Refused(Refusal::Room) {
-            ensure(is_same(&one, &other), "changed by a refusal")?;
-            reply = one.step(step);
-            word = Word::Refused;
-        }
-        let (same, refused) = stepped(&mut other, step)?;
+        let (reply, refused) = stepped(&mut one, &other, step)?;
         if refused {
             word = Word::Refused;
         }
-        ensure(reply == same, "another reply")?;
+        ensure(reply == other.step(step), "another reply")?;
         ensure(is_same(&one, &other), "another state")?;
     }
     say(rt, word)

@@ -15,6 +15,7 @@ fn begin(call: Call) -> Step {
 #[test]
 fn freed_memory_is_handed_out_once(rt: HostRuntime) -> Result<(), Fail> {
     let mut machine = Machine::new(rt.alloc(), 1, 9, FORMAT_64)?;
+    machine.reserve(2, 2, 0)?;
     let mut pool = Pool::new();
     assert_eq!(rt; machine.step(begin(Call::New(64, 8, 1))), Reply::Made(0));
     assert_eq!(rt; machine.step(begin(Call::New(128, 4, 4))), Reply::Made(1));

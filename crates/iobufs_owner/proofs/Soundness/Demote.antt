@@ -5,7 +5,7 @@ use Rattle.std.proofs.lemmas.List.Elements.{All-from_get_or}
 use Rattle.std.proofs.lemmas.List.{get_or-set_same, get_or-set_other}
 use Rattle.std.proofs.lemmas.Bool.Decides.{nat_tests, eqb_tells}
 use Rattle.iobufs_owner.specs.Word.{IsPowerOfTwo, HasRoom, word_of}
-use Rattle.iobufs_owner.specs.State.{State, Seen, KeepsRoom, Tables, owner_of, record_at, block_at, call_at, base_by, block_with}
+use Rattle.iobufs_owner.specs.State.{State, Seen, Tables, owner_of, record_at, block_at, call_at, base_by, block_with}
 use Rattle.iobufs_owner.specs.World.{is_block, holders, users, tally}
 use Rattle.iobufs_owner.specs.Reading.{reading}
 use Rattle.iobufs_owner.specs.Sound.{IsSound, ArePlaced, Fits, FitsCall, IsDescribed, alone, describes}
@@ -205,7 +205,7 @@ pub frees-record : (s : State) (h r log : ℕ) (x : Handle) → MayDemote s.tabl
 frees-record s h r log x m = rw (may-true s.tables x r log m) (refl, refl)
 
 -- what the call answers and leaves, as a step takes it
-pub demote-takes : (m n : Seen) (h : ℕ) (reply : Reply) → (o : Outcome) × IsDemoted m.state h (owning_view_of m.state h) o × (reply ≡ o.reply) × (n.state ≡ o.state) × KeepsRoom m.room n.room → (o : Outcome) × IsDemoted m.state h (owning_view_of m.state h) o × ((reply ≡ o.reply) × (n.state ≡ o.state) × KeepsRoom m.room n.room)
+pub demote-takes : (m n : Seen) (h : ℕ) (reply : Reply) → (o : Outcome) × IsDemoted m.state h (owning_view_of m.state h) o × (reply ≡ o.reply) × (n.state ≡ o.state) × (n.room ≡ m.room) → (o : Outcome) × IsDemoted m.state h (owning_view_of m.state h) o × ((reply ≡ o.reply) × (n.state ≡ o.state) × (n.room ≡ m.room))
 demote-takes m n h reply (o, is, e, f, k) = (o, is, (e, f, k))
 
 pub keeps-word : (s : State) (h : ℕ) (x : Handle) (w : Word) → ((r : ℕ) → w ≡ Counted r → ⊥) → IsDemotedBy s h x w (declined s)

@@ -20,7 +20,7 @@ use Rattle.iobufs_owner.specs.Reading.{reading, read_call}
 use Rattle.iobufs_owner.specs.Steps as world
 use Rattle.iobufs_owner.specs.Steps.{ActsAt, Begins, Goes, SharesOn, GoesOn, GoesOnWithin, Steps}
 use Rattle.iobufs_owner.specs.State.{State, Seen, Tables, call_at}
-use Rattle.iobufs_owner.specs.Runs.{Runs, EndsInFour, ends_call, taken_after, taken_of}
+use Rattle.iobufs_owner.specs.Runs.{GrowingRuns, EndsInFour, ends_call, taken_after, taken_of}
 use Rattle.iobufs_owner.specs.Tells.{CountsTaken}
 use Rattle.iobufs_owner.proofs.WorldSteps.Shown.{get_or-read}
 use Rattle.iobufs_owner.proofs.WorldSteps.Taken.{lt-true}
@@ -285,18 +285,19 @@ counts-taken s next step reply m = λ n l.
     let r = own (reading s) next p n reply j c in
     (r.few, rw r.is r.taken)
 
-pub ends-in-four : (m next : Seen) (p n : ℕ) (steps : List Step) (replies : List Reply) → Runs m steps replies next → IsNear (reading m.state) p n → EndsInFour p n steps replies
+pub ends-in-four : (m next : Seen) (p n : ℕ) (steps : List Step) (replies : List Reply) → GrowingRuns m steps replies next → IsNear (reading m.state) p n → EndsInFour p n steps replies
 ends-in-four m next p n [] replies r j = tt
 ends-in-four m next p n (step ∷ steps) [] r j = tt
-ends-in-four m next p n (step ∷ steps) (reply ∷ replies) (mid, one, r) j =
-    let c = changes-by (reading m.state) (reading mid.state) step reply (nat_lt step.party (length (reading m.state).calls)) refl one.steps in
+ends-in-four m next p n (step ∷ steps) (reply ∷ replies) (grown, mid, has, one, r) near =
+    let j = subst (λ (s : State). IsNear (reading s) p n) (sym has.state) near in
+    let c = changes-by (reading grown.state) (reading mid.state) step reply (nat_lt step.party (length (reading grown.state).calls)) refl one.steps in
     elim (eqb_tells step.party p) [
       | inl e ↦ (
-          let c' = subst (λ (q : ℕ). Changes (reading m.state) q (going_at (reading m.state) q) reply (reading mid.state)) e.1 c in
-          let f = own (reading m.state) (reading mid.state) p n reply j (subst (λ (o : Option Unfinished). Changes (reading m.state) p o reply (reading mid.state)) j.is c') in
+          let c' = subst (λ (q : ℕ). Changes (reading grown.state) q (going_at (reading grown.state) q) reply (reading mid.state)) e.1 c in
+          let f = own (reading grown.state) (reading mid.state) p n reply j (subst (λ (o : Option Unfinished). Changes (reading grown.state) p o reply (reading mid.state)) j.is c') in
           rw e.0 (f.few, ends-in-four mid next p (taken_after n reply) steps replies r f)
           )
-      | inr e ↦ rw e.0 (ends-in-four mid next p n steps replies r (others (reading m.state) (reading mid.state) p step.party n (going_at (reading m.state) step.party) reply (λ z. e.1 (sym z)) j c))
+      | inr e ↦ rw e.0 (ends-in-four mid next p n steps replies r (others (reading grown.state) (reading mid.state) p step.party n (going_at (reading grown.state) step.party) reply (λ z. e.1 (sym z)) j c))
     ]
 
 pub near-start : (s : State) (p : ℕ) → IsNear (reading s) p (taken_of (going_at (reading s) p))

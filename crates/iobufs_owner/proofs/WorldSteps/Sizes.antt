@@ -1,13 +1,15 @@
--- Steps that add no entry want no room.
+-- Steps that add no entry want no room, and steps that are taken have found it.
 use Rattle.std.proofs.Common.{◌≡◌, ◌⊎◌, inl, inr, ℕ, ◌<◌, length, ap, refl, arith, Result, Ok, Err}
-use Rattle.std.specs.declared.alloc.AllocError.{AllocError}
 use Rattle.std.specs.Result.{result_unwrap_or}
 use Rattle.iobufs_owner.specs.declared.owner.types.Refusal.TheVariants.{Room}
+use Rattle.iobufs_owner.specs.declared.owner.types.Full.{Full}
 use Rattle.iobufs_owner.specs.declared.owner.types.Step.{Step}
 use Rattle.iobufs_owner.specs.declared.owner.types.Reply.{Reply}
 use Rattle.iobufs_owner.specs.declared.owner.types.Reply.TheVariants.{Refused}
 use Rattle.iobufs_owner.specs.State.{State, Seen, Room as Space, KeepsRoom}
 use Rattle.iobufs_owner.specs.Changes.{Outcome}
+use Rattle.iobufs_owner.specs.Reserved.{HasMemory}
+use Rattle.iobufs_owner.specs.Sound.{IsInSize, IsSound}
 use Rattle.iobufs_owner.specs.Moves.{WantsRoom, IsMoved, IsTaken, Moves, Took}
 
 pub keeps-room : (r : Space) → KeepsRoom r r
@@ -47,20 +49,43 @@ wants-grows m t (inr (inl w)) = inr (inl w.0)
 wants-grows m t (inr (inr w)) = inr (inr w.0)
 
 pub answered : (m : Seen) (o : Outcome) (reply : Reply) (t : State) → IsTaken m o reply t → IsAnswered m.state o reply t
-answered m o reply t (inl i) = inl i
+answered m o reply t (inl (found, e, f)) = inl (e, f)
 answered m o reply t (inr (w, e, f)) = inr (record { grows = wants-grows m o.state w; refused = e; same = f })
 
+-- ---- a step finds room, or wants it
+
+-- behind a step that was taken every table has memory for its entries: so those that it added had room
+found : (m next : Seen) (t : State) → next.state ≡ t → next.room ≡ m.room → IsInSize next.state → HasMemory next 0 0 0 → WantsRoom m t → ⊥
+found m next t e f size held (inl (grows, full)) =
+    let a = ap (λ (s : State). length s.handles) e in
+    let b = ap (λ (r : Space). r.handles) f in
+    let l = held.handles in
+    let g = size.few_handles in
+    elim full [ inl used ↦ omega (arith, a, b, l, grows, used) | inr many ↦ omega (arith, a, g, grows, many) ]
+found m next t e f size held (inr (inl (grows, full))) =
+    let a = ap (λ (s : State). length s.tables.blocks) e in
+    let b = ap (λ (r : Space). r.blocks) f in
+    let l = held.blocks in
+    let g = size.few_blocks in
+    elim full [ inl used ↦ omega (arith, a, b, l, grows, used) | inr many ↦ omega (arith, a, g, grows, many) ]
+found m next t e f size held (inr (inr (grows, full))) =
+    let a = ap (λ (s : State). length s.tables.records) e in
+    let b = ap (λ (r : Space). r.records) f in
+    let l = held.records in
+    let g = size.few_records in
+    elim full [ inl used ↦ omega (arith, a, b, l, grows, used) | inr many ↦ omega (arith, a, g, grows, many) ]
+
 -- a result as a reply
-taken-of : (m : Seen) (o : Outcome) (result : Result Reply AllocError) (next : Seen) → Took m o result next → IsTaken m o (result_unwrap_or result (Refused Room)) next.state
-taken-of m o (Ok reply) next (e, f, k) = inl (e, f)
-taken-of m o (Err e) next (w, f, k) = inr (w, refl, f)
+taken-of : (m : Seen) (o : Outcome) (result : Result Reply Full) (next : Seen) → IsInSize next.state → HasMemory next 0 0 0 → Took m o result next → IsTaken m o (result_unwrap_or result (Refused Room)) next.state
+taken-of m o (Ok reply) next size held (e, f, k) = inl (found m next o.state f k size held, e, f)
+taken-of m o (Err full) next size held (w, e) = inr (w, refl, ap (λ (n : Seen). n.state) e)
 
-room-of : (m : Seen) (o : Outcome) (result : Result Reply AllocError) (next : Seen) → Took m o result next → KeepsRoom m.room next.room
+room-of : (m : Seen) (o : Outcome) (result : Result Reply Full) (next : Seen) → Took m o result next → next.room ≡ m.room
 room-of m o (Ok reply) next (e, f, k) = k
-room-of m o (Err e) next (w, f, k) = k
+room-of m o (Err full) next (w, e) = ap (λ (n : Seen). n.room) e
 
-pub moves-keep : (m : Seen) (step : Step) (result : Result Reply AllocError) (next : Seen) → (o : Outcome) × IsMoved m.state step o × Took m o result next → KeepsRoom m.room next.room
+pub moves-keep : (m : Seen) (step : Step) (result : Result Reply Full) (next : Seen) → (o : Outcome) × IsMoved m.state step o × Took m o result next → next.room ≡ m.room
 moves-keep m step result next (o, moved, took) = room-of m o result next took
 
-pub moves-of : (m : Seen) (step : Step) (result : Result Reply AllocError) (next : Seen) → (o : Outcome) × IsMoved m.state step o × Took m o result next → Moves m step (result_unwrap_or result (Refused Room)) next
-moves-of m step result next (o, moved, took) = (o, moved, taken-of m o result next took)
+pub moves-of : (m : Seen) (step : Step) (result : Result Reply Full) (next : Seen) → IsSound next.state → HasMemory next 0 0 0 → (o : Outcome) × IsMoved m.state step o × Took m o result next → Moves m step (result_unwrap_or result (Refused Room)) next
+moves-of m step result next sound held (o, moved, took) = (o, moved, taken-of m o result next sound.size held took)

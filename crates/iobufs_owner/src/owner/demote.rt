@@ -6,7 +6,7 @@ ghost use Rattle.iobufs_owner.specs.ShortCalls as short;
 ghost use Rattle.iobufs_owner.specs.Changes.{Outcome};
 ghost use Rattle.iobufs_owner.specs.Lending.{Lends, owning_view_of};
 ghost use Rattle.iobufs_owner.specs.ShortCalls.{IsDemoted};
-ghost use Rattle.iobufs_owner.specs.State.{KeepsRoom, record_at, block_at};
+ghost use Rattle.iobufs_owner.specs.State.{record_at, block_at};
 
 use crate::owner::{Handle, Machine, Record, Reply, Word};
 
@@ -17,7 +17,7 @@ impl Machine {
             × IsDemoted self.old.state h (owning_view_of self.old.state h) o
             × (result ≡ o.reply)
             × (self.new.state ≡ o.state)
-            × KeepsRoom self.old.room self.new.room }
+            × (self.new.room ≡ self.old.room) }
     {
         let x = match self.lend_owning_view(h) {
             Ok(x) => x,
@@ -37,7 +37,7 @@ impl Machine {
             × ((block_at self.old.state.tables (record_at self.old.state.tables r).block).align ≡ 2 ^ log)
             × (result ≡ (short.demote_counted self.old.state h x r log).reply)
             × (self.new.state ≡ (short.demote_counted self.old.state h x r log).state)
-            × KeepsRoom self.old.room self.new.room }
+            × (self.new.room ≡ self.old.room) }
     {
         let record = self.record(r);
         let block = self.block(record.block);

@@ -4,7 +4,6 @@ ghost use Rattle.iobufs_owner.specs.declared.owner.types.Kind.TheVariants.{View}
 ghost use Rattle.iobufs_owner.specs.declared.owner.types.Word.TheVariants.{Empty, Descriptor, Record as Counted};
 ghost use Rattle.iobufs_owner.specs.Lending.{Lends};
 ghost use Rattle.iobufs_owner.specs.ShortCalls.{put_of, advance_of, recover_of, recover_by, unique_of};
-ghost use Rattle.iobufs_owner.specs.State.{KeepsRoom};
 
 use crate::owner::{Handle, Kind, Machine, Refusal, Reply, Word};
 
@@ -13,7 +12,7 @@ impl Machine {
     pub(super) fn put(&mut self, h: usize, n: u64) -> Reply
         ensures reply { result ≡ (put_of self.old.state h n).reply }
         ensures state { self.new.state ≡ (put_of self.old.state h n).state }
-        ensures room { KeepsRoom self.old.room self.new.room }
+        ensures room { self.new.room ≡ self.old.room }
     {
         let x = match self.lend(h, Kind::Mut) {
             Ok(x) => x,
@@ -33,7 +32,7 @@ impl Machine {
     pub(super) fn advance(&mut self, h: usize, n: u64) -> Reply
         ensures reply { result ≡ (advance_of self.old.state h n).reply }
         ensures state { self.new.state ≡ (advance_of self.old.state h n).state }
-        ensures room { KeepsRoom self.old.room self.new.room }
+        ensures room { self.new.room ≡ self.old.room }
     {
         let x = match self.lend_any(h) {
             Ok(x) => x,
@@ -56,7 +55,7 @@ impl Machine {
     pub(super) fn recover(&mut self, h: usize) -> Reply
         ensures reply { result ≡ (recover_of self.old.state h).reply }
         ensures state { self.new.state ≡ (recover_of self.old.state h).state }
-        ensures room { KeepsRoom self.old.room self.new.room }
+        ensures room { self.new.room ≡ self.old.room }
     {
         let x = match self.lend(h, Kind::View) {
             Ok(x) => x,
@@ -75,7 +74,7 @@ impl Machine {
         requires word { x.word ≡ Empty }
         ensures reply { result ≡ (recover_by self.old.state h x Empty).reply }
         ensures state { self.new.state ≡ (recover_by self.old.state h x Empty).state }
-        ensures room { KeepsRoom self.old.room self.new.room }
+        ensures room { self.new.room ≡ self.old.room }
     {
         if x.len != 0 {
             return Reply::Declined;
@@ -95,7 +94,7 @@ impl Machine {
         requires word { x.word ≡ Descriptor word }
         ensures reply { result ≡ (recover_by self.old.state h x (Descriptor word)).reply }
         ensures state { self.new.state ≡ (recover_by self.old.state h x (Descriptor word)).state }
-        ensures room { KeepsRoom self.old.room self.new.room }
+        ensures room { self.new.room ≡ self.old.room }
     {
         let tail = self.format.unpack(word).tail;
         let whole = self.format.with_tail(word, 0).unwrap();
@@ -114,7 +113,7 @@ impl Machine {
         requires word { x.word ≡ Counted r }
         ensures reply { result ≡ (recover_by self.old.state h x (Counted r)).reply }
         ensures state { self.new.state ≡ (recover_by self.old.state h x (Counted r)).state }
-        ensures room { KeepsRoom self.old.room self.new.room }
+        ensures room { self.new.room ≡ self.old.room }
     {
         let record = self.record(r);
         let block = self.block(record.block);

@@ -1,20 +1,18 @@
 //! A writable handle becomes a view, and handles let their blocks go.
-ghost use Rattle.std.specs.Prelude.{◌≡◌, ℕ, ◌+◌, ◌^◌, ◌<◌, ◌≤◌};
+ghost use Rattle.std.specs.Prelude.{◌≡◌, ◌<◌};
 ghost use Rattle.iobufs_owner.specs.declared.owner.types.Kind.TheVariants.{View, Mut};
 ghost use Rattle.iobufs_owner.specs.declared.owner.types.Reply.TheVariants.{Done};
 ghost use Rattle.iobufs_owner.specs.declared.owner.types.Word.TheVariants.{Empty, Descriptor, Record as Counted};
 ghost use Rattle.iobufs_owner.specs.Changes as change;
 ghost use Rattle.iobufs_owner.specs.ShortCalls as short;
-ghost use Rattle.iobufs_owner.specs.Changes.{done, edited, replaced, next_record, block_freed, both_freed};
+ghost use Rattle.iobufs_owner.specs.Changes.{done, edited, next_record};
 ghost use Rattle.iobufs_owner.specs.Lending.{Lends};
-ghost use Rattle.iobufs_owner.specs.ShortCalls.{IsLoose, promoted, freeze_by, freeze_of};
+ghost use Rattle.iobufs_owner.specs.ShortCalls.{promoted, freeze_by, freeze_of};
 ghost use Rattle.iobufs_owner.specs.Moves.{Took};
-ghost use Rattle.iobufs_owner.specs.State.{KeepsRoom, recovered, end_of};
 
-use crate::owner::lend::detached;
+use crate::owner::handle::detached;
 use crate::owner::room::room_for_record;
-use crate::owner::{Freed, Handle, Kind, Machine, Record, Refusal, Reply, Word};
-use std::alloc::AllocError;
+use crate::owner::{Freed, Full, Handle, Kind, Machine, Record, Refusal, Reply, Word};
 
 /// A writable handle as a view, which owns what the word says.
 fn frozen(x: Handle, word: Word) -> Handle
@@ -28,21 +26,9 @@ fn frozen(x: Handle, word: Word) -> Handle
     }
 }
 
-/// Where the block ends under a descriptor with this tail.
-pub(super) fn end(x: Handle, tail: u64) -> u64
-    requires behind_view { x.kind ≡ View → x.ptr + x.len + tail < 2 ^ 64 }
-    requires behind_room { x.kind ≡ Mut → x.ptr + x.cap < 2 ^ 64 }
-    ensures { result ≡ end_of x tail }
-{
-    match x.kind {
-        Kind::View => x.ptr + x.len + tail,
-        Kind::Mut => x.ptr + x.cap,
-    }
-}
-
 impl Machine {
     /// A writable handle becomes a view; an empty one lets its block go.
-    pub(super) fn freeze(&mut self, h: usize, memory: bool) -> Result<Reply, AllocError>
+    pub(super) fn freeze(&mut self, h: usize, memory: bool) -> Result<Reply, Full>
         ensures { Took self.old (freeze_of self.old.state h memory) result self.new }
     {
         let x = match self.lend(h, Kind::Mut) {
@@ -64,7 +50,7 @@ impl Machine {
         requires { Lends self.old.state h Mut x }
         ensures reply { result ≡ Done }
         ensures state { self.new.state ≡ edited (short.freed_with self.old.state x x.word) h (change.detached 0) }
-        ensures room { KeepsRoom self.old.room self.new.room }
+        ensures room { self.new.room ≡ self.old.room }
     {
         match x.word {
             Word::Empty => self.detach(h, x),
@@ -79,50 +65,9 @@ impl Machine {
         requires lent { Lends self.old.state h Mut x }
         requires word { x.word ≡ Empty }
         ensures state { self.new.state ≡ edited self.old.state h (change.detached 0) }
-        ensures room { KeepsRoom self.old.room self.new.room }
+        ensures room { self.new.room ≡ self.old.room }
     {
         self.handles[h] = Some(detached());
-    }
-
-    /// A handle with a descriptor is replaced, and its block is freed, as the word and the handle describe it.
-    pub(super) fn free_described(&mut self, h: usize, x: Handle, word: u64, rest: Option<Handle>)
-        requires lent { Lends self.old.state h x.kind x }
-        requires word { x.word ≡ Descriptor word }
-        requires rest { IsLoose rest }
-        ensures state { self.new.state ≡ replaced (block_freed self.old.state (recovered self.old.state.tables x word)) h rest }
-        ensures room { KeepsRoom self.old.room self.new.room }
-    {
-        let fields = self.format.unpack(word);
-        let base = end(x, fields.tail) - fields.size;
-        self.handles[h] = rest;
-        self.freed_blocks.push_reserved(Freed {
-            base,
-            size: fields.size,
-            align: fields.align,
-        });
-    }
-
-    /// A writable handle with a record is replaced, and its record and block are freed.
-    pub(super) fn free_counted(&mut self, h: usize, x: Handle, r: usize, rest: Option<Handle>)
-        requires lent { Lends self.old.state h Mut x }
-        requires word { x.word ≡ Counted r }
-        requires rest { IsLoose rest }
-        ensures state { self.new.state ≡ replaced (both_freed self.old.state r) h rest }
-        ensures room { KeepsRoom self.old.room self.new.room }
-    {
-        let record = self.record(r);
-        let block = self.block(record.block);
-        self.handles[h] = rest;
-        self.records[r] = Record {
-            live: false,
-            ..record
-        };
-        self.freed_blocks.push_reserved(Freed {
-            base: block.base,
-            size: block.size,
-            align: block.align,
-        });
-        self.freed_records.push_reserved(r);
     }
 
     /// A writable handle without block becomes a view.
@@ -131,7 +76,7 @@ impl Machine {
         requires word { x.word ≡ Empty }
         ensures reply { result ≡ Done }
         ensures state { self.new.state ≡ edited self.old.state h (short.frozen x Empty) }
-        ensures room { KeepsRoom self.old.room self.new.room }
+        ensures room { self.new.room ≡ self.old.room }
     {
         self.handles[h] = Some(frozen(x, Word::Empty));
         Reply::Done
@@ -143,7 +88,7 @@ impl Machine {
         requires word { x.word ≡ Counted r }
         ensures reply { result ≡ Done }
         ensures state { self.new.state ≡ edited self.old.state h (short.frozen x (Counted r)) }
-        ensures room { KeepsRoom self.old.room self.new.room }
+        ensures room { self.new.room ≡ self.old.room }
     {
         self.handles[h] = Some(frozen(x, Word::Record(r)));
         Reply::Done
@@ -157,7 +102,7 @@ impl Machine {
         memory: bool,
         x: Handle,
         word: u64,
-    ) -> Result<Reply, AllocError>
+    ) -> Result<Reply, Full>
         requires lent { Lends self.old.state h Mut x }
         requires word { x.word ≡ Descriptor word }
         ensures { Took self.old (freeze_by self.old.state h memory x (Descriptor word)) result self.new }
@@ -173,7 +118,7 @@ impl Machine {
     }
 
     /// A record takes the place of a writable handle's descriptor, and the handle becomes a view.
-    fn promote(&mut self, h: usize, x: Handle, word: u64) -> Result<Reply, AllocError>
+    fn promote(&mut self, h: usize, x: Handle, word: u64) -> Result<Reply, Full>
         requires lent { Lends self.old.state h Mut x }
         requires word { x.word ≡ Descriptor word }
         ensures { Took self.old
@@ -181,7 +126,7 @@ impl Machine {
             result self.new }
     {
         let block = self.owned(h, x, word);
-        room_for_record(&mut self.records, &mut self.freed_records)?;
+        room_for_record(&self.records, &self.freed_records)?;
         let r = self.records.len();
         self.records.push_reserved(Record {
             count: 1,

@@ -1,70 +1,20 @@
 //! Handles as a call asks for them: there, of the right kind, and not borrowed.
-ghost use Rattle.std.specs.Prelude.{◌≡◌, ℕ, ◌+◌, ◌-◌, ◌^◌, ◌<◌, ◌≤◌, length, slice_index_or, slice_set, vec_capacity, IfOk, IfSome, Some};
+ghost use Rattle.std.specs.Prelude.{◌≡◌, ◌+◌, ◌-◌, ◌^◌, ◌<◌, length, IfOk, IfSome, Some};
 ghost use Rattle.iobufs_owner.specs.declared.owner.types.Kind.TheVariants.{View};
 ghost use Rattle.iobufs_owner.specs.declared.owner.types.Word.TheVariants.{Descriptor};
-ghost use Rattle.iobufs_owner.specs.Changes as change;
 ghost use Rattle.iobufs_owner.specs.Lending.{is_lent, lend_of, any_of, owning_of, owning_view_of, Lends};
+ghost use Rattle.iobufs_owner.specs.Reserved.{HasMemory};
 ghost use Rattle.iobufs_owner.specs.Sound.{IsSound, DescribesBlock};
 ghost use Rattle.iobufs_owner.specs.State.{handle_at, record_at, block_at, owner_of, owned_by};
 
-use crate::owner::freeze::end;
+use crate::owner::handle::end;
 use crate::owner::{Block, Handle, Kind, Machine, Record, Refusal, Word};
-
-/// One borrow more of a handle.
-pub(super) fn borrow_more(borrows: &mut Vec<usize>, h: usize)
-    requires known { h < length borrows.old.items }
-    requires few { slice_index_or borrows.old.items h 0 < 2 ^ 63 }
-    ensures items { borrows.new.items
-        ≡ slice_set borrows.old.items h (slice_index_or borrows.old.items h 0 + 1) }
-    ensures capacity { vec_capacity borrows.new ≡ vec_capacity borrows.old }
-{
-    borrows[h] += 1;
-}
-
-/// One borrow less of a handle.
-pub(super) fn borrow_less(borrows: &mut Vec<usize>, h: usize)
-    requires known { h < length borrows.old.items }
-    requires some { 0 < slice_index_or borrows.old.items h 0 }
-    ensures items { borrows.new.items
-        ≡ slice_set borrows.old.items h (slice_index_or borrows.old.items h 0 - 1) }
-    ensures capacity { vec_capacity borrows.new ≡ vec_capacity borrows.old }
-{
-    borrows[h] -= 1;
-}
-
-/// The bytes `lo` to `hi` of a view as a view, which owns what the word says.
-pub(super) fn part(x: Handle, lo: u64, hi: u64, word: Word) -> Handle
-    requires order { lo ≤ hi }
-    requires within { hi ≤ x.len }
-    requires ends { x.ptr + x.len < 2 ^ 64 }
-    ensures { result ≡ change.part x lo hi word }
-{
-    Handle {
-        kind: Kind::View,
-        ptr: x.ptr + lo,
-        len: hi - lo,
-        cap: 0,
-        word,
-    }
-}
-
-/// A view of no bytes without block.
-pub(super) fn detached() -> Handle
-    ensures { result ≡ change.detached 0 }
-{
-    Handle {
-        kind: Kind::View,
-        ptr: 0,
-        len: 0,
-        cap: 0,
-        word: Word::Empty,
-    }
-}
 
 impl Machine {
     /// What the machine keeps true, for the prover: a look at a field tells it.
     pub(super) fn known(&self)
-        ensures { IsSound self.now.state }
+        ensures sound { IsSound self.now.state }
+        ensures held { HasMemory self.now 0 0 0 }
     {
         let _ = &self.format;
     }

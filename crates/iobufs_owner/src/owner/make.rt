@@ -9,8 +9,7 @@ ghost use Rattle.iobufs_owner.specs.Places.{IsPlace, ApartFrom, IsGoodPlace};
 ghost use Rattle.iobufs_owner.specs.Sound.{LiesIn};
 
 use crate::owner::room::{room_for_block, room_for_handle, room_for_record};
-use crate::owner::{Block, Handle, Kind, Machine, Record, Refusal, Reply, Word};
-use std::alloc::AllocError;
+use crate::owner::{Block, Full, Handle, Kind, Machine, Record, Refusal, Reply, Word};
 
 /// Whether a block may lie here.
 fn is_place(base: u64, size: u64, align: u64) -> bool
@@ -63,7 +62,7 @@ impl Machine {
         size: u64,
         align: u64,
         memory: bool,
-    ) -> Result<Reply, AllocError>
+    ) -> Result<Reply, Full>
         ensures { (o : Outcome)
             × IsNew self.old.state base size align memory o
             × Took self.old o result self.new }
@@ -101,7 +100,7 @@ impl Machine {
         base: u64,
         size: u64,
         memory: bool,
-    ) -> Result<Reply, AllocError>
+    ) -> Result<Reply, Full>
         ensures { (o : Outcome)
             × IsExternal self.old.state base size memory o
             × Took self.old o result self.new }
@@ -129,10 +128,10 @@ impl Machine {
     }
 
     /// A view of so many bytes without block, as the next handle.
-    pub(super) fn add_detached(&mut self, len: u64) -> Result<Reply, AllocError>
+    pub(super) fn add_detached(&mut self, len: u64) -> Result<Reply, Full>
         ensures { Took self.old (made self.old.state (detached len)) result self.new }
     {
-        room_for_handle(&mut self.handles, &mut self.borrows)?;
+        room_for_handle(&self.handles, &self.borrows)?;
         let h = self.handles.len();
         self.handles.push_reserved(Some(Handle {
             kind: Kind::View,
@@ -146,12 +145,12 @@ impl Machine {
     }
 
     /// A writable handle on a new block, which a descriptor describes.
-    fn add_described(&mut self, block: Block, word: u64) -> Result<Reply, AllocError>
+    fn add_described(&mut self, block: Block, word: u64) -> Result<Reply, Full>
         requires { CanDescribe self.old.state block word }
         ensures { Took self.old (described_of self.old.state block word) result self.new }
     {
-        room_for_block(&mut self.blocks, &mut self.freed_blocks, &mut self.places)?;
-        room_for_handle(&mut self.handles, &mut self.borrows)?;
+        room_for_block(&self.blocks, &self.freed_blocks, &self.places)?;
+        room_for_handle(&self.handles, &self.borrows)?;
         self.places.add(block.base);
         let h = self.handles.len();
         self.blocks.push_reserved(block);
@@ -167,16 +166,16 @@ impl Machine {
     }
 
     /// A handle on a new block, which a new record counts.
-    fn add_recorded(&mut self, block: Block, x: Handle) -> Result<Reply, AllocError>
+    fn add_recorded(&mut self, block: Block, x: Handle) -> Result<Reply, Full>
         requires place { IsGoodPlace self.old.state.tables.blocks block.base block.size block.align }
         requires word { x.word ≡ Counted (next_record self.old.state) }
         requires lies { LiesIn block x x.kind }
         requires native { x.kind ≡ Mut → block.external ≡ false }
         ensures { Took self.old (recorded_of self.old.state block x) result self.new }
     {
-        room_for_block(&mut self.blocks, &mut self.freed_blocks, &mut self.places)?;
-        room_for_record(&mut self.records, &mut self.freed_records)?;
-        room_for_handle(&mut self.handles, &mut self.borrows)?;
+        room_for_block(&self.blocks, &self.freed_blocks, &self.places)?;
+        room_for_record(&self.records, &self.freed_records)?;
+        room_for_handle(&self.handles, &self.borrows)?;
         let number = self.blocks.len();
         self.places.add(block.base);
         let h = self.handles.len();

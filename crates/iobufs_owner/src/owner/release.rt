@@ -1,16 +1,18 @@
 //! Drops, step by step. In the original `Owner::drop_unless_unique`, which loads the count and subtracts, then
 //! `release_unique` or `drop_shared_race_final`, and `release_record`, which frees.
-ghost use Rattle.std.specs.Prelude.{◌≡◌, ℕ, ◌<◌, Bool, length, None, Some};
-ghost use Rattle.iobufs_owner.specs.declared.owner.types.Kind.TheVariants.{View};
-ghost use Rattle.iobufs_owner.specs.declared.owner.types.Word.TheVariants.{Empty, Record as Counted};
+ghost use Rattle.std.specs.Prelude.{◌≡◌, ◌<◌, length, None, Some};
+ghost use Rattle.iobufs_owner.specs.declared.owner.types.Kind.TheVariants.{View, Mut};
+ghost use Rattle.iobufs_owner.specs.declared.owner.types.Word.TheVariants.{Empty, Descriptor, Record as Counted};
 ghost use Rattle.iobufs_owner.specs.declared.owner.types.Reply.TheVariants.{More, Done};
 ghost use Rattle.iobufs_owner.specs.declared.owner.types.Pending.TheVariants.{Subtract, Release};
 ghost use Rattle.iobufs_owner.specs.LongCalls as long;
-ghost use Rattle.iobufs_owner.specs.Changes.{called, state_without};
+ghost use Rattle.iobufs_owner.specs.Changes.{block_freed, both_freed, called, replaced, state_without};
 ghost use Rattle.iobufs_owner.specs.Lending.{Lends};
 ghost use Rattle.iobufs_owner.specs.LongCalls.{drop_of, subtract_of, release_of};
-ghost use Rattle.iobufs_owner.specs.State.{KeepsRoom, call_at, record_at};
+ghost use Rattle.iobufs_owner.specs.ShortCalls.{IsLoose};
+ghost use Rattle.iobufs_owner.specs.State.{call_at, record_at, recovered};
 
+use crate::owner::handle::end;
 use crate::owner::{Freed, Handle, Kind, Machine, Pending, Record, Reply, Word};
 
 /// What a drop does next that loaded this count.
@@ -31,7 +33,7 @@ impl Machine {
         requires idle { call_at self.old.state party ≡ None }
         ensures reply { result ≡ (drop_of self.old.state party h).reply }
         ensures state { self.new.state ≡ (drop_of self.old.state party h).state }
-        ensures room { KeepsRoom self.old.room self.new.room }
+        ensures room { self.new.room ≡ self.old.room }
     {
         let x = match self.lend_any(h) {
             Ok(x) => x,
@@ -53,7 +55,7 @@ impl Machine {
         requires word { x.word ≡ Empty }
         ensures reply { result ≡ Done }
         ensures state { self.new.state ≡ state_without self.old.state h }
-        ensures room { KeepsRoom self.old.room self.new.room }
+        ensures room { self.new.room ≡ self.old.room }
     {
         self.handles[h] = None;
         Reply::Done
@@ -67,7 +69,7 @@ impl Machine {
         requires word { x.word ≡ Counted r }
         ensures reply { result ≡ (long.drop_counted self.old.state party h r x.kind).reply }
         ensures state { self.new.state ≡ (long.drop_counted self.old.state party h r x.kind).state }
-        ensures room { KeepsRoom self.old.room self.new.room }
+        ensures room { self.new.room ≡ self.old.room }
     {
         match x.kind {
             Kind::Mut => {
@@ -88,7 +90,7 @@ impl Machine {
         ensures state { self.new.state
             ≡ called (state_without self.old.state h) party
             (Some (long.after_count (record_at self.old.state.tables r).count r)) }
-        ensures room { KeepsRoom self.old.room self.new.room }
+        ensures room { self.new.room ≡ self.old.room }
     {
         let record = self.record(r);
         let next = after_count(record.count, r);
@@ -102,7 +104,7 @@ impl Machine {
         requires { call_at self.old.state party ≡ Some (Subtract r) }
         ensures reply { result ≡ (subtract_of self.old.state party r).reply }
         ensures state { self.new.state ≡ (subtract_of self.old.state party r).state }
-        ensures room { KeepsRoom self.old.room self.new.room }
+        ensures room { self.new.room ≡ self.old.room }
     {
         let record = self.record(r);
         self.records[r] = Record {
@@ -122,7 +124,7 @@ impl Machine {
         requires { call_at self.old.state party ≡ Some (Release r) }
         ensures reply { result ≡ (release_of self.old.state party r).reply }
         ensures state { self.new.state ≡ (release_of self.old.state party r).state }
-        ensures room { KeepsRoom self.old.room self.new.room }
+        ensures room { self.new.room ≡ self.old.room }
     {
         let record = self.record(r);
         let block = self.block(record.block);
@@ -138,5 +140,46 @@ impl Machine {
         self.freed_records.push_reserved(r);
         self.calls[party] = None;
         Reply::Done
+    }
+
+    /// A handle with a descriptor is replaced, and its block is freed, as the word and the handle describe it.
+    pub(super) fn free_described(&mut self, h: usize, x: Handle, word: u64, rest: Option<Handle>)
+        requires lent { Lends self.old.state h x.kind x }
+        requires word { x.word ≡ Descriptor word }
+        requires rest { IsLoose rest }
+        ensures state { self.new.state ≡ replaced (block_freed self.old.state (recovered self.old.state.tables x word)) h rest }
+        ensures room { self.new.room ≡ self.old.room }
+    {
+        let fields = self.format.unpack(word);
+        let base = end(x, fields.tail) - fields.size;
+        self.handles[h] = rest;
+        self.freed_blocks.push_reserved(Freed {
+            base,
+            size: fields.size,
+            align: fields.align,
+        });
+    }
+
+    /// A writable handle with a record is replaced, and its record and block are freed.
+    pub(super) fn free_counted(&mut self, h: usize, x: Handle, r: usize, rest: Option<Handle>)
+        requires lent { Lends self.old.state h Mut x }
+        requires word { x.word ≡ Counted r }
+        requires rest { IsLoose rest }
+        ensures state { self.new.state ≡ replaced (both_freed self.old.state r) h rest }
+        ensures room { self.new.room ≡ self.old.room }
+    {
+        let record = self.record(r);
+        let block = self.block(record.block);
+        self.handles[h] = rest;
+        self.records[r] = Record {
+            live: false,
+            ..record
+        };
+        self.freed_blocks.push_reserved(Freed {
+            base: block.base,
+            size: block.size,
+            align: block.align,
+        });
+        self.freed_records.push_reserved(r);
     }
 }

@@ -1,6 +1,6 @@
 //! Clones and slices of a view, step by step. In the original `OwnerCell::promote`, whose compare-exchange is the race
 //! here, and `Owner::clone_shared`, which adds to the count.
-ghost use Rattle.std.specs.Prelude.{◌≡◌, ℕ, ◌+◌, ◌^◌, ◌<◌, ◌≤◌, length, IfOk, None, Some};
+ghost use Rattle.std.specs.Prelude.{◌≡◌, ◌+◌, ◌-◌, ◌^◌, ◌<◌, ◌≤◌, length, slice_index_or, slice_set, vec_capacity, IfOk, None, Some};
 ghost use Rattle.iobufs_owner.specs.declared.owner.types.Kind.TheVariants.{View};
 ghost use Rattle.iobufs_owner.specs.declared.owner.types.Word.TheVariants.{Empty, Descriptor, Record as Counted};
 ghost use Rattle.iobufs_owner.specs.declared.owner.types.Pending.TheVariants.{Loaded, Ready, Add};
@@ -12,12 +12,33 @@ ghost use Rattle.iobufs_owner.specs.Changes.{called, edited, record_freed, with_
 ghost use Rattle.iobufs_owner.specs.LongCalls.{shared, share_by, clone_of, slice_of, ready_of, race_of, add_of};
 ghost use Rattle.iobufs_owner.specs.Moves.{Took};
 ghost use Rattle.iobufs_owner.specs.Sound.{IsSound, Shares};
-ghost use Rattle.iobufs_owner.specs.State.{KeepsRoom, handle_at, call_at, record_at};
+ghost use Rattle.iobufs_owner.specs.State.{handle_at, call_at, record_at};
 
-use crate::owner::lend::{borrow_less, borrow_more, part};
+use crate::owner::handle::part;
 use crate::owner::room::{room_for_handle, room_for_record};
-use crate::owner::{Handle, Kind, Machine, Pending, Record, Refusal, Reply, Share, Word};
-use std::alloc::AllocError;
+use crate::owner::{Full, Handle, Kind, Machine, Pending, Record, Refusal, Reply, Share, Word};
+
+// One borrow more of a handle.
+fn borrow_more(borrows: &mut Vec<usize>, h: usize)
+    requires known { h < length borrows.old.items }
+    requires few { slice_index_or borrows.old.items h 0 < 2 ^ 63 }
+    ensures items { borrows.new.items
+        ≡ slice_set borrows.old.items h (slice_index_or borrows.old.items h 0 + 1) }
+    ensures capacity { vec_capacity borrows.new ≡ vec_capacity borrows.old }
+{
+    borrows[h] += 1;
+}
+
+// One borrow less of a handle.
+fn borrow_less(borrows: &mut Vec<usize>, h: usize)
+    requires known { h < length borrows.old.items }
+    requires some { 0 < slice_index_or borrows.old.items h 0 }
+    ensures items { borrows.new.items
+        ≡ slice_set borrows.old.items h (slice_index_or borrows.old.items h 0 - 1) }
+    ensures capacity { vec_capacity borrows.new ≡ vec_capacity borrows.old }
+{
+    borrows[h] -= 1;
+}
 
 impl Machine {
     /// The view, for a call that shares it.
@@ -37,7 +58,7 @@ impl Machine {
     }
 
     /// A clone begins.
-    pub(super) fn clone_view(&mut self, party: usize, h: usize) -> Result<Reply, AllocError>
+    pub(super) fn clone_view(&mut self, party: usize, h: usize) -> Result<Reply, Full>
         requires there { party < length self.old.state.calls }
         requires idle { call_at self.old.state party ≡ None }
         ensures { Took self.old (clone_of self.old.state party h) result self.new }
@@ -61,7 +82,7 @@ impl Machine {
         h: usize,
         lo: u64,
         hi: u64,
-    ) -> Result<Reply, AllocError>
+    ) -> Result<Reply, Full>
         requires there { party < length self.old.state.calls }
         requires idle { call_at self.old.state party ≡ None }
         ensures { Took self.old (slice_of self.old.state party h lo hi) result self.new }
@@ -81,7 +102,7 @@ impl Machine {
     }
 
     /// The word is loaded: a view without block is shared at once.
-    fn share(&mut self, party: usize, range: Share, x: Handle) -> Result<Reply, AllocError>
+    fn share(&mut self, party: usize, range: Share, x: Handle) -> Result<Reply, Full>
         requires there { party < length self.old.state.calls }
         requires idle { call_at self.old.state party ≡ None }
         requires fits { Shares self.old.state range x }
@@ -95,12 +116,12 @@ impl Machine {
     }
 
     /// A part of a view without block is a new view.
-    fn share_empty(&mut self, range: Share, x: Handle) -> Result<Reply, AllocError>
+    fn share_empty(&mut self, range: Share, x: Handle) -> Result<Reply, Full>
         requires fits { Shares self.old.state range x }
         requires word { x.word ≡ Empty }
         ensures { Took self.old (change.made self.old.state (change.part x range.lo range.hi Empty)) result self.new }
     {
-        room_for_handle(&mut self.handles, &mut self.borrows)?;
+        room_for_handle(&self.handles, &self.borrows)?;
         let new = self.handles.len();
         self.handles
             .push_reserved(Some(part(x, range.lo, range.hi, Word::Empty)));
@@ -116,7 +137,7 @@ impl Machine {
         requires word { x.word ≡ Descriptor word }
         ensures reply { result ≡ More }
         ensures state { self.new.state ≡ called self.old.state party (Some (Loaded range word)) }
-        ensures room { KeepsRoom self.old.room self.new.room }
+        ensures room { self.new.room ≡ self.old.room }
     {
         borrow_more(&mut self.borrows, range.handle);
         self.calls[party] = Some(Pending::Loaded(range, word));
@@ -131,7 +152,7 @@ impl Machine {
         requires word { x.word ≡ Counted r }
         ensures reply { result ≡ More }
         ensures state { self.new.state ≡ called self.old.state party (Some (Add range r)) }
-        ensures room { KeepsRoom self.old.room self.new.room }
+        ensures room { self.new.room ≡ self.old.room }
     {
         borrow_more(&mut self.borrows, range.handle);
         self.calls[party] = Some(Pending::Add(range, r));
@@ -160,7 +181,7 @@ impl Machine {
         range: Share,
         word: u64,
         memory: bool,
-    ) -> Result<Reply, AllocError>
+    ) -> Result<Reply, Full>
         requires { call_at self.old.state party ≡ Some (Loaded range word) }
         ensures { Took self.old (ready_of self.old.state party range word memory) result self.new }
     {
@@ -170,7 +191,7 @@ impl Machine {
             return Ok(Reply::Refused(Refusal::Memory));
         }
         let block = self.loaded_block(party, range, word);
-        room_for_record(&mut self.records, &mut self.freed_records)?;
+        room_for_record(&self.records, &self.freed_records)?;
         let r = self.records.len();
         self.records.push_reserved(Record {
             count: 2,
@@ -188,7 +209,7 @@ impl Machine {
         range: Share,
         word: u64,
         r: usize,
-    ) -> Result<Reply, AllocError>
+    ) -> Result<Reply, Full>
         requires { call_at self.old.state party ≡ Some (Ready range word r) }
         ensures { Took self.old (race_of self.old.state party range word r) result self.new }
     {
@@ -210,7 +231,7 @@ impl Machine {
         word: u64,
         r: usize,
         x: Handle,
-    ) -> Result<Reply, AllocError>
+    ) -> Result<Reply, Full>
         requires call { call_at self.old.state party ≡ Some (Ready range word r) }
         requires at { handle_at self.old.state range.handle ≡ Some x }
         requires word { x.word ≡ Descriptor word }
@@ -218,7 +239,7 @@ impl Machine {
             (shared (edited self.old.state range.handle (record x { word = Counted r })) party range x r)
             result self.new }
     {
-        room_for_handle(&mut self.handles, &mut self.borrows)?;
+        room_for_handle(&self.handles, &self.borrows)?;
         let new = self.handles.len();
         self.handles[range.handle] = Some(Handle {
             word: Word::Record(r),
@@ -247,7 +268,7 @@ impl Machine {
         requires word { x.word ≡ Counted winner }
         ensures reply { result ≡ More }
         ensures state { self.new.state ≡ called (record_freed self.old.state r) party (Some (Add range winner)) }
-        ensures room { KeepsRoom self.old.room self.new.room }
+        ensures room { self.new.room ≡ self.old.room }
     {
         let record = self.record(r);
         self.records[r] = Record {
@@ -260,7 +281,7 @@ impl Machine {
     }
 
     /// One holder more, unless the count is above the ceiling.
-    pub(super) fn add(&mut self, party: usize, range: Share, r: usize) -> Result<Reply, AllocError>
+    pub(super) fn add(&mut self, party: usize, range: Share, r: usize) -> Result<Reply, Full>
         requires { call_at self.old.state party ≡ Some (Add range r) }
         ensures { Took self.old (add_of self.old.state party range r) result self.new }
     {
@@ -277,13 +298,7 @@ impl Machine {
     }
 
     /// One holder more.
-    fn add_holder(
-        &mut self,
-        party: usize,
-        range: Share,
-        r: usize,
-        x: Handle,
-    ) -> Result<Reply, AllocError>
+    fn add_holder(&mut self, party: usize, range: Share, r: usize, x: Handle) -> Result<Reply, Full>
         requires call { call_at self.old.state party ≡ Some (Add range r) }
         requires at { handle_at self.old.state range.handle ≡ Some x }
         requires low { (record_at self.old.state.tables r).count ≤ self.old.state.ceiling }
@@ -292,7 +307,7 @@ impl Machine {
             result self.new }
     {
         let record = self.record(r);
-        room_for_handle(&mut self.handles, &mut self.borrows)?;
+        room_for_handle(&self.handles, &self.borrows)?;
         let new = self.handles.len();
         self.records[r] = Record {
             count: record.count + 1,

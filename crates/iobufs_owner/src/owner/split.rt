@@ -1,5 +1,5 @@
 //! A view is split in two.
-ghost use Rattle.std.specs.Prelude.{◌≡◌, ℕ, ◌+◌, ◌^◌, ◌<◌, ◌≤◌, true};
+ghost use Rattle.std.specs.Prelude.{◌≡◌, ◌+◌, ◌^◌, ◌<◌, ◌≤◌, true};
 ghost use Rattle.iobufs_owner.specs.declared.owner.types.Kind.TheVariants.{View};
 ghost use Rattle.iobufs_owner.specs.declared.owner.types.Word.TheVariants.{Empty, Descriptor, Record as Counted};
 ghost use Rattle.iobufs_owner.specs.Changes as change;
@@ -9,14 +9,13 @@ ghost use Rattle.iobufs_owner.specs.Lending.{Lends};
 ghost use Rattle.iobufs_owner.specs.ShortCalls.{split_by, split_of};
 ghost use Rattle.iobufs_owner.specs.Moves.{Took};
 
-use crate::owner::lend::{detached, part};
+use crate::owner::handle::{detached, part};
 use crate::owner::room::{room_for_handle, room_for_record};
-use crate::owner::{Handle, Kind, Machine, Record, Refusal, Reply, Word};
-use std::alloc::AllocError;
+use crate::owner::{Full, Handle, Kind, Machine, Record, Refusal, Reply, Word};
 
 impl Machine {
     /// The first `at` bytes of a view become a view of their own, the rest stays.
-    pub(super) fn split(&mut self, h: usize, at: u64, memory: bool) -> Result<Reply, AllocError>
+    pub(super) fn split(&mut self, h: usize, at: u64, memory: bool) -> Result<Reply, Full>
         ensures { Took self.old (split_of self.old.state h at memory) result self.new }
     {
         let x = match self.lend(h, Kind::View) {
@@ -40,12 +39,12 @@ impl Machine {
     }
 
     /// The whole view goes to a new number, and a detached one is left.
-    fn move_whole(&mut self, h: usize, x: Handle) -> Result<Reply, AllocError>
+    fn move_whole(&mut self, h: usize, x: Handle) -> Result<Reply, Full>
         requires { Lends self.old.state h View x }
         ensures { Took self.old
             (made (edited self.old.state h (change.detached 0)) x) result self.new }
     {
-        room_for_handle(&mut self.handles, &mut self.borrows)?;
+        room_for_handle(&self.handles, &self.borrows)?;
         let new = self.handles.len();
         self.handles[h] = Some(detached());
         self.handles.push_reserved(Some(x));
@@ -54,14 +53,14 @@ impl Machine {
     }
 
     /// A view without block is split.
-    fn split_empty(&mut self, h: usize, at: u64, x: Handle) -> Result<Reply, AllocError>
+    fn split_empty(&mut self, h: usize, at: u64, x: Handle) -> Result<Reply, Full>
         requires lent { Lends self.old.state h View x }
         requires word { x.word ≡ Empty }
         requires within { at ≤ x.len }
         requires ends { x.ptr + x.len < 2 ^ 64 }
         ensures { Took self.old (short.split_with self.old.state h at x Empty) result self.new }
     {
-        room_for_handle(&mut self.handles, &mut self.borrows)?;
+        room_for_handle(&self.handles, &self.borrows)?;
         let new = self.handles.len();
         self.handles[h] = Some(part(x, at, x.len, Word::Empty));
         self.handles
@@ -78,7 +77,7 @@ impl Machine {
         memory: bool,
         x: Handle,
         word: u64,
-    ) -> Result<Reply, AllocError>
+    ) -> Result<Reply, Full>
         requires lent { Lends self.old.state h View x }
         requires word { x.word ≡ Descriptor word }
         requires within { at ≤ x.len }
@@ -89,8 +88,8 @@ impl Machine {
             return Ok(Reply::Refused(Refusal::Memory));
         }
         let block = self.owned(h, x, word);
-        room_for_record(&mut self.records, &mut self.freed_records)?;
-        room_for_handle(&mut self.handles, &mut self.borrows)?;
+        room_for_record(&self.records, &self.freed_records)?;
+        room_for_handle(&self.handles, &self.borrows)?;
         let new = self.handles.len();
         let r = self.records.len();
         self.records.push_reserved(Record {
@@ -106,7 +105,7 @@ impl Machine {
     }
 
     /// A view with a record is split: the record counts one more.
-    fn split_counted(&mut self, h: usize, at: u64, x: Handle, r: usize) -> Result<Reply, AllocError>
+    fn split_counted(&mut self, h: usize, at: u64, x: Handle, r: usize) -> Result<Reply, Full>
         requires lent { Lends self.old.state h View x }
         requires word { x.word ≡ Counted r }
         requires within { at ≤ x.len }
@@ -117,7 +116,7 @@ impl Machine {
         if record.count > self.ceiling {
             return Ok(Reply::Refused(Refusal::Ceiling));
         }
-        room_for_handle(&mut self.handles, &mut self.borrows)?;
+        room_for_handle(&self.handles, &self.borrows)?;
         let new = self.handles.len();
         self.records[r] = Record {
             count: record.count + 1,

@@ -169,9 +169,13 @@ pub enum Refusal {
     Memory,
     /// A holder more, where the count is above the ceiling. An unfinished call is ended.
     Ceiling,
-    /// A table of the machine couldn't grow, or has 2^32 entries.
+    /// A table that the step adds to has no room for an entry more, or has 2^32 entries.
     Room,
 }
+
+/// A table that a step would add to is full.
+#[derive(Clone, Copy, Debug, PartialEq, Eq, Drop)]
+pub(super) struct Full;
 
 /// The answer to a step.
 #[derive(Clone, Copy, Debug, PartialEq, Eq, Drop)]

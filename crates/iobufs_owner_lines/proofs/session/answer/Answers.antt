@@ -1,13 +1,16 @@
 use Rattle.std.proofs.Common.{refl}
 use Rattle.iobufs_owner_lines.specs.Printed.{answer_text, reply_text}
+use Rattle.iobufs_owner_lines.proofs.Stepped.{room_made}
 use Rattle.iobufs_owner_lines.proofs.Written.{written}
 use Rattle.iobufs_owner_lines.proofs.session.answer.Goals as goal
 
 pub returns-in-Take : goal.returns-in-Take
 returns-in-Take g c =
     let s = c.step.ensures in
+    let r = c.reserve.ensures in
+    let grown = room_made c.args.machine.now c.reserve.new.self c.reserve.result r.state r.room r.blocks r.handles r.records r.refused in
     written c.writeln.result (g.W.Write.contents c.args.output.now) _ c.args.machine.now c.step.new.self c.args.ask (reply_text c.step.result)
-    (rw c.in-Take.is (c.step.result, record { moves = s.moves; steps = s.steps; sound = s.sound; promises = s.promises; room = s.room }, refl)) c.writeln.ensures.bytes
+    (rw c.in-Take.is (c.reserve.new.self, c.step.result, grown, record { moves = s.moves; steps = s.steps; sound = s.sound; promises = s.promises; room = s.room }, refl)) c.writeln.ensures.bytes
 
 pub returns-in-Look : goal.returns-in-Look
 returns-in-Look g c =

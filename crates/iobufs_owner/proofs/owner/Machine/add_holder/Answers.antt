@@ -28,22 +28,22 @@ part-requires-clause-ends c =
     let found = subst (λ (s : State). handle_at s c.args.range.handle ≡ Some c.args.x) (sym (ap (λ (m : Seen). m.state) c.self.view_is)) c.requires.at in
     end-small s c.args.range.handle c.args.x k.sound found
 
-pub invariant_of-self-2 : goal.invariant_of-self-2
-invariant_of-self-2 c =
+pub invariant_of-self : goal.invariant_of-self
+invariant_of-self c =
     let s : State = state_of c.self.inside in
     let k = c.self.invariant in
     let at = subst (λ (s : State). call_at s c.args.party ≡ Some (Add c.args.range c.args.r)) (sym (ap (λ (m : Seen). m.state) c.self.view_is)) c.requires.call in
     let found = subst (λ (s : State). handle_at s c.args.range.handle ≡ Some c.args.x) (sym (ap (λ (m : Seen). m.state) c.self.view_is)) c.requires.at in
     let e = subst (λ (s : State). c.record-record.result ≡ record_at s.tables c.args.r) (sym (ap (λ (m : Seen). m.state) c.self.view_is)) c.record-record.ensures in
     let low = subst (λ (s : State). (record_at s.tables c.args.r).count ≤ s.ceiling) (sym (ap (λ (m : Seen). m.state) c.self.view_is)) c.requires.low in
-    record { sound = rw (e, c.push_reserved.ensures.items, c.in_ok-room_for_handle.ensures.handles, c.part.ensures) (sound-added-call s c.args.party c.args.r c.args.range c.args.x k.sound at found low (omega (arith, c.in_ok-room_for_handle.ensures.few))); block_room = k.block_room; record_room = rw length-set k.record_room; borrows_kept = rw (c.borrow_less.ensures.items, c.push_reserved-2.ensures.items, c.in_ok-room_for_handle.ensures.borrows, c.push_reserved.ensures.items, c.in_ok-room_for_handle.ensures.handles, length-set) (kept-pushed _ _ _ k.borrows_kept); places = k.places; borrowed = rw (c.borrow_less.ensures.items, c.push_reserved-2.ensures.items, c.in_ok-room_for_handle.ensures.borrows) (counts-less (c.self.inside.borrows.items ++ 0 ∷ []) c.self.inside.calls.items c.args.party c.args.range.handle (Some (Add c.args.range c.args.r)) (let l = at-some s.handles c.args.range.handle c.args.x found in let q = k.borrows_kept in let e = length-append c.self.inside.borrows.items (0 ∷ []) in omega (arith, l, q, e)) (at-some s.calls c.args.party (Add c.args.range c.args.r) at) at (λ j. refl) (counts-pushed c.self.inside.borrows.items c.self.inside.calls.items k.borrowed)) }
+    record { sound = rw (e, c.push_reserved.ensures.items, c.part.ensures) (sound-added-call s c.args.party c.args.r c.args.range c.args.x k.sound at found low (omega (arith, c.in_ok-room_for_handle.ensures.few))); block_room = k.block_room; record_room = rw length-set k.record_room; borrows_kept = rw (c.borrow_less.ensures.items, c.push_reserved-2.ensures.items, c.push_reserved.ensures.items, length-set) (kept-pushed _ _ _ k.borrows_kept); places = k.places; borrowed = rw (c.borrow_less.ensures.items, c.push_reserved-2.ensures.items) (counts-less (c.self.inside.borrows.items ++ 0 ∷ []) c.self.inside.calls.items c.args.party c.args.range.handle (Some (Add c.args.range c.args.r)) (let l = at-some s.handles c.args.range.handle c.args.x found in let q = k.borrows_kept in let e = length-append c.self.inside.borrows.items (0 ∷ []) in omega (arith, l, q, e)) (at-some s.calls c.args.party (Add c.args.range c.args.r) at) at (λ j. refl) (counts-pushed c.self.inside.borrows.items c.self.inside.calls.items k.borrowed)) }
 
 pub borrow_less-requires-clause-some : goal.borrow_less-requires-clause-some
 borrow_less-requires-clause-some c =
     let s : State = state_of c.self.inside in
     let k = c.self.invariant in
     let at = subst (λ (s : State). call_at s c.args.party ≡ Some (Add c.args.range c.args.r)) (sym (ap (λ (m : Seen). m.state) c.self.view_is)) c.requires.call in
-    rw (c.push_reserved-2.ensures.items, c.in_ok-room_for_handle.ensures.borrows) (some-borrowed (c.self.inside.borrows.items ++ 0 ∷ []) c.self.inside.calls.items c.args.party c.args.range.handle (Some (Add c.args.range c.args.r)) (at-some s.calls c.args.party (Add c.args.range c.args.r) at) at (is-eqb c.args.range.handle c.args.range.handle refl) (counts-pushed c.self.inside.borrows.items c.self.inside.calls.items k.borrowed))
+    rw c.push_reserved-2.ensures.items (some-borrowed (c.self.inside.borrows.items ++ 0 ∷ []) c.self.inside.calls.items c.args.party c.args.range.handle (Some (Add c.args.range c.args.r)) (at-some s.calls c.args.party (Add c.args.range c.args.r) at) at (is-eqb c.args.range.handle c.args.range.handle refl) (counts-pushed c.self.inside.borrows.items c.self.inside.calls.items k.borrowed))
 
 pub borrow_less-requires-clause-known : goal.borrow_less-requires-clause-known
 borrow_less-requires-clause-known c =
@@ -53,4 +53,4 @@ borrow_less-requires-clause-known c =
     let l = at-some s.handles c.args.range.handle c.args.x found in
     let q = k.borrows_kept in
     let e = length-append c.self.inside.borrows.items (0 ∷ []) in
-    rw (c.push_reserved-2.ensures.items, c.in_ok-room_for_handle.ensures.borrows) (omega (arith, l, q, e))
+    rw c.push_reserved-2.ensures.items (omega (arith, l, q, e))

@@ -1,4 +1,5 @@
-use Rattle.std.proofs.Common.{◌≡◌, length, arith, sym, subst, length-append, ap, inl, inr}
+use Rattle.std.proofs.Common.{◌≡◌, length, arith, sym, subst, refl, length-append, ap, inl, inr}
+use Rattle.std.proofs.lemmas.List.{length-map}
 use Rattle.std.proofs.lemmas.Result.{err_from_is_err_and}
 use Rattle.iobufs_owner.specs.Inside.{state_of}
 use Rattle.iobufs_owner.specs.State.{IsFull, State, Seen}
@@ -11,62 +12,47 @@ use Rattle.iobufs_owner.proofs.Soundness.Finds.{bases-more, other-bases}
 use Rattle.iobufs_owner.proofs.Soundness.New.{other-base}
 use Rattle.iobufs_owner.proofs.owner.Machine.add_recorded.Goals as goal
 
-pub invariant_of-self-2 : goal.invariant_of-self-2
-invariant_of-self-2 c =
+pub invariant_of-self : goal.invariant_of-self
+invariant_of-self c =
     let s : State = state_of c.self.inside in
     let k = c.self.invariant in
     let good = subst (λ (s : State). IsGoodPlace s.tables.blocks c.args.block.base c.args.block.size c.args.block.align) (sym (ap (λ (m : Seen). m.state) c.self.view_is)) c.requires.place in
     let word = subst (λ (s : State). c.args.x.word ≡ Counted (next_record s)) (sym (ap (λ (m : Seen). m.state) c.self.view_is)) c.requires.word in
-    let n : c.len-number.result ≡ length c.self.inside.blocks.items = omega (arith, c.len-number.ensures, c.in_ok-room_for_block.ensures.len) in
+    let e : length c.self.inside.places.bases ≡ length c.self.inside.blocks.items = rw (k.places, length-map) refl in
+    let n : c.len-number.result ≡ length c.self.inside.blocks.items = omega (arith, c.len-number.ensures) in
     record {
-      sound = rw (c.push_reserved-3.ensures.items, c.in_ok-room_for_handle.ensures.handles, c.push_reserved-2.ensures.items, c.in_ok-room_for_record.ensures.records, c.push_reserved.ensures.items, c.in_ok-room_for_block.ensures.blocks, c.in_ok-room_for_block.ensures.freed, c.in_ok-room_for_record.ensures.freed, n) (sound-recorded s c.args.block c.args.x k.sound good word c.requires.lies c.requires.native (omega (arith, c.in_ok-room_for_block.ensures.few, c.in_ok-room_for_handle.ensures.few, c.in_ok-room_for_record.ensures.few)) (omega (arith, c.in_ok-room_for_block.ensures.few, c.in_ok-room_for_handle.ensures.few, c.in_ok-room_for_record.ensures.few)) (omega (arith, c.in_ok-room_for_block.ensures.few, c.in_ok-room_for_handle.ensures.few, c.in_ok-room_for_record.ensures.few)));
-      block_room = rw (c.push_reserved.ensures.items, c.in_ok-room_for_block.ensures.blocks, length-append) (omega (arith, c.in_ok-room_for_block.ensures.freed_room));
-      record_room = rw (c.push_reserved-2.ensures.items, c.in_ok-room_for_record.ensures.records, length-append) (omega (arith, c.in_ok-room_for_record.ensures.freed_room));
-      borrows_kept = rw (c.push_reserved-4.ensures.items, c.in_ok-room_for_handle.ensures.borrows, c.push_reserved-3.ensures.items, c.in_ok-room_for_handle.ensures.handles) (kept-pushed _ _ _ k.borrows_kept);
-      places = rw (c.add.ensures.bases, c.in_ok-room_for_block.ensures.bases, c.push_reserved.ensures.items, c.in_ok-room_for_block.ensures.blocks) (bases-more c.self.inside.places.bases c.self.inside.blocks.items c.args.block k.places);
-      borrowed = rw (c.push_reserved-4.ensures.items, c.in_ok-room_for_handle.ensures.borrows) (counts-pushed c.self.inside.borrows.items c.self.inside.calls.items k.borrowed);
+      sound = rw (c.push_reserved-3.ensures.items, c.push_reserved-2.ensures.items, c.push_reserved.ensures.items, n) (sound-recorded s c.args.block c.args.x k.sound good word c.requires.lies c.requires.native (omega (arith, c.in_ok-room_for_block.ensures.few, c.in_ok-room_for_handle.ensures.few, c.in_ok-room_for_record.ensures.few)) (omega (arith, c.in_ok-room_for_block.ensures.few, c.in_ok-room_for_handle.ensures.few, c.in_ok-room_for_record.ensures.few)) (omega (arith, c.in_ok-room_for_block.ensures.few, c.in_ok-room_for_handle.ensures.few, c.in_ok-room_for_record.ensures.few)));
+      block_room = rw (c.push_reserved.ensures.items, length-append) (omega (arith, e, c.in_ok-room_for_block.ensures.freed_room, c.in_ok-room_for_block.ensures.place_room, c.add.ensures.room));
+      record_room = rw (c.push_reserved-2.ensures.items, length-append) (omega (arith, c.in_ok-room_for_record.ensures.freed_room));
+      borrows_kept = rw (c.push_reserved-4.ensures.items, c.push_reserved-3.ensures.items) (kept-pushed _ _ _ k.borrows_kept);
+      places = rw (c.add.ensures.bases, c.push_reserved.ensures.items) (bases-more c.self.inside.places.bases c.self.inside.blocks.items c.args.block k.places);
+      borrowed = rw c.push_reserved-4.ensures.items (counts-pushed c.self.inside.borrows.items c.self.inside.calls.items k.borrowed);
     }
 
 pub add-requires-clause-new : goal.add-requires-clause-new
 add-requires-clause-new c =
     let k = c.self.invariant in
     let good = subst (λ (s : State). IsGoodPlace s.tables.blocks c.args.block.base c.args.block.size c.args.block.align) (sym (ap (λ (m : Seen). m.state) c.self.view_is)) c.requires.place in
-    rw c.in_ok-room_for_block.ensures.bases (other-bases c.self.inside.places.bases c.self.inside.blocks.items c.args.block k.places (other-base c.self.inside.blocks.items c.args.block k.sound.blocks.places good))
+    (other-bases c.self.inside.places.bases c.self.inside.blocks.items c.args.block k.places (other-base c.self.inside.blocks.items c.args.block k.sound.blocks.places good))
 
 pub returns-in_err-room_for_record : goal.returns-in_err-room_for_record
 returns-in_err-room_for_record c =
     let p = err_from_is_err_and c.from_residual-in_err-room_for_record.result c.from_residual-in_err-room_for_record.ensures.1 in
-    let blocks = ap (λ (m : Seen). m.room.blocks) c.self.view_is in
-    let handles = ap (λ (m : Seen). m.room.handles) c.self.view_is in
-    let records = ap (λ (m : Seen). m.room.records) c.self.view_is in
     rw p.1 (
       inr (inr (
         rw length-append (omega arith),
         subst (λ (m : Seen). IsFull m.room.records (length m.state.tables.records)) c.self.view_is c.in_err-room_for_record.ensures.full,
       )),
-      rw (c.in_ok-room_for_block.ensures.blocks, c.in_ok-room_for_block.ensures.freed, c.in_err-room_for_record.ensures.records, c.in_err-room_for_record.ensures.freed) (ap (λ (m : Seen). m.state) c.self.view_is),
-      (
-        omega (arith, blocks, c.in_ok-room_for_block.ensures.block_capacity, c.in_ok-room_for_block.ensures.capacity, c.in_ok-room_for_block.ensures.place_capacity),
-        omega (arith, handles),
-        omega (arith, records, c.in_err-room_for_record.ensures.record_capacity, c.in_err-room_for_record.ensures.capacity),
-      ),
+      refl,
     )
 
 pub returns-in_err-room_for_handle : goal.returns-in_err-room_for_handle
 returns-in_err-room_for_handle c =
     let p = err_from_is_err_and c.from_residual-in_err-room_for_handle.result c.from_residual-in_err-room_for_handle.ensures.1 in
-    let blocks = ap (λ (m : Seen). m.room.blocks) c.self.view_is in
-    let handles = ap (λ (m : Seen). m.room.handles) c.self.view_is in
-    let records = ap (λ (m : Seen). m.room.records) c.self.view_is in
     rw p.1 (
       inl (
         rw length-append (omega arith),
         subst (λ (m : Seen). IsFull m.room.handles (length m.state.handles)) c.self.view_is c.in_err-room_for_handle.ensures.full,
       ),
-      rw (c.in_ok-room_for_block.ensures.blocks, c.in_ok-room_for_block.ensures.freed, c.in_ok-room_for_record.ensures.records, c.in_ok-room_for_record.ensures.freed, c.in_err-room_for_handle.ensures.handles) (ap (λ (m : Seen). m.state) c.self.view_is),
-      (
-        omega (arith, blocks, c.in_ok-room_for_block.ensures.block_capacity, c.in_ok-room_for_block.ensures.capacity, c.in_ok-room_for_block.ensures.place_capacity),
-        omega (arith, handles, c.in_err-room_for_handle.ensures.capacity, c.in_err-room_for_handle.ensures.borrow_capacity),
-        omega (arith, records, c.in_ok-room_for_record.ensures.record_capacity, c.in_ok-room_for_record.ensures.capacity),
-      ),
+      refl,
     )

@@ -1,4 +1,4 @@
-use Rattle.std.proofs.Common.{◌≡◌, inl, inr, arith, ap, sym, ◌∙◌, subst}
+use Rattle.std.proofs.Common.{◌≡◌, inl, inr, arith, ap, refl, sym, ◌∙◌, subst}
 use Rattle.std.proofs.Math.ListN.{length-set}
 use Rattle.iobufs_owner.specs.declared.owner.types.Block.{Block}
 use Rattle.iobufs_owner.specs.declared.owner.types.Record.{Record}
@@ -8,7 +8,6 @@ use Rattle.iobufs_owner.specs.Lending.{Lends}
 use Rattle.iobufs_owner.specs.Sound.{IsSound}
 use Rattle.iobufs_owner.specs.State.{State, Seen}
 use Rattle.iobufs_owner.proofs.Soundness.Demote.{MayDemote, demoting, sound-demoted, keeps-record, frees-record}
-use Rattle.iobufs_owner.proofs.WorldSteps.Sizes.{keeps-room}
 use Rattle.iobufs_owner.proofs.owner.Machine.demote_counted.Goals as goal
 
 pub returns-then-not-is_sole : goal.returns-then-not-is_sole
@@ -23,7 +22,7 @@ returns-then-not-is_sole c =
       | inr w ↦ (let q = sym w.1 ∙ ap (λ (b : Block). b.external) e ∙ m.native in cc)
     ] in
     let z = keeps-record s c.args.h c.args.r d.power.0 c.args.x never in
-    (d.power.0, d.power.1, z.0, z.1, keeps-room c.args.self.now.room)
+    (d.power.0, d.power.1, z.0, z.1, refl)
 
 pub overflow_sub-tail : goal.overflow_sub-tail
 overflow_sub-tail c =
@@ -54,7 +53,7 @@ returns-in_default c =
     let e = rw (c.record-record.ensures, v) at c.block-block.ensures in
     let never : MayDemote s.tables c.args.x c.args.r d.power.0 → ⊥ = λ m. c.in_default.ensures.sum d.power.0 (rw e d.power.1) (rw e m.room) in
     let z = keeps-record s c.args.h c.args.r d.power.0 c.args.x never in
-    rw v (d.power.0, d.power.1, z.0, z.1, keeps-room _)
+    rw v (d.power.0, d.power.1, z.0, z.1, refl)
 
 pub push_reserved-requires : goal.push_reserved-requires
 push_reserved-requires c =
@@ -90,4 +89,4 @@ returns c =
     let word = rw e at w.1 in
     let may : MayDemote s.tables c.args.x c.args.r d.power.0 = record { one = rw e1 at c.if-not-is_sole.false; native = rw e at c.if-is_external.false; room = rw e at w.0 } in
     let z = frees-record s c.args.h c.args.r d.power.0 c.args.x may in
-    rw v (d.power.0, d.power.1, z.0, rw (c.push_reserved.ensures.items, e1, word) z.1, ((let v = ap (λ (m : Seen). m.room.blocks) c.self.view_is in omega (arith, v)), (let v = ap (λ (m : Seen). m.room.handles) c.self.view_is in omega (arith, v)), (let v = ap (λ (m : Seen). m.room.records) c.self.view_is in omega (arith, v, c.push_reserved.ensures.capacity))))
+    rw v (d.power.0, d.power.1, z.0, rw (c.push_reserved.ensures.items, e1, word) z.1, rw c.push_reserved.ensures.capacity (ap (λ (m : Seen). m.room) c.self.view_is))

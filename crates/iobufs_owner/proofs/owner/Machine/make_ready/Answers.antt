@@ -28,11 +28,11 @@ invariant_of-self-2 c =
     let at = subst (λ (s : State). call_at s c.args.party ≡ Some (Loaded c.args.range c.args.word)) (sym (ap (λ (m : Seen). m.state) c.self.view_is)) c.requires in
     let l = loading s c.args.party c.args.range c.args.word k.sound at in
     let b = subst (λ (s : State). c.loaded_block-block.result ≡ loaded_block s c.args.range.handle c.args.word) (sym (ap (λ (m : Seen). m.state) c.self.view_is)) c.loaded_block-block.ensures in
-    let r : c.len-r.result ≡ length c.self.inside.records.items = omega (arith, c.len-r.ensures, c.in_ok-room_for_record.ensures.len) in
+    let r : c.len-r.result ≡ length c.self.inside.records.items = omega (arith, c.len-r.ensures) in
     record {
-      sound = rw (c.push_reserved.ensures.items, c.in_ok-room_for_record.ensures.records, c.in_ok-room_for_record.ensures.freed, r, b) (sound-readied s c.args.party c.args.range c.args.word (loaded_block s c.args.range.handle c.args.word) k.sound at l (loading-block s c.args.range c.args.word l) (omega (arith, c.in_ok-room_for_record.ensures.few)));
+      sound = rw (c.push_reserved.ensures.items, r, b) (sound-readied s c.args.party c.args.range c.args.word (loaded_block s c.args.range.handle c.args.word) k.sound at l (loading-block s c.args.range c.args.word l) (omega (arith, c.in_ok-room_for_record.ensures.few)));
       block_room = k.block_room;
-      record_room = rw (c.push_reserved.ensures.items, c.in_ok-room_for_record.ensures.records, length-append) (omega (arith, c.in_ok-room_for_record.ensures.freed_room));
+      record_room = rw (c.push_reserved.ensures.items, length-append) (omega (arith, c.in_ok-room_for_record.ensures.freed_room));
       borrows_kept = k.borrows_kept;
       places = k.places;
       borrowed = counts-same c.self.inside.borrows.items c.self.inside.calls.items c.args.party (Some (Ready c.args.range c.args.word c.len-r.result)) (at-some s.calls c.args.party (Loaded c.args.range c.args.word) at) (λ h. ap (borrows_it h) at) k.borrowed;

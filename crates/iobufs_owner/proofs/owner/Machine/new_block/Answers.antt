@@ -5,16 +5,15 @@ use Rattle.iobufs_owner.specs.Inside.{state_of}
 use Rattle.iobufs_owner.specs.State.{State, Seen}
 use Rattle.iobufs_owner.proofs.WorldSteps.New.{described-placed}
 use Rattle.iobufs_owner.specs.declared.owner.types.Refusal.TheVariants.{BadPlace, Memory}
-use Rattle.iobufs_owner.proofs.WorldSteps.Sizes.{keeps-room}
 use Rattle.iobufs_owner.proofs.owner.Machine.new_block.Goals as goal
 
 pub returns-then-not-is_good_place : goal.returns-then-not-is_good_place
 returns-then-not-is_good_place c =
-    (refused c.args.self.now.state BadPlace, inl (c.is_good_place.ensures.no c.if-not-is_good_place.true, refl), (refl, refl, keeps-room c.args.self.now.room))
+    (refused c.args.self.now.state BadPlace, inl (c.is_good_place.ensures.no c.if-not-is_good_place.true, refl), (refl, refl, refl))
 
 pub returns-then-not-memory : goal.returns-then-not-memory
 returns-then-not-memory c =
-    (refused c.args.self.now.state Memory, inr (c.is_good_place.ensures.yes c.if-not-is_good_place.false, rw c.if-not-memory.true refl), (refl, refl, keeps-room c.args.self.now.room))
+    (refused c.args.self.now.state Memory, inr (c.is_good_place.ensures.yes c.if-not-is_good_place.false, rw c.if-not-memory.true refl), (refl, refl, refl))
 
 pub returns-in-Some : goal.returns-in-Some
 returns-in-Some c =

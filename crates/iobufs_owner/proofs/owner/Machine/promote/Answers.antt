@@ -7,17 +7,17 @@ use Rattle.iobufs_owner.specs.State.{State, Seen, owner_of}
 use Rattle.iobufs_owner.proofs.Soundness.NewRecord.{sound-promoted-frozen}
 use Rattle.iobufs_owner.proofs.owner.Machine.promote.Goals as goal
 
-pub invariant_of-self-2 : goal.invariant_of-self-2
-invariant_of-self-2 c =
+pub invariant_of-self : goal.invariant_of-self
+invariant_of-self c =
     let s : State = state_of c.self.inside in
     let k = c.self.invariant in
     let t = subst (λ (s : State). Lends s c.args.h Mut c.args.x) (sym (ap (λ (m : Seen). m.state) c.self.view_is)) c.requires.lent in
     let o = subst (λ (s : State). owner_of s.tables c.args.x ≡ Some c.owned-block.result) (sym (ap (λ (m : Seen). m.state) c.self.view_is)) c.owned-block.ensures.owner in
-    let r : c.len-r.result ≡ length c.self.inside.records.items = omega (arith, c.len-r.ensures, c.in_ok-room_for_record.ensures.len) in
+    let r : c.len-r.result ≡ length c.self.inside.records.items = omega (arith, c.len-r.ensures) in
     record {
-      sound = rw (c.frozen.ensures, c.push_reserved.ensures.items, c.in_ok-room_for_record.ensures.records, c.in_ok-room_for_record.ensures.freed, r) (sound-promoted-frozen s c.args.h c.args.x c.args.word c.owned-block.result k.sound t c.requires.word o (omega (arith, c.in_ok-room_for_record.ensures.few)));
+      sound = rw (c.frozen.ensures, c.push_reserved.ensures.items, r) (sound-promoted-frozen s c.args.h c.args.x c.args.word c.owned-block.result k.sound t c.requires.word o (omega (arith, c.in_ok-room_for_record.ensures.few)));
       block_room = k.block_room;
-      record_room = rw (c.push_reserved.ensures.items, c.in_ok-room_for_record.ensures.records, length-append) (omega (arith, c.in_ok-room_for_record.ensures.freed_room));
+      record_room = rw (c.push_reserved.ensures.items, length-append) (omega (arith, c.in_ok-room_for_record.ensures.freed_room));
       borrows_kept = rw length-set k.borrows_kept;
       places = k.places;
       borrowed = k.borrowed;

@@ -3,7 +3,7 @@ use Rattle.std.proofs.lemmas.Grind.{common_steps}
 use Rattle.iobufs_owner.specs.Runs.{Runs}
 use Rattle.iobufs_owner.proofs.Soundness.Promised.{promises-of}
 use Rattle.iobufs_owner.proofs.WorldSteps.FourthStep.{ends-in-four, near-start}
-use Rattle.iobufs_owner.proofs.WorldSteps.Run.{runs-step}
+use Rattle.iobufs_owner.proofs.WorldSteps.Run.{runs-step, growing, run-keeps}
 use Rattle.iobufs_owner.proofs.WorldSteps.Reserved.{find}
 use Rattle.iobufs_owner.proofs.owner.Machine.run_into.Goals as goal
 
@@ -15,14 +15,19 @@ loop-step-preserved c = record {
 }
 
 pub returns-clause-promises : goal.returns-clause-promises
-returns-clause-promises c = promises-of _ c.known-2.ensures
+returns-clause-promises c = promises-of _ c.known-2.ensures.sound
 
 pub returns-clause-ends : goal.returns-clause-ends
 returns-clause-ends c =
     let r : Runs c.args.self.now c.args.steps.now c.loop-step.replies.items c.loop-step.self = grind (arith, common_steps) in
-    λ p. ends-in-four c.args.self.now c.loop-step.self p _ c.args.steps.now c.loop-step.replies.items r (near-start c.args.self.now.state p)
+    λ p. ends-in-four c.args.self.now c.loop-step.self p _ c.args.steps.now c.loop-step.replies.items (growing _ _ _ _ r) (near-start c.args.self.now.state p)
 
 pub returns-clause-within : goal.returns-clause-within
 returns-clause-within c =
     let r : Runs c.args.self.now c.args.steps.now c.loop-step.replies.items c.loop-step.self = grind (arith, common_steps) in
-    find c.args.self.now c.args.steps.now c.loop-step.replies.items c.loop-step.self r
+    find c.args.self.now c.args.steps.now c.loop-step.replies.items c.loop-step.self (growing _ _ _ _ r)
+
+pub returns-clause-room : goal.returns-clause-room
+returns-clause-room c =
+    let r : Runs c.args.self.now c.args.steps.now c.loop-step.replies.items c.loop-step.self = grind (arith, common_steps) in
+    run-keeps c.args.self.now c.args.steps.now c.loop-step.replies.items c.loop-step.self r

@@ -9,12 +9,12 @@ use Rattle.iobufs_owner.specs.declared.owner.types.Word.TheVariants.{Empty}
 use Rattle.iobufs_owner.proofs.Soundness.Borrows.{kept-pushed, counts-pushed}
 use Rattle.iobufs_owner.proofs.owner.Machine.share_empty.Goals as goal
 
-pub invariant_of-self-2 : goal.invariant_of-self-2
-invariant_of-self-2 c =
+pub invariant_of-self : goal.invariant_of-self
+invariant_of-self c =
     let s : State = state_of c.self.inside in
     let k = c.self.invariant in
     let sh = subst (λ (s : State). Shares s c.args.range c.args.x) (sym (ap (λ (m : Seen). m.state) c.self.view_is)) c.requires.fits in
     let f = empty-at s c.args.range.handle c.args.x k.sound sh.at c.requires.word in
     let order = sh.order in
     let within = sh.within in
-    record { sound = rw (c.push_reserved.ensures.items, c.in_ok-room_for_handle.ensures.handles, c.part.ensures) (sound-detached s (part c.args.x c.args.range.lo c.args.range.hi Empty) k.sound refl (record { no_room = refl; ends = omega (arith, f.ends, order, within); no_bytes = λ m. absurd (cc) }) (omega (arith, c.in_ok-room_for_handle.ensures.few))); block_room = k.block_room; record_room = k.record_room; borrows_kept = rw (c.push_reserved-2.ensures.items, c.in_ok-room_for_handle.ensures.borrows, c.push_reserved.ensures.items, c.in_ok-room_for_handle.ensures.handles) (kept-pushed _ _ _ k.borrows_kept); places = k.places; borrowed = rw (c.push_reserved-2.ensures.items, c.in_ok-room_for_handle.ensures.borrows) (counts-pushed c.self.inside.borrows.items c.self.inside.calls.items k.borrowed) }
+    record { sound = rw (c.push_reserved.ensures.items, c.part.ensures) (sound-detached s (part c.args.x c.args.range.lo c.args.range.hi Empty) k.sound refl (record { no_room = refl; ends = omega (arith, f.ends, order, within); no_bytes = λ m. absurd (cc) }) (omega (arith, c.in_ok-room_for_handle.ensures.few))); block_room = k.block_room; record_room = k.record_room; borrows_kept = rw (c.push_reserved-2.ensures.items, c.push_reserved.ensures.items) (kept-pushed _ _ _ k.borrows_kept); places = k.places; borrowed = rw c.push_reserved-2.ensures.items (counts-pushed c.self.inside.borrows.items c.self.inside.calls.items k.borrowed) }
