@@ -1,11 +1,10 @@
-//! Room in the machine's tables. A step looks for room and takes none; `reserve` takes it.
-ghost use Rattle.std.specs.Prelude.{◌≡◌, ◌⊎◌, ℕ, min, ◌+◌, ◌*◌, ◌^◌, ◌<◌, ◌≤◌, length, vec_len, vec_capacity, None, true, IfOk, IfSome, OnOk, OnErr};
-ghost use Rattle.iobufs_owner.specs.Reserved.{HasMemory, blocks_of, new_blocks};
+//! Room in the machine's tables, as a step looks for it.
+ghost use Rattle.std.specs.Prelude.{◌≡◌, min, ◌+◌, ◌^◌, ◌<◌, ◌≤◌, length, vec_len, vec_capacity, OnOk, OnErr};
+ghost use Rattle.iobufs_owner.specs.Reserved.{blocks_of, new_blocks};
 ghost use Rattle.iobufs_owner.specs.State.{IsFull};
 
-use crate::owner::{Act, Block, Call, Freed, Full, Handle, Machine, Record, Step};
+use crate::owner::types::{Act, Block, Call, Freed, Full, Handle, Record, Step};
 use iobufs_places::Places;
-use std::alloc::AllocError;
 
 /// A table may have this many entries.
 const MOST: usize = 1 << 32;
@@ -74,25 +73,6 @@ pub(super) fn room_for_block(
     }
 }
 
-impl Machine {
-    /// Whether each table has memory for so many entries more, and its log and what else grows with it.
-    pub(super) fn has_room(&self, blocks: usize, handles: usize, records: usize) -> bool
-        ensures yes { result ≡ true → HasMemory self.now blocks handles records }
-        ensures no { HasMemory self.now blocks handles records → result ≡ true }
-    {
-        let all_blocks = self.blocks.len();
-        let all_handles = self.handles.len();
-        let all_records = self.records.len();
-        blocks <= self.blocks.capacity() - all_blocks
-            && blocks <= self.freed_blocks.capacity() - all_blocks
-            && self.places.has_room(blocks)
-            && handles <= self.handles.capacity() - all_handles
-            && handles <= self.borrows.capacity() - all_handles
-            && records <= self.records.capacity() - all_records
-            && records <= self.freed_records.capacity() - all_records
-    }
-}
-
 /// How many blocks a step may make.
 fn new_blocks(act: Act) -> usize
     ensures { result ≡ new_blocks act }
@@ -113,45 +93,4 @@ pub(super) fn blocks_made(steps: &[Step]) -> usize
         blocks += new_blocks(step.act);
     }
     blocks
-}
-
-/// So many entries and so many more, where that is a number of entries at all.
-pub(super) fn total(entries: usize, more: usize) -> Result<usize, AllocError>
-    ensures sum { IfOk result (λ all. all ≡ entries + more) }
-    ensures full { OnErr result (2 ^ 64 ≤ entries + more) }
-{
-    entries.checked_add(more).ok_or(AllocError)
-}
-
-/// The entries of a table with memory for so many in all, where the table has less: then for at least twice as many as
-/// before, so that a table that grows often is copied seldom.
-pub(super) fn larger<T: Copy>(table: &Vec<T>, entries: usize) -> Result<Option<Vec<T>>, AllocError>
-    ensures items { IfOk result (λ larger. IfSome larger (λ new. new.items ≡ table.now.items)) }
-    ensures room { IfOk result (λ larger. IfSome larger (λ new. entries ≤ vec_capacity new)) }
-    ensures more { IfOk result (λ larger. IfSome larger (λ new. vec_capacity table.now < vec_capacity new)) }
-    ensures twice { IfOk result (λ larger. IfSome larger (λ new.
-        (vec_capacity table.now * 2 ≤ vec_capacity new) ⊎ (2 ^ 64 ≤ vec_capacity new + 1))) }
-    ensures enough { IfOk result (λ larger. larger ≡ None → entries ≤ vec_capacity table.now) }
-    ensures full { OnErr result (vec_capacity table.now < entries) }
-{
-    if entries <= table.capacity() {
-        return Ok(None);
-    }
-    let capacity = entries.max(table.capacity().saturating_mul(2));
-    let mut new = Vec::with_capacity(*table.allocator(), capacity)?;
-    new.extend_from_slice(table)?;
-    Ok(Some(new))
-}
-
-/// The table moves to its larger memory, if there is one.
-pub(super) fn move_into<T: Drop>(table: &mut Vec<T>, larger: Option<Vec<T>>)
-    requires items { IfSome larger (λ new. new.items ≡ table.old.items) }
-    requires more { IfSome larger (λ new. vec_capacity table.old ≤ vec_capacity new) }
-    ensures items { table.new.items ≡ table.old.items }
-    ensures capacity { vec_capacity table.old ≤ vec_capacity table.new }
-    ensures room { IfSome larger (λ new. vec_capacity table.new ≡ vec_capacity new) }
-{
-    if let Some(new) = larger {
-        *table = new;
-    }
 }

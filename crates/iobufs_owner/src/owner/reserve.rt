@@ -1,0 +1,106 @@
+//! Room in the machine's tables, as it is made: in all of them, or in none.
+ghost use Rattle.std.specs.Prelude.{◌≡◌, ◌⊎◌, ◌+◌, ◌*◌, ◌^◌, ◌<◌, ◌≤◌, length, vec_capacity, None, true, IfErr, IfOk, IfSome, IsOk, OnErr, OnOk};
+ghost use Rattle.iobufs_core.specs.declared.codec.base.BufError.TheVariants.{Memory};
+ghost use Rattle.iobufs_owner.specs.Reserved.{HasMemory};
+ghost use Rattle.iobufs_owner.specs.State.{KeepsRoom};
+
+use crate::owner::Machine;
+use iobufs_core::codec::BufError;
+use std::alloc::AllocError;
+
+impl Machine {
+    // Whether each table has memory for so many entries more, and its log and what else grows with it.
+    fn has_room(&self, blocks: usize, handles: usize, records: usize) -> bool
+        ensures yes { result ≡ true → HasMemory self.now blocks handles records }
+        ensures no { HasMemory self.now blocks handles records → result ≡ true }
+    {
+        let all_blocks = self.blocks.len();
+        let all_handles = self.handles.len();
+        let all_records = self.records.len();
+        blocks <= self.blocks.capacity() - all_blocks
+            && blocks <= self.freed_blocks.capacity() - all_blocks
+            && self.places.has_room(blocks)
+            && handles <= self.handles.capacity() - all_handles
+            && handles <= self.borrows.capacity() - all_handles
+            && records <= self.records.capacity() - all_records
+            && records <= self.freed_records.capacity() - all_records
+    }
+
+    /// Room for so many entries more in each table, their logs too. Refused, nothing has changed, room included. A table
+    /// that has to grow becomes at least twice as large, so room for one entry before each step costs little.
+    pub fn reserve(&mut self, blocks: usize, handles: usize, records: usize) -> Result<(), BufError>
+        ensures state { self.new.state ≡ self.old.state }
+        ensures room { KeepsRoom self.old.room self.new.room }
+        ensures blocks { OnOk result (length self.old.state.tables.blocks + blocks ≤ self.new.room.blocks) }
+        ensures handles { OnOk result (length self.old.state.handles + handles ≤ self.new.room.handles) }
+        ensures records { OnOk result (length self.old.state.tables.records + records ≤ self.new.room.records) }
+        ensures err { IfErr result (λ e. e ≡ Memory) }
+        ensures refused { OnErr result (self.new ≡ self.old) }
+        ensures enough { length self.old.state.tables.blocks + blocks ≤ self.old.room.blocks
+            → length self.old.state.handles + handles ≤ self.old.room.handles
+            → length self.old.state.tables.records + records ≤ self.old.room.records
+            → IsOk result }
+    {
+        if self.has_room(blocks, handles, records) {
+            return Ok(());
+        }
+        let all_blocks = total(self.blocks.len(), blocks)?;
+        let handles = total(self.handles.len(), handles)?;
+        let records = total(self.records.len(), records)?;
+        let new_blocks = larger(&self.blocks, all_blocks)?;
+        let new_freed_blocks = larger(&self.freed_blocks, all_blocks)?;
+        let new_handles = larger(&self.handles, handles)?;
+        let new_borrows = larger(&self.borrows, handles)?;
+        let new_records = larger(&self.records, records)?;
+        let new_freed_records = larger(&self.freed_records, records)?;
+        self.places.reserve(blocks)?;
+        move_into(&mut self.blocks, new_blocks);
+        move_into(&mut self.freed_blocks, new_freed_blocks);
+        move_into(&mut self.handles, new_handles);
+        move_into(&mut self.borrows, new_borrows);
+        move_into(&mut self.records, new_records);
+        move_into(&mut self.freed_records, new_freed_records);
+        Ok(())
+    }
+}
+
+// So many entries and so many more, where that is a number of entries at all.
+fn total(entries: usize, more: usize) -> Result<usize, AllocError>
+    ensures sum { IfOk result (λ all. all ≡ entries + more) }
+    ensures full { OnErr result (2 ^ 64 ≤ entries + more) }
+{
+    entries.checked_add(more).ok_or(AllocError)
+}
+
+// The entries of a table with memory for so many in all, where the table has less: then for at least twice as many as
+// before, so that a table that grows often is copied seldom.
+fn larger<T: Copy>(table: &Vec<T>, entries: usize) -> Result<Option<Vec<T>>, AllocError>
+    ensures items { IfOk result (λ larger. IfSome larger (λ new. new.items ≡ table.now.items)) }
+    ensures room { IfOk result (λ larger. IfSome larger (λ new. entries ≤ vec_capacity new)) }
+    ensures more { IfOk result (λ larger. IfSome larger (λ new. vec_capacity table.now < vec_capacity new)) }
+    ensures twice { IfOk result (λ larger. IfSome larger (λ new.
+        (vec_capacity table.now * 2 ≤ vec_capacity new) ⊎ (2 ^ 64 ≤ vec_capacity new + 1))) }
+    ensures enough { IfOk result (λ larger. larger ≡ None → entries ≤ vec_capacity table.now) }
+    ensures full { OnErr result (vec_capacity table.now < entries) }
+{
+    if entries <= table.capacity() {
+        return Ok(None);
+    }
+    let capacity = entries.max(table.capacity().saturating_mul(2));
+    let mut new = Vec::with_capacity(*table.allocator(), capacity)?;
+    new.extend_from_slice(table)?;
+    Ok(Some(new))
+}
+
+// The table moves to its larger memory, if there is one.
+fn move_into<T: Drop>(table: &mut Vec<T>, larger: Option<Vec<T>>)
+    requires items { IfSome larger (λ new. new.items ≡ table.old.items) }
+    requires more { IfSome larger (λ new. vec_capacity table.old ≤ vec_capacity new) }
+    ensures items { table.new.items ≡ table.old.items }
+    ensures capacity { vec_capacity table.old ≤ vec_capacity table.new }
+    ensures room { IfSome larger (λ new. vec_capacity table.new ≡ vec_capacity new) }
+{
+    if let Some(new) = larger {
+        *table = new;
+    }
+}
