@@ -114,3 +114,78 @@ fn a_mebibyte_is_stored(rt: HostRuntime) -> Result<(), Fail> {
     assert!(rt; text.chunk_at(1) == bytes.as_slice().get(HALF..MEBIBYTE));
     Ok(())
 }
+
+// Parts of two bytes, each with its number; every other one, from the first on, has room for two more.
+fn numbered_parts(alloc: Global) -> Result<IoBufsMut, Fail> {
+    let mut parts = Vec::with_capacity(alloc, PIECES as usize)?;
+    for i in 0..PIECES {
+        let capacity = if i % 2 == 0 { 4 } else { 2 };
+        let mut part = IoBufMut::with_capacity(alloc, capacity)?;
+        part.put_u16(i);
+        parts.push(part)?;
+    }
+    Ok(IoBufsMut::from_parts(alloc, parts.into_iter())?)
+}
+
+// Reads so many numbers, which are those from `from` on.
+fn read_numbers(parts: &mut IoBufsMut, from: u16, to: u16) -> Result<(), Fail> {
+    for i in from..to {
+        let mut bytes = [0; 2];
+        if parts.len() < bytes.len() {
+            return Err(Fail::new("too few bytes"));
+        }
+        parts.copy_to_slice(&mut bytes);
+        if bytes != i.to_be_bytes() {
+            return Err(Fail::new("another number"));
+        }
+    }
+    Ok(())
+}
+
+#[test]
+fn parts_that_are_used_up_stand_in_front(rt: HostRuntime) -> Result<(), Fail> {
+    let mut parts = numbered_parts(rt.alloc())?;
+    read_numbers(&mut parts, 0, 4)?;
+    assert_eq!(rt; (parts.part_count(), parts.len()), (4998, 9992));
+    for (place, wanted) in [
+        (0, Some(b"".as_slice())),
+        (1, Some(b"".as_slice())),
+        (2, Some([0, 4].as_slice())),
+        (4997, Some([0x13, 0x87].as_slice())),
+        (4998, None),
+    ] {
+        let bytes = parts.part_at(place).map(|part| part.as_ref());
+        assert!(rt; bytes == wanted);
+    }
+    Ok(())
+}
+
+#[test]
+fn parts_that_are_used_up_are_filled_again(rt: HostRuntime) -> Result<(), Fail> {
+    let mut parts = numbered_parts(rt.alloc())?;
+    read_numbers(&mut parts, 0, PIECES)?;
+    assert_eq!(rt;
+        (parts.part_count(), parts.len(), parts.capacity()),
+        (2500, 0, 5000)
+    );
+    if parts.remaining_mut() < 3 {
+        return Err(Fail::new("too little room"));
+    }
+    parts.put_slice(b"abc");
+    assert_eq!(rt; parts.chunk(), b"ab".as_slice());
+    let bytes = parts.part_at(1).map(|part| part.as_ref());
+    assert!(rt; bytes == Some(b"c".as_slice()));
+    Ok(())
+}
+
+#[test]
+fn parts_are_joined_behind_those_that_are_used_up(rt: HostRuntime) -> Result<(), Fail> {
+    let alloc = rt.alloc();
+    let mut parts = numbered_parts(alloc)?;
+    read_numbers(&mut parts, 0, 2500)?;
+    assert!(rt; is_numbered(&parts.freeze(alloc)?, 2500, PIECES));
+    let mut parts = numbered_parts(alloc)?;
+    read_numbers(&mut parts, 0, 4999)?;
+    assert_eq!(rt; parts.coalesce(alloc)?.as_ref(), [0x13, 0x87].as_slice());
+    Ok(())
+}
