@@ -71,7 +71,8 @@ sent_on a b c text middle rest p q = record {
 }
 
 -- what a writer took of the front of a text went off, where that front was dropped
-pub sent_front : (held holds : Option (List ℕ)) (text rest : List ℕ) (n : ℕ) → Appends held holds (take n text) → rest ≡ drop n text → IsSent held holds text rest
+pub sent_front : (held holds : Option (List ℕ)) (text rest : List ℕ) (n : ℕ) → Appends held holds (take n text) → rest ≡ drop n text
+    → IsSent held holds text rest
 sent_front held holds text rest n h is = record { front = take n text; whole = sym (take-append-drop n text) ∙ ap (λ w. take n text ++ w) (sym is); grew = h }
 
 -- where as many bytes are left, nothing did
@@ -95,7 +96,8 @@ pub batch_bytes : {A : Type 0} (bytes_of : A → List ℕ) (slices : List A) (te
 batch_bytes bytes_of slices text most is = sym (flat_map-map (λ (chunk : List ℕ). chunk) bytes_of slices) ∙ ap (λ chunks. flat_map (λ chunk. chunk) chunks) is
 
 -- and a front of the text
-pub front_of_chunks : {A : Type 0} (bytes_of : A → List ℕ) (slices : List A) (text : MarkedText) (most n : ℕ) → map bytes_of slices ≡ take most (text_chunks text)
+pub front_of_chunks : {A : Type 0} (bytes_of : A → List ℕ) (slices : List A) (text : MarkedText) (most n : ℕ)
+    → map bytes_of slices ≡ take most (text_chunks text)
     → n ≤ length (flat_map bytes_of slices) → (n ≤ length text.bytes) × (take n (flat_map bytes_of slices) ≡ take n text.bytes)
 front_of_chunks bytes_of slices text most n is fits =
     let batch = flat_map bytes_of slices in
@@ -110,7 +112,8 @@ front_of_chunks bytes_of slices text most n is fits =
 
 -- so what a writer took of them it took of the text
 pub written_front : {A E : Type 0} (bytes_of : A → List ℕ) (slices : List A) (text : MarkedText) (most : ℕ) (held holds : Option (List ℕ)) (result : Result ℕ E)
-    → map bytes_of slices ≡ take most (text_chunks text) → WritesAtMost result (flat_map bytes_of slices) → WriteAppends held holds result (flat_map bytes_of slices)
+    → map bytes_of slices ≡ take most (text_chunks text) → WritesAtMost result (flat_map bytes_of slices)
+    → WriteAppends held holds result (flat_map bytes_of slices)
     → WriteAppends held holds result text.bytes
 written_front bytes_of slices text most held holds (Ok n) is bound h = subst (Appends held holds) (front_of_chunks bytes_of slices text most n is bound).1 h
 written_front bytes_of slices text most held holds (Err error) is bound h = h
@@ -168,7 +171,8 @@ first_empty part parts none =
     let sum = length-append part.filled (parts_filled parts) in
     (nil_from_length part.filled (omega (arith, long, sum)), nil_from_length (parts_filled parts) (omega (arith, long, sum)))
 
-pub filled-empty : (parts : List Part) (bytes : List ℕ) → parts_filled parts ≡ [] → length bytes ≤ parts_spare parts → parts_filled (parts_fill parts bytes) ≡ bytes
+pub filled-empty : (parts : List Part) (bytes : List ℕ) → parts_filled parts ≡ [] → length bytes ≤ parts_spare parts
+    → parts_filled (parts_fill parts bytes) ≡ bytes
 unfolding parts_empty
 filled-empty [] bytes none fits = sym (nil_from_length bytes (omega arith))
 filled-empty (part ∷ parts) bytes none fits =
@@ -187,13 +191,20 @@ stored_bytes had has old new none is =
 none-filled : (part : Part) (n : ℕ) → n ≡ 0 → part_with_len part n ≡ record { filled = []; spare = part_capacity part }
 none-filled part n z = rw z (grind (arith, nat_tests, common_steps))
 
-emptied_upto : (parts : List Part) (n : ℕ) → n ≡ 0 → (parts_filled (parts_with_len parts n) ≡ []) × (parts_spare (parts_with_len parts n) ≡ parts_capacity parts)
+emptied_upto : (parts : List Part) (n : ℕ) → n ≡ 0 → (parts_filled (parts_with_len parts n) ≡ [])
+    × (parts_spare (parts_with_len parts n) ≡ parts_capacity parts)
 emptied_upto [] n z = (refl, refl)
 emptied_upto (part ∷ parts) n z =
     let first = none-filled part (min n (part_capacity part)) (omega arith) in
     let more = emptied_upto parts (n - part_capacity part) (omega arith) in (
       ap (λ (p : Part). p.filled ++ parts_filled (parts_with_len parts (n - part_capacity part))) first ∙ more.0,
-      omega (arith, more.1, ap (λ (p : Part). p.spare) first, sum_by-cons part_capacity part parts, sum_by-cons (λ (p : Part). p.spare) (part_with_len part (min n (part_capacity part))) (parts_with_len parts (n - part_capacity part))),
+      omega (
+        arith,
+        more.1,
+        ap (λ (p : Part). p.spare) first,
+        sum_by-cons part_capacity part parts,
+        sum_by-cons (λ (p : Part). p.spare) (part_with_len part (min n (part_capacity part))) (parts_with_len parts (n - part_capacity part)),
+      ),
     )
 
 pub emptied-filled : (parts : List Part) → parts_filled (parts_with_len parts 0) ≡ []
@@ -205,7 +216,8 @@ emptied-spare parts = (emptied_upto parts 0 refl).1
 -- the bytes of a text of parts
 frozen-parts : (parts : List Part) → flat_map (λ (v : View). v.bytes) (map part_frozen parts) ≡ parts_filled parts
 frozen-parts [] = refl
-frozen-parts (part ∷ parts) = ap (λ w. w ++ flat_map (λ (v : View). v.bytes) (map part_frozen parts)) (bytes-part_frozen part) ∙ ap (λ w. part.filled ++ w) (frozen-parts parts)
+frozen-parts (part ∷ parts) = ap (λ w. w ++ flat_map (λ (v : View). v.bytes) (map part_frozen parts)) (bytes-part_frozen part)
+    ∙ ap (λ w. part.filled ++ w) (frozen-parts parts)
 
 pub bytes-parts_frozen : (parts : List Part) → (parts_frozen parts).bytes ≡ parts_filled parts
 bytes-parts_frozen parts = bytes-joined (map part_frozen parts) ∙ frozen-parts parts
@@ -219,11 +231,13 @@ stored_all had has parts old new cut is =
     (ap parts_filled is.filled.1 ∙ filled-empty old is.read none is.filled.0, sym room ∙ filled_lessens old new is.read is.filled)
 
 -- such parts are full, or their reader has no more
-pub stored_done : {P : Type 0} (had has : Option (List ℕ)) (parts old new : List Part) (text : MarkedText) → old ≡ parts_with_len parts 0 → IsStored had has old new → text ≡ parts_frozen new
+pub stored_done : {P : Type 0} (had has : Option (List ℕ)) (parts old new : List Part) (text : MarkedText) → old ≡ parts_with_len parts 0
+    → IsStored had has old new → text ≡ parts_frozen new
     → (parts_spare new ≡ 0) ⊎ P → (length text.bytes ≡ parts_capacity parts) ⊎ P
 stored_done had has parts old new text cut is frozen done =
     let all = stored_all had has parts old new cut is in
-    let long : length text.bytes ≡ length is.read = ap (λ (t : MarkedText). length t.bytes) frozen ∙ ap (λ (w : List ℕ). length w) (bytes-parts_frozen new ∙ all.0) in
+    let long : length text.bytes ≡ length is.read = ap (λ (t : MarkedText). length t.bytes) frozen
+    ∙ ap (λ (w : List ℕ). length w) (bytes-parts_frozen new ∙ all.0) in
     elim done [ inl full ↦ inl (omega (arith, long, all.1, full)) | inr ended ↦ inr ended ]
 
 -- and hold nothing where they have no capacity
@@ -234,7 +248,8 @@ stored_none had has parts old new cut is none =
     omega (arith, ap (λ (w : List ℕ). length w) all.0, all.1, none)
 
 -- room that the first n bytes of a buffer filled is less by n
-pub room_less : (old new : List Part) (bytes behind : List ℕ) (n : ℕ) → AreFilled old (take n (bytes ++ behind)) new → n ≤ length bytes → parts_spare old ≡ n + parts_spare new
+pub room_less : (old new : List Part) (bytes behind : List ℕ) (n : ℕ) → AreFilled old (take n (bytes ++ behind)) new → n ≤ length bytes
+    → parts_spare old ≡ n + parts_spare new
 room_less old new bytes behind n filled fits =
     omega (arith, filled_lessens old new (take n (bytes ++ behind)) filled, length-take n (bytes ++ behind), length-append bytes behind, fits)
 

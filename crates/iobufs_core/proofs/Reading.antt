@@ -44,13 +44,15 @@ more_so_far text i value place b so e low top =
           let positive : 0 < rest = elim some [ inl z ↦ absurd (omega arith) | inr z ↦ z ] in
           let first = grow b rest (b - 128 + 128 * rest) tail low top positive (omega arith) is in
           let all = so.completes (b ∷ tail) (b - 128 + 128 * rest) first (inr (omega arith)) in
-          let list : take i text ++ b ∷ tail ≡ take (i + 1) text ++ tail = sym (append_assoc (take i text) (b ∷ []) tail) ∙ ap (λ xs. xs ++ tail) (sym take_is) in
+          let list : take i text ++ b ∷ tail ≡ take (i + 1) text ++ tail =
+          sym (append_assoc (take i text) (b ∷ []) tail) ∙ ap (λ xs. xs ++ tail) (sym take_is) in
           let number = regroup value place (b - 128) rest in
           subst (λ xs. IsSpelling xs (value + place * (b - 128) + place * 128 * rest)) list (subst (IsSpelling (take i text ++ b ∷ tail)) number all);
     }
 
 -- the byte that ends a spelling
-pub ends : (text : List ℕ) (i value place b : ℕ) → IsSoFar text i value place → slice_get text i ≡ Some b → b < 128 → (i ≡ 0) ⊎ (0 < b) → value + place * b < 2 ^ 64
+pub ends : (text : List ℕ) (i value place b : ℕ) → IsSoFar text i value place → slice_get text i ≡ Some b → b < 128 → (i ≡ 0) ⊎ (0 < b)
+    → value + place * b < 2 ^ 64
     → IsSpelledAt text (value + place * b) × (i + 1 ≡ length (spell (value + place * b)))
 ends text i value place b so e low some small =
     let take_is = next_byte text i b e in
@@ -135,7 +137,8 @@ tenth_one text i value place so nine e =
     (subst (IsSpelledAt text) once found.0, (found.1 ∙ ap (λ n. length (spell n)) once))
 
 -- or another one
-pub tenth_other : (text : List ℕ) (i value place b : ℕ) → IsSoFar text i value place → i ≡ 9 → slice_get text 9 ≡ Some b → b ≢ 1 → HasNoLength text × (IsOpen text → ⊥)
+pub tenth_other : (text : List ℕ) (i value place b : ℕ) → IsSoFar text i value place → i ≡ 9 → slice_get text 9 ≡ Some b → b ≢ 1 → HasNoLength text
+    × (IsOpen text → ⊥)
 tenth_other text i value place b so nine e other = tenth text value place b (subst (λ k. IsSoFar text k value place) nine so) e other
 
 -- no byte at a place: the text ends there or before

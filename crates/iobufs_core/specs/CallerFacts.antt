@@ -55,7 +55,8 @@ pub record IsThere (text : MarkedText) (n : ℕ) (view : View) : Type 0 where
   pub within : length (view_written view) ≤ length text.bytes
   pub whole : text.bytes ≡ view_written view ++ drop (length (view_written view)) text.bytes
 
-pub view_there : (text : MarkedText) (n : ℕ) (view : View) → take (length (spell n)) text.bytes ≡ spell n → length (spell n) + n ≤ length text.bytes → view ≡ taken_view text (length (spell n)) n
+pub view_there : (text : MarkedText) (n : ℕ) (view : View) → take (length (spell n)) text.bytes ≡ spell n → length (spell n) + n ≤ length text.bytes
+    → view ≡ taken_view text (length (spell n)) n
     → IsThere text n view
 view_there text n view at within is =
     let k = length (spell n) in
@@ -93,7 +94,8 @@ read_in_range text range (Err error) is = tt
 high_end : (range : RangeCfg) (n : ℕ) → in_range range n ≡ true → n ≤ range.hi
 high_end range n h = grind (arith, nat_tests)
 
-pub read_at_most : (text : MarkedText) (range : RangeCfg) (result : Result View Error) → IsViewRead text range result → IfOk result (λ view. length view.bytes ≤ range.hi)
+pub read_at_most : (text : MarkedText) (range : RangeCfg) (result : Result View Error) → IsViewRead text range result
+    → IfOk result (λ view. length view.bytes ≤ range.hi)
 read_at_most text range (Ok view) is = high_end range (length view.bytes) (read_in_range text range (Ok view) is).1
 read_at_most text range (Err error) is = tt
 
@@ -123,7 +125,8 @@ read_back_unless body rest left (Err error) is = is
 -- one body stands in front, and one text behind it
 pub one_front : (a b x y : List ℕ) → length a < 2 ^ 64 → length b < 2 ^ 64 → bytes_written a ++ x ≡ bytes_written b ++ y → (a ≡ b) × (x ≡ y)
 one_front a b x y small least e =
-    let whole : spell (length a) ++ (a ++ x) ≡ spell (length b) ++ (b ++ y) = sym (append_assoc (spell (length a)) a x) ∙ e ∙ append_assoc (spell (length b)) b y in
+    let whole : spell (length a) ++ (a ++ x) ≡ spell (length b) ++ (b ++ y) =
+    sym (append_assoc (spell (length a)) a x) ∙ e ∙ append_assoc (spell (length b)) b y in
     let long : length a ≡ length b = spell_begins (length a) (length b) (a ++ x) (b ++ y) small least whole in
     let tail : a ++ x ≡ b ++ y = append_cancel_left (spell (length a)) (a ++ x) (b ++ y) (whole ∙ ap (λ n. spell n ++ (b ++ y)) (sym long)) in
     let same : a ≡ b = sym (take-append_seam a x) ∙ ap (take (length a)) tail ∙ ap (λ n. take n (b ++ y)) long ∙ take-append_seam b y in
@@ -162,7 +165,8 @@ pub bytes-view_between : (view : View) (from to : ℕ) → from ≤ to → to �
 bytes-view_between view from to order within = grind (arith, nat_tests, common_steps, length-take, drop_all)
 
 -- behind a first text, a beginning of a second one is a beginning of both and of all that follows
-pub begun_behind : (old first second behind middle new : List ℕ) → middle ≡ old ++ first → IsBegun middle second new → IsBegun old (first ++ (second ++ behind)) new
+pub begun_behind : (old first second behind middle new : List ℕ) → middle ≡ old ++ first → IsBegun middle second new
+    → IsBegun old (first ++ (second ++ behind)) new
 begun_behind old first second behind middle new put begun =
     let front = begun.front in
     let back = begun.back in record {
@@ -178,7 +182,19 @@ pub on_err_always : {T E P : Type 0} (result : Result T E) → P → OnErr resul
 on_err_always (Ok value) p = tt
 on_err_always (Err error) p = p
 
-pub ruleset reading = (read_and_left, read_at_most, written_read_back, read_back_is, read_back_unless, number_and_left, number_fault, bytes-rest, bytes-advanced, bytes-split_front, bytes-taken_view)
+pub ruleset reading = (
+  read_and_left,
+  read_at_most,
+  written_read_back,
+  read_back_is,
+  read_back_unless,
+  number_and_left,
+  number_fault,
+  bytes-rest,
+  bytes-advanced,
+  bytes-split_front,
+  bytes-taken_view,
+)
 
 pub ruleset writing = (length-bytes_written, length-spell, inline-view, inline-most, joins-view, bytes-part_frozen, good_layout)
 

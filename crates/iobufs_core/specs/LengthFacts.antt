@@ -173,11 +173,13 @@ still_closed bytes more closed opened =
 begins : (xs ys front back : List ℕ) → xs ++ ys ≡ front ++ back → length front < length xs → xs ≡ front ++ drop (length front) xs
 begins xs ys front back e few =
     let same : take (length front) xs ≡ front =
-    sym (take-append-le (length front) xs ys (omega arith)) ∙ ap (take (length front)) e ∙ take-append-le (length front) front back (omega arith) ∙ take_all (length front) front (omega arith) in
+    sym (take-append-le (length front) xs ys (omega arith)) ∙ ap (take (length front)) e ∙ take-append-le (length front) front back (omega arith)
+    ∙ take_all (length front) front (omega arith) in
     sym (take-append-drop (length front) xs) ∙ ap (λ w. w ++ drop (length front) xs) same
 
 -- no length, where some of its bytes are wanted
-begun_length : (n : ℕ) (front : List ℕ) → n < 2 ^ 64 → spell n ≡ front ++ drop (length front) (spell n) → length front < length (spell n) → HasNoLength front × IsOpen front
+begun_length : (n : ℕ) (front : List ℕ) → n < 2 ^ 64 → spell n ≡ front ++ drop (length front) (spell n) → length front < length (spell n)
+    → HasNoLength front × IsOpen front
 begun_length n front small is few =
     let rest = drop (length front) (spell n) in
     let some : 0 < length rest = omega (arith, length-drop (length front) (spell n)) in
@@ -185,16 +187,19 @@ begun_length n front small is few =
     (none_high front high, (omega (arith, length-spell n), high))
 
 -- a beginning of what is written may go on: its length may, or bytes are wanting behind it
-pub begun_open : (range : RangeCfg) (body front back : List ℕ) → length body < 2 ^ 64 → in_range range (length body) ≡ true → bytes_written body ≡ front ++ back → 0 < length back
+pub begun_open : (range : RangeCfg) (body front back : List ℕ) → length body < 2 ^ 64 → in_range range (length body) ≡ true
+    → bytes_written body ≡ front ++ back → 0 < length back
     → IsLengthRead front range (Err EndOfBuffer) ⊎ ((n : ℕ) × IsLengthRead front range (Ok n) × (length front < length (spell n) + n))
 begun_open range body front back small inside whole some =
     let n = length body in
     let k = length (spell n) in
-    let sum : k + n ≡ length front + length back = omega (arith, ap (λ (xs : List ℕ). length xs) whole, length-append (spell n) body, length-append front back) in
+    let sum : k + n ≡ length front + length back =
+    omega (arith, ap (λ (xs : List ℕ). length xs) whole, length-append (spell n) body, length-append front back) in
     elim (less (length front) k) [
       | inl few ↦ inl (begun_length n front small (begins (spell n) body front back whole few) few)
       | inr enough ↦
           let stands : take k front ≡ spell n =
-          sym (take-append-le k front back enough) ∙ ap (take k) (sym whole) ∙ take-append-le k (spell n) body (omega arith) ∙ take_all k (spell n) (omega arith) in
+          sym (take-append-le k front back enough) ∙ ap (take k) (sym whole) ∙ take-append-le k (spell n) body (omega arith)
+          ∙ take_all k (spell n) (omega arith) in
           inr (n, ((small, stands), inside), omega (arith, sum, some))
     ]

@@ -22,7 +22,8 @@ unfolding taken_view
 length-taken_view text skip n within = grind (arith, nat_tests, common_steps)
 
 -- the written value is as long as what was dropped
-written_long : {Value Reader : Type 0} (bytes_of : Value → List ℕ) (makes : View → Value → Type 0) (copied : Reader → ℕ → Reader) (text : MarkedText) (range : RangeCfg)
+written_long : {Value Reader : Type 0} (bytes_of : Value → List ℕ) (makes : View → Value → Type 0) (copied : Reader → ℕ → Reader) (text : MarkedText)
+    (range : RangeCfg)
     (old new : Reader) (value : Value) → ((view : View) (made : Value) → makes view made → bytes_of made ≡ view.bytes)
     → (taken : IsTaken makes copied text range old new value) → length (spell taken.n) + taken.n ≡ length (bytes_written (bytes_of value))
 written_long bytes_of makes copied text range old new value same taken =
@@ -42,7 +43,8 @@ left_by_copy bytes_of makes copied text range old new (Ok value) same taken =
     taken.left ∙ ap (copied old) (written_long bytes_of makes copied text range old new value same taken)
 left_by_copy bytes_of makes copied text range old new (Err e) same taken = tt
 
-pub rest_by_copy : {Value Reader : Type 0} (bytes_of : Value → List ℕ) (makes : View → Value → Type 0) (copied : Reader → ℕ → Reader) (marked : Reader → MarkedText)
+pub rest_by_copy : {Value Reader : Type 0} (bytes_of : Value → List ℕ) (makes : View → Value → Type 0) (copied : Reader → ℕ → Reader)
+    (marked : Reader → MarkedText)
     (range : RangeCfg) (old new : Reader) (result : Result Value Error)
     → ((view : View) (made : Value) → makes view made → bytes_of made ≡ view.bytes)
     → ((n : ℕ) → n ≤ length (marked old).bytes → marked (copied old n) ≡ text_rest (marked old) n)

@@ -80,16 +80,19 @@ one_fault bytes range a b p q =
     ]
 
 -- reading a length is a function of the bytes and the range
-same_length : (bytes : List ℕ) (range : RangeCfg) (a b : Result ℕ Error) → IsLengthRead bytes range a → IsLengthRead bytes range b → IsReadAlike (λ m n. m ≡ n) a b
+same_length : (bytes : List ℕ) (range : RangeCfg) (a b : Result ℕ Error) → IsLengthRead bytes range a → IsLengthRead bytes range b
+    → IsReadAlike (λ m n. m ≡ n) a b
 same_length bytes range (Ok m) (Ok n) p q = spelled_as_one bytes m n p.0 q.0
 same_length bytes range (Ok m) (Err error) p q = absurd (no_fault bytes range m error p q)
 same_length bytes range (Err error) (Ok n) p q = absurd (no_fault bytes range n error q p)
 same_length bytes range (Err a) (Err b) p q = inl (one_fault bytes range a b p q)
 
-pub length_alike : (s t : MarkedText) (range : RangeCfg) (a b : Result ℕ Error) → s.bytes ≡ t.bytes → IsLengthRead s.bytes range a → IsLengthRead t.bytes range b → IsReadAlike (λ m n. m ≡ n) a b
+pub length_alike : (s t : MarkedText) (range : RangeCfg) (a b : Result ℕ Error) → s.bytes ≡ t.bytes → IsLengthRead s.bytes range a
+    → IsLengthRead t.bytes range b → IsReadAlike (λ m n. m ≡ n) a b
 length_alike s t range a b e p q = same_length t.bytes range a b (subst (λ (xs : List ℕ). IsLengthRead xs range a) e p) q
 
-back : (n : ℕ) (bytes : List ℕ) (range : RangeCfg) (answer : Result ℕ Error) → IsLengthRead bytes range (Ok n) → IsLengthRead bytes range answer → IsReadBack (λ m k. m ≡ k) n answer
+back : (n : ℕ) (bytes : List ℕ) (range : RangeCfg) (answer : Result ℕ Error) → IsLengthRead bytes range (Ok n) → IsLengthRead bytes range answer
+    → IsReadBack (λ m k. m ≡ k) n answer
 back n bytes range (Ok m) found read = spelled_as_one bytes n m found.0 read.0
 back n bytes range (Err error) found read = absurd (no_fault bytes range n error found read)
 
@@ -139,7 +142,8 @@ only_memory s t range n error e has fault =
     ]
 
 -- two faults at the same bytes are one, memory aside
-faults_alike : (s t : MarkedText) (range : RangeCfg) (a b : Error) → s.bytes ≡ t.bytes → IsViewFault s range a → IsViewFault t range b → (a ≡ b) ⊎ ((a ≡ Memory) ⊎ (b ≡ Memory))
+faults_alike : (s t : MarkedText) (range : RangeCfg) (a b : Error) → s.bytes ≡ t.bytes → IsViewFault s range a → IsViewFault t range b → (a ≡ b)
+    ⊎ ((a ≡ Memory) ⊎ (b ≡ Memory))
 unfolding ViewFault
 faults_alike s t range a b e p q =
     elim (view_fault s range a p) [
@@ -178,18 +182,21 @@ bytes_alike s t range (Err error) (Ok y) e p (n, there, is) = only_memory t s ra
 bytes_alike s t range (Err a) (Err b) e p q = faults_alike s t range a b e p q
 
 -- the bytes of a view that was read were read
-bytes_of_read : (text : MarkedText) (n : ℕ) (view : View) → view ≡ taken_view text (length (spell n)) n → view.bytes ≡ take n (drop (length (spell n)) text.bytes)
+bytes_of_read : (text : MarkedText) (n : ℕ) (view : View) → view ≡ taken_view text (length (spell n)) n
+    → view.bytes ≡ take n (drop (length (spell n)) text.bytes)
 bytes_of_read text n view e = ap (λ (v : View). v.bytes) e ∙ bytes-taken_view text (length (spell n)) n
 
 pub views_alike : (s t : MarkedText) (range : RangeCfg) (a b : Result View Error) → s.bytes ≡ t.bytes → IsViewRead s range a → IsViewRead t range b
     → IsReadAlike (λ x y. x.bytes ≡ y.bytes) a b
-views_alike s t range (Ok x) (Ok y) e (m, there, is) (n, there', is') = bytes_of_read s m x is ∙ same_taken s t range m n e there there' ∙ sym (bytes_of_read t n y is')
+views_alike s t range (Ok x) (Ok y) e (m, there, is) (n, there', is') =
+    bytes_of_read s m x is ∙ same_taken s t range m n e there there' ∙ sym (bytes_of_read t n y is')
 views_alike s t range (Ok x) (Err error) e (m, there, is) q = only_memory s t range m error e there q
 views_alike s t range (Err error) (Ok y) e p (n, there, is) = only_memory t s range n error (sym e) there p
 views_alike s t range (Err a) (Err b) e p q = faults_alike s t range a b e p q
 
 -- written bytes are there to be read, whatever follows
-written_there : (text : MarkedText) (range : RangeCfg) (bytes rest : List ℕ) → length bytes < 2 ^ 64 → in_range range (length bytes) ≡ true → text.bytes ≡ bytes_written bytes ++ rest
+written_there : (text : MarkedText) (range : RangeCfg) (bytes rest : List ℕ) → length bytes < 2 ^ 64 → in_range range (length bytes) ≡ true
+    → text.bytes ≡ bytes_written bytes ++ rest
     → HasView text range (length bytes) × (take (length bytes) (drop (length (spell (length bytes))) text.bytes) ≡ bytes)
 written_there text range bytes rest small inside e =
     let n = length bytes in
@@ -197,10 +204,12 @@ written_there text range bytes rest small inside e =
     let spelled : IsSpelledAt text.bytes n = subst (λ (xs : List ℕ). IsSpelledAt xs n) (sym split) (spelled_before n (bytes ++ rest) small) in
     let long : length (spell n) + n ≤ length text.bytes =
     omega (arith, ap (λ (xs : List ℕ). length xs) split, length-append (spell n) (bytes ++ rest), length-append bytes rest) in
-    let behind : drop (length (spell n)) text.bytes ≡ bytes ++ rest = ap (drop (length (spell n))) split ∙ drop_at (spell n) (bytes ++ rest) (length (spell n)) refl in
+    let behind : drop (length (spell n)) text.bytes ≡ bytes ++ rest =
+    ap (drop (length (spell n))) split ∙ drop_at (spell n) (bytes ++ rest) (length (spell n)) refl in
     (((spelled, inside), long), ap (take n) behind ∙ take-append_seam bytes rest)
 
-pub bytes_back : (bytes : List ℕ) (range : RangeCfg) (text : MarkedText) (rest : List ℕ) (answer : Result (List ℕ) Error) → length bytes < 2 ^ 64 → in_range range (length bytes) ≡ true
+pub bytes_back : (bytes : List ℕ) (range : RangeCfg) (text : MarkedText) (rest : List ℕ) (answer : Result (List ℕ) Error) → length bytes < 2 ^ 64
+    → in_range range (length bytes) ≡ true
     → text.bytes ≡ bytes_written bytes ++ rest → IsBytesRead text range answer → IsReadBack (λ x y. x ≡ y) bytes answer
 bytes_back bytes range text rest (Ok read) small inside e (n, there, is) =
     let (written, same) = written_there text range bytes rest small inside e in
@@ -208,7 +217,8 @@ bytes_back bytes range text rest (Ok read) small inside e (n, there, is) =
 bytes_back bytes range text rest (Err error) small inside e h =
     only_memory text text range (length bytes) error refl (written_there text range bytes rest small inside e).0 h
 
-pub view_back : (view : View) (range : RangeCfg) (text : MarkedText) (rest : List ℕ) (answer : Result View Error) → length view.bytes < 2 ^ 64 → in_range range (length view.bytes) ≡ true
+pub view_back : (view : View) (range : RangeCfg) (text : MarkedText) (rest : List ℕ) (answer : Result View Error) → length view.bytes < 2 ^ 64
+    → in_range range (length view.bytes) ≡ true
     → text.bytes ≡ view_written view ++ rest → IsViewRead text range answer → IsReadBack (λ x y. x.bytes ≡ y.bytes) view answer
 view_back view range text rest (Ok read) small inside e (n, there, is) =
     let (written, same) = written_there text range view.bytes rest small inside e in
@@ -224,7 +234,8 @@ pub record IsNumberForm (written : ℕ → List ℕ) (size : ℕ) : Type 0 where
   pub one : (m n : ℕ) → m < 256 ^ size → n < 256 ^ size → written m ≡ written n → m ≡ n
 
 -- the only fault is the end of the buffer
-pub number_fault : (written : ℕ → List ℕ) (size : ℕ) (bytes : List ℕ) (error : Error) → IsNumberRead written size bytes (Err error) → (error ≡ EndOfBuffer) × (length bytes < size)
+pub number_fault : (written : ℕ → List ℕ) (size : ℕ) (bytes : List ℕ) (error : Error) → IsNumberRead written size bytes (Err error)
+    → (error ≡ EndOfBuffer) × (length bytes < size)
 number_fault written size bytes EndOfBuffer h = (refl, h)
 number_fault written size bytes InvalidVarint h = absurd h
 number_fault written size bytes (InvalidLength n) h = absurd h
@@ -242,11 +253,13 @@ same_number written size bytes (Ok m) (Err error) form p q = absurd (no_number_f
 same_number written size bytes (Err error) (Ok n) form p q = absurd (no_number_fault written size bytes error q.long p)
 same_number written size bytes (Err a) (Err b) form p q = inl ((number_fault written size bytes a p).0 ∙ sym (number_fault written size bytes b q).0)
 
-pub number_alike : (written : ℕ → List ℕ) (size : ℕ) → IsNumberForm written size → (s t : MarkedText) (a b : Result ℕ Error) → s.bytes ≡ t.bytes → IsNumberRead written size s.bytes a
+pub number_alike : (written : ℕ → List ℕ) (size : ℕ) → IsNumberForm written size → (s t : MarkedText) (a b : Result ℕ Error) → s.bytes ≡ t.bytes
+    → IsNumberRead written size s.bytes a
     → IsNumberRead written size t.bytes b → IsReadAlike (λ m n. m ≡ n) a b
 number_alike written size form s t a b e p q = same_number written size t.bytes a b form (subst (λ (xs : List ℕ). IsNumberRead written size xs a) e p) q
 
-pub number_back : (written : ℕ → List ℕ) (size n : ℕ) (bytes rest : List ℕ) (answer : Result ℕ Error) → IsNumberForm written size → n < 256 ^ size → bytes ≡ written n ++ rest
+pub number_back : (written : ℕ → List ℕ) (size n : ℕ) (bytes rest : List ℕ) (answer : Result ℕ Error) → IsNumberForm written size → n < 256 ^ size
+    → bytes ≡ written n ++ rest
     → IsNumberRead written size bytes answer → IsReadBack (λ x y. x ≡ y) n answer
 number_back written size n bytes rest (Ok m) form small e read =
     form.one n m small read.small (sym (read.is ∙ ap (take size) e ∙ take_at (written n) rest size (form.long n)))

@@ -77,7 +77,8 @@ same_form (b ∷ c ∷ bs) (d ∷ f ∷ ds) n p q =
 
 -- ---- what is read is a spelling
 
-short : (t : Bool) (more n : ℕ) → length (spell_within more (n / 128)) ≤ more + 1 → length (if t then n ∷ [] else (128 + n % 128) ∷ spell_within more (n / 128)) ≤ suc more + 1
+short : (t : Bool) (more n : ℕ) → length (spell_within more (n / 128)) ≤ more + 1
+    → length (if t then n ∷ [] else (128 + n % 128) ∷ spell_within more (n / 128)) ≤ suc more + 1
 short true more n h = omega arith
 short false more n h = omega arith
 
@@ -149,7 +150,8 @@ pub none_large : (text : List ℕ) (k m : ℕ) → IsSpelling (take k text) m �
 none_large text k m is large n at =
     let whole = take-append-drop k text in
     let whole' = take-append-drop (length (spell n)) text in
-    let same = (one_form (take k text) (take (length (spell n)) text) (drop k text) (drop (length (spell n)) text) m n is (spelled_front text n at) (whole ∙ sym whole')).1 in
+    let same = (one_form (take k text) (take (length (spell n)) text) (drop k text) (drop (length (spell n)) text) m n is (spelled_front text n at)
+    (whole ∙ sym whole')).1 in
     let small = at.0 in
     absurd (omega arith)
 

@@ -62,7 +62,8 @@ abbrev pub HasView : MarkedText → RangeCfg → ℕ → Type 0
 HasView text range n = IsLengthRead text.bytes range (Ok n) × (length (spell n) + n ≤ length text.bytes)
 
 -- the bytes behind a length were read as this value, which is made of a view of them, and dropped with it
-pub record IsTaken {Value Reader : Type 0} (makes : View → Value → Type 0) (copied : Reader → ℕ → Reader) (text : MarkedText) (range : RangeCfg) (old new : Reader) (value : Value) : Type 0 where
+pub record IsTaken {Value Reader : Type 0} (makes : View → Value → Type 0) (copied : Reader → ℕ → Reader) (text : MarkedText) (range : RangeCfg)
+    (old new : Reader) (value : Value) : Type 0 where
   pub n : ℕ
   pub there : HasView text range n
   pub made : makes (taken_view text (length (spell n)) n) value

@@ -74,7 +74,8 @@ one_end range bytes (Bad a) (Bad b) p q = ap Bad (one_bad range bytes a b p q)
 -- its length is spelled there, and there are its bytes
 spelled_in_front : (body more : List ℕ) → length body < 2 ^ 64 → IsSpelledAt (bytes_written body ++ more) (length body)
 spelled_in_front body more small =
-    subst (λ (xs : List ℕ). IsSpelledAt xs (length body)) (sym (append_assoc (spell (length body)) body more)) (spelled_before (length body) (body ++ more) small)
+    subst (λ (xs : List ℕ). IsSpelledAt xs (length body)) (sym (append_assoc (spell (length body)) body more))
+    (spelled_before (length body) (body ++ more) small)
 
 length-in_front : (body more : List ℕ) → length (spell (length body)) + length body ≤ length (bytes_written body ++ more)
 length-in_front body more = omega (arith, length-append (bytes_written body) more, length-append (spell (length body)) body)
@@ -152,7 +153,8 @@ none_in range text Memory h = absurd h
 none_in range text BadLayout h = absurd h
 none_in range text TooLong h = absurd h
 
-front_by : (range : RangeCfg) (text : List ℕ) (answer : Result ℕ Error) → IsLengthRead text range answer → HasFront range text ⊎ ((end : End) × HasNoFrame range text end)
+front_by : (range : RangeCfg) (text : List ℕ) (answer : Result ℕ Error) → IsLengthRead text range answer → HasFront range text
+    ⊎ ((end : End) × HasNoFrame range text end)
 front_by range text (Err error) h = inr (none_in range text error h)
 front_by range text (Ok n) (at, inside) = elim (less (length text) (length (spell n) + n)) [
   | inl few ↦ inr (Open, inr (n, (at, inside), few))
@@ -178,12 +180,14 @@ framed_within range (suc fuel) text enough =
     elim (front_by range text read.answer read.is) [
       | inr (end, none) ↦ record { frames = []; end = end; rest = text; is = record { whole = refl; admitted = tt; ends = none } }
       | inl front ↦
-          let others = framed_within range fuel front.more (omega (arith, enough, shorter front.body text front.more front.admitted.small front.whole)) in record {
+          let others = framed_within range fuel front.more
+          (omega (arith, enough, shorter front.body text front.more front.admitted.small front.whole)) in record {
             frames = front.body ∷ others.frames;
             end = others.end;
             rest = others.rest;
             is = record {
-              whole = front.whole ∙ ap (λ w. bytes_written front.body ++ w) others.is.whole ∙ sym (append_assoc (bytes_written front.body) (frames_written others.frames) others.rest);
+              whole = front.whole ∙ ap (λ w. bytes_written front.body ++ w) others.is.whole
+                  ∙ sym (append_assoc (bytes_written front.body) (frames_written others.frames) others.rest);
               admitted = (front.admitted, others.is.admitted);
               ends = others.is.ends;
             };
@@ -219,7 +223,8 @@ next_by_reading range t new (Err Memory) (n, there, some) left = wanted range t 
 next_by_reading range t new (Err BadLayout) h left = h
 next_by_reading range t new (Err TooLong) h left = h
 
-pub next_is : (range : RangeCfg) (t new : MarkedText) (read : Result View Error) (result : Result (Option View) Error) → result ≡ found_of read → IsViewRead t range read
+pub next_is : (range : RangeCfg) (t new : MarkedText) (read : Result View Error) (result : Result (Option View) Error) → result ≡ found_of read
+    → IsViewRead t range read
     → IfOk read (λ view. new ≡ text_rest t (length (view_written view))) → IsNext range t.bytes result new.bytes
 next_is range t new read result e h left = subst (λ r. IsNext range t.bytes r new.bytes) (sym e) (next_by_reading range t new read h left)
 
@@ -283,7 +288,8 @@ first_of_next range old new (Err TooLong) h frames end rest is = none_in_front r
 
 -- ---- bytes put behind
 
-pub fed : {Nothing Refusal : Type 0} (old new : MarkedText) (piece : View) (result : Result Nothing Refusal) → OnOk result (new ≡ text_append old piece) → OnOk result (new.bytes ≡ old.bytes ++ piece.bytes)
+pub fed : {Nothing Refusal : Type 0} (old new : MarkedText) (piece : View) (result : Result Nothing Refusal)
+    → OnOk result (new ≡ text_append old piece) → OnOk result (new.bytes ≡ old.bytes ++ piece.bytes)
 fed old new piece (Ok done) is = ap (λ (t : MarkedText). t.bytes) is ∙ bytes-append old piece
 fed old new piece (Err refused) is = tt
 
@@ -291,7 +297,8 @@ fed old new piece (Err refused) is = tt
 
 written-append : (fs gs : List (List ℕ)) → frames_written (fs ++ gs) ≡ frames_written fs ++ frames_written gs
 written-append [] gs = refl
-written-append (f ∷ fs) gs = ap (λ xs. bytes_written f ++ xs) (written-append fs gs) ∙ sym (append_assoc (bytes_written f) (frames_written fs) (frames_written gs))
+written-append (f ∷ fs) gs = ap (λ xs. bytes_written f ++ xs) (written-append fs gs)
+    ∙ sym (append_assoc (bytes_written f) (frames_written fs) (frames_written gs))
 
 one_more : (range : RangeCfg) (fs : List (List ℕ)) (body : List ℕ) → IsAdmitted range body → AreAdmitted range fs → AreAdmitted range (fs ++ body ∷ [])
 one_more range [] body admitted fine = (admitted, tt)
@@ -302,17 +309,21 @@ moved_body : (range : RangeCfg) (old new : List ℕ) (body : View) (views more :
 moved_body range old new body views more (admitted, whole) e =
     let listed : bodies more ≡ bodies views ++ body.bytes ∷ [] = ap bodies e ∙ map-append (λ (v : View). v.bytes) views (body ∷ []) in
     let written : frames_written (bodies more) ≡ frames_written (bodies views) ++ bytes_written body.bytes =
-    ap frames_written listed ∙ written-append (bodies views) (body.bytes ∷ []) ∙ ap (λ xs. frames_written (bodies views) ++ xs) (append-nil (bytes_written body.bytes)) in (
+    ap frames_written listed ∙ written-append (bodies views) (body.bytes ∷ [])
+    ∙ ap (λ xs. frames_written (bodies views) ++ xs) (append-nil (bytes_written body.bytes)) in (
       (
-        ap (λ xs. frames_written (bodies views) ++ xs) whole ∙ sym (append_assoc (frames_written (bodies views)) (bytes_written body.bytes) new) ∙ ap (λ xs. xs ++ new) (sym written),
+        ap (λ xs. frames_written (bodies views) ++ xs) whole ∙ sym (append_assoc (frames_written (bodies views)) (bytes_written body.bytes) new)
+            ∙ ap (λ xs. xs ++ new) (sym written),
         λ fine. subst (AreAdmitted range) (sym listed) (one_more range (bodies views) body.bytes admitted fine),
       ),
       shorter body.bytes old new admitted.small whole,
     )
 
-pub moved_one : (range : RangeCfg) (old new : List ℕ) (body : View) (found : Option View) (views more : List View) → found ≡ Some body → IsNext range old (Ok found) new → more ≡ views ++ body ∷ []
+pub moved_one : (range : RangeCfg) (old new : List ℕ) (body : View) (found : Option View) (views more : List View) → found ≡ Some body
+    → IsNext range old (Ok found) new → more ≡ views ++ body ∷ []
     → AreMoved range (bodies views) old (bodies more) new × (length new < length old)
-moved_one range old new body found views more is h e = moved_body range old new body views more (subst (λ (o : Option View). IsNext range old (Ok o) new) is h) e
+moved_one range old new body found views more is h e =
+    moved_body range old new body views more (subst (λ (o : Option View). IsNext range old (Ok o) new) is h) e
 
 -- ---- a text in pieces
 
@@ -320,13 +331,15 @@ moved_one range old new body found views more is h e = moved_body range old new 
 pub start : (range : RangeCfg) (views : List View) (rest : List ℕ) → views ≡ [] → rest ≡ [] → IsFramed range [] (bodies views) Open rest
 start range views rest none empty =
     record {
-      whole = ap (λ vs. frames_written (bodies vs)) (sym none) ∙ sym (append-nil (frames_written (bodies views))) ∙ ap (λ xs. frames_written (bodies views) ++ xs) (sym empty);
+      whole = ap (λ vs. frames_written (bodies vs)) (sym none) ∙ sym (append-nil (frames_written (bodies views)))
+          ∙ ap (λ xs. frames_written (bodies views) ++ xs) (sym empty);
       admitted = subst (λ (vs : List View). AreAdmitted range (bodies vs)) (sym none) tt;
       ends = subst (λ (xs : List ℕ). HasNoFrame range xs Open) (sym empty) (inl (none_high [] tt, (omega arith, tt)));
     }
 
 -- a piece behind a bad front changes the rest alone
-pub fed_bad : (range : RangeCfg) (text piece rest new : List ℕ) (frames : List (List ℕ)) (end : End) (error : Error) → IsFramed range text frames end rest → end ≡ Bad error
+pub fed_bad : (range : RangeCfg) (text piece rest new : List ℕ) (frames : List (List ℕ)) (end : End) (error : Error)
+    → IsFramed range text frames end rest → end ≡ Bad error
     → new ≡ rest ++ piece → IsFramed range (text ++ piece) frames end new
 fed_bad range text piece rest new frames end error is bad e =
     record {
@@ -334,5 +347,6 @@ fed_bad range text piece rest new frames end error is bad e =
       admitted = is.admitted;
       ends =
           subst (λ (xs : List ℕ). HasNoFrame range xs end) (sym e)
-          (subst (λ (d : End). HasNoFrame range (rest ++ piece) d) (sym bad) (stays_bad range rest piece error (subst (λ (d : End). HasNoFrame range rest d) bad is.ends)));
+          (subst (λ (d : End). HasNoFrame range (rest ++ piece) d) (sym bad)
+          (stays_bad range rest piece error (subst (λ (d : End). HasNoFrame range rest d) bad is.ends)));
     }

@@ -127,7 +127,8 @@ pub record HasFrames (range : RangeCfg) (text : List ℕ) : Type 0 where
 
 -- a beginning of a frame is open
 abbrev pub BeginningsAreOpen : Type 0
-BeginningsAreOpen = (range : RangeCfg) (body front back : List ℕ) → IsAdmitted range body → bytes_written body ≡ front ++ back → 0 < length back → HasNoFrame range front Open
+BeginningsAreOpen = (range : RangeCfg) (body front back : List ℕ) → IsAdmitted range body → bytes_written body ≡ front ++ back → 0 < length back
+    → HasNoFrame range front Open
 
 -- what is bad stays bad, whatever follows
 abbrev pub BadStaysBad : Type 0

@@ -117,7 +117,8 @@ words_shown k word (p ∷ pieces) h f =
     ∙ next_word word (piece_word k p ++ flat_map (piece_text k) pieces) h
     ∙ ap (λ (words : List (List ℕ)). word ∷ words) (words_shown k (piece_word k p) pieces (spaceless_piece k p f.0) f.1)
 
-pieces_same : (k : Kind) (ps qs : List Piece) → PiecesFit k ps → PiecesFit k qs → map (piece_word k) ps ≡ map (piece_word k) qs → map shown_piece ps ≡ map shown_piece qs
+pieces_same : (k : Kind) (ps qs : List Piece) → PiecesFit k ps → PiecesFit k qs → map (piece_word k) ps ≡ map (piece_word k) qs
+    → map shown_piece ps ≡ map shown_piece qs
 pieces_same k [] [] f g e = refl
 pieces_same k (p ∷ ps) (q ∷ qs) f g e =
     rw (piece_same k p q f.0 g.0 (ap (λ (words : List (List ℕ)). get_or words 0 []) e), pieces_same k ps qs f.1 g.1 (ap (drop 1) e)) refl
@@ -126,7 +127,8 @@ pieces_same k (p ∷ ps) [] f g e = absurd (let long = ap (λ (words : List (Lis
 
 -- the kind that a first word names
 abbrev kind_named : List ℕ → Kind
-kind_named word = if eqb (get_or word 0 0) 118 then kind.View else (if eqb (get_or word 0 0) 116 then kind.Text else (if eqb (length word) 4 then kind.Part else kind.Parts))
+kind_named word = if eqb (get_or word 0 0) 118 then kind.View else
+    (if eqb (get_or word 0 0) 116 then kind.Text else (if eqb (length word) 4 then kind.Part else kind.Parts))
 
 kind_read : (k : Kind) → kind_named (kind_text k) ≡ k
 kind_read kind.Part = refl
@@ -140,7 +142,8 @@ spaceless_kind kind.View = refl
 spaceless_kind kind.Text = refl
 spaceless_kind kind.Parts = refl
 
-shown_same : (k l : Kind) (ps qs : List Piece) → PiecesFit k ps → PiecesFit l qs → kind_text k ++ flat_map (piece_text k) ps ≡ kind_text l ++ flat_map (piece_text l) qs
+shown_same : (k l : Kind) (ps qs : List Piece) → PiecesFit k ps → PiecesFit l qs
+    → kind_text k ++ flat_map (piece_text k) ps ≡ kind_text l ++ flat_map (piece_text l) qs
     → (k ≡ l) × (map shown_piece ps ≡ map shown_piece qs)
 shown_same k l ps qs f g e =
     let words = sym (words_shown k (kind_text k) ps (spaceless_kind k) f) ∙ ap words_of e ∙ words_shown l (kind_text l) qs (spaceless_kind l) g in
@@ -153,7 +156,8 @@ shown_same k l ps qs f g e =
 abbrev fault_told : List ℕ → Error
 fault_told text =
     let c = get_or text 4 0 in
-    if eqb c 49 then fault.EndOfBuffer else (if eqb c 50 then fault.InvalidVarint else (if eqb c 51 then fault.InvalidLength (unwrap_or (number_of (drop 20 text)) 0)
+    if eqb c 49 then fault.EndOfBuffer else
+    (if eqb c 50 then fault.InvalidVarint else (if eqb c 51 then fault.InvalidLength (unwrap_or (number_of (drop 20 text)) 0)
     else (if eqb c 52 then fault.Memory else (if eqb c 53 then fault.TooLong else fault.BadLayout))))
 
 abbrev refusal_told : List ℕ → Refusal

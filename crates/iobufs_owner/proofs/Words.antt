@@ -27,7 +27,8 @@ pub word-parts : (a t size log tail : ℕ) → word_of a t size log tail ≡ ((s
 unfolding word_of
 word-parts a t size log tail = rw (pow-add 2 (1 + a) t, pow-add 2 1 a) (omega arith)
 
-pub pack-is : (a t s size log tail : ℕ) → 1 + a + t + s ≤ 64 → HasRoom a t s size log tail → bit_or (size * 2 ^ (1 + a + t) % 2 ^ 64) (bit_or (tail * 2 ^ (1 + a) % 2 ^ 64) (bit_or (log * 2 % 2 ^ 64) 1)) ≡ word_of a t size log tail
+pub pack-is : (a t s size log tail : ℕ) → 1 + a + t + s ≤ 64 → HasRoom a t s size log tail
+    → bit_or (size * 2 ^ (1 + a + t) % 2 ^ 64) (bit_or (tail * 2 ^ (1 + a) % 2 ^ 64) (bit_or (log * 2 % 2 ^ 64) 1)) ≡ word_of a t size log tail
 unfolding word_of
 pack-is a t s size log tail fits room =
     let e1 = shl_whole log a 1 64 room.log_fits (omega arith) in
@@ -49,7 +50,11 @@ unpack-log a t size log tail h =
 
 unpack-high : (a t size log tail : ℕ) → log < 2 ^ a → word_of a t size log tail / 2 ^ (1 + a) ≡ size * 2 ^ t + tail
 unpack-high a t size log tail h =
-    rw (word-parts a t size log tail, ← shr-shr (((size * 2 ^ t + tail) * 2 ^ a + log) * 2 + 1) 1 a, shr_high ((size * 2 ^ t + tail) * 2 ^ a + log) 1 1 (omega arith)) (shr_high (size * 2 ^ t + tail) a log h)
+    rw (
+      word-parts a t size log tail,
+      ← shr-shr (((size * 2 ^ t + tail) * 2 ^ a + log) * 2 + 1) 1 a,
+      shr_high ((size * 2 ^ t + tail) * 2 ^ a + log) 1 1 (omega arith),
+    ) (shr_high (size * 2 ^ t + tail) a log h)
 
 pub unpack-tail : (a t size log tail : ℕ) → log < 2 ^ a → tail < 2 ^ t → bit_and (word_of a t size log tail / 2 ^ (1 + a)) (2 ^ t - 1) ≡ tail
 unpack-tail a t size log tail h k = rw (unpack-high a t size log tail h, and_mask) (mod_low size t tail k)
@@ -95,7 +100,8 @@ pub word-log : (a t s word size log tail : ℕ) → HasRoom a t s size log tail 
 word-log a t s word size log tail room is = let e = unpack-log a t size log tail room.log_fits in rw (is, ← and_mask) e
 
 -- a word with another tail
-pub retailed-is : (a t s word size log tail n : ℕ) → HasRoom a t s size log tail → word ≡ word_of a t size log tail → retailed a t word n ≡ word_of a t size log n
+pub retailed-is : (a t s word size log tail n : ℕ) → HasRoom a t s size log tail → word ≡ word_of a t size log tail
+    → retailed a t word n ≡ word_of a t size log n
 retailed-is a t s word size log tail n room is = rw (word-size a t s word size log tail room is, word-log a t s word size log tail room is) refl
 
 -- ---- whether the fields have room
@@ -125,7 +131,12 @@ all-four false q u v e = absurd (cc)
 pub fits-room : (a t s size log tail : ℕ) → fits a t s size log tail ≡ true → HasRoom a t s size log tail
 fits-room a t s size log tail e =
     let z = all-four (nat_lt 0 size) (nat_lt log (2 ^ a)) (nat_lt tail (2 ^ t)) (nat_lt size (2 ^ s)) e in
-    record { some = grind (arith, nat_tests, z.some); log_fits = grind (arith, nat_tests, z.log); tail_fits = grind (arith, nat_tests, z.tail); size_fits = grind (arith, nat_tests, z.size) }
+    record {
+      some = grind (arith, nat_tests, z.some);
+      log_fits = grind (arith, nat_tests, z.log);
+      tail_fits = grind (arith, nat_tests, z.tail);
+      size_fits = grind (arith, nat_tests, z.size);
+    }
 
 pub fits-false : (a t s size log tail : ℕ) → (HasRoom a t s size log tail → ⊥) → fits a t s size log tail ≡ false
 fits-false a t s size log tail n =

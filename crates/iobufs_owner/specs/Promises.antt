@@ -46,7 +46,8 @@ pub record Promises (s : State) : Type 0 where
   -- A descriptor or writable handle is the only holder of its block.
   pub exclusive : (h b : ℕ) (x : Handle) → handle_at s h ≡ Some x → owner_of s.tables x ≡ Some b → IsExclusive x → holders (reading s) b ≡ 1
   -- Base, size and alignment recovered from a descriptor are those of the block that it holds.
-  pub recovered : (h w : ℕ) (x : Handle) → handle_at s h ≡ Some x → x.word ≡ Descriptor w → (b : ℕ) × (b < length s.tables.blocks) × (owner_of s.tables x ≡ Some b) × (state.recovered s.tables x w ≡ triple (block_at s.tables b))
+  pub recovered : (h w : ℕ) (x : Handle) → handle_at s h ≡ Some x → x.word ≡ Descriptor w → (b : ℕ) × (b < length s.tables.blocks)
+      × (owner_of s.tables x ≡ Some b) × (state.recovered s.tables x w ≡ triple (block_at s.tables b))
   -- The logs have no repeats. Each freed triple is that of a block, each freed number that of a record, live no more.
   pub blocks_once : IsOnce s.freed_blocks
   pub records_once : IsOnce s.freed_records

@@ -110,7 +110,8 @@ number_is_not n word low none = not_word n word (bytes_eq (decimal n) word) low 
 
 ask_says : (ask : Ask) → Fits ask → ask_by (first_word_of ask) (other_words_of ask) ≡ Some ask
 ask_says (Take step) h =
-    rw (number_is_not step.party (codes "handle") h.0 refl) (rw (number_is_not step.party (codes "record") h.0 refl) (rw (number_is_not step.party (codes "freed") h.0 refl)
+    rw (number_is_not step.party (codes "handle") h.0 refl)
+    (rw (number_is_not step.party (codes "record") h.0 refl) (rw (number_is_not step.party (codes "freed") h.0 refl)
     (rw (number_spelled step.party h.0) (rw (act_says step.act h.1) refl))))
 ask_says (Look (Handle n)) h = ap (option_map (λ n. Look (Handle n))) (number_spelled n h)
 ask_says (Look (Record n)) h = ap (option_map (λ n. Look (Record n))) (number_spelled n h)
@@ -128,14 +129,17 @@ fits_by setup h =
     grind (arith, nat_tests, few, some)
 
 setup_says : (parties ceiling : ℕ) (is_wide : Bool) → FitsSetup (record { parties = parties; ceiling = ceiling; is_wide = is_wide })
-    → setup_of (line_of_setup (record { parties = parties; ceiling = ceiling; is_wide = is_wide })) ≡ Some (record { parties = parties; ceiling = ceiling; is_wide = is_wide })
+    → setup_of (line_of_setup (record { parties = parties; ceiling = ceiling; is_wide = is_wide }))
+    ≡ Some (record { parties = parties; ceiling = ceiling; is_wide = is_wide })
 setup_says parties ceiling true h =
     let low : parties < 2 ^ 64 = omega (arith, h.few) in
-    ap setup_in (words_joined (codes "machine") (decimal parties ∷ decimal ceiling ∷ codes "64" ∷ []) (refl, (spaceless_decimal parties low, (spaceless_decimal ceiling h.low, (refl, tt)))))
+    ap setup_in (words_joined (codes "machine") (decimal parties ∷ decimal ceiling ∷ codes "64" ∷ [])
+    (refl, (spaceless_decimal parties low, (spaceless_decimal ceiling h.low, (refl, tt)))))
     ∙ rw (number_spelled parties low) (rw (number_spelled ceiling h.low) (fits_by _ h))
 setup_says parties ceiling false h =
     let low : parties < 2 ^ 64 = omega (arith, h.few) in
-    ap setup_in (words_joined (codes "machine") (decimal parties ∷ decimal ceiling ∷ codes "32" ∷ []) (refl, (spaceless_decimal parties low, (spaceless_decimal ceiling h.low, (refl, tt)))))
+    ap setup_in (words_joined (codes "machine") (decimal parties ∷ decimal ceiling ∷ codes "32" ∷ [])
+    (refl, (spaceless_decimal parties low, (spaceless_decimal ceiling h.low, (refl, tt)))))
     ∙ rw (number_spelled parties low) (rw (number_spelled ceiling h.low) (fits_by _ h))
 
 pub line_asks_for : (setup : Setup) → FitsSetup setup → setup_of (line_of_setup setup) ≡ Some setup

@@ -14,7 +14,8 @@ use Rattle.iobufs_owner_lines.specs.Session.{AreAnswered, Answers, MakesRoom, an
 pub room_made : (m grown : Seen) (result : Result (Unit {0}) BufError) → grown.state ≡ m.state → KeepsRoom m.room grown.room
     → OnOk result (length m.state.tables.blocks + 1 ≤ grown.room.blocks) → OnOk result (length m.state.handles + 1 ≤ grown.room.handles)
     → OnOk result (length m.state.tables.records + 1 ≤ grown.room.records) → OnErr result (grown ≡ m) → MakesRoom m grown
-room_made m grown (Ok done) e k blocks handles records same = inl (record { state = e; room = k }, record { blocks = rw e blocks; handles = rw e handles; records = rw e records })
+room_made m grown (Ok done) e k blocks handles records same =
+    inl (record { state = e; room = k }, record { blocks = rw e blocks; handles = rw e handles; records = rw e records })
 room_made m grown (Err why) e k blocks handles records same = inr same
 
 grown_by : (m grown : Seen) → MakesRoom m grown → HasGrown m grown
@@ -33,7 +34,11 @@ stepped m next [] (text ∷ texts) h = elim h [ ]
 stepped m next (ask ∷ asks) [] h = elim h [ ]
 stepped m next (Take step ∷ asks) (text ∷ texts) (mid, (grown, reply, has, one, says), others) =
     let rest = stepped mid next asks texts others in
-    record { replies = reply ∷ rest.replies; runs = (grown, mid, grown_by m grown has, one, rest.runs); says = rw says (ap (λ l. reply_text reply ∷ l) rest.says) }
+    record {
+      replies = reply ∷ rest.replies;
+      runs = (grown, mid, grown_by m grown has, one, rest.runs);
+      says = rw says (ap (λ l. reply_text reply ∷ l) rest.says);
+    }
 stepped m next (Look question ∷ asks) (text ∷ texts) (mid, (same, says), others) =
     let rest = stepped mid next asks texts others in
     record { replies = rest.replies; runs = subst (λ (s : Seen). GrowingRuns s (steps_of asks) rest.replies next) same rest.runs; says = rest.says }
@@ -44,7 +49,8 @@ pub answered_more : (m mid next : Seen) (asks : List Ask) (texts : List (List �
 answered_more m mid next [] [] ask text h a = (next, subst (λ (s : Seen). Answers s ask text next) h a, refl)
 answered_more m mid next [] (t ∷ texts) ask text h a = elim h [ ]
 answered_more m mid next (first ∷ asks) [] ask text h a = elim h [ ]
-answered_more m mid next (first ∷ asks) (t ∷ texts) ask text (between, one, others) a = (between, one, answered_more between mid next asks texts ask text others a)
+answered_more m mid next (first ∷ asks) (t ∷ texts) ask text (between, one, others) a =
+    (between, one, answered_more between mid next asks texts ask text others a)
 
 -- what is promised stays so
 pub promised_after : (m next : Seen) (ask : Ask) (text : List ℕ) → Answers m ask text next → Promises m.state → Promises next.state

@@ -20,7 +20,8 @@ pub way-step : (ps : List Place) (f i j q : ℕ) → side (place_at ps i) q ≡ 
 unfolding way
 way-step ps f i j q e = rw (way, e) refl
 
-pub way-on : (ps : List Place) (n q i j : ℕ) → AreRising ps → i < length ps → side (place_at ps i) q ≡ Some j → (f : ℕ) → length ps ≤ i + f → way ps n 0 q ≡ way ps f i q → (j < length ps) × ((g : ℕ) × (length ps ≤ j + g) × (way ps n 0 q ≡ way ps g j q))
+pub way-on : (ps : List Place) (n q i j : ℕ) → AreRising ps → i < length ps → side (place_at ps i) q ≡ Some j → (f : ℕ) → length ps ≤ i + f
+    → way ps n 0 q ≡ way ps f i q → (j < length ps) × ((g : ℕ) × (length ps ≤ j + g) × (way ps n 0 q ≡ way ps g j q))
 way-on ps n q i j r l e zero b w = absurd (omega (arith, l, b))
 way-on ps n q i j r l e (suc f) b w =
     let s = side-behind ps i j q r l e in

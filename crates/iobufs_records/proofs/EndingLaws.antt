@@ -22,7 +22,8 @@ followed zero end first e some = absurd (omega (arith, some))
 followed (suc n) end first e some = let t : nat_lt 0 (suc n) ≡ true = grind (arith, nat_tests) in e ∙ ap (λ t. if t then Damaged else first) t
 
 -- what is held and left is the rest behind the records
-rest_so : (most : ℕ) (text found_bytes rest behind : List ℕ) (taken : ℕ) → text ≡ found_bytes ++ rest → taken ≡ length found_bytes → drop taken text ≡ behind → rest ≡ behind
+rest_so : (most : ℕ) (text found_bytes rest behind : List ℕ) (taken : ℕ) → text ≡ found_bytes ++ rest → taken ≡ length found_bytes
+    → drop taken text ≡ behind → rest ≡ behind
 rest_so most text found_bytes rest behind taken whole summed left =
     sym (ap (λ k. drop k text) summed ∙ ap (drop (length found_bytes)) whole ∙ drop-append_seam found_bytes rest) ∙ left
 
@@ -45,7 +46,8 @@ ending_so most (Some text) (Some more) held holds put puts scan first behind end
       followed = λ some. followed behind ending.end first end (omega (arith, some, count));
       further = further.further;
       further_so =
-          subst (λ k. AreFurther most k shown.rest first further.further) (sym number) (subst (λ w. AreFurther most scan.number w first further.further) (sym rest) further.are);
+          subst (λ k. AreFurther most k shown.rest first further.further) (sym number)
+          (subst (λ w. AreFurther most scan.number w first further.further) (sym rest) further.are);
       behind_so = count ∙ further.counted;
     }
 
@@ -53,11 +55,18 @@ pub in_turn : (name colon text end : List ℕ) → name ++ (colon ++ (text ++ en
 in_turn name colon text end = sym (append_assoc (name ++ colon) text end ∙ append_assoc name colon (text ++ end))
 
 pub checked : (most : ℕ) (a held holds : Option (List ℕ)) (name bytes : List ℕ) (ending : Ending) (status : ℕ) → IfSome a (λ text. HasEnding most text ending)
-    → Appends held holds bytes → bytes ≡ name ++ codes ": " ++ ending_text ending ++ codes "\n" → status ≡ status_of ending.end → IfSome a (λ text. IsChecked most name text held holds status)
+    → Appends held holds bytes → bytes ≡ name ++ codes ": " ++ ending_text ending ++ codes "\n" → status ≡ status_of ending.end
+    → IfSome a (λ text. IsChecked most name text held holds status)
 checked most None held holds name bytes ending status is put e so = tt
-checked most (Some text) held holds name bytes ending status is put e so = record { ending = ending; is = is; put = subst (Appends held holds) e put; status_so = so }
+checked most (Some text) held holds name bytes ending status is put e so = record {
+  ending = ending;
+  is = is;
+  put = subst (Appends held holds) e put;
+  status_so = so;
+}
 
-pub replayed : (most : ℕ) (all : Bool) (a held holds : Option (List ℕ)) (number taken : ℕ) (end : End) → IfSome a (λ text. IsPrinted most text held holds number taken end) → all ≡ false
+pub replayed : (most : ℕ) (all : Bool) (a held holds : Option (List ℕ)) (number taken : ℕ) (end : End)
+    → IfSome a (λ text. IsPrinted most text held holds number taken end) → all ≡ false
     → IfSome a (λ text. IsReplayed most all text held holds end)
 replayed most all None held holds number taken end shown e = tt
 replayed most true (Some text) held holds number taken end shown e = absurd cc
@@ -70,8 +79,10 @@ replayed most false (Some text) held holds number taken end shown e = record {
   put = subst (Appends held holds) (sym (append-nil (printed shown.found))) shown.put;
 }
 
-pub replayed_all : (most : ℕ) (all : Bool) (a c held middle holds : Option (List ℕ)) (scan : Scan) (end : End) (count : ℕ) → IfSome a (λ text. IsPrinted most text held middle scan.number scan.taken end)
-    → IfSome a (λ text. IsLeft scan text c) → IfSome c (λ left. AreFurtherPrinted most scan.number (scan.window.bytes ++ left) end middle holds count) → all ≡ true
+pub replayed_all : (most : ℕ) (all : Bool) (a c held middle holds : Option (List ℕ)) (scan : Scan) (end : End) (count : ℕ)
+    → IfSome a (λ text. IsPrinted most text held middle scan.number scan.taken end)
+    → IfSome a (λ text. IsLeft scan text c)
+    → IfSome c (λ left. AreFurtherPrinted most scan.number (scan.window.bytes ++ left) end middle holds count) → all ≡ true
     → IfSome a (λ text. IsReplayed most all text held holds end)
 replayed_all most all None c held middle holds scan end count shown left further e = tt
 replayed_all most all (Some text) None held middle holds scan end count shown left further e = absurd left
@@ -83,6 +94,7 @@ replayed_all most true (Some text) (Some more) held middle holds scan end count 
       is = shown.is;
       further = further.further;
       further_so =
-          subst (λ k. AreFurther most k shown.rest end further.further) shown.counted (subst (λ w. AreFurther most scan.number w end further.further) (sym rest) further.are);
+          subst (λ k. AreFurther most k shown.rest end further.further) shown.counted
+          (subst (λ w. AreFurther most scan.number w end further.further) (sym rest) further.are);
       put = appends_on held middle holds (printed shown.found) (printed further.further) shown.put further.put;
     }

@@ -22,8 +22,10 @@ pub found_at : (most number : ℕ) (text copy left framed body : View) (found : 
 found_at most number text copy left framed body found same is rest e seal =
     sym (ap (λ (v : View). v.bytes) same) ∙ found_record most number (of_view copy) (of_view left) framed body found is rest e seal
 
-pub none_at : (most number : ℕ) (text copy left framed : View) (found : Option View) (empty : Bool) → copy ≡ text → IsViewRead (of_view copy) (up_to most) (Ok framed)
-    → of_view left ≡ text_rest (of_view copy) (length (view_written framed)) → found ≡ None → IfNone found (IsSealed number framed.bytes → ⊥) → empty ≡ (length text.bytes == 0) → empty ≡ false
+pub none_at : (most number : ℕ) (text copy left framed : View) (found : Option View) (empty : Bool) → copy ≡ text
+    → IsViewRead (of_view copy) (up_to most) (Ok framed)
+    → of_view left ≡ text_rest (of_view copy) (length (view_written framed)) → found ≡ None → IfNone found (IsSealed number framed.bytes → ⊥)
+    → empty ≡ (length text.bytes == 0) → empty ≡ false
     → HasNoRecord most number text.bytes Damaged
 none_at most number text copy left framed found empty same is rest e none test more =
     let at = ap (λ (v : View). v.bytes) same in
@@ -33,7 +35,8 @@ none_at most number text copy left framed found empty same is rest e none test m
 -- ---- a record with a near number
 
 -- what is read where a record stands in front
-read_there : (most least : ℕ) (text left : MarkedText) (result : Result View Error) (there : StandsInFront most least text.bytes) → most < 2 ^ 64 → IsViewRead text (up_to most) result
+read_there : (most least : ℕ) (text left : MarkedText) (result : Result View Error) (there : StandsInFront most least text.bytes) → most < 2 ^ 64
+    → IsViewRead text (up_to most) result
     → IfOk result (λ view. left ≡ text_rest text (length (view_written view))) → AreReadBack (sealed there.number there.body) there.behind left.bytes result
 read_there most least text left result there large is rest =
     let n = length (sealed there.number there.body) in
@@ -46,32 +49,46 @@ pub untold : (t : Bool) (P : Type 0) → (IsTrue t ↔ P) → t ≡ false → P 
 untold t P test e p = grind (arith, test, e, p)
 
 -- a fault of reading says that none stands there
-pub not_read : (most least : ℕ) (text copy : View) (error : Error) → most < 2 ^ 64 → copy ≡ text → IsViewRead (of_view copy) (up_to most) (Err error) → (error ≡ Memory → ⊥) → StandsInFront most least text.bytes → ⊥
+pub not_read : (most least : ℕ) (text copy : View) (error : Error) → most < 2 ^ 64 → copy ≡ text → IsViewRead (of_view copy) (up_to most) (Err error)
+    → (error ≡ Memory → ⊥) → StandsInFront most least text.bytes → ⊥
 not_read most least text copy error large same is other there =
-    other (read_there most least (of_view copy) (of_view copy) (Err error) (subst (StandsInFront most least) (sym (ap (λ (v : View). v.bytes) same)) there) large is tt)
+    other (read_there most least (of_view copy) (of_view copy) (Err error)
+    (subst (StandsInFront most least) (sym (ap (λ (v : View). v.bytes) same)) there) large is tt)
 
 -- the frame in front is the record that stands there
-framed_is : (most least : ℕ) (text copy left framed : View) → most < 2 ^ 64 → copy ≡ text → IsViewRead (of_view copy) (up_to most) (Ok framed) → of_view left ≡ text_rest (of_view copy) (length (view_written framed))
+framed_is : (most least : ℕ) (text copy left framed : View) → most < 2 ^ 64 → copy ≡ text → IsViewRead (of_view copy) (up_to most) (Ok framed)
+    → of_view left ≡ text_rest (of_view copy) (length (view_written framed))
     → (there : StandsInFront most least text.bytes) → framed.bytes ≡ sealed there.number there.body
 framed_is most least text copy left framed large same is rest there =
     let at : text.bytes ≡ copy.bytes = sym (ap (λ (v : View). v.bytes) same) in
     (read_there most least (of_view copy) (of_view left) (Ok framed)
-    (record { number = there.number; body = there.body; behind = there.behind; whole = sym at ∙ there.whole; small = there.small; near = there.near; short = there.short })
+    (record {
+      number = there.number;
+      body = there.body;
+      behind = there.behind;
+      whole = sym at ∙ there.whole;
+      small = there.small;
+      near = there.near;
+      short = there.short;
+    })
     large is rest).0
 
 -- its number stands in front of it
 front_number : (number : ℕ) (body framed : List ℕ) → number < 2 ^ 64 → framed ≡ sealed number body → from_be_bytes w64 (take 8 framed) ≡ number
 front_number number body framed small e = ap (from_be_bytes w64) ((is_sealed number framed body e).number_is) ∙ from_be_bytes-to_be_bytes_8 number small
 
-pub not_near : (most least : ℕ) (text copy left framed : View) (shown : List ℕ) → most < 2 ^ 64 → copy ≡ text → IsViewRead (of_view copy) (up_to most) (Ok framed) → of_view left ≡ text_rest (of_view copy) (length (view_written framed))
+pub not_near : (most least : ℕ) (text copy left framed : View) (shown : List ℕ) → most < 2 ^ 64 → copy ≡ text
+    → IsViewRead (of_view copy) (up_to most) (Ok framed) → of_view left ≡ text_rest (of_view copy) (length (view_written framed))
     → shown ≡ framed.bytes → (12 ≤ length shown → IsNear least (from_be_bytes w64 (take 8 shown)) → ⊥) → StandsInFront most least text.bytes → ⊥
 not_near most least text copy left framed shown large same is rest e never there =
     let sealed_so : shown ≡ sealed there.number there.body = e ∙ framed_is most least text copy left framed large same is rest there in
     let number = front_number there.number there.body shown there.small sealed_so in
     never (is_sealed there.number shown there.body sealed_so).long (subst (IsNear least) (sym number) there.near)
 
-pub not_sealed : (most least number : ℕ) (text copy left framed : View) (shown : List ℕ) (found : Option View) → most < 2 ^ 64 → copy ≡ text → IsViewRead (of_view copy) (up_to most) (Ok framed) → of_view left ≡ text_rest (of_view copy) (length (view_written framed))
-    → shown ≡ framed.bytes → number ≡ from_be_bytes w64 (take 8 shown) → found ≡ None → IfNone found (IsSealed number framed.bytes → ⊥) → StandsInFront most least text.bytes → ⊥
+pub not_sealed : (most least number : ℕ) (text copy left framed : View) (shown : List ℕ) (found : Option View) → most < 2 ^ 64 → copy ≡ text
+    → IsViewRead (of_view copy) (up_to most) (Ok framed) → of_view left ≡ text_rest (of_view copy) (length (view_written framed))
+    → shown ≡ framed.bytes → number ≡ from_be_bytes w64 (take 8 shown) → found ≡ None → IfNone found (IsSealed number framed.bytes → ⊥)
+    → StandsInFront most least text.bytes → ⊥
 not_sealed most least number text copy left framed shown found large same is rest e at empty none there =
     let sealed_so = framed_is most least text copy left framed large same is rest there in
     let one : there.number ≡ number = sym (at ∙ front_number there.number there.body shown there.small (e ∙ sealed_so)) in

@@ -23,18 +23,21 @@ same_part a b p q = ap (λ w. part_of w a.spare) p ∙ ap (part_of b.filled) q
 -- a record that is put piece by piece
 pub record_put : (out a b c d : Part) (number len sum at : ℕ) (body text : List ℕ) → len ≡ length body + 12 → length body + 22 ≤ out.spare
     → a ≡ part_put out (spell len) → at ≡ length a.filled → b ≡ part_put a (to_be_bytes w64 number) → c ≡ part_put b body
-    → text ≡ c.filled → sum ≡ crc32 (take (length text - at) (drop at text)) → d ≡ part_put c (to_be_bytes w32 sum) → d ≡ part_put out (record_written number body)
+    → text ≡ c.filled → sum ≡ crc32 (take (length text - at) (drop at text)) → d ≡ part_put c (to_be_bytes w32 sum)
+    → d ≡ part_put out (record_written number body)
 record_put out a b c d number len sum at body text long room first place second third behind sum_is fourth =
     let num = to_be_bytes w64 number in
     let head = num ++ body in
     let filled : c.filled ≡ a.filled ++ head =
     ap (λ (p : Part). p.filled) third ∙ ap (λ (p : Part). p.filled ++ body) second ∙ append_assoc a.filled num body in
     let cut : take (length text - at) (drop at text) ≡ head =
-    take_all (length text - at) (drop at text) (omega (arith, length-drop at text)) ∙ ap (λ w. drop at w) (behind ∙ filled) ∙ ap (λ n. drop n (a.filled ++ head)) place ∙ drop-append_seam a.filled head in
+    take_all (length text - at) (drop at text) (omega (arith, length-drop at text)) ∙ ap (λ w. drop at w) (behind ∙ filled)
+    ∙ ap (λ n. drop n (a.filled ++ head)) place ∙ drop-append_seam a.filled head in
     let sealed_is : head ++ to_be_bytes w32 sum ≡ sealed number body = ap (λ s. head ++ to_be_bytes w32 s) (sum_is ∙ ap crc32 cut) in
     let sized : len ≡ length (sealed number body) = omega (arith, long, length-sealed number body) in
     let all : d.filled ≡ out.filled ++ record_written number body =
-    ap (λ (p : Part). p.filled) fourth ∙ ap (λ w. w ++ to_be_bytes w32 sum) filled ∙ append_assoc a.filled head (to_be_bytes w32 sum) ∙ ap (λ w. a.filled ++ w) sealed_is
+    ap (λ (p : Part). p.filled) fourth ∙ ap (λ w. w ++ to_be_bytes w32 sum) filled ∙ append_assoc a.filled head (to_be_bytes w32 sum)
+    ∙ ap (λ w. a.filled ++ w) sealed_is
     ∙ ap (λ (p : Part). p.filled ++ sealed number body) first ∙ append_assoc out.filled (spell len) (sealed number body)
     ∙ ap (λ n. out.filled ++ (spell n ++ sealed number body)) sized in
     let left : d.spare ≡ out.spare - length (record_written number body) =
@@ -69,17 +72,29 @@ put_on a b c old middle new u v p q = record {
   went = p.went ++ q.went;
   grew = appends_on a b c p.went q.went p.grew q.grew;
   whole =
-      sym (append_assoc old u v) ∙ ap (λ w. w ++ v) p.whole ∙ append_assoc p.went middle v ∙ ap (λ w. p.went ++ w) q.whole ∙ sym (append_assoc p.went q.went new);
+      sym (append_assoc old u v) ∙ ap (λ w. w ++ v) p.whole ∙ append_assoc p.went middle v ∙ ap (λ w. p.went ++ w) q.whole
+      ∙ sym (append_assoc p.went q.went new);
 }
 
 -- a record behind what is held, once there is room
-pub put_record : (a b : Option (List ℕ)) (old middle new : Part) (number same : ℕ) (body : List ℕ) → IsPut a b old.filled middle.filled [] → new ≡ part_put middle (record_written same body) → same ≡ number
+pub put_record : (a b : Option (List ℕ)) (old middle new : Part) (number same : ℕ) (body : List ℕ) → IsPut a b old.filled middle.filled []
+    → new ≡ part_put middle (record_written same body) → same ≡ number
     → IsPut a b old.filled new.filled (record_written number body)
 put_record a b old middle new number same body put is e =
     subst (λ w. IsPut a b old.filled w (record_written number body)) (sym (ap (λ (p : Part). p.filled) is ∙ ap (λ k. middle.filled ++ record_written k body) e))
     (put_behind a b old.filled middle.filled (record_written number body) put)
 
-pub record_room : (old middle new : Part) (number room : ℕ) (body : List ℕ) → room ≡ length body + 22 → room ≤ middle.spare → part_capacity middle ≡ part_capacity old → new ≡ part_put middle (record_written number body)
+pub record_room : (old middle new : Part) (number room : ℕ) (body : List ℕ) → room ≡ length body + 22 → room ≤ middle.spare
+    → part_capacity middle ≡ part_capacity old → new ≡ part_put middle (record_written number body)
     → part_capacity new ≡ part_capacity old
 record_room old middle new number room body e fits same is =
-    omega (arith, e, fits, same, record_small number body, ap (λ (p : Part). p.spare) is, ap (λ (p : Part). length p.filled) is, length-append middle.filled (record_written number body))
+    omega (
+      arith,
+      e,
+      fits,
+      same,
+      record_small number body,
+      ap (λ (p : Part). p.spare) is,
+      ap (λ (p : Part). length p.filled) is,
+      length-append middle.filled (record_written number body),
+    )

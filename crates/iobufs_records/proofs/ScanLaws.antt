@@ -58,7 +58,8 @@ grown_on a b c old middle new more grown filled number taken = record {
 }
 
 -- a record goes
-pub next_found : (most : ℕ) (had has : Option (List ℕ)) (old middle new : Scan) (front : Result Found End) (found : Found) → IsGrown had has old middle → front ≡ Ok found
+pub next_found : (most : ℕ) (had has : Option (List ℕ)) (old middle new : Scan) (front : Result Found End) (found : Found)
+    → IsGrown had has old middle → front ≡ Ok found
     → IfOk front (λ f. middle.window.bytes ≡ record_written middle.number f.body.bytes ++ f.rest.bytes) → IfOk front (λ f. 12 + length f.body.bytes ≤ most)
     → (new.window ≡ found.rest) × (new.number ≡ middle.number + 1) × (new.taken + length found.rest.bytes ≡ middle.taken + length middle.window.bytes)
     → IsNext most had has old new (Ok found.body)
@@ -87,15 +88,18 @@ next_found most had has old middle new front found grown e all fits (left, numbe
       );
     }
 
-no_more : (most number : ℕ) (has : Option (List ℕ)) (held : List ℕ) (end : End) → IsAtEnd has → HasNoRecord most number held end → IfSome has (λ left. HasNoRecord most number (held ++ left) end)
+no_more : (most number : ℕ) (has : Option (List ℕ)) (held : List ℕ) (end : End) → IsAtEnd has → HasNoRecord most number held end
+    → IfSome has (λ left. HasNoRecord most number (held ++ left) end)
 no_more most number None held end at none = tt
 no_more most number (Some xs) held end at none = subst (λ w. HasNoRecord most number w end) (sym (append-nil held) ∙ ap (λ w. held ++ w) (sym at)) none
 
-damage : (most number : ℕ) (has : Option (List ℕ)) (held : List ℕ) → HasNoRecord most number held Damaged → IfSome has (λ left. HasNoRecord most number (held ++ left) Damaged)
+damage : (most number : ℕ) (has : Option (List ℕ)) (held : List ℕ) → HasNoRecord most number held Damaged
+    → IfSome has (λ left. HasNoRecord most number (held ++ left) Damaged)
 damage most number None held none = tt
 damage most number (Some xs) held none = stays_damaged most number held xs none
 
-ended_so : (most : ℕ) (had has : Option (List ℕ)) (old new : Scan) (end : End) → IsGrown had has old new → IfSome has (λ left. HasNoRecord most new.number (new.window.bytes ++ left) end)
+ended_so : (most : ℕ) (had has : Option (List ℕ)) (old new : Scan) (end : End) → IsGrown had has old new
+    → IfSome has (λ left. HasNoRecord most new.number (new.window.bytes ++ left) end)
     → IsNext most had has old new (Err end)
 ended_so most had has old new end grown none = record {
   read = grown.read;
@@ -120,7 +124,8 @@ pub next_ended : (most : ℕ) (a b c : Option (List ℕ)) (old middle new : Scan
     → IfErr found (λ end. HasNoRecord most middle.number middle.window.bytes end) → IsFilled b c middle.window.bytes new.window.bytes false
     → new.number ≡ middle.number → new.taken ≡ middle.taken → IsNext most a c old new (Err end)
 next_ended most a b c old middle new found end grown e h filled number taken =
-    let none : HasNoRecord most middle.number middle.window.bytes end = subst (λ (r : Result Found End). IfErr r (λ end. HasNoRecord most middle.number middle.window.bytes end)) e h in
+    let none : HasNoRecord most middle.number middle.window.bytes end =
+    subst (λ (r : Result Found End). IfErr r (λ end. HasNoRecord most middle.number middle.window.bytes end)) e h in
     let some = filled.some in
     let nothing : filled.read ≡ [] = nil_from_length filled.read (grind (arith, nat_tests, some)) in
     let same : middle.window.bytes ≡ new.window.bytes = sym (filled.grew ∙ ap (λ w. middle.window.bytes ++ w) nothing ∙ append-nil middle.window.bytes) in
@@ -136,7 +141,8 @@ pub record IsPrinting (most : ℕ) (had has held holds : Option (List ℕ)) (sca
   pub read : IsRead most had has scan found
   pub put : Appends held holds (printed found)
 
-pub nothing_printed : (most : ℕ) (had held : Option (List ℕ)) (scan : Scan) → (scan.window.bytes ≡ []) × (scan.number ≡ 0) × (scan.taken ≡ 0) → IsPrinting most had had held held scan
+pub nothing_printed : (most : ℕ) (had held : Option (List ℕ)) (scan : Scan) → (scan.window.bytes ≡ []) × (scan.number ≡ 0) × (scan.taken ≡ 0)
+    → IsPrinting most had had held held scan
 nothing_printed most had held scan (none, number, taken) = record {
   found = [];
   read = record { took = subst (Consumes had had) (sym none) (consumes_none had); short = tt; counted = number; summed = taken };
@@ -147,7 +153,8 @@ pub short_more : (most : ℕ) (fs : List (List ℕ)) (body : List ℕ) → AreSh
 short_more most [] body short fits = (fits, tt)
 short_more most (f ∷ fs) body short fits = (short.0, short_more most fs body short.1 fits)
 
-pub written_more : (k : ℕ) (fs : List (List ℕ)) (body : List ℕ) → records_written k (fs ++ body ∷ []) ≡ records_written k fs ++ record_written (k + length fs) body
+pub written_more : (k : ℕ) (fs : List (List ℕ)) (body : List ℕ)
+    → records_written k (fs ++ body ∷ []) ≡ records_written k fs ++ record_written (k + length fs) body
 written_more k [] body = append-nil (record_written k body) ∙ ap (λ n. record_written n body) (let z : k ≡ k + 0 = omega arith in z)
 written_more k (f ∷ fs) body =
     let next : suc k + length fs ≡ k + suc (length fs) = omega arith in
@@ -159,23 +166,27 @@ printed_more [] body = append-nil (body ++ 10 ∷ [])
 printed_more (f ∷ fs) body = ap (λ w. (f ++ 10 ∷ []) ++ w) (printed_more fs body) ∙ sym (append_assoc (f ++ 10 ∷ []) (printed fs) (body ++ 10 ∷ []))
 
 -- what was consumed in two steps, where the first left bytes that are held
-held_on : (a b c : Option (List ℕ)) (taken held read front left : List ℕ) → Consumes a b (taken ++ held) → Consumes b c read → held ++ read ≡ front ++ left → Consumes a c ((taken ++ front) ++ left)
+held_on : (a b c : Option (List ℕ)) (taken held read front left : List ℕ) → Consumes a b (taken ++ held) → Consumes b c read
+    → held ++ read ≡ front ++ left → Consumes a c ((taken ++ front) ++ left)
 held_on a b c taken held read front left p q e =
     let all : (taken ++ held) ++ read ≡ (taken ++ front) ++ left =
     append_assoc taken held read ∙ ap (λ w. taken ++ w) e ∙ sym (append_assoc taken front left) in
     subst (Consumes a c) all (consumes_on a b c (taken ++ held) read p q)
 
-read_more : (most : ℕ) (a b c : Option (List ℕ)) (old new : Scan) (found : List (List ℕ)) (body : View) → IsRead most a b old found → IsNext most b c old new (Ok body)
+read_more : (most : ℕ) (a b c : Option (List ℕ)) (old new : Scan) (found : List (List ℕ)) (body : View) → IsRead most a b old found
+    → IsNext most b c old new (Ok body)
     → IsRead most a c new (found ++ body.bytes ∷ [])
 read_more most a b c old new found body so_far next =
     let (whole, short, number, taken) = next.front in
     let counted = so_far.counted in
     let summed = so_far.summed in
     let written : records_written 0 (found ++ body.bytes ∷ []) ≡ records_written 0 found ++ record_written old.number body.bytes =
-    written_more 0 found body.bytes ∙ ap (λ k. records_written 0 found ++ record_written k body.bytes) (let z : 0 + length found ≡ old.number = omega (arith, counted) in z) in record {
+    written_more 0 found body.bytes ∙ ap (λ k. records_written 0 found ++ record_written k body.bytes)
+    (let z : 0 + length found ≡ old.number = omega (arith, counted) in z) in record {
       took =
           subst (λ w. Consumes a c (w ++ new.window.bytes)) (sym written)
-          (held_on a b c (records_written 0 found) old.window.bytes next.read (record_written old.number body.bytes) new.window.bytes so_far.took next.took whole);
+          (held_on a b c (records_written 0 found) old.window.bytes next.read (record_written old.number body.bytes) new.window.bytes so_far.took
+          next.took whole);
       short = short_more most found body.bytes so_far.short short;
       counted = omega (arith, number, counted, length-append found (body.bytes ∷ []));
       summed = omega (
@@ -187,7 +198,8 @@ read_more most a b c old new found body so_far next =
       );
     }
 
-pub printed_on : (most : ℕ) (a b c held middle holds : Option (List ℕ)) (old new : Scan) (body : View) (next : Result View End) (bytes : List ℕ) → IsPrinting most a b held middle old
+pub printed_on : (most : ℕ) (a b c held middle holds : Option (List ℕ)) (old new : Scan) (body : View) (next : Result View End) (bytes : List ℕ)
+    → IsPrinting most a b held middle old
     → next ≡ Ok body → IsNext most b c old new next → bytes ≡ body.bytes → Appends middle holds (bytes ++ 10 ∷ []) → IsPrinting most a c held holds new
 printed_on most a b c held middle holds old new body next bytes so_far e step same put = record {
   found = so_far.found ++ body.bytes ∷ [];
@@ -197,9 +209,11 @@ printed_on most a b c held middle holds old new body next bytes so_far e step sa
       (appends_on held middle holds (printed so_far.found) (body.bytes ++ 10 ∷ []) so_far.put (subst (λ w. Appends middle holds (w ++ 10 ∷ [])) same put));
 }
 
-pub smaller : (most : ℕ) (b c : Option (List ℕ)) (old new : Scan) (body : View) (next : Result View End) → next ≡ Ok body → IsNext most b c old new next → new.number < 2 ^ 64
+pub smaller : (most : ℕ) (b c : Option (List ℕ)) (old new : Scan) (body : View) (next : Result View End) → next ≡ Ok body
+    → IsNext most b c old new next → new.number < 2 ^ 64
     → 2 ^ 64 - new.number < 2 ^ 64 - old.number
-smaller most b c old new body next e step small = let (whole, short, number, taken) = (subst (IsNext most b c old new) e step).front in omega (arith, number, small)
+smaller most b c old new body next e step small = let (whole, short, number, taken) =
+    (subst (IsNext most b c old new) e step).front in omega (arith, number, small)
 
 pub all_printed : (most : ℕ) (a b c held holds : Option (List ℕ)) (old new : Scan) (end : End) (next : Result View End) → IsPrinting most a b held holds old
     → next ≡ Err end → IsNext most b c old new next → IfSome a (λ text. IsPrinted most text held holds new.number new.taken end)
@@ -238,5 +252,6 @@ all_left most (Some text) (Some middle) (Some left) held holds old new end next 
     let records = records_written 0 so_far.found in
     let behind : old.window.bytes ++ middle ≡ new.window.bytes ++ left =
     ap (λ w. old.window.bytes ++ w) is.took ∙ sym (append_assoc old.window.bytes is.read left) ∙ ap (λ w. w ++ left) same in
-    let whole : text ≡ records ++ (new.window.bytes ++ left) = so_far.read.took ∙ append_assoc records old.window.bytes middle ∙ ap (λ w. records ++ w) behind in
+    let whole : text ≡ records ++ (new.window.bytes ++ left) = so_far.read.took ∙ append_assoc records old.window.bytes middle
+    ∙ ap (λ w. records ++ w) behind in
     ap (λ k. drop k text) (taken ∙ so_far.read.summed) ∙ ap (drop (length records)) whole ∙ drop-append_seam records (new.window.bytes ++ left)

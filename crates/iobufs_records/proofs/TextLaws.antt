@@ -18,7 +18,8 @@ free_append (x ∷ xs) ys p q = (p.0, free_append xs ys p.1 q)
 
 pub free_more : (bytes : List ℕ) (at : ℕ) → at < length bytes → HasNoEnd (take at bytes) → (slice_index_or bytes at 0 ≡ 10 → ⊥) → HasNoEnd (take (at + 1) bytes)
 free_more bytes at inside free other =
-    subst HasNoEnd (sym (take_more bytes at 0 inside)) (free_append (take at bytes) (slice_index_or bytes at 0 ∷ []) free (ne_eqb (slice_index_or bytes at 0) 10 other, tt))
+    subst HasNoEnd (sym (take_more bytes at 0 inside))
+    (free_append (take at bytes) (slice_index_or bytes at 0 ∷ []) free (ne_eqb (slice_index_or bytes at 0) 10 other, tt))
 
 -- a line and its end
 line_ends : (line more : List ℕ) → HasNoEnd line → lines_of (line ++ 10 ∷ more) ≡ line ∷ lines_of more
@@ -56,7 +57,8 @@ goes_on (b ∷ c ∷ bs) more free some =
 
 -- ---- records behind each other
 
-pub puts_on : (a b c : Option (List ℕ)) (old middle new : Tail) (lines : List (List ℕ)) (line : List ℕ) → ArePut a b old middle lines → ArePut b c middle new (line ∷ [])
+pub puts_on : (a b c : Option (List ℕ)) (old middle new : Tail) (lines : List (List ℕ)) (line : List ℕ) → ArePut a b old middle lines
+    → ArePut b c middle new (line ∷ [])
     → ArePut a c old new (lines ++ line ∷ [])
 puts_on a b c old middle new lines line p q =
     let number = p.counted in
@@ -65,7 +67,8 @@ puts_on a b c old middle new lines line p q =
     append-nil (record_written middle.number line) ∙ ap (λ k. record_written k line) number in record {
       put =
           subst (IsPut a c old.out.filled new.out.filled) (ap (λ w. records_written old.number lines ++ w) one ∙ sym (written_more old.number lines line))
-          (put_on a b c old.out.filled middle.out.filled new.out.filled (records_written old.number lines) (records_written middle.number (line ∷ [])) p.put q.put);
+          (put_on a b c old.out.filled middle.out.filled new.out.filled (records_written old.number lines)
+          (records_written middle.number (line ∷ [])) p.put q.put);
       counted = omega (arith, number, next, length-append lines (line ∷ []));
       room = q.room ∙ p.room;
     }
@@ -92,7 +95,8 @@ kept_on (Some xs) None c u p q = absurd p
 kept_on (Some xs) (Some ys) None u p q = absurd q
 kept_on (Some xs) (Some ys) (Some zs) u p q = q ∙ p
 
-puts_kept : (a b c : Option (List ℕ)) (old new same : Tail) (lines : List (List ℕ)) → ArePut a b old new lines → Keeps b c → same ≡ new → ArePut a c old same lines
+puts_kept : (a b c : Option (List ℕ)) (old new same : Tail) (lines : List (List ℕ)) → ArePut a b old new lines → Keeps b c → same ≡ new
+    → ArePut a c old same lines
 puts_kept a b c old new same lines p q e =
     subst (λ (t : Tail). ArePut a c old t lines) (sym e)
     (record { put = record { went = p.put.went; grew = kept_on a b c p.put.went p.put.grew q; whole = p.put.whole }; counted = p.counted; room = p.room })
@@ -104,7 +108,8 @@ ends_so begun rest behind at line =
     ∙ sym (append_assoc begun (take at rest) (10 ∷ (drop (at + 1) rest ++ behind)))
 
 -- one more line went as a record
-pub line_taken : (a b c : Option (List ℕ)) (piece rest next : List ℕ) (old now mid new : Lines) (at : ℕ) (is_long : Bool) → IsTaking a b piece rest old now → IsLine rest at
+pub line_taken : (a b c : Option (List ℕ)) (piece rest next : List ℕ) (old now mid new : Lines) (at : ℕ) (is_long : Bool)
+    → IsTaking a b piece rest old now → IsLine rest at
     → mid.begun.items ≡ now.begun.items ++ take at rest → mid.tail ≡ now.tail → is_long ≡ false → IsEnded b c mid new is_long
     → next ≡ take (length rest - (at + 1)) (drop (at + 1) rest) → IsTaking a c piece next old new
 line_taken a b c piece rest next old now mid new at is_long so_far line begun tail short ended behind =
@@ -112,19 +117,24 @@ line_taken a b c piece rest next old now mid new at is_long so_far line begun ta
     let more = so_far.lines in
     let body = mid.begun.items in
     let free : HasNoEnd body = subst HasNoEnd (sym begun) (free_append now.begun.items (take at rest) so_far.free line.free) in
-    let left : next ≡ drop (at + 1) rest = behind ∙ take_all (length rest - (at + 1)) (drop (at + 1) rest) (omega (arith, length-drop (at + 1) rest)) in record {
+    let left : next ≡ drop (at + 1) rest = behind ∙ take_all (length rest - (at + 1)) (drop (at + 1) rest)
+    (omega (arith, length-drop (at + 1) rest)) in record {
       lines = more ++ body ∷ [];
       put = puts_on a b c old.tail now.tail new.tail more body so_far.put (subst (λ (t : Tail). ArePut b c t new.tail (body ∷ [])) tail put);
       short = short_more most_bytes more body so_far.short fits;
       free = subst HasNoEnd (sym fresh) tt;
       whole = λ further.
-          so_far.whole further ∙ ap (λ w. more ++ lines_of w) (ends_so now.begun.items rest further at line ∙ ap (λ w. w ++ 10 ∷ (drop (at + 1) rest ++ further)) (sym begun))
-          ∙ ap (λ ls. more ++ ls) (line_ends body (drop (at + 1) rest ++ further) free) ∙ sym (append_assoc more (body ∷ []) (lines_of (drop (at + 1) rest ++ further)))
-          ∙ ap (λ w. (more ++ body ∷ []) ++ lines_of w) (ap (λ w. w ++ further) (sym left)) ∙ ap (λ w. (more ++ body ∷ []) ++ lines_of (w ++ (next ++ further))) (sym fresh);
+          so_far.whole further ∙ ap (λ w. more ++ lines_of w) (ends_so now.begun.items rest further at line
+          ∙ ap (λ w. w ++ 10 ∷ (drop (at + 1) rest ++ further)) (sym begun))
+          ∙ ap (λ ls. more ++ ls) (line_ends body (drop (at + 1) rest ++ further) free)
+          ∙ sym (append_assoc more (body ∷ []) (lines_of (drop (at + 1) rest ++ further)))
+          ∙ ap (λ w. (more ++ body ∷ []) ++ lines_of w) (ap (λ w. w ++ further) (sym left))
+          ∙ ap (λ w. (more ++ body ∷ []) ++ lines_of (w ++ (next ++ further))) (sym fresh);
     }
 
 -- the line that was begun is too long
-pub line_too_long : (a b c : Option (List ℕ)) (piece rest : List ℕ) (old now mid new : Lines) (at : ℕ) (is_long : Bool) → IsTaking a b piece rest old now → IsLine rest at
+pub line_too_long : (a b c : Option (List ℕ)) (piece rest : List ℕ) (old now mid new : Lines) (at : ℕ) (is_long : Bool)
+    → IsTaking a b piece rest old now → IsLine rest at
     → mid.begun.items ≡ now.begun.items ++ take at rest → mid.tail ≡ now.tail → is_long ≡ true → IsEnded b c mid new is_long
     → TakesLines a c piece old new true
 line_too_long a b c piece rest old now mid new at is_long so_far line begun tail long ended =
@@ -134,7 +144,8 @@ line_too_long a b c piece rest old now mid new at is_long so_far line begun tail
       taken = record {
         left = 10 ∷ drop (at + 1) rest;
         whole = λ further.
-            so_far.whole further ∙ ap (λ w. so_far.lines ++ lines_of w) (ends_so now.begun.items rest further at line ∙ ap (λ w. w ++ 10 ∷ (drop (at + 1) rest ++ further)) (sym held));
+            so_far.whole further ∙ ap (λ w. so_far.lines ++ lines_of w)
+            (ends_so now.begun.items rest further at line ∙ ap (λ w. w ++ 10 ∷ (drop (at + 1) rest ++ further)) (sym held));
         free = subst HasNoEnd (sym held) (free_append now.begun.items (take at rest) so_far.free line.free);
         open_so = subst (λ (l : Lines). most_bytes < 12 + length l.begun.items) (sym same) much;
         short = so_far.short;
@@ -196,19 +207,22 @@ written_on k (f ∷ fs) gs =
     ap (λ w. record_written k f ++ w) (written_on (suc k) fs gs ∙ ap (λ n. records_written (suc k) fs ++ records_written n gs) next)
     ∙ sym (append_assoc (record_written k f) (records_written (suc k) fs) (records_written (k + suc (length fs)) gs))
 
-all_puts : (a b c : Option (List ℕ)) (old middle new : Tail) (lines more : List (List ℕ)) → ArePut a b old middle lines → ArePut b c middle new more → ArePut a c old new (lines ++ more)
+all_puts : (a b c : Option (List ℕ)) (old middle new : Tail) (lines more : List (List ℕ)) → ArePut a b old middle lines → ArePut b c middle new more
+    → ArePut a c old new (lines ++ more)
 all_puts a b c old middle new lines more p q =
     let number = p.counted in
     let next = q.counted in record {
       put =
-          subst (IsPut a c old.out.filled new.out.filled) (ap (λ k. records_written old.number lines ++ records_written k more) number ∙ sym (written_on old.number lines more))
+          subst (IsPut a c old.out.filled new.out.filled) (ap (λ k. records_written old.number lines ++ records_written k more) number
+          ∙ sym (written_on old.number lines more))
           (put_on a b c old.out.filled middle.out.filled new.out.filled (records_written old.number lines) (records_written middle.number more) p.put q.put);
       counted = omega (arith, number, next, length-append lines more);
       room = q.room ∙ p.room;
     }
 
 -- the lines of one more piece
-pub piece_taken : (h i j a b c : Option (List ℕ)) (piece shown : List ℕ) (old now new : Lines) (is_long : Bool) → IsTakingAll h i a b old now → Consumes i j piece → is_long ≡ false → shown ≡ piece
+pub piece_taken : (h i j a b c : Option (List ℕ)) (piece shown : List ℕ) (old now new : Lines) (is_long : Bool) → IsTakingAll h i a b old now
+    → Consumes i j piece → is_long ≡ false → shown ≡ piece
     → TakesLines b c shown now new is_long → IsTakingAll h j a c old new
 piece_taken h i j a b c piece shown old now new is_long so_far took short same given =
     let step = subst (λ w. TakesLines b c w now new is_long) same given in
@@ -226,14 +240,16 @@ piece_taken h i j a b c piece shown old now new is_long so_far took short same g
           ∙ ap (λ w. (so_far.lines ++ step.lines) ++ lines_of (new.begun.items ++ (w ++ behind))) none;
     }
 
-long_there : (read left : List ℕ) (lines : List (List ℕ)) (line behind : List ℕ) → lines_of (read ++ left) ≡ lines ++ lines_of (line ++ behind) → HasNoEnd line → most_bytes < 12 + length line → 0 < length line
+long_there : (read left : List ℕ) (lines : List (List ℕ)) (line behind : List ℕ) → lines_of (read ++ left) ≡ lines ++ lines_of (line ++ behind)
+    → HasNoEnd line → most_bytes < 12 + length line → 0 < length line
     → HasLongLine (read ++ left) lines
 long_there read left lines line behind e free long some =
     let on = goes_on line behind free some in
     record { line = line ++ on.rest; more = on.more; next = e ∙ ap (λ ls. lines ++ ls) on.first; long = omega (arith, long, length-append line on.rest) }
 
 -- a line of one more piece is too long
-pub piece_long : (h i j a b c : Option (List ℕ)) (piece shown : List ℕ) (old now new : Lines) (is_long : Bool) → IsTakingAll h i a b old now → Consumes i j piece → is_long ≡ true → shown ≡ piece
+pub piece_long : (h i j a b c : Option (List ℕ)) (piece shown : List ℕ) (old now new : Lines) (is_long : Bool) → IsTakingAll h i a b old now
+    → Consumes i j piece → is_long ≡ true → shown ≡ piece
     → TakesLines b c shown now new is_long → IfSome h (λ text. TakesAll a c text old new true)
 piece_long None i j a b c piece shown old now new is_long so_far took long same step = tt
 piece_long (Some text) None j a b c piece shown old now new is_long so_far took long same step = absurd so_far.took
@@ -244,7 +260,8 @@ piece_long (Some text) (Some middle) (Some left) a b c piece shown old now new i
     let much = subst (IsOpen new.begun.items taken.left) long taken.open_so in
     let lines = so_far.lines ++ step.lines in
     let whole : lines_of (so_far.read ++ (piece ++ left)) ≡ lines ++ lines_of (new.begun.items ++ (taken.left ++ left)) =
-    so_far.whole (piece ++ left) ∙ ap (λ ls. so_far.lines ++ ls) (taken.whole left) ∙ sym (append_assoc so_far.lines step.lines (lines_of (new.begun.items ++ (taken.left ++ left)))) in record {
+    so_far.whole (piece ++ left) ∙ ap (λ ls. so_far.lines ++ ls) (taken.whole left)
+    ∙ sym (append_assoc so_far.lines step.lines (lines_of (new.begun.items ++ (taken.left ++ left)))) in record {
       lines = lines;
       put = all_puts a b c old.tail now.tail new.tail so_far.lines step.lines so_far.put step.put;
       short = short_on most_bytes so_far.lines step.lines so_far.short taken.short;
@@ -254,7 +271,8 @@ piece_long (Some text) (Some middle) (Some left) a b c piece shown old now new i
     }
 
 -- the last line
-ended_last : (a b c : Option (List ℕ)) (text : List ℕ) (old now new : Lines) (lines : List (List ℕ)) (is_long : Bool) → ArePut a b old.tail now.tail lines → AreShort most_bytes lines → HasNoEnd now.begun.items
+ended_last : (a b c : Option (List ℕ)) (text : List ℕ) (old now new : Lines) (lines : List (List ℕ)) (is_long : Bool)
+    → ArePut a b old.tail now.tail lines → AreShort most_bytes lines → HasNoEnd now.begun.items
     → lines_of text ≡ lines ++ lines_of now.begun.items → 0 < length now.begun.items → IsEnded b c now new is_long → TakesAll a c text old new is_long
 ended_last a b c text old now new lines true put short free whole some (much, same, kept) = record {
   lines = lines;
@@ -269,7 +287,8 @@ ended_last a b c text old now new lines false put short free whole some (fits, f
   last = whole ∙ ap (λ ls. lines ++ ls) (last_line now.begun.items free some);
 }
 
-no_last : (a b c : Option (List ℕ)) (text : List ℕ) (old now new : Lines) (lines : List (List ℕ)) (is_long : Bool) → ArePut a b old.tail now.tail lines → AreShort most_bytes lines
+no_last : (a b c : Option (List ℕ)) (text : List ℕ) (old now new : Lines) (lines : List (List ℕ)) (is_long : Bool)
+    → ArePut a b old.tail now.tail lines → AreShort most_bytes lines
     → lines_of text ≡ lines ++ lines_of now.begun.items → now.begun.items ≡ [] → new ≡ now → Keeps b c → is_long ≡ false → TakesAll a c text old new is_long
 no_last a b c text old now new lines true put short whole none same kept e = absurd cc
 no_last a b c text old now new lines false put short whole none same kept e = record {
@@ -279,7 +298,8 @@ no_last a b c text old now new lines false put short whole none same kept e = re
   last = whole ∙ ap (λ w. lines ++ lines_of w) none ∙ append-nil lines;
 }
 
-pub all_taken : (h i j a b c : Option (List ℕ)) (piece : List ℕ) (old now new : Lines) (is_long : Bool) → IsTakingAll h i a b old now → Consumes i j piece → piece ≡ [] → IsAtEnd j
+pub all_taken : (h i j a b c : Option (List ℕ)) (piece : List ℕ) (old now new : Lines) (is_long : Bool) → IsTakingAll h i a b old now
+    → Consumes i j piece → piece ≡ [] → IsAtEnd j
     → IsFinished b c now new is_long → IfSome h (λ text. TakesAll a c text old new is_long)
 all_taken None i j a b c piece old now new is_long so_far took none at done = tt
 all_taken (Some text) None j a b c piece old now new is_long so_far took none at done = absurd so_far.took
@@ -293,8 +313,10 @@ all_taken (Some text) (Some middle) (Some left) a b c piece old now new is_long 
       | inr (empty, same, kept, e) ↦ no_last a b c text old now new so_far.lines is_long so_far.put so_far.short whole empty same kept e
     ]
 
-pub all_finished : {E : Type 0} (h i j a b c : Option (List ℕ)) (piece : List ℕ) (old now new : Lines) (result : Result Bool E) (len : ℕ) (empty : Bool) → IsTakingAll h i a b old now → Consumes i j piece
-    → len ≡ length piece → empty ≡ (len == 0) → empty ≡ true → (len ≡ 0 → IsAtEnd j) → IfOk result (IsFinished b c now new) → IfOk result (λ is_long. IfSome h (λ text. TakesAll a c text old new is_long))
+pub all_finished : {E : Type 0} (h i j a b c : Option (List ℕ)) (piece : List ℕ) (old now new : Lines) (result : Result Bool E) (len : ℕ)
+    (empty : Bool) → IsTakingAll h i a b old now → Consumes i j piece
+    → len ≡ length piece → empty ≡ (len == 0) → empty ≡ true → (len ≡ 0 → IsAtEnd j) → IfOk result (IsFinished b c now new)
+    → IfOk result (λ is_long. IfSome h (λ text. TakesAll a c text old new is_long))
 all_finished h i j a b c piece old now new (Ok is_long) len empty so_far took long test so at done =
     let none : len ≡ 0 = grind (arith, nat_tests, test, so) in
     all_taken h i j a b c piece old now new is_long so_far took (nil_from_length piece (omega (arith, long, none))) (at none) done
@@ -307,7 +329,8 @@ kept_nothing None = tt
 kept_nothing (Some xs) = refl
 
 -- what was taken, once what is held was written
-pub all_appended : (h a b c d : Option (List ℕ)) (old new : Lines) (is_long : Bool) (first count : ℕ) → IfSome h (λ text. TakesAll a b text old new is_long) → old.tail.number ≡ first → old.tail.out.filled ≡ []
+pub all_appended : (h a b c d : Option (List ℕ)) (old new : Lines) (is_long : Bool) (first count : ℕ)
+    → IfSome h (λ text. TakesAll a b text old new is_long) → old.tail.number ≡ first → old.tail.out.filled ≡ []
     → Appends b c new.tail.out.filled → Keeps c d → count ≡ new.tail.number - first → IfSome h (λ text. IsAppended text first count is_long a d)
 all_appended None a b c d old new is_long first count all number empty sent flushed counted = tt
 all_appended (Some text) a b c d old new is_long first count all number empty sent flushed counted =
@@ -317,7 +340,8 @@ all_appended (Some text) a b c d old new is_long first count all number empty se
     ap (λ k. records_written k all.lines) (sym number) ∙ ap (λ w. w ++ records_written old.tail.number all.lines) (sym empty) ∙ put.put.whole in record {
       taken = all.lines;
       short = all.short;
-      put = kept_on a c d (records_written first all.lines) (subst (Appends a c) (sym written) (appends_on a b c put.put.went new.tail.out.filled put.put.grew sent)) flushed;
+      put = kept_on a c d (records_written first all.lines)
+          (subst (Appends a c) (sym written) (appends_on a b c put.put.went new.tail.out.filled put.put.grew sent)) flushed;
       counted = omega (arith, counted, grown, number);
       last = all.last;
     }

@@ -75,7 +75,8 @@ pub record IsSkipped (old new : Scan) : Type 0 where
 abbrev pub IsSought : ℕ → Option (List ℕ) → Option (List ℕ) → Scan → Scan → Option View → Type 0
 IsSought most had has old new None = IsAtEnd has × IfSome had (λ text. AreNone most old.number (old.window.bytes ++ text) [])
 IsSought most had has old new (Some body) =
-    (read : List ℕ) × (number : ℕ) × Consumes had has read × StandsBehind most old.number (old.window.bytes ++ read) body.bytes number new.window.bytes × (new.number ≡ number + 1)
+    (read : List ℕ) × (number : ℕ) × Consumes had has read
+    × StandsBehind most old.number (old.window.bytes ++ read) body.bytes number new.window.bytes × (new.number ≡ number + 1)
     × IfSome had (λ text. IfSome has (λ left. IsFirst most old.number (old.window.bytes ++ text) body.bytes number (new.window.bytes ++ left)))
 
 -- all records that stand in a text were printed and counted

@@ -72,7 +72,8 @@ pub record ArePut (held holds : Option (List ℕ)) (old new : Tail) (lines : Lis
 -- the line that was begun went as a record, and another begins; or it is too long, and nothing changed
 abbrev pub IsEnded : Option (List ℕ) → Option (List ℕ) → Lines → Lines → Bool → Type 0
 IsEnded held holds old new true = (most_bytes < 12 + length old.begun.items) × (new ≡ old) × Keeps held holds
-IsEnded held holds old new false = (12 + length old.begun.items ≤ most_bytes) × (new.begun.items ≡ []) × ArePut held holds old.tail new.tail (old.begun.items ∷ [])
+IsEnded held holds old new false = (12 + length old.begun.items ≤ most_bytes) × (new.begun.items ≡ [])
+    × ArePut held holds old.tail new.tail (old.begun.items ∷ [])
 
 -- the lines of a piece went as records
 pub record TakesLines (held holds : Option (List ℕ)) (piece : List ℕ) (old new : Lines) (is_long : Bool) : Type 0 where

@@ -173,7 +173,8 @@ impl Scan {
         most: usize,
         to: &mut W,
     ) -> io::Result<u64>
-        ensures { IfOk result (λ count. IfSome (R.remaining from.old) (λ left. ArePrinted most self.old.number (self.old.window.bytes ++ left) (W.contents to.old) (W.contents to.new) count)) }
+        ensures { IfOk result (λ count. IfSome (R.remaining from.old)
+            (λ left. ArePrinted most self.old.number (self.old.window.bytes ++ left) (W.contents to.old) (W.contents to.new) count)) }
     {
         for count in 0..u64::MAX {
             match self.find(alloc, from, most)? {

@@ -42,7 +42,8 @@ fn print_further<R: Read, W: Write>(
     most: usize,
     to: &mut W,
 ) -> io::Result<u64>
-    ensures { IfOk result (λ count. IfSome (R.remaining from.old) (λ left. AreFurtherPrinted most scan.old.number (scan.old.window.bytes ++ left) first (W.contents to.old) (W.contents to.new) count)) }
+    ensures { IfOk result (λ count. IfSome (R.remaining from.old)
+        (λ left. AreFurtherPrinted most scan.old.number (scan.old.window.bytes ++ left) first (W.contents to.old) (W.contents to.new) count)) }
 {
     match first {
         End::Whole => Ok(0),

@@ -76,7 +76,8 @@ impl Tail {
     // A line as a record.
     fn put<W: Write>(&mut self, line: &[u8], to: &mut W) -> io::Result<()>
         requires { length line.now + 22 ≤ part_capacity self.old.out }
-        ensures put { OnOk result (IsPut (W.contents to.old) (W.contents to.new) self.old.out.filled self.new.out.filled (record_written self.old.number line.now)) }
+        ensures put { OnOk result
+            (IsPut (W.contents to.old) (W.contents to.new) self.old.out.filled self.new.out.filled (record_written self.old.number line.now)) }
         ensures capacity { OnOk result (part_capacity self.new.out ≡ part_capacity self.old.out) }
         ensures counted { OnOk result ((self.new.number ≡ self.old.number + 1) × (self.new.number < 2 ^ 64)) }
     {
@@ -160,7 +161,8 @@ impl Lines {
     ) -> io::Result<bool>
         requires room { 1048586 ≤ part_capacity self.old.tail.out }
         requires nothing { self.old.begun.items ≡ [] }
-        ensures { IfOk result (λ is_long. IfSome (R.remaining from.old) (λ text. TakesAll (W.contents to.old) (W.contents to.new) text self.old self.new is_long)) }
+        ensures { IfOk result
+            (λ is_long. IfSome (R.remaining from.old) (λ text. TakesAll (W.contents to.old) (W.contents to.new) text self.old self.new is_long)) }
     {
         let mut total: u64 = 0;
         loop {
@@ -196,7 +198,8 @@ pub fn append<R: Read, W: Write>(
     from: &mut R,
     to: &mut W,
 ) -> io::Result<Appended>
-    ensures { IfOk result (λ done. IfSome (R.remaining from.old) (λ text. IsAppended text first done.records done.is_long (W.contents to.old) (W.contents to.new))) }
+    ensures { IfOk result
+        (λ done. IfSome (R.remaining from.old) (λ text. IsAppended text first done.records done.is_long (W.contents to.old) (W.contents to.new))) }
 {
     let mut lines = Lines {
         tail: Tail {

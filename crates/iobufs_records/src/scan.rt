@@ -123,7 +123,8 @@ impl Scan {
     // One record goes, and this is left.
     fn take(&mut self, rest: IoBuf) -> io::Result<()>
         requires { length rest.bytes ≤ length self.old.window.bytes }
-        ensures done { OnOk result ((self.new.window ≡ rest) × (self.new.number ≡ self.old.number + 1) × (self.new.taken + length rest.bytes ≡ self.old.taken + length self.old.window.bytes)) }
+        ensures done { OnOk result ((self.new.window ≡ rest) × (self.new.number ≡ self.old.number + 1)
+            × (self.new.taken + length rest.bytes ≡ self.old.taken + length self.old.window.bytes)) }
         ensures counted { OnOk result (self.new.number < 2 ^ 64) }
     {
         let len = (self.window.len() - rest.len()) as u64;
@@ -170,7 +171,8 @@ impl Scan {
         to: &mut W,
     ) -> io::Result<End>
         requires { (self.old.window.bytes ≡ []) × (self.old.number ≡ 0) × (self.old.taken ≡ 0) }
-        ensures printed { IfOk result (λ end. IfSome (R.remaining from.old) (λ text. IsPrinted most text (W.contents to.old) (W.contents to.new) self.new.number self.new.taken end)) }
+        ensures printed { IfOk result
+            (λ end. IfSome (R.remaining from.old) (λ text. IsPrinted most text (W.contents to.old) (W.contents to.new) self.new.number self.new.taken end)) }
         ensures left { OnOk result (IfSome (R.remaining from.old) (λ text. IsLeft self.new text (R.remaining from.new))) }
     {
         loop {

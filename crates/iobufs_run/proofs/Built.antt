@@ -46,11 +46,13 @@ items_kept names n (Push x ∷ items) e =
 room-next : (b : Building) (w : Written) (ws : List Written) → items_inline (w ∷ ws) ≤ building_room b → items_inline ws ≤ building_room (building_with b w)
 room-next b w ws fits = let one = room-built b (w ∷ []) in omega arith
 
-pushes-next : (b : Building) (w : Written) (ws : List Written) → items_pushed (w ∷ ws) ≤ room_for_pushes b → items_pushed ws ≤ room_for_pushes (building_with b w)
+pushes-next : (b : Building) (w : Written) (ws : List Written) → items_pushed (w ∷ ws) ≤ room_for_pushes b
+    → items_pushed ws ≤ room_for_pushes (building_with b w)
 pushes-next b w ws fits = let one = pushes-built b (w ∷ []) in omega arith
 
 pub left_next : (old : List Slot) (capacity : ℕ) (items : List Item) (names : List Slot) (b : Building) (item : Item) (rest : List Item)
-    → IsLeft old capacity items names b (item ∷ rest) → IsLeft old capacity items (all_freed names (pushed_names (item ∷ []))) (building_with b (item_held names item)) rest
+    → IsLeft old capacity items names b (item ∷ rest)
+    → IsLeft old capacity items (all_freed names (pushed_names (item ∷ []))) (building_with b (item_held names item)) rest
 left_next old capacity items names b (Inline bytes) rest left = record {
   views = left.views;
   once = left.once;
@@ -93,8 +95,10 @@ pushed_are names (Push n ∷ items) =
     omega (arith, ih, view_held_len (slot_named names n), sum_by-cons (λ src. extent (slot_named names src)) n (pushed_names items))
 
 -- all is left at first
-pub left_first : (names : List Slot) (capacity : ℕ) (items : List Item) → list_all (λ src. is_view (slot_named names src)) (pushed_names items) ≡ true → has_twice (pushed_names items) ≡ false
-    → inline_len items ≤ capacity → capacity + total_extent names (pushed_names items) < 2 ^ 64 → IsLeft names capacity items names (empty_building capacity) items
+pub left_first : (names : List Slot) (capacity : ℕ) (items : List Item)
+    → list_all (λ src. is_view (slot_named names src)) (pushed_names items) ≡ true → has_twice (pushed_names items) ≡ false
+    → inline_len items ≤ capacity → capacity + total_extent names (pushed_names items) < 2 ^ 64
+    → IsLeft names capacity items names (empty_building capacity) items
 left_first names capacity items views once inline fits = record {
   views = views;
   once = once;

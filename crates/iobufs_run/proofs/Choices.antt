@@ -84,8 +84,11 @@ decoded_same : (old : List Slot) (src dst : ℕ) (range : RangeCfg) (reply other
 decoded_same old src dst range reply other new another d e =
     let (view, read, (told, left)) = d in
     let (view', read', (told', left')) = e in
-    let same = read_same (marked_held (slot_named old src)) range view view' read read' in
-    (rw (told, told') refl, left ∙ ap (λ (view : ViewValue). slice_set (slice_set old src (slot_read (slot_named old src) view)) dst (View view)) same ∙ sym left')
+    let same = read_same (marked_held (slot_named old src)) range view view' read read' in (
+      rw (told, told') refl,
+      left ∙ ap (λ (view : ViewValue). slice_set (slice_set old src (slot_read (slot_named old src) view)) dst (View view))
+          same ∙ sym left',
+    )
 
 same_is : (old : List Slot) (command : Cmd) (reply other : Reply) (new another : List Slot) → SameReply reply other × (new ≡ another)
     → SameOutcome old command reply other new another
@@ -172,9 +175,11 @@ refused_same r q reply other one two e = rw (one, two) (ap (λ (refusal : Refusa
 
 two_same : (old : List Slot) (command : Cmd) (reply other : Reply) (new another : List Slot)
     → IsCaused old command reply new ⊎ IsFailed old command reply new ⊎ IsDone old command reply new
-    → IsCaused old command other another ⊎ IsFailed old command other another ⊎ IsDone old command other another → SameOutcome old command reply other new another
+    → IsCaused old command other another ⊎ IsFailed old command other another ⊎ IsDone old command other another
+    → SameOutcome old command reply other new another
 two_same old command reply other new another (inl a) (inl b) =
-    same_is old command reply other new another (refused_same a.refusal b.refusal reply other a.told b.told (let both = sym a.stands ∙ b.stands in cc), a.kept ∙ sym b.kept)
+    same_is old command reply other new another
+    (refused_same a.refusal b.refusal reply other a.told b.told (let both = sym a.stands ∙ b.stands in cc), a.kept ∙ sym b.kept)
 two_same old command reply other new another (inl a) (inr (inl b)) = absurd (let both = sym a.stands ∙ b.none in cc)
 two_same old command reply other new another (inl a) (inr (inr b)) = absurd (let both = sym a.stands ∙ b.none in cc)
 two_same old command reply other new another (inr (inl a)) (inl b) = absurd (let both = sym b.stands ∙ a.none in cc)
@@ -218,4 +223,5 @@ freed_or_kept old new names refusal name memory (inr freed) = inr (memory, freed
 
 pub refusals_keep : RefusalsKeep
 refusals_keep old command Memory new (none, wants, freed) = (freed.0, λ name. freed_or_kept old new (consumed command) Memory name refl (freed.1 name))
-refusals_keep old command refusal new step = (ap (λ (names : List Slot). length names) step.1, λ name. inl (ap (λ (names : List Slot). slot_named names name) step.1))
+refusals_keep old command refusal new step =
+    (ap (λ (names : List Slot). length names) step.1, λ name. inl (ap (λ (names : List Slot). slot_named names name) step.1))

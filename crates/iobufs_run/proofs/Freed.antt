@@ -30,13 +30,15 @@ differ n x e = grind (arith, nat_tests)
 pub differ_back : (x n : ℕ) → (x == n) ≡ false → x ≢ n
 differ_back x n e = grind (arith, nat_tests)
 
-held_at : (names : List Slot) (n x : ℕ) (same : Bool) → (n == x) ≡ same → (slot_named (slice_set names n Free) x ≡ slot_named names x) ⊎ (IsTrue (n == x) × (slot_named (slice_set names n Free) x ≡ Free))
+held_at : (names : List Slot) (n x : ℕ) (same : Bool) → (n == x) ≡ same → (slot_named (slice_set names n Free) x ≡ slot_named names x)
+    ⊎ (IsTrue (n == x) × (slot_named (slice_set names n Free) x ≡ Free))
 held_at names n x false e = inl (held_other names n x Free (differ n x e))
 held_at names n x true e =
     let same : n ≡ x = grind (arith, nat_tests) in
     inr (e, rw (← same) (held_freed names n))
 
-held_one : (names : List Slot) (n x : ℕ) → (slot_named (slice_set names n Free) x ≡ slot_named names x) ⊎ (IsTrue (n == x) × (slot_named (slice_set names n Free) x ≡ Free))
+held_one : (names : List Slot) (n x : ℕ) → (slot_named (slice_set names n Free) x ≡ slot_named names x)
+    ⊎ (IsTrue (n == x) × (slot_named (slice_set names n Free) x ≡ Free))
 held_one names n x = held_at names n x (n == x) refl
 
 -- a name that isn't listed keeps what it holds
@@ -49,7 +51,8 @@ held_kept old (y ∷ ys) x e =
 pub MayFree-none : (xs : List ℕ) (old : List Slot) → MayFree xs old old
 MayFree-none xs old = (refl, λ name. inl refl)
 
-next_at : (old new : List Slot) (n : ℕ) (xs : List ℕ) (x : ℕ) → (slot_named new x ≡ slot_named (slice_set old n Free) x) ⊎ (IsTrue (is_listed xs x) × (slot_named new x ≡ Free))
+next_at : (old new : List Slot) (n : ℕ) (xs : List ℕ) (x : ℕ) → (slot_named new x ≡ slot_named (slice_set old n Free) x)
+    ⊎ (IsTrue (is_listed xs x) × (slot_named new x ≡ Free))
     → (slot_named (slice_set old n Free) x ≡ slot_named old x) ⊎ (IsTrue (n == x) × (slot_named (slice_set old n Free) x ≡ Free))
     → (slot_named new x ≡ slot_named old x) ⊎ (IsTrue (is_listed (n ∷ xs) x) × (slot_named new x ≡ Free))
 next_at old new n xs x (inr listed) now = inr (rw listed.0 (or-true (n == x)), listed.1)

@@ -43,7 +43,8 @@ pub joined-append : (views : List View) (view : View) → joined (views ++ view 
 joined-append views view = fold-append text_append default_text views (view ∷ [])
 
 -- what was taken is put back
-pub put_back : (names : List Slot) (src : ℕ) (slot : Slot) → src < length names → slot_named names src ≡ slot → slice_set (slice_set names src Free) src slot ≡ names
+pub put_back : (names : List Slot) (src : ℕ) (slot : Slot) → src < length names → slot_named names src ≡ slot
+    → slice_set (slice_set names src Free) src slot ≡ names
 put_back [] src slot inside e = absurd (omega arith)
 put_back (first ∷ others) zero slot inside e = ap (λ s. s ∷ others) (sym e)
 put_back (first ∷ others) (suc src) slot inside e = ap (λ ss. first ∷ ss) (put_back others src slot (omega arith) e)
@@ -56,7 +57,8 @@ held_inside p [] x never e = cc
 held_inside p (s ∷ ss) zero never e = omega arith
 held_inside p (s ∷ ss) (suc x) never e = let ih = held_inside p ss x never e in omega arith
 
-source_passes : (p : Slot → Bool) (old : List Slot) (xs : List ℕ) (i : ℕ) → list_all (λ x. p (slot_named old x)) xs ≡ true → i < length xs → p (slot_named old (get_or xs i 0)) ≡ true
+source_passes : (p : Slot → Bool) (old : List Slot) (xs : List ℕ) (i : ℕ) → list_all (λ x. p (slot_named old x)) xs ≡ true → i < length xs
+    → p (slot_named old (get_or xs i 0)) ≡ true
 source_passes p old [] i all inside = absurd (omega arith)
 source_passes p old (y ∷ ys) zero all inside = (and_parts (p (slot_named old y)) (list_all (λ x. p (slot_named old x)) ys) all).0
 source_passes p old (y ∷ ys) (suc i) all inside =
@@ -70,7 +72,8 @@ source_kept old now xs i once is inside =
     ap (λ (ss : List Slot). slot_named ss x) is ∙ held_kept old (take i xs) x (not_before xs i x once inside (get_or_default xs i 0 x inside))
 
 -- read at any default it passes the test that all sources pass
-pub source_read : (p : Slot → Bool) (old now : List Slot) (xs : List ℕ) (i : ℕ) (d : Slot) → p Free ≡ false → has_twice xs ≡ false → list_all (λ x. p (slot_named old x)) xs ≡ true → now ≡ all_freed old (take i xs) → i < length xs
+pub source_read : (p : Slot → Bool) (old now : List Slot) (xs : List ℕ) (i : ℕ) (d : Slot) → p Free ≡ false → has_twice xs ≡ false
+    → list_all (λ x. p (slot_named old x)) xs ≡ true → now ≡ all_freed old (take i xs) → i < length xs
     → (slice_index_or now (get_or xs i 0) d ≡ slot_named old (get_or xs i 0)) × (p (slot_named old (get_or xs i 0)) ≡ true)
 source_read p old now xs i d never once all is inside =
     let x = get_or xs i 0 in
@@ -87,16 +90,19 @@ freed_more old now xs i emptied is inside e =
     ∙ sym (all_freed-append old (take i xs) (get_or xs i 0)) ∙ ap (all_freed old) (sym (take_more xs i 0 inside))
 
 -- and the text of one view more
-pub text_more : (f : ℕ → View) (xs : List ℕ) (i : ℕ) (text new : MarkedText) (view : View) → text ≡ joined (map f (take i xs)) → new ≡ text_append text view → view ≡ f (get_or xs i 0) → i < length xs
+pub text_more : (f : ℕ → View) (xs : List ℕ) (i : ℕ) (text new : MarkedText) (view : View) → text ≡ joined (map f (take i xs))
+    → new ≡ text_append text view → view ≡ f (get_or xs i 0) → i < length xs
     → new ≡ joined (map f (take (i + 1) xs))
 text_more f xs i text new view is e v inside =
     e ∙ ap (λ (t : MarkedText). text_append t view) is ∙ ap (text_append (joined (map f (take i xs)))) v
-    ∙ sym (joined-append (map f (take i xs)) (f (get_or xs i 0))) ∙ ap joined (sym (map-append f (take i xs) (get_or xs i 0 ∷ []))) ∙ ap (λ (ys : List ℕ). joined (map f ys)) (sym (take_more xs i 0 inside))
+    ∙ sym (joined-append (map f (take i xs)) (f (get_or xs i 0))) ∙ ap joined (sym (map-append f (take i xs) (get_or xs i 0 ∷ [])))
+    ∙ ap (λ (ys : List ℕ). joined (map f ys)) (sym (take_more xs i 0 inside))
 
 bytes_sum : (f : ℕ → View) (xs : List ℕ) → length (pieces_bytes (map f xs)) ≡ sum_by (λ x. length (f x).bytes) xs
 bytes_sum f [] = refl
 bytes_sum f (x ∷ xs) =
-    length-append (f x).bytes (pieces_bytes (map f xs)) ∙ ap (λ n. length (f x).bytes + n) (bytes_sum f xs) ∙ sym (sum_by-cons (λ (y : ℕ). length (f y).bytes) x xs)
+    length-append (f x).bytes (pieces_bytes (map f xs)) ∙ ap (λ n. length (f x).bytes + n) (bytes_sum f xs)
+    ∙ sym (sum_by-cons (λ (y : ℕ). length (f y).bytes) x xs)
 
 sum_by_le : (f g : ℕ → ℕ) (xs : List ℕ) → ((x : ℕ) → f x ≤ g x) → sum_by f xs ≤ sum_by g xs
 sum_by_le f g [] le = omega arith
@@ -111,17 +117,20 @@ view_held_len (Parts parts) = omega arith
 
 -- the text so far and one view more are no longer than all sources
 pub source_fits : (old : List Slot) (xs : List ℕ) (i : ℕ) (text : MarkedText) (view : View) → sum_by (λ x. extent (slot_named old x)) xs < 2 ^ 64
-    → text ≡ joined (map (λ x. view_held (slot_named old x)) (take i xs)) → slot_named old (get_or xs i 0) ≡ SlotView view → i < length xs → text_len text + length view.bytes < 2 ^ 64
+    → text ≡ joined (map (λ x. view_held (slot_named old x)) (take i xs)) → slot_named old (get_or xs i 0) ≡ SlotView view → i < length xs
+    → text_len text + length view.bytes < 2 ^ 64
 source_fits old xs i text view fits is at inside =
     let viewed = λ (x : ℕ). view_held (slot_named old x) in
-    let len : text_len text ≡ sum_by (λ x. length (viewed x).bytes) (take i xs) = length-joined (map viewed (take i xs)) text is ∙ bytes_sum viewed (take i xs) in
+    let len : text_len text ≡ sum_by (λ x. length (viewed x).bytes) (take i xs) =
+    length-joined (map viewed (take i xs)) text is ∙ bytes_sum viewed (take i xs) in
     let few = sum_by_le (λ x. length (viewed x).bytes) (λ x. extent (slot_named old x)) (take i xs) (λ x. view_held_len (slot_named old x)) in
     let more = sum_by_more_le (λ x. extent (slot_named old x)) xs i 0 inside in
     let last : extent (slot_named old (get_or xs i 0)) ≡ length view.bytes = ap extent at in
     omega (arith, len, few, more, last, fits)
 
 -- a row of one element more
-pub row_more : {X : Type 0} (f : ℕ → X) (xs : List ℕ) (i : ℕ) (row new : List X) (x : X) → row ≡ map f (take i xs) → new ≡ row ++ x ∷ [] → x ≡ f (get_or xs i 0) → i < length xs
+pub row_more : {X : Type 0} (f : ℕ → X) (xs : List ℕ) (i : ℕ) (row new : List X) (x : X) → row ≡ map f (take i xs) → new ≡ row ++ x ∷ []
+    → x ≡ f (get_or xs i 0) → i < length xs
     → new ≡ map f (take (i + 1) xs)
 row_more f xs i row new x is e at inside =
     e ∙ ap (λ ys. ys ++ x ∷ []) is ∙ ap (λ y. map f (take i xs) ++ y ∷ []) at
@@ -139,9 +148,11 @@ part_held_len (Text text) = omega arith
 part_held_len (Parts parts) = omega arith
 
 -- the capacities of the parts of a gathering fit
-pub row_fits : (names : List Slot) (xs : List ℕ) (row : List PartValue) → sum_by (λ x. extent (slot_named names x)) xs < 2 ^ 64 → row ≡ map (λ x. part_held (slot_named names x)) xs
+pub row_fits : (names : List Slot) (xs : List ℕ) (row : List PartValue) → sum_by (λ x. extent (slot_named names x)) xs < 2 ^ 64
+    → row ≡ map (λ x. part_held (slot_named names x)) xs
     → parts_capacity row < 2 ^ 64
 row_fits names xs row fits is =
     let few = sum_by_le (λ x. part_capacity (part_held (slot_named names x))) (λ x. extent (slot_named names x)) xs (λ x. part_held_len (slot_named names x)) in
-    let sum : parts_capacity row ≡ sum_by (λ x. part_capacity (part_held (slot_named names x))) xs = ap parts_capacity is ∙ sum_of_map part_capacity (λ x. part_held (slot_named names x)) xs in
+    let sum : parts_capacity row ≡ sum_by (λ x. part_capacity (part_held (slot_named names x))) xs =
+    ap parts_capacity is ∙ sum_of_map part_capacity (λ x. part_held (slot_named names x)) xs in
     omega (arith, sum, few, fits)

@@ -20,7 +20,8 @@ use Rattle.iobufs_run.proofs.Gathered.{put_back}
 target_is_text : (names : List Slot) (target src : ℕ) → first_cause (join_causes names target src) ≡ None → is_text (slot_named names target) ≡ true
 target_is_text names target src none = grind (arith, nat_tests)
 
-pub other_name : (names : List Slot) (target src : ℕ) (view : ViewValue) → first_cause (join_causes names target src) ≡ None → slot_named names src ≡ View view → target ≢ src
+pub other_name : (names : List Slot) (target src : ℕ) (view : ViewValue) → first_cause (join_causes names target src) ≡ None
+    → slot_named names src ≡ View view → target ≢ src
 other_name names target src view none at = λ same.
     let text = target_is_text names target src none in
     let here : slot_named names target ≡ View view = ap (slot_named names) same ∙ at in
@@ -75,7 +76,8 @@ back_again names target src view back free kept d e new none took stays refused 
     let some' : 0 < readable (slot_named names target) = subst (λ (s : Slot). 0 < readable s) there target_some in
     let all : new ≡ names =
     is ∙ ap (λ (f : Slot). slice_set (slice_set (slice_set names src f) target kept) src (View back)) free_is
-    ∙ ap (λ (k : Slot). slice_set (slice_set (slice_set names src Free) target k) src (View back)) (kept_is ∙ ap (λ (f : Slot). slice_index_or (slice_set names src f) target e) free_is)
+    ∙ ap (λ (k : Slot). slice_set (slice_set (slice_set names src Free) target k) src (View back))
+    (kept_is ∙ ap (λ (f : Slot). slice_index_or (slice_set names src f) target e) free_is)
     ∙ ap (λ (v : ViewValue). slice_set (slice_set (slice_set names src Free) target (slice_index_or (slice_set names src Free) target e)) src (View v)) same
     ∙ restored names target src view e inside.1 at in
     (both_some (readable (slot_named names src)) (readable (slot_named names target)) some some', all)
@@ -83,6 +85,7 @@ back_again names target src view back free kept d e new none took stays refused 
 -- ---- the command, by its end
 
 pub joined_memory : (end : End) (old new : List Slot) (target src : ℕ) → first_cause (join_causes old target src) ≡ None
-    → IsTrue (not (readable (slot_named old src) == 0) && not (readable (slot_named old target) == 0)) → new ≡ old → Step old (joining end target src) (Refused Memory) new
+    → IsTrue (not (readable (slot_named old src) == 0) && not (readable (slot_named old target) == 0)) → new ≡ old
+    → Step old (joining end target src) (Refused Memory) new
 joined_memory Back old new target src none some same = (none, some, subst (MayFree (src ∷ []) old) (sym same) (MayFree-none (src ∷ []) old))
 joined_memory Front old new target src none some same = (none, some, subst (MayFree (src ∷ []) old) (sym same) (MayFree-none (src ∷ []) old))

@@ -74,4 +74,5 @@ abbrev pub RefusalsKeep : Type 0
 RefusalsKeep =
     (old : List Slot) (command : Cmd) (refusal : Refusal) (new : List Slot) → Step old command (Refused refusal) new
     → (length new ≡ length old)
-    × ((name : ℕ) → (slot_named new name ≡ slot_named old name) ⊎ ((refusal ≡ Memory) × IsTrue (is_listed (consumed command) name) × (slot_named new name ≡ Free)))
+    × ((name : ℕ) → (slot_named new name ≡ slot_named old name)
+    ⊎ ((refusal ≡ Memory) × IsTrue (is_listed (consumed command) name) × (slot_named new name ≡ Free)))

@@ -196,7 +196,8 @@ Does old (Append target src) = Gives Done (moved_to old src target (slot_joined 
 Does old (Prepend target src) = Gives Done (moved_to old src target (slot_joined Front (slot_named old target) (slot_named old src)))
 Does old (Coalesce src dst) = Gives Done (moved_to old src dst (slot_coalesced (slot_named old src)))
 Does old (Build dst capacity items) =
-    Gives Done (slice_set (all_freed old (pushed_names items.items)) dst (Text (finished (building_after (empty_building capacity) (map (item_held old) items.items)))))
+    Gives Done (slice_set (all_freed old (pushed_names items.items)) dst
+    (Text (finished (building_after (empty_building capacity) (map (item_held old) items.items)))))
 Does old (Encode src dst) = Gives Done (slice_set old dst (Text (view_encoded (view_held (slot_named old src)))))
 Does old (Decode src dst range) =
     λ reply new. (view : ViewValue) × IsViewRead (marked_held (slot_named old src)) range (Ok view)

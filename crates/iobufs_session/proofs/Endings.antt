@@ -20,15 +20,18 @@ whole : (answered : ℕ → Option (List ℕ) → Type 0) (input : List ℕ) (wr
 whole answered input written bs count e a =
     (count, bs, subst (λ (w : Option (List ℕ)). answered count w) e a, record { front = bs; rest = []; split = sym (append-nil bs); written_is = e })
 
-buffers_first : (input before : List ℕ) (written : Option (List ℕ)) (count : ℕ) → AnsweredFirst input before count written → Halts (AnsweredFirst input before) input written Writing
+buffers_first : (input before : List ℕ) (written : Option (List ℕ)) (count : ℕ) → AnsweredFirst input before count written
+    → Halts (AnsweredFirst input before) input written Writing
 buffers_first input before written count first =
     let (names, left, a) = first in
     whole (AnsweredFirst input before) input written _ count a.prints (names, left, a)
 
 -- however a session with named buffers ends, what is written is a front of the replies
-buffers_so_far : (input before : List ℕ) (written : Option (List ℕ)) (served : Result (Unit {0}) Stop) → Serves input before written served → Halts (AnsweredFirst input before) input written Writing
+buffers_so_far : (input before : List ℕ) (written : Option (List ℕ)) (served : Result (Unit {0}) Stop) → Serves input before written served
+    → Halts (AnsweredFirst input before) input written Writing
 buffers_so_far input before written (Ok done) s = let (count, names, a) = s in buffers_first input before written count (names, [], a)
-buffers_so_far input before written (Err (BadCommand number)) s = let (count, next, upto, text) = s in let (names, left, a) = upto in buffers_first input before written count (names, None ∷ left, a)
+buffers_so_far input before written (Err (BadCommand number)) s = let (count, next, upto, text) = s in let (names, left, a) =
+    upto in buffers_first input before written count (names, None ∷ left, a)
 buffers_so_far input before written (Err (CannotContinue Reading)) s = let (count, first) = s in buffers_first input before written count first
 buffers_so_far input before written (Err (CannotContinue Writing)) s = s
 buffers_so_far input before written (Err (CannotContinue Memory)) s = let (count, first) = s in buffers_first input before written count first
@@ -36,7 +39,8 @@ buffers_so_far input before written (Err (CannotContinue NotText)) s = let (coun
 buffers_so_far input before written (Err (CannotContinue TooManyLines)) s = buffers_first input before written _ s
 buffers_so_far input before written (Err OtherWords) s = elim s [ ]
 
-machine_first : (input before : List ℕ) (written : Option (List ℕ)) (count : ℕ) → AnsweredFirstByMachine input before count written → Halts (AnsweredFirstByMachine input before) input written Writing
+machine_first : (input before : List ℕ) (written : Option (List ℕ)) (count : ℕ) → AnsweredFirstByMachine input before count written
+    → Halts (AnsweredFirstByMachine input before) input written Writing
 machine_first input before written count first =
     elim first [
       | inl (zero, e) ↦ whole (AnsweredFirstByMachine input before) input written before count e (inl (zero, e))
@@ -44,7 +48,8 @@ machine_first input before written count first =
     ]
 
 -- the same with the machine
-machine_so_far : (input before : List ℕ) (written : Option (List ℕ)) (served : Result (Unit {0}) Stop) → ServesMachine input before written served → Halts (AnsweredFirstByMachine input before) input written Writing
+machine_so_far : (input before : List ℕ) (written : Option (List ℕ)) (served : Result (Unit {0}) Stop) → ServesMachine input before written served
+    → Halts (AnsweredFirstByMachine input before) input written Writing
 machine_so_far input before written (Ok done) s =
     elim s [
       | inl none ↦ machine_first input before written 0 (inl (refl, none.prints))
@@ -104,7 +109,8 @@ unsent half (Some input) None written new served s keeps = tt
 unsent half None told written new served s keeps = tt
 
 -- nothing was read, for want of memory
-pub not_begun : (half : Half) (read told : Option (List ℕ)) → IfSome read (λ input. IfSome told (λ before. ServesHalf half input before told (Err (CannotContinue Memory))))
+pub not_begun : (half : Half) (read told : Option (List ℕ))
+    → IfSome read (λ input. IfSome told (λ before. ServesHalf half input before told (Err (CannotContinue Memory))))
 not_begun Buffers (Some input) (Some before) = (0, (replicate 16 Free, commands_of input, none_answered input before))
 not_begun Machine (Some input) (Some before) = (0, inl (refl, refl))
 not_begun half (Some input) None = tt

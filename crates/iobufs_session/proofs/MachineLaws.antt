@@ -90,7 +90,8 @@ rewritten input before left more written new count a e f = (
   refl,
 )
 
-says_more : (asks : List Ask) (ask : Ask) (left : List (Option Ask)) → map (λ a. Some a) asks ++ (Some ask ∷ left) ≡ map (λ a. Some a) (asks ++ ask ∷ []) ++ left
+says_more : (asks : List Ask) (ask : Ask) (left : List (Option Ask))
+    → map (λ a. Some a) asks ++ (Some ask ∷ left) ≡ map (λ a. Some a) (asks ++ ask ∷ []) ++ left
 says_more [] ask left = refl
 says_more (first ∷ asks) ask left = ap (λ l. Some first ∷ l) (says_more asks ask left)
 
@@ -105,7 +106,8 @@ first_read (Some input) None left next written line e takes keeps = tt
 first_read None told left next written line e takes keeps = tt
 
 -- there is no line
-pub no_line : (read told left next written : Option (List ℕ)) (line : List ℕ) → left ≡ read → TakesLine left next line false → Keeps told written → Ended read told written (Ok tt)
+pub no_line : (read told left next written : Option (List ℕ)) (line : List ℕ) → left ≡ read → TakesLine left next line false → Keeps told written
+    → Ended read told written (Ok tt)
 no_line (Some input) (Some before) left next written line e takes keeps =
     inl (record { split = subst (λ (o : Option (List ℕ)). TakesLine o next line false) e takes; prints = kept before (Some before) written refl keeps })
 no_line (Some input) None left next written line e takes keeps = tt
@@ -116,8 +118,21 @@ first_at input before line left written r = record { front = []; behind = lines 
 
 pub first_bad : (read told left written : Option (List ℕ)) (line : List ℕ) → ReadsFirst read told line left written → IsUtf8 line → Begins line (Err NoCommand)
     → Ended read told written (Err (BadCommand 1))
-first_bad (Some input) (Some before) left written line r is none =
-    (0, refl, inl (refl, record { first = line; others = lines r.rest; split = r.split; asks_for = none; prints = r.written_is }), (line, first_at input before line left written r, is))
+first_bad (Some input) (Some before) left written line r is none = (
+  0,
+  refl,
+  inl (
+    refl,
+    record {
+      first = line;
+      others = lines r.rest;
+      split = r.split;
+      asks_for = none;
+      prints = r.written_is;
+    },
+  ),
+  (line, first_at input before line left written r, is),
+)
 first_bad (Some input) None left written line r is none = tt
 first_bad None told left written line r is none = tt
 
@@ -127,7 +142,8 @@ first_no_text (Some input) (Some before) left written line r bad = (0, inl (refl
 first_no_text (Some input) None left written line r bad = tt
 first_no_text None told left written line r bad = tt
 
-pub first_no_memory : (read told left written : Option (List ℕ)) (line : List ℕ) → ReadsFirst read told line left written → Ended read told written (Err (CannotContinue Memory))
+pub first_no_memory : (read told left written : Option (List ℕ)) (line : List ℕ) → ReadsFirst read told line left written
+    → Ended read told written (Err (CannotContinue Memory))
 first_no_memory (Some input) (Some before) left written line r = (0, inl (refl, r.written_is))
 first_no_memory (Some input) None left written line r = tt
 first_no_memory None told left written line r = tt
@@ -135,15 +151,25 @@ first_no_memory None told left written line r = tt
 pub first_not_read : (reads writes : Bool) (read told written : Option (List ℕ)) (fault : Fault) → ReadFails reads writes fault → Keeps told written
     → Ended read told written (Err (CannotContinue fault))
 first_not_read reads writes (Some input) (Some before) written Reading why keeps = (0, inl (refl, kept before (Some before) written refl keeps))
-first_not_read reads writes (Some input) (Some before) written Writing why keeps =
-    (0, before, inl (refl, refl), record { front = before; rest = []; split = sym (append-nil before); written_is = kept before (Some before) written refl keeps })
+first_not_read reads writes (Some input) (Some before) written Writing why keeps = (
+  0,
+  before,
+  inl (refl, refl),
+  record {
+    front = before;
+    rest = [];
+    split = sym (append-nil before);
+    written_is = kept before (Some before) written refl keeps;
+  },
+)
 first_not_read reads writes (Some input) (Some before) written Memory why keeps = (0, inl (refl, kept before (Some before) written refl keeps))
 first_not_read reads writes (Some input) (Some before) written NotText why keeps = elim why [ ]
 first_not_read reads writes (Some input) (Some before) written TooManyLines why keeps = elim why [ ]
 first_not_read reads writes (Some input) None written fault why keeps = tt
 first_not_read reads writes None told written fault why keeps = tt
 
-begun : (input before line : List ℕ) (left mid new : Option (List ℕ)) (m : Seen) → ReadFirst input before line left mid → Begins line (Ok m) → new ≡ Some (before ++ line_of (codes "ok"))
+begun : (input before line : List ℕ) (left mid new : Option (List ℕ)) (m : Seen) → ReadFirst input before line left mid → Begins line (Ok m)
+    → new ≡ Some (before ++ line_of (codes "ok"))
     → GoesOn input before left new 2 m
 begun input before line left mid new m r b e = record {
   rest = r.rest;
@@ -175,7 +201,8 @@ begun input before line left mid new m r b e = record {
 
 pub first_begun : (read told left mid new : Option (List ℕ)) (line : List ℕ) (m : Seen) → ReadsFirst read told line left mid → Begins line (Ok m)
     → Appends mid new (line_of (codes "ok")) → Going read told left new 2 m
-first_begun (Some input) (Some before) left mid new line m r b e = begun input before line left mid new m r b (line_more before (line_of (codes "ok")) mid new r.written_is e)
+first_begun (Some input) (Some before) left mid new line m r b e =
+    begun input before line left mid new m r b (line_more before (line_of (codes "ok")) mid new r.written_is e)
 first_begun (Some input) None left mid new line m r b e = tt
 first_begun None told left mid new line m r b e = tt
 
@@ -201,7 +228,8 @@ first_cut input before line left mid new m Memory r b takes = (0, inl (refl, kep
 first_cut input before line left mid new m NotText r b takes = elim takes [ ]
 first_cut input before line left mid new m TooManyLines r b takes = elim takes [ ]
 
-pub first_not_written : (read told left mid new : Option (List ℕ)) (line : List ℕ) (m : Seen) (fault : Fault) → ReadsFirst read told line left mid → Begins line (Ok m)
+pub first_not_written : (read told left mid new : Option (List ℕ)) (line : List ℕ) (m : Seen) (fault : Fault) → ReadsFirst read told line left mid
+    → Begins line (Ok m)
     → Takes mid new (line_of (codes "ok")) (Err fault) → Ended read told new (Err (CannotContinue fault))
 first_not_written (Some input) (Some before) left mid new line m fault r b takes = first_cut input before line left mid new m fault r b takes
 first_not_written (Some input) None left mid new line m fault r b takes = tt
@@ -215,7 +243,8 @@ reads_at : (input before line : List ℕ) (old new written mid : Option (List �
 reads_at input before line old new written mid number m g takes keeps =
     let taken = rw g.left_is at takes in
     let a = g.answered in
-    let (b, same, texts) = rewritten input before (map ask_of (lines g.rest)) (ask_of (line_text line) ∷ map ask_of (lines taken.rest)) written mid g.count a (ap (map ask_of) taken.split)
+    let (b, same, texts) = rewritten input before (map ask_of (lines g.rest)) (ask_of (line_text line) ∷ map ask_of (lines taken.rest)) written mid
+    g.count a (ap (map ask_of) taken.split)
     (kept (before ++ line_of (codes "ok") ++ flat_map line_of a.texts) written mid a.prints keeps) in
     record {
       rest = taken.rest;
@@ -235,7 +264,8 @@ line_read (Some input) None left next written mid line number m g takes keeps = 
 line_read None told left next written mid line number m g takes keeps = tt
 
 goes_on : (input before line reply : List ℕ) (left mid new : Option (List ℕ)) (number : ℕ) (m after : Seen)
-    → (r : Read input before line left mid number m) → AnswersLine line m after reply (Ok tt) → new ≡ Some (before ++ line_of (codes "ok") ++ flat_map line_of r.answered.texts ++ reply)
+    → (r : Read input before line left mid number m) → AnswersLine line m after reply (Ok tt)
+    → new ≡ Some (before ++ line_of (codes "ok") ++ flat_map line_of r.answered.texts ++ reply)
     → GoesOn input before left new (number + 1) after
 goes_on input before line reply left mid new number m after r said e =
     let a = r.answered in
@@ -258,11 +288,14 @@ goes_on input before line reply left mid new number m after r said e =
         split = a.split;
         asks_for = a.asks_for;
         begins = a.begins;
-        say = a.say ∙ (ap (λ o. map (λ ask. Some ask) a.asks ++ o ∷ map ask_of (lines r.rest)) said.says ∙ says_more a.asks said.ask (map ask_of (lines r.rest)));
+        say = a.say ∙ (ap (λ o. map (λ ask. Some ask) a.asks ++ o ∷ map ask_of (lines r.rest)) said.says
+            ∙ says_more a.asks said.ask (map ask_of (lines r.rest)));
         counts = let n = a.counts in omega (arith, n, length-append a.asks (said.ask ∷ []));
-        answers = answered_more a.begin m after a.asks a.texts said.ask said.text (subst (λ (s : Seen). AreAnswered a.begin a.asks a.texts s) r.ends a.answers) said.answers;
+        answers = answered_more a.begin m after a.asks a.texts said.ask said.text
+            (subst (λ (s : Seen). AreAnswered a.begin a.asks a.texts s) r.ends a.answers) said.answers;
         promises = promised_after m after said.ask said.text said.answers (subst (λ (s : Seen). Promises s.state) r.ends a.promises);
-        prints = e ∙ (ap (λ l. Some ((before ++ line_of (codes "ok") ++ flat_map line_of a.texts) ++ l)) said.prints ∙ ap Some (flat_map_more line_of (before ++ line_of (codes "ok")) a.texts said.text));
+        prints = e ∙ (ap (λ l. Some ((before ++ line_of (codes "ok") ++ flat_map line_of a.texts) ++ l)) said.prints
+            ∙ ap Some (flat_map_more line_of (before ++ line_of (codes "ok")) a.texts said.text));
       };
       ends = refl;
     }
@@ -270,7 +303,8 @@ goes_on input before line reply left mid new number m after r said e =
 pub line_answered : (read told left mid new : Option (List ℕ)) (line reply : List ℕ) (number : ℕ) (m after : Seen)
     → Reads read told line left mid number m → AnswersLine line m after reply (Ok tt) → Appends mid new reply → Going read told left new (number + 1) after
 line_answered (Some input) (Some before) left mid new line reply number m after r said e =
-    goes_on input before line reply left mid new number m after r said (line_more (before ++ line_of (codes "ok") ++ flat_map line_of r.answered.texts) reply mid new r.answered.prints e)
+    goes_on input before line reply left mid new number m after r said
+    (line_more (before ++ line_of (codes "ok") ++ flat_map line_of r.answered.texts) reply mid new r.answered.prints e)
 line_answered (Some input) None left mid new line reply number m after r said e = tt
 line_answered None told left mid new line reply number m after r said e = tt
 
@@ -295,7 +329,8 @@ bad_at : (input before line : List ℕ) (left mid : Option (List ℕ)) (number :
     → (r : Read input before line left mid number m) → IsUtf8 line → ask_of line ≡ None → ServesMachine input before mid (Err (BadCommand number))
 bad_at input before line left mid number m r is none =
     let a = r.answered in
-    let (b, same, texts) = rewritten input before (ask_of line ∷ map ask_of (lines r.rest)) (None ∷ map ask_of (lines r.rest)) mid mid r.count a (ap (λ o. o ∷ map ask_of (lines r.rest)) none) a.prints in
+    let (b, same, texts) = rewritten input before (ask_of line ∷ map ask_of (lines r.rest)) (None ∷ map ask_of (lines r.rest)) mid mid r.count a
+    (ap (λ o. o ∷ map ask_of (lines r.rest)) none) a.prints in
     (r.count, r.number_is, inr (map ask_of (lines r.rest), b), (line, r.at, is))
 
 pub bad_line : (read told left mid : Option (List ℕ)) (line reply : List ℕ) (number : ℕ) (m after : Seen)
@@ -326,23 +361,27 @@ too_many (Some input) None left written number m g e = tt
 too_many None told left written number m g e = tt
 
 halted : (reads writes : Bool) (input before : List ℕ) (left written mid : Option (List ℕ)) (number : ℕ) (m : Seen) (fault : Fault)
-    → (g : GoesOn input before left written number m) → mid ≡ Some (before ++ line_of (codes "ok") ++ flat_map line_of g.answered.texts) → ReadFails reads writes fault
+    → (g : GoesOn input before left written number m) → mid ≡ Some (before ++ line_of (codes "ok") ++ flat_map line_of g.answered.texts)
+    → ReadFails reads writes fault
     → ServesMachine input before mid (Err (CannotContinue fault))
 halted reads writes input before left written mid number m Reading g e why =
-    let (b, same, texts) = rewritten input before (map ask_of (lines g.rest)) (map ask_of (lines g.rest)) written mid g.count g.answered refl e in (g.count, inr (map ask_of (lines g.rest), b))
+    let (b, same, texts) = rewritten input before (map ask_of (lines g.rest)) (map ask_of (lines g.rest)) written mid g.count g.answered refl e in
+    (g.count, inr (map ask_of (lines g.rest), b))
 halted reads writes input before left written mid number m Writing g e why =
     let whole = before ++ line_of (codes "ok") ++ flat_map line_of g.answered.texts in
     let (b, same, texts) = rewritten input before (map ask_of (lines g.rest)) (map ask_of (lines g.rest)) written (Some whole) g.count g.answered refl refl in
     (g.count, whole, inr (map ask_of (lines g.rest), b), record { front = whole; rest = []; split = sym (append-nil whole); written_is = e })
 halted reads writes input before left written mid number m Memory g e why =
-    let (b, same, texts) = rewritten input before (map ask_of (lines g.rest)) (map ask_of (lines g.rest)) written mid g.count g.answered refl e in (g.count, inr (map ask_of (lines g.rest), b))
+    let (b, same, texts) = rewritten input before (map ask_of (lines g.rest)) (map ask_of (lines g.rest)) written mid g.count g.answered refl e in
+    (g.count, inr (map ask_of (lines g.rest), b))
 halted reads writes input before left written mid number m NotText g e why = elim why [ ]
 halted reads writes input before left written mid number m TooManyLines g e why = elim why [ ]
 
 pub not_read : (reads writes : Bool) (read told left written mid : Option (List ℕ)) (number : ℕ) (m : Seen) (fault : Fault)
     → Going read told left written number m → ReadFails reads writes fault → Keeps written mid → Ended read told mid (Err (CannotContinue fault))
 not_read reads writes (Some input) (Some before) left written mid number m fault g why keeps =
-    halted reads writes input before left written mid number m fault g (kept (before ++ line_of (codes "ok") ++ flat_map line_of g.answered.texts) written mid g.answered.prints keeps) why
+    halted reads writes input before left written mid number m fault g
+    (kept (before ++ line_of (codes "ok") ++ flat_map line_of g.answered.texts) written mid g.answered.prints keeps) why
 not_read reads writes (Some input) None left written mid number m fault g why keeps = tt
 not_read reads writes None told left written mid number m fault g why keeps = tt
 
@@ -375,7 +414,8 @@ cut input before line reply left mid new number m after TooManyLines r said take
 pub not_written : (read told left mid new : Option (List ℕ)) (line reply : List ℕ) (number : ℕ) (m after : Seen) (fault : Fault)
     → Reads read told line left mid number m → AnswersLine line m after reply (Ok tt) → Takes mid new reply (Err fault)
     → Ended read told new (Err (CannotContinue fault))
-not_written (Some input) (Some before) left mid new line reply number m after fault r said takes = cut input before line reply left mid new number m after fault r said takes
+not_written (Some input) (Some before) left mid new line reply number m after fault r said takes =
+    cut input before line reply left mid new number m after fault r said takes
 not_written (Some input) None left mid new line reply number m after fault r said takes = tt
 not_written None told left mid new line reply number m after fault r said takes = tt
 
@@ -384,5 +424,6 @@ pub reads_as : (read told left mid : Option (List ℕ)) (line text : List ℕ) (
     → text ≡ line → Reads read told line left mid number m → Reads read told text left mid number m
 reads_as read told left mid line text number m e r = subst (λ (l : List ℕ). Reads read told l left mid number m) (sym e) r
 
-pub first_as : (read told left mid : Option (List ℕ)) (line text : List ℕ) → text ≡ line → ReadsFirst read told line left mid → ReadsFirst read told text left mid
+pub first_as : (read told left mid : Option (List ℕ)) (line text : List ℕ) → text ≡ line → ReadsFirst read told line left mid
+    → ReadsFirst read told text left mid
 first_as read told left mid line text e r = subst (λ (l : List ℕ). ReadsFirst read told l left mid) (sym e) r

@@ -78,18 +78,27 @@ begins (Some input) (Some before) left names e f =
 begins (Some input) None left names e f = tt
 begins None told left names e f = tt
 
-map_more : (cs : List Cmd) (c : Cmd) (left : List (Option Command)) → map (λ c. Some (plain c)) cs ++ (Some (plain c) ∷ left) ≡ map (λ c. Some (plain c)) (cs ++ c ∷ []) ++ left
+map_more : (cs : List Cmd) (c : Cmd) (left : List (Option Command))
+    → map (λ c. Some (plain c)) cs ++ (Some (plain c) ∷ left) ≡ map (λ c. Some (plain c)) (cs ++ c ∷ []) ++ left
 map_more [] c left = refl
 map_more (first ∷ cs) c left = ap (λ l. Some (plain first) ∷ l) (map_more cs c left)
 
 -- the same answers, where something else is known of what is written
 rewritten : (input before : List ℕ) (left : List (Option Command)) (written new : Option (List ℕ)) (count : ℕ) (names : List Slot)
     → (a : Answered input before left written count names) → new ≡ Some (before ++ flat_map line_of a.replies) → Answered input before left new count names
-rewritten input before left written new count names a e = record { commands = a.commands; replies = a.replies; counts = a.counts; say = a.say; run = a.run; prints = e }
+rewritten input before left written new count names a e = record {
+  commands = a.commands;
+  replies = a.replies;
+  counts = a.counts;
+  say = a.say;
+  run = a.run;
+  prints = e;
+}
 
 unmoved : (input before : List ℕ) (left : List (Option Command)) (written new : Option (List ℕ)) (count : ℕ) (names : List Slot)
     → (a : Answered input before left written count names) → Keeps written new → Answered input before left new count names
-unmoved input before left written new count names a keeps = rewritten input before left written new count names a (kept (before ++ flat_map line_of a.replies) written new a.prints keeps)
+unmoved input before left written new count names a keeps =
+    rewritten input before left written new count names a (kept (before ++ flat_map line_of a.replies) written new a.prints keeps)
 
 -- other words for what is left
 told_so : (input before : List ℕ) (left more : List (Option Command)) (written : Option (List ℕ)) (count : ℕ) (names : List Slot)
@@ -97,7 +106,8 @@ told_so : (input before : List ℕ) (left more : List (Option Command)) (written
 told_so input before left more written count names e a = subst (λ (l : List (Option Command)). Answered input before l written count names) e a
 
 -- one more is answered
-answered_more : (input before : List ℕ) (left : List (Option Command)) (written new : Option (List ℕ)) (count : ℕ) (names after : List Slot) (c : Cmd) (r : Reply)
+answered_more : (input before : List ℕ) (left : List (Option Command)) (written new : Option (List ℕ)) (count : ℕ) (names after : List Slot)
+    (c : Cmd) (r : Reply)
     → Answered input before (Some (plain c) ∷ left) written count names → Step names c r after
     → Appends written new (line_of r) → Answered input before left new (count + 1) after
 answered_more input before left written new count names after c r a step e = record {
@@ -124,13 +134,15 @@ reads_at input before line old new written mid number names g takes keeps =
       at = record { front = g.front; behind = lines taken.rest; split = g.split ∙ ap (λ l. g.front ++ l) taken.split; counts = g.front_counts };
       split = refl;
       answered = unmoved input before (command_of (line_text line) ∷ commands_of taken.rest) written mid g.count names
-          (told_so input before (commands_of g.rest) (command_of (line_text line) ∷ commands_of taken.rest) written g.count names (ap (map command_of) taken.split) g.answered)
+          (told_so input before (commands_of g.rest) (command_of (line_text line) ∷ commands_of taken.rest) written g.count names
+          (ap (map command_of) taken.split) g.answered)
           keeps;
     }
 
 pub line_read : (read told left next written mid : Option (List ℕ)) (line : List ℕ) (number : ℕ) (names : List Slot)
     → Going read told left written number names → TakesLine left next line true → Keeps written mid → Reads read told (line_text line) next mid number names
-line_read (Some input) (Some before) left next written mid line number names g takes keeps = reads_at input before line left next written mid number names g takes keeps
+line_read (Some input) (Some before) left next written mid line number names g takes keeps =
+    reads_at input before line left next written mid number names g takes keeps
 line_read (Some input) None left next written mid line number names g takes keeps = tt
 line_read None told left next written mid line number names g takes keeps = tt
 
@@ -146,13 +158,16 @@ goes_on input before line reply left mid new number names after read a e = recor
   split = read.at.split ∙ (ap (λ l. read.at.front ++ line ∷ l) read.split ∙ sym (append_assoc read.at.front (line ∷ []) (lines read.rest)));
   front_counts = let n = read.at.counts in omega (arith, n, length-append read.at.front (line ∷ []));
   answered = answered_more input before (commands_of read.rest) mid new read.count names after a.command a.reply
-      (told_so input before (command_of line ∷ commands_of read.rest) (Some (plain a.command) ∷ commands_of read.rest) mid read.count names (ap (λ o. o ∷ commands_of read.rest) a.says) read.answered)
+      (told_so input before (command_of line ∷ commands_of read.rest) (Some (plain a.command) ∷ commands_of read.rest) mid read.count names
+      (ap (λ o. o ∷ commands_of read.rest) a.says) read.answered)
       a.step (subst (λ (l : List ℕ). Appends mid new l) a.prints e);
 }
 
 pub line_answered : (read told left mid new : Option (List ℕ)) (line reply : List ℕ) (number : ℕ) (names after : List Slot)
-    → Reads read told line left mid number names → AnswersLine line names after reply (Ok tt) → Appends mid new reply → Going read told left new (number + 1) after
-line_answered (Some input) (Some before) left mid new line reply number names after read a e = goes_on input before line reply left mid new number names after read a e
+    → Reads read told line left mid number names → AnswersLine line names after reply (Ok tt) → Appends mid new reply
+    → Going read told left new (number + 1) after
+line_answered (Some input) (Some before) left mid new line reply number names after read a e =
+    goes_on input before line reply left mid new number names after read a e
 line_answered (Some input) None left mid new line reply number names after read a e = tt
 line_answered None told left mid new line reply number names after read a e = tt
 
@@ -161,22 +176,33 @@ line_answered None told left mid new line reply number names after read a e = tt
 ends : (input before : List ℕ) (left next written mid : Option (List ℕ)) (line : List ℕ) (number : ℕ) (names : List Slot)
     → (g : GoesOn input before left written number names) → TakesLine left next line false → Keeps written mid → Serves input before mid (Ok tt)
 ends input before left next written mid line number names g takes keeps =
-    let none = rw g.left_is at takes in
-    (g.count, names, unmoved input before [] written mid g.count names (told_so input before (commands_of g.rest) [] written g.count names (ap (map command_of) none) g.answered) keeps)
+    let none = rw g.left_is at takes in (
+      g.count,
+      names,
+      unmoved input before [] written mid g.count names
+          (told_so input before (commands_of g.rest) [] written g.count names (ap (map command_of) none) g.answered) keeps,
+    )
 
 pub all_answered : (read told left next written mid : Option (List ℕ)) (line : List ℕ) (number : ℕ) (names : List Slot)
     → Going read told left written number names → TakesLine left next line false → Keeps written mid → Ended read told mid (Ok tt)
-all_answered (Some input) (Some before) left next written mid line number names g takes keeps = ends input before left next written mid line number names g takes keeps
+all_answered (Some input) (Some before) left next written mid line number names g takes keeps =
+    ends input before left next written mid line number names g takes keeps
 all_answered (Some input) None left next written mid line number names g takes keeps = tt
 all_answered None told left next written mid line number names g takes keeps = tt
 
 -- the next line says no command
 pub bad_line : (read told left mid : Option (List ℕ)) (line reply : List ℕ) (number : ℕ) (names after : List Slot)
-    → Reads read told line left mid number names → IsUtf8 line → AnswersLine line names after reply (Err NoCommand) → Ended read told mid (Err (BadCommand number))
+    → Reads read told line left mid number names → IsUtf8 line → AnswersLine line names after reply (Err NoCommand)
+    → Ended read told mid (Err (BadCommand number))
 bad_line (Some input) (Some before) left mid line reply number names after read is none = (
   read.count,
   read.number_is,
-  (names, commands_of read.rest, told_so input before (command_of line ∷ commands_of read.rest) (None ∷ commands_of read.rest) mid read.count names (ap (λ o. o ∷ commands_of read.rest) none) read.answered),
+  (
+    names,
+    commands_of read.rest,
+    told_so input before (command_of line ∷ commands_of read.rest) (None ∷ commands_of read.rest) mid read.count names
+        (ap (λ o. o ∷ commands_of read.rest) none) read.answered,
+  ),
   (line, read.at, is),
 )
 bad_line (Some input) None left mid line reply number names after read is none = tt
@@ -185,7 +211,8 @@ bad_line None told left mid line reply number names after read is none = tt
 -- the next line is no text
 pub no_text : (read told left mid : Option (List ℕ)) (line : List ℕ) (number : ℕ) (names : List Slot)
     → Reads read told line left mid number names → (IsUtf8 line → ⊥) → Ended read told mid (Err (CannotContinue NotText))
-no_text (Some input) (Some before) left mid line number names read bad = (read.count, (names, command_of line ∷ commands_of read.rest, read.answered), line, read.at, bad)
+no_text (Some input) (Some before) left mid line number names read bad =
+    (read.count, (names, command_of line ∷ commands_of read.rest, read.answered), line, read.at, bad)
 no_text (Some input) None left mid line number names read bad = tt
 no_text None told left mid line number names read bad = tt
 
@@ -209,7 +236,8 @@ too_many None told left written number names g e = tt
 -- reading fails, and nothing more is written
 halted : (reads writes : Bool) (input before : List ℕ) (left written mid : Option (List ℕ)) (number : ℕ) (names : List Slot) (fault : Fault)
     → GoesOn input before left written number names → ReadFails reads writes fault → Keeps written mid → Serves input before mid (Err (CannotContinue fault))
-halted reads writes input before left written mid number names Reading g why keeps = (g.count, (names, commands_of g.rest, unmoved input before (commands_of g.rest) written mid g.count names g.answered keeps))
+halted reads writes input before left written mid number names Reading g why keeps =
+    (g.count, (names, commands_of g.rest, unmoved input before (commands_of g.rest) written mid g.count names g.answered keeps))
 halted reads writes input before left written mid number names Writing g why keeps =
     let whole = before ++ flat_map line_of g.answered.replies in (
       g.count,
@@ -217,13 +245,15 @@ halted reads writes input before left written mid number names Writing g why kee
       (names, commands_of g.rest, rewritten input before (commands_of g.rest) written (Some whole) g.count names g.answered refl),
       record { front = whole; rest = []; split = sym (append-nil whole); written_is = kept whole written mid g.answered.prints keeps },
     )
-halted reads writes input before left written mid number names Memory g why keeps = (g.count, (names, commands_of g.rest, unmoved input before (commands_of g.rest) written mid g.count names g.answered keeps))
+halted reads writes input before left written mid number names Memory g why keeps =
+    (g.count, (names, commands_of g.rest, unmoved input before (commands_of g.rest) written mid g.count names g.answered keeps))
 halted reads writes input before left written mid number names NotText g why keeps = elim why [ ]
 halted reads writes input before left written mid number names TooManyLines g why keeps = elim why [ ]
 
 pub not_read : (reads writes : Bool) (read told left written mid : Option (List ℕ)) (number : ℕ) (names : List Slot) (fault : Fault)
     → Going read told left written number names → ReadFails reads writes fault → Keeps written mid → Ended read told mid (Err (CannotContinue fault))
-not_read reads writes (Some input) (Some before) left written mid number names fault g why keeps = halted reads writes input before left written mid number names fault g why keeps
+not_read reads writes (Some input) (Some before) left written mid number names fault g why keeps =
+    halted reads writes input before left written mid number names fault g why keeps
 not_read reads writes (Some input) None left written mid number names fault g why keeps = tt
 not_read reads writes None told left written mid number names fault g why keeps = tt
 
@@ -255,15 +285,23 @@ cut input before line reply left mid new number names after Writing read a takes
         written_is = line_more bs (take n reply) mid new read.answered.prints e;
       },
     )
-cut input before line reply left mid new number names after Memory read a takes =
-    (read.count, (names, command_of line ∷ commands_of read.rest, unmoved input before (command_of line ∷ commands_of read.rest) mid new read.count names read.answered takes))
+cut input before line reply left mid new number names after Memory read a takes = (
+  read.count,
+  (
+    names,
+    command_of line ∷ commands_of read.rest,
+    unmoved input before (command_of line ∷ commands_of read.rest) mid new read.count
+        names read.answered takes,
+  ),
+)
 cut input before line reply left mid new number names after NotText read a takes = elim takes [ ]
 cut input before line reply left mid new number names after TooManyLines read a takes = elim takes [ ]
 
 pub not_written : (read told left mid new : Option (List ℕ)) (line reply : List ℕ) (number : ℕ) (names after : List Slot) (fault : Fault)
     → Reads read told line left mid number names → AnswersLine line names after reply (Ok tt) → Takes mid new reply (Err fault)
     → Ended read told new (Err (CannotContinue fault))
-not_written (Some input) (Some before) left mid new line reply number names after fault read a takes = cut input before line reply left mid new number names after fault read a takes
+not_written (Some input) (Some before) left mid new line reply number names after fault read a takes =
+    cut input before line reply left mid new number names after fault read a takes
 not_written (Some input) None left mid new line reply number names after fault read a takes = tt
 not_written None told left mid new line reply number names after fault read a takes = tt
 

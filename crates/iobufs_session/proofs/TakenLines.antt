@@ -22,7 +22,11 @@ takes_line None new line n e h d z = tt
 takes_line (Some bytes) new line zero e h d z = ap lines (z refl)
 takes_line (Some bytes) new line (suc n) e h d z =
     subst (λ (more : Bool). TakesLine (Some bytes) new line more) (sym (positive n))
-    (record { rest = drop_through 10 bytes; left_is = d; split = lines_step bytes (not_empty bytes n (e ∙ ap length h)) ∙ ap (λ l. line_text l ∷ lines (drop_through 10 bytes)) (sym h) })
+    (record {
+      rest = drop_through 10 bytes;
+      left_is = d;
+      split = lines_step bytes (not_empty bytes n (e ∙ ap length h)) ∙ ap (λ l. line_text l ∷ lines (drop_through 10 bytes)) (sym h);
+    })
 
 -- ---- a line in the buffer
 

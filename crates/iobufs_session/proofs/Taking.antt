@@ -31,7 +31,8 @@ appends_kept None mid new front e f = tt
 pub none_sent : (old : Option (List ℕ)) (text : List ℕ) → Sent old old text text
 none_sent old text = record { front = []; split = refl; appends = appends_none old }
 
-pub more_sent : (old mid new : Option (List ℕ)) (text rest : List ℕ) (n : ℕ) → Sent old mid text rest → Appends mid new (take n rest) → Sent old new text (drop n rest)
+pub more_sent : (old mid new : Option (List ℕ)) (text rest : List ℕ) (n : ℕ) → Sent old mid text rest → Appends mid new (take n rest)
+    → Sent old new text (drop n rest)
 more_sent old mid new text rest n s e = record {
   front = s.front ++ take n rest;
   split = s.split ∙ (ap (λ l. s.front ++ l) (sym (take-append-drop n rest)) ∙ sym (append_assoc s.front (take n rest) (drop n rest)));

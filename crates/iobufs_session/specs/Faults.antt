@@ -70,7 +70,7 @@ pub record IsFrontOf (whole : List ℕ) (written : Option (List ℕ)) : Type 0 w
   pub split : whole ≡ front ++ rest
   pub written_is : written ≡ Some front
 
--- The input holds more lines than are counted
+-- the most lines that a session counts
 abbrev pub most_lines : ℕ
 most_lines = 2 ^ 64 - 2
 

@@ -54,7 +54,8 @@ AnsweredFirst input before count written =
 -- Where a session can't go on, lines were answered up to there
 abbrev pub ServesMachine : (input before : List ℕ) → (written : Option (List ℕ)) → Result (Unit {0}) Stop → Type 0
 ServesMachine input before written (Ok done) = AllAnswered input before written
-ServesMachine input before written (Err (BadCommand number)) = (count : ℕ) × (number ≡ count + 1) × AnsweredUpTo count input before written × IsTextAt input count
+ServesMachine input before written (Err (BadCommand number)) = (count : ℕ) × (number ≡ count + 1) × AnsweredUpTo count input before written
+    × IsTextAt input count
 ServesMachine input before written (Err (CannotContinue fault)) = Halts (AnsweredFirst input before) input written fault
 ServesMachine input before written (Err OtherWords) = ⊥
 

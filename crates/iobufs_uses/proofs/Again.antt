@@ -21,12 +21,15 @@ abbrev pub IsAt : List Freed → ℕ → Freed → Type 0
 IsAt log i freed = (i < length log) × ((d : Freed) → freed ≡ get_or log i d)
 
 -- whose memory it is, nobody holds
-unheld-at : (s : State) (i : ℕ) (freed : Freed) → Promises s → IsAt s.freed_blocks i freed → (b : ℕ) → b < length s.tables.blocks → triple (block_at s.tables b) ≡ freed → holders (reading s) b ≡ 0
+unheld-at : (s : State) (i : ℕ) (freed : Freed) → Promises s → IsAt s.freed_blocks i freed → (b : ℕ) → b < length s.tables.blocks
+    → triple (block_at s.tables b) ≡ freed → holders (reading s) b ≡ 0
 unheld-at s i freed p at b l e =
-    let test : same_freed (block_at s.tables b) (get_or s.freed_blocks i freed) ≡ true = subst (λ (f : Freed). same_freed (block_at s.tables b) f ≡ true) (e ∙ at.1 freed) (same-triple (block_at s.tables b)) in
+    let test : same_freed (block_at s.tables b) (get_or s.freed_blocks i freed) ≡ true =
+    subst (λ (f : Freed). same_freed (block_at s.tables b) f ≡ true) (e ∙ at.1 freed) (same-triple (block_at s.tables b)) in
     p.never_held b (record { known = l; logged = list_any_at (same_freed (block_at s.tables b)) s.freed_blocks i freed at.0 test })
 
-pub unheld : (s : State) (log : List Freed) (i : ℕ) (freed : Freed) → Promises s → log ≡ s.freed_blocks → IsAt log i freed → (b : ℕ) → b < length s.tables.blocks → triple (block_at s.tables b) ≡ freed → holders (reading s) b ≡ 0
+pub unheld : (s : State) (log : List Freed) (i : ℕ) (freed : Freed) → Promises s → log ≡ s.freed_blocks → IsAt log i freed → (b : ℕ)
+    → b < length s.tables.blocks → triple (block_at s.tables b) ≡ freed → holders (reading s) b ≡ 0
 unheld s log i freed p e at = unheld-at s i freed p (subst (λ (l : List Freed). IsAt l i freed) e at)
 
 -- it stands there once
@@ -37,5 +40,6 @@ once-at s i freed p at = λ k d l e.
     let before : k < i = omega (arith, l, count) in
     p.blocks_once k i d before inside (sym (get_or-take i s.freed_blocks k d before) ∙ e ∙ at.1 d)
 
-pub once : (s : State) (log : List Freed) (i : ℕ) (freed : Freed) → Promises s → log ≡ s.freed_blocks → IsAt log i freed → All (λ other. other ≢ freed) (take i s.freed_blocks)
+pub once : (s : State) (log : List Freed) (i : ℕ) (freed : Freed) → Promises s → log ≡ s.freed_blocks → IsAt log i freed
+    → All (λ other. other ≢ freed) (take i s.freed_blocks)
 once s log i freed p e at = once-at s i freed p (subst (λ (l : List Freed). IsAt l i freed) e at)

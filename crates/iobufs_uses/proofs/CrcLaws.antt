@@ -53,4 +53,5 @@ sum_at (suc n) from zero within = ap (crc_bits 8) (let e : from ≡ from + 0 = o
 sum_at (suc n) from (suc i) within = sum_at n (suc from) i (omega (arith, within)) ∙ ap (crc_bits 8) (let e : suc from + i ≡ from + suc i = omega arith in e)
 
 pub table_sum : (table : List ℕ) (byte place : ℕ) → table ≡ byte_sums 256 0 → byte < 2 ^ 8 → place ≡ byte → slice_index_or table place 0 ≡ crc_bits 8 byte
-table_sum table byte place is small at = ap (λ t. slice_index_or t place 0) is ∙ ap (λ i. slice_index_or (byte_sums 256 0) i 0) at ∙ sum_at 256 0 byte small ∙ ap (crc_bits 8) (let e : 0 + byte ≡ byte = omega arith in e)
+table_sum table byte place is small at = ap (λ t. slice_index_or t place 0) is ∙ ap (λ i. slice_index_or (byte_sums 256 0) i 0) at
+    ∙ sum_at 256 0 byte small ∙ ap (crc_bits 8) (let e : 0 + byte ≡ byte = omega arith in e)

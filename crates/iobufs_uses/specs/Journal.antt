@@ -53,7 +53,8 @@ HasBadLength most bytes = IsLengthRead bytes (up_to most) (Err InvalidVarint) �
 
 -- so many bytes stand behind the length, and aren't a body sealed with this number
 abbrev pub IsUnsealed : ℕ → List ℕ → Type 0
-IsUnsealed number bytes = (framed : List ℕ) × (behind : List ℕ) × (length framed < 2 ^ 64) × (bytes ≡ bytes_written framed ++ behind) × ((body : List ℕ) → framed ≡ sealed number body → ⊥)
+IsUnsealed number bytes = (framed : List ℕ) × (behind : List ℕ) × (length framed < 2 ^ 64) × (bytes ≡ bytes_written framed ++ behind)
+    × ((body : List ℕ) → framed ≡ sealed number body → ⊥)
 
 abbrev pub HasNoRecord : ℕ → ℕ → List ℕ → End → Type 0
 HasNoRecord most number rest Whole = rest ≡ []

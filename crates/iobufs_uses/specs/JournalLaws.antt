@@ -63,19 +63,23 @@ is_sealed number bytes body e =
     }
 
 -- what a slice of a sealed record is the body of
-pub unsealed_body : (number len : ℕ) (framed body : View) → IsSealed number framed.bytes → len ≡ length framed.bytes → body ≡ view_slice framed (Included 8) (Excluded (len - 4))
+pub unsealed_body : (number len : ℕ) (framed body : View) → IsSealed number framed.bytes → len ≡ length framed.bytes
+    → body ≡ view_slice framed (Included 8) (Excluded (len - 4))
     → framed.bytes ≡ sealed number body.bytes
 unsealed_body number len framed body is long slice =
     let least = is.long in
     let bytes : body.bytes ≡ drop 8 (take (length framed.bytes - 4) framed.bytes) =
-    ap (λ (v : View). v.bytes) slice ∙ bytes-view_between framed 8 (len - 4) (omega (arith, least, long)) (omega (arith, long)) ∙ ap (λ n. drop 8 (take (n - 4) framed.bytes)) long in
+    ap (λ (v : View). v.bytes) slice ∙ bytes-view_between framed 8 (len - 4) (omega (arith, least, long)) (omega (arith, long))
+    ∙ ap (λ n. drop 8 (take (n - 4) framed.bytes)) long in
     sealed_is number framed.bytes is ∙ ap (sealed number) (sym bytes)
 
 -- a record was found, where a frame was taken
-pub found_record : (most number : ℕ) (text left : MarkedText) (framed body : View) (found : Option View) → IsViewRead text (up_to most) (Ok framed) → left ≡ text_rest text (length (view_written framed))
+pub found_record : (most number : ℕ) (text left : MarkedText) (framed body : View) (found : Option View) → IsViewRead text (up_to most) (Ok framed)
+    → left ≡ text_rest text (length (view_written framed))
     → found ≡ Some body → IfSome found (λ b. framed.bytes ≡ sealed number b.bytes) → text.bytes ≡ record_written number body.bytes ++ left.bytes
 found_record most number text left framed body found is rest e seal =
-    read_and_left text left (up_to most) (Ok framed) is rest ∙ ap (λ w. bytes_written w ++ left.bytes) (subst (λ (o : Option View). IfSome o (λ b. framed.bytes ≡ sealed number b.bytes)) e seal)
+    read_and_left text left (up_to most) (Ok framed) is rest
+    ∙ ap (λ w. bytes_written w ++ left.bytes) (subst (λ (o : Option View). IfSome o (λ b. framed.bytes ≡ sealed number b.bytes)) e seal)
 
 -- and it is short enough
 pub found_short : (most number : ℕ) (text : MarkedText) (framed body : View) (found : Option View) → IsViewRead text (up_to most) (Ok framed)
@@ -85,12 +89,22 @@ found_short most number text framed body found is e seal =
     omega (arith, read_at_most text (up_to most) (Ok framed) is, ap (λ (w : List ℕ). length w) sealed_so, length-sealed number body.bytes)
 
 -- what was taken is no record with this number
-pub no_record : (most number : ℕ) (text left : MarkedText) (framed : View) (found : Option View) (empty : Bool) → IsViewRead text (up_to most) (Ok framed) → left ≡ text_rest text (length (view_written framed))
-    → found ≡ None → IfNone found (IsSealed number framed.bytes → ⊥) → empty ≡ (length text.bytes == 0) → empty ≡ false → HasNoRecord most number text.bytes Damaged
+pub no_record : (most number : ℕ) (text left : MarkedText) (framed : View) (found : Option View) (empty : Bool)
+    → IsViewRead text (up_to most) (Ok framed) → left ≡ text_rest text (length (view_written framed))
+    → found ≡ None → IfNone found (IsSealed number framed.bytes → ⊥) → empty ≡ (length text.bytes == 0) → empty ≡ false
+    → HasNoRecord most number text.bytes Damaged
 no_record most number text left framed found empty is rest e none test more =
     let some : 0 < length text.bytes = grind (arith, nat_tests, test, more) in
-    let never : IsSealed number framed.bytes → ⊥ = subst (λ (o : Option View). IfNone o (IsSealed number framed.bytes → ⊥)) e none in
-    (some, inr (framed.bytes, left.bytes, (read_in_range text (up_to most) (Ok framed) is).0, read_and_left text left (up_to most) (Ok framed) is rest, λ body f. never (is_sealed number framed.bytes body f)))
+    let never : IsSealed number framed.bytes → ⊥ = subst (λ (o : Option View). IfNone o (IsSealed number framed.bytes → ⊥)) e none in (
+      some,
+      inr (
+        framed.bytes,
+        left.bytes,
+        (read_in_range text (up_to most) (Ok framed) is).0,
+        read_and_left text left (up_to most) (Ok framed) is rest,
+        λ body f. never (is_sealed number framed.bytes body f),
+      ),
+    )
 
 -- ---- a journal, record by record
 
@@ -118,24 +132,29 @@ pub record IsReadSoFar (most : ℕ) (journal : List ℕ) (views : List View) (re
   pub short : AreShort most (bodies views)
 
 -- one more record goes over from the rest
-pub one_more : (most : ℕ) (journal : List ℕ) (rest left : List ℕ) (views more : List View) (body : View) (number count : ℕ) (found : Result View End) → number ≡ count → count ≡ length views
-    → IsReadSoFar most journal views rest → more ≡ views ++ body ∷ [] → found ≡ Ok body → IfOk found (λ b. rest ≡ record_written number b.bytes ++ left) → IfOk found (λ b. 12 + length b.bytes ≤ most)
+pub one_more : (most : ℕ) (journal : List ℕ) (rest left : List ℕ) (views more : List View) (body : View) (number count : ℕ) (found : Result View End)
+    → number ≡ count → count ≡ length views
+    → IsReadSoFar most journal views rest → more ≡ views ++ body ∷ [] → found ≡ Ok body
+    → IfOk found (λ b. rest ≡ record_written number b.bytes ++ left) → IfOk found (λ b. 12 + length b.bytes ≤ most)
     → IsReadSoFar most journal more left
 one_more most journal rest left views more body number count found m n so_far pushed e h fits =
-    let front : rest ≡ record_written number body.bytes ++ left = subst (λ (r : Result View End). IfOk r (λ b. rest ≡ record_written number b.bytes ++ left)) e h in
+    let front : rest ≡ record_written number body.bytes ++ left =
+    subst (λ (r : Result View End). IfOk r (λ b. rest ≡ record_written number b.bytes ++ left)) e h in
     let small : 12 + length body.bytes ≤ most = subst (λ (r : Result View End). IfOk r (λ b. 12 + length b.bytes ≤ most)) e fits in
     let listed : bodies more ≡ bodies views ++ body.bytes ∷ [] = ap bodies pushed ∙ map-append (λ (v : View). v.bytes) views (body ∷ []) in
     let written : records_written 0 (bodies more) ≡ records_written 0 (bodies views) ++ record_written number body.bytes =
     ap (records_written 0) listed ∙ written_more 0 (bodies views) body.bytes
     ∙ ap (λ k. records_written 0 (bodies views) ++ record_written k body.bytes) (counted views number (m ∙ n)) in record {
       whole =
-          so_far.whole ∙ ap (λ w. records_written 0 (bodies views) ++ w) front ∙ sym (append_assoc (records_written 0 (bodies views)) (record_written number body.bytes) left)
+          so_far.whole ∙ ap (λ w. records_written 0 (bodies views) ++ w) front
+          ∙ sym (append_assoc (records_written 0 (bodies views)) (record_written number body.bytes) left)
           ∙ ap (λ w. w ++ left) (sym written);
       short = subst (AreShort most) (sym listed) (short_more most (bodies views) body.bytes so_far.short small);
     }
 
 -- there is no further one: what is left stands behind the records
-pub ended : (most : ℕ) (journal rest : List ℕ) (views : List View) (end : End) (number count len left : ℕ) (found : Result View End) → number ≡ count → count ≡ length views
+pub ended : (most : ℕ) (journal rest : List ℕ) (views : List View) (end : End) (number count len left : ℕ) (found : Result View End) → number ≡ count
+    → count ≡ length views
     → IsReadSoFar most journal views rest → len ≡ length journal → left ≡ length rest → found ≡ Err end → IfErr found (HasNoRecord most number rest)
     → IsJournal most 0 journal (bodies views) end (drop (len - left) journal)
 ended most journal rest views end number count len left found m n so_far long short e h =
@@ -144,5 +163,6 @@ ended most journal rest views end number count len left found m n so_far long sh
     let place : len - left ≡ length records = omega (arith, long, short, ap (λ (w : List ℕ). length w) is, length-append records rest) in
     let behind : rest ≡ drop (len - left) journal = sym (ap (λ k. drop k journal) place ∙ ap (drop (length records)) is ∙ drop-append_seam records rest) in
     let none : HasNoRecord most (0 + length (bodies views)) rest end =
-    subst (λ k. HasNoRecord most k rest end) (sym (counted views number (m ∙ n))) (subst (λ (r : Result View End). IfErr r (HasNoRecord most number rest)) e h) in
+    subst (λ k. HasNoRecord most k rest end) (sym (counted views number (m ∙ n)))
+    (subst (λ (r : Result View End). IfErr r (HasNoRecord most number rest)) e h) in
     subst (IsJournal most 0 journal (bodies views) end) behind (record { whole = is; admitted = so_far.short; ends = none })

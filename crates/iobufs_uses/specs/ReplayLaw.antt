@@ -43,13 +43,20 @@ no_fault : (most number : ℕ) (text body behind : List ℕ) (error : Error) →
 unfolding plain
 no_fault most number text body behind error large short e fault other =
     let long = length-sealed number body in
-    other (written_read_back (plain text) (plain []) (up_to most) (Err error) (sealed number body) behind fault tt (omega (arith, long, large, short)) (fits most (length (sealed number body)) (omega (arith, long, short))) e)
+    other (written_read_back (plain text) (plain []) (up_to most) (Err error) (sealed number body) behind fault tt
+    (omega (arith, long, large, short)) (fits most (length (sealed number body)) (omega (arith, long, short))) e)
 
 stands : (most number : ℕ) (text body behind : List ℕ) (end : End) → most < 2 ^ 64 → 12 + length body ≤ most → text ≡ record_written number body ++ behind
     → HasNoRecord most number text end → ⊥
 unfolding plain
 stands most number text body behind Whole large short e none =
-    omega (arith, ap (λ (w : List ℕ). length w) (sym none ∙ e), length-append (record_written number body) behind, length-append (spell (length (sealed number body))) (sealed number body), length-sealed number body)
+    omega (
+      arith,
+      ap (λ (w : List ℕ). length w) (sym none ∙ e),
+      length-append (record_written number body) behind,
+      length-append (spell (length (sealed number body))) (sealed number body),
+      length-sealed number body,
+    )
 stands most number text body behind Torn large short e none = no_fault most number text body behind EndOfBuffer large short e none.1 (λ m. cc)
 stands most number text body behind Damaged large short e none =
     elim none.1 [
@@ -73,12 +80,14 @@ torn_or_damaged most number bytes torn damaged =
         | inl none ↦ elim torn.1 [ inl opened ↦ none.1 opened.1 | inr (n, (at, inside), few) ↦ none.0 n at ]
         | inr (m, (at, outside)) ↦ elim torn.1 [
           | inl opened ↦ opened.0 m at
-          | inr (n, (there, inside), few) ↦ not_both bytes (up_to most) n (InvalidLength m) there inside (record { n = m; told = refl; at = at; outside = outside })
+          | inr (n, (there, inside), few) ↦ not_both bytes (up_to most) n (InvalidLength m) there inside
+              (record { n = m; told = refl; at = at; outside = outside })
         ]
       ]
       | inr (framed, behind, small, is, never) ↦
           let spelled : IsSpelledAt bytes (length framed) =
-          subst (λ (xs : List ℕ). IsSpelledAt xs (length framed)) (sym (append_assoc (spell (length framed)) framed behind) ∙ sym is) (spelled_before (length framed) (framed ++ behind) small) in
+          subst (λ (xs : List ℕ). IsSpelledAt xs (length framed)) (sym (append_assoc (spell (length framed)) framed behind) ∙ sym is)
+          (spelled_before (length framed) (framed ++ behind) small) in
           elim torn.1 [
             | inl opened ↦ opened.0 (length framed) spelled
             | inr (n, (there, inside), few) ↦
@@ -118,30 +127,40 @@ read_once most number [] [] a b x y large e p q h k =
     record { same_records = refl; same_end = one_end most (number + 0) y a b none k; same_rest = e }
 read_once most number [] (g ∷ gs) a b x y large e p q h k =
     absurd (stands most number x g (records_written (suc number) gs ++ y) a large q.0
-    (e ∙ append_assoc (record_written number g) (records_written (suc number) gs) y) (at_number most (number + 0) number x a (let z : number + 0 ≡ number = omega arith in z) h))
+    (e ∙ append_assoc (record_written number g) (records_written (suc number) gs) y)
+    (at_number most (number + 0) number x a (let z : number + 0 ≡ number = omega arith in z) h))
 read_once most number (f ∷ fs) [] a b x y large e p q h k =
     absurd (stands most number y f (records_written (suc number) fs ++ x) b large p.0
-    (sym e ∙ append_assoc (record_written number f) (records_written (suc number) fs) x) (at_number most (number + 0) number y b (let z : number + 0 ≡ number = omega arith in z) k))
+    (sym e ∙ append_assoc (record_written number f) (records_written (suc number) fs) x)
+    (at_number most (number + 0) number y b (let z : number + 0 ≡ number = omega arith in z) k))
 read_once most number (f ∷ fs) (g ∷ gs) a b x y large e p q h k =
     let first = p.0 in
     let second = q.0 in
     let (same, behind) = one_front (sealed number f) (sealed number g) (records_written (suc number) fs ++ x) (records_written (suc number) gs ++ y)
     (omega (arith, length-sealed number f, large, first)) (omega (arith, length-sealed number g, large, second))
-    (sym (append_assoc (record_written number f) (records_written (suc number) fs) x) ∙ e ∙ append_assoc (record_written number g) (records_written (suc number) gs) y) in
+    (sym (append_assoc (record_written number f) (records_written (suc number) fs) x) ∙ e
+    ∙ append_assoc (record_written number g) (records_written (suc number) gs) y) in
     let others = read_once most (suc number) fs gs a b x y large behind p.1 q.1
     (at_number most (number + suc (length fs)) (suc number + length fs) x a (let z : number + suc (length fs) ≡ suc number + length fs = omega arith in z) h)
-    (at_number most (number + suc (length gs)) (suc number + length gs) y b (let z : number + suc (length gs) ≡ suc number + length gs = omega arith in z) k) in record {
+    (at_number most (number + suc (length gs)) (suc number + length gs) y b
+    (let z : number + suc (length gs) ≡ suc number + length gs = omega arith in z) k) in record {
       same_records = ap (λ w. w ∷ fs) (one_body number f g same) ∙ ap (λ ws. g ∷ ws) others.same_records;
       same_end = others.same_end;
       same_rest = others.same_rest;
     }
 
-pub read_alike : (most : ℕ) (text : List ℕ) (fs gs : List (List ℕ)) (a b : End) (x y : List ℕ) → most < 2 ^ 64 → IsJournal most 0 text fs a x → IsJournal most 0 text gs b y → AreAlike fs gs a b x y
-read_alike most text fs gs a b x y large is other = read_once most 0 fs gs a b x y large (sym is.whole ∙ other.whole) is.admitted other.admitted is.ends other.ends
+pub read_alike : (most : ℕ) (text : List ℕ) (fs gs : List (List ℕ)) (a b : End) (x y : List ℕ) → most < 2 ^ 64 → IsJournal most 0 text fs a x
+    → IsJournal most 0 text gs b y → AreAlike fs gs a b x y
+read_alike most text fs gs a b x y large is other =
+    read_once most 0 fs gs a b x y large (sym is.whole ∙ other.whole) is.admitted other.admitted is.ends other.ends
 
 -- records that were written are what is read
 pub replayed : (most : ℕ) (text : List ℕ) (found written : List (List ℕ)) (end : End) (rest : List ℕ) → most < 2 ^ 64 → AreShort most written
     → text ≡ records_written 0 written → IsJournal most 0 text found end rest → (found ≡ written) × (end ≡ Whole)
 replayed most text found written end rest large short e is =
-    let all = read_alike most text found written end Whole rest [] large is (record { whole = e ∙ sym (append-nil (records_written 0 written)); admitted = short; ends = refl }) in
+    let all = read_alike most text found written end Whole rest [] large is (record {
+      whole = e ∙ sym (append-nil (records_written 0 written));
+      admitted = short;
+      ends = refl;
+    }) in
     (all.same_records, all.same_end)

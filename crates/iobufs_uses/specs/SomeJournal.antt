@@ -55,7 +55,8 @@ Front : ℕ → ℕ → List ℕ → Type 0
 Front most number bytes = HasRecord most number bytes ⊎ ((end : End) × HasNoRecord most number bytes end)
 
 -- so many bytes behind a length, where there are as many
-framed_front : (most number n : ℕ) (bytes : List ℕ) → 0 < length bytes → IsSpelledAt bytes n → n ≤ most → length (spell n) + n ≤ length bytes → Front most number bytes
+framed_front : (most number n : ℕ) (bytes : List ℕ) → 0 < length bytes → IsSpelledAt bytes n → n ≤ most → length (spell n) + n ≤ length bytes
+    → Front most number bytes
 unfolding Front
 framed_front most number n bytes some at least enough =
     let k = length (spell n) in
@@ -75,10 +76,12 @@ framed_front most number n bytes some at least enough =
         short = omega (arith, length-sealed number body, ap (λ (w : List ℕ). length w) seal, long, least);
         whole = is ∙ ap (λ w. bytes_written w ++ behind) seal;
       })
-      | inr other ↦ inr (Damaged, (some, inr (framed, behind, omega (arith, long, small), is, λ b e. other (sealed_is number framed (is_sealed number framed b e)))))
+      | inr other ↦ inr
+          (Damaged, (some, inr (framed, behind, omega (arith, long, small), is, λ b e. other (sealed_is number framed (is_sealed number framed b e)))))
     ]
 
-length_front : (most number n : ℕ) (bytes : List ℕ) (inside : Bool) → 0 < length bytes → IsSpelledAt bytes n → in_range (up_to most) n ≡ inside → Front most number bytes
+length_front : (most number n : ℕ) (bytes : List ℕ) (inside : Bool) → 0 < length bytes → IsSpelledAt bytes n → in_range (up_to most) n ≡ inside
+    → Front most number bytes
 unfolding Front
 length_front most number n bytes false some at e = inr (Damaged, (some, inl (inr (n, (at, e)))))
 length_front most number n bytes true some at e = elim (less (length bytes) (length (spell n) + n)) [
@@ -116,7 +119,8 @@ behind_first most number text first others =
       is = record {
         whole = whole;
         admitted = (first.short, others.is.admitted);
-        ends = subst (λ k. HasNoRecord most k others.rest others.end) (let z : suc number + length others.found ≡ number + suc (length others.found) = omega arith in z) others.is.ends;
+        ends = subst (λ k. HasNoRecord most k others.rest others.end)
+            (let z : suc number + length others.found ≡ number + suc (length others.found) = omega arith in z) others.is.ends;
       };
     }
 

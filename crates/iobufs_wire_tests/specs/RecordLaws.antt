@@ -23,7 +23,8 @@ fault bytes TooLong h = absurd h
 no_fault : (bytes : List ℕ) (error : Error) → 7 ≤ length bytes → IsRecordRead bytes (Err error) → ⊥
 no_fault bytes error long h = let short = (fault bytes error h).1 in absurd (omega arith)
 
-same_record : (bytes : List ℕ) (a b : Result Record Error) → IsRecordRead bytes a → IsRecordRead bytes b → IsReadAlike (λ x y. record_written x ≡ record_written y) a b
+same_record : (bytes : List ℕ) (a b : Result Record Error) → IsRecordRead bytes a → IsRecordRead bytes b
+    → IsReadAlike (λ x y. record_written x ≡ record_written y) a b
 same_record bytes (Ok x) (Ok y) p q = p.1 ∙ sym q.1
 same_record bytes (Ok x) (Err error) p q = absurd (no_fault bytes error p.0 q)
 same_record bytes (Err error) (Ok y) p q = absurd (no_fault bytes error q.0 p)

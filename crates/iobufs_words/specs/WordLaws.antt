@@ -91,7 +91,8 @@ unfolding encode_with
 digits_are [] h = refl
 digits_are (b ∷ bs) h =
     let low : b < 256 = h 0 in
-    rw (digit_is (b / 16) (omega (arith, low))) (rw (digit_is (b % 16) (omega arith)) (ap (λ ds. digit_glyph false (b / 16) ∷ digit_glyph false (b % 16) ∷ ds) (digits_are bs (λ i. h (suc i)))))
+    rw (digit_is (b / 16) (omega (arith, low)))
+    (rw (digit_is (b % 16) (omega arith)) (ap (λ ds. digit_glyph false (b / 16) ∷ digit_glyph false (b % 16) ∷ ds) (digits_are bs (λ i. h (suc i)))))
 
 spaceless_hex : (bytes : List ℕ) → spaceless (encode_lower bytes) ≡ true
 unfolding encode_with

@@ -29,7 +29,8 @@ add-views vs ws v is all view =
     (λ (h : length v.bytes ≤ 0). subst AreViews (sym (is ∙ rw (same_eq (length v.bytes) 0 (omega arith)) refl)) all)
     (cases_lt 0 (length v.bytes))
 
-pub add-text : (vs ws : List View) (v : View) → ws ≡ (if length v.bytes == 0 then vs else vs ++ v ∷ []) → AreFull vs → of_pieces ws ≡ text_append (of_pieces vs) v
+pub add-text : (vs ws : List View) (v : View) → ws ≡ (if length v.bytes == 0 then vs else vs ++ v ∷ []) → AreFull vs
+    → of_pieces ws ≡ text_append (of_pieces vs) v
 add-text vs ws v is full =
     ⊎_elim
     (λ (h : 0 < length v.bytes). let more : ws ≡ vs ++ v ∷ [] = is ∙ rw (not_zero (length v.bytes) h) refl in ap of_pieces more ∙ pushed vs full h)
@@ -61,7 +62,8 @@ add-length vs ws v is =
     let e : ws ≡ vs ++ v ∷ [] = is ∙ rw (not_zero (length v.bytes) h) refl in
     let n = length-append vs (v ∷ []) in
     let l = ap (λ (xs : List View). length xs) e in
-    let b = ap (λ (xs : List View). length (pieces_bytes xs)) e ∙ ap length (flat_map-append (λ (x : View). x.bytes) vs (v ∷ [])) ∙ length-append (pieces_bytes vs) (v.bytes ++ []) in
+    let b = ap (λ (xs : List View). length (pieces_bytes xs)) e ∙ ap length (flat_map-append (λ (x : View). x.bytes) vs (v ∷ []))
+    ∙ length-append (pieces_bytes vs) (v.bytes ++ []) in
     let z = ap length (append-nil v.bytes) in
     record { at_least = omega arith; at_most = omega arith; bytes = omega arith })
     (λ (h : length v.bytes ≤ 0).

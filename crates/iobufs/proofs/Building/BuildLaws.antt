@@ -54,7 +54,8 @@ front-append bytes (standing view ∷ ss) ts =
     let same : gaps_len ss ≡ 0 + gaps_len ss = omega arith in
     ap (λ items. push_item view ∷ items) (front-append bytes ss ts) ∙ ap (λ n. push_item view ∷ items_front bytes ss ++ items_front (drop n bytes) ts) same
 front-append bytes (gap n ∷ ss) ts =
-    ap (λ items. inline_run (take n bytes) ++ items) (front-append (drop n bytes) ss ts ∙ ap (λ rest. items_front (drop n bytes) ss ++ items_front rest ts) (drop-drop (gaps_len ss) n bytes))
+    ap (λ items. inline_run (take n bytes) ++ items) (front-append (drop n bytes) ss ts
+    ∙ ap (λ rest. items_front (drop n bytes) ss ++ items_front rest ts) (drop-drop (gaps_len ss) n bytes))
     ∙ sym (append_assoc (inline_run (take n bytes)) (items_front (drop n bytes) ss) _)
 
 front-pushed_slots : (bytes : List ℕ) (run : ℕ) (view : View) → items_front bytes (slots_pushed run view) ≡ inline_run (take run bytes) ++ push_item view ∷ []
@@ -65,7 +66,8 @@ pub new-building : (capacity : ℕ) → building_with (empty_part capacity) [] 0
 new-building capacity =
     let n : 0 + capacity ≡ capacity = omega arith in ap empty_building n
 
-pub put-building : (part : Part) (ss : List Slot) (placed : ℕ) (bytes : List ℕ) → gaps_len ss ≡ placed → placed ≤ length part.filled → length bytes ≤ part.spare → building_with (part_put part bytes) ss placed ≡ building_put (building_with part ss placed) bytes
+pub put-building : (part : Part) (ss : List Slot) (placed : ℕ) (bytes : List ℕ) → gaps_len ss ≡ placed → placed ≤ length part.filled
+    → length bytes ≤ part.spare → building_with (part_put part bytes) ss placed ≡ building_put (building_with part ss placed) bytes
 put-building part ss placed bytes counted within fits =
     let n = length-append part.filled bytes in
     let capacity : part_capacity (part_put part bytes) ≡ part_capacity part = omega arith in
@@ -75,7 +77,9 @@ put-building part ss placed bytes counted within fits =
     ∙ ap (λ f. record { capacity = part_capacity part; front = f; last = drop placed (part.filled ++ bytes) }) front
     ∙ ap (λ l. record { capacity = part_capacity part; front = items_front part.filled ss; last = l }) last
 
-pub push-building : (part : Part) (ss : List Slot) (placed run : ℕ) (view : View) → gaps_len ss ≡ placed → placed ≤ length part.filled → run ≡ length part.filled - placed → 0 < length view.bytes → building_with part (ss ++ slots_pushed run view) (placed + run) ≡ building_push (building_with part ss placed) view
+pub push-building : (part : Part) (ss : List Slot) (placed run : ℕ) (view : View) → gaps_len ss ≡ placed → placed ≤ length part.filled
+    → run ≡ length part.filled - placed → 0 < length view.bytes
+    → building_with part (ss ++ slots_pushed run view) (placed + run) ≡ building_push (building_with part ss placed) view
 push-building part ss placed run view counted within is some =
     let d = length-drop placed part.filled in
     let all = take_all run (drop placed part.filled) (omega arith) in
@@ -90,13 +94,15 @@ push-building part ss placed run view counted within is some =
     ∙ ap (λ l. record { capacity = part_capacity part; front = before ++ (inline_run (drop placed part.filled) ++ push_item view ∷ []); last = l }) last
     ∙ sym (push-some (building_with part ss placed) view some)
 
-pub room-building : (part : Part) (ss : List Slot) (placed : ℕ) → gaps_len ss ≡ placed → placed ≤ length part.filled → building_room (building_with part ss placed) ≡ part.spare
+pub room-building : (part : Part) (ss : List Slot) (placed : ℕ) → gaps_len ss ≡ placed → placed ≤ length part.filled
+    → building_room (building_with part ss placed) ≡ part.spare
 room-building part ss placed counted within =
     let d = length-drop placed part.filled in
     let n = front-inline part.filled ss (omega arith) in
     omega arith
 
-pub pushes-building : (part : Part) (ss : List Slot) (placed pushable : ℕ) → part_capacity part + stood_len ss + pushable + 1 ≡ 2 ^ 64 → room_for_pushes (building_with part ss placed) ≡ pushable
+pub pushes-building : (part : Part) (ss : List Slot) (placed pushable : ℕ) → part_capacity part + stood_len ss + pushable + 1 ≡ 2 ^ 64
+    → room_for_pushes (building_with part ss placed) ≡ pushable
 pushes-building part ss placed pushable limited =
     let n = front-pushed part.filled ss in
     omega arith
@@ -105,7 +111,8 @@ pub put-capacity : (part : Part) (bytes : List ℕ) → length bytes ≤ part.sp
 put-capacity part bytes fits = let n = length-append part.filled bytes in omega arith
 
 -- a put into the fields of a builder is a put into what they say
-pub put-kept : (part after : Part) (ss : List Slot) (placed : ℕ) (b : Building) (bytes : List ℕ) → gaps_len ss ≡ placed → placed ≤ length part.filled → building_with part ss placed ≡ b → length bytes ≤ building_room b → after ≡ part_put part bytes → building_with after ss placed ≡ building_put b bytes
+pub put-kept : (part after : Part) (ss : List Slot) (placed : ℕ) (b : Building) (bytes : List ℕ) → gaps_len ss ≡ placed → placed ≤ length part.filled
+    → building_with part ss placed ≡ b → length bytes ≤ building_room b → after ≡ part_put part bytes → building_with after ss placed ≡ building_put b bytes
 put-kept part after ss placed b bytes counted within is fits put =
     let room = room-building part ss placed counted within in
     let same = ap building_room is in
@@ -114,7 +121,9 @@ put-kept part after ss placed b bytes counted within is fits put =
     ∙ ap (λ (x : Building). building_put x bytes) is
 
 -- and so is a push
-pub push-kept : (part : Part) (ss after : List Slot) (placed end : ℕ) (b : Building) (run : ℕ) (view : View) → gaps_len ss ≡ placed → placed ≤ length part.filled → building_with part ss placed ≡ b → run ≡ length part.filled - placed → 0 < length view.bytes → after ≡ ss ++ slots_pushed run view → end ≡ placed + run → building_with part after end ≡ building_push b view
+pub push-kept : (part : Part) (ss after : List Slot) (placed end : ℕ) (b : Building) (run : ℕ) (view : View) → gaps_len ss ≡ placed
+    → placed ≤ length part.filled → building_with part ss placed ≡ b → run ≡ length part.filled - placed → 0 < length view.bytes
+    → after ≡ ss ++ slots_pushed run view → end ≡ placed + run → building_with part after end ≡ building_push b view
 push-kept part ss after placed end b run view counted within is run_is some pushed moved =
     ap (λ (all : List Slot). building_with part all end) pushed
     ∙ ap (λ n. building_with part (ss ++ slots_pushed run view) n) moved
@@ -122,11 +131,13 @@ push-kept part ss after placed end b run view counted within is run_is some push
     ∙ ap (λ (x : Building). building_push x view) is
 
 -- how many bytes pushes may still add
-pub pushes-kept : (part : Part) (ss : List Slot) (placed pushable : ℕ) (b : Building) → part_capacity part + stood_len ss + pushable + 1 ≡ 2 ^ 64 → building_with part ss placed ≡ b → room_for_pushes b ≡ pushable
+pub pushes-kept : (part : Part) (ss : List Slot) (placed pushable : ℕ) (b : Building) → part_capacity part + stood_len ss + pushable + 1 ≡ 2 ^ 64
+    → building_with part ss placed ≡ b → room_for_pushes b ≡ pushable
 pushes-kept part ss placed pushable b limited is = ap room_for_pushes (sym is) ∙ pushes-building part ss placed pushable limited
 
 -- what the fields keep is what a builder keeps
-in_turn-run : (bytes : List ℕ) (view : View) (items : List Item) → 0 < length view.bytes → AreInTurn items → AreInTurn (inline_run bytes ++ push_item view ∷ items)
+in_turn-run : (bytes : List ℕ) (view : View) (items : List Item) → 0 < length view.bytes → AreInTurn items
+    → AreInTurn (inline_run bytes ++ push_item view ∷ items)
 in_turn-run [] view items some rest = (some, rest)
 in_turn-run (byte ∷ bytes) view items some rest = (omega arith, some, rest)
 
@@ -135,9 +146,11 @@ in_turn-front bytes [] h = tt
 in_turn-front bytes (standing view ∷ ss) h = (h.0, in_turn-front bytes ss h.1)
 in_turn-front bytes (gap n ∷ []) h = absurd h
 in_turn-front bytes (gap n ∷ gap m ∷ ss) h = absurd h
-in_turn-front bytes (gap n ∷ standing view ∷ ss) (some, stands, others) = in_turn-run (take n bytes) view (items_front (drop n bytes) ss) stands (in_turn-front (drop n bytes) ss others)
+in_turn-front bytes (gap n ∷ standing view ∷ ss) (some, stands, others) =
+    in_turn-run (take n bytes) view (items_front (drop n bytes) ss) stands (in_turn-front (drop n bytes) ss others)
 
-pub IsBuilding-kept : (part : Part) (ss : List Slot) (placed pushable : ℕ) (b : Building) → gaps_len ss ≡ placed → placed ≤ length part.filled → AreSlots ss → part_capacity part + stood_len ss + pushable + 1 ≡ 2 ^ 64 → building_with part ss placed ≡ b → IsBuilding b
+pub IsBuilding-kept : (part : Part) (ss : List Slot) (placed pushable : ℕ) (b : Building) → gaps_len ss ≡ placed → placed ≤ length part.filled
+    → AreSlots ss → part_capacity part + stood_len ss + pushable + 1 ≡ 2 ^ 64 → building_with part ss placed ≡ b → IsBuilding b
 IsBuilding-kept part ss placed pushable b counted within slots limited is = subst IsBuilding is (
     record {
       in_turn = in_turn-front part.filled ss slots;
@@ -148,4 +161,19 @@ IsBuilding-kept part ss placed pushable b counted within slots limited is = subs
 pub bytes-len : (bytes : List ℕ) → length (view_of_bytes bytes).bytes ≡ length bytes
 bytes-len bytes = grind (arith, nat_tests, common_steps)
 
-pub ruleset building = (good_layout, large_layout, new-building, put-building, push-building, room-building, pushes-building, gaps-push, stood-push, slots-push, put-capacity, pushes-kept, bytes-len, length-replicate)
+pub ruleset building = (
+  good_layout,
+  large_layout,
+  new-building,
+  put-building,
+  push-building,
+  room-building,
+  pushes-building,
+  gaps-push,
+  stood-push,
+  slots-push,
+  put-capacity,
+  pushes-kept,
+  bytes-len,
+  length-replicate,
+)

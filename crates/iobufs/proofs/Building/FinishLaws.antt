@@ -37,12 +37,14 @@ inline-some room bytes some = grind (arith, nat_tests, common_steps)
 inline-none : (room : ℕ) (bytes : List ℕ) → length bytes ≡ 0 → inline_view room bytes ≡ default_view
 inline-none room bytes none = grind (arith, nat_tests, common_steps)
 
-views-run : (room : ℕ) (bytes : List ℕ) (items : List Item) → views_from room (inline_run bytes ++ items) ≡ run_views room bytes ++ views_from (room - length bytes) items
+views-run : (room : ℕ) (bytes : List ℕ) (items : List Item)
+    → views_from room (inline_run bytes ++ items) ≡ run_views room bytes ++ views_from (room - length bytes) items
 views-run room [] items = let n : room ≡ room - 0 = omega arith in ap (λ r. views_from r items) n
 views-run room (b ∷ bs) items = refl
 
 -- the front of inline bytes, and what is left of them
-split-some : (room : ℕ) (bytes : List ℕ) (n : ℕ) → 0 < n → n ≤ length bytes → view_split_front (inline_view room bytes) n ≡ record { bytes = take n bytes; mark = native_mark room }
+split-some : (room : ℕ) (bytes : List ℕ) (n : ℕ) → 0 < n → n ≤ length bytes
+    → view_split_front (inline_view room bytes) n ≡ record { bytes = take n bytes; mark = native_mark room }
 split-some room bytes n some fits =
     ap (λ (v : View). view_split_front v n) (inline-some room bytes (omega arith))
     ∙ ⊎_elim
@@ -50,7 +52,8 @@ split-some room bytes n some fits =
     (λ (h : length bytes ≤ n). let all = take_all n bytes h in let e : n ≡ length bytes = omega arith in rw all (grind (arith, nat_tests, common_steps)))
     (cases_lt n (length bytes))
 
-rest-inside : (room : ℕ) (bytes : List ℕ) (n : ℕ) → 0 < n → n < length bytes → view_rest (record { bytes = bytes; mark = native_mark room }) n ≡ record { bytes = drop n bytes; mark = native_mark (room - n) }
+rest-inside : (room : ℕ) (bytes : List ℕ) (n : ℕ) → 0 < n → n < length bytes
+    → view_rest (record { bytes = bytes; mark = native_mark room }) n ≡ record { bytes = drop n bytes; mark = native_mark (room - n) }
 rest-inside room bytes n some inside = grind (arith, nat_tests, common_steps)
 
 rest-whole : (room : ℕ) (bytes : List ℕ) (n : ℕ) → 0 < n → n ≡ length bytes → view_rest (record { bytes = bytes; mark = native_mark room }) n ≡ default_view
@@ -79,7 +82,8 @@ last-views room (b ∷ bs) =
     ∙ rw (not_zero (length (b ∷ bs)) (omega arith)) refl
 
 -- the gaps are filled by the inline texts
-filled-views : (room : ℕ) (bytes : List ℕ) (ss : List Slot) → AreSlots ss → gaps_len ss ≤ length bytes → filled (inline_view room bytes) ss ≡ views_from room (items_front bytes ss ++ inline_run (drop (gaps_len ss) bytes))
+filled-views : (room : ℕ) (bytes : List ℕ) (ss : List Slot) → AreSlots ss → gaps_len ss ≤ length bytes
+    → filled (inline_view room bytes) ss ≡ views_from room (items_front bytes ss ++ inline_run (drop (gaps_len ss) bytes))
 filled-views room bytes [] slots fits = last-views room bytes
 filled-views room bytes (standing view ∷ ss) slots fits =
     let same : gaps_len ss ≡ 0 + gaps_len ss = omega arith in
@@ -106,7 +110,8 @@ filled-views room bytes (gap n ∷ ss) slots fits =
     ∙ ap (λ (all : List Item). views_from room all) (sym (append_assoc (inline_run w) (items_front left ss) _))
 
 -- so they make what the builder says
-pub finished-views : (part : Part) (ss : List Slot) (placed : ℕ) → AreSlots ss → gaps_len ss ≡ placed → placed ≤ length part.filled → joined (filled (part_frozen part) ss) ≡ finished (building_with part ss placed)
+pub finished-views : (part : Part) (ss : List Slot) (placed : ℕ) → AreSlots ss → gaps_len ss ≡ placed → placed ≤ length part.filled
+    → joined (filled (part_frozen part) ss) ≡ finished (building_with part ss placed)
 finished-views part ss placed slots counted within =
     ap joined (filled-views (part_capacity part) part.filled ss slots (omega arith))
     ∙ ap (λ n. joined (views_from (part_capacity part) (items_front part.filled ss ++ inline_run (drop n part.filled)))) counted
@@ -140,7 +145,8 @@ items-len (put_item bytes ∷ items) = let n = length-append bytes (items_bytes 
 items-len (push_item view ∷ items) = let n = length-append view.bytes (items_bytes items) in let ih = items-len items in omega arith
 
 -- a builder for the inline bytes has room for all pushes
-pub pushes-fit : (b : Building) (items : List Item) → b ≡ empty_building (items_inline items) → length (items_bytes items) < 2 ^ 64 → room_for_pushes b < items_pushed items → ⊥
+pub pushes-fit : (b : Building) (items : List Item) → b ≡ empty_building (items_inline items) → length (items_bytes items) < 2 ^ 64
+    → room_for_pushes b < items_pushed items → ⊥
 pushes-fit b items empty fits long =
     let n = items-len items in
     let room = ap room_for_pushes empty in omega arith

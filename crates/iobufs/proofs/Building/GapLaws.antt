@@ -45,7 +45,8 @@ gaps-push ss (suc n) v = gaps-append ss (slots_pushed (suc n) v) ∙ ap (λ ts. 
 
 pub stood-push : (ss : List Slot) (n : ℕ) (v : View) → stood_len (ss ++ slots_pushed n v) ≡ stood_len ss + length v.bytes
 stood-push ss zero v = stood-append ss (slots_pushed 0 v) ∙ (omega arith)
-stood-push ss (suc n) v = stood-append ss (slots_pushed (suc n) v) ∙ ap (λ ts. stood_len ss + stood_len ts) (pushed-some (suc n) v (omega arith)) ∙ (omega arith)
+stood-push ss (suc n) v = stood-append ss (slots_pushed (suc n) v) ∙ ap (λ ts. stood_len ss + stood_len ts) (pushed-some (suc n) v (omega arith))
+    ∙ (omega arith)
 
 pub slots-push : (ss : List Slot) (n : ℕ) (v : View) → AreSlots ss → 0 < length v.bytes → AreSlots (ss ++ slots_pushed n v)
 slots-push ss zero v h some = slots-append ss (slots_pushed 0 v) h (some, tt)
@@ -61,7 +62,8 @@ pub record IsFilling (all : List View) (done waiting : List Piece) (rest : View)
   pub within : gaps_len (slots_in waiting) ≤ length rest.bytes
   pub fits : end + stood_len (slots_in waiting) + length rest.bytes < 2 ^ 64
 
-pub filling-none : (ps : List Piece) (rest : View) → AreSlots (slots_in ps) → gaps_len (slots_in ps) ≤ length rest.bytes → stood_len (slots_in ps) + length rest.bytes < 2 ^ 64 → IsFilling (filled rest (slots_in ps)) [] ps rest 0
+pub filling-none : (ps : List Piece) (rest : View) → AreSlots (slots_in ps) → gaps_len (slots_in ps) ≤ length rest.bytes
+    → stood_len (slots_in ps) + length rest.bytes < 2 ^ 64 → IsFilling (filled rest (slots_in ps)) [] ps rest 0
 filling-none ps rest slots within fits = record {
   row = record { based = omega arith; ended = tt; full = tt };
   roomy = tt;
@@ -73,8 +75,10 @@ filling-none ps rest slots within fits = record {
 }
 
 -- one piece more is done
-pub filling-next : (all : List View) (done next waiting : List Piece) (p q : Piece) (rest left : View) (end after : ℕ) → IsFilling all done (p ∷ waiting) rest end
-    → ((slots : List Slot) → filled rest (slot_of p ∷ slots) ≡ q.view ∷ filled left slots) → view_len q.view ≡ slot_len (slot_of p) → length left.bytes + gap_len (slot_of p) ≡ length rest.bytes
+pub filling-next : (all : List View) (done next waiting : List Piece) (p q : Piece) (rest left : View) (end after : ℕ)
+    → IsFilling all done (p ∷ waiting) rest end
+    → ((slots : List Slot) → filled rest (slot_of p ∷ slots) ≡ q.view ∷ filled left slots) → view_len q.view ≡ slot_len (slot_of p)
+    → length left.bytes + gap_len (slot_of p) ≡ length rest.bytes
     → after ≡ end + view_len q.view → q.end ≡ after → IsView q.view → next ≡ done ++ q ∷ [] → IsFilling all next waiting left after
 filling-next all done next waiting p q rest left end after h fill len less moved ends view is =
     let first = slots-first (slot_of p) (slots_in waiting) h.slots in
@@ -82,22 +86,28 @@ filling-next all done next waiting p q rest left end after h fill len less moved
     let within = h.within in
     let fits = h.fits in
     let views : views_in next ≡ views_in done ++ q.view ∷ [] = ap (λ (ps : List Piece). views_in ps) is ∙ views-push done q in
-    let bytes = ap (λ (vs : List View). length (pieces_bytes vs)) views ∙ ap length (flat_map-append (λ (v : View). v.bytes) (views_in done) (q.view ∷ [])) ∙ length-append (pieces_bytes (views_in done)) (q.view.bytes ++ []) in
+    let bytes = ap (λ (vs : List View). length (pieces_bytes vs)) views
+    ∙ ap length (flat_map-append (λ (v : View). v.bytes) (views_in done) (q.view ∷ []))
+    ∙ length-append (pieces_bytes (views_in done)) (q.view.bytes ++ []) in
     let last = ap length (append-nil q.view.bytes) in
     record {
       row = row-push 0 q.end done next q.view h.row (omega (arith, first.0)) (omega arith) (omega arith) is;
       roomy = subst AreViews (sym views) (AreViews-append (views_in done) (q.view ∷ []) h.roomy (view, tt));
       ends = omega arith;
-      so_far = ap (λ vs. vs ++ filled left (slots_in waiting)) views ∙ append_assoc (views_in done) (q.view ∷ []) (filled left (slots_in waiting)) ∙ ap (λ vs. views_in done ++ vs) (sym (fill (slots_in waiting))) ∙ h.so_far;
+      so_far = ap (λ vs. vs ++ filled left (slots_in waiting)) views ∙ append_assoc (views_in done) (q.view ∷ []) (filled left (slots_in waiting))
+          ∙ ap (λ vs. views_in done ++ vs) (sym (fill (slots_in waiting))) ∙ h.so_far;
       slots = first.1;
       within = omega arith;
       fits = omega arith;
     }
 
 -- the same in a deque, at the place of a loop that goes up
-pub filling-set : (all : List View) (ps : List Piece) (i : ℕ) (p q : Piece) (rest left : View) (end after : ℕ) → i < length ps → p ≡ slice_index_or ps i p → IsFilling all (take i ps) (drop i ps) rest end
-    → ((slots : List Slot) → filled rest (slot_of p ∷ slots) ≡ q.view ∷ filled left slots) → view_len q.view ≡ slot_len (slot_of p) → length left.bytes + gap_len (slot_of p) ≡ length rest.bytes
-    → after ≡ end + view_len q.view → q.end ≡ after → IsView q.view → IsFilling all (take (i + 1) (slice_set ps i q)) (drop (i + 1) (slice_set ps i q)) left after
+pub filling-set : (all : List View) (ps : List Piece) (i : ℕ) (p q : Piece) (rest left : View) (end after : ℕ) → i < length ps
+    → p ≡ slice_index_or ps i p → IsFilling all (take i ps) (drop i ps) rest end
+    → ((slots : List Slot) → filled rest (slot_of p ∷ slots) ≡ q.view ∷ filled left slots) → view_len q.view ≡ slot_len (slot_of p)
+    → length left.bytes + gap_len (slot_of p) ≡ length rest.bytes
+    → after ≡ end + view_len q.view → q.end ≡ after → IsView q.view
+    → IsFilling all (take (i + 1) (slice_set ps i q)) (drop (i + 1) (slice_set ps i q)) left after
 filling-set all ps i p q rest left end after inside at h fill len less moved ends view =
     let next : suc i ≡ i + 1 = omega arith in
     let behind : drop i ps ≡ p ∷ drop (i + 1) ps = drop-cons ps i p inside ∙ (λ k. sym at k ∷ drop (next k) ps) in
@@ -108,7 +118,8 @@ filling-set all ps i p q rest left end after inside at h fill len less moved end
     fill len less moved ends view (take_more_set ps i q inside))
 
 -- what a piece asks of what is left
-pub filling-first : (all : List View) (ps : List Piece) (i : ℕ) (p : Piece) (rest : View) (end : ℕ) → i < length ps → p ≡ slice_index_or ps i p → IsFilling all (take i ps) (drop i ps) rest end → (gap_len (slot_of p) ≤ length rest.bytes) × (end + slot_len (slot_of p) < 2 ^ 64)
+pub filling-first : (all : List View) (ps : List Piece) (i : ℕ) (p : Piece) (rest : View) (end : ℕ) → i < length ps → p ≡ slice_index_or ps i p
+    → IsFilling all (take i ps) (drop i ps) rest end → (gap_len (slot_of p) ≤ length rest.bytes) × (end + slot_len (slot_of p) < 2 ^ 64)
 filling-first all ps i p rest end inside at h =
     let next : suc i ≡ i + 1 = omega arith in
     let behind : drop i ps ≡ p ∷ drop (i + 1) ps = drop-cons ps i p inside ∙ (λ k. sym at k ∷ drop (next k) ps) in

@@ -13,7 +13,8 @@ use Rattle.iobufs.specs.Parts.{HaveCapacity, kept_parts, parts_capacity, parts_d
 pub with_capacity-all : (parts : List Part) → HaveCapacity parts → with_capacity parts ≡ parts
 with_capacity-all [] able = refl
 with_capacity-all (p ∷ parts) able =
-    cond-true (nat_lt 0 (part_capacity p)) (p ∷ with_capacity parts) (with_capacity parts) (lt-ltb 0 (part_capacity p) able.0) ∙ ap (λ ps. p ∷ ps) (with_capacity-all parts able.1)
+    cond-true (nat_lt 0 (part_capacity p)) (p ∷ with_capacity parts) (with_capacity parts) (lt-ltb 0 (part_capacity p) able.0)
+    ∙ ap (λ ps. p ∷ ps) (with_capacity-all parts able.1)
 
 -- no bytes change nothing
 pub shared_out-none : (parts : List Part) → parts_shared_out parts 0 ≡ parts
@@ -34,7 +35,8 @@ drained-several [] n several able = absurd (omega arith)
 drained-several (p ∷ []) n several able = absurd (omega arith)
 drained-several (p ∷ q ∷ parts) n several able =
     cond_both (nat_eq n 0) (p ∷ q ∷ parts) (kept_parts (parts_shared_out (p ∷ q ∷ parts) n)) (λ ps. ps ≡ kept_parts (parts_shared_out (p ∷ q ∷ parts) n))
-    (λ e. sym (ap (λ k. kept_parts (parts_shared_out (p ∷ q ∷ parts) k)) (eqb-true n 0 e) ∙ ap kept_parts (shared_out-none (p ∷ q ∷ parts)) ∙ ap parts_or_default (with_capacity-all (p ∷ q ∷ parts) able)))
+    (λ e. sym (ap (λ k. kept_parts (parts_shared_out (p ∷ q ∷ parts) k)) (eqb-true n 0 e) ∙ ap kept_parts (shared_out-none (p ∷ q ∷ parts))
+    ∙ ap parts_or_default (with_capacity-all (p ∷ q ∷ parts) able)))
     (λ _. refl)
 
 -- less than the first part holds goes from it alone
@@ -76,7 +78,8 @@ with_capacity-push parts p more =
 pub with_capacity-spent : (ahead parts : List Part) (p : Part) → part_capacity p ≡ 0 → with_capacity (ahead ++ p ∷ parts) ≡ with_capacity (ahead ++ parts)
 with_capacity-spent ahead parts p none =
     filter-append (λ q. nat_lt 0 (part_capacity q)) ahead (p ∷ parts)
-    ∙ ap (λ ps. with_capacity ahead ++ ps) (cond-false (nat_lt 0 (part_capacity p)) (p ∷ with_capacity parts) (with_capacity parts) (le-ltb 0 (part_capacity p) (omega arith)))
+    ∙ ap (λ ps. with_capacity ahead ++ ps)
+    (cond-false (nat_lt 0 (part_capacity p)) (p ∷ with_capacity parts) (with_capacity parts) (le-ltb 0 (part_capacity p) (omega arith)))
     ∙ sym (filter-append (λ q. nat_lt 0 (part_capacity q)) ahead parts)
 
 -- parts that hold no bytes lose none
@@ -85,7 +88,8 @@ drained-empty p n none =
     let nil = nil_from_length p.filled none in
     same_part (part_drained p n) p (ap (drop n) nil ∙ drop-nil n ∙ sym nil) refl
 
-pub shared_out-behind : (empty parts : List Part) (n : ℕ) → length (parts_filled empty) ≡ 0 → parts_shared_out (empty ++ parts) n ≡ empty ++ parts_shared_out parts n
+pub shared_out-behind : (empty parts : List Part) (n : ℕ) → length (parts_filled empty) ≡ 0
+    → parts_shared_out (empty ++ parts) n ≡ empty ++ parts_shared_out parts n
 shared_out-behind [] parts n none = refl
 shared_out-behind (p ∷ empty) parts n none =
     let both = length-append p.filled (parts_filled empty) in

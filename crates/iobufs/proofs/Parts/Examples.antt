@@ -37,7 +37,8 @@ two_drained_past = refl
 four_not_drained : parts_drained (empty_part 4 ∷ ab 1 ∷ of (99 ∷ []) 0 ∷ of (100 ∷ []) 0 ∷ []) 0 ≡ empty_part 4 ∷ ab 1 ∷ of (99 ∷ []) 0 ∷ of (100 ∷ []) 0 ∷ []
 four_not_drained = refl
 
-four_drained_two : parts_drained (empty_part 4 ∷ ab 1 ∷ of (99 ∷ []) 0 ∷ of (100 ∷ []) 0 ∷ []) 2 ≡ empty_part 4 ∷ empty_part 1 ∷ of (99 ∷ []) 0 ∷ of (100 ∷ []) 0 ∷ []
+four_drained_two : parts_drained (empty_part 4 ∷ ab 1 ∷ of (99 ∷ []) 0 ∷ of (100 ∷ []) 0 ∷ []) 2 ≡ empty_part 4 ∷ empty_part 1 ∷ of (99 ∷ []) 0
+    ∷ of (100 ∷ []) 0 ∷ []
 four_drained_two = refl
 
 four_drained_three : parts_drained (empty_part 4 ∷ empty_part 1 ∷ of (99 ∷ []) 0 ∷ of (100 ∷ []) 0 ∷ []) 1 ≡ empty_part 4 ∷ empty_part 1 ∷ of (100 ∷ []) 0 ∷ []
@@ -64,7 +65,11 @@ four_then_filled : parts_fill (parts_drained (ab 2 ∷ ab 2 ∷ ab 2 ∷ ab 2 �
 four_then_filled = refl
 
 four_frozen : parts_frozen (of (120 ∷ 121 ∷ []) 0 ∷ ab 2 ∷ ab 2 ∷ ab 2 ∷ [])
-    ≡ record { bytes = 120 ∷ 121 ∷ 97 ∷ 98 ∷ 97 ∷ 98 ∷ 97 ∷ 98 ∷ []; mark = native_mark 2; cuts = (2, native_mark 4) ∷ (4, native_mark 4) ∷ (6, native_mark 4) ∷ [] }
+    ≡ record {
+      bytes = 120 ∷ 121 ∷ 97 ∷ 98 ∷ 97 ∷ 98 ∷ 97 ∷ 98 ∷ [];
+      mark = native_mark 2;
+      cuts = (2, native_mark 4) ∷ (4, native_mark 4) ∷ (6, native_mark 4) ∷ [];
+    }
 unfolding text_glue
 four_frozen = refl
 
@@ -79,7 +84,8 @@ kept_of_three = refl
 kept_of_none : kept_parts (empty_part 0 ∷ empty_part 0 ∷ []) ≡ empty_part 0 ∷ []
 kept_of_none = refl
 
-five_overwritten : parts_overwritten (ab 1 ∷ empty_part 3 ∷ of (99 ∷ []) 0 ∷ of (100 ∷ []) 2 ∷ empty_part 1 ∷ []) (1 ∷ 2 ∷ 3 ∷ 4 ∷ []) ≡ of (1 ∷ 2 ∷ []) 1 ∷ empty_part 3 ∷ of (3 ∷ []) 0 ∷ of (4 ∷ []) 2 ∷ empty_part 1 ∷ []
+five_overwritten : parts_overwritten (ab 1 ∷ empty_part 3 ∷ of (99 ∷ []) 0 ∷ of (100 ∷ []) 2 ∷ empty_part 1 ∷ []) (1 ∷ 2 ∷ 3 ∷ 4 ∷ [])
+    ≡ of (1 ∷ 2 ∷ []) 1 ∷ empty_part 3 ∷ of (3 ∷ []) 0 ∷ of (4 ∷ []) 2 ∷ empty_part 1 ∷ []
 five_overwritten = refl
 
 two_coalesced : parts_coalesced (ab 1 ∷ of (99 ∷ []) 2 ∷ []) ≡ of (97 ∷ 98 ∷ 99 ∷ []) 0

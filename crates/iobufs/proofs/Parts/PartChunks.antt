@@ -62,7 +62,8 @@ byte_behind (byte ∷ bytes) rest (suc at) h =
     let same : at - length bytes ≡ suc at - length (byte ∷ bytes) = omega arith in byte_behind bytes rest at (omega arith) ∙ ap (slice_get rest) same
 
 -- one part's share of the first k bytes
-pub share-turn : (all before bytes rest : List ℕ) (k n : ℕ) → n ≡ min k (length bytes) → all ≡ before ++ take k (bytes ++ rest) → all ≡ (before ++ take n bytes) ++ take (k - n) rest
+pub share-turn : (all before bytes rest : List ℕ) (k n : ℕ) → n ≡ min k (length bytes) → all ≡ before ++ take k (bytes ++ rest)
+    → all ≡ (before ++ take n bytes) ++ take (k - n) rest
 share-turn all before bytes rest k n e h =
     let both = take_both k bytes rest in
     let less : k - length bytes ≡ k - n = omega arith in
@@ -74,14 +75,16 @@ share-turn all before bytes rest k n e h =
     h ∙ ap (λ w. before ++ w) (both ∙ (λ i. share i ++ take (less i) rest)) ∙ sym (append_assoc before (take n bytes) (take (k - n) rest))
 
 -- the same where they are written into a destination of length len
-pub read-turn : (all dst new bytes rest : List ℕ) (len at n : ℕ) → at ≤ len → n ≡ min (length bytes) (len - at) → take (at + n) new ≡ take at dst ++ take n bytes
+pub read-turn : (all dst new bytes rest : List ℕ) (len at n : ℕ) → at ≤ len → n ≡ min (length bytes) (len - at)
+    → take (at + n) new ≡ take at dst ++ take n bytes
     → take len all ≡ take at dst ++ take (len - at) (bytes ++ rest) → take len all ≡ take (at + n) new ++ take (len - (at + n)) rest
 read-turn all dst new bytes rest len at n within e written h =
     let left : len - at - n ≡ len - (at + n) = omega arith in
     share-turn (take len all) (take at dst) bytes rest (len - at) n (omega arith) h ∙ (λ i. sym written i ++ take (left i) rest)
 
 -- at the end the destination is full
-pub read-done : (all dst : List ℕ) (at : ℕ) → at ≤ length dst → length dst ≤ length all → take (length dst) all ≡ take at dst ++ take (length dst - at) [] → dst ≡ take (length dst) all
+pub read-done : (all dst : List ℕ) (at : ℕ) → at ≤ length dst → length dst ≤ length all
+    → take (length dst) all ≡ take at dst ++ take (length dst - at) [] → dst ≡ take (length dst) all
 read-done all dst at within fits h =
     let none = take-nil {A = ℕ} (length dst - at) in
     let full = h ∙ ap (λ w. take at dst ++ w) none ∙ append-nil (take at dst) in

@@ -16,7 +16,13 @@ filled-sum (p ∷ parts) = sum_by-cons _ p parts ∙ ap (λ n. length p.filled +
 pub capacity-parts : (parts : List Part) → parts_capacity parts ≡ length (parts_filled parts) + parts_spare parts
 capacity-parts [] = refl
 capacity-parts (p ∷ parts) =
-    omega (arith, capacity-parts parts, length-append p.filled (parts_filled parts), sum_by-cons part_capacity p parts, sum_by-cons (λ (x : Part). x.spare) p parts)
+    omega (
+      arith,
+      capacity-parts parts,
+      length-append p.filled (parts_filled parts),
+      sum_by-cons part_capacity p parts,
+      sum_by-cons (λ (x : Part). x.spare) p parts,
+    )
 
 pub ruleset sums = (filled-sum, capacity-parts)
 

@@ -24,7 +24,8 @@ able-push (q ∷ parts) p able more = (able.0, able-push parts p able.1 more)
 pub kept-first : (first p : Part) → part_capacity first ≡ 0 → 0 < part_capacity p → p ∷ [] ≡ kept_parts (first ∷ p ∷ [])
 kept-first first p none more =
     kept-all (p ∷ []) (more, tt) (omega arith)
-    ∙ ap parts_or_default (sym (cond-false (nat_lt 0 (part_capacity first)) (first ∷ with_capacity (p ∷ [])) (with_capacity (p ∷ [])) (le-ltb 0 (part_capacity first) (omega arith))))
+    ∙ ap parts_or_default
+    (sym (cond-false (nat_lt 0 (part_capacity first)) (first ∷ with_capacity (p ∷ [])) (with_capacity (p ∷ [])) (le-ltb 0 (part_capacity first) (omega arith))))
 
 -- two parts, and one more than several
 pub kept-two : (p q : Part) → 0 < part_capacity p → 0 < part_capacity q → p ∷ q ∷ [] ≡ kept_parts (p ∷ q ∷ [])
@@ -40,7 +41,8 @@ several-two p q first second fits = record {
 pub kept-push : (parts : List Part) (p : Part) → AreSeveral parts → 0 < part_capacity p → parts ++ p ∷ [] ≡ kept_parts (parts ++ p ∷ [])
 kept-push parts p several more = kept-all (parts ++ p ∷ []) (able-push parts p several.have_capacity more) (omega (arith, length-append parts (p ∷ [])))
 
-pub several-push : (parts : List Part) (p : Part) → AreSeveral parts → 0 < part_capacity p → parts_capacity parts + part_capacity p < 2 ^ 64 → AreSeveral (parts ++ p ∷ [])
+pub several-push : (parts : List Part) (p : Part) → AreSeveral parts → 0 < part_capacity p → parts_capacity parts + part_capacity p < 2 ^ 64
+    → AreSeveral (parts ++ p ∷ [])
 several-push parts p several more fits = record {
   several = omega (arith, length-append parts (p ∷ []), several.several);
   have_capacity = able-push parts p several.have_capacity more;
@@ -68,7 +70,8 @@ kept-more parts p more = ap parts_or_default (beside (with_capacity parts) (able
     beside (q ∷ parts) able = with_capacity-push (q ∷ parts) p more ∙ ap (λ ps. ps ++ p ∷ []) (with_capacity-all (q ∷ parts) able)
 
 -- the part that takes the capacity past the largest number, and one for which there was no memory
-pub refused-long : (front : List Part) (last : Part) → parts_capacity front < 2 ^ 64 → part_capacity last < 2 ^ 64 → 2 ^ 64 ≤ parts_capacity front + part_capacity last → IsRowRefusedAt (front ++ last ∷ []) TooLong
+pub refused-long : (front : List Part) (last : Part) → parts_capacity front < 2 ^ 64 → part_capacity last < 2 ^ 64
+    → 2 ^ 64 ≤ parts_capacity front + part_capacity last → IsRowRefusedAt (front ++ last ∷ []) TooLong
 refused-long front last fits last_fits long =
     let sum = sum_by_push part_capacity front last in
     record {
@@ -78,10 +81,12 @@ refused-long front last fits last_fits long =
       some = omega arith;
       fits = fits;
       more = omega arith;
-      told = sym (cond-false (nat_lt (parts_capacity (front ++ last ∷ [])) (2 ^ 64)) Memory TooLong (le-ltb (parts_capacity (front ++ last ∷ [])) (2 ^ 64) (omega arith)));
+      told = sym (cond-false (nat_lt (parts_capacity (front ++ last ∷ [])) (2 ^ 64)) Memory TooLong
+          (le-ltb (parts_capacity (front ++ last ∷ [])) (2 ^ 64) (omega arith)));
     }
 
-pub refused-short : (front : List Part) (last : Part) → 0 < parts_capacity front → 0 < part_capacity last → parts_capacity front + part_capacity last < 2 ^ 64 → IsRowRefusedAt (front ++ last ∷ []) Memory
+pub refused-short : (front : List Part) (last : Part) → 0 < parts_capacity front → 0 < part_capacity last
+    → parts_capacity front + part_capacity last < 2 ^ 64 → IsRowRefusedAt (front ++ last ∷ []) Memory
 refused-short front last some more short =
     let sum = sum_by_push part_capacity front last in
     record {
@@ -91,7 +96,8 @@ refused-short front last some more short =
       some = some;
       fits = omega arith;
       more = more;
-      told = sym (cond-true (nat_lt (parts_capacity (front ++ last ∷ [])) (2 ^ 64)) Memory TooLong (lt-ltb (parts_capacity (front ++ last ∷ [])) (2 ^ 64) (omega arith)));
+      told = sym (cond-true (nat_lt (parts_capacity (front ++ last ∷ [])) (2 ^ 64)) Memory TooLong
+          (lt-ltb (parts_capacity (front ++ last ∷ [])) (2 ^ 64) (omega arith)));
     }
 
 pub ruleset growing = (kept-first, kept-two, several-two, kept-push, several-push, several-some)

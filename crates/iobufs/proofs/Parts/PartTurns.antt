@@ -8,7 +8,8 @@ use Rattle.iobufs.specs.Laws.Filling.{fill-nil, same_part}
 use Rattle.iobufs.specs.Parts.{parts_fill}
 
 -- f works on one part after the other, and carries s along; the part at i was x and is y
-pub turn : {S : Type 0} (f : List Part → S → List Part) (g : Part → S → Part) (h : Part → S → S) → ((p : Part) (ps : List Part) (s : S) → f (p ∷ ps) s ≡ g p s ∷ f ps (h p s))
+pub turn : {S : Type 0} (f : List Part → S → List Part) (g : Part → S → Part) (h : Part → S → S)
+    → ((p : Part) (ps : List Part) (s : S) → f (p ∷ ps) s ≡ g p s ∷ f ps (h p s))
     → (all now : List Part) (i : ℕ) (x y : Part) (s s' : S) → i < length now → x ≡ get_or now i x → y ≡ g x s → s' ≡ h x s
     → all ≡ take i now ++ f (drop i now) s → all ≡ take (i + 1) (set now i y) ++ f (drop (i + 1) (set now i y)) s'
 turn f g h step all now i x y s s' l e q r so_far =
@@ -37,7 +38,8 @@ share_dropped w n s e =
     (cases_lt (length w) s)
 
 -- the part takes n bytes, u, and w' is left of them
-pub fill-turn : (all now : List Part) (i : ℕ) (x y : Part) (w w' u : List ℕ) (n : ℕ) → i < length now → x ≡ get_or now i x → y ≡ part_put x u → u ≡ take n w → w' ≡ drop n w → n ≡ min (length w) x.spare
+pub fill-turn : (all now : List Part) (i : ℕ) (x y : Part) (w w' u : List ℕ) (n : ℕ) → i < length now → x ≡ get_or now i x → y ≡ part_put x u
+    → u ≡ take n w → w' ≡ drop n w → n ≡ min (length w) x.spare
     → all ≡ take i now ++ parts_fill (drop i now) w → all ≡ take (i + 1) (set now i y) ++ parts_fill (drop (i + 1) (set now i y)) w'
 fill-turn all now i x y w w' u n l e q a b m so_far =
     turn parts_fill (λ p bytes. part_put p (take p.spare bytes)) (λ p bytes. drop p.spare bytes) (λ p ps bytes. refl) all now i x y w w' l e

@@ -15,7 +15,8 @@ use Rattle.iobufs.proofs.Parts.PartRuns.{capacity-kept}
 pub spare-summed : (parts : List Part) (len capacity : ℕ) → AreSummed parts len capacity → len + parts_spare parts ≡ capacity
 spare-summed parts len capacity sums = omega (arith, capacity-parts parts, sums.len_is, sums.capacity_is)
 
-pub summed-fill : (parts new : List Part) (w : List ℕ) (len capacity : ℕ) → AreSummed parts len capacity → length w ≤ parts_spare parts → new ≡ parts_fill parts w → AreSummed new (len + length w) capacity
+pub summed-fill : (parts new : List Part) (w : List ℕ) (len capacity : ℕ) → AreSummed parts len capacity → length w ≤ parts_spare parts
+    → new ≡ parts_fill parts w → AreSummed new (len + length w) capacity
 summed-fill parts new w len capacity sums fits is =
     let same = same-capacity parts (parts_fill parts w) (same-fill parts w) in
     let room = spare-fill parts w fits in
@@ -38,7 +39,8 @@ len-parts (p ∷ parts) n fits =
     let here = len-part p m in
     omega (arith, length-append (part_with_len p m).filled (parts_filled (parts_with_len parts (n - part_capacity p))))
 
-pub summed-with_len : (parts new : List Part) (n len capacity : ℕ) → AreSummed parts len capacity → n ≤ parts_capacity parts → new ≡ parts_with_len parts n → AreSummed new n capacity
+pub summed-with_len : (parts new : List Part) (n len capacity : ℕ) → AreSummed parts len capacity → n ≤ parts_capacity parts
+    → new ≡ parts_with_len parts n → AreSummed new n capacity
 summed-with_len parts new n len capacity sums fits is =
     rw is (record {
       len_is = sym (len-parts parts n fits);
@@ -53,9 +55,15 @@ len-overwritten (p ∷ parts) w =
     let a = length-append u (drop (length u) p.filled) in
     let d = length-drop (length u) p.filled in
     let t = length-take (length p.filled) (u ++ drop (length u) p.filled) in
-    omega (arith, len-overwritten parts rest, length-append (part_overwritten p u).filled (parts_filled (parts_overwritten parts rest)), length-append p.filled (parts_filled parts))
+    omega (
+      arith,
+      len-overwritten parts rest,
+      length-append (part_overwritten p u).filled (parts_filled (parts_overwritten parts rest)),
+      length-append p.filled (parts_filled parts),
+    )
 
-pub summed-overwritten : (parts new : List Part) (w : List ℕ) (len capacity : ℕ) → AreSummed parts len capacity → new ≡ parts_overwritten parts w → AreSummed new len capacity
+pub summed-overwritten : (parts new : List Part) (w : List ℕ) (len capacity : ℕ) → AreSummed parts len capacity → new ≡ parts_overwritten parts w
+    → AreSummed new len capacity
 summed-overwritten parts new w len capacity sums is =
     rw is (record {
       len_is = sums.len_is ∙ sym (len-overwritten parts w);
@@ -67,7 +75,14 @@ capacity-shared : (parts : List Part) (n : ℕ) → parts_capacity (parts_shared
 capacity-shared [] n = omega arith
 capacity-shared (p ∷ parts) n =
     let rest = n - length p.filled in
-    omega (arith, capacity-shared parts rest, length-drop n p.filled, length-append p.filled (parts_filled parts), sum_by-cons part_capacity p parts, sum_by-cons part_capacity (part_drained p n) (parts_shared_out parts rest))
+    omega (
+      arith,
+      capacity-shared parts rest,
+      length-drop n p.filled,
+      length-append p.filled (parts_filled parts),
+      sum_by-cons part_capacity p parts,
+      sum_by-cons part_capacity (part_drained p n) (parts_shared_out parts rest),
+    )
 
 capacity-drained : (parts : List Part) (n : ℕ) → parts_capacity (parts_drained parts n) + min n (length (parts_filled parts)) ≡ parts_capacity parts
 capacity-drained [] n = omega arith
@@ -78,7 +93,8 @@ capacity-drained (p ∷ q ∷ parts) n =
     (λ e. omega (arith, eqb-true n 0 e))
     (λ _. omega (arith, capacity-kept (parts_shared_out all n), capacity-shared all n))
 
-pub summed-drained : (parts new : List Part) (n len capacity : ℕ) → AreSummed parts len capacity → n ≤ length (parts_filled parts) → new ≡ parts_drained parts n → AreSummed new (len - n) (capacity - n)
+pub summed-drained : (parts new : List Part) (n len capacity : ℕ) → AreSummed parts len capacity → n ≤ length (parts_filled parts)
+    → new ≡ parts_drained parts n → AreSummed new (len - n) (capacity - n)
 summed-drained parts new n len capacity sums some is =
     rw is (record {
       len_is = omega (arith, sums.len_is, ap (λ (w : List ℕ). length w) (filled-drained parts n), length-drop n (parts_filled parts));

@@ -21,9 +21,11 @@ cut_up-of_pieces v (w ∷ vs) =
     let y = of_pieces (w ∷ vs) in
     let ih = cut_up-of_pieces w vs in
     let a : take (view_len v) (v.bytes ++ y.bytes) ≡ v.bytes = take-append_seam v.bytes y.bytes in
-    let b : drop (view_len v) (v.bytes ++ y.bytes) ≡ y.bytes = drop_past (view_len v) v.bytes y.bytes (omega arith) ∙ ap (λ n. drop n y.bytes) (let z : view_len v - view_len v ≡ 0 = omega arith in z) in
+    let b : drop (view_len v) (v.bytes ++ y.bytes) ≡ y.bytes = drop_past (view_len v) v.bytes y.bytes (omega arith)
+    ∙ ap (λ n. drop n y.bytes) (let z : view_len v - view_len v ≡ 0 = omega arith in z) in
     let n : view_len v + 0 ≡ view_len v = omega arith in
-    let c : cut_up y.bytes (view_len v) (map (moved_up (view_len v)) y.cuts) ≡ cut_up y.bytes 0 y.cuts = ap (λ k. cut_up y.bytes k (map (moved_up (view_len v)) y.cuts)) (sym n) ∙ moved_off (view_len v) 0 0 y.bytes y.cuts in
+    let c : cut_up y.bytes (view_len v) (map (moved_up (view_len v)) y.cuts) ≡ cut_up y.bytes 0 y.cuts =
+    ap (λ k. cut_up y.bytes k (map (moved_up (view_len v)) y.cuts)) (sym n) ∙ moved_off (view_len v) 0 0 y.bytes y.cuts in
     rw (no_sub (view_len v), a, b, c, ih)
 
 full_chunks-full : (vs : List View) → AreFull vs → full_chunks (map (λ (v : View). v.bytes) vs) ≡ map (λ (v : View). v.bytes) vs

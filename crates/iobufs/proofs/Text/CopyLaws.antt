@@ -12,7 +12,8 @@ use Rattle.std.proofs.Common.{Result, Err, Ok, IsErrAnd, IsOkUnless}
 use Rattle.iobufs.specs.Laws.Filling.{take_past}
 
 -- the bytes from inside a piece on
-pub bytes-from : (ps : List View) (i o : ℕ) → i < length ps → o ≤ view_len (piece_at ps i) → drop o (pieces_bytes (drop i ps)) ≡ drop o (piece_at ps i).bytes ++ pieces_bytes (drop (i + 1) ps)
+pub bytes-from : (ps : List View) (i o : ℕ) → i < length ps → o ≤ view_len (piece_at ps i)
+    → drop o (pieces_bytes (drop i ps)) ≡ drop o (piece_at ps i).bytes ++ pieces_bytes (drop (i + 1) ps)
 bytes-from ps i o l h =
     let d : drop i ps ≡ piece_at ps i ∷ drop (i + 1) ps = drop-cons ps i default_view l ∙ ap (λ k. piece_at ps i ∷ drop k ps) (sym (add-one i)) in
     ap (λ (qs : List View). drop o (pieces_bytes qs)) d ∙ drop-append-le o (piece_at ps i).bytes (pieces_bytes (drop (i + 1) ps)) h
@@ -30,7 +31,8 @@ take-both m b rest =
     (cases_lt m (length b))
 
 -- one turn of a copy: some bytes of a piece from a place in it on, then the next piece from its first byte on
-pub copied-turn : (ps : List View) (i o m : ℕ) (bytes : List ℕ) → i < length ps → o ≤ view_len (piece_at ps i) → bytes ≡ drop o (piece_at ps i).bytes → take m (drop o (pieces_bytes (drop i ps))) ≡ take (min (length bytes) m) bytes ++ take (m - min (length bytes) m) (pieces_bytes (drop (i + 1) ps))
+pub copied-turn : (ps : List View) (i o m : ℕ) (bytes : List ℕ) → i < length ps → o ≤ view_len (piece_at ps i) → bytes ≡ drop o (piece_at ps i).bytes
+    → take m (drop o (pieces_bytes (drop i ps))) ≡ take (min (length bytes) m) bytes ++ take (m - min (length bytes) m) (pieces_bytes (drop (i + 1) ps))
 copied-turn ps i o m bytes l h e =
     rw e (ap (take m) (bytes-from ps i o l h) ∙ take-both m (drop o (piece_at ps i).bytes) (pieces_bytes (drop (i + 1) ps)))
 
@@ -40,21 +42,26 @@ pub record IsCopied (ps : List View) (i n : ℕ) (copy target : List ℕ) : Type
   pub left : n - length copy ≤ length (pieces_bytes (drop i ps))
   pub so_far : copy ++ take (n - length copy) (pieces_bytes (drop i ps)) ≡ target
 
-pub copied-step : (ps : List View) (i o n c k : ℕ) (copy more bytes target : List ℕ) → i < length ps → o ≤ view_len (piece_at ps i) → bytes ≡ drop o (piece_at ps i).bytes → c ≤ n → c ≡ length copy → n - c + o ≤ length (pieces_bytes (drop i ps)) → copy ++ take (n - c) (drop o (pieces_bytes (drop i ps))) ≡ target → k ≡ min (length bytes) (n - c) → more ≡ copy ++ take k bytes →
+pub copied-step : (ps : List View) (i o n c k : ℕ) (copy more bytes target : List ℕ) → i < length ps → o ≤ view_len (piece_at ps i)
+    → bytes ≡ drop o (piece_at ps i).bytes → c ≤ n → c ≡ length copy → n - c + o ≤ length (pieces_bytes (drop i ps))
+    → copy ++ take (n - c) (drop o (pieces_bytes (drop i ps))) ≡ target → k ≡ min (length bytes) (n - c) → more ≡ copy ++ take k bytes →
     IsCopied ps (i + 1) n more target
 copied-step ps i o n c k copy more bytes target l h b s e r t m x =
     let rest = pieces_bytes (drop (i + 1) ps) in
     let whole : drop o (pieces_bytes (drop i ps)) ≡ bytes ++ rest = bytes-from ps i o l h ∙ ap (λ xs. xs ++ rest) (sym b) in
-    let total : length (pieces_bytes (drop i ps)) - o ≡ length bytes + length rest = sym (length-drop o (pieces_bytes (drop i ps))) ∙ ap length whole ∙ length-append bytes rest in
+    let total : length (pieces_bytes (drop i ps)) - o ≡ length bytes + length rest =
+    sym (length-drop o (pieces_bytes (drop i ps))) ∙ ap length whole ∙ length-append bytes rest in
     let some : length (take k bytes) ≡ k = length-take-le k bytes (omega arith) in
-    let longer : length more ≡ c + k = ap length x ∙ length-append copy (take k bytes) ∙ (let q : length copy + length (take k bytes) ≡ c + k = omega arith in q) in
+    let longer : length more ≡ c + k = ap length x ∙ length-append copy (take k bytes)
+    ∙ (let q : length copy + length (take k bytes) ≡ c + k = omega arith in q) in
     let left : n - length more ≡ n - c - k = omega arith in
     let turn : take (n - c) (drop o (pieces_bytes (drop i ps))) ≡ take k bytes ++ take (n - c - k) rest =
     copied-turn ps i o (n - c) bytes l h b ∙ ap (λ j. take j bytes ++ take (n - c - j) rest) (sym m) in
     record {
       some = omega arith;
       left = omega arith;
-      so_far = ap (λ j. more ++ take j rest) left ∙ ap (λ xs. xs ++ take (n - c - k) rest) x ∙ append_assoc copy (take k bytes) (take (n - c - k) rest) ∙ ap (λ xs. copy ++ xs) (sym turn) ∙ t;
+      so_far = ap (λ j. more ++ take j rest) left ∙ ap (λ xs. xs ++ take (n - c - k) rest) x
+          ∙ append_assoc copy (take k bytes) (take (n - c - k) rest) ∙ ap (λ xs. copy ++ xs) (sym turn) ∙ t;
     }
 
 -- a slice from a place on
@@ -68,7 +75,9 @@ pub record IsFilled (ps : List View) (i filled : ℕ) (dst : List ℕ) : Type 0 
   pub so_far : take filled dst ++ take (length dst - filled) (pieces_bytes (drop i ps)) ≡ take (length dst) (pieces_bytes ps)
 
 -- one turn of filling a slice from the front
-pub filled-step : (ps : List View) (i f k : ℕ) (dst now bytes : List ℕ) → i < length ps → bytes ≡ (piece_at ps i).bytes → f ≤ length dst → length dst - f ≤ length (pieces_bytes (drop i ps)) → take f dst ++ take (length dst - f) (pieces_bytes (drop i ps)) ≡ take (length dst) (pieces_bytes ps) → k ≡ min (length bytes) (length dst - f) → length now ≡ length dst → take (f + k) now ≡ take f dst ++ take k bytes →
+pub filled-step : (ps : List View) (i f k : ℕ) (dst now bytes : List ℕ) → i < length ps → bytes ≡ (piece_at ps i).bytes → f ≤ length dst
+    → length dst - f ≤ length (pieces_bytes (drop i ps)) → take f dst ++ take (length dst - f) (pieces_bytes (drop i ps))
+    ≡ take (length dst) (pieces_bytes ps) → k ≡ min (length bytes) (length dst - f) → length now ≡ length dst → take (f + k) now ≡ take f dst ++ take k bytes →
     IsFilled ps (i + 1) (f + k) now
 filled-step ps i f k dst now bytes l b s r t m same x =
     let rest = pieces_bytes (drop (i + 1) ps) in
@@ -80,18 +89,24 @@ filled-step ps i f k dst now bytes l b s r t m same x =
     record {
       some = omega arith;
       left = omega arith;
-      so_far = ap (λ j. take (f + k) now ++ take j rest) left ∙ ap (λ xs. xs ++ take (length dst - f - k) rest) x ∙ append_assoc (take f dst) (take k bytes) (take (length dst - f - k) rest) ∙ ap (λ xs. take f dst ++ xs) (sym turn) ∙ t ∙ ap (λ n. take n (pieces_bytes ps)) (sym same);
+      so_far = ap (λ j. take (f + k) now ++ take j rest) left ∙ ap (λ xs. xs ++ take (length dst - f - k) rest) x
+          ∙ append_assoc (take f dst) (take k bytes) (take (length dst - f - k) rest) ∙ ap (λ xs. take f dst ++ xs) (sym turn) ∙ t
+          ∙ ap (λ n. take n (pieces_bytes ps)) (sym same);
     }
 
-chunk-next : (ps : List View) (i : ℕ) → i < length ps → take (suc i) (map (λ (p : View). p.bytes) ps) ≡ take i (map (λ (p : View). p.bytes) ps) ++ (piece_at ps i).bytes ∷ []
+chunk-next : (ps : List View) (i : ℕ) → i < length ps → take (suc i) (map (λ (p : View). p.bytes) ps) ≡ take i (map (λ (p : View). p.bytes) ps)
+    ++ (piece_at ps i).bytes ∷ []
 chunk-next [] i l = absurd (omega arith)
 chunk-next (p ∷ ps) zero l = refl
 chunk-next (p ∷ ps) (suc i) l = ap (λ rest. p.bytes ∷ rest) (chunk-next ps i (omega arith))
 
 -- one more chunk
-pub chunks-step : {B : Type 0} (now : B → List ℕ) (chunks more : List B) (chunk : B) (ps : List View) (i : ℕ) → i < length ps → map now chunks ≡ take i (map (λ (p : View). p.bytes) ps) → now chunk ≡ (piece_at ps i).bytes → more ≡ chunks ++ chunk ∷ [] → map now more ≡ take (i + 1) (map (λ (p : View). p.bytes) ps)
+pub chunks-step : {B : Type 0} (now : B → List ℕ) (chunks more : List B) (chunk : B) (ps : List View) (i : ℕ) → i < length ps
+    → map now chunks ≡ take i (map (λ (p : View). p.bytes) ps) → now chunk ≡ (piece_at ps i).bytes → more ≡ chunks ++ chunk ∷ []
+    → map now more ≡ take (i + 1) (map (λ (p : View). p.bytes) ps)
 chunks-step now chunks more chunk ps i l h b m =
-    ap (map now) m ∙ map-append now chunks (chunk ∷ []) ∙ (λ k. h k ++ b k ∷ []) ∙ sym (chunk-next ps i l) ∙ ap (λ n. take n (map (λ (p : View). p.bytes) ps)) (sym (add-one i))
+    ap (map now) m ∙ map-append now chunks (chunk ∷ []) ∙ (λ k. h k ++ b k ∷ []) ∙ sym (chunk-next ps i l)
+    ∙ ap (λ n. take n (map (λ (p : View). p.bytes) ps)) (sym (add-one i))
 
 -- a refusal by its cause
 pub only-cause : {A E : Type 0} (result : Result A E) (e cause : E) → IsErrAnd result (λ x. x ≡ e) → e ≡ cause → IsOkUnless result cause
@@ -99,13 +114,15 @@ only-cause (Ok a) e cause h same = absurd h
 only-cause (Err x) e cause h same = h ∙ same
 
 -- a piece is put behind what is copied, before those from the next one on
-pub put-step : (ps : List Piece) (i : ℕ) (item : Piece) (copy more target : List ℕ) → drop i ps ≡ item ∷ drop (i + 1) ps → copy ++ pieces_bytes (views_in (drop i ps)) ≡ target → more ≡ copy ++ item.view.bytes → more ++ pieces_bytes (views_in (drop (i + 1) ps)) ≡ target
+pub put-step : (ps : List Piece) (i : ℕ) (item : Piece) (copy more target : List ℕ) → drop i ps ≡ item ∷ drop (i + 1) ps
+    → copy ++ pieces_bytes (views_in (drop i ps)) ≡ target → more ≡ copy ++ item.view.bytes → more ++ pieces_bytes (views_in (drop (i + 1) ps)) ≡ target
 put-step ps i item copy more target d s m =
     let rest = pieces_bytes (views_in (drop (i + 1) ps)) in
     ap (λ xs. xs ++ rest) m ∙ append_assoc copy item.view.bytes rest ∙ ap (λ (qs : List Piece). copy ++ pieces_bytes (views_in qs)) (sym d) ∙ s
 
 -- and there is room for it where there is for all that are to come
-pub put-fits : (ps : List Piece) (i : ℕ) (item : Piece) (copy target : List ℕ) (spare : ℕ) → drop i ps ≡ item ∷ drop (i + 1) ps → copy ++ pieces_bytes (views_in (drop i ps)) ≡ target → length target ≤ length copy + spare → length item.view.bytes ≤ spare
+pub put-fits : (ps : List Piece) (i : ℕ) (item : Piece) (copy target : List ℕ) (spare : ℕ) → drop i ps ≡ item ∷ drop (i + 1) ps
+    → copy ++ pieces_bytes (views_in (drop i ps)) ≡ target → length target ≤ length copy + spare → length item.view.bytes ≤ spare
 put-fits ps i item copy target spare d s l =
     let rest = pieces_bytes (views_in (drop (i + 1) ps)) in
     let n = ap length (ap (λ (qs : List Piece). copy ++ pieces_bytes (views_in qs)) (sym d) ∙ s) in
@@ -123,6 +140,8 @@ put-both part a b i = record { filled = append_assoc part.filled a b i; spare = 
     less = omega (arith, length-append a b)
 
 -- the bytes of pieces in two slices
-pub joined-pieces : (front behind ps : List Piece) → front ++ behind ≡ ps → pieces_bytes (views_in front) ++ pieces_bytes (views_in behind) ≡ pieces_bytes (views_in ps)
+pub joined-pieces : (front behind ps : List Piece) → front ++ behind ≡ ps
+    → pieces_bytes (views_in front) ++ pieces_bytes (views_in behind) ≡ pieces_bytes (views_in ps)
 joined-pieces front behind ps e =
-    sym (flat_map-append (λ (v : View). v.bytes) (views_in front) (views_in behind)) ∙ ap pieces_bytes (sym (map-append (λ (p : Piece). p.view) front behind)) ∙ ap (λ (qs : List Piece). pieces_bytes (views_in qs)) e
+    sym (flat_map-append (λ (v : View). v.bytes) (views_in front) (views_in behind))
+    ∙ ap pieces_bytes (sym (map-append (λ (p : Piece). p.view) front behind)) ∙ ap (λ (qs : List Piece). pieces_bytes (views_in qs)) e

@@ -35,21 +35,29 @@ ends-up b start n [] p l h = tt
 ends-up b start n (q ∷ ps) p l (end, others) =
     let first = end.placed in
     let here : from_base ((b + n) % 2 ^ 64) q.end ≡ start - n + view_len q.view = base-up q.end b n p (omega arith) ∙ (omega arith) in
-    let same : start + view_len q.view - n ≡ start - n + view_len q.view = omega arith in
-    (record { stored = end.stored; placed = here }, subst (λ m. AreEnds ((b + n) % 2 ^ 64) m ps) same (ends-up b (start + view_len q.view) n ps p (omega arith) others))
+    let same : start + view_len q.view - n ≡ start - n + view_len q.view = omega arith in (
+      record { stored = end.stored; placed = here },
+      subst (λ m. AreEnds ((b + n) % 2 ^ 64) m ps) same
+          (ends-up b (start + view_len q.view) n ps p (omega arith) others),
+    )
 
 -- and come
-pub ends-down : (b start n : ℕ) (ps : List Piece) → b < 2 ^ 64 → n < 2 ^ 64 → start + length (pieces_bytes (views_in ps)) + n < 2 ^ 64 → AreEnds b start ps → AreEnds ((b + (2 ^ 64 - n)) % 2 ^ 64) (start + n) ps
+pub ends-down : (b start n : ℕ) (ps : List Piece) → b < 2 ^ 64 → n < 2 ^ 64 → start + length (pieces_bytes (views_in ps)) + n < 2 ^ 64
+    → AreEnds b start ps → AreEnds ((b + (2 ^ 64 - n)) % 2 ^ 64) (start + n) ps
 ends-down b start n [] p r l h = tt
 ends-down b start n (q ∷ ps) p r l (end, others) =
     let first = end.placed in
     let len = length-first q.view (views_in ps) in
     let here : from_base ((b + (2 ^ 64 - n)) % 2 ^ 64) q.end ≡ start + n + view_len q.view = base-down q.end b n p r (omega arith) ∙ (omega arith) in
-    let same : start + view_len q.view + n ≡ start + n + view_len q.view = omega arith in
-    (record { stored = end.stored; placed = here }, subst (λ m. AreEnds ((b + (2 ^ 64 - n)) % 2 ^ 64) m ps) same (ends-down b (start + view_len q.view) n ps p r (omega arith) others))
+    let same : start + view_len q.view + n ≡ start + n + view_len q.view = omega arith in (
+      record { stored = end.stored; placed = here },
+      subst (λ m. AreEnds ((b + (2 ^ 64 - n)) % 2 ^ 64) m ps) same
+          (ends-down b (start + view_len q.view) n ps p r (omega arith) others),
+    )
 
 -- one piece more behind the others, and several
-pub ends-append : (b start : ℕ) (ps qs : List Piece) → AreEnds b start ps → AreEnds b (start + length (pieces_bytes (views_in ps))) qs → AreEnds b start (ps ++ qs)
+pub ends-append : (b start : ℕ) (ps qs : List Piece) → AreEnds b start ps → AreEnds b (start + length (pieces_bytes (views_in ps))) qs
+    → AreEnds b start (ps ++ qs)
 ends-append b start [] qs h g = let z : start + 0 ≡ start = omega arith in subst (λ m. AreEnds b m qs) z g
 ends-append b start (p ∷ ps) qs h g =
     let len = length-first p.view (views_in ps) in
@@ -127,7 +135,8 @@ last-end b ps l h =
     ∙ ap (λ (vs : List View). length (pieces_bytes vs)) (take_all (length ps) (views_in ps) (omega arith))
 
 -- the first end above a place belongs to the piece that holds it
-pub place-first : (b : ℕ) (ps : List Piece) (at i start : ℕ) → AreEnds b 0 ps → IsFirstPast (ends_from b ps) at i → start ≡ piece_start (views_in ps) i → (start ≤ at) × IsPlace (views_in ps) at i (at - start)
+pub place-first : (b : ℕ) (ps : List Piece) (at i start : ℕ) → AreEnds b 0 ps → IsFirstPast (ends_from b ps) at i
+    → start ≡ piece_start (views_in ps) i → (start ≤ at) × IsPlace (views_in ps) at i (at - start)
 place-first b ps at i start h first is =
     let n = length-map ps (λ (p : Piece). from_base b p.end) in
     let k = length-map ps (λ (p : Piece). p.view) in
@@ -151,7 +160,8 @@ full-push vs v f p = AreFull-append vs (v ∷ []) f (p, tt)
 pub views-push : (ps : List Piece) (p : Piece) → views_in (ps ++ p ∷ []) ≡ views_in ps ++ p.view ∷ []
 views-push ps p = map-append (λ (q : Piece). q.view) ps (p ∷ [])
 
-pub row-push : (b e : ℕ) (ps qs : List Piece) (v : View) → IsRow b ps → 0 < view_len v → length (pieces_bytes (views_in ps)) + view_len v < 2 ^ 64 → e ≡ (b + (length (pieces_bytes (views_in ps)) + view_len v)) % 2 ^ 64 → qs ≡ ps ++ record { view = v; end = e } ∷ [] → IsRow b qs
+pub row-push : (b e : ℕ) (ps qs : List Piece) (v : View) → IsRow b ps → 0 < view_len v → length (pieces_bytes (views_in ps)) + view_len v < 2 ^ 64
+    → e ≡ (b + (length (pieces_bytes (views_in ps)) + view_len v)) % 2 ^ 64 → qs ≡ ps ++ record { view = v; end = e } ∷ [] → IsRow b qs
 row-push b e ps qs v h some fits ends is =
     let l = length (pieces_bytes (views_in ps)) + view_len v in
     let z : 0 + length (pieces_bytes (views_in ps)) + view_len v ≡ l = omega arith in
@@ -163,7 +173,8 @@ row-push b e ps qs v h some fits ends is =
       full = subst AreFull (sym (views-push ps (record { view = v; end = e }))) (full-push (views_in ps) v h.full some);
     })
 
-pub row-cons : (b c : ℕ) (ps qs : List Piece) (v : View) → IsRow b ps → 0 < view_len v → length (pieces_bytes (views_in ps)) + view_len v < 2 ^ 64 → c ≡ (b + (2 ^ 64 - view_len v)) % 2 ^ 64 → qs ≡ record { view = v; end = b } ∷ ps → IsRow c qs
+pub row-cons : (b c : ℕ) (ps qs : List Piece) (v : View) → IsRow b ps → 0 < view_len v → length (pieces_bytes (views_in ps)) + view_len v < 2 ^ 64
+    → c ≡ (b + (2 ^ 64 - view_len v)) % 2 ^ 64 → qs ≡ record { view = v; end = b } ∷ ps → IsRow c qs
 row-cons b c ps qs v h some fits base is =
     let n = view_len v in
     let less : n < 2 ^ 64 = omega arith in
@@ -202,7 +213,8 @@ row-drop b n start ps h is =
     let z : 0 + piece_start (views_in ps) n - start ≡ 0 = omega arith in
     record {
       based = omega arith;
-      ended = subst (λ m. AreEnds ((b + start) % 2 ^ 64) m (drop n ps)) z (ends-up b (0 + piece_start (views_in ps) n) start (drop n ps) h.based (omega arith) (ends-drop b 0 n ps h.ended));
+      ended = subst (λ m. AreEnds ((b + start) % 2 ^ 64) m (drop n ps)) z
+          (ends-up b (0 + piece_start (views_in ps) n) start (drop n ps) h.based (omega arith) (ends-drop b 0 n ps h.ended));
       full = drop-full n ps h.full;
     }
   where
@@ -216,7 +228,8 @@ row-shorten b n [] qs h l is = absurd (omega arith)
 row-shorten b n (p ∷ ps) qs h l is =
     let (end, others) = h.ended in
     let d = length-drop n p.view.bytes in
-    let here : from_base ((b + n) % 2 ^ 64) p.end ≡ 0 + view_len (view_advanced p.view n) = base-up p.end b n h.based (omega (arith, end.placed)) ∙ (omega (arith, end.placed)) in
+    let here : from_base ((b + n) % 2 ^ 64) p.end ≡ 0 + view_len (view_advanced p.view n) =
+    base-up p.end b n h.based (omega (arith, end.placed)) ∙ (omega (arith, end.placed)) in
     let up = ends-up b (0 + view_len p.view) n ps h.based (omega arith) others in
     let same : 0 + view_len p.view - n ≡ 0 + view_len (view_advanced p.view n) = omega arith in
     subst (λ (xs : List Piece). IsRow ((b + n) % 2 ^ 64) xs) (sym is) (
@@ -239,7 +252,8 @@ row-search b place (p ∷ ps) h l =
     }
 
 -- the end of a piece, less the base
-pub end-of : (b i : ℕ) (ps : List Piece) (p : Piece) → IsRow b ps → i < length ps → p ≡ slice_index_or ps i p → from_base b p.end ≡ piece_start (views_in ps) (suc i)
+pub end-of : (b i : ℕ) (ps : List Piece) (p : Piece) → IsRow b ps → i < length ps → p ≡ slice_index_or ps i p
+    → from_base b p.end ≡ piece_start (views_in ps) (suc i)
 end-of b i ps p h l is = ap (λ (q : Piece). from_base b q.end) is ∙ get-end ps i l ∙ end-at b 0 i ps h.ended l ∙ zero-add (piece_start (views_in ps) (suc i))
   where
     get-end : (ps : List Piece) (i : ℕ) → i < length ps → from_base b (slice_index_or ps i p).end ≡ get_or (ends_from b ps) i 0
@@ -247,7 +261,8 @@ end-of b i ps p h l is = ap (λ (q : Piece). from_base b q.end) is ∙ get-end p
     get-end (q ∷ ps) zero l = refl
     get-end (q ∷ ps) (suc i) l = get-end ps i (omega arith)
 
-pub end-of_last : (b n : ℕ) (ps : List Piece) (p : Piece) → IsRow b ps → 0 < n → n ≡ length ps → p ≡ slice_index_or ps (n - 1) p → from_base b p.end ≡ length (pieces_bytes (views_in ps))
+pub end-of_last : (b n : ℕ) (ps : List Piece) (p : Piece) → IsRow b ps → 0 < n → n ≡ length ps → p ≡ slice_index_or ps (n - 1) p
+    → from_base b p.end ≡ length (pieces_bytes (views_in ps))
 end-of_last b n ps p h l e is =
     let k = length-map ps (λ (p : Piece). p.view) in
     let s : suc (n - 1) ≡ n = omega arith in

@@ -23,7 +23,8 @@ IsMarked-of_pieces v (w ∷ vs) (first, behind) h =
     let ih = IsMarked-of_pieces w vs (IsPieces-from_full w vs behind) (λ k d l. h (suc k) d (omega arith)) in
     let e : length (v.bytes ++ y.bytes) ≡ view_len v + text_len y = length-append v.bytes y.bytes in
     let r : HasRoom v.mark (view_len v) = h 0 v (omega arith) in
-    let up : AreCuts (view_len v + 0) y.mark (map (moved_up (view_len v)) y.cuts) (view_len v + text_len y) = AreCuts-up (view_len v) 0 y.mark y.cuts (text_len y) ih in
+    let up : AreCuts (view_len v + 0) y.mark (map (moved_up (view_len v)) y.cuts) (view_len v + text_len y) =
+    AreCuts-up (view_len v) 0 y.mark y.cuts (text_len y) ih in
     let z : view_len v + 0 ≡ view_len v = omega arith in
     let end : AreCuts (view_len v) y.mark (map (moved_up (view_len v)) y.cuts) (length (v.bytes ++ y.bytes)) = rw e (rw z at up) in
     (record { rises = omega (arith, first); below = omega (arith, behind.0); room = rw (no_sub (view_len v)) r }, end)
@@ -43,7 +44,8 @@ pub IsView-advanced : (at : ℕ) (v : View) → IsView v → IsView (view_advanc
 IsView-advanced at v h = rw (length-drop at v.bytes) (HasRoom-on v.mark (view_len v) at h)
 
 pub IsView-front : (at : ℕ) (v : View) → IsView v → IsView (view_front v at)
-IsView-front at v h = let n : length (take at v.bytes) ≤ view_len v = (let t = length-take at v.bytes in omega arith) in HasRoom-less v.mark (view_len v) (length (take at v.bytes)) n h
+IsView-front at v h = let n : length (take at v.bytes) ≤ view_len v =
+    (let t = length-take at v.bytes in omega arith) in HasRoom-less v.mark (view_len v) (length (take at v.bytes)) n h
 
 pub AreViews-append : (vs ws : List View) → AreViews vs → AreViews ws → AreViews (vs ++ ws)
 AreViews-append [] ws f g = g

@@ -26,7 +26,8 @@ keys-count t at = rw (is_le 0 at (omega arith)) (omega arith)
 keys-within : (v w : View) (vs : List View) (at : ℕ) → at < view_len v → cuts_upto (of_pieces (v ∷ w ∷ vs)).cuts at ≡ 0
 keys-within v w vs at l = cuts-none at (view_len v) _ (from_on-of_pieces v (w ∷ vs)) l
 
-keys-past : (v w : View) (vs : List View) (at : ℕ) → view_len v ≤ at → cuts_upto (of_pieces (v ∷ w ∷ vs)).cuts at ≡ 1 + cuts_upto (of_pieces (w ∷ vs)).cuts (at - view_len v)
+keys-past : (v w : View) (vs : List View) (at : ℕ) → view_len v ≤ at
+    → cuts_upto (of_pieces (v ∷ w ∷ vs)).cuts at ≡ 1 + cuts_upto (of_pieces (w ∷ vs)).cuts (at - view_len v)
 unfolding of_pieces text_glue
 keys-past v w vs at l = rw (is_le (view_len v) at l) (ap suc (cuts-up at (view_len v) (of_pieces (w ∷ vs)).cuts l) ∙ (omega arith))
 
@@ -35,12 +36,14 @@ greatest-within v w vs at l =
     let t = of_pieces (v ∷ w ∷ vs) in
     ap (λ (key : ℕ × Mark). key.0) (upto_none at (view_len v) (0, t.mark) t.cuts (from_on-of_pieces v (w ∷ vs)) l)
 
-greatest-cons : (n at : ℕ) (m k : Mark) (cuts : List (ℕ × Mark)) → n ≤ at → (key_upto (0, m) ((n, k) ∷ map (moved_up n) cuts) at).0 ≡ n + (key_upto (0, k) cuts (at - n)).0
+greatest-cons : (n at : ℕ) (m k : Mark) (cuts : List (ℕ × Mark)) → n ≤ at
+    → (key_upto (0, m) ((n, k) ∷ map (moved_up n) cuts) at).0 ≡ n + (key_upto (0, k) cuts (at - n)).0
 greatest-cons n at m k cuts l =
     let z : n + 0 ≡ n = omega arith in
     rw (is_le n at l) (ap (λ j. (key_upto (j, k) (map (moved_up n) cuts) at).0) (sym z) ∙ ap (λ (key : ℕ × Mark). key.0) (upto_up at n (0, k) cuts l))
 
-greatest-past : (v w : View) (vs : List View) (at : ℕ) → view_len v ≤ at → greatest_key (of_pieces (v ∷ w ∷ vs)) at ≡ view_len v + greatest_key (of_pieces (w ∷ vs)) (at - view_len v)
+greatest-past : (v w : View) (vs : List View) (at : ℕ) → view_len v ≤ at
+    → greatest_key (of_pieces (v ∷ w ∷ vs)) at ≡ view_len v + greatest_key (of_pieces (w ∷ vs)) (at - view_len v)
 unfolding of_pieces text_glue
 greatest-past v w vs at l = greatest-cons (view_len v) at v.mark (of_pieces (w ∷ vs)).mark (of_pieces (w ∷ vs)).cuts l
 
@@ -48,7 +51,8 @@ one : (v : View) (at o : ℕ) → o ≡ at → (cuts_upto (of_pieces (v ∷ []))
 unfolding of_pieces
 one v at o e = (refl, omega arith)
 
-located : (vs : List View) (at i o : ℕ) → piece_start vs i + o ≡ at → o < view_len (piece_at vs i) → (cuts_upto (of_pieces vs).cuts at ≡ i) × (greatest_key (of_pieces vs) at + o ≡ at)
+located : (vs : List View) (at i o : ℕ) → piece_start vs i + o ≡ at → o < view_len (piece_at vs i) → (cuts_upto (of_pieces vs).cuts at ≡ i)
+    × (greatest_key (of_pieces vs) at + o ≡ at)
 located [] at i o sum inside = absurd (omega arith)
 located (v ∷ []) at zero o sum inside = one v at o (omega arith)
 located (v ∷ []) at (suc i) o sum inside = absurd (omega arith)

@@ -29,7 +29,8 @@ cuts-of_pieces v (w ∷ vs) = ap suc (length-map (of_pieces (w ∷ vs)).cuts (mo
 pub of_pieces-append : (v w : View) (vs ws : List View) → of_pieces ((v ∷ vs) ++ (w ∷ ws)) ≡ text_glue (of_pieces (v ∷ vs)) (of_pieces (w ∷ ws))
 unfolding of_pieces
 of_pieces-append v w [] ws = refl
-of_pieces-append v w (u ∷ us) ws = ap (text_glue (of_view v)) (of_pieces-append u w us ws) ∙ sym (glue_assoc (of_view v) (of_pieces (u ∷ us)) (of_pieces (w ∷ ws)))
+of_pieces-append v w (u ∷ us) ws = ap (text_glue (of_view v)) (of_pieces-append u w us ws)
+    ∙ sym (glue_assoc (of_view v) (of_pieces (u ∷ us)) (of_pieces (w ∷ ws)))
 
 pub right_pieces-within : (at : ℕ) (v : View) (vs : List View) → at < view_len v → right_pieces (v ∷ vs) at ≡ view_advanced v at ∷ vs
 right_pieces-within at v vs l = rw (is_lt at (view_len v) l)
@@ -68,8 +69,10 @@ right-of_pieces at (v ∷ w ∷ vs) l =
     let n = length-bytes v (w ∷ vs) in
     rw (of_pieces-cons v w vs)
     (⊎_elim
-    (λ (h : at < view_len v). rw (right_pieces-within at v (w ∷ vs) h, of_pieces-cons (view_advanced v at) w vs) (right-glue_within at v (of_pieces (w ∷ vs)) h))
-    (λ (h : view_len v ≤ at). rw (right_pieces-past at v (w ∷ vs) h) (right-glue_past at v (of_pieces (w ∷ vs)) h ∙ right-of_pieces (at - view_len v) (w ∷ vs) (omega arith)))
+    (λ (h : at < view_len v). rw (right_pieces-within at v (w ∷ vs) h, of_pieces-cons (view_advanced v at) w vs)
+    (right-glue_within at v (of_pieces (w ∷ vs)) h))
+    (λ (h : view_len v ≤ at). rw (right_pieces-past at v (w ∷ vs) h)
+    (right-glue_past at v (of_pieces (w ∷ vs)) h ∙ right-of_pieces (at - view_len v) (w ∷ vs) (omega arith)))
     (cases_lt at (view_len v)))
 
 -- a first view, and others behind it
@@ -105,8 +108,13 @@ left-of_pieces at (v ∷ w ∷ vs) p l =
     rw (of_pieces-cons v w vs)
     (order3 at (view_len v)
     (λ h. rw (left_pieces-within at v (w ∷ vs) p h, of_pieces-one (view_front v at)) (left-glue_within at v (of_pieces (w ∷ vs)) (omega arith)))
-    (λ h. rw (left_pieces-first at v (w ∷ vs) p h, of_pieces-one v) (left-glue_within at v (of_pieces (w ∷ vs)) (omega arith) ∙ ap of_view (front-all at v (omega arith))))
-    (λ h. rw (left_pieces-past at v (w ∷ vs) p (omega arith), of_pieces-more v (left_pieces (w ∷ vs) (at - view_len v)) (left_pieces-some (at - view_len v) w vs (omega arith)))
+    (λ h. rw (left_pieces-first at v (w ∷ vs) p h, of_pieces-one v)
+    (left-glue_within at v (of_pieces (w ∷ vs)) (omega arith) ∙ ap of_view (front-all at v (omega arith))))
+    (λ h. rw (
+      left_pieces-past at v (w ∷ vs) p (omega arith),
+      of_pieces-more v (left_pieces (w ∷ vs) (at - view_len v))
+          (left_pieces-some (at - view_len v) w vs (omega arith)),
+    )
     (left-glue_past at v (of_pieces (w ∷ vs)) h ∙ ap (text_glue (of_view v)) (left-of_pieces (at - view_len v) (w ∷ vs) (omega arith) (omega arith)))))
 
 pub len-of_pieces : (vs : List View) → text_len (of_pieces vs) ≡ length (pieces_bytes vs)
@@ -142,7 +150,8 @@ AreFull-left at (v ∷ vs) f =
     ⊎_elim
     (λ (p : 0 < at).
     ⊎_elim
-    (λ (h : at < view_len v). let m : length (take at v.bytes) ≡ at = length-take-le at v.bytes (omega arith) in rw (left_pieces-within at v vs p h) (omega arith, tt))
+    (λ (h : at < view_len v). let m : length (take at v.bytes) ≡ at =
+    length-take-le at v.bytes (omega arith) in rw (left_pieces-within at v vs p h) (omega arith, tt))
     (λ (h : view_len v ≤ at). rw (left_pieces-past at v vs p h) (f.0, AreFull-left (at - view_len v) vs f.1))
     (cases_lt at (view_len v)))
     (λ (p : at ≤ 0). let z : at ≡ 0 = omega arith in rw z tt)
@@ -165,7 +174,8 @@ split_front-inside at t p l = rw (not_zero at p, not_eq at (text_len t) l)
 pub rest-of_pieces : (at : ℕ) (vs : List View) → 0 < at → at < length (pieces_bytes vs) → text_rest (of_pieces vs) at ≡ of_pieces (right_pieces vs at)
 rest-of_pieces at vs p l = let s = len-of_pieces vs in rest-inside at (of_pieces vs) p (omega arith) ∙ right-of_pieces at vs l
 
-pub split_front-of_pieces : (at : ℕ) (vs : List View) → 0 < at → at < length (pieces_bytes vs) → text_split_front (of_pieces vs) at ≡ of_pieces (left_pieces vs at)
+pub split_front-of_pieces : (at : ℕ) (vs : List View) → 0 < at → at < length (pieces_bytes vs)
+    → text_split_front (of_pieces vs) at ≡ of_pieces (left_pieces vs at)
 split_front-of_pieces at vs p l = let s = len-of_pieces vs in split_front-inside at (of_pieces vs) p (omega arith) ∙ left-of_pieces at vs p (omega arith)
 
 pub is_single-of_pieces : (v : View) (vs : List View) → is_single (of_pieces (v ∷ vs)) ≡ nat_eq (length vs) 0
@@ -200,7 +210,8 @@ bytes-text_left at t = refl
 
 pub bytes-left : (at : ℕ) (vs : List View) → 0 < at → at ≤ length (pieces_bytes vs) → pieces_bytes (left_pieces vs at) ≡ take at (pieces_bytes vs)
 bytes-left at vs p l =
-    sym (bytes-of_pieces (left_pieces vs at)) ∙ ap (λ t. t.bytes) (sym (left-of_pieces at vs p l)) ∙ bytes-text_left at (of_pieces vs) ∙ ap (take at) (bytes-of_pieces vs)
+    sym (bytes-of_pieces (left_pieces vs at)) ∙ ap (λ t. t.bytes) (sym (left-of_pieces at vs p l)) ∙ bytes-text_left at (of_pieces vs)
+    ∙ ap (take at) (bytes-of_pieces vs)
 
 pub length-left : (at : ℕ) (vs : List View) → 0 < at → at ≤ length (pieces_bytes vs) → length (pieces_bytes (left_pieces vs at)) ≡ at
 length-left at vs p l = ap length (bytes-left at vs p l) ∙ length-take-le at (pieces_bytes vs) l

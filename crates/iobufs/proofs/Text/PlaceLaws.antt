@@ -6,7 +6,8 @@ use Rattle.iobufs.proofs.Text.Sides.{no_sub}
 use Rattle.iobufs.proofs.Text.PieceLaws.{right_pieces-none, right_pieces-within, right_pieces-past, left_pieces-none, left_pieces-within, left_pieces-past, left_pieces-first, front-all, order3}
 
 -- By the index of the piece that holds a place. `piece_start i vs` is the number of bytes before the i-th piece.
-pub right_pieces-at : (i at : ℕ) (vs : List View) (d : View) → i < length vs → piece_start vs i ≤ at → at < piece_start vs i + view_len (get_or vs i d) → right_pieces vs at ≡ view_advanced (get_or vs i d) (at - piece_start vs i) ∷ drop (suc i) vs
+pub right_pieces-at : (i at : ℕ) (vs : List View) (d : View) → i < length vs → piece_start vs i ≤ at
+    → at < piece_start vs i + view_len (get_or vs i d) → right_pieces vs at ≡ view_advanced (get_or vs i d) (at - piece_start vs i) ∷ drop (suc i) vs
 right_pieces-at i at [] d l p q = absurd (omega arith)
 right_pieces-at zero at (v ∷ vs) d l p q = rw (right_pieces-within at v vs (omega arith), no_sub at)
 right_pieces-at (suc i) at (v ∷ vs) d l p q =
@@ -14,7 +15,8 @@ right_pieces-at (suc i) at (v ∷ vs) d l p q =
     let k : at - piece_start (v ∷ vs) (suc i) ≡ at - view_len v - piece_start vs i = omega arith in
     rw (right_pieces-past at v vs (omega arith), k) (right_pieces-at i (at - view_len v) vs d (omega arith) (omega arith) (omega arith))
 
-pub left_pieces-at : (i at : ℕ) (vs : List View) (d : View) → i < length vs → piece_start vs i < at → at ≤ piece_start vs i + view_len (get_or vs i d) → left_pieces vs at ≡ take i vs ++ view_front (get_or vs i d) (at - piece_start vs i) ∷ []
+pub left_pieces-at : (i at : ℕ) (vs : List View) (d : View) → i < length vs → piece_start vs i < at
+    → at ≤ piece_start vs i + view_len (get_or vs i d) → left_pieces vs at ≡ take i vs ++ view_front (get_or vs i d) (at - piece_start vs i) ∷ []
 left_pieces-at i at [] d l p q = absurd (omega arith)
 left_pieces-at zero at (v ∷ vs) d l p q =
     order3 at (view_len v)
@@ -24,7 +26,8 @@ left_pieces-at zero at (v ∷ vs) d l p q =
 left_pieces-at (suc i) at (v ∷ vs) d l p q =
     let n : piece_start (v ∷ vs) (suc i) ≡ view_len v + piece_start vs i = length-append v.bytes (pieces_bytes (take i vs)) in
     let k : at - piece_start (v ∷ vs) (suc i) ≡ at - view_len v - piece_start vs i = omega arith in
-    rw (left_pieces-past at v vs (omega arith) (omega arith), k) (ap (λ ws. v ∷ ws) (left_pieces-at i (at - view_len v) vs d (omega arith) (omega arith) (omega arith)))
+    rw (left_pieces-past at v vs (omega arith) (omega arith), k)
+    (ap (λ ws. v ∷ ws) (left_pieces-at i (at - view_len v) vs d (omega arith) (omega arith) (omega arith)))
 
 -- a place between two pieces
 pub left_pieces-seam : (i : ℕ) (vs : List View) → AreFull vs → left_pieces vs (piece_start vs i) ≡ take i vs
@@ -33,7 +36,8 @@ left_pieces-seam (suc i) [] f = refl
 left_pieces-seam (suc i) (v ∷ vs) f =
     let n : piece_start (v ∷ vs) (suc i) ≡ view_len v + piece_start vs i = length-append v.bytes (pieces_bytes (take i vs)) in
     let k : piece_start (v ∷ vs) (suc i) - view_len v ≡ piece_start vs i = omega arith in
-    left_pieces-past (piece_start (v ∷ vs) (suc i)) v vs (omega (arith, f.0)) (omega arith) ∙ ap (λ m. v ∷ left_pieces vs m) k ∙ ap (λ ws. v ∷ ws) (left_pieces-seam i vs f.1)
+    left_pieces-past (piece_start (v ∷ vs) (suc i)) v vs (omega (arith, f.0)) (omega arith) ∙ ap (λ m. v ∷ left_pieces vs m) k
+    ∙ ap (λ ws. v ∷ ws) (left_pieces-seam i vs f.1)
 
 pub right_pieces-seam : (i : ℕ) (vs : List View) → AreFull vs → right_pieces vs (piece_start vs i) ≡ drop i vs
 right_pieces-seam zero vs f = right_pieces-none vs f

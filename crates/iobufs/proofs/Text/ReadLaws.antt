@@ -26,7 +26,8 @@ use Rattle.iobufs.proofs.Text.CopyLaws.{bytes-from}
 use Rattle.iobufs.proofs.Text.TextLaws.{length-kept, IsPieces-from_pieced, some_views, chunks-kept, single-kept, advanced-one, rest-kept}
 
 -- the first piece is the first chunk, and a beginning of the text
-first-of : (vs : List View) (t : MarkedText) → of_pieces vs ≡ t → 0 < length vs → (0 < length (pieces_bytes vs) → AreFull vs) → (piece_at vs 0).bytes ≡ first_chunk (text_chunks t)
+first-of : (vs : List View) (t : MarkedText) → of_pieces vs ≡ t → 0 < length vs → (0 < length (pieces_bytes vs) → AreFull vs)
+    → (piece_at vs 0).bytes ≡ first_chunk (text_chunks t)
 first-of [] t e l f = absurd (omega arith)
 first-of (v ∷ vs) t e l f =
     let n = length-bytes v vs in
@@ -51,7 +52,8 @@ front-of (v ∷ vs) l f =
           (cases_lt 0 (length (pieces_bytes (v ∷ vs))));
     }
 
-pub front-chunk : (s : Pieces) (t : MarkedText) (chunk : List ℕ) → of_pieces (views s) ≡ t → IsPieced s → chunk ≡ (piece_at (views s) 0).bytes → IsChunkOf chunk t.bytes
+pub front-chunk : (s : Pieces) (t : MarkedText) (chunk : List ℕ) → of_pieces (views s) ≡ t → IsPieced s → chunk ≡ (piece_at (views s) 0).bytes
+    → IsChunkOf chunk t.bytes
 front-chunk s t chunk e h c =
     let b : pieces_bytes (views s) ≡ t.bytes = sym (bytes-of_pieces (views s)) ∙ ap (λ (x : MarkedText). x.bytes) e in
     rw c (subst (IsChunkOf (piece_at (views s) 0).bytes) b (front-of (views s) (some_views s h) (AreFull-from_pieces (views s) (IsPieces-from_pieced s h))))
@@ -70,7 +72,8 @@ get-past (x ∷ xs) ys (suc m) n e = get-past xs ys m n (omega arith)
 pub byte-at_place : (vs : List View) (at i o : ℕ) → IsPlace vs at i o → slice_get (pieces_bytes vs) at ≡ Some (get_or (piece_at vs i).bytes o 0)
 byte-at_place vs at i o h = at_index vs at i h.sum h.inside
   where
-    at_index : (vs : List View) (at i : ℕ) → piece_start vs i + o ≡ at → o < view_len (piece_at vs i) → slice_get (pieces_bytes vs) at ≡ Some (get_or (piece_at vs i).bytes o 0)
+    at_index : (vs : List View) (at i : ℕ) → piece_start vs i + o ≡ at → o < view_len (piece_at vs i)
+        → slice_get (pieces_bytes vs) at ≡ Some (get_or (piece_at vs i).bytes o 0)
     at_index [] at i s l = absurd (omega arith)
     at_index (v ∷ vs) at zero s l = let e : at ≡ o = omega arith in rw e (get-within v.bytes (pieces_bytes vs) o l)
     at_index (v ∷ vs) at (suc i) s l =
@@ -88,18 +91,22 @@ rest-length vs i =
 front-advanced : (v : View) (o n : ℕ) → 0 < n → view_front (view_advanced v o) n ≡ view_slice v (Included o) (Excluded (o + n))
 front-advanced v o n p = grind (arith, nat_tests, common_steps, drop-take)
 
-right-place : (vs : List View) (t : MarkedText) (skip i o : ℕ) → of_pieces vs ≡ t → IsPlace vs skip i o → skip < length (pieces_bytes vs) → text_right t skip ≡ of_pieces (view_advanced (piece_at vs i) o ∷ drop (suc i) vs)
+right-place : (vs : List View) (t : MarkedText) (skip i o : ℕ) → of_pieces vs ≡ t → IsPlace vs skip i o → skip < length (pieces_bytes vs)
+    → text_right t skip ≡ of_pieces (view_advanced (piece_at vs i) o ∷ drop (suc i) vs)
 right-place vs t skip i o e h l =
     ap (λ (x : MarkedText). text_right x skip) (sym e) ∙ right-of_pieces skip vs l ∙ ap of_pieces (right-at_place vs skip i o h)
 
-pub taken-within : (vs : List View) (t : MarkedText) (skip n i o : ℕ) → of_pieces vs ≡ t → IsPlace vs skip i o → skip < length (pieces_bytes vs) → 0 < n → n ≤ view_len (piece_at vs i) - o → view_slice (piece_at vs i) (Included o) (Excluded (o + n)) ≡ taken_view t skip n
+pub taken-within : (vs : List View) (t : MarkedText) (skip n i o : ℕ) → of_pieces vs ≡ t → IsPlace vs skip i o → skip < length (pieces_bytes vs)
+    → 0 < n → n ≤ view_len (piece_at vs i) - o → view_slice (piece_at vs i) (Included o) (Excluded (o + n)) ≡ taken_view t skip n
 taken-within vs t skip n i o e h l p m =
     let v = view_advanced (piece_at vs i) o in
     let k : view_len v ≡ view_len (piece_at vs i) - o = length-drop o (piece_at vs i).bytes in
     sym (taken_view-right skip n t ∙ ap (λ (x : MarkedText). taken_view x 0 n) (right-place vs t skip i o e h l)
     ∙ taken_view-within n v (drop (suc i) vs) p (omega arith) ∙ front-advanced (piece_at vs i) o n p)
 
-pub taken-across : (vs : List View) (t : MarkedText) (skip n i o : ℕ) (copy : List ℕ) → of_pieces vs ≡ t → IsPlace vs skip i o → skip + n ≤ length (pieces_bytes vs) → view_len (piece_at vs i) - o < n → copy ≡ take n (drop o (pieces_bytes (drop i vs))) → part_frozen (record { filled = copy; spare = 0 }) ≡ taken_view t skip n
+pub taken-across : (vs : List View) (t : MarkedText) (skip n i o : ℕ) (copy : List ℕ) → of_pieces vs ≡ t → IsPlace vs skip i o
+    → skip + n ≤ length (pieces_bytes vs) → view_len (piece_at vs i) - o < n → copy ≡ take n (drop o (pieces_bytes (drop i vs)))
+    → part_frozen (record { filled = copy; spare = 0 }) ≡ taken_view t skip n
 taken-across vs t skip n i o copy e h l m c =
     let inside = h.inside in
     let index = index-of_place vs skip i o h in
@@ -113,9 +120,11 @@ taken-across vs t skip n i o copy e h l m c =
     let total : n ≤ length (pieces_bytes (v ∷ drop (suc i) vs)) = omega (arith, ap length whole) in
     let size : length copy ≡ n = ap length c ∙ length-take-le n (drop o (pieces_bytes (drop i vs))) (omega arith) in
     frozen copy n size (omega arith) ∙ (λ j. record { bytes = (c ∙ ap (take n) whole) j; mark = native_mark n })
-    ∙ sym (taken_view-right skip n t ∙ ap (λ (x : MarkedText). taken_view x 0 n) (right-place vs t skip i o e h (omega arith)) ∙ taken_view-across n v (drop (suc i) vs) (omega arith) (omega arith) total)
+    ∙ sym (taken_view-right skip n t ∙ ap (λ (x : MarkedText). taken_view x 0 n) (right-place vs t skip i o e h (omega arith))
+    ∙ taken_view-across n v (drop (suc i) vs) (omega arith) (omega arith) total)
   where
-    frozen : (copy : List ℕ) (n : ℕ) → length copy ≡ n → 0 < n → part_frozen (record { filled = copy; spare = 0 }) ≡ record { bytes = copy; mark = native_mark n }
+    frozen : (copy : List ℕ) (n : ℕ) → length copy ≡ n → 0 < n
+        → part_frozen (record { filled = copy; spare = 0 }) ≡ record { bytes = copy; mark = native_mark n }
     frozen copy n e p = grind (arith, nat_tests, common_steps)
 
 -- the first bytes
@@ -128,7 +137,8 @@ pub first-whole : (vs : List View) (t : MarkedText) (n : ℕ) → of_pieces vs �
 first-whole [] t n e p w = absurd (omega arith)
 first-whole (v ∷ vs) t n e p w = sym (ap (λ (x : MarkedText). taken_view x 0 n) e) ∙ taken_view-within n v vs p (omega arith) ∙ front-all n v (omega arith)
 
-pub first-rest : (vs ws : List View) (t : MarkedText) (n : ℕ) → of_pieces vs ≡ t → AreFull vs → 0 < n → n ≡ view_len (piece_at vs 0) → ws ≡ behind_first vs → of_pieces ws ≡ text_rest t n
+pub first-rest : (vs ws : List View) (t : MarkedText) (n : ℕ) → of_pieces vs ≡ t → AreFull vs → 0 < n → n ≡ view_len (piece_at vs 0)
+    → ws ≡ behind_first vs → of_pieces ws ≡ text_rest t n
 first-rest [] ws t n e f p w is = absurd (omega arith)
 first-rest (v ∷ []) ws t n e f p w is =
     let all : n ≡ text_len t = w ∙ ap text_len (sym (of_pieces-one v) ∙ e) in
@@ -177,29 +187,34 @@ one-as (v ∷ w ∷ vs) e = absurd (omega arith)
 one-view_room : (vs : List View) → length vs ≡ 1 → AreViews vs → AreViews (piece_at vs 0 ∷ [])
 one-view_room vs e h = subst AreViews (one-as vs e) h
 
-pub kept-single : (s : Inside) (n : ℕ) (p : Pieces) → IsKept s → length (views s.pieces) ≡ 1 → IsPieced p → views p ≡ view_advanced (piece_at (views s.pieces) 0) n ∷ [] → IsKept (record { pieces = p })
+pub kept-single : (s : Inside) (n : ℕ) (p : Pieces) → IsKept s → length (views s.pieces) ≡ 1 → IsPieced p
+    → views p ≡ view_advanced (piece_at (views s.pieces) 0) n ∷ [] → IsKept (record { pieces = p })
 kept-single s n p k one h is =
     record {
       pieced = h;
       roomy = subst AreViews (sym is) (IsView-advanced n (piece_at (views s.pieces) 0) (one-view_room (views s.pieces) one k.roomy).0, tt);
     }
 
-pub advanced-single : (vs ws : List View) (t : MarkedText) (n : ℕ) → of_pieces vs ≡ t → length vs ≡ 1 → n ≤ view_len (piece_at vs 0) → ws ≡ view_advanced (piece_at vs 0) n ∷ [] → of_pieces ws ≡ text_advanced t n
+pub advanced-single : (vs ws : List View) (t : MarkedText) (n : ℕ) → of_pieces vs ≡ t → length vs ≡ 1 → n ≤ view_len (piece_at vs 0)
+    → ws ≡ view_advanced (piece_at vs 0) n ∷ [] → of_pieces ws ≡ text_advanced t n
 advanced-single vs ws t n e one l is = ap of_pieces is ∙ advanced-one (piece_at vs 0) t n (sym (ap of_pieces (one-as vs one)) ∙ e) l
 
 -- several pieces as one
-pub coalesced-copy : (vs : List View) (t : MarkedText) (copy : List ℕ) (n : ℕ) → of_pieces vs ≡ t → is_single t ≡ false → n ≡ length (pieces_bytes vs) → 0 < n → copy ≡ take n (pieces_bytes vs) → of_view (part_frozen (record { filled = copy; spare = 0 })) ≡ text_coalesced t
+pub coalesced-copy : (vs : List View) (t : MarkedText) (copy : List ℕ) (n : ℕ) → of_pieces vs ≡ t → is_single t ≡ false
+    → n ≡ length (pieces_bytes vs) → 0 < n → copy ≡ take n (pieces_bytes vs) → of_view (part_frozen (record { filled = copy; spare = 0 })) ≡ text_coalesced t
 coalesced-copy vs t copy n e single k p c =
     let b : pieces_bytes vs ≡ t.bytes = sym (bytes-of_pieces vs) ∙ ap (λ (x : MarkedText). x.bytes) e in
     let all : copy ≡ t.bytes = c ∙ take_all n (pieces_bytes vs) (omega arith) ∙ b in
     let size : length t.bytes ≡ n = sym (ap length b) ∙ sym k in
     ap (λ (x : List ℕ). of_view (part_frozen (record { filled = x; spare = 0 }))) all ∙ rw single (frozen t.bytes (omega arith))
   where
-    frozen : (bytes : List ℕ) → 0 < length bytes → of_view (part_frozen (record { filled = bytes; spare = 0 })) ≡ of_view (record { bytes = bytes; mark = native_mark (length bytes) })
+    frozen : (bytes : List ℕ) → 0 < length bytes → of_view (part_frozen (record { filled = bytes; spare = 0 }))
+        ≡ of_view (record { bytes = bytes; mark = native_mark (length bytes) })
     frozen bytes p = grind (arith, nat_tests, common_steps)
 
 -- an empty text shows nothing, however much is asked for
-pub none-shown : {B : Type 0} (now : B → List ℕ) (items : List B) (t : MarkedText) (max : ℕ) → items ≡ [] → text_len t ≡ 0 → map now items ≡ take max (text_chunks t)
+pub none-shown : {B : Type 0} (now : B → List ℕ) (items : List B) (t : MarkedText) (max : ℕ) → items ≡ [] → text_len t ≡ 0
+    → map now items ≡ take max (text_chunks t)
 none-shown now items t max e z = ap (map now) e ∙ sym (ap (take max) (chunks-of_empty t z) ∙ none max)
   where
     none : (n : ℕ) → take {A = List ℕ} n [] ≡ []
@@ -219,7 +234,8 @@ as_text (Err error) a t e h = tt
 
 -- a text of several pieces has bytes
 pub several-len : (s : Inside) (t : MarkedText) → text_of s ≡ t → IsKept s → is_single t ≡ false → 0 < text_len t
-several-len s t e k h = several (views s.pieces) (IsPieces-from_pieced s.pieces k.pieced) (more (length (views s.pieces)) (sym (single-kept s t e k) ∙ h)) (omega (arith, length-kept s t e))
+several-len s t e k h = several (views s.pieces) (IsPieces-from_pieced s.pieces k.pieced)
+    (more (length (views s.pieces)) (sym (single-kept s t e k) ∙ h)) (omega (arith, length-kept s t e))
   where
     more : (n : ℕ) → nat_eq n 1 ≡ false → n ≢ 1
     more n h = grind (arith, tests)
@@ -237,7 +253,8 @@ single-view vs t v e one is = sym e ∙ ap of_pieces (one-as vs one) ∙ of_piec
 pub first-inside : (vs : List View) (n : ℕ) → n < view_len (piece_at vs 0) → n < length (pieces_bytes vs)
 first-inside vs n l = let k = length-behind vs in omega arith
 
-pub short-rest : (vs ws : List View) (t : MarkedText) (n : ℕ) → of_pieces vs ≡ t → AreFull vs → n < view_len (piece_at vs 0) → ws ≡ right_pieces vs n → of_pieces ws ≡ text_rest t n
+pub short-rest : (vs ws : List View) (t : MarkedText) (n : ℕ) → of_pieces vs ≡ t → AreFull vs → n < view_len (piece_at vs 0) → ws ≡ right_pieces vs n
+    → of_pieces ws ≡ text_rest t n
 short-rest vs ws t n e f l is =
     ⊎_elim
     (λ (h : 0 < n). rest-kept vs ws t n e h (first-inside vs n l) is)

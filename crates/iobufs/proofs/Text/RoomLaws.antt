@@ -42,7 +42,10 @@ module _ (s : Inside) (row : ViewRow) (t : MarkedText) (is : s.pieces ≡ Many r
     pub ahead-row : new.views ≡ w ∷ row.views → (of_pieces new.views ≡ text_prepend t w) × IsKept (record { pieces = Many new })
     ahead-row pushed =
         let several = pieced-as is kept.pieced in
-        let pieced : IsPieced (Many new) = (omega (arith, several.0, ap (λ (vs : List View). length vs) pushed), subst AreFull (sym pushed) (more, several.1)) in (
+        let pieced : IsPieced (Many new) = (
+          omega (arith, several.0, ap (λ (vs : List View). length vs) pushed),
+          subst AreFull (sym pushed) (more, several.1),
+        ) in (
           ap of_pieces pushed ∙ prepend-pieces row.views w t same some more,
           kept-cons s (Many new) w kept pieced (pushed ∙ ap (λ (p : Pieces). w ∷ views p) (sym is)) view,
         )

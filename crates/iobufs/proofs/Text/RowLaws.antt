@@ -46,19 +46,22 @@ drop-all (w ∷ ws) v zero e = absurd (omega arith)
 drop-all (w ∷ ws) v (suc i) e = drop-all ws v i (omega arith)
 
 -- the last piece goes, or its last bytes
-pub last-left : (vs ws : List View) (v : View) (at i o : ℕ) → vs ≡ ws ++ v ∷ [] → i + 1 ≡ length vs → AreFull vs → IsPlace vs at i o → o ≡ 0 → ws ≡ left_pieces vs at
+pub last-left : (vs ws : List View) (v : View) (at i o : ℕ) → vs ≡ ws ++ v ∷ [] → i + 1 ≡ length vs → AreFull vs → IsPlace vs at i o → o ≡ 0
+    → ws ≡ left_pieces vs at
 last-left vs ws v at i o is last full place edge =
     let n = length-append ws (v ∷ []) in
     let e : i ≡ length ws = omega (arith, ap length is) in
     sym (left-at_edge vs at i o full place edge ∙ ap (take i) is ∙ take-seam ws v i e)
 
-pub last-right : (vs ws : List View) (v : View) (at i o : ℕ) → vs ≡ ws ++ v ∷ [] → i + 1 ≡ length vs → AreFull vs → IsPlace vs at i o → o ≡ 0 → v ∷ [] ≡ right_pieces vs at
+pub last-right : (vs ws : List View) (v : View) (at i o : ℕ) → vs ≡ ws ++ v ∷ [] → i + 1 ≡ length vs → AreFull vs → IsPlace vs at i o → o ≡ 0
+    → v ∷ [] ≡ right_pieces vs at
 last-right vs ws v at i o is last full place edge =
     let n = length-append ws (v ∷ []) in
     let e : i ≡ length ws = omega (arith, ap length is) in
     sym (right-at_edge vs at i o full place edge ∙ ap (drop i) is ∙ drop-seam ws v i e)
 
-pub last-front : (vs ws : List View) (v front : View) (at i o : ℕ) → vs ≡ ws ++ v ∷ [] → i + 1 ≡ length vs → IsPlace vs at i o → 0 < o → front ≡ view_front v o → ws ++ front ∷ [] ≡ left_pieces vs at
+pub last-front : (vs ws : List View) (v front : View) (at i o : ℕ) → vs ≡ ws ++ v ∷ [] → i + 1 ≡ length vs → IsPlace vs at i o → 0 < o
+    → front ≡ view_front v o → ws ++ front ∷ [] ≡ left_pieces vs at
 last-front vs ws v front at i o is last place some cut =
     let n = length-append ws (v ∷ []) in
     let e : i ≡ length ws = omega (arith, ap length is) in
@@ -66,7 +69,8 @@ last-front vs ws v front at i o is last place some cut =
     let before : take i vs ≡ ws = ap (take i) is ∙ take-seam ws v i e in
     sym (left-at_place vs at i o place some ∙ (λ k. before k ++ view_front (here k) o ∷ []) ∙ ap (λ x. ws ++ x ∷ []) (sym cut))
 
-pub last-behind : (vs ws : List View) (v behind : View) (at i o : ℕ) → vs ≡ ws ++ v ∷ [] → i + 1 ≡ length vs → IsPlace vs at i o → behind ≡ view_advanced v o → behind ∷ [] ≡ right_pieces vs at
+pub last-behind : (vs ws : List View) (v behind : View) (at i o : ℕ) → vs ≡ ws ++ v ∷ [] → i + 1 ≡ length vs → IsPlace vs at i o
+    → behind ≡ view_advanced v o → behind ∷ [] ≡ right_pieces vs at
 last-behind vs ws v behind at i o is last place cut =
     let n = length-append ws (v ∷ []) in
     let e : i ≡ length ws = omega (arith, ap length is) in
@@ -122,7 +126,9 @@ piece-dropped ps behind i is =
 pub inside-dropped : (ps behind : List Piece) (at i o : ℕ) → IsPlace (views_in ps) at i o → behind ≡ drop i ps → o < view_len (piece_at (views_in behind) 0)
 inside-dropped ps behind at i o place is = omega (arith, place.inside, ap (λ (v : View). view_len v) (piece-dropped ps behind i is))
 
-pub left-row : (b at i o e : ℕ) (ps moved front : List Piece) (inside : View) → IsRow b ps → IsPlace (views_in ps) at i o → (0 < o → inside ≡ view_front (piece_at (views_in ps) i) o) → at < 2 ^ 64 → e ≡ (b + at) % 2 ^ 64 → moved ≡ take i ps → front ≡ moved ++ cut_piece inside e o → IsRow b front × (views_in front ≡ left_pieces (views_in ps) at)
+pub left-row : (b at i o e : ℕ) (ps moved front : List Piece) (inside : View) → IsRow b ps → IsPlace (views_in ps) at i o
+    → (0 < o → inside ≡ view_front (piece_at (views_in ps) i) o) → at < 2 ^ 64 → e ≡ (b + at) % 2 ^ 64 → moved ≡ take i ps
+    → front ≡ moved ++ cut_piece inside e o → IsRow b front × (views_in front ≡ left_pieces (views_in ps) at)
 left-row b at i o e ps moved front inside h place cut fits end before join =
     let is : front ≡ take i ps ++ cut_piece inside e o = join ∙ ap (λ (xs : List Piece). xs ++ cut_piece inside e o) before in
     ⊎_elim
@@ -133,7 +139,8 @@ left-row b at i o e ps moved front inside h place cut fits end before join =
     let sum : length (pieces_bytes (views_in (take i ps))) + view_len inside ≡ at = (λ k. length (pieces_bytes (shown k)) + len k) ∙ place.sum in
     let cut_is : front ≡ take i ps ++ record { view = inside; end = e } ∷ [] = is ∙ ap (λ xs. take i ps ++ xs) (cut-some inside e o some) in (
       row-push b e (take i ps) front inside (row-take b i ps h) (omega arith) (omega arith) (end ∙ ap (λ n. (b + n) % 2 ^ 64) (sym sum)) cut_is,
-      views-popped front (take i ps) (record { view = inside; end = e }) cut_is ∙ (λ k. shown k ++ v k ∷ []) ∙ sym (left-at_place (views_in ps) at i o place some),
+      views-popped front (take i ps) (record { view = inside; end = e }) cut_is ∙ (λ k. shown k ++ v k ∷ [])
+          ∙ sym (left-at_place (views_in ps) at i o place some),
     ))
     (λ (none : o ≤ 0).
     let z : o ≡ 0 = omega arith in
@@ -143,7 +150,8 @@ left-row b at i o e ps moved front inside h place cut fits end before join =
     ))
     (cases_lt 0 o)
 
-pub right-row : (b at i o c : ℕ) (ps rest behind : List Piece) → IsRow b ps → IsPlace (views_in ps) at i o → c ≡ (b + at) % 2 ^ 64 → rest ≡ drop i ps → behind ≡ shortened rest o → IsRow c behind × (views_in behind ≡ right_pieces (views_in ps) at)
+pub right-row : (b at i o c : ℕ) (ps rest behind : List Piece) → IsRow b ps → IsPlace (views_in ps) at i o → c ≡ (b + at) % 2 ^ 64 → rest ≡ drop i ps
+    → behind ≡ shortened rest o → IsRow c behind × (views_in behind ≡ right_pieces (views_in ps) at)
 right-row b at i o c ps rest behind h place base left cut =
     let is : behind ≡ shortened (drop i ps) o = cut ∙ ap (λ (xs : List Piece). shortened xs o) left in
     let vs = views_in ps in

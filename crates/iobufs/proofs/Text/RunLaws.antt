@@ -16,7 +16,8 @@ use Rattle.iobufs.proofs.Text.JoinLaws.{joined-push}
 abbrev pub run_to_end : {S A : Type 0} (steps : S → Option A → S → Type 0) (s : S) (xs : List A) {t u : S} → Yields steps s xs t → steps t None u → Run steps
 run_to_end steps s xs {t} {u} ran e = run steps s xs true (to_end steps s xs (u, (t, ran, e)))
 
-abbrev pub run_to_item : {S A : Type 0} (steps : S → Option A → S → Type 0) (s : S) (xs : List A) {t u : S} → Yields steps s xs t → (x : A) → steps t (Some x) u → Run steps
+abbrev pub run_to_item : {S A : Type 0} (steps : S → Option A → S → Type 0) (s : S) (xs : List A) {t u : S} → Yields steps s xs t → (x : A)
+    → steps t (Some x) u → Run steps
 run_to_item steps s xs {t} {u} ran x e = run steps s (xs ++ x ∷ []) false (to_item steps s u xs x (t, ran, e))
 
 -- one more view behind those joined so far
@@ -25,16 +26,20 @@ joined-more views view t u e a = a ∙ ap (λ (x : MarkedText). text_append x vi
 
 length-more : (views : List View) (view : View) (t : MarkedText) → t ≡ joined views → text_len (joined (views ++ view ∷ [])) ≡ text_len t + length view.bytes
 length-more views view t e =
-    ap text_len (joined-push views view) ∙ ap length (bytes-append (joined views) view) ∙ length-append (joined views).bytes view.bytes ∙ ap (λ (x : MarkedText). text_len x + length view.bytes) (sym e)
+    ap text_len (joined-push views view) ∙ ap length (bytes-append (joined views) view) ∙ length-append (joined views).bytes view.bytes
+    ∙ ap (λ (x : MarkedText). text_len x + length view.bytes) (sym e)
 
-told : (total : ℕ) (cause : BufError) → (2 ^ 64 ≤ total → cause ≡ TooLong) → (total < 2 ^ 64 → cause ≡ Memory) → cause ≡ cond (nat_lt total (2 ^ 64)) Memory TooLong
+told : (total : ℕ) (cause : BufError) → (2 ^ 64 ≤ total → cause ≡ TooLong) → (total < 2 ^ 64 → cause ≡ Memory)
+    → cause ≡ cond (nat_lt total (2 ^ 64)) Memory TooLong
 told total cause long short =
     ⊎_elim
     (λ (h : total < 2 ^ 64). rw (is_lt total (2 ^ 64) h) (short h))
     (λ (h : 2 ^ 64 ≤ total). rw (not_lt total (2 ^ 64) h) (long h))
     (cases_lt total (2 ^ 64))
 
-pub refused-at : (views : List View) (view : View) (t : MarkedText) (cause : BufError) → t ≡ joined views → text_len t < 2 ^ 64 → 0 < text_len t → 0 < length view.bytes → (2 ^ 64 ≤ text_len t + length view.bytes → cause ≡ TooLong) → (text_len t + length view.bytes < 2 ^ 64 → cause ≡ Memory) → IsRefusedAt (views ++ view ∷ []) cause
+pub refused-at : (views : List View) (view : View) (t : MarkedText) (cause : BufError) → t ≡ joined views → text_len t < 2 ^ 64 → 0 < text_len t
+    → 0 < length view.bytes → (2 ^ 64 ≤ text_len t + length view.bytes → cause ≡ TooLong)
+    → (text_len t + length view.bytes < 2 ^ 64 → cause ≡ Memory) → IsRefusedAt (views ++ view ∷ []) cause
 refused-at views view t cause e fits some more long short =
     let n = length-more views view t e in
     let same = ap text_len e in

@@ -22,7 +22,8 @@ several-push vs ws w h p e =
     let l = h.0 in
     (omega arith, subst AreFull (sym e) (AreFull-append vs (w ∷ []) h.1 (p, tt)))
 
-pub right-full : (p : Pieces) (vs ws : List View) (at : ℕ) → views p ≡ vs → AreFull (views p) → at < length (pieces_bytes (views p)) → ws ≡ right_pieces vs at → AreFull ws × (0 < length ws)
+pub right-full : (p : Pieces) (vs ws : List View) (at : ℕ) → views p ≡ vs → AreFull (views p) → at < length (pieces_bytes (views p))
+    → ws ≡ right_pieces vs at → AreFull ws × (0 < length ws)
 right-full p vs ws at e f l is =
     let g = subst AreFull e f in
     let b = ap (λ (xs : List View). length (pieces_bytes xs)) e in
@@ -36,7 +37,8 @@ left-some vs at p l = some (left_pieces vs at) (length-left at vs p l)
     some (w ∷ ws) e = omega arith
 
 -- behind the first piece
-pub left-two : (p : Pieces) (vs ws : List View) (at : ℕ) → views p ≡ vs → AreFull (views p) → view_len (piece_at (views p) 0) < at → at < length (pieces_bytes (views p)) → ws ≡ left_pieces vs at → (1 < length ws) × AreFull ws
+pub left-two : (p : Pieces) (vs ws : List View) (at : ℕ) → views p ≡ vs → AreFull (views p) → view_len (piece_at (views p) 0) < at
+    → at < length (pieces_bytes (views p)) → ws ≡ left_pieces vs at → (1 < length ws) × AreFull ws
 left-two p vs ws at e f past l is =
     let first = ap (λ (xs : List View). view_len (piece_at xs 0)) e in
     let bytes = ap (λ (xs : List View). length (pieces_bytes xs)) e in
@@ -52,7 +54,8 @@ left-two p vs ws at e f past l is =
         rw (left_pieces-past at v vs (omega arith) (omega arith)) (omega arith)
 
 -- up to the last piece
-pub right-two : (p : Pieces) (vs ws : List View) (at i o : ℕ) → views p ≡ vs → AreFull (views p) → at < length (pieces_bytes (views p)) → IsPlace vs at i o → i + 1 < length vs → ws ≡ right_pieces vs at → (1 < length ws) × AreFull ws
+pub right-two : (p : Pieces) (vs ws : List View) (at i o : ℕ) → views p ≡ vs → AreFull (views p) → at < length (pieces_bytes (views p))
+    → IsPlace vs at i o → i + 1 < length vs → ws ≡ right_pieces vs at → (1 < length ws) × AreFull ws
 right-two p vs ws at i o e f l place more is =
     let n = ap (λ (xs : List View). length xs) (is ∙ right-at_place vs at i o place) in
     let d = length-drop (suc i) vs in
@@ -63,13 +66,16 @@ pub place-in_first : (vs : List View) (at : ℕ) → at < view_len (piece_at vs 
 place-in_first vs at l = record { sum = omega arith; inside = l }
 
 -- at the edge of the last piece a place has nothing before it there
-pub edge-last : (vs front : List View) (last : View) (at i o : ℕ) → AreFull vs → vs ≡ front ++ last ∷ [] → at + view_len last ≡ length (pieces_bytes vs) → IsPlace vs at i o → (i + 1 ≡ length vs) × (o ≡ 0)
+pub edge-last : (vs front : List View) (last : View) (at i o : ℕ) → AreFull vs → vs ≡ front ++ last ∷ []
+    → at + view_len last ≡ length (pieces_bytes vs) → IsPlace vs at i o → (i + 1 ≡ length vs) × (o ≡ 0)
 edge-last vs front last at i o full is edge place =
     let k = length front in
     let n = ap (λ (xs : List View). length xs) is ∙ length-append front (last ∷ []) in
-    let total = ap (λ (xs : List View). length (pieces_bytes xs)) is ∙ ap length (flat_map-append (λ (v : View). v.bytes) front (last ∷ [])) ∙ length-append (pieces_bytes front) (last.bytes ++ []) in
+    let total = ap (λ (xs : List View). length (pieces_bytes xs)) is ∙ ap length (flat_map-append (λ (v : View). v.bytes) front (last ∷ []))
+    ∙ length-append (pieces_bytes front) (last.bytes ++ []) in
     let end = ap length (append-nil last.bytes) in
-    let before : piece_start vs k ≡ length (pieces_bytes front) = ap (λ (xs : List View). piece_start xs k) is ∙ ap (λ (xs : List View). length (pieces_bytes xs)) (take-append_seam front (last ∷ [])) in
+    let before : piece_start vs k ≡ length (pieces_bytes front) = ap (λ (xs : List View). piece_start xs k) is
+    ∙ ap (λ (xs : List View). length (pieces_bytes xs)) (take-append_seam front (last ∷ [])) in
     let index = index-of_place vs at i o place in
     let sum = place.sum in
     let inside = place.inside in

@@ -56,14 +56,16 @@ pub down_up : (at n : ℕ) (es : List (ℕ × Mark)) → at ≤ n → map (moved
 down_up at n [] l = refl
 down_up at n (e ∷ es) l = let h = down_up at n es l in let k : n + e.0 - at ≡ n - at + e.0 = omega arith in cc
 
-pub filter_up : (at n : ℕ) (es : List (ℕ × Mark)) → n ≤ at → map (moved_down at) (filter (λ e. nat_lt at e.0) (map (moved_up n) es)) ≡ map (moved_down (at - n)) (filter (λ e. nat_lt (at - n) e.0) es)
+pub filter_up : (at n : ℕ) (es : List (ℕ × Mark)) → n ≤ at
+    → map (moved_down at) (filter (λ e. nat_lt at e.0) (map (moved_up n) es)) ≡ map (moved_down (at - n)) (filter (λ e. nat_lt (at - n) e.0) es)
 filter_up at n [] l = refl
 filter_up at n (e ∷ es) l =
     let ih = filter_up at n es l in
     let k : n + e.0 - at ≡ e.0 - (at - n) = omega arith in
     rw (lt_up at n e.0 l) (both (map (moved_down at)) (map (moved_down (at - n))) (nat_lt (at - n) e.0) _ _ _ _ (cc) ih)
 
-pub filter_up_left : (at n : ℕ) (es : List (ℕ × Mark)) → n ≤ at → filter (λ e. nat_lt e.0 at) (map (moved_up n) es) ≡ map (moved_up n) (filter (λ e. nat_lt e.0 (at - n)) es)
+pub filter_up_left : (at n : ℕ) (es : List (ℕ × Mark)) → n ≤ at
+    → filter (λ e. nat_lt e.0 at) (map (moved_up n) es) ≡ map (moved_up n) (filter (λ e. nat_lt e.0 (at - n)) es)
 filter_up_left at n [] l = refl
 filter_up_left at n (e ∷ es) l =
     let ih = filter_up_left at n es l in
@@ -74,7 +76,8 @@ upto_up at n k [] l = refl
 upto_up at n k (e ∷ es) l =
     rw (le_up at n e.0 l) (both (λ x. x) (moved_up n) (nat_le e.0 (at - n)) _ _ _ _ (upto_up at n e es l) (upto_up at n k es l))
 
-pub mark_up : (at n : ℕ) (k : ℕ × Mark) (es : List (ℕ × Mark)) → n ≤ at → mark_past (key_upto (moved_up n k) (map (moved_up n) es) at) at ≡ mark_past (key_upto k es (at - n)) (at - n)
+pub mark_up : (at n : ℕ) (k : ℕ × Mark) (es : List (ℕ × Mark)) → n ≤ at
+    → mark_past (key_upto (moved_up n k) (map (moved_up n) es) at) at ≡ mark_past (key_upto k es (at - n)) (at - n)
 mark_up at n k es l =
     let f = key_upto k es (at - n) in
     let d : at - (n + f.0) ≡ at - n - f.0 = omega arith in
@@ -111,7 +114,8 @@ pub not_le : (m n : ℕ) → n < m → nat_le m n ≡ false
 not_le m n l = grind (arith, tests)
 
 -- a view, with more behind it
-pub right-glue_within : (at : ℕ) (v : View) (y : MarkedText) → at < view_len v → text_right (text_glue (of_view v) y) at ≡ text_glue (of_view (view_advanced v at)) y
+pub right-glue_within : (at : ℕ) (v : View) (y : MarkedText) → at < view_len v
+    → text_right (text_glue (of_view v) y) at ≡ text_glue (of_view (view_advanced v at)) y
 unfolding text_right text_glue
 right-glue_within at v y l =
     let n : length (drop at v.bytes) ≡ view_len v - at = length-drop at v.bytes in
@@ -142,7 +146,8 @@ left-glue_within at v y l =
     refl
     (rw (not_lt (view_len v) at l) (below_all at (view_len v) _ (from_on-up (view_len v) y.cuts) l))
 
-pub left-glue_past : (at : ℕ) (v : View) (y : MarkedText) → view_len v < at → text_left (text_glue (of_view v) y) at ≡ text_glue (of_view v) (text_left y (at - view_len v))
+pub left-glue_past : (at : ℕ) (v : View) (y : MarkedText) → view_len v < at
+    → text_left (text_glue (of_view v) y) at ≡ text_glue (of_view v) (text_left y (at - view_len v))
 unfolding text_left text_glue
 left-glue_past at v y l =
     let l' : view_len v ≤ at = omega arith in

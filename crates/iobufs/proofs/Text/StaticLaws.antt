@@ -22,22 +22,26 @@ still-static n (native_mark room) e = absurd (subst IsStatic (sym e) tt)
 mark-slice : (v : View) (o n : ℕ) → 0 < n → (view_slice v (Included o) (Excluded (o + n))).mark ≡ mark_after o v.mark
 mark-slice v o n some = grind (arith, nat_tests, common_steps)
 
-pub static-within : (vs : List View) (t : MarkedText) (skip n i o : ℕ) → of_pieces vs ≡ t → IsPlace vs skip i o → skip < length (pieces_bytes vs) → 0 < n → n ≤ view_len (piece_at vs i) - o → (taken_view t skip n).mark ≡ static_mark → (piece_at vs i).mark ≡ static_mark
+pub static-within : (vs : List View) (t : MarkedText) (skip n i o : ℕ) → of_pieces vs ≡ t → IsPlace vs skip i o → skip < length (pieces_bytes vs)
+    → 0 < n → n ≤ view_len (piece_at vs i) - o → (taken_view t skip n).mark ≡ static_mark → (piece_at vs i).mark ≡ static_mark
 static-within vs t skip n i o e h l some m static =
     still-static o (piece_at vs i).mark
     (sym (mark-slice (piece_at vs i) o n some) ∙ ap (λ (v : View). v.mark) (taken-within vs t skip n i o e h l some m) ∙ static)
 
-mark-frozen : (copy : List ℕ) → 0 < length copy → (part_frozen (record { filled = copy; spare = 0 })).mark ≡ native_mark (part_capacity (record { filled = copy; spare = 0 }))
+mark-frozen : (copy : List ℕ) → 0 < length copy → (part_frozen (record { filled = copy; spare = 0 })).mark
+    ≡ native_mark (part_capacity (record { filled = copy; spare = 0 }))
 mark-frozen copy some = grind (arith, nat_tests, common_steps)
 
-pub across-native : (vs : List View) (t : MarkedText) (skip n i o : ℕ) → of_pieces vs ≡ t → IsPlace vs skip i o → skip + n ≤ length (pieces_bytes vs) → view_len (piece_at vs i) - o < n → (taken_view t skip n).mark ≡ static_mark → ⊥
+pub across-native : (vs : List View) (t : MarkedText) (skip n i o : ℕ) → of_pieces vs ≡ t → IsPlace vs skip i o → skip + n ≤ length (pieces_bytes vs)
+    → view_len (piece_at vs i) - o < n → (taken_view t skip n).mark ≡ static_mark → ⊥
 across-native vs t skip n i o e h l m static =
     let copy = take n (drop o (pieces_bytes (drop i vs))) in
     let taken = taken-across vs t skip n i o copy e h l m refl in
     let some : 0 < length copy = omega (arith, m, copied-length vs skip n i o h l) in
     subst IsStatic (sym static ∙ sym (ap (λ (v : View). v.mark) taken) ∙ mark-frozen copy some) tt
   where
-    copied-length : (vs : List View) (skip n i o : ℕ) → IsPlace vs skip i o → skip + n ≤ length (pieces_bytes vs) → length (take n (drop o (pieces_bytes (drop i vs)))) ≡ n
+    copied-length : (vs : List View) (skip n i o : ℕ) → IsPlace vs skip i o → skip + n ≤ length (pieces_bytes vs)
+        → length (take n (drop o (pieces_bytes (drop i vs)))) ≡ n
     copied-length vs skip n i o h l =
         let rest = rest-length vs i in
         let left = length-drop o (pieces_bytes (drop i vs)) in

@@ -11,7 +11,9 @@ use Rattle.iobufs.proofs.Text.Sides.{FromOn, from_on-up, upto_none, is_lt, not_z
 use Rattle.iobufs.proofs.Text.PieceLaws.{bytes-of_pieces, mark-of_pieces}
 
 -- what is taken from inside is what is taken from the front of the right side
-pub any_down : (skip n : ℕ) (es : List (ℕ × Mark)) → list_any (λ e. nat_lt 0 e.0 && nat_lt e.0 n) (map (moved_down skip) (filter (λ e. nat_lt skip e.0) es)) ≡ list_any (λ e. nat_lt skip e.0 && nat_lt e.0 (skip + n)) es
+pub any_down : (skip n : ℕ) (es : List (ℕ × Mark))
+    → list_any (λ e. nat_lt 0 e.0 && nat_lt e.0 n) (map (moved_down skip) (filter (λ e. nat_lt skip e.0) es))
+    ≡ list_any (λ e. nat_lt skip e.0 && nat_lt e.0 (skip + n)) es
 any_down skip n [] = refl
 any_down skip n (e ∷ es) =
     let ih = any_down skip n es in
@@ -70,13 +72,15 @@ taken_view-within n v vs p l =
     rw (not_zero n p)
     (same_view _ _ (ap (take n) (bytes-of_pieces (v ∷ vs)) ∙ take-append-le n v.bytes (pieces_bytes vs) l) (rw any front))
 
-pub cut-of_pieces : (v : View) (vs : List View) (n : ℕ) → 0 < view_len v → view_len v < n → n ≤ length (pieces_bytes (v ∷ vs)) → list_any (λ e. nat_lt 0 e.0 && nat_lt e.0 (0 + n)) (of_pieces (v ∷ vs)).cuts ≡ true
+pub cut-of_pieces : (v : View) (vs : List View) (n : ℕ) → 0 < view_len v → view_len v < n → n ≤ length (pieces_bytes (v ∷ vs))
+    → list_any (λ e. nat_lt 0 e.0 && nat_lt e.0 (0 + n)) (of_pieces (v ∷ vs)).cuts ≡ true
 unfolding of_pieces text_glue
 cut-of_pieces v [] n p l e = let k : length (v.bytes ++ []) ≡ view_len v = ap length (append-nil v.bytes) in absurd (omega arith)
 cut-of_pieces v (w ∷ vs) n p l e = rw (is_lt 0 (view_len v) p, is_lt (view_len v) (0 + n) (omega arith))
 
 -- what the first view does not hold
-pub taken_view-across : (n : ℕ) (v : View) (vs : List View) → 0 < view_len v → view_len v < n → n ≤ length (pieces_bytes (v ∷ vs)) → taken_view (of_pieces (v ∷ vs)) 0 n ≡ record { bytes = take n (pieces_bytes (v ∷ vs)); mark = native_mark n }
+pub taken_view-across : (n : ℕ) (v : View) (vs : List View) → 0 < view_len v → view_len v < n → n ≤ length (pieces_bytes (v ∷ vs))
+    → taken_view (of_pieces (v ∷ vs)) 0 n ≡ record { bytes = take n (pieces_bytes (v ∷ vs)); mark = native_mark n }
 unfolding taken_view
 taken_view-across n v vs p l e =
     rw (not_zero n (omega arith))

@@ -50,7 +50,8 @@ not_one n l = grind (arith, tests)
 pub single-of : (vs : List View) (t : MarkedText) → of_pieces vs ≡ t → 0 < length vs → is_single t ≡ nat_eq (length vs) 1
 single-of [] t e l = absurd (omega arith)
 single-of (v ∷ []) t e l = sym (ap is_single e) ∙ is_single-of_pieces v []
-single-of (v ∷ w ∷ vs) t e l = sym (ap is_single e) ∙ is_single-of_pieces v (w ∷ vs) ∙ not_zero (length (w ∷ vs)) (omega arith) ∙ sym (not_one (length (v ∷ w ∷ vs)) (omega arith))
+single-of (v ∷ w ∷ vs) t e l = sym (ap is_single e) ∙ is_single-of_pieces v (w ∷ vs) ∙ not_zero (length (w ∷ vs)) (omega arith)
+    ∙ sym (not_one (length (v ∷ w ∷ vs)) (omega arith))
 
 pub single-kept : (s : Inside) (t : MarkedText) → text_of s ≡ t → IsKept s → is_single t ≡ nat_eq (length (views s.pieces)) 1
 single-kept s t e k = single-of (views s.pieces) t e (some_views s.pieces k.pieced)
@@ -72,7 +73,8 @@ chunks-kept [] t e l f = absurd (omega arith)
 chunks-kept (v ∷ vs) t e l f = sym (ap text_chunks e) ∙ chunks-of_pieces v vs f
 
 -- behind and in front
-pub append-pieces : (vs : List View) (w : View) (t : MarkedText) → of_pieces vs ≡ t → 0 < text_len t → 0 < view_len w → of_pieces (vs ++ w ∷ []) ≡ text_append t w
+pub append-pieces : (vs : List View) (w : View) (t : MarkedText) → of_pieces vs ≡ t → 0 < text_len t → 0 < view_len w
+    → of_pieces (vs ++ w ∷ []) ≡ text_append t w
 append-pieces [] w t e p q = let s = len-of_pieces [] in let z : text_len (of_pieces []) ≡ text_len t = ap text_len e in absurd (omega arith)
 append-pieces (v ∷ vs) w t e p q =
     let s = len-of_pieces (v ∷ vs) in
@@ -93,10 +95,12 @@ pub views-cons : (vs ws : List View) (w : View) → ws ≡ w ∷ vs → AreViews
 views-cons vs ws w is h v = subst AreViews (sym is) (v, h)
 
 -- the two sides of a place inside, as a split leaves them
-pub front-kept : (vs ws : List View) (t : MarkedText) (at : ℕ) → of_pieces vs ≡ t → 0 < at → at < length (pieces_bytes vs) → ws ≡ left_pieces vs at → of_pieces ws ≡ text_split_front t at
+pub front-kept : (vs ws : List View) (t : MarkedText) (at : ℕ) → of_pieces vs ≡ t → 0 < at → at < length (pieces_bytes vs) → ws ≡ left_pieces vs at
+    → of_pieces ws ≡ text_split_front t at
 front-kept vs ws t at e p l is = ap of_pieces is ∙ sym (split_front-of_pieces at vs p l) ∙ ap (λ (x : MarkedText). text_split_front x at) e
 
-pub rest-kept : (vs ws : List View) (t : MarkedText) (at : ℕ) → of_pieces vs ≡ t → 0 < at → at < length (pieces_bytes vs) → ws ≡ right_pieces vs at → of_pieces ws ≡ text_rest t at
+pub rest-kept : (vs ws : List View) (t : MarkedText) (at : ℕ) → of_pieces vs ≡ t → 0 < at → at < length (pieces_bytes vs) → ws ≡ right_pieces vs at
+    → of_pieces ws ≡ text_rest t at
 rest-kept vs ws t at e p l is = ap of_pieces is ∙ sym (rest-of_pieces at vs p l) ∙ ap (λ (x : MarkedText). text_rest x at) e
 
 pub views-right : (vs ws : List View) (at : ℕ) → ws ≡ right_pieces vs at → AreViews vs → AreViews ws
@@ -107,7 +111,8 @@ views-left vs ws at is h = subst AreViews (sym is) (AreViews-left at vs h)
 
 -- what `advance` leaves
 pub advanced-one : (v : View) (t : MarkedText) (n : ℕ) → of_pieces (v ∷ []) ≡ t → n ≤ view_len v → of_pieces (view_advanced v n ∷ []) ≡ text_advanced t n
-advanced-one v t n e l = of_pieces-one (view_advanced v n) ∙ sym (advanced-of_view n v l) ∙ ap (λ (x : MarkedText). text_advanced x n) (sym (of_pieces-one v) ∙ e)
+advanced-one v t n e l = of_pieces-one (view_advanced v n) ∙ sym (advanced-of_view n v l)
+    ∙ ap (λ (x : MarkedText). text_advanced x n) (sym (of_pieces-one v) ∙ e)
 
 -- a text of one piece is that view
 pub one-view : (v : View) (t : MarkedText) → of_pieces (v ∷ []) ≡ t → t ≡ of_view v
@@ -119,9 +124,11 @@ slice_get-map f (x ∷ xs) zero = refl
 slice_get-map f (x ∷ xs) (suc i) = slice_get-map f xs i
 
 -- the chunk of a piece
-pub chunk-at : (vs : List View) (t : MarkedText) (i : ℕ) (piece : Option View) → of_pieces vs ≡ t → 0 < length vs → AreFull vs → piece ≡ slice_get vs i → option_map (λ (v : View). v.bytes) piece ≡ slice_get (text_chunks t) i
+pub chunk-at : (vs : List View) (t : MarkedText) (i : ℕ) (piece : Option View) → of_pieces vs ≡ t → 0 < length vs → AreFull vs
+    → piece ≡ slice_get vs i → option_map (λ (v : View). v.bytes) piece ≡ slice_get (text_chunks t) i
 chunk-at vs t i piece e l f g =
-    ap (option_map (λ (v : View). v.bytes)) g ∙ sym (slice_get-map (λ (v : View). v.bytes) vs i) ∙ ap (λ (xs : List (List ℕ)). slice_get xs i) (sym (chunks-kept vs t e l f))
+    ap (option_map (λ (v : View). v.bytes)) g ∙ sym (slice_get-map (λ (v : View). v.bytes) vs i)
+    ∙ ap (λ (xs : List (List ℕ)). slice_get xs i) (sym (chunks-kept vs t e l f))
 
 pub chunk-none : (t : MarkedText) (i : ℕ) → text_len t ≡ 0 → None ≡ slice_get (text_chunks t) i
 chunk-none t i e = sym (ap (λ (xs : List (List ℕ)). slice_get xs i) (chunks-of_empty t e))
@@ -162,6 +169,7 @@ kept-same s p k h is =
       roomy = subst AreViews (sym is) k.roomy;
     }
 
-pub kept-short : (s : Inside) (n : ℕ) (p : Pieces) (short : Bool) → IsKept s → IsPieced p → (IsTrue short → views p ≡ right_pieces (views s.pieces) n) → (IsFalse short → views p ≡ views s.pieces) → IsKept (record { pieces = p })
+pub kept-short : (s : Inside) (n : ℕ) (p : Pieces) (short : Bool) → IsKept s → IsPieced p
+    → (IsTrue short → views p ≡ right_pieces (views s.pieces) n) → (IsFalse short → views p ≡ views s.pieces) → IsKept (record { pieces = p })
 kept-short s n p true k h left same = kept-rest s n p k h (left refl)
 kept-short s n p false k h left same = kept-same s p k h (same refl)

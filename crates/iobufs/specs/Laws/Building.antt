@@ -83,7 +83,11 @@ built-append a (u ∷ us) vs = built-append (building_with a u) us vs
 pub push-none : (a : Building) (view : View) → length view.bytes ≡ 0 → building_push a view ≡ a
 push-none a view none = grind (arith, nat_tests, common_steps)
 
-pub push-some : (a : Building) (view : View) → 0 < length view.bytes → building_push a view ≡ record { capacity = a.capacity; front = a.front ++ (inline_run a.last ++ push_item view ∷ []); last = [] }
+pub push-some : (a : Building) (view : View) → 0 < length view.bytes → building_push a view ≡ record {
+  capacity = a.capacity;
+  front = a.front ++ (inline_run a.last ++ push_item view ∷ []);
+  last = [];
+}
 push-some a view some = grind (arith, nat_tests, common_steps)
 
 by_length : (view : View) (C : Type 0) → (length view.bytes ≡ 0 → C) → (0 < length view.bytes → C) → C
@@ -94,10 +98,12 @@ bytes-one : (a : Building) (item : Item) → building_bytes (building_with a ite
 bytes-one a (put_item bytes) = sym (append_assoc (items_bytes a.front) a.last bytes)
 bytes-one a (push_item view) =
     by_length view _
-    (λ (none : length view.bytes ≡ 0). ap building_bytes (push-none a view none) ∙ sym (append-nil (building_bytes a)) ∙ ap (λ bs. building_bytes a ++ bs) (sym (nil_from_length view.bytes none)))
+    (λ (none : length view.bytes ≡ 0). ap building_bytes (push-none a view none) ∙ sym (append-nil (building_bytes a))
+    ∙ ap (λ bs. building_bytes a ++ bs) (sym (nil_from_length view.bytes none)))
     (λ (some : 0 < length view.bytes).
     ap building_bytes (push-some a view some) ∙ append-nil _ ∙ items_bytes-append a.front _
-    ∙ ap (λ bs. items_bytes a.front ++ bs) (items_bytes-append (inline_run a.last) _ ∙ ap (λ bs. bs ++ (view.bytes ++ [])) (run-bytes a.last) ∙ ap (λ bs. a.last ++ bs) (append-nil view.bytes))
+    ∙ ap (λ bs. items_bytes a.front ++ bs) (items_bytes-append (inline_run a.last) _ ∙ ap (λ bs. bs ++ (view.bytes ++ [])) (run-bytes a.last)
+    ∙ ap (λ bs. a.last ++ bs) (append-nil view.bytes))
     ∙ sym (append_assoc (items_bytes a.front) a.last view.bytes))
 
 room-one : (a : Building) (item : Item) → building_room (building_with a item) ≡ building_room a - item_inline item

@@ -32,7 +32,8 @@ filled-kept_parts parts = filled-or_default (with_capacity parts) ∙ filled-wit
 
 pub filled-shared_out : (parts : List Part) (n : ℕ) → parts_filled (parts_shared_out parts n) ≡ drop n (parts_filled parts)
 filled-shared_out [] n = sym (drop-nil n)
-filled-shared_out (p ∷ parts) n = ap (λ w. drop n p.filled ++ w) (filled-shared_out parts (n - length p.filled)) ∙ sym (drop_both n p.filled (parts_filled parts))
+filled-shared_out (p ∷ parts) n = ap (λ w. drop n p.filled ++ w) (filled-shared_out parts (n - length p.filled))
+    ∙ sym (drop_both n p.filled (parts_filled parts))
 
 pub filled-drained : (parts : List Part) (n : ℕ) → parts_filled (parts_drained parts n) ≡ drop n (parts_filled parts)
 filled-drained [] n = sym (drop-nil n)

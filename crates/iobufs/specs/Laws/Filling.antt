@@ -67,7 +67,8 @@ put-append p u v =
     let e = take_both p.spare u v in
     let a = length-append (take p.spare u) (take (p.spare - length u) v) in
     same_part _ _
-    (ap (λ w. p.filled ++ w) e ∙ sym (append_assoc p.filled (take p.spare u) (take (p.spare - length u) v)) ∙ ap (λ k. (p.filled ++ take p.spare u) ++ take k v) (sym s))
+    (ap (λ w. p.filled ++ w) e ∙ sym (append_assoc p.filled (take p.spare u) (take (p.spare - length u) v))
+    ∙ ap (λ k. (p.filled ++ take p.spare u) ++ take k v) (sym s))
     (rw (e, s) (omega arith))
 
 -- bytes one after the other are both at once
@@ -77,7 +78,8 @@ fill-append (p ∷ parts) u v =
     let t = length-take p.spare u in
     let s : p.spare - length u ≡ p.spare - length (take p.spare u) = omega arith in
     let a = put-append p u v in
-    let b = ap (λ w. parts_fill parts w) (drop_both p.spare u v ∙ ap (λ k. drop p.spare u ++ drop k v) s) ∙ fill-append parts (drop p.spare u) (drop (p.spare - length (take p.spare u)) v) in
+    let b = ap (λ w. parts_fill parts w) (drop_both p.spare u v ∙ ap (λ k. drop p.spare u ++ drop k v) s)
+    ∙ fill-append parts (drop p.spare u) (drop (p.spare - length (take p.spare u)) v) in
     λ i. a i ∷ b i
 
 -- the room lessens by the length

@@ -15,7 +15,10 @@ impl Pieces {
     pub(super) fn copied(&self, alloc: Global, from: Located, n: usize) -> Result<IoBuf, BufError>
         requires offset { from.offset ≤ length (piece_at (views self.now) from.index).bytes }
         requires inside { n + from.offset ≤ length (pieces_bytes (drop from.index (views self.now))) }
-        ensures ok { IfOk result (λ copy. copy ≡ part_frozen (record { filled = take n (drop from.offset (pieces_bytes (drop from.index (views self.now)))); spare = 0 })) }
+        ensures ok { IfOk result (λ copy. copy ≡ part_frozen (record {
+          filled = take n (drop from.offset (pieces_bytes (drop from.index (views self.now))));
+          spare = 0;
+        })) }
         ensures bad_layout { 2 ^ 63 ≤ n → result ≡ Err BufError.BadLayout }
         ensures memory { n < 2 ^ 63 → IsOkUnless result BufError.Memory }
     {

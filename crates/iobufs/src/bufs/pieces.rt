@@ -206,7 +206,8 @@ impl Pieces {
         ensures refused { OnErr result (views self.new ≡ views self.old) }
         ensures memory { IsOkUnless result BufError.Memory }
         ensures first { at ≡ view_len (piece_at (views self.old) 0) → IsOk result }
-        ensures last { (front : List View) (last : View) → views self.old ≡ front ++ last ∷ [] → at + view_len last ≡ length (pieces_bytes (views self.old)) → IsOk result }
+        ensures last { (front : List View) (last : View) → views self.old ≡ front ++ last ∷ []
+            → at + view_len last ≡ length (pieces_bytes (views self.old)) → IsOk result }
     {
         match self {
             Pieces::One(piece) => Ok(Pieces::One(split_inside(piece, at)?)),
@@ -235,7 +236,8 @@ impl Pieces {
         ensures pieced { IsPieced self.new }
         ensures refused { OnErr result (views self.new ≡ views self.old) }
         ensures memory { IsOkUnless result BufError.Memory }
-        ensures last { (front : List View) (last : View) → views self.old ≡ front ++ last ∷ [] → at + view_len last ≡ length (pieces_bytes (views self.old)) → IsOk result }
+        ensures last { (front : List View) (last : View) → views self.old ≡ front ++ last ∷ []
+            → at + view_len last ≡ length (pieces_bytes (views self.old)) → IsOk result }
     {
         let Pieces::Many(row) = self else {
             unreachable!()

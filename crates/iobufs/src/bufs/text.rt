@@ -299,7 +299,8 @@ impl IoBufs {
         ensures nothing { at ≡ 0 → IsOk result }
         ensures whole { at ≡ text_len self.old → IsOk result }
         ensures first { at ≡ length (first_chunk (text_chunks self.old)) → IsOk result }
-        ensures last { (front : List (List ℕ)) (chunk : List ℕ) → text_chunks self.old ≡ front ++ chunk ∷ [] → at + length chunk ≡ text_len self.old → IsOk result }
+        ensures last { (front : List (List ℕ)) (chunk : List ℕ) → text_chunks self.old ≡ front ++ chunk ∷ [] → at + length chunk ≡ text_len self.old
+            → IsOk result }
     {
         if at == 0 {
             return Ok(IoBufs::default());

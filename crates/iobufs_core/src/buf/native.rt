@@ -55,7 +55,8 @@ impl Model for Native {
 
     ghost view = { λ n. record { bytes = take n.len (drop n.start (arc_value n.block).items); room = n.limit - n.start } };
 
-    ghost invariant = { λ n. (n.start + n.len ≤ vec_len (arc_value n.block)) × (vec_len (arc_value n.block) ≤ n.limit) × (n.limit ≤ vec_capacity (arc_value n.block)) };
+    ghost invariant = { λ n. (n.start + n.len ≤ vec_len (arc_value n.block)) × (vec_len (arc_value n.block) ≤ n.limit)
+        × (n.limit ≤ vec_capacity (arc_value n.block)) };
 }
 
 impl Native {

@@ -102,7 +102,8 @@ pub trait OwnedBuf: Buf {
         ensures short { length (Self.text self.old) < n → result ≡ Err Error.EndOfBuffer }
         ensures memory { n ≤ length (Self.text self.old) → IsOkUnless result Error.Memory }
         ensures nothing { n ≡ 0 → IsOk result }
-        ensures static_text { n ≤ length (Self.text self.old) → (taken_view (marked self.old) 0 n).mark ≡ static_mark → T.is_free (taken_view (marked self.old) 0 n) → IsOk result }
+        ensures static_text { n ≤ length (Self.text self.old) → (taken_view (marked self.old) 0 n).mark ≡ static_mark
+            → T.is_free (taken_view (marked self.old) 0 n) → IsOk result }
     {
         if n > self.remaining() {
             return Err(Error::EndOfBuffer);

@@ -117,7 +117,8 @@ pub trait Read: Sized {
         ensures err { OnErr result (buf.new ≡ buf.old) };
 
     // Reading doesn't depend on where a text is cut.
-    ghost alike: { (s t : MarkedText) (cfg : Self.Cfg) (a b : Result Self AnyError) → s.bytes ≡ t.bytes → is_read s cfg a → is_read t cfg b → IsReadAlike same a b };
+    ghost alike: { (s t : MarkedText) (cfg : Self.Cfg) (a b : Result Self AnyError) → s.bytes ≡ t.bytes → is_read s cfg a → is_read t cfg b
+        → IsReadAlike same a b };
 }
 
 /// A value that is read back as it was written, whatever follows it (the codec's `Codec`).
@@ -125,7 +126,8 @@ pub trait Codec: Write + Read {
     // Which values a configuration admits.
     ghost admits: { Self.Cfg → Self → Type 0 };
 
-    ghost gives_back: { (value : Self) (cfg : Self.Cfg) (text : MarkedText) (rest : List ℕ) (answer : Result Self AnyError) → admits cfg value → text.bytes ≡ Self.written value ++ rest → Self.is_read text cfg answer → IsReadBack Self.same value answer };
+    ghost gives_back: { (value : Self) (cfg : Self.Cfg) (text : MarkedText) (rest : List ℕ) (answer : Result Self AnyError) → admits cfg value
+        → text.bytes ≡ Self.written value ++ rest → Self.is_read text cfg answer → IsReadBack Self.same value answer };
 
     // The same value is written as the same bytes, and the bytes of a value begin those of no other.
     ghost same_written: { (x y : Self) → Self.same x y → Self.written x ≡ Self.written y };

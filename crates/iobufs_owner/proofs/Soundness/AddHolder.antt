@@ -57,22 +57,28 @@ pub counted-let_go : (g : Tables) (r n q : ℕ) → nat_eq n 0 ≡ has_let_go g 
 counted-let_go g r n q e = field-set (λ (v : Record). nat_eq v.count 0) g.records r q _ _ e
 
 -- a shared view beside those that must be alone
-alone-less : (s : State) (h : ℕ) (x : Handle) (b : ℕ) → handle_at s h ≡ Some x → owner_of s.tables x ≡ Some b → alone s.tables b (Some x) ≡ false → tally (alone s.tables b) s.handles < holders (reading s) b
+alone-less : (s : State) (h : ℕ) (x : Handle) (b : ℕ) → handle_at s h ≡ Some x → owner_of s.tables x ≡ Some b → alone s.tables b (Some x) ≡ false
+    → tally (alone s.tables b) s.handles < holders (reading s) b
 unfolding holders
 alone-less s h x b at o f =
     let l = at-some s.handles h x at in
     let m = count-map (holds b) (read_handle s.tables) s.handles in
-    let t = count-less (λ (o : Option Handle). holds b (read_handle s.tables o)) (alone s.tables b) s.handles h None (alone-holds s.tables b) l (rw (at, o) (is-eqb b b refl)) (rw at f) in
+    let t = count-less (λ (o : Option Handle). holds b (read_handle s.tables o)) (alone s.tables b) s.handles h None (alone-holds s.tables b) l
+    (rw (at, o) (is-eqb b b refl)) (rw at f) in
     omega (arith, m, t)
 
 -- a handle holds the block, so a drop that releases is one of another block
-pub release-elsewhere : (s : State) (h b p q : ℕ) (x : Handle) (d : Option Pending) → handle_at s h ≡ Some x → owner_of s.tables x ≡ Some b → p < length s.calls → get_or s.calls p d ≡ Some (Release q) → holders (reading s) (record_at s.tables q).block ≡ cond (has_let_go s.tables q) 0 1 → (record_at s.tables q).block ≢ b
+pub release-elsewhere : (s : State) (h b p q : ℕ) (x : Handle) (d : Option Pending) → handle_at s h ≡ Some x → owner_of s.tables x ≡ Some b
+    → p < length s.calls → get_or s.calls p d ≡ Some (Release q)
+    → holders (reading s) (record_at s.tables q).block ≡ cond (has_let_go s.tables q) 0 1 → (record_at s.tables q).block ≢ b
 unfolding holders
 release-elsewhere s h b p q x d at o l i n e =
     let m = count-map (holds b) (read_handle s.tables) s.handles in
     let one = count-some (λ (o : Option Handle). holds b (read_handle s.tables o)) s.handles h None (at-some s.handles h x at) (rw (at, o) (is-eqb b b refl)) in
     let mc = count-map (still_holds b) (read_call s.tables) s.calls in
-    let two : has_let_go s.tables q ≡ false → 0 < tally (λ (c : Option Pending). still_holds b (read_call s.tables c)) s.calls = λ f. count-some (λ (c : Option Pending). still_holds b (read_call s.tables c)) s.calls p d l (rw (i, f) (is-eqb b (record_at s.tables q).block (sym e))) in
+    let two : has_let_go s.tables q ≡ false → 0 < tally (λ (c : Option Pending). still_holds b (read_call s.tables c)) s.calls =
+    λ f. count-some (λ (c : Option Pending). still_holds b (read_call s.tables c)) s.calls p d l
+    (rw (i, f) (is-eqb b (record_at s.tables q).block (sym e))) in
     let n' = rw e at n in
     let by : (v : Bool) → has_let_go s.tables q ≡ v → ⊥ = λ v. elim v as (λ v. has_let_go s.tables q ≡ v → ⊥) [
       | true ↦ λ f. (let z = rw f at n' in omega (arith, z, m, one))
@@ -84,7 +90,8 @@ pub more-some : (m : ℕ) → 0 < m → nat_eq m 0 ≡ nat_eq (m + 1) 0
 more-some m h = grind (arith, nat_tests)
 
 -- the count of a handle's record isn't 0, and no more is it with a holder more
-pub counted-more : (s : State) (h : ℕ) (x : Handle) (r : ℕ) → IsSound s → handle_at s h ≡ Some x → x.word ≡ Counted r → nat_eq ((record_at s.tables r).count + 1) 0 ≡ has_let_go s.tables r
+pub counted-more : (s : State) (h : ℕ) (x : Handle) (r : ℕ) → IsSound s → handle_at s h ≡ Some x → x.word ≡ Counted r
+    → nat_eq ((record_at s.tables r).count + 1) 0 ≡ has_let_go s.tables r
 counted-more s h x r k at w =
     let b : ℕ = (record_at s.tables r).block in
     let f = counted-at s h x r k at w in
@@ -92,12 +99,16 @@ counted-more s h x r k at w =
     sym (more-some (record_at s.tables r).count (omega (arith, (k.counted r f.live).counts f.shown, holders-as s b, held)))
 
 pub counted-same : (g : Tables) (r n : ℕ) → r < length g.records → (record_at (counted g r n) r).count ≡ n
-counted-same g r n l = rw (get_or-set_same g.records r (record { count = n; block = (record_at g r).block; live = (record_at g r).live }) (record { count = 0; block = 0; live = false }) l) refl
+counted-same g r n l = rw (get_or-set_same g.records r (record { count = n; block = (record_at g r).block; live = (record_at g r).live })
+    (record { count = 0; block = 0; live = false }) l) refl
 
 pub counted-other : (g : Tables) (r n q : ℕ) → q ≢ r → (record_at (counted g r n) q).count ≡ (record_at g q).count
-counted-other g r n q ne = rw (get_or-set_other g.records r q (record { count = n; block = (record_at g r).block; live = (record_at g r).live }) (record { count = 0; block = 0; live = false }) ne) refl
+counted-other g r n q ne = rw (get_or-set_other g.records r q (record { count = n; block = (record_at g r).block; live = (record_at g r).live })
+    (record { count = 0; block = 0; live = false }) ne) refl
 
-pub sound-added : (s : State) (h r : ℕ) (x y : Handle) → IsSound s → handle_at s h ≡ Some x → x.kind ≡ View → x.word ≡ Counted r → y.kind ≡ View → y.word ≡ Counted r → LiesIn (block_at s.tables (record_at s.tables r).block) y View → (record_at s.tables r).count ≤ s.ceiling → length s.handles < 2 ^ 32 → IsSound (with_handle (with_count s r ((record_at s.tables r).count + 1)) y)
+pub sound-added : (s : State) (h r : ℕ) (x y : Handle) → IsSound s → handle_at s h ≡ Some x → x.kind ≡ View → x.word ≡ Counted r → y.kind ≡ View
+    → y.word ≡ Counted r → LiesIn (block_at s.tables (record_at s.tables r).block) y View → (record_at s.tables r).count ≤ s.ceiling
+    → length s.handles < 2 ^ 32 → IsSound (with_handle (with_count s r ((record_at s.tables r).count + 1)) y)
 sound-added s h r x y k at xv xw yv yw lies low few =
     let g : Tables = s.tables in
     let n : ℕ = (record_at s.tables r).count + 1 in
@@ -112,25 +123,40 @@ sound-added s h r x y k at xv xw yv yw lies low few =
     let gone : All (KeepsLetGo g g') s.calls = λ i d l q j t. counted-let_go g r n q (counted-more s h x r k at xw) in
     let hs = handles-kept g g' s.calls s.handles e k.fit in
     let cs = calls-read-kept s g' s.calls e gone k.calls_fit in
-    let hm : (c : ℕ) → holders (reading next) c ≡ holders (reading s) c + cond (c == b) 1 0 = λ c. rw (holders-more (with_count s r ((record_at s.tables r).count + 1)) (Some y) c, holders-tables s g' c hs cs, o) refl in
-    let um : (c : ℕ) → users (reading next) c ≡ users (reading s) c + cond (c == b) 1 0 = λ c. rw (users-more (with_count s r ((record_at s.tables r).count + 1)) (Some y) c, users-tables s g' c hs cs, o) refl in
-    let am : (c : ℕ) → tally (alone g' c) (s.handles ++ Some y ∷ []) ≡ tally (alone g c) s.handles = λ c. rw (count-append (alone g' c) s.handles (Some y), alone-kept g g' s.calls c s.handles e k.fit, alone-shared g' c y r yw yv) (omega arith) in
-    let dm : (c : ℕ) → tally (describes g' c) (s.handles ++ Some y ∷ []) ≡ tally (describes g c) s.handles = λ c. rw (count-append (describes g' c) s.handles (Some y), describes-kept g g' s.calls c s.handles e k.fit, describes-counted g' c y r yw) (omega arith) in
+    let hm : (c : ℕ) → holders (reading next) c ≡ holders (reading s) c + cond (c == b) 1 0 =
+    λ c. rw (holders-more (with_count s r ((record_at s.tables r).count + 1)) (Some y) c, holders-tables s g' c hs cs, o) refl in
+    let um : (c : ℕ) → users (reading next) c ≡ users (reading s) c + cond (c == b) 1 0 =
+    λ c. rw (users-more (with_count s r ((record_at s.tables r).count + 1)) (Some y) c, users-tables s g' c hs cs, o) refl in
+    let am : (c : ℕ) → tally (alone g' c) (s.handles ++ Some y ∷ []) ≡ tally (alone g c) s.handles =
+    λ c. rw (count-append (alone g' c) s.handles (Some y), alone-kept g g' s.calls c s.handles e k.fit, alone-shared g' c y r yw yv) (omega arith) in
+    let dm : (c : ℕ) → tally (describes g' c) (s.handles ++ Some y ∷ []) ≡ tally (describes g c) s.handles =
+    λ c. rw (count-append (describes g' c) s.handles (Some y), describes-kept g g' s.calls c s.handles e k.fit, describes-counted g' c y r yw)
+    (omega arith) in
     let me = k.counted r fx.live in
     let less = alone-less s h x b at ox (alone-shared g b x r xw xv) in
     let inside = live-inside g.records r fx.live in
     let size = k.size in
     record {
-      size = record { wide = size.wide; ceiling = size.ceiling; few_blocks = size.few_blocks; few_records = rw length-set size.few_records; few_handles = rw length-append (omega arith); few_calls = size.few_calls };
+      size = record {
+        wide = size.wide;
+        ceiling = size.ceiling;
+        few_blocks = size.few_blocks;
+        few_records = rw length-set size.few_records;
+        few_handles = rw length-append (omega arith);
+        few_calls = size.few_calls;
+      };
       blocks = (let p = k.blocks in record { places = p.places; apart = p.apart });
-      fit = All-push (Fits g' s.calls) s.handles (Some y) (all-fit-kept g g' s.calls s.handles e live k.fit) (subst (λ (v : Word). FitsWord g' s.calls y v) (sym yw) (record {
-        live = live r fx.live;
-        known = rw counted-block fx.known;
-        shown = fx.shown;
-        lies = rw (counted-block g r n r) (subst (λ (q : Kind). LiesIn (block_at g b) y q) (sym yv) lies);
-        native = λ m. absurd (let q = sym yv ∙ m in cc);
-      }));
-      calls_fit = calls-fit-kept s next refl e live (λ i z l a. append-at s.handles (Some y) i z a) k.fit (λ i z a. at-some s.handles i z a) gone (λ p d q l i. let f = rw i at (k.calls_fit p d l) in rw (hm, not-eqb (record_at g q).block b (release-elsewhere s h b p q x d at ox l i f.alone)) (omega arith)) k.calls_fit;
+      fit = All-push (Fits g' s.calls) s.handles (Some y) (all-fit-kept g g' s.calls s.handles e live k.fit)
+          (subst (λ (v : Word). FitsWord g' s.calls y v) (sym yw) (record {
+            live = live r fx.live;
+            known = rw counted-block fx.known;
+            shown = fx.shown;
+            lies = rw (counted-block g r n r) (subst (λ (q : Kind). LiesIn (block_at g b) y q) (sym yv) lies);
+            native = λ m. absurd (let q = sym yv ∙ m in cc);
+          }));
+      calls_fit = calls-fit-kept s next refl e live (λ i z l a. append-at s.handles (Some y) i z a) k.fit (λ i z a. at-some s.handles i z a) gone
+          (λ p d q l i. let f = rw i at (k.calls_fit p d l) in
+          rw (hm, not-eqb (record_at g q).block b (release-elsewhere s h b p q x d at ox l i f.alone)) (omega arith)) k.calls_fit;
       one_release = λ c. rw (releases-kept s g' c s.calls e k.calls_fit) (k.one_release c);
       counted = λ q l.
           let lq : (record_at g q).live ≡ true = sym (counted-live g r n q) ∙ l in
@@ -140,19 +166,33 @@ sound-added s h r x y k at xv xw yv yw lies low few =
             one_maker = cq.one_maker;
             counts = λ z. elim (eqb_tells q r) [
               | inl i ↦ rw (i.1, counted-same g r n inside, counted-block g r n r, hm, is-eqb b b refl) (omega (arith, me.counts fx.shown))
-              | inr i ↦ rw (counted-other g r n q i.1, counted-block g r n q, hm, not-eqb (record_at g q).block b (λ j. i.1 (k.one_record q r lq fx.live z fx.shown j))) (omega (arith, cq.counts z))
+              | inr i ↦ rw (
+                counted-other g r n q i.1,
+                counted-block g r n q,
+                hm,
+                not-eqb (record_at g q).block b (λ j. i.1 (k.one_record q r lq fx.live z fx.shown j)),
+              ) (omega (arith, cq.counts z))
             ];
             fresh = λ z. rw (counted-other g r n q (λ i. absurd (let y = rw i at z in omega (arith, y, fx.shown)))) (cq.fresh z);
             used = rw (counted-block g r n q, um) (omega (arith, cq.used));
             undescribed = λ z. rw (counted-block g r n q, dm) (cq.undescribed z);
           };
-      one_record = λ p q lp lq hp hq i. k.one_record p q (sym (counted-live g r n p) ∙ lp) (sym (counted-live g r n q) ∙ lq) hp hq (sym (counted-block g r n p) ∙ i ∙ counted-block g r n q);
-      sole = λ c t. let u = rw am at t in rw (hm, not-eqb c b (λ i. absurd (let v = rw i at u in omega (arith, v, less, k.sole b v)))) (omega (arith, k.sole c u));
+      one_record = λ p q lp lq hp hq i. k.one_record p q (sym (counted-live g r n p) ∙ lp) (sym (counted-live g r n q) ∙ lq) hp hq
+          (sym (counted-block g r n p) ∙ i ∙ counted-block g r n q);
+      sole = λ c t. let u = rw am at t in rw (hm, not-eqb c b (λ i. absurd (let v = rw i at u in omega (arith, v, less, k.sole b v))))
+          (omega (arith, k.sole c u));
       capped = λ c. elim (eqb_tells c b) [
         | inl i ↦ rw (i.1, hm, is-eqb b b refl) (omega (arith, me.counts fx.shown))
         | inr i ↦ rw (hm, i.0) (omega (arith, k.capped c))
       ];
-      known_users = λ c t. let u = rw um at t in elim (eqb_tells c b) [ inl i ↦ rw i.1 me.known | inr i ↦ k.known_users c (let v = rw i.0 at u in omega (arith, v)) ];
-      block_log = block-log-alike g.blocks s.freed_blocks (users (reading s)) (users (reading next)) (λ c t. elim (eqb_tells c b) [ inl i ↦ rw (i.1, um, is-eqb b b refl) (sym (more-some (users (reading s) b) me.used)) | inr i ↦ rw (um, i.0) (ap (λ m. nat_eq m 0) (omega arith)) ]) k.block_log;
-      record_log = record-log-counted g.records s.freed_records r (record { count = n; block = (record_at g r).block; live = (record_at g r).live }) inside refl k.record_log;
+      known_users = λ c t. let u = rw um at t in
+          elim (eqb_tells c b) [ inl i ↦ rw i.1 me.known | inr i ↦ k.known_users c (let v = rw i.0 at u in omega (arith, v)) ];
+      block_log = block-log-alike g.blocks s.freed_blocks (users (reading s)) (users (reading next))
+          (λ c t. elim (eqb_tells c b) [
+            | inl i ↦ rw (i.1, um, is-eqb b b refl) (sym (more-some (users (reading s) b) me.used))
+            | inr i ↦
+                rw (um, i.0) (ap (λ m. nat_eq m 0) (omega arith))
+          ]) k.block_log;
+      record_log = record-log-counted g.records s.freed_records r (record { count = n; block = (record_at g r).block; live = (record_at g r).live })
+          inside refl k.record_log;
     }

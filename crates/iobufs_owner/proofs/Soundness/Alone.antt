@@ -58,7 +58,8 @@ only s h b x k at o one =
       users = omega (arith, users-as s b, held, dropped);
       handle = λ i y a own. elim (eqb_tells i h) [
         | inl z ↦ z.1
-        | inr z ↦ absurd (let two = count-two (held_by s b) s.handles i h None z.1 (at-some s.handles i y a) l (held-at s i y b a own) (held-at s h x b at o) in omega (arith, two, held))
+        | inr z ↦ absurd (let two = count-two (held_by s b) s.handles i h None z.1 (at-some s.handles i y a) l (held-at s i y b a own)
+            (held-at s h x b at o) in omega (arith, two, held))
       ];
     }
 
@@ -101,7 +102,8 @@ unready s h b q k one free e =
     ]
 
 -- no call drops the block
-pub undropped : (s : State) (h b i r : ℕ) (let_go : Bool) (left : ℕ) → Only s h b → i < length s.calls → read_call s.tables (call_at s i) ≡ Some (Dropping (record_at s.tables r).block let_go left) → (record_at s.tables r).block ≢ b
+pub undropped : (s : State) (h b i r : ℕ) (let_go : Bool) (left : ℕ) → Only s h b → i < length s.calls
+    → read_call s.tables (call_at s i) ≡ Some (Dropping (record_at s.tables r).block let_go left) → (record_at s.tables r).block ≢ b
 undropped s h b i r let_go left one l at e =
     let t = count-some (drops_by s b) s.calls i None l (ap (drops b) at ∙ is-eqb b (record_at s.tables r).block (sym e)) in
     let n = one.dropped in
@@ -123,7 +125,8 @@ pub record NamedOnce (s : State) (h r : ℕ) : Type 0 where
   pub calls : (i : ℕ) → i < length s.calls → speaks_of r (call_at s i) ≡ true → ⊥
   pub handles : (i : ℕ) (y : Handle) → handle_at s i ≡ Some y → y.word ≡ Counted r → i ≡ h
 
-silent : (s : State) (h r i : ℕ) (c : Option Pending) → Only s h (record_at s.tables r).block → is_lent h s.calls ≡ false → hidden s.calls r ≡ 0 → i < length s.calls → call_at s i ≡ c → FitsCall s c → speaks_of r c ≡ true → ⊥
+silent : (s : State) (h r i : ℕ) (c : Option Pending) → Only s h (record_at s.tables r).block → is_lent h s.calls ≡ false → hidden s.calls r ≡ 0
+    → i < length s.calls → call_at s i ≡ c → FitsCall s c → speaks_of r c ≡ true → ⊥
 silent s h r i None one free z l at f t = cc
 silent s h r i (Some (Loaded part w)) one free z l at f t = cc
 silent s h r i (Some (Ready part w q)) one free z l at f t =
@@ -132,7 +135,8 @@ silent s h r i (Some (Ready part w q)) one free z l at f t =
     omega (arith, some, z)
 silent s h r i (Some (Add part q)) one free z l at f t =
     let same : q ≡ r = grind (arith, nat_tests, t) in
-    let j : part.handle ≡ h = one.handle part.handle f.view f.shares.at (owner-counted s.tables f.view q f.word ∙ ap (λ (n : ℕ). Some (record_at s.tables n).block) same) in
+    let j : part.handle ≡ h = one.handle part.handle f.view f.shares.at
+    (owner-counted s.tables f.view q f.word ∙ ap (λ (n : ℕ). Some (record_at s.tables n).block) same) in
     let lent = lent-by part.handle s.calls i None l (rw at (is-eqb part.handle part.handle refl)) in
     let u = ap (λ (n : ℕ). is_lent n s.calls) j in
     cc
@@ -141,11 +145,13 @@ silent s h r i (Some (Subtract q)) one free z l at f t =
     undropped s h (record_at s.tables r).block i q false 2 one l (ap (read_call s.tables) at) (ap (λ (n : ℕ). (record_at s.tables n).block) same)
 silent s h r i (Some (Release q)) one free z l at f t =
     let same : q ≡ r = grind (arith, nat_tests, t) in
-    undropped s h (record_at s.tables r).block i q (has_let_go s.tables q) 1 one l (ap (read_call s.tables) at) (ap (λ (n : ℕ). (record_at s.tables n).block) same)
+    undropped s h (record_at s.tables r).block i q (has_let_go s.tables q) 1 one l (ap (read_call s.tables) at)
+    (ap (λ (n : ℕ). (record_at s.tables n).block) same)
 
 -- Another handle, and a drop that hasn't let go, would be a holder more than the one that is counted; a clone or slice that
 -- is to be counted there borrows the handle. So the record can be freed while the block lives on.
-pub named-once : (s : State) (h r : ℕ) (x : Handle) → IsSound s → handle_at s h ≡ Some x → is_lent h s.calls ≡ false → x.word ≡ Counted r → holders (reading s) (record_at s.tables r).block ≡ 1 → NamedOnce s h r
+pub named-once : (s : State) (h r : ℕ) (x : Handle) → IsSound s → handle_at s h ≡ Some x → is_lent h s.calls ≡ false → x.word ≡ Counted r
+    → holders (reading s) (record_at s.tables r).block ≡ 1 → NamedOnce s h r
 named-once s h r x k at free xw one =
     let f = counted-at s h x r k at xw in
     let me = only s h (record_at s.tables r).block x k at (owner-counted s.tables x r xw) one in
@@ -164,11 +170,13 @@ names-speak r (Some (Subtract q)) t = t
 names-speak r (Some (Release q)) t = t
 
 -- every other live record that a call counts on stays live
-pub calls-live : (s : State) (h r q i : ℕ) → NamedOnce s h r → i < length s.calls → names q (call_at s i) ≡ true → (record_at s.tables q).live ≡ true → (record_at (tables_without s.tables r) q).live ≡ true
+pub calls-live : (s : State) (h r q i : ℕ) → NamedOnce s h r → i < length s.calls → names q (call_at s i) ≡ true → (record_at s.tables q).live ≡ true
+    → (record_at (tables_without s.tables r) q).live ≡ true
 calls-live s h r q i once l t live = dead-other s.tables r q (λ e. once.calls i l (names-speak r (call_at s i) (rw e at t))) ∙ live
 
 -- every other handle fits as before
-pub fit-dead : (s : State) (h r i : ℕ) (o : Option Handle) → NamedOnce s h r → i ≢ h → handle_at s i ≡ o → Fits s.tables s.calls o → Fits (tables_without s.tables r) s.calls o
+pub fit-dead : (s : State) (h r i : ℕ) (o : Option Handle) → NamedOnce s h r → i ≢ h → handle_at s i ≡ o → Fits s.tables s.calls o
+    → Fits (tables_without s.tables r) s.calls o
 fit-dead s h r i None once ne at f = tt
 fit-dead s h r i (Some x) once ne at f =
     let e = dead-keeps s.tables r in

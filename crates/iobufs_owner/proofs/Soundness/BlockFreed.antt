@@ -37,14 +37,27 @@ pub record Loose (g : Tables) (calls : List (Option Pending)) (o : Option Handle
   pub owner : (b : ℕ) (x : Handle) → o ≡ Some x → owner_of g x ≡ Some b → ⊥
 
 pub loose : (g : Tables) (calls : List (Option Pending)) (o : Option Handle) → IsLoose o → Loose g calls o
-loose g calls o (inl e) = subst (λ (o : Option Handle). Loose g calls o) (sym e) (record { holds = λ c. refl; describes = λ c. refl; alone = λ c. refl; fits = tt; owner = λ b x i. absurd (cc) })
+loose g calls o (inl e) = subst (λ (o : Option Handle). Loose g calls o) (sym e) (record {
+  holds = λ c. refl;
+  describes = λ c. refl;
+  alone = λ c. refl;
+  fits = tt;
+  owner = λ b x i. absurd (cc);
+})
 loose g calls o (inr e) =
     let n = owner-empty g (detached 0) refl in
-    subst (λ (o : Option Handle). Loose g calls o) (sym e) (record { holds = λ c. rw n refl; describes = λ c. rw n refl; alone = λ c. rw n refl; fits = record { no_room = refl; ends = omega arith; no_bytes = λ m. refl }; owner = λ b x i own. (let q : detached 0 ≡ x = cc in let u = sym n ∙ ap (owner_of g) q ∙ own in cc) })
+    subst (λ (o : Option Handle). Loose g calls o) (sym e) (record {
+      holds = λ c. rw n refl;
+      describes = λ c. rw n refl;
+      alone = λ c. rw n refl;
+      fits = record { no_room = refl; ends = omega arith; no_bytes = λ m. refl };
+      owner = λ b x i own. (let q : detached 0 ≡ x = cc in let u = sym n ∙ ap (owner_of g) q ∙ own in cc);
+    })
 
 -- ---- by a descriptor
 
-pub sound-freed_described : (s : State) (h : ℕ) (x : Handle) (w : ℕ) (o : Option Handle) → IsSound s → handle_at s h ≡ Some x → is_lent h s.calls ≡ false → x.word ≡ Descriptor w → IsLoose o → IsSound (replaced (block_freed s (recovered s.tables x w)) h o)
+pub sound-freed_described : (s : State) (h : ℕ) (x : Handle) (w : ℕ) (o : Option Handle) → IsSound s → handle_at s h ≡ Some x
+    → is_lent h s.calls ≡ false → x.word ≡ Descriptor w → IsLoose o → IsSound (replaced (block_freed s (recovered s.tables x w)) h o)
 sound-freed_described s h x w o k at free xw is =
     let g : Tables = s.tables in
     let d = described-at s h x w k at xw in
@@ -55,20 +68,36 @@ sound-freed_described s h x w o k at free xw is =
     let one : holders (reading s) b ≡ 1 = alone-at s h x b k at (alone-described g b x w xw ∙ rw ox (is-eqb b b refl)) in
     let me = only s h b x k at ox one in
     let next : State = replaced (block_freed s (triple (block_at s.tables b))) h o in
-    let hm : (c : ℕ) → holders (reading next) c + cond (c == b) 1 0 ≡ holders (reading s) c = λ c. let m = rw (at, ox, n.holds c) at (holders-changed s h o c l) in let a = holders-alike (reading next) (reading (record s { handles = set s.handles h o })) c refl refl in omega (arith, m, a) in
-    let um : (c : ℕ) → users (reading next) c + cond (c == b) 1 0 ≡ users (reading s) c = λ c. let m = rw (at, ox, n.holds c) at (users-changed s h o c l) in let a = users-alike (reading next) (reading (record s { handles = set s.handles h o })) c refl refl in omega (arith, m, a) in
+    let hm : (c : ℕ) → holders (reading next) c + cond (c == b) 1 0 ≡ holders (reading s) c = λ c. let m =
+    rw (at, ox, n.holds c) at (holders-changed s h o c l) in let a =
+    holders-alike (reading next) (reading (record s { handles = set s.handles h o })) c refl refl in omega (arith, m, a) in
+    let um : (c : ℕ) → users (reading next) c + cond (c == b) 1 0 ≡ users (reading s) c = λ c. let m =
+    rw (at, ox, n.holds c) at (users-changed s h o c l) in let a =
+    users-alike (reading next) (reading (record s { handles = set s.handles h o })) c refl refl in omega (arith, m, a) in
     let hn : (c : ℕ) → c ≢ b → holders (reading next) c ≡ holders (reading s) c = λ c ne. let m = rw (not-eqb c b ne) at (hm c) in omega (arith, m) in
     let un : (c : ℕ) → c ≢ b → users (reading next) c ≡ users (reading s) c = λ c ne. let m = rw (not-eqb c b ne) at (um c) in omega (arith, m) in
     let none : users (reading next) b ≡ 0 = (let m = rw (is-eqb b b refl) at (um b) in let u = me.users in omega (arith, m, u)) in
-    let dm : (c : ℕ) → tally (describes g c) (set s.handles h o) ≤ tally (describes g c) s.handles = λ c. let m = rw (n.describes c) at (count-set (describes g c) s.handles h o None l) in omega (arith, m) in
-    let some : 0 < tally (describes g b) s.handles = count-some (describes g b) s.handles h None l (ap (describes g b) at ∙ describes-described g b x w xw ∙ rw ox (is-eqb b b refl)) in
-    let am : (c : ℕ) → tally (alone g c) (set s.handles h o) + cond (alone g c (Some x)) 1 0 ≡ tally (alone g c) s.handles = λ c. let m = rw (at, n.alone c) at (count-set (alone g c) s.handles h o None l) in omega (arith, m) in
+    let dm : (c : ℕ) → tally (describes g c) (set s.handles h o) ≤ tally (describes g c) s.handles = λ c. let m =
+    rw (n.describes c) at (count-set (describes g c) s.handles h o None l) in omega (arith, m) in
+    let some : 0 < tally (describes g b) s.handles =
+    count-some (describes g b) s.handles h None l (ap (describes g b) at ∙ describes-described g b x w xw ∙ rw ox (is-eqb b b refl)) in
+    let am : (c : ℕ) → tally (alone g c) (set s.handles h o) + cond (alone g c (Some x)) 1 0 ≡ tally (alone g c) s.handles = λ c. let m =
+    rw (at, n.alone c) at (count-set (alone g c) s.handles h o None l) in omega (arith, m) in
     let few = alone-few s b in
-    let lonely : tally (alone g b) (set s.handles h o) ≡ 0 = (let m = rw (alone-described g b x w xw ∙ ap (is_block b) ox ∙ is-eqb b b refl) at (am b) in omega (arith, m, few, one)) in
-    let apart : (q : ℕ) → (record_at g q).live ≡ true → (record_at g q).block ≢ b = λ q t e. (let z = unready s h b q k me free e in let u = rw e at ((k.counted q t).undescribed z) in omega (arith, u, some)) in
+    let lonely : tally (alone g b) (set s.handles h o) ≡ 0 =
+    (let m = rw (alone-described g b x w xw ∙ ap (is_block b) ox ∙ is-eqb b b refl) at (am b) in omega (arith, m, few, one)) in
+    let apart : (q : ℕ) → (record_at g q).live ≡ true → (record_at g q).block ≢ b =
+    λ q t e. (let z = unready s h b q k me free e in let u = rw e at ((k.counted q t).undescribed z) in omega (arith, u, some)) in
     let size = k.size in
     subst (λ (f : Freed). IsSound (replaced (block_freed s f) h o)) (sym (recovered-is s h x w b k at xw ox)) (record {
-      size = record { wide = size.wide; ceiling = size.ceiling; few_blocks = size.few_blocks; few_records = size.few_records; few_handles = rw length-set size.few_handles; few_calls = size.few_calls };
+      size = record {
+        wide = size.wide;
+        ceiling = size.ceiling;
+        few_blocks = size.few_blocks;
+        few_records = size.few_records;
+        few_handles = rw length-set size.few_handles;
+        few_calls = size.few_calls;
+      };
       blocks = k.blocks;
       fit = All-set (Fits g s.calls) s.handles h o n.fits k.fit;
       calls_fit = All-from_get_or (FitsCall next) s.calls None (λ i li. call-kept s next (call_at s i) (record {
@@ -81,12 +110,20 @@ sound-freed_described s h x w o k at free xw is =
         holders = λ q e. hn (record_at g q).block (undropped s h b i q (has_let_go g q) 1 me li (ap (read_call g) e));
       }) (k.calls_fit i None li));
       one_release = k.one_release;
-      counted = λ q t. let c = k.counted q t in let ne = apart q t in record { known = c.known; one_maker = c.one_maker; counts = λ z. rw (hn (record_at g q).block ne) (c.counts z); fresh = c.fresh; used = rw (un (record_at g q).block ne) c.used; undescribed = λ z. omega (arith, dm (record_at g q).block, c.undescribed z) };
+      counted = λ q t. let c = k.counted q t in let ne = apart q t in record {
+        known = c.known;
+        one_maker = c.one_maker;
+        counts = λ z. rw (hn (record_at g q).block ne) (c.counts z);
+        fresh = c.fresh;
+        used = rw (un (record_at g q).block ne) c.used;
+        undescribed = λ z. omega (arith, dm (record_at g q).block, c.undescribed z);
+      };
       one_record = k.one_record;
       sole = λ c t. let ne : c ≢ b = λ e. (let z = rw e at t in omega (arith, z, lonely)) in hn c ne ∙ k.sole c (omega (arith, t, am c));
       capped = λ c. omega (arith, hm c, k.capped c);
       known_users = λ c t. k.known_users c (omega (arith, t, um c));
-      block_log = block-log-freed g s.freed_blocks b (users (reading s)) (users (reading next)) k.blocks d.says.known (let u = me.users in omega (arith, u)) none (λ c ne. ap (λ m. nat_eq m 0) (un c ne)) k.block_log;
+      block_log = block-log-freed g s.freed_blocks b (users (reading s)) (users (reading next)) k.blocks d.says.known
+          (let u = me.users in omega (arith, u)) none (λ c ne. ap (λ m. nat_eq m 0) (un c ne)) k.block_log;
       record_log = k.record_log;
     })
 
@@ -109,7 +146,8 @@ counted-ends s r k live =
       record_log = record-log-room s.tables.records s.freed_records r inside live k.record_log;
     }
 
-pub sound-freed_counted : (s : State) (h : ℕ) (x : Handle) (r : ℕ) (o : Option Handle) → IsSound s → handle_at s h ≡ Some x → is_lent h s.calls ≡ false → x.kind ≡ Mut → x.word ≡ Counted r → IsLoose o → IsSound (replaced (both_freed s r) h o)
+pub sound-freed_counted : (s : State) (h : ℕ) (x : Handle) (r : ℕ) (o : Option Handle) → IsSound s → handle_at s h ≡ Some x
+    → is_lent h s.calls ≡ false → x.kind ≡ Mut → x.word ≡ Counted r → IsLoose o → IsSound (replaced (both_freed s r) h o)
 sound-freed_counted s h x r o k at free xm xw is =
     let g : Tables = s.tables in
     let g' : Tables = tables_without s.tables r in
@@ -128,19 +166,37 @@ sound-freed_counted s h x r o k at free xm xw is =
     let hs = handles-kept g g' s.calls s.handles e k.fit in
     let cs = calls-read-kept s g' s.calls e (λ i d l q j t. dead-let_go g r q) k.calls_fit in
     let mid : State = record s { tables = tables_without s.tables r } in
-    let hm : (c : ℕ) → holders (reading next) c + cond (c == b) 1 0 ≡ holders (reading s) c = λ c. let m = rw (at, ox', n.holds c) at (holders-changed mid h o c l) in let a = holders-alike (reading next) (reading (record mid { handles = set s.handles h o })) c refl refl in let t = holders-tables s g' c hs cs in omega (arith, m, a, t) in
-    let um : (c : ℕ) → users (reading next) c + cond (c == b) 1 0 ≡ users (reading s) c = λ c. let m = rw (at, ox', n.holds c) at (users-changed mid h o c l) in let a = users-alike (reading next) (reading (record mid { handles = set s.handles h o })) c refl refl in let t = users-tables s g' c hs cs in omega (arith, m, a, t) in
+    let hm : (c : ℕ) → holders (reading next) c + cond (c == b) 1 0 ≡ holders (reading s) c = λ c. let m =
+    rw (at, ox', n.holds c) at (holders-changed mid h o c l) in let a =
+    holders-alike (reading next) (reading (record mid { handles = set s.handles h o })) c refl refl in let t =
+    holders-tables s g' c hs cs in omega (arith, m, a, t) in
+    let um : (c : ℕ) → users (reading next) c + cond (c == b) 1 0 ≡ users (reading s) c = λ c. let m =
+    rw (at, ox', n.holds c) at (users-changed mid h o c l) in let a =
+    users-alike (reading next) (reading (record mid { handles = set s.handles h o })) c refl refl in let t =
+    users-tables s g' c hs cs in omega (arith, m, a, t) in
     let hn : (c : ℕ) → c ≢ b → holders (reading next) c ≡ holders (reading s) c = λ c ne. let m = rw (not-eqb c b ne) at (hm c) in omega (arith, m) in
     let un : (c : ℕ) → c ≢ b → users (reading next) c ≡ users (reading s) c = λ c ne. let m = rw (not-eqb c b ne) at (um c) in omega (arith, m) in
     let none : users (reading next) b ≡ 0 = (let m = rw (is-eqb b b refl) at (um b) in let u = me.users in omega (arith, m, u)) in
-    let dm : (c : ℕ) → tally (describes g' c) (set s.handles h o) ≤ tally (describes g c) s.handles = λ c. let m = rw (n.describes c) at (count-set (describes g' c) s.handles h o None l) in let t = describes-kept g g' s.calls c s.handles e k.fit in omega (arith, m, t) in
-    let am : (c : ℕ) → tally (alone g' c) (set s.handles h o) + cond (alone g' c (Some x)) 1 0 ≡ tally (alone g c) s.handles = λ c. let m = rw (at, n.alone c) at (count-set (alone g' c) s.handles h o None l) in let t = alone-kept g g' s.calls c s.handles e k.fit in omega (arith, m, t) in
+    let dm : (c : ℕ) → tally (describes g' c) (set s.handles h o) ≤ tally (describes g c) s.handles = λ c. let m =
+    rw (n.describes c) at (count-set (describes g' c) s.handles h o None l) in let t =
+    describes-kept g g' s.calls c s.handles e k.fit in omega (arith, m, t) in
+    let am : (c : ℕ) → tally (alone g' c) (set s.handles h o) + cond (alone g' c (Some x)) 1 0 ≡ tally (alone g c) s.handles = λ c. let m =
+    rw (at, n.alone c) at (count-set (alone g' c) s.handles h o None l) in let t = alone-kept g g' s.calls c s.handles e k.fit in omega (arith, m, t) in
     let few = alone-few s b in
-    let lonely : tally (alone g' b) (set s.handles h o) ≡ 0 = (let m = rw (alone-written g' b x r xw xm ∙ ap (is_block b) ox' ∙ is-eqb b b refl) at (am b) in omega (arith, m, few, one)) in
-    let apart : (q : ℕ) → (record_at g q).live ≡ true → q ≢ r → (record_at g q).block ≢ b = λ q t ne i. ne (k.one_record q r t f.live (unready s h b q k me free i) f.shown i) in
+    let lonely : tally (alone g' b) (set s.handles h o) ≡ 0 =
+    (let m = rw (alone-written g' b x r xw xm ∙ ap (is_block b) ox' ∙ is-eqb b b refl) at (am b) in omega (arith, m, few, one)) in
+    let apart : (q : ℕ) → (record_at g q).live ≡ true → q ≢ r → (record_at g q).block ≢ b =
+    λ q t ne i. ne (k.one_record q r t f.live (unready s h b q k me free i) f.shown i) in
     let size = k.size in
     record {
-      size = record { wide = size.wide; ceiling = size.ceiling; few_blocks = size.few_blocks; few_records = rw length-set size.few_records; few_handles = rw length-set size.few_handles; few_calls = size.few_calls };
+      size = record {
+        wide = size.wide;
+        ceiling = size.ceiling;
+        few_blocks = size.few_blocks;
+        few_records = rw length-set size.few_records;
+        few_handles = rw length-set size.few_handles;
+        few_calls = size.few_calls;
+      };
       blocks = (let p = k.blocks in record { places = p.places; apart = p.apart });
       fit = All-from_get_or (Fits g' s.calls) (set s.handles h o) None (λ i li. elim (eqb_tells i h) [
         | inl z ↦ rw (z.1, get_or-set_same s.handles h o None l) n.fits
@@ -160,18 +216,29 @@ sound-freed_counted s h x r o k at free xm xw is =
           let d = dead-live g r q inside t in
           let c = k.counted q d.0 in
           let ne = apart q d.0 d.1 in
-          record { known = rw (dead-block g r q) c.known; one_maker = c.one_maker; counts = λ z. rw (dead-count g r q, dead-block g r q, hn (record_at g q).block ne) (c.counts z); fresh = λ z. rw (dead-count g r q) (c.fresh z); used = rw (dead-block g r q, un (record_at g q).block ne) c.used; undescribed = λ z. rw (dead-block g r q) (omega (arith, dm (record_at g q).block, c.undescribed z)) };
-      one_record = λ p q tp tq hp hq i. k.one_record p q (dead-live g r p inside tp).0 (dead-live g r q inside tq).0 hp hq (sym (dead-block g r p) ∙ i ∙ dead-block g r q);
+          record {
+            known = rw (dead-block g r q) c.known;
+            one_maker = c.one_maker;
+            counts = λ z. rw (dead-count g r q, dead-block g r q, hn (record_at g q).block ne) (c.counts z);
+            fresh = λ z. rw (dead-count g r q) (c.fresh z);
+            used = rw (dead-block g r q, un (record_at g q).block ne) c.used;
+            undescribed = λ z. rw (dead-block g r q) (omega (arith, dm (record_at g q).block, c.undescribed z));
+          };
+      one_record = λ p q tp tq hp hq i. k.one_record p q (dead-live g r p inside tp).0 (dead-live g r q inside tq).0 hp hq
+          (sym (dead-block g r p) ∙ i ∙ dead-block g r q);
       sole = λ c t. let ne : c ≢ b = λ e. (let z = rw e at t in omega (arith, z, lonely)) in hn c ne ∙ k.sole c (omega (arith, t, am c));
       capped = λ c. omega (arith, hm c, k.capped c);
       known_users = λ c t. k.known_users c (omega (arith, t, um c));
-      block_log = block-log-freed g s.freed_blocks b (users (reading s)) (users (reading next)) k.blocks f.known (let u = me.users in omega (arith, u)) none (λ c ne. ap (λ m. nat_eq m 0) (un c ne)) k.block_log;
-      record_log = record-log-dead g.records s.freed_records r (record { count = (record_at g r).count; block = (record_at g r).block; live = false }) inside refl f.live k.record_log;
+      block_log = block-log-freed g s.freed_blocks b (users (reading s)) (users (reading next)) k.blocks f.known
+          (let u = me.users in omega (arith, u)) none (λ c ne. ap (λ m. nat_eq m 0) (un c ne)) k.block_log;
+      record_log = record-log-dead g.records s.freed_records r
+          (record { count = (record_at g r).count; block = (record_at g r).block; live = false }) inside refl f.live k.record_log;
     }
 
 -- ---- a handle without block is gone
 
-pub sound-gone_empty : (s : State) (h : ℕ) (x : Handle) → IsSound s → handle_at s h ≡ Some x → is_lent h s.calls ≡ false → x.word ≡ Empty → IsSound (replaced s h None)
+pub sound-gone_empty : (s : State) (h : ℕ) (x : Handle) → IsSound s → handle_at s h ≡ Some x → is_lent h s.calls ≡ false → x.word ≡ Empty
+    → IsSound (replaced s h None)
 sound-gone_empty s h x k at free xw =
     let g : Tables = s.tables in
     let next : State = replaced s h None in
@@ -180,11 +247,20 @@ sound-gone_empty s h x k at free xw =
     let n = loose g s.calls None (inl refl) in
     let hm : (c : ℕ) → holders (reading next) c ≡ holders (reading s) c = λ c. let m = rw (at, ox) at (holders-changed s h None c l) in omega (arith, m) in
     let um : (c : ℕ) → users (reading next) c ≡ users (reading s) c = λ c. let m = rw (at, ox) at (users-changed s h None c l) in omega (arith, m) in
-    let dm : (c : ℕ) → tally (describes g c) (set s.handles h None) ≤ tally (describes g c) s.handles = λ c. let m = count-set (describes g c) s.handles h None None l in omega (arith, m) in
-    let am : (c : ℕ) → tally (alone g c) (set s.handles h None) ≤ tally (alone g c) s.handles = λ c. let m = count-set (alone g c) s.handles h None None l in omega (arith, m) in
+    let dm : (c : ℕ) → tally (describes g c) (set s.handles h None) ≤ tally (describes g c) s.handles = λ c. let m =
+    count-set (describes g c) s.handles h None None l in omega (arith, m) in
+    let am : (c : ℕ) → tally (alone g c) (set s.handles h None) ≤ tally (alone g c) s.handles = λ c. let m =
+    count-set (alone g c) s.handles h None None l in omega (arith, m) in
     let size = k.size in
     record {
-      size = record { wide = size.wide; ceiling = size.ceiling; few_blocks = size.few_blocks; few_records = size.few_records; few_handles = rw length-set size.few_handles; few_calls = size.few_calls };
+      size = record {
+        wide = size.wide;
+        ceiling = size.ceiling;
+        few_blocks = size.few_blocks;
+        few_records = size.few_records;
+        few_handles = rw length-set size.few_handles;
+        few_calls = size.few_calls;
+      };
       blocks = k.blocks;
       fit = All-set (Fits g s.calls) s.handles h None tt k.fit;
       calls_fit = All-from_get_or (FitsCall next) s.calls None (λ i li. call-kept s next (call_at s i) (record {
@@ -197,7 +273,14 @@ sound-gone_empty s h x k at free xw =
         holders = λ q e. hm (record_at g q).block;
       }) (k.calls_fit i None li));
       one_release = k.one_release;
-      counted = λ q t. let c = k.counted q t in record { known = c.known; one_maker = c.one_maker; counts = λ z. rw hm (c.counts z); fresh = c.fresh; used = rw um c.used; undescribed = λ z. omega (arith, dm (record_at g q).block, c.undescribed z) };
+      counted = λ q t. let c = k.counted q t in record {
+        known = c.known;
+        one_maker = c.one_maker;
+        counts = λ z. rw hm (c.counts z);
+        fresh = c.fresh;
+        used = rw um c.used;
+        undescribed = λ z. omega (arith, dm (record_at g q).block, c.undescribed z);
+      };
       one_record = k.one_record;
       sole = λ c t. rw hm (k.sole c (omega (arith, t, am c)));
       capped = λ c. rw hm (k.capped c);

@@ -27,35 +27,43 @@ pub counts-pushed : (bs : List ℕ) (cs : List (Option Pending)) → CountsBorro
 counts-pushed bs cs k = λ h. push-zero bs h ∙ k h
 
 -- another call that borrows the same
-pub counts-same : (bs : List ℕ) (cs : List (Option Pending)) (p : ℕ) (o : Option Pending) → p < length cs → ((h : ℕ) → borrows_it h (get_or cs p None) ≡ borrows_it h o) → CountsBorrows bs cs → CountsBorrows bs (set cs p o)
+pub counts-same : (bs : List ℕ) (cs : List (Option Pending)) (p : ℕ) (o : Option Pending) → p < length cs
+    → ((h : ℕ) → borrows_it h (get_or cs p None) ≡ borrows_it h o) → CountsBorrows bs cs → CountsBorrows bs (set cs p o)
 counts-same bs cs p o l e k = λ h. (let c = count-set (borrows_it h) cs p o None l in let a = k h in let f = ap one (e h) in omega (arith, c, a, f))
 
 -- a call that borrows handle h begins
-pub counts-more : (bs : List ℕ) (cs : List (Option Pending)) (p h : ℕ) (o : Option Pending) → h < length bs → p < length cs → get_or cs p None ≡ None → ((j : ℕ) → borrows_it j o ≡ (h == j)) → CountsBorrows bs cs → CountsBorrows (set bs h (get_or bs h 0 + 1)) (set cs p o)
+pub counts-more : (bs : List ℕ) (cs : List (Option Pending)) (p h : ℕ) (o : Option Pending) → h < length bs → p < length cs → get_or cs p None ≡ None
+    → ((j : ℕ) → borrows_it j o ≡ (h == j)) → CountsBorrows bs cs → CountsBorrows (set bs h (get_or bs h 0 + 1)) (set cs p o)
 counts-more bs cs p h o l m idle e k = λ j.
     (let c = count-set (borrows_it j) cs p o None m in
     let a = k j in
     let f = ap (λ (c : Option Pending). one (borrows_it j c)) idle in
     let g = ap one (e j) in
     elim (eqb_tells h j) [
-      | inl i ↦ (let q = ap one i.0 in let same = subst (λ (n : ℕ). get_or (set bs h (get_or bs h 0 + 1)) n 0 ≡ get_or bs n 0 + 1) i.1 (get_or-set_same bs h (get_or bs h 0 + 1) 0 l) in omega (arith, c, a, f, g, q, same))
+      | inl i ↦ (let q = ap one i.0 in let same =
+          subst (λ (n : ℕ). get_or (set bs h (get_or bs h 0 + 1)) n 0 ≡ get_or bs n 0 + 1) i.1 (get_or-set_same bs h (get_or bs h 0 + 1) 0 l) in
+          omega (arith, c, a, f, g, q, same))
       | inr i ↦ (let q = ap one i.0 in let same = get_or-set_other bs h j (get_or bs h 0 + 1) 0 (λ z. i.1 (sym z)) in omega (arith, c, a, f, g, q, same))
     ])
 
 -- it ends
-pub counts-less : (bs : List ℕ) (cs : List (Option Pending)) (p h : ℕ) (d : Option Pending) → h < length bs → p < length cs → get_or cs p None ≡ d → ((j : ℕ) → borrows_it j d ≡ (h == j)) → CountsBorrows bs cs → CountsBorrows (set bs h (get_or bs h 0 - 1)) (set cs p None)
+pub counts-less : (bs : List ℕ) (cs : List (Option Pending)) (p h : ℕ) (d : Option Pending) → h < length bs → p < length cs → get_or cs p None ≡ d
+    → ((j : ℕ) → borrows_it j d ≡ (h == j)) → CountsBorrows bs cs → CountsBorrows (set bs h (get_or bs h 0 - 1)) (set cs p None)
 counts-less bs cs p h d l m at e k = λ j.
     (let c = count-set (borrows_it j) cs p None None m in
     let a = k j in
     let f = ap (λ (c : Option Pending). one (borrows_it j c)) at in
     let g = ap one (e j) in
     elim (eqb_tells h j) [
-      | inl i ↦ (let q = ap one i.0 in let same = subst (λ (n : ℕ). get_or (set bs h (get_or bs h 0 - 1)) n 0 ≡ get_or bs n 0 - 1) i.1 (get_or-set_same bs h (get_or bs h 0 - 1) 0 l) in omega (arith, c, a, f, g, q, same))
+      | inl i ↦ (let q = ap one i.0 in let same =
+          subst (λ (n : ℕ). get_or (set bs h (get_or bs h 0 - 1)) n 0 ≡ get_or bs n 0 - 1) i.1 (get_or-set_same bs h (get_or bs h 0 - 1) 0 l) in
+          omega (arith, c, a, f, g, q, same))
       | inr i ↦ (let q = ap one i.0 in let same = get_or-set_other bs h j (get_or bs h 0 - 1) 0 (λ z. i.1 (sym z)) in omega (arith, c, a, f, g, q, same))
     ])
 
 -- a count is some where a call borrows, and never many
-pub some-borrowed : (bs : List ℕ) (cs : List (Option Pending)) (p h : ℕ) (d : Option Pending) → p < length cs → get_or cs p None ≡ d → borrows_it h d ≡ true → CountsBorrows bs cs → 0 < get_or bs h 0
+pub some-borrowed : (bs : List ℕ) (cs : List (Option Pending)) (p h : ℕ) (d : Option Pending) → p < length cs → get_or cs p None ≡ d
+    → borrows_it h d ≡ true → CountsBorrows bs cs → 0 < get_or bs h 0
 some-borrowed bs cs p h d m at e k = let a = k h in let b = count-some (borrows_it h) cs p None m (ap (borrows_it h) at ∙ e) in omega (arith, a, b)
 
 pub few-borrowed : (bs : List ℕ) (cs : List (Option Pending)) (h : ℕ) → CountsBorrows bs cs → get_or bs h 0 ≤ length cs
@@ -76,7 +84,8 @@ lent-tells bs cs h k = any-tally (borrows_it h) cs ∙ ap (λ (n : ℕ). not (na
 pub kept-pushed : (bs : List ℕ) (hs : List (Option Handle)) (x : Option Handle) → length bs ≡ length hs → length (bs ++ 0 ∷ []) ≡ length (hs ++ x ∷ [])
 kept-pushed bs hs x e = omega (arith, e, length-append bs (0 ∷ []), length-append hs (x ∷ []))
 
-pub kept-set-pushed : (bs : List ℕ) (hs : List (Option Handle)) (h : ℕ) (x y : Option Handle) → length bs ≡ length hs → length (bs ++ 0 ∷ []) ≡ length (set hs h y ++ x ∷ [])
+pub kept-set-pushed : (bs : List ℕ) (hs : List (Option Handle)) (h : ℕ) (x y : Option Handle) → length bs ≡ length hs
+    → length (bs ++ 0 ∷ []) ≡ length (set hs h y ++ x ∷ [])
 kept-set-pushed bs hs h x y e = omega (arith, e, length-append bs (0 ∷ []), length-append (set hs h y) (x ∷ []), length-set hs h y)
 
 -- a drop borrows no handle

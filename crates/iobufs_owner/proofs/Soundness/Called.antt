@@ -35,7 +35,8 @@ pub quiet-add : (s : State) (k : Share) (r : ℕ) → IsQuiet s (Some (Add k r))
 quiet-add s k r = record { still = λ b. refl; drops = λ b. refl; readies = λ q. refl; releases = λ b. refl }
 
 -- a count of calls, after one is changed that counts like the old one
-pub count-calls : {X : Type 0} (p : X → Bool) (xs : List X) (i : ℕ) (y d : X) → i < length xs → p (get_or xs i d) ≡ false → p y ≡ false → tally p (set xs i y) ≡ tally p xs
+pub count-calls : {X : Type 0} (p : X → Bool) (xs : List X) (i : ℕ) (y d : X) → i < length xs → p (get_or xs i d) ≡ false → p y ≡ false
+    → tally p (set xs i y) ≡ tally p xs
 count-calls p xs i y d l e f =
     let n = count-set p xs i y d l in
     let a : ◌≡◌ {A = ℕ} (cond (p (get_or xs i d)) 1 0) 0 = ap (λ (v : Bool). cond {A = ℕ} v 1 0) e in
@@ -43,7 +44,9 @@ count-calls p xs i y d l e f =
     omega (arith, n, a, b)
 
 -- a call that neither holds nor drops anything, in the place of another such
-pub called-still : (s : State) (p : ℕ) (c : Option Pending) (b : ℕ) → p < length s.calls → still_holds b (read_call s.tables (call_at s p)) ≡ false → drops b (read_call s.tables (call_at s p)) ≡ false → still_holds b (read_call s.tables c) ≡ false → drops b (read_call s.tables c) ≡ false → (holders (reading (called s p c)) b ≡ holders (reading s) b) × (users (reading (called s p c)) b ≡ users (reading s) b)
+pub called-still : (s : State) (p : ℕ) (c : Option Pending) (b : ℕ) → p < length s.calls → still_holds b (read_call s.tables (call_at s p)) ≡ false
+    → drops b (read_call s.tables (call_at s p)) ≡ false → still_holds b (read_call s.tables c) ≡ false → drops b (read_call s.tables c) ≡ false
+    → (holders (reading (called s p c)) b ≡ holders (reading s) b) × (users (reading (called s p c)) b ≡ users (reading s) b)
 unfolding holders users
 called-still s p c b l a d still drop =
     let lm : p < length (map (read_call s.tables) s.calls) = rw length-map l in
@@ -56,20 +59,38 @@ fit-called : (g : Tables) (cs ds : List (Option Pending)) → ((q : ℕ) → hid
 fit-called g cs ds less None f = tt
 fit-called g cs ds less (Some x) f = fits-calls g cs ds x x.word less f
 
-pub sound-called : (s : State) (p : ℕ) (c : Option Pending) → IsSound s → p < length s.calls → IsQuiet s (call_at s p) → IsQuiet s c → FitsCall s c → IsSound (called s p c)
+pub sound-called : (s : State) (p : ℕ) (c : Option Pending) → IsSound s → p < length s.calls → IsQuiet s (call_at s p) → IsQuiet s c → FitsCall s c
+    → IsSound (called s p c)
 sound-called s p c k l q r f =
     let g : Tables = s.tables in
     let next : State = called s p c in
     let hm : (b : ℕ) → holders (reading next) b ≡ holders (reading s) b = λ b. (called-still s p c b l (q.still b) (q.drops b) (r.still b) (r.drops b)).0 in
     let um : (b : ℕ) → users (reading next) b ≡ users (reading s) b = λ b. (called-still s p c b l (q.still b) (q.drops b) (r.still b) (r.drops b)).1 in
     let hid : (n : ℕ) → hidden (set s.calls p c) n ≡ hidden s.calls n = λ n. count-calls (readies n) s.calls p c None l (q.readies n) (r.readies n) in
-    let rel : (b : ℕ) → tally (releases g b) (set s.calls p c) ≡ tally (releases g b) s.calls = λ b. count-calls (releases g b) s.calls p c None l (q.releases b) (r.releases b) in
-    let leaves = λ (o : Option Pending). call-kept s next o (record { tables = keeps-self g; let_go = λ q j t. refl; live = λ n _ t. t; hidden = λ n _ _. hid n; handle = λ i x _ a. a; owner = λ i x a. refl; holders = λ n _. hm (record_at g n).block }) in
+    let rel : (b : ℕ) → tally (releases g b) (set s.calls p c) ≡ tally (releases g b) s.calls =
+    λ b. count-calls (releases g b) s.calls p c None l (q.releases b) (r.releases b) in
+    let leaves = λ (o : Option Pending). call-kept s next o (record {
+      tables = keeps-self g;
+      let_go = λ q j t. refl;
+      live = λ n _ t. t;
+      hidden = λ n _ _. hid n;
+      handle = λ i x _ a. a;
+      owner = λ i x a. refl;
+      holders = λ n _. hm (record_at g n).block;
+    }) in
     let size = k.size in
     record {
-      size = record { wide = size.wide; ceiling = size.ceiling; few_blocks = size.few_blocks; few_records = size.few_records; few_handles = size.few_handles; few_calls = rw length-set size.few_calls };
+      size = record {
+        wide = size.wide;
+        ceiling = size.ceiling;
+        few_blocks = size.few_blocks;
+        few_records = size.few_records;
+        few_handles = size.few_handles;
+        few_calls = rw length-set size.few_calls;
+      };
       blocks = k.blocks;
-      fit = All-from_get_or (Fits g (set s.calls p c)) s.handles None (λ i li. fit-called g s.calls (set s.calls p c) (λ n. omega (arith, hid n)) (get_or s.handles i None) (k.fit i None li));
+      fit = All-from_get_or (Fits g (set s.calls p c)) s.handles None
+          (λ i li. fit-called g s.calls (set s.calls p c) (λ n. omega (arith, hid n)) (get_or s.handles i None) (k.fit i None li));
       calls_fit = All-from_get_or (FitsCall next) (set s.calls p c) None (λ i li.
           let lo : i < length s.calls = (let z = rw length-set at li in z) in
           elim (eqb_tells i p) [
@@ -77,7 +98,14 @@ sound-called s p c k l q r f =
             | inr z ↦ rw (get_or-set_other s.calls p i c None z.1) (leaves (call_at s i) (k.calls_fit i None lo))
           ]);
       one_release = λ b. rw rel (k.one_release b);
-      counted = λ n t. let v = k.counted n t in record { known = v.known; one_maker = rw (hid n) v.one_maker; counts = λ z. rw hm (v.counts (sym (hid n) ∙ z)); fresh = λ z. v.fresh (sym (hid n) ∙ z); used = rw um v.used; undescribed = λ z. v.undescribed (sym (hid n) ∙ z) };
+      counted = λ n t. let v = k.counted n t in record {
+        known = v.known;
+        one_maker = rw (hid n) v.one_maker;
+        counts = λ z. rw hm (v.counts (sym (hid n) ∙ z));
+        fresh = λ z. v.fresh (sym (hid n) ∙ z);
+        used = rw um v.used;
+        undescribed = λ z. v.undescribed (sym (hid n) ∙ z);
+      };
       one_record = λ n m a b u v e. k.one_record n m a b (sym (hid n) ∙ u) (sym (hid m) ∙ v) e;
       sole = λ b t. rw hm (k.sole b t);
       capped = λ b. rw hm (k.capped b);

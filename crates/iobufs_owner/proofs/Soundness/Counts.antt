@@ -10,7 +10,8 @@ pub count-append : {X : Type 0} (p : X → Bool) (xs : List X) (y : X) → tally
 count-append p [] y = omega arith
 count-append p (x ∷ xs) y = omega (arith, count-append p xs y)
 
-pub count-set : {X : Type 0} (p : X → Bool) (xs : List X) (i : ℕ) (y d : X) → i < length xs → tally p (set xs i y) + cond (p (get_or xs i d)) 1 0 ≡ tally p xs + cond (p y) 1 0
+pub count-set : {X : Type 0} (p : X → Bool) (xs : List X) (i : ℕ) (y d : X) → i < length xs
+    → tally p (set xs i y) + cond (p (get_or xs i d)) 1 0 ≡ tally p xs + cond (p y) 1 0
 count-set p [] i y d h = absurd (omega arith)
 count-set p (x ∷ xs) zero y d h = omega arith
 count-set p (x ∷ xs) (suc i) y d h = omega (arith, count-set p xs i y d (omega arith))
@@ -26,7 +27,8 @@ count-some p (x ∷ xs) (suc i) d h e = omega (arith, count-some p xs i d (omega
 
 pub count-few : {X : Type 0} (p : X → Bool) (xs : List X) → tally p xs ≤ length xs
 count-few p [] = omega arith
-count-few p (x ∷ xs) = elim (p x) as (λ v. cond v 1 0 + tally p xs ≤ length (x ∷ xs)) [ true ↦ omega (arith, count-few p xs) | false ↦ omega (arith, count-few p xs) ]
+count-few p (x ∷ xs) = elim (p x) as (λ v. cond v 1 0 + tally p xs ≤ length (x ∷ xs))
+    [ true ↦ omega (arith, count-few p xs) | false ↦ omega (arith, count-few p xs) ]
 
 -- a test that another implies, and that one element fails, counts less
 one-less : (a b : Bool) → (b ≡ true → a ≡ true) → cond b 1 0 ≤ cond a 1 0
@@ -39,7 +41,8 @@ pub count-most : {X : Type 0} (p q : X → Bool) (xs : List X) → ((x : X) → 
 count-most p q [] h = omega arith
 count-most p q (x ∷ xs) h = omega (arith, one-less (p x) (q x) (h x), count-most p q xs h)
 
-pub count-less : {X : Type 0} (p q : X → Bool) (xs : List X) (i : ℕ) (d : X) → ((x : X) → q x ≡ true → p x ≡ true) → i < length xs → p (get_or xs i d) ≡ true → q (get_or xs i d) ≡ false → tally q xs < tally p xs
+pub count-less : {X : Type 0} (p q : X → Bool) (xs : List X) (i : ℕ) (d : X) → ((x : X) → q x ≡ true → p x ≡ true) → i < length xs
+    → p (get_or xs i d) ≡ true → q (get_or xs i d) ≡ false → tally q xs < tally p xs
 count-less p q [] i d h l t f = absurd (omega arith)
 count-less p q (x ∷ xs) zero d h l t f = rw (t, f) (omega (arith, count-most p q xs h))
 count-less p q (x ∷ xs) (suc i) d h l t f = omega (arith, one-less (p x) (q x) (h x), count-less p q xs i d h (omega arith) t f)
@@ -52,35 +55,45 @@ pub users-append : (w : World) (x : Option Held) (b : ℕ) → users (record w {
 unfolding users
 users-append w x b = omega (arith, count-append (holds b) w.handles x)
 
-pub holders-set : (w : World) (h : ℕ) (x : Option Held) (b : ℕ) → h < length w.handles → holders (record w { handles = set w.handles h x }) b + cond (holds b (get_or w.handles h None)) 1 0 ≡ holders w b + cond (holds b x) 1 0
+pub holders-set : (w : World) (h : ℕ) (x : Option Held) (b : ℕ) → h < length w.handles
+    → holders (record w { handles = set w.handles h x }) b + cond (holds b (get_or w.handles h None)) 1 0 ≡ holders w b + cond (holds b x) 1 0
 unfolding holders
 holders-set w h x b l = omega (arith, count-set (holds b) w.handles h x None l)
 
-pub users-set : (w : World) (h : ℕ) (x : Option Held) (b : ℕ) → h < length w.handles → users (record w { handles = set w.handles h x }) b + cond (holds b (get_or w.handles h None)) 1 0 ≡ users w b + cond (holds b x) 1 0
+pub users-set : (w : World) (h : ℕ) (x : Option Held) (b : ℕ) → h < length w.handles
+    → users (record w { handles = set w.handles h x }) b + cond (holds b (get_or w.handles h None)) 1 0 ≡ users w b + cond (holds b x) 1 0
 unfolding users
 users-set w h x b l = omega (arith, count-set (holds b) w.handles h x None l)
 
 -- reading, after a handle more and after a handle changed
-pub reading-append : (s : State) (x : Option Handle) → reading (record s { handles = s.handles ++ x ∷ [] }) ≡ record (reading s) { handles = (reading s).handles ++ read_handle s.tables x ∷ [] }
+pub reading-append : (s : State) (x : Option Handle) → reading (record s { handles = s.handles ++ x ∷ [] })
+    ≡ record (reading s) { handles = (reading s).handles ++ read_handle s.tables x ∷ [] }
 reading-append s x = ap (λ (hs : List (Option Held)). record (reading s) { handles = hs }) (map-append (read_handle s.tables) s.handles (x ∷ []))
 
-pub reading-set : (s : State) (h : ℕ) (x : Option Handle) → reading (record s { handles = set s.handles h x }) ≡ record (reading s) { handles = set (reading s).handles h (read_handle s.tables x) }
+pub reading-set : (s : State) (h : ℕ) (x : Option Handle)
+    → reading (record s { handles = set s.handles h x }) ≡ record (reading s) { handles = set (reading s).handles h (read_handle s.tables x) }
 reading-set s h x = ap (λ (hs : List (Option Held)). record (reading s) { handles = hs }) (map-set (read_handle s.tables) s.handles h x)
 
 -- how holders and users change with the handles
-pub holders-more : (s : State) (x : Option Handle) (b : ℕ) → holders (reading (record s { handles = s.handles ++ x ∷ [] })) b ≡ holders (reading s) b + cond (holds b (read_handle s.tables x)) 1 0
+pub holders-more : (s : State) (x : Option Handle) (b : ℕ)
+    → holders (reading (record s { handles = s.handles ++ x ∷ [] })) b ≡ holders (reading s) b + cond (holds b (read_handle s.tables x)) 1 0
 holders-more s x b = rw (reading-append s x) (holders-append (reading s) (read_handle s.tables x) b)
 
-pub users-more : (s : State) (x : Option Handle) (b : ℕ) → users (reading (record s { handles = s.handles ++ x ∷ [] })) b ≡ users (reading s) b + cond (holds b (read_handle s.tables x)) 1 0
+pub users-more : (s : State) (x : Option Handle) (b : ℕ)
+    → users (reading (record s { handles = s.handles ++ x ∷ [] })) b ≡ users (reading s) b + cond (holds b (read_handle s.tables x)) 1 0
 users-more s x b = rw (reading-append s x) (users-append (reading s) (read_handle s.tables x) b)
 
-pub holders-changed : (s : State) (h : ℕ) (x : Option Handle) (b : ℕ) → h < length s.handles → holders (reading (record s { handles = set s.handles h x })) b + cond (holds b (read_handle s.tables (get_or s.handles h None))) 1 0 ≡ holders (reading s) b + cond (holds b (read_handle s.tables x)) 1 0
+pub holders-changed : (s : State) (h : ℕ) (x : Option Handle) (b : ℕ) → h < length s.handles
+    → holders (reading (record s { handles = set s.handles h x })) b + cond (holds b (read_handle s.tables (get_or s.handles h None))) 1 0
+    ≡ holders (reading s) b + cond (holds b (read_handle s.tables x)) 1 0
 holders-changed s h x b l =
     let m = get_or-map (read_handle s.tables) s.handles h None None l in
     let e = holders-set (reading s) h (read_handle s.tables x) b (rw length-map l) in
     rw (reading-set s h x, ← m) e
 
-pub users-changed : (s : State) (h : ℕ) (x : Option Handle) (b : ℕ) → h < length s.handles → users (reading (record s { handles = set s.handles h x })) b + cond (holds b (read_handle s.tables (get_or s.handles h None))) 1 0 ≡ users (reading s) b + cond (holds b (read_handle s.tables x)) 1 0
+pub users-changed : (s : State) (h : ℕ) (x : Option Handle) (b : ℕ) → h < length s.handles
+    → users (reading (record s { handles = set s.handles h x })) b + cond (holds b (read_handle s.tables (get_or s.handles h None))) 1 0
+    ≡ users (reading s) b + cond (holds b (read_handle s.tables x)) 1 0
 users-changed s h x b l =
     let m = get_or-map (read_handle s.tables) s.handles h None None l in
     let e = users-set (reading s) h (read_handle s.tables x) b (rw length-map l) in
@@ -98,7 +111,8 @@ unfolding holders users
 holders-le-users w b = omega (arith, count-most (drops b) (still_holds b) w.calls (drops-more b))
 
 -- two places that pass count two
-pub count-two : {X : Type 0} (p : X → Bool) (xs : List X) (i j : ℕ) (d : X) → i ≢ j → i < length xs → j < length xs → p (get_or xs i d) ≡ true → p (get_or xs j d) ≡ true → 2 ≤ tally p xs
+pub count-two : {X : Type 0} (p : X → Bool) (xs : List X) (i j : ℕ) (d : X) → i ≢ j → i < length xs → j < length xs → p (get_or xs i d) ≡ true
+    → p (get_or xs j d) ≡ true → 2 ≤ tally p xs
 count-two p [] i j d n h l t u = absurd (omega arith)
 count-two p (x ∷ xs) zero zero d n h l t u = absurd (n refl)
 count-two p (x ∷ xs) zero (suc j) d n h l t u = rw t (omega (arith, count-some p xs j d (omega arith) u))
@@ -121,9 +135,14 @@ count-find p d [] h = absurd (omega arith)
 count-find p d (x ∷ xs) h =
     found-first (p x)
     (λ t. record { place = 0; inside = omega arith; passes = t })
-    (λ f. let e = rw f at h in let r = count-find p d xs (omega (arith, e)) in record { place = suc r.place; inside = (let l = r.inside in omega arith); passes = r.passes }) refl
+    (λ f. let e = rw f at h in let r = count-find p d xs (omega (arith, e)) in record {
+      place = suc r.place;
+      inside = (let l = r.inside in omega arith);
+      passes = r.passes;
+    }) refl
 
-pub count-sum : {X : Type 0} (p q r : X → Bool) (xs : List X) → ((x : X) → cond (p x) 1 0 ≡ cond (q x) 1 0 + cond (r x) 1 0) → tally p xs ≡ tally q xs + tally r xs
+pub count-sum : {X : Type 0} (p q r : X → Bool) (xs : List X) → ((x : X) → cond (p x) 1 0 ≡ cond (q x) 1 0 + cond (r x) 1 0)
+    → tally p xs ≡ tally q xs + tally r xs
 count-sum p q r [] h = omega arith
 count-sum p q r (x ∷ xs) h = omega (arith, h x, count-sum p q r xs h)
 

@@ -70,17 +70,22 @@ may-false g x r log n =
 
 -- ---- the block that the descriptor says
 
-found-first : (bs : List Block) (b : ℕ) → b < length bs → ((c : ℕ) → c < b → (get_or bs c no_block).base ≢ (get_or bs b no_block).base) → block_with (get_or bs b no_block).base bs ≡ Some b
+found-first : (bs : List Block) (b : ℕ) → b < length bs → ((c : ℕ) → c < b → (get_or bs c no_block).base ≢ (get_or bs b no_block).base)
+    → block_with (get_or bs b no_block).base bs ≡ Some b
 found-first [] b l ne = absurd (omega arith)
 found-first (x ∷ bs) zero l ne = rw (is-eqb x.base x.base refl) refl
-found-first (x ∷ bs) (suc b) l ne = rw (not-eqb x.base (get_or bs b no_block).base (ne 0 (omega arith)), found-first bs b (omega arith) (λ c m. ne (suc c) (omega arith))) (ap Some (omega arith))
+found-first (x ∷ bs) (suc b) l ne = rw (
+  not-eqb x.base (get_or bs b no_block).base (ne 0 (omega arith)),
+  found-first bs b (omega arith) (λ c m. ne (suc c) (omega arith)),
+) (ap Some (omega arith))
 
 -- a block is the one with its base
 found-by-base : (g : Tables) (b : ℕ) → ArePlaced g → b < length g.blocks → block_with (block_at g b).base g.blocks ≡ Some b
 found-by-base g b k l = found-first g.blocks b l (λ c m. bases g c b k (omega arith) l (omega arith))
 
 -- the handle goes by the descriptor, and holds what it held
-pub owner-demoted : (s : State) (h r log : ℕ) (x : Handle) → IsSound s → Lends s h View x → x.word ≡ Counted r → MayDemote s.tables x r log → owner_of (tables_without s.tables r) (described s.tables x r log) ≡ Some (record_at s.tables r).block
+pub owner-demoted : (s : State) (h r log : ℕ) (x : Handle) → IsSound s → Lends s h View x → x.word ≡ Counted r → MayDemote s.tables x r log
+    → owner_of (tables_without s.tables r) (described s.tables x r log) ≡ Some (record_at s.tables r).block
 owner-demoted s h r log x k t xw m =
     let g : Tables = s.tables in
     let b : ℕ = (record_at s.tables r).block in
@@ -94,7 +99,11 @@ owner-demoted s h r log x k t xw m =
     let base : base_by (tables_without s.tables r) y w ≡ bl.base = rw (t.kind_is, size, tail) (omega (arith, lies.begins, lies.ends)) in
     owner-described (tables_without s.tables r) y w refl ∙ ap (λ (n : ℕ). block_with n g.blocks) base ∙ found-by-base g b k.blocks f.known
 
-pub described-demoted : (s : State) (h r log : ℕ) (x : Handle) → IsSound s → Lends s h View x → x.word ≡ Counted r → (block_at s.tables (record_at s.tables r).block).align ≡ 2 ^ log → MayDemote s.tables x r log → IsDescribed (tables_without s.tables r) (described s.tables x r log) (word_of s.tables.align_bits s.tables.tail_bits (block_at s.tables (record_at s.tables r).block).size log (tail_of (block_at s.tables (record_at s.tables r).block) x)) (record_at s.tables r).block log (tail_of (block_at s.tables (record_at s.tables r).block) x)
+pub described-demoted : (s : State) (h r log : ℕ) (x : Handle) → IsSound s → Lends s h View x → x.word ≡ Counted r
+    → (block_at s.tables (record_at s.tables r).block).align ≡ 2 ^ log → MayDemote s.tables x r log
+    → IsDescribed (tables_without s.tables r) (described s.tables x r log)
+    (word_of s.tables.align_bits s.tables.tail_bits (block_at s.tables (record_at s.tables r).block).size log
+    (tail_of (block_at s.tables (record_at s.tables r).block) x)) (record_at s.tables r).block log (tail_of (block_at s.tables (record_at s.tables r).block) x)
 described-demoted s h r log x k t xw align m =
     let bl : Block = block_at s.tables (record_at s.tables r).block in
     let f = counted-at s h x r k t.at xw in
@@ -112,14 +121,17 @@ described-demoted s h r log x k t xw align m =
 
 -- ---- Demote
 
-pub sound-demoted : (s : State) (h r log : ℕ) (x : Handle) → IsSound s → Lends s h View x → x.word ≡ Counted r → (block_at s.tables (record_at s.tables r).block).align ≡ 2 ^ log → MayDemote s.tables x r log → IsSound (edited (record_freed s r) h (described s.tables x r log))
+pub sound-demoted : (s : State) (h r log : ℕ) (x : Handle) → IsSound s → Lends s h View x → x.word ≡ Counted r
+    → (block_at s.tables (record_at s.tables r).block).align ≡ 2 ^ log → MayDemote s.tables x r log
+    → IsSound (edited (record_freed s r) h (described s.tables x r log))
 sound-demoted s h r log x k t xw align may =
     let g : Tables = s.tables in
     let g' : Tables = tables_without s.tables r in
     let b : ℕ = (record_at s.tables r).block in
     let y : Handle = described s.tables x r log in
     let tail : ℕ = tail_of (block_at s.tables (record_at s.tables r).block) x in
-    let w : ℕ = word_of s.tables.align_bits s.tables.tail_bits (block_at s.tables (record_at s.tables r).block).size log (tail_of (block_at s.tables (record_at s.tables r).block) x) in
+    let w : ℕ = word_of s.tables.align_bits s.tables.tail_bits (block_at s.tables (record_at s.tables r).block).size log
+    (tail_of (block_at s.tables (record_at s.tables r).block) x) in
     let next : State = edited (record_freed s r) h (described s.tables x r log) in
     let f = counted-at s h x r k t.at xw in
     let at = t.at in
@@ -136,26 +148,49 @@ sound-demoted s h r log x k t xw align may =
     let hs = handles-kept g g' s.calls s.handles e k.fit in
     let cs = calls-read-kept s g' s.calls e (λ i d l q j t. dead-let_go g r q) k.calls_fit in
     let mid : State = record s { tables = tables_without s.tables r } in
-    let hm : (c : ℕ) → holders (reading next) c ≡ holders (reading s) c = λ c. let n = rw (at, ox', oy) at (holders-changed mid h (Some y) c l) in let a = holders-alike (reading next) (reading (record mid { handles = set s.handles h (Some y) })) c refl refl in let m = holders-tables s g' c hs cs in omega (arith, n, a, m) in
-    let um : (c : ℕ) → users (reading next) c ≡ users (reading s) c = λ c. let n = rw (at, ox', oy) at (users-changed mid h (Some y) c l) in let a = users-alike (reading next) (reading (record mid { handles = set s.handles h (Some y) })) c refl refl in let m = users-tables s g' c hs cs in omega (arith, n, a, m) in
+    let hm : (c : ℕ) → holders (reading next) c ≡ holders (reading s) c = λ c. let n =
+    rw (at, ox', oy) at (holders-changed mid h (Some y) c l) in let a =
+    holders-alike (reading next) (reading (record mid { handles = set s.handles h (Some y) })) c refl refl in let m =
+    holders-tables s g' c hs cs in omega (arith, n, a, m) in
+    let um : (c : ℕ) → users (reading next) c ≡ users (reading s) c = λ c. let n = rw (at, ox', oy) at (users-changed mid h (Some y) c l) in let a =
+    users-alike (reading next) (reading (record mid { handles = set s.handles h (Some y) })) c refl refl in let m =
+    users-tables s g' c hs cs in omega (arith, n, a, m) in
     let dm : (c : ℕ) → tally (describes g' c) (set s.handles h (Some y)) ≡ tally (describes g c) s.handles + cond (c == b) 1 0 = λ c.
     let n = count-set (describes g' c) s.handles h (Some y) None l in
-    let nx : ◌≡◌ {A = ℕ} (cond (describes g' c (get_or s.handles h None)) 1 0) 0 = ap (λ (o : Option Handle). cond {A = ℕ} (describes g' c o) 1 0) at ∙ ap (λ (v : Bool). cond {A = ℕ} v 1 0) (describes-counted g' c x r xw) in
-    let ny : ◌≡◌ {A = ℕ} (cond (describes g' c (Some y)) 1 0) (cond (c == b) 1 0) = ap (λ (v : Bool). cond {A = ℕ} v 1 0) (describes-described g' c y w refl ∙ ap (is_block c) oy) in
+    let nx : ◌≡◌ {A = ℕ} (cond (describes g' c (get_or s.handles h None)) 1 0) 0 =
+    ap (λ (o : Option Handle). cond {A = ℕ} (describes g' c o) 1 0) at ∙ ap (λ (v : Bool). cond {A = ℕ} v 1 0) (describes-counted g' c x r xw) in
+    let ny : ◌≡◌ {A = ℕ} (cond (describes g' c (Some y)) 1 0) (cond (c == b) 1 0) =
+    ap (λ (v : Bool). cond {A = ℕ} v 1 0) (describes-described g' c y w refl ∙ ap (is_block c) oy) in
     omega (arith, n, nx, ny, describes-kept g g' s.calls c s.handles e k.fit) in
     let am : (c : ℕ) → tally (alone g' c) (set s.handles h (Some y)) ≡ tally (alone g c) s.handles + cond (c == b) 1 0 = λ c.
     let n = count-set (alone g' c) s.handles h (Some y) None l in
-    let nx : ◌≡◌ {A = ℕ} (cond (alone g' c (get_or s.handles h None)) 1 0) 0 = ap (λ (o : Option Handle). cond {A = ℕ} (alone g' c o) 1 0) at ∙ ap (λ (v : Bool). cond {A = ℕ} v 1 0) (alone-shared g' c x r xw t.kind_is) in
-    let ny : ◌≡◌ {A = ℕ} (cond (alone g' c (Some y)) 1 0) (cond (c == b) 1 0) = ap (λ (v : Bool). cond {A = ℕ} v 1 0) (alone-described g' c y w refl ∙ ap (is_block c) oy) in
+    let nx : ◌≡◌ {A = ℕ} (cond (alone g' c (get_or s.handles h None)) 1 0) 0 =
+    ap (λ (o : Option Handle). cond {A = ℕ} (alone g' c o) 1 0) at ∙ ap (λ (v : Bool). cond {A = ℕ} v 1 0) (alone-shared g' c x r xw t.kind_is) in
+    let ny : ◌≡◌ {A = ℕ} (cond (alone g' c (Some y)) 1 0) (cond (c == b) 1 0) =
+    ap (λ (v : Bool). cond {A = ℕ} v 1 0) (alone-described g' c y w refl ∙ ap (is_block c) oy) in
     omega (arith, n, nx, ny, alone-kept g g' s.calls c s.handles e k.fit) in
-    let apart : (q : ℕ) → (record_at g q).live ≡ true → q ≢ r → (record_at g q).block ≢ b = λ q t ne i. ne (k.one_record q r t f.live (unready s h b q k me free i) f.shown i) in
+    let apart : (q : ℕ) → (record_at g q).live ≡ true → q ≢ r → (record_at g q).block ≢ b =
+    λ q t ne i. ne (k.one_record q r t f.live (unready s h b q k me free i) f.shown i) in
     let size = k.size in
     record {
-      size = record { wide = size.wide; ceiling = size.ceiling; few_blocks = size.few_blocks; few_records = rw length-set size.few_records; few_handles = rw length-set size.few_handles; few_calls = size.few_calls };
+      size = record {
+        wide = size.wide;
+        ceiling = size.ceiling;
+        few_blocks = size.few_blocks;
+        few_records = rw length-set size.few_records;
+        few_handles = rw length-set size.few_handles;
+        few_calls = size.few_calls;
+      };
       blocks = (let p = k.blocks in record { places = p.places; apart = p.apart });
       fit = All-from_get_or (Fits g' s.calls) (set s.handles h (Some y)) None (λ i li. elim (eqb_tells i h) [
-        | inl z ↦ rw (z.1, get_or-set_same s.handles h (Some y) None l) (record { block = b; log = log; tail = tail; says = described-demoted s h r log x k t xw align may })
-        | inr z ↦ rw (get_or-set_other s.handles h i (Some y) None z.1) (fit-dead s h r i (get_or s.handles i None) once z.1 refl (k.fit i None (rw length-set at li)))
+        | inl z ↦ rw (z.1, get_or-set_same s.handles h (Some y) None l) (record {
+          block = b;
+          log = log;
+          tail = tail;
+          says = described-demoted s h r log x k t xw align may;
+        })
+        | inr z ↦ rw (get_or-set_other s.handles h i (Some y) None z.1)
+            (fit-dead s h r i (get_or s.handles i None) once z.1 refl (k.fit i None (rw length-set at li)))
       ]);
       calls_fit = All-from_get_or (FitsCall next) s.calls None (λ i li. call-kept s next (call_at s i) (record {
         tables = e;
@@ -171,8 +206,17 @@ sound-demoted s h r log x k t xw align may =
           let d = dead-live g r q inside t in
           let c = k.counted q d.0 in
           let ne = apart q d.0 d.1 in
-          record { known = rw (dead-block g r q) c.known; one_maker = c.one_maker; counts = λ z. rw (dead-count g r q, dead-block g r q, hm (record_at g q).block) (c.counts z); fresh = λ z. rw (dead-count g r q) (c.fresh z); used = rw (dead-block g r q, um (record_at g q).block) c.used; undescribed = λ z. rw (dead-block g r q) (let n = rw (not-eqb (record_at g q).block b ne) at (dm (record_at g q).block) in omega (arith, n, c.undescribed z)) };
-      one_record = λ p q tp tq hp hq i. k.one_record p q (dead-live g r p inside tp).0 (dead-live g r q inside tq).0 hp hq (sym (dead-block g r p) ∙ i ∙ dead-block g r q);
+          record {
+            known = rw (dead-block g r q) c.known;
+            one_maker = c.one_maker;
+            counts = λ z. rw (dead-count g r q, dead-block g r q, hm (record_at g q).block) (c.counts z);
+            fresh = λ z. rw (dead-count g r q) (c.fresh z);
+            used = rw (dead-block g r q, um (record_at g q).block) c.used;
+            undescribed = λ z. rw (dead-block g r q) (let n = rw (not-eqb (record_at g q).block b ne) at (dm (record_at g q).block) in
+                omega (arith, n, c.undescribed z));
+          };
+      one_record = λ p q tp tq hp hq i. k.one_record p q (dead-live g r p inside tp).0 (dead-live g r q inside tq).0 hp hq
+          (sym (dead-block g r p) ∙ i ∙ dead-block g r q);
       sole = λ c t. elim (eqb_tells c b) [
         | inl i ↦ rw i.1 (hm b ∙ one)
         | inr i ↦ hm c ∙ k.sole c (let n = rw i.0 at (am c) in omega (arith, n, t))
@@ -180,7 +224,8 @@ sound-demoted s h r log x k t xw align may =
       capped = λ c. rw hm (k.capped c);
       known_users = λ c t. k.known_users c (rw um at t);
       block_log = block-log-kept g.blocks s.freed_blocks (users (reading s)) (users (reading next)) um k.block_log;
-      record_log = record-log-dead g.records s.freed_records r (record { count = (record_at g r).count; block = (record_at g r).block; live = false }) inside refl f.live k.record_log;
+      record_log = record-log-dead g.records s.freed_records r
+          (record { count = (record_at g r).count; block = (record_at g r).block; live = false }) inside refl f.live k.record_log;
     }
 
 -- ---- what the call finds
@@ -196,16 +241,25 @@ demoting s h r x k t xw =
     let f = counted-at s h x r k t.at xw in
     let ends = counted-ends s r k f.live in
     let lies = lies-as (block_at s.tables (record_at s.tables r).block) x View t.kind_is f.lies in
-    record { inside = ends.inside; reaches = lies.ends; power = (k.blocks.places (record_at s.tables r).block no_block f.known).power; log_room = ends.record_log }
+    record {
+      inside = ends.inside;
+      reaches = lies.ends;
+      power = (k.blocks.places (record_at s.tables r).block no_block f.known).power;
+      log_room = ends.record_log;
+    }
 
-pub keeps-record : (s : State) (h r log : ℕ) (x : Handle) → (MayDemote s.tables x r log → ⊥) → (Declined ≡ (demote_counted s h x r log).reply) × (s ≡ (demote_counted s h x r log).state)
+pub keeps-record : (s : State) (h r log : ℕ) (x : Handle) → (MayDemote s.tables x r log → ⊥) → (Declined ≡ (demote_counted s h x r log).reply)
+    × (s ≡ (demote_counted s h x r log).state)
 keeps-record s h r log x n = rw (may-false s.tables x r log n) (refl, refl)
 
-pub frees-record : (s : State) (h r log : ℕ) (x : Handle) → MayDemote s.tables x r log → (Done ≡ (demote_counted s h x r log).reply) × (edited (record_freed s r) h (described s.tables x r log) ≡ (demote_counted s h x r log).state)
+pub frees-record : (s : State) (h r log : ℕ) (x : Handle) → MayDemote s.tables x r log → (Done ≡ (demote_counted s h x r log).reply)
+    × (edited (record_freed s r) h (described s.tables x r log) ≡ (demote_counted s h x r log).state)
 frees-record s h r log x m = rw (may-true s.tables x r log m) (refl, refl)
 
 -- what the call answers and leaves, as a step takes it
-pub demote-takes : (m n : Seen) (h : ℕ) (reply : Reply) → (o : Outcome) × IsDemoted m.state h (owning_view_of m.state h) o × (reply ≡ o.reply) × (n.state ≡ o.state) × (n.room ≡ m.room) → (o : Outcome) × IsDemoted m.state h (owning_view_of m.state h) o × ((reply ≡ o.reply) × (n.state ≡ o.state) × (n.room ≡ m.room))
+pub demote-takes : (m n : Seen) (h : ℕ) (reply : Reply) → (o : Outcome) × IsDemoted m.state h (owning_view_of m.state h) o × (reply ≡ o.reply)
+    × (n.state ≡ o.state) × (n.room ≡ m.room) → (o : Outcome) × IsDemoted m.state h (owning_view_of m.state h) o
+    × ((reply ≡ o.reply) × (n.state ≡ o.state) × (n.room ≡ m.room))
 demote-takes m n h reply (o, is, e, f, k) = (o, is, (e, f, k))
 
 pub keeps-word : (s : State) (h : ℕ) (x : Handle) (w : Word) → ((r : ℕ) → w ≡ Counted r → ⊥) → IsDemotedBy s h x w (declined s)

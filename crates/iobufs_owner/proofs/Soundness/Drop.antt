@@ -30,30 +30,38 @@ pub record IsDrop (s : State) (r : ℕ) (c : Pending) : Type 0 where
   pub left : ℕ
   pub reads : read_call s.tables (Some c) ≡ Some (Dropping (record_at s.tables r).block false left)
   pub hides : (q : ℕ) → readies q (Some c) ≡ false
-  pub fits : (t : State) → t.tables ≡ s.tables → ((q : ℕ) → hidden t.calls q ≡ hidden s.calls q) → holders (reading t) (record_at s.tables r).block ≡ holders (reading s) (record_at s.tables r).block → FitsCall t (Some c)
+  pub fits : (t : State) → t.tables ≡ s.tables → ((q : ℕ) → hidden t.calls q ≡ hidden s.calls q)
+      → holders (reading t) (record_at s.tables r).block ≡ holders (reading s) (record_at s.tables r).block → FitsCall t (Some c)
   pub first : (b : ℕ) → tally (releases s.tables b) s.calls + cond (releases s.tables b (Some c)) 1 0 ≤ 1
 
-moved : (s : State) (p h r : ℕ) (x : Handle) (c : Pending) (b : ℕ) → handle_at s h ≡ Some x → owner_of s.tables x ≡ Some (record_at s.tables r).block → call_at s p ≡ None → p < length s.calls → IsDrop s r c → (holders (reading (dropping s p h c)) b ≡ holders (reading s) b) × (users (reading (dropping s p h c)) b ≡ users (reading s) b)
+moved : (s : State) (p h r : ℕ) (x : Handle) (c : Pending) (b : ℕ) → handle_at s h ≡ Some x → owner_of s.tables x ≡ Some (record_at s.tables r).block
+    → call_at s p ≡ None → p < length s.calls → IsDrop s r c → (holders (reading (dropping s p h c)) b ≡ holders (reading s) b)
+    × (users (reading (dropping s p h c)) b ≡ users (reading s) b)
 unfolding holders users
 moved s p h r x c b at o none lp d =
     let l = at-some s.handles h x at in
     let n = count-set (holds b) (map (read_handle s.tables) s.handles) h None None (rw length-map l) in
-    let nx : ◌≡◌ {A = ℕ} (cond (holds b (get_or (map (read_handle s.tables) s.handles) h None)) 1 0) (cond (b == (record_at s.tables r).block) 1 0) = rw (get_or-read (read_handle s.tables) s.handles h None, at, o) refl in
+    let nx : ◌≡◌ {A = ℕ} (cond (holds b (get_or (map (read_handle s.tables) s.handles) h None)) 1 0) (cond (b == (record_at s.tables r).block) 1 0) =
+    rw (get_or-read (read_handle s.tables) s.handles h None, at, o) refl in
     let m = count-set (still_holds b) (map (read_call s.tables) s.calls) p (read_call s.tables (Some c)) None (rw length-map lp) in
     let k = count-set (drops b) (map (read_call s.tables) s.calls) p (read_call s.tables (Some c)) None (rw length-map lp) in
-    let mx : ◌≡◌ {A = ℕ} (cond (still_holds b (get_or (map (read_call s.tables) s.calls) p None)) 1 0) 0 = rw (get_or-read (read_call s.tables) s.calls p None, none) refl in
-    let kx : ◌≡◌ {A = ℕ} (cond (drops b (get_or (map (read_call s.tables) s.calls) p None)) 1 0) 0 = rw (get_or-read (read_call s.tables) s.calls p None, none) refl in
+    let mx : ◌≡◌ {A = ℕ} (cond (still_holds b (get_or (map (read_call s.tables) s.calls) p None)) 1 0) 0 =
+    rw (get_or-read (read_call s.tables) s.calls p None, none) refl in
+    let kx : ◌≡◌ {A = ℕ} (cond (drops b (get_or (map (read_call s.tables) s.calls) p None)) 1 0) 0 =
+    rw (get_or-read (read_call s.tables) s.calls p None, none) refl in
     let my : ◌≡◌ {A = ℕ} (cond (still_holds b (read_call s.tables (Some c))) 1 0) (cond (b == (record_at s.tables r).block) 1 0) = rw d.reads refl in
     let ky : ◌≡◌ {A = ℕ} (cond (drops b (read_call s.tables (Some c))) 1 0) (cond (b == (record_at s.tables r).block) 1 0) = rw d.reads refl in (
       rw (map-set (read_handle s.tables) s.handles h None, map-set (read_call s.tables) s.calls p (Some c)) (omega (arith, n, nx, m, mx, my)),
       rw (map-set (read_handle s.tables) s.handles h None, map-set (read_call s.tables) s.calls p (Some c)) (omega (arith, n, nx, k, kx, ky)),
     )
 
-fit-dropping : (s : State) (p : ℕ) (c : Pending) → ((q : ℕ) → hidden (set s.calls p (Some c)) q ≤ hidden s.calls q) → (o : Option Handle) → Fits s.tables s.calls o → Fits s.tables (set s.calls p (Some c)) o
+fit-dropping : (s : State) (p : ℕ) (c : Pending) → ((q : ℕ) → hidden (set s.calls p (Some c)) q ≤ hidden s.calls q) → (o : Option Handle)
+    → Fits s.tables s.calls o → Fits s.tables (set s.calls p (Some c)) o
 fit-dropping s p c less None f = tt
 fit-dropping s p c less (Some x) f = fits-calls s.tables s.calls (set s.calls p (Some c)) x x.word less f
 
-pub sound-dropping : (s : State) (p h r : ℕ) (x : Handle) (c : Pending) → IsSound s → handle_at s h ≡ Some x → x.word ≡ Counted r → x.kind ≡ View → is_lent h s.calls ≡ false → call_at s p ≡ None → p < length s.calls → IsDrop s r c → IsSound (dropping s p h c)
+pub sound-dropping : (s : State) (p h r : ℕ) (x : Handle) (c : Pending) → IsSound s → handle_at s h ≡ Some x → x.word ≡ Counted r → x.kind ≡ View
+    → is_lent h s.calls ≡ false → call_at s p ≡ None → p < length s.calls → IsDrop s r c → IsSound (dropping s p h c)
 sound-dropping s p h r x c k at word view free none lp d =
     let g : Tables = s.tables in
     let next : State = dropping s p h c in
@@ -66,15 +74,25 @@ sound-dropping s p h r x c k at word view free none lp d =
     let nx : ◌≡◌ {A = ℕ} (cond (readies q (get_or s.calls p None)) 1 0) 0 = rw none refl in
     let ny : ◌≡◌ {A = ℕ} (cond (readies q (Some c)) 1 0) 0 = rw d.hides refl in
     omega (arith, n, nx, ny) in
-    let am : (b : ℕ) → tally (alone g b) (set s.handles h None) ≤ tally (alone g b) s.handles = λ b. omega (arith, count-set (alone g b) s.handles h None None l) in
-    let dm : (b : ℕ) → tally (describes g b) (set s.handles h None) ≤ tally (describes g b) s.handles = λ b. omega (arith, count-set (describes g b) s.handles h None None l) in
+    let am : (b : ℕ) → tally (alone g b) (set s.handles h None) ≤ tally (alone g b) s.handles =
+    λ b. omega (arith, count-set (alone g b) s.handles h None None l) in
+    let dm : (b : ℕ) → tally (describes g b) (set s.handles h None) ≤ tally (describes g b) s.handles =
+    λ b. omega (arith, count-set (describes g b) s.handles h None None l) in
     let size = k.size in
     record {
-      size = record { wide = size.wide; ceiling = size.ceiling; few_blocks = size.few_blocks; few_records = size.few_records; few_handles = rw length-set size.few_handles; few_calls = rw length-set size.few_calls };
+      size = record {
+        wide = size.wide;
+        ceiling = size.ceiling;
+        few_blocks = size.few_blocks;
+        few_records = size.few_records;
+        few_handles = rw length-set size.few_handles;
+        few_calls = rw length-set size.few_calls;
+      };
       blocks = k.blocks;
       fit = All-from_get_or (Fits g (set s.calls p (Some c))) (set s.handles h None) None (λ i li. elim (eqb_tells i h) [
         | inl z ↦ rw (z.1, get_or-set_same s.handles h None None l) tt
-        | inr z ↦ rw (get_or-set_other s.handles h i None None z.1) (fit-dropping s p c (λ q. omega (arith, hid q)) (get_or s.handles i None) (k.fit i None (rw length-set at li)))
+        | inr z ↦ rw (get_or-set_other s.handles h i None None z.1)
+            (fit-dropping s p c (λ q. omega (arith, hid q)) (get_or s.handles i None) (k.fit i None (rw length-set at li)))
       ]);
       calls_fit = All-from_get_or (FitsCall next) (set s.calls p (Some c)) None (λ i li.
           let lo : i < length s.calls = (let z = rw length-set at li in z) in
@@ -91,7 +109,14 @@ sound-dropping s p h r x c k at word view free none lp d =
             }) (k.calls_fit i None lo))
           ]);
       one_release = λ b. let n = count-set (releases g b) s.calls p (Some c) None lp in omega (arith, n, d.first b);
-      counted = λ q live. let v = k.counted q live in record { known = v.known; one_maker = rw (hid q) v.one_maker; counts = λ z. rw hm (v.counts (sym (hid q) ∙ z)); fresh = λ z. v.fresh (sym (hid q) ∙ z); used = rw um v.used; undescribed = λ z. omega (arith, dm (record_at g q).block, v.undescribed (sym (hid q) ∙ z)) };
+      counted = λ q live. let v = k.counted q live in record {
+        known = v.known;
+        one_maker = rw (hid q) v.one_maker;
+        counts = λ z. rw hm (v.counts (sym (hid q) ∙ z));
+        fresh = λ z. v.fresh (sym (hid q) ∙ z);
+        used = rw um v.used;
+        undescribed = λ z. omega (arith, dm (record_at g q).block, v.undescribed (sym (hid q) ∙ z));
+      };
       one_record = λ q q' a b u v e. k.one_record q q' a b (sym (hid q) ∙ u) (sym (hid q') ∙ v) e;
       sole = λ b t. rw hm (k.sole b (omega (arith, am b)));
       capped = λ b. rw hm (k.capped b);
@@ -111,7 +136,8 @@ drop-subtract s r k live z = record {
 }
 
 -- a call that releases a block is one of the list
-release-of : (s : State) (h b i : ℕ) (x : Handle) (c : Option Pending) → handle_at s h ≡ Some x → owner_of s.tables x ≡ Some b → i < length s.calls → call_at s i ≡ c → FitsCall s c → releases s.tables b c ≡ true → ⊥
+release-of : (s : State) (h b i : ℕ) (x : Handle) (c : Option Pending) → handle_at s h ≡ Some x → owner_of s.tables x ≡ Some b → i < length s.calls
+    → call_at s i ≡ c → FitsCall s c → releases s.tables b c ≡ true → ⊥
 release-of s h b i x None at o l e f t = absurd (cc)
 release-of s h b i x (Some (Loaded part w)) at o l e f t = absurd (cc)
 release-of s h b i x (Some (Ready part w q)) at o l e f t = absurd (cc)
@@ -121,7 +147,8 @@ release-of s h b i x (Some (Release q)) at o l e f t =
     release-elsewhere s h b i q x None at o l e f.alone (grind (arith, nat_tests, t))
 
 -- alone it will release
-pub drop-release : (s : State) (h r : ℕ) (x : Handle) → IsSound s → handle_at s h ≡ Some x → x.word ≡ Counted r → (record_at s.tables r).live ≡ true → hidden s.calls r ≡ 0 → (record_at s.tables r).count ≡ 1 → IsDrop s r (Release r)
+pub drop-release : (s : State) (h r : ℕ) (x : Handle) → IsSound s → handle_at s h ≡ Some x → x.word ≡ Counted r → (record_at s.tables r).live ≡ true
+    → hidden s.calls r ≡ 0 → (record_at s.tables r).count ≡ 1 → IsDrop s r (Release r)
 drop-release s h r x k at word live z one =
     let b : ℕ = (record_at s.tables r).block in
     let o = owner-counted s.tables x r word in
@@ -129,7 +156,8 @@ drop-release s h r x k at word live z one =
     let still : has_let_go s.tables r ≡ false = not-eqb (record_at s.tables r).count 0 (omega (arith, one)) in
     let none : tally (releases s.tables b) s.calls ≡ 0 = elim (eqb_tells (tally (releases s.tables b) s.calls) 0) [
       | inl i ↦ i.1
-      | inr i ↦ absurd (let w = count-find (releases s.tables b) None s.calls (let m = i.1 in omega arith) in release-of s h b w.place x (call_at s w.place) at o w.inside refl (k.calls_fit w.place None w.inside) w.passes)
+      | inr i ↦ absurd (let w = count-find (releases s.tables b) None s.calls (let m = i.1 in omega arith) in
+          release-of s h b w.place x (call_at s w.place) at o w.inside refl (k.calls_fit w.place None w.inside) w.passes)
     ] in
     record {
       left = 1;
@@ -147,6 +175,7 @@ drop-release s h r x k at word live z one =
     }
 
 -- the call of a drop, by the count that was loaded
-pub drop-after : (s : State) (h r : ℕ) (x : Handle) (v : Bool) → IsSound s → handle_at s h ≡ Some x → x.word ≡ Counted r → (record_at s.tables r).live ≡ true → hidden s.calls r ≡ 0 → nat_eq (record_at s.tables r).count 1 ≡ v → IsDrop s r (cond v (Release r) (Subtract r))
+pub drop-after : (s : State) (h r : ℕ) (x : Handle) (v : Bool) → IsSound s → handle_at s h ≡ Some x → x.word ≡ Counted r
+    → (record_at s.tables r).live ≡ true → hidden s.calls r ≡ 0 → nat_eq (record_at s.tables r).count 1 ≡ v → IsDrop s r (cond v (Release r) (Subtract r))
 drop-after s h r x true k at word live z e = drop-release s h r x k at word live z (grind (arith, nat_tests, e))
 drop-after s h r x false k at word live z e = drop-subtract s r k live z

@@ -48,7 +48,8 @@ unfolding owner_of
 owner-described g x w e = rw e refl
 
 -- the same base under another descriptor
-pub owner-redescribed : (g : Tables) (x y : Handle) (w v : ℕ) → x.word ≡ Descriptor w → y.word ≡ Descriptor v → base_by g y v ≡ base_by g x w → owner_of g y ≡ owner_of g x
+pub owner-redescribed : (g : Tables) (x y : Handle) (w v : ℕ) → x.word ≡ Descriptor w → y.word ≡ Descriptor v → base_by g y v ≡ base_by g x w
+    → owner_of g y ≡ owner_of g x
 owner-redescribed g x y w v ex ey e =
     owner-described g y v ey ∙ ap (λ n. block_with n g.blocks) e ∙ sym (owner-described g x w ex)
 
@@ -59,13 +60,16 @@ pub tail-says : (g : Tables) (x : Handle) (w b log tail : ℕ) → IsDescribed g
 tail-says g x w b log tail d = word-tail g.align_bits g.tail_bits g.size_bits w (block_at g b).size log tail d.room d.word
 
 -- the same descriptor with another tail
-pub room-again : (g : Tables) (x : Handle) (w b log tail n : ℕ) → IsDescribed g x w b log tail → n < 2 ^ g.tail_bits → HasRoom g.align_bits g.tail_bits g.size_bits (block_at g b).size log n
+pub room-again : (g : Tables) (x : Handle) (w b log tail n : ℕ) → IsDescribed g x w b log tail → n < 2 ^ g.tail_bits
+    → HasRoom g.align_bits g.tail_bits g.size_bits (block_at g b).size log n
 room-again g x w b log tail n d l = record { some = d.room.some; log_fits = d.room.log_fits; tail_fits = l; size_fits = d.room.size_fits }
 
-pub word-again : (g : Tables) (x : Handle) (w b log tail n : ℕ) → IsDescribed g x w b log tail → retailed g w n ≡ word_of g.align_bits g.tail_bits (block_at g b).size log n
+pub word-again : (g : Tables) (x : Handle) (w b log tail n : ℕ) → IsDescribed g x w b log tail
+    → retailed g w n ≡ word_of g.align_bits g.tail_bits (block_at g b).size log n
 word-again g x w b log tail n d = retailed-is g.align_bits g.tail_bits g.size_bits w (block_at g b).size log tail n d.room d.word
 
-pub described-again : (g : Tables) (x y : Handle) (w b log tail n : ℕ) → IsDescribed g x w b log tail → n < 2 ^ g.tail_bits → owner_of g y ≡ owner_of g x → LiesIn (block_at g b) y y.kind → LeavesBehind (block_at g b) y n y.kind → IsDescribed g y (retailed g w n) b log n
+pub described-again : (g : Tables) (x y : Handle) (w b log tail n : ℕ) → IsDescribed g x w b log tail → n < 2 ^ g.tail_bits
+    → owner_of g y ≡ owner_of g x → LiesIn (block_at g b) y y.kind → LeavesBehind (block_at g b) y n y.kind → IsDescribed g y (retailed g w n) b log n
 described-again g x y w b log tail n d l o lies behind = record {
   known = d.known;
   room = room-again g x w b log tail n d l;
@@ -82,12 +86,22 @@ no_block = record { base = 0; size = 0; align = 0; external = false }
 
 -- an alignment that divides an address above 0 is at most that address
 pub align-small : (base align : ℕ) → 0 < base → base < 2 ^ 64 → base % align ≡ 0 → align < 2 ^ 64
-align-small base align p q e = elim (leb_tells align base) [ inl l ↦ (let m = l.1 in omega arith) | inr l ↦ absurd (let z = mod-eq_of_lt l.1 in omega (arith, z, e)) ]
+align-small base align p q e = elim (leb_tells align base)
+    [ inl l ↦ (let m = l.1 in omega arith) | inr l ↦ absurd (let z = mod-eq_of_lt l.1 in omega (arith, z, e)) ]
 
-pub word-fits : (s : State) (x : Handle) (w b log tail : ℕ) → IsSound s → IsDescribed s.tables x w b log tail → IsWord s.tables.align_bits s.tables.tail_bits s.tables.size_bits w
+pub word-fits : (s : State) (x : Handle) (w b log tail : ℕ) → IsSound s → IsDescribed s.tables x w b log tail
+    → IsWord s.tables.align_bits s.tables.tail_bits s.tables.size_bits w
 word-fits s x w b log tail k d =
     let place = k.blocks.places b (record { base = 0; size = 0; align = 0; external = false }) d.known in
-    record { size = (block_at s.tables b).size; log = log; tail = tail; small = log-below (2 ^ log) log (align-small (block_at s.tables b).base (2 ^ log) place.above (let z = place.ends in omega arith) (rw (← d.align) place.aligned)) refl; room = d.room; is = d.word }
+    record {
+      size = (block_at s.tables b).size;
+      log = log;
+      tail = tail;
+      small = log-below (2 ^ log) log
+          (align-small (block_at s.tables b).base (2 ^ log) place.above (let z = place.ends in omega arith) (rw (← d.align) place.aligned)) refl;
+      room = d.room;
+      is = d.word;
+    }
 
 -- what lies in its block ends where addresses end
 end-kind : (b : Block) (x : Handle) (kind : Kind) → b.base + b.size < 2 ^ 64 → LiesIn b x kind → x.ptr + x.len < 2 ^ 64
@@ -97,22 +111,49 @@ end-kind b x Mut e lies = omega (arith, e, lies.ends, lies.within)
 end-by : (s : State) (x : Handle) (w : Word) → IsSound s → FitsWord s.tables s.calls x w → x.ptr + x.len < 2 ^ 64
 end-by s x Empty k f = f.ends
 end-by s x (Descriptor w) k d = end-kind (block_at s.tables d.block) x x.kind (k.blocks.places d.block no_block d.says.known).ends d.says.lies
-end-by s x (Counted r) k f = end-kind (block_at s.tables (record_at s.tables r).block) x x.kind (k.blocks.places (record_at s.tables r).block no_block f.known).ends f.lies
+end-by s x (Counted r) k f = end-kind (block_at s.tables (record_at s.tables r).block) x x.kind
+    (k.blocks.places (record_at s.tables r).block no_block f.known).ends f.lies
 
 pub end-small : (s : State) (h : ℕ) (x : Handle) → IsSound s → handle_at s h ≡ Some x → x.ptr + x.len < 2 ^ 64
 end-small s h x k at = end-by s x x.word k (fits-at s h x k at)
 
 -- ---- Put
 
-put-fits : (s : State) (x : Handle) (n : ℕ) (w : Word) → x.kind ≡ Mut → n ≤ x.cap - x.len → owner_of s.tables (record x { len = x.len + n }) ≡ owner_of s.tables x → FitsWord s.tables s.calls x w → FitsWord s.tables s.calls (record x { len = x.len + n }) w
-put-fits s x n Empty m l o f = let z = f.no_bytes m in record { no_room = f.no_room; ends = omega (arith, f.no_room, f.ends); no_bytes = λ _. omega (arith, f.no_room) }
+put-fits : (s : State) (x : Handle) (n : ℕ) (w : Word) → x.kind ≡ Mut → n ≤ x.cap - x.len
+    → owner_of s.tables (record x { len = x.len + n }) ≡ owner_of s.tables x → FitsWord s.tables s.calls x w
+    → FitsWord s.tables s.calls (record x { len = x.len + n }) w
+put-fits s x n Empty m l o f = let z = f.no_bytes m in record {
+  no_room = f.no_room;
+  ends = omega (arith, f.no_room, f.ends);
+  no_bytes = λ _. omega (arith, f.no_room);
+}
 put-fits s x n (Descriptor w) m l o f =
     let d = f.says in
     let lies = rw m at d.lies in
-    record { block = f.block; log = f.log; tail = f.tail; says = record { known = d.known; room = d.room; word = d.word; align = d.align; native = d.native; owner = o ∙ d.owner; lies = rw m (record { begins = lies.begins; ends = lies.ends; within = omega (arith, lies.within) }); behind = rw m (rw m at d.behind) } }
+    record {
+      block = f.block;
+      log = f.log;
+      tail = f.tail;
+      says = record {
+        known = d.known;
+        room = d.room;
+        word = d.word;
+        align = d.align;
+        native = d.native;
+        owner = o ∙ d.owner;
+        lies = rw m (record { begins = lies.begins; ends = lies.ends; within = omega (arith, lies.within) });
+        behind = rw m (rw m at d.behind);
+      };
+    }
 put-fits s x n (Counted r) m l o f =
     let lies = rw m at f.lies in
-    record { live = f.live; known = f.known; shown = f.shown; lies = rw m (record { begins = lies.begins; ends = lies.ends; within = omega (arith, lies.within) }); native = f.native }
+    record {
+      live = f.live;
+      known = f.known;
+      shown = f.shown;
+      lies = rw m (record { begins = lies.begins; ends = lies.ends; within = omega (arith, lies.within) });
+      native = f.native;
+    }
 
 pub owner-put : (g : Tables) (x : Handle) (n : ℕ) → x.kind ≡ Mut → owner_of g (record x { len = x.len + n }) ≡ owner_of g x
 owner-put g x n m = owner-same g x (record x { len = x.len + n }) refl (base-mut g x (record x { len = x.len + n }) m m refl)
@@ -121,7 +162,8 @@ pub sound-put : (s : State) (h : ℕ) (x : Handle) (n : ℕ) → IsSound s → L
 sound-put s h x n k t l =
     let y : Handle = record x { len = x.len + n } in
     let o = owner-put s.tables x n t.kind_is in
-    sound-edited s h x y k t.at t.free o (λ b. rw o refl) (λ b a. alone-at s h x b k t.at (rw o at a)) (put-fits s x n x.word t.kind_is l o (fits-at s h x k t.at))
+    sound-edited s h x y k t.at t.free o (λ b. rw o refl) (λ b a. alone-at s h x b k t.at (rw o at a))
+    (put-fits s x n x.word t.kind_is l o (fits-at s h x k t.at))
 
 -- ---- Advance
 
@@ -142,7 +184,8 @@ within-by g calls x (Counted r) f m = (rw m at f.lies).within
 pub within : (s : State) (h : ℕ) (x : Handle) → IsSound s → handle_at s h ≡ Some x → x.kind ≡ Mut → x.len ≤ x.cap
 within s h x k at m = within-by s.tables s.calls x x.word (fits-at s h x k at) m
 
-base-kind : (g : Tables) (x : Handle) (n : ℕ) (kind : Kind) → n ≤ x.len → (kind ≡ Mut → x.len ≤ x.cap) → (w : ℕ) → x.kind ≡ kind → base_by g (advanced x n) w ≡ base_by g x w
+base-kind : (g : Tables) (x : Handle) (n : ℕ) (kind : Kind) → n ≤ x.len → (kind ≡ Mut → x.len ≤ x.cap) → (w : ℕ) → x.kind ≡ kind
+    → base_by g (advanced x n) w ≡ base_by g x w
 base-kind g x n View l c w e = rw e (omega arith)
 base-kind g x n Mut l c w e = let z = c refl in rw e (omega arith)
 
@@ -151,28 +194,54 @@ owner-advanced g x n l c = owner-same g x (advanced x n) refl (λ w. base-kind g
 
 advance-lies : (b : Block) (x : Handle) (n : ℕ) (kind : Kind) → n ≤ x.len → LiesIn b x kind → LiesIn b (advanced x n) kind
 advance-lies b x n View l lies = record { begins = omega (arith, lies.begins); ends = omega (arith, l, lies.ends); no_room = omega (arith, lies.no_room) }
-advance-lies b x n Mut l lies = record { begins = omega (arith, lies.begins); ends = omega (arith, l, lies.ends, lies.within); within = omega (arith, l, lies.within) }
+advance-lies b x n Mut l lies = record {
+  begins = omega (arith, lies.begins);
+  ends = omega (arith, l, lies.ends, lies.within);
+  within = omega (arith, l, lies.within);
+}
 
 advance-behind : (b : Block) (x : Handle) (n tail : ℕ) (kind : Kind) → n ≤ x.len → LeavesBehind b x tail kind → LeavesBehind b (advanced x n) tail kind
 advance-behind b x n tail View l e = omega (arith, e)
 advance-behind b x n tail Mut l e = e
 
-advance-fits : (g : Tables) (calls : List (Option Pending)) (x : Handle) (n : ℕ) (w : Word) → n ≤ x.len → owner_of g (advanced x n) ≡ owner_of g x → FitsWord g calls x w → FitsWord g calls (advanced x n) w
-advance-fits g calls x n Empty l o f = record { no_room = omega (arith, f.no_room); ends = omega (arith, f.ends, l); no_bytes = λ m. let z = f.no_bytes m in omega arith }
+advance-fits : (g : Tables) (calls : List (Option Pending)) (x : Handle) (n : ℕ) (w : Word) → n ≤ x.len → owner_of g (advanced x n) ≡ owner_of g x
+    → FitsWord g calls x w → FitsWord g calls (advanced x n) w
+advance-fits g calls x n Empty l o f = record {
+  no_room = omega (arith, f.no_room);
+  ends = omega (arith, f.ends, l);
+  no_bytes = λ m. let z = f.no_bytes m in omega arith;
+}
 advance-fits g calls x n (Descriptor w) l o f =
     let d = f.says in
-    record { block = f.block; log = f.log; tail = f.tail; says = record { known = d.known; room = d.room; word = d.word; align = d.align; native = d.native; owner = o ∙ d.owner; lies = advance-lies (block_at g f.block) x n x.kind l d.lies; behind = advance-behind (block_at g f.block) x n f.tail x.kind l d.behind } }
+    record {
+      block = f.block;
+      log = f.log;
+      tail = f.tail;
+      says = record {
+        known = d.known;
+        room = d.room;
+        word = d.word;
+        align = d.align;
+        native = d.native;
+        owner = o ∙ d.owner;
+        lies = advance-lies (block_at g f.block) x n x.kind l d.lies;
+        behind = advance-behind (block_at g f.block) x n f.tail x.kind l d.behind;
+      };
+    }
 advance-fits g calls x n (Counted r) l o f =
     record { live = f.live; known = f.known; shown = f.shown; lies = advance-lies (block_at g (record_at g r).block) x n x.kind l f.lies; native = f.native }
 
-pub sound-advanced : (s : State) (h : ℕ) (x : Handle) (n : ℕ) → IsSound s → handle_at s h ≡ Some x → is_lent h s.calls ≡ false → n ≤ x.len → IsSound (edited s h (advanced x n))
+pub sound-advanced : (s : State) (h : ℕ) (x : Handle) (n : ℕ) → IsSound s → handle_at s h ≡ Some x → is_lent h s.calls ≡ false → n ≤ x.len
+    → IsSound (edited s h (advanced x n))
 sound-advanced s h x n k at free l =
     let o = owner-advanced s.tables x n l (within s h x k at) in
-    sound-edited s h x (advanced x n) k at free o (λ b. rw o refl) (λ b a. alone-at s h x b k at (rw o at a)) (advance-fits s.tables s.calls x n x.word l o (fits-at s h x k at))
+    sound-edited s h x (advanced x n) k at free o (λ b. rw o refl) (λ b a. alone-at s h x b k at (rw o at a))
+    (advance-fits s.tables s.calls x n x.word l o (fits-at s h x k at))
 
 -- ---- Freeze, where the handle keeps what it owns by
 
-pub base-frozen : (g : Tables) (x : Handle) (w b log tail : ℕ) → x.kind ≡ Mut → x.len ≤ x.cap → IsDescribed g x w b log tail → x.cap - x.len < 2 ^ g.tail_bits → base_by g (frozen x (Descriptor (retailed g w (x.cap - x.len)))) (retailed g w (x.cap - x.len)) ≡ base_by g x w
+pub base-frozen : (g : Tables) (x : Handle) (w b log tail : ℕ) → x.kind ≡ Mut → x.len ≤ x.cap → IsDescribed g x w b log tail
+    → x.cap - x.len < 2 ^ g.tail_bits → base_by g (frozen x (Descriptor (retailed g w (x.cap - x.len)))) (retailed g w (x.cap - x.len)) ≡ base_by g x w
 base-frozen g x w b log tail m c d l =
     let n : ℕ = x.cap - x.len in
     let room = room-again g x w b log tail (x.cap - x.len) d l in
@@ -215,23 +284,37 @@ describes-counted g c x r e = ap (λ (v : Word). is_block c (owner_of g x) && is
 
 pub alone-shared : (g : Tables) (c : ℕ) (x : Handle) (r : ℕ) → x.word ≡ Counted r → x.kind ≡ View → alone g c (Some x) ≡ false
 alone-shared g c x r e v =
-    ap (λ (v : Word). is_block c (owner_of g x) && (is_descriptor v || is_mut x.kind)) e ∙ ap (λ (q : Kind). is_block c (owner_of g x) && is_mut q) v ∙ and-no (is_block c (owner_of g x))
+    ap (λ (v : Word). is_block c (owner_of g x) && (is_descriptor v || is_mut x.kind)) e ∙ ap (λ (q : Kind). is_block c (owner_of g x) && is_mut q) v
+    ∙ and-no (is_block c (owner_of g x))
 
 pub alone-written : (g : Tables) (c : ℕ) (x : Handle) (r : ℕ) → x.word ≡ Counted r → x.kind ≡ Mut → alone g c (Some x) ≡ is_block c (owner_of g x)
 alone-written g c x r e v =
-    ap (λ (v : Word). is_block c (owner_of g x) && (is_descriptor v || is_mut x.kind)) e ∙ ap (λ (q : Kind). is_block c (owner_of g x) && is_mut q) v ∙ and-yes (is_block c (owner_of g x))
+    ap (λ (v : Word). is_block c (owner_of g x) && (is_descriptor v || is_mut x.kind)) e ∙ ap (λ (q : Kind). is_block c (owner_of g x) && is_mut q) v
+    ∙ and-yes (is_block c (owner_of g x))
 
 pub block-tells : (c b : ℕ) (o : Option ℕ) → o ≡ Some b → is_block c o ≡ true → c ≡ b
 block-tells c b None e t = absurd (cc)
 block-tells c b (Some d) e t = let z : d ≡ b = cc in let y : c ≡ d = grind (arith, nat_tests, t) in y ∙ z
 
 -- a handle by a descriptor, with another descriptor for the same block
-pub sound-redescribed : (s : State) (h : ℕ) (x y : Handle) (w b log tail n : ℕ) → IsSound s → handle_at s h ≡ Some x → is_lent h s.calls ≡ false → x.word ≡ Descriptor w → IsDescribed s.tables x w b log tail → n < 2 ^ s.tables.tail_bits → y.word ≡ Descriptor (retailed s.tables w n) → base_by s.tables y (retailed s.tables w n) ≡ base_by s.tables x w → LiesIn (block_at s.tables b) y y.kind → LeavesBehind (block_at s.tables b) y n y.kind → IsSound (edited s h y)
+pub sound-redescribed : (s : State) (h : ℕ) (x y : Handle) (w b log tail n : ℕ) → IsSound s → handle_at s h ≡ Some x → is_lent h s.calls ≡ false
+    → x.word ≡ Descriptor w → IsDescribed s.tables x w b log tail → n < 2 ^ s.tables.tail_bits → y.word ≡ Descriptor (retailed s.tables w n)
+    → base_by s.tables y (retailed s.tables w n) ≡ base_by s.tables x w → LiesIn (block_at s.tables b) y y.kind
+    → LeavesBehind (block_at s.tables b) y n y.kind → IsSound (edited s h y)
 sound-redescribed s h x y w b log tail n k at free xw d l yw base lies behind =
     let o = owner-redescribed s.tables x y w (retailed s.tables w n) xw yw base in
-    sound-edited s h x y k at free o (λ c. describes-described s.tables c y (retailed s.tables w n) yw ∙ ap (is_block c) o ∙ sym (describes-described s.tables c x w xw)) (λ c a. alone-at s h x c k at (alone-described s.tables c x w xw ∙ ap (is_block c) (sym o) ∙ sym (alone-described s.tables c y (retailed s.tables w n) yw) ∙ a)) (subst (λ (v : Word). FitsWord s.tables s.calls y v) (sym yw) (record { block = b; log = log; tail = n; says = described-again s.tables x y w b log tail n d l o lies behind }))
+    sound-edited s h x y k at free o (λ c. describes-described s.tables c y (retailed s.tables w n) yw ∙ ap (is_block c) o
+    ∙ sym (describes-described s.tables c x w xw))
+    (λ c a. alone-at s h x c k at (alone-described s.tables c x w xw ∙ ap (is_block c) (sym o)
+    ∙ sym (alone-described s.tables c y (retailed s.tables w n) yw) ∙ a)) (subst (λ (v : Word). FitsWord s.tables s.calls y v) (sym yw) (record {
+      block = b;
+      log = log;
+      tail = n;
+      says = described-again s.tables x y w b log tail n d l o lies behind;
+    }))
 
-pub sound-frozen_described : (s : State) (h : ℕ) (x : Handle) (w : ℕ) → IsSound s → Lends s h Mut x → x.word ≡ Descriptor w → x.cap - x.len < 2 ^ s.tables.tail_bits → IsSound (edited s h (frozen x (Descriptor (retailed s.tables w (x.cap - x.len)))))
+pub sound-frozen_described : (s : State) (h : ℕ) (x : Handle) (w : ℕ) → IsSound s → Lends s h Mut x → x.word ≡ Descriptor w
+    → x.cap - x.len < 2 ^ s.tables.tail_bits → IsSound (edited s h (frozen x (Descriptor (retailed s.tables w (x.cap - x.len)))))
 sound-frozen_described s h x w k t i l =
     let g : Tables = s.tables in
     let d = described-at s h x w k t.at i in
@@ -243,28 +326,38 @@ sound-frozen_described s h x w k t i l =
     (record { begins = omega (arith, lies.begins); ends = omega (arith, lies.ends, c); no_room = refl })
     (omega (arith, lies.ends, c))
 
-pub sound-frozen_counted : (s : State) (h : ℕ) (x : Handle) (r : ℕ) → IsSound s → Lends s h Mut x → x.word ≡ Counted r → IsSound (edited s h (frozen x (Counted r)))
+pub sound-frozen_counted : (s : State) (h : ℕ) (x : Handle) (r : ℕ) → IsSound s → Lends s h Mut x → x.word ≡ Counted r
+    → IsSound (edited s h (frozen x (Counted r)))
 sound-frozen_counted s h x r k t i =
     let y : Handle = frozen x (Counted r) in
     let f = counted-at s h x r k t.at i in
     let lies = lies-as (block_at s.tables (record_at s.tables r).block) x Mut t.kind_is f.lies in
     let o : owner_of s.tables y ≡ owner_of s.tables x = owner-counted s.tables y r refl ∙ sym (owner-counted s.tables x r i) in
-    sound-edited s h x y k t.at t.free o (λ c. describes-counted s.tables c y r refl ∙ sym (describes-counted s.tables c x r i)) (λ c a. absurd (let q = sym (alone-shared s.tables c y r refl refl) ∙ a in cc))
-    (record { live = f.live; known = f.known; shown = f.shown; lies = record { begins = lies.begins; ends = omega (arith, lies.ends, lies.within); no_room = refl }; native = λ m. absurd (cc) })
+    sound-edited s h x y k t.at t.free o (λ c. describes-counted s.tables c y r refl ∙ sym (describes-counted s.tables c x r i))
+    (λ c a. absurd (let q = sym (alone-shared s.tables c y r refl refl) ∙ a in cc))
+    (record {
+      live = f.live;
+      known = f.known;
+      shown = f.shown;
+      lies = record { begins = lies.begins; ends = omega (arith, lies.ends, lies.within); no_room = refl };
+      native = λ m. absurd (cc);
+    })
 
 pub sound-frozen_empty : (s : State) (h : ℕ) (x : Handle) → IsSound s → Lends s h Mut x → x.word ≡ Empty → IsSound (edited s h (frozen x Empty))
 sound-frozen_empty s h x k t i =
     let y : Handle = frozen x Empty in
     let f = empty-at s h x k t.at i in
     let oy = owner-empty s.tables y refl in
-    sound-edited s h x y k t.at t.free (oy ∙ sym (owner-empty s.tables x i)) (λ c. rw (oy, owner-empty s.tables x i) refl) (λ c a. absurd (let q = rw oy at a in cc)) (record { no_room = refl; ends = f.ends; no_bytes = λ m. absurd (cc) })
+    sound-edited s h x y k t.at t.free (oy ∙ sym (owner-empty s.tables x i)) (λ c. rw (oy, owner-empty s.tables x i) refl)
+    (λ c a. absurd (let q = rw oy at a in cc)) (record { no_room = refl; ends = f.ends; no_bytes = λ m. absurd (cc) })
 
 -- a handle without block becomes the detached view
 pub sound-detached_empty : (s : State) (h : ℕ) (x : Handle) (kind : Kind) → IsSound s → Lends s h kind x → x.word ≡ Empty → IsSound (edited s h (detached 0))
 sound-detached_empty s h x kind k t i =
     let y : Handle = detached 0 in
     let oy = owner-empty s.tables y refl in
-    sound-edited s h x y k t.at t.free (oy ∙ sym (owner-empty s.tables x i)) (λ c. rw (oy, owner-empty s.tables x i) refl) (λ c a. absurd (let q = rw oy at a in cc)) (record { no_room = refl; ends = omega arith; no_bytes = λ m. refl })
+    sound-edited s h x y k t.at t.free (oy ∙ sym (owner-empty s.tables x i)) (λ c. rw (oy, owner-empty s.tables x i) refl)
+    (λ c a. absurd (let q = rw oy at a in cc)) (record { no_room = refl; ends = omega arith; no_bytes = λ m. refl })
 
 -- ---- TryIntoMut
 
@@ -273,9 +366,11 @@ sound-thawed_empty s h x k t i z =
     let y : Handle = thawed x 0 Empty in
     let f = empty-at s h x k t.at i in
     let oy = owner-empty s.tables y refl in
-    sound-edited s h x y k t.at t.free (oy ∙ sym (owner-empty s.tables x i)) (λ c. rw (oy, owner-empty s.tables x i) refl) (λ c a. absurd (let q = rw oy at a in cc)) (record { no_room = refl; ends = f.ends; no_bytes = λ m. z })
+    sound-edited s h x y k t.at t.free (oy ∙ sym (owner-empty s.tables x i)) (λ c. rw (oy, owner-empty s.tables x i) refl)
+    (λ c a. absurd (let q = rw oy at a in cc)) (record { no_room = refl; ends = f.ends; no_bytes = λ m. z })
 
-pub base-thawed : (g : Tables) (x : Handle) (w b log tail : ℕ) → x.kind ≡ View → IsDescribed g x w b log tail → base_by g (thawed x (x.len + tail_in g w) (Descriptor (retailed g w 0))) (retailed g w 0) ≡ base_by g x w
+pub base-thawed : (g : Tables) (x : Handle) (w b log tail : ℕ) → x.kind ≡ View → IsDescribed g x w b log tail
+    → base_by g (thawed x (x.len + tail_in g w) (Descriptor (retailed g w 0))) (retailed g w 0) ≡ base_by g x w
 base-thawed g x w b log tail m d =
     let room = room-again g x w b log tail 0 d (pow_pos g.tail_bits) in
     let word = word-again g x w b log tail 0 d in
@@ -283,19 +378,24 @@ base-thawed g x w b log tail m d =
     let old = size-says g x w b log tail d in
     rw (size, m, old) (omega arith)
 
-pub sound-thawed_described : (s : State) (h : ℕ) (x : Handle) (w : ℕ) → IsSound s → Lends s h View x → x.word ≡ Descriptor w → IsSound (edited s h (thawed x (x.len + tail_in s.tables w) (Descriptor (retailed s.tables w 0))))
+pub sound-thawed_described : (s : State) (h : ℕ) (x : Handle) (w : ℕ) → IsSound s → Lends s h View x → x.word ≡ Descriptor w
+    → IsSound (edited s h (thawed x (x.len + tail_in s.tables w) (Descriptor (retailed s.tables w 0))))
 sound-thawed_described s h x w k t i =
     let g : Tables = s.tables in
     let d = described-at s h x w k t.at i in
     let lies = lies-as (block_at g d.block) x View t.kind_is d.says.lies in
     let behind = behind-as (block_at g d.block) x d.tail View t.kind_is d.says.behind in
     let tail = tail-says g x w d.block d.log d.tail d.says in
-    sound-redescribed s h x (thawed x (x.len + tail_in s.tables w) (Descriptor (retailed s.tables w 0))) w d.block d.log d.tail 0 k t.at t.free i d.says (pow_pos g.tail_bits) refl
+    sound-redescribed s h x (thawed x (x.len + tail_in s.tables w) (Descriptor (retailed s.tables w 0))) w d.block d.log d.tail 0 k t.at t.free i
+    d.says (pow_pos g.tail_bits) refl
     (base-thawed g x w d.block d.log d.tail t.kind_is d.says)
     (record { begins = lies.begins; ends = rw tail (omega (arith, behind)); within = omega arith })
     refl
 
-pub sound-thawed_counted : (s : State) (h : ℕ) (x : Handle) (r : ℕ) → IsSound s → Lends s h View x → x.word ≡ Counted r → (block_at s.tables (record_at s.tables r).block).external ≡ false → (record_at s.tables r).count ≡ 1 → IsSound (edited s h (thawed x ((block_at s.tables (record_at s.tables r).block).base + (block_at s.tables (record_at s.tables r).block).size - x.ptr) (Counted r)))
+pub sound-thawed_counted : (s : State) (h : ℕ) (x : Handle) (r : ℕ) → IsSound s → Lends s h View x → x.word ≡ Counted r
+    → (block_at s.tables (record_at s.tables r).block).external ≡ false → (record_at s.tables r).count ≡ 1
+    → IsSound
+    (edited s h (thawed x ((block_at s.tables (record_at s.tables r).block).base + (block_at s.tables (record_at s.tables r).block).size - x.ptr) (Counted r)))
 sound-thawed_counted s h x r k t i native one =
     let bl : Block = block_at s.tables (record_at s.tables r).block in
     let y : Handle = thawed x (bl.base + bl.size - x.ptr) (Counted r) in
@@ -306,12 +406,19 @@ sound-thawed_counted s h x r k t i native one =
     let n : holders (reading s) (record_at s.tables r).block ≡ 1 = sym ((k.counted r f.live).counts f.shown) ∙ one in
     sound-edited s h x y k t.at t.free o (λ c. describes-counted s.tables c y r refl ∙ sym (describes-counted s.tables c x r i))
     (λ c a. rw (block-tells c (record_at s.tables r).block (owner_of s.tables y) oy (sym (alone-written s.tables c y r refl refl) ∙ a)) n)
-    (record { live = f.live; known = f.known; shown = f.shown; lies = record { begins = lies.begins; ends = omega (arith, lies.begins, lies.ends); within = omega (arith, lies.begins, lies.ends) }; native = λ m. native })
+    (record {
+      live = f.live;
+      known = f.known;
+      shown = f.shown;
+      lies = record { begins = lies.begins; ends = omega (arith, lies.begins, lies.ends); within = omega (arith, lies.begins, lies.ends) };
+      native = λ m. native;
+    })
 
 -- ---- what a handle finds
 
 -- a descriptor is a word of the format, and its tail leads to the end of the block
-pub word-at : (s : State) (h : ℕ) (x : Handle) (w : ℕ) → IsSound s → handle_at s h ≡ Some x → x.word ≡ Descriptor w → IsWord s.tables.align_bits s.tables.tail_bits s.tables.size_bits w
+pub word-at : (s : State) (h : ℕ) (x : Handle) (w : ℕ) → IsSound s → handle_at s h ≡ Some x → x.word ≡ Descriptor w
+    → IsWord s.tables.align_bits s.tables.tail_bits s.tables.size_bits w
 word-at s h x w k at i = let d = described-at s h x w k at i in word-fits s x w d.block d.log d.tail k d.says
 
 pub tail-small : (s : State) (h : ℕ) (x : Handle) (w : ℕ) → IsSound s → Lends s h View x → x.word ≡ Descriptor w → x.len + tail_in s.tables w < 2 ^ 64
@@ -333,4 +440,12 @@ count-small s r k live z =
     let b : ℕ = (record_at s.tables r).block in
     let c = (k.counted r live).counts z in
     let size = k.size in
-    omega (arith, c, holders-few (reading s) b, length-map s.handles (read_handle s.tables), length-map s.calls (read_call s.tables), size.few_handles, size.few_calls)
+    omega (
+      arith,
+      c,
+      holders-few (reading s) b,
+      length-map s.handles (read_handle s.tables),
+      length-map s.calls (read_call s.tables),
+      size.few_handles,
+      size.few_calls,
+    )

@@ -16,25 +16,29 @@ pub read-kept : (g k : Tables) (calls : List (Option Pending)) (o : Option Handl
 read-kept g k calls None e f = refl
 read-kept g k calls (Some x) e f = rw (owner-kept g k calls x e f) refl
 
-pub handles-kept : (g k : Tables) (calls : List (Option Pending)) (hs : List (Option Handle)) → Keeps g k → All (Fits g calls) hs → map (read_handle k) hs ≡ map (read_handle g) hs
+pub handles-kept : (g k : Tables) (calls : List (Option Pending)) (hs : List (Option Handle)) → Keeps g k → All (Fits g calls) hs
+    → map (read_handle k) hs ≡ map (read_handle g) hs
 handles-kept g k calls [] e f = refl
 handles-kept g k calls (o ∷ hs) e f =
     rw (read-kept g k calls o e (All-head (Fits g calls) o hs f), handles-kept g k calls hs e (All-tail (Fits g calls) o hs f)) refl
 
-pub alone-kept : (g k : Tables) (calls : List (Option Pending)) (b : ℕ) (hs : List (Option Handle)) → Keeps g k → All (Fits g calls) hs → tally (alone k b) hs ≡ tally (alone g b) hs
+pub alone-kept : (g k : Tables) (calls : List (Option Pending)) (b : ℕ) (hs : List (Option Handle)) → Keeps g k → All (Fits g calls) hs
+    → tally (alone k b) hs ≡ tally (alone g b) hs
 alone-kept g k calls b [] e f = refl
 alone-kept g k calls b (None ∷ hs) e f = rw (alone-kept g k calls b hs e (All-tail (Fits g calls) None hs f)) refl
 alone-kept g k calls b (Some x ∷ hs) e f =
     rw (owner-kept g k calls x e (All-head (Fits g calls) (Some x) hs f), alone-kept g k calls b hs e (All-tail (Fits g calls) (Some x) hs f)) refl
 
-pub describes-kept : (g k : Tables) (calls : List (Option Pending)) (b : ℕ) (hs : List (Option Handle)) → Keeps g k → All (Fits g calls) hs → tally (describes k b) hs ≡ tally (describes g b) hs
+pub describes-kept : (g k : Tables) (calls : List (Option Pending)) (b : ℕ) (hs : List (Option Handle)) → Keeps g k → All (Fits g calls) hs
+    → tally (describes k b) hs ≡ tally (describes g b) hs
 describes-kept g k calls b [] e f = refl
 describes-kept g k calls b (None ∷ hs) e f = rw (describes-kept g k calls b hs e (All-tail (Fits g calls) None hs f)) refl
 describes-kept g k calls b (Some x ∷ hs) e f =
     rw (owner-kept g k calls x e (All-head (Fits g calls) (Some x) hs f), describes-kept g k calls b hs e (All-tail (Fits g calls) (Some x) hs f)) refl
 
 -- ---- the first block with a base
-found-step : (v : Bool) (o p : Option ℕ) (b : ℕ) → ((c : ℕ) → o ≡ Some c → p ≡ Some c) → cond v (Some 0) (option_map (λ i. i + 1) o) ≡ Some b → cond v (Some 0) (option_map (λ i. i + 1) p) ≡ Some b
+found-step : (v : Bool) (o p : Option ℕ) (b : ℕ) → ((c : ℕ) → o ≡ Some c → p ≡ Some c) → cond v (Some 0) (option_map (λ i. i + 1) o) ≡ Some b
+    → cond v (Some 0) (option_map (λ i. i + 1) p) ≡ Some b
 found-step true o p b h e = e
 found-step false None p b h e = absurd (cc)
 found-step false (Some c) p b h e = rw (h c refl) e
@@ -49,9 +53,13 @@ pub with-append : (base b : ℕ) (bs cs : List Block) → block_with base bs ≡
 with-append base b [] cs e = absurd (cc)
 with-append base b (x ∷ bs) cs e = found-step (x.base == base) (block_with base bs) (block_with base (bs ++ cs)) b (λ c i. with-append base c bs cs i) e
 
-pub with-fresh : (base : ℕ) (bs : List Block) (c : Block) → c.base ≡ base → All (λ (x : Block). x.base ≢ base) bs → block_with base (bs ++ c ∷ []) ≡ Some (length bs)
+pub with-fresh : (base : ℕ) (bs : List Block) (c : Block) → c.base ≡ base → All (λ (x : Block). x.base ≢ base) bs
+    → block_with base (bs ++ c ∷ []) ≡ Some (length bs)
 with-fresh base [] c e h = rw (is-eqb c.base base e) refl
-with-fresh base (x ∷ bs) c e h = rw (not-eqb x.base base (All-head (λ (x : Block). x.base ≢ base) x bs h), with-fresh base bs c e (All-tail (λ (x : Block). x.base ≢ base) x bs h)) (ap Some (omega arith))
+with-fresh base (x ∷ bs) c e h = rw (
+  not-eqb x.base base (All-head (λ (x : Block). x.base ≢ base) x bs h),
+  with-fresh base bs c e (All-tail (λ (x : Block). x.base ≢ base) x bs h),
+) (ap Some (omega arith))
 
 -- one block more
 abbrev pub grown : Tables → Block → Tables
@@ -68,11 +76,13 @@ grown-keeps g b = record {
   records = λ r e. refl;
 }
 
-pub holders-tables : (s : State) (k : Tables) (b : ℕ) → map (read_handle k) s.handles ≡ map (read_handle s.tables) s.handles → map (read_call k) s.calls ≡ map (read_call s.tables) s.calls → holders (reading (record s { tables = k })) b ≡ holders (reading s) b
+pub holders-tables : (s : State) (k : Tables) (b : ℕ) → map (read_handle k) s.handles ≡ map (read_handle s.tables) s.handles
+    → map (read_call k) s.calls ≡ map (read_call s.tables) s.calls → holders (reading (record s { tables = k })) b ≡ holders (reading s) b
 unfolding holders
 holders-tables s k b e c = rw (e, c) refl
 
-pub users-tables : (s : State) (k : Tables) (b : ℕ) → map (read_handle k) s.handles ≡ map (read_handle s.tables) s.handles → map (read_call k) s.calls ≡ map (read_call s.tables) s.calls → users (reading (record s { tables = k })) b ≡ users (reading s) b
+pub users-tables : (s : State) (k : Tables) (b : ℕ) → map (read_handle k) s.handles ≡ map (read_handle s.tables) s.handles
+    → map (read_call k) s.calls ≡ map (read_call s.tables) s.calls → users (reading (record s { tables = k })) b ≡ users (reading s) b
 unfolding users
 users-tables s k b e c = rw (e, c) refl
 

@@ -71,7 +71,8 @@ dropping-split : (b c : ℕ) (v : Bool) → cond (b == c) 1 0 ≡ cond (still_ho
 dropping-split b c true = elim (b == c) as (λ v. cond v 1 0 ≡ 0 + cond (v && true) 1 0) [ true ↦ refl | false ↦ refl ]
 dropping-split b c false = elim (b == c) as (λ v. cond v 1 0 ≡ cond v 1 0 + cond (v && false) 1 0) [ true ↦ refl | false ↦ refl ]
 
-pub drops-split : (g : Tables) (b : ℕ) (c : Option Pending) → cond (drops b (read_call g c)) 1 0 ≡ cond (still_holds b (read_call g c)) 1 0 + cond (lets_go g b c) 1 0
+pub drops-split : (g : Tables) (b : ℕ) (c : Option Pending)
+    → cond (drops b (read_call g c)) 1 0 ≡ cond (still_holds b (read_call g c)) 1 0 + cond (lets_go g b c) 1 0
 drops-split g b None = refl
 drops-split g b (Some (Loaded h w)) = refl
 drops-split g b (Some (Ready h w q)) = refl

@@ -25,7 +25,15 @@ pub record Keeps (g k : Tables) : Type 0 where
   pub records : (r : ℕ) → (record_at g r).live ≡ true → (record_at k r).block ≡ (record_at g r).block
 
 pub keeps-self : (g : Tables) → Keeps g g
-keeps-self g = record { align_bits = refl; tail_bits = refl; size_bits = refl; longer = omega arith; blocks = λ b h. refl; with' = λ base b h. h; records = λ r h. refl }
+keeps-self g = record {
+  align_bits = refl;
+  tail_bits = refl;
+  size_bits = refl;
+  longer = omega arith;
+  blocks = λ b h. refl;
+  with' = λ base b h. h;
+  records = λ r h. refl;
+}
 
 pub owner-kept : (g k : Tables) (calls : List (Option Pending)) (x : Handle) → Keeps g k → FitsWord g calls x x.word → owner_of k x ≡ owner_of g x
 unfolding owner_of
@@ -40,7 +48,8 @@ owner-kept g k calls x e f =
     ] in
     by x.word refl f
 
-pub described-kept : (g k : Tables) (x : Handle) (w b log tail : ℕ) → owner_of k x ≡ owner_of g x → Keeps g k → IsDescribed g x w b log tail → IsDescribed k x w b log tail
+pub described-kept : (g k : Tables) (x : Handle) (w b log tail : ℕ) → owner_of k x ≡ owner_of g x → Keeps g k → IsDescribed g x w b log tail
+    → IsDescribed k x w b log tail
 described-kept g k x w b log tail o e d =
     let same = e.blocks b d.known in
     let longer = e.longer in
@@ -62,7 +71,8 @@ live-of g calls x (Descriptor w) r i f = absurd (cc)
 live-of g calls x (Counted q) r i f = let e : q ≡ r = cc in rw e at f.live
 
 -- a handle fits tables that keep what it speaks of
-pub fits-kept : (g k : Tables) (calls : List (Option Pending)) (x : Handle) (w : Word) → owner_of k x ≡ owner_of g x → Keeps g k → ((r : ℕ) → w ≡ Counted r → (record_at k r).live ≡ true) → FitsWord g calls x w → FitsWord k calls x w
+pub fits-kept : (g k : Tables) (calls : List (Option Pending)) (x : Handle) (w : Word) → owner_of k x ≡ owner_of g x → Keeps g k
+    → ((r : ℕ) → w ≡ Counted r → (record_at k r).live ≡ true) → FitsWord g calls x w → FitsWord k calls x w
 fits-kept g k calls x Empty o e l f = f
 fits-kept g k calls x (Descriptor w) o e l d =
     record { block = d.block; log = d.log; tail = d.tail; says = described-kept g k x w d.block d.log d.tail o e d.says }
@@ -73,9 +83,15 @@ fits-kept g k calls x (Counted r) o e l f =
     let known = f.known in
     record { live = l r refl; known = rw b (omega arith); shown = f.shown; lies = rw (b, same) f.lies; native = λ m. rw (b, same) (f.native m) }
 
-pub all-fit-kept : (g k : Tables) (calls : List (Option Pending)) (hs : List (Option Handle)) → Keeps g k → ((r : ℕ) → (record_at g r).live ≡ true → (record_at k r).live ≡ true) → All (Fits g calls) hs → All (Fits k calls) hs
+pub all-fit-kept : (g k : Tables) (calls : List (Option Pending)) (hs : List (Option Handle)) → Keeps g k
+    → ((r : ℕ) → (record_at g r).live ≡ true → (record_at k r).live ≡ true) → All (Fits g calls) hs → All (Fits k calls) hs
 all-fit-kept g k calls hs e l f =
-    All-weaker (Fits g calls) (Fits k calls) (λ o. elim o as (λ o. Fits g calls o → Fits k calls o) [ None ↦ λ t. t | Some x ↦ λ t. fits-kept g k calls x x.word (owner-kept g k calls x e t) e (λ r i. l r (live-of g calls x x.word r i t)) t ]) hs f
+    All-weaker (Fits g calls) (Fits k calls)
+    (λ o. elim o as (λ o. Fits g calls o → Fits k calls o) [
+      | None ↦ λ t. t
+      | Some x ↦
+          λ t. fits-kept g k calls x x.word (owner-kept g k calls x e t) e (λ r i. l r (live-of g calls x x.word r i t)) t
+    ]) hs f
 
 -- ---- unfinished calls
 
@@ -110,7 +126,8 @@ or-true false = refl
 pub same-eqb : (n : ℕ) → (n == n) ≡ true
 same-eqb n = grind (arith, nat_tests)
 
-pub shares-kept : (s t : State) (part : Share) (x : Handle) → (handle_at s part.handle ≡ Some x → handle_at t part.handle ≡ Some x) → Shares s part x → Shares t part x
+pub shares-kept : (s t : State) (part : Share) (x : Handle) → (handle_at s part.handle ≡ Some x → handle_at t part.handle ≡ Some x) → Shares s part x
+    → Shares t part x
 shares-kept s t part x at h = record { at = at h.at; view = h.view; order = h.order; within = h.within }
 
 pub promised-kept : (g k : Tables) (x : Handle) (w b : ℕ) → Keeps g k → owner_of k x ≡ owner_of g x → Promised g x w b → Promised k x w b
@@ -140,7 +157,11 @@ call-kept s t (Some (Add part r)) l f =
     record { view = f.view; shares = shares-kept s t part f.view (l.handle part.handle f.view (same-eqb part.handle)) f.shares; word = f.word }
 call-kept s t (Some (Subtract r)) l (live, hid) = (l.live r (same-eqb r) live, l.hidden r (same-eqb r) live ∙ hid)
 call-kept s t (Some (Release r)) l f =
-    record { live = l.live r (same-eqb r) f.live; shown = l.hidden r (same-eqb r) f.live ∙ f.shown; alone = rw (l.tables.records r f.live, l.let_go r refl f.live) (l.holders r refl ∙ f.alone) }
+    record {
+      live = l.live r (same-eqb r) f.live;
+      shown = l.hidden r (same-eqb r) f.live ∙ f.shown;
+      alone = rw (l.tables.records r f.live, l.let_go r refl f.live) (l.holders r refl ∙ f.alone);
+    }
 
 -- a call of the list borrows what the list borrows
 pub lent-by : (i : ℕ) (cs : List (Option Pending)) (p : ℕ) (d : Option Pending) → p < length cs → borrows_it i (get_or cs p d) ≡ true → is_lent i cs ≡ true
@@ -149,7 +170,12 @@ lent-by i (c ∷ cs) zero d h e = rw e refl
 lent-by i (c ∷ cs) (suc p) d h e = rw (lent-by i cs p d (omega arith) e) (or-true (borrows_it i c))
 
 -- where no handle that is lent changes, and nothing else does for calls, each call fits as before
-pub calls-fit-kept : (s t : State) → t.calls ≡ s.calls → Keeps s.tables t.tables → ((r : ℕ) → (record_at s.tables r).live ≡ true → (record_at t.tables r).live ≡ true) → ((i : ℕ) (x : Handle) → is_lent i s.calls ≡ true → handle_at s i ≡ Some x → handle_at t i ≡ Some x) → All (Fits s.tables s.calls) s.handles → ((i : ℕ) (x : Handle) → handle_at s i ≡ Some x → i < length s.handles) → All (KeepsLetGo s.tables t.tables) s.calls → ((p : ℕ) (d : Option Pending) (r : ℕ) → p < length s.calls → get_or s.calls p d ≡ Some (Release r) → holders (reading t) (record_at s.tables r).block ≡ holders (reading s) (record_at s.tables r).block) → All (FitsCall s) s.calls → All (FitsCall t) s.calls
+pub calls-fit-kept : (s t : State) → t.calls ≡ s.calls → Keeps s.tables t.tables
+    → ((r : ℕ) → (record_at s.tables r).live ≡ true → (record_at t.tables r).live ≡ true)
+    → ((i : ℕ) (x : Handle) → is_lent i s.calls ≡ true → handle_at s i ≡ Some x → handle_at t i ≡ Some x) → All (Fits s.tables s.calls) s.handles
+    → ((i : ℕ) (x : Handle) → handle_at s i ≡ Some x → i < length s.handles) → All (KeepsLetGo s.tables t.tables) s.calls
+    → ((p : ℕ) (d : Option Pending) (r : ℕ) → p < length s.calls → get_or s.calls p d ≡ Some (Release r)
+    → holders (reading t) (record_at s.tables r).block ≡ holders (reading s) (record_at s.tables r).block) → All (FitsCall s) s.calls → All (FitsCall t) s.calls
 calls-fit-kept s t same e live at fit inside a n f p d h =
     let c : Option Pending = get_or s.calls p d in
     call-kept s t c (record {
@@ -163,12 +189,19 @@ calls-fit-kept s t same e live at fit inside a n f p d h =
     }) (f p d h)
 
 -- the same where holders of blocks stay
-pub calls-kept : (s t : State) → t.calls ≡ s.calls → Keeps s.tables t.tables → ((r : ℕ) → (record_at s.tables r).live ≡ true → (record_at t.tables r).live ≡ true) → ((i : ℕ) (x : Handle) → is_lent i s.calls ≡ true → handle_at s i ≡ Some x → handle_at t i ≡ Some x) → All (Fits s.tables s.calls) s.handles → ((i : ℕ) (x : Handle) → handle_at s i ≡ Some x → i < length s.handles) → All (KeepsLetGo s.tables t.tables) s.calls → ((b : ℕ) → b < length s.tables.blocks → holders (reading t) b ≡ holders (reading s) b) → ((r : ℕ) → (record_at s.tables r).live ≡ true → (record_at s.tables r).block < length s.tables.blocks) → All (FitsCall s) s.calls → All (FitsCall t) s.calls
+pub calls-kept : (s t : State) → t.calls ≡ s.calls → Keeps s.tables t.tables
+    → ((r : ℕ) → (record_at s.tables r).live ≡ true → (record_at t.tables r).live ≡ true)
+    → ((i : ℕ) (x : Handle) → is_lent i s.calls ≡ true → handle_at s i ≡ Some x → handle_at t i ≡ Some x) → All (Fits s.tables s.calls) s.handles
+    → ((i : ℕ) (x : Handle) → handle_at s i ≡ Some x → i < length s.handles) → All (KeepsLetGo s.tables t.tables) s.calls
+    → ((b : ℕ) → b < length s.tables.blocks → holders (reading t) b ≡ holders (reading s) b)
+    → ((r : ℕ) → (record_at s.tables r).live ≡ true → (record_at s.tables r).block < length s.tables.blocks) → All (FitsCall s) s.calls
+    → All (FitsCall t) s.calls
 calls-kept s t same e live at fit inside a n known f =
     calls-fit-kept s t same e live at fit inside a (λ p d r h i. n (record_at s.tables r).block (known r (let g = rw i at (f p d h) in g.live))) f
 
 -- what calls are read as, and which of them release a block
-pub call-read-kept : (s : State) (k : Tables) (c : Option Pending) → Keeps s.tables k → KeepsLetGo s.tables k c → FitsCall s c → read_call k c ≡ read_call s.tables c
+pub call-read-kept : (s : State) (k : Tables) (c : Option Pending) → Keeps s.tables k → KeepsLetGo s.tables k c → FitsCall s c
+    → read_call k c ≡ read_call s.tables c
 call-read-kept s k None e a f = refl
 call-read-kept s k (Some (Loaded part w)) e a f = refl
 call-read-kept s k (Some (Ready part w r)) e a f = refl
@@ -176,9 +209,13 @@ call-read-kept s k (Some (Add part r)) e a f = refl
 call-read-kept s k (Some (Subtract r)) e a f = rw (e.records r f.0) refl
 call-read-kept s k (Some (Release r)) e a f = rw (e.records r f.live, a r refl f.live) refl
 
-pub calls-read-kept : (s : State) (k : Tables) (cs : List (Option Pending)) → Keeps s.tables k → All (KeepsLetGo s.tables k) cs → All (FitsCall s) cs → map (read_call k) cs ≡ map (read_call s.tables) cs
+pub calls-read-kept : (s : State) (k : Tables) (cs : List (Option Pending)) → Keeps s.tables k → All (KeepsLetGo s.tables k) cs → All (FitsCall s) cs
+    → map (read_call k) cs ≡ map (read_call s.tables) cs
 calls-read-kept s k [] e a f = refl
-calls-read-kept s k (c ∷ cs) e a f = rw (call-read-kept s k c e (All-head (KeepsLetGo s.tables k) c cs a) (All-head (FitsCall s) c cs f), calls-read-kept s k cs e (All-tail (KeepsLetGo s.tables k) c cs a) (All-tail (FitsCall s) c cs f)) refl
+calls-read-kept s k (c ∷ cs) e a f = rw (
+  call-read-kept s k c e (All-head (KeepsLetGo s.tables k) c cs a) (All-head (FitsCall s) c cs f),
+  calls-read-kept s k cs e (All-tail (KeepsLetGo s.tables k) c cs a) (All-tail (FitsCall s) c cs f),
+) refl
 
 release-kept : (s : State) (k : Tables) (b : ℕ) (c : Option Pending) → Keeps s.tables k → FitsCall s c → releases k b c ≡ releases s.tables b c
 release-kept s k b None e f = refl
@@ -188,12 +225,20 @@ release-kept s k b (Some (Add part r)) e f = refl
 release-kept s k b (Some (Subtract r)) e f = refl
 release-kept s k b (Some (Release r)) e f = rw (e.records r f.live) refl
 
-pub releases-kept : (s : State) (k : Tables) (b : ℕ) (cs : List (Option Pending)) → Keeps s.tables k → All (FitsCall s) cs → tally (releases k b) cs ≡ tally (releases s.tables b) cs
+pub releases-kept : (s : State) (k : Tables) (b : ℕ) (cs : List (Option Pending)) → Keeps s.tables k → All (FitsCall s) cs
+    → tally (releases k b) cs ≡ tally (releases s.tables b) cs
 releases-kept s k b [] e f = refl
 releases-kept s k b (c ∷ cs) e f = rw (release-kept s k b c e (All-head (FitsCall s) c cs f), releases-kept s k b cs e (All-tail (FitsCall s) c cs f)) refl
 
 -- a handle fits calls that hide no more records
-pub fits-calls : (g : Tables) (cs ds : List (Option Pending)) (x : Handle) (w : Word) → ((r : ℕ) → hidden ds r ≤ hidden cs r) → FitsWord g cs x w → FitsWord g ds x w
+pub fits-calls : (g : Tables) (cs ds : List (Option Pending)) (x : Handle) (w : Word) → ((r : ℕ) → hidden ds r ≤ hidden cs r) → FitsWord g cs x w
+    → FitsWord g ds x w
 fits-calls g cs ds x Empty e f = f
 fits-calls g cs ds x (Descriptor w) e f = f
-fits-calls g cs ds x (Counted r) e f = record { live = f.live; known = f.known; shown = (let n = e r in let z = f.shown in omega arith); lies = f.lies; native = f.native }
+fits-calls g cs ds x (Counted r) e f = record {
+  live = f.live;
+  known = f.known;
+  shown = (let n = e r in let z = f.shown in omega arith);
+  lies = f.lies;
+  native = f.native;
+}

@@ -35,16 +35,20 @@ or-all false = refl
 
 count-within : {X : Type 0} (p : X → Bool) (xs : List X) → tally p xs ≤ length xs
 count-within p [] = omega arith
-count-within p (x ∷ xs) = elim (p x) as (λ v. cond v 1 0 + tally p xs ≤ length (x ∷ xs)) [ true ↦ omega (arith, count-within p xs) | false ↦ omega (arith, count-within p xs) ]
+count-within p (x ∷ xs) = elim (p x) as (λ v. cond v 1 0 + tally p xs ≤ length (x ∷ xs))
+    [ true ↦ omega (arith, count-within p xs) | false ↦ omega (arith, count-within p xs) ]
 
 -- where one fails, fewer pass than there are
 pub count-short : {X : Type 0} (p : X → Bool) (xs : List X) (i : ℕ) (d : X) → i < length xs → p (get_or xs i d) ≡ false → tally p xs < length xs
 count-short p [] i d l e = absurd (omega arith)
 count-short p (x ∷ xs) zero d l e = rw e (omega (arith, count-within p xs))
-count-short p (x ∷ xs) (suc i) d l e = elim (p x) as (λ v. cond v 1 0 + tally p xs < length (x ∷ xs)) [ true ↦ omega (arith, count-short p xs i d (omega arith) e) | false ↦ omega (arith, count-within p xs) ]
+count-short p (x ∷ xs) (suc i) d l e = elim (p x) as (λ v. cond v 1 0 + tally p xs < length (x ∷ xs))
+    [ true ↦ omega (arith, count-short p xs i d (omega arith) e) | false ↦ omega (arith, count-within p xs) ]
 
 -- one more that isn't among them
-pub once-push : {X : Type 0} (xs : List X) (y : X) → ((i j : ℕ) (d : X) → i < j → j < length xs → get_or xs i d ≢ get_or xs j d) → ((i : ℕ) (d : X) → i < length xs → get_or xs i d ≢ y) → (i j : ℕ) (d : X) → i < j → j < length (xs ++ y ∷ []) → get_or (xs ++ y ∷ []) i d ≢ get_or (xs ++ y ∷ []) j d
+pub once-push : {X : Type 0} (xs : List X) (y : X) → ((i j : ℕ) (d : X) → i < j → j < length xs → get_or xs i d ≢ get_or xs j d)
+    → ((i : ℕ) (d : X) → i < length xs → get_or xs i d ≢ y) → (i j : ℕ) (d : X) → i < j → j < length (xs ++ y ∷ [])
+    → get_or (xs ++ y ∷ []) i d ≢ get_or (xs ++ y ∷ []) j d
 once-push xs y old new i j d h l =
     let m = rw length-append at l in
     let li : i < length xs = omega arith in
@@ -60,7 +64,8 @@ below-or c n h = elim (eqb_tells c n) [ inl e ↦ inr e.1 | inr e ↦ inl (let n
 
 is_logged-append : (q : ℕ) (log : List ℕ) (r : ℕ) → is_logged q (log ++ r ∷ []) ≡ (is_logged q log || (q == r))
 is_logged-append q [] r = elim (q == r) as (λ v. (v || false) ≡ (false || v)) [ true ↦ refl | false ↦ refl ]
-is_logged-append q (x ∷ log) r = rw (is_logged-append q log r) (elim (q == x) as (λ v. (v || (is_logged q log || (q == r))) ≡ ((v || is_logged q log) || (q == r))) [ true ↦ refl | false ↦ refl ])
+is_logged-append q (x ∷ log) r = rw (is_logged-append q log r)
+    (elim (q == x) as (λ v. (v || (is_logged q log || (q == r))) ≡ ((v || is_logged q log) || (q == r))) [ true ↦ refl | false ↦ refl ])
 
 pub logged-at : (log : List ℕ) (i d : ℕ) → i < length log → is_logged (get_or log i d) log ≡ true
 logged-at [] i d l = absurd (omega arith)
@@ -86,7 +91,8 @@ record-log-more rs log v e k = record {
 }
 
 -- another count for a record
-pub record-log-counted : (rs : List Record) (log : List ℕ) (r : ℕ) (v : Record) → r < length rs → v.live ≡ (get_or rs r no_record).live → LogsRecords rs log → LogsRecords (set rs r v) log
+pub record-log-counted : (rs : List Record) (log : List ℕ) (r : ℕ) (v : Record) → r < length rs → v.live ≡ (get_or rs r no_record).live
+    → LogsRecords rs log → LogsRecords (set rs r v) log
 record-log-counted rs log r v l e k = record {
   exact = λ q m. let n : q < length rs = (let z = rw length-set at m in z) in elim (eqb_tells q r) [
     | inl i ↦ rw (i.1, get_or-set_same rs r v no_record l) (k.exact r l ∙ ap not (sym e))
@@ -94,11 +100,13 @@ record-log-counted rs log r v l e k = record {
   ];
   known = All-weaker (λ r. r < length rs) (λ q. q < length (set rs r v)) (λ q l. rw length-set l) log k.known;
   once = k.once;
-  many = let c = count-set is_dead rs r v no_record l in let m = k.many in let same : is_dead v ≡ is_dead (get_or rs r no_record) = ap not e in let z = rw same at c in omega (arith, z, m);
+  many = let c = count-set is_dead rs r v no_record l in let m = k.many in let same : is_dead v ≡ is_dead (get_or rs r no_record) =
+      ap not e in let z = rw same at c in omega (arith, z, m);
 }
 
 -- a live record is freed
-pub record-log-dead : (rs : List Record) (log : List ℕ) (r : ℕ) (v : Record) → r < length rs → v.live ≡ false → (get_or rs r no_record).live ≡ true → LogsRecords rs log → LogsRecords (set rs r v) (log ++ r ∷ [])
+pub record-log-dead : (rs : List Record) (log : List ℕ) (r : ℕ) (v : Record) → r < length rs → v.live ≡ false → (get_or rs r no_record).live ≡ true
+    → LogsRecords rs log → LogsRecords (set rs r v) (log ++ r ∷ [])
 record-log-dead rs log r v l dead live k =
     let before : is_logged r log ≡ false = k.exact r l ∙ ap not live in
     record {
@@ -106,20 +114,25 @@ record-log-dead rs log r v l dead live k =
         | inl i ↦ rw (i.1, is-eqb r r refl, get_or-set_same rs r v no_record l, dead) (or-all (is_logged r log))
         | inr i ↦ rw (not-eqb q r i.1, get_or-set_other rs r q v no_record i.1) (or-none (is_logged q log) ∙ k.exact q n)
       ];
-      known = All-push (λ q. q < length (set rs r v)) log r (All-weaker (λ q. q < length rs) (λ q. q < length (set rs r v)) (λ q l. rw length-set l) log k.known) (rw length-set l);
+      known = All-push (λ q. q < length (set rs r v)) log r
+          (All-weaker (λ q. q < length rs) (λ q. q < length (set rs r v)) (λ q l. rw length-set l) log k.known) (rw length-set l);
       once = λ i j d h t. once-push log r (λ i j d h t. k.once i j d h t) (λ i d t z. let w = rw z at (logged-at log i d t) in cc) i j d h t;
-      many = let c = count-set is_dead rs r v no_record l in let m = k.many in let one : ◌≡◌ {A = ℕ} (cond (is_dead v) 1 0) 1 = ap (λ (b : Bool). cond {A = ℕ} (not b) 1 0) dead in let none : ◌≡◌ {A = ℕ} (cond (is_dead (get_or rs r no_record)) 1 0) 0 = ap (λ (b : Bool). cond {A = ℕ} (not b) 1 0) live in rw length-append (omega (arith, c, one, none, m));
+      many = let c = count-set is_dead rs r v no_record l in let m = k.many in let one : ◌≡◌ {A = ℕ} (cond (is_dead v) 1 0) 1 =
+          ap (λ (b : Bool). cond {A = ℕ} (not b) 1 0) dead in let none : ◌≡◌ {A = ℕ} (cond (is_dead (get_or rs r no_record)) 1 0) 0 =
+          ap (λ (b : Bool). cond {A = ℕ} (not b) 1 0) live in rw length-append (omega (arith, c, one, none, m));
     }
 
 -- where a record is live, the log has room
-pub record-log-room : (rs : List Record) (log : List ℕ) (r : ℕ) → r < length rs → (get_or rs r no_record).live ≡ true → LogsRecords rs log → length log < length rs
+pub record-log-room : (rs : List Record) (log : List ℕ) (r : ℕ) → r < length rs → (get_or rs r no_record).live ≡ true → LogsRecords rs log
+    → length log < length rs
 record-log-room rs log r l live k = let s = count-short is_dead rs r no_record l (ap not live) in let m = k.many in omega (arith, s, m)
 
 -- ---- freed blocks
 
 pub is_freed-append : (b : Block) (fs : List Freed) (f : Freed) → is_freed b (fs ++ f ∷ []) ≡ (is_freed b fs || same_freed b f)
 is_freed-append b [] f = elim (same_freed b f) as (λ v. (v || false) ≡ (false || v)) [ true ↦ refl | false ↦ refl ]
-is_freed-append b (x ∷ fs) f = rw (is_freed-append b fs f) (elim (same_freed b x) as (λ v. (v || (is_freed b fs || same_freed b f)) ≡ ((v || is_freed b fs) || same_freed b f)) [ true ↦ refl | false ↦ refl ])
+is_freed-append b (x ∷ fs) f = rw (is_freed-append b fs f)
+    (elim (same_freed b x) as (λ v. (v || (is_freed b fs || same_freed b f)) ≡ ((v || is_freed b fs) || same_freed b f)) [ true ↦ refl | false ↦ refl ])
 
 same-triple : (b : Block) → same_freed b (triple b) ≡ true
 same-triple b = rw (is-eqb b.base b.base refl, is-eqb b.size b.size refl, is-eqb b.align b.align refl) refl
@@ -140,7 +153,8 @@ bases g b c k lb lc ne e =
     grind (arith, one, two)
 
 -- one triple more in the log frees its block alone
-pub freed-more : (g : Tables) (log : List Freed) (b : ℕ) → ArePlaced g → b < length g.blocks → map (λ (x : Block). is_freed x (log ++ triple (block_at g b) ∷ [])) g.blocks ≡ set (map (λ (x : Block). is_freed x log) g.blocks) b true
+pub freed-more : (g : Tables) (log : List Freed) (b : ℕ) → ArePlaced g → b < length g.blocks
+    → map (λ (x : Block). is_freed x (log ++ triple (block_at g b) ∷ [])) g.blocks ≡ set (map (λ (x : Block). is_freed x log) g.blocks) b true
 freed-more g log b k l =
     let old : Block → Bool = λ (x : Block). is_freed x log in
     let new : Block → Bool = λ (x : Block). is_freed x (log ++ triple (block_at g b) ∷ []) in
@@ -149,17 +163,20 @@ freed-more g log b k l =
     let li : i < length g.blocks = rw length-map at h in
     get_or-map new bs i no_block false li ∙ is_freed-append (block_at g i) log (triple (block_at g b)) ∙ elim (eqb_tells i b) [
       | inl z ↦ rw (z.1, same-triple (block_at g b), get_or-set_same (map old bs) b true false (rw length-map l)) (or-all (is_freed (block_at g b) log))
-      | inr z ↦ rw (not-eqb (block_at g i).base (block_at g b).base (bases g i b k li l z.1), get_or-set_other (map old bs) b i true false z.1) (or-none (is_freed (block_at g i) log) ∙ sym (get_or-map old bs i no_block false li))
+      | inr z ↦ rw (not-eqb (block_at g i).base (block_at g b).base (bases g i b k li l z.1), get_or-set_other (map old bs) b i true false z.1)
+          (or-none (is_freed (block_at g i) log) ∙ sym (get_or-map old bs i no_block false li))
     ])
 
 -- the block that is freed had users and has none, and all others keep having some or none
-pub block-log-freed : (g : Tables) (log : List Freed) (b : ℕ) (used used' : ℕ → ℕ) → ArePlaced g → b < length g.blocks → 0 < used b → used' b ≡ 0 → ((c : ℕ) → c ≢ b → nat_eq (used' c) 0 ≡ nat_eq (used c) 0) → LogsBlocks g.blocks log used → LogsBlocks g.blocks (log ++ triple (block_at g b) ∷ []) used'
+pub block-log-freed : (g : Tables) (log : List Freed) (b : ℕ) (used used' : ℕ → ℕ) → ArePlaced g → b < length g.blocks → 0 < used b → used' b ≡ 0
+    → ((c : ℕ) → c ≢ b → nat_eq (used' c) 0 ≡ nat_eq (used c) 0) → LogsBlocks g.blocks log used → LogsBlocks g.blocks (log ++ triple (block_at g b) ∷ []) used'
 block-log-freed g log b used used' p l some none others k =
     let before : is_freed (block_at g b) log ≡ false = k.freed b l ∙ not-eqb (used b) 0 (omega arith) in
     record {
       freed = λ c t. is_freed-append (block_at g c) log (triple (block_at g b)) ∙ elim (eqb_tells c b) [
         | inl i ↦ rw (i.1, none, same-triple (block_at g b)) (or-all (is_freed (block_at g b) log))
-        | inr i ↦ rw (others c i.1, not-eqb (block_at g c).base (block_at g b).base (bases g c b p t l i.1)) (or-none (is_freed (block_at g c) log) ∙ k.freed c t)
+        | inr i ↦ rw (others c i.1, not-eqb (block_at g c).base (block_at g b).base (bases g c b p t l i.1))
+            (or-none (is_freed (block_at g c) log) ∙ k.freed c t)
       ];
       known = All-push (IsTripleOf g.blocks) log (triple (block_at g b)) k.known (record { block = b; known = l; is = refl });
       once = λ i j d h t. once-push log (triple (block_at g b)) (λ i j d h t. k.once i j d h t) (λ i d t. not-logged (block_at g b) log i d before t) i j d h t;
@@ -177,7 +194,8 @@ block-log-freed g log b used used' p l some none others k =
     }
 
 -- blocks that keep having users or none
-pub block-log-alike : (bs : List Block) (log : List Freed) (used used' : ℕ → ℕ) → ((b : ℕ) → b < length bs → nat_eq (used' b) 0 ≡ nat_eq (used b) 0) → LogsBlocks bs log used → LogsBlocks bs log used'
+pub block-log-alike : (bs : List Block) (log : List Freed) (used used' : ℕ → ℕ) → ((b : ℕ) → b < length bs → nat_eq (used' b) 0 ≡ nat_eq (used b) 0)
+    → LogsBlocks bs log used → LogsBlocks bs log used'
 block-log-alike bs log used used' e k = record {
   freed = λ b l. rw (e b l) (k.freed b l);
   known = k.known;
@@ -194,7 +212,8 @@ block-log-room bs log used b l some k =
     omega (arith, s, m)
 
 -- a new block isn't in the log
-pub fresh-log : (g : Tables) (b : Block) (fs : List Freed) → All (λ (x : Block). x.base ≢ b.base) g.blocks → All (IsTripleOf g.blocks) fs → is_freed b fs ≡ false
+pub fresh-log : (g : Tables) (b : Block) (fs : List Freed) → All (λ (x : Block). x.base ≢ b.base) g.blocks → All (IsTripleOf g.blocks) fs
+    → is_freed b fs ≡ false
 fresh-log g b [] other known = refl
 fresh-log g b (f ∷ fs) other known =
     let one = All-head (IsTripleOf g.blocks) f fs known in
@@ -203,7 +222,9 @@ fresh-log g b (f ∷ fs) other known =
     rw (not-eqb b.base f.base (λ i. ne (sym base ∙ sym i)), fresh-log g b fs other (All-tail (IsTripleOf g.blocks) f fs known)) refl
 
 -- one block more, which has a user
-pub block-log-more : (g : Tables) (b : Block) (log : List Freed) (used used' : ℕ → ℕ) → All (λ (x : Block). x.base ≢ b.base) g.blocks → used' (length g.blocks) ≡ 1 → ((c : ℕ) → c < length g.blocks → used' c ≡ used c) → LogsBlocks g.blocks log used → LogsBlocks (g.blocks ++ b ∷ []) log used'
+pub block-log-more : (g : Tables) (b : Block) (log : List Freed) (used used' : ℕ → ℕ) → All (λ (x : Block). x.base ≢ b.base) g.blocks
+    → used' (length g.blocks) ≡ 1 → ((c : ℕ) → c < length g.blocks → used' c ≡ used c) → LogsBlocks g.blocks log used
+    → LogsBlocks (g.blocks ++ b ∷ []) log used'
 block-log-more g b log used used' other one others k =
     let new = fresh-log g b log other k.known in
     let at : get_or (g.blocks ++ b ∷ []) (length g.blocks) no_block ≡ b = get_or-append_seam g.blocks b [] no_block in
@@ -212,7 +233,11 @@ block-log-more g b log used used' other one others k =
         | inl m ↦ rw (get_or_append_left g.blocks (b ∷ []) no_block c m, others c m) (k.freed c m)
         | inr m ↦ rw (m, at, one) new
       ];
-      known = All-weaker (IsTripleOf g.blocks) (IsTripleOf (g.blocks ++ b ∷ [])) (λ f t. record { block = t.block; known = (let l = t.known in rw length-append (omega (arith, l))); is = rw (get_or_append_left g.blocks (b ∷ []) no_block t.block t.known) t.is }) log k.known;
+      known = All-weaker (IsTripleOf g.blocks) (IsTripleOf (g.blocks ++ b ∷ [])) (λ f t. record {
+        block = t.block;
+        known = (let l = t.known in rw length-append (omega (arith, l)));
+        is = rw (get_or_append_left g.blocks (b ∷ []) no_block t.block t.known) t.is;
+      }) log k.known;
       once = k.once;
       many = let m = k.many in rw (count-append (λ (x : Block). is_freed x log) g.blocks b, new) (omega (arith, m));
     }

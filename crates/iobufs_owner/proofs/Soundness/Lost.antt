@@ -26,12 +26,14 @@ use Rattle.iobufs_owner.proofs.Soundness.Called.{count-calls, called-still}
 use Rattle.iobufs_owner.proofs.Soundness.Won.{some-same}
 
 -- what is said of a call of another party, where an unpublished record is freed
-not-mine : (s : State) (p r i : ℕ) (k : Share) (w : ℕ) (c : Option Pending) → IsSound s → call_at s p ≡ Some (Ready k w r) → i ≢ p → i < length s.calls → call_at s i ≡ c → FitsCall s c → hidden s.calls r ≡ 1 → names r c ≡ true → ⊥
+not-mine : (s : State) (p r i : ℕ) (k : Share) (w : ℕ) (c : Option Pending) → IsSound s → call_at s p ≡ Some (Ready k w r) → i ≢ p
+    → i < length s.calls → call_at s i ≡ c → FitsCall s c → hidden s.calls r ≡ 1 → names r c ≡ true → ⊥
 not-mine s p r i k w None sd at ne l e f hid t = cc
 not-mine s p r i k w (Some (Loaded part v)) sd at ne l e f hid t = cc
 not-mine s p r i k w (Some (Ready part v q)) sd at ne l e f hid t =
     let same : q ≡ r = grind (arith, nat_tests, t) in
-    let two = count-two (readies r) s.calls i p None ne l (at-some s.calls p (Ready k w r) at) (ap (readies r) e ∙ is-eqb r q (sym same)) (ap (readies r) at ∙ is-eqb r r refl) in
+    let two = count-two (readies r) s.calls i p None ne l (at-some s.calls p (Ready k w r) at) (ap (readies r) e ∙ is-eqb r q (sym same))
+    (ap (readies r) at ∙ is-eqb r r refl) in
     omega (arith, two, hid)
 not-mine s p r i k w (Some (Add part q)) sd at ne l e f hid t = cc
 not-mine s p r i k w (Some (Subtract q)) sd at ne l e f hid t =
@@ -45,16 +47,20 @@ not-mine s p r i k w (Some (Release q)) sd at ne l e f hid t =
     let y = f.shown in
     omega (arith, z, y, hid)
 
-fit-lost : (s : State) (r : ℕ) (cs : List (Option Pending)) → hidden s.calls r ≡ 1 → ((q : ℕ) → hidden cs q ≤ hidden s.calls q) → (o : Option Handle) → Fits s.tables s.calls o → Fits (tables_without s.tables r) cs o
+fit-lost : (s : State) (r : ℕ) (cs : List (Option Pending)) → hidden s.calls r ≡ 1 → ((q : ℕ) → hidden cs q ≤ hidden s.calls q) → (o : Option Handle)
+    → Fits s.tables s.calls o → Fits (tables_without s.tables r) cs o
 fit-lost s r cs hid less None f = tt
 fit-lost s r cs hid less (Some x) f =
     let e = dead-keeps s.tables r in
-    let never : (q : ℕ) → x.word ≡ Counted q → q ≢ r = λ q i same. (let z = (subst (λ (v : Word). FitsWord s.tables s.calls x v) i f).shown in let y = ap (λ (n : ℕ). hidden s.calls n) same in omega (arith, z, y, hid)) in
+    let never : (q : ℕ) → x.word ≡ Counted q → q ≢ r =
+    λ q i same. (let z = (subst (λ (v : Word). FitsWord s.tables s.calls x v) i f).shown in let y =
+    ap (λ (n : ℕ). hidden s.calls n) same in omega (arith, z, y, hid)) in
     fits-calls (tables_without s.tables r) s.calls cs x x.word less
     (fits-kept s.tables (tables_without s.tables r) s.calls x x.word (owner-kept s.tables (tables_without s.tables r) s.calls x e f) e
     (λ q w. dead-other s.tables r q (never q w) ∙ live-of s.tables s.calls x x.word q w f) f)
 
-pub sound-lost : (s : State) (p r w winner : ℕ) (k : Share) (x : Handle) → IsSound s → call_at s p ≡ Some (Ready k w r) → handle_at s k.handle ≡ Some x → x.word ≡ Counted winner → IsSound (called (record_freed s r) p (Some (Add k winner)))
+pub sound-lost : (s : State) (p r w winner : ℕ) (k : Share) (x : Handle) → IsSound s → call_at s p ≡ Some (Ready k w r)
+    → handle_at s k.handle ≡ Some x → x.word ≡ Counted winner → IsSound (called (record_freed s r) p (Some (Add k winner)))
 sound-lost s p r w winner part' x k at atx xw =
     let g : Tables = s.tables in
     let g' : Tables = tables_without s.tables r in
@@ -68,11 +74,16 @@ sound-lost s p r w winner part' x k at atx xw =
     let e = dead-keeps g r in
     let hs = handles-kept g g' s.calls s.handles e k.fit in
     let cs = calls-read-kept s g' s.calls e (λ i d l q j t. dead-let_go g r q) k.calls_fit in
-    let hidr : hidden s.calls r ≡ 1 = (let a = count-some (readies r) s.calls p None l (ap (readies r) at ∙ is-eqb r r refl) in let m = (k.counted r f.live).one_maker in omega (arith, a, m)) in
+    let hidr : hidden s.calls r ≡ 1 = (let a = count-some (readies r) s.calls p None l (ap (readies r) at ∙ is-eqb r r refl) in let m =
+    (k.counted r f.live).one_maker in omega (arith, a, m)) in
     let mid : State = record s { tables = tables_without s.tables r } in
     let both : (d : ℕ) → (holders (reading next) d ≡ holders (reading s) d) × (users (reading next) d ≡ users (reading s) d) = λ d.
-    let a = called-still mid p c d l (ap (λ (o : Option Pending). still_holds d (read_call g' o)) at) (ap (λ (o : Option Pending). drops d (read_call g' o)) at) refl refl in
-    (holders-alike (reading next) (reading (called mid p c)) d refl refl ∙ a.0 ∙ holders-tables s g' d hs cs, users-alike (reading next) (reading (called mid p c)) d refl refl ∙ a.1 ∙ users-tables s g' d hs cs) in
+    let a = called-still mid p c d l (ap (λ (o : Option Pending). still_holds d (read_call g' o)) at)
+    (ap (λ (o : Option Pending). drops d (read_call g' o)) at) refl refl in (
+      holders-alike (reading next) (reading (called mid p c)) d refl refl ∙ a.0
+          ∙ holders-tables s g' d hs cs,
+      users-alike (reading next) (reading (called mid p c)) d refl refl ∙ a.1 ∙ users-tables s g' d hs cs,
+    ) in
     let hm : (d : ℕ) → holders (reading next) d ≡ holders (reading s) d = λ d. (both d).0 in
     let um : (d : ℕ) → users (reading next) d ≡ users (reading s) d = λ d. (both d).1 in
     let hid : (q : ℕ) → hidden (set s.calls p c) q + cond (q == r) 1 0 ≡ hidden s.calls q = λ q.
@@ -81,12 +92,21 @@ sound-lost s p r w winner part' x k at atx xw =
     omega (arith, n, z) in
     let less : (q : ℕ) → hidden (set s.calls p c) q ≤ hidden s.calls q = λ q. omega (arith, hid q) in
     let old : (q : ℕ) → q ≢ r → hidden (set s.calls p c) q ≡ hidden s.calls q = λ q ne. (let n = rw (not-eqb q r ne) at (hid q) in omega (arith, n)) in
-    let rel : (d : ℕ) → tally (releases g' d) (set s.calls p c) ≡ tally (releases g d) s.calls = λ d. count-calls (releases g' d) s.calls p c None l (ap (releases g' d) at) refl ∙ releases-kept s g' d s.calls e k.calls_fit in
+    let rel : (d : ℕ) → tally (releases g' d) (set s.calls p c) ≡ tally (releases g d) s.calls =
+    λ d. count-calls (releases g' d) s.calls p c None l (ap (releases g' d) at) refl ∙ releases-kept s g' d s.calls e k.calls_fit in
     let size = k.size in
     record {
-      size = record { wide = size.wide; ceiling = size.ceiling; few_blocks = size.few_blocks; few_records = rw length-set size.few_records; few_handles = size.few_handles; few_calls = rw length-set size.few_calls };
+      size = record {
+        wide = size.wide;
+        ceiling = size.ceiling;
+        few_blocks = size.few_blocks;
+        few_records = rw length-set size.few_records;
+        few_handles = size.few_handles;
+        few_calls = rw length-set size.few_calls;
+      };
       blocks = (let q = k.blocks in record { places = q.places; apart = q.apart });
-      fit = All-from_get_or (Fits g' (set s.calls p c)) s.handles None (λ i li. fit-lost s r (set s.calls p c) hidr less (get_or s.handles i None) (k.fit i None li));
+      fit = All-from_get_or (Fits g' (set s.calls p c)) s.handles None
+          (λ i li. fit-lost s r (set s.calls p c) hidr less (get_or s.handles i None) (k.fit i None li));
       calls_fit = All-from_get_or (FitsCall next) (set s.calls p c) None (λ i li.
           let lo : i < length s.calls = (let z = rw length-set at li in z) in
           elim (eqb_tells i p) [
@@ -107,7 +127,14 @@ sound-lost s p r w winner part' x k at atx xw =
           let d = dead-live g r q inside t in
           let v = k.counted q d.0 in
           let h = old q d.1 in
-          record { known = rw (dead-block g r q) v.known; one_maker = rw h v.one_maker; counts = λ z. rw (dead-count g r q, dead-block g r q, hm) (v.counts (sym h ∙ z)); fresh = λ z. rw (dead-count g r q) (v.fresh (sym h ∙ z)); used = rw (dead-block g r q, um) v.used; undescribed = λ z. rw (dead-block g r q) (describes-kept g g' s.calls (record_at g q).block s.handles e k.fit ∙ v.undescribed (sym h ∙ z)) };
+          record {
+            known = rw (dead-block g r q) v.known;
+            one_maker = rw h v.one_maker;
+            counts = λ z. rw (dead-count g r q, dead-block g r q, hm) (v.counts (sym h ∙ z));
+            fresh = λ z. rw (dead-count g r q) (v.fresh (sym h ∙ z));
+            used = rw (dead-block g r q, um) v.used;
+            undescribed = λ z. rw (dead-block g r q) (describes-kept g g' s.calls (record_at g q).block s.handles e k.fit ∙ v.undescribed (sym h ∙ z));
+          };
       one_record = λ q q' tq tq' hq hq' i.
           let d = dead-live g r q inside tq in
           let d' = dead-live g r q' inside tq' in
@@ -116,5 +143,6 @@ sound-lost s p r w winner part' x k at atx xw =
       capped = λ d. rw hm (k.capped d);
       known_users = λ d t. k.known_users d (rw um at t);
       block_log = block-log-kept g.blocks s.freed_blocks (users (reading s)) (users (reading next)) um k.block_log;
-      record_log = record-log-dead g.records s.freed_records r (record { count = (record_at g r).count; block = (record_at g r).block; live = false }) inside refl f.live k.record_log;
+      record_log = record-log-dead g.records s.freed_records r
+          (record { count = (record_at g r).count; block = (record_at g r).block; live = false }) inside refl f.live k.record_log;
     }

@@ -23,16 +23,24 @@ use Rattle.iobufs_owner.proofs.Soundness.Edits.{no_block}
 use Rattle.iobufs_owner.proofs.Soundness.Logs.{below-or, block-log-more}
 
 -- no earlier block has the base of a good place
-pub other-base : (bs : List Block) (b : Block) → All (λ (x : Block). IsPlace x.base x.size x.align) bs → IsGoodPlace bs b.base b.size b.align → All (λ (x : Block). x.base ≢ b.base) bs
+pub other-base : (bs : List Block) (b : Block) → All (λ (x : Block). IsPlace x.base x.size x.align) bs → IsGoodPlace bs b.base b.size b.align
+    → All (λ (x : Block). x.base ≢ b.base) bs
 other-base bs b p good i d h e =
-    elim (good.apart i d h) [ inl a ↦ absurd (let q = (p i d h).some in omega (arith, a, q, e)) | inr a ↦ absurd (let q = good.place.some in omega (arith, a, q, e)) ]
+    elim (good.apart i d h) [
+      | inl a ↦ absurd (let q = (p i d h).some in omega (arith, a, q, e))
+      | inr a ↦
+          absurd (let q = good.place.some in omega (arith, a, q, e))
+    ]
 
-first-base : (g : Tables) (b : Block) (log w : ℕ) → HasRoom g.align_bits g.tail_bits g.size_bits b.size log 0 → w ≡ word_of g.align_bits g.tail_bits b.size log 0 → base_by g (first_handle b (Descriptor w)) w ≡ b.base
+first-base : (g : Tables) (b : Block) (log w : ℕ) → HasRoom g.align_bits g.tail_bits g.size_bits b.size log 0
+    → w ≡ word_of g.align_bits g.tail_bits b.size log 0 → base_by g (first_handle b (Descriptor w)) w ≡ b.base
 first-base g b log w room is =
     let u = unpack-size g.align_bits g.tail_bits b.size log 0 room.log_fits room.tail_fits in
     rw (is, u) (omega arith)
 
-pub first-owner : (g : Tables) (b : Block) (log w : ℕ) → All (λ (x : Block). IsPlace x.base x.size x.align) g.blocks → IsGoodPlace g.blocks b.base b.size b.align → HasRoom g.align_bits g.tail_bits g.size_bits b.size log 0 → w ≡ word_of g.align_bits g.tail_bits b.size log 0 → owner_of (grown g b) (first_handle b (Descriptor w)) ≡ Some (length g.blocks)
+pub first-owner : (g : Tables) (b : Block) (log w : ℕ) → All (λ (x : Block). IsPlace x.base x.size x.align) g.blocks
+    → IsGoodPlace g.blocks b.base b.size b.align → HasRoom g.align_bits g.tail_bits g.size_bits b.size log 0
+    → w ≡ word_of g.align_bits g.tail_bits b.size log 0 → owner_of (grown g b) (first_handle b (Descriptor w)) ≡ Some (length g.blocks)
 unfolding owner_of
 first-owner g b log w p good room is =
     rw (first-base g b log w room is) (with-fresh b.base g.blocks b refl (other-base g.blocks b p good))
@@ -41,7 +49,8 @@ one-and : (v : Bool) (m : ℕ) → m + cond (v && true) 1 0 ≡ m + cond v 1 0
 one-and true m = refl
 one-and false m = refl
 
-made-apart : (g : Tables) (b : Block) → ((c d : ℕ) → c < d → d < length g.blocks → Apart (block_at g c) (block_at g d)) → All (λ x. ApartFrom x b.base b.size) g.blocks → (c d : ℕ) → c < d → d < length g.blocks + 1 → Apart (block_at (grown g b) c) (block_at (grown g b) d)
+made-apart : (g : Tables) (b : Block) → ((c d : ℕ) → c < d → d < length g.blocks → Apart (block_at g c) (block_at g d))
+    → All (λ x. ApartFrom x b.base b.size) g.blocks → (c d : ℕ) → c < d → d < length g.blocks + 1 → Apart (block_at (grown g b) c) (block_at (grown g b) d)
 made-apart g b old new c d h l =
     let at : block_at (grown g b) (length g.blocks) ≡ b = get_or-append_seam g.blocks b [] _ in
     let keep = (grown-keeps g b).blocks in
@@ -56,7 +65,10 @@ placed-more g b k good = record {
   apart = λ c d h l. made-apart g b k.apart good.apart c d h (rw length-append at l);
 }
 
-pub sound-made : (s : State) (b : Block) (log w : ℕ) → IsSound s → IsGoodPlace s.tables.blocks b.base b.size b.align → b.external ≡ false → b.align ≡ 2 ^ log → HasRoom s.tables.align_bits s.tables.tail_bits s.tables.size_bits b.size log 0 → w ≡ word_of s.tables.align_bits s.tables.tail_bits b.size log 0 → length s.tables.blocks < 2 ^ 32 → length s.handles < 2 ^ 32 → IsSound (with_handle (with_block s b) (first_handle b (Descriptor w)))
+pub sound-made : (s : State) (b : Block) (log w : ℕ) → IsSound s → IsGoodPlace s.tables.blocks b.base b.size b.align → b.external ≡ false
+    → b.align ≡ 2 ^ log → HasRoom s.tables.align_bits s.tables.tail_bits s.tables.size_bits b.size log 0
+    → w ≡ word_of s.tables.align_bits s.tables.tail_bits b.size log 0 → length s.tables.blocks < 2 ^ 32 → length s.handles < 2 ^ 32
+    → IsSound (with_handle (with_block s b) (first_handle b (Descriptor w)))
 sound-made s b log w k good native al room is few fewer =
     let g : Tables = s.tables in
     let n : ℕ = length s.tables.blocks in
@@ -68,15 +80,36 @@ sound-made s b log w k good native al room is few fewer =
     let hs = handles-kept g g' s.calls s.handles e k.fit in
     let other = other-base g.blocks b k.blocks.places good in
     let at : block_at g' n ≡ b = get_or-append_seam g.blocks b [] _ in
-    let hm : (c : ℕ) → holders (reading next) c ≡ holders (reading s) c + cond (c == n) 1 0 = λ c. rw (holders-more (record s { tables = grown s.tables b }) (Some (first_handle b (Descriptor w))) c, holders-tables s (grown s.tables b) c hs refl, o) refl in
-    let um : (c : ℕ) → users (reading next) c ≡ users (reading s) c + cond (c == n) 1 0 = λ c. rw (users-more (record s { tables = grown s.tables b }) (Some (first_handle b (Descriptor w))) c, users-tables s (grown s.tables b) c hs refl, o) refl in
-    let am : (c : ℕ) → tally (alone g' c) (s.handles ++ Some x ∷ []) ≡ tally (alone g c) s.handles + cond (c == n) 1 0 = λ c. rw (count-append (alone g' c) s.handles (Some x), alone-kept g g' s.calls c s.handles e k.fit, o) (one-and (c == n) (tally (alone g c) s.handles)) in
-    let dm : (c : ℕ) → tally (describes g' c) (s.handles ++ Some x ∷ []) ≡ tally (describes g c) s.handles + cond (c == n) 1 0 = λ c. rw (count-append (describes g' c) s.handles (Some x), describes-kept g g' s.calls c s.handles e k.fit, o) (one-and (c == n) (tally (describes g c) s.handles)) in
+    let hm : (c : ℕ) → holders (reading next) c ≡ holders (reading s) c + cond (c == n) 1 0 =
+    λ c. rw (
+      holders-more (record s { tables = grown s.tables b }) (Some (first_handle b (Descriptor w))) c,
+      holders-tables s (grown s.tables b) c hs refl,
+      o,
+    ) refl in
+    let um : (c : ℕ) → users (reading next) c ≡ users (reading s) c + cond (c == n) 1 0 =
+    λ c. rw (
+      users-more (record s { tables = grown s.tables b }) (Some (first_handle b (Descriptor w))) c,
+      users-tables s (grown s.tables b) c hs refl,
+      o,
+    ) refl in
+    let am : (c : ℕ) → tally (alone g' c) (s.handles ++ Some x ∷ []) ≡ tally (alone g c) s.handles + cond (c == n) 1 0 =
+    λ c. rw (count-append (alone g' c) s.handles (Some x), alone-kept g g' s.calls c s.handles e k.fit, o)
+    (one-and (c == n) (tally (alone g c) s.handles)) in
+    let dm : (c : ℕ) → tally (describes g' c) (s.handles ++ Some x ∷ []) ≡ tally (describes g c) s.handles + cond (c == n) 1 0 =
+    λ c. rw (count-append (describes g' c) s.handles (Some x), describes-kept g g' s.calls c s.handles e k.fit, o)
+    (one-and (c == n) (tally (describes g c) s.handles)) in
     let unused : users (reading s) n ≡ 0 = grind (arith, k.known_users n) in
     let one : users (reading next) n ≡ 1 = (let u = rw (is-eqb n n refl) at (um n) in omega (arith, u, unused)) in
     let size = k.size in
     record {
-      size = record { wide = size.wide; ceiling = size.ceiling; few_blocks = rw length-append (omega arith); few_records = size.few_records; few_handles = rw length-append (omega arith); few_calls = size.few_calls };
+      size = record {
+        wide = size.wide;
+        ceiling = size.ceiling;
+        few_blocks = rw length-append (omega arith);
+        few_records = size.few_records;
+        few_handles = rw length-append (omega arith);
+        few_calls = size.few_calls;
+      };
       blocks = placed-more g b k.blocks good;
       fit = All-push (Fits g' s.calls) s.handles (Some x) (all-fit-kept g g' s.calls s.handles e (λ r t. t) k.fit) (record {
         block = n;
@@ -93,12 +126,20 @@ sound-made s b log w k good native al room is few fewer =
           behind = refl;
         };
       });
-      calls_fit = calls-kept s next refl e (λ r t. t) (λ i y b a. append-at s.handles (Some x) i y a) k.fit (λ i y a. at-some s.handles i y a) (λ i d l q j t. refl) (λ c l. rw (hm, not-eqb c n (omega arith)) (omega arith)) (λ r live. (k.counted r live).known) k.calls_fit;
+      calls_fit = calls-kept s next refl e (λ r t. t) (λ i y b a. append-at s.handles (Some x) i y a) k.fit (λ i y a. at-some s.handles i y a)
+          (λ i d l q j t. refl) (λ c l. rw (hm, not-eqb c n (omega arith)) (omega arith)) (λ r live. (k.counted r live).known) k.calls_fit;
       one_release = k.one_release;
       counted = λ r live. let c = k.counted r live in
           let ne = not-eqb (record_at g r).block n (let q = c.known in omega arith) in
           let known = c.known in
-          record { known = rw length-append (omega arith); one_maker = c.one_maker; counts = λ h. rw (hm, ne) (omega (arith, c.counts h)); fresh = c.fresh; used = rw (um, ne) (omega (arith, c.used)); undescribed = λ h. rw (dm, ne) (omega (arith, c.undescribed h)) };
+          record {
+            known = rw length-append (omega arith);
+            one_maker = c.one_maker;
+            counts = λ h. rw (hm, ne) (omega (arith, c.counts h));
+            fresh = c.fresh;
+            used = rw (um, ne) (omega (arith, c.used));
+            undescribed = λ h. rw (dm, ne) (omega (arith, c.undescribed h));
+          };
       one_record = k.one_record;
       sole = λ c h. let p = rw am at h in elim (eqb_tells c n) [
         | inl i ↦ (let u = rw (← i.1) at unused in rw (hm, i.0) (omega (arith, u, holders-le-users (reading s) c)))
@@ -112,6 +153,7 @@ sound-made s b log w k good native al room is few fewer =
         | inl i ↦ (let q = i.1 in omega arith)
         | inr i ↦ (let q = rw i.0 at p in omega (arith, k.known_users c (omega (arith, q))))
       ]);
-      block_log = block-log-more g b s.freed_blocks (users (reading s)) (users (reading next)) other one (λ c l. rw (um, not-eqb c n (omega arith)) (omega arith)) k.block_log;
+      block_log = block-log-more g b s.freed_blocks (users (reading s)) (users (reading next)) other one
+          (λ c l. rw (um, not-eqb c n (omega arith)) (omega arith)) k.block_log;
       record_log = k.record_log;
     }

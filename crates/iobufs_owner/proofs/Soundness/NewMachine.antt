@@ -27,7 +27,14 @@ pub sound-fresh : (a t z ceiling parties : ℕ) → 1 + a + t + z ≤ 64 → 0 <
 sound-fresh a t z c n wide some few =
     let s : State = fresh a t z c n in
     record {
-      size = record { wide = wide; ceiling = some; few_blocks = omega arith; few_records = omega arith; few_handles = omega arith; few_calls = rw length-replicate few };
+      size = record {
+        wide = wide;
+        ceiling = some;
+        few_blocks = omega arith;
+        few_records = omega arith;
+        few_handles = omega arith;
+        few_calls = rw length-replicate few;
+      };
       blocks = record { places = All-nil (λ (b : Block). IsPlace b.base b.size b.align); apart = λ b d h l. absurd (omega arith) };
       fit = All-nil (Fits s.tables s.calls);
       calls_fit = All-replicate (FitsCall s) n None tt;

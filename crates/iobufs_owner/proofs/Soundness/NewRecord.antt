@@ -60,7 +60,8 @@ pub recorded-live : (g : Tables) (n b r : ℕ) → (record_at g r).live ≡ true
 recorded-live g n b r e = ap (λ (v : Record). v.live) (recorded-old g n b r (live-inside g.records r e)) ∙ e
 
 -- a live record is an old one or the new one
-pub recorded-either : (g : Tables) (n b r : ℕ) → (record_at (recorded g n b) r).live ≡ true → ((r < length g.records) × (record_at (recorded g n b) r ≡ record_at g r)) ⊎ (r ≡ length g.records)
+pub recorded-either : (g : Tables) (n b r : ℕ) → (record_at (recorded g n b) r).live ≡ true
+    → ((r < length g.records) × (record_at (recorded g n b) r ≡ record_at g r)) ⊎ (r ≡ length g.records)
 recorded-either g n b r e =
     let l = live-inside (recorded g n b).records r e in
     elim (below-or r (length g.records) (rw length-append at l)) [ inl m ↦ inl (m, recorded-old g n b r m) | inr m ↦ inr m ]
@@ -82,7 +83,8 @@ unhidden-next s k =
     elim (eqb_tells (hidden s.calls (next_record s)) 0) [
       | inl z ↦ z.1
       | inr z ↦ absurd (let w = count-find (readies (next_record s)) None s.calls (let n = z.1 in omega arith) in
-          let l = live-inside s.tables.records (next_record s) (ready-live s (next_record s) (get_or s.calls w.place None) w.passes (k.calls_fit w.place None w.inside)) in
+          let l = live-inside s.tables.records (next_record s)
+          (ready-live s (next_record s) (get_or s.calls w.place None) w.passes (k.calls_fit w.place None w.inside)) in
           omega arith)
     ]
 
@@ -100,7 +102,9 @@ both-keeps g b =
 no-alone : (g : Tables) (c n : ℕ) (x : Handle) → owner_of g x ≡ Some n → c ≢ n → alone g c (Some x) ≡ false
 no-alone g c n x o ne = rw (o, not-eqb c n ne) refl
 
-pub sound-recorded : (s : State) (b : Block) (x : Handle) → IsSound s → IsGoodPlace s.tables.blocks b.base b.size b.align → x.word ≡ Counted (length s.tables.records) → LiesIn b x x.kind → (x.kind ≡ Mut → b.external ≡ false) → length s.tables.blocks < 2 ^ 32 → length s.tables.records < 2 ^ 32 → length s.handles < 2 ^ 32 → IsSound (with_handle (with_record (with_block s b) 1 (length s.tables.blocks)) x)
+pub sound-recorded : (s : State) (b : Block) (x : Handle) → IsSound s → IsGoodPlace s.tables.blocks b.base b.size b.align
+    → x.word ≡ Counted (length s.tables.records) → LiesIn b x x.kind → (x.kind ≡ Mut → b.external ≡ false) → length s.tables.blocks < 2 ^ 32
+    → length s.tables.records < 2 ^ 32 → length s.handles < 2 ^ 32 → IsSound (with_handle (with_record (with_block s b) 1 (length s.tables.blocks)) x)
 sound-recorded s b x k good xw lies native few few' fewer =
     let g : Tables = s.tables in
     let n : ℕ = length s.tables.blocks in
@@ -116,10 +120,15 @@ sound-recorded s b x k good xw lies native few few' fewer =
     let cs = calls-read-kept s g' s.calls e (λ i d l q j t. recorded-let_go (grown g b) 1 n q t) k.calls_fit in
     let other = other-base g.blocks b k.blocks.places good in
     let at : block_at g' n ≡ b = get_or-append_seam g.blocks b [] _ in
-    let hm : (c : ℕ) → holders (reading next) c ≡ holders (reading s) c + cond (c == n) 1 0 = λ c. rw (holders-more (record s { tables = both s.tables b }) (Some x) c, holders-tables s (both s.tables b) c hs cs, o) refl in
-    let um : (c : ℕ) → users (reading next) c ≡ users (reading s) c + cond (c == n) 1 0 = λ c. rw (users-more (record s { tables = both s.tables b }) (Some x) c, users-tables s (both s.tables b) c hs cs, o) refl in
-    let am : (c : ℕ) → c ≢ n → tally (alone g' c) (s.handles ++ Some x ∷ []) ≡ tally (alone g c) s.handles = λ c ne. rw (count-append (alone g' c) s.handles (Some x), alone-kept g g' s.calls c s.handles e k.fit, no-alone g' c n x o ne) (omega arith) in
-    let dm : (c : ℕ) → tally (describes g' c) (s.handles ++ Some x ∷ []) ≡ tally (describes g c) s.handles = λ c. rw (count-append (describes g' c) s.handles (Some x), describes-kept g g' s.calls c s.handles e k.fit, describes-counted g' c x r xw) (omega arith) in
+    let hm : (c : ℕ) → holders (reading next) c ≡ holders (reading s) c + cond (c == n) 1 0 =
+    λ c. rw (holders-more (record s { tables = both s.tables b }) (Some x) c, holders-tables s (both s.tables b) c hs cs, o) refl in
+    let um : (c : ℕ) → users (reading next) c ≡ users (reading s) c + cond (c == n) 1 0 =
+    λ c. rw (users-more (record s { tables = both s.tables b }) (Some x) c, users-tables s (both s.tables b) c hs cs, o) refl in
+    let am : (c : ℕ) → c ≢ n → tally (alone g' c) (s.handles ++ Some x ∷ []) ≡ tally (alone g c) s.handles =
+    λ c ne. rw (count-append (alone g' c) s.handles (Some x), alone-kept g g' s.calls c s.handles e k.fit, no-alone g' c n x o ne) (omega arith) in
+    let dm : (c : ℕ) → tally (describes g' c) (s.handles ++ Some x ∷ []) ≡ tally (describes g c) s.handles =
+    λ c. rw (count-append (describes g' c) s.handles (Some x), describes-kept g g' s.calls c s.handles e k.fit, describes-counted g' c x r xw)
+    (omega arith) in
     let unused : users (reading s) n ≡ 0 = grind (arith, k.known_users n) in
     let unheld : holders (reading s) n ≡ 0 = omega (arith, unused, holders-le-users (reading s) n) in
     let one : users (reading next) n ≡ 1 = (let u = rw (is-eqb n n refl) at (um n) in omega (arith, u, unused)) in
@@ -127,31 +136,58 @@ sound-recorded s b x k good xw lies native few few' fewer =
     let shown = unhidden-next s k in
     let size = k.size in
     record {
-      size = record { wide = size.wide; ceiling = size.ceiling; few_blocks = rw length-append (omega arith); few_records = rw length-append (omega arith); few_handles = rw length-append (omega arith); few_calls = size.few_calls };
+      size = record {
+        wide = size.wide;
+        ceiling = size.ceiling;
+        few_blocks = rw length-append (omega arith);
+        few_records = rw length-append (omega arith);
+        few_handles = rw length-append (omega arith);
+        few_calls = size.few_calls;
+      };
       blocks = (let p = placed-more g b k.blocks good in record { places = p.places; apart = p.apart });
-      fit = All-push (Fits g' s.calls) s.handles (Some x) (all-fit-kept g g' s.calls s.handles e live k.fit) (subst (λ (v : Word). FitsWord g' s.calls x v) (sym xw) (record {
-        live = ap (λ (v : Record). v.live) new;
-        known = rw new-block (rw length-append (omega arith));
-        shown = shown;
-        lies = rw (new-block, at) lies;
-        native = λ m. rw (new-block, at) (native m);
-      }));
-      calls_fit = calls-kept s next refl e live (λ i y _ a. append-at s.handles (Some x) i y a) k.fit (λ i y a. at-some s.handles i y a) (λ i d l q j t. recorded-let_go (grown g b) 1 n q t) (λ c l. rw (hm, not-eqb c n (omega arith)) (omega arith)) (λ q t. (k.counted q t).known) k.calls_fit;
+      fit = All-push (Fits g' s.calls) s.handles (Some x) (all-fit-kept g g' s.calls s.handles e live k.fit)
+          (subst (λ (v : Word). FitsWord g' s.calls x v) (sym xw) (record {
+            live = ap (λ (v : Record). v.live) new;
+            known = rw new-block (rw length-append (omega arith));
+            shown = shown;
+            lies = rw (new-block, at) lies;
+            native = λ m. rw (new-block, at) (native m);
+          }));
+      calls_fit = calls-kept s next refl e live (λ i y _ a. append-at s.handles (Some x) i y a) k.fit (λ i y a. at-some s.handles i y a)
+          (λ i d l q j t. recorded-let_go (grown g b) 1 n q t) (λ c l. rw (hm, not-eqb c n (omega arith)) (omega arith))
+          (λ q t. (k.counted q t).known) k.calls_fit;
       one_release = λ c. rw (releases-kept s g' c s.calls e k.calls_fit) (k.one_release c);
       counted = λ q t. elim (recorded-either (grown s.tables b) 1 n q t) [
         | inl w ↦ (let c = k.counted q (ap (λ (v : Record). v.live) (sym w.1) ∙ t) in
             let known = c.known in
             let ne = not-eqb (record_at g q).block n (omega arith) in
-            subst (λ (v : Record). FitsRecord next q v) (sym w.1) (record { known = rw length-append (omega arith); one_maker = c.one_maker; counts = λ z. rw (hm, ne) (omega (arith, c.counts z)); fresh = c.fresh; used = rw (um, ne) (omega (arith, c.used)); undescribed = λ z. rw dm (c.undescribed z) }))
-        | inr i ↦ subst (λ (q : ℕ). FitsRecord next q (record_at g' q)) (sym i) (subst (λ (v : Record). FitsRecord next r v) (sym new) (record { known = rw length-append (omega arith); one_maker = omega (arith, shown); counts = λ z. sym held; fresh = λ z. absurd (omega (arith, z, shown)); used = omega (arith, one); undescribed = λ z. rw dm (omega (arith, describes-few s n, unheld)) }))
+            subst (λ (v : Record). FitsRecord next q v) (sym w.1) (record {
+              known = rw length-append (omega arith);
+              one_maker = c.one_maker;
+              counts = λ z. rw (hm, ne) (omega (arith, c.counts z));
+              fresh = c.fresh;
+              used = rw (um, ne) (omega (arith, c.used));
+              undescribed = λ z. rw dm (c.undescribed z);
+            }))
+        | inr i ↦ subst (λ (q : ℕ). FitsRecord next q (record_at g' q)) (sym i) (subst (λ (v : Record). FitsRecord next r v) (sym new) (record {
+          known = rw length-append (omega arith);
+          one_maker = omega (arith, shown);
+          counts = λ z. sym held;
+          fresh = λ z. absurd (omega (arith, z, shown));
+          used = omega (arith, one);
+          undescribed = λ z. rw dm (omega (arith, describes-few s n, unheld));
+        }))
       ];
       one_record = λ p q tp tq hp hq i. elim (recorded-either (grown s.tables b) 1 n p tp) [
         | inl w ↦ elim (recorded-either (grown s.tables b) 1 n q tq) [
-          | inl u ↦ k.one_record p q (ap (λ (v : Record). v.live) (sym w.1) ∙ tp) (ap (λ (v : Record). v.live) (sym u.1) ∙ tq) hp hq (ap (λ (v : Record). v.block) (sym w.1) ∙ i ∙ ap (λ (v : Record). v.block) u.1)
-          | inr u ↦ absurd (let c = (k.counted p (ap (λ (v : Record). v.live) (sym w.1) ∙ tp)).known in let z = ap (λ (v : Record). v.block) (sym w.1) ∙ i ∙ ap (λ (m : ℕ). (record_at g' m).block) u ∙ new-block in omega (arith, c, z))
+          | inl u ↦ k.one_record p q (ap (λ (v : Record). v.live) (sym w.1) ∙ tp) (ap (λ (v : Record). v.live) (sym u.1) ∙ tq) hp hq
+              (ap (λ (v : Record). v.block) (sym w.1) ∙ i ∙ ap (λ (v : Record). v.block) u.1)
+          | inr u ↦ absurd (let c = (k.counted p (ap (λ (v : Record). v.live) (sym w.1) ∙ tp)).known in let z =
+              ap (λ (v : Record). v.block) (sym w.1) ∙ i ∙ ap (λ (m : ℕ). (record_at g' m).block) u ∙ new-block in omega (arith, c, z))
         ]
         | inr w ↦ elim (recorded-either (grown s.tables b) 1 n q tq) [
-          | inl u ↦ absurd (let c = (k.counted q (ap (λ (v : Record). v.live) (sym u.1) ∙ tq)).known in let z = ap (λ (v : Record). v.block) (sym u.1) ∙ sym i ∙ ap (λ (m : ℕ). (record_at g' m).block) w ∙ new-block in omega (arith, c, z))
+          | inl u ↦ absurd (let c = (k.counted q (ap (λ (v : Record). v.live) (sym u.1) ∙ tq)).known in let z =
+              ap (λ (v : Record). v.block) (sym u.1) ∙ sym i ∙ ap (λ (m : ℕ). (record_at g' m).block) w ∙ new-block in omega (arith, c, z))
           | inr u ↦ w ∙ sym u
         ]
       ];
@@ -167,14 +203,17 @@ sound-recorded s b x k good xw lies native few few' fewer =
         | inl i ↦ (let q = i.1 in omega arith)
         | inr i ↦ (let q = rw i.0 at p in omega (arith, k.known_users c (omega (arith, q))))
       ]);
-      block_log = block-log-more g b s.freed_blocks (users (reading s)) (users (reading next)) other one (λ c l. rw (um, not-eqb c n (omega arith)) (omega arith)) k.block_log;
+      block_log = block-log-more g b s.freed_blocks (users (reading s)) (users (reading next)) other one
+          (λ c l. rw (um, not-eqb c n (omega arith)) (omega arith)) k.block_log;
       record_log = record-log-more g.records s.freed_records (record { count = 1; block = length s.tables.blocks; live = true }) refl k.record_log;
     }
 
 -- ---- a new record in the place of a handle's descriptor
 
 -- nothing but its own call borrows a handle that is had alone
-pub sound-promoted : (s : State) (h : ℕ) (x y : Handle) (w b : ℕ) → IsSound s → handle_at s h ≡ Some x → is_lent h s.calls ≡ false → x.word ≡ Descriptor w → owner_of s.tables x ≡ Some b → b < length s.tables.blocks → y.word ≡ Counted (length s.tables.records) → y.kind ≡ View → LiesIn (block_at s.tables b) y View → length s.tables.records < 2 ^ 32 → IsSound (edited (with_record s 1 b) h y)
+pub sound-promoted : (s : State) (h : ℕ) (x y : Handle) (w b : ℕ) → IsSound s → handle_at s h ≡ Some x → is_lent h s.calls ≡ false
+    → x.word ≡ Descriptor w → owner_of s.tables x ≡ Some b → b < length s.tables.blocks → y.word ≡ Counted (length s.tables.records) → y.kind ≡ View
+    → LiesIn (block_at s.tables b) y View → length s.tables.records < 2 ^ 32 → IsSound (edited (with_record s 1 b) h y)
 sound-promoted s h x y w b k at free xw ox kb yw yv lies few =
     let g : Tables = s.tables in
     let r : ℕ = length s.tables.records in
@@ -189,11 +228,17 @@ sound-promoted s h x y w b k at free xw ox kb yw yv lies few =
     let oy : owner_of g' y ≡ Some b = owner-counted g' y r yw ∙ ap Some new-block in
     let hs = handles-kept g g' s.calls s.handles e k.fit in
     let cs = calls-read-kept s g' s.calls e (λ i d l q j t. recorded-let_go g 1 b q t) k.calls_fit in
-    let hm : (c : ℕ) → holders (reading next) c ≡ holders (reading s) c = λ c. let n = rw (at, ox', oy) at (holders-changed (record s { tables = recorded s.tables 1 b }) h (Some y) c l) in let m = holders-tables s g' c hs cs in omega (arith, n, m) in
-    let um : (c : ℕ) → users (reading next) c ≡ users (reading s) c = λ c. let n = rw (at, ox', oy) at (users-changed (record s { tables = recorded s.tables 1 b }) h (Some y) c l) in let m = users-tables s g' c hs cs in omega (arith, n, m) in
+    let hm : (c : ℕ) → holders (reading next) c ≡ holders (reading s) c = λ c. let n =
+    rw (at, ox', oy) at (holders-changed (record s { tables = recorded s.tables 1 b }) h (Some y) c l) in let m =
+    holders-tables s g' c hs cs in omega (arith, n, m) in
+    let um : (c : ℕ) → users (reading next) c ≡ users (reading s) c = λ c. let n =
+    rw (at, ox', oy) at (users-changed (record s { tables = recorded s.tables 1 b }) h (Some y) c l) in let m =
+    users-tables s g' c hs cs in omega (arith, n, m) in
     let dm : (c : ℕ) → tally (describes g' c) (set s.handles h (Some y)) + cond (c == b) 1 0 ≡ tally (describes g c) s.handles = λ c.
     let n = count-set (describes g' c) s.handles h (Some y) None l in
-    let nx : ◌≡◌ {A = ℕ} (cond (describes g' c (get_or s.handles h None)) 1 0) (cond (c == b) 1 0) = ap (λ (o : Option Handle). cond {A = ℕ} (describes g' c o) 1 0) at ∙ ap (λ (v : Bool). cond {A = ℕ} v 1 0) (describes-described g' c x w xw ∙ ap (is_block c) ox') in
+    let nx : ◌≡◌ {A = ℕ} (cond (describes g' c (get_or s.handles h None)) 1 0) (cond (c == b) 1 0) =
+    ap (λ (o : Option Handle). cond {A = ℕ} (describes g' c o) 1 0) at
+    ∙ ap (λ (v : Bool). cond {A = ℕ} v 1 0) (describes-described g' c x w xw ∙ ap (is_block c) ox') in
     let ny : ◌≡◌ {A = ℕ} (cond (describes g' c (Some y)) 1 0) 0 = ap (λ (v : Bool). cond {A = ℕ} v 1 0) (describes-counted g' c y r yw) in
     omega (arith, n, nx, ny, describes-kept g g' s.calls c s.handles e k.fit) in
     let am : (c : ℕ) → tally (alone g' c) (set s.handles h (Some y)) ≤ tally (alone g c) s.handles = λ c.
@@ -203,12 +248,20 @@ sound-promoted s h x y w b k at free xw ox kb yw yv lies few =
     let one : holders (reading s) b ≡ 1 = alone-at s h x b k at (alone-described g b x w xw ∙ ap (is_block b) ox ∙ is-eqb b b refl) in
     let some : 0 < tally (describes g b) s.handles = (let z = rw (is-eqb b b refl) at (dm b) in omega (arith, z)) in
     let gone : tally (describes g' b) (set s.handles h (Some y)) ≡ 0 = (let z = rw (is-eqb b b refl) at (dm b) in omega (arith, z, describes-few s b, one)) in
-    let apart : (q : ℕ) → (record_at g q).live ≡ true → hidden s.calls q ≡ 0 → (record_at g q).block ≢ b = λ q t z i. (let u = rw i at ((k.counted q t).undescribed z) in omega (arith, u, some)) in
+    let apart : (q : ℕ) → (record_at g q).live ≡ true → hidden s.calls q ≡ 0 → (record_at g q).block ≢ b =
+    λ q t z i. (let u = rw i at ((k.counted q t).undescribed z) in omega (arith, u, some)) in
     let shown = unhidden-next s k in
     let size = k.size in
     let lie : LiesIn (block_at g' (record_at g' r).block) y y.kind = rw (new-block) (subst (λ (q : Kind). LiesIn (block_at g b) y q) (sym yv) lies) in
     record {
-      size = record { wide = size.wide; ceiling = size.ceiling; few_blocks = size.few_blocks; few_records = rw length-append (omega arith); few_handles = rw length-set size.few_handles; few_calls = size.few_calls };
+      size = record {
+        wide = size.wide;
+        ceiling = size.ceiling;
+        few_blocks = size.few_blocks;
+        few_records = rw length-append (omega arith);
+        few_handles = rw length-set size.few_handles;
+        few_calls = size.few_calls;
+      };
       blocks = (let p = k.blocks in record { places = p.places; apart = p.apart });
       fit = All-set (Fits g' s.calls) s.handles h (Some y) (subst (λ (v : Word). FitsWord g' s.calls y v) (sym yw) (record {
         live = ap (λ (v : Record). v.live) new;
@@ -217,20 +270,38 @@ sound-promoted s h x y w b k at free xw ox kb yw yv lies few =
         lies = lie;
         native = λ m. absurd (let q = sym yv ∙ m in cc);
       })) (all-fit-kept g g' s.calls s.handles e live k.fit);
-      calls_fit = calls-kept s next refl e live (λ i z b a. set-at s.handles h i (Some y) z (λ e. let q = rw e at b in absurd (cc)) a) k.fit (λ i z a. at-some s.handles i z a) (λ i d l q j t. recorded-let_go g 1 b q t) (λ c _. hm c) (λ q t. (k.counted q t).known) k.calls_fit;
+      calls_fit = calls-kept s next refl e live (λ i z b a. set-at s.handles h i (Some y) z (λ e. let q = rw e at b in absurd (cc)) a) k.fit
+          (λ i z a. at-some s.handles i z a) (λ i d l q j t. recorded-let_go g 1 b q t) (λ c _. hm c) (λ q t. (k.counted q t).known) k.calls_fit;
       one_release = λ c. rw (releases-kept s g' c s.calls e k.calls_fit) (k.one_release c);
       counted = λ q t. elim (recorded-either g 1 b q t) [
         | inl v ↦ (let c = k.counted q (ap (λ (v : Record). v.live) (sym v.1) ∙ t) in
-            subst (λ (v : Record). FitsRecord next q v) (sym v.1) (record { known = c.known; one_maker = c.one_maker; counts = λ z. rw hm (c.counts z); fresh = c.fresh; used = rw um c.used; undescribed = λ z. omega (arith, dm (record_at g q).block, c.undescribed z) }))
-        | inr i ↦ subst (λ (q : ℕ). FitsRecord next q (record_at g' q)) (sym i) (subst (λ (v : Record). FitsRecord next r v) (sym new) (record { known = kb; one_maker = omega (arith, shown); counts = λ z. rw hm (sym one); fresh = λ z. absurd (omega (arith, z, shown)); used = rw um (omega (arith, one, holders-le-users (reading s) b)); undescribed = λ z. gone }))
+            subst (λ (v : Record). FitsRecord next q v) (sym v.1) (record {
+              known = c.known;
+              one_maker = c.one_maker;
+              counts = λ z. rw hm (c.counts z);
+              fresh = c.fresh;
+              used = rw um c.used;
+              undescribed = λ z. omega (arith, dm (record_at g q).block, c.undescribed z);
+            }))
+        | inr i ↦ subst (λ (q : ℕ). FitsRecord next q (record_at g' q)) (sym i) (subst (λ (v : Record). FitsRecord next r v) (sym new) (record {
+          known = kb;
+          one_maker = omega (arith, shown);
+          counts = λ z. rw hm (sym one);
+          fresh = λ z. absurd (omega (arith, z, shown));
+          used = rw um (omega (arith, one, holders-le-users (reading s) b));
+          undescribed = λ z. gone;
+        }))
       ];
       one_record = λ p q tp tq hp hq i. elim (recorded-either g 1 b p tp) [
         | inl v ↦ elim (recorded-either g 1 b q tq) [
-          | inl u ↦ k.one_record p q (ap (λ (v : Record). v.live) (sym v.1) ∙ tp) (ap (λ (v : Record). v.live) (sym u.1) ∙ tq) hp hq (ap (λ (v : Record). v.block) (sym v.1) ∙ i ∙ ap (λ (v : Record). v.block) u.1)
-          | inr u ↦ absurd (apart p (ap (λ (v : Record). v.live) (sym v.1) ∙ tp) hp (ap (λ (v : Record). v.block) (sym v.1) ∙ i ∙ ap (λ (m : ℕ). (record_at g' m).block) u ∙ new-block))
+          | inl u ↦ k.one_record p q (ap (λ (v : Record). v.live) (sym v.1) ∙ tp) (ap (λ (v : Record). v.live) (sym u.1) ∙ tq) hp hq
+              (ap (λ (v : Record). v.block) (sym v.1) ∙ i ∙ ap (λ (v : Record). v.block) u.1)
+          | inr u ↦ absurd (apart p (ap (λ (v : Record). v.live) (sym v.1) ∙ tp) hp
+              (ap (λ (v : Record). v.block) (sym v.1) ∙ i ∙ ap (λ (m : ℕ). (record_at g' m).block) u ∙ new-block))
         ]
         | inr v ↦ elim (recorded-either g 1 b q tq) [
-          | inl u ↦ absurd (apart q (ap (λ (v : Record). v.live) (sym u.1) ∙ tq) hq (ap (λ (v : Record). v.block) (sym u.1) ∙ sym i ∙ ap (λ (m : ℕ). (record_at g' m).block) v ∙ new-block))
+          | inl u ↦ absurd (apart q (ap (λ (v : Record). v.live) (sym u.1) ∙ tq) hq
+              (ap (λ (v : Record). v.block) (sym u.1) ∙ sym i ∙ ap (λ (m : ℕ). (record_at g' m).block) v ∙ new-block))
           | inr u ↦ v ∙ sym u
         ]
       ];
@@ -241,10 +312,15 @@ sound-promoted s h x y w b k at free xw ox kb yw yv lies few =
       record_log = record-log-more g.records s.freed_records (record { count = 1; block = b; live = true }) refl k.record_log;
     }
 
-pub sound-promoted-frozen : (s : State) (h : ℕ) (x : Handle) (w b : ℕ) → IsSound s → Lends s h Mut x → x.word ≡ Descriptor w → owner_of s.tables x ≡ Some b → length s.tables.records < 2 ^ 32 → IsSound (edited (with_record s 1 b) h (frozen x (Counted (length s.tables.records))))
+pub sound-promoted-frozen : (s : State) (h : ℕ) (x : Handle) (w b : ℕ) → IsSound s → Lends s h Mut x → x.word ≡ Descriptor w
+    → owner_of s.tables x ≡ Some b → length s.tables.records < 2 ^ 32 → IsSound (edited (with_record s 1 b) h (frozen x (Counted (length s.tables.records))))
 sound-promoted-frozen s h x w b k t i o few =
     let d = described-at s h x w k t.at i in
     let same : d.block ≡ b = (let q = sym d.says.owner ∙ o in cc) in
     let kb = subst (λ (n : ℕ). n < length s.tables.blocks) same d.says.known in
     let lies = subst (λ (n : ℕ). LiesIn (block_at s.tables n) x Mut) same (lies-as (block_at s.tables d.block) x Mut t.kind_is d.says.lies) in
-    sound-promoted s h x (frozen x (Counted (length s.tables.records))) w b k t.at t.free i o kb refl refl (record { begins = lies.begins; ends = omega (arith, lies.ends, lies.within); no_room = refl }) few
+    sound-promoted s h x (frozen x (Counted (length s.tables.records))) w b k t.at t.free i o kb refl refl (record {
+      begins = lies.begins;
+      ends = omega (arith, lies.ends, lies.within);
+      no_room = refl;
+    }) few

@@ -18,7 +18,8 @@ use Rattle.iobufs_owner.proofs.Soundness.Holders.{held_by, drops_by, users-as}
 use Rattle.iobufs_owner.proofs.Soundness.Logs.{logged-at}
 use Rattle.iobufs_owner.proofs.WorldSteps.Taken.{eq-true}
 
-exclusive-alone : (s : State) (h b : ℕ) (x : Handle) → IsSound s → handle_at s h ≡ Some x → owner_of s.tables x ≡ Some b → IsExclusive x → holders (reading s) b ≡ 1
+exclusive-alone : (s : State) (h b : ℕ) (x : Handle) → IsSound s → handle_at s h ≡ Some x → owner_of s.tables x ≡ Some b → IsExclusive x
+    → holders (reading s) b ≡ 1
 exclusive-alone s h b x k at o e = alone-at s h x b k at (rw (o, is-eqb b b refl) e)
 
 none-freed : (s : State) (b : ℕ) → IsSound s → b < length s.tables.blocks → users (reading s) b ≡ 0 → IsFreed s b
@@ -28,11 +29,13 @@ freed-none : (s : State) (b : ℕ) → IsSound s → IsFreed s b → users (read
 freed-none s b k f = eq-true (users (reading s) b) 0 (sym (k.block_log.freed b f.known) ∙ f.logged)
 
 -- a record whose block nobody uses is logged
-dead-logged : (s : State) (r : ℕ) (v : Bool) → IsSound s → r < length s.tables.records → (record_at s.tables r).live ≡ v → ((record_at s.tables r).live ≡ true → users (reading s) (record_at s.tables r).block ≡ 0) → is_logged r s.freed_records ≡ true
+dead-logged : (s : State) (r : ℕ) (v : Bool) → IsSound s → r < length s.tables.records → (record_at s.tables r).live ≡ v
+    → ((record_at s.tables r).live ≡ true → users (reading s) (record_at s.tables r).block ≡ 0) → is_logged r s.freed_records ≡ true
 dead-logged s r true k l e f = let u = (k.counted r e).used in let z = f e in absurd (omega (arith, u, z))
 dead-logged s r false k l e f = k.record_log.exact r l ∙ ap not e
 
-logged-dead : (s : State) (r : ℕ) (v : Bool) → IsSound s → r < length s.tables.records → (record_at s.tables r).live ≡ v → is_logged r s.freed_records ≡ true → (record_at s.tables r).live ≡ false
+logged-dead : (s : State) (r : ℕ) (v : Bool) → IsSound s → r < length s.tables.records → (record_at s.tables r).live ≡ v
+    → is_logged r s.freed_records ≡ true → (record_at s.tables r).live ≡ false
 logged-dead s r true k l e i = let z = sym i ∙ k.record_log.exact r l ∙ ap not e in absurd (cc)
 logged-dead s r false k l e i = e
 
@@ -40,11 +43,13 @@ logged-dead s r false k l e i = e
 
 none-held : (s : State) (b : ℕ) (hs : List (Option Handle)) → All (λ o. o ≡ None) hs → tally (held_by s b) hs ≡ 0
 none-held s b [] a = refl
-none-held s b (o ∷ hs) a = rw (All-head (λ (o : Option Handle). o ≡ None) o hs a) (omega (arith, none-held s b hs (All-tail (λ (o : Option Handle). o ≡ None) o hs a)))
+none-held s b (o ∷ hs) a = rw (All-head (λ (o : Option Handle). o ≡ None) o hs a)
+    (omega (arith, none-held s b hs (All-tail (λ (o : Option Handle). o ≡ None) o hs a)))
 
 none-dropped : (s : State) (b : ℕ) (cs : List (Option Pending)) → All (λ c. c ≡ None) cs → tally (drops_by s b) cs ≡ 0
 none-dropped s b [] a = refl
-none-dropped s b (c ∷ cs) a = rw (All-head (λ (c : Option Pending). c ≡ None) c cs a) (omega (arith, none-dropped s b cs (All-tail (λ (c : Option Pending). c ≡ None) c cs a)))
+none-dropped s b (c ∷ cs) a = rw (All-head (λ (c : Option Pending). c ≡ None) c cs a)
+    (omega (arith, none-dropped s b cs (All-tail (λ (c : Option Pending). c ≡ None) c cs a)))
 
 over-none : (s : State) (b : ℕ) → IsOver s → users (reading s) b ≡ 0
 over-none s b o = omega (arith, users-as s b, none-held s b s.handles o.handles, none-dropped s b s.calls o.calls)
@@ -78,10 +83,17 @@ promises-of s k = record {
   blocks_once = k.block_log.once;
   records_once = k.record_log.once;
   blocks_known = k.block_log.known;
-  records_known = All-from_get_or (λ r. (r < length s.tables.records) × ((record_at s.tables r).live ≡ false)) s.freed_records 0 (λ i l. (let q = get_or s.freed_records i 0 in let n : q < length s.tables.records = All-get_or (λ r. r < length s.tables.records) s.freed_records i 0 l k.record_log.known in (n, logged-dead s q (record_at s.tables q).live k n refl (logged-at s.freed_records i 0 l))));
+  records_known = All-from_get_or (λ r. (r < length s.tables.records) × ((record_at s.tables r).live ≡ false)) s.freed_records 0
+      (λ i l. (let q = get_or s.freed_records i 0 in let n : q < length s.tables.records =
+      All-get_or (λ r. r < length s.tables.records) s.freed_records i 0 l k.record_log.known in
+      (n, logged-dead s q (record_at s.tables q).live k n refl (logged-at s.freed_records i 0 l))));
   never_held = λ b f. (let u = freed-none s b k f in let m = holders-le-users (reading s) b in omega (arith, u, m));
   unused_freed = λ b l e. none-freed s b k l e;
   records_freed = λ r l f. dead-logged s r (record_at s.tables r).live k l refl (λ e. freed-none s (record_at s.tables r).block k f);
-  none_left = λ o. (λ b l. none-freed s b k l (over-none s b o), λ r l. dead-logged s r (record_at s.tables r).live k l refl (λ e. over-none s (record_at s.tables r).block o));
+  none_left = λ o. (
+    λ b l. none-freed s b k l (over-none s b o),
+    λ r l. dead-logged s r (record_at s.tables r).live k l refl
+        (λ e. over-none s (record_at s.tables r).block o),
+  );
   capped = k.capped;
 }

@@ -34,21 +34,30 @@ loading s p k w i at = subst (λ (c : Option Pending). FitsCall s c) at (i.calls
 pub loading-block : (s : State) (k : Share) (w : ℕ) (l : IsLoading s k w) → l.block ≡ loaded_block s k.handle w
 loading-block s k w l = sym (ap (λ (o : Option Handle). loaded_found s w o) l.shares.at ∙ ap (λ (o : Option ℕ). unwrap_or o 0) l.promised.says.owner)
 
-fit-readied : (s : State) (n b : ℕ) (cs : List (Option Pending)) → ((q : ℕ) → q < length s.tables.records → hidden cs q ≡ hidden s.calls q) → (o : Option Handle) → Fits s.tables s.calls o → Fits (recorded s.tables n b) cs o
+fit-readied : (s : State) (n b : ℕ) (cs : List (Option Pending)) → ((q : ℕ) → q < length s.tables.records → hidden cs q ≡ hidden s.calls q)
+    → (o : Option Handle) → Fits s.tables s.calls o → Fits (recorded s.tables n b) cs o
 fit-readied s n b cs same None f = tt
 fit-readied s n b cs same (Some x) f =
     let e = recorded-keeps s.tables n b in
     let g' : Tables = recorded s.tables n b in
-    let y = fits-kept s.tables g' s.calls x x.word (owner-kept s.tables g' s.calls x e f) e (λ r i. recorded-live s.tables n b r (live-of s.tables s.calls x x.word r i f)) f in
+    let y = fits-kept s.tables g' s.calls x x.word (owner-kept s.tables g' s.calls x e f) e
+    (λ r i. recorded-live s.tables n b r (live-of s.tables s.calls x x.word r i f)) f in
     let by : (v : Word) → x.word ≡ v → FitsWord g' s.calls x v → FitsWord g' cs x v =
     λ v. elim v as (λ v. x.word ≡ v → FitsWord g' s.calls x v → FitsWord g' cs x v) [
       | Empty ↦ λ i f. f
       | Descriptor w ↦ λ i f. f
-      | Counted r ↦ λ i z. record { live = z.live; known = z.known; shown = same r (live-inside s.tables.records r (live-of s.tables s.calls x x.word r i f)) ∙ z.shown; lies = z.lies; native = z.native }
+      | Counted r ↦ λ i z. record {
+        live = z.live;
+        known = z.known;
+        shown = same r (live-inside s.tables.records r (live-of s.tables s.calls x x.word r i f)) ∙ z.shown;
+        lies = z.lies;
+        native = z.native;
+      }
     ] in
     by x.word refl y
 
-pub sound-readied : (s : State) (p : ℕ) (k : Share) (w b : ℕ) → IsSound s → call_at s p ≡ Some (Loaded k w) → (l : IsLoading s k w) → l.block ≡ b → length s.tables.records < 2 ^ 32 → IsSound (called (with_record s 2 b) p (Some (Ready k w (length s.tables.records))))
+pub sound-readied : (s : State) (p : ℕ) (k : Share) (w b : ℕ) → IsSound s → call_at s p ≡ Some (Loaded k w) → (l : IsLoading s k w) → l.block ≡ b
+    → length s.tables.records < 2 ^ 32 → IsSound (called (with_record s 2 b) p (Some (Ready k w (length s.tables.records))))
 sound-readied s p part w b k at ld same few =
     let g : Tables = s.tables in
     let promised : Promised s.tables ld.view w b = subst (λ (n : ℕ). Promised s.tables ld.view w n) same ld.promised in
@@ -74,15 +83,34 @@ sound-readied s p part w b k at ld same few =
     let n = count-set (readies q) s.calls p c None l in
     let z : ◌≡◌ {A = ℕ} (cond (readies q (get_or s.calls p None)) 1 0) 0 = ap (λ (o : Option Pending). cond {A = ℕ} (readies q o) 1 0) at in
     omega (arith, n, z) in
-    let old : (q : ℕ) → q < length g.records → hidden (set s.calls p c) q ≡ hidden s.calls q = λ q m. (let n = rw (not-eqb q (length s.tables.records) (omega arith)) at (hid q) in omega (arith, n)) in
-    let one : hidden (set s.calls p c) r ≡ 1 = (let n = rw (is-eqb (length s.tables.records) (length s.tables.records) refl) at (hid r) in let z = unhidden-next s k in omega (arith, n, z)) in
-    let rel : (d : ℕ) → tally (releases g' d) (set s.calls p c) ≡ tally (releases g d) s.calls = λ d. count-calls (releases g' d) s.calls p c None l (ap (releases g' d) at) refl ∙ releases-kept s g' d s.calls e k.calls_fit in
-    let leaves = λ (o : Option Pending). call-kept s next o (record { tables = e; let_go = λ q j t. recorded-let_go g 2 b q t; live = λ n _ t. live n t; hidden = λ n _ t. old n (live-inside g.records n t); handle = λ i y _ a. a; owner = λ i y a. owner-kept g g' s.calls y e (fits-at s i y k a); holders = λ n _. hm (record_at g n).block }) in
+    let old : (q : ℕ) → q < length g.records → hidden (set s.calls p c) q ≡ hidden s.calls q =
+    λ q m. (let n = rw (not-eqb q (length s.tables.records) (omega arith)) at (hid q) in omega (arith, n)) in
+    let one : hidden (set s.calls p c) r ≡ 1 =
+    (let n = rw (is-eqb (length s.tables.records) (length s.tables.records) refl) at (hid r) in let z = unhidden-next s k in omega (arith, n, z)) in
+    let rel : (d : ℕ) → tally (releases g' d) (set s.calls p c) ≡ tally (releases g d) s.calls =
+    λ d. count-calls (releases g' d) s.calls p c None l (ap (releases g' d) at) refl ∙ releases-kept s g' d s.calls e k.calls_fit in
+    let leaves = λ (o : Option Pending). call-kept s next o (record {
+      tables = e;
+      let_go = λ q j t. recorded-let_go g 2 b q t;
+      live = λ n _ t. live n t;
+      hidden = λ n _ t. old n (live-inside g.records n t);
+      handle = λ i y _ a. a;
+      owner = λ i y a. owner-kept g g' s.calls y e (fits-at s i y k a);
+      holders = λ n _. hm (record_at g n).block;
+    }) in
     let size = k.size in
     record {
-      size = record { wide = size.wide; ceiling = size.ceiling; few_blocks = size.few_blocks; few_records = rw length-append (omega arith); few_handles = size.few_handles; few_calls = rw length-set size.few_calls };
+      size = record {
+        wide = size.wide;
+        ceiling = size.ceiling;
+        few_blocks = size.few_blocks;
+        few_records = rw length-append (omega arith);
+        few_handles = size.few_handles;
+        few_calls = rw length-set size.few_calls;
+      };
       blocks = (let q = k.blocks in record { places = q.places; apart = q.apart });
-      fit = All-from_get_or (Fits g' (set s.calls p c)) s.handles None (λ i li. fit-readied s 2 b (set s.calls p c) old (get_or s.handles i None) (k.fit i None li));
+      fit = All-from_get_or (Fits g' (set s.calls p c)) s.handles None
+          (λ i li. fit-readied s 2 b (set s.calls p c) old (get_or s.handles i None) (k.fit i None li));
       calls_fit = All-from_get_or (FitsCall next) (set s.calls p c) None (λ i li.
           let lo : i < length s.calls = (let z = rw length-set at li in z) in
           elim (eqb_tells i p) [
@@ -100,12 +128,27 @@ sound-readied s p part w b k at ld same few =
       counted = λ q t. elim (recorded-either g 2 b q t) [
         | inl u ↦ (let v = k.counted q (ap (λ (v : Record). v.live) (sym u.1) ∙ t) in
             let h = old q u.0 in
-            subst (λ (v : Record). FitsRecord next q v) (sym u.1) (record { known = v.known; one_maker = rw h v.one_maker; counts = λ z. rw hm (v.counts (sym h ∙ z)); fresh = λ z. v.fresh (sym h ∙ z); used = rw um v.used; undescribed = λ z. describes-kept g g' s.calls (record_at g q).block s.handles e k.fit ∙ v.undescribed (sym h ∙ z) }))
-        | inr i ↦ subst (λ (q : ℕ). FitsRecord next q (record_at g' q)) (sym i) (subst (λ (v : Record). FitsRecord next r v) (sym new) (record { known = known; one_maker = omega (arith, one); counts = λ z. absurd (omega (arith, z, one)); fresh = λ z. refl; used = rw um (owner-used s part.handle ld.view b ld.shares.at promised.owner); undescribed = λ z. absurd (omega (arith, z, one)) }))
+            subst (λ (v : Record). FitsRecord next q v) (sym u.1) (record {
+              known = v.known;
+              one_maker = rw h v.one_maker;
+              counts = λ z. rw hm (v.counts (sym h ∙ z));
+              fresh = λ z. v.fresh (sym h ∙ z);
+              used = rw um v.used;
+              undescribed = λ z. describes-kept g g' s.calls (record_at g q).block s.handles e k.fit ∙ v.undescribed (sym h ∙ z);
+            }))
+        | inr i ↦ subst (λ (q : ℕ). FitsRecord next q (record_at g' q)) (sym i) (subst (λ (v : Record). FitsRecord next r v) (sym new) (record {
+          known = known;
+          one_maker = omega (arith, one);
+          counts = λ z. absurd (omega (arith, z, one));
+          fresh = λ z. refl;
+          used = rw um (owner-used s part.handle ld.view b ld.shares.at promised.owner);
+          undescribed = λ z. absurd (omega (arith, z, one));
+        }))
       ];
       one_record = λ q q' tq tq' hq hq' i. elim (recorded-either g 2 b q tq) [
         | inl u ↦ elim (recorded-either g 2 b q' tq') [
-          | inl v ↦ k.one_record q q' (ap (λ (v : Record). v.live) (sym u.1) ∙ tq) (ap (λ (v : Record). v.live) (sym v.1) ∙ tq') (sym (old q u.0) ∙ hq) (sym (old q' v.0) ∙ hq') (ap (λ (v : Record). v.block) (sym u.1) ∙ i ∙ ap (λ (v : Record). v.block) v.1)
+          | inl v ↦ k.one_record q q' (ap (λ (v : Record). v.live) (sym u.1) ∙ tq) (ap (λ (v : Record). v.live) (sym v.1) ∙ tq')
+              (sym (old q u.0) ∙ hq) (sym (old q' v.0) ∙ hq') (ap (λ (v : Record). v.block) (sym u.1) ∙ i ∙ ap (λ (v : Record). v.block) v.1)
           | inr v ↦ absurd (let z = rw v at hq' in omega (arith, z, one))
         ]
         | inr u ↦ absurd (let z = rw u at hq in omega (arith, z, one))

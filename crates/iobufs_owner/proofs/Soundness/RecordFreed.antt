@@ -16,10 +16,14 @@ pub dead-count : (g : Tables) (r q : ℕ) → (record_at (tables_without g r) q)
 dead-count g r q = field-set (λ (v : Record). v.count) g.records r q _ _ refl
 
 pub dead-other : (g : Tables) (r q : ℕ) → q ≢ r → (record_at (tables_without g r) q).live ≡ (record_at g q).live
-dead-other g r q ne = ap (λ (v : Record). v.live) (get_or-set_other g.records r q (record { count = (record_at g r).count; block = (record_at g r).block; live = false }) (record { count = 0; block = 0; live = false }) ne)
+dead-other g r q ne = ap (λ (v : Record). v.live)
+    (get_or-set_other g.records r q (record { count = (record_at g r).count; block = (record_at g r).block; live = false })
+    (record { count = 0; block = 0; live = false }) ne)
 
 pub dead-same : (g : Tables) (r : ℕ) → r < length g.records → (record_at (tables_without g r) r).live ≡ false
-dead-same g r l = ap (λ (v : Record). v.live) (get_or-set_same g.records r (record { count = (record_at g r).count; block = (record_at g r).block; live = false }) (record { count = 0; block = 0; live = false }) l)
+dead-same g r l = ap (λ (v : Record). v.live)
+    (get_or-set_same g.records r (record { count = (record_at g r).count; block = (record_at g r).block; live = false })
+    (record { count = 0; block = 0; live = false }) l)
 
 pub dead-keeps : (g : Tables) (r : ℕ) → Keeps g (tables_without g r)
 dead-keeps g r = record {

@@ -16,14 +16,17 @@ use Rattle.iobufs_owner.proofs.Soundness.Edits.{word-fits, word-at, tail-says, b
 use Rattle.iobufs_owner.proofs.Soundness.Holders.{owner-used}
 use Rattle.iobufs_owner.proofs.Soundness.Logs.{block-log-room}
 
-with-later : (x : Block) (base b : ℕ) (bs : List Block) (o : Option ℕ) → ((c : ℕ) → o ≡ Some c → (get_or bs c no_block).base ≡ base) → option_map (λ i. i + 1) o ≡ Some b → (get_or (x ∷ bs) b no_block).base ≡ base
+with-later : (x : Block) (base b : ℕ) (bs : List Block) (o : Option ℕ) → ((c : ℕ) → o ≡ Some c → (get_or bs c no_block).base ≡ base)
+    → option_map (λ i. i + 1) o ≡ Some b → (get_or (x ∷ bs) b no_block).base ≡ base
 with-later x base b bs None h e = absurd (cc)
 with-later x base b bs (Some c) h e =
     let i : c + 1 ≡ b = cc in
     let j : suc c ≡ b = sym (add-one c) ∙ i in
     rw (← j) (h c refl)
 
-with-here : (v : Bool) (x : Block) (base b : ℕ) (bs : List Block) → (v ≡ true → x.base ≡ base) → ((c : ℕ) → block_with base bs ≡ Some c → (get_or bs c no_block).base ≡ base) → cond v (Some 0) (option_map (λ i. i + 1) (block_with base bs)) ≡ Some b → (get_or (x ∷ bs) b no_block).base ≡ base
+with-here : (v : Bool) (x : Block) (base b : ℕ) (bs : List Block) → (v ≡ true → x.base ≡ base)
+    → ((c : ℕ) → block_with base bs ≡ Some c → (get_or bs c no_block).base ≡ base)
+    → cond v (Some 0) (option_map (λ i. i + 1) (block_with base bs)) ≡ Some b → (get_or (x ∷ bs) b no_block).base ≡ base
 with-here true x base b bs t h e = let i : 0 ≡ b = cc in rw (← i) (t refl)
 with-here false x base b bs t h e = with-later x base b bs (block_with base bs) h e
 
@@ -33,7 +36,8 @@ with-base base b [] e = absurd (cc)
 with-base base b (x ∷ bs) e = with-here (x.base == base) x base b bs (λ t. grind (arith, nat_tests, t)) (λ c i. with-base base c bs i) e
 
 -- what is recovered from a descriptor is the block
-pub recovered-is : (s : State) (h : ℕ) (x : Handle) (w b : ℕ) → IsSound s → handle_at s h ≡ Some x → x.word ≡ Descriptor w → owner_of s.tables x ≡ Some b → recovered s.tables x w ≡ triple (block_at s.tables b)
+pub recovered-is : (s : State) (h : ℕ) (x : Handle) (w b : ℕ) → IsSound s → handle_at s h ≡ Some x → x.word ≡ Descriptor w
+    → owner_of s.tables x ≡ Some b → recovered s.tables x w ≡ triple (block_at s.tables b)
 recovered-is s h x w b k at i o =
     let g : Tables = s.tables in
     let d = described-at s h x w k at i in
@@ -46,7 +50,8 @@ recovered-is s h x w b k at i o =
 
 -- ---- what freeing asks
 
-ends-below : (b : Block) (x : Handle) (tail size : ℕ) (kind : Kind) → x.kind ≡ kind → size ≡ b.size → LiesIn b x kind → LeavesBehind b x tail kind → size ≤ end_of x tail
+ends-below : (b : Block) (x : Handle) (tail size : ℕ) (kind : Kind) → x.kind ≡ kind → size ≡ b.size → LiesIn b x kind → LeavesBehind b x tail kind
+    → size ≤ end_of x tail
 ends-below b x tail size View e n lies behind = rw e (omega (arith, n, behind))
 ends-below b x tail size Mut e n lies behind = rw e (omega (arith, n, lies.ends))
 

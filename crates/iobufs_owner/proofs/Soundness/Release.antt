@@ -50,7 +50,8 @@ release-last s p r k at =
           record { none = omega arith; one = omega arith; users = omega arith })
       | false ↦ λ e. (let n1 = rw e at n in
           let some = count-some (still_by s b) s.calls p None l (rw (at, e) (is-eqb b b refl)) in
-          let go = count-less (releases s.tables b) (lets_go s.tables b) s.calls p None (go-releases s.tables b) l (rw at (is-eqb b b refl)) (rw (at, e) (and-no (b == b))) in
+          let go = count-less (releases s.tables b) (lets_go s.tables b) s.calls p None (go-releases s.tables b) l (rw at (is-eqb b b refl))
+          (rw (at, e) (and-no (b == b))) in
           record { none = omega arith; one = omega arith; users = omega arith })
     ] in
     by (has_let_go s.tables r) refl
@@ -60,38 +61,52 @@ none-holds s b i x z at o =
     let t = count-some (held_by s b) s.handles i None (at-some s.handles i x at) (rw (at, o) (is-eqb b b refl)) in
     omega arith
 
-fit-released : (s : State) (p r : ℕ) (o : Option Handle) → ((q : ℕ) → hidden (set s.calls p None) q ≡ hidden s.calls q) → tally (held_by s (record_at s.tables r).block) s.handles ≡ 0 → (i : ℕ) → get_or s.handles i None ≡ o → Fits s.tables s.calls o → Fits (tables_without s.tables r) (set s.calls p None) o
+fit-released : (s : State) (p r : ℕ) (o : Option Handle) → ((q : ℕ) → hidden (set s.calls p None) q ≡ hidden s.calls q)
+    → tally (held_by s (record_at s.tables r).block) s.handles ≡ 0 → (i : ℕ) → get_or s.handles i None ≡ o → Fits s.tables s.calls o
+    → Fits (tables_without s.tables r) (set s.calls p None) o
 fit-released s p r None hid none i at f = tt
 fit-released s p r (Some x) hid none i at f =
     let e = dead-keeps s.tables r in
     fits-calls (tables_without s.tables r) s.calls (set s.calls p None) x x.word (λ q. omega (arith, hid q))
     (fits-kept s.tables (tables_without s.tables r) s.calls x x.word (owner-kept s.tables (tables_without s.tables r) s.calls x e f) e
-    (λ q w. dead-other s.tables r q (λ y. none-holds s (record_at s.tables r).block i x none at (owner-counted s.tables x q w ∙ ap (λ (n : ℕ). Some (record_at s.tables n).block) y)) ∙ live-of s.tables s.calls x x.word q w f) f)
+    (λ q w. dead-other s.tables r q
+    (λ y. none-holds s (record_at s.tables r).block i x none at
+    (owner-counted s.tables x q w ∙ ap (λ (n : ℕ). Some (record_at s.tables n).block) y)) ∙ live-of s.tables s.calls x x.word q w f) f)
 
 still-other : (b c : ℕ) (v : Bool) → c ≢ b → still_holds c (Some (Dropping b v 1)) ≡ false
 still-other b c true ne = refl
 still-other b c false ne = not-eqb c b ne
 
-users-released : (s : State) (p r c : ℕ) → call_at s p ≡ Some (Release r) → p < length s.calls → map (read_handle (tables_without s.tables r)) s.handles ≡ map (read_handle s.tables) s.handles → map (read_call (tables_without s.tables r)) s.calls ≡ map (read_call s.tables) s.calls → users (reading (released s p r)) c + cond (c == (record_at s.tables r).block) 1 0 ≡ users (reading s) c
+users-released : (s : State) (p r c : ℕ) → call_at s p ≡ Some (Release r) → p < length s.calls
+    → map (read_handle (tables_without s.tables r)) s.handles ≡ map (read_handle s.tables) s.handles
+    → map (read_call (tables_without s.tables r)) s.calls ≡ map (read_call s.tables) s.calls
+    → users (reading (released s p r)) c + cond (c == (record_at s.tables r).block) 1 0 ≡ users (reading s) c
 unfolding users
 users-released s p r c at l hs cs =
-    let n = rw (get_or-read (read_call s.tables) s.calls p None, at) at (count-set (drops c) (map (read_call s.tables) s.calls) p None None (rw length-map l)) in
+    let n = rw (get_or-read (read_call s.tables) s.calls p None, at) at
+    (count-set (drops c) (map (read_call s.tables) s.calls) p None None (rw length-map l)) in
     rw (hs, map-set (read_call (tables_without s.tables r)) s.calls p None, cs) (omega (arith, n))
 
-holders-released : (s : State) (p r c : ℕ) → call_at s p ≡ Some (Release r) → p < length s.calls → map (read_handle (tables_without s.tables r)) s.handles ≡ map (read_handle s.tables) s.handles → map (read_call (tables_without s.tables r)) s.calls ≡ map (read_call s.tables) s.calls → c ≢ (record_at s.tables r).block → holders (reading (released s p r)) c ≡ holders (reading s) c
+holders-released : (s : State) (p r c : ℕ) → call_at s p ≡ Some (Release r) → p < length s.calls
+    → map (read_handle (tables_without s.tables r)) s.handles ≡ map (read_handle s.tables) s.handles
+    → map (read_call (tables_without s.tables r)) s.calls ≡ map (read_call s.tables) s.calls → c ≢ (record_at s.tables r).block
+    → holders (reading (released s p r)) c ≡ holders (reading s) c
 unfolding holders
 holders-released s p r c at l hs cs ne =
-    let n = rw (get_or-read (read_call s.tables) s.calls p None, at) at (count-set (still_holds c) (map (read_call s.tables) s.calls) p None None (rw length-map l)) in
+    let n = rw (get_or-read (read_call s.tables) s.calls p None, at) at
+    (count-set (still_holds c) (map (read_call s.tables) s.calls) p None None (rw length-map l)) in
     let m = rw (still-other (record_at s.tables r).block c (has_let_go s.tables r) ne) at n in
     rw (hs, map-set (read_call (tables_without s.tables r)) s.calls p None, cs) (omega (arith, m))
 
 -- no other call counts on the record, or drops the block
-other-drops : (s : State) (p r i b : ℕ) → call_at s p ≡ Some (Release r) → (record_at s.tables r).block ≡ b → tally (drops_by s b) s.calls ≡ 1 → i ≢ p → i < length s.calls → drops_by s b (call_at s i) ≡ true → ⊥
+other-drops : (s : State) (p r i b : ℕ) → call_at s p ≡ Some (Release r) → (record_at s.tables r).block ≡ b → tally (drops_by s b) s.calls ≡ 1
+    → i ≢ p → i < length s.calls → drops_by s b (call_at s i) ≡ true → ⊥
 other-drops s p r i b at eb one ne l t =
     let two = count-two (drops_by s b) s.calls i p None ne l (at-some s.calls p (Release r) at) t (rw at (is-eqb b (record_at s.tables r).block (sym eb))) in
     omega (arith, two, one)
 
-other-names : (s : State) (r i : ℕ) (c : Option Pending) → call_at s i ≡ c → i < length s.calls → hidden s.calls r ≡ 0 → (drops_by s (record_at s.tables r).block c ≡ true → ⊥) → names r c ≡ true → ⊥
+other-names : (s : State) (r i : ℕ) (c : Option Pending) → call_at s i ≡ c → i < length s.calls → hidden s.calls r ≡ 0
+    → (drops_by s (record_at s.tables r).block c ≡ true → ⊥) → names r c ≡ true → ⊥
 other-names s r i None at l hid never t = cc
 other-names s r i (Some (Loaded part w)) at l hid never t = cc
 other-names s r i (Some (Ready part w q)) at l hid never t =
@@ -106,7 +121,9 @@ other-names s r i (Some (Release q)) at l hid never t =
     let e : q ≡ r = grind (arith, nat_tests, t) in
     never (is-eqb (record_at s.tables r).block (record_at s.tables q).block (ap (λ (n : ℕ). (record_at s.tables n).block) (sym e)))
 
-other-block : (s : State) (r q : ℕ) → IsSound s → (record_at s.tables r).live ≡ true → hidden s.calls r ≡ 0 → tally (held_by s (record_at s.tables r).block) s.handles ≡ 0 → (record_at s.tables q).live ≡ true → q ≢ r → (record_at s.tables q).block ≢ (record_at s.tables r).block
+other-block : (s : State) (r q : ℕ) → IsSound s → (record_at s.tables r).live ≡ true → hidden s.calls r ≡ 0
+    → tally (held_by s (record_at s.tables r).block) s.handles ≡ 0 → (record_at s.tables q).live ≡ true → q ≢ r
+    → (record_at s.tables q).block ≢ (record_at s.tables r).block
 other-block s r q k lr hr none lq ne e =
     elim (eqb_tells (hidden s.calls q) 0) [
       | inl z ↦ ne (k.one_record q r lq lr z.1 hr e)
@@ -129,7 +146,8 @@ sound-released s p r k at =
     let e = dead-keeps g r in
     let hs = handles-kept g g' s.calls s.handles e k.fit in
     let cs = calls-read-kept s g' s.calls e (λ i d l q j t. dead-let_go g r q) k.calls_fit in
-    let hid : (q : ℕ) → hidden (set s.calls p None) q ≡ hidden s.calls q = λ q. let c = rw at at (count-set (readies q) s.calls p None None l) in omega (arith, c) in
+    let hid : (q : ℕ) → hidden (set s.calls p None) q ≡ hidden s.calls q = λ q. let c =
+    rw at at (count-set (readies q) s.calls p None None l) in omega (arith, c) in
     let um : (c : ℕ) → users (reading next) c + cond (c == b) 1 0 ≡ users (reading s) c = λ c. users-released s p r c at l hs cs in
     let hm : (c : ℕ) → c ≢ b → holders (reading next) c ≡ holders (reading s) c = λ c ne. holders-released s p r c at l hs cs ne in
     let am : (c : ℕ) → tally (alone g' c) s.handles ≡ tally (alone g c) s.handles = λ c. alone-kept g g' s.calls c s.handles e k.fit in
@@ -137,16 +155,25 @@ sound-released s p r k at =
     let none : users (reading next) b ≡ 0 = (let z = rw (is-eqb b b refl, last.users) at (um b) in omega (arith, z)) in
     let size = k.size in
     record {
-      size = record { wide = size.wide; ceiling = size.ceiling; few_blocks = size.few_blocks; few_records = rw length-set size.few_records; few_handles = size.few_handles; few_calls = rw length-set size.few_calls };
+      size = record {
+        wide = size.wide;
+        ceiling = size.ceiling;
+        few_blocks = size.few_blocks;
+        few_records = rw length-set size.few_records;
+        few_handles = size.few_handles;
+        few_calls = rw length-set size.few_calls;
+      };
       blocks = (let q = k.blocks in record { places = q.places; apart = q.apart });
-      fit = All-from_get_or (Fits g' (set s.calls p None)) s.handles None (λ i li. fit-released s p r (get_or s.handles i None) hid last.none i refl (k.fit i None li));
+      fit = All-from_get_or (Fits g' (set s.calls p None)) s.handles None
+          (λ i li. fit-released s p r (get_or s.handles i None) hid last.none i refl (k.fit i None li));
       calls_fit = All-from_get_or (FitsCall next) (set s.calls p None) None (λ i li.
           let lo : i < length s.calls = (let z = rw length-set at li in z) in
           elim (eqb_tells i p) [
             | inl z ↦ rw (z.1, get_or-set_same s.calls p None None l) tt
             | inr z ↦ rw (get_or-set_other s.calls p i None None z.1) (call-kept s next (call_at s i) (record {
               tables = e;
-              live = λ q n t. dead-other g r q (λ y. other-names s r i (call_at s i) refl lo f.shown (other-drops s p r i b at refl last.one z.1 lo) (rw y at n)) ∙ t;
+              live = λ q n t. dead-other g r q
+                  (λ y. other-names s r i (call_at s i) refl lo f.shown (other-drops s p r i b at refl last.one z.1 lo) (rw y at n)) ∙ t;
               hidden = λ q _ _. hid q;
               handle = λ j x y a. a;
               owner = λ j x a. owner-kept g g' s.calls x e (fits-at s j x k a);
@@ -154,7 +181,8 @@ sound-released s p r k at =
               holders = λ q y. hm (record_at g q).block (λ j. other-drops s p r i b at refl last.one z.1 lo (rw y (is-eqb b (record_at g q).block (sym j))));
             }) (k.calls_fit i None lo))
           ]);
-      one_release = λ c. let n = count-set (releases g' c) s.calls p None None l in let m = releases-kept s g' c s.calls e k.calls_fit in omega (arith, n, m, k.one_release c);
+      one_release = λ c. let n = count-set (releases g' c) s.calls p None None l in let m =
+          releases-kept s g' c s.calls e k.calls_fit in omega (arith, n, m, k.one_release c);
       counted = λ q t.
           let d = dead-live g r q inside t in
           let cq = k.counted q d.0 in
@@ -168,15 +196,19 @@ sound-released s p r k at =
             used = rw (dead-block g r q) (omega (arith, same, cq.used));
             undescribed = λ z. rw (dead-block g r q, dm) (cq.undescribed (sym (hid q) ∙ z));
           };
-      one_record = λ q q' tq tq' hq hq' i. k.one_record q q' (dead-live g r q inside tq).0 (dead-live g r q' inside tq').0 (sym (hid q) ∙ hq) (sym (hid q') ∙ hq') (sym (dead-block g r q) ∙ i ∙ dead-block g r q');
-      sole = λ c t. let u = rw am at t in hm c (λ i. absurd (let w = rw i at u in omega (arith, w, count-most (held_by s b) (alone g b) s.handles (alone-holds g b), last.none))) ∙ k.sole c u;
+      one_record = λ q q' tq tq' hq hq' i. k.one_record q q' (dead-live g r q inside tq).0 (dead-live g r q' inside tq').0 (sym (hid q) ∙ hq)
+          (sym (hid q') ∙ hq') (sym (dead-block g r q) ∙ i ∙ dead-block g r q');
+      sole = λ c t. let u = rw am at t in
+          hm c (λ i. absurd (let w = rw i at u in omega (arith, w, count-most (held_by s b) (alone g b) s.handles (alone-holds g b), last.none))) ∙ k.sole c u;
       capped = λ c. elim (eqb_tells c b) [
         | inl i ↦ rw i.1 (omega (arith, holders-le-users (reading next) b, none))
         | inr i ↦ rw (hm c i.1) (k.capped c)
       ];
       known_users = λ c t. k.known_users c (omega (arith, um c));
-      block_log = block-log-freed g s.freed_blocks b (users (reading s)) (users (reading next)) k.blocks me.known me.used none (λ c ne. let z = rw (not-eqb c b ne) at (um c) in ap (λ m. nat_eq m 0) (omega (arith, z))) k.block_log;
-      record_log = record-log-dead g.records s.freed_records r (record { count = (record_at g r).count; block = (record_at g r).block; live = false }) inside refl f.live k.record_log;
+      block_log = block-log-freed g s.freed_blocks b (users (reading s)) (users (reading next)) k.blocks me.known me.used none
+          (λ c ne. let z = rw (not-eqb c b ne) at (um c) in ap (λ m. nat_eq m 0) (omega (arith, z))) k.block_log;
+      record_log = record-log-dead g.records s.freed_records r
+          (record { count = (record_at g r).count; block = (record_at g r).block; live = false }) inside refl f.live k.record_log;
     }
 
 -- a drop that releases has a live record

@@ -25,7 +25,13 @@ loaded-fits s k x w i sh xw =
       view = x;
       shares = sh;
       block = d.block;
-      promised = record { log = d.log; tail = d.tail; says = subst (λ (y : Handle). IsDescribed s.tables y w d.block d.log d.tail) (sym e) d.says; owner = d.says.owner; now' = inl xw };
+      promised = record {
+        log = d.log;
+        tail = d.tail;
+        says = subst (λ (y : Handle). IsDescribed s.tables y w d.block d.log d.tail) (sym e) d.says;
+        owner = d.says.owner;
+        now' = inl xw;
+      };
     }
 
 pub racing : (s : State) (p : ℕ) (k : Share) (w r : ℕ) → IsSound s → call_at s p ≡ Some (Ready k w r) → IsRacing s k w r
@@ -35,7 +41,9 @@ pub adding : (s : State) (p : ℕ) (k : Share) (r : ℕ) → IsSound s → call_
 adding s p k r i at = subst (λ (c : Option Pending). FitsCall s c) at (i.calls_fit p None (at-some s.calls p (Add k r) at))
 
 -- a finished addition
-pub sound-added-call : (s : State) (p r : ℕ) (k : Share) (x : Handle) → IsSound s → call_at s p ≡ Some (Add k r) → handle_at s k.handle ≡ Some x → (record_at s.tables r).count ≤ s.ceiling → length s.handles < 2 ^ 32 → IsSound (with_handle (called (with_count s r ((record_at s.tables r).count + 1)) p None) (part x k.lo k.hi (Counted r)))
+pub sound-added-call : (s : State) (p r : ℕ) (k : Share) (x : Handle) → IsSound s → call_at s p ≡ Some (Add k r) → handle_at s k.handle ≡ Some x
+    → (record_at s.tables r).count ≤ s.ceiling → length s.handles < 2 ^ 32
+    → IsSound (with_handle (called (with_count s r ((record_at s.tables r).count + 1)) p None) (part x k.lo k.hi (Counted r)))
 sound-added-call s p r k x i at h low few =
     let a = adding s p k r i at in
     let yx : a.view ≡ x = some-same a.view x (sym a.shares.at ∙ h) in
@@ -46,6 +54,10 @@ sound-added-call s p r k x i at h low few =
     let order = sh.order in
     let within = sh.within in
     let y : Handle = part x k.lo k.hi (Counted r) in
-    let one = sound-added s k.handle r x y i h sh.view xw refl refl (record { begins = omega (arith, lies.begins); ends = omega (arith, lies.ends, order, within); no_room = refl }) low few in
+    let one = sound-added s k.handle r x y i h sh.view xw refl refl (record {
+      begins = omega (arith, lies.begins);
+      ends = omega (arith, lies.ends, order, within);
+      no_room = refl;
+    }) low few in
     let s1 : State = with_handle (with_count s r ((record_at s.tables r).count + 1)) (part x k.lo k.hi (Counted r)) in
     sound-called s1 p None one (at-some s.calls p (Add k r) at) (subst (λ (c : Option Pending). IsQuiet s1 c) (sym at) (quiet-add s1 k r)) (quiet-none s1) tt

@@ -30,7 +30,8 @@ abbrev pub subtracted : State → ℕ → ℕ → State
 subtracted s p r = called (with_count s r ((record_at s.tables r).count - 1)) p (afterwards r (record_at s.tables r).count)
 
 -- no call releases a block that another drop holds
-none-release : (s : State) (p r i : ℕ) (c : Option Pending) → IsSound s → call_at s p ≡ Some (Subtract r) → i < length s.calls → call_at s i ≡ c → FitsCall s c → releases s.tables (record_at s.tables r).block c ≡ true → ⊥
+none-release : (s : State) (p r i : ℕ) (c : Option Pending) → IsSound s → call_at s p ≡ Some (Subtract r) → i < length s.calls → call_at s i ≡ c
+    → FitsCall s c → releases s.tables (record_at s.tables r).block c ≡ true → ⊥
 none-release s p r i None k at l e f t = cc
 none-release s p r i (Some (Loaded part w)) k at l e f t = cc
 none-release s p r i (Some (Ready part w q)) k at l e f t = cc
@@ -46,7 +47,8 @@ none-release s p r i (Some (Release q)) k at l e f t =
     let by : (w : Bool) → has_let_go s.tables q ≡ w → ⊥ = λ w. elim w as (λ w. has_let_go s.tables q ≡ w → ⊥) [
       | true ↦ λ z. (let m = rw z at n in omega (arith, m, h, one))
       | false ↦ λ z. (let m = rw z at n in
-          let two = count-two (still_by s b) s.calls p i None (λ j. let q = sym at ∙ ap (λ (n : ℕ). call_at s n) j ∙ e in cc) lp l (rw at (is-eqb b b refl)) (rw (e, z) (is-eqb b (record_at s.tables q).block same)) in
+          let two = count-two (still_by s b) s.calls p i None (λ j. let q = sym at ∙ ap (λ (n : ℕ). call_at s n) j ∙ e in cc) lp l
+          (rw at (is-eqb b b refl)) (rw (e, z) (is-eqb b (record_at s.tables q).block same)) in
           omega (arith, m, h, two))
     ] in
     by (has_let_go s.tables q) refl
@@ -54,11 +56,15 @@ none-release s p r i (Some (Release q)) k at l e f t =
 -- so another count for that block's record leaves each call that frees a record as it was
 pub counted-drops : (s : State) (p r n : ℕ) → IsSound s → call_at s p ≡ Some (Subtract r) → All (KeepsLetGo s.tables (counted s.tables r n)) s.calls
 counted-drops s p r n k at =
-    All-from_get_or (KeepsLetGo s.tables (counted s.tables r n)) s.calls None (λ i l q e live. ap (λ (m : ℕ). nat_eq m 0) (counted-other s.tables r n q (λ same. none-release s p r i (call_at s i) k at l refl (k.calls_fit i None l) (rw e (is-eqb (record_at s.tables r).block (record_at s.tables q).block (ap (λ (m : ℕ). (record_at s.tables m).block) (sym same)))))))
+    All-from_get_or (KeepsLetGo s.tables (counted s.tables r n)) s.calls None
+    (λ i l q e live. ap (λ (m : ℕ). nat_eq m 0)
+    (counted-other s.tables r n q (λ same. none-release s p r i (call_at s i) k at l refl (k.calls_fit i None l)
+    (rw e (is-eqb (record_at s.tables r).block (record_at s.tables q).block (ap (λ (m : ℕ). (record_at s.tables m).block) (sym same)))))))
 
 -- it is the last holder's drop that goes on, and its record counts none then
 pub gone-after : (g : Tables) (r : ℕ) → r < length g.records → (record_at g r).count ≡ 1 → has_let_go (counted g r ((record_at g r).count - 1)) r ≡ true
-gone-after g r inside one = is-eqb (record_at (counted g r ((record_at g r).count - 1)) r).count 0 (counted-same g r ((record_at g r).count - 1) inside ∙ omega (arith, one))
+gone-after g r inside one = is-eqb (record_at (counted g r ((record_at g r).count - 1)) r).count 0
+    (counted-same g r ((record_at g r).count - 1) inside ∙ omega (arith, one))
 
 after-still : (g : Tables) (b r n : ℕ) → (n ≡ 1 → has_let_go g r ≡ true) → still_holds b (read_call g (afterwards r n)) ≡ false
 after-still g b r n gone = elim (eqb_tells n 1) [ inl i ↦ rw (i.0, gone i.1) refl | inr i ↦ rw i.0 refl ]
@@ -67,14 +73,18 @@ after-readies : (q r n : ℕ) → readies q (afterwards r n) ≡ false
 after-readies q r n = elim (n == 1) as (λ v. readies q (cond v (Some (Release r)) None) ≡ false) [ true ↦ refl | false ↦ refl ]
 
 after-drops : (g : Tables) (b r n : ℕ) → (record_at g r).block ≢ b → drops b (read_call g (afterwards r n)) ≡ false
-after-drops g b r n ne = elim (n == 1) as (λ v. drops b (read_call g (cond v (Some (Release r)) None)) ≡ false) [ true ↦ not-eqb b (record_at g r).block (λ e. ne (sym e)) | false ↦ refl ]
+after-drops g b r n ne = elim (n == 1) as (λ v. drops b (read_call g (cond v (Some (Release r)) None)) ≡ false)
+    [ true ↦ not-eqb b (record_at g r).block (λ e. ne (sym e)) | false ↦ refl ]
 
 record After (s t : State) (b : ℕ) : Type 0 where
   pub holders : (c : ℕ) → holders (reading t) c + cond (c == b) 1 0 ≡ holders (reading s) c
   pub others : (c : ℕ) → c ≢ b → users (reading t) c ≡ users (reading s) c
   pub least : users (reading s) b ≤ users (reading t) b + 1
 
-after : (s : State) (p r : ℕ) → call_at s p ≡ Some (Subtract r) → p < length s.calls → r < length s.tables.records → map (read_handle (counted s.tables r ((record_at s.tables r).count - 1))) s.handles ≡ map (read_handle s.tables) s.handles → map (read_call (counted s.tables r ((record_at s.tables r).count - 1))) s.calls ≡ map (read_call s.tables) s.calls → After s (subtracted s p r) (record_at s.tables r).block
+after : (s : State) (p r : ℕ) → call_at s p ≡ Some (Subtract r) → p < length s.calls → r < length s.tables.records
+    → map (read_handle (counted s.tables r ((record_at s.tables r).count - 1))) s.handles ≡ map (read_handle s.tables) s.handles
+    → map (read_call (counted s.tables r ((record_at s.tables r).count - 1))) s.calls ≡ map (read_call s.tables) s.calls
+    → After s (subtracted s p r) (record_at s.tables r).block
 unfolding holders users
 after s p r at l inside hs cs =
     let n : ℕ = (record_at s.tables r).count in
@@ -83,14 +93,18 @@ after s p r at l inside hs cs =
     let bb = counted-block s.tables r (n - 1) r in
     let a : Option Unfinished = read_call g' (afterwards r n) in
     let ms = map-set (read_call g') s.calls p (afterwards r n) in
-    let h : (c : ℕ) → tally (still_holds c) (set (map (read_call s.tables) s.calls) p a) + cond (c == b) 1 0 ≡ tally (still_holds c) (map (read_call s.tables) s.calls) = λ c.
+    let h : (c : ℕ) → tally (still_holds c) (set (map (read_call s.tables) s.calls) p a) + cond (c == b) 1 0
+    ≡ tally (still_holds c) (map (read_call s.tables) s.calls) = λ c.
     let m = count-set (still_holds c) (map (read_call s.tables) s.calls) p a None (rw length-map l) in
-    let mx : ◌≡◌ {A = ℕ} (cond (still_holds c (get_or (map (read_call s.tables) s.calls) p None)) 1 0) (cond (c == b) 1 0) = rw (get_or-read (read_call s.tables) s.calls p None, at) refl in
+    let mx : ◌≡◌ {A = ℕ} (cond (still_holds c (get_or (map (read_call s.tables) s.calls) p None)) 1 0) (cond (c == b) 1 0) =
+    rw (get_or-read (read_call s.tables) s.calls p None, at) refl in
     let my : ◌≡◌ {A = ℕ} (cond (still_holds c a) 1 0) 0 = rw (after-still g' c r n (gone-after s.tables r inside)) refl in
     omega (arith, m, mx, my) in
-    let dr : (c : ℕ) → tally (drops c) (set (map (read_call s.tables) s.calls) p a) + cond (c == b) 1 0 ≡ tally (drops c) (map (read_call s.tables) s.calls) + cond (drops c a) 1 0 = λ c.
+    let dr : (c : ℕ) → tally (drops c) (set (map (read_call s.tables) s.calls) p a) + cond (c == b) 1 0
+    ≡ tally (drops c) (map (read_call s.tables) s.calls) + cond (drops c a) 1 0 = λ c.
     let m = count-set (drops c) (map (read_call s.tables) s.calls) p a None (rw length-map l) in
-    let mx : ◌≡◌ {A = ℕ} (cond (drops c (get_or (map (read_call s.tables) s.calls) p None)) 1 0) (cond (c == b) 1 0) = rw (get_or-read (read_call s.tables) s.calls p None, at) refl in
+    let mx : ◌≡◌ {A = ℕ} (cond (drops c (get_or (map (read_call s.tables) s.calls) p None)) 1 0) (cond (c == b) 1 0) =
+    rw (get_or-read (read_call s.tables) s.calls p None, at) refl in
     omega (arith, m, mx) in
     record {
       holders = λ c. rw (ms, hs, cs) (omega (arith, h c));
@@ -106,36 +120,55 @@ at-most true = omega arith
 at-most false = omega arith
 
 after-releases : (g : Tables) (b r n : ℕ) → (record_at g r).block ≢ b → releases g b (afterwards r n) ≡ false
-after-releases g b r n ne = elim (n == 1) as (λ v. releases g b (cond v (Some (Release r)) None) ≡ false) [ true ↦ not-eqb b (record_at g r).block (λ e. ne (sym e)) | false ↦ refl ]
+after-releases g b r n ne = elim (n == 1) as (λ v. releases g b (cond v (Some (Release r)) None) ≡ false)
+    [ true ↦ not-eqb b (record_at g r).block (λ e. ne (sym e)) | false ↦ refl ]
 
-used-after : (s : State) (p r n : ℕ) → n ≡ (record_at s.tables r).count → p < length s.calls → users (reading s) (record_at s.tables r).block ≤ users (reading (subtracted s p r)) (record_at s.tables r).block + 1 → n ≡ holders (reading s) (record_at s.tables r).block → holders (reading s) (record_at s.tables r).block ≤ users (reading s) (record_at s.tables r).block → 0 < n → 0 < users (reading (subtracted s p r)) (record_at s.tables r).block
+used-after : (s : State) (p r n : ℕ) → n ≡ (record_at s.tables r).count → p < length s.calls
+    → users (reading s) (record_at s.tables r).block ≤ users (reading (subtracted s p r)) (record_at s.tables r).block + 1
+    → n ≡ holders (reading s) (record_at s.tables r).block
+    → holders (reading s) (record_at s.tables r).block ≤ users (reading s) (record_at s.tables r).block → 0 < n
+    → 0 < users (reading (subtracted s p r)) (record_at s.tables r).block
 used-after s p r n en lp least is le pos =
     let b : ℕ = (record_at s.tables r).block in
     let t : State = subtracted s p r in
     elim (eqb_tells (record_at s.tables r).count 1) [
       | inl i ↦ (let u = users-as t b in
-          let here = count-some (drops_by t b) t.calls p None (rw length-set lp) (rw (get_or-set_same s.calls p (afterwards r (record_at s.tables r).count) None lp, i.0) (is-eqb b (record_at t.tables r).block (sym (counted-block s.tables r ((record_at s.tables r).count - 1) r)))) in
+          let here = count-some (drops_by t b) t.calls p None (rw length-set lp)
+          (rw (get_or-set_same s.calls p (afterwards r (record_at s.tables r).count) None lp, i.0)
+          (is-eqb b (record_at t.tables r).block (sym (counted-block s.tables r ((record_at s.tables r).count - 1) r)))) in
           omega (arith, u, here))
       | inr i ↦ (let ne = i.1 in omega arith)
     ]
 
-fits-after : (s : State) (p r : ℕ) → IsSound s → (record_at s.tables r).live ≡ true → hidden s.calls r ≡ 0 → ((q : ℕ) → hidden (set s.calls p (afterwards r (record_at s.tables r).count)) q ≡ hidden s.calls q) → holders (reading (subtracted s p r)) (record_at s.tables r).block + 1 ≡ holders (reading s) (record_at s.tables r).block → (record_at s.tables r).count ≡ holders (reading s) (record_at s.tables r).block → FitsCall (subtracted s p r) (afterwards r (record_at s.tables r).count)
+fits-after : (s : State) (p r : ℕ) → IsSound s → (record_at s.tables r).live ≡ true → hidden s.calls r ≡ 0
+    → ((q : ℕ) → hidden (set s.calls p (afterwards r (record_at s.tables r).count)) q ≡ hidden s.calls q)
+    → holders (reading (subtracted s p r)) (record_at s.tables r).block + 1 ≡ holders (reading s) (record_at s.tables r).block
+    → (record_at s.tables r).count ≡ holders (reading s) (record_at s.tables r).block → FitsCall (subtracted s p r) (afterwards r (record_at s.tables r).count)
 fits-after s p r k live z hid fewer is =
     let m : ℕ = (record_at s.tables r).count - 1 in
     elim (eqb_tells (record_at s.tables r).count 1) [
       | inl i ↦ subst (λ (v : Bool). FitsCall (subtracted s p r) (cond v (Some (Release r)) None)) (sym i.0)
-          (record { live = counted-live s.tables r m r ∙ live; shown = hid r ∙ z; alone = rw (gone-after s.tables r (live-inside s.tables.records r live) i.1) (ap (λ c. holders (reading (subtracted s p r)) c) (counted-block s.tables r m r) ∙ (let one = i.1 in omega arith)) })
+          (record {
+            live = counted-live s.tables r m r ∙ live;
+            shown = hid r ∙ z;
+            alone = rw (gone-after s.tables r (live-inside s.tables.records r live) i.1)
+                (ap (λ c. holders (reading (subtracted s p r)) c) (counted-block s.tables r m r) ∙ (let one = i.1 in omega arith));
+          })
       | inr i ↦ subst (λ (v : Bool). FitsCall (subtracted s p r) (cond v (Some (Release r)) None)) (sym i.0) tt
     ]
 
-one-after : (s : State) (p r c : ℕ) → p < length s.calls → tally (releases (counted s.tables r ((record_at s.tables r).count - 1)) c) s.calls ≡ tally (releases s.tables c) s.calls → tally (releases s.tables c) s.calls ≤ 1 → tally (releases s.tables (record_at s.tables r).block) s.calls ≡ 0 → call_at s p ≡ Some (Subtract r) → tally (releases (counted s.tables r ((record_at s.tables r).count - 1)) c) (set s.calls p (afterwards r (record_at s.tables r).count)) ≤ 1
+one-after : (s : State) (p r c : ℕ) → p < length s.calls
+    → tally (releases (counted s.tables r ((record_at s.tables r).count - 1)) c) s.calls ≡ tally (releases s.tables c) s.calls
+    → tally (releases s.tables c) s.calls ≤ 1 → tally (releases s.tables (record_at s.tables r).block) s.calls ≡ 0 → call_at s p ≡ Some (Subtract r)
+    → tally (releases (counted s.tables r ((record_at s.tables r).count - 1)) c) (set s.calls p (afterwards r (record_at s.tables r).count)) ≤ 1
 one-after s p r c lp kept old none at =
     let m : ℕ = (record_at s.tables r).count - 1 in
     let n = count-set (releases (counted s.tables r m) c) s.calls p (afterwards r (record_at s.tables r).count) None lp in
     let few = at-most (releases (counted s.tables r m) c (afterwards r (record_at s.tables r).count)) in
     elim (eqb_tells c (record_at s.tables r).block) [
       | inl i ↦ (let z = rw (← i.1) at none in omega (arith, n, kept, few, z))
-      | inr i ↦ (let z : ◌≡◌ {A = ℕ} (cond (releases (counted s.tables r m) c (afterwards r (record_at s.tables r).count)) 1 0) 0 = rw (after-releases (counted s.tables r m) c r (record_at s.tables r).count (λ e. i.1 (sym e ∙ counted-block s.tables r m r))) refl in
+      | inr i ↦ (let z : ◌≡◌ {A = ℕ} (cond (releases (counted s.tables r m) c (afterwards r (record_at s.tables r).count)) 1 0) 0 =
+          rw (after-releases (counted s.tables r m) c r (record_at s.tables r).count (λ e. i.1 (sym e ∙ counted-block s.tables r m r))) refl in
           omega (arith, n, kept, old, z))
     ]
 
@@ -162,11 +195,13 @@ sound-subtracted s p r k at =
     let some : 0 < users (reading next) b = used-after s p r n refl lp m.least is (holders-le-users (reading s) b) (omega (arith, h, one, is)) in
     let none : tally (releases g b) s.calls ≡ 0 = elim (eqb_tells (tally (releases g b) s.calls) 0) [
       | inl i ↦ i.1
-      | inr i ↦ absurd (let w = count-find (releases g b) None s.calls (let m = i.1 in omega arith) in none-release s p r w.place (call_at s w.place) k at w.inside refl (k.calls_fit w.place None w.inside) w.passes)
+      | inr i ↦ absurd (let w = count-find (releases g b) None s.calls (let m = i.1 in omega arith) in
+          none-release s p r w.place (call_at s w.place) k at w.inside refl (k.calls_fit w.place None w.inside) w.passes)
     ] in
     let lonely : tally (alone g b) s.handles ≡ 0 = elim (eqb_tells (tally (alone g b) s.handles) 0) [
       | inl i ↦ i.1
-      | inr i ↦ absurd (let q = k.sole b (let m = i.1 in omega arith) in let t = count-most (held_by s b) (alone g b) s.handles (alone-holds g b) in let m = i.1 in omega (arith, q, t, h, one))
+      | inr i ↦ absurd (let q = k.sole b (let m = i.1 in omega arith) in let t =
+          count-most (held_by s b) (alone g b) s.handles (alone-holds g b) in let m = i.1 in omega (arith, q, t, h, one))
     ] in
     let hid : (q : ℕ) → hidden (set s.calls p y) q ≡ hidden s.calls q = λ q.
     let t = count-set (readies q) s.calls p y None lp in
@@ -177,9 +212,17 @@ sound-subtracted s p r k at =
     let fewer : holders (reading next) b + 1 ≡ holders (reading s) b = (let t = rw (is-eqb b b refl) at (hm b) in omega (arith, t)) in
     let size = k.size in
     record {
-      size = record { wide = size.wide; ceiling = size.ceiling; few_blocks = size.few_blocks; few_records = rw length-set size.few_records; few_handles = size.few_handles; few_calls = rw length-set size.few_calls };
+      size = record {
+        wide = size.wide;
+        ceiling = size.ceiling;
+        few_blocks = size.few_blocks;
+        few_records = rw length-set size.few_records;
+        few_handles = size.few_handles;
+        few_calls = rw length-set size.few_calls;
+      };
       blocks = (let q = k.blocks in record { places = q.places; apart = q.apart });
-      fit = All-from_get_or (Fits g' (set s.calls p y)) s.handles None (λ i li. fit-counted s r (n - 1) (set s.calls p y) (λ q. omega (arith, hid q)) (get_or s.handles i None) (k.fit i None li));
+      fit = All-from_get_or (Fits g' (set s.calls p y)) s.handles None
+          (λ i li. fit-counted s r (n - 1) (set s.calls p y) (λ q. omega (arith, hid q)) (get_or s.handles i None) (k.fit i None li));
       calls_fit = All-from_get_or (FitsCall next) (set s.calls p y) None (λ i li.
           let lo : i < length s.calls = (let z = rw length-set at li in z) in
           elim (eqb_tells i p) [
@@ -191,7 +234,8 @@ sound-subtracted s p r k at =
               handle = λ j x b a. a;
               owner = λ j x a. owner-kept g g' s.calls x e (fits-at s j x k a);
               let_go = gone i None lo;
-              holders = λ q j. same (record_at g q).block (λ w. none-release s p r i (call_at s i) k at lo refl (k.calls_fit i None lo) (rw j (is-eqb b (record_at g q).block (sym w))));
+              holders = λ q j. same (record_at g q).block
+                  (λ w. none-release s p r i (call_at s i) k at lo refl (k.calls_fit i None lo) (rw j (is-eqb b (record_at g q).block (sym w))));
             }) (k.calls_fit i None lo))
           ]);
       one_release = λ c. one-after s p r c lp (releases-kept s g' c s.calls e k.calls_fit) (k.one_release c) none at;
@@ -202,22 +246,30 @@ sound-subtracted s p r k at =
             known = rw (counted-block g r (n - 1) q) cq.known;
             one_maker = rw (hid q) cq.one_maker;
             counts = λ z. elim (eqb_tells q r) [
-              | inl i ↦ rw (i.1, counted-same g r (n - 1) (live-inside g.records r f.0)) (omega (arith, is, fewer) ∙ ap (λ c. holders (reading next) c) (sym (counted-block g r (n - 1) r)))
-              | inr i ↦ counted-other g r (n - 1) q i.1 ∙ cq.counts (sym (hid q) ∙ z) ∙ sym (same (record_at g q).block (λ j. i.1 (k.one_record q r lq f.0 (sym (hid q) ∙ z) f.1 j))) ∙ ap (λ c. holders (reading next) c) (sym (counted-block g r (n - 1) q))
+              | inl i ↦ rw (i.1, counted-same g r (n - 1) (live-inside g.records r f.0))
+                  (omega (arith, is, fewer) ∙ ap (λ c. holders (reading next) c) (sym (counted-block g r (n - 1) r)))
+              | inr i ↦ counted-other g r (n - 1) q i.1 ∙ cq.counts (sym (hid q) ∙ z)
+                  ∙ sym (same (record_at g q).block (λ j. i.1 (k.one_record q r lq f.0 (sym (hid q) ∙ z) f.1 j)))
+                  ∙ ap (λ c. holders (reading next) c) (sym (counted-block g r (n - 1) q))
             ];
             fresh = λ z. counted-other g r (n - 1) q (λ i. absurd (let u = rw i at (sym (hid q) ∙ z) in omega (arith, u, f.1))) ∙ cq.fresh (sym (hid q) ∙ z);
-            used = subst (λ c. 0 < users (reading next) c) (sym (counted-block g r (n - 1) q)) (elim (eqb_tells (record_at g q).block b) [ inl i ↦ rw i.1 some | inr i ↦ rw (m.others (record_at g q).block i.1) cq.used ]);
-            undescribed = λ z. subst (λ c. tally (describes g' c) s.handles ≡ 0) (sym (counted-block g r (n - 1) q)) (describes-kept g g' s.calls (record_at g q).block s.handles e k.fit ∙ cq.undescribed (sym (hid q) ∙ z));
+            used = subst (λ c. 0 < users (reading next) c) (sym (counted-block g r (n - 1) q))
+                (elim (eqb_tells (record_at g q).block b) [ inl i ↦ rw i.1 some | inr i ↦ rw (m.others (record_at g q).block i.1) cq.used ]);
+            undescribed = λ z. subst (λ c. tally (describes g' c) s.handles ≡ 0) (sym (counted-block g r (n - 1) q))
+                (describes-kept g g' s.calls (record_at g q).block s.handles e k.fit ∙ cq.undescribed (sym (hid q) ∙ z));
           };
-      one_record = λ q q' a c u v i. k.one_record q q' (sym (counted-live g r (n - 1) q) ∙ a) (sym (counted-live g r (n - 1) q') ∙ c) (sym (hid q) ∙ u) (sym (hid q') ∙ v) (sym (counted-block g r (n - 1) q) ∙ i ∙ counted-block g r (n - 1) q');
-      sole = λ c t. let u = rw (alone-kept g g' s.calls c s.handles e k.fit) at t in same c (λ i. absurd (let w = rw i at u in omega (arith, w, lonely))) ∙ k.sole c u;
+      one_record = λ q q' a c u v i. k.one_record q q' (sym (counted-live g r (n - 1) q) ∙ a) (sym (counted-live g r (n - 1) q') ∙ c)
+          (sym (hid q) ∙ u) (sym (hid q') ∙ v) (sym (counted-block g r (n - 1) q) ∙ i ∙ counted-block g r (n - 1) q');
+      sole = λ c t. let u = rw (alone-kept g g' s.calls c s.handles e k.fit) at t in
+          same c (λ i. absurd (let w = rw i at u in omega (arith, w, lonely))) ∙ k.sole c u;
       capped = λ c. omega (arith, hm c, k.capped c);
       known_users = λ c t. elim (eqb_tells c b) [ inl i ↦ rw i.1 me.known | inr i ↦ k.known_users c (rw (m.others c i.1) at t) ];
       block_log = block-log-alike g.blocks s.freed_blocks (users (reading s)) (users (reading next)) (λ c t. elim (eqb_tells c b) [
         | inl i ↦ rw i.1 (sym (both-some (users (reading s) b) (users (reading next) b) me.used some))
         | inr i ↦ ap (λ n. nat_eq n 0) (m.others c i.1)
       ]) k.block_log;
-      record_log = record-log-counted g.records s.freed_records r (record { count = n - 1; block = (record_at g r).block; live = (record_at g r).live }) (live-inside g.records r f.0) refl k.record_log;
+      record_log = record-log-counted g.records s.freed_records r
+          (record { count = n - 1; block = (record_at g r).block; live = (record_at g r).live }) (live-inside g.records r f.0) refl k.record_log;
     }
 
 -- a drop that lets go finds a count that isn't 0

@@ -48,7 +48,9 @@ record IsStillPromised (s : State) (part : Share) (w b : ℕ) : Type 0 where
   pub shares : Shares s part view
   pub promised : Promised s.tables view w b
 
-share-shown : (s : State) (p h r : ℕ) (x : Handle) (b : ℕ) (part : Share) (z : ℕ) (y : Handle) (d : ℕ) → handle_at s h ≡ Some x → h < length s.handles → All (Fits s.tables s.calls) s.handles → owner_of s.tables x ≡ Some b → (record_at s.tables r).block ≡ b → Shares s part y → Promised s.tables y z d → IsStillPromised (shown s p h r x) part z d
+share-shown : (s : State) (p h r : ℕ) (x : Handle) (b : ℕ) (part : Share) (z : ℕ) (y : Handle) (d : ℕ) → handle_at s h ≡ Some x
+    → h < length s.handles → All (Fits s.tables s.calls) s.handles → owner_of s.tables x ≡ Some b → (record_at s.tables r).block ≡ b
+    → Shares s part y → Promised s.tables y z d → IsStillPromised (shown s p h r x) part z d
 share-shown s p h r x b part z y d at l fit o bl sh pr =
     let g : Tables = s.tables in
     let g' : Tables = counted s.tables r 1 in
@@ -59,10 +61,17 @@ share-shown s p h r x b part z y d at l fit o bl sh pr =
           let sh' : Shares s part x = subst (λ (y : Handle). Shares s part y) yx sh in
           let u : Handle = by_record x r in
           let v : Handle = record x { word = Descriptor z } in
-          let ov : owner_of g' v ≡ owner_of g v = owner-kept g g' s.calls v e (record { block = d; log = pr'.log; tail = pr'.tail; says = pr'.says }) in record {
+          let ov : owner_of g' v ≡ owner_of g v = owner-kept g g' s.calls v e
+          (record { block = d; log = pr'.log; tail = pr'.tail; says = pr'.says }) in record {
             view = u;
             shares = record { at = rw i.1 (get_or-set_same s.handles h (Some u) None l); view = sh'.view; order = sh'.order; within = sh'.within };
-            promised = record { log = pr'.log; tail = pr'.tail; says = described-kept g g' v z d pr'.log pr'.tail ov e pr'.says; owner = owner-counted g' u r refl ∙ ap Some (counted-block g r 1 r ∙ bl) ∙ sym o ∙ pr'.owner; now' = inr (r, refl) };
+            promised = record {
+              log = pr'.log;
+              tail = pr'.tail;
+              says = described-kept g g' v z d pr'.log pr'.tail ov e pr'.says;
+              owner = owner-counted g' u r refl ∙ ap Some (counted-block g r 1 r ∙ bl) ∙ sym o ∙ pr'.owner;
+              now' = inr (r, refl);
+            };
           })
       | inr i ↦ record {
         view = y;
@@ -76,50 +85,94 @@ shown-let_go : (g : Tables) (r : ℕ) → (record_at g r).count ≡ 2 → nat_eq
 shown-let_go g r e = rw e refl
 
 -- the call of another party, where the word of handle h has become a record
-call-shown : (s : State) (p h r i : ℕ) (x : Handle) (b : ℕ) (c : Option Pending) → handle_at s h ≡ Some x → (w : ℕ) → x.word ≡ Descriptor w → h < length s.handles → All (Fits s.tables s.calls) s.handles → owner_of s.tables x ≡ Some b → (record_at s.tables r).block ≡ b → (record_at s.tables r).count ≡ 2 → ((q : ℕ) → hidden (set s.calls p None) q ≤ hidden s.calls q) → ((q : ℕ) → holders (reading (shown s p h r x)) q ≡ holders (reading s) q) → FitsCall s c → FitsCall (shown s p h r x) c
+call-shown : (s : State) (p h r i : ℕ) (x : Handle) (b : ℕ) (c : Option Pending) → handle_at s h ≡ Some x → (w : ℕ) → x.word ≡ Descriptor w
+    → h < length s.handles → All (Fits s.tables s.calls) s.handles → owner_of s.tables x ≡ Some b → (record_at s.tables r).block ≡ b
+    → (record_at s.tables r).count ≡ 2 → ((q : ℕ) → hidden (set s.calls p None) q ≤ hidden s.calls q)
+    → ((q : ℕ) → holders (reading (shown s p h r x)) q ≡ holders (reading s) q) → FitsCall s c → FitsCall (shown s p h r x) c
 call-shown s p h r i x b None at w word l fit o bl two hid n f = tt
 call-shown s p h r i x b (Some (Loaded part z)) at w word l fit o bl two hid n f =
     let u = share-shown s p h r x b part z f.view f.block at l fit o bl f.shares f.promised in
     record { view = u.view; shares = u.shares; block = f.block; promised = u.promised }
 call-shown s p h r i x b (Some (Ready part z q)) at w word l fit o bl two hid n f =
     let u = share-shown s p h r x b part z f.view f.block at l fit o bl f.shares f.promised in
-    record { view = u.view; shares = u.shares; block = f.block; promised = u.promised; live = counted-live s.tables r 1 q ∙ f.live; same = counted-block s.tables r 1 q ∙ f.same }
+    record {
+      view = u.view;
+      shares = u.shares;
+      block = f.block;
+      promised = u.promised;
+      live = counted-live s.tables r 1 q ∙ f.live;
+      same = counted-block s.tables r 1 q ∙ f.same;
+    }
 call-shown s p h r i x b (Some (Add part q)) at w word l fit o bl two hid n f =
     elim (eqb_tells part.handle h) [
       | inl j ↦ absurd (let yx : f.view ≡ x = some-same f.view x (sym f.shares.at ∙ ap (λ n. get_or s.handles n None) j.1 ∙ at) in
           let v = ap (λ (y : Handle). y.word) yx in let yw = f.word in cc)
-      | inr j ↦ record { view = f.view; shares = shares-kept s (shown s p h r x) part f.view (λ a. get_or-set_other s.handles h part.handle (Some (by_record x r)) None j.1 ∙ a) f.shares; word = f.word }
+      | inr j ↦ record {
+        view = f.view;
+        shares = shares-kept s (shown s p h r x) part f.view (λ a. get_or-set_other s.handles h part.handle (Some (by_record x r)) None j.1 ∙ a) f.shares;
+        word = f.word;
+      }
     ]
-call-shown s p h r i x b (Some (Subtract q)) at w word l fit o bl two hid n f = (counted-live s.tables r 1 q ∙ f.0, (let z = hid q in let y = f.1 in omega arith))
+call-shown s p h r i x b (Some (Subtract q)) at w word l fit o bl two hid n f =
+    (counted-live s.tables r 1 q ∙ f.0, (let z = hid q in let y = f.1 in omega arith))
 call-shown s p h r i x b (Some (Release q)) at w word l fit o bl two hid n f =
-    record { live = counted-live s.tables r 1 q ∙ f.live; shown = (let z = hid q in let y = f.shown in omega arith); alone = rw (counted-block s.tables r 1 q, counted-let_go s.tables r 1 q (shown-let_go s.tables r two), n) f.alone }
+    record {
+      live = counted-live s.tables r 1 q ∙ f.live;
+      shown = (let z = hid q in let y = f.shown in omega arith);
+      alone = rw (counted-block s.tables r 1 q, counted-let_go s.tables r 1 q (shown-let_go s.tables r two), n) f.alone;
+    }
 
-holders-shown : (s : State) (p h r : ℕ) (x : Handle) (part : Share) (w b c : ℕ) → handle_at s h ≡ Some x → h < length s.handles → call_at s p ≡ Some (Ready part w r) → p < length s.calls → owner_of s.tables x ≡ Some b → owner_of (counted s.tables r 1) (by_record x r) ≡ Some b → map (read_handle (counted s.tables r 1)) s.handles ≡ map (read_handle s.tables) s.handles → map (read_call (counted s.tables r 1)) s.calls ≡ map (read_call s.tables) s.calls → holders (reading (shown s p h r x)) c ≡ holders (reading s) c
+holders-shown : (s : State) (p h r : ℕ) (x : Handle) (part : Share) (w b c : ℕ) → handle_at s h ≡ Some x → h < length s.handles
+    → call_at s p ≡ Some (Ready part w r) → p < length s.calls → owner_of s.tables x ≡ Some b
+    → owner_of (counted s.tables r 1) (by_record x r) ≡ Some b
+    → map (read_handle (counted s.tables r 1)) s.handles ≡ map (read_handle s.tables) s.handles
+    → map (read_call (counted s.tables r 1)) s.calls ≡ map (read_call s.tables) s.calls → holders (reading (shown s p h r x)) c ≡ holders (reading s) c
 unfolding holders
 holders-shown s p h r x part w b c at l ap' lp o o' hs cs =
-    let n = rw (get_or-read (read_call s.tables) s.calls p None, ap') at (count-set (still_holds c) (map (read_call s.tables) s.calls) p None None (rw length-map lp)) in
+    let n = rw (get_or-read (read_call s.tables) s.calls p None, ap') at
+    (count-set (still_holds c) (map (read_call s.tables) s.calls) p None None (rw length-map lp)) in
     let m = count-set (holds c) (map (read_handle s.tables) s.handles) h (read_handle (counted s.tables r 1) (Some (by_record x r))) None (rw length-map l) in
-    let hx : ◌≡◌ {A = ℕ} (cond (holds c (get_or (map (read_handle s.tables) s.handles) h None)) 1 0) (cond (c == b) 1 0) = rw (get_or-read (read_handle s.tables) s.handles h None, at, o) refl in
+    let hx : ◌≡◌ {A = ℕ} (cond (holds c (get_or (map (read_handle s.tables) s.handles) h None)) 1 0) (cond (c == b) 1 0) =
+    rw (get_or-read (read_handle s.tables) s.handles h None, at, o) refl in
     let hy : ◌≡◌ {A = ℕ} (cond (holds c (read_handle (counted s.tables r 1) (Some (by_record x r)))) 1 0) (cond (c == b) 1 0) = rw o' refl in
-    rw (map-set (read_handle (counted s.tables r 1)) s.handles h (Some (by_record x r)), map-set (read_call (counted s.tables r 1)) s.calls p None, hs, cs) (omega (arith, n, m, hx, hy))
+    rw (
+      map-set (read_handle (counted s.tables r 1)) s.handles h (Some (by_record x r)),
+      map-set (read_call (counted s.tables r 1)) s.calls p None,
+      hs,
+      cs,
+    ) (omega (arith, n, m, hx, hy))
 
-users-shown : (s : State) (p h r : ℕ) (x : Handle) (part : Share) (w b c : ℕ) → handle_at s h ≡ Some x → h < length s.handles → call_at s p ≡ Some (Ready part w r) → p < length s.calls → owner_of s.tables x ≡ Some b → owner_of (counted s.tables r 1) (by_record x r) ≡ Some b → map (read_handle (counted s.tables r 1)) s.handles ≡ map (read_handle s.tables) s.handles → map (read_call (counted s.tables r 1)) s.calls ≡ map (read_call s.tables) s.calls → users (reading (shown s p h r x)) c ≡ users (reading s) c
+users-shown : (s : State) (p h r : ℕ) (x : Handle) (part : Share) (w b c : ℕ) → handle_at s h ≡ Some x → h < length s.handles
+    → call_at s p ≡ Some (Ready part w r) → p < length s.calls → owner_of s.tables x ≡ Some b
+    → owner_of (counted s.tables r 1) (by_record x r) ≡ Some b
+    → map (read_handle (counted s.tables r 1)) s.handles ≡ map (read_handle s.tables) s.handles
+    → map (read_call (counted s.tables r 1)) s.calls ≡ map (read_call s.tables) s.calls → users (reading (shown s p h r x)) c ≡ users (reading s) c
 unfolding users
 users-shown s p h r x part w b c at l ap' lp o o' hs cs =
-    let n = rw (get_or-read (read_call s.tables) s.calls p None, ap') at (count-set (drops c) (map (read_call s.tables) s.calls) p None None (rw length-map lp)) in
+    let n = rw (get_or-read (read_call s.tables) s.calls p None, ap') at
+    (count-set (drops c) (map (read_call s.tables) s.calls) p None None (rw length-map lp)) in
     let m = count-set (holds c) (map (read_handle s.tables) s.handles) h (read_handle (counted s.tables r 1) (Some (by_record x r))) None (rw length-map l) in
-    let hx : ◌≡◌ {A = ℕ} (cond (holds c (get_or (map (read_handle s.tables) s.handles) h None)) 1 0) (cond (c == b) 1 0) = rw (get_or-read (read_handle s.tables) s.handles h None, at, o) refl in
+    let hx : ◌≡◌ {A = ℕ} (cond (holds c (get_or (map (read_handle s.tables) s.handles) h None)) 1 0) (cond (c == b) 1 0) =
+    rw (get_or-read (read_handle s.tables) s.handles h None, at, o) refl in
     let hy : ◌≡◌ {A = ℕ} (cond (holds c (read_handle (counted s.tables r 1) (Some (by_record x r)))) 1 0) (cond (c == b) 1 0) = rw o' refl in
-    rw (map-set (read_handle (counted s.tables r 1)) s.handles h (Some (by_record x r)), map-set (read_call (counted s.tables r 1)) s.calls p None, hs, cs) (omega (arith, n, m, hx, hy))
+    rw (
+      map-set (read_handle (counted s.tables r 1)) s.handles h (Some (by_record x r)),
+      map-set (read_call (counted s.tables r 1)) s.calls p None,
+      hs,
+      cs,
+    ) (omega (arith, n, m, hx, hy))
 
-pub fit-counted : (s : State) (r n : ℕ) (cs : List (Option Pending)) → ((q : ℕ) → hidden cs q ≤ hidden s.calls q) → (o : Option Handle) → Fits s.tables s.calls o → Fits (counted s.tables r n) cs o
+pub fit-counted : (s : State) (r n : ℕ) (cs : List (Option Pending)) → ((q : ℕ) → hidden cs q ≤ hidden s.calls q) → (o : Option Handle)
+    → Fits s.tables s.calls o → Fits (counted s.tables r n) cs o
 fit-counted s r n cs less None f = tt
 fit-counted s r n cs less (Some x) f =
     let e = counted-keeps s.tables r n in
     fits-calls (counted s.tables r n) s.calls cs x x.word less
-    (fits-kept s.tables (counted s.tables r n) s.calls x x.word (owner-kept s.tables (counted s.tables r n) s.calls x e f) e (λ q w. counted-live s.tables r n q ∙ live-of s.tables s.calls x x.word q w f) f)
+    (fits-kept s.tables (counted s.tables r n) s.calls x x.word (owner-kept s.tables (counted s.tables r n) s.calls x e f) e
+    (λ q w. counted-live s.tables r n q ∙ live-of s.tables s.calls x x.word q w f) f)
 
-pub sound-shown : (s : State) (p r w : ℕ) (part : Share) (x : Handle) → IsSound s → call_at s p ≡ Some (Ready part w r) → handle_at s part.handle ≡ Some x → x.word ≡ Descriptor w → IsSound (shown s p part.handle r x)
+pub sound-shown : (s : State) (p r w : ℕ) (part : Share) (x : Handle) → IsSound s → call_at s p ≡ Some (Ready part w r)
+    → handle_at s part.handle ≡ Some x → x.word ≡ Descriptor w → IsSound (shown s p part.handle r x)
 sound-shown s p r w part x k atp at word =
     let h : ℕ = part.handle in
     let g : Tables = s.tables in
@@ -138,33 +191,50 @@ sound-shown s p r w part x k atp at word =
     let ox : owner_of g' x ≡ Some b = owner-kept g g' s.calls x e (fits-at s h x k at) ∙ o in
     let oy : owner_of g' y ≡ Some b = owner-counted g' y r refl ∙ ap Some (counted-block g r 1 r ∙ f.same) in
     let hs = handles-kept g g' s.calls s.handles e k.fit in
-    let two : (record_at s.tables r).count ≡ 2 = (let a = count-some (readies r) s.calls p None lp (ap (readies r) atp ∙ is-eqb r r refl) in let m = (k.counted r f.live).one_maker in (k.counted r f.live).fresh (omega (arith, a, m))) in
+    let two : (record_at s.tables r).count ≡ 2 =
+    (let a = count-some (readies r) s.calls p None lp (ap (readies r) atp ∙ is-eqb r r refl) in let m =
+    (k.counted r f.live).one_maker in (k.counted r f.live).fresh (omega (arith, a, m))) in
     let cs = calls-read-kept s g' s.calls e (λ i d l q j t. counted-let_go g r 1 q (shown-let_go g r two)) k.calls_fit in
     let hm : (c : ℕ) → holders (reading next) c ≡ holders (reading s) c = λ c. holders-shown s p h r x part w b c at l atp lp o oy hs cs in
     let um : (c : ℕ) → users (reading next) c ≡ users (reading s) c = λ c. users-shown s p h r x part w b c at l atp lp o oy hs cs in
-    let hid : (q : ℕ) → hidden (set s.calls p None) q + cond (q == r) 1 0 ≡ hidden s.calls q = λ q. let c = rw atp at (count-set (readies q) s.calls p None None lp) in omega (arith, c) in
+    let hid : (q : ℕ) → hidden (set s.calls p None) q + cond (q == r) 1 0 ≡ hidden s.calls q = λ q. let c =
+    rw atp at (count-set (readies q) s.calls p None None lp) in omega (arith, c) in
     let less : (q : ℕ) → hidden (set s.calls p None) q ≤ hidden s.calls q = λ q. omega (arith, hid q) in
     let one : holders (reading s) b ≡ 1 = alone-at s h x b k at (alone-described g b x w word ∙ ap (is_block b) o ∙ is-eqb b b refl) in
     let me = k.counted r f.live in
     let mine : hidden (set s.calls p None) r ≡ 0 = (let z = rw (is-eqb r r refl) at (hid r) in let m = me.one_maker in omega (arith, z)) in
     let dm : (c : ℕ) → tally (describes g' c) (set s.handles h (Some y)) + cond (c == b) 1 0 ≡ tally (describes g c) s.handles = λ c.
     let n = count-set (describes g' c) s.handles h (Some y) None l in
-    let nx : ◌≡◌ {A = ℕ} (cond (describes g' c (get_or s.handles h None)) 1 0) (cond (c == b) 1 0) = ap (λ (o : Option Handle). cond {A = ℕ} (describes g' c o) 1 0) at ∙ ap (λ (v : Bool). cond {A = ℕ} v 1 0) (describes-described g' c x w word ∙ ap (is_block c) ox) in
+    let nx : ◌≡◌ {A = ℕ} (cond (describes g' c (get_or s.handles h None)) 1 0) (cond (c == b) 1 0) =
+    ap (λ (o : Option Handle). cond {A = ℕ} (describes g' c o) 1 0) at
+    ∙ ap (λ (v : Bool). cond {A = ℕ} v 1 0) (describes-described g' c x w word ∙ ap (is_block c) ox) in
     let ny : ◌≡◌ {A = ℕ} (cond (describes g' c (Some y)) 1 0) 0 = ap (λ (v : Bool). cond {A = ℕ} v 1 0) (describes-counted g' c y r refl) in
     omega (arith, n, nx, ny, describes-kept g g' s.calls c s.handles e k.fit) in
     let am : (c : ℕ) → tally (alone g' c) (set s.handles h (Some y)) + cond (c == b) 1 0 ≡ tally (alone g c) s.handles = λ c.
     let n = count-set (alone g' c) s.handles h (Some y) None l in
-    let nx : ◌≡◌ {A = ℕ} (cond (alone g' c (get_or s.handles h None)) 1 0) (cond (c == b) 1 0) = ap (λ (o : Option Handle). cond {A = ℕ} (alone g' c o) 1 0) at ∙ ap (λ (v : Bool). cond {A = ℕ} v 1 0) (alone-described g' c x w word ∙ ap (is_block c) ox) in
+    let nx : ◌≡◌ {A = ℕ} (cond (alone g' c (get_or s.handles h None)) 1 0) (cond (c == b) 1 0) =
+    ap (λ (o : Option Handle). cond {A = ℕ} (alone g' c o) 1 0) at
+    ∙ ap (λ (v : Bool). cond {A = ℕ} v 1 0) (alone-described g' c x w word ∙ ap (is_block c) ox) in
     let ny : ◌≡◌ {A = ℕ} (cond (alone g' c (Some y)) 1 0) 0 = ap (λ (v : Bool). cond {A = ℕ} v 1 0) (alone-shared g' c y r refl view) in
     omega (arith, n, nx, ny, alone-kept g g' s.calls c s.handles e k.fit) in
     let some : 0 < tally (describes g b) s.handles = (let z = rw (is-eqb b b refl) at (dm b) in omega (arith, z)) in
     let here : (record_at g' r).block ≡ b = counted-block g r 1 r ∙ f.same in
-    let gone : tally (describes g' b) (set s.handles h (Some y)) ≡ 0 = (let n = rw (is-eqb b b refl) at (dm b) in let m = describes-few s b in omega (arith, n, m, one)) in
-    let apart : (q : ℕ) → (record_at g q).live ≡ true → hidden s.calls q ≡ 0 → (record_at g q).block ≢ b = λ q t z i. (let u = rw i at ((k.counted q t).undescribed z) in omega (arith, u, some)) in
-    let old : (q : ℕ) → q ≢ r → hidden (set s.calls p None) q ≡ 0 → hidden s.calls q ≡ 0 = λ q ne z. (let u = rw (not-eqb q r ne) at (hid q) in omega (arith, u)) in
+    let gone : tally (describes g' b) (set s.handles h (Some y)) ≡ 0 =
+    (let n = rw (is-eqb b b refl) at (dm b) in let m = describes-few s b in omega (arith, n, m, one)) in
+    let apart : (q : ℕ) → (record_at g q).live ≡ true → hidden s.calls q ≡ 0 → (record_at g q).block ≢ b =
+    λ q t z i. (let u = rw i at ((k.counted q t).undescribed z) in omega (arith, u, some)) in
+    let old : (q : ℕ) → q ≢ r → hidden (set s.calls p None) q ≡ 0 → hidden s.calls q ≡ 0 =
+    λ q ne z. (let u = rw (not-eqb q r ne) at (hid q) in omega (arith, u)) in
     let size = k.size in
     record {
-      size = record { wide = size.wide; ceiling = size.ceiling; few_blocks = size.few_blocks; few_records = rw length-set size.few_records; few_handles = rw length-set size.few_handles; few_calls = rw length-set size.few_calls };
+      size = record {
+        wide = size.wide;
+        ceiling = size.ceiling;
+        few_blocks = size.few_blocks;
+        few_records = rw length-set size.few_records;
+        few_handles = rw length-set size.few_handles;
+        few_calls = rw length-set size.few_calls;
+      };
       blocks = (let q = k.blocks in record { places = q.places; apart = q.apart });
       fit = All-from_get_or (Fits g' (set s.calls p None)) (set s.handles h (Some y)) None (λ i li. elim (eqb_tells i h) [
         | inl z ↦ rw (z.1, get_or-set_same s.handles h (Some y) None l) (record {
@@ -174,15 +244,18 @@ sound-shown s p r w part x k atp at word =
           lies = rw (counted-block g r 1 r, f.same) (lies-still (block_at g f.block) (record x { word = Descriptor w }) (Counted r) x.kind pr.says.lies);
           native = λ m. absurd (let q = sym view ∙ m in cc);
         })
-        | inr z ↦ rw (get_or-set_other s.handles h i (Some y) None z.1) (fit-counted s r 1 (set s.calls p None) less (get_or s.handles i None) (k.fit i None (rw length-set at li)))
+        | inr z ↦ rw (get_or-set_other s.handles h i (Some y) None z.1)
+            (fit-counted s r 1 (set s.calls p None) less (get_or s.handles i None) (k.fit i None (rw length-set at li)))
       ]);
       calls_fit = All-from_get_or (FitsCall next) (set s.calls p None) None (λ i li.
           let lo : i < length s.calls = (let z = rw length-set at li in z) in
           elim (eqb_tells i p) [
             | inl z ↦ rw (z.1, get_or-set_same s.calls p None None lp) tt
-            | inr z ↦ rw (get_or-set_other s.calls p i None None z.1) (call-shown s p h r i x b (call_at s i) at w word l k.fit o f.same two less hm (k.calls_fit i None lo))
+            | inr z ↦ rw (get_or-set_other s.calls p i None None z.1)
+                (call-shown s p h r i x b (call_at s i) at w word l k.fit o f.same two less hm (k.calls_fit i None lo))
           ]);
-      one_release = λ c. let n = count-set (releases g' c) s.calls p None None lp in let m = releases-kept s g' c s.calls e k.calls_fit in omega (arith, n, m, k.one_release c);
+      one_release = λ c. let n = count-set (releases g' c) s.calls p None None lp in let m =
+          releases-kept s g' c s.calls e k.calls_fit in omega (arith, n, m, k.one_release c);
       counted = λ q t.
           let lq : (record_at g q).live ≡ true = sym (counted-live g r 1 q) ∙ t in
           let cq = k.counted q lq in
@@ -222,7 +295,8 @@ sound-shown s p r w part x k atp at word =
       capped = λ c. rw hm (k.capped c);
       known_users = λ c t. k.known_users c (rw um at t);
       block_log = block-log-kept g.blocks s.freed_blocks (users (reading s)) (users (reading next)) um k.block_log;
-      record_log = record-log-counted g.records s.freed_records r (record { count = 1; block = (record_at g r).block; live = (record_at g r).live }) (live-inside g.records r f.live) refl k.record_log;
+      record_log = record-log-counted g.records s.freed_records r (record { count = 1; block = (record_at g r).block; live = (record_at g r).live })
+          (live-inside g.records r f.live) refl k.record_log;
     }
 
 -- ---- the race is won: one more view, and the record counts both
@@ -238,13 +312,35 @@ twice g r l two =
     let c = counted-same g r 1 l in
     let b = counted-block g r 1 r in
     let v = counted-live g r 1 r in
-    let same : record { count = (record_at (counted g r 1) r).count + 1; block = (record_at (counted g r 1) r).block; live = (record_at (counted g r 1) r).live } ≡ record_at g r = ap (λ (n : ℕ). record { count = n + 1; block = (record_at (counted g r 1) r).block; live = (record_at (counted g r 1) r).live }) c ∙ ap (λ (n : ℕ). record { count = 2; block = n; live = (record_at (counted g r 1) r).live }) b ∙ ap (λ (n : Bool). record { count = 2; block = (record_at g r).block; live = n }) v ∙ ap (λ (n : ℕ). record { count = n; block = (record_at g r).block; live = (record_at g r).live }) (sym two) in
-    ap (λ (rs : List Record). record g { records = rs }) (set-set g.records r (record { count = 1; block = (record_at g r).block; live = (record_at g r).live }) (record { count = (record_at (counted g r 1) r).count + 1; block = (record_at (counted g r 1) r).block; live = (record_at (counted g r 1) r).live }) ∙ set-get g.records r (record { count = (record_at (counted g r 1) r).count + 1; block = (record_at (counted g r 1) r).block; live = (record_at (counted g r 1) r).live }) no_record l same)
+    let same : record {
+      count = (record_at (counted g r 1) r).count + 1;
+      block = (record_at (counted g r 1) r).block;
+      live = (record_at (counted g r 1) r).live;
+    } ≡ record_at g r = ap (λ (n : ℕ). record {
+      count = n + 1;
+      block = (record_at (counted g r 1) r).block;
+      live = (record_at (counted g r 1) r).live;
+    }) c ∙ ap (λ (n : ℕ). record { count = 2; block = n; live = (record_at (counted g r 1) r).live }) b
+    ∙ ap (λ (n : Bool). record { count = 2; block = (record_at g r).block; live = n }) v
+    ∙ ap (λ (n : ℕ). record { count = n; block = (record_at g r).block; live = (record_at g r).live }) (sym two) in
+    ap (λ (rs : List Record). record g { records = rs })
+    (set-set g.records r (record { count = 1; block = (record_at g r).block; live = (record_at g r).live }) (record {
+      count = (record_at (counted g r 1) r).count + 1;
+      block = (record_at (counted g r 1) r).block;
+      live = (record_at (counted g r 1) r).live;
+    }) ∙ set-get g.records r (record {
+      count = (record_at (counted g r 1) r).count + 1;
+      block = (record_at (counted g r 1) r).block;
+      live = (record_at (counted g r 1) r).live;
+    }) no_record l same)
 
-pub sound-won : (s : State) (p r w : ℕ) (k : Share) (x : Handle) → IsSound s → call_at s p ≡ Some (Ready k w r) → handle_at s k.handle ≡ Some x → x.word ≡ Descriptor w → length s.handles < 2 ^ 32 → IsSound (with_handle (called (edited s k.handle (by_record x r)) p None) (part x k.lo k.hi (Counted r)))
+pub sound-won : (s : State) (p r w : ℕ) (k : Share) (x : Handle) → IsSound s → call_at s p ≡ Some (Ready k w r) → handle_at s k.handle ≡ Some x
+    → x.word ≡ Descriptor w → length s.handles < 2 ^ 32
+    → IsSound (with_handle (called (edited s k.handle (by_record x r)) p None) (part x k.lo k.hi (Counted r)))
 sound-won s p r w part' x k at atx xw few =
     let g : Tables = s.tables in
-    let f : FitsCall s (Some (Ready part' w r)) = subst (λ (c : Option Pending). FitsCall s c) at (k.calls_fit p None (at-some s.calls p (Ready part' w r) at)) in
+    let f : FitsCall s (Some (Ready part' w r)) =
+    subst (λ (c : Option Pending). FitsCall s c) at (k.calls_fit p None (at-some s.calls p (Ready part' w r) at)) in
     let yx : f.view ≡ x = some-same f.view x (sym f.shares.at ∙ atx) in
     let sh : Shares s part' x = subst (λ (y : Handle). Shares s part' y) yx f.shares in
     let pr : Promised g x w f.block = subst (λ (y : Handle). Promised g y w f.block) yx f.promised in
@@ -254,15 +350,29 @@ sound-won s p r w part' x k at atx xw few =
     let y : Handle = by_record x r in
     let l = at-some s.handles part'.handle x atx in
     let at1 : handle_at s1 part'.handle ≡ Some y = get_or-set_same s.handles part'.handle (Some (by_record x r)) None l in
-    let hid : hidden s.calls r ≡ 1 = (let a = count-some (readies r) s.calls p None (at-some s.calls p (Ready part' w r) at) (ap (readies r) at ∙ is-eqb r r refl) in let m = (k.counted r f.live).one_maker in omega (arith, a, m)) in
+    let hid : hidden s.calls r
+    ≡ 1 = (let a = count-some (readies r) s.calls p None (at-some s.calls p (Ready part' w r) at) (ap (readies r) at ∙ is-eqb r r refl) in
+    let m = (k.counted r f.live).one_maker in omega (arith, a, m)) in
     let two : (record_at g r).count ≡ 2 = (k.counted r f.live).fresh hid in
     let count1 : (record_at s1.tables r).count ≡ 1 = counted-same g r 1 inside in
     let block1 : (record_at s1.tables r).block ≡ (record_at g r).block = counted-block g r 1 r in
-    let lies : LiesIn (block_at g f.block) (record x { word = Descriptor w }) View = lies-as (block_at g f.block) (record x { word = Descriptor w }) View sh.view pr.says.lies in
+    let lies : LiesIn (block_at g f.block) (record x { word = Descriptor w }) View =
+    lies-as (block_at g f.block) (record x { word = Descriptor w }) View sh.view pr.says.lies in
     let order = sh.order in
     let within = sh.within in
     let front : Handle = part x part'.lo part'.hi (Counted r) in
-    let liesf : LiesIn (block_at g f.block) front View = (record { begins = omega (arith, lies.begins); ends = omega (arith, lies.ends, order, within); no_room = refl }) in
+    let liesf : LiesIn (block_at g f.block) front View = (record {
+      begins = omega (arith, lies.begins);
+      ends = omega (arith, lies.ends, order, within);
+      no_room = refl;
+    }) in
     let ceiling = k.size.ceiling in
-    let added = sound-added s1 part'.handle r y front one at1 sh.view refl refl refl (subst (λ (n : ℕ). LiesIn (block_at g n) front View) (sym f.same ∙ sym block1) liesf) (omega (arith, count1, ceiling)) (rw length-set few) in
-    subst (λ (g : Tables). IsSound (record s { tables = g; handles = set s.handles part'.handle (Some (by_record x r)) ++ Some (part x part'.lo part'.hi (Counted r)) ∷ []; calls = set s.calls p None })) (twice s.tables r inside two) added
+    let added = sound-added s1 part'.handle r y front one at1 sh.view refl refl refl
+    (subst (λ (n : ℕ). LiesIn (block_at g n) front View) (sym f.same ∙ sym block1) liesf) (omega (arith, count1, ceiling)) (rw length-set few) in
+    subst
+    (λ (g : Tables). IsSound
+    (record s {
+      tables = g;
+      handles = set s.handles part'.handle (Some (by_record x r)) ++ Some (part x part'.lo part'.hi (Counted r)) ∷ [];
+      calls = set s.calls p None;
+    })) (twice s.tables r inside two) added

@@ -76,7 +76,8 @@ power-is (suc k) align e = elim (or-cases (nat_eq align (2 ^ k)) (is_power_below
   | inr t ↦ power-is k align t
 ]
 
-power-step : (k align log : ℕ) (v : Bool) → nat_lt log k ≡ v → log < suc k → align ≡ 2 ^ log → (log < k → is_power_below k align ≡ true) → is_power_below (suc k) align ≡ true
+power-step : (k align log : ℕ) (v : Bool) → nat_lt log k ≡ v → log < suc k → align ≡ 2 ^ log → (log < k → is_power_below k align ≡ true)
+    → is_power_below (suc k) align ≡ true
 power-step k align log true e l is rest = or-right (nat_eq align (2 ^ k)) (is_power_below k align) (rest (lt-true log k e))
 power-step k align log false e l is rest =
     let m = lt-false log k e in
@@ -93,7 +94,14 @@ place-yes base size align p =
     let end = p.ends in
     let fits : align < 2 ^ 64 = align-small base align p.above (omega (arith, end)) p.aligned in
     let c : is_power_below 64 align ≡ true = power-below 64 align p.power.0 (log-below align p.power.0 fits p.power.1) p.power.1 in
-    rw (lt-yes 0 size p.some, lt-yes 0 base p.above, c, p.aligned, lt-yes (base + size) (2 ^ 64) p.ends, lt-yes (next_multiple_of size align) (2 ^ 63) p.rounded) refl
+    rw (
+      lt-yes 0 size p.some,
+      lt-yes 0 base p.above,
+      c,
+      p.aligned,
+      lt-yes (base + size) (2 ^ 64) p.ends,
+      lt-yes (next_multiple_of size align) (2 ^ 63) p.rounded,
+    ) refl
 
 record AllPass (p q u v w x : Bool) : Type 0 where
   pub one : p ≡ true
@@ -114,7 +122,8 @@ all-six false q u v w x e = absurd (cc)
 
 place-is : (base size align : ℕ) → is_place base size align ≡ true → IsPlace base size align
 place-is base size align e =
-    let z = all-six (nat_lt 0 size) (nat_lt 0 base) (is_power_below 64 align) (nat_eq (base % align) 0) (nat_lt (base + size) (2 ^ 64)) (nat_lt (next_multiple_of size align) (2 ^ 63)) e in
+    let z = all-six (nat_lt 0 size) (nat_lt 0 base) (is_power_below 64 align) (nat_eq (base % align) 0) (nat_lt (base + size) (2 ^ 64))
+    (nat_lt (next_multiple_of size align) (2 ^ 63)) e in
     record {
       some = lt-true 0 size z.one;
       above = lt-true 0 base z.two;
@@ -130,7 +139,10 @@ apart-one b base size (inr l) = rw (lt-no b.base (base + size) l) (and-false (na
 
 none-taken : (bs : List Block) (base size : ℕ) → All (λ b. ApartFrom b base size) bs → is_taken bs base size ≡ false
 none-taken [] base size a = refl
-none-taken (b ∷ bs) base size a = rw (apart-one b base size (All-head (λ b. ApartFrom b base size) b bs a), none-taken bs base size (All-tail (λ b. ApartFrom b base size) b bs a)) refl
+none-taken (b ∷ bs) base size a = rw (
+  apart-one b base size (All-head (λ b. ApartFrom b base size) b bs a),
+  none-taken bs base size (All-tail (λ b. ApartFrom b base size) b bs a),
+) refl
 
 one-apart : (b : Block) (base size : ℕ) → (nat_lt base (b.base + b.size) && nat_lt b.base (base + size)) ≡ false → ApartFrom b base size
 one-apart b base size e = elim (and-cases (nat_lt base (b.base + b.size)) (nat_lt b.base (base + size)) e) [
@@ -193,24 +205,32 @@ makes memory w u next x reply (inr r) = other memory _ reply r.0 (λ why e. absu
 
 -- ---- calls that end with their first step
 
-bad-place : (memory : Bool) (w : World) (base size align : ℕ) (reply : Reply) (v : Bool) → is_good_place w.blocks base size align ≡ v → (IsGoodPlace w.blocks base size align → ⊥) → reply ≡ Refused BadPlace → IsCaused memory (cause_if (not v) BadPlace) reply
+bad-place : (memory : Bool) (w : World) (base size align : ℕ) (reply : Reply) (v : Bool) → is_good_place w.blocks base size align ≡ v
+    → (IsGoodPlace w.blocks base size align → ⊥) → reply ≡ Refused BadPlace → IsCaused memory (cause_if (not v) BadPlace) reply
 bad-place memory w base size align reply true e n r = absurd (n (good-is w.blocks base size align e))
 bad-place memory w base size align reply false e n r = r
 
-new-caused : (w next : World) (b : Block) (x : Held) (memory : Bool) (reply : Reply) → world.NewIs w b x memory reply next → IsCaused memory (cause_if (not (is_good_place w.blocks b.base b.size b.align)) BadPlace) reply
+new-caused : (w next : World) (b : Block) (x : Held) (memory : Bool) (reply : Reply) → world.NewIs w b x memory reply next
+    → IsCaused memory (cause_if (not (is_good_place w.blocks b.base b.size b.align)) BadPlace) reply
 new-caused w next b x memory reply (inl (bad, r)) = bad-place memory w b.base b.size b.align reply (is_good_place w.blocks b.base b.size b.align) refl bad r.0
 new-caused w next b x memory reply (inr (good, m)) =
-    rw (good-yes w.blocks b.base b.size b.align good) (choose (λ v. IsCaused v None reply) _ _ memory m (λ r. makes true w (world.block_more w b) next x reply r) (λ r. beside-memory false reply refl r.0))
+    rw (good-yes w.blocks b.base b.size b.align good)
+    (choose (λ v. IsCaused v None reply) _ _ memory m (λ r. makes true w (world.block_more w b) next x reply r) (λ r. beside-memory false reply refl r.0))
 
-put-caused : (w next : World) (h n : ℕ) (memory : Bool) (r : Result Held Refusal) (reply : Reply) → world.PutIs w h n r reply next → IsCaused memory (cause_or r (λ x. cause_if (nat_lt (world.capacity w x - x.len) n) OutOfRange)) reply
+put-caused : (w next : World) (h n : ℕ) (memory : Bool) (r : Result Held Refusal) (reply : Reply) → world.PutIs w h n r reply next
+    → IsCaused memory (cause_or r (λ x. cause_if (nat_lt (world.capacity w x - x.len) n) OutOfRange)) reply
 put-caused w next h n memory (Err why) reply r = r.0
-put-caused w next h n memory (Ok x) reply m = choose (λ v. IsCaused memory (cause_if v OutOfRange) reply) _ _ (nat_lt (world.capacity w x - x.len) n) m (λ r. r.0) (λ r. done memory reply r.0)
+put-caused w next h n memory (Ok x) reply m =
+    choose (λ v. IsCaused memory (cause_if v OutOfRange) reply) _ _ (nat_lt (world.capacity w x - x.len) n) m (λ r. r.0) (λ r. done memory reply r.0)
 
-advance-caused : (w next : World) (h n : ℕ) (memory : Bool) (r : Result Held Refusal) (reply : Reply) → world.AdvanceIs w h n r reply next → IsCaused memory (cause_or r (λ x. cause_if (nat_lt x.len n) OutOfRange)) reply
+advance-caused : (w next : World) (h n : ℕ) (memory : Bool) (r : Result Held Refusal) (reply : Reply) → world.AdvanceIs w h n r reply next
+    → IsCaused memory (cause_or r (λ x. cause_if (nat_lt x.len n) OutOfRange)) reply
 advance-caused w next h n memory (Err why) reply r = r.0
-advance-caused w next h n memory (Ok x) reply m = choose (λ v. IsCaused memory (cause_if v OutOfRange) reply) _ _ (nat_lt x.len n) m (λ r. r.0) (λ r. done memory reply r.0)
+advance-caused w next h n memory (Ok x) reply m =
+    choose (λ v. IsCaused memory (cause_if v OutOfRange) reply) _ _ (nat_lt x.len n) m (λ r. r.0) (λ r. done memory reply r.0)
 
-freeze-caused : (w next : World) (h : ℕ) (memory : Bool) (r : Result Held Refusal) (reply : Reply) → world.FreezeIs w h memory r reply next → IsCaused memory (cause_or r (λ x. None)) reply
+freeze-caused : (w next : World) (h : ℕ) (memory : Bool) (r : Result Held Refusal) (reply : Reply) → world.FreezeIs w h memory r reply next
+    → IsCaused memory (cause_or r (λ x. None)) reply
 freeze-caused w next h memory (Err why) reply r = r.0
 freeze-caused w next h memory (Ok x) reply m =
     choose (λ v. IsCaused memory None reply) _ _ (nat_eq x.len 0) m (λ r. done memory reply r.0)
@@ -222,17 +242,24 @@ freeze-caused w next h memory (Ok x) reply m =
       ]
     ])
 
-recover-caused : (w next : World) (h : ℕ) (memory : Bool) (r : Result Held Refusal) (reply : Reply) → world.RecoverIs w h r reply next → IsCaused memory (cause_or r (λ x. None)) reply
+recover-caused : (w next : World) (h : ℕ) (memory : Bool) (r : Result Held Refusal) (reply : Reply) → world.RecoverIs w h r reply next
+    → IsCaused memory (cause_or r (λ x. None)) reply
 recover-caused w next h memory (Err why) reply r = r.0
 recover-caused w next h memory (Ok x) reply (inl (m, e, f)) = done memory reply e
 recover-caused w next h memory (Ok x) reply (inr (m, (e, f))) = declined memory reply e
 
-split-caused : (w next : World) (h at : ℕ) (memory : Bool) (r : Result Held Refusal) (reply : Reply) → world.SplitIs w h at memory r reply next → IsCaused memory (cause_or r (split_cause w at)) reply
+split-caused : (w next : World) (h at : ℕ) (memory : Bool) (r : Result Held Refusal) (reply : Reply) → world.SplitIs w h at memory r reply next
+    → IsCaused memory (cause_or r (split_cause w at)) reply
 split-caused w next h at memory (Err why) reply r = r.0
 split-caused w next h at memory (Ok x) reply m =
-    choose (λ v. IsCaused memory (cond v (Some OutOfRange) (cond (nat_eq at 0) None (cond (nat_eq at x.len) None (cause_if (is_over w x.block) Ceiling)))) reply) _ _ (nat_lt x.len at) m (λ r. r.0)
-    (λ m. choose (λ v. IsCaused memory (cond v None (cond (nat_eq at x.len) None (cause_if (is_over w x.block) Ceiling))) reply) _ _ (nat_eq at 0) m (λ r. makes memory w w next (world.detached 0) reply r)
-    (λ m. choose (λ v. IsCaused memory (cond v None (cause_if (is_over w x.block) Ceiling)) reply) _ _ (nat_eq at x.len) m (λ r. makes memory w (world.held_set w h (world.detached 0)) next x reply r)
+    choose
+    (λ v. IsCaused memory
+    (cond v (Some OutOfRange) (cond (nat_eq at 0) None (cond (nat_eq at x.len) None (cause_if (is_over w x.block) Ceiling)))) reply) _ _
+    (nat_lt x.len at) m (λ r. r.0)
+    (λ m. choose (λ v. IsCaused memory (cond v None (cond (nat_eq at x.len) None (cause_if (is_over w x.block) Ceiling))) reply) _ _ (nat_eq at 0) m
+    (λ r. makes memory w w next (world.detached 0) reply r)
+    (λ m. choose (λ v. IsCaused memory (cond v None (cause_if (is_over w x.block) Ceiling)) reply) _ _ (nat_eq at x.len) m
+    (λ r. makes memory w (world.held_set w h (world.detached 0)) next x reply r)
     (λ m. elim m [
       | inl a ↦ rw (over-yes w x.block a.0) a.1.0
       | inr a ↦ rw (over-no w x.block a.0) (elim a.1 [
@@ -241,47 +268,61 @@ split-caused w next h at memory (Ok x) reply m =
       ])
     ])))
 
-unique-caused : (w next : World) (memory : Bool) (r : Result ℕ Refusal) (reply : Reply) → world.UniqueIs w r reply next → IsCaused memory (cause_or r (λ b. None)) reply
+unique-caused : (w next : World) (memory : Bool) (r : Result ℕ Refusal) (reply : Reply) → world.UniqueIs w r reply next
+    → IsCaused memory (cause_or r (λ b. None)) reply
 unique-caused w next memory (Err why) reply r = r.0
 unique-caused w next memory (Ok b) reply (e, f) = other memory _ reply e (λ why g. absurd (cc))
 
-demote-caused : (w next : World) (memory : Bool) (r : Result ℕ Refusal) (reply : Reply) → world.DemoteIs w r reply next → IsCaused memory (cause_or r (λ b. None)) reply
+demote-caused : (w next : World) (memory : Bool) (r : Result ℕ Refusal) (reply : Reply) → world.DemoteIs w r reply next
+    → IsCaused memory (cause_or r (λ b. None)) reply
 demote-caused w next memory (Err why) reply r = r.0
 demote-caused w next memory (Ok b) reply (inl (native, one, e, f)) = done memory reply e
 demote-caused w next memory (Ok b) reply (inr (e, f)) = declined memory reply e
 
 -- ---- calls of several steps
 
-share-by : (w next : World) (p h lo hi : ℕ) (memory : Bool) (x : Held) (o : Option ℕ) (reply : Reply) → MatchOption o (NoRoom w reply next ⊎ Makes w (world.part_of x lo hi) reply next) (λ _. GoesOnWithin w p (Sharing h lo hi) 3 reply next) → IsCaused memory None reply
+share-by : (w next : World) (p h lo hi : ℕ) (memory : Bool) (x : Held) (o : Option ℕ) (reply : Reply)
+    → MatchOption o (NoRoom w reply next ⊎ Makes w (world.part_of x lo hi) reply next) (λ _. GoesOnWithin w p (Sharing h lo hi) 3 reply next)
+    → IsCaused memory None reply
 share-by w next p h lo hi memory x None reply m = makes memory w w next (world.part_of x lo hi) reply m
 share-by w next p h lo hi memory x (Some b) reply m = more memory reply m.goes.0
 
-clone-caused : (w next : World) (p h : ℕ) (memory : Bool) (r : Result Held Refusal) (reply : Reply) → world.CloneIs w p h r reply next → IsCaused memory (cause_or r (λ x. None)) reply
+clone-caused : (w next : World) (p h : ℕ) (memory : Bool) (r : Result Held Refusal) (reply : Reply) → world.CloneIs w p h r reply next
+    → IsCaused memory (cause_or r (λ x. None)) reply
 clone-caused w next p h memory (Err why) reply r = r.0
 clone-caused w next p h memory (Ok x) reply m = share-by w next p h 0 x.len memory x x.block reply m
 
-slice-caused : (w next : World) (p h lo hi : ℕ) (memory : Bool) (r : Result Held Refusal) (reply : Reply) → world.SliceIs w p h lo hi r reply next → IsCaused memory (cause_or r (λ x. cause_if (nat_lt hi lo || nat_lt x.len hi) OutOfRange)) reply
+slice-caused : (w next : World) (p h lo hi : ℕ) (memory : Bool) (r : Result Held Refusal) (reply : Reply) → world.SliceIs w p h lo hi r reply next
+    → IsCaused memory (cause_or r (λ x. cause_if (nat_lt hi lo || nat_lt x.len hi) OutOfRange)) reply
 slice-caused w next p h lo hi memory (Err why) reply r = r.0
 slice-caused w next p h lo hi memory (Ok x) reply m =
     choose (λ v. IsCaused memory (cause_if v OutOfRange) reply) _ _ (nat_lt hi lo || nat_lt x.len hi) m (λ r. r.0)
-    (λ m. choose (λ v. IsCaused memory None reply) _ _ (nat_eq lo hi) m (λ r. makes memory w w next (world.detached 0) reply r) (λ m. share-by w next p h lo hi memory x x.block reply m))
+    (λ m. choose (λ v. IsCaused memory None reply) _ _ (nat_eq lo hi) m (λ r. makes memory w w next (world.detached 0) reply r)
+    (λ m. share-by w next p h lo hi memory x x.block reply m))
 
-drop-by : (w next : World) (p h : ℕ) (memory : Bool) (o : Option ℕ) (reply : Reply) → MatchOption o ((reply ≡ Done) × (next ≡ world.held_gone w h)) (λ b. ((holders w b ≡ 1) × (reply ≡ Done) × (next ≡ world.free_in (world.held_gone w h) b)) ⊎ GoesOnWithin (world.held_gone w h) p (Dropping b false) 2 reply next) → IsCaused memory None reply
+drop-by : (w next : World) (p h : ℕ) (memory : Bool) (o : Option ℕ) (reply : Reply)
+    → MatchOption o ((reply ≡ Done) × (next ≡ world.held_gone w h))
+    (λ b. ((holders w b ≡ 1) × (reply ≡ Done) × (next ≡ world.free_in (world.held_gone w h) b))
+    ⊎ GoesOnWithin (world.held_gone w h) p (Dropping b false) 2 reply next) → IsCaused memory None reply
 drop-by w next p h memory None reply (e, f) = done memory reply e
 drop-by w next p h memory (Some b) reply (inl (one, e, f)) = done memory reply e
 drop-by w next p h memory (Some b) reply (inr g) = more memory reply g.goes.0
 
-drop-caused : (w next : World) (p h : ℕ) (memory : Bool) (r : Result Held Refusal) (reply : Reply) → world.DropIs w p h r reply next → IsCaused memory (cause_or r (λ x. None)) reply
+drop-caused : (w next : World) (p h : ℕ) (memory : Bool) (r : Result Held Refusal) (reply : Reply) → world.DropIs w p h r reply next
+    → IsCaused memory (cause_or r (λ x. None)) reply
 drop-caused w next p h memory (Err why) reply r = r.0
 drop-caused w next p h memory (Ok x) reply m = drop-by w next p h memory x.block reply m
 
-shares-caused : (w next : World) (p h lo hi left : ℕ) (memory : Bool) (o : Option Held) (reply : Reply) → SharesOn w p h lo hi left memory o reply next → IsCaused memory (cause_if (nat_eq left 1 && is_over_at w o) Ceiling) reply
+shares-caused : (w next : World) (p h lo hi left : ℕ) (memory : Bool) (o : Option Held) (reply : Reply)
+    → SharesOn w p h lo hi left memory o reply next → IsCaused memory (cause_if (nat_eq left 1 && is_over_at w o) Ceiling) reply
 shares-caused w next p h lo hi left memory None reply r = absurd r
 shares-caused w next p h lo hi left memory (Some x) reply (inl (three, m, e, f)) = rw three (beside-memory memory reply m e)
-shares-caused w next p h lo hi left memory (Some x) reply (inr (inl (fewer, some, few, g))) = rw (eq-no left 1 (λ e. omega (arith, e, some, few))) (more memory reply g.0)
+shares-caused w next p h lo hi left memory (Some x) reply (inr (inl (fewer, some, few, g))) =
+    rw (eq-no left 1 (λ e. omega (arith, e, some, few))) (more memory reply g.0)
 shares-caused w next p h lo hi left memory (Some x) reply (inr (inr (inl (three, m, r)))) = rw three (beside-room memory w next reply r)
 shares-caused w next p h lo hi left memory (Some x) reply (inr (inr (inr (inl (one, over, e, f))))) = rw (one, over-yes w x.block over) e
-shares-caused w next p h lo hi left memory (Some x) reply (inr (inr (inr (inr (never, few, r))))) = rw (over-no w x.block never, and-false (nat_eq left 1)) (makes memory w (world.call_set w p None) next (world.part_of x lo hi) reply r)
+shares-caused w next p h lo hi left memory (Some x) reply (inr (inr (inr (inr (never, few, r))))) =
+    rw (over-no w x.block never, and-false (nat_eq left 1)) (makes memory w (world.call_set w p None) next (world.part_of x lo hi) reply r)
 
 goes-caused : (w next : World) (p : ℕ) (c : Unfinished) (memory : Bool) (reply : Reply) → Goes w p c memory reply next → IsCaused memory (cause_gone w c) reply
 unfolding Goes
@@ -293,10 +334,13 @@ goes-caused w next p (Dropping b true left) memory reply (n, e, f) = done memory
 
 -- ---- a step
 
-begun-caused : (w next : World) (p : ℕ) (call : Call) (memory : Bool) (reply : Reply) → Begins w p call memory reply next → IsCaused memory (cause_begun w call) reply
+begun-caused : (w next : World) (p : ℕ) (call : Call) (memory : Bool) (reply : Reply) → Begins w p call memory reply next
+    → IsCaused memory (cause_begun w call) reply
 unfolding Begins
-begun-caused w next p (New base size align) memory reply r = new-caused w next (world.native_block base size align) (record { kind = Mut; block = Some (length w.blocks); place = base; len = 0 }) memory reply r
-begun-caused w next p (External base size) memory reply r = new-caused w next (world.external_block base size) (record { kind = View; block = Some (length w.blocks); place = base; len = size }) memory reply r
+begun-caused w next p (New base size align) memory reply r =
+    new-caused w next (world.native_block base size align) (record { kind = Mut; block = Some (length w.blocks); place = base; len = 0 }) memory reply r
+begun-caused w next p (External base size) memory reply r =
+    new-caused w next (world.external_block base size) (record { kind = View; block = Some (length w.blocks); place = base; len = size }) memory reply r
 begun-caused w next p (Static len) memory reply r = makes memory w w next (world.detached len) reply r
 begun-caused w next p (Put h n) memory reply r = put-caused w next h n memory (world.alone_of w h Mut) reply r
 begun-caused w next p (Advance h n) memory reply r = advance-caused w next h n memory (world.any_of w h) reply r
@@ -309,7 +353,8 @@ begun-caused w next p (Clone h) memory reply r = clone-caused w next p h memory 
 begun-caused w next p (Slice h lo hi) memory reply r = slice-caused w next p h lo hi memory (world.view_of w h) reply r
 begun-caused w next p (Drop h) memory reply r = drop-caused w next p h memory (world.any_of w h) reply r
 
-acts-caused : (w next : World) (p : ℕ) (act : Act) (o : Option Unfinished) (reply : Reply) → ActsAt w p act o reply next → IsCaused (may_take act) (cause_at w act o) reply
+acts-caused : (w next : World) (p : ℕ) (act : Act) (o : Option Unfinished) (reply : Reply) → ActsAt w p act o reply next
+    → IsCaused (may_take act) (cause_at w act o) reply
 acts-caused w next p (Begin call memory) None reply r = begun-caused w next p call memory reply r
 acts-caused w next p (Begin call memory) (Some c) reply r = r.0
 acts-caused w next p (Go memory) None reply r = r.0
@@ -317,5 +362,6 @@ acts-caused w next p (Go memory) (Some c) reply r = goes-caused w next p c memor
 
 pub caused : (w next : World) (step : Step) (reply : Reply) → Steps w step reply next → IsCaused (may_take step.act) (cause_of w step) reply
 caused w next step reply m =
-    choose (λ v. IsCaused (may_take step.act) (cond v (cause_at w step.act (going_at w step.party)) (Some Idle)) reply) _ _ (nat_lt step.party (length w.calls)) m
+    choose (λ v. IsCaused (may_take step.act) (cond v (cause_at w step.act (going_at w step.party)) (Some Idle)) reply) _ _
+    (nat_lt step.party (length w.calls)) m
     (λ r. acts-caused w next step.party step.act (going_at w step.party) reply r) (λ r. r.0)

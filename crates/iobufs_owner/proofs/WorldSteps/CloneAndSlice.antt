@@ -45,7 +45,8 @@ use Rattle.iobufs_owner.proofs.WorldSteps.Taken.{refused-taken, by-test, reads-d
 -- ---- outcomes
 
 -- a call that goes on or ends, where no entry is added
-pub reply-taken : (s u t : State) (w : World) (answer reply : Reply) → entries u ≡ entries s → reading u ≡ w → IsAnswered s (record { reply = answer; state = u }) reply t → (reply ≡ answer) × (reading t ≡ w)
+pub reply-taken : (s u t : State) (w : World) (answer reply : Reply) → entries u ≡ entries s → reading u ≡ w
+    → IsAnswered s (record { reply = answer; state = u }) reply t → (reply ≡ answer) × (reading t ≡ w)
 reply-taken s u t w answer reply n r (inl (e, f)) = (e, ap reading f ∙ r)
 reply-taken s u t w answer reply n r (inr l) = absurd (grows-never s u n l.grows)
 
@@ -53,7 +54,8 @@ called-reads : (s : State) (p : ℕ) (c : Option Pending) → reading (called s 
 called-reads s p c = rw (map-set (read_call s.tables) s.calls p c) refl
 
 -- the same where the tables change and keep what is spoken of
-called-kept : (s : State) (g : Tables) (p : ℕ) (c : Option Pending) → IsSound s → Keeps s.tables g → All (KeepsLetGo s.tables g) s.calls → g.blocks ≡ s.tables.blocks → reading (called (record s { tables = g }) p c) ≡ call_set (reading s) p (read_call g c)
+called-kept : (s : State) (g : Tables) (p : ℕ) (c : Option Pending) → IsSound s → Keeps s.tables g → All (KeepsLetGo s.tables g) s.calls
+    → g.blocks ≡ s.tables.blocks → reading (called (record s { tables = g }) p c) ≡ call_set (reading s) p (read_call g c)
 called-kept s g p c k e a b =
     let hs = handles-kept s.tables g s.calls s.handles e k.fit in
     let cs = calls-read-kept s g s.calls e a k.calls_fit in
@@ -65,10 +67,14 @@ called-kept s g p c k e a b =
 abbrev GoesAs : State → ℕ → Share → ℕ → Bool → Option Handle → Reply → World → Type 0
 GoesAs s p k left memory o reply next = SharesOn (reading s) p k.handle k.lo k.hi left memory (read_handle s.tables o) reply next
 
-loaded-as : (s t : State) (p : ℕ) (k : Share) (w : ℕ) (x : Handle) (memory : Bool) (reply : Reply) → IsSound s → IsAnswered s (ready_of s p k w memory) reply t → GoesAs s p k 3 memory (Some x) reply (reading t)
+loaded-as : (s t : State) (p : ℕ) (k : Share) (w : ℕ) (x : Handle) (memory : Bool) (reply : Reply) → IsSound s
+    → IsAnswered s (ready_of s p k w memory) reply t → GoesAs s p k 3 memory (Some x) reply (reading t)
 loaded-as s t p k w x true reply i y =
     let e = recorded-keeps s.tables 2 (loaded_block s k.handle w) in
-    elim (grown-taken s (called (with_record s 2 (loaded_block s k.handle w)) p (Some (Ready k w (next_record s)))) t (call_set (reading s) p (Some (Sharing k.handle k.lo k.hi 2))) More reply (called-kept s (recorded s.tables 2 (loaded_block s k.handle w)) p (Some (Ready k w (next_record s))) i e (λ n d l q j t. recorded-let_go s.tables 2 (loaded_block s k.handle w) q t) refl) y) [
+    elim (grown-taken s (called (with_record s 2 (loaded_block s k.handle w)) p (Some (Ready k w (next_record s)))) t
+    (call_set (reading s) p (Some (Sharing k.handle k.lo k.hi 2))) More reply
+    (called-kept s (recorded s.tables 2 (loaded_block s k.handle w)) p (Some (Ready k w (next_record s))) i e
+    (λ n d l q j t. recorded-let_go s.tables 2 (loaded_block s k.handle w) q t) refl) y) [
       | inl a ↦ inr (inr (inl (refl, refl, a)))
       | inr a ↦ inr (inl (2, omega arith, omega arith, a))
     ]
@@ -76,51 +82,77 @@ loaded-as s t p k w x false reply i y =
     let a = reply-taken s (called s p None) t (call_set (reading s) p None) (Refused Memory) reply refl (called-reads s p None) y in
     inl (refl, refl, a.0, a.1)
 
-pub loaded-goes : (s t : State) (p : ℕ) (k : Share) (w : ℕ) (memory : Bool) (reply : Reply) → IsSound s → call_at s p ≡ Some (Loaded k w) → IsAnswered s (gone_on s p (Loaded k w) memory) reply t → Goes (reading s) p (Sharing k.handle k.lo k.hi 3) memory reply (reading t)
+pub loaded-goes : (s t : State) (p : ℕ) (k : Share) (w : ℕ) (memory : Bool) (reply : Reply) → IsSound s → call_at s p ≡ Some (Loaded k w)
+    → IsAnswered s (gone_on s p (Loaded k w) memory) reply t → Goes (reading s) p (Sharing k.handle k.lo k.hi 3) memory reply (reading t)
 unfolding Goes gone_on
 loaded-goes s t p k w memory reply i at y =
     let l = loading s p k w i at in
-    subst (λ (o : Option Held). SharesOn (reading s) p k.handle k.lo k.hi 3 memory o reply (reading t)) (sym (held-reads s k.handle ∙ ap (read_handle s.tables) l.shares.at)) (loaded-as s t p k w l.view memory reply i y)
+    subst (λ (o : Option Held). SharesOn (reading s) p k.handle k.lo k.hi 3 memory o reply (reading t))
+    (sym (held-reads s k.handle ∙ ap (read_handle s.tables) l.shares.at)) (loaded-as s t p k w l.view memory reply i y)
 
 -- the handle whose descriptor becomes a record shows the same
-shown-reads : (s : State) (p : ℕ) (k : Share) (w r : ℕ) → IsSound s → (a : IsRacing s k w r) → reading (called (edited s k.handle (by_record a.view r)) p None) ≡ call_set (reading s) p None
+shown-reads : (s : State) (p : ℕ) (k : Share) (w r : ℕ) → IsSound s → (a : IsRacing s k w r)
+    → reading (called (edited s k.handle (by_record a.view r)) p None) ≡ call_set (reading s) p None
 shown-reads s p k w r i a =
-    let o : owner_of s.tables (by_record a.view r) ≡ owner_of s.tables a.view = owner-counted s.tables (by_record a.view r) r refl ∙ ap Some a.same ∙ sym a.promised.owner in
+    let o : owner_of s.tables (by_record a.view r) ≡ owner_of s.tables a.view =
+    owner-counted s.tables (by_record a.view r) r refl ∙ ap Some a.same ∙ sym a.promised.owner in
     let l = at-some s.handles k.handle a.view a.shares.at in
-    let e : read_handle s.tables (Some (by_record a.view r)) ≡ get_or (map (read_handle s.tables) s.handles) k.handle None = ap (λ (b : Option ℕ). Some (record { kind = a.view.kind; block = b; place = a.view.ptr; len = a.view.len })) o ∙ sym (get_or-read (read_handle s.tables) s.handles k.handle None ∙ ap (read_handle s.tables) a.shares.at) in
+    let e : read_handle s.tables (Some (by_record a.view r)) ≡ get_or (map (read_handle s.tables) s.handles) k.handle None =
+    ap (λ (b : Option ℕ). Some (record { kind = a.view.kind; block = b; place = a.view.ptr; len = a.view.len })) o
+    ∙ sym (get_or-read (read_handle s.tables) s.handles k.handle None ∙ ap (read_handle s.tables) a.shares.at) in
     let m = set-get (map (read_handle s.tables) s.handles) k.handle (read_handle s.tables (Some (by_record a.view r))) None (rw length-map l) e in
     rw (map-set (read_call s.tables) s.calls p None, map-set (read_handle s.tables) s.handles k.handle (Some (by_record a.view r)), m) refl
 
-race-as : (s t : State) (p : ℕ) (k : Share) (w r : ℕ) (memory : Bool) (reply : Reply) (v : Word) → IsSound s → (a : IsRacing s k w r) → a.view.word ≡ v → IsAnswered s (long.race_by s p k w r a.view v) reply t → GoesAs s p k 2 memory (Some a.view) reply (reading t)
+race-as : (s t : State) (p : ℕ) (k : Share) (w r : ℕ) (memory : Bool) (reply : Reply) (v : Word) → IsSound s → (a : IsRacing s k w r)
+    → a.view.word ≡ v → IsAnswered s (long.race_by s p k w r a.view v) reply t → GoesAs s p k 2 memory (Some a.view) reply (reading t)
 race-as s t p k w r memory reply Empty i a e y = elim a.promised.now' [ inl z ↦ absurd (let q = sym e ∙ z in cc) | inr z ↦ absurd (let q = sym e ∙ z.1 in cc) ]
 race-as s t p k w r memory reply (Descriptor u) i a e y =
     elim a.promised.now' [
       | inl z ↦ (let q = sym e ∙ z in
           let same : u ≡ w = cc in
           let ow = a.promised.owner in
-          let one = alone-at s k.handle a.view a.block i a.shares.at (alone-described s.tables a.block a.view u e ∙ ap (is_block a.block) ow ∙ is-eqb a.block a.block refl) in
+          let one = alone-at s k.handle a.view a.block i a.shares.at
+          (alone-described s.tables a.block a.view u e ∙ ap (is_block a.block) ow ∙ is-eqb a.block a.block refl) in
           let c = i.size.ceiling in
-          let y' = subst (λ (b : Bool). IsAnswered s (cond b (shared (edited s k.handle (record a.view { word = Counted r })) p k a.view r) (change.refused s Idle)) reply t) (is-eqb u w same) y in
+          let y' = subst
+          (λ (b : Bool). IsAnswered s (cond b (shared (edited s k.handle (record a.view { word = Counted r })) p k a.view r)
+          (change.refused s Idle)) reply t) (is-eqb u w same) y in
           let front : Handle = part a.view k.lo k.hi (Counted r) in
           let of = owner-counted s.tables front r refl ∙ ap Some a.same ∙ sym ow in
-          let never : IsOver (reading s) (owner_of s.tables a.view) → ⊥ = subst (λ (o : Option ℕ). IsOver (reading s) o → ⊥) (sym ow) (λ z. omega (arith, z, one, c)) in
-          inr (inr (inr (inr (never, omega arith, made-taken s (called (edited s k.handle (by_record a.view r)) p None) t (call_set (reading s) p None) front (part_of (read_held s.tables a.view) k.lo k.hi) reply (shown-reads s p k w r i a) (ap (λ (b : Option ℕ). record { kind = View; block = b; place = a.view.ptr + k.lo; len = k.hi - k.lo }) of) y')))))
+          let never : IsOver (reading s) (owner_of s.tables a.view) → ⊥ =
+          subst (λ (o : Option ℕ). IsOver (reading s) o → ⊥) (sym ow) (λ z. omega (arith, z, one, c)) in
+          inr
+          (inr
+          (inr
+          (inr (
+            never,
+            omega arith,
+            made-taken s (called (edited s k.handle (by_record a.view r)) p None) t (call_set (reading s) p None) front
+                (part_of (read_held s.tables a.view) k.lo k.hi) reply (shown-reads s p k w r i a)
+                (ap (λ (b : Option ℕ). record { kind = View; block = b; place = a.view.ptr + k.lo; len = k.hi - k.lo }) of) y',
+          )))))
       | inr z ↦ absurd (let q = sym e ∙ z.1 in cc)
     ]
 race-as s t p k w r memory reply (Counted winner) i a e y =
     let q = dead-keeps s.tables r in
     let n = length-set s.tables.records r (record { count = (record_at s.tables r).count; block = (record_at s.tables r).block; live = false }) in
-    let z = reply-taken s (called (record_freed s r) p (Some (Add k winner))) t (call_set (reading s) p (Some (Sharing k.handle k.lo k.hi 1))) More reply (cc n) (called-kept s (tables_without s.tables r) p (Some (Add k winner)) i q (λ n d l v j t. dead-let_go s.tables r v) refl) y in
+    let z = reply-taken s (called (record_freed s r) p (Some (Add k winner))) t (call_set (reading s) p (Some (Sharing k.handle k.lo k.hi 1))) More
+    reply (cc n) (called-kept s (tables_without s.tables r) p (Some (Add k winner)) i q (λ n d l v j t. dead-let_go s.tables r v) refl) y in
     inr (inl (1, omega arith, omega arith, z))
 
-pub ready-goes : (s t : State) (p : ℕ) (k : Share) (w r : ℕ) (memory : Bool) (reply : Reply) → IsSound s → call_at s p ≡ Some (Ready k w r) → IsAnswered s (gone_on s p (Ready k w r) memory) reply t → Goes (reading s) p (Sharing k.handle k.lo k.hi 2) memory reply (reading t)
+pub ready-goes : (s t : State) (p : ℕ) (k : Share) (w r : ℕ) (memory : Bool) (reply : Reply) → IsSound s → call_at s p ≡ Some (Ready k w r)
+    → IsAnswered s (gone_on s p (Ready k w r) memory) reply t → Goes (reading s) p (Sharing k.handle k.lo k.hi 2) memory reply (reading t)
 unfolding Goes gone_on
 ready-goes s t p k w r memory reply i at y =
     let a = racing s p k w r i at in
     let y' = subst (λ (o : Option Handle). IsAnswered s (long.race_found s p k w r o) reply t) a.shares.at y in
-    subst (λ (o : Option Held). SharesOn (reading s) p k.handle k.lo k.hi 2 memory o reply (reading t)) (sym (held-reads s k.handle ∙ ap (read_handle s.tables) a.shares.at)) (race-as s t p k w r memory reply a.view.word i a refl y')
+    subst (λ (o : Option Held). SharesOn (reading s) p k.handle k.lo k.hi 2 memory o reply (reading t))
+    (sym (held-reads s k.handle ∙ ap (read_handle s.tables) a.shares.at)) (race-as s t p k w r memory reply a.view.word i a refl y')
 
-add-as : (s t : State) (p : ℕ) (k : Share) (r : ℕ) (memory : Bool) (reply : Reply) (v : Bool) → IsSound s → (a : IsAdding s k r) → nat_lt s.ceiling (record_at s.tables r).count ≡ v → IsAnswered s (cond v (ended s p Ceiling) (shared (with_count s r ((record_at s.tables r).count + 1)) p k a.view r)) reply t → GoesAs s p k 1 memory (Some a.view) reply (reading t)
+add-as : (s t : State) (p : ℕ) (k : Share) (r : ℕ) (memory : Bool) (reply : Reply) (v : Bool) → IsSound s → (a : IsAdding s k r)
+    → nat_lt s.ceiling (record_at s.tables r).count ≡ v
+    → IsAnswered s (cond v (ended s p Ceiling) (shared (with_count s r ((record_at s.tables r).count + 1)) p k a.view r)) reply t
+    → GoesAs s p k 1 memory (Some a.view) reply (reading t)
 add-as s t p k r memory reply true i a e y =
     let c = counted-at s k.handle a.view r i a.shares.at a.word in
     let n = (i.counted r c.live).counts c.shown in
@@ -134,62 +166,108 @@ add-as s t p k r memory reply false i a e y =
     let m = lt-false s.ceiling (record_at s.tables r).count e in
     let g' : Tables = counted s.tables r ((record_at s.tables r).count + 1) in
     let front : Handle = part a.view k.lo k.hi (Counted r) in
-    let of = owner-counted g' front r refl ∙ ap Some (counted-block s.tables r ((record_at s.tables r).count + 1) r) ∙ sym (owner-counted s.tables a.view r a.word) in
-    let never : IsOver (reading s) (owner_of s.tables a.view) → ⊥ = subst (λ (o : Option ℕ). IsOver (reading s) o → ⊥) (sym (owner-counted s.tables a.view r a.word)) (λ z. omega (arith, z, n, m)) in
-    inr (inr (inr (inr (never, omega arith, made-taken s (called (with_count s r ((record_at s.tables r).count + 1)) p None) t (call_set (reading s) p None) front (part_of (read_held s.tables a.view) k.lo k.hi) reply (called-kept s (counted s.tables r ((record_at s.tables r).count + 1)) p None i (counted-keeps s.tables r ((record_at s.tables r).count + 1)) (λ n d l q j t. counted-let_go s.tables r ((record_at s.tables r).count + 1) q still) refl) (ap (λ (b : Option ℕ). record { kind = View; block = b; place = a.view.ptr + k.lo; len = k.hi - k.lo }) of) y))))
+    let of = owner-counted g' front r refl ∙ ap Some (counted-block s.tables r ((record_at s.tables r).count + 1) r)
+    ∙ sym (owner-counted s.tables a.view r a.word) in
+    let never : IsOver (reading s) (owner_of s.tables a.view) → ⊥ =
+    subst (λ (o : Option ℕ). IsOver (reading s) o → ⊥) (sym (owner-counted s.tables a.view r a.word)) (λ z. omega (arith, z, n, m)) in
+    inr
+    (inr
+    (inr
+    (inr (
+      never,
+      omega arith,
+      made-taken s (called (with_count s r ((record_at s.tables r).count + 1)) p None) t (call_set (reading s) p None)
+          front (part_of (read_held s.tables a.view) k.lo k.hi) reply
+          (called-kept s (counted s.tables r ((record_at s.tables r).count + 1)) p None i (counted-keeps s.tables r ((record_at s.tables r).count + 1))
+          (λ n d l q j t. counted-let_go s.tables r ((record_at s.tables r).count + 1) q still) refl)
+          (ap (λ (b : Option ℕ). record { kind = View; block = b; place = a.view.ptr + k.lo; len = k.hi - k.lo }) of) y,
+    ))))
 
-pub add-goes : (s t : State) (p : ℕ) (k : Share) (r : ℕ) (memory : Bool) (reply : Reply) → IsSound s → call_at s p ≡ Some (Add k r) → IsAnswered s (gone_on s p (Add k r) memory) reply t → Goes (reading s) p (Sharing k.handle k.lo k.hi 1) memory reply (reading t)
+pub add-goes : (s t : State) (p : ℕ) (k : Share) (r : ℕ) (memory : Bool) (reply : Reply) → IsSound s → call_at s p ≡ Some (Add k r)
+    → IsAnswered s (gone_on s p (Add k r) memory) reply t → Goes (reading s) p (Sharing k.handle k.lo k.hi 1) memory reply (reading t)
 unfolding Goes gone_on
 add-goes s t p k r memory reply i at y =
     let a = adding s p k r i at in
     let y' = subst (λ (o : Option Handle). IsAnswered s (long.add_found s p k r o) reply t) a.shares.at y in
-    subst (λ (o : Option Held). SharesOn (reading s) p k.handle k.lo k.hi 1 memory o reply (reading t)) (sym (held-reads s k.handle ∙ ap (read_handle s.tables) a.shares.at)) (add-as s t p k r memory reply (nat_lt s.ceiling (record_at s.tables r).count) i a refl y')
+    subst (λ (o : Option Held). SharesOn (reading s) p k.handle k.lo k.hi 1 memory o reply (reading t))
+    (sym (held-reads s k.handle ∙ ap (read_handle s.tables) a.shares.at))
+    (add-as s t p k r memory reply (nat_lt s.ceiling (record_at s.tables r).count) i a refl y')
 
 -- ---- drops
 
-subtract-as : (s t : State) (p r : ℕ) (memory : Bool) (reply : Reply) (v : Bool) → IsSound s → call_at s p ≡ Some (Subtract r) → (record_at s.tables r).live ≡ true → hidden s.calls r ≡ 0 → 0 < (record_at s.tables r).count → nat_eq (record_at s.tables r).count 1 ≡ v → IsAnswered s (cond v (unfinished_call (with_count s r ((record_at s.tables r).count - 1)) p (Release r)) (done (called (with_count s r ((record_at s.tables r).count - 1)) p None))) reply t → Goes (reading s) p (Dropping (record_at s.tables r).block false 2) memory reply (reading t)
+subtract-as : (s t : State) (p r : ℕ) (memory : Bool) (reply : Reply) (v : Bool) → IsSound s → call_at s p ≡ Some (Subtract r)
+    → (record_at s.tables r).live ≡ true → hidden s.calls r ≡ 0 → 0 < (record_at s.tables r).count → nat_eq (record_at s.tables r).count 1 ≡ v
+    → IsAnswered s (cond v (unfinished_call (with_count s r ((record_at s.tables r).count - 1)) p (Release r))
+    (done (called (with_count s r ((record_at s.tables r).count - 1)) p None))) reply t
+    → Goes (reading s) p (Dropping (record_at s.tables r).block false 2) memory reply (reading t)
 unfolding Goes
 subtract-as s t p r memory reply true i at live shown some e y =
     let m : ℕ = (record_at s.tables r).count - 1 in
     let n = (i.counted r live).counts shown in
     let one = eq-true (record_at s.tables r).count 1 e in
-    let l = length-set s.tables.records r (record { count = (record_at s.tables r).count - 1; block = (record_at s.tables r).block; live = (record_at s.tables r).live }) in
+    let l = length-set s.tables.records r (record {
+      count = (record_at s.tables r).count - 1;
+      block = (record_at s.tables r).block;
+      live = (record_at s.tables r).live;
+    }) in
     let b = counted-block s.tables r ((record_at s.tables r).count - 1) r in
     let gone = gone-after s.tables r (live-inside s.tables.records r live) one in
-    let z = reply-taken s (called (with_count s r ((record_at s.tables r).count - 1)) p (Some (Release r))) t (call_set (reading s) p (Some (Dropping (record_at s.tables r).block true 1))) More reply (cc (l)) (called-kept s (counted s.tables r ((record_at s.tables r).count - 1)) p (Some (Release r)) i (counted-keeps s.tables r ((record_at s.tables r).count - 1)) (counted-drops s p r ((record_at s.tables r).count - 1) i at) refl ∙ ap (λ (v : Bool). call_set (reading s) p (Some (Dropping (record_at (counted s.tables r ((record_at s.tables r).count - 1)) r).block v 1))) gone ∙ ap (λ (b : ℕ). call_set (reading s) p (Some (Dropping b true 1))) b) y in
+    let z = reply-taken s (called (with_count s r ((record_at s.tables r).count - 1)) p (Some (Release r))) t
+    (call_set (reading s) p (Some (Dropping (record_at s.tables r).block true 1))) More reply (cc (l))
+    (called-kept s (counted s.tables r ((record_at s.tables r).count - 1)) p (Some (Release r)) i
+    (counted-keeps s.tables r ((record_at s.tables r).count - 1)) (counted-drops s p r ((record_at s.tables r).count - 1) i at) refl
+    ∙ ap (λ (v : Bool). call_set (reading s) p (Some (Dropping (record_at (counted s.tables r ((record_at s.tables r).count - 1)) r).block v 1)))
+    gone ∙ ap (λ (b : ℕ). call_set (reading s) p (Some (Dropping b true 1))) b) y in
     inr (inl (sym n ∙ one, omega arith, z))
 subtract-as s t p r memory reply false i at live shown some e y =
     let n = (i.counted r live).counts shown in
     let ne : (record_at s.tables r).count ≢ 1 = λ z. (let q = is-eqb (record_at s.tables r).count 1 z in cc) in
-    let l = length-set s.tables.records r (record { count = (record_at s.tables r).count - 1; block = (record_at s.tables r).block; live = (record_at s.tables r).live }) in
-    let z = reply-taken s (called (with_count s r ((record_at s.tables r).count - 1)) p None) t (call_set (reading s) p None) Done reply (cc (l)) (called-kept s (counted s.tables r ((record_at s.tables r).count - 1)) p None i (counted-keeps s.tables r ((record_at s.tables r).count - 1)) (counted-drops s p r ((record_at s.tables r).count - 1) i at) refl) y in
+    let l = length-set s.tables.records r (record {
+      count = (record_at s.tables r).count - 1;
+      block = (record_at s.tables r).block;
+      live = (record_at s.tables r).live;
+    }) in
+    let z = reply-taken s (called (with_count s r ((record_at s.tables r).count - 1)) p None) t (call_set (reading s) p None) Done reply (cc (l))
+    (called-kept s (counted s.tables r ((record_at s.tables r).count - 1)) p None i (counted-keeps s.tables r ((record_at s.tables r).count - 1))
+    (counted-drops s p r ((record_at s.tables r).count - 1) i at) refl) y in
     inl (omega (arith, n, ne, some), z.0, z.1)
 
-pub subtract-goes : (s t : State) (p r : ℕ) (memory : Bool) (reply : Reply) → IsSound s → call_at s p ≡ Some (Subtract r) → IsAnswered s (gone_on s p (Subtract r) memory) reply t → Goes (reading s) p (Dropping (record_at s.tables r).block false 2) memory reply (reading t)
+pub subtract-goes : (s t : State) (p r : ℕ) (memory : Bool) (reply : Reply) → IsSound s → call_at s p ≡ Some (Subtract r)
+    → IsAnswered s (gone_on s p (Subtract r) memory) reply t → Goes (reading s) p (Dropping (record_at s.tables r).block false 2) memory reply (reading t)
 unfolding gone_on
 subtract-goes s t p r memory reply i at y =
     let a = letting-go s p r i at in
     subtract-as s t p r memory reply (nat_eq (record_at s.tables r).count 1) i at a.live a.shown a.some refl y
 
-released-reads : (s : State) (p r : ℕ) → IsSound s → (record_at s.tables r).live ≡ true → reading (called (both_freed s r) p None) ≡ free_in (call_set (reading s) p None) (record_at s.tables r).block
+released-reads : (s : State) (p r : ℕ) → IsSound s → (record_at s.tables r).live ≡ true
+    → reading (called (both_freed s r) p None) ≡ free_in (call_set (reading s) p None) (record_at s.tables r).block
 released-reads s p r k live =
     let e = dead-keeps s.tables r in
     let hs = handles-kept s.tables (tables_without s.tables r) s.calls s.handles e k.fit in
     let cs = calls-read-kept s (tables_without s.tables r) s.calls e (λ i d l q j t. dead-let_go s.tables r q) k.calls_fit in
-    rw (freed-more s.tables s.freed_blocks (record_at s.tables r).block k.blocks (k.counted r live).known, map-set (read_call (tables_without s.tables r)) s.calls p None, hs, cs) refl
+    rw (
+      freed-more s.tables s.freed_blocks (record_at s.tables r).block k.blocks (k.counted r live).known,
+      map-set (read_call (tables_without s.tables r)) s.calls p None,
+      hs,
+      cs,
+    ) refl
 
 -- the last step of a drop, by whether it has let go
-frees : (w next : World) (p b : ℕ) (v memory : Bool) (reply : Reply) → holders w b ≡ cond v 0 1 → (reply ≡ Done) × (next ≡ free_in (call_set w p None) b) → Goes w p (Dropping b v 1) memory reply next
+frees : (w next : World) (p b : ℕ) (v memory : Bool) (reply : Reply) → holders w b ≡ cond v 0 1 → (reply ≡ Done)
+    × (next ≡ free_in (call_set w p None) b) → Goes w p (Dropping b v 1) memory reply next
 unfolding Goes
 frees w next p b true memory reply n z = (n, z.0, z.1)
 frees w next p b false memory reply n z = inr (inr (n, z.0, z.1))
 
-pub release-goes : (s t : State) (p r : ℕ) (memory : Bool) (reply : Reply) → IsSound s → call_at s p ≡ Some (Release r) → IsAnswered s (gone_on s p (Release r) memory) reply t → Goes (reading s) p (Dropping (record_at s.tables r).block (has_let_go s.tables r) 1) memory reply (reading t)
+pub release-goes : (s t : State) (p r : ℕ) (memory : Bool) (reply : Reply) → IsSound s → call_at s p ≡ Some (Release r)
+    → IsAnswered s (gone_on s p (Release r) memory) reply t
+    → Goes (reading s) p (Dropping (record_at s.tables r).block (has_let_go s.tables r) 1) memory reply (reading t)
 unfolding gone_on
 release-goes s t p r memory reply i at y =
     let f : FitsCall s (Some (Release r)) = subst (λ (c : Option Pending). FitsCall s c) at (i.calls_fit p None (at-some s.calls p (Release r) at)) in
     let l = length-set s.tables.records r (record { count = (record_at s.tables r).count; block = (record_at s.tables r).block; live = false }) in
-    let z = reply-taken s (called (both_freed s r) p None) t (free_in (call_set (reading s) p None) (record_at s.tables r).block) Done reply (cc (l)) (released-reads s p r i f.live) y in
+    let z = reply-taken s (called (both_freed s r) p None) t (free_in (call_set (reading s) p None) (record_at s.tables r).block) Done reply (cc (l))
+    (released-reads s p r i f.live) y in
     frees (reading s) (reading t) p (record_at s.tables r).block (has_let_go s.tables r) memory reply f.alone z
 
 -- ---- a clone or a slice begins
@@ -213,38 +291,49 @@ Begun s p h lo hi x o reply next =
     MatchOption o (NoRoom (reading s) reply next ⊎ Makes (reading s) (part_of (read_held s.tables x) lo hi) reply next)
     (λ _. GoesOnWithin (reading s) p (Sharing h lo hi) 3 reply next)
 
-begun-word : (s t : State) (p h lo hi : ℕ) (x : Handle) (reply : Reply) (w : Word) → IsSound s → handle_at s h ≡ Some x → x.word ≡ w → IsAnswered s (long.share_by s p (record { handle = h; lo = lo; hi = hi }) x w) reply t → Begun s p h lo hi x (owner_of s.tables x) reply (reading t)
+begun-word : (s t : State) (p h lo hi : ℕ) (x : Handle) (reply : Reply) (w : Word) → IsSound s → handle_at s h ≡ Some x → x.word ≡ w
+    → IsAnswered s (long.share_by s p (record { handle = h; lo = lo; hi = hi }) x w) reply t → Begun s p h lo hi x (owner_of s.tables x) reply (reading t)
 begun-word s t p h lo hi x reply Empty k at e y =
     let n = owner-empty s.tables x e in
     let front : Handle = part x lo hi Empty in
     let of = owner-empty s.tables front refl ∙ sym n in
     subst (λ (o : Option ℕ). Begun s p h lo hi x o reply (reading t)) (sym n)
-    (made-taken s s t (reading s) front (part_of (read_held s.tables x) lo hi) reply refl (ap (λ (b : Option ℕ). record { kind = View; block = b; place = x.ptr + lo; len = hi - lo }) of) y)
+    (made-taken s s t (reading s) front (part_of (read_held s.tables x) lo hi) reply refl
+    (ap (λ (b : Option ℕ). record { kind = View; block = b; place = x.ptr + lo; len = hi - lo }) of) y)
 begun-word s t p h lo hi x reply (Descriptor w) k at e y =
     let d = described-at s h x w k at e in
     let k' : Share = record { handle = h; lo = lo; hi = hi } in
-    let z = reply-taken s (called s p (Some (Loaded k' w))) t (call_set (reading s) p (Some (Sharing h lo hi 3))) More reply refl (called-reads s p (Some (Loaded k' w))) y in
+    let z = reply-taken s (called s p (Some (Loaded k' w))) t (call_set (reading s) p (Some (Sharing h lo hi 3))) More reply refl
+    (called-reads s p (Some (Loaded k' w))) y in
     subst (λ (o : Option ℕ). Begun s p h lo hi x o reply (reading t)) (sym d.says.owner) (record { left = 3; some = omega arith; few = omega arith; goes = z })
 begun-word s t p h lo hi x reply (Counted r) k at e y =
     let k' : Share = record { handle = h; lo = lo; hi = hi } in
-    let z = reply-taken s (called s p (Some (Add k' r))) t (call_set (reading s) p (Some (Sharing h lo hi 1))) More reply refl (called-reads s p (Some (Add k' r))) y in
-    subst (λ (o : Option ℕ). Begun s p h lo hi x o reply (reading t)) (sym (owner-counted s.tables x r e)) (record { left = 1; some = omega arith; few = omega arith; goes = z })
+    let z = reply-taken s (called s p (Some (Add k' r))) t (call_set (reading s) p (Some (Sharing h lo hi 1))) More reply refl
+    (called-reads s p (Some (Add k' r))) y in
+    subst (λ (o : Option ℕ). Begun s p h lo hi x o reply (reading t)) (sym (owner-counted s.tables x r e))
+    (record { left = 1; some = omega arith; few = omega arith; goes = z })
 
-clone-lent : (s t : State) (p h : ℕ) (reply : Reply) (r : Result Handle Refusal) → IsSound s → lending.view_of s h ≡ r → IsAnswered s (long.clone_lent s p h r) reply t → world.CloneIs (reading s) p h (read_lent s.tables r) reply (reading t)
+clone-lent : (s t : State) (p h : ℕ) (reply : Reply) (r : Result Handle Refusal) → IsSound s → lending.view_of s h ≡ r
+    → IsAnswered s (long.clone_lent s p h r) reply t → world.CloneIs (reading s) p h (read_lent s.tables r) reply (reading t)
 clone-lent s t p h reply (Err why) k e i = refused-taken s t why reply i
 clone-lent s t p h reply (Ok x) k e i = begun-word s t p h 0 x.len x reply x.word k (view-tells s h x e) refl i
 
-pub clone-steps : (s t : State) (p h : ℕ) (reply : Reply) → IsSound s → IsAnswered s (long.clone_of s p h) reply t → world.CloneIs (reading s) p h (world.view_of (reading s) h) reply (reading t)
+pub clone-steps : (s t : State) (p h : ℕ) (reply : Reply) → IsSound s → IsAnswered s (long.clone_of s p h) reply t
+    → world.CloneIs (reading s) p h (world.view_of (reading s) h) reply (reading t)
 clone-steps s t p h reply k i = rw (view-reads s h) (clone-lent s t p h reply (lending.view_of s h) k refl i)
 
-slice-lent : (s t : State) (p h lo hi : ℕ) (reply : Reply) (r : Result Handle Refusal) → IsSound s → lending.view_of s h ≡ r → IsAnswered s (long.slice_lent s p h lo hi r) reply t → world.SliceIs (reading s) p h lo hi (read_lent s.tables r) reply (reading t)
+slice-lent : (s t : State) (p h lo hi : ℕ) (reply : Reply) (r : Result Handle Refusal) → IsSound s → lending.view_of s h ≡ r
+    → IsAnswered s (long.slice_lent s p h lo hi r) reply t → world.SliceIs (reading s) p h lo hi (read_lent s.tables r) reply (reading t)
 slice-lent s t p h lo hi reply (Err why) k e i = refused-taken s t why reply i
 slice-lent s t p h lo hi reply (Ok x) k e i =
-    by-test _ _ s t (change.refused s OutOfRange) (cond (nat_eq lo hi) (made s (change.detached 0)) (long.share_by s p (record { handle = h; lo = lo; hi = hi }) x x.word)) reply (nat_lt hi lo || nat_lt x.len hi)
+    by-test _ _ s t (change.refused s OutOfRange)
+    (cond (nat_eq lo hi) (made s (change.detached 0)) (long.share_by s p (record { handle = h; lo = lo; hi = hi }) x x.word)) reply
+    (nat_lt hi lo || nat_lt x.len hi)
     (λ _ i. refused-taken s t OutOfRange reply i)
     (λ _ i. by-test _ _ s t (made s (change.detached 0)) (long.share_by s p (record { handle = h; lo = lo; hi = hi }) x x.word) reply (nat_eq lo hi)
     (λ _ i. made-taken s s t (reading s) (change.detached 0) (world.detached 0) reply refl (reads-detached s.tables 0) i)
     (λ _ i. begun-word s t p h lo hi x reply x.word k (view-tells s h x e) refl i) i) i
 
-pub slice-steps : (s t : State) (p h lo hi : ℕ) (reply : Reply) → IsSound s → IsAnswered s (long.slice_of s p h lo hi) reply t → world.SliceIs (reading s) p h lo hi (world.view_of (reading s) h) reply (reading t)
+pub slice-steps : (s t : State) (p h lo hi : ℕ) (reply : Reply) → IsSound s → IsAnswered s (long.slice_of s p h lo hi) reply t
+    → world.SliceIs (reading s) p h lo hi (world.view_of (reading s) h) reply (reading t)
 slice-steps s t p h lo hi reply k i = rw (view-reads s h) (slice-lent s t p h lo hi reply (lending.view_of s h) k refl i)

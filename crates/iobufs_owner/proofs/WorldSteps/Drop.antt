@@ -43,20 +43,37 @@ Begun s p h o reply next =
 gone-entries : (s : State) (h : ℕ) → length (set s.handles h None) ≡ length s.handles
 gone-entries s h = length-set s.handles h None
 
-drop-reads : (s : State) (p h : ℕ) (c : Pending) → reading (called (state_without s h) p (Some c)) ≡ call_set (held_gone (reading s) h) p (read_call s.tables (Some c))
+drop-reads : (s : State) (p h : ℕ) (c : Pending) → reading (called (state_without s h) p (Some c))
+    ≡ call_set (held_gone (reading s) h) p (read_call s.tables (Some c))
 drop-reads s p h c = rw (map-set (read_handle s.tables) s.handles h None, map-set (read_call s.tables) s.calls p (Some c)) refl
 
 -- beside others it will subtract, alone it will free
-drop-viewed : (s t : State) (p h r : ℕ) (reply : Reply) (v : Bool) → nat_eq (record_at s.tables r).count 1 ≡ v → IsAnswered s (unfinished_call (state_without s h) p (cond v (Release r) (Subtract r))) reply t → GoesOnWithin (held_gone (reading s) h) p (Dropping (record_at s.tables r).block false) 2 reply (reading t)
+drop-viewed : (s t : State) (p h r : ℕ) (reply : Reply) (v : Bool) → nat_eq (record_at s.tables r).count 1 ≡ v
+    → IsAnswered s (unfinished_call (state_without s h) p (cond v (Release r) (Subtract r))) reply t
+    → GoesOnWithin (held_gone (reading s) h) p (Dropping (record_at s.tables r).block false) 2 reply (reading t)
 drop-viewed s t p h r reply true e i =
     let still : has_let_go s.tables r ≡ false = grind (arith, nat_tests, e) in
     let l = gone-entries s h in
-    record { left = 1; some = omega arith; few = omega arith; goes = reply-taken s (called (state_without s h) p (Some (Release r))) t (call_set (held_gone (reading s) h) p (Some (Dropping (record_at s.tables r).block false 1))) More reply (cc (l)) (drop-reads s p h (Release r) ∙ ap (λ (v : Bool). call_set (held_gone (reading s) h) p (Some (Dropping (record_at s.tables r).block v 1))) still) i }
+    record {
+      left = 1;
+      some = omega arith;
+      few = omega arith;
+      goes = reply-taken s (called (state_without s h) p (Some (Release r))) t
+          (call_set (held_gone (reading s) h) p (Some (Dropping (record_at s.tables r).block false 1))) More reply (cc (l))
+          (drop-reads s p h (Release r) ∙ ap (λ (v : Bool). call_set (held_gone (reading s) h) p (Some (Dropping (record_at s.tables r).block v 1))) still) i;
+    }
 drop-viewed s t p h r reply false e i =
     let l = gone-entries s h in
-    record { left = 2; some = omega arith; few = omega arith; goes = reply-taken s (called (state_without s h) p (Some (Subtract r))) t (call_set (held_gone (reading s) h) p (Some (Dropping (record_at s.tables r).block false 2))) More reply (cc (l)) (drop-reads s p h (Subtract r)) i }
+    record {
+      left = 2;
+      some = omega arith;
+      few = omega arith;
+      goes = reply-taken s (called (state_without s h) p (Some (Subtract r))) t
+          (call_set (held_gone (reading s) h) p (Some (Dropping (record_at s.tables r).block false 2))) More reply (cc (l)) (drop-reads s p h (Subtract r)) i;
+    }
 
-drop-kind : (s t : State) (p h r : ℕ) (x : Handle) (reply : Reply) (kind : Kind) → IsSound s → handle_at s h ≡ Some x → x.word ≡ Counted r → x.kind ≡ kind → IsAnswered s (long.drop_counted s p h r kind) reply t → Begun s p h (Some (record_at s.tables r).block) reply (reading t)
+drop-kind : (s t : State) (p h r : ℕ) (x : Handle) (reply : Reply) (kind : Kind) → IsSound s → handle_at s h ≡ Some x → x.word ≡ Counted r
+    → x.kind ≡ kind → IsAnswered s (long.drop_counted s p h r kind) reply t → Begun s p h (Some (record_at s.tables r).block) reply (reading t)
 drop-kind s t p h r x reply View k at w e i = inr (drop-viewed s t p h r reply (nat_eq (record_at s.tables r).count 1) refl i)
 drop-kind s t p h r x reply Mut k at w e i =
     let b : ℕ = (record_at s.tables r).block in
@@ -64,10 +81,12 @@ drop-kind s t p h r x reply Mut k at w e i =
     let one = alone-at s h x b k at (alone-written s.tables b x r w e ∙ ap (is_block b) (owner-counted s.tables x r w) ∙ is-eqb b b refl) in
     let l = gone-entries s h in
     let m = length-set s.tables.records r (record { count = (record_at s.tables r).count; block = (record_at s.tables r).block; live = false }) in
-    let z = done-taken s (state_without (both_freed s r) h) t (free_in (held_gone (reading s) h) (record_at s.tables r).block) reply (cc (l, m)) (both-reads s h r None k c.live) i in
+    let z = done-taken s (state_without (both_freed s r) h) t (free_in (held_gone (reading s) h) (record_at s.tables r).block) reply (cc (l, m))
+    (both-reads s h r None k c.live) i in
     inl (one, z.0, z.1)
 
-drop-word : (s t : State) (p h : ℕ) (x : Handle) (reply : Reply) (w : Word) → IsSound s → handle_at s h ≡ Some x → x.word ≡ w → IsAnswered s (long.drop_by s p h x w) reply t → Begun s p h (owner_of s.tables x) reply (reading t)
+drop-word : (s t : State) (p h : ℕ) (x : Handle) (reply : Reply) (w : Word) → IsSound s → handle_at s h ≡ Some x → x.word ≡ w
+    → IsAnswered s (long.drop_by s p h x w) reply t → Begun s p h (owner_of s.tables x) reply (reading t)
 drop-word s t p h x reply Empty k at w i =
     let l = gone-entries s h in
     subst (λ (o : Option ℕ). Begun s p h o reply (reading t)) (sym (owner-empty s.tables x w))
@@ -78,14 +97,17 @@ drop-word s t p h x reply (Descriptor v) k at w i =
     let one = alone-at s h x d.block k at (alone-described s.tables d.block x v w ∙ ap (is_block d.block) d.says.owner ∙ is-eqb d.block d.block refl) in
     let l = gone-entries s h in
     let i' = subst (λ (f : Freed). IsAnswered s (done (state_without (block_freed s f) h)) reply t) (recovered-is s h x v d.block k at w d.says.owner) i in
-    let z = done-taken s (state_without (block_freed s (triple (block_at s.tables d.block))) h) t (free_in (held_gone (reading s) h) d.block) reply (cc (l)) (freed-reads s h d.block None k d.says.known) i' in
+    let z = done-taken s (state_without (block_freed s (triple (block_at s.tables d.block))) h) t (free_in (held_gone (reading s) h) d.block) reply
+    (cc (l)) (freed-reads s h d.block None k d.says.known) i' in
     subst (λ (o : Option ℕ). Begun s p h o reply (reading t)) (sym d.says.owner) (inl (one, z.0, z.1))
 drop-word s t p h x reply (Counted r) k at w i =
     subst (λ (o : Option ℕ). Begun s p h o reply (reading t)) (sym (owner-counted s.tables x r w)) (drop-kind s t p h r x reply x.kind k at w refl i)
 
-drop-lent : (s t : State) (p h : ℕ) (reply : Reply) (r : Result Handle Refusal) → IsSound s → lending.any_of s h ≡ r → IsAnswered s (long.drop_lent s p h r) reply t → world.DropIs (reading s) p h (read_lent s.tables r) reply (reading t)
+drop-lent : (s t : State) (p h : ℕ) (reply : Reply) (r : Result Handle Refusal) → IsSound s → lending.any_of s h ≡ r
+    → IsAnswered s (long.drop_lent s p h r) reply t → world.DropIs (reading s) p h (read_lent s.tables r) reply (reading t)
 drop-lent s t p h reply (Err why) k e i = refused-taken s t why reply i
 drop-lent s t p h reply (Ok x) k e i = drop-word s t p h x reply x.word k (any-tells s h x e).at refl i
 
-pub drop-steps : (s t : State) (p h : ℕ) (reply : Reply) → IsSound s → IsAnswered s (long.drop_of s p h) reply t → world.DropIs (reading s) p h (world.any_of (reading s) h) reply (reading t)
+pub drop-steps : (s t : State) (p h : ℕ) (reply : Reply) → IsSound s → IsAnswered s (long.drop_of s p h) reply t
+    → world.DropIs (reading s) p h (world.any_of (reading s) h) reply (reading t)
 drop-steps s t p h reply k i = rw (any-reads s h) (drop-lent s t p h reply (lending.any_of s h) k refl i)

@@ -62,13 +62,16 @@ refuses : (w next : World) (p : ℕ) (o : Option Unfinished) (why : Refusal) (re
 refuses w next p o why reply (e, f) = inl (ap (λ (w : World). w.calls) f, λ z. (let q = sym e ∙ z in absurd (cc)))
 
 -- the calls stay, and the answer is another than `More`
-stays : (w u next : World) (p : ℕ) (o : Option Unfinished) (answer reply : Reply) → u.calls ≡ w.calls → (answer ≡ More → ⊥) → reply ≡ answer → next ≡ u → Changes w p o reply next
+stays : (w u next : World) (p : ℕ) (o : Option Unfinished) (answer reply : Reply) → u.calls ≡ w.calls → (answer ≡ More → ⊥) → reply ≡ answer
+    → next ≡ u → Changes w p o reply next
 stays w u next p o answer reply c n e f = inl (ap (λ (w : World). w.calls) f ∙ c, λ z. n (sym e ∙ z))
 
-makes : (w u next : World) (p : ℕ) (o : Option Unfinished) (x : Held) (reply : Reply) → u.calls ≡ w.calls → world.Makes u x reply next → Changes w p o reply next
+makes : (w u next : World) (p : ℕ) (o : Option Unfinished) (x : Held) (reply : Reply) → u.calls ≡ w.calls → world.Makes u x reply next
+    → Changes w p o reply next
 makes w u next p o x reply c (e, f) = stays w (world.held_more u x) next p o (Made (length u.handles)) reply c (λ z. absurd (cc)) e f
 
-room-or : (w u next : World) (p : ℕ) (o : Option Unfinished) (x : Held) (reply : Reply) → u.calls ≡ w.calls → (world.NoRoom w reply next ⊎ world.Makes u x reply next) → Changes w p o reply next
+room-or : (w u next : World) (p : ℕ) (o : Option Unfinished) (x : Held) (reply : Reply) → u.calls ≡ w.calls
+    → (world.NoRoom w reply next ⊎ world.Makes u x reply next) → Changes w p o reply next
 room-or w u next p o x reply c (inl r) = refuses w next p o Room reply r
 room-or w u next p o x reply c (inr m) = makes w u next p o x reply c m
 
@@ -76,21 +79,26 @@ room-or w u next p o x reply c (inr m) = makes w u next p o x reply c m
 
 new-call : (w next : World) (p : ℕ) (b : Block) (x : Held) (memory : Bool) (reply : Reply) → world.NewIs w b x memory reply next → Changes w p None reply next
 new-call w next p b x memory reply (inl (bad, r)) = refuses w next p None BadPlace reply r
-new-call w next p b x memory reply (inr (good, m)) = either _ _ _ memory m (λ r. room-or w (world.block_more w b) next p None x reply refl r) (λ r. refuses w next p None Memory reply r)
+new-call w next p b x memory reply (inr (good, m)) =
+    either _ _ _ memory m (λ r. room-or w (world.block_more w b) next p None x reply refl r) (λ r. refuses w next p None Memory reply r)
 
 put-call : (w next : World) (p h n : ℕ) (r : Result Held Refusal) (reply : Reply) → world.PutIs w h n r reply next → Changes w p None reply next
 put-call w next p h n (Err why) reply r = refuses w next p None why reply r
-put-call w next p h n (Ok x) reply m = either _ _ _ (nat_lt (world.capacity w x - x.len) n) m (λ r. refuses w next p None OutOfRange reply r) (λ r. stays w (world.held_set w h (record x { len = x.len + n })) next p None Done reply refl (λ z. absurd (cc)) r.0 r.1)
+put-call w next p h n (Ok x) reply m = either _ _ _ (nat_lt (world.capacity w x - x.len) n) m (λ r. refuses w next p None OutOfRange reply r)
+    (λ r. stays w (world.held_set w h (record x { len = x.len + n })) next p None Done reply refl (λ z. absurd (cc)) r.0 r.1)
 
 advance-call : (w next : World) (p h n : ℕ) (r : Result Held Refusal) (reply : Reply) → world.AdvanceIs w h n r reply next → Changes w p None reply next
 advance-call w next p h n (Err why) reply r = refuses w next p None why reply r
-advance-call w next p h n (Ok x) reply m = either _ _ _ (nat_lt x.len n) m (λ r. refuses w next p None OutOfRange reply r) (λ r. stays w (world.held_set w h (record x { place = x.place + n; len = x.len - n })) next p None Done reply refl (λ z. absurd (cc)) r.0 r.1)
+advance-call w next p h n (Ok x) reply m =
+    either _ _ _ (nat_lt x.len n) m (λ r. refuses w next p None OutOfRange reply r)
+    (λ r. stays w (world.held_set w h (record x { place = x.place + n; len = x.len - n })) next p None Done reply refl (λ z. absurd (cc)) r.0 r.1)
 
 free-calls : (w : World) (o : Option ℕ) → (world.free_of w o).calls ≡ w.calls
 free-calls w None = refl
 free-calls w (Some b) = refl
 
-freeze-call : (w next : World) (p h : ℕ) (memory : Bool) (r : Result Held Refusal) (reply : Reply) → world.FreezeIs w h memory r reply next → Changes w p None reply next
+freeze-call : (w next : World) (p h : ℕ) (memory : Bool) (r : Result Held Refusal) (reply : Reply) → world.FreezeIs w h memory r reply next
+    → Changes w p None reply next
 freeze-call w next p h memory (Err why) reply r = refuses w next p None why reply r
 freeze-call w next p h memory (Ok x) reply m =
     either _ _ _ (nat_eq x.len 0) m
@@ -108,7 +116,8 @@ recover-call w next p h (Err why) reply r = refuses w next p None why reply r
 recover-call w next p h (Ok x) reply (inl (m, e, f)) = stays w (world.held_set w h (record x { kind = Mut })) next p None Done reply refl (λ z. absurd (cc)) e f
 recover-call w next p h (Ok x) reply (inr (m, (e, f))) = stays w w next p None Declined reply refl (λ z. absurd (cc)) e f
 
-split-call : (w next : World) (p h at : ℕ) (memory : Bool) (r : Result Held Refusal) (reply : Reply) → world.SplitIs w h at memory r reply next → Changes w p None reply next
+split-call : (w next : World) (p h at : ℕ) (memory : Bool) (r : Result Held Refusal) (reply : Reply) → world.SplitIs w h at memory r reply next
+    → Changes w p None reply next
 split-call w next p h at memory (Err why) reply r = refuses w next p None why reply r
 split-call w next p h at memory (Ok x) reply m =
     either _ _ _ (nat_lt x.len at) m (λ r. refuses w next p None OutOfRange reply r)
@@ -133,40 +142,61 @@ demote-call w next p (Ok b) reply (inr (e, f)) = stays w w next p None Declined 
 
 -- ---- calls of several steps
 
-goes-on : (w u next : World) (p : ℕ) (o : Option Unfinished) (c : Unfinished) (reply : Reply) → p < length w.calls → u.calls ≡ w.calls → 0 < left_of c → IsLess o c → GoesOn u p c reply next → Changes w p o reply next
+goes-on : (w u next : World) (p : ℕ) (o : Option Unfinished) (c : Unfinished) (reply : Reply) → p < length w.calls → u.calls ≡ w.calls
+    → 0 < left_of c → IsLess o c → GoesOn u p c reply next → Changes w p o reply next
 goes-on w u next p o c reply l e some less (m, f) =
-    inr (inl (record { party = l; call = c; calls = ap (λ (w : World). w.calls) f ∙ ap (λ (cs : List (Option Unfinished)). set cs p (Some c)) e; more = m; some = some; less = less }))
+    inr (inl (record {
+      party = l;
+      call = c;
+      calls = ap (λ (w : World). w.calls) f ∙ ap (λ (cs : List (Option Unfinished)). set cs p (Some c)) e;
+      more = m;
+      some = some;
+      less = less;
+    }))
 
-ends : (w u next : World) (p : ℕ) (o : Option Unfinished) (answer reply : Reply) → p < length w.calls → u.calls ≡ set w.calls p None → ((n : ℕ) → taken_after n answer ≡ 0) → reply ≡ answer → next ≡ u → Changes w p o reply next
+ends : (w u next : World) (p : ℕ) (o : Option Unfinished) (answer reply : Reply) → p < length w.calls → u.calls ≡ set w.calls p None
+    → ((n : ℕ) → taken_after n answer ≡ 0) → reply ≡ answer → next ≡ u → Changes w p o reply next
 ends w u next p o answer reply l c z e f = inr (inr (record { party = l; calls = ap (λ (w : World). w.calls) f ∙ c; none = λ n. ap (taken_after n) e ∙ z n }))
 
-share-call : (w next : World) (p h lo hi : ℕ) (x : Held) (o : Option ℕ) (reply : Reply) → p < length w.calls → MatchOption o (world.NoRoom w reply next ⊎ world.Makes w (world.part_of x lo hi) reply next) (λ _. GoesOnWithin w p (Sharing h lo hi) 3 reply next) → Changes w p None reply next
+share-call : (w next : World) (p h lo hi : ℕ) (x : Held) (o : Option ℕ) (reply : Reply) → p < length w.calls
+    → MatchOption o (world.NoRoom w reply next ⊎ world.Makes w (world.part_of x lo hi) reply next)
+    (λ _. GoesOnWithin w p (Sharing h lo hi) 3 reply next) → Changes w p None reply next
 share-call w next p h lo hi x None reply l r = room-or w w next p None (world.part_of x lo hi) reply refl r
 share-call w next p h lo hi x (Some b) reply l g = goes-on w w next p None (Sharing h lo hi g.left) reply l refl g.some g.few g.goes
 
-clone-call : (w next : World) (p h : ℕ) (r : Result Held Refusal) (reply : Reply) → p < length w.calls → world.CloneIs w p h r reply next → Changes w p None reply next
+clone-call : (w next : World) (p h : ℕ) (r : Result Held Refusal) (reply : Reply) → p < length w.calls → world.CloneIs w p h r reply next
+    → Changes w p None reply next
 clone-call w next p h (Err why) reply l r = refuses w next p None why reply r
 clone-call w next p h (Ok x) reply l r = share-call w next p h 0 x.len x x.block reply l r
 
-slice-call : (w next : World) (p h lo hi : ℕ) (r : Result Held Refusal) (reply : Reply) → p < length w.calls → world.SliceIs w p h lo hi r reply next → Changes w p None reply next
+slice-call : (w next : World) (p h lo hi : ℕ) (r : Result Held Refusal) (reply : Reply) → p < length w.calls → world.SliceIs w p h lo hi r reply next
+    → Changes w p None reply next
 slice-call w next p h lo hi (Err why) reply l r = refuses w next p None why reply r
 slice-call w next p h lo hi (Ok x) reply l m =
     either _ _ _ (nat_lt hi lo || nat_lt x.len hi) m (λ r. refuses w next p None OutOfRange reply r)
     (λ m. either _ _ _ (nat_eq lo hi) m (λ r. room-or w w next p None (world.detached 0) reply refl r) (λ r. share-call w next p h lo hi x x.block reply l r))
 
-drop-held : (w next : World) (p h : ℕ) (o : Option ℕ) (reply : Reply) → p < length w.calls → MatchOption o ((reply ≡ Done) × (next ≡ world.held_gone w h)) (λ b. ((holders w b ≡ 1) × (reply ≡ Done) × (next ≡ world.free_in (world.held_gone w h) b)) ⊎ GoesOnWithin (world.held_gone w h) p (Dropping b false) 2 reply next) → Changes w p None reply next
+drop-held : (w next : World) (p h : ℕ) (o : Option ℕ) (reply : Reply) → p < length w.calls
+    → MatchOption o ((reply ≡ Done) × (next ≡ world.held_gone w h))
+    (λ b. ((holders w b ≡ 1) × (reply ≡ Done) × (next ≡ world.free_in (world.held_gone w h) b))
+    ⊎ GoesOnWithin (world.held_gone w h) p (Dropping b false) 2 reply next) → Changes w p None reply next
 drop-held w next p h None reply l (e, f) = stays w (world.held_gone w h) next p None Done reply refl (λ z. absurd (cc)) e f
 drop-held w next p h (Some b) reply l (inl (one, e, f)) = stays w (world.free_in (world.held_gone w h) b) next p None Done reply refl (λ z. absurd (cc)) e f
-drop-held w next p h (Some b) reply l (inr g) = let few = g.few in goes-on w (world.held_gone w h) next p None (Dropping b false g.left) reply l refl g.some (omega (arith, few)) g.goes
+drop-held w next p h (Some b) reply l (inr g) = let few = g.few in
+    goes-on w (world.held_gone w h) next p None (Dropping b false g.left) reply l refl g.some (omega (arith, few)) g.goes
 
-drop-call : (w next : World) (p h : ℕ) (r : Result Held Refusal) (reply : Reply) → p < length w.calls → world.DropIs w p h r reply next → Changes w p None reply next
+drop-call : (w next : World) (p h : ℕ) (r : Result Held Refusal) (reply : Reply) → p < length w.calls → world.DropIs w p h r reply next
+    → Changes w p None reply next
 drop-call w next p h (Err why) reply l r = refuses w next p None why reply r
 drop-call w next p h (Ok x) reply l r = drop-held w next p h x.block reply l r
 
-begun : (w next : World) (p : ℕ) (call : Call) (memory : Bool) (reply : Reply) → p < length w.calls → Begins w p call memory reply next → Changes w p None reply next
+begun : (w next : World) (p : ℕ) (call : Call) (memory : Bool) (reply : Reply) → p < length w.calls → Begins w p call memory reply next
+    → Changes w p None reply next
 unfolding Begins
-begun w next p (New base size align) memory reply l r = new-call w next p (world.native_block base size align) (record { kind = Mut; block = Some (length w.blocks); place = base; len = 0 }) memory reply r
-begun w next p (External base size) memory reply l r = new-call w next p (world.external_block base size) (record { kind = View; block = Some (length w.blocks); place = base; len = size }) memory reply r
+begun w next p (New base size align) memory reply l r =
+    new-call w next p (world.native_block base size align) (record { kind = Mut; block = Some (length w.blocks); place = base; len = 0 }) memory reply r
+begun w next p (External base size) memory reply l r =
+    new-call w next p (world.external_block base size) (record { kind = View; block = Some (length w.blocks); place = base; len = size }) memory reply r
 begun w next p (Static len) memory reply l r = room-or w w next p None (world.detached len) reply refl r
 begun w next p (Put h n) memory reply l r = put-call w next p h n (world.alone_of w h Mut) reply r
 begun w next p (Advance h n) memory reply l r = advance-call w next p h n (world.any_of w h) reply r
@@ -179,30 +209,44 @@ begun w next p (Clone h) memory reply l r = clone-call w next p h (world.view_of
 begun w next p (Slice h lo hi) memory reply l r = slice-call w next p h lo hi (world.view_of w h) reply l r
 begun w next p (Drop h) memory reply l r = drop-call w next p h (world.any_of w h) reply l r
 
-shares : (w next : World) (p h lo hi left : ℕ) (memory : Bool) (o : Option Held) (reply : Reply) → p < length w.calls → SharesOn w p h lo hi left memory o reply next → Changes w p (Some (Sharing h lo hi left)) reply next
+shares : (w next : World) (p h lo hi left : ℕ) (memory : Bool) (o : Option Held) (reply : Reply) → p < length w.calls
+    → SharesOn w p h lo hi left memory o reply next → Changes w p (Some (Sharing h lo hi left)) reply next
 shares w next p h lo hi left memory None reply l r = absurd r
-shares w next p h lo hi left memory (Some x) reply l (inl (three, m, e, f)) = ends w (world.call_set w p None) next p (Some (Sharing h lo hi left)) (Refused Memory) reply l refl (λ n. refl) e f
-shares w next p h lo hi left memory (Some x) reply l (inr (inl (fewer, some, few, g))) = goes-on w w next p (Some (Sharing h lo hi left)) (Sharing h lo hi fewer) reply l refl some few g
+shares w next p h lo hi left memory (Some x) reply l (inl (three, m, e, f)) =
+    ends w (world.call_set w p None) next p (Some (Sharing h lo hi left)) (Refused Memory) reply l refl (λ n. refl) e f
+shares w next p h lo hi left memory (Some x) reply l (inr (inl (fewer, some, few, g))) =
+    goes-on w w next p (Some (Sharing h lo hi left)) (Sharing h lo hi fewer) reply l refl some few g
 shares w next p h lo hi left memory (Some x) reply l (inr (inr (inl (three, m, r)))) = refuses w next p (Some (Sharing h lo hi left)) Room reply r
-shares w next p h lo hi left memory (Some x) reply l (inr (inr (inr (inl (one, over, e, f))))) = ends w (world.call_set w p None) next p (Some (Sharing h lo hi left)) (Refused Ceiling) reply l refl (λ n. refl) e f
+shares w next p h lo hi left memory (Some x) reply l (inr (inr (inr (inl (one, over, e, f))))) =
+    ends w (world.call_set w p None) next p (Some (Sharing h lo hi left)) (Refused Ceiling) reply l refl (λ n. refl) e f
 shares w next p h lo hi left memory (Some x) reply l (inr (inr (inr (inr (never, few, inl r))))) = refuses w next p (Some (Sharing h lo hi left)) Room reply r
-shares w next p h lo hi left memory (Some x) reply l (inr (inr (inr (inr (never, few, inr (e, f)))))) = ends w (world.held_more (world.call_set w p None) (world.part_of x lo hi)) next p (Some (Sharing h lo hi left)) (Made (length w.handles)) reply l refl (λ n. refl) e f
+shares w next p h lo hi left memory (Some x) reply l (inr (inr (inr (inr (never, few, inr (e, f)))))) =
+    ends w (world.held_more (world.call_set w p None) (world.part_of x lo hi)) next p (Some (Sharing h lo hi left)) (Made (length w.handles)) reply l
+    refl (λ n. refl) e f
 
-gone-on : (w next : World) (p : ℕ) (c : Unfinished) (memory : Bool) (reply : Reply) → p < length w.calls → Goes w p c memory reply next → Changes w p (Some c) reply next
+gone-on : (w next : World) (p : ℕ) (c : Unfinished) (memory : Bool) (reply : Reply) → p < length w.calls → Goes w p c memory reply next
+    → Changes w p (Some c) reply next
 unfolding Goes
 gone-on w next p (Sharing h lo hi left) memory reply l r = shares w next p h lo hi left memory (held_at w h) reply l r
-gone-on w next p (Dropping b false left) memory reply l (inl (n, e, f)) = ends w (world.call_set w p None) next p (Some (Dropping b false left)) Done reply l refl (λ n. refl) e f
-gone-on w next p (Dropping b false left) memory reply l (inr (inl (n, some, g))) = goes-on w w next p (Some (Dropping b false left)) (Dropping b true 1) reply l refl (omega arith) some g
-gone-on w next p (Dropping b false left) memory reply l (inr (inr (n, e, f))) = ends w (world.free_in (world.call_set w p None) b) next p (Some (Dropping b false left)) Done reply l refl (λ n. refl) e f
-gone-on w next p (Dropping b true left) memory reply l (n, e, f) = ends w (world.free_in (world.call_set w p None) b) next p (Some (Dropping b true left)) Done reply l refl (λ n. refl) e f
+gone-on w next p (Dropping b false left) memory reply l (inl (n, e, f)) =
+    ends w (world.call_set w p None) next p (Some (Dropping b false left)) Done reply l refl (λ n. refl) e f
+gone-on w next p (Dropping b false left) memory reply l (inr (inl (n, some, g))) =
+    goes-on w w next p (Some (Dropping b false left)) (Dropping b true 1) reply l refl (omega arith) some g
+gone-on w next p (Dropping b false left) memory reply l (inr (inr (n, e, f))) =
+    ends w (world.free_in (world.call_set w p None) b) next p (Some (Dropping b false left)) Done reply l refl (λ n. refl) e f
+gone-on w next p (Dropping b true left) memory reply l (n, e, f) =
+    ends w (world.free_in (world.call_set w p None) b) next p (Some (Dropping b true left)) Done reply l refl (λ n. refl) e f
 
-acts : (w next : World) (p : ℕ) (act : Act) (o : Option Unfinished) (reply : Reply) → p < length w.calls → ActsAt w p act o reply next → Changes w p o reply next
+acts : (w next : World) (p : ℕ) (act : Act) (o : Option Unfinished) (reply : Reply) → p < length w.calls → ActsAt w p act o reply next
+    → Changes w p o reply next
 acts w next p (Begin call memory) None reply l r = begun w next p call memory reply l r
 acts w next p (Begin call memory) (Some c) reply l r = refuses w next p (Some c) Busy reply r
 acts w next p (Go memory) None reply l r = refuses w next p None Idle reply r
 acts w next p (Go memory) (Some c) reply l r = gone-on w next p c memory reply l r
 
-changes-by : (w next : World) (step : Step) (reply : Reply) (v : Bool) → nat_lt step.party (length w.calls) ≡ v → MatchBool v (ActsAt w step.party step.act (going_at w step.party) reply next) (world.Refuses w Idle reply next) → Changes w step.party (going_at w step.party) reply next
+changes-by : (w next : World) (step : Step) (reply : Reply) (v : Bool) → nat_lt step.party (length w.calls) ≡ v
+    → MatchBool v (ActsAt w step.party step.act (going_at w step.party) reply next) (world.Refuses w Idle reply next)
+    → Changes w step.party (going_at w step.party) reply next
 changes-by w next step reply true e m = acts w next step.party step.act (going_at w step.party) reply (lt-true step.party (length w.calls) e) m
 changes-by w next step reply false e r = refuses w next step.party (going_at w step.party) Idle reply r
 
@@ -248,22 +292,58 @@ own w next p n reply j (inl (e, f)) =
     let a = after-less n reply f in
     let t = j.taken in
     let m = j.few in
-    record { call = j.call; is = ap (λ (cs : List (Option Unfinished)). get_or cs p None) e ∙ j.is; taken = omega (arith, a, t); few = omega (arith, a, m); short = j.short }
+    record {
+      call = j.call;
+      is = ap (λ (cs : List (Option Unfinished)). get_or cs p None) e ∙ j.is;
+      taken = omega (arith, a, t);
+      few = omega (arith, a, m);
+      short = j.short;
+    }
 own w next p n reply j (inr (inl g)) =
     let a : taken_after n reply ≡ n + 1 = ap (taken_after n) g.more in
     let b = one-more j.call g.call n j.taken j.short g.less in
     let f = taken-left g.call in
     let d = b.0 in
     let some = g.some in
-    record { call = Some g.call; is = ap (λ (cs : List (Option Unfinished)). get_or cs p None) g.calls ∙ get_or-set_same w.calls p (Some g.call) None g.party; taken = rw a b.0; few = omega (arith, a, d, f, some); short = b.1 }
+    record {
+      call = Some g.call;
+      is = ap (λ (cs : List (Option Unfinished)). get_or cs p None) g.calls ∙ get_or-set_same w.calls p (Some g.call) None g.party;
+      taken = rw a b.0;
+      few = omega (arith, a, d, f, some);
+      short = b.1;
+    }
 own w next p n reply j (inr (inr g)) =
-    record { call = None; is = ap (λ (cs : List (Option Unfinished)). get_or cs p None) g.calls ∙ get_or-set_same w.calls p None None g.party; taken = rw (g.none n) (omega arith); few = rw (g.none n) (omega arith); short = tt }
+    record {
+      call = None;
+      is = ap (λ (cs : List (Option Unfinished)). get_or cs p None) g.calls ∙ get_or-set_same w.calls p None None g.party;
+      taken = rw (g.none n) (omega arith);
+      few = rw (g.none n) (omega arith);
+      short = tt;
+    }
 
 -- that of another party
 others : (w next : World) (p q n : ℕ) (c : Option Unfinished) (reply : Reply) → p ≢ q → IsNear w p n → Changes w q c reply next → IsNear next p n
-others w next p q n c reply d j (inl (e, f)) = record { call = j.call; is = ap (λ (cs : List (Option Unfinished)). get_or cs p None) e ∙ j.is; taken = j.taken; few = j.few; short = j.short }
-others w next p q n c reply d j (inr (inl g)) = record { call = j.call; is = ap (λ (cs : List (Option Unfinished)). get_or cs p None) g.calls ∙ get_or-set_other w.calls q p (Some g.call) None d ∙ j.is; taken = j.taken; few = j.few; short = j.short }
-others w next p q n c reply d j (inr (inr g)) = record { call = j.call; is = ap (λ (cs : List (Option Unfinished)). get_or cs p None) g.calls ∙ get_or-set_other w.calls q p None None d ∙ j.is; taken = j.taken; few = j.few; short = j.short }
+others w next p q n c reply d j (inl (e, f)) = record {
+  call = j.call;
+  is = ap (λ (cs : List (Option Unfinished)). get_or cs p None) e ∙ j.is;
+  taken = j.taken;
+  few = j.few;
+  short = j.short;
+}
+others w next p q n c reply d j (inr (inl g)) = record {
+  call = j.call;
+  is = ap (λ (cs : List (Option Unfinished)). get_or cs p None) g.calls ∙ get_or-set_other w.calls q p (Some g.call) None d ∙ j.is;
+  taken = j.taken;
+  few = j.few;
+  short = j.short;
+}
+others w next p q n c reply d j (inr (inr g)) = record {
+  call = j.call;
+  is = ap (λ (cs : List (Option Unfinished)). get_or cs p None) g.calls ∙ get_or-set_other w.calls q p None None d ∙ j.is;
+  taken = j.taken;
+  few = j.few;
+  short = j.short;
+}
 
 -- where a run begins
 near-call : (g : Tables) (c : Option Pending) → (taken_of (read_call g c) < 4) × IsShort (read_call g c)
@@ -285,7 +365,8 @@ counts-taken s next step reply m = λ n l.
     let r = own (reading s) next p n reply j c in
     (r.few, rw r.is r.taken)
 
-pub ends-in-four : (m next : Seen) (p n : ℕ) (steps : List Step) (replies : List Reply) → GrowingRuns m steps replies next → IsNear (reading m.state) p n → EndsInFour p n steps replies
+pub ends-in-four : (m next : Seen) (p n : ℕ) (steps : List Step) (replies : List Reply) → GrowingRuns m steps replies next
+    → IsNear (reading m.state) p n → EndsInFour p n steps replies
 ends-in-four m next p n [] replies r j = tt
 ends-in-four m next p n (step ∷ steps) [] r j = tt
 ends-in-four m next p n (step ∷ steps) (reply ∷ replies) (grown, mid, has, one, r) near =
@@ -294,10 +375,12 @@ ends-in-four m next p n (step ∷ steps) (reply ∷ replies) (grown, mid, has, o
     elim (eqb_tells step.party p) [
       | inl e ↦ (
           let c' = subst (λ (q : ℕ). Changes (reading grown.state) q (going_at (reading grown.state) q) reply (reading mid.state)) e.1 c in
-          let f = own (reading grown.state) (reading mid.state) p n reply j (subst (λ (o : Option Unfinished). Changes (reading grown.state) p o reply (reading mid.state)) j.is c') in
+          let f = own (reading grown.state) (reading mid.state) p n reply j
+          (subst (λ (o : Option Unfinished). Changes (reading grown.state) p o reply (reading mid.state)) j.is c') in
           rw e.0 (f.few, ends-in-four mid next p (taken_after n reply) steps replies r f)
           )
-      | inr e ↦ rw e.0 (ends-in-four mid next p n steps replies r (others (reading grown.state) (reading mid.state) p step.party n (going_at (reading grown.state) step.party) reply (λ z. e.1 (sym z)) j c))
+      | inr e ↦ rw e.0 (ends-in-four mid next p n steps replies r
+          (others (reading grown.state) (reading mid.state) p step.party n (going_at (reading grown.state) step.party) reply (λ z. e.1 (sym z)) j c))
     ]
 
 pub near-start : (s : State) (p : ℕ) → IsNear (reading s) p (taken_of (going_at (reading s) p))

@@ -39,38 +39,60 @@ use Rattle.iobufs_owner.proofs.WorldSteps.Taken.{refused-taken, done-taken, grow
 -- ---- a handle that lets its block go
 
 -- the handle is replaced, and one triple more is in the log
-pub freed-reads : (s : State) (h b : ℕ) (o : Option Handle) → IsSound s → b < length s.tables.blocks → reading (replaced (block_freed s (triple (block_at s.tables b))) h o) ≡ record (free_in (reading s) b) { handles = set (reading s).handles h (read_handle s.tables o) }
+pub freed-reads : (s : State) (h b : ℕ) (o : Option Handle) → IsSound s → b < length s.tables.blocks
+    → reading (replaced (block_freed s (triple (block_at s.tables b))) h o)
+    ≡ record (free_in (reading s) b) { handles = set (reading s).handles h (read_handle s.tables o) }
 freed-reads s h b o k l = rw (freed-more s.tables s.freed_blocks b k.blocks l, map-set (read_handle s.tables) s.handles h o) refl
 
 -- the same with the record
-pub both-reads : (s : State) (h r : ℕ) (o : Option Handle) → IsSound s → (record_at s.tables r).live ≡ true → reading (replaced (both_freed s r) h o) ≡ record (free_in (reading s) (record_at s.tables r).block) { handles = set (reading s).handles h (read_handle (tables_without s.tables r) o) }
+pub both-reads : (s : State) (h r : ℕ) (o : Option Handle) → IsSound s → (record_at s.tables r).live ≡ true
+    → reading (replaced (both_freed s r) h o) ≡ record (free_in (reading s) (record_at s.tables r).block)
+    { handles = set (reading s).handles h (read_handle (tables_without s.tables r) o) }
 both-reads s h r o k live =
     let e = dead-keeps s.tables r in
     let hs = handles-kept s.tables (tables_without s.tables r) s.calls s.handles e k.fit in
     let cs = calls-read-kept s (tables_without s.tables r) s.calls e (λ i d l q j t. dead-let_go s.tables r q) k.calls_fit in
-    rw (freed-more s.tables s.freed_blocks (record_at s.tables r).block k.blocks (k.counted r live).known, map-set (read_handle (tables_without s.tables r)) s.handles h o, hs, cs) refl
+    rw (
+      freed-more s.tables s.freed_blocks (record_at s.tables r).block k.blocks (k.counted r live).known,
+      map-set (read_handle (tables_without s.tables r)) s.handles h o,
+      hs,
+      cs,
+    ) refl
 
 -- what stands after an empty handle is frozen
-nothing-reads : (s : State) (h : ℕ) (x : Handle) (w : Word) → IsSound s → Lends s h Mut x → x.word ≡ w → reading (edited (short.freed_with s x w) h (change.detached 0)) ≡ held_set (free_of (reading s) (owner_of s.tables x)) h (world.detached 0)
-nothing-reads s h x Empty k l w = rw (owner-empty s.tables x w) (rw (map-set (read_handle s.tables) s.handles h (Some (change.detached 0)), reads-detached s.tables 0) refl)
+nothing-reads : (s : State) (h : ℕ) (x : Handle) (w : Word) → IsSound s → Lends s h Mut x → x.word ≡ w
+    → reading (edited (short.freed_with s x w) h (change.detached 0)) ≡ held_set (free_of (reading s) (owner_of s.tables x)) h (world.detached 0)
+nothing-reads s h x Empty k l w = rw (owner-empty s.tables x w)
+    (rw (map-set (read_handle s.tables) s.handles h (Some (change.detached 0)), reads-detached s.tables 0) refl)
 nothing-reads s h x (Descriptor v) k l w =
     let d = described-at s h x v k l.at w in
-    subst (λ (f : Freed). reading (replaced (block_freed s f) h (Some (change.detached 0))) ≡ held_set (free_of (reading s) (owner_of s.tables x)) h (world.detached 0)) (sym (recovered-is s h x v d.block k l.at w d.says.owner))
-    (subst (λ (o : Option ℕ). reading (replaced (block_freed s (triple (block_at s.tables d.block))) h (Some (change.detached 0))) ≡ held_set (free_of (reading s) o) h (world.detached 0)) (sym d.says.owner)
-    (freed-reads s h d.block (Some (change.detached 0)) k d.says.known ∙ ap (λ (z : Held). record (free_in (reading s) d.block) { handles = set (reading s).handles h (Some z) }) (reads-detached s.tables 0)))
+    subst (λ (f : Freed). reading (replaced (block_freed s f) h (Some (change.detached 0)))
+    ≡ held_set (free_of (reading s) (owner_of s.tables x)) h (world.detached 0)) (sym (recovered-is s h x v d.block k l.at w d.says.owner))
+    (subst (λ (o : Option ℕ). reading (replaced (block_freed s (triple (block_at s.tables d.block))) h (Some (change.detached 0)))
+    ≡ held_set (free_of (reading s) o) h (world.detached 0)) (sym d.says.owner)
+    (freed-reads s h d.block (Some (change.detached 0)) k d.says.known
+    ∙ ap (λ (z : Held). record (free_in (reading s) d.block) { handles = set (reading s).handles h (Some z) }) (reads-detached s.tables 0)))
 nothing-reads s h x (Counted r) k l w =
     let c = counted-at s h x r k l.at w in
-    subst (λ (o : Option ℕ). reading (replaced (both_freed s r) h (Some (change.detached 0))) ≡ held_set (free_of (reading s) o) h (world.detached 0)) (sym (owner-counted s.tables x r w))
-    (both-reads s h r (Some (change.detached 0)) k c.live ∙ ap (λ (z : Held). record (free_in (reading s) (record_at s.tables r).block) { handles = set (reading s).handles h (Some z) }) (reads-detached (tables_without s.tables r) 0))
+    subst (λ (o : Option ℕ). reading (replaced (both_freed s r) h (Some (change.detached 0)))
+    ≡ held_set (free_of (reading s) o) h (world.detached 0)) (sym (owner-counted s.tables x r w))
+    (both-reads s h r (Some (change.detached 0)) k c.live
+    ∙ ap (λ (z : Held). record (free_in (reading s) (record_at s.tables r).block) { handles = set (reading s).handles h (Some z) })
+    (reads-detached (tables_without s.tables r) 0))
 
 nothing-entries : (s : State) (h : ℕ) (x : Handle) (w : Word) → entries (edited (short.freed_with s x w) h (change.detached 0)) ≡ entries s
 nothing-entries s h x Empty = rw length-set refl
 nothing-entries s h x (Descriptor v) = rw length-set refl
-nothing-entries s h x (Counted r) = let a = length-set s.handles h (Some (change.detached 0)) in let b = length-set s.tables.records r (record { count = (record_at s.tables r).count; block = (record_at s.tables r).block; live = false }) in cc (a, b)
+nothing-entries s h x (Counted r) = let a = length-set s.handles h (Some (change.detached 0)) in let b = length-set s.tables.records r (record {
+  count = (record_at s.tables r).count;
+  block = (record_at s.tables r).block;
+  live = false;
+}) in cc (a, b)
 
 -- ---- a handle whose descriptor becomes a record
 
-pub promoted-reads : (s : State) (h b n : ℕ) (x y : Handle) (z : Held) → IsSound s → handle_at s h ≡ Some x → read_held (recorded s.tables n b) y ≡ z → reading (edited (change.with_record s n b) h y) ≡ held_set (reading s) h z
+pub promoted-reads : (s : State) (h b n : ℕ) (x y : Handle) (z : Held) → IsSound s → handle_at s h ≡ Some x → read_held (recorded s.tables n b) y ≡ z
+    → reading (edited (change.with_record s n b) h y) ≡ held_set (reading s) h z
 promoted-reads s h b n x y z k at e =
     let q = recorded-keeps s.tables n b in
     let hs = handles-kept s.tables (recorded s.tables n b) s.calls s.handles q k.fit in
@@ -88,40 +110,60 @@ Freezes s h x memory reply next =
     ⊎ GrantedNoRoom (reading s) (owner_of s.tables x) memory reply next
     ⊎ ((reply ≡ Done) × (next ≡ held_set (reading s) h (record { kind = View; block = owner_of s.tables x; place = x.ptr; len = x.len })))
 
-freeze-promoted : (s t : State) (h v : ℕ) (x : Handle) (memory : Bool) (reply : Reply) → IsSound s → Lends s h Mut x → x.word ≡ Descriptor v → IsAnswered s (cond memory (done (edited (promoted s x 1) h (frozen x (Counted (next_record s))))) (refused s Memory)) reply t → Freezes s h x memory reply (reading t)
+freeze-promoted : (s t : State) (h v : ℕ) (x : Handle) (memory : Bool) (reply : Reply) → IsSound s → Lends s h Mut x → x.word ≡ Descriptor v
+    → IsAnswered s (cond memory (done (edited (promoted s x 1) h (frozen x (Counted (next_record s))))) (refused s Memory)) reply t
+    → Freezes s h x memory reply (reading t)
 freeze-promoted s t h v x true reply k l w i =
     let d = described-at s h x v k l.at w in
     let y : Handle = frozen x (Counted (length s.tables.records)) in
     let o = recorded-owner s.tables 1 (owned_by s.tables x) y refl in
     let n : owned_by s.tables x ≡ d.block = rw d.says.owner refl in
-    let z : read_held (recorded s.tables 1 (owned_by s.tables x)) y ≡ record { kind = View; block = owner_of s.tables x; place = x.ptr; len = x.len } = ap (λ (b : Option ℕ). record { kind = View; block = b; place = x.ptr; len = x.len }) (o ∙ ap Some n ∙ sym d.says.owner) in
-    elim (grown-taken s (edited (promoted s x 1) h y) t (held_set (reading s) h (record { kind = View; block = owner_of s.tables x; place = x.ptr; len = x.len })) Done reply (promoted-reads s h (owned_by s.tables x) 1 x y (record { kind = View; block = owner_of s.tables x; place = x.ptr; len = x.len }) k l.at z) i) [ inl a ↦ inr (inl (record { some = subst IsSome (sym d.says.owner) refl; granted = refl; no_room = a })) | inr a ↦ inr (inr a) ]
+    let z : read_held (recorded s.tables 1 (owned_by s.tables x)) y
+    ≡ record { kind = View; block = owner_of s.tables x; place = x.ptr; len = x.len } =
+    ap (λ (b : Option ℕ). record { kind = View; block = b; place = x.ptr; len = x.len }) (o ∙ ap Some n ∙ sym d.says.owner) in
+    elim (grown-taken s (edited (promoted s x 1) h y) t
+    (held_set (reading s) h (record { kind = View; block = owner_of s.tables x; place = x.ptr; len = x.len })) Done reply
+    (promoted-reads s h (owned_by s.tables x) 1 x y (record { kind = View; block = owner_of s.tables x; place = x.ptr; len = x.len }) k l.at z)
+    i) [ inl a ↦ inr (inl (record { some = subst IsSome (sym d.says.owner) refl; granted = refl; no_room = a })) | inr a ↦ inr (inr a) ]
 freeze-promoted s t h v x false reply k l w i =
     let d = described-at s h x v k l.at w in
     inl (record { some = subst IsSome (sym d.says.owner) refl; denied = refl; refuses = refused-taken s t Memory reply i })
 
-freeze-described : (s t : State) (h v : ℕ) (x : Handle) (memory : Bool) (reply : Reply) (u : Bool) → IsSound s → Lends s h Mut x → x.word ≡ Descriptor v → nat_lt (x.cap - x.len) (2 ^ s.tables.tail_bits) ≡ u → IsAnswered s (cond u (done (edited s h (frozen x (Descriptor (retailed s.tables v (x.cap - x.len)))))) (cond memory (done (edited (promoted s x 1) h (frozen x (Counted (next_record s))))) (refused s Memory))) reply t → Freezes s h x memory reply (reading t)
+freeze-described : (s t : State) (h v : ℕ) (x : Handle) (memory : Bool) (reply : Reply) (u : Bool) → IsSound s → Lends s h Mut x
+    → x.word ≡ Descriptor v → nat_lt (x.cap - x.len) (2 ^ s.tables.tail_bits) ≡ u
+    → IsAnswered s (cond u (done (edited s h (frozen x (Descriptor (retailed s.tables v (x.cap - x.len))))))
+    (cond memory (done (edited (promoted s x 1) h (frozen x (Counted (next_record s))))) (refused s Memory))) reply t → Freezes s h x memory reply (reading t)
 freeze-described s t h v x memory reply true k l w e i =
     let d = described-at s h x v k l.at w in
     let y : Handle = frozen x (Descriptor (retailed s.tables v (x.cap - x.len))) in
-    let o = owner-redescribed s.tables x y v (retailed s.tables v (x.cap - x.len)) w refl (base-frozen s.tables x v d.block d.log d.tail l.kind_is (within s h x k l.at l.kind_is) d.says (lt-true (x.cap - x.len) (2 ^ s.tables.tail_bits) e)) in
+    let o = owner-redescribed s.tables x y v (retailed s.tables v (x.cap - x.len)) w refl
+    (base-frozen s.tables x v d.block d.log d.tail l.kind_is (within s h x k l.at l.kind_is) d.says (lt-true (x.cap - x.len) (2 ^ s.tables.tail_bits) e)) in
     inr (inr (edit-taken s t h y (record { kind = View; block = owner_of s.tables x; place = x.ptr; len = x.len }) reply (rw o refl) i))
 freeze-described s t h v x memory reply false k l w e i = freeze-promoted s t h v x memory reply k l w i
 
-freeze-word : (s t : State) (h : ℕ) (x : Handle) (memory : Bool) (reply : Reply) (w : Word) → IsSound s → Lends s h Mut x → x.word ≡ w → IsAnswered s (short.freeze_by s h memory x w) reply t → Freezes s h x memory reply (reading t)
+freeze-word : (s t : State) (h : ℕ) (x : Handle) (memory : Bool) (reply : Reply) (w : Word) → IsSound s → Lends s h Mut x → x.word ≡ w
+    → IsAnswered s (short.freeze_by s h memory x w) reply t → Freezes s h x memory reply (reading t)
 freeze-word s t h x memory reply Empty k l w i =
-    inr (inr (edit-taken s t h (frozen x Empty) (record { kind = View; block = owner_of s.tables x; place = x.ptr; len = x.len }) reply (rw (owner-empty s.tables (frozen x Empty) refl, owner-empty s.tables x w) refl) i))
+    inr
+    (inr (edit-taken s t h (frozen x Empty) (record { kind = View; block = owner_of s.tables x; place = x.ptr; len = x.len }) reply
+    (rw (owner-empty s.tables (frozen x Empty) refl, owner-empty s.tables x w) refl) i))
 freeze-word s t h x memory reply (Descriptor v) k l w i = freeze-described s t h v x memory reply (nat_lt (x.cap - x.len) (2 ^ s.tables.tail_bits)) k l w refl i
 freeze-word s t h x memory reply (Counted r) k l w i =
-    inr (inr (edit-taken s t h (frozen x (Counted r)) (record { kind = View; block = owner_of s.tables x; place = x.ptr; len = x.len }) reply (rw (owner-counted s.tables (frozen x (Counted r)) r refl, owner-counted s.tables x r w) refl) i))
+    inr
+    (inr (edit-taken s t h (frozen x (Counted r)) (record { kind = View; block = owner_of s.tables x; place = x.ptr; len = x.len }) reply
+    (rw (owner-counted s.tables (frozen x (Counted r)) r refl, owner-counted s.tables x r w) refl) i))
 
-freeze-lent : (s t : State) (h : ℕ) (memory : Bool) (reply : Reply) (r : Result Handle Refusal) → IsSound s → lend_of s h Mut ≡ r → IsAnswered s (short.freeze_lent s h memory r) reply t → world.FreezeIs (reading s) h memory (read_lent s.tables r) reply (reading t)
+freeze-lent : (s t : State) (h : ℕ) (memory : Bool) (reply : Reply) (r : Result Handle Refusal) → IsSound s → lend_of s h Mut ≡ r
+    → IsAnswered s (short.freeze_lent s h memory r) reply t → world.FreezeIs (reading s) h memory (read_lent s.tables r) reply (reading t)
 freeze-lent s t h memory reply (Err why) k e i = refused-taken s t why reply i
 freeze-lent s t h memory reply (Ok x) k e i =
     let l = lend-tells s h Mut x e in
     by-test _ _ s t (done (edited (short.freed_with s x x.word) h (change.detached 0))) (short.freeze_by s h memory x x.word) reply (nat_eq x.len 0)
-    (λ _ i. done-taken s (edited (short.freed_with s x x.word) h (change.detached 0)) t (held_set (free_of (reading s) (owner_of s.tables x)) h (world.detached 0)) reply (nothing-entries s h x x.word) (nothing-reads s h x x.word k l refl) i)
+    (λ _ i. done-taken s (edited (short.freed_with s x x.word) h (change.detached 0)) t
+    (held_set (free_of (reading s) (owner_of s.tables x)) h (world.detached 0)) reply (nothing-entries s h x x.word)
+    (nothing-reads s h x x.word k l refl) i)
     (λ _ i. freeze-word s t h x memory reply x.word k l refl i) i
 
-pub freeze-steps : (s t : State) (h : ℕ) (memory : Bool) (reply : Reply) → IsSound s → IsAnswered s (short.freeze_of s h memory) reply t → world.FreezeIs (reading s) h memory (world.alone_of (reading s) h Mut) reply (reading t)
+pub freeze-steps : (s t : State) (h : ℕ) (memory : Bool) (reply : Reply) → IsSound s → IsAnswered s (short.freeze_of s h memory) reply t
+    → world.FreezeIs (reading s) h memory (world.alone_of (reading s) h Mut) reply (reading t)
 freeze-steps s t h memory reply k i = rw (alone-reads s h Mut) (freeze-lent s t h memory reply (lend_of s h Mut) k refl i)

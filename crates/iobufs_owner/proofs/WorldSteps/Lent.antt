@@ -16,7 +16,8 @@ same-kind View Mut e = absurd (cc)
 same-kind Mut View e = absurd (cc)
 same-kind Mut Mut e = refl
 
-free-of : (s : State) (h : ℕ) (kind : Kind) (x y : Handle) (v u : Bool) → handle_at s h ≡ Some y → same_kind y.kind kind ≡ v → is_lent h s.calls ≡ u → cond v (cond u (Err Borrowed) (Ok y)) (Err WrongKind) ≡ Ok x → Lends s h kind x
+free-of : (s : State) (h : ℕ) (kind : Kind) (x y : Handle) (v u : Bool) → handle_at s h ≡ Some y → same_kind y.kind kind ≡ v → is_lent h s.calls ≡ u
+    → cond v (cond u (Err Borrowed) (Ok y)) (Err WrongKind) ≡ Ok x → Lends s h kind x
 free-of s h kind x y true true at e f i = absurd (cc)
 free-of s h kind x y true false at e f i =
     let q : y ≡ x = cc in
@@ -36,7 +37,8 @@ lend-tells s h kind x e =
 pub owner-same : (g : Tables) (x y : Handle) → y.word ≡ x.word → ((w : ℕ) → base_by g y w ≡ base_by g x w) → owner_of g y ≡ owner_of g x
 unfolding owner_of
 owner-same g x y e b =
-    let by : (v : Word) → owner_by g y v ≡ owner_by g x v = λ v. elim v as (λ v. owner_by g y v ≡ owner_by g x v) [ Empty ↦ refl | Descriptor w ↦ ap (λ n. block_with n g.blocks) (b w) | Counted r ↦ refl ] in
+    let by : (v : Word) → owner_by g y v ≡ owner_by g x v =
+    λ v. elim v as (λ v. owner_by g y v ≡ owner_by g x v) [ Empty ↦ refl | Descriptor w ↦ ap (λ n. block_with n g.blocks) (b w) | Counted r ↦ refl ] in
     rw e (by x.word)
 
 pub base-mut : (g : Tables) (x y : Handle) → x.kind ≡ Mut → y.kind ≡ Mut → y.ptr + y.cap ≡ x.ptr + x.cap → (w : ℕ) → base_by g y w ≡ base_by g x w

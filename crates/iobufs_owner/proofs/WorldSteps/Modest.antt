@@ -77,7 +77,8 @@ other-by false a b p q = q
 
 lend-other : (s : State) (h : ℕ) (kind : Kind) (o : Option Handle) → AreOther (lending.lend_found s h kind o)
 lend-other s h kind None = λ e. absurd (cc)
-lend-other s h kind (Some x) = other-by (same_kind x.kind kind) (cond (is_lent h s.calls) (Err Borrowed) (Ok x)) (Err WrongKind) (other-by (is_lent h s.calls) (Err Borrowed) (Ok x) (λ e. absurd (cc)) tt) (λ e. absurd (cc))
+lend-other s h kind (Some x) = other-by (same_kind x.kind kind) (cond (is_lent h s.calls) (Err Borrowed) (Ok x)) (Err WrongKind)
+    (other-by (is_lent h s.calls) (Err Borrowed) (Ok x) (λ e. absurd (cc)) tt) (λ e. absurd (cc))
 
 any-other : (s : State) (h : ℕ) (o : Option Handle) → AreOther (lending.any_found s h o)
 any-other s h None = λ e. absurd (cc)
@@ -85,11 +86,13 @@ any-other s h (Some x) = other-by (is_lent h s.calls) (Err Borrowed) (Ok x) (λ 
 
 owning-other : (s : State) (h : ℕ) (o : Option Handle) → AreOther (lending.owning_found s h o)
 owning-other s h None = λ e. absurd (cc)
-owning-other s h (Some x) = other-by (lending.is_empty x.word) (Err WrongKind) (cond (is_lent h s.calls) (Err Borrowed) (Ok x)) (λ e. absurd (cc)) (other-by (is_lent h s.calls) (Err Borrowed) (Ok x) (λ e. absurd (cc)) tt)
+owning-other s h (Some x) = other-by (lending.is_empty x.word) (Err WrongKind) (cond (is_lent h s.calls) (Err Borrowed) (Ok x)) (λ e. absurd (cc))
+    (other-by (is_lent h s.calls) (Err Borrowed) (Ok x) (λ e. absurd (cc)) tt)
 
 owning-view-other : (s : State) (h : ℕ) (o : Option Handle) → AreOther (lending.owning_view_found s h o)
 owning-view-other s h None = λ e. absurd (cc)
-owning-view-other s h (Some x) = other-by (same_kind x.kind View) (lending.owning_found s h (Some x)) (Err WrongKind) (owning-other s h (Some x)) (λ e. absurd (cc))
+owning-view-other s h (Some x) = other-by (same_kind x.kind View) (lending.owning_found s h (Some x)) (Err WrongKind) (owning-other s h (Some x))
+    (λ e. absurd (cc))
 
 view-other : (o : Option Handle) → AreOther (lending.view_found o)
 view-other None = λ e. absurd (cc)
@@ -98,20 +101,46 @@ view-other (Some x) = other-by (same_kind x.kind View) (Ok x) (Err WrongKind) tt
 -- ---- small changes
 
 -- no entry more
-same : (s u : State) → u.freed_blocks ≡ s.freed_blocks → u.freed_records ≡ s.freed_records → (reply : Reply) (block : Bool) → (reply ≡ Refused Room → ⊥) → length u.handles ≡ length s.handles → length u.tables.records ≡ length s.tables.records → length u.tables.blocks ≡ length s.tables.blocks → IsModest s block (record { reply = reply; state = u })
-same s u e f reply block n h r b = record { answers = n; handles = omega (arith, h); records = omega (arith, r); blocks = omega (arith, b); logs = rw (e, f) (logs-same s) }
+same : (s u : State) → u.freed_blocks ≡ s.freed_blocks → u.freed_records ≡ s.freed_records → (reply : Reply) (block : Bool)
+    → (reply ≡ Refused Room → ⊥) → length u.handles ≡ length s.handles → length u.tables.records ≡ length s.tables.records
+    → length u.tables.blocks ≡ length s.tables.blocks → IsModest s block (record { reply = reply; state = u })
+same s u e f reply block n h r b = record {
+  answers = n;
+  handles = omega (arith, h);
+  records = omega (arith, r);
+  blocks = omega (arith, b);
+  logs = rw (e, f) (logs-same s);
+}
 
 -- the same, where something is freed
-frees : (s u : State) (reply : Reply) → KeepsLogs s u → (reply ≡ Refused Room → ⊥) → length u.handles ≡ length s.handles → length u.tables.records ≡ length s.tables.records → length u.tables.blocks ≡ length s.tables.blocks → IsModest s false (record { reply = reply; state = u })
+frees : (s u : State) (reply : Reply) → KeepsLogs s u → (reply ≡ Refused Room → ⊥) → length u.handles ≡ length s.handles
+    → length u.tables.records ≡ length s.tables.records → length u.tables.blocks ≡ length s.tables.blocks
+    → IsModest s false (record { reply = reply; state = u })
 frees s u reply g n h r b = record { answers = n; handles = omega (arith, h); records = omega (arith, r); blocks = omega (arith, b); logs = g }
 
 -- a record more, perhaps
-recorded : (s u : State) → u.freed_blocks ≡ s.freed_blocks → u.freed_records ≡ s.freed_records → (reply : Reply) (block : Bool) → (reply ≡ Refused Room → ⊥) → length u.handles ≡ length s.handles → length u.tables.records ≡ length s.tables.records + 1 → length u.tables.blocks ≡ length s.tables.blocks → IsModest s block (record { reply = reply; state = u })
-recorded s u e f reply block n h r b = record { answers = n; handles = omega (arith, h); records = omega (arith, r); blocks = omega (arith, b); logs = rw (e, f) (logs-same s) }
+recorded : (s u : State) → u.freed_blocks ≡ s.freed_blocks → u.freed_records ≡ s.freed_records → (reply : Reply) (block : Bool)
+    → (reply ≡ Refused Room → ⊥) → length u.handles ≡ length s.handles → length u.tables.records ≡ length s.tables.records + 1
+    → length u.tables.blocks ≡ length s.tables.blocks → IsModest s block (record { reply = reply; state = u })
+recorded s u e f reply block n h r b = record {
+  answers = n;
+  handles = omega (arith, h);
+  records = omega (arith, r);
+  blocks = omega (arith, b);
+  logs = rw (e, f) (logs-same s);
+}
 
 -- one handle more than u has
-made : (s u : State) → u.freed_blocks ≡ s.freed_blocks → u.freed_records ≡ s.freed_records → (x : Handle) (block : Bool) → length u.handles ≡ length s.handles → length u.tables.records ≤ length s.tables.records + 1 → length u.tables.blocks ≤ length s.tables.blocks + cond block 1 0 → IsModest s block (change.made u x)
-made s u e f x block h r b = record { answers = λ e. absurd (cc); handles = rw length-append (omega (arith, h)); records = r; blocks = b; logs = rw (e, f) (logs-same s) }
+made : (s u : State) → u.freed_blocks ≡ s.freed_blocks → u.freed_records ≡ s.freed_records → (x : Handle) (block : Bool)
+    → length u.handles ≡ length s.handles → length u.tables.records ≤ length s.tables.records + 1
+    → length u.tables.blocks ≤ length s.tables.blocks + cond block 1 0 → IsModest s block (change.made u x)
+made s u e f x block h r b = record {
+  answers = λ e. absurd (cc);
+  handles = rw length-append (omega (arith, h));
+  records = r;
+  blocks = b;
+  logs = rw (e, f) (logs-same s);
+}
 
 -- ---- calls that end with their first step
 
@@ -121,7 +150,8 @@ placed s base size log =
     (made s _ refl refl _ true refl (omega arith) (rw length-append (omega arith)))
     (made s _ refl refl _ true refl (rw length-append (omega arith)) (rw length-append (omega arith)))
 
-new-granted : (s : State) (base size align : ℕ) (memory : Bool) (o : Outcome) → MatchBool memory ((log : ℕ) × (align ≡ 2 ^ log) × (o ≡ short.placed s base size log)) (o ≡ refused s Memory) → IsModest s true o
+new-granted : (s : State) (base size align : ℕ) (memory : Bool) (o : Outcome)
+    → MatchBool memory ((log : ℕ) × (align ≡ 2 ^ log) × (o ≡ short.placed s base size log)) (o ≡ refused s Memory) → IsModest s true o
 new-granted s base size align true o (log, e, f) = subst (IsModest s true) (sym f) (placed s base size log)
 new-granted s base size align false o f = subst (IsModest s true) (sym f) (refuses s true Memory (λ e. absurd (cc)))
 
@@ -132,7 +162,9 @@ new-modest s base size align memory o (inr (good, m)) = new-granted s base size 
 external-modest : (s : State) (base size : ℕ) (memory : Bool) (o : Outcome) → short.IsExternal s base size memory o → IsModest s true o
 external-modest s base size memory o (inl (bad, f)) = subst (IsModest s true) (sym f) (refuses s true BadPlace (λ e. absurd (cc)))
 external-modest s base size memory o (inr (good, f)) =
-    subst (IsModest s true) (sym f) (by (IsModest s true) memory _ _ (made s _ refl refl _ true refl (rw length-append (omega arith)) (rw length-append (omega arith))) (refuses s true Memory (λ e. absurd (cc))))
+    subst (IsModest s true) (sym f)
+    (by (IsModest s true) memory _ _ (made s _ refl refl _ true refl (rw length-append (omega arith)) (rw length-append (omega arith)))
+    (refuses s true Memory (λ e. absurd (cc))))
 
 edited : (s : State) (h : ℕ) (x : Handle) → IsModest s false (change.done (change.edited s h x))
 edited s h x = same s _ refl refl Done false (λ e. absurd (cc)) (length-set _ _ _) refl refl
@@ -161,14 +193,17 @@ freeze-by : (s : State) (h : ℕ) (memory : Bool) (x : Handle) (w : Word) → Is
 freeze-by s h memory x Empty = edited s h _
 freeze-by s h memory x (Descriptor w) =
     by (IsModest s false) (nat_lt (x.cap - x.len) (2 ^ s.tables.tail_bits)) _ _ (edited s h _)
-    (by (IsModest s false) memory _ _ (recorded s _ refl refl Done false (λ e. absurd (cc)) (length-set _ _ _) (length-append _ _) refl) (refuses s false Memory (λ e. absurd (cc))))
+    (by (IsModest s false) memory _ _ (recorded s _ refl refl Done false (λ e. absurd (cc)) (length-set _ _ _) (length-append _ _) refl)
+    (refuses s false Memory (λ e. absurd (cc))))
 freeze-by s h memory x (Counted r) = edited s h _
 
 freeze-modest : (s : State) (h : ℕ) (memory : Bool) (r : Result Handle Refusal) → AreOther r → IsModest s false (short.freeze_lent s h memory r)
 freeze-modest s h memory (Err why) a = refuses s false why a
 freeze-modest s h memory (Ok x) a =
     let l = freed-long s x x.word in
-    by (IsModest s false) (nat_eq x.len 0) _ _ (frees s (change.edited (short.freed_with s x x.word) h (change.detached 0)) Done l.logs (λ e. absurd (cc)) (rw length-set l.handles) l.records l.blocks) (freeze-by s h memory x x.word)
+    by (IsModest s false) (nat_eq x.len 0) _ _
+    (frees s (change.edited (short.freed_with s x x.word) h (change.detached 0)) Done l.logs (λ e. absurd (cc)) (rw length-set l.handles)
+    l.records l.blocks) (freeze-by s h memory x x.word)
 
 declined : (s : State) → IsModest s false (short.declined s)
 declined s = same s s refl refl Declined false (λ e. absurd (cc)) refl refl refl
@@ -185,9 +220,11 @@ recover-modest s h (Ok x) a = recover-by s h x x.word
 split-by : (s : State) (h at : ℕ) (memory : Bool) (x : Handle) (w : Word) → IsModest s false (short.split_by s h at memory x w)
 split-by s h at memory x Empty = made s _ refl refl _ false (length-set _ _ _) (omega arith) (omega arith)
 split-by s h at memory x (Descriptor w) =
-    by (IsModest s false) memory _ _ (made s _ refl refl _ false (length-set _ _ _) (rw length-append (omega arith)) (omega arith)) (refuses s false Memory (λ e. absurd (cc)))
+    by (IsModest s false) memory _ _ (made s _ refl refl _ false (length-set _ _ _) (rw length-append (omega arith)) (omega arith))
+    (refuses s false Memory (λ e. absurd (cc)))
 split-by s h at memory x (Counted r) =
-    by (IsModest s false) _ _ _ (refuses s false Ceiling (λ e. absurd (cc))) (made s _ refl refl _ false (length-set _ _ _) (rw length-set (omega arith)) (omega arith))
+    by (IsModest s false) _ _ _ (refuses s false Ceiling (λ e. absurd (cc)))
+    (made s _ refl refl _ false (length-set _ _ _) (rw length-set (omega arith)) (omega arith))
 
 split-modest : (s : State) (h at : ℕ) (memory : Bool) (r : Result Handle Refusal) → AreOther r → IsModest s false (short.split_lent s h at memory r)
 split-modest s h at memory (Err why) a = refuses s false why a
@@ -205,7 +242,10 @@ demote-by : (s : State) (h : ℕ) (x : Handle) (w : Word) (o : Outcome) → shor
 demote-by s h x Empty o f = subst (IsModest s false) (sym f) (declined s)
 demote-by s h x (Descriptor w) o f = subst (IsModest s false) (sym f) (declined s)
 demote-by s h x (Counted r) o (log, e, f) =
-    subst (IsModest s false) (sym f) (by (IsModest s false) (short.may_demote s.tables x r log) _ _ (frees s (change.edited (change.record_freed s r) h (short.described s.tables x r log)) Done (logs-record s r) (λ e. absurd (cc)) (length-set _ _ _) (length-set _ _ _) refl) (declined s))
+    subst (IsModest s false) (sym f)
+    (by (IsModest s false) (short.may_demote s.tables x r log) _ _
+    (frees s (change.edited (change.record_freed s r) h (short.described s.tables x r log)) Done (logs-record s r) (λ e. absurd (cc))
+    (length-set _ _ _) (length-set _ _ _) refl) (declined s))
 
 demote-modest : (s : State) (h : ℕ) (r : Result Handle Refusal) (o : Outcome) → AreOther r → short.IsDemoted s h r o → IsModest s false o
 demote-modest s h (Err why) o a f = subst (IsModest s false) (sym f) (refuses s false why a)
@@ -229,12 +269,14 @@ slice-modest s p h lo hi (Ok x) a =
     (by (IsModest s false) (nat_eq lo hi) _ _ (made s s refl refl _ false refl (omega arith) (omega arith)) (share-by s p _ x x.word))
 
 drop-counted : (s : State) (p h r : ℕ) (kind : Kind) → IsModest s false (long.drop_counted s p h r kind)
-drop-counted s p h r Mut = frees s (change.state_without (change.both_freed s r) h) Done (logs-both s r) (λ e. absurd (cc)) (length-set _ _ _) (length-set _ _ _) refl
+drop-counted s p h r Mut = frees s (change.state_without (change.both_freed s r) h) Done (logs-both s r) (λ e. absurd (cc)) (length-set _ _ _)
+    (length-set _ _ _) refl
 drop-counted s p h r View = same s _ refl refl More false (λ e. absurd (cc)) (length-set _ _ _) refl refl
 
 drop-by : (s : State) (p h : ℕ) (x : Handle) (w : Word) → IsModest s false (long.drop_by s p h x w)
 drop-by s p h x Empty = same s _ refl refl Done false (λ e. absurd (cc)) (length-set _ _ _) refl refl
-drop-by s p h x (Descriptor w) = frees s (change.state_without (change.block_freed s (recovered s.tables x w)) h) Done (logs-block s (recovered s.tables x w)) (λ e. absurd (cc)) (length-set _ _ _) refl refl
+drop-by s p h x (Descriptor w) = frees s (change.state_without (change.block_freed s (recovered s.tables x w)) h) Done
+    (logs-block s (recovered s.tables x w)) (λ e. absurd (cc)) (length-set _ _ _) refl refl
 drop-by s p h x (Counted r) = drop-counted s p h r x.kind
 
 drop-modest : (s : State) (p h : ℕ) (r : Result Handle Refusal) → AreOther r → IsModest s false (long.drop_lent s p h r)
@@ -245,7 +287,8 @@ drop-modest s p h (Ok x) a = drop-by s p h x x.word
 
 ready-modest : (s : State) (p : ℕ) (k : Share) (w : ℕ) (memory : Bool) → IsModest s false (long.ready_of s p k w memory)
 ready-modest s p k w memory =
-    by (IsModest s false) memory _ _ (recorded s _ refl refl More false (λ e. absurd (cc)) refl (length-append _ _) refl) (same s _ refl refl (Refused Memory) false (λ e. absurd (cc)) refl refl refl)
+    by (IsModest s false) memory _ _ (recorded s _ refl refl More false (λ e. absurd (cc)) refl (length-append _ _) refl)
+    (same s _ refl refl (Refused Memory) false (λ e. absurd (cc)) refl refl refl)
 
 idle : (s : State) → IsModest s false (refused s Idle)
 idle s = refuses s false Idle (λ e. absurd (cc))
@@ -253,7 +296,8 @@ idle s = refuses s false Idle (λ e. absurd (cc))
 race-by : (s : State) (p : ℕ) (k : Share) (w r : ℕ) (x : Handle) (now : Word) → IsModest s false (long.race_by s p k w r x now)
 race-by s p k w r x Empty = idle s
 race-by s p k w r x (Descriptor v) = by (IsModest s false) (v == w) _ _ (made s _ refl refl _ false (length-set _ _ _) (omega arith) (omega arith)) (idle s)
-race-by s p k w r x (Counted winner) = frees s (change.called (change.record_freed s r) p (Some (Add k winner))) More (logs-record s r) (λ e. absurd (cc)) refl (length-set _ _ _) refl
+race-by s p k w r x (Counted winner) = frees s (change.called (change.record_freed s r) p (Some (Add k winner))) More (logs-record s r)
+    (λ e. absurd (cc)) refl (length-set _ _ _) refl
 
 race-modest : (s : State) (p : ℕ) (k : Share) (w r : ℕ) (o : Option Handle) → IsModest s false (long.race_found s p k w r o)
 race-modest s p k w r None = idle s
@@ -262,11 +306,13 @@ race-modest s p k w r (Some x) = race-by s p k w r x x.word
 add-modest : (s : State) (p : ℕ) (k : Share) (r : ℕ) (o : Option Handle) → IsModest s false (long.add_found s p k r o)
 add-modest s p k r None = idle s
 add-modest s p k r (Some x) =
-    by (IsModest s false) _ _ _ (same s _ refl refl (Refused Ceiling) false (λ e. absurd (cc)) refl refl refl) (made s _ refl refl _ false refl (rw length-set (omega arith)) (omega arith))
+    by (IsModest s false) _ _ _ (same s _ refl refl (Refused Ceiling) false (λ e. absurd (cc)) refl refl refl)
+    (made s _ refl refl _ false refl (rw length-set (omega arith)) (omega arith))
 
 subtract-modest : (s : State) (p r : ℕ) → IsModest s false (long.subtract_of s p r)
 subtract-modest s p r =
-    by (IsModest s false) _ _ _ (same s _ refl refl More false (λ e. absurd (cc)) refl (length-set _ _ _) refl) (same s _ refl refl Done false (λ e. absurd (cc)) refl (length-set _ _ _) refl)
+    by (IsModest s false) _ _ _ (same s _ refl refl More false (λ e. absurd (cc)) refl (length-set _ _ _) refl)
+    (same s _ refl refl Done false (λ e. absurd (cc)) refl (length-set _ _ _) refl)
 
 release-modest : (s : State) (p r : ℕ) → IsModest s false (long.release_of s p r)
 release-modest s p r = frees s (change.called (change.both_freed s r) p None) Done (logs-both s r) (λ e. absurd (cc)) refl (length-set _ _ _) refl
@@ -310,7 +356,8 @@ at-modest s p (Begin call memory) (Some c) o m = loosely s (makes_block call) o 
 at-modest s p (Go memory) None o m = same-as s _ o m (idle s)
 at-modest s p (Go memory) (Some c) o m = same-as s _ o m (goes-modest s p c memory)
 
-party-modest : (s : State) (step : Step) (o : Outcome) (v : Bool) → MatchBool v (IsMovedAt s step.party step.act (call_at s step.party) o) (o ≡ refused s Idle) → IsModest s (adds_block step.act) o
+party-modest : (s : State) (step : Step) (o : Outcome) (v : Bool)
+    → MatchBool v (IsMovedAt s step.party step.act (call_at s step.party) o) (o ≡ refused s Idle) → IsModest s (adds_block step.act) o
 party-modest s step o true m = at-modest s step.party step.act (call_at s step.party) o m
 party-modest s step o false m = loosely s (adds_block step.act) o (same-as s _ o m (idle s))
 

@@ -41,13 +41,15 @@ one-granted s base size align true o u (k, e, f) (l, g, h) =
     f ∙ ap (λ log. short.placed s base size log) (one-log k l (sym e ∙ g)) ∙ sym h
 one-granted s base size align false o u e f = e ∙ sym f
 
-one-new : (s : State) (base size align : ℕ) (memory : Bool) (o u : Outcome) → short.IsNew s base size align memory o → short.IsNew s base size align memory u → o ≡ u
+one-new : (s : State) (base size align : ℕ) (memory : Bool) (o u : Outcome) → short.IsNew s base size align memory o
+    → short.IsNew s base size align memory u → o ≡ u
 one-new s base size align memory o u (inl (bad, e)) (inl (other, f)) = e ∙ sym f
 one-new s base size align memory o u (inl (bad, e)) (inr (good, f)) = absurd (bad good)
 one-new s base size align memory o u (inr (good, e)) (inl (bad, f)) = absurd (bad good)
 one-new s base size align memory o u (inr (good, e)) (inr (other, f)) = one-granted s base size align memory o u e f
 
-one-external : (s : State) (base size : ℕ) (memory : Bool) (o u : Outcome) → short.IsExternal s base size memory o → short.IsExternal s base size memory u → o ≡ u
+one-external : (s : State) (base size : ℕ) (memory : Bool) (o u : Outcome) → short.IsExternal s base size memory o
+    → short.IsExternal s base size memory u → o ≡ u
 one-external s base size memory o u (inl (bad, e)) (inl (other, f)) = e ∙ sym f
 one-external s base size memory o u (inl (bad, e)) (inr (good, f)) = absurd (bad good)
 one-external s base size memory o u (inr (good, e)) (inl (bad, f)) = absurd (bad good)
@@ -99,7 +101,8 @@ one-outcome s step o u e f = one-party s step o u (nat_lt step.party (length s.c
 abbrev AreAlike : (reply answer : Reply) (next other : State) → Type 0
 AreAlike reply answer next other = (answer ≡ reply) × (other ≡ next)
 
-one-taken : (m : Seen) (o : Outcome) (reply answer : Reply) (next other : State) → IsTaken m o reply next → IsTaken m o answer other → AreAlike reply answer next other
+one-taken : (m : Seen) (o : Outcome) (reply answer : Reply) (next other : State) → IsTaken m o reply next → IsTaken m o answer other
+    → AreAlike reply answer next other
 one-taken m o reply answer next other (inl (n, e, f)) (inl (k, g, h)) = (g ∙ sym e, h ∙ sym f)
 one-taken m o reply answer next other (inl (n, e, f)) (inr (w, g, h)) = absurd (n w)
 one-taken m o reply answer next other (inr (w, e, f)) (inl (n, g, h)) = absurd (n w)
@@ -112,7 +115,8 @@ same-seen : (n m : Seen) → n.state ≡ m.state → n.room ≡ m.room → n ≡
 unfolding with-room
 same-seen n m e f = ap (λ (s : State). with-room s n.room) e ∙ ap (λ (r : Space). with-room m.state r) f
 
-pub one-answer : (m next other : Seen) (step : Step) (reply answer : Reply) → IsStep m step reply next → IsStep m step answer other → (answer ≡ reply) × (other ≡ next)
+pub one-answer : (m next other : Seen) (step : Step) (reply answer : Reply) → IsStep m step reply next → IsStep m step answer other
+    → (answer ≡ reply) × (other ≡ next)
 one-answer m next other step reply answer one two =
     let (o, moved, taken) = one.moves in
     let (u, also, took) = two.moves in

@@ -21,7 +21,8 @@ wants-none m o block r n (inr (inl (grows, inr many))) = let g = n.blocks in let
 wants-none m o block r n (inr (inr (grows, inl full))) = let l = r.records in omega (arith, l, full)
 wants-none m o block r n (inr (inr (grows, inr many))) = let l = r.few_records in omega (arith, l, many)
 
-taken-finds : (m : Seen) (o : Outcome) (block : Bool) (reply : Reply) (next : State) → IsReserved m (cond block 1 0) 1 → IsModest m.state block o → IsTaken m o reply next → FindsRoom reply
+taken-finds : (m : Seen) (o : Outcome) (block : Bool) (reply : Reply) (next : State) → IsReserved m (cond block 1 0) 1 → IsModest m.state block o
+    → IsTaken m o reply next → FindsRoom reply
 taken-finds m o block reply next r n (inl (found, e, f)) = λ q. n.answers (sym e ∙ q)
 taken-finds m o block reply next r n (inr (w, e, f)) = λ _. wants-none m o block r n w
 
@@ -45,7 +46,8 @@ record IsLeft (m next : Seen) (blocks : ℕ) : Type 0 where
   records : length next.state.tables.records ≤ length m.state.tables.records + 1
   more : length next.state.tables.blocks ≤ length m.state.tables.blocks + blocks
 
-taken-left : (m : Seen) (o : Outcome) (block : Bool) (reply : Reply) (next : Seen) → IsModest m.state block o → IsTaken m o reply next.state → IsLeft m next (cond block 1 0)
+taken-left : (m : Seen) (o : Outcome) (block : Bool) (reply : Reply) (next : Seen) → IsModest m.state block o → IsTaken m o reply next.state
+    → IsLeft m next (cond block 1 0)
 taken-left m o block reply next n (inl (found, e, f)) = record { handles = rw f n.handles; records = rw f n.records; more = rw f n.blocks }
 taken-left m o block reply next n (inr (w, e, f)) = record { handles = rw f (omega arith); records = rw f (omega arith); more = rw f (omega arith) }
 
@@ -63,8 +65,10 @@ left m next a b k n e l room i =
       few_records = let q = i.few_records in let g = l.records in omega (arith, e, q, g);
     }
 
-moves-left : (m : Seen) (step : Step) (reply : Reply) (next : Seen) (b k n : ℕ) → k ≡ n + 1 → Moves m step reply next → next.room ≡ m.room → IsReserved m (new_blocks step.act + b) k → IsReserved next b n
-moves-left m step reply next b k n e (o, moved, taken) room i = left m next (new_blocks step.act) b k n e (taken-left m o (adds_block step.act) reply next (modest m.state step o moved) taken) room i
+moves-left : (m : Seen) (step : Step) (reply : Reply) (next : Seen) (b k n : ℕ) → k ≡ n + 1 → Moves m step reply next → next.room ≡ m.room
+    → IsReserved m (new_blocks step.act + b) k → IsReserved next b n
+moves-left m step reply next b k n e (o, moved, taken) room i =
+    left m next (new_blocks step.act) b k n e (taken-left m o (adds_block step.act) reply next (modest m.state step o moved) taken) room i
 
 -- more room is room for the same
 grown-reserved : (m grown : Seen) (a k : ℕ) → HasGrown m grown → IsReserved m a k → IsReserved grown a k
@@ -94,22 +98,33 @@ fewer m a b k n e i = record {
   few_records = let q = i.few_records in omega (arith, e, q);
 }
 
-find-each : (m : Seen) (steps : List Step) (replies : List Reply) (next : Seen) → GrowingRuns m steps replies next → IsReserved m (blocks_of steps) (length steps) → ByRecursion FindsRoom replies
+find-each : (m : Seen) (steps : List Step) (replies : List Reply) (next : Seen) → GrowingRuns m steps replies next
+    → IsReserved m (blocks_of steps) (length steps) → ByRecursion FindsRoom replies
 find-each m [] [] next r i = tt
 find-each m [] (reply ∷ replies) next r i = absurd r
 find-each m (step ∷ steps) [] next r i = tt
 find-each m (step ∷ steps) (reply ∷ replies) next (grown, mid, has, one, others) i =
     let e : length (step ∷ steps) ≡ length steps + 1 = omega arith in
-    let g = grown-reserved m grown (new_blocks step.act + blocks_of steps) (length (step ∷ steps)) has i in
-    (finds grown step reply mid one.moves (fewer grown (new_blocks step.act) (blocks_of steps) _ (length steps) e g), find-each mid steps replies next others (moves-left grown step reply mid (blocks_of steps) _ (length steps) e one.moves one.room g))
+    let g = grown-reserved m grown (new_blocks step.act + blocks_of steps) (length (step ∷ steps)) has i in (
+      finds grown step reply mid one.moves (fewer grown (new_blocks step.act) (blocks_of steps) _ (length steps) e g),
+      find-each mid steps replies next others (moves-left grown step reply mid (blocks_of steps) _ (length steps) e one.moves one.room g),
+    )
 
-pub find : (m : Seen) (steps : List Step) (replies : List Reply) (next : Seen) → GrowingRuns m steps replies next → IsReserved m (blocks_of steps) (length steps) → All FindsRoom replies
+pub find : (m : Seen) (steps : List Step) (replies : List Reply) (next : Seen) → GrowingRuns m steps replies next
+    → IsReserved m (blocks_of steps) (length steps) → All FindsRoom replies
 find m steps replies next r i = All-from_recursion FindsRoom replies (find-each m steps replies next r i)
 
 -- what `reserve` makes room for is found, where the tables stay within their numbers of entries
 pub reserved : (m : Seen) (made steps : ℕ) → HasMemory m made steps steps → IsFew m.state made steps → IsReserved m made steps
 reserved m made steps held few =
-    record { blocks = λ p. held.blocks; handles = held.handles; records = held.records; few_blocks = few.few_blocks; few_handles = few.few_handles; few_records = few.few_records }
+    record {
+      blocks = λ p. held.blocks;
+      handles = held.handles;
+      records = held.records;
+      few_blocks = few.few_blocks;
+      few_handles = few.few_handles;
+      few_records = few.few_records;
+    }
 
 begins-through : {X : Type 0} (a b c : List X) → IsBeginning a b → IsBeginning b c → IsBeginning a c
 begins-through a b c (m, e) (n, f) = (m ++ n, f ∙ ap (λ l. l ++ n) e ∙ append_assoc a m n)

@@ -45,7 +45,8 @@ abbrev pub read_lent : Tables → Result Handle Refusal → Result Held Refusal
 read_lent g (Err why) = Err why
 read_lent g (Ok x) = Ok (read_held g x)
 
-found-reads : (g : Tables) (x : Handle) (v u : Bool) → cond v (cond u (Err Borrowed) (Ok (read_held g x))) (Err WrongKind) ≡ read_lent g (cond v (cond u (Err Borrowed) (Ok x)) (Err WrongKind))
+found-reads : (g : Tables) (x : Handle) (v u : Bool) → cond v (cond u (Err Borrowed) (Ok (read_held g x))) (Err WrongKind)
+    ≡ read_lent g (cond v (cond u (Err Borrowed) (Ok x)) (Err WrongKind))
 found-reads g x true true = refl
 found-reads g x true false = refl
 found-reads g x false u = refl

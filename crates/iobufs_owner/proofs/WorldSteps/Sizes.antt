@@ -76,7 +76,8 @@ found m next t e f size held (inr (inr (grows, full))) =
     elim full [ inl used ↦ omega (arith, a, b, l, grows, used) | inr many ↦ omega (arith, a, g, grows, many) ]
 
 -- a result as a reply
-taken-of : (m : Seen) (o : Outcome) (result : Result Reply Full) (next : Seen) → IsInSize next.state → HasMemory next 0 0 0 → Took m o result next → IsTaken m o (result_unwrap_or result (Refused Room)) next.state
+taken-of : (m : Seen) (o : Outcome) (result : Result Reply Full) (next : Seen) → IsInSize next.state → HasMemory next 0 0 0 → Took m o result next
+    → IsTaken m o (result_unwrap_or result (Refused Room)) next.state
 taken-of m o (Ok reply) next size held (e, f, k) = inl (found m next o.state f k size held, e, f)
 taken-of m o (Err full) next size held (w, e) = inr (w, refl, ap (λ (n : Seen). n.state) e)
 
@@ -84,8 +85,10 @@ room-of : (m : Seen) (o : Outcome) (result : Result Reply Full) (next : Seen) �
 room-of m o (Ok reply) next (e, f, k) = k
 room-of m o (Err full) next (w, e) = ap (λ (n : Seen). n.room) e
 
-pub moves-keep : (m : Seen) (step : Step) (result : Result Reply Full) (next : Seen) → (o : Outcome) × IsMoved m.state step o × Took m o result next → next.room ≡ m.room
+pub moves-keep : (m : Seen) (step : Step) (result : Result Reply Full) (next : Seen) → (o : Outcome) × IsMoved m.state step o × Took m o result next
+    → next.room ≡ m.room
 moves-keep m step result next (o, moved, took) = room-of m o result next took
 
-pub moves-of : (m : Seen) (step : Step) (result : Result Reply Full) (next : Seen) → IsSound next.state → HasMemory next 0 0 0 → (o : Outcome) × IsMoved m.state step o × Took m o result next → Moves m step (result_unwrap_or result (Refused Room)) next
+pub moves-of : (m : Seen) (step : Step) (result : Result Reply Full) (next : Seen) → IsSound next.state → HasMemory next 0 0 0 → (o : Outcome)
+    × IsMoved m.state step o × Took m o result next → Moves m step (result_unwrap_or result (Refused Room)) next
 moves-of m step result next sound held (o, moved, took) = (o, moved, taken-of m o result next sound.size held took)

@@ -31,7 +31,8 @@ not-so true n = absurd (n refl)
 not-so false n = refl
 
 -- where one counts and another place passes, the other doesn't
-others-fail : {X : Type 0} (p : Option X → Bool) (xs : List (Option X)) (h k : ℕ) → p None ≡ false → p (get_or xs h None) ≡ true → tally p xs ≤ 1 → k ≢ h → p (get_or xs k None) ≡ false
+others-fail : {X : Type 0} (p : Option X → Bool) (xs : List (Option X)) (h k : ℕ) → p None ≡ false → p (get_or xs h None) ≡ true → tally p xs ≤ 1
+    → k ≢ h → p (get_or xs k None) ≡ false
 others-fail p xs h k n t few d =
     not-so (p (get_or xs k None)) (λ u. (let two = count-two p xs k h None d (inside p xs k n u) (inside p xs h n t) u t in omega (arith, two, few)))
 
@@ -41,15 +42,18 @@ none-pass p xs k n z = not-so (p (get_or xs k None)) (λ u. (let one = count-som
 none-counted : {X : Type 0} (p : Option X → Bool) (xs : List (Option X)) → ((k : ℕ) → p (get_or xs k None) ≡ false) → tally p xs ≡ 0
 none-counted p xs f = elim (eqb_tells (tally p xs) 0) [
   | inl e ↦ e.1
-  | inr e ↦ (let d = e.1 in let some : 0 < tally p xs = omega (arith, d) in let q = count-find p None xs some in absurd (let z = sym (f q.place) ∙ q.passes in cc))
+  | inr e ↦ (let d = e.1 in let some : 0 < tally p xs = omega (arith, d) in let q =
+      count-find p None xs some in absurd (let z = sym (f q.place) ∙ q.passes in cc))
 ]
 
 -- without the handle
-emptied : {X : Type 0} (p : Option X → Bool) (xs : List (Option X)) (h k : ℕ) (v : (k ≡ h) ⊎ (k ≢ h)) → p None ≡ false → h < length xs → ((k : ℕ) → k ≢ h → p (get_or xs k None) ≡ false) → p (get_or (set xs h None) k None) ≡ false
+emptied : {X : Type 0} (p : Option X → Bool) (xs : List (Option X)) (h k : ℕ) (v : (k ≡ h) ⊎ (k ≢ h)) → p None ≡ false → h < length xs
+    → ((k : ℕ) → k ≢ h → p (get_or xs k None) ≡ false) → p (get_or (set xs h None) k None) ≡ false
 emptied p xs h k (inl e) n l f = rw (e, get_or-set_same xs h None None l) n
 emptied p xs h k (inr d) n l f = rw (get_or-set_other xs h k None None d) (f k d)
 
-one-counted : {X : Type 0} (p : Option X → Bool) (xs : List (Option X)) (h : ℕ) → p None ≡ false → p (get_or xs h None) ≡ true → ((k : ℕ) → k ≢ h → p (get_or xs k None) ≡ false) → tally p xs ≡ 1
+one-counted : {X : Type 0} (p : Option X → Bool) (xs : List (Option X)) (h : ℕ) → p None ≡ false → p (get_or xs h None) ≡ true
+    → ((k : ℕ) → k ≢ h → p (get_or xs k None) ≡ false) → tally p xs ≡ 1
 one-counted p xs h n t f =
     let l = inside p xs h n t in
     let told : (k : ℕ) → (k ≡ h) ⊎ (k ≢ h) = λ k. elim (eqb_tells k h) [ inl e ↦ inl e.1 | inr e ↦ inr e.1 ] in
@@ -77,29 +81,37 @@ sole-one w h b t s =
 
 -- ---- the answer
 
-unique-free : (w next : World) (b : ℕ) (reply : Reply) (v u : Bool) → world.UniqueIs w (cond u (Err Borrowed) (Ok b)) reply next → reply ≡ Unique v → v ≡ nat_eq (holders w b) 1
+unique-free : (w next : World) (b : ℕ) (reply : Reply) (v u : Bool) → world.UniqueIs w (cond u (Err Borrowed) (Ok b)) reply next → reply ≡ Unique v
+    → v ≡ nat_eq (holders w b) 1
 unique-free w next b reply v true (e, f) q = absurd (let z = sym e ∙ q in cc)
 unique-free w next b reply v false (e, f) q = let z : Unique (nat_eq (holders w b) 1) ≡ Unique v = sym e ∙ q in cc
 
-unique-block : (w next : World) (h b : ℕ) (reply : Reply) (v : Bool) (o : Option ℕ) → o ≡ Some b → world.UniqueIs w (world.with_block w h o) reply next → reply ≡ Unique v → v ≡ nat_eq (holders w b) 1
+unique-block : (w next : World) (h b : ℕ) (reply : Reply) (v : Bool) (o : Option ℕ) → o ≡ Some b
+    → world.UniqueIs w (world.with_block w h o) reply next → reply ≡ Unique v → v ≡ nat_eq (holders w b) 1
 unique-block w next h b reply v o e m q =
     unique-free w next b reply v (is_shared h w.calls) (subst (λ (o : Option ℕ). world.UniqueIs w (world.with_block w h o) reply next) e m) q
 
-unique-at : (w next : World) (h b : ℕ) (x : Held) (reply : Reply) (v : Bool) (o : Option Held) → o ≡ Some x → x.block ≡ Some b → world.UniqueIs w (world.block_found w h o) reply next → reply ≡ Unique v → v ≡ nat_eq (holders w b) 1
+unique-at : (w next : World) (h b : ℕ) (x : Held) (reply : Reply) (v : Bool) (o : Option Held) → o ≡ Some x → x.block ≡ Some b
+    → world.UniqueIs w (world.block_found w h o) reply next → reply ≡ Unique v → v ≡ nat_eq (holders w b) 1
 unique-at w next h b x reply v o e f m q =
     unique-block w next h b reply v x.block f (subst (λ (o : Option Held). world.UniqueIs w (world.block_found w h o) reply next) e m) q
 
-unique-begun : (w next : World) (p h : ℕ) (memory : Bool) (reply : Reply) → Begins w p (IsUnique h) memory reply next → world.UniqueIs w (world.block_of w h) reply next
+unique-begun : (w next : World) (p h : ℕ) (memory : Bool) (reply : Reply) → Begins w p (IsUnique h) memory reply next
+    → world.UniqueIs w (world.block_of w h) reply next
 unfolding Begins
 unique-begun w next p h memory reply m = m
 
-unique-acts : (w next : World) (p h b : ℕ) (memory v : Bool) (x : Held) (o : Option Unfinished) (reply : Reply) → ActsAt w p (Begin (IsUnique h) memory) o reply next → held_at w h ≡ Some x → x.block ≡ Some b → reply ≡ Unique v → v ≡ nat_eq (holders w b) 1
+unique-acts : (w next : World) (p h b : ℕ) (memory v : Bool) (x : Held) (o : Option Unfinished) (reply : Reply)
+    → ActsAt w p (Begin (IsUnique h) memory) o reply next → held_at w h ≡ Some x → x.block ≡ Some b → reply ≡ Unique v → v ≡ nat_eq (holders w b) 1
 unique-acts w next p h b memory v x None reply m at block q = unique-at w next h b x reply v (held_at w h) at block (unique-begun w next p h memory reply m) q
 unique-acts w next p h b memory v x (Some c) reply m at block q = absurd (let z = sym m.0 ∙ q in cc)
 
-unique-by : (w next : World) (step : Step) (h b : ℕ) (memory v u : Bool) (x : Held) (reply : Reply) → MatchBool u (ActsAt w step.party step.act (going_at w step.party) reply next) (world.Refuses w Idle reply next) → step.act ≡ Begin (IsUnique h) memory → held_at w h ≡ Some x → x.block ≡ Some b → reply ≡ Unique v → v ≡ nat_eq (holders w b) 1
+unique-by : (w next : World) (step : Step) (h b : ℕ) (memory v u : Bool) (x : Held) (reply : Reply)
+    → MatchBool u (ActsAt w step.party step.act (going_at w step.party) reply next) (world.Refuses w Idle reply next)
+    → step.act ≡ Begin (IsUnique h) memory → held_at w h ≡ Some x → x.block ≡ Some b → reply ≡ Unique v → v ≡ nat_eq (holders w b) 1
 unique-by w next step h b memory v true x reply m act at block q =
-    unique-acts w next step.party h b memory v x (going_at w step.party) reply (subst (λ (a : Act). ActsAt w step.party a (going_at w step.party) reply next) act m) at block q
+    unique-acts w next step.party h b memory v x (going_at w step.party) reply
+    (subst (λ (a : Act). ActsAt w step.party a (going_at w step.party) reply next) act m) at block q
 unique-by w next step h b memory v false x reply m act at block q = absurd (let z = sym m.0 ∙ q in cc)
 
 eq-yes : (m n : ℕ) → m ≡ n → nat_eq m n ≡ true

@@ -31,7 +31,8 @@ use Rattle.iobufs_owner.proofs.WorldSteps.CloneAndSlice.{clone-steps, slice-step
 by-outcome : (s t : State) (o u : Outcome) (reply : Reply) → o ≡ u → IsAnswered s o reply t → IsAnswered s u reply t
 by-outcome s t o u reply e i = subst (λ (o : Outcome). IsAnswered s o reply t) e i
 
-pub begins : (s t : State) (p : ℕ) (call : Call) (memory : Bool) (o : Outcome) (reply : Reply) → IsSound s → IsBegun s p call memory o → IsAnswered s o reply t → Begins (reading s) p call memory reply (reading t)
+pub begins : (s t : State) (p : ℕ) (call : Call) (memory : Bool) (o : Outcome) (reply : Reply) → IsSound s → IsBegun s p call memory o
+    → IsAnswered s o reply t → Begins (reading s) p call memory reply (reading t)
 unfolding IsBegun Begins
 begins s t p (New base size align) memory o reply k b i = new-steps s t base size align memory o reply k b i
 begins s t p (External base size) memory o reply k b i = external-steps s t base size memory o reply k b i
@@ -47,7 +48,8 @@ begins s t p (Clone h) memory o reply k b i = clone-steps s t p h reply k (by-ou
 begins s t p (Slice h lo hi) memory o reply k b i = slice-steps s t p h lo hi reply k (by-outcome s t o _ reply b i)
 begins s t p (Drop h) memory o reply k b i = drop-steps s t p h reply k (by-outcome s t o _ reply b i)
 
-acts : (s t : State) (p : ℕ) (act : Act) (c : Option Pending) (o : Outcome) (reply : Reply) → IsSound s → call_at s p ≡ c → IsMovedAt s p act c o → IsAnswered s o reply t → ActsAt (reading s) p act (read_call s.tables c) reply (reading t)
+acts : (s t : State) (p : ℕ) (act : Act) (c : Option Pending) (o : Outcome) (reply : Reply) → IsSound s → call_at s p ≡ c → IsMovedAt s p act c o
+    → IsAnswered s o reply t → ActsAt (reading s) p act (read_call s.tables c) reply (reading t)
 acts s t p (Begin call memory) None o reply k n b i = begins s t p call memory o reply k b i
 acts s t p (Begin call memory) (Some (Loaded part w)) o reply k n b i = refused-taken s t Busy reply (by-outcome s t o _ reply b i)
 acts s t p (Begin call memory) (Some (Ready part w r)) o reply k n b i = refused-taken s t Busy reply (by-outcome s t o _ reply b i)
@@ -61,13 +63,17 @@ acts s t p (Go memory) (Some (Add part r)) o reply k n b i = add-goes s t p part
 acts s t p (Go memory) (Some (Subtract r)) o reply k n b i = subtract-goes s t p r memory reply k n (by-outcome s t o _ reply b i)
 acts s t p (Go memory) (Some (Release r)) o reply k n b i = release-goes s t p r memory reply k n (by-outcome s t o _ reply b i)
 
-by-party : (s t : State) (step : Step) (o : Outcome) (reply : Reply) (v : Bool) → IsSound s → MatchBool v (IsMovedAt s step.party step.act (call_at s step.party) o) (o ≡ refused s Idle) → IsAnswered s o reply t → MatchBool v (ActsAt (reading s) step.party step.act (read_call s.tables (call_at s step.party)) reply (reading t)) (Refuses (reading s) Idle reply (reading t))
+by-party : (s t : State) (step : Step) (o : Outcome) (reply : Reply) (v : Bool) → IsSound s
+    → MatchBool v (IsMovedAt s step.party step.act (call_at s step.party) o) (o ≡ refused s Idle) → IsAnswered s o reply t
+    → MatchBool v (ActsAt (reading s) step.party step.act (read_call s.tables (call_at s step.party)) reply (reading t))
+    (Refuses (reading s) Idle reply (reading t))
 by-party s t step o reply true k m i = acts s t step.party step.act (call_at s step.party) o reply k refl m i
 by-party s t step o reply false k m i = refused-taken s t Idle reply (by-outcome s t o _ reply m i)
 
 pub steps-of : (m n : Seen) (step : Step) (reply : Reply) → IsSound m.state → Moves m step reply n → Steps (reading m.state) step reply (reading n.state)
 steps-of m n step reply k (o, f, i) =
-    rw (length-map, get_or-read (read_call m.state.tables) m.state.calls step.party None) (by-party m.state n.state step o reply (nat_lt step.party (length m.state.calls)) k f (answered m o reply n.state i))
+    rw (length-map, get_or-read (read_call m.state.tables) m.state.calls step.party None)
+    (by-party m.state n.state step o reply (nat_lt step.party (length m.state.calls)) k f (answered m o reply n.state i))
 
 -- ---- what is refused before a call is looked at
 
@@ -79,21 +85,29 @@ idle-at s p (Begin call memory) m c e n = absurd (cc)
 idle-at s p (Go memory) m None e n = refl
 idle-at s p (Go memory) m (Some c) e n = absurd (cc)
 
-pub moved-idle : (s : State) (step : Step) (memory : Bool) → step.party < length s.calls → step.act ≡ Go memory → call_at s step.party ≡ None → IsMoved s step (refused s Idle)
-moved-idle s step memory l a n = let e : nat_lt step.party (length s.calls) ≡ true = grind (arith, nat_tests) in rw e (idle-at s step.party step.act memory (call_at s step.party) a n)
+pub moved-idle : (s : State) (step : Step) (memory : Bool) → step.party < length s.calls → step.act ≡ Go memory → call_at s step.party ≡ None
+    → IsMoved s step (refused s Idle)
+moved-idle s step memory l a n = let e : nat_lt step.party (length s.calls) ≡ true =
+    grind (arith, nat_tests) in rw e (idle-at s step.party step.act memory (call_at s step.party) a n)
 
-busy-at : (s : State) (p : ℕ) (act : Act) (call : Call) (memory : Bool) (c : Option Pending) (d : Pending) → act ≡ Begin call memory → c ≡ Some d → IsMovedAt s p act c (refused s Busy)
+busy-at : (s : State) (p : ℕ) (act : Act) (call : Call) (memory : Bool) (c : Option Pending) (d : Pending) → act ≡ Begin call memory → c ≡ Some d
+    → IsMovedAt s p act c (refused s Busy)
 busy-at s p (Begin call memory) b m None d e n = absurd (cc)
 busy-at s p (Begin call memory) b m (Some c) d e n = refl
 busy-at s p (Go memory) b m c d e n = absurd (cc)
 
-pub moved-busy : (s : State) (step : Step) (call : Call) (memory : Bool) (d : Pending) → step.party < length s.calls → step.act ≡ Begin call memory → call_at s step.party ≡ Some d → IsMoved s step (refused s Busy)
-moved-busy s step call memory d l a n = let e : nat_lt step.party (length s.calls) ≡ true = grind (arith, nat_tests) in rw e (busy-at s step.party step.act call memory (call_at s step.party) d a n)
+pub moved-busy : (s : State) (step : Step) (call : Call) (memory : Bool) (d : Pending) → step.party < length s.calls → step.act ≡ Begin call memory
+    → call_at s step.party ≡ Some d → IsMoved s step (refused s Busy)
+moved-busy s step call memory d l a n = let e : nat_lt step.party (length s.calls) ≡ true =
+    grind (arith, nat_tests) in rw e (busy-at s step.party step.act call memory (call_at s step.party) d a n)
 
-goes-at : (s : State) (p : ℕ) (act : Act) (memory : Bool) (c : Option Pending) (d : Pending) → act ≡ Go memory → c ≡ Some d → IsMovedAt s p act c (gone_on s p d memory)
+goes-at : (s : State) (p : ℕ) (act : Act) (memory : Bool) (c : Option Pending) (d : Pending) → act ≡ Go memory → c ≡ Some d
+    → IsMovedAt s p act c (gone_on s p d memory)
 goes-at s p (Begin call memory) m c d e n = absurd (cc)
 goes-at s p (Go memory) m None d e n = absurd (cc)
 goes-at s p (Go memory) m (Some c) d e n = let a : c ≡ d = cc in let b : memory ≡ m = cc in rw (a, b) refl
 
-pub moved-goes : (s : State) (step : Step) (memory : Bool) (d : Pending) → step.party < length s.calls → step.act ≡ Go memory → call_at s step.party ≡ Some d → IsMoved s step (gone_on s step.party d memory)
-moved-goes s step memory d l a n = let e : nat_lt step.party (length s.calls) ≡ true = grind (arith, nat_tests) in rw e (goes-at s step.party step.act memory (call_at s step.party) d a n)
+pub moved-goes : (s : State) (step : Step) (memory : Bool) (d : Pending) → step.party < length s.calls → step.act ≡ Go memory
+    → call_at s step.party ≡ Some d → IsMoved s step (gone_on s step.party d memory)
+moved-goes s step memory d l a n = let e : nat_lt step.party (length s.calls) ≡ true =
+    grind (arith, nat_tests) in rw e (goes-at s step.party step.act memory (call_at s step.party) d a n)

@@ -40,19 +40,26 @@ declined-taken s t reply (inl (e, f)) = (e, ap reading f)
 declined-taken s t reply (inr l) = absurd (grows-never s s refl l.grows)
 
 -- a change that adds no entry
-pub done-taken : (s u t : State) (w : World) (reply : Reply) → entries u ≡ entries s → reading u ≡ w → IsAnswered s (done u) reply t → (reply ≡ Done) × (reading t ≡ w)
+pub done-taken : (s u t : State) (w : World) (reply : Reply) → entries u ≡ entries s → reading u ≡ w → IsAnswered s (done u) reply t → (reply ≡ Done)
+    × (reading t ≡ w)
 done-taken s u t w reply n r (inl (e, f)) = (e, ap reading f ∙ r)
 done-taken s u t w reply n r (inr l) = absurd (grows-never s u n l.grows)
 
 -- a change that may add one
-pub grown-taken : (s u t : State) (w : World) (answer reply : Reply) → reading u ≡ w → IsAnswered s (record { reply = answer; state = u }) reply t → NoRoom (reading s) reply (reading t) ⊎ ((reply ≡ answer) × (reading t ≡ w))
+pub grown-taken : (s u t : State) (w : World) (answer reply : Reply) → reading u ≡ w → IsAnswered s (record { reply = answer; state = u }) reply t
+    → NoRoom (reading s) reply (reading t) ⊎ ((reply ≡ answer) × (reading t ≡ w))
 grown-taken s u t w answer reply r (inl (e, f)) = inr (e, ap reading f ∙ r)
 grown-taken s u t w answer reply r (inr l) = inl (l.refused, ap reading l.same)
 
 -- one handle more than u has
-pub made-taken : (s u t : State) (w : World) (x : Handle) (y : Held) (reply : Reply) → reading u ≡ w → read_held u.tables x ≡ y → IsAnswered s (made u x) reply t → NoRoom (reading s) reply (reading t) ⊎ Makes w y reply (reading t)
+pub made-taken : (s u t : State) (w : World) (x : Handle) (y : Held) (reply : Reply) → reading u ≡ w → read_held u.tables x ≡ y
+    → IsAnswered s (made u x) reply t → NoRoom (reading s) reply (reading t) ⊎ Makes w y reply (reading t)
 made-taken s u t w x y reply r e (inl (i, f)) =
-    inr (i ∙ ap Made (sym (ap (λ (w : World). length w.handles) (sym r) ∙ length-map u.handles (read_handle u.tables))), ap reading f ∙ reading-append u (Some x) ∙ ap (λ (w : World). held_more w (read_held u.tables x)) r ∙ ap (held_more w) e)
+    inr (
+      i ∙ ap Made (sym (ap (λ (w : World). length w.handles) (sym r) ∙ length-map u.handles (read_handle u.tables))),
+      ap reading f
+          ∙ reading-append u (Some x) ∙ ap (λ (w : World). held_more w (read_held u.tables x)) r ∙ ap (held_more w) e,
+    )
 made-taken s u t w x y reply r e (inr l) = inl (l.refused, ap reading l.same)
 
 entries-edited : (s : State) (h : ℕ) (y : Handle) → entries (edited s h y) ≡ entries s
@@ -62,7 +69,8 @@ pub reads-edited : (s : State) (h : ℕ) (y : Handle) (z : Held) → read_held s
 reads-edited s h y z e = reading-set s h (Some y) ∙ ap (held_set (reading s) h) e
 
 -- a handle is changed
-pub edit-taken : (s t : State) (h : ℕ) (y : Handle) (z : Held) (reply : Reply) → read_held s.tables y ≡ z → IsAnswered s (done (edited s h y)) reply t → (reply ≡ Done) × (reading t ≡ held_set (reading s) h z)
+pub edit-taken : (s t : State) (h : ℕ) (y : Handle) (z : Held) (reply : Reply) → read_held s.tables y ≡ z
+    → IsAnswered s (done (edited s h y)) reply t → (reply ≡ Done) × (reading t ≡ held_set (reading s) h z)
 edit-taken s t h y z reply e i = done-taken s (edited s h y) t (held_set (reading s) h z) reply (entries-edited s h y) (reads-edited s h y z e) i
 
 -- what a handle without block shows
@@ -74,7 +82,8 @@ reads-detached g len = reads-empty g (change.detached len) refl
 
 -- ---- tests
 
-pub by-test : (P Q : Type 0) (s t : State) (a b : Outcome) (reply : Reply) (v : Bool) → (v ≡ true → IsAnswered s a reply t → P) → (v ≡ false → IsAnswered s b reply t → Q) → IsAnswered s (cond v a b) reply t → MatchBool v P Q
+pub by-test : (P Q : Type 0) (s t : State) (a b : Outcome) (reply : Reply) (v : Bool) → (v ≡ true → IsAnswered s a reply t → P)
+    → (v ≡ false → IsAnswered s b reply t → Q) → IsAnswered s (cond v a b) reply t → MatchBool v P Q
 by-test P Q s t a b reply true f g i = f refl i
 by-test P Q s t a b reply false f g i = g refl i
 
@@ -89,26 +98,32 @@ eq-true m n e = grind (arith, nat_tests, e)
 
 -- ---- Static
 
-pub static-steps : (s t : State) (len : ℕ) (reply : Reply) → IsAnswered s (short.static_of s len) reply t → NoRoom (reading s) reply (reading t) ⊎ Makes (reading s) (world.detached len) reply (reading t)
+pub static-steps : (s t : State) (len : ℕ) (reply : Reply) → IsAnswered s (short.static_of s len) reply t → NoRoom (reading s) reply (reading t)
+    ⊎ Makes (reading s) (world.detached len) reply (reading t)
 static-steps s t len reply i = made-taken s s t (reading s) (change.detached len) (world.detached len) reply refl (reads-detached s.tables len) i
 
 -- ---- Put
 
-put-lent : (s t : State) (h n : ℕ) (reply : Reply) (r : Result Handle Refusal) → IsSound s → lend_of s h Mut ≡ r → IsAnswered s (short.put_lent s h n r) reply t → world.PutIs (reading s) h n (read_lent s.tables r) reply (reading t)
+put-lent : (s t : State) (h n : ℕ) (reply : Reply) (r : Result Handle Refusal) → IsSound s → lend_of s h Mut ≡ r
+    → IsAnswered s (short.put_lent s h n r) reply t → world.PutIs (reading s) h n (read_lent s.tables r) reply (reading t)
 put-lent s t h n reply (Err why) k e i = refused-taken s t why reply i
 put-lent s t h n reply (Ok x) k e i =
     let l = lend-tells s h Mut x e in
     let o = owner-put s.tables x n l.kind_is in
-    rw (capacity-reads s h x k l.at l.kind_is) (by-test _ _ s t (refused s OutOfRange) (done (edited s h (record x { len = x.len + n }))) reply (nat_lt (x.cap - x.len) n)
+    rw (capacity-reads s h x k l.at l.kind_is)
+    (by-test _ _ s t (refused s OutOfRange) (done (edited s h (record x { len = x.len + n }))) reply (nat_lt (x.cap - x.len) n)
     (λ _ i. refused-taken s t OutOfRange reply i)
-    (λ _ i. edit-taken s t h (record x { len = x.len + n }) (record { kind = x.kind; block = owner_of s.tables x; place = x.ptr; len = x.len + n }) reply (rw o refl) i) i)
+    (λ _ i. edit-taken s t h (record x { len = x.len + n }) (record { kind = x.kind; block = owner_of s.tables x; place = x.ptr; len = x.len + n })
+    reply (rw o refl) i) i)
 
-pub put-steps : (s t : State) (h n : ℕ) (reply : Reply) → IsSound s → IsAnswered s (short.put_of s h n) reply t → world.PutIs (reading s) h n (world.alone_of (reading s) h Mut) reply (reading t)
+pub put-steps : (s t : State) (h n : ℕ) (reply : Reply) → IsSound s → IsAnswered s (short.put_of s h n) reply t
+    → world.PutIs (reading s) h n (world.alone_of (reading s) h Mut) reply (reading t)
 put-steps s t h n reply k i = rw (alone-reads s h Mut) (put-lent s t h n reply (lend_of s h Mut) k refl i)
 
 -- ---- Advance
 
-any-free : (s : State) (h : ℕ) (x y : Handle) (u : Bool) → is_lent h s.calls ≡ u → handle_at s h ≡ Some y → cond u (Err Borrowed) (Ok y) ≡ Ok x → Lends s h x.kind x
+any-free : (s : State) (h : ℕ) (x y : Handle) (u : Bool) → is_lent h s.calls ≡ u → handle_at s h ≡ Some y → cond u (Err Borrowed) (Ok y) ≡ Ok x
+    → Lends s h x.kind x
 any-free s h x y true f at i = absurd (cc)
 any-free s h x y false f at i = let q : y ≡ x = cc in record { at = at ∙ ap Some q; kind_is = refl; free = f }
 
@@ -121,7 +136,8 @@ any-tells s h x e =
     ] in
     by (handle_at s h) refl e
 
-advance-lent : (s t : State) (h n : ℕ) (reply : Reply) (r : Result Handle Refusal) → IsSound s → lending.any_of s h ≡ r → IsAnswered s (short.advance_lent s h n r) reply t → world.AdvanceIs (reading s) h n (read_lent s.tables r) reply (reading t)
+advance-lent : (s t : State) (h n : ℕ) (reply : Reply) (r : Result Handle Refusal) → IsSound s → lending.any_of s h ≡ r
+    → IsAnswered s (short.advance_lent s h n r) reply t → world.AdvanceIs (reading s) h n (read_lent s.tables r) reply (reading t)
 advance-lent s t h n reply (Err why) k e i = refused-taken s t why reply i
 advance-lent s t h n reply (Ok x) k e i =
     let l = any-tells s h x e in
@@ -130,5 +146,6 @@ advance-lent s t h n reply (Ok x) k e i =
     (λ v i. let o = owner-advanced s.tables x n (lt-false x.len n v) (within s h x k l.at) in
     edit-taken s t h (short.advanced x n) (record { kind = x.kind; block = owner_of s.tables x; place = x.ptr + n; len = x.len - n }) reply (rw o refl) i) i
 
-pub advance-steps : (s t : State) (h n : ℕ) (reply : Reply) → IsSound s → IsAnswered s (short.advance_of s h n) reply t → world.AdvanceIs (reading s) h n (world.any_of (reading s) h) reply (reading t)
+pub advance-steps : (s t : State) (h n : ℕ) (reply : Reply) → IsSound s → IsAnswered s (short.advance_of s h n) reply t
+    → world.AdvanceIs (reading s) h n (world.any_of (reading s) h) reply (reading t)
 advance-steps s t h n reply k i = rw (any-reads s h) (advance-lent s t h n reply (lending.any_of s h) k refl i)

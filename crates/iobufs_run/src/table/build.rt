@@ -108,7 +108,8 @@ fn are_too_long(slots: &[Slot], capacity: usize, items: &[Item]) -> bool
 
 // The first cause to refuse to build a text of these items.
 fn building(slots: &[Slot], dst: usize, capacity: usize, items: &[Item]) -> Result<(), Refusal>
-    ensures causes { MatchResult result (λ _. first_cause (build_causes slots.now dst capacity items.now) ≡ None) (λ refusal. first_cause (build_causes slots.now dst capacity items.now) ≡ Some refusal) }
+    ensures causes { MatchResult result (λ _. first_cause (build_causes slots.now dst capacity items.now) ≡ None)
+        (λ refusal. first_cause (build_causes slots.now dst capacity items.now) ≡ Some refusal) }
     ensures known { IfErr result (λ refusal. refusal ≢ Refusal.Memory) }
 {
     if dst >= slots.len() || push_no_name(slots, items) {

@@ -56,7 +56,8 @@ pub(super) fn within(n: usize, most: usize) -> Result<(), Refusal>
 
 /// A name that holds a buffer.
 pub(super) fn in_use(slots: &[Slot], target: usize) -> Result<(), Refusal>
-    ensures causes { MatchResult result (λ _. first_cause (one_of any_kind slots.now target []) ≡ None) (λ refusal. first_cause (one_of any_kind slots.now target []) ≡ Some refusal) }
+    ensures causes { MatchResult result (λ _. first_cause (one_of any_kind slots.now target []) ≡ None)
+        (λ refusal. first_cause (one_of any_kind slots.now target []) ≡ Some refusal) }
     ensures known { IfErr result (λ refusal. refusal ≢ Refusal.Memory) }
 {
     known(slots, target)?;
@@ -68,7 +69,8 @@ pub(super) fn in_use(slots: &[Slot], target: usize) -> Result<(), Refusal>
 
 /// A destination that has to be free.
 pub(super) fn free_name(slots: &[Slot], dst: usize) -> Result<(), Refusal>
-    ensures causes { MatchResult result (λ _. first_cause (free_name_causes slots.now dst []) ≡ None) (λ refusal. first_cause (free_name_causes slots.now dst []) ≡ Some refusal) }
+    ensures causes { MatchResult result (λ _. first_cause (free_name_causes slots.now dst []) ≡ None)
+        (λ refusal. first_cause (free_name_causes slots.now dst []) ≡ Some refusal) }
     ensures known { IfErr result (λ refusal. refusal ≢ Refusal.Memory) }
 {
     known(slots, dst)?;
@@ -78,7 +80,8 @@ pub(super) fn free_name(slots: &[Slot], dst: usize) -> Result<(), Refusal>
 
 /// A source of one of these kinds that keeps its name, and a free destination.
 pub(super) fn lent(kinds: &[Kind], slots: &[Slot], src: usize, dst: usize) -> Result<(), Refusal>
-    ensures causes { MatchResult result (λ _. first_cause (lent_causes kinds.now slots.now src dst []) ≡ None) (λ refusal. first_cause (lent_causes kinds.now slots.now src dst []) ≡ Some refusal) }
+    ensures causes { MatchResult result (λ _. first_cause (lent_causes kinds.now slots.now src dst []) ≡ None)
+        (λ refusal. first_cause (lent_causes kinds.now slots.now src dst []) ≡ Some refusal) }
     ensures known { IfErr result (λ refusal. refusal ≢ Refusal.Memory) }
 {
     known(slots, src)?;
@@ -106,7 +109,8 @@ pub(super) fn lent_view(slots: &[Slot], src: usize, dst: usize) -> Result<&IoBuf
 
 /// A source of one of these kinds that is consumed, and a destination that is free or the source.
 pub(super) fn moved(kinds: &[Kind], slots: &[Slot], src: usize, dst: usize) -> Result<(), Refusal>
-    ensures causes { MatchResult result (λ _. first_cause (moved_causes kinds.now slots.now src dst []) ≡ None) (λ refusal. first_cause (moved_causes kinds.now slots.now src dst []) ≡ Some refusal) }
+    ensures causes { MatchResult result (λ _. first_cause (moved_causes kinds.now slots.now src dst []) ≡ None)
+        (λ refusal. first_cause (moved_causes kinds.now slots.now src dst []) ≡ Some refusal) }
     ensures known { IfErr result (λ refusal. refusal ≢ Refusal.Memory) }
 {
     known(slots, src)?;

@@ -65,7 +65,8 @@ pub(super) fn extent_at(slots: &[Slot], name: usize) -> usize
 
 // What these names count together, if a number can say it.
 fn total(slots: &[Slot], names: &[usize]) -> Option<usize>
-    ensures { SomeIff result (sum_by (λ name. extent (slot_named slots.now name)) names.now < 2 ^ 64) (sum_by (λ name. extent (slot_named slots.now name)) names.now) }
+    ensures { SomeIff result (sum_by (λ name. extent (slot_named slots.now name)) names.now < 2 ^ 64)
+        (sum_by (λ name. extent (slot_named slots.now name)) names.now) }
 {
     let mut sum = 0usize;
     for name in names {
@@ -76,7 +77,8 @@ fn total(slots: &[Slot], names: &[usize]) -> Option<usize>
 
 // The first cause to refuse a gathering of buffers of this kind.
 fn gathering(slots: &[Slot], dst: usize, sources: &[usize], kind: Kind) -> Result<(), Refusal>
-    ensures causes { MatchResult result (λ _. first_cause (gather_causes kind slots.now dst sources.now) ≡ None) (λ refusal. first_cause (gather_causes kind slots.now dst sources.now) ≡ Some refusal) }
+    ensures causes { MatchResult result (λ _. first_cause (gather_causes kind slots.now dst sources.now) ≡ None)
+        (λ refusal. first_cause (gather_causes kind slots.now dst sources.now) ≡ Some refusal) }
     ensures known { IfErr result (λ refusal. refusal ≢ Refusal.Memory) }
 {
     if dst >= slots.len() || have_no_name(slots, sources) {

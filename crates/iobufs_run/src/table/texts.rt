@@ -31,7 +31,8 @@ fn join_to(alloc: Global, slot: &mut Slot, piece: IoBuf, end: End) -> Result<(),
 
 // The first cause to refuse a joining of a text and a view.
 fn joining(slots: &[Slot], target: usize, src: usize) -> Result<(), Refusal>
-    ensures causes { MatchResult result (λ _. first_cause (join_causes slots.now target src) ≡ None) (λ refusal. first_cause (join_causes slots.now target src) ≡ Some refusal) }
+    ensures causes { MatchResult result (λ _. first_cause (join_causes slots.now target src) ≡ None)
+        (λ refusal. first_cause (join_causes slots.now target src) ≡ Some refusal) }
     ensures known { IfErr result (λ refusal. refusal ≢ Refusal.Memory) }
 {
     known(slots, target)?;

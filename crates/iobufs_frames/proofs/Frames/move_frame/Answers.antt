@@ -4,9 +4,11 @@ use Rattle.iobufs_frames.proofs.Frames.move_frame.Goals as goal
 -- src/lib.rt:83:5
 pub returns-in_ok-push-in-Ok-Some-clause-moved : goal.returns-in_ok-push-in-Ok-Some-clause-moved
 returns-in_ok-push-in-Ok-Some-clause-moved c =
-    (moved_one c.args.range.now c.args.self.now.bytes c.next.new.self.bytes c.in-Ok-Some.body c.in-Ok-Some.field-0 c.args.found.now.items c.push.new.self.items c.in-Ok-Some.field-0-is c.in-Ok-Some.ensures.next c.in_ok-push-in-Ok-Some.ensures.items).0
+    (moved_one c.args.range.now c.args.self.now.bytes c.next.new.self.bytes c.in-Ok-Some.body c.in-Ok-Some.field-0 c.args.found.now.items
+    c.push.new.self.items c.in-Ok-Some.field-0-is c.in-Ok-Some.ensures.next c.in_ok-push-in-Ok-Some.ensures.items).0
 
 -- src/lib.rt:83:5
 pub returns-in_ok-push-in-Ok-Some-clause-shorter : goal.returns-in_ok-push-in-Ok-Some-clause-shorter
 returns-in_ok-push-in-Ok-Some-clause-shorter c =
-    (moved_one c.args.range.now c.args.self.now.bytes c.next.new.self.bytes c.in-Ok-Some.body c.in-Ok-Some.field-0 c.args.found.now.items c.push.new.self.items c.in-Ok-Some.field-0-is c.in-Ok-Some.ensures.next c.in_ok-push-in-Ok-Some.ensures.items).1
+    (moved_one c.args.range.now c.args.self.now.bytes c.next.new.self.bytes c.in-Ok-Some.body c.in-Ok-Some.field-0 c.args.found.now.items
+    c.push.new.self.items c.in-Ok-Some.field-0-is c.in-Ok-Some.ensures.next c.in_ok-push-in-Ok-Some.ensures.items).1

@@ -9,7 +9,8 @@ use Rattle.iobufs_frames.proofs.Frames.next.Goals as goal
 pub returns-clause-next : goal.returns-clause-next
 returns-clause-next c =
     subst (λ (t : MarkedText). IsNext c.args.range.now t.bytes c.found.result c.read_cfg.new.buf.bytes) c.self.view_is
-    (next_is c.args.range.now c.self.inside.rest c.read_cfg.new.buf c.read_cfg.result c.found.result c.found.ensures c.read_cfg.ensures.answer c.read_cfg.ensures.rest)
+    (next_is c.args.range.now c.self.inside.rest c.read_cfg.new.buf c.read_cfg.result c.found.result c.found.ensures c.read_cfg.ensures.answer
+    c.read_cfg.ensures.rest)
 
 -- src/lib.rt:73:5
 pub returns-clause-first : goal.returns-clause-first

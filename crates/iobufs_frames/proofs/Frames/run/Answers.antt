@@ -9,7 +9,8 @@ use Rattle.iobufs_frames.proofs.Frames.run.Goals as goal
 pub loop-piece-init : goal.loop-piece-init
 loop-piece-init c = record {
   text = [];
-  framed = start c.args.range.now c.new-found.result.items c.default-frames.result.bytes c.new-found.ensures.items (ap (λ (t : MarkedText). t.bytes) c.default-frames.ensures);
+  framed = start c.args.range.now c.new-found.result.items c.default-frames.result.bytes c.new-found.ensures.items
+      (ap (λ (t : MarkedText). t.bytes) c.default-frames.ensures);
   whole = refl;
   fewer = omega arith;
 }

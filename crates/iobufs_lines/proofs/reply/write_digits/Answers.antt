@@ -20,13 +20,15 @@ loop-rest-preserved g c =
     let behind = c.split_at.result.1.now in
     let rest = c.loop-rest.rest.now in
     let n = c.min.result in
-    let whole = ap (λ (xs : List ℕ). xs ++ behind) c.split_at.ensures.front ∙ ap (λ (ys : List ℕ). take n rest ++ ys) c.split_at.ensures.back ∙ take-append-drop n rest in
+    let whole = ap (λ (xs : List ℕ). xs ++ behind) c.split_at.ensures.front ∙ ap (λ (ys : List ℕ). take n rest ++ ys) c.split_at.ensures.back
+    ∙ take-append-drop n rest in
     record {
       shown = shown ++ few;
       whole = append_assoc shown few behind ∙ ap (λ (xs : List ℕ). shown ++ xs) whole ∙ inv.whole;
       written = λ plain.
           let so_far = inv.written plain in
-          has_written_of_eq _ _ _ _ _ (sym (flat_map-append two_digits shown few)) (has_written_append _ _ _ _ _ _ so_far (c.in_ok-write_few.ensures so_far.plain refl));
+          has_written_of_eq _ _ _ _ _ (sym (flat_map-append two_digits shown few))
+          (has_written_append _ _ _ _ _ _ so_far (c.in_ok-write_few.ensures so_far.plain refl));
     }
 
 pub returns : goal.returns

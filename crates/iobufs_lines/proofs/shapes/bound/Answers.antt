@@ -3,7 +3,8 @@ use Rattle.std.specs.Str.{bytes_eq}
 use Rattle.iobufs_lines.specs.Shapes.{bound_of}
 use Rattle.iobufs_lines.proofs.shapes.bound.Goals as goal
 
-no_bound : (word : List ℕ) → bytes_eq word (codes "u") ≡ false → ((rest : List ℕ) → word ≢ 105 ∷ rest) → ((rest : List ℕ) → word ≢ 101 ∷ rest) → bound_of word ≡ None
+no_bound : (word : List ℕ) → bytes_eq word (codes "u") ≡ false → ((rest : List ℕ) → word ≢ 105 ∷ rest) → ((rest : List ℕ) → word ≢ 101 ∷ rest)
+    → bound_of word ≡ None
 no_bound [] e h k = refl
 no_bound (c ∷ cs) e h k = rw e (rw (ne_eqb c 105 (λ s. h cs (ap (λ x. x ∷ cs) s))) (rw (ne_eqb c 101 (λ s. k cs (ap (λ x. x ∷ cs) s))) refl))
 

@@ -10,9 +10,22 @@ returns-in-Take g c =
     let r = c.reserve.ensures in
     let grown = room_made c.args.machine.now c.reserve.new.self c.reserve.result r.state r.room r.blocks r.handles r.records r.refused in
     written c.writeln.result (g.W.Write.contents c.args.output.now) _ c.args.machine.now c.step.new.self c.args.ask (reply_text c.step.result)
-    (rw c.in-Take.is (c.reserve.new.self, c.step.result, grown, record { moves = s.moves; steps = s.steps; sound = s.sound; promises = s.promises; room = s.room }, refl)) c.writeln.ensures.bytes
+    (rw c.in-Take.is (
+      c.reserve.new.self,
+      c.step.result,
+      grown,
+      record {
+        moves = s.moves;
+        steps = s.steps;
+        sound = s.sound;
+        promises = s.promises;
+        room = s.room;
+      },
+      refl,
+    )) c.writeln.ensures.bytes
 
 pub returns-in-Look : goal.returns-in-Look
 returns-in-Look g c =
-    written c.writeln-in-Look.result (g.W.Write.contents c.args.output.now) _ c.args.machine.now c.args.machine.now c.args.ask (answer_text c.args.machine.now.state c.in-Look.question)
+    written c.writeln-in-Look.result (g.W.Write.contents c.args.output.now) _ c.args.machine.now c.args.machine.now c.args.ask
+    (answer_text c.args.machine.now.state c.in-Look.question)
     (rw c.in-Look.is (refl, refl)) c.writeln-in-Look.ensures.bytes

@@ -36,4 +36,5 @@ returns-clause-bases c =
     let n : c.len-number.result ≡ length ps = omega (arith, c.len-number.ensures) in
     let known = rw c.deref.ensures.value at c.way_end-end.ensures.known in
     let x = get_or_read ps c.way_end-end.result.at c.index-last.result.now known c.index-last.ensures no_place in
-    rw (c.push_reserved-2.ensures.items, c.opened.ensures, c.leaf-2.ensures, n, x) (bases-grown ps c.way_end-end.result.at c.args.base c.middle-middle.result ∙ ap (λ (m : Seen). m.bases ++ c.args.base ∷ []) c.self.view_is)
+    rw (c.push_reserved-2.ensures.items, c.opened.ensures, c.leaf-2.ensures, n, x)
+    (bases-grown ps c.way_end-end.result.at c.args.base c.middle-middle.result ∙ ap (λ (m : Seen). m.bases ++ c.args.base ∷ []) c.self.view_is)

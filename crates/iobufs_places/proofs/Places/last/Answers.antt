@@ -15,7 +15,8 @@ returns c =
     let last = rw d at c.last_in.ensures.last in
     subst (λ (m : Seen). IsLast m.bases c.args.low c.args.end c.last_in.result) c.self.view_is
     (elim c.if-is_empty.branch [
-      | then-is_empty w ↦ last-of-none ps c.args.low c.args.end c.last_in.result (let e = w.if-is_empty.true in grind (arith, nat_tests, e, c.is_empty.ensures)) known
+      | then-is_empty w ↦ last-of-none ps c.args.low c.args.end c.last_in.result
+          (let e = w.if-is_empty.true in grind (arith, nat_tests, e, c.is_empty.ensures)) known
       | else-is_empty w ↦ last-of ps c.args.low c.args.end c.last_in.result c.self.invariant.tree known
           (subst (λ (o : Option ℕ). (f : ℕ) → Reaches (length ps) o f → IsLastFound ps
           (found ps f o) c.args.low c.args.end c.last_in.result) w.first-is last (length ps) (omega arith))

@@ -10,5 +10,6 @@ returns-in-Err-clause-serves g c =
     subst (λ (fault : Fault). IfSome (g.I.Source.unread c.args.input.now) (λ read. IfSome (g.O.Sink.contents c.args.output.now) (λ before.
     ServesHalf c.args.half read before (g.O.Sink.contents c.send.new.self) (Err (CannotContinue fault)))))
     (sym c.in-Err.ensures.err.0)
-    (unsent c.args.half (g.I.Source.unread c.args.input.now) (g.O.Sink.contents c.args.output.now) (g.O.Sink.contents c.serve_half-served.new.output) (g.O.Sink.contents c.send.new.self)
+    (unsent c.args.half (g.I.Source.unread c.args.input.now) (g.O.Sink.contents c.args.output.now) (g.O.Sink.contents c.serve_half-served.new.output)
+    (g.O.Sink.contents c.send.new.self)
     c.serve_half-served.result c.serve_half-served.ensures.serves c.send.ensures.bytes)

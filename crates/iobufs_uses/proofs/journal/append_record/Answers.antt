@@ -5,4 +5,5 @@ use Rattle.iobufs_uses.proofs.journal.append_record.Goals as goal
 
 pub returns-clause-done : goal.returns-clause-done
 returns-clause-done c =
-    ap (λ (t : MarkedText). t.bytes) c.in_ok-append.ensures.done ∙ bytes-append c.args.journal.now c.in_ok-record.record ∙ ap (λ w. c.args.journal.now.bytes ++ w) c.in_ok-record.ensures.record
+    ap (λ (t : MarkedText). t.bytes) c.in_ok-append.ensures.done ∙ bytes-append c.args.journal.now c.in_ok-record.record
+    ∙ ap (λ w. c.args.journal.now.bytes ++ w) c.in_ok-record.ensures.record

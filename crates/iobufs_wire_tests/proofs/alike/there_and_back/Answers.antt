@@ -11,7 +11,8 @@ frozen_bytes : (bytes : List ℕ) (spare : ℕ) → (part_frozen (record { fille
 frozen_bytes [] spare = refl
 frozen_bytes (b ∷ bs) spare = grind (arith, nat_tests)
 
-if_read : {Value : Type 0} (same : Value → Value → Type 0) (value : Value) (answer : Result Value Error) → IsReadBack same value answer → IfOk answer (same value)
+if_read : {Value : Type 0} (same : Value → Value → Type 0) (value : Value) (answer : Result Value Error) → IsReadBack same value answer
+    → IfOk answer (same value)
 if_read same value (Ok read) h = h
 if_read same value (Err error) h = tt
 

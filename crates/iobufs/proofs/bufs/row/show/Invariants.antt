@@ -9,4 +9,5 @@ use Rattle.iobufs.proofs.bufs.row.show.Given as goal
 abbrev pub invariant-loop-piece : goal.invariant-loop-piece
 invariant-loop-piece g l =
     always_mut g.F.FnMut l.visit
-    × FoldsTo (λ before chunk after. CalledAt g.F.FnMut before chunk tt after) l.initial.visit (map (λ (piece : Piece). piece.view.bytes) (take l.piece-index l.pieces)) l.visit
+    × FoldsTo (λ before chunk after. CalledAt g.F.FnMut before chunk tt after) l.initial.visit
+    (map (λ (piece : Piece). piece.view.bytes) (take l.piece-index l.pieces)) l.visit

@@ -54,9 +54,11 @@ loop-first-preserved g c =
     })
 
 pub returns-clause-digits : goal.returns-clause-digits
-returns-clause-digits g c = λ d l. few_digits (g.E.Ends.probed c.loop-first.ends) (length (g.E.Ends.ends c.args.ends.now)) d (omega (arith, c.loop-first.invariant.few, ap length c.loop-first.invariant.same_ends)) l
+returns-clause-digits g c = λ d l. few_digits (g.E.Ends.probed c.loop-first.ends) (length (g.E.Ends.ends c.args.ends.now)) d
+    (omega (arith, c.loop-first.invariant.few, ap length c.loop-first.invariant.same_ends)) l
 
 pub returns-clause-halves : goal.returns-clause-halves
 returns-clause-halves g c =
     let i = c.loop-first.invariant in
-    twice _ _ _ (omega arith) (subst (λ n. n < 2 ^ g.E.Ends.probed c.loop-first.ends * (c.loop-first.last - c.loop-first.first + 2)) (ap length i.same_ends) i.halves)
+    twice _ _ _ (omega arith) (subst (λ n. n < 2 ^ g.E.Ends.probed c.loop-first.ends * (c.loop-first.last - c.loop-first.first + 2))
+    (ap length i.same_ends) i.halves)

@@ -10,7 +10,8 @@ returns-then-at-len c =
     let l = c.loop-part in
     let part = c.in-Some.part.now in
     let rest = parts_filled (deque_iter_rest c.next.new.self) in
-    c.byte_at.ensures ∙ sym (l.invariant ∙ ap (λ ps. slice_get (parts_filled ps) l.at) c.in-Some.ensures.steps ∙ byte_in part.filled rest l.at (omega (arith, c.len-len.ensures)))
+    c.byte_at.ensures ∙ sym (l.invariant ∙ ap (λ ps. slice_get (parts_filled ps) l.at) c.in-Some.ensures.steps
+    ∙ byte_in part.filled rest l.at (omega (arith, c.len-len.ensures)))
 
 pub loop-part-preserved : goal.loop-part-preserved
 loop-part-preserved c =

@@ -21,7 +21,8 @@ loop-part-preserved c =
     let more : vec_len l.chunks < c.args.max = omega (arith, c.len.ensures, c.if-len-max.false, l.invariant.few) in
     let fewer : left - 1 ≡ c.args.max - vec_len c.push.new.self = omega (arith, c.in_ok-push.ensures.len) in
     let pushed : chunks ++ part.filled ∷ [] ≡ map now c.push.new.self.items =
-    ap (λ t. chunks ++ t ∷ []) (sym c.as_ref.ensures) ∙ sym (map-append now l.chunks.items (c.as_ref.result ∷ [])) ∙ ap (map now) (sym c.in_ok-push.ensures.items) in
+    ap (λ t. chunks ++ t ∷ []) (sym c.as_ref.ensures) ∙ sym (map-append now l.chunks.items (c.as_ref.result ∷ []))
+    ∙ ap (map now) (sym c.in_ok-push.ensures.items) in
     record {
       few = omega (arith, c.in_ok-push.ensures.len);
       so_far = l.invariant.so_far ∙ ap (λ ps. chunks ++ take left (parts_chunks ps)) c.in-Some.ensures.steps

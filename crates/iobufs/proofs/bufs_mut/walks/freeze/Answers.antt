@@ -16,7 +16,8 @@ returns-then-len-clause-ok c =
     let frozen = c.in_ok-piece.ensures.ok in
     let bytes = ap (λ parts. length (parts_filled parts)) items in
     let len = ap (λ (v : View). length v.bytes) frozen ∙ ap length (frozen-bytes part) in
-    let none : length (parts_filled rest) ≡ 0 = omega (arith, bytes, len, length-append part.filled (parts_filled rest), l.invariant.bytes, c.len.ensures.value, c.if-len.true) in
+    let none : length (parts_filled rest) ≡ 0 =
+    omega (arith, bytes, len, length-append part.filled (parts_filled rest), l.invariant.bytes, c.len.ensures.value, c.if-len.true) in
     c.from.ensures
     ∙ ap of_view frozen
     ∙ sym (frozen-whole part rest none)

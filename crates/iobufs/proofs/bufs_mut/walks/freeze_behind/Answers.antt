@@ -15,7 +15,8 @@ pub loop-part-init : goal.loop-part-init
 loop-part-init c =
     let first = c.args.first in
     let parts = c.args.parts in
-    let views : c.add.new.self.views ≡ first ∷ [] = c.add.ensures.added ∙ rw (not_zero (length first.bytes) c.requires.some) (ap (λ (vs : List View). vs ++ first ∷ []) c.in_ok-row.ensures.views) in
+    let views : c.add.new.self.views ≡ first ∷ [] = c.add.ensures.added
+    ∙ rw (not_zero (length first.bytes) c.requires.some) (ap (λ (vs : List View). vs ++ first ∷ []) c.in_ok-row.ensures.views) in
     let bytes = ap (λ (vs : List View). length (pieces_bytes vs)) views in
     let count = ap (λ (vs : List View). length vs) views in
     record {
@@ -43,7 +44,9 @@ loop-part-preserved c =
     let count = ap length items in
     let len = ap (λ (v : View). length v.bytes) frozen in
     record {
-      so_far = ap (λ (text : MarkedText). fold text_append text (map part_frozen rest)) (add-text l.row.views views piece added inv.full ∙ ap (text_append (of_pieces l.row.views)) frozen) ∙ ap (λ parts. fold text_append (of_pieces l.row.views) (map part_frozen parts)) (sym items) ∙ inv.so_far;
+      so_far = ap (λ (text : MarkedText). fold text_append text (map part_frozen rest))
+          (add-text l.row.views views piece added inv.full ∙ ap (text_append (of_pieces l.row.views)) frozen)
+          ∙ ap (λ parts. fold text_append (of_pieces l.row.views) (map part_frozen parts)) (sym items) ∙ inv.so_far;
       fits = omega (arith, inv.fits, more.bytes, len, capacity, sum_by-cons part_capacity part rest, frozen-len part);
       room = omega (arith, inv.room, more.at_most, count, c.add-in-Some.ensures.same_room);
       full = add-full l.row.views views piece added inv.full;

@@ -17,7 +17,8 @@ loop-part-preserved c =
     let bytes : take c.min-share.result c.as_ref.result.now ≡ take c.min-share.result part.filled = ap (take c.min-share.result) c.as_ref.ensures in
     record {
       some = omega (arith, l.invariant.some);
-      so_far = share-turn _ l.bytes.items part.filled rest l.rest c.min-share.result share (l.invariant.so_far ∙ ap (λ ps. l.bytes.items ++ take l.rest (parts_filled ps)) c.in-Some.ensures.steps)
+      so_far = share-turn _ l.bytes.items part.filled rest l.rest c.min-share.result share
+          (l.invariant.so_far ∙ ap (λ ps. l.bytes.items ++ take l.rest (parts_filled ps)) c.in-Some.ensures.steps)
           ∙ ap (λ w. w ++ take (l.rest - c.min-share.result) rest) (ap (λ w. l.bytes.items ++ w) (sym bytes) ∙ sym c.in_ok-extend_from_slice.ensures.items);
     }
 

@@ -20,7 +20,9 @@ loop-i-preserved c =
     let all : length (replicate l.rest value) ≡ l.rest = length-replicate l.rest value in
     record {
       same_len = l.invariant.same_len;
-      so_far = fill-turn _ l.parts.items l.i part.result.now c.put_bytes.new.self (replicate l.rest value) _ (replicate n value) n inside part.ensures.value c.put_bytes.ensures.1 (sym (take-replicate n l.rest value share)) (sym (drop-replicate n l.rest value)) (c.min-n.ensures ∙ (λ i. min (sym all i) (c.remaining_mut-room.ensures i))) l.invariant.so_far;
+      so_far = fill-turn _ l.parts.items l.i part.result.now c.put_bytes.new.self (replicate l.rest value) _ (replicate n value) n inside
+          part.ensures.value c.put_bytes.ensures.1 (sym (take-replicate n l.rest value share)) (sym (drop-replicate n l.rest value))
+          (c.min-n.ensures ∙ (λ i. min (sym all i) (c.remaining_mut-room.ensures i))) l.invariant.so_far;
     }
 
 pub loop-i-preserved-then-room-eq0 : goal.loop-i-preserved-then-room-eq0

@@ -21,11 +21,14 @@ loop-part-preserved c =
     let same : length (put_mid l.at k l.dst here) ≡ len = same_len_mid l.at k l.dst here c.copy_from_slice.ensures.len in
     let long : l.at + n ≡ l.at + length here = omega (arith, ap (λ (w : List ℕ). length w) bytes, length-take n part.filled) in
     let written = take-put_mid l.at k l.dst here (l.at + n) long l.invariant.within ∙ ap (λ w. take l.at l.dst ++ w) bytes in
-    let so_far = read-turn _ l.dst _ part.filled rest len l.at n l.invariant.within share written (l.invariant.so_far ∙ ap (λ ps. take l.at l.dst ++ take (len - l.at) (parts_filled ps)) c.in-Some.ensures.steps) in
+    let so_far = read-turn _ l.dst _ part.filled rest len l.at n l.invariant.within share written
+    (l.invariant.so_far ∙ ap (λ ps. take l.at l.dst ++ take (len - l.at) (parts_filled ps)) c.in-Some.ensures.steps) in
     rw same (record { within = omega arith; so_far = so_far })
 
 pub returns : goal.returns
 returns c =
     let l = c.loop-part in
     let none : deque_iter_rest l.part-iterator ≡ [] = nil_from_length _ c.in-None.ensures.steps.0 in
-    read-done _ l.dst l.at l.invariant.within (omega (arith, l.auto.dst, c.requires)) (l.invariant.so_far ∙ ap (λ ps. take l.at l.dst ++ take (length l.dst - l.at) (parts_filled ps)) none) ∙ ap (λ m. take m (parts_filled c.args.parts.now.items)) l.auto.dst
+    read-done _ l.dst l.at l.invariant.within (omega (arith, l.auto.dst, c.requires))
+    (l.invariant.so_far ∙ ap (λ ps. take l.at l.dst ++ take (length l.dst - l.at) (parts_filled ps)) none)
+    ∙ ap (λ m. take m (parts_filled c.args.parts.now.items)) l.auto.dst

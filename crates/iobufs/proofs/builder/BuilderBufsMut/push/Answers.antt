@@ -25,7 +25,8 @@ returns-clause-ok c =
     let limit = pushes-kept b.inline b.pushes.slots b.placed b.pushable _ inv.limited c.self.view_is in (
       omega arith,
       omega (arith, limit, c.in_default.ensures.ok.0),
-      push-kept b.inline b.pushes.slots _ b.placed _ _ (c.len.result - b.placed) c.args.view inv.counted inv.within c.self.view_is run (omega arith) (c.push.ensures.pushed ∙ ap (λ (slots : List Slot). slots ++ slots_pushed (c.len.result - b.placed) c.args.view) c.make_room.ensures.same) refl,
+      push-kept b.inline b.pushes.slots _ b.placed _ _ (c.len.result - b.placed) c.args.view inv.counted inv.within c.self.view_is run (omega arith)
+          (c.push.ensures.pushed ∙ ap (λ (slots : List Slot). slots ++ slots_pushed (c.len.result - b.placed) c.args.view) c.make_room.ensures.same) refl,
     )
 
 pub returns-clause-too_long : goal.returns-clause-too_long

@@ -21,7 +21,8 @@ pub returns-clause-bytes : goal.returns-clause-bytes
 returns-clause-bytes g c =
     let items = g.Self.EncodeSize.items c.args.self.now in
     let (inline, pushed, built) = c.in_ok-write_bufs.ensures.ok in
-    ap (λ (text : MarkedText). text.bytes) (c.in_ok-finish.ensures.ok ∙ ap finished (built ∙ ap (λ (b : Building). building_after b items) (c.in_ok-builder.ensures.ok ∙ ap empty_building c.encode_inline_size.ensures)))
+    ap (λ (text : MarkedText). text.bytes) (c.in_ok-finish.ensures.ok
+    ∙ ap finished (built ∙ ap (λ (b : Building). building_after b items) (c.in_ok-builder.ensures.ok ∙ ap empty_building c.encode_inline_size.ensures)))
     ∙ encoded-bytes (items_inline items) items
     ∙ g.met.Self.EncodeSize.joins_items c.args.self.now
 

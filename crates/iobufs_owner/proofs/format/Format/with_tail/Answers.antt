@@ -21,4 +21,9 @@ returns-clause-same c =
     let u = c.unpack-fields.ensures.inverse w.size w.log w.tail w.room w.is in
     let p = c.pack.ensures.sum w.log u.1 in
     rw (retailed-is f.align_bits f.tail_bits f.size_bits c.args.word w.size w.log w.tail c.args.tail w.room w.is)
-    (some-iff _ _ _ _ (rw u.0 at p) (λ h. h.tail_fits) (λ t. record { some = w.room.some; log_fits = w.room.log_fits; tail_fits = t; size_fits = w.room.size_fits }))
+    (some-iff _ _ _ _ (rw u.0 at p) (λ h. h.tail_fits) (λ t. record {
+      some = w.room.some;
+      log_fits = w.room.log_fits;
+      tail_fits = t;
+      size_fits = w.room.size_fits;
+    }))

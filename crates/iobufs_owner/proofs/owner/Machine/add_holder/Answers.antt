@@ -14,8 +14,10 @@ pub overflow_add-record : goal.overflow_add-record
 overflow_add-record c =
     let s : State = state_of c.self.inside in
     let k = c.self.invariant in
-    let at = subst (λ (s : State). call_at s c.args.party ≡ Some (Add c.args.range c.args.r)) (sym (ap (λ (m : Seen). m.state) c.self.view_is)) c.requires.call in
-    let e = subst (λ (s : State). c.record-record.result ≡ record_at s.tables c.args.r) (sym (ap (λ (m : Seen). m.state) c.self.view_is)) c.record-record.ensures in
+    let at = subst (λ (s : State). call_at s c.args.party ≡ Some (Add c.args.range c.args.r)) (sym (ap (λ (m : Seen). m.state) c.self.view_is))
+    c.requires.call in
+    let e = subst (λ (s : State). c.record-record.result ≡ record_at s.tables c.args.r) (sym (ap (λ (m : Seen). m.state) c.self.view_is))
+    c.record-record.ensures in
     let a = adding s c.args.party c.args.range c.args.r k.sound at in
     let f = counted-at s c.args.range.handle a.view c.args.r k.sound a.shares.at a.word in
     let m = count-small s c.args.r k.sound f.live f.shown in
@@ -32,18 +34,37 @@ pub invariant_of-self : goal.invariant_of-self
 invariant_of-self c =
     let s : State = state_of c.self.inside in
     let k = c.self.invariant in
-    let at = subst (λ (s : State). call_at s c.args.party ≡ Some (Add c.args.range c.args.r)) (sym (ap (λ (m : Seen). m.state) c.self.view_is)) c.requires.call in
+    let at = subst (λ (s : State). call_at s c.args.party ≡ Some (Add c.args.range c.args.r)) (sym (ap (λ (m : Seen). m.state) c.self.view_is))
+    c.requires.call in
     let found = subst (λ (s : State). handle_at s c.args.range.handle ≡ Some c.args.x) (sym (ap (λ (m : Seen). m.state) c.self.view_is)) c.requires.at in
-    let e = subst (λ (s : State). c.record-record.result ≡ record_at s.tables c.args.r) (sym (ap (λ (m : Seen). m.state) c.self.view_is)) c.record-record.ensures in
+    let e = subst (λ (s : State). c.record-record.result ≡ record_at s.tables c.args.r) (sym (ap (λ (m : Seen). m.state) c.self.view_is))
+    c.record-record.ensures in
     let low = subst (λ (s : State). (record_at s.tables c.args.r).count ≤ s.ceiling) (sym (ap (λ (m : Seen). m.state) c.self.view_is)) c.requires.low in
-    record { sound = rw (e, c.push_reserved.ensures.items, c.part.ensures) (sound-added-call s c.args.party c.args.r c.args.range c.args.x k.sound at found low (omega (arith, c.in_ok-room_for_handle.ensures.few))); block_room = k.block_room; record_room = rw length-set k.record_room; borrows_kept = rw (c.borrow_less.ensures.items, c.push_reserved-2.ensures.items, c.push_reserved.ensures.items, length-set) (kept-pushed _ _ _ k.borrows_kept); places = k.places; borrowed = rw (c.borrow_less.ensures.items, c.push_reserved-2.ensures.items) (counts-less (c.self.inside.borrows.items ++ 0 ∷ []) c.self.inside.calls.items c.args.party c.args.range.handle (Some (Add c.args.range c.args.r)) (let l = at-some s.handles c.args.range.handle c.args.x found in let q = k.borrows_kept in let e = length-append c.self.inside.borrows.items (0 ∷ []) in omega (arith, l, q, e)) (at-some s.calls c.args.party (Add c.args.range c.args.r) at) at (λ j. refl) (counts-pushed c.self.inside.borrows.items c.self.inside.calls.items k.borrowed)) }
+    record {
+      sound = rw (e, c.push_reserved.ensures.items, c.part.ensures)
+          (sound-added-call s c.args.party c.args.r c.args.range c.args.x k.sound at found low (omega (arith, c.in_ok-room_for_handle.ensures.few)));
+      block_room = k.block_room;
+      record_room = rw length-set k.record_room;
+      borrows_kept = rw (c.borrow_less.ensures.items, c.push_reserved-2.ensures.items, c.push_reserved.ensures.items, length-set)
+          (kept-pushed _ _ _ k.borrows_kept);
+      places = k.places;
+      borrowed = rw (c.borrow_less.ensures.items, c.push_reserved-2.ensures.items)
+          (counts-less (c.self.inside.borrows.items ++ 0 ∷ []) c.self.inside.calls.items c.args.party c.args.range.handle
+          (Some (Add c.args.range c.args.r)) (let l = at-some s.handles c.args.range.handle c.args.x found in let q = k.borrows_kept in let e =
+          length-append c.self.inside.borrows.items (0 ∷ []) in omega (arith, l, q, e)) (at-some s.calls c.args.party (Add c.args.range c.args.r) at)
+          at (λ j. refl) (counts-pushed c.self.inside.borrows.items c.self.inside.calls.items k.borrowed));
+    }
 
 pub borrow_less-requires-clause-some : goal.borrow_less-requires-clause-some
 borrow_less-requires-clause-some c =
     let s : State = state_of c.self.inside in
     let k = c.self.invariant in
-    let at = subst (λ (s : State). call_at s c.args.party ≡ Some (Add c.args.range c.args.r)) (sym (ap (λ (m : Seen). m.state) c.self.view_is)) c.requires.call in
-    rw c.push_reserved-2.ensures.items (some-borrowed (c.self.inside.borrows.items ++ 0 ∷ []) c.self.inside.calls.items c.args.party c.args.range.handle (Some (Add c.args.range c.args.r)) (at-some s.calls c.args.party (Add c.args.range c.args.r) at) at (is-eqb c.args.range.handle c.args.range.handle refl) (counts-pushed c.self.inside.borrows.items c.self.inside.calls.items k.borrowed))
+    let at = subst (λ (s : State). call_at s c.args.party ≡ Some (Add c.args.range c.args.r)) (sym (ap (λ (m : Seen). m.state) c.self.view_is))
+    c.requires.call in
+    rw c.push_reserved-2.ensures.items
+    (some-borrowed (c.self.inside.borrows.items ++ 0 ∷ []) c.self.inside.calls.items c.args.party c.args.range.handle
+    (Some (Add c.args.range c.args.r)) (at-some s.calls c.args.party (Add c.args.range c.args.r) at) at
+    (is-eqb c.args.range.handle c.args.range.handle refl) (counts-pushed c.self.inside.borrows.items c.self.inside.calls.items k.borrowed))
 
 pub borrow_less-requires-clause-known : goal.borrow_less-requires-clause-known
 borrow_less-requires-clause-known c =

@@ -18,4 +18,11 @@ invariant_of-self c =
     let s : State = state_of c.self.inside in
     let k = c.self.invariant in
     let t = subst (λ (s : State). Lends s c.args.h c.in-Ok.x.kind c.in-Ok.x) (sym (ap (λ (m : Seen). m.state) c.self.view_is)) c.in-Ok.ensures.lends in
-    record { sound = rw c.saturating_sub.ensures (sound-advanced s c.args.h c.in-Ok.x c.args.n k.sound t.at t.free c.if-n-x.false); block_room = k.block_room; record_room = k.record_room; borrows_kept = rw length-set k.borrows_kept; places = k.places; borrowed = k.borrowed }
+    record {
+      sound = rw c.saturating_sub.ensures (sound-advanced s c.args.h c.in-Ok.x c.args.n k.sound t.at t.free c.if-n-x.false);
+      block_room = k.block_room;
+      record_room = k.record_room;
+      borrows_kept = rw length-set k.borrows_kept;
+      places = k.places;
+      borrowed = k.borrowed;
+    }

@@ -74,8 +74,19 @@ invariant_of-self c =
     let e = rw (c.record-record.ensures, v) at c.block-block.ensures in
     let w = c.in-Some.ensures.sum d.power.0 (rw e d.power.1) in
     let word = rw e at w.1 in
-    let may : MayDemote s.tables c.args.x c.args.r d.power.0 = record { one = rw e1 at c.if-not-is_sole.false; native = rw e at c.if-is_external.false; room = rw e at w.0 } in
-    record { sound = rw (c.push_reserved.ensures.items, e1, word) (sound-demoted s c.args.h c.args.r d.power.0 c.args.x k.sound t c.requires.word d.power.1 may); block_room = k.block_room; record_room = rw length-set (omega (arith, k.record_room, c.push_reserved.ensures.capacity)); borrows_kept = rw length-set k.borrows_kept; places = k.places; borrowed = k.borrowed }
+    let may : MayDemote s.tables c.args.x c.args.r d.power.0 = record {
+      one = rw e1 at c.if-not-is_sole.false;
+      native = rw e at c.if-is_external.false;
+      room = rw e at w.0;
+    } in
+    record {
+      sound = rw (c.push_reserved.ensures.items, e1, word) (sound-demoted s c.args.h c.args.r d.power.0 c.args.x k.sound t c.requires.word d.power.1 may);
+      block_room = k.block_room;
+      record_room = rw length-set (omega (arith, k.record_room, c.push_reserved.ensures.capacity));
+      borrows_kept = rw length-set k.borrows_kept;
+      places = k.places;
+      borrowed = k.borrowed;
+    }
 
 pub returns : goal.returns
 returns c =
@@ -87,6 +98,16 @@ returns c =
     let e = rw (c.record-record.ensures, v) at c.block-block.ensures in
     let w = c.in-Some.ensures.sum d.power.0 (rw e d.power.1) in
     let word = rw e at w.1 in
-    let may : MayDemote s.tables c.args.x c.args.r d.power.0 = record { one = rw e1 at c.if-not-is_sole.false; native = rw e at c.if-is_external.false; room = rw e at w.0 } in
+    let may : MayDemote s.tables c.args.x c.args.r d.power.0 = record {
+      one = rw e1 at c.if-not-is_sole.false;
+      native = rw e at c.if-is_external.false;
+      room = rw e at w.0;
+    } in
     let z = frees-record s c.args.h c.args.r d.power.0 c.args.x may in
-    rw v (d.power.0, d.power.1, z.0, rw (c.push_reserved.ensures.items, e1, word) z.1, rw c.push_reserved.ensures.capacity (ap (λ (m : Seen). m.room) c.self.view_is))
+    rw v (
+      d.power.0,
+      d.power.1,
+      z.0,
+      rw (c.push_reserved.ensures.items, e1, word) z.1,
+      rw c.push_reserved.ensures.capacity (ap (λ (m : Seen). m.room) c.self.view_is),
+    )

@@ -12,4 +12,11 @@ invariant_of-self c =
     let s : State = state_of c.self.inside in
     let k = c.self.invariant in
     let t = subst (λ (s : State). Lends s c.args.h Mut c.args.x) (sym (ap (λ (m : Seen). m.state) c.self.view_is)) c.requires.lent in
-    record { sound = rw c.detached.ensures (sound-detached_empty s c.args.h c.args.x Mut k.sound t c.requires.word); block_room = k.block_room; record_room = k.record_room; borrows_kept = rw length-set k.borrows_kept; places = k.places; borrowed = k.borrowed }
+    record {
+      sound = rw c.detached.ensures (sound-detached_empty s c.args.h c.args.x Mut k.sound t c.requires.word);
+      block_room = k.block_room;
+      record_room = k.record_room;
+      borrows_kept = rw length-set k.borrows_kept;
+      places = k.places;
+      borrowed = k.borrowed;
+    }

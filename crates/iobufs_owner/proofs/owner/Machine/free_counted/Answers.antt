@@ -29,10 +29,13 @@ invariant_of-self c =
     let s : State = state_of c.self.inside in
     let k = c.self.invariant in
     let t = subst (λ (s : State). Lends s c.args.h Mut c.args.x) (sym (ap (λ (m : Seen). m.state) c.self.view_is)) c.requires.lent in
-    let e1 = subst (λ (s : State). c.record-record.result ≡ record_at s.tables c.args.r) (sym (ap (λ (m : Seen). m.state) c.self.view_is)) c.record-record.ensures in
-    let e2 = subst (λ (s : State). c.block-block.result ≡ block_at s.tables c.record-record.result.block) (sym (ap (λ (m : Seen). m.state) c.self.view_is)) c.block-block.ensures in
+    let e1 = subst (λ (s : State). c.record-record.result ≡ record_at s.tables c.args.r) (sym (ap (λ (m : Seen). m.state) c.self.view_is))
+    c.record-record.ensures in
+    let e2 = subst (λ (s : State). c.block-block.result ≡ block_at s.tables c.record-record.result.block)
+    (sym (ap (λ (m : Seen). m.state) c.self.view_is)) c.block-block.ensures in
     record {
-      sound = rw (c.push_reserved.ensures.items, c.push_reserved-2.ensures.items, e2, e1) (sound-freed_counted s c.args.h c.args.x c.args.r c.args.rest k.sound t.at t.free t.kind_is c.requires.word c.requires.rest);
+      sound = rw (c.push_reserved.ensures.items, c.push_reserved-2.ensures.items, e2, e1)
+          (sound-freed_counted s c.args.h c.args.x c.args.r c.args.rest k.sound t.at t.free t.kind_is c.requires.word c.requires.rest);
       block_room = omega (arith, k.block_room, c.push_reserved.ensures.capacity);
       record_room = rw length-set (omega (arith, k.record_room, c.push_reserved-2.ensures.capacity));
       borrows_kept = rw length-set k.borrows_kept;

@@ -51,7 +51,8 @@ invariant_of-self c =
     let t = subst (λ (s : State). Lends s c.args.h c.args.x.kind c.args.x) (sym (ap (λ (m : Seen). m.state) c.self.view_is)) c.requires.lent in
     let e : c.end.result ≡ end_of c.args.x (tail_in s.tables c.args.word) = c.end.ensures ∙ ap (λ (n : ℕ). end_of c.args.x n) c.unpack-fields.ensures.tail in
     record {
-      sound = rw (c.push_reserved.ensures.items, e, c.unpack-fields.ensures.size, c.unpack-fields.ensures.align) (sound-freed_described s c.args.h c.args.x c.args.word c.args.rest k.sound t.at t.free c.requires.word c.requires.rest);
+      sound = rw (c.push_reserved.ensures.items, e, c.unpack-fields.ensures.size, c.unpack-fields.ensures.align)
+          (sound-freed_described s c.args.h c.args.x c.args.word c.args.rest k.sound t.at t.free c.requires.word c.requires.rest);
       block_room = omega (arith, k.block_room, c.push_reserved.ensures.capacity);
       record_room = k.record_room;
       borrows_kept = rw length-set k.borrows_kept;

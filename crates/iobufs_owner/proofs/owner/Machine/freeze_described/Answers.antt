@@ -20,4 +20,11 @@ invariant_of-self c =
     let k = c.self.invariant in
     let t = subst (λ (s : State). Lends s c.args.h Mut c.args.x) (sym (ap (λ (m : Seen). m.state) c.self.view_is)) c.requires.lent in
     let q = c.in-Some.ensures.same in
-    record { sound = rw (c.frozen.ensures, q.1) (sound-frozen_described s c.args.h c.args.x c.args.word k.sound t c.requires.word q.0); block_room = k.block_room; record_room = k.record_room; borrows_kept = rw length-set k.borrows_kept; places = k.places; borrowed = k.borrowed }
+    record {
+      sound = rw (c.frozen.ensures, q.1) (sound-frozen_described s c.args.h c.args.x c.args.word k.sound t c.requires.word q.0);
+      block_room = k.block_room;
+      record_room = k.record_room;
+      borrows_kept = rw length-set k.borrows_kept;
+      places = k.places;
+      borrowed = k.borrowed;
+    }

@@ -19,7 +19,18 @@ invariant_of-self c =
     let idle = subst (λ (s : State). call_at s c.args.party ≡ None) (sym (ap (λ (m : Seen). m.state) c.self.view_is)) c.requires.idle in
     let there = subst (λ (s : State). c.args.party < length s.calls) (sym (ap (λ (m : Seen). m.state) c.self.view_is)) c.requires.there in
     let quiet = subst (λ (o : Option Pending). IsQuiet s o) (sym idle) (quiet-none s) in
-    record { sound = sound-called s c.args.party (Some (Loaded c.args.range c.args.word)) k.sound there quiet (quiet-loaded s c.args.range c.args.word) (loaded-fits s c.args.range c.args.x c.args.word k.sound sh c.requires.word); block_room = k.block_room; record_room = k.record_room; borrows_kept = rw (c.borrow_more.ensures.items, length-set) k.borrows_kept; places = k.places; borrowed = rw c.borrow_more.ensures.items (counts-more c.self.inside.borrows.items c.self.inside.calls.items c.args.party c.args.range.handle (Some (Loaded c.args.range c.args.word)) (let l = at-some s.handles c.args.range.handle c.args.x sh.at in let q = k.borrows_kept in omega (arith, l, q)) there idle (λ j. refl) k.borrowed) }
+    record {
+      sound = sound-called s c.args.party (Some (Loaded c.args.range c.args.word)) k.sound there quiet (quiet-loaded s c.args.range c.args.word)
+          (loaded-fits s c.args.range c.args.x c.args.word k.sound sh c.requires.word);
+      block_room = k.block_room;
+      record_room = k.record_room;
+      borrows_kept = rw (c.borrow_more.ensures.items, length-set) k.borrows_kept;
+      places = k.places;
+      borrowed = rw c.borrow_more.ensures.items
+          (counts-more c.self.inside.borrows.items c.self.inside.calls.items c.args.party c.args.range.handle
+          (Some (Loaded c.args.range c.args.word)) (let l = at-some s.handles c.args.range.handle c.args.x sh.at in let q =
+          k.borrows_kept in omega (arith, l, q)) there idle (λ j. refl) k.borrowed);
+    }
 
 pub borrow_more-requires-clause-few : goal.borrow_more-requires-clause-few
 borrow_more-requires-clause-few c =

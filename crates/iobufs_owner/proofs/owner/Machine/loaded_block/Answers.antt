@@ -15,7 +15,12 @@ pub described-requires-clause-says : goal.described-requires-clause-says
 described-requires-clause-says c =
     let l = loading c.args.self.now.state c.args.party c.args.range c.args.word c.find.ensures.sound c.requires in
     let q : l.view ≡ c.in-Some.x = (let z = sym l.shares.at ∙ sym c.find.ensures.value ∙ c.in-Some.is in cc) in
-    subst (λ (x : Handle). DescribesBlock c.args.self.now.state.tables (record x { word = Descriptor c.args.word }) c.args.word) q (record { block = l.block; log = l.promised.log; tail = l.promised.tail; says = l.promised.says })
+    subst (λ (x : Handle). DescribesBlock c.args.self.now.state.tables (record x { word = Descriptor c.args.word }) c.args.word) q (record {
+      block = l.block;
+      log = l.promised.log;
+      tail = l.promised.tail;
+      says = l.promised.says;
+    })
 
 pub returns : goal.returns
 returns c =

@@ -15,7 +15,8 @@ pub push_reserved-requires : goal.push_reserved-requires
 push_reserved-requires c =
     let s : State = state_of c.self.inside in
     let k = c.self.invariant in
-    let at = subst (λ (s : State). call_at s c.args.party ≡ Some (Ready c.args.range c.args.word c.args.r)) (sym (ap (λ (m : Seen). m.state) c.self.view_is)) c.requires.call in
+    let at = subst (λ (s : State). call_at s c.args.party ≡ Some (Ready c.args.range c.args.word c.args.r))
+    (sym (ap (λ (m : Seen). m.state) c.self.view_is)) c.requires.call in
     let e = counted-ends s c.args.r k.sound (racing s c.args.party c.args.range c.args.word c.args.r k.sound at).live in
     omega (arith, e.record_log, k.record_room)
 
@@ -23,7 +24,18 @@ pub invariant_of-self : goal.invariant_of-self
 invariant_of-self c =
     let s : State = state_of c.self.inside in
     let k = c.self.invariant in
-    let at = subst (λ (s : State). call_at s c.args.party ≡ Some (Ready c.args.range c.args.word c.args.r)) (sym (ap (λ (m : Seen). m.state) c.self.view_is)) c.requires.call in
+    let at = subst (λ (s : State). call_at s c.args.party ≡ Some (Ready c.args.range c.args.word c.args.r))
+    (sym (ap (λ (m : Seen). m.state) c.self.view_is)) c.requires.call in
     let found = subst (λ (s : State). handle_at s c.args.range.handle ≡ Some c.args.x) (sym (ap (λ (m : Seen). m.state) c.self.view_is)) c.requires.at in
-    let e = subst (λ (s : State). c.record-record.result ≡ record_at s.tables c.args.r) (sym (ap (λ (m : Seen). m.state) c.self.view_is)) c.record-record.ensures in
-    record { sound = rw (e, c.push_reserved.ensures.items) (sound-lost s c.args.party c.args.r c.args.word c.args.winner c.args.range c.args.x k.sound at found c.requires.word); block_room = k.block_room; record_room = rw length-set (omega (arith, k.record_room, c.push_reserved.ensures.capacity)); borrows_kept = k.borrows_kept; places = k.places; borrowed = counts-same c.self.inside.borrows.items c.self.inside.calls.items c.args.party (Some (Add c.args.range c.args.winner)) (at-some s.calls c.args.party (Ready c.args.range c.args.word c.args.r) at) (λ h. ap (borrows_it h) at) k.borrowed }
+    let e = subst (λ (s : State). c.record-record.result ≡ record_at s.tables c.args.r) (sym (ap (λ (m : Seen). m.state) c.self.view_is))
+    c.record-record.ensures in
+    record {
+      sound = rw (e, c.push_reserved.ensures.items)
+          (sound-lost s c.args.party c.args.r c.args.word c.args.winner c.args.range c.args.x k.sound at found c.requires.word);
+      block_room = k.block_room;
+      record_room = rw length-set (omega (arith, k.record_room, c.push_reserved.ensures.capacity));
+      borrows_kept = k.borrows_kept;
+      places = k.places;
+      borrowed = counts-same c.self.inside.borrows.items c.self.inside.calls.items c.args.party (Some (Add c.args.range c.args.winner))
+          (at-some s.calls c.args.party (Ready c.args.range c.args.word c.args.r) at) (λ h. ap (borrows_it h) at) k.borrowed;
+    }

@@ -12,4 +12,12 @@ invariant_of-self c =
     let s : State = state_of c.self.inside in
     let k = c.self.invariant in
     let t = subst (λ (s : State). Lends s c.args.h View c.args.x) (sym (ap (λ (m : Seen). m.state) c.self.view_is)) c.requires in
-    record { sound = rw (c.push_reserved.ensures.items, c.detached.ensures) (sound-moved s c.args.h c.args.x k.sound t (omega (arith, c.in_ok-room_for_handle.ensures.few))); block_room = k.block_room; record_room = k.record_room; borrows_kept = rw (c.push_reserved-2.ensures.items, c.push_reserved.ensures.items) (kept-set-pushed _ _ _ _ _ k.borrows_kept); places = k.places; borrowed = rw c.push_reserved-2.ensures.items (counts-pushed c.self.inside.borrows.items c.self.inside.calls.items k.borrowed) }
+    record {
+      sound = rw (c.push_reserved.ensures.items, c.detached.ensures)
+          (sound-moved s c.args.h c.args.x k.sound t (omega (arith, c.in_ok-room_for_handle.ensures.few)));
+      block_room = k.block_room;
+      record_room = k.record_room;
+      borrows_kept = rw (c.push_reserved-2.ensures.items, c.push_reserved.ensures.items) (kept-set-pushed _ _ _ _ _ k.borrows_kept);
+      places = k.places;
+      borrowed = rw c.push_reserved-2.ensures.items (counts-pushed c.self.inside.borrows.items c.self.inside.calls.items k.borrowed);
+    }

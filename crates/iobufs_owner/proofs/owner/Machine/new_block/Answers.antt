@@ -22,5 +22,16 @@ returns-in-Some c =
     let is = good.place.power.1 in
     let w = c.in-Some.ensures.sum log is in
     let e = described-placed (state_of c.self.inside) c.args.base c.args.size c.args.align log c.in-Some.word is w.0 w.1 in
-    let b = block_of c.args.base c.args.size c.args.align false in
-    (described_of c.args.self.now.state b c.in-Some.word, inr (good, rw c.if-not-memory.false (log, is, subst (λ (s : State). described_of s b c.in-Some.word ≡ placed s c.args.base c.args.size log) (ap (λ (m : Seen). m.state) c.self.view_is) e)), c.add_described.ensures)
+    let b = block_of c.args.base c.args.size c.args.align false in (
+      described_of c.args.self.now.state b c.in-Some.word,
+      inr (
+        good,
+        rw c.if-not-memory.false (
+          log,
+          is,
+          subst (λ (s : State). described_of s b c.in-Some.word ≡ placed s c.args.base c.args.size log)
+              (ap (λ (m : Seen). m.state) c.self.view_is) e,
+        ),
+      ),
+      c.add_described.ensures,
+    )

@@ -12,10 +12,13 @@ invariant_of-self c =
     let s : State = state_of c.self.inside in
     let k = c.self.invariant in
     let t = subst (λ (s : State). Lends s c.args.h Mut c.args.x) (sym (ap (λ (m : Seen). m.state) c.self.view_is)) c.requires.lent in
-    let o = subst (λ (s : State). owner_of s.tables c.args.x ≡ Some c.owned-block.result) (sym (ap (λ (m : Seen). m.state) c.self.view_is)) c.owned-block.ensures.owner in
+    let o = subst (λ (s : State). owner_of s.tables c.args.x ≡ Some c.owned-block.result) (sym (ap (λ (m : Seen). m.state) c.self.view_is))
+    c.owned-block.ensures.owner in
     let r : c.len-r.result ≡ length c.self.inside.records.items = omega (arith, c.len-r.ensures) in
     record {
-      sound = rw (c.frozen.ensures, c.push_reserved.ensures.items, r) (sound-promoted-frozen s c.args.h c.args.x c.args.word c.owned-block.result k.sound t c.requires.word o (omega (arith, c.in_ok-room_for_record.ensures.few)));
+      sound = rw (c.frozen.ensures, c.push_reserved.ensures.items, r)
+          (sound-promoted-frozen s c.args.h c.args.x c.args.word c.owned-block.result k.sound t c.requires.word o
+          (omega (arith, c.in_ok-room_for_record.ensures.few)));
       block_room = k.block_room;
       record_room = rw (c.push_reserved.ensures.items, length-append) (omega (arith, c.in_ok-room_for_record.ensures.freed_room));
       borrows_kept = rw length-set k.borrows_kept;

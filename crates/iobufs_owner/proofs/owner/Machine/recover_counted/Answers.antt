@@ -12,8 +12,17 @@ invariant_of-self c =
     let s : State = state_of c.self.inside in
     let k = c.self.invariant in
     let t = subst (λ (s : State). Lends s c.args.h View c.args.x) (sym (ap (λ (m : Seen). m.state) c.self.view_is)) c.requires.lent in
-    let e1 = subst (λ (s : State). c.record-record.result ≡ record_at s.tables c.args.r) (sym (ap (λ (m : Seen). m.state) c.self.view_is)) c.record-record.ensures in
-    let e2 = subst (λ (s : State). c.block-block.result ≡ block_at s.tables c.record-record.result.block) (sym (ap (λ (m : Seen). m.state) c.self.view_is)) c.block-block.ensures in
+    let e1 = subst (λ (s : State). c.record-record.result ≡ record_at s.tables c.args.r) (sym (ap (λ (m : Seen). m.state) c.self.view_is))
+    c.record-record.ensures in
+    let e2 = subst (λ (s : State). c.block-block.result ≡ block_at s.tables c.record-record.result.block)
+    (sym (ap (λ (m : Seen). m.state) c.self.view_is)) c.block-block.ensures in
     let native = rw (e2, e1) at c.if-block.false in
     let one = rw e1 at c.if-record-ne1.false in
-    record { sound = rw (e2, e1) (sound-thawed_counted s c.args.h c.args.x c.args.r k.sound t c.requires.word native one); block_room = k.block_room; record_room = k.record_room; borrows_kept = rw length-set k.borrows_kept; places = k.places; borrowed = k.borrowed }
+    record {
+      sound = rw (e2, e1) (sound-thawed_counted s c.args.h c.args.x c.args.r k.sound t c.requires.word native one);
+      block_room = k.block_room;
+      record_room = k.record_room;
+      borrows_kept = rw length-set k.borrows_kept;
+      places = k.places;
+      borrowed = k.borrowed;
+    }

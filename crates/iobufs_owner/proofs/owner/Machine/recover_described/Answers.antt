@@ -29,4 +29,11 @@ invariant_of-self c =
     let k = c.self.invariant in
     let t = subst (λ (s : State). Lends s c.args.h View c.args.x) (sym (ap (λ (m : Seen). m.state) c.self.view_is)) c.requires.lent in
     let e : c.unwrap-whole.result ≡ retailed s.tables c.args.word 0 = same-some c.with_tail.result _ _ _ c.unwrap-whole.ensures c.with_tail.ensures.same in
-    record { sound = rw (e, c.unpack-tail.ensures.tail) (sound-thawed_described s c.args.h c.args.x c.args.word k.sound t c.requires.word); block_room = k.block_room; record_room = k.record_room; borrows_kept = rw length-set k.borrows_kept; places = k.places; borrowed = k.borrowed }
+    record {
+      sound = rw (e, c.unpack-tail.ensures.tail) (sound-thawed_described s c.args.h c.args.x c.args.word k.sound t c.requires.word);
+      block_room = k.block_room;
+      record_room = k.record_room;
+      borrows_kept = rw length-set k.borrows_kept;
+      places = k.places;
+      borrowed = k.borrowed;
+    }

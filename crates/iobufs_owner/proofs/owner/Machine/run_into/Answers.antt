@@ -9,7 +9,15 @@ use Rattle.iobufs_owner.proofs.owner.Machine.run_into.Goals as goal
 
 pub loop-step-preserved : goal.loop-step-preserved
 loop-step-preserved c = record {
-  runs = rw c.push_reserved.ensures.items (runs-step _ c.args.self.now c.args.steps.now c.loop-step.step-index c.loop-step.replies.items c.loop-step.self c.step.result c.step.new.self c.loop-step-test.true c.loop-step.invariant.runs (record { moves = c.step.ensures.moves; steps = c.step.ensures.steps; sound = c.step.ensures.sound; promises = c.step.ensures.promises; room = c.step.ensures.room }));
+  runs = rw c.push_reserved.ensures.items
+      (runs-step _ c.args.self.now c.args.steps.now c.loop-step.step-index c.loop-step.replies.items c.loop-step.self c.step.result c.step.new.self
+      c.loop-step-test.true c.loop-step.invariant.runs (record {
+        moves = c.step.ensures.moves;
+        steps = c.step.ensures.steps;
+        sound = c.step.ensures.sound;
+        promises = c.step.ensures.promises;
+        room = c.step.ensures.room;
+      }));
   room = omega arith;
   made = omega arith;
 }

@@ -17,4 +17,15 @@ invariant_of-self c =
     let f = empty-at s c.args.range.handle c.args.x k.sound sh.at c.requires.word in
     let order = sh.order in
     let within = sh.within in
-    record { sound = rw (c.push_reserved.ensures.items, c.part.ensures) (sound-detached s (part c.args.x c.args.range.lo c.args.range.hi Empty) k.sound refl (record { no_room = refl; ends = omega (arith, f.ends, order, within); no_bytes = λ m. absurd (cc) }) (omega (arith, c.in_ok-room_for_handle.ensures.few))); block_room = k.block_room; record_room = k.record_room; borrows_kept = rw (c.push_reserved-2.ensures.items, c.push_reserved.ensures.items) (kept-pushed _ _ _ k.borrows_kept); places = k.places; borrowed = rw c.push_reserved-2.ensures.items (counts-pushed c.self.inside.borrows.items c.self.inside.calls.items k.borrowed) }
+    record {
+      sound = rw (c.push_reserved.ensures.items, c.part.ensures) (sound-detached s (part c.args.x c.args.range.lo c.args.range.hi Empty) k.sound refl (record {
+        no_room = refl;
+        ends = omega (arith, f.ends, order, within);
+        no_bytes = λ m. absurd (cc);
+      }) (omega (arith, c.in_ok-room_for_handle.ensures.few)));
+      block_room = k.block_room;
+      record_room = k.record_room;
+      borrows_kept = rw (c.push_reserved-2.ensures.items, c.push_reserved.ensures.items) (kept-pushed _ _ _ k.borrows_kept);
+      places = k.places;
+      borrowed = rw c.push_reserved-2.ensures.items (counts-pushed c.self.inside.borrows.items c.self.inside.calls.items k.borrowed);
+    }

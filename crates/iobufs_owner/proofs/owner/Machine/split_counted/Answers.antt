@@ -14,7 +14,8 @@ overflow_add-record c =
     let s : State = state_of c.self.inside in
     let k = c.self.invariant in
     let t = subst (λ (s : State). Lends s c.args.h View c.args.x) (sym (ap (λ (m : Seen). m.state) c.self.view_is)) c.requires.lent in
-    let e = subst (λ (s : State). c.record-record.result ≡ record_at s.tables c.args.r) (sym (ap (λ (m : Seen). m.state) c.self.view_is)) c.record-record.ensures in
+    let e = subst (λ (s : State). c.record-record.result ≡ record_at s.tables c.args.r) (sym (ap (λ (m : Seen). m.state) c.self.view_is))
+    c.record-record.ensures in
     let f = counted-at s c.args.h c.args.x c.args.r k.sound t.at c.requires.word in
     let m = count-small s c.args.r k.sound f.live f.shown in
     rw e (omega (arith, m))
@@ -24,6 +25,16 @@ invariant_of-self c =
     let s : State = state_of c.self.inside in
     let k = c.self.invariant in
     let t = subst (λ (s : State). Lends s c.args.h View c.args.x) (sym (ap (λ (m : Seen). m.state) c.self.view_is)) c.requires.lent in
-    let e = subst (λ (s : State). c.record-record.result ≡ record_at s.tables c.args.r) (sym (ap (λ (m : Seen). m.state) c.self.view_is)) c.record-record.ensures in
+    let e = subst (λ (s : State). c.record-record.result ≡ record_at s.tables c.args.r) (sym (ap (λ (m : Seen). m.state) c.self.view_is))
+    c.record-record.ensures in
     let low = rw e at c.if-record-self.false in
-    record { sound = rw (e, c.push_reserved.ensures.items, c.part.ensures, c.part-2.ensures) (sound-split_counted s c.args.h c.args.r c.args.at c.args.x k.sound t c.requires.word c.requires.within low (omega (arith, c.in_ok-room_for_handle.ensures.few))); block_room = k.block_room; record_room = rw length-set k.record_room; borrows_kept = rw (c.push_reserved-2.ensures.items, c.push_reserved.ensures.items) (kept-set-pushed _ _ _ _ _ k.borrows_kept); places = k.places; borrowed = rw c.push_reserved-2.ensures.items (counts-pushed c.self.inside.borrows.items c.self.inside.calls.items k.borrowed) }
+    record {
+      sound = rw (e, c.push_reserved.ensures.items, c.part.ensures, c.part-2.ensures)
+          (sound-split_counted s c.args.h c.args.r c.args.at c.args.x k.sound t c.requires.word c.requires.within low
+          (omega (arith, c.in_ok-room_for_handle.ensures.few)));
+      block_room = k.block_room;
+      record_room = rw length-set k.record_room;
+      borrows_kept = rw (c.push_reserved-2.ensures.items, c.push_reserved.ensures.items) (kept-set-pushed _ _ _ _ _ k.borrows_kept);
+      places = k.places;
+      borrowed = rw c.push_reserved-2.ensures.items (counts-pushed c.self.inside.borrows.items c.self.inside.calls.items k.borrowed);
+    }

@@ -17,7 +17,8 @@ overflow_sub-record c =
     let s : State = state_of c.self.inside in
     let k = c.self.invariant in
     let at = subst (λ (s : State). call_at s c.args.party ≡ Some (Subtract c.args.r)) (sym (ap (λ (m : Seen). m.state) c.self.view_is)) c.requires in
-    let e = subst (λ (s : State). c.record-record.result ≡ record_at s.tables c.args.r) (sym (ap (λ (m : Seen). m.state) c.self.view_is)) c.record-record.ensures in
+    let e = subst (λ (s : State). c.record-record.result ≡ record_at s.tables c.args.r) (sym (ap (λ (m : Seen). m.state) c.self.view_is))
+    c.record-record.ensures in
     let l = letting-go s c.args.party c.args.r k.sound at in
     rw e l.some
 
@@ -26,15 +27,35 @@ invariant_of-self c =
     let s : State = state_of c.self.inside in
     let k = c.self.invariant in
     let at = subst (λ (s : State). call_at s c.args.party ≡ Some (Subtract c.args.r)) (sym (ap (λ (m : Seen). m.state) c.self.view_is)) c.requires in
-    let e = subst (λ (s : State). c.record-record.result ≡ record_at s.tables c.args.r) (sym (ap (λ (m : Seen). m.state) c.self.view_is)) c.record-record.ensures in
+    let e = subst (λ (s : State). c.record-record.result ≡ record_at s.tables c.args.r) (sym (ap (λ (m : Seen). m.state) c.self.view_is))
+    c.record-record.ensures in
     let one = rw e at c.if-record-eq1.true in
-    record { sound = rw e (subst (λ (o : Option Pending). IsSound (called (with_count s c.args.r ((record_at s.tables c.args.r).count - 1)) c.args.party o)) (afterwards-one c.args.r (record_at s.tables c.args.r).count one) (sound-subtracted s c.args.party c.args.r k.sound at)); block_room = k.block_room; record_room = rw length-set k.record_room; borrows_kept = k.borrows_kept; places = k.places; borrowed = counts-same c.self.inside.borrows.items c.self.inside.calls.items c.args.party (Some (Release c.args.r)) (at-some s.calls c.args.party (Subtract c.args.r) at) (λ h. ap (borrows_it h) at) k.borrowed }
+    record {
+      sound = rw e (subst (λ (o : Option Pending). IsSound (called (with_count s c.args.r ((record_at s.tables c.args.r).count - 1)) c.args.party o))
+          (afterwards-one c.args.r (record_at s.tables c.args.r).count one) (sound-subtracted s c.args.party c.args.r k.sound at));
+      block_room = k.block_room;
+      record_room = rw length-set k.record_room;
+      borrows_kept = k.borrows_kept;
+      places = k.places;
+      borrowed = counts-same c.self.inside.borrows.items c.self.inside.calls.items c.args.party (Some (Release c.args.r))
+          (at-some s.calls c.args.party (Subtract c.args.r) at) (λ h. ap (borrows_it h) at) k.borrowed;
+    }
 
 pub invariant_of-self-2 : goal.invariant_of-self-2
 invariant_of-self-2 c =
     let s : State = state_of c.self.inside in
     let k = c.self.invariant in
     let at = subst (λ (s : State). call_at s c.args.party ≡ Some (Subtract c.args.r)) (sym (ap (λ (m : Seen). m.state) c.self.view_is)) c.requires in
-    let e = subst (λ (s : State). c.record-record.result ≡ record_at s.tables c.args.r) (sym (ap (λ (m : Seen). m.state) c.self.view_is)) c.record-record.ensures in
+    let e = subst (λ (s : State). c.record-record.result ≡ record_at s.tables c.args.r) (sym (ap (λ (m : Seen). m.state) c.self.view_is))
+    c.record-record.ensures in
     let more = rw e at c.if-record-eq1.false in
-    record { sound = rw e (subst (λ (o : Option Pending). IsSound (called (with_count s c.args.r ((record_at s.tables c.args.r).count - 1)) c.args.party o)) (afterwards-none c.args.r (record_at s.tables c.args.r).count more) (sound-subtracted s c.args.party c.args.r k.sound at)); block_room = k.block_room; record_room = rw length-set k.record_room; borrows_kept = k.borrows_kept; places = k.places; borrowed = counts-same c.self.inside.borrows.items c.self.inside.calls.items c.args.party None (at-some s.calls c.args.party (Subtract c.args.r) at) (λ h. ap (borrows_it h) at) k.borrowed }
+    record {
+      sound = rw e (subst (λ (o : Option Pending). IsSound (called (with_count s c.args.r ((record_at s.tables c.args.r).count - 1)) c.args.party o))
+          (afterwards-none c.args.r (record_at s.tables c.args.r).count more) (sound-subtracted s c.args.party c.args.r k.sound at));
+      block_room = k.block_room;
+      record_room = rw length-set k.record_room;
+      borrows_kept = k.borrows_kept;
+      places = k.places;
+      borrowed = counts-same c.self.inside.borrows.items c.self.inside.calls.items c.args.party None
+          (at-some s.calls c.args.party (Subtract c.args.r) at) (λ h. ap (borrows_it h) at) k.borrowed;
+    }

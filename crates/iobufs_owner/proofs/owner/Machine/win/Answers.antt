@@ -13,16 +13,36 @@ pub invariant_of-self : goal.invariant_of-self
 invariant_of-self c =
     let s : State = state_of c.self.inside in
     let k = c.self.invariant in
-    let at = subst (λ (s : State). call_at s c.args.party ≡ Some (Ready c.args.range c.args.word c.args.r)) (sym (ap (λ (m : Seen). m.state) c.self.view_is)) c.requires.call in
+    let at = subst (λ (s : State). call_at s c.args.party ≡ Some (Ready c.args.range c.args.word c.args.r))
+    (sym (ap (λ (m : Seen). m.state) c.self.view_is)) c.requires.call in
     let found = subst (λ (s : State). handle_at s c.args.range.handle ≡ Some c.args.x) (sym (ap (λ (m : Seen). m.state) c.self.view_is)) c.requires.at in
-    record { sound = rw (c.push_reserved.ensures.items, c.part.ensures) (sound-won s c.args.party c.args.r c.args.word c.args.range c.args.x k.sound at found c.requires.word (omega (arith, c.in_ok-room_for_handle.ensures.few))); block_room = k.block_room; record_room = k.record_room; borrows_kept = rw (c.borrow_less.ensures.items, c.push_reserved-2.ensures.items, c.push_reserved.ensures.items, length-set) (kept-set-pushed _ _ _ _ _ k.borrows_kept); places = k.places; borrowed = rw (c.borrow_less.ensures.items, c.push_reserved-2.ensures.items) (counts-less (c.self.inside.borrows.items ++ 0 ∷ []) c.self.inside.calls.items c.args.party c.args.range.handle (Some (Ready c.args.range c.args.word c.args.r)) (let l = at-some s.handles c.args.range.handle c.args.x found in let q = k.borrows_kept in let e = length-append c.self.inside.borrows.items (0 ∷ []) in omega (arith, l, q, e)) (at-some s.calls c.args.party (Ready c.args.range c.args.word c.args.r) at) at (λ j. refl) (counts-pushed c.self.inside.borrows.items c.self.inside.calls.items k.borrowed)) }
+    record {
+      sound = rw (c.push_reserved.ensures.items, c.part.ensures)
+          (sound-won s c.args.party c.args.r c.args.word c.args.range c.args.x k.sound at found c.requires.word
+          (omega (arith, c.in_ok-room_for_handle.ensures.few)));
+      block_room = k.block_room;
+      record_room = k.record_room;
+      borrows_kept = rw (c.borrow_less.ensures.items, c.push_reserved-2.ensures.items, c.push_reserved.ensures.items, length-set)
+          (kept-set-pushed _ _ _ _ _ k.borrows_kept);
+      places = k.places;
+      borrowed = rw (c.borrow_less.ensures.items, c.push_reserved-2.ensures.items)
+          (counts-less (c.self.inside.borrows.items ++ 0 ∷ []) c.self.inside.calls.items c.args.party c.args.range.handle
+          (Some (Ready c.args.range c.args.word c.args.r)) (let l = at-some s.handles c.args.range.handle c.args.x found in let q =
+          k.borrows_kept in let e = length-append c.self.inside.borrows.items (0 ∷ []) in omega (arith, l, q, e))
+          (at-some s.calls c.args.party (Ready c.args.range c.args.word c.args.r) at) at (λ j. refl)
+          (counts-pushed c.self.inside.borrows.items c.self.inside.calls.items k.borrowed));
+    }
 
 pub borrow_less-requires-clause-some : goal.borrow_less-requires-clause-some
 borrow_less-requires-clause-some c =
     let s : State = state_of c.self.inside in
     let k = c.self.invariant in
-    let at = subst (λ (s : State). call_at s c.args.party ≡ Some (Ready c.args.range c.args.word c.args.r)) (sym (ap (λ (m : Seen). m.state) c.self.view_is)) c.requires.call in
-    rw c.push_reserved-2.ensures.items (some-borrowed (c.self.inside.borrows.items ++ 0 ∷ []) c.self.inside.calls.items c.args.party c.args.range.handle (Some (Ready c.args.range c.args.word c.args.r)) (at-some s.calls c.args.party (Ready c.args.range c.args.word c.args.r) at) at (is-eqb c.args.range.handle c.args.range.handle refl) (counts-pushed c.self.inside.borrows.items c.self.inside.calls.items k.borrowed))
+    let at = subst (λ (s : State). call_at s c.args.party ≡ Some (Ready c.args.range c.args.word c.args.r))
+    (sym (ap (λ (m : Seen). m.state) c.self.view_is)) c.requires.call in
+    rw c.push_reserved-2.ensures.items
+    (some-borrowed (c.self.inside.borrows.items ++ 0 ∷ []) c.self.inside.calls.items c.args.party c.args.range.handle
+    (Some (Ready c.args.range c.args.word c.args.r)) (at-some s.calls c.args.party (Ready c.args.range c.args.word c.args.r) at) at
+    (is-eqb c.args.range.handle c.args.range.handle refl) (counts-pushed c.self.inside.borrows.items c.self.inside.calls.items k.borrowed))
 
 pub borrow_less-requires-clause-known : goal.borrow_less-requires-clause-known
 borrow_less-requires-clause-known c =

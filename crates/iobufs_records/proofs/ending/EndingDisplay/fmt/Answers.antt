@@ -22,7 +22,8 @@ other : (n : ℕ) → n ≢ 0 → (n == 0) ≡ false
 other n some = ⊎_elim (λ is. absurd (some is.1)) (λ is. is.0) (eqb_tells n 0)
 
 followed : (e : Ending) → e.behind ≢ 0
-    → ending_text e ≡ decimal e.found ++ codes " records in " ++ decimal e.taken ++ codes " bytes, " ++ end_words e.end ++ codes ", and " ++ decimal e.behind ++ codes " records behind it"
+    → ending_text e ≡ decimal e.found ++ codes " records in " ++ decimal e.taken ++ codes " bytes, " ++ end_words e.end ++ codes ", and "
+    ++ decimal e.behind ++ codes " records behind it"
 followed e some = rw (other e.behind some) refl
 
 pub returns-then-behind-eq0-clause-writes : goal.returns-then-behind-eq0-clause-writes
@@ -30,7 +31,8 @@ returns-then-behind-eq0-clause-writes g c = λ plain done.
     let e = c.args.self.now in
     subst (λ text. HasWritten {W = g.row.W.Denot} g.W.Write.write_str_gives c.args.f.now text c.write.new.self)
     (sym (five (decimal e.found) (codes " records in ") (decimal e.taken) (codes " bytes, ") c.words_of-ends.result.now)
-    ∙ ap (λ (w : List ℕ). decimal e.found ++ codes " records in " ++ decimal e.taken ++ codes " bytes, " ++ w) c.words_of-ends.ensures ∙ sym (alone e c.if-behind-eq0.true))
+    ∙ ap (λ (w : List ℕ). decimal e.found ++ codes " records in " ++ decimal e.taken ++ codes " bytes, " ++ w) c.words_of-ends.ensures
+    ∙ sym (alone e c.if-behind-eq0.true))
     (c.write.ensures.writes plain done)
 
 pub returns-clause-writes : goal.returns-clause-writes
@@ -38,8 +40,10 @@ returns-clause-writes g c = λ plain done.
     let e = c.args.self.now in
     subst (λ text. HasWritten {W = g.row.W.Denot} g.W.Write.write_str_gives c.args.f.now text c.write-2.new.self)
     (
-    sym (eight (decimal e.found) (codes " records in ") (decimal e.taken) (codes " bytes, ") c.words_of-ends.result.now (codes ", and ") (decimal e.behind) (codes " records behind it"))
-    ∙ ap (λ (w : List ℕ). decimal e.found ++ codes " records in " ++ decimal e.taken ++ codes " bytes, " ++ w ++ codes ", and " ++ decimal e.behind ++ codes " records behind it") c.words_of-ends.ensures
+    sym (eight (decimal e.found) (codes " records in ") (decimal e.taken) (codes " bytes, ") c.words_of-ends.result.now (codes ", and ")
+    (decimal e.behind) (codes " records behind it"))
+    ∙ ap (λ (w : List ℕ). decimal e.found ++ codes " records in " ++ decimal e.taken ++ codes " bytes, " ++ w ++ codes ", and " ++ decimal e.behind
+    ++ codes " records behind it") c.words_of-ends.ensures
     ∙ sym (followed e c.if-behind-eq0.false)
     )
     (c.write-2.ensures.writes plain done)

@@ -4,4 +4,5 @@ use Rattle.iobufs_run.proofs.table.build.are_too_long.Given as goal
 
 -- what is left of the largest length, for the names that are left
 abbrev pub invariant-loop-item : goal.invariant-loop-item
-invariant-loop-item l = l.room + l.capacity + total_extent l.slots (pushed_names l.items) + 1 ≡ 2 ^ 64 + total_extent l.slots (pushed_names (drop l.item-index l.items))
+invariant-loop-item l = l.room + l.capacity + total_extent l.slots (pushed_names l.items) + 1
+    ≡ 2 ^ 64 + total_extent l.slots (pushed_names (drop l.item-index l.items))

@@ -6,4 +6,5 @@ use Rattle.iobufs_run.proofs.table.build.push_views.Given as goal
 
 -- each name so far holds a view
 abbrev pub invariant-loop-item : goal.invariant-loop-item
-invariant-loop-item l = list_all (λ src. is_view (slot_named l.slots src)) (pushed_names l.items) ≡ list_all (λ src. is_view (slot_named l.slots src)) (pushed_names (drop l.item-index l.items))
+invariant-loop-item l = list_all (λ src. is_view (slot_named l.slots src)) (pushed_names l.items)
+    ≡ list_all (λ src. is_view (slot_named l.slots src)) (pushed_names (drop l.item-index l.items))

@@ -11,7 +11,8 @@ returns-in_err-write_bufs-clause-err g c =
     let id = to_be_bytes w16 shard.id in
     let put = g.met.B.BufsMut.puts _ _ id c.put_u16.ensures in
     let after = g.met.B.BufsMut.adds _ _ (put_item id ∷ []) put in
-    let begun = begun_behind (g.B.BufsMut.joined c.args.buf.now) id (view_written shard.body) (to_be_bytes w32 shard.sum) _ _ after c.in_err-write_bufs.ensures.err in
+    let begun = begun_behind (g.B.BufsMut.joined c.args.buf.now) id (view_written shard.body) (to_be_bytes w32 shard.sum) _ _ after
+    c.in_err-write_bufs.ensures.err in
     on_err_always c.from_residual.result begun
 
 pub returns-clause-ok : goal.returns-clause-ok

@@ -5,4 +5,5 @@ use Rattle.iobufs.proofs.bufs.pieces.Pieces.chunks.Goals as goal
 
 pub loop-index-preserved : goal.loop-index-preserved
 loop-index-preserved c =
-    chunks-step (λ x. x.now) _ _ _ _ _ (omega arith) c.loop-index.invariant (c.as_ref.ensures ∙ ap (λ (v : View). v.bytes) c.piece.ensures) c.in_ok-push.ensures.items
+    chunks-step (λ x. x.now) _ _ _ _ _ (omega arith) c.loop-index.invariant (c.as_ref.ensures ∙ ap (λ (v : View). v.bytes) c.piece.ensures)
+    c.in_ok-push.ensures.items

@@ -19,7 +19,9 @@ loop-offset-preserved c =
     let room = c.loop-offset.invariant.room in
     let count = c.min-some.ensures ∙ ap (λ n. min (length some) (c.args.n - n)) c.len-in-loop-offset.ensures in
     let step =
-    copied-step (views c.args.self.now) c.loop-offset.index o c.args.n (length copy.filled) c.min-some.result copy.filled more.filled some _ (omega arith) c.loop-offset.invariant.offset (slice_from o all ∙ ap (drop o) bytes) (omega arith) refl c.loop-offset.invariant.left c.loop-offset.invariant.so_far count put in
+    copied-step (views c.args.self.now) c.loop-offset.index o c.args.n (length copy.filled) c.min-some.result copy.filled more.filled some _
+    (omega arith) c.loop-offset.invariant.offset (slice_from o all ∙ ap (drop o) bytes) (omega arith) refl c.loop-offset.invariant.left
+    c.loop-offset.invariant.so_far count put in
     let longer = ap length put ∙ length-append copy.filled (take c.min-some.result some) in
     let short = length-take-le c.min-some.result some (omega (arith, count)) in
     record {
@@ -30,4 +32,5 @@ loop-offset-preserved c =
     }
 
 pub returns-in_err-copy-clause-memory : goal.returns-in_err-copy-clause-memory
-returns-in_err-copy-clause-memory c = λ l. only-cause c.from_residual.result _ _ c.from_residual.ensures.1 (c.in_err-copy.ensures.good_layout (good_layout c.args.n l))
+returns-in_err-copy-clause-memory c = λ l. only-cause c.from_residual.result _ _ c.from_residual.ensures.1
+    (c.in_err-copy.ensures.good_layout (good_layout c.args.n l))

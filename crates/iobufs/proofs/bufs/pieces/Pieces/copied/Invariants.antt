@@ -9,7 +9,8 @@ invariant-loop-offset l =
       offset : l.offset ≤ length (piece_at (views l.self) l.index).bytes;
       room : length l.copy.filled + l.copy.spare ≡ l.n;
       left : l.n - length l.copy.filled + l.offset ≤ length (pieces_bytes (drop l.index (views l.self)));
-      so_far : l.copy.filled ++ take (l.n - length l.copy.filled) (drop l.offset (pieces_bytes (drop l.index (views l.self)))) ≡ take l.n (drop l.fn.from.offset (pieces_bytes (drop l.fn.from.index (views l.self))));
+      so_far : l.copy.filled ++ take (l.n - length l.copy.filled) (drop l.offset (pieces_bytes (drop l.index (views l.self))))
+          ≡ take l.n (drop l.fn.from.offset (pieces_bytes (drop l.fn.from.index (views l.self))));
     }
 
 abbrev pub decreases-loop-offset : goal.decreases-loop-offset

@@ -18,7 +18,9 @@ loop-filled-preserved c =
     let count : length part ≡ k = ap length after ∙ length-take-le k bytes (omega (arith, short)) in
     let same = same_len_mid f (f + k - f) dst part c.copy_from_slice.ensures.len in
     let taken = take-put_mid f (f + k - f) dst part (f + k) (omega (arith, count)) some ∙ ap (λ xs. take f dst ++ xs) after in
-    let step = filled-step _ c.loop-filled.index f k dst (put_mid f (f + k - f) dst part) bytes (omega arith) (c.as_ref-bytes.ensures ∙ ap (λ (v : View). v.bytes) c.piece.ensures) some c.loop-filled.invariant.left c.loop-filled.invariant.so_far short same taken in
+    let step = filled-step _ c.loop-filled.index f k dst (put_mid f (f + k - f) dst part) bytes (omega arith)
+    (c.as_ref-bytes.ensures ∙ ap (λ (v : View). v.bytes) c.piece.ensures) some c.loop-filled.invariant.left c.loop-filled.invariant.so_far short
+    same taken in
     record {
       some = step.some;
       left = step.left;

@@ -8,7 +8,8 @@ invariant-loop-filled l =
     record {
       some : l.filled ≤ length l.dst;
       left : length l.dst - l.filled ≤ length (pieces_bytes (drop l.index (views l.self)));
-      so_far : take l.filled l.dst ++ take (length l.dst - l.filled) (pieces_bytes (drop l.index (views l.self))) ≡ take (length l.dst) (pieces_bytes (views l.self));
+      so_far : take l.filled l.dst ++ take (length l.dst - l.filled) (pieces_bytes (drop l.index (views l.self)))
+          ≡ take (length l.dst) (pieces_bytes (views l.self));
     }
 
 abbrev pub decreases-loop-filled : goal.decreases-loop-filled

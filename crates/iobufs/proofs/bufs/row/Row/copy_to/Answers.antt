@@ -18,11 +18,18 @@ put_all-requires-2 c =
     let front = c.as_slices.result.0.now in
     let behind = c.as_slices.result.1.now in
     let all = joined-pieces front behind _ c.as_slices.ensures.items ∙ ap (λ (r : ViewRow). pieces_bytes r.views) c.self.view_is in
-    omega (arith, ap length all, length-append (pieces_bytes (views_in front)) (pieces_bytes (views_in behind)), ap (λ (p : Part). p.spare) c.put_all.ensures, c.requires)
+    omega (
+      arith,
+      ap length all,
+      length-append (pieces_bytes (views_in front)) (pieces_bytes (views_in behind)),
+      ap (λ (p : Part). p.spare) c.put_all.ensures,
+      c.requires,
+    )
 
 pub returns : goal.returns
 returns c =
     let front = c.as_slices.result.0.now in
     let behind = c.as_slices.result.1.now in
     let all = joined-pieces front behind _ c.as_slices.ensures.items ∙ ap (λ (r : ViewRow). pieces_bytes r.views) c.self.view_is in
-    c.put_all-2.ensures ∙ ap (λ (p : Part). part_put p (pieces_bytes (views_in behind))) c.put_all.ensures ∙ put-both c.args.copy.now (pieces_bytes (views_in front)) (pieces_bytes (views_in behind)) ∙ ap (part_put c.args.copy.now) all
+    c.put_all-2.ensures ∙ ap (λ (p : Part). part_put p (pieces_bytes (views_in behind))) c.put_all.ensures
+    ∙ put-both c.args.copy.now (pieces_bytes (views_in front)) (pieces_bytes (views_in behind)) ∙ ap (part_put c.args.copy.now) all

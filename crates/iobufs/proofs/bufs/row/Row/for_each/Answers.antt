@@ -16,5 +16,6 @@ returns g c =
     let front = c.as_slices.result.0.now in
     let behind = c.as_slices.result.1.now in
     let on = folds-append R _ (map bytes front) _ (map bytes behind) _ c.show-visit.ensures.shown c.show.ensures.shown in
-    let same = sym (map-append bytes front behind) ∙ ap (map bytes) c.as_slices.ensures.items ∙ bytes-in c.self.inside.pieces.items ∙ ap (λ (r : ViewRow). map (λ (v : View). v.bytes) r.views) c.self.view_is in
+    let same = sym (map-append bytes front behind) ∙ ap (map bytes) c.as_slices.ensures.items ∙ bytes-in c.self.inside.pieces.items
+    ∙ ap (λ (r : ViewRow). map (λ (v : View). v.bytes) r.views) c.self.view_is in
     (c.show.result, subst (λ xs. FoldsTo R c.args.visit xs c.show.result) same on)

@@ -16,15 +16,22 @@ pub start-requires : goal.start-requires
 start-requires c =
     let row = c.self.inside.pieces.items in
     let views = ap (λ (r : ViewRow). length r.views) c.self.view_is in
-    omega (arith, c.find_end-index.ensures.found.inside, length-map row (λ (p : Piece). p.view), length-map row (λ (p : Piece). from_base c.self.inside.base p.end))
+    omega (
+      arith,
+      c.find_end-index.ensures.found.inside,
+      length-map row (λ (p : Piece). p.view),
+      length-map row (λ (p : Piece). from_base c.self.inside.base p.end),
+    )
 
 pub overflow_sub-result : goal.overflow_sub-result
 overflow_sub-result c =
     let start = ap (λ (r : ViewRow). piece_start r.views c.find_end-index.result) c.self.view_is in
-    (place-first c.self.inside.base c.self.inside.pieces.items c.args.at c.find_end-index.result c.start.result c.self.invariant.ended c.find_end-index.ensures.found (c.start.ensures ∙ sym start)).0
+    (place-first c.self.inside.base c.self.inside.pieces.items c.args.at c.find_end-index.result c.start.result c.self.invariant.ended
+    c.find_end-index.ensures.found (c.start.ensures ∙ sym start)).0
 
 pub returns-clause-place : goal.returns-clause-place
 returns-clause-place c =
     let start = ap (λ (r : ViewRow). piece_start r.views c.find_end-index.result) c.self.view_is in
     subst (λ (r : ViewRow). IsPlace r.views c.args.at c.find_end-index.result (c.args.at - c.start.result)) c.self.view_is
-    (place-first c.self.inside.base c.self.inside.pieces.items c.args.at c.find_end-index.result c.start.result c.self.invariant.ended c.find_end-index.ensures.found (c.start.ensures ∙ sym start)).1
+    (place-first c.self.inside.base c.self.inside.pieces.items c.args.at c.find_end-index.result c.start.result c.self.invariant.ended
+    c.find_end-index.ensures.found (c.start.ensures ∙ sym start)).1

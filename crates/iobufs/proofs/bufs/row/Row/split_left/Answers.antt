@@ -13,7 +13,8 @@ pub invariant_of-result : goal.invariant_of-result
 invariant_of-result c =
     let place = subst (λ (r : ViewRow). IsPlace r.views c.args.at c.args.place.index c.args.place.offset) (sym c.self.view_is) c.requires.place in
     let moved = c.move_front.ensures.moved ∙ ap (λ (xs : _). xs ++ take c.args.place.index c.self.inside.pieces.items) c.in_ok-front.ensures.items in
-    (left-row c.self.inside.base _ _ _ _ _ _ _ c.in_ok-inside.inside c.self.invariant place c.in_ok-inside.ensures.inside c.ranges.at.fits refl moved c.cut.ensures.front).0
+    (left-row c.self.inside.base _ _ _ _ _ _ _ c.in_ok-inside.inside c.self.invariant place c.in_ok-inside.ensures.inside c.ranges.at.fits refl moved
+    c.cut.ensures.front).0
 
 pub invariant_of-self : goal.invariant_of-self
 invariant_of-self c =
@@ -24,7 +25,8 @@ pub returns-clause-answer : goal.returns-clause-answer
 returns-clause-answer c =
     let place = subst (λ (r : ViewRow). IsPlace r.views c.args.at c.args.place.index c.args.place.offset) (sym c.self.view_is) c.requires.place in
     let moved = c.move_front.ensures.moved ∙ ap (λ (xs : _). xs ++ take c.args.place.index c.self.inside.pieces.items) c.in_ok-front.ensures.items in
-    (left-row c.self.inside.base _ _ _ _ _ _ _ c.in_ok-inside.inside c.self.invariant place c.in_ok-inside.ensures.inside c.ranges.at.fits refl moved c.cut.ensures.front).1
+    (left-row c.self.inside.base _ _ _ _ _ _ _ c.in_ok-inside.inside c.self.invariant place c.in_ok-inside.ensures.inside c.ranges.at.fits refl moved
+    c.cut.ensures.front).1
     ∙ ap (λ (r : ViewRow). left_pieces r.views c.args.at) c.self.view_is
 
 pub returns-clause-left : goal.returns-clause-left

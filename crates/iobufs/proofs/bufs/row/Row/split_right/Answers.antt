@@ -26,7 +26,10 @@ invariant_of-self-2 c =
     let row = c.self.inside.pieces in
     let place = subst (λ (r : ViewRow). IsPlace r.views c.args.at c.args.place.index c.args.place.offset) (sym c.self.view_is) c.requires.place in
     let left = c.in_ok-pieces.ensures.items in
-    (left-row c.self.inside.base _ _ _ _ _ _ _ c.in-Ok.inside c.self.invariant place (λ (some : 0 < c.args.place.offset). c.in-Ok.ensures.inside some ∙ ap (λ piece. view_front piece c.args.place.offset) (piece-dropped row.items c.in_ok-pieces.pieces.items c.args.place.index c.in_ok-pieces.ensures.tail)) c.ranges.at.fits refl left c.cut.ensures.front).0
+    (left-row c.self.inside.base _ _ _ _ _ _ _ c.in-Ok.inside c.self.invariant place
+    (λ (some : 0 < c.args.place.offset). c.in-Ok.ensures.inside some
+    ∙ ap (λ piece. view_front piece c.args.place.offset)
+    (piece-dropped row.items c.in_ok-pieces.pieces.items c.args.place.index c.in_ok-pieces.ensures.tail)) c.ranges.at.fits refl left c.cut.ensures.front).0
 
 pub invariant_of-replace : goal.invariant_of-replace
 invariant_of-replace c =
@@ -41,7 +44,10 @@ returns-clause-answer c =
     let place = subst (λ (r : ViewRow). IsPlace r.views c.args.at c.args.place.index c.args.place.offset) (sym c.self.view_is) c.requires.place in
     let left = c.in_ok-pieces.ensures.items in
     ap (λ (r : ViewRow). r.views) c.replace.ensures.value
-    ∙ (left-row c.self.inside.base _ _ _ _ _ _ _ c.in-Ok.inside c.self.invariant place (λ (some : 0 < c.args.place.offset). c.in-Ok.ensures.inside some ∙ ap (λ piece. view_front piece c.args.place.offset) (piece-dropped row.items c.in_ok-pieces.pieces.items c.args.place.index c.in_ok-pieces.ensures.tail)) c.ranges.at.fits refl left c.cut.ensures.front).1
+    ∙ (left-row c.self.inside.base _ _ _ _ _ _ _ c.in-Ok.inside c.self.invariant place
+    (λ (some : 0 < c.args.place.offset). c.in-Ok.ensures.inside some
+    ∙ ap (λ piece. view_front piece c.args.place.offset)
+    (piece-dropped row.items c.in_ok-pieces.pieces.items c.args.place.index c.in_ok-pieces.ensures.tail)) c.ranges.at.fits refl left c.cut.ensures.front).1
     ∙ ap (λ (r : ViewRow). left_pieces r.views c.args.at) c.self.view_is
 
 pub returns-clause-left : goal.returns-clause-left

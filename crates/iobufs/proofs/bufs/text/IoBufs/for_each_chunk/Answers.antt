@@ -32,6 +32,7 @@ returns g c =
     let R : g.row.F.Denot → List ℕ → g.row.F.Denot → Type 0 = λ before chunk after. CalledAt g.F.FnMut before chunk tt after in
     let s = c.self.inside in
     let several = pieced-as c.in-Many.is c.self.invariant.pieced in
-    let chunks = chunks-kept c.in-Many.row.views _ (ap (λ (p : Pieces). of_pieces (views p)) (sym c.in-Many.is) ∙ c.self.view_is) (omega (arith, several.0)) several.1 in
+    let chunks = chunks-kept c.in-Many.row.views _ (ap (λ (p : Pieces). of_pieces (views p)) (sym c.in-Many.is) ∙ c.self.view_is)
+    (omega (arith, several.0)) several.1 in
     let all = c.for_each.ensures in
     (all.0, subst (λ l. FoldsTo R c.args.visit l all.0) (sym chunks) all.1)

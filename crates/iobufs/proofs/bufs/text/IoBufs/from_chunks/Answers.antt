@@ -29,4 +29,9 @@ returns-in_err-append-clause-err g c =
     )
 
 pub returns-clause-ok : goal.returns-clause-ok
-returns-clause-ok g c = (run_to_end g.I.Iterator.next_gives _ c.loop-chunk.yielded c.loop-chunk.yielded_by c.in_default.ensures.steps, refl, refl, (subst (λ (text : MarkedText). text_len text < 2 ^ 64) c.loop-chunk.invariant.so_far c.loop-chunk.invariant.fits, c.loop-chunk.invariant.so_far))
+returns-clause-ok g c = (
+  run_to_end g.I.Iterator.next_gives _ c.loop-chunk.yielded c.loop-chunk.yielded_by c.in_default.ensures.steps,
+  refl,
+  refl,
+  (subst (λ (text : MarkedText). text_len text < 2 ^ 64) c.loop-chunk.invariant.so_far c.loop-chunk.invariant.fits, c.loop-chunk.invariant.so_far),
+)

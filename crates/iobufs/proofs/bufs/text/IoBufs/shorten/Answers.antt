@@ -21,7 +21,9 @@ returns-clause-inside c = λ yes.
     omega (arith, first-inside (views s.pieces) c.args.n short, length-kept s _ c.self.view_is)
 
 pub invariant_of-self : goal.invariant_of-self
-invariant_of-self c = kept-short c.self.inside c.args.n _ c.shorten.result c.self.invariant c.shorten.ensures.pieced c.shorten.ensures.left c.shorten.ensures.same
+invariant_of-self c = kept-short c.self.inside c.args.n _ c.shorten.result c.self.invariant c.shorten.ensures.pieced c.shorten.ensures.left
+    c.shorten.ensures.same
 
 pub returns-clause-answer : goal.returns-clause-answer
-returns-clause-answer c = c.shorten.ensures.answer ∙ ap (λ (chunk : List ℕ). nat_lt c.args.n (length chunk)) (first-kept c.self.inside.pieces _ c.self.view_is c.self.invariant.pieced)
+returns-clause-answer c = c.shorten.ensures.answer
+    ∙ ap (λ (chunk : List ℕ). nat_lt c.args.n (length chunk)) (first-kept c.self.inside.pieces _ c.self.view_is c.self.invariant.pieced)

@@ -18,17 +18,22 @@ pub returns-clause-ok : goal.returns-clause-ok
 returns-clause-ok g c =
     let s = c.self.inside in
     let n = c.requires.first ∙ sym (ap length (first-kept s.pieces _ c.self.view_is c.self.invariant.pieced)) in
-    subst (λ view. g.T.OwnedBytes.makes view c.in_ok-made.made) (sym (first-whole (views s.pieces) _ c.args.n c.self.view_is c.requires.some n)) c.in_ok-made.ensures.made
+    subst (λ view. g.T.OwnedBytes.makes view c.in_ok-made.made) (sym (first-whole (views s.pieces) _ c.args.n c.self.view_is c.requires.some n))
+    c.in_ok-made.ensures.made
 
 pub returns-clause-rest : goal.returns-clause-rest
 returns-clause-rest g c =
     let s = c.self.inside in
     let n = c.requires.first ∙ sym (ap length (first-kept s.pieces _ c.self.view_is c.self.invariant.pieced)) in
-    let full = full-kept s _ c.self.view_is c.self.invariant (omega (arith, n, c.requires.some, length-behind (views s.pieces), length-kept s _ c.self.view_is)) in
+    let full = full-kept s _ c.self.view_is c.self.invariant
+    (omega (arith, n, c.requires.some, length-behind (views s.pieces), length-kept s _ c.self.view_is)) in
     first-rest (views s.pieces) _ _ c.args.n c.self.view_is full c.requires.some n c.in_ok-made.ensures.left
 
 pub returns-in_err-made-clause-free : goal.returns-in_err-made-clause-free
 returns-in_err-made-clause-free g c = λ free.
     let s = c.self.inside in
     let n = c.requires.first ∙ sym (ap length (first-kept s.pieces _ c.self.view_is c.self.invariant.pieced)) in
-    absurd (false≢true (c.in_err-made.ensures.free (subst (λ view. g.T.OwnedBytes.is_free view) (first-whole (views s.pieces) _ c.args.n c.self.view_is c.requires.some n) free)))
+    absurd
+    (false≢true
+    (c.in_err-made.ensures.free (subst (λ view. g.T.OwnedBytes.is_free view)
+    (first-whole (views s.pieces) _ c.args.n c.self.view_is c.requires.some n) free)))

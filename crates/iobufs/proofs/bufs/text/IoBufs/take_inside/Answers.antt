@@ -12,34 +12,54 @@ use Rattle.iobufs.proofs.bufs.text.IoBufs.take_inside.Goals as goal
 pub overflow_add-end : goal.overflow_add-end
 overflow_add-end g c =
     let s = c.self.inside in
-    omega (arith, c.requires.inside, ap length (first-kept s.pieces _ c.self.view_is c.self.invariant.pieced), length-behind (views s.pieces), length-kept s _ c.self.view_is, c.len-len.ensures)
+    omega (
+      arith,
+      c.requires.inside,
+      ap length (first-kept s.pieces _ c.self.view_is c.self.invariant.pieced),
+      length-behind (views s.pieces),
+      length-kept s _ c.self.view_is,
+      c.len-len.ensures,
+    )
 
 pub slice-requires : goal.slice-requires
 slice-requires g c =
     let s = c.self.inside in
     let first = ap (λ (v : View). length v.bytes) c.piece-first.ensures in
-    let inside : c.args.skip + c.args.n ≤ length c.piece-first.result.now.bytes = omega (arith, c.requires.inside, ap length (first-kept s.pieces _ c.self.view_is c.self.invariant.pieced)) in
+    let inside : c.args.skip + c.args.n ≤ length c.piece-first.result.now.bytes =
+    omega (arith, c.requires.inside, ap length (first-kept s.pieces _ c.self.view_is c.self.invariant.pieced)) in
     Prim.search (rules, inside)
 
 pub drop_front-requires : goal.drop_front-requires
 drop_front-requires g c =
     let s = c.self.inside in
-    omega (arith, c.requires.inside, ap length (first-kept s.pieces _ c.self.view_is c.self.invariant.pieced), length-behind (views s.pieces), length-kept s _ c.self.view_is)
+    omega (
+      arith,
+      c.requires.inside,
+      ap length (first-kept s.pieces _ c.self.view_is c.self.invariant.pieced),
+      length-behind (views s.pieces),
+      length-kept s _ c.self.view_is,
+    )
 
 pub returns-clause-ok : goal.returns-clause-ok
 returns-clause-ok g c =
     let s = c.self.inside in
     let vs = views s.pieces in
     let held = ap length (first-kept s.pieces _ c.self.view_is c.self.invariant.pieced) in
-    let within = taken-within vs _ c.args.skip c.args.n 0 c.args.skip c.self.view_is (place-in_first vs c.args.skip (omega (arith, held, c.requires.inside, c.requires.some))) (omega (arith, held, c.requires.inside, c.requires.some, length-behind vs)) c.requires.some (omega (arith, held, c.requires.inside)) in
-    subst (λ view. g.T.OwnedBytes.makes view c.in_ok-made.made) (c.in_ok-view.ensures.ok ∙ ap (λ v. view_slice v (Included c.args.skip) (Excluded (c.args.skip + c.args.n))) c.piece-first.ensures ∙ within) c.in_ok-made.ensures.ok
+    let within = taken-within vs _ c.args.skip c.args.n 0 c.args.skip c.self.view_is
+    (place-in_first vs c.args.skip (omega (arith, held, c.requires.inside, c.requires.some)))
+    (omega (arith, held, c.requires.inside, c.requires.some, length-behind vs)) c.requires.some (omega (arith, held, c.requires.inside)) in
+    subst (λ view. g.T.OwnedBytes.makes view c.in_ok-made.made)
+    (c.in_ok-view.ensures.ok ∙ ap (λ v. view_slice v (Included c.args.skip) (Excluded (c.args.skip + c.args.n))) c.piece-first.ensures ∙ within)
+    c.in_ok-made.ensures.ok
 
 pub returns-in_err-view-clause-static_text : goal.returns-in_err-view-clause-static_text
 returns-in_err-view-clause-static_text g c = λ static free.
     let s = c.self.inside in
     let vs = views s.pieces in
     let held = ap length (first-kept s.pieces _ c.self.view_is c.self.invariant.pieced) in
-    let piece = static-within vs _ c.args.skip c.args.n 0 c.args.skip c.self.view_is (place-in_first vs c.args.skip (omega (arith, held, c.requires.inside, c.requires.some))) (omega (arith, held, c.requires.inside, c.requires.some, length-behind vs)) c.requires.some (omega (arith, held, c.requires.inside)) static in
+    let piece = static-within vs _ c.args.skip c.args.n 0 c.args.skip c.self.view_is
+    (place-in_first vs c.args.skip (omega (arith, held, c.requires.inside, c.requires.some)))
+    (omega (arith, held, c.requires.inside, c.requires.some, length-behind vs)) c.requires.some (omega (arith, held, c.requires.inside)) static in
     absurd (false≢true (c.in_err-view.ensures.static_text (ap (λ (v : View). v.mark) c.piece-first.ensures ∙ piece)))
 
 pub returns-in_err-made-clause-static_text : goal.returns-in_err-made-clause-static_text
@@ -47,6 +67,8 @@ returns-in_err-made-clause-static_text g c = λ static free.
     let s = c.self.inside in
     let vs = views s.pieces in
     let held = ap length (first-kept s.pieces _ c.self.view_is c.self.invariant.pieced) in
-    let within = taken-within vs _ c.args.skip c.args.n 0 c.args.skip c.self.view_is (place-in_first vs c.args.skip (omega (arith, held, c.requires.inside, c.requires.some))) (omega (arith, held, c.requires.inside, c.requires.some, length-behind vs)) c.requires.some (omega (arith, held, c.requires.inside)) in
+    let within = taken-within vs _ c.args.skip c.args.n 0 c.args.skip c.self.view_is
+    (place-in_first vs c.args.skip (omega (arith, held, c.requires.inside, c.requires.some)))
+    (omega (arith, held, c.requires.inside, c.requires.some, length-behind vs)) c.requires.some (omega (arith, held, c.requires.inside)) in
     let view = c.in_ok-view.ensures.ok ∙ ap (λ v. view_slice v (Included c.args.skip) (Excluded (c.args.skip + c.args.n))) c.piece-first.ensures ∙ within in
     absurd (false≢true (c.in_err-made.ensures.free (subst (λ view. g.T.OwnedBytes.is_free view) (sym view) free)))

@@ -20,7 +20,8 @@ pub returns-then-n-len-clause-ok : goal.returns-then-n-len-clause-ok
 returns-then-n-len-clause-ok c =
     let n = length-kept c.self.inside _ c.self.view_is in
     let o = c.locate-place.result.offset in
-    let within = taken-within _ c.args.self.now c.args.skip c.args.n _ o c.self.view_is c.locate-place.ensures.place (omega (arith, c.requires, c.if-n-eq0.false)) (omega arith) (omega (arith, ap (λ (v : View). length v.bytes) c.piece-piece.ensures)) in
+    let within = taken-within _ c.args.self.now c.args.skip c.args.n _ o c.self.view_is c.locate-place.ensures.place
+    (omega (arith, c.requires, c.if-n-eq0.false)) (omega arith) (omega (arith, ap (λ (v : View). length v.bytes) c.piece-piece.ensures)) in
     as_view c.slice.result _ _ (ap (λ v. view_slice v (Included o) (Excluded (o + c.args.n))) c.piece-piece.ensures ∙ within) c.slice.ensures.ok
 
 pub copied-requires-clause-inside : goal.copied-requires-clause-inside
@@ -32,17 +33,20 @@ copied-requires-clause-inside c =
 pub returns-in-Ok-clause-ok : goal.returns-in-Ok-clause-ok
 returns-in-Ok-clause-ok c =
     let n = length-kept c.self.inside _ c.self.view_is in
-    let across = taken-across _ c.args.self.now c.args.skip c.args.n _ _ _ c.self.view_is c.locate-place.ensures.place (omega (arith, c.requires, c.if-n-eq0.false)) (omega (arith, ap (λ (v : View). length v.bytes) c.piece-piece.ensures)) refl in
+    let across = taken-across _ c.args.self.now c.args.skip c.args.n _ _ _ c.self.view_is c.locate-place.ensures.place
+    (omega (arith, c.requires, c.if-n-eq0.false)) (omega (arith, ap (λ (v : View). length v.bytes) c.piece-piece.ensures)) refl in
     c.in-Ok.ensures.ok ∙ across
 
 pub returns-then-n-len-clause-static_text : goal.returns-then-n-len-clause-static_text
 returns-then-n-len-clause-static_text c = λ static.
     let n = length-kept c.self.inside _ c.self.view_is in
     let o = c.locate-place.result.offset in
-    let piece = static-within _ c.args.self.now c.args.skip c.args.n _ o c.self.view_is c.locate-place.ensures.place (omega (arith, c.requires, c.if-n-eq0.false)) (omega arith) (omega (arith, ap (λ (v : View). length v.bytes) c.piece-piece.ensures)) static in
+    let piece = static-within _ c.args.self.now c.args.skip c.args.n _ o c.self.view_is c.locate-place.ensures.place
+    (omega (arith, c.requires, c.if-n-eq0.false)) (omega arith) (omega (arith, ap (λ (v : View). length v.bytes) c.piece-piece.ensures)) static in
     c.slice.ensures.static_text (ap (λ (v : View). v.mark) c.piece-piece.ensures ∙ piece)
 
 pub returns-in-Err-clause-static_text : goal.returns-in-Err-clause-static_text
 returns-in-Err-clause-static_text c = λ static.
     let n = length-kept c.self.inside _ c.self.view_is in
-    absurd (across-native _ c.args.self.now c.args.skip c.args.n _ _ c.self.view_is c.locate-place.ensures.place (omega (arith, c.requires, c.if-n-eq0.false)) (omega (arith, ap (λ (v : View). length v.bytes) c.piece-piece.ensures)) static)
+    absurd (across-native _ c.args.self.now c.args.skip c.args.n _ _ c.self.view_is c.locate-place.ensures.place
+    (omega (arith, c.requires, c.if-n-eq0.false)) (omega (arith, ap (λ (v : View). length v.bytes) c.piece-piece.ensures)) static)

@@ -16,7 +16,13 @@ pub overflow_sub-self-2 : goal.overflow_sub-self-2
 overflow_sub-self-2 c =
     let s = c.self.inside in
     let sums = c.self.invariant.sums in
-    omega (arith, spare-summed (in_order s.row.items s.used) s.len s.capacity sums, ap (λ ps. length (parts_filled ps)) c.self.view_is, sums.len_is, c.requires.some)
+    omega (
+      arith,
+      spare-summed (in_order s.row.items s.used) s.len s.capacity sums,
+      ap (λ ps. length (parts_filled ps)) c.self.view_is,
+      sums.len_is,
+      c.requires.some,
+    )
 
 pub invariant_of-self : goal.invariant_of-self
 invariant_of-self c =
@@ -31,7 +37,8 @@ invariant_of-self c =
     let same = ap (λ ps. in_order ps left.result) none.1 ∙ left.ensures.rest in
     record {
       behind = subst (λ ps. AreBehind ps left.result) (sym none.1) left.ensures.behind;
-      sums = summed-drained all _ n s.len s.capacity c.self.invariant.sums some (drained-row _ all left.result n several able (omega (arith, none.0, ap length none.1)) same);
+      sums = summed-drained all _ n s.len s.capacity c.self.invariant.sums some
+          (drained-row _ all left.result n several able (omega (arith, none.0, ap length none.1)) same);
     }
 
 pub returns-in_default-clause-rest : goal.returns-in_default-clause-rest
@@ -63,4 +70,5 @@ returns-clause-single c =
     let n = c.args.n in
     let left = c.advance-self-inside in
     let same = left.ensures.rest ∙ ap (λ ps. with_capacity (parts_shared_out ps n)) c.self.view_is in
-    sym (order-single _ left.result c.in-Some.part c.in-Some.ensures.some.0) ∙ ap parts_or_default same ∙ sym (drained-several c.args.self.now n c.requires.several c.requires.have_capacity)
+    sym (order-single _ left.result c.in-Some.part c.in-Some.ensures.some.0) ∙ ap parts_or_default same
+    ∙ sym (drained-several c.args.self.now n c.requires.several c.requires.have_capacity)

@@ -8,4 +8,11 @@ pub overflow_add-self : goal.overflow_add-self
 overflow_add-self c =
     let s = c.self.inside in
     let sums = c.self.invariant.sums in
-    omega (arith, spare-summed (in_order s.row.items s.used) s.len s.capacity sums, ap parts_capacity c.self.view_is, sums.capacity_is, c.len-len.ensures, c.requires)
+    omega (
+      arith,
+      spare-summed (in_order s.row.items s.used) s.len s.capacity sums,
+      ap parts_capacity c.self.view_is,
+      sums.capacity_is,
+      c.len-len.ensures,
+      c.requires,
+    )

@@ -17,5 +17,6 @@ invariant_of-self c =
     let w = replicate c.args.n c.args.value in
     let long : length w ≡ c.args.n = length-replicate c.args.n c.args.value in
     let filled = c.put_bytes.ensures ∙ ap (λ ps. parts_fill ps w) c.settle.ensures.ordered in
-    let sums = summed-fill (in_order s.row.items s.used) _ w s.len s.capacity c.self.invariant.sums (omega (arith, ap parts_spare c.self.view_is, c.requires)) filled in
+    let sums = summed-fill (in_order s.row.items s.used) _ w s.len s.capacity c.self.invariant.sums
+    (omega (arith, ap parts_spare c.self.view_is, c.requires)) filled in
     kept-none _ _ _ s.capacity c.settle.ensures.none (rw (← long) sums)

@@ -11,4 +11,5 @@ invariant_of-self c =
     let n = c.args.n in
     let with_len = c.set_len.ensures ∙ ap (λ ps. parts_with_len ps n) c.settle.ensures.ordered in
     kept-none _ _ n s.capacity c.settle.ensures.none
-    (summed-with_len (in_order s.row.items s.used) _ n s.len s.capacity c.self.invariant.sums (omega (arith, ap parts_capacity c.self.view_is, c.requires)) with_len)
+    (summed-with_len (in_order s.row.items s.used) _ n s.len s.capacity c.self.invariant.sums
+    (omega (arith, ap parts_capacity c.self.view_is, c.requires)) with_len)

@@ -13,5 +13,6 @@ returns c =
     let zeros : s.start + n - vec_len s.storage ≡ n - length (drop s.start items) = omega (arith, length-drop s.start items, s.storage.ok.0) in
     let filled : drop s.start long.items ≡ take n (drop s.start items) ++ replicate (n - length (drop s.start items)) 0 =
     rw (items_are, zeros) (drop_resized s.start n items (replicate (n - length (drop s.start items)) 0) (omega (arith, s.storage.ok.0))) in
-    let spare : s.limit - vec_len long ≡ length (drop s.start items) + (s.limit - vec_len s.storage) - n = omega (arith, len, length-drop s.start items, s.storage.ok.0) in
+    let spare : s.limit - vec_len long ≡ length (drop s.start items) + (s.limit - vec_len s.storage) - n =
+    omega (arith, len, length-drop s.start items, s.storage.ok.0) in
     rw (← c.self.view_is) cc

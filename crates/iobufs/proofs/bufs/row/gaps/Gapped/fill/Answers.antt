@@ -28,13 +28,15 @@ unreachable-requires c =
 pub fill_piece-requires-clause-within : goal.fill_piece-requires-clause-within
 fill_piece-requires-clause-within c =
     let l = c.loop-i in
-    let first = filling-first _ l.pieces.items l.i c.in-Some.piece.now l.rest l.end (omega (arith, c.loop-i-test.true, l.invariant.count, c.len-i-end.ensures, l.pieces.ok.0)) c.in-Some.ensures.value l.invariant.filling in
+    let first = filling-first _ l.pieces.items l.i c.in-Some.piece.now l.rest l.end
+    (omega (arith, c.loop-i-test.true, l.invariant.count, c.len-i-end.ensures, l.pieces.ok.0)) c.in-Some.ensures.value l.invariant.filling in
     first.0
 
 pub fill_piece-requires-clause-fits : goal.fill_piece-requires-clause-fits
 fill_piece-requires-clause-fits c =
     let l = c.loop-i in
-    let first = filling-first _ l.pieces.items l.i c.in-Some.piece.now l.rest l.end (omega (arith, c.loop-i-test.true, l.invariant.count, c.len-i-end.ensures, l.pieces.ok.0)) c.in-Some.ensures.value l.invariant.filling in
+    let first = filling-first _ l.pieces.items l.i c.in-Some.piece.now l.rest l.end
+    (omega (arith, c.loop-i-test.true, l.invariant.count, c.len-i-end.ensures, l.pieces.ok.0)) c.in-Some.ensures.value l.invariant.filling in
     first.1
 
 pub loop-i-preserved : goal.loop-i-preserved
