@@ -3,7 +3,7 @@ use crate::run::{Run, Stop};
 use crate::{codec, lists, single, streams, texts};
 
 /// All of them, in the order in which they are run.
-pub static NAMES: [&str; 80] = [
+pub static NAMES: [&str; 81] = [
     "put64_1m_freeze",
     "put_u8_64k_freeze",
     "split_1m_1k_drop",
@@ -16,6 +16,7 @@ pub static NAMES: [&str; 80] = [
     "read_view_bytewise_1m",
     "read_view_64_1m",
     "take_view_1k_1m",
+    "take_view_1k_whole",
     "recover_put64_freeze",
     "text4_append",
     "text4_prepend",
@@ -111,6 +112,7 @@ pub fn run_named(rt: &HostRuntime, name: &str) -> Result<Run, Stop> {
         "read_view_bytewise_1m" => single::read_bytewise(rt),
         "read_view_64_1m" => single::read_64(rt),
         "take_view_1k_1m" => single::take_1k(rt),
+        "take_view_1k_whole" => single::take_whole(rt),
         "recover_put64_freeze" => single::recover(rt),
         _ => run_wire(rt, name),
     }

@@ -5,6 +5,7 @@ ghost use Rattle.iobufs_core.specs.Native.{native_advanced, native_cut};
 ghost use Rattle.iobufs_core.specs.Part.{Part};
 
 use super::IoBufMut;
+use bytes::Bytes;
 use std::alloc::{AllocError, AllocFailed, Global};
 use std::marker::Model;
 use std::mem;
@@ -113,6 +114,45 @@ impl Native {
             len: n,
             limit: self.limit,
         })
+    }
+
+    /// The bytes as a `Bytes`: in their storage, if no other text is in the block and its room ends with them, else a copy.
+    pub(super) fn into_bytes(self, alloc: Global) -> Result<Bytes, Native>
+        ensures { MatchResult result (λ bytes. bytes ≡ self.bytes) (λ n. n ≡ self) }
+    {
+        let Native {
+            mut block,
+            start,
+            len,
+            limit,
+        } = self;
+        if start + len == limit {
+            if let Some(place) = Arc::get_mut(&mut block) {
+                match Bytes::from_vec(mem::replace(place, Vec::new(alloc))) {
+                    Ok(mut bytes) => {
+                        bytes.advance(start);
+                        return Ok(bytes);
+                    }
+                    Err(refused) => *place = refused.value,
+                }
+                return Err(Native {
+                    block,
+                    start,
+                    len,
+                    limit,
+                });
+            }
+        }
+        let native = Native {
+            block,
+            start,
+            len,
+            limit,
+        };
+        match Bytes::copy_from_slice(alloc, native.as_slice()) {
+            Ok(bytes) => Ok(bytes),
+            Err(_) => Err(native),
+        }
     }
 
     /// The text as a buffer to write, if no other text is in its block.

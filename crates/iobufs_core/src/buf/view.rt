@@ -242,8 +242,8 @@ impl IoBuf {
         Ok(Vec::from_slice(alloc, self.as_ref())?)
     }
 
-    /// The bytes as a `Bytes` (`Bytes::from`): a copy of those in native storage, else the same. `Err` for want
-    /// of memory alone, with the view.
+    /// The bytes as a `Bytes` (`Bytes::from`): those in native storage are copied, but where nobody shares it and its
+    /// room ends with them; else the same. `Err` for want of memory alone, with the view.
     pub fn into_bytes(self, alloc: Global) -> Result<Bytes, IoBuf>
         ensures same { MatchResult result (λ bytes. bytes ≡ self.bytes) (λ view. view ≡ self) }
         ensures static_text { self.mark ≡ static_mark → IsOk result }
@@ -257,9 +257,9 @@ impl IoBuf {
         match storage {
             Storage::Static(text) => Ok(Bytes::from_static(text)),
             Storage::Shared(bytes) => Ok(bytes),
-            Storage::Native(native) => match Bytes::copy_from_slice(alloc, native.as_slice()) {
+            Storage::Native(native) => match native.into_bytes(alloc) {
                 Ok(bytes) => Ok(bytes),
-                Err(_) => Err(IoBuf::from_native(native)),
+                Err(native) => Err(IoBuf::from_native(native)),
             },
         }
     }

@@ -1,4 +1,4 @@
-use Rattle.std.proofs.Common.{◌≤◌, List, ℕ, length, arith, ap, length-take}
+use Rattle.std.proofs.Common.{List, ℕ, length, arith, ap, length-take}
 use Rattle.iobufs_bench.proofs.lists.read_turns.Goals as goal
 
 pub advance-requires : goal.advance-requires
