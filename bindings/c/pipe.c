@@ -4,9 +4,10 @@
  *
  *     pipe [MEBIBYTES [BODY [plain]]]
  *
- * BODY is the bytes of a frame. With `plain`, the same frames and writes by plain copies: each body into one block behind its
- * length, and out of what was read into memory of its own. By the buffers no byte is copied, but of frames that came in two
- * pieces.
+ * BODY is the bytes of a frame. The bodies of a batch lie one behind the other in a block of the sender's. By the buffers a frame
+ * is its length and a slice of that block, or, of a short body, a copy of it; the reader's frames are slices of what was read,
+ * and only those that came in two pieces are copied. With `plain`, the same frames and writes by plain copies: each body into
+ * another block, behind its length, and out of what was read into memory of its own.
  */
 #include "test.h"
 #include <errno.h>
@@ -19,7 +20,7 @@
 #include <time.h>
 #include <unistd.h>
 
-enum { MOST = 1 << 20, BATCH = 1 << 17, LIST = 64, PIECE = 32768 };
+enum { MOST = 1 << 20, BATCH = 1 << 17, LIST = 64, PIECE = 32768, SHORT = 2048 };
 
 /* What the sender tells the reader's process. */
 struct told { uint64_t sum; size_t writes, short_writes; };
@@ -41,6 +42,9 @@ static uint8_t filler(size_t i) { return (uint8_t)(i * 31 % 251); }
 
 /* Frames that are sent at a time. */
 static size_t batch(void) { return body < BATCH ? BATCH / body : 1; }
+
+/* Pieces that are listed at a time: those of twice the bytes that the socket takes, since what isn't written is listed anew. */
+static size_t listed(void) { return 2 * (2 * PIECE / body) + 2 < LIST ? 2 * (2 * PIECE / body) + 2 : LIST; }
 
 /* Writes some of a list, and waits where nothing can be written. */
 static size_t write_some(int to, struct iovec *list, size_t n, size_t len) {
@@ -65,38 +69,55 @@ static size_t read_some(int from, uint8_t *room) {
 
 /* ---- by the buffers ---- */
 
-static void make_frame(struct iobufmut_at *part, struct iobuf_at *out, size_t i) {
-    uint8_t *at;
-    OK(iobufmut_with_capacity(body, part));
-    OK(iobufmut_put_bytes(part, filler(i), body));
-    OK(iobufmut_write_at(part, 0, (const uint8_t *)&i, sizeof i));
-    CHECK(iobufmut_chunk(part, &at) == body);
-    told->sum = sum_of(told->sum, at, body);
-    OK(iobufmut_freeze(part, out));
+/* The bodies of n frames from i on, as a view of one block, and where they lie; `block` holds the block of the batch before it,
+ * which nobody shares any more. */
+static const uint8_t *make_bodies(struct iobuf_at *block, struct iobufmut_at *part, size_t i, size_t n) {
+    const uint8_t *at;
+    if (iobuf_try_into_mut(block, part) != IOBUFS_OK || iobufmut_capacity(part) < batch() * body) OK(iobufmut_with_capacity(batch() * body, part));
+    iobufmut_clear(part);
+    for (size_t k = 0; k < n; k++, i++) {
+        OK(iobufmut_put_slice(part, (const uint8_t *)&i, sizeof i));
+        OK(iobufmut_put_bytes(part, filler(i), body - sizeof i));
+    }
+    OK(iobufmut_freeze(part, block));
+    CHECK(iobuf_chunk(block, &at) == n * body);
+    for (size_t k = 0; k < n; k++) told->sum = sum_of(told->sum, at + k * body, body);
+    return at;
+}
+
+/* A length and a body: a slice of the front of `bodies`, or, of a short one, a copy. */
+static void put_frame(struct iobufs_builder_at *builder, struct iobuf_at *bodies, const uint8_t *at, struct iobuf_at *first) {
+    OK(iobufs_builder_put_length(builder, body));
+    if (body < SHORT) {
+        OK(iobufs_builder_put_slice(builder, at, body));
+        return;
+    }
+    OK(iobuf_split_to(bodies, body, first));
+    OK(iobufs_builder_push(builder, first));
 }
 
 static void send_text(int to, struct iobufs_at *text) {
     while (!iobufs_is_empty(text)) {
         struct iovec list[LIST];
-        size_t len = 0, n = iobufs_chunks(text, (struct iobufs_chunk *)list, LIST);
+        size_t len = 0, n = iobufs_chunks(text, (struct iobufs_chunk *)list, listed());
         for (size_t i = 0; i < n; i++) len += list[i].iov_len;
         OK(iobufs_advance(text, write_some(to, list, n, len)));
     }
 }
 
 static void send_frames(int to, size_t count) {
-    BUILDER(b); PART(p); VIEW(v); TEXT(t);
-    for (size_t i = 0; i < count;) {
-        OK(iobufs_builder_new(batch() * 10, &b));
-        for (size_t k = 0; k < batch() && i < count; k++, i++) {
-            make_frame(&p, &v, i);
-            OK(iobufs_builder_put_length(&b, body));
-            OK(iobufs_builder_push(&b, &v));
-        }
+    BUILDER(b); PART(p); VIEW(block); VIEW(bodies); VIEW(first); TEXT(t);
+    for (size_t i = 0, n; i < count; i += n) {
+        n = count - i < batch() ? count - i : batch();
+        const uint8_t *at = make_bodies(&block, &p, i, n);
+        OK(iobuf_clone(&block, &bodies));
+        OK(iobufs_builder_new(n * (10 + (body < SHORT ? body : 0)), &b));
+        for (size_t k = 0; k < n; k++) put_frame(&b, &bodies, at + k * body, &first);
         OK(iobufs_builder_finish(&b, &t));
+        iobuf_drop(&bodies);
         send_text(to, &t);
     }
-    iobufs_builder_drop(&b); iobufs_drop(&t); iobuf_drop(&v);
+    iobufs_builder_drop(&b); iobufs_drop(&t); iobuf_drop(&block); iobuf_drop(&bodies); iobuf_drop(&first);
 }
 
 /* Reads into the memory of an earlier piece, if no frame holds that any more, or else into new memory, which stays with
@@ -142,25 +163,27 @@ static size_t put_length(uint8_t *at, size_t n) {
 }
 
 static void send_plain(int to, size_t count) {
-    uint8_t *block = (uint8_t *)malloc(batch() * (body + 10));
-    for (size_t i = 0; i < count;) {
+    uint8_t *bodies = (uint8_t *)malloc(batch() * body), *block = (uint8_t *)malloc(batch() * (body + 10));
+    for (size_t i = 0, n; i < count; i += n) {
+        n = count - i < batch() ? count - i : batch();
+        for (size_t k = 0; k < n; k++) {
+            size_t number = i + k;
+            memcpy(bodies + k * body, &number, sizeof number);
+            memset(bodies + k * body + sizeof number, filler(number), body - sizeof number);
+        }
+        for (size_t k = 0; k < n; k++) told->sum = sum_of(told->sum, bodies + k * body, body);
         size_t used = 0;
-        for (size_t k = 0; k < batch() && i < count; k++, i++) {
-            uint8_t *made = (uint8_t *)malloc(body);
-            memset(made, filler(i), body);
-            memcpy(made, &i, sizeof i);
-            told->sum = sum_of(told->sum, made, body);
+        for (size_t k = 0; k < n; k++) {
             used += put_length(block + used, body);
-            memcpy(block + used, made, body);
+            memcpy(block + used, bodies + k * body, body);
             used += body;
-            free(made);
         }
         for (size_t sent = 0; sent < used;) {
             struct iovec rest = { block + sent, used - sent };
             sent += write_some(to, &rest, 1, used - sent);
         }
     }
-    free(block);
+    free(bodies); free(block);
 }
 
 static uint64_t read_plain(int from, size_t count) {

@@ -82,6 +82,19 @@ fn split_drop() -> Run {
     })
 }
 
+fn split_keep() -> Run {
+    let whole = native(MIB);
+    let mut views: Vec<IoBuf> = (0..8).map(|_| whole.clone()).collect();
+    let mut frames = Vec::with_capacity(8 * 1024);
+    let (ns, operations, _) = timed(8 * 1024, || {
+        for view in &mut views {
+            frames.extend((0..1024).map(|_| view.split_to(1024)));
+        }
+        0
+    });
+    (ns, operations, frames.iter().map(|frame| mark(frame.chunk())).sum())
+}
+
 fn clone_drop(view: IoBuf) -> Run {
     let _shared = view.clone();
     timed(10_000, || {
@@ -182,6 +195,36 @@ fn drained(n: usize, size: usize, step: fn(&mut IoBufs) -> u64, rest: usize) -> 
     })
 }
 
+fn text_len(n: usize) -> Run {
+    let (text, turns) = (text(n), (100_000 / n).max(64));
+    timed(turns, || (0..turns).map(|_| black_box(&text).len() as u64).sum())
+}
+
+fn split_mid(n: usize) -> Run {
+    let mut texts: Vec<IoBufs> = (0..count(n)).map(|_| text(n)).collect();
+    let mut fronts = Vec::with_capacity(texts.len());
+    let (ns, operations, _) = timed(texts.len(), || {
+        fronts.extend(texts.iter_mut().map(|text| text.split_to(128 * n + 1)));
+        0
+    });
+    let seen = |text: &IoBufs| text.len() as u64 + mark(text.chunk());
+    (ns, operations, fronts.iter().chain(&texts).map(seen).sum())
+}
+
+fn text_bytewise(n: usize) -> Run {
+    let mut texts: Vec<IoBufs> = (0..(count(n) / 16).max(1)).map(|_| text(n)).collect();
+    timed(256 * n * texts.len(), || {
+        let mut sum = 0;
+        for text in &mut texts {
+            while text.has_remaining() {
+                sum += u64::from(text.chunk()[0]);
+                text.advance(1);
+            }
+        }
+        sum
+    })
+}
+
 fn coalesced(n: usize) -> Run {
     let texts: Vec<IoBufs> = (0..count(n)).map(|_| text(n)).collect();
     let mut views = Vec::with_capacity(texts.len());
@@ -250,6 +293,7 @@ fn workloads() -> &'static [Workload] {
         add("put64_1m_freeze".into(), Box::new(put64));
         add("put_u8_64k_freeze".into(), Box::new(put_u8));
         add("split_1m_1k_drop".into(), Box::new(split_drop));
+        add("split_1m_1k_keep".into(), Box::new(split_keep));
         add("clone_drop_native".into(), Box::new(|| clone_drop(native(1024))));
         add(
             "clone_drop_static".into(),
@@ -279,9 +323,12 @@ fn workloads() -> &'static [Workload] {
                 format!("text{n}_split1000"),
                 Box::new(move || drained(n, 1000, |text| mark(text.split_to(1000).chunk()), 0)),
             );
+            add(format!("text{n}_len"), Box::new(move || text_len(n)));
+            add(format!("text{n}_split_mid"), Box::new(move || split_mid(n)));
             add(format!("text{n}_coalesce"), Box::new(move || coalesced(n)));
             add(format!("text{n}_clone_drop"), Box::new(move || text_clone_drop(n)));
             add(format!("text{n}_walk"), Box::new(move || walk(n)));
+            add(format!("text{n}_bytewise"), Box::new(move || text_bytewise(n)));
         }
         for n in [2, 3, 64] {
             add(format!("parts{n}_put64"), Box::new(move || parts_put(n, 64)));

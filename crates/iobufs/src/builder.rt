@@ -95,6 +95,7 @@ impl Builder {
         ensures ok { IfOk result (λ text. text ≡ finished self) }
         ensures memory { IsOkUnless result BufError.Memory }
         ensures nothing { building_items self ≡ [] → IsOk result }
+        ensures no_inline { items_inline (building_items self) ≡ 0 → IsOk result }
     {
         let Builder {
             inline,

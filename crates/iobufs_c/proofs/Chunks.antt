@@ -1,4 +1,4 @@
--- A list that is filled place by place.
+-- Lists that are filled place by place: with the chunks of parts and their lengths, and with the buffers at places.
 use Rattle.std.proofs.Common.{◌≡◌, ℕ, ◌<◌, ◌≤◌, ◌+◌, ◌==◌, true, false, Option, None, replicate, slice_index_or, List, [], ◌∷◌, ◌++◌, length, map, take, drop, Some, slice_get, slice_set, arith, ap, sym, refl, ◌∙◌, length-take, take-append-drop, append-nil}
 use Rattle.std.proofs.Math.Seq.{map-set_same, take-append_seam}
 use Rattle.std.proofs.lemmas.Bool.Decides.{nat_tests}
@@ -47,6 +47,7 @@ chunks_more parts i part at some =
     ap parts_chunks (next_item parts i part at) ∙ chunks-append (take i parts) (part ∷ [])
     ∙ ap (λ more. parts_chunks (take i parts) ++ more) (one_full part.filled part.spare some)
 
+-- a part without bytes adds no chunk to those of the parts before it
 pub chunks_same : (parts : List Part) (i : ℕ) (part : Part) → slice_get parts i ≡ Some part → (length part.filled == 0) ≡ true
     → parts_chunks (take (i + 1) parts) ≡ parts_chunks (take i parts)
 chunks_same parts i part at none =
@@ -69,9 +70,11 @@ counted f xs pieces n within so =
     let sizes = sym (length-map pieces length) ∙ ap length (sym so) ∙ length-map (take n xs) f in
     omega (arith, within, sizes, length-take n xs)
 
+-- the chunks of the first i parts and those of the others are the chunks of all
 pub chunks_split : (parts : List Part) (i : ℕ) → parts_chunks parts ≡ parts_chunks (take i parts) ++ parts_chunks (drop i parts)
 chunks_split parts i = ap parts_chunks (sym (take-append-drop i parts)) ∙ chunks-append (take i parts) (drop i parts)
 
+-- where the first i parts have n chunks, these are the first n of all
 pub first_chunks : (parts : List Part) (i n : ℕ) → length (parts_chunks (take i parts)) ≡ n → take n (parts_chunks parts) ≡ parts_chunks (take i parts)
 first_chunks parts i n count =
     ap (take n) (chunks_split parts i) ∙ ap (λ k. take k (parts_chunks (take i parts) ++ parts_chunks (drop i parts))) (sym count)
@@ -79,12 +82,14 @@ first_chunks parts i n count =
 
 -- ---- the buffers of places
 
+-- where the first i elements are mapped to a value, and so is one that is put into the next place, the first i + 1 are
 pub taken_more : {X Y : Type 0} (f : X → Y) (xs : List X) (i : ℕ) (x : X) (y : Y) → i < length xs → f x ≡ y → map f (take i xs) ≡ replicate i y
     → map f (take (i + 1) (slice_set xs i x)) ≡ replicate (i + 1) y
 taken_more f xs i x y inside is so =
     ap (map f) (take_more_set xs i x inside) ∙ map-append f (take i xs) (x ∷ []) ∙ ap (λ ys. ys ++ f x ∷ []) so ∙ ap (λ z. replicate i y ++ z ∷ []) is
     ∙ sym (replicate_next i y)
 
+-- an element that is mapped as the one in whose place it is put leaves the mapped list as it was
 pub places_same : {X Y : Type 0} (f : X → Y) (xs : List X) (i : ℕ) (x d : X) → f x ≡ f (slice_index_or xs i d) → map f (slice_set xs i x) ≡ map f xs
 places_same f xs i x d same = map-set_same f xs i x d same
 
@@ -112,6 +117,7 @@ pub held_next : {X : Type 0} (f : X → Option Part) (xs : List X) (i : ℕ) (d 
     → held_parts (map f (take i xs)) ++ part ∷ [] ≡ held_parts (map f (take (i + 1) xs))
 held_next f xs i d part inside at = ap (λ place. held_parts (map f (take i xs)) ++ held_parts (place ∷ [])) (sym at) ∙ sym (held_more f xs i d inside)
 
+-- a place without a buffer adds none to those at the places before it
 pub held_same : {X : Type 0} (f : X → Option Part) (xs : List X) (i : ℕ) (d : X) → i < length xs → f (slice_index_or xs i d) ≡ None
     → held_parts (map f (take i xs)) ≡ held_parts (map f (take (i + 1) xs))
 held_same f xs i d inside at =

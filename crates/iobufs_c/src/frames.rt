@@ -144,7 +144,7 @@ pub extern "C" fn iobufs_frames_next(
     ensures at { (frames.new.at ≡ frames.old.at) × (out.new.at ≡ out.old.at) }
     ensures taken { result ≡ 0 → IsNext (record { lo = lo; hi = hi }) frames.old.value.bytes (Ok (Some out.new.value)) frames.new.value.bytes }
     ensures left { result ≡ 0 → frames.new.value ≡ text_rest frames.old.value (length (view_written out.new.value)) }
-    ensures same { (result == 0) ≡ false → (frames.new.value ≡ frames.old.value) × (out.new.value ≡ out.old.value) }
+    ensures unchanged { (result == 0) ≡ false → (frames.new.value ≡ frames.old.value) × (out.new.value ≡ out.old.value) }
     ensures open { result ≡ code_of Status.EndOfBuffer → HasNoFrame (record { lo = lo; hi = hi }) frames.old.value.bytes End.Open }
     ensures invalid { result ≡ code_of Status.InvalidVarint → HasNoFrame (record { lo = lo; hi = hi }) frames.old.value.bytes (End.Bad Error.InvalidVarint) }
     ensures outside { result ≡ code_of Status.InvalidLength → (n : ℕ)

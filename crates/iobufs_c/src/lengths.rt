@@ -93,7 +93,7 @@ pub extern "C" fn iobufs_read_length(
     ensures at { text.new.at ≡ text.old.at }
     ensures read { result ≡ 0 → IsLengthRead text.old.value.bytes (record { lo = lo; hi = hi }) (Ok out.new) }
     ensures rest { result ≡ 0 → text.new.value ≡ text_advanced text.old.value (length (spell out.new)) }
-    ensures same { (result == 0) ≡ false → text.new.value ≡ text.old.value }
+    ensures unchanged { (result == 0) ≡ false → text.new.value ≡ text.old.value }
     ensures open { result ≡ code_of Status.EndOfBuffer → IsLengthRead text.old.value.bytes (record { lo = lo; hi = hi }) (Err Error.EndOfBuffer) }
     ensures invalid { result ≡ code_of Status.InvalidVarint → IsLengthRead text.old.value.bytes (record { lo = lo; hi = hi }) (Err Error.InvalidVarint) }
     ensures outside { result ≡ code_of Status.InvalidLength
@@ -126,7 +126,7 @@ pub extern "C" fn iobuf_read_length(
     ensures at { src.new.at ≡ src.old.at }
     ensures read { result ≡ 0 → IsLengthRead src.old.value.bytes (record { lo = lo; hi = hi }) (Ok out.new) }
     ensures rest { result ≡ 0 → src.new.value ≡ view_advanced src.old.value (length (spell out.new)) }
-    ensures same { (result == 0) ≡ false → src.new.value ≡ src.old.value }
+    ensures unchanged { (result == 0) ≡ false → src.new.value ≡ src.old.value }
     ensures open { result ≡ code_of Status.EndOfBuffer → IsLengthRead src.old.value.bytes (record { lo = lo; hi = hi }) (Err Error.EndOfBuffer) }
     ensures invalid { result ≡ code_of Status.InvalidVarint → IsLengthRead src.old.value.bytes (record { lo = lo; hi = hi }) (Err Error.InvalidVarint) }
     ensures outside { result ≡ code_of Status.InvalidLength
@@ -159,7 +159,7 @@ pub extern "C" fn iobufs_read_view(
     ensures at { (text.new.at ≡ text.old.at) × (out.new.at ≡ out.old.at) }
     ensures read { result ≡ 0 → IsViewRead text.old.value (record { lo = lo; hi = hi }) (Ok out.new.value) }
     ensures rest { result ≡ 0 → text.new.value ≡ text_rest text.old.value (length (view_written out.new.value)) }
-    ensures same { (result == 0) ≡ false → (text.new.value ≡ text.old.value) × (out.new.value ≡ out.old.value) }
+    ensures unchanged { (result == 0) ≡ false → (text.new.value ≡ text.old.value) × (out.new.value ≡ out.old.value) }
     ensures open { result ≡ code_of Status.EndOfBuffer → IsViewFault text.old.value (record { lo = lo; hi = hi }) Error.EndOfBuffer }
     ensures invalid { result ≡ code_of Status.InvalidVarint → IsViewFault text.old.value (record { lo = lo; hi = hi }) Error.InvalidVarint }
     ensures outside { result ≡ code_of Status.InvalidLength → (n : ℕ) × IsViewFault text.old.value (record { lo = lo; hi = hi }) (Error.InvalidLength n) }
@@ -187,7 +187,7 @@ pub extern "C" fn iobuf_read_view(
     ensures at { (src.new.at ≡ src.old.at) × (out.new.at ≡ out.old.at) }
     ensures read { result ≡ 0 → IsViewRead (of_view src.old.value) (record { lo = lo; hi = hi }) (Ok out.new.value) }
     ensures rest { result ≡ 0 → src.new.value ≡ view_rest src.old.value (length (view_written out.new.value)) }
-    ensures same { (result == 0) ≡ false → (src.new.value ≡ src.old.value) × (out.new.value ≡ out.old.value) }
+    ensures unchanged { (result == 0) ≡ false → (src.new.value ≡ src.old.value) × (out.new.value ≡ out.old.value) }
     ensures open { result ≡ code_of Status.EndOfBuffer → IsViewFault (of_view src.old.value) (record { lo = lo; hi = hi }) Error.EndOfBuffer }
     ensures invalid { result ≡ code_of Status.InvalidVarint → IsViewFault (of_view src.old.value) (record { lo = lo; hi = hi }) Error.InvalidVarint }
     ensures outside { result ≡ code_of Status.InvalidLength

@@ -181,7 +181,7 @@ pub extern "C" fn iobuf_get_u8(alloc: Global, src: &mut ViewAt, out: &mut u8) ->
     ensures at { src.new.at ≡ src.old.at }
     ensures read { result ≡ 0 → IsNumberRead (λ n. n ∷ []) 1 src.old.value.bytes (Ok out.new) }
     ensures rest { result ≡ 0 → src.new.value ≡ view_advanced src.old.value 1 }
-    ensures same { (result == 0) ≡ false → (src.new.value ≡ src.old.value) × (out.new ≡ out.old) }
+    ensures unchanged { (result == 0) ≡ false → (src.new.value ≡ src.old.value) × (out.new ≡ out.old) }
     ensures short { (result == 0) ≡ false → length src.old.value.bytes < 1 }
     ensures causes { IsDoneUnless result Status.EndOfBuffer }
 {
@@ -201,7 +201,7 @@ pub extern "C" fn iobuf_get_u16(alloc: Global, src: &mut ViewAt, out: &mut u16) 
     ensures at { src.new.at ≡ src.old.at }
     ensures read { result ≡ 0 → IsNumberRead (to_be_bytes w16) 2 src.old.value.bytes (Ok out.new) }
     ensures rest { result ≡ 0 → src.new.value ≡ view_advanced src.old.value 2 }
-    ensures same { (result == 0) ≡ false → (src.new.value ≡ src.old.value) × (out.new ≡ out.old) }
+    ensures unchanged { (result == 0) ≡ false → (src.new.value ≡ src.old.value) × (out.new ≡ out.old) }
     ensures short { (result == 0) ≡ false → length src.old.value.bytes < 2 }
     ensures causes { IsDoneUnless result Status.EndOfBuffer }
 {
@@ -221,7 +221,7 @@ pub extern "C" fn iobuf_get_u32(alloc: Global, src: &mut ViewAt, out: &mut u32) 
     ensures at { src.new.at ≡ src.old.at }
     ensures read { result ≡ 0 → IsNumberRead (to_be_bytes w32) 4 src.old.value.bytes (Ok out.new) }
     ensures rest { result ≡ 0 → src.new.value ≡ view_advanced src.old.value 4 }
-    ensures same { (result == 0) ≡ false → (src.new.value ≡ src.old.value) × (out.new ≡ out.old) }
+    ensures unchanged { (result == 0) ≡ false → (src.new.value ≡ src.old.value) × (out.new ≡ out.old) }
     ensures short { (result == 0) ≡ false → length src.old.value.bytes < 4 }
     ensures causes { IsDoneUnless result Status.EndOfBuffer }
 {
@@ -241,7 +241,7 @@ pub extern "C" fn iobuf_get_u64(alloc: Global, src: &mut ViewAt, out: &mut u64) 
     ensures at { src.new.at ≡ src.old.at }
     ensures read { result ≡ 0 → IsNumberRead (to_be_bytes w64) 8 src.old.value.bytes (Ok out.new) }
     ensures rest { result ≡ 0 → src.new.value ≡ view_advanced src.old.value 8 }
-    ensures same { (result == 0) ≡ false → (src.new.value ≡ src.old.value) × (out.new ≡ out.old) }
+    ensures unchanged { (result == 0) ≡ false → (src.new.value ≡ src.old.value) × (out.new ≡ out.old) }
     ensures short { (result == 0) ≡ false → length src.old.value.bytes < 8 }
     ensures causes { IsDoneUnless result Status.EndOfBuffer }
 {
@@ -261,7 +261,7 @@ pub extern "C" fn iobufs_get_u8(alloc: Global, text: &mut TextAt, out: &mut u8) 
     ensures at { text.new.at ≡ text.old.at }
     ensures read { result ≡ 0 → IsNumberRead (λ n. n ∷ []) 1 text.old.value.bytes (Ok out.new) }
     ensures rest { result ≡ 0 → text.new.value ≡ text_advanced text.old.value 1 }
-    ensures same { (result == 0) ≡ false → (text.new.value ≡ text.old.value) × (out.new ≡ out.old) }
+    ensures unchanged { (result == 0) ≡ false → (text.new.value ≡ text.old.value) × (out.new ≡ out.old) }
     ensures short { (result == 0) ≡ false → length text.old.value.bytes < 1 }
     ensures causes { IsDoneUnless result Status.EndOfBuffer }
 {
@@ -281,7 +281,7 @@ pub extern "C" fn iobufs_get_u16(alloc: Global, text: &mut TextAt, out: &mut u16
     ensures at { text.new.at ≡ text.old.at }
     ensures read { result ≡ 0 → IsNumberRead (to_be_bytes w16) 2 text.old.value.bytes (Ok out.new) }
     ensures rest { result ≡ 0 → text.new.value ≡ text_advanced text.old.value 2 }
-    ensures same { (result == 0) ≡ false → (text.new.value ≡ text.old.value) × (out.new ≡ out.old) }
+    ensures unchanged { (result == 0) ≡ false → (text.new.value ≡ text.old.value) × (out.new ≡ out.old) }
     ensures short { (result == 0) ≡ false → length text.old.value.bytes < 2 }
     ensures causes { IsDoneUnless result Status.EndOfBuffer }
 {
@@ -301,7 +301,7 @@ pub extern "C" fn iobufs_get_u32(alloc: Global, text: &mut TextAt, out: &mut u32
     ensures at { text.new.at ≡ text.old.at }
     ensures read { result ≡ 0 → IsNumberRead (to_be_bytes w32) 4 text.old.value.bytes (Ok out.new) }
     ensures rest { result ≡ 0 → text.new.value ≡ text_advanced text.old.value 4 }
-    ensures same { (result == 0) ≡ false → (text.new.value ≡ text.old.value) × (out.new ≡ out.old) }
+    ensures unchanged { (result == 0) ≡ false → (text.new.value ≡ text.old.value) × (out.new ≡ out.old) }
     ensures short { (result == 0) ≡ false → length text.old.value.bytes < 4 }
     ensures causes { IsDoneUnless result Status.EndOfBuffer }
 {
@@ -321,7 +321,7 @@ pub extern "C" fn iobufs_get_u64(alloc: Global, text: &mut TextAt, out: &mut u64
     ensures at { text.new.at ≡ text.old.at }
     ensures read { result ≡ 0 → IsNumberRead (to_be_bytes w64) 8 text.old.value.bytes (Ok out.new) }
     ensures rest { result ≡ 0 → text.new.value ≡ text_advanced text.old.value 8 }
-    ensures same { (result == 0) ≡ false → (text.new.value ≡ text.old.value) × (out.new ≡ out.old) }
+    ensures unchanged { (result == 0) ≡ false → (text.new.value ≡ text.old.value) × (out.new ≡ out.old) }
     ensures short { (result == 0) ≡ false → length text.old.value.bytes < 8 }
     ensures causes { IsDoneUnless result Status.EndOfBuffer }
 {

@@ -210,7 +210,7 @@ pub extern "C" fn iobuf_try_into_mut(alloc: Global, src: &mut ViewAt, out: &mut 
 pub extern "C" fn iobufmut_from_view(alloc: Global, src: &mut ViewAt, out: &mut PartAt) -> u8
     ensures at { (src.new.at ≡ src.old.at) × (out.new.at ≡ out.old.at) }
     ensures made { result ≡ 0 → (src.new.value ≡ default_view) × MatchOption out.new.value ⊥ (IsPartOf src.old.value) }
-    ensures refused { (result == 0) ≡ false → (src.new.value ≡ src.old.value) × (out.new.value ≡ out.old.value) }
+    ensures unchanged { (result == 0) ≡ false → (src.new.value ≡ src.old.value) × (out.new.value ≡ out.old.value) }
     ensures memory { IsDoneUnless result Status.Memory }
     ensures nothing { length src.old.value.bytes ≡ 0 → result ≡ 0 }
 {

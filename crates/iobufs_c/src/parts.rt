@@ -104,7 +104,7 @@ pub extern "C" fn iobufsmut_from_mut(part: &mut PartAt, out: &mut PartsAt)
 fn take_row(alloc: Global, places: &mut [PartAt]) -> Result<Vec<IoBufMut>, AllocError>
     ensures ok { IfOk result (λ row. row.items ≡ held_parts (map (λ place. place.value) places.old)) }
     ensures taken { OnOk result (map (λ place. place.value) places.new ≡ replicate (length places.old) None) }
-    ensures err { OnErr result (places.new ≡ places.old) }
+    ensures unchanged { OnErr result (places.new ≡ places.old) }
     ensures at { map (λ place. place.at) places.new ≡ map (λ place. place.at) places.old }
 {
     let mut row = Vec::with_capacity(alloc, places.len())?;
@@ -127,7 +127,7 @@ pub extern "C" fn iobufsmut_from_parts(
     ensures at { (map (λ place. place.at) places.new ≡ map (λ place. place.at) places.old) × (out.new.at ≡ out.old.at) }
     ensures value { out.new.value ≡ (if result == 0 then Some (kept_parts (held_parts (map (λ place. place.value) places.old))) else out.old.value) }
     ensures taken { result ≡ 0 → map (λ place. place.value) places.new ≡ replicate (length places.old) None }
-    ensures refused { (result == 0) ≡ false → (places.new ≡ places.old) ⊎ (map (λ place. place.value) places.new ≡ replicate (length places.old) None) }
+    ensures unchanged { (result == 0) ≡ false → (places.new ≡ places.old) ⊎ (map (λ place. place.value) places.new ≡ replicate (length places.old) None) }
     ensures too_long { 2 ^ 64 ≤ parts_capacity (held_parts (map (λ place. place.value) places.old))
         → (result ≡ code_of Status.Memory) ⊎ (result ≡ code_of Status.TooLong) }
     ensures fits { parts_capacity (held_parts (map (λ place. place.value) places.old)) < 2 ^ 64 → IsDoneUnless result Status.Memory }

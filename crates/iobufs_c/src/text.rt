@@ -400,7 +400,7 @@ pub extern "C" fn iobufs_coalesce(alloc: Global, text: &mut TextAt, out: &mut Vi
     ensures at { (text.new.at ≡ text.old.at) × (out.new.at ≡ out.old.at) }
     ensures text { text.new.value ≡ default_text }
     ensures out { result ≡ 0 → of_view out.new.value ≡ text_coalesced text.old.value }
-    ensures refused { (result == 0) ≡ false → out.new.value ≡ out.old.value }
+    ensures unchanged { (result == 0) ≡ false → out.new.value ≡ out.old.value }
     ensures single { is_single text.old.value ≡ true → result ≡ 0 }
     ensures bad_layout { is_single text.old.value ≡ false → 2 ^ 63 ≤ text_len text.old.value → result ≡ code_of Status.BadLayout }
     ensures memory { text_len text.old.value < 2 ^ 63 → IsDoneUnless result Status.Memory }

@@ -30,6 +30,7 @@ pow_more i = ap (λ k. 128 ^ k) (add-one i) ∙ pow-suc 128 i
 regroup : (value place low rest : ℕ) → value + place * (low + 128 * rest) ≡ value + place * low + place * 128 * rest
 regroup value place low rest = omega arith
 
+-- where a byte with the top bit set is read behind others, its low seven bits count above theirs, and one byte more is read
 pub more_so_far : (text : List ℕ) (i value place b : ℕ) → IsSoFar text i value place → slice_get text i ≡ Some b → 128 ≤ b → b < 256
     → IsSoFar text (i + 1) (value + place * (b - 128)) (place * 128)
 more_so_far text i value place b so e low top =
@@ -73,6 +74,7 @@ pub record IsSmall (value place b : ℕ) : Type 0 where
   pub product : place * b < 2 ^ 63
   pub sum : value + place * b < 2 ^ 63
 
+-- where at most eight bytes are read and the next one has seven bits at most, all numbers are small: the place is at most 2^56, product and sum are below 2^63
 pub small : (text : List ℕ) (i value place b : ℕ) → IsSoFar text i value place → i ≤ 8 → b ≤ 127 → IsSmall value place b
 small text i value place b so h low =
     let few = place_below i place h so.place_is in

@@ -1,6 +1,9 @@
 -- How lengths, numbers and views are written and read.
 --     bytes_written, view_written    bytes behind their spelled length, as a reader will see them
 --     bytes_items, view_items        the same with the bytes handed over as a view, and just their length copied
+--     flag                           the byte of a truth: 1 or 0
+--     option_written,                a value that is there behind the byte 1, and the byte 0 where none is; the same in
+--     option_items                   items
 --     IsLengthRead, IsNoLength       what reading a length answers, and why none is read: the text ends inside it, or
 --                                    it isn't one
 --     IsNumberRead, IsInFront        what reading a number of so many bytes answers, and that it stands in front
@@ -10,7 +13,7 @@
 --     IsTaken                        a value was made of the bytes behind a length, and one copy took both from the
 --                                    reader
 --     view_left                      the text once a view and its length are read
-use Rattle.std.specs.Prelude.{◌≡◌, ◌⊎◌, ℕ, ◌+◌, ◌^◌, ◌<◌, ◌≤◌, true, false, Result, Ok, Err, List, [], ◌∷◌, ◌++◌, length, take, drop}
+use Rattle.std.specs.Prelude.{◌≡◌, ◌⊎◌, ℕ, ◌+◌, ◌^◌, ◌<◌, ◌≤◌, Bool, true, false, if◌then◌else◌, Option, Some, None, Result, Ok, Err, List, [], ◌∷◌, ◌++◌, length, take, drop}
 use Rattle.iobufs_core.specs.Ranges.{in_range}
 use Rattle.iobufs_core.specs.Spelling.{spell, IsSpelledAt, HasNoLength, IsOpen}
 use Rattle.iobufs_core.specs.View.{View, view_of_bytes}
@@ -32,6 +35,19 @@ view_items view = put_item (spell (length view.bytes)) ∷ push_item view ∷ []
 
 abbrev pub bytes_items : List ℕ → List Item
 bytes_items bytes = put_item (spell (length bytes)) ∷ push_item (view_of_bytes bytes) ∷ []
+
+-- a truth is one byte
+abbrev pub flag : Bool → ℕ
+flag truth = if truth then 1 else 0
+
+-- a byte tells whether a value stands behind it
+abbrev pub option_written : {Value : Type 0} → (Value → List ℕ) → Option Value → List ℕ
+option_written written None = 0 ∷ []
+option_written written (Some value) = 1 ∷ written value
+
+abbrev pub option_items : {Value : Type 0} → (Value → List Item) → Option Value → List Item
+option_items items None = put_item (0 ∷ []) ∷ []
+option_items items (Some value) = put_item (1 ∷ []) ∷ items value
 
 -- why no length is spelled in front: the end of the buffer if a spelling may go on behind it, else it is invalid
 abbrev pub IsNoLength : List ℕ → Error → Type 0

@@ -1,12 +1,11 @@
 -- The frames of a text: there is one list of them, and it grows with the text at its end alone.
-use Rattle.std.proofs.Common.{◌≡◌, ◌⊎◌, inl, inr, ℕ, ◌+◌, ◌-◌, ◌^◌, ◌<◌, ◌≤◌, true, Option, None, Some, Result, Ok, Err, IfOk, IfSome, OnOk, List, [], ◌∷◌, ◌++◌, length, take, drop, zero, suc, ap, sym, subst, ◌∙◌, refl, arith, append_assoc, length-append, length-drop, length-take, take-append-drop}
+use Rattle.std.proofs.Common.{◌≡◌, ◌⊎◌, inl, inr, ℕ, ◌+◌, ◌^◌, ◌<◌, true, Option, None, Some, Result, Ok, Err, IfOk, IfSome, OnOk, List, [], ◌∷◌, ◌++◌, length, take, drop, zero, suc, ap, sym, subst, ◌∙◌, refl, arith, append_assoc, length-append, length-drop, length-take, take-append-drop}
 use Rattle.std.proofs.lemmas.List.{append-nil, map-append}
 use Rattle.iobufs_core.specs.CallerFacts.{one_front, read_and_left, read_in_range, view_there}
 use Rattle.iobufs_core.specs.Ranges.{in_range}
-use Rattle.iobufs_core.specs.ReadLaws.{IsOutside, not_both, one_outside}
 use Rattle.iobufs_core.specs.LengthFacts.{less, some_answer}
-use Rattle.iobufs_core.specs.Spelled.{none_high, spelled, spelled_as_one, spelled_before}
-use Rattle.iobufs_core.specs.Spelling.{spell, IsSpelledAt, IsSpelling, HasNoLength, IsOpen}
+use Rattle.iobufs_core.specs.Spelled.{none_high, spelled}
+use Rattle.iobufs_core.specs.Spelling.{spell, IsSpelling}
 use Rattle.iobufs_core.specs.View.{View}
 use Rattle.iobufs_core.specs.MarkedText.{MarkedText, taken_view, text_append, text_rest}
 use Rattle.iobufs_core.specs.Wire.{HasView, IsLengthRead, IsViewRead, bytes_written, view_written}
@@ -14,93 +13,14 @@ use Rattle.iobufs_core.specs.declared.codec.base.Error.{Error}
 use Rattle.iobufs_core.specs.declared.codec.base.Error.TheVariants.{EndOfBuffer, InvalidVarint, InvalidLength, Memory, BadLayout, TooLong}
 use Rattle.iobufs_core.specs.declared.codec.base.RangeCfg.{RangeCfg}
 use Rattle.iobufs.specs.Laws.Joined.{bytes-append}
-use Rattle.iobufs_frames.specs.FrameFacts.{stays_bad}
-use Rattle.iobufs_frames.specs.Frames.{frames_written, AreAdmitted, AreAlike, AreMoved, BeginsWithBytes, HasBytes, HasFrames, HasNoFrame, IsAdmitted, IsFramed, IsNext, IsFirst, FirstTaken, bodies, found_of}
+use Rattle.iobufs_frames.specs.FrameFacts.{first_is, none_in_front, one_end, stands, stays_bad}
+use Rattle.iobufs_frames.specs.Frames.{frames_written, AreAdmitted, AreAlike, AreMoved, BeginsWithBytes, HasBytes, HasFrames, HasNoFrame, IsAdmitted, IsFramed, IsNext, IsFirst, bodies, found_of}
 use Rattle.iobufs_frames.specs.declared.End.{End}
 use Rattle.iobufs_frames.specs.declared.End.TheVariants.{Open, Bad}
 
--- ---- why no frame stands in front
-
--- no length is spelled in front, nor may one have begun
-record IsUnspelled (bytes : List ℕ) (error : Error) : Type 0 where
-  told : error ≡ InvalidVarint
-  never : HasNoLength bytes
-  closed : IsOpen bytes → ⊥
-
--- the front is bad
-IsBad : RangeCfg → List ℕ → Error → Type 0
-IsBad range bytes error = IsUnspelled bytes error ⊎ IsOutside bytes range error
-
-bad : (range : RangeCfg) (bytes : List ℕ) (error : Error) → HasNoFrame range bytes (Bad error) → IsBad range bytes error
-unfolding IsBad
-bad range bytes EndOfBuffer h = absurd h
-bad range bytes InvalidVarint h = inl (record { told = refl; never = h.0; closed = h.1 })
-bad range bytes (InvalidLength n) h = inr (record { n = n; told = refl; at = h.0; outside = h.1 })
-bad range bytes Memory h = absurd h
-bad range bytes BadLayout h = absurd h
-bad range bytes TooLong h = absurd h
-
--- open and bad are two
-open_or_bad : (range : RangeCfg) (bytes : List ℕ) (error : Error) → HasNoFrame range bytes Open → HasNoFrame range bytes (Bad error) → ⊥
-unfolding IsBad
-open_or_bad range bytes error p q =
-    elim (bad range bytes error q) [
-      | inl none ↦ elim p [ inl opened ↦ none.closed opened.1 | inr (n, (at, inside), few) ↦ none.never n at ]
-      | inr out ↦ elim p [
-        | inl opened ↦ opened.0 out.n out.at
-        | inr (n, (at, inside), few) ↦ not_both bytes range n error at inside out
-      ]
-    ]
-
-one_bad : (range : RangeCfg) (bytes : List ℕ) (a b : Error) → HasNoFrame range bytes (Bad a) → HasNoFrame range bytes (Bad b) → a ≡ b
-unfolding IsBad
-one_bad range bytes a b p q =
-    elim (bad range bytes a p) [
-      | inl none ↦ elim (bad range bytes b q) [ inl nor ↦ none.told ∙ sym nor.told | inr out ↦ absurd (none.never out.n out.at) ]
-      | inr out ↦ elim (bad range bytes b q) [
-        | inl none ↦ absurd (none.never out.n out.at)
-        | inr too ↦ one_outside bytes range a b out too
-      ]
-    ]
-
-one_end : (range : RangeCfg) (bytes : List ℕ) (a b : End) → HasNoFrame range bytes a → HasNoFrame range bytes b → a ≡ b
-one_end range bytes Open Open p q = refl
-one_end range bytes Open (Bad b) p q = absurd (open_or_bad range bytes b p q)
-one_end range bytes (Bad a) Open p q = absurd (open_or_bad range bytes a q p)
-one_end range bytes (Bad a) (Bad b) p q = ap Bad (one_bad range bytes a b p q)
-
--- ---- a frame in front
-
--- its length is spelled there, and there are its bytes
-spelled_in_front : (body more : List ℕ) → length body < 2 ^ 64 → IsSpelledAt (bytes_written body ++ more) (length body)
-spelled_in_front body more small =
-    subst (λ (xs : List ℕ). IsSpelledAt xs (length body)) (sym (append_assoc (spell (length body)) body more))
-    (spelled_before (length body) (body ++ more) small)
-
-length-in_front : (body more : List ℕ) → length (spell (length body)) + length body ≤ length (bytes_written body ++ more)
-length-in_front body more = omega (arith, length-append (bytes_written body) more, length-append (spell (length body)) body)
-
--- it is there
-stands : (range : RangeCfg) (body more : List ℕ) (end : End) → IsAdmitted range body → HasNoFrame range (bytes_written body ++ more) end → ⊥
-unfolding IsBad
-stands range body more Open admitted h =
-    let spelled = spelled_in_front body more admitted.small in
-    elim h [
-      | inl opened ↦ opened.0 (length body) spelled
-      | inr (n, (at, inside), few) ↦
-          let same : n ≡ length body = spelled_as_one (bytes_written body ++ more) n (length body) at spelled in
-          let sum : length (spell n) + n ≡ length (spell (length body)) + length body = ap (λ k. length (spell k) + k) same in
-          absurd (omega (arith, few, sum, length-in_front body more))
-    ]
-stands range body more (Bad error) admitted h =
-    let spelled = spelled_in_front body more admitted.small in
-    elim (bad range (bytes_written body ++ more) error h) [
-      | inl none ↦ none.never (length body) spelled
-      | inr out ↦ not_both (bytes_written body ++ more) range (length body) error spelled admitted.inside out
-    ]
-
 -- ---- one list of frames
 
+-- two lists of admitted frames, each with an end and a rest in front of which no frame stands, are the same where they are of one text
 pub framed_once : (range : RangeCfg) (text : List ℕ) (fs gs : List (List ℕ)) (a b : End) (x y : List ℕ)
     → text ≡ frames_written fs ++ x → AreAdmitted range fs → HasNoFrame range x a
     → text ≡ frames_written gs ++ y → AreAdmitted range gs → HasNoFrame range y b
@@ -194,6 +114,7 @@ framed_within range (suc fuel) text enough =
           }
     ]
 
+-- each text has frames, an end and a rest
 pub framed : (range : RangeCfg) (text : List ℕ) → HasFrames range text
 framed range text = framed_within range (suc (length text)) text (omega arith)
 
@@ -223,6 +144,7 @@ next_by_reading range t new (Err Memory) (n, there, some) left = wanted range t 
 next_by_reading range t new (Err BadLayout) h left = h
 next_by_reading range t new (Err TooLong) h left = h
 
+-- a view that is read off a text is its next frame, and leaves what is behind it; where reading ends with the text there is none
 pub next_is : (range : RangeCfg) (t new : MarkedText) (read : Result View Error) (result : Result (Option View) Error) → result ≡ found_of read
     → IsViewRead t range read
     → IfOk read (λ view. new ≡ text_rest t (length (view_written view))) → IsNext range t.bytes result new.bytes
@@ -244,37 +166,13 @@ taken_rest old new (Err Memory) result e h = subst (HasRest old new) (sym e) tt
 taken_rest old new (Err BadLayout) result e h = subst (HasRest old new) (sym e) tt
 taken_rest old new (Err TooLong) result e h = subst (HasRest old new) (sym e) tt
 
--- a text without a frame in front has none
-none_in_front : (range : RangeCfg) (old : List ℕ) (end now : End) (frames : List (List ℕ)) (rest : List ℕ) → HasNoFrame range old now
-    → IsFramed range old frames end rest → (frames ≡ []) × (end ≡ now)
-none_in_front range old end now [] rest h is =
-    (refl, one_end range rest end now is.ends (subst (λ (xs : List ℕ). HasNoFrame range xs now) is.whole h))
-none_in_front range old end now (f ∷ fs) rest h is =
-    let front : old ≡ bytes_written f ++ (frames_written fs ++ rest) = is.whole ∙ append_assoc (bytes_written f) (frames_written fs) rest in
-    let (admitted, others) = is.admitted in
-    absurd (stands range f (frames_written fs ++ rest) now admitted (subst (λ (xs : List ℕ). HasNoFrame range xs now) front h))
-
--- a frame in front is the first
-first_is : (range : RangeCfg) (old new body : List ℕ) (end : End) (frames : List (List ℕ)) (rest : List ℕ)
-    → IsAdmitted range body → old ≡ bytes_written body ++ new
-    → IsFramed range old frames end rest → FirstTaken range frames end rest body new
-first_is range old new body end [] rest admitted e is =
-    absurd (stands range body new end admitted (subst (λ (xs : List ℕ). HasNoFrame range xs end) (sym is.whole ∙ e) is.ends))
-first_is range old new body end (f ∷ fs) rest admitted e is =
-    let (first, others) = is.admitted in
-    let whole : old ≡ bytes_written f ++ (frames_written fs ++ rest) = is.whole ∙ append_assoc (bytes_written f) (frames_written fs) rest in
-    let (same, behind) = one_front body f new (frames_written fs ++ rest) admitted.small first.small (sym e ∙ whole) in record {
-      others = fs;
-      first = ap (λ first. first ∷ fs) (sym same);
-      behind = record { whole = behind; admitted = others; ends = is.ends };
-    }
-
 first_wanted : (range : RangeCfg) (old : List ℕ) (end : End) (frames : List (List ℕ)) (rest : List ℕ) → HasBytes range old
     → IsFramed range old frames end rest → BeginsWithBytes frames
 first_wanted range old end frames rest has is =
     let taken = first_is range old has.more has.body end frames rest has.admitted has.whole is in
     record { body = has.body; others = taken.others; first = taken.first; some = has.some }
 
+-- the next frame of a text is the first of its frames and leaves the others; where there is none, the answer is by the end
 pub first_of_next : (range : RangeCfg) (old new : List ℕ) (result : Result (Option View) Error) → IsNext range old result new
     → (frames : List (List ℕ)) (end : End) (rest : List ℕ) → IsFramed range old frames end rest → IsFirst range frames end rest result new
 first_of_next range old new (Ok (Some view)) h frames end rest is = first_is range old new view.bytes end frames rest h.0 h.1 is
@@ -288,6 +186,7 @@ first_of_next range old new (Err TooLong) h frames end rest is = none_in_front r
 
 -- ---- bytes put behind
 
+-- where a piece was appended to a text, its bytes stand behind those of the text
 pub fed : {Nothing Refusal : Type 0} (old new : MarkedText) (piece : View) (result : Result Nothing Refusal)
     → OnOk result (new ≡ text_append old piece) → OnOk result (new.bytes ≡ old.bytes ++ piece.bytes)
 fed old new piece (Ok done) is = ap (λ (t : MarkedText). t.bytes) is ∙ bytes-append old piece
@@ -319,6 +218,7 @@ moved_body range old new body views more (admitted, whole) e =
       shorter body.bytes old new admitted.small whole,
     )
 
+-- a frame that is taken from the front of a text stands behind those that went before it, and the text is shorter
 pub moved_one : (range : RangeCfg) (old new : List ℕ) (body : View) (found : Option View) (views more : List View) → found ≡ Some body
     → IsNext range old (Ok found) new → more ≡ views ++ body ∷ []
     → AreMoved range (bodies views) old (bodies more) new × (length new < length old)

@@ -80,7 +80,7 @@ impl Frames {
     pub fn feed(&mut self, alloc: Global, piece: IoBuf) -> Result<(), Refused<IoBuf>>
         ensures done { OnOk result (self.new ≡ text_append self.old piece) }
         ensures bytes { OnOk result (self.new.bytes ≡ self.old.bytes ++ piece.bytes) }
-        ensures refused { OnErr result (self.new ≡ self.old) }
+        ensures unchanged { OnErr result (self.new ≡ self.old) }
         ensures handed_back { IfErr result (λ refused. refused.value ≡ piece) }
         ensures too_long { 2 ^ 64 ≤ length self.old.bytes + length piece.bytes → IsErrAnd result (λ refused. refused.cause ≡ BufError.TooLong) }
         ensures memory { length self.old.bytes + length piece.bytes < 2 ^ 64 → IfErr result (λ refused. refused.cause ≡ BufError.Memory) }
@@ -97,7 +97,7 @@ impl Frames {
         ensures next { IsNext range.now self.old.bytes result self.new.bytes }
         ensures left { IfOk result (λ found. IfSome found (λ body. self.new ≡ text_rest self.old (length (view_written body)))) }
         ensures same { IfOk result (λ found. IfNone found (self.new ≡ self.old)) }
-        ensures refused { OnErr result (self.new ≡ self.old) }
+        ensures unchanged { OnErr result (self.new ≡ self.old) }
         ensures first { (frames : List (List ℕ)) (end : End) (rest : List ℕ) → IsFramed range.now self.old.bytes frames end rest
             → IsFirst range.now frames end rest result self.new.bytes }
     {
@@ -179,7 +179,7 @@ impl Frames {
     pub fn run(alloc: Global, pieces: Vec<IoBuf>, range: &RangeCfg) -> Result<Run, BufError>
         ensures framed { IfOk result (λ run. IsFramed range.now (joined_bytes pieces.items) (bodies run.frames.items) run.stop run.rest.bytes) }
         ensures memory { length (joined_bytes pieces.items) < 2 ^ 64 → IsOkUnless result BufError.Memory }
-        ensures none { length pieces.items ≡ 0 → IsOk result }
+        ensures nothing { length pieces.items ≡ 0 → IsOk result }
         ensures causes { IfErr result (λ cause. (cause ≡ BufError.Memory) ⊎ (cause ≡ BufError.TooLong)) }
     {
         let mut frames = Frames::default();

@@ -1,4 +1,4 @@
--- Bytes as digits.
+-- Items of eight bits are bytes, and the hexadecimal digits of bytes are text.
 use Rattle.std.proofs.Common.{◌≡◌, ℕ, zero, suc, nat_lt, Bool, true, ◌&&◌, List, [], ◌∷◌, Fits, w8, sym, subst, refl, arith, slice_index_or}
 use Rattle.std.proofs.lemmas.Str.{IsUtf8-from_ascii}
 use Rattle.std.proofs.lemmas.Bool.{and_parts, ltb-true}
@@ -7,6 +7,7 @@ use Rattle.hex.specs.Hex.{encode_lower, lower_digits}
 use Rattle.hex.proofs.HexLemmas.{IsAscii-encode_with}
 use Rattle.iobufs_words.specs.Spelled.{AreBytes}
 
+-- a list whose items fit eight bits is one of bytes
 pub bytes-are : (bytes : List ℕ) → ((i : ℕ) → Fits w8 (slice_index_or bytes i 0)) → AreBytes bytes
 bytes-are bytes fits i = let b = fits i in omega (arith, b)
 

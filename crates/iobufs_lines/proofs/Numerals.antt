@@ -51,6 +51,7 @@ read_parts end word n e = record {
   low = grind (arith, nat_tests, e);
 }
 
+-- a word that is read as a number below a bound of at most 2^64 spells it, and it is below that
 pub number_is : (end : ℕ) (word : List ℕ) (n : ℕ) → end ≤ 2 ^ 64 → number_below end word ≡ Some n → (n < end) × IsNumber n word
 number_is end word n most e =
     let r = read_parts end word n e in
@@ -64,6 +65,7 @@ zeros_value : (k : ℕ) (ds : List ℕ) → digits_value 10 (replicate k 48 ++ d
 zeros_value zero ds = refl
 zeros_value (suc k) ds = zeros_value k ds
 
+-- a word that spells a number below a bound and below 2^64 is read as it
 pub number_back : (end : ℕ) (word : List ℕ) (n : ℕ) → n < end → n < 2 ^ 64 → IsNumber n word → number_below end word ≡ Some n
 number_back end word n low small (zeros, is) =
     let k = decimal_is_IsNumeral n small in
@@ -122,6 +124,7 @@ pairs_back i (x ∷ y ∷ s) (b ∷ bytes) small e =
     let whole : b / 16 * 16 + b % 16 ≡ b = omega arith in
     rw (first, second, behind, whole) refl
 
+-- a word that compares equal to a text is that text
 pub same_word : (word text : List ℕ) → bytes_eq word text ≡ true → word ≡ text
 same_word [] [] e = refl
 same_word (c ∷ cs) (d ∷ ds) e =
@@ -153,6 +156,7 @@ bytes_by word bytes false false is len e =
     let some : 0 < length bytes = grind (arith, nat_tests, len, twice) in
     (small, pairs_lower 0 word bytes (sym (decode_of-even word even) ∙ read) ∙ digits_text bytes some)
 
+-- a word that is read as bytes spells them, and they are bytes
 pub bytes_are : (word bytes : List ℕ) → bytes_of word ≡ Some bytes → AreBytes bytes × AreDigits bytes word
 bytes_are word bytes e = bytes_by word bytes (bytes_eq word (codes "-")) (eqb (length word) 0) refl refl e
 
@@ -174,6 +178,7 @@ and_false : (b : Bool) → (b && false) ≡ false
 and_false true = refl
 and_false false = refl
 
+-- a word that spells bytes is read as them
 pub bytes_back : (word bytes : List ℕ) → AreBytes bytes → AreDigits bytes word → bytes_of word ≡ Some bytes
 bytes_back [] [] small e = absurd (let len = ap (λ (l : List ℕ). length l) e in omega (arith, len))
 bytes_back (c ∷ []) [] small e = rw (dash_back c (ap (λ (l : List ℕ). slice_index l 0) e)) refl

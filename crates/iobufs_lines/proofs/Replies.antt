@@ -1,11 +1,11 @@
 -- Replies with one line say the same.
-use Rattle.std.proofs.Common.{◌≡◌, ℕ, zero, suc, ◌+◌, ◌/◌, ◌%◌, ◌^◌, ◌<◌, ◌==◌, Bool, true, false, ◌&&◌, not, if◌then◌else◌, List, [], ◌∷◌, ◌++◌, length, get_or, drop, map, flat_map, eqb, Option, Some, None, unwrap_or, codes, refl, sym, ap, ◌∙◌, arith, append_assoc, append-nil}
+use Rattle.std.proofs.Common.{◌≡◌, ℕ, ◌/◌, ◌%◌, ◌^◌, ◌<◌, Bool, true, false, ◌&&◌, not, if◌then◌else◌, List, [], ◌∷◌, ◌++◌, length, get_or, drop, map, flat_map, eqb, Option, Some, unwrap_or, refl, sym, ap, ◌∙◌, arith, append_assoc, append-nil}
 use Rattle.std.proofs.lemmas.Bool.Decides.{nat_tests}
 use Rattle.std.specs.Fmt.{decimal, digit_glyph}
 use Rattle.iobufs_core.specs.declared.codec.base.Error.{Error}
 use Rattle.iobufs_core.specs.declared.codec.base.Error.TheVariants as fault
 use Rattle.iobufs_run.specs.Choices.{SameReply}
-use Rattle.iobufs_run.specs.Printed.{fault_text, refusal_text}
+use Rattle.iobufs_run.specs.Printed.{refusal_text}
 use Rattle.iobufs_run.specs.Slots.{shown_piece}
 use Rattle.iobufs_run.specs.declared.command.Kind.{Kind}
 use Rattle.iobufs_run.specs.declared.command.Kind.TheVariants as kind
@@ -17,7 +17,7 @@ use Rattle.iobufs_run.specs.declared.command.Reply.TheVariants.{Done, Bytes, Sho
 use Rattle.iobufs_words.specs.Spelled.{AreBytes, hex_text, two_digits}
 use Rattle.iobufs_words.specs.Words.{bytes_of, number_of, words_of}
 use Rattle.iobufs_words.specs.WordLaws.{spaceless, spaceless_bytes, spaceless_decimal, spaceless_seam, number_spelled, bytes_spelled, last_word, next_word}
-use Rattle.iobufs_lines.specs.Printed.{kind_text, piece_text, reply_text, line_of, PieceFits, PiecesFit, RefusalFits, ReplyFits, OneReplyALine}
+use Rattle.iobufs_lines.specs.Printed.{kind_text, piece_text, reply_text, PieceFits, PiecesFit, RefusalFits, ReplyFits, OneReplyALine}
 
 -- ---- bytes and numbers
 
@@ -225,6 +225,7 @@ last_gone [] = refl
 last_gone (x ∷ []) = refl
 last_gone (x ∷ y ∷ xs) = ap (λ (ys : List ℕ). x ∷ ys) (last_gone (y ∷ xs))
 
+-- replies that fit and have one line say the same
 pub one_reply_a_line : OneReplyALine
 one_reply_a_line a b f g e =
     let text : reply_text a ≡ reply_text b = sym (last_gone (reply_text a)) ∙ ap without_last e ∙ last_gone (reply_text b) in

@@ -666,6 +666,7 @@ stands_first : (command : Command) → Fits command → StandsAt (first_of comma
 stands_first (Static dst text) fits = fits.2
 stands_first command fits = tt
 
+-- a command's own line says it, where it fits
 pub line_says : (command : Command) → Fits command → command_of (line_of_command command) ≡ Some command
 line_says command fits =
     let words = words_from (first_of command) command in
@@ -680,5 +681,6 @@ some_same a b e = ap (got a) e
     got d None = d
     got d (Some c) = c
 
+-- commands that fit and have one line of their own are the same
 pub different_lines : (a b : Command) → Fits a → Fits b → line_of_command a ≡ line_of_command b → a ≡ b
 different_lines a b f g e = some_same a b (sym (line_says a f) ∙ (ap command_of e ∙ line_says b g))

@@ -1,69 +1,53 @@
 // Replies as lines of text.
-ghost use Rattle.std.specs.Prelude.{◌≡◌, ◌≤◌, flat_map, length};
-ghost use Rattle.std.specs.Fmt.{WritesOnOk};
-ghost use Rattle.iobufs_lines.specs.Printed.{kind_text, OneReplyALine};
-ghost use Rattle.iobufs_words.specs.Spelled.{two_digits};
+ghost use Rattle.std.specs.Prelude.{◌≡◌, ◌≤◌, ◌++◌, flat_map, length, string_bytes, OnOk};
+ghost use Rattle.iobufs_lines.specs.Printed.{kind_text, line_of, piece_text, reply_text, OneReplyALine};
+ghost use Rattle.iobufs_words.specs.Spelled.{hex_text, two_digits};
 
 use iobufs_run::command::{Kind, Piece, Reply};
-use std::fmt::{self, Display};
+use std::alloc::AllocError;
+use std::fmt::Write;
 use std::str;
-
-/// A reply, as it is printed.
-#[derive(Clone, Copy)]
-pub struct Line<'a>(pub &'a Reply);
-
-// Bytes as hexadecimal digits, or a dash where there are none.
-#[derive(Clone, Copy)]
-struct Hex<'a>(&'a [u8]);
-
-// One piece of what is shown, behind a space.
-#[derive(Clone, Copy)]
-struct Shown<'a>(Kind, &'a Piece);
 
 // How many bytes are put into digits at once.
 const FEW: usize = 32;
 
-// Two digits for each byte.
-fn write_digits<W: fmt::Write>(bytes: &[u8], f: &mut fmt::Formatter<W>) -> fmt::Result
-    ensures { WritesOnOk W.write_str_gives f.old result (flat_map two_digits bytes.now) f.new }
+// Puts two digits for each byte behind a text.
+fn push_digits(bytes: &[u8], text: &mut String) -> Result<(), AllocError>
+    ensures { OnOk result (string_bytes text.new ≡ string_bytes text.old ++ flat_map two_digits bytes.now) }
 {
     let mut rest = bytes;
     while !rest.is_empty() {
         let (few, behind) = rest.split_at(rest.len().min(FEW));
-        write_few(few, f)?;
+        push_few(few, text)?;
         rest = behind;
     }
     Ok(())
 }
 
-// The same of few bytes, by one write.
-fn write_few<W: fmt::Write>(bytes: &[u8], f: &mut fmt::Formatter<W>) -> fmt::Result
+// The same of few bytes, at once.
+fn push_few(bytes: &[u8], text: &mut String) -> Result<(), AllocError>
     requires { length bytes.now ≤ 32 }
-    ensures { WritesOnOk W.write_str_gives f.old result (flat_map two_digits bytes.now) f.new }
+    ensures { OnOk result (string_bytes text.new ≡ string_bytes text.old ++ flat_map two_digits bytes.now) }
 {
     let mut room = [0; 2 * FEW];
     let digits = &mut room[..2 * bytes.len()];
     let Ok(()) = hex::encode_to_slice(bytes, digits) else {
         unreachable!()
     };
-    let Ok(text) = str::from_utf8(digits) else {
+    let Ok(digits) = str::from_utf8(digits) else {
         unreachable!()
     };
-    f.write_str(text)
+    text.push_str(digits)
 }
 
-impl fmt::Display for Hex<'_> {
-    ghost use Rattle.std.specs.Prelude.{Some};
-    ghost use Rattle.iobufs_words.specs.Spelled.{hex_text};
-
-    ghost output = { λ hex. Some (hex_text hex.0.now) };
-
-    fn fmt<W: fmt::Write>(&self, f: &mut fmt::Formatter<W>) -> fmt::Result {
-        if self.0.is_empty() {
-            return f.write_str("-");
-        }
-        write_digits(self.0, f)
+// Puts bytes behind a text as hexadecimal digits, or a dash where there are none.
+fn push_hex(bytes: &[u8], text: &mut String) -> Result<(), AllocError>
+    ensures { OnOk result (string_bytes text.new ≡ string_bytes text.old ++ hex_text bytes.now) }
+{
+    if bytes.is_empty() {
+        return text.push_str("-");
     }
+    push_digits(bytes, text)
 }
 
 // The first word of what is shown.
@@ -78,51 +62,52 @@ fn name(kind: Kind) -> &'static str
     }
 }
 
-impl fmt::Display for Shown<'_> {
-    ghost use Rattle.std.specs.Prelude.{Some};
-    ghost use Rattle.iobufs_lines.specs.Printed.{piece_text};
+// Puts one piece of what is shown behind a text and a space.
+fn push_piece(kind: Kind, piece: &Piece, text: &mut String) -> Result<(), AllocError>
+    ensures { OnOk result (string_bytes text.new ≡ string_bytes text.old ++ piece_text kind piece.now) }
+{
+    text.push_str(" ")?;
+    push_hex(piece.bytes.as_slice(), text)?;
+    match kind {
+        Kind::Part | Kind::Parts => write!(text, "+{}", piece.spare).map_err(|_| AllocError),
+        Kind::View | Kind::Text => Ok(()),
+    }
+}
 
-    ghost output = { λ shown. Some (piece_text shown.0 shown.1.now) };
+// Puts each piece there.
+fn push_pieces(kind: Kind, pieces: &[Piece], text: &mut String) -> Result<(), AllocError>
+    ensures { OnOk result (string_bytes text.new ≡ string_bytes text.old ++ flat_map (piece_text kind) pieces.now) }
+{
+    for piece in pieces {
+        push_piece(kind, piece, text)?;
+    }
+    Ok(())
+}
 
-    fn fmt<W: fmt::Write>(&self, f: &mut fmt::Formatter<W>) -> fmt::Result {
-        f.write_str(" ")?;
-        Hex(self.1.bytes.as_slice()).fmt(f)?;
-        match self.0 {
-            Kind::Part | Kind::Parts => {
-                f.write_str("+")?;
-                self.1.spare.fmt(f)
-            }
-            Kind::View | Kind::Text => Ok(()),
+// Puts a reply there.
+fn push_reply(reply: &Reply, text: &mut String) -> Result<(), AllocError>
+    ensures { OnOk result (string_bytes text.new ≡ string_bytes text.old ++ reply_text reply.now) }
+{
+    match reply {
+        Reply::Done => text.push_str("ok"),
+        Reply::Bytes(bytes) => {
+            text.push_str("bytes ")?;
+            push_hex(bytes.as_slice(), text)
+        }
+        Reply::Refused(refusal) => write!(text, "refused {refusal}").map_err(|_| AllocError),
+        Reply::Shown { kind, pieces } => {
+            text.push_str(name(*kind))?;
+            push_pieces(*kind, pieces, text)
         }
     }
 }
 
-impl fmt::Display for Line<'_> {
-    ghost use Rattle.std.specs.Prelude.{Some};
-    ghost use Rattle.iobufs_lines.specs.Printed.{reply_text};
-
-    ghost output = { λ line. Some (reply_text line.0.now) };
-
-    fn fmt<W: fmt::Write>(&self, f: &mut fmt::Formatter<W>) -> fmt::Result {
-        match self.0 {
-            Reply::Done => f.write_str("ok"),
-            Reply::Bytes(bytes) => {
-                f.write_str("bytes ")?;
-                Hex(bytes.as_slice()).fmt(f)
-            }
-            Reply::Refused(refusal) => {
-                f.write_str("refused ")?;
-                refusal.fmt(f)
-            }
-            Reply::Shown { kind, pieces } => {
-                f.write_str(name(*kind))?;
-                for piece in pieces {
-                    Shown(*kind, piece).fmt(f)?;
-                }
-                Ok(())
-            }
-        }
-    }
+/// Puts the line of a reply behind a text.
+pub fn push_line(reply: &Reply, text: &mut String) -> Result<(), AllocError>
+    ensures { OnOk result (string_bytes text.new ≡ string_bytes text.old ++ line_of reply.now) }
+{
+    push_reply(reply, text)?;
+    text.push_str("\n")
 }
 
 /// Does nothing. Its contract is a law: replies that are printed as the same line say the same.

@@ -2,7 +2,7 @@
 pub mod Counts
 pub mod Keeps
 pub mod Frames
-pub mod Kept
+pub mod StaysSound
 pub mod Edits
 pub mod Logs
 pub mod Holders
@@ -25,5 +25,5 @@ pub mod NewMachine
 pub mod Release
 pub mod Subtract
 pub mod Drop
-pub mod Promised
+pub mod Promises
 pub mod Finds

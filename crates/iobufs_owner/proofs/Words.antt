@@ -1,3 +1,4 @@
+-- Descriptor words as the code makes and reads them, by shifts and masks; and whether fields have room in one.
 use Rattle.std.proofs.Common.{Bool, true, false, ◌&&◌, nat_lt, Option, Some, None, SomeIff, ◌≡◌, ℕ, ◌+◌, ◌-◌, ◌*◌, ◌/◌, ◌%◌, ◌^◌, ◌<◌, ◌≤◌, ◌↔◌, sym, ◌∙◌, ap, refl, arith, bit_or, bit_and}
 use Rattle.std.proofs.lemmas.Bool.Decides.{nat_tests}
 use Rattle.std.proofs.lemmas.Nat.{pow-add, pow_pos, or_shifted, shr_high, mod_low, and_mask, shl_whole, one_shl, shr_split, mod_below, mul-add-lt, shr-shr}
@@ -27,6 +28,7 @@ pub word-parts : (a t size log tail : ℕ) → word_of a t size log tail ≡ ((s
 unfolding word_of
 word-parts a t size log tail = rw (pow-add 2 (1 + a) t, pow-add 2 1 a) (omega arith)
 
+-- fields that have room in a format of at most 64 bits, shifted to their places and joined by `or` with the lowest bit, are their word
 pub pack-is : (a t s size log tail : ℕ) → 1 + a + t + s ≤ 64 → HasRoom a t s size log tail
     → bit_or (size * 2 ^ (1 + a + t) % 2 ^ 64) (bit_or (tail * 2 ^ (1 + a) % 2 ^ 64) (bit_or (log * 2 % 2 ^ 64) 1)) ≡ word_of a t size log tail
 unfolding word_of
@@ -44,6 +46,7 @@ pack-is a t s size log tail fits room =
     let o3 = or_shifted size (1 + a + t) (tail * 2 ^ (1 + a) + (log * 2 + 1)) l2 in
     rw (e1, o1, e2, o2, e3, o3) (omega arith)
 
+-- a word shifted by one bit and masked by the bits of an alignment is the logarithm, where that has room
 pub unpack-log : (a t size log tail : ℕ) → log < 2 ^ a → bit_and (word_of a t size log tail / 2) (2 ^ a - 1) ≡ log
 unpack-log a t size log tail h =
     rw (word-parts a t size log tail, shr_high ((size * 2 ^ t + tail) * 2 ^ a + log) 1 1 (omega arith), and_mask) (mod_low (size * 2 ^ t + tail) a log h)
@@ -56,13 +59,16 @@ unpack-high a t size log tail h =
       shr_high ((size * 2 ^ t + tail) * 2 ^ a + log) 1 1 (omega arith),
     ) (shr_high (size * 2 ^ t + tail) a log h)
 
+-- a word shifted behind the logarithm and masked by the bits of a tail is the tail, where both have room
 pub unpack-tail : (a t size log tail : ℕ) → log < 2 ^ a → tail < 2 ^ t → bit_and (word_of a t size log tail / 2 ^ (1 + a)) (2 ^ t - 1) ≡ tail
 unpack-tail a t size log tail h k = rw (unpack-high a t size log tail h, and_mask) (mod_low size t tail k)
 
+-- a word shifted behind the tail is the size, where logarithm and tail have room
 pub unpack-size : (a t size log tail : ℕ) → log < 2 ^ a → tail < 2 ^ t → word_of a t size log tail / 2 ^ (1 + a + t) ≡ size
 unpack-size a t size log tail h k =
     rw (← shr-shr (word_of a t size log tail) (1 + a) t, unpack-high a t size log tail h) (shr_high size t tail k)
 
+-- an alignment 2 ^ log below 2^64 has log trailing zeros
 pub zeros-of : (align log : ℕ) → align < 2 ^ 64 → align ≡ 2 ^ log → trailing_zeros w64 align ≡ log
 zeros-of align log fits is = rw is (zeros_pow w64 log (rw is at fits))
 
@@ -74,12 +80,14 @@ log-small a t s word size log tail w room is =
     let same : log ≡ w.log = (sym one) ∙ ap (λ x. bit_and (x / 2) (2 ^ a - 1)) (sym is ∙ w.is) ∙ two in
     rw same w.small
 
+-- where an alignment 2 ^ log is below 2^64, log is below 64
 pub log-below : (align log : ℕ) → align < 2 ^ 64 → align ≡ 2 ^ log → log < 64
 log-below align log fits is =
     let z = bit_at-trailing_zeros w64 (2 ^ log) (pow_pos log) (rw is at fits) in
     let e = zeros_pow w64 log (rw is at fits) in
     rw e at z.0
 
+-- 1 shifted by the trailing zeros of a power of two below 2^64 is that power
 pub shifted-one : (align log : ℕ) → align < 2 ^ 64 → align ≡ 2 ^ log → 1 * 2 ^ trailing_zeros w64 align % 2 ^ 64 ≡ align
 shifted-one align log fits is =
     rw (zeros-of align log fits is, is) (one_shl log 64 (log-below align log fits is))
@@ -93,9 +101,11 @@ some-iff P Q (Some x) v s f g = (f s.0, s.1)
 pub word-size : (a t s word size log tail : ℕ) → HasRoom a t s size log tail → word ≡ word_of a t size log tail → size_in a t word ≡ size
 word-size a t s word size log tail room is = rw is (unpack-size a t size log tail room.log_fits room.tail_fits)
 
+-- the tail by division is the one of which the word was made, where its fields have room
 pub word-tail : (a t s word size log tail : ℕ) → HasRoom a t s size log tail → word ≡ word_of a t size log tail → tail_in a t word ≡ tail
 word-tail a t s word size log tail room is = rw (is, unpack-high a t size log tail room.log_fits) (mod_low size t tail room.tail_fits)
 
+-- the logarithm by division is the one of which the word was made, where its fields have room
 pub word-log : (a t s word size log tail : ℕ) → HasRoom a t s size log tail → word ≡ word_of a t size log tail → log_in a word ≡ log
 word-log a t s word size log tail room is = let e = unpack-log a t size log tail room.log_fits in rw (is, ← and_mask) e
 
@@ -106,6 +116,7 @@ retailed-is a t s word size log tail n room is = rw (word-size a t s word size l
 
 -- ---- whether the fields have room
 
+-- where the fields have room, the test of it passes
 pub fits-true : (a t s size log tail : ℕ) → HasRoom a t s size log tail → fits a t s size log tail ≡ true
 fits-true a t s size log tail r =
     let p : nat_lt 0 size ≡ true = (let z = r.some in grind (arith, nat_tests)) in
@@ -128,6 +139,7 @@ all-four true true false v e = absurd (cc)
 all-four true false u v e = absurd (cc)
 all-four false q u v e = absurd (cc)
 
+-- where the test passes, the fields have room
 pub fits-room : (a t s size log tail : ℕ) → fits a t s size log tail ≡ true → HasRoom a t s size log tail
 fits-room a t s size log tail e =
     let z = all-four (nat_lt 0 size) (nat_lt log (2 ^ a)) (nat_lt tail (2 ^ t)) (nat_lt size (2 ^ s)) e in
@@ -146,6 +158,7 @@ fits-false a t s size log tail n =
     ] in
     by (fits a t s size log tail) refl
 
+-- an answer that is true exactly where the fields have room is that of the test
 pub fits-iff : (a t s size log tail : ℕ) (v : Bool) → ((v ≡ true) ↔ HasRoom a t s size log tail) → v ≡ fits a t s size log tail
 fits-iff a t s size log tail true i = sym (fits-true a t s size log tail (i.0 refl))
 fits-iff a t s size log tail false i = sym (fits-false a t s size log tail (λ r. (let e = i.1 r in absurd (cc))))

@@ -7,7 +7,7 @@
 --     counted, with_count, tables_without      another count for a record, in the tables and in the state; a record
 --                                              that is dead
 --     block_freed, record_freed, both_freed    an entry in the log of freed blocks, of freed records, in both
---     detached, part                           a view that holds no block, and a view of a range of another one
+--     detached_handle, part                           a view that holds no block, and a view of a range of another one
 use Rattle.std.specs.Prelude.{ℕ, ◌+◌, ◌-◌, true, false, [], ◌∷◌, ◌++◌, length, Option, None, Some, slice_set}
 use Rattle.iobufs_owner.specs.declared.owner.types.Block.{Block}
 use Rattle.iobufs_owner.specs.declared.owner.types.Freed.{Freed}
@@ -106,8 +106,8 @@ both_freed s r = block_freed (record_freed s r) (triple (block_at s.tables (reco
 -- ---- handles
 
 -- a view without block
-abbrev pub detached : ℕ → Handle
-detached len = record { kind = View; ptr = 0; len = len; cap = 0; word = Empty }
+abbrev pub detached_handle : ℕ → Handle
+detached_handle len = record { kind = View; ptr = 0; len = len; cap = 0; word = Empty }
 
 -- a view of a part of a view
 abbrev pub part : Handle → (lo hi : ℕ) → Word → Handle

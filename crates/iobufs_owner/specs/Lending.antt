@@ -1,11 +1,11 @@
 -- Which handle a call may have, or the lowest cause against it.
 --     borrows_it, is_lent                     an unfinished clone or slice has the handle; one of the calls has
---     lend_of, any_of                         a handle that a call must have alone: of a kind, and of any
---     owning_of, owning_view_of               the same of one that holds a block, and of such a view
---     view_of                                 a view to be shared, which others may borrow meanwhile
+--     lend_of, lend_any_of                         a handle that a call must have alone: of a kind, and of any
+--     lend_owning_of, lend_owning_view_of               the same of one that holds a block, and of such a view
+--     lend_view_of                                 a view to be shared, which others may borrow meanwhile
 --     is_empty                                the word of a handle without block
---     lend_found, any_found, owning_found,    the same of what stands under the number
---     owning_view_found, view_found
+--     lend_found, lend_any_found, lend_owning_found,    the same of what stands under the number
+--     lend_owning_view_found, lend_view_found
 --     Lends                                   a handle that stands there, of that kind and borrowed by none
 use Rattle.std.specs.Prelude.{◌≡◌, ℕ, ◌==◌, Bool, true, false, List, Option, None, Some, Result, Ok, Err, if◌then◌else◌}
 use Rattle.std.specs.List.{list_any}
@@ -41,42 +41,42 @@ lend_found s h kind (Some x) = if same_kind x.kind kind then (if is_lent h s.cal
 abbrev pub lend_of : State → ℕ → Kind → Result Handle Refusal
 lend_of s h kind = lend_found s h kind (handle_at s h)
 
-abbrev pub any_found : State → ℕ → Option Handle → Result Handle Refusal
-any_found s h None = Err NoHandle
-any_found s h (Some x) = if is_lent h s.calls then Err Borrowed else Ok x
+abbrev pub lend_any_found : State → ℕ → Option Handle → Result Handle Refusal
+lend_any_found s h None = Err NoHandle
+lend_any_found s h (Some x) = if is_lent h s.calls then Err Borrowed else Ok x
 
 -- the same where either kind may be given
-abbrev pub any_of : State → ℕ → Result Handle Refusal
-any_of s h = any_found s h (handle_at s h)
+abbrev pub lend_any_of : State → ℕ → Result Handle Refusal
+lend_any_of s h = lend_any_found s h (handle_at s h)
 
 abbrev pub is_empty : Word → Bool
 is_empty Empty = true
 is_empty (Descriptor w) = false
 is_empty (Counted r) = false
 
-abbrev pub owning_found : State → ℕ → Option Handle → Result Handle Refusal
-owning_found s h None = Err NoHandle
-owning_found s h (Some x) = if is_empty x.word then Err WrongKind else (if is_lent h s.calls then Err Borrowed else Ok x)
+abbrev pub lend_owning_found : State → ℕ → Option Handle → Result Handle Refusal
+lend_owning_found s h None = Err NoHandle
+lend_owning_found s h (Some x) = if is_empty x.word then Err WrongKind else (if is_lent h s.calls then Err Borrowed else Ok x)
 
 -- the same for a handle that has a block
-abbrev pub owning_of : State → ℕ → Result Handle Refusal
-owning_of s h = owning_found s h (handle_at s h)
+abbrev pub lend_owning_of : State → ℕ → Result Handle Refusal
+lend_owning_of s h = lend_owning_found s h (handle_at s h)
 
-abbrev pub owning_view_found : State → ℕ → Option Handle → Result Handle Refusal
-owning_view_found s h None = Err NoHandle
-owning_view_found s h (Some x) = if same_kind x.kind View then owning_found s h (Some x) else Err WrongKind
+abbrev pub lend_owning_view_found : State → ℕ → Option Handle → Result Handle Refusal
+lend_owning_view_found s h None = Err NoHandle
+lend_owning_view_found s h (Some x) = if same_kind x.kind View then lend_owning_found s h (Some x) else Err WrongKind
 
 -- the same for a view that has a block
-abbrev pub owning_view_of : State → ℕ → Result Handle Refusal
-owning_view_of s h = owning_view_found s h (handle_at s h)
+abbrev pub lend_owning_view_of : State → ℕ → Result Handle Refusal
+lend_owning_view_of s h = lend_owning_view_found s h (handle_at s h)
 
-abbrev pub view_found : Option Handle → Result Handle Refusal
-view_found None = Err NoHandle
-view_found (Some x) = if same_kind x.kind View then Ok x else Err WrongKind
+abbrev pub lend_view_found : Option Handle → Result Handle Refusal
+lend_view_found None = Err NoHandle
+lend_view_found (Some x) = if same_kind x.kind View then Ok x else Err WrongKind
 
 -- the view, for a call that shares it
-abbrev pub view_of : State → ℕ → Result Handle Refusal
-view_of s h = view_found (handle_at s h)
+abbrev pub lend_view_of : State → ℕ → Result Handle Refusal
+lend_view_of s h = lend_view_found (handle_at s h)
 
 -- a handle that may be had alone
 pub record Lends (s : State) (h : ℕ) (kind : Kind) (x : Handle) : Type 0 where

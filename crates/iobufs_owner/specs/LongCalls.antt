@@ -26,8 +26,8 @@ use Rattle.iobufs_owner.specs.declared.owner.types.Refusal.{Refusal}
 use Rattle.iobufs_owner.specs.declared.owner.types.Refusal.TheVariants.{Idle, OutOfRange, Memory, Ceiling}
 use Rattle.iobufs_owner.specs.declared.owner.types.Reply.TheVariants.{Refused}
 use Rattle.iobufs_owner.specs.State.{State, handle_at, record_at, recovered, owned_by}
-use Rattle.iobufs_owner.specs.Changes.{Outcome, refused, done, edited, state_without, made, called, unfinished_call, with_record, next_record, with_count, block_freed, record_freed, both_freed, detached, part}
-use Rattle.iobufs_owner.specs.Lending.{any_of, view_of}
+use Rattle.iobufs_owner.specs.Changes.{Outcome, refused, done, edited, state_without, made, called, unfinished_call, with_record, next_record, with_count, block_freed, record_freed, both_freed, detached_handle, part}
+use Rattle.iobufs_owner.specs.Lending.{lend_any_of, lend_view_of}
 
 -- ---- their first step
 
@@ -42,17 +42,17 @@ clone_lent s p h (Err why) = refused s why
 clone_lent s p h (Ok x) = share_by s p (record { handle = h; lo = 0; hi = x.len }) x x.word
 
 abbrev pub clone_of : State → ℕ → ℕ → Outcome
-clone_of s p h = clone_lent s p h (view_of s h)
+clone_of s p h = clone_lent s p h (lend_view_of s h)
 
 abbrev pub slice_lent : State → ℕ → (h lo hi : ℕ) → Result Handle Refusal → Outcome
 slice_lent s p h lo hi (Err why) = refused s why
 slice_lent s p h lo hi (Ok x) =
     if nat_lt hi lo || nat_lt x.len hi then refused s OutOfRange
-    else (if nat_eq lo hi then made s (detached 0)
+    else (if nat_eq lo hi then made s (detached_handle 0)
     else share_by s p (record { handle = h; lo = lo; hi = hi }) x x.word)
 
 abbrev pub slice_of : State → ℕ → (h lo hi : ℕ) → Outcome
-slice_of s p h lo hi = slice_lent s p h lo hi (view_of s h)
+slice_of s p h lo hi = slice_lent s p h lo hi (lend_view_of s h)
 
 -- a view of a counted block loads the count: the only holder will free, another one subtracts
 abbrev pub after_count : (count r : ℕ) → Pending
@@ -72,7 +72,7 @@ drop_lent s p h (Err why) = refused s why
 drop_lent s p h (Ok x) = drop_by s p h x x.word
 
 abbrev pub drop_of : State → (p h : ℕ) → Outcome
-drop_of s p h = drop_lent s p h (any_of s h)
+drop_of s p h = drop_lent s p h (lend_any_of s h)
 
 -- ---- their further steps
 

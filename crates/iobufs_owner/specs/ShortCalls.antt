@@ -4,7 +4,7 @@
 --     described_of, recorded_of                     a new block under a descriptor, and under a record
 --     CanDescribe, fits_in, placed                  a block that a word can tell; whether the fields suffice; and the
 --                                                   new block under a word or else a record
---     IsNew, IsExternal, external_of                native storage, and adopted one; the same at a good place
+--     IsAllocated, IsExternal, external_of                native storage, and adopted one; the same at a good place
 --     static_of                                     a view of static bytes
 --     put_of, put_lent                              bytes put behind those of a writable handle
 --     advance_of, advance_lent, advanced            the first bytes given up
@@ -32,8 +32,8 @@ use Rattle.iobufs_owner.specs.Kinds.{is_mut}
 use Rattle.iobufs_owner.specs.Places.{IsGoodPlace}
 use Rattle.iobufs_owner.specs.State.{State, Tables, block_at, record_at, tail_in, retailed, recovered, owned_by}
 use Rattle.iobufs_owner.specs.Word.{HasRoom, fits, word_of}
-use Rattle.iobufs_owner.specs.Changes.{Outcome, refused, done, edited, made, with_block, with_record, next_record, with_count, block_freed, record_freed, both_freed, detached, part}
-use Rattle.iobufs_owner.specs.Lending.{lend_of, any_of, owning_of}
+use Rattle.iobufs_owner.specs.Changes.{Outcome, refused, done, edited, made, with_block, with_record, next_record, with_count, block_freed, record_freed, both_freed, detached_handle, part}
+use Rattle.iobufs_owner.specs.Lending.{lend_of, lend_any_of, lend_owning_of}
 
 -- ---- new blocks
 
@@ -76,8 +76,8 @@ placed s base size log =
     then described_of s b (word_of s.tables.align_bits s.tables.tail_bits size log 0)
     else recorded_of s b (first_handle b (Counted (next_record s)))
 
-abbrev pub IsNew : State → (base size align : ℕ) → Bool → Outcome → Type 0
-IsNew s base size align memory o =
+abbrev pub IsAllocated : State → (base size align : ℕ) → Bool → Outcome → Type 0
+IsAllocated s base size align memory o =
     ((IsGoodPlace s.tables.blocks base size align → ⊥) × (o ≡ refused s BadPlace))
     ⊎ (IsGoodPlace s.tables.blocks base size align
     × MatchBool memory ((log : ℕ) × (align ≡ 2 ^ log) × (o ≡ placed s base size log)) (o ≡ refused s Memory))
@@ -92,7 +92,7 @@ IsExternal s base size memory o =
     ⊎ (IsGoodPlace s.tables.blocks base size 1 × (o ≡ external_of s base size memory))
 
 abbrev pub static_of : State → ℕ → Outcome
-static_of s len = made s (detached len)
+static_of s len = made s (detached_handle len)
 
 -- ---- Put and Advance
 
@@ -113,13 +113,13 @@ advance_lent s h n (Err why) = refused s why
 advance_lent s h n (Ok x) = if nat_lt x.len n then refused s OutOfRange else done (edited s h (advanced x n))
 
 abbrev pub advance_of : State → ℕ → ℕ → Outcome
-advance_of s h n = advance_lent s h n (any_of s h)
+advance_of s h n = advance_lent s h n (lend_any_of s h)
 
 -- ---- Freeze
 
 -- something that holds nothing, in the place of a handle that lets its block go
 abbrev pub IsLoose : Option Handle → Type 0
-IsLoose o = (o ≡ None) ⊎ (o ≡ Some (detached 0))
+IsLoose o = (o ≡ None) ⊎ (o ≡ Some (detached_handle 0))
 
 -- what a handle owns alone is freed
 abbrev pub freed_with : State → Handle → Word → State
@@ -146,7 +146,7 @@ freeze_by s h memory x (Counted r) = done (edited s h (frozen x (Counted r)))
 abbrev pub freeze_lent : State → ℕ → Bool → Result Handle Refusal → Outcome
 freeze_lent s h memory (Err why) = refused s why
 freeze_lent s h memory (Ok x) =
-    if nat_eq x.len 0 then done (edited (freed_with s x x.word) h (detached 0)) else freeze_by s h memory x x.word
+    if nat_eq x.len 0 then done (edited (freed_with s x x.word) h (detached_handle 0)) else freeze_by s h memory x x.word
 
 abbrev pub freeze_of : State → ℕ → Bool → Outcome
 freeze_of s h memory = freeze_lent s h memory (lend_of s h Mut)
@@ -198,8 +198,8 @@ abbrev pub split_lent : State → ℕ → ℕ → Bool → Result Handle Refusal
 split_lent s h at memory (Err why) = refused s why
 split_lent s h at memory (Ok x) =
     if nat_lt x.len at then refused s OutOfRange
-    else (if nat_eq at 0 then made s (detached 0)
-    else (if nat_eq at x.len then made (edited s h (detached 0)) x
+    else (if nat_eq at 0 then made s (detached_handle 0)
+    else (if nat_eq at x.len then made (edited s h (detached_handle 0)) x
     else split_by s h at memory x x.word))
 
 abbrev pub split_of : State → ℕ → ℕ → Bool → Outcome
@@ -217,7 +217,7 @@ unique_lent s (Err why) = refused s why
 unique_lent s (Ok x) = record { reply = Unique (is_unique s.tables x x.word); state = s }
 
 abbrev pub unique_of : State → ℕ → Outcome
-unique_of s h = unique_lent s (owning_of s h)
+unique_of s h = unique_lent s (lend_owning_of s h)
 
 -- ---- Demote
 

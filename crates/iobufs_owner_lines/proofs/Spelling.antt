@@ -117,6 +117,7 @@ ask_says (Look (Handle n)) h = ap (option_map (λ n. Look (Handle n))) (number_s
 ask_says (Look (Record n)) h = ap (option_map (λ n. Look (Record n))) (number_spelled n h)
 ask_says (Look Freed) h = refl
 
+-- the line of a step or question that fits asks for it
 pub line_asks : (ask : Ask) → Fits ask → ask_of (line_of_ask ask) ≡ Some ask
 line_asks ask h = ap ask_in (words_joined (first_word_of ask) (other_words_of ask) (spaceless_ask ask h)) ∙ ask_says ask h
 
@@ -142,5 +143,6 @@ setup_says parties ceiling false h =
     (refl, (spaceless_decimal parties low, (spaceless_decimal ceiling h.low, (refl, tt)))))
     ∙ rw (number_spelled parties low) (rw (number_spelled ceiling h.low) (fits_by _ h))
 
+-- the line of a machine that fits asks for it
 pub line_asks_for : (setup : Setup) → FitsSetup setup → setup_of (line_of_setup setup) ≡ Some setup
 line_asks_for setup h = setup_says setup.parties setup.ceiling setup.is_wide h

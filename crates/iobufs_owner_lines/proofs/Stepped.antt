@@ -28,6 +28,7 @@ pub record AreSteps (m : Seen) (asks : List Ask) (texts : List (List ℕ)) (next
   pub runs : GrowingRuns m (steps_of asks) replies next
   pub says : answers_to_steps asks texts ≡ map reply_text replies
 
+-- the steps among what is asked, questions left out, are a run of the machine in which tables may get more room, and its replies are the answers to them
 pub stepped : (m next : Seen) (asks : List Ask) (texts : List (List ℕ)) → AreAnswered m asks texts next → AreSteps m asks texts next
 stepped m next [] [] h = record { replies = []; runs = h; says = refl }
 stepped m next [] (text ∷ texts) h = elim h [ ]
@@ -57,6 +58,7 @@ pub promised_after : (m next : Seen) (ask : Ask) (text : List ℕ) → Answers m
 promised_after m next (Take step) text (grown, reply, has, one, says) p = one.promises
 promised_after m next (Look question) text (same, says) p = subst (λ (s : Seen). Promises s.state) (sym same) p
 
+-- where what is asked was answered, what was promised of the machine before is promised of it behind
 pub promised : (m next : Seen) (asks : List Ask) (texts : List (List ℕ)) → AreAnswered m asks texts next → Promises m.state → Promises next.state
 promised m next [] [] h p = subst (λ (s : Seen). Promises s.state) (sym h) p
 promised m next [] (text ∷ texts) h p = elim h [ ]

@@ -31,8 +31,8 @@ impl Setup {
         requires few { self.now.parties ≤ 2 ^ 32 }
         ensures ok { IfOk result (λ machine. machine.state ≡ machine_of self.now) }
         ensures promises { IfOk result (λ machine. Promises machine.state) }
-        ensures err { IfErr result (λ error. error ≡ Memory) }
-        ensures none { self.now.parties ≡ 0 → IsOk result }
+        ensures memory { IfErr result (λ error. error ≡ Memory) }
+        ensures nothing { self.now.parties ≡ 0 → IsOk result }
     {
         let format = if self.is_wide { FORMAT_64 } else { FORMAT_32 };
         Machine::new(alloc, self.parties, self.ceiling, format)

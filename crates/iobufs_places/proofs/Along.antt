@@ -1,4 +1,4 @@
--- Along the way of a base.
+-- A place on the way of a base, with its span (`IsAlong`): where the way begins, and that it goes on.
 use Rattle.std.proofs.Common.{◌≡◌, ◌∙◌, sym, ℕ, ◌+◌, ◌^◌, ◌<◌, ◌≤◌, nat_lt, List, Some, length, refl, arith, ap}
 use Rattle.iobufs_places.specs.declared.Place.{Place}
 use Rattle.iobufs_places.specs.declared.Span.{Span}
@@ -17,6 +17,7 @@ pub record IsAlong (ps : List Place) (base at : ℕ) (t : Span) : Type 0 where
   pub from : t.low ≤ base
   pub to : base ≤ t.high
 
+-- the way of a base begins at the first place, whose span is all numbers
 pub begins : (ps : List Place) (base : ℕ) → 0 < length ps → base < 2 ^ 64 → IsAlong ps base 0 numbers
 begins ps base some l = record {
   known = some;
@@ -28,6 +29,7 @@ begins ps base some l = record {
   to = omega (arith, l);
 }
 
+-- the way of a base goes on with the place on its side, whose span is that part of the span before
 pub goes-on : (ps : List Place) (base at next : ℕ) (span : Span) → AreRising ps → side (place_at ps at) base ≡ Some next → IsAlong ps base at span →
     IsAlong ps base next (part (place_at ps at) base span)
 goes-on ps base at next span r e a =

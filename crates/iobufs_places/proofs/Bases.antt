@@ -1,4 +1,4 @@
--- What is found, said of the bases.
+-- The greatest base in a range that a search of the tree finds is the greatest of all that were added.
 use Rattle.std.proofs.Common.{◌≡◌, ◌⊎◌, ◌∙◌, sym, inl, inr, ℕ, ◌<◌, ◌≤◌, nat_lt, nat_le, Bool, true, false, List, Option, None, Some, IfSome, map, get_or, length, refl, arith}
 use Rattle.std.proofs.lemmas.Bool.Decides.{nat_tests}
 use Rattle.std.proofs.lemmas.List.{get_or-map, length-map}
@@ -26,6 +26,7 @@ some-by ps low end i n false true e f t l h = inr (grind (arith, nat_tests, f))
 some-by ps low end i n false false e f t l (lo, hi, h) =
     inl (h (place_at ps i).base (grind (arith, nat_tests, e)) (grind (arith, nat_tests, f)) (rw (t.complete i l) refl))
 
+-- in a tree the greatest base in a range that a search finds is the greatest of all bases there
 pub last-of : (ps : List Place) (low end : ℕ) (o : Option ℕ) → IsTree ps → IfSome o (λ n. n < length ps)
     → IsLastFound ps (found ps (length ps) (Some 0)) low end o → IsLast (map (λ (x : Place). x.base) ps) low end o
 last-of ps low end None t k h =
@@ -42,6 +43,7 @@ last-of ps low end (Some n) t k (lo, hi, h) =
           rw (base-at ps i m) (some-by ps low end i n (nat_lt (place_at ps i).base low) (nat_le end (place_at ps i).base) refl refl t m (lo, hi, h)))),
     )
 
+-- where there is no place, an answer that may only name one of them names none, and says so of any range
 pub last-of-none : (ps : List Place) (low end : ℕ) (o : Option ℕ) → length ps ≡ 0 → IfSome o (λ n. n < length ps)
     → IsLast (map (λ (x : Place). x.base) ps) low end o
 last-of-none ps low end None e k = All-from_get_or (λ b. (b < low) ⊎ (end ≤ b)) (map (λ (x : Place). x.base) ps) 0

@@ -146,6 +146,7 @@ spread-grown ps s p q m r pl x =
       each = λ i k. rw (same-base ps p q m 0 pl l) (each-of ps s p q m i r pl x (below-or i (length ps) (rw long at k)));
     }
 
+-- a table with one place more, of a new base and at the end of its way, is a table, where enough places are left for it there
 pub table-grown : (ps : List Place) (p q m : ℕ) → (t : IsTable ps) → p < length ps → side (place_at ps p) q ≡ None → way ps (length ps) 0 q ≡ p →
     All (λ b. b ≢ q) (map (λ x. x.base) ps) → IsNext ps t.spread p q m → IsTable (grown ps p q m)
 table-grown ps p q m t pl o w all x =
@@ -159,14 +160,17 @@ enough-by : (x : Place) (first n : ℕ) (s : Span) (u : Bool) → AreEnough firs
 enough-by x first n s true a = a.0
 enough-by x first n s false a = a.1
 
+-- a base that lies in a span lies no lower than the part on its side
 pub part-from : (x : Place) (q : ℕ) (s : Span) (u : Bool) → nat_lt q x.middle ≡ u → s.low ≤ q → (if u then lower x s else upper x s).low ≤ q
 part-from x q s true e l = l
 part-from x q s false e l = grind (arith, nat_tests, e)
 
+-- a base that lies in a span lies no higher than the part on its side
 pub part-to : (x : Place) (q : ℕ) (s : Span) (u : Bool) → nat_lt q x.middle ≡ u → q ≤ s.high → q ≤ (if u then lower x s else upper x s).high
 part-to x q s true e l = let k : q < x.middle = grind (arith, nat_tests, e) in omega (arith, k)
 part-to x q s false e l = l
 
+-- a base in the span of a place, and not its own, may have the next place there, with a middle by which each part of its span needs one place less
 pub next-of : (ps : List Place) (s : IsSpread ps) (p q m : ℕ) → p < length ps → (s.span p).low ≤ q → q ≤ (s.span p).high → (place_at ps p).base ≢ q →
     ((n : ℕ) → (part (place_at ps p) q (s.span p)).low < (part (place_at ps p) q (s.span p)).high →
     IsEnough (place_at ps 0).base (part (place_at ps p) q (s.span p)) n → AreEnough (place_at ps 0).base (part (place_at ps p) q (s.span p)) m (n - 1)) →
@@ -194,6 +198,7 @@ span-by : (span : ℕ → Span) (most : ℕ → ℕ) (s : Span) (n j : ℕ) (x :
 span-by span most s n j x true b a e = (rw e at b).0
 span-by span most s n j x false b a e = (rw e at a).0
 
+-- the place on a base's side has that part of the span for its own
 pub span-on : (ps : List Place) (s : IsSpread ps) (i j q : ℕ) → i < length ps → side (place_at ps i) q ≡ Some j → s.span j ≡ part (place_at ps i) q (s.span i)
 span-on ps s i j q l e = let a = s.each i l in span-by s.span s.most (s.span i) (s.most i) j (place_at ps i)
     (nat_lt q (place_at ps i).middle) a.below a.above e
@@ -246,6 +251,7 @@ each-first : (q i : ℕ) → q < 2 ^ 64 → i < 1 → IsSpreadAt q (λ _. number
 each-first q zero l k = record { some = omega arith; from = omega arith; to = omega (arith, l); parts = λ _. first-parts q l; below = tt; above = tt }
 each-first q (suc i) l k = absurd (omega (arith, k))
 
+-- one place, of a base below 2^64 that is its own middle, is a table
 pub table-first : (q : ℕ) → q < 2 ^ 64 → IsTable (leaf q q ∷ [])
 table-first q l =
     let tree = tree-first q q in
@@ -262,6 +268,7 @@ low-none : IsLow [] most_places (Some 0)
 unfolding IsLow
 low-none = (tt, tt)
 
+-- no place at all is a table
 pub table-none : IsTable []
 table-none = record {
   tree = record { rising = λ i l. absurd (omega (arith, l)); complete = λ i l. absurd (omega (arith, l)) };

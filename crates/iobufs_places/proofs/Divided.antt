@@ -43,6 +43,7 @@ halved-by first n m (suc h) s e z l lo hi =
       },
     )
 
+-- divided in its middle, each part of a span needs one place less
 pub halved : (first n m : ℕ) (s : Span) → s.low < s.high → s.low + s.high < m + m → m + m ≤ s.low + s.high + 2 → IsEnough first s n →
     AreEnough first s m (n - 1)
 halved first n m s l lo hi e = halved-by first n m e.halvings s e refl l lo hi
@@ -167,10 +168,12 @@ before-by first n p (suc r) s e z o l b (inr (c, d)) =
     before-parts first n p b.low b.high e.halvings r ((b.low + b.high) / 2 + 1) s o hi b.near_from b.near_to b.far_from b.far_to b.is
     (rw z at e.enough) e.short (numbers-by e.near b.low b.high r near b.apart far)
 
+-- divided at the power of two between its ends, each part of a span from the first base on needs one place less
 pub behind : (first n p : ℕ) (s : Span) → s.low < s.high → first ≤ s.low → IsBetween (s.low - first) (s.high - first) p → IsEnough first s n →
     AreEnough first s (first + p) (n - 1)
 behind first n p s o l b e = behind-by first n p e.rounds s e refl o l b e.within
 
+-- divided at the power of two between its ends, each part of a span that begins in front of the first base needs one place less
 pub before : (first n p : ℕ) (s : Span) → s.low < s.high → s.low < first → IsBetween (first - 1 - s.high) (first - 1 - s.low) p → IsEnough first s n →
     AreEnough first s (first - p) (n - 1)
 before first n p s o l b e = before-by first n p e.rounds s e refl o l b e.within

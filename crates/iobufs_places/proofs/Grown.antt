@@ -16,18 +16,22 @@ no_place = record { base = 0; middle = 0; below = None; above = None }
 abbrev pub grown : List Place → (p q middle : ℕ) → List Place
 grown ps p q middle = set ps p (opened (place_at ps p) q (length ps)) ++ leaf q middle ∷ []
 
+-- with one place more all others stay but the one that leads to it
 pub at-other : (ps : List Place) (p q m i : ℕ) → i < length ps → i ≢ p → place_at (grown ps p q m) i ≡ place_at ps i
 at-other ps p q m i l n = get_or_append_left (set ps p (opened (place_at ps p) q (length ps))) (leaf q m ∷ []) no_place i (rw length-set l)
     ∙ get_or-set_other ps p i (opened (place_at ps p) q (length ps)) no_place n
 
+-- the place that leads to the new one has it on the side of the new base
 pub at-end : (ps : List Place) (p q m : ℕ) → p < length ps → place_at (grown ps p q m) p ≡ opened (place_at ps p) q (length ps)
 at-end ps p q m l = get_or_append_left (set ps p (opened (place_at ps p) q (length ps))) (leaf q m ∷ []) no_place p (rw length-set l)
     ∙ get_or-set_same ps p (opened (place_at ps p) q (length ps)) no_place l
 
+-- the new place has nothing on either side
 pub at-new : (ps : List Place) (p q m : ℕ) → place_at (grown ps p q m) (length ps) ≡ leaf q m
 at-new ps p q m = subst (λ (k : ℕ). place_at (grown ps p q m) k ≡ leaf q m) (length-set ps p (opened (place_at ps p) q (length ps)))
     (get_or-append_seam (set ps p (opened (place_at ps p) q (length ps))) (leaf q m) [] no_place)
 
+-- there is one place more
 pub long : (ps : List Place) (p q m : ℕ) → length (grown ps p q m) ≡ length ps + 1
 long ps p q m = length-append (set ps p (opened (place_at ps p) q (length ps))) (leaf q m ∷ []) ∙ rw length-set refl
 
@@ -63,6 +67,7 @@ opened-rises x n i false l b a = (further n i x.below b, (l, omega arith))
 
 -- ---- each place
 
+-- with one place more each of the others keeps its base
 pub same-base : (ps : List Place) (p q m i : ℕ) → p < length ps → i < length ps → (place_at (grown ps p q m) i).base ≡ (place_at ps i).base
 same-base ps p q m i k l = elim (eqb_tells i p) [
   | inl z ↦ subst (λ (i : ℕ). (place_at (grown ps p q m) i).base ≡ (place_at ps i).base) (sym z.1)
@@ -151,6 +156,7 @@ is-new ps p q m (suc f) (suc g) i r pl o ne lt l en w =
 
 -- ---- the tree
 
+-- a number below n + 1 is below n, or is n
 pub below-or : (i n : ℕ) → i < n + 1 → (i < n) ⊎ (i ≡ n)
 below-or i n l = elim (eqb_tells i n) [ inl z ↦ inr z.1 | inr z ↦ inl (let e = z.1 in grind (arith, e, l)) ]
 
@@ -175,6 +181,7 @@ rising-at ps p q m i r k (inr z) = subst (λ (i : ℕ). Rises (length ps + 1) i 
 pub apart : (ps : List Place) (i q : ℕ) → i < length ps → All (λ b. b ≢ q) (map (λ x. x.base) ps) → (place_at ps i).base ≢ q
 apart ps i q l all e = All-get_or (λ b. b ≢ q) (map (λ x. x.base) ps) i 0 (rw length-map l) all (get_or-map (λ (x : Place). x.base) ps i no_place 0 l ∙ e)
 
+-- a tree with one place more, of a new base and at the end of its way, is a tree
 pub tree-grown : (ps : List Place) (p q m : ℕ) → IsTree ps → p < length ps → side (place_at ps p) q ≡ None → way ps (length ps) 0 q ≡ p
     → All (λ b. b ≢ q) (map (λ x. x.base) ps) → IsTree (grown ps p q m)
 tree-grown ps p q m t pl o w all =
@@ -184,6 +191,7 @@ tree-grown ps p q m t pl o w all =
       complete = λ i l. rw long (complete-at ps p q m i t pl o w ne (below-or i (length ps) (rw long at l)));
     }
 
+-- the bases are those from before, and behind them the new one
 pub bases-grown : (ps : List Place) (p q m : ℕ) → map (λ (x : Place). x.base) (grown ps p q m) ≡ map (λ (x : Place). x.base) ps ++ q ∷ []
 bases-grown ps p q m =
     map-append (λ (x : Place). x.base) (set ps p (opened (place_at ps p) q (length ps))) (leaf q m ∷ [])
@@ -201,9 +209,11 @@ rising-first : (q m i : ℕ) → i < 1 → Rises 1 i (place_at (leaf q m ∷ [])
 rising-first q m zero l = (tt, tt)
 rising-first q m (suc i) l = absurd (omega (arith, l))
 
+-- one place is a tree
 pub tree-first : (q m : ℕ) → IsTree (leaf q m ∷ [])
 tree-first q m = record { rising = rising-first q m; complete = complete-first q m }
 
+-- a list of length 0 is empty
 pub none-there : {A : Type 0} (xs : List A) → length xs ≡ 0 → xs ≡ []
 none-there [] e = refl
 none-there (x ∷ xs) e = absurd (omega (arith, e))

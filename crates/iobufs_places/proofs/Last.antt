@@ -1,4 +1,4 @@
--- The last base that is found in a range.
+-- The greatest base in a range from a place on, by those above and below the place.
 use Rattle.std.proofs.Common.{◌≡◌, ◌⊎◌, inl, inr, ℕ, zero, suc, ◌+◌, ◌<◌, ◌≤◌, ◌==◌, ◌||◌, nat_lt, nat_le, min, max, Bool, true, false, List, Option, None, Some, is_some, IsSome, if◌then◌else◌, length, refl, arith}
 use Rattle.std.proofs.lemmas.Bool.Decides.{nat_tests}
 use Rattle.iobufs_places.specs.declared.Place.{Place}
@@ -107,6 +107,7 @@ reach : (n i : ℕ) (f : ℕ) (next : Option ℕ) → LiesBehind n i next → n 
 reach n i f None b l = tt
 reach n i f (Some j) b l = let k = b.0 in omega (arith, k, l)
 
+-- where one was found above a place, the greatest base from the place on is that one, or the place's own where it is greater and in the range
 pub last-above : (ps : List Place) (i f low end : ℕ) (a : Option ℕ) → i < length ps → LiesBehind (length ps) i (place_at ps i).above
     → length ps ≤ i + f → IsSome a → ((g : ℕ) → Reaches (length ps) (place_at ps i).above g
     → IsLastFound ps (found ps g (place_at ps i).above) (max low (place_at ps i).middle) end a)
@@ -118,6 +119,7 @@ last-above ps i (suc f) low end (Some a) k b l s h =
     above-by ps i f low end a (nat_lt (place_at ps i).base low || nat_le end (place_at ps i).base) (nat_le (place_at ps i).base (place_at ps a).base)
     refl refl (h f (reach (length ps) i f (place_at ps i).above b l))
 
+-- where none was found above a place, the greatest base from the place on is the one below it, or the place's own where it is greater and in the range
 pub last-below : (ps : List Place) (i f low end : ℕ) (a b : Option ℕ) → i < length ps → LiesBehind (length ps) i (place_at ps i).below
     → LiesBehind (length ps) i (place_at ps i).above → length ps ≤ i + f → a ≡ None
     → ((g : ℕ) → Reaches (length ps) (place_at ps i).above g
@@ -135,10 +137,12 @@ last-below ps i (suc f) low end None (Some b) k bb ba l z ha hb =
     below-by ps i f low end b (nat_lt (place_at ps i).base low || nat_le end (place_at ps i).base) (nat_le (place_at ps i).base (place_at ps b).base)
     refl refl (ha f (reach (length ps) i f (place_at ps i).above ba l)) (hb f (reach (length ps) i f (place_at ps i).below bb l))
 
+-- what isn't `Some` is `None`
 pub none-of : (o : Option ℕ) → is_some o ≡ false → o ≡ None
 none-of None e = refl
 none-of (Some n) e = absurd (cc)
 
+-- a search from no place on finds none
 pub none-found : (ps : List Place) (f q : ℕ) → found ps f None q ≡ None
 unfolding found
 none-found ps zero q = refl
@@ -180,9 +184,11 @@ out-of b low end true v e f t = inl (grind (arith, nat_tests, e))
 out-of b low end false true e f t = inr (grind (arith, nat_tests, f))
 out-of b low end false false e f t = absurd (cc)
 
+-- a base that the test finds out of a range is below it, or not below its end
 pub is-out : (b low end : ℕ) → (nat_lt b low || nat_le end b) ≡ true → (b < low) ⊎ (end ≤ b)
 is-out b low end t = out-of b low end (nat_lt b low) (nat_le end b) refl refl t
 
+-- where a place's base is out of a range that lies below its middle, the greatest from the place on is the greatest below it
 pub skip-below : (ps : List Place) (i f low end : ℕ) (o : Option ℕ) → i < length ps → LiesBehind (length ps) i (place_at ps i).below
     → length ps ≤ i + f → ((place_at ps i).base < low) ⊎ (end ≤ (place_at ps i).base) → end ≤ (place_at ps i).middle
     → ((g : ℕ) → Reaches (length ps) (place_at ps i).below g → IsLastFound ps (found ps g (place_at ps i).below) low end o)
@@ -190,6 +196,7 @@ pub skip-below : (ps : List Place) (i f low end : ℕ) (o : Option ℕ) → i < 
 skip-below ps i zero low end o k b l out le h = absurd (omega (arith, k, l))
 skip-below ps i (suc f) low end o k b l out le h = skip-below-by ps i f low end o out le (h f (reach (length ps) i f (place_at ps i).below b l))
 
+-- where a place's base is out of a range that lies above its middle, the greatest from the place on is the greatest above it
 pub skip-above : (ps : List Place) (i f low end : ℕ) (o : Option ℕ) → i < length ps → LiesBehind (length ps) i (place_at ps i).above
     → length ps ≤ i + f → ((place_at ps i).base < low) ⊎ (end ≤ (place_at ps i).base) → (place_at ps i).middle ≤ low
     → ((g : ℕ) → Reaches (length ps) (place_at ps i).above g → IsLastFound ps (found ps g (place_at ps i).above) low end o)
@@ -214,6 +221,7 @@ only-above-by ps i f low end (Some b) out e le (l, m, h) =
           (λ z. absurd (omega (arith, z, lo, hi, out))) (λ z t. h q z hi t) (λ z t. omega (arith, z, l)) s,
     )
 
+-- where a place's base is out of a range and nothing is below the place, the greatest from it on is the greatest above it
 pub only-above : (ps : List Place) (i f low end : ℕ) (o : Option ℕ) → i < length ps → LiesBehind (length ps) i (place_at ps i).above
     → length ps ≤ i + f → ((place_at ps i).base < low) ⊎ (end ≤ (place_at ps i).base) → (place_at ps i).below ≡ None → low < (place_at ps i).middle
     → ((g : ℕ) → Reaches (length ps) (place_at ps i).above g → IsLastFound ps (found ps g (place_at ps i).above) (place_at ps i).middle end o)

@@ -244,7 +244,7 @@ impl Places {
         ensures bases { self.new.bases ≡ self.old.bases }
         ensures kept { self.old.room ≤ self.new.room }
         ensures room { OnOk result (length self.old.bases + more ≤ self.new.room) }
-        ensures refused { OnErr result (self.new ≡ self.old) }
+        ensures unchanged { OnErr result (self.new ≡ self.old) }
         ensures enough { length self.old.bases + more ≤ self.old.room → IsOk result }
     {
         self.table.reserve(more)

@@ -1,4 +1,4 @@
--- Records that are looked for byte by byte.
+-- Records behind damage, which are looked for byte by byte, and printed and counted.
 use Rattle.std.specs.Prelude.{◌≡◌, ℕ, ◌+◌, ◌^◌, ◌<◌, ◌≤◌, ◌==◌, Bool, true, Option, None, Some, IfNone, IfSome, List, [], ◌∷◌, ◌++◌, length, take, drop, refl}
 use Rattle.std.specs.Io.KnownBytes.{Appends, Consumes, IsAtEnd}
 use Rattle.std.proofs.Common.{arith, inl, inr, ap, sym, subst, ◌∙◌, append_assoc, append-nil, length-append, take-append-drop}
@@ -62,6 +62,7 @@ if_known : (had : Option (List ℕ)) (P : List ℕ → Type 0) → ((text : List
 if_known None P p = tt
 if_known (Some text) P p = p text
 
+-- a search that begins has gone over no byte
 pub seeking_first : (most : ℕ) (had : Option (List ℕ)) (scan : Scan) → IsSeeking most had had scan scan
 seeking_first most had scan = record {
   read = [];
@@ -121,6 +122,7 @@ passed most least (Some text) (Some left) gap [] rest e none here =
 passed most least (Some text) (Some left) gap (byte ∷ held) rest e none here =
     subst (AreNone most least (gap ++ byte ∷ [])) (ap (λ w. w ++ left) (sym e)) (none_more most least gap byte (held ++ left) none here)
 
+-- where enough is held and no record stands in front of it, the search has gone over one byte more, which stood there
 pub seeking_on : (most : ℕ) (a b c : Option (List ℕ)) (old before middle new : Scan) (found : Option Numbered) → IsSeeking most a b old before
     → IsHeld b c before middle → IsEnough most c middle
     → found ≡ None → IfNone found (StandsInFront most middle.number middle.window.bytes → ⊥) → IsSkipped middle new → IsSeeking most a c old new
@@ -158,6 +160,7 @@ first_so most least number (Some text) (Some left) read old gap held body behind
       short = short;
     }
 
+-- a record that stands in front of what is held, short enough and with a near number, is the one that the search takes
 pub sought : (most : ℕ) (a b c : Option (List ℕ)) (old before middle new : Scan) (found : Option Numbered) (f : Numbered)
     → IsSeeking most a b old before → IsHeld b c before middle → found ≡ Some f
     → IfSome found (λ f. middle.window.bytes ≡ record_written f.number f.body.bytes ++ f.rest.bytes)
@@ -196,6 +199,7 @@ at_end most has scan enough empty = elim enough [
   | inr at ↦ at
 ]
 
+-- where enough is held, and that is no byte, the search has found that no record stands there
 pub none_sought : (most : ℕ) (a b c : Option (List ℕ)) (old before middle : Scan) (empty : Bool) → IsSeeking most a b old before
     → IsHeld b c before middle → IsEnough most c middle
     → empty ≡ (length middle.window.bytes == 0) → empty ≡ true → IsSought most a c old middle None
@@ -223,6 +227,7 @@ nothing_yet : (most : ℕ) (had : Option (List ℕ)) (scan : Scan)
 nothing_yet most None scan = tt
 nothing_yet most (Some text) scan = λ later are. are
 
+-- at first no record further on is printed
 pub none_behind : (most : ℕ) (had held : Option (List ℕ)) (scan : Scan) → IsPrintingBehind most had had held held scan scan 0
 none_behind most had held scan = record {
   found = [];
@@ -248,6 +253,7 @@ one_further most start least number next (Some text) (Some middle) (Some left) f
     subst (AreBehind most start (origin ++ text)) (sym (append_assoc found (body ∷ []) later))
     (so_far (body ∷ later) (number, new ++ left, first, subst (λ k. AreBehind most k (new ++ left) later) e are))
 
+-- a record that the search took and that is printed with its line's end is one more that is printed and counted
 pub behind_on : (most : ℕ) (a b c held middle holds : Option (List ℕ)) (old now new : Scan) (count : ℕ) (found : Option View) (body : View) (bytes : List ℕ)
     → IsPrintingBehind most a b held middle old now count → found ≡ Some body → IsSought most b c now new found → bytes ≡ body.bytes
     → Appends middle holds (bytes ++ 10 ∷ [])
@@ -266,6 +272,7 @@ behind_on most a b c held middle holds old now new count found body bytes so_far
           body.bytes so_far.found so_far.took took next so_far.are first;
     }
 
+-- where the search finds none, all records that stand in the text were printed and counted
 pub behind_all : (most : ℕ) (a b c held holds : Option (List ℕ)) (old now new : Scan) (count : ℕ) (found : Option View)
     → IsPrintingBehind most a b held holds old now count
     → found ≡ None → IsSought most b c now new found → IfSome a (λ left. ArePrinted most old.number (old.window.bytes ++ left) held holds count)

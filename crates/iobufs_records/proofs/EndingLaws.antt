@@ -27,6 +27,7 @@ rest_so : (most : ℕ) (text found_bytes rest behind : List ℕ) (taken : ℕ) �
 rest_so most text found_bytes rest behind taken whole summed left =
     sym (ap (λ k. drop k text) summed ∙ ap (drop (length found_bytes)) whole ∙ drop-append_seam found_bytes rest) ∙ left
 
+-- the printed records, why none stands behind them, and the printed ones further on are a journal's ending, which is damaged where there are any further on
 pub ending_so : (most : ℕ) (a c held holds put puts : Option (List ℕ)) (scan : Scan) (first : End) (behind : ℕ) (ending : Ending)
     → IfSome a (λ text. IsPrinted most text held holds scan.number scan.taken first) → IfSome a (λ text. IsLeft scan text c)
     → IfSome c (λ left. AreFurtherPrinted most scan.number (scan.window.bytes ++ left) first put puts behind)
@@ -51,9 +52,11 @@ ending_so most (Some text) (Some more) held holds put puts scan first behind end
       behind_so = count ∙ further.counted;
     }
 
+-- four texts joined from the left are the same as joined from the right
 pub in_turn : (name colon text end : List ℕ) → name ++ (colon ++ (text ++ end)) ≡ ((name ++ colon) ++ text) ++ end
 in_turn name colon text end = sym (append_assoc (name ++ colon) text end ∙ append_assoc name colon (text ++ end))
 
+-- a journal whose ending was printed behind its name is checked, with the status of how it ends
 pub checked : (most : ℕ) (a held holds : Option (List ℕ)) (name bytes : List ℕ) (ending : Ending) (status : ℕ) → IfSome a (λ text. HasEnding most text ending)
     → Appends held holds bytes → bytes ≡ name ++ codes ": " ++ ending_text ending ++ codes "\n" → status ≡ status_of ending.end
     → IfSome a (λ text. IsChecked most name text held holds status)
@@ -65,6 +68,7 @@ checked most (Some text) held holds name bytes ending status is put e so = recor
   status_so = so;
 }
 
+-- a journal whose records were printed is replayed, where those further on aren't wanted
 pub replayed : (most : ℕ) (all : Bool) (a held holds : Option (List ℕ)) (number taken : ℕ) (end : End)
     → IfSome a (λ text. IsPrinted most text held holds number taken end) → all ≡ false
     → IfSome a (λ text. IsReplayed most all text held holds end)
@@ -79,6 +83,7 @@ replayed most false (Some text) held holds number taken end shown e = record {
   put = subst (Appends held holds) (sym (append-nil (printed shown.found))) shown.put;
 }
 
+-- a journal whose records and then those further on were printed is replayed, where these are wanted
 pub replayed_all : (most : ℕ) (all : Bool) (a c held middle holds : Option (List ℕ)) (scan : Scan) (end : End) (count : ℕ)
     → IfSome a (λ text. IsPrinted most text held middle scan.number scan.taken end)
     → IfSome a (λ text. IsLeft scan text c)

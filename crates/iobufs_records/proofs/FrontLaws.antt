@@ -1,4 +1,4 @@
--- What was taken from the front of a copy of a view.
+-- What a frame that was read off a copy of a text says of the record in front of the text: that it stands there, or that none does.
 use Rattle.std.specs.Prelude.{Bool, false, true, ◌==◌, Option, None, Some, IfSome, IfNone, IfOk, IsTrue, ◌↔◌, Result, Ok, Err, ◌≡◌, ℕ, ◌^◌, ◌<◌, ◌≤◌, List, ◌++◌, length, take}
 use Rattle.std.specs.Int.{w64, from_be_bytes}
 use Rattle.std.proofs.Common.{arith, ap, subst, sym, ◌∙◌}
@@ -16,12 +16,14 @@ use Rattle.iobufs_uses.specs.Journal.{HasNoRecord, record_written, sealed, up_to
 use Rattle.iobufs_uses.specs.JournalLaws.{IsSealed, found_record, is_sealed, length-sealed, no_record}
 use Rattle.iobufs_uses.specs.declared.journal.End.TheVariants.{Damaged}
 
+-- where the frame that was read off a copy of a text is a sealed body, the text is this record and what is left of the copy
 pub found_at : (most number : ℕ) (text copy left framed body : View) (found : Option View) → copy ≡ text → IsViewRead (of_view copy) (up_to most) (Ok framed)
     → of_view left ≡ text_rest (of_view copy) (length (view_written framed)) → found ≡ Some body → IfSome found (λ b. framed.bytes ≡ sealed number b.bytes)
     → text.bytes ≡ record_written number body.bytes ++ left.bytes
 found_at most number text copy left framed body found same is rest e seal =
     sym (ap (λ (v : View). v.bytes) same) ∙ found_record most number (of_view copy) (of_view left) framed body found is rest e seal
 
+-- where the frame that was read off a copy of a text isn't sealed under a number, the text has no record of that number and is damaged
 pub none_at : (most number : ℕ) (text copy left framed : View) (found : Option View) (empty : Bool) → copy ≡ text
     → IsViewRead (of_view copy) (up_to most) (Ok framed)
     → of_view left ≡ text_rest (of_view copy) (length (view_written framed)) → found ≡ None → IfNone found (IsSealed number framed.bytes → ⊥)
@@ -45,6 +47,7 @@ read_there most least text left result there large is rest =
     let inside : in_range (up_to most) n ≡ true = grind (arith, nat_tests, within) in
     written_read_back text left (up_to most) result (sealed there.number there.body) there.behind is rest (omega (arith, within, large)) inside there.whole
 
+-- what a test tells exactly doesn't hold where the test fails
 pub untold : (t : Bool) (P : Type 0) → (IsTrue t ↔ P) → t ≡ false → P → ⊥
 untold t P test e p = grind (arith, test, e, p)
 
@@ -77,6 +80,7 @@ framed_is most least text copy left framed large same is rest there =
 front_number : (number : ℕ) (body framed : List ℕ) → number < 2 ^ 64 → framed ≡ sealed number body → from_be_bytes w64 (take 8 framed) ≡ number
 front_number number body framed small e = ap (from_be_bytes w64) ((is_sealed number framed body e).number_is) ∙ from_be_bytes-to_be_bytes_8 number small
 
+-- where the frame that was read off a copy of a text is shorter than 12 bytes, or its number isn't near, no record with a near number stands in front
 pub not_near : (most least : ℕ) (text copy left framed : View) (shown : List ℕ) → most < 2 ^ 64 → copy ≡ text
     → IsViewRead (of_view copy) (up_to most) (Ok framed) → of_view left ≡ text_rest (of_view copy) (length (view_written framed))
     → shown ≡ framed.bytes → (12 ≤ length shown → IsNear least (from_be_bytes w64 (take 8 shown)) → ⊥) → StandsInFront most least text.bytes → ⊥
@@ -85,6 +89,7 @@ not_near most least text copy left framed shown large same is rest e never there
     let number = front_number there.number there.body shown there.small sealed_so in
     never (is_sealed there.number shown there.body sealed_so).long (subst (IsNear least) (sym number) there.near)
 
+-- where the frame that was read off a copy of a text isn't sealed under its own number, no record stands in front
 pub not_sealed : (most least number : ℕ) (text copy left framed : View) (shown : List ℕ) (found : Option View) → most < 2 ^ 64 → copy ≡ text
     → IsViewRead (of_view copy) (up_to most) (Ok framed) → of_view left ≡ text_rest (of_view copy) (length (view_written framed))
     → shown ≡ framed.bytes → number ≡ from_be_bytes w64 (take 8 shown) → found ≡ None → IfNone found (IsSealed number framed.bytes → ⊥)

@@ -1,4 +1,4 @@
--- Lines behind a whole journal.
+-- A whole journal with lines put behind it as records has grown.
 use Rattle.std.specs.Prelude.{◌≡◌, ℕ, ◌+◌, Option, None, Some, IfSome, List, [], ◌++◌, length, refl}
 use Rattle.std.specs.Io.KnownBytes.{Appends}
 use Rattle.std.proofs.Common.{arith, ap, sym, subst, ◌∙◌, append-nil}
@@ -33,6 +33,7 @@ grew_by text lines a b held holds number taken done p q =
       last = q.last;
     }
 
+-- where a journal's records were printed and it is whole, lines that were appended with the next numbers have made it grow
 pub grew : (c d a b held holds : Option (List ℕ)) (number taken : ℕ) (end : End) (done : Appended) →
     IfSome c (λ text. IsPrinted most_bytes text a b number taken end) → end ≡ Whole
     → IfSome d (λ lines. IsAppended lines number done.records done.is_long held holds) →

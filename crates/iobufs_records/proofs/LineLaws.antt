@@ -1,4 +1,4 @@
--- Records that are put behind each other.
+-- A record is put piece by piece, and bytes that are put go to the writer in order.
 use Rattle.std.specs.Prelude.{◌≡◌, ℕ, ◌+◌, ◌-◌, ◌≤◌, Option, List, [], ◌++◌, length, take, drop}
 use Rattle.std.specs.Int.{w32, w64, to_be_bytes}
 use Rattle.std.specs.Io.KnownBytes.{Appends}
@@ -54,6 +54,7 @@ record_put out a b c d number len sum at body text long room first place second 
 
 -- ---- what goes off
 
+-- where some of what is held went off, bytes behind the rest are put there
 pub put_behind : (a b : Option (List ℕ)) (old middle bytes : List ℕ) → IsPut a b old middle [] → IsPut a b old (middle ++ bytes) bytes
 put_behind a b old middle bytes put = record {
   went = put.went;
@@ -61,12 +62,14 @@ put_behind a b old middle bytes put = record {
   whole = ap (λ w. w ++ bytes) (sym (append-nil old) ∙ put.whole) ∙ append_assoc put.went middle bytes;
 }
 
+-- where nothing went off and nothing was put, what is held stays
 pub put_nothing : (a : Option (List ℕ)) (held : List ℕ) → IsPut a a held held []
 put_nothing a held = record { went = []; grew = appends_none a; whole = append-nil held }
 
 pub put_all : (a b : Option (List ℕ)) (held left : List ℕ) → Appends a b held → left ≡ [] → IsPut a b held left []
 put_all a b held left grew none = record { went = held; grew = grew; whole = ap (λ w. held ++ w) (sym none) }
 
+-- what is put in two steps is put, the one behind the other
 pub put_on : (a b c : Option (List ℕ)) (old middle new u v : List ℕ) → IsPut a b old middle u → IsPut b c middle new v → IsPut a c old new (u ++ v)
 put_on a b c old middle new u v p q = record {
   went = p.went ++ q.went;
@@ -84,6 +87,7 @@ put_record a b old middle new number same body put is e =
     subst (λ w. IsPut a b old.filled w (record_written number body)) (sym (ap (λ (p : Part). p.filled) is ∙ ap (λ k. middle.filled ++ record_written k body) e))
     (put_behind a b old.filled middle.filled (record_written number body) put)
 
+-- a part with the spare bytes of a record keeps its capacity when the record is put
 pub record_room : (old middle new : Part) (number room : ℕ) (body : List ℕ) → room ≡ length body + 22 → room ≤ middle.spare
     → part_capacity middle ≡ part_capacity old → new ≡ part_put middle (record_written number body)
     → part_capacity new ≡ part_capacity old

@@ -1,4 +1,4 @@
--- A journal that is read piece by piece.
+-- A journal that is read piece by piece: its next record, or why there is none, and that all before it were printed.
 use Rattle.std.specs.Prelude.{◌≡◌, ℕ, suc, ◌+◌, ◌-◌, ◌^◌, ◌<◌, ◌≤◌, Bool, false, Option, None, Some, IfSome, IfOk, IfErr, Result, Ok, Err, List, [], ◌∷◌, ◌++◌, length, drop, refl}
 use Rattle.std.specs.Io.KnownBytes.{Appends, Consumes, IsAtEnd}
 use Rattle.std.proofs.Common.{arith, ap, sym, subst, ◌∙◌, append_assoc, append-nil, length-append}
@@ -14,22 +14,26 @@ use Rattle.iobufs_records.specs.declared.front.Found.{Found}
 use Rattle.iobufs_records.specs.declared.scan.Scan.{Scan}
 use Rattle.iobufs_records.proofs.StaysLaws.{stays_damaged}
 
+-- what a reader gives in two steps it gives, the one behind the other
 pub consumes_on : (a b c : Option (List ℕ)) (u v : List ℕ) → Consumes a b u → Consumes b c v → Consumes a c (u ++ v)
 consumes_on None b c u v p q = tt
 consumes_on (Some xs) None c u v p q = absurd p
 consumes_on (Some xs) (Some ys) None u v p q = absurd q
 consumes_on (Some xs) (Some ys) (Some zs) u v p q = p ∙ ap (λ w. u ++ w) q ∙ sym (append_assoc u v zs)
 
+-- a reader that stays as it was gave no byte
 pub consumes_none : (a : Option (List ℕ)) → Consumes a a []
 consumes_none None = tt
 consumes_none (Some xs) = refl
 
+-- what a writer takes in two steps it takes, the one behind the other
 pub appends_on : (a b c : Option (List ℕ)) (u v : List ℕ) → Appends a b u → Appends b c v → Appends a c (u ++ v)
 appends_on None b c u v p q = tt
 appends_on (Some xs) None c u v p q = absurd p
 appends_on (Some xs) (Some ys) None u v p q = absurd q
 appends_on (Some xs) (Some ys) (Some zs) u v p q = q ∙ ap (λ w. w ++ v) p ∙ append_assoc xs u v
 
+-- a writer that stays as it was took no byte
 pub appends_none : (a : Option (List ℕ)) → Appends a a []
 appends_none None = tt
 appends_none (Some xs) = sym (append-nil xs)
@@ -113,6 +117,7 @@ ended_so most had has old new end grown none = record {
   );
 }
 
+-- where what is held is damaged in front, the step ends so, whatever the reader has left
 pub next_damaged : (most : ℕ) (had has : Option (List ℕ)) (old new : Scan) (found : Result Found End) → IsGrown had has old new → found ≡ Err Damaged
     → IfErr found (λ end. HasNoRecord most new.number new.window.bytes end) → IsNext most had has old new (Err Damaged)
 next_damaged most had has old new found grown e h =
@@ -149,10 +154,12 @@ nothing_printed most had held scan (none, number, taken) = record {
   put = appends_none held;
 }
 
+-- where records are short enough and one more is, all of them are
 pub short_more : (most : ℕ) (fs : List (List ℕ)) (body : List ℕ) → AreShort most fs → 12 + length body ≤ most → AreShort most (fs ++ body ∷ [])
 short_more most [] body short fits = (fits, tt)
 short_more most (f ∷ fs) body short fits = (short.0, short_more most fs body short.1 fits)
 
+-- one record more is written behind the others, with the number behind theirs
 pub written_more : (k : ℕ) (fs : List (List ℕ)) (body : List ℕ)
     → records_written k (fs ++ body ∷ []) ≡ records_written k fs ++ record_written (k + length fs) body
 written_more k [] body = append-nil (record_written k body) ∙ ap (λ n. record_written n body) (let z : k ≡ k + 0 = omega arith in z)
@@ -161,6 +168,7 @@ written_more k (f ∷ fs) body =
     ap (λ w. record_written k f ++ w) (written_more (suc k) fs body ∙ ap (λ n. records_written (suc k) fs ++ record_written n body) next)
     ∙ sym (append_assoc (record_written k f) (records_written (suc k) fs) (record_written (k + suc (length fs)) body))
 
+-- one record more is printed behind the others, a line of its own
 pub printed_more : (fs : List (List ℕ)) (body : List ℕ) → printed (fs ++ body ∷ []) ≡ printed fs ++ (body ++ 10 ∷ [])
 printed_more [] body = append-nil (body ++ 10 ∷ [])
 printed_more (f ∷ fs) body = ap (λ w. (f ++ 10 ∷ []) ++ w) (printed_more fs body) ∙ sym (append_assoc (f ++ 10 ∷ []) (printed fs) (body ++ 10 ∷ []))
@@ -198,6 +206,7 @@ read_more most a b c old new found body so_far next =
       );
     }
 
+-- where the next record is printed too, all records that were read are printed
 pub printed_on : (most : ℕ) (a b c held middle holds : Option (List ℕ)) (old new : Scan) (body : View) (next : Result View End) (bytes : List ℕ)
     → IsPrinting most a b held middle old
     → next ≡ Ok body → IsNext most b c old new next → bytes ≡ body.bytes → Appends middle holds (bytes ++ 10 ∷ []) → IsPrinting most a c held holds new
@@ -209,12 +218,14 @@ printed_on most a b c held middle holds old new body next bytes so_far e step sa
       (appends_on held middle holds (printed so_far.found) (body.bytes ++ 10 ∷ []) so_far.put (subst (λ w. Appends middle holds (w ++ 10 ∷ [])) same put));
 }
 
+-- where a record was taken and its number was below 2^64 - 1, fewer numbers are left below 2^64
 pub smaller : (most : ℕ) (b c : Option (List ℕ)) (old new : Scan) (body : View) (next : Result View End) → next ≡ Ok body
     → IsNext most b c old new next → new.number < 2 ^ 64
     → 2 ^ 64 - new.number < 2 ^ 64 - old.number
 smaller most b c old new body next e step small = let (whole, short, number, taken) =
     (subst (IsNext most b c old new) e step).front in omega (arith, number, small)
 
+-- where no record is next, all records of the text are printed and counted, and it ends so behind them
 pub all_printed : (most : ℕ) (a b c held holds : Option (List ℕ)) (old new : Scan) (end : End) (next : Result View End) → IsPrinting most a b held holds old
     → next ≡ Err end → IsNext most b c old new next → IfSome a (λ text. IsPrinted most text held holds new.number new.taken end)
 all_printed most None b c held holds old new end next so_far e step = tt

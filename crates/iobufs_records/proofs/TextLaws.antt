@@ -1,4 +1,4 @@
--- The lines of a text, taken one by one.
+-- The lines of a text, taken piece by piece, go as records one behind the other; one that is too long ends that.
 use Rattle.std.specs.Prelude.{◌≡◌, ℕ, suc, ◌+◌, ◌-◌, ◌<◌, ◌==◌, nat_lt, if◌then◌else◌, Bool, true, false, Option, None, Some, IfSome, Result, Ok, Err, IfOk, List, [], ◌∷◌, ◌++◌, length, take, drop, refl}
 use Rattle.std.specs.Io.KnownBytes.{Appends, Consumes, IsAtEnd, Keeps}
 use Rattle.std.proofs.Common.{arith, inl, inr, ap, sym, subst, ◌∙◌, append_assoc, append-nil, length-append, slice_index_or}
@@ -16,6 +16,7 @@ free_append : (xs ys : List ℕ) → HasNoEnd xs → HasNoEnd ys → HasNoEnd (x
 free_append [] ys p q = q
 free_append (x ∷ xs) ys p q = (p.0, free_append xs ys p.1 q)
 
+-- where no line ends in the first bytes and the next one isn't 10, none ends in them and that one
 pub free_more : (bytes : List ℕ) (at : ℕ) → at < length bytes → HasNoEnd (take at bytes) → (slice_index_or bytes at 0 ≡ 10 → ⊥) → HasNoEnd (take (at + 1) bytes)
 free_more bytes at inside free other =
     subst HasNoEnd (sym (take_more bytes at 0 inside))
@@ -196,10 +197,12 @@ nothing_read had held lines none = record {
   whole = λ behind. ap (λ w. lines_of (w ++ behind)) (sym none);
 }
 
+-- where records are short enough and so are those behind them, all of them are
 pub short_on : (most : ℕ) (fs gs : List (List ℕ)) → AreShort most fs → AreShort most gs → AreShort most (fs ++ gs)
 short_on most [] gs p q = q
 short_on most (f ∷ fs) gs p q = (p.0, short_on most fs gs p.1 q)
 
+-- records are written behind others with the numbers behind theirs
 pub written_on : (k : ℕ) (fs gs : List (List ℕ)) → records_written k (fs ++ gs) ≡ records_written k fs ++ records_written (k + length fs) gs
 written_on k [] gs = ap (λ n. records_written n gs) (let z : k ≡ k + 0 = omega arith in z)
 written_on k (f ∷ fs) gs =
@@ -313,6 +316,7 @@ all_taken (Some text) (Some middle) (Some left) a b c piece old now new is_long 
       | inr (empty, same, kept, e) ↦ no_last a b c text old now new so_far.lines is_long so_far.put so_far.short whole empty same kept e
     ]
 
+-- where a reader gives no more bytes, and the line that was begun is finished as the last, all lines of its text are taken
 pub all_finished : {E : Type 0} (h i j a b c : Option (List ℕ)) (piece : List ℕ) (old now new : Lines) (result : Result Bool E) (len : ℕ)
     (empty : Bool) → IsTakingAll h i a b old now → Consumes i j piece
     → len ≡ length piece → empty ≡ (len == 0) → empty ≡ true → (len ≡ 0 → IsAtEnd j) → IfOk result (IsFinished b c now new)

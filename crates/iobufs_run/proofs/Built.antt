@@ -50,6 +50,7 @@ pushes-next : (b : Building) (w : Written) (ws : List Written) → items_pushed 
     → items_pushed ws ≤ room_for_pushes (building_with b w)
 pushes-next b w ws fits = let one = pushes-built b (w ∷ []) in omega arith
 
+-- where the first item that is left is put, or is pushed and its name freed, the others are left to build
 pub left_next : (old : List Slot) (capacity : ℕ) (items : List Item) (names : List Slot) (b : Building) (item : Item) (rest : List Item)
     → IsLeft old capacity items names b (item ∷ rest)
     → IsLeft old capacity items (all_freed names (pushed_names (item ∷ []))) (building_with b (item_held names item)) rest

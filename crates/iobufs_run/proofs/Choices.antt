@@ -193,6 +193,8 @@ two_same old command reply other new another (inr (inr a)) (inr (inl b)) =
     rw (b.told, b.kept) (fails_not_done old command b.refusal reply new b.may a.does).1
 two_same old command reply other new another (inr (inr a)) (inr (inr b)) = does_same old command reply other new another a.does b.does
 
+-- two steps of one command on the same names, neither of them want of memory, have the same outcome, but for the room behind
+-- adopted bytes and for whether a native view is recovered
 pub no_other_choices : NoOtherChoices
 no_other_choices old command reply other new another one two wanted wanted' =
     two_same old command reply other new another (step_is old command reply new one wanted) (step_is old command other another two wanted')
@@ -212,6 +214,7 @@ done_where_wanted old command Done another none wants step = refl
 done_where_wanted old command (Bytes bytes) another none wants step = refl
 done_where_wanted old command (Shown kind pieces) another none wants step = refl
 
+-- a command that is refused for want of memory may want it, has no cause against it, costs at most what it consumes, and is never refused for anything else
 pub only_wants : OnlyWants
 only_wants old command new (none, wants, freed) = (none, wants, freed, λ other another step. done_where_wanted old command other another none wants step)
 
@@ -221,6 +224,7 @@ freed_or_kept : (old new : List Slot) (names : List ℕ) (refusal : Refusal) (na
 freed_or_kept old new names refusal name memory (inl kept) = inl kept
 freed_or_kept old new names refusal name memory (inr freed) = inr (memory, freed.0, freed.1)
 
+-- a refused command leaves what each name holds, but for consumed names that want of memory frees
 pub refusals_keep : RefusalsKeep
 refusals_keep old command Memory new (none, wants, freed) = (freed.0, λ name. freed_or_kept old new (consumed command) Memory name refl (freed.1 name))
 refusals_keep old command refusal new step =

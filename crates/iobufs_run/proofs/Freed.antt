@@ -11,6 +11,7 @@ use Rattle.iobufs_run.specs.Slots.{slot_named}
 use Rattle.iobufs_run.specs.Causes.{is_listed}
 use Rattle.iobufs_run.specs.Run.{all_freed, MayFree}
 
+-- to free names and one more is to free the names and then that one
 pub all_freed-append : (old : List Slot) (xs : List ℕ) (x : ℕ) → all_freed old (xs ++ x ∷ []) ≡ slice_set (all_freed old xs) x Free
 all_freed-append old [] x = refl
 all_freed-append old (y ∷ ys) x = all_freed-append (slice_set old y Free) ys x
@@ -21,12 +22,14 @@ held_freed [] n = refl
 held_freed (s ∷ ss) zero = refl
 held_freed (s ∷ ss) (suc n) = held_freed ss n
 
+-- a name holds what it held where another one gets something else
 pub held_other : (names : List Slot) (n x : ℕ) (slot : Slot) → x ≢ n → slot_named (slice_set names n slot) x ≡ slot_named names x
 held_other names n x slot other = get_or-set_other names n x slot Free other
 
 pub differ : (n x : ℕ) → (n == x) ≡ false → x ≢ n
 differ n x e = grind (arith, nat_tests)
 
+-- names that fail the test of equality differ
 pub differ_back : (x n : ℕ) → (x == n) ≡ false → x ≢ n
 differ_back x n e = grind (arith, nat_tests)
 
@@ -48,6 +51,7 @@ held_kept old (y ∷ ys) x e =
     let parts = or_parts (y == x) (is_listed ys x) e in
     held_kept (slice_set old y Free) ys x parts.1 ∙ held_other old y x Free (differ y x parts.0)
 
+-- where nothing changes, none but these names may be free
 pub MayFree-none : (xs : List ℕ) (old : List Slot) → MayFree xs old old
 MayFree-none xs old = (refl, λ name. inl refl)
 
@@ -70,6 +74,7 @@ MayFree-front [] (suc k) old = MayFree-none [] old
 MayFree-front (x ∷ xs) zero old = MayFree-none (x ∷ xs) old
 MayFree-front (x ∷ xs) (suc k) old = MayFree-next old _ x xs (MayFree-front xs k (slice_set old x Free))
 
+-- where these names are freed, none but these may be free
 pub MayFree-all : (xs : List ℕ) (old : List Slot) → MayFree xs old (all_freed old xs)
 MayFree-all [] old = MayFree-none [] old
 MayFree-all (x ∷ xs) old = MayFree-next old _ x xs (MayFree-all xs (slice_set old x Free))

@@ -108,6 +108,7 @@ sum_by_le : (f g : ℕ → ℕ) (xs : List ℕ) → ((x : ℕ) → f x ≤ g x) 
 sum_by_le f g [] le = omega arith
 sum_by_le f g (x ∷ xs) le = let ih = sum_by_le f g xs le in omega (arith, le x, sum_by-cons f x xs, sum_by-cons g x xs)
 
+-- the view under a name has no more bytes than what the name holds counts in a gathering
 pub view_held_len : (s : Slot) → length (view_held s).bytes ≤ extent s
 view_held_len (SlotView view) = omega arith
 view_held_len Free = omega arith

@@ -84,6 +84,8 @@ back_again names target src view back free kept d e new none took stays refused 
 
 -- ---- the command, by its end
 
+-- an append or prepend of a view with bytes to a text with bytes, against which no cause stands, may be refused for want of
+-- memory, and each name holds what it held
 pub joined_memory : (end : End) (old new : List Slot) (target src : ℕ) → first_cause (join_causes old target src) ≡ None
     → IsTrue (not (readable (slot_named old src) == 0) && not (readable (slot_named old target) == 0)) → new ≡ old
     → Step old (joining end target src) (Refused Memory) new

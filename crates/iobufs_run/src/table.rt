@@ -160,8 +160,8 @@ impl Table {
     pub fn new(alloc: Global, n: usize) -> Result<Table, BufError>
         ensures ok { IfOk result (λ table. table ≡ replicate n Slot.Free) }
         ensures slots { IfOk result AreSlots }
-        ensures err { IsOkUnless result BufError.Memory }
-        ensures none { n ≡ 0 → IsOk result }
+        ensures memory { IsOkUnless result BufError.Memory }
+        ensures nothing { n ≡ 0 → IsOk result }
     {
         let mut slots = Vec::with_capacity(alloc, n)?;
         for _ in 0..n {
@@ -187,10 +187,10 @@ impl Table {
     /// Does commands in order, and gives a reply for each. `BufError::Memory` comes before the first.
     pub fn run(&mut self, cmds: &[Cmd]) -> Result<Vec<Reply>, BufError>
         ensures run { IfOk result (λ replies. Run self.old cmds.now replies.items self.new) }
-        ensures err { OnErr result (self.new ≡ self.old) }
+        ensures unchanged { OnErr result (self.new ≡ self.old) }
         ensures slots { AreSlots self.new }
         ensures memory { IsOkUnless result BufError.Memory }
-        ensures none { length cmds.now ≡ 0 → IsOk result }
+        ensures nothing { length cmds.now ≡ 0 → IsOk result }
     {
         let alloc = *self.slots.allocator();
         let mut replies = Vec::with_capacity(alloc, cmds.len())?;

@@ -101,6 +101,7 @@ sent half (Some input) (Some before) written new served s keeps = sent_at half i
 sent half (Some input) None written new served s keeps = tt
 sent half None told written new served s keeps = tt
 
+-- a half that served its input up to where it stopped, and whose replies couldn't be sent off then, ends with what is written as it was, by a fault of writing
 pub unsent : (half : Half) (read told written new : Option (List ℕ)) (served : Result (Unit {0}) Stop)
     → IfSome read (λ input. IfSome told (λ before. ServesHalf half input before written served)) → Keeps written new
     → IfSome read (λ input. IfSome told (λ before. ServesHalf half input before new (Err (CannotContinue Writing))))

@@ -97,6 +97,7 @@ says_more (first ∷ asks) ask left = ap (λ l. Some first ∷ l) (says_more ask
 
 -- ---- the first line
 
+-- where the first line was taken and nothing is written, the session has read its text
 pub first_read : (read told left next written : Option (List ℕ)) (line : List ℕ) → left ≡ read → TakesLine left next line true → Keeps told written
     → ReadsFirst read told (line_text line) next written
 first_read (Some input) (Some before) left next written line e takes keeps =
@@ -116,6 +117,7 @@ no_line None told left next written line e takes keeps = tt
 first_at : (input before line : List ℕ) (left written : Option (List ℕ)) → ReadFirst input before line left written → LineAt input 0 line
 first_at input before line left written r = record { front = []; behind = lines r.rest; split = r.split; counts = refl }
 
+-- a first line that is text and asks for no machine ends the session there, as line 1
 pub first_bad : (read told left written : Option (List ℕ)) (line : List ℕ) → ReadsFirst read told line left written → IsUtf8 line → Begins line (Err NoCommand)
     → Ended read told written (Err (BadCommand 1))
 first_bad (Some input) (Some before) left written line r is none = (
@@ -136,6 +138,7 @@ first_bad (Some input) (Some before) left written line r is none = (
 first_bad (Some input) None left written line r is none = tt
 first_bad None told left written line r is none = tt
 
+-- a first line that isn't text ends the session
 pub first_no_text : (read told left written : Option (List ℕ)) (line : List ℕ) → ReadsFirst read told line left written → (IsUtf8 line → ⊥)
     → Ended read told written (Err (CannotContinue NotText))
 first_no_text (Some input) (Some before) left written line r bad = (0, inl (refl, r.written_is), line, first_at input before line left written r, bad)
@@ -148,6 +151,7 @@ first_no_memory (Some input) (Some before) left written line r = (0, inl (refl, 
 first_no_memory (Some input) None left written line r = tt
 first_no_memory None told left written line r = tt
 
+-- where the first line can't be read, the session ends by this fault, with nothing written
 pub first_not_read : (reads writes : Bool) (read told written : Option (List ℕ)) (fault : Fault) → ReadFails reads writes fault → Keeps told written
     → Ended read told written (Err (CannotContinue fault))
 first_not_read reads writes (Some input) (Some before) written Reading why keeps = (0, inl (refl, kept before (Some before) written refl keeps))
@@ -199,6 +203,7 @@ begun input before line left mid new m r b e = record {
   ends = refl;
 }
 
+-- a first line that asks for a machine, and is answered by `ok`, is answered: line 2 is next, with the new machine
 pub first_begun : (read told left mid new : Option (List ℕ)) (line : List ℕ) (m : Seen) → ReadsFirst read told line left mid → Begins line (Ok m)
     → Appends mid new (line_of (codes "ok")) → Going read told left new 2 m
 first_begun (Some input) (Some before) left mid new line m r b e =
@@ -228,6 +233,7 @@ first_cut input before line left mid new m Memory r b takes = (0, inl (refl, kep
 first_cut input before line left mid new m NotText r b takes = elim takes [ ]
 first_cut input before line left mid new m TooManyLines r b takes = elim takes [ ]
 
+-- where the `ok` for a machine isn't taken whole, the session ends by this fault
 pub first_not_written : (read told left mid new : Option (List ℕ)) (line : List ℕ) (m : Seen) (fault : Fault) → ReadsFirst read told line left mid
     → Begins line (Ok m)
     → Takes mid new (line_of (codes "ok")) (Err fault) → Ended read told new (Err (CannotContinue fault))
@@ -257,6 +263,7 @@ reads_at input before line old new written mid number m g takes keeps =
       ends = same ∙ g.ends;
     }
 
+-- where the next line was taken and what is written stays, the session has read its text
 pub line_read : (read told left next written mid : Option (List ℕ)) (line : List ℕ) (number : ℕ) (m : Seen)
     → Going read told left written number m → TakesLine left next line true → Keeps written mid → Reads read told (line_text line) next mid number m
 line_read (Some input) (Some before) left next written mid line number m g takes keeps = reads_at input before line left next written mid number m g takes keeps
@@ -300,6 +307,7 @@ goes_on input before line reply left mid new number m after r said e =
       ends = refl;
     }
 
+-- a line that was read and answered, and whose answer is written, is one more answered line, and the machine goes on behind it
 pub line_answered : (read told left mid new : Option (List ℕ)) (line reply : List ℕ) (number : ℕ) (m after : Seen)
     → Reads read told line left mid number m → AnswersLine line m after reply (Ok tt) → Appends mid new reply → Going read told left new (number + 1) after
 line_answered (Some input) (Some before) left mid new line reply number m after r said e =
@@ -319,6 +327,7 @@ ends input before line left next written mid number m g takes keeps =
     (kept (before ++ line_of (codes "ok") ++ flat_map line_of a.texts) written mid a.prints keeps) in
     inr (g.count, b)
 
+-- where there is no further line, the session ends with each line answered
 pub all_answered : (read told left next written mid : Option (List ℕ)) (line : List ℕ) (number : ℕ) (m : Seen)
     → Going read told left written number m → TakesLine left next line false → Keeps written mid → Ended read told mid (Ok tt)
 all_answered (Some input) (Some before) left next written mid line number m g takes keeps = ends input before line left next written mid number m g takes keeps
@@ -333,24 +342,28 @@ bad_at input before line left mid number m r is none =
     (ap (λ o. o ∷ map ask_of (lines r.rest)) none) a.prints in
     (r.count, r.number_is, inr (map ask_of (lines r.rest), b), (line, r.at, is))
 
+-- a line that is text and asks nothing ends the session there, by its number
 pub bad_line : (read told left mid : Option (List ℕ)) (line reply : List ℕ) (number : ℕ) (m after : Seen)
     → Reads read told line left mid number m → IsUtf8 line → AnswersLine line m after reply (Err NoCommand) → Ended read told mid (Err (BadCommand number))
 bad_line (Some input) (Some before) left mid line reply number m after r is none = bad_at input before line left mid number m r is none
 bad_line (Some input) None left mid line reply number m after r is none = tt
 bad_line None told left mid line reply number m after r is none = tt
 
+-- a line that isn't text ends the session
 pub no_text : (read told left mid : Option (List ℕ)) (line : List ℕ) (number : ℕ) (m : Seen)
     → Reads read told line left mid number m → (IsUtf8 line → ⊥) → Ended read told mid (Err (CannotContinue NotText))
 no_text (Some input) (Some before) left mid line number m r bad = (r.count, inr (ask_of line ∷ map ask_of (lines r.rest), r.answered), line, r.at, bad)
 no_text (Some input) None left mid line number m r bad = tt
 no_text None told left mid line number m r bad = tt
 
+-- want of memory for a line that was read ends the session
 pub no_memory : (read told left mid : Option (List ℕ)) (line : List ℕ) (number : ℕ) (m : Seen)
     → Reads read told line left mid number m → Ended read told mid (Err (CannotContinue Memory))
 no_memory (Some input) (Some before) left mid line number m r = (r.count, inr (ask_of line ∷ map ask_of (lines r.rest), r.answered))
 no_memory (Some input) None left mid line number m r = tt
 no_memory None told left mid line number m r = tt
 
+-- the session ends where the next line has a number above the most that are counted
 pub too_many : (read told left written : Option (List ℕ)) (number : ℕ) (m : Seen)
     → Going read told left written number m → number ≡ most_lines + 1 → Ended read told written (Err (CannotContinue TooManyLines))
 too_many (Some input) (Some before) left written number m g e =
@@ -377,6 +390,7 @@ halted reads writes input before left written mid number m Memory g e why =
 halted reads writes input before left written mid number m NotText g e why = elim why [ ]
 halted reads writes input before left written mid number m TooManyLines g e why = elim why [ ]
 
+-- where the next line can't be read, the session ends by this fault, with what is written as it was
 pub not_read : (reads writes : Bool) (read told left written mid : Option (List ℕ)) (number : ℕ) (m : Seen) (fault : Fault)
     → Going read told left written number m → ReadFails reads writes fault → Keeps written mid → Ended read told mid (Err (CannotContinue fault))
 not_read reads writes (Some input) (Some before) left written mid number m fault g why keeps =
@@ -411,6 +425,7 @@ cut input before line reply left mid new number m after Memory r said takes =
 cut input before line reply left mid new number m after NotText r said takes = elim takes [ ]
 cut input before line reply left mid new number m after TooManyLines r said takes = elim takes [ ]
 
+-- where the answer to a line isn't taken whole, the session ends by this fault
 pub not_written : (read told left mid new : Option (List ℕ)) (line reply : List ℕ) (number : ℕ) (m after : Seen) (fault : Fault)
     → Reads read told line left mid number m → AnswersLine line m after reply (Ok tt) → Takes mid new reply (Err fault)
     → Ended read told new (Err (CannotContinue fault))
@@ -424,6 +439,7 @@ pub reads_as : (read told left mid : Option (List ℕ)) (line text : List ℕ) (
     → text ≡ line → Reads read told line left mid number m → Reads read told text left mid number m
 reads_as read told left mid line text number m e r = subst (λ (l : List ℕ). Reads read told l left mid number m) (sym e) r
 
+-- a first line that was read was read as any equal text
 pub first_as : (read told left mid : Option (List ℕ)) (line text : List ℕ) → text ≡ line → ReadsFirst read told line left mid
     → ReadsFirst read told text left mid
 first_as read told left mid line text e r = subst (λ (l : List ℕ). ReadsFirst read told l left mid) (sym e) r

@@ -56,6 +56,7 @@ Reads read told line left written number names = IfSome read (λ input. IfSome t
 
 -- ---- answers
 
+-- at first no line is answered, nothing but what was there before is written, and all 16 names are free
 pub none_answered : (input before : List ℕ) → Answered input before (commands_of input) (Some before) 0 (replicate 16 Free)
 none_answered input before = record { commands = []; replies = []; counts = refl; say = refl; run = refl; prints = ap Some (sym (append-nil before)) }
 
@@ -71,6 +72,7 @@ at_start input before = record {
   answered = none_answered input before;
 }
 
+-- a session begins with line 1 as the next, nothing read or written, and 16 free names
 pub begins : (read told left : Option (List ℕ)) (names : List Slot) → left ≡ read → names ≡ replicate 16 Free → Going read told left told 1 names
 begins (Some input) (Some before) left names e f =
     subst (λ (l : Option (List ℕ)). GoesOn input before l (Some before) 1 names) (sym e)
@@ -139,6 +141,7 @@ reads_at input before line old new written mid number names g takes keeps =
           keeps;
     }
 
+-- where the next line was taken and what is written stays, the session has read its text
 pub line_read : (read told left next written mid : Option (List ℕ)) (line : List ℕ) (number : ℕ) (names : List Slot)
     → Going read told left written number names → TakesLine left next line true → Keeps written mid → Reads read told (line_text line) next mid number names
 line_read (Some input) (Some before) left next written mid line number names g takes keeps =
@@ -163,6 +166,7 @@ goes_on input before line reply left mid new number names after read a e = recor
       a.step (subst (λ (l : List ℕ). Appends mid new l) a.prints e);
 }
 
+-- a line that was read and says a command that is done and whose reply is written is one more answered line, with the names behind it
 pub line_answered : (read told left mid new : Option (List ℕ)) (line reply : List ℕ) (number : ℕ) (names after : List Slot)
     → Reads read told line left mid number names → AnswersLine line names after reply (Ok tt) → Appends mid new reply
     → Going read told left new (number + 1) after
@@ -183,6 +187,7 @@ ends input before left next written mid line number names g takes keeps =
           (told_so input before (commands_of g.rest) [] written g.count names (ap (map command_of) none) g.answered) keeps,
     )
 
+-- where there is no further line, the session ends with each line answered
 pub all_answered : (read told left next written mid : Option (List ℕ)) (line : List ℕ) (number : ℕ) (names : List Slot)
     → Going read told left written number names → TakesLine left next line false → Keeps written mid → Ended read told mid (Ok tt)
 all_answered (Some input) (Some before) left next written mid line number names g takes keeps =
@@ -250,6 +255,7 @@ halted reads writes input before left written mid number names Memory g why keep
 halted reads writes input before left written mid number names NotText g why keeps = elim why [ ]
 halted reads writes input before left written mid number names TooManyLines g why keeps = elim why [ ]
 
+-- where the next line can't be read, the session ends by this fault, with what is written as it was
 pub not_read : (reads writes : Bool) (read told left written mid : Option (List ℕ)) (number : ℕ) (names : List Slot) (fault : Fault)
     → Going read told left written number names → ReadFails reads writes fault → Keeps written mid → Ended read told mid (Err (CannotContinue fault))
 not_read reads writes (Some input) (Some before) left written mid number names fault g why keeps =
@@ -297,6 +303,7 @@ cut input before line reply left mid new number names after Memory read a takes 
 cut input before line reply left mid new number names after NotText read a takes = elim takes [ ]
 cut input before line reply left mid new number names after TooManyLines read a takes = elim takes [ ]
 
+-- where the reply to a line isn't taken whole, the session ends by this fault
 pub not_written : (read told left mid new : Option (List ℕ)) (line reply : List ℕ) (number : ℕ) (names after : List Slot) (fault : Fault)
     → Reads read told line left mid number names → AnswersLine line names after reply (Ok tt) → Takes mid new reply (Err fault)
     → Ended read told new (Err (CannotContinue fault))

@@ -16,6 +16,7 @@ not_empty : (bytes : List ℕ) (n : ℕ) → suc n ≡ length (take_through 10 b
 not_empty [] n e = absurd (omega (arith, e))
 not_empty (b ∷ bytes) n e = omega arith
 
+-- bytes that were read up to a 10 and with it, or up to the end, are the first line; where none were read there is no line
 pub takes_line : (old new : Option (List ℕ)) (line : List ℕ) (n : ℕ) → n ≡ length line → IfSome old (λ bytes. line ≡ take_through 10 bytes)
     → DropsThrough old new 10 → (n ≡ 0 → IsAtEnd old) → TakesLine old new line (nat_lt 0 n)
 takes_line None new line n e h d z = tt
@@ -56,6 +57,7 @@ buffer_first true buffer inner = tt
 buffer_first false buffer (Some behind) = (behind, refl)
 buffer_first false buffer None = tt
 
+-- the bytes of a buffer up to its first 10 and with it, which are then consumed, are the first line
 pub takes_found : (old new : Option (List ℕ)) (buffer line : List ℕ) (place : ℕ) → IfSome old (λ bytes. (behind : List ℕ) × (bytes ≡ buffer ++ behind))
     → IsFirstByte (is_byte 10) buffer (Some place) → line ≡ take (place + 1) buffer
     → DropsConsumable old new (Some (length buffer)) (place + 1) → TakesLine old new line true

@@ -31,6 +31,7 @@ appends_kept None mid new front e f = tt
 pub none_sent : (old : Option (List ℕ)) (text : List ℕ) → Sent old old text text
 none_sent old text = record { front = []; split = refl; appends = appends_none old }
 
+-- a writer that took a front of a text and then some first bytes of the rest took both as a front, and the other bytes are the rest
 pub more_sent : (old mid new : Option (List ℕ)) (text rest : List ℕ) (n : ℕ) → Sent old mid text rest → Appends mid new (take n rest)
     → Sent old new text (drop n rest)
 more_sent old mid new text rest n s e = record {
@@ -39,6 +40,7 @@ more_sent old mid new text rest n s e = record {
   appends = appends_more old mid new s.front (take n rest) s.appends e;
 }
 
+-- a writer that keeps what it has still has taken this front of the text
 pub same_sent : (old mid new : Option (List ℕ)) (text rest : List ℕ) → Sent old mid text rest → Keeps mid new → Sent old new text rest
 same_sent old mid new text rest s e = record { front = s.front; split = s.split; appends = appends_kept old mid new s.front s.appends e }
 
@@ -53,6 +55,7 @@ front_taken : (front rest : List ℕ) → take (length front) (front ++ rest) �
 front_taken [] rest = refl
 front_taken (x ∷ front) rest = ap (λ l. x ∷ l) (front_taken front rest)
 
+-- where a writer has taken a front of a text, it may have failed in writing it
 pub part_sent : (old new : Option (List ℕ)) (text rest : List ℕ) → Sent old new text rest → Takes old new text (Err Writing)
 part_sent old new text rest s =
     (length s.front, subst (λ (l : List ℕ). Appends old new l) (sym (ap (take (length s.front)) s.split ∙ front_taken s.front rest)) s.appends)

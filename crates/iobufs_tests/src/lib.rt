@@ -25,6 +25,8 @@ mod runs;
 #[cfg(test)]
 mod scale;
 #[cfg(test)]
+mod streams;
+#[cfg(test)]
 mod strung;
 #[cfg(test)]
 mod texts;

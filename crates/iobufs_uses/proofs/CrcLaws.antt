@@ -1,4 +1,4 @@
--- Sums byte by byte.
+-- CRC-32 byte by byte: a byte of the sum goes by its own sum, which a table has.
 use Rattle.std.specs.Prelude.{Bool, true, false, ℕ, zero, suc, ◌+◌, ◌*◌, ◌/◌, ◌%◌, ◌^◌, ◌<◌, ◌≡◌, ◌==◌, if◌then◌else◌, List, [], ◌∷◌, refl}
 use Rattle.std.specs.Int.Bits.{bit_xor, xor_assoc, xor_shifted}
 use Rattle.std.proofs.Common.{arith, ap, mul_assoc, pow-suc, slice_index_or, sym, ◌∙◌}
@@ -52,6 +52,7 @@ sum_at zero from i within = absurd (omega (arith, within))
 sum_at (suc n) from zero within = ap (crc_bits 8) (let e : from ≡ from + 0 = omega arith in e)
 sum_at (suc n) from (suc i) within = sum_at n (suc from) i (omega (arith, within)) ∙ ap (crc_bits 8) (let e : suc from + i ≡ from + suc i = omega arith in e)
 
+-- the table of the sums of all bytes has at a byte's place the sum of its eight bits
 pub table_sum : (table : List ℕ) (byte place : ℕ) → table ≡ byte_sums 256 0 → byte < 2 ^ 8 → place ≡ byte → slice_index_or table place 0 ≡ crc_bits 8 byte
 table_sum table byte place is small at = ap (λ t. slice_index_or t place 0) is ∙ ap (λ i. slice_index_or (byte_sums 256 0) i 0) at
     ∙ sum_at 256 0 byte small ∙ ap (crc_bits 8) (let e : 0 + byte ≡ byte = omega arith in e)

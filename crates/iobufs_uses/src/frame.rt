@@ -23,7 +23,7 @@ pub fn frame(alloc: Global, body: &IoBuf) -> Result<IoBufs, Error>
 pub fn read_frame(alloc: Global, text: &mut IoBufs, most: usize) -> Result<IoBuf, Error>
     ensures framed { IfOk result (λ body. text.old.bytes ≡ bytes_written body.bytes ++ text.new.bytes) }
     ensures short { IfOk result (λ body. length body.bytes ≤ most) }
-    ensures same { OnErr result (text.new ≡ text.old) }
+    ensures unchanged { OnErr result (text.new ≡ text.old) }
     ensures back { (body rest : List ℕ) → length body ≤ most → text.old.bytes ≡ bytes_written body ++ rest → AreReadBack body rest text.new.bytes result }
 {
     IoBuf::read_cfg(alloc, text, &RangeCfg { lo: 0, hi: most })

@@ -70,7 +70,7 @@ pub fn append_record(
     body: &[u8],
 ) -> Result<(), Error>
     ensures done { OnOk result (journal.new.bytes ≡ journal.old.bytes ++ record_written number body.now) }
-    ensures same { OnErr result (journal.new ≡ journal.old) }
+    ensures unchanged { OnErr result (journal.new ≡ journal.old) }
     ensures memory { length journal.old.bytes + length body.now < 2 ^ 62 → IsOkUnless result Error.Memory }
 {
     let record = record_of(alloc, number, body)?;

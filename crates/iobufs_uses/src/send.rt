@@ -46,7 +46,7 @@ fn send_batch<W: Write>(
     most: usize,
 ) -> io::Result<usize>
     ensures sent { IsSent (W.contents to.old) (W.contents to.new) text.old.bytes text.new.bytes }
-    ensures same { OnErr result (text.new ≡ text.old) }
+    ensures unchanged { OnErr result (text.new ≡ text.old) }
     ensures count { IfOk result (λ n. length text.old.bytes ≡ n + length text.new.bytes) }
     ensures batch { WritesAtMost result (first_chunks text.old most) }
 {

@@ -29,7 +29,7 @@ fn refusal<T: Write>(alloc: Global, value: &T) -> Option<Error> {
 }
 
 // A buffer of just the size of a value, with the value written to it.
-fn written<T: Write>(alloc: Global, value: &T) -> Result<IoBufMut, Fail> {
+pub fn written<T: Write>(alloc: Global, value: &T) -> Result<IoBufMut, Fail> {
     let size = value.encode_size().ok_or("too long")?;
     let mut part = IoBufMut::with_capacity(alloc, size)?;
     value.write(&mut part);
@@ -37,7 +37,7 @@ fn written<T: Write>(alloc: Global, value: &T) -> Result<IoBufMut, Fail> {
 }
 
 // How many bytes of a value are put inline.
-fn inline_size<T: EncodeSize>(value: &T) -> Option<usize> {
+pub fn inline_size<T: EncodeSize>(value: &T) -> Option<usize> {
     value.encode_size()?;
     Some(value.encode_inline_size())
 }

@@ -1,4 +1,5 @@
 // Lengths that lie and ranges at their ends: each text as one chunk of a view and of a text, and as a chunk a byte.
+use crate::made::bytewise;
 use crate::record::Record;
 use iobufs::bufs::IoBufs;
 use iobufs_core::buf::{IoBuf, IoBufMut};
@@ -15,15 +16,6 @@ const ALL: RangeCfg = RangeCfg {
     lo: 0,
     hi: usize::MAX,
 };
-
-// A chunk a byte.
-fn bytewise(alloc: Global, text: &'static [u8]) -> Result<IoBufs, Fail> {
-    let mut all = IoBufs::default();
-    for i in 0..text.len() {
-        all.append(alloc, IoBuf::from(&text[i..=i]))?;
-    }
-    Ok(all)
-}
 
 // Its chunks, copied.
 fn chunks<B: Buf>(alloc: Global, buf: &B) -> Result<Vec<Vec<u8>>, Fail> {
@@ -99,7 +91,13 @@ fn assert_read(
 ) -> Result<(), Fail> {
     assert_both(rt, IoBuf::from(text), range, view, length)?;
     assert_both(rt, IoBufs::from(text), range, view, length)?;
-    assert_both(rt, bytewise(rt.alloc(), text)?, range, view, length)
+    assert_both(
+        rt,
+        bytewise(rt.alloc(), &IoBuf::from(text))?,
+        range,
+        view,
+        length,
+    )
 }
 
 #[test]
@@ -162,7 +160,7 @@ fn a_read_view_keeps_its_mark(rt: HostRuntime) -> Result<(), Fail> {
     assert!(rt; view.is_empty());
     drop(view);
     assert_eq!(rt; recovered(&rt, read)?, 7);
-    let mut across = bytewise(alloc, b"\x02ab")?;
+    let mut across = bytewise(alloc, &IoBuf::from(b"\x02ab".as_slice()))?;
     let read = IoBuf::read_cfg(alloc, &mut across, &SOME)?;
     assert_eq!(rt; recovered(&rt, read)?, 2);
     let mut view = IoBuf::from(b"\x02ab".as_slice());
@@ -196,7 +194,7 @@ fn each_beginning_of_a_record_is_open(rt: HostRuntime) -> Result<(), Fail> {
     let whole = b"\x01\x02\x03\x04\x05\x06\x07".as_slice();
     assert_eq!(rt; record.encode(alloc)?.as_ref(), whole);
     for n in 0..7 {
-        let mut front = bytewise(alloc, &whole[..n])?;
+        let mut front = bytewise(alloc, &IoBuf::from(&whole[..n]))?;
         assert_eq!(rt;
             Record::read_cfg(alloc, &mut front, &()),
             Err(Error::EndOfBuffer)
@@ -204,7 +202,7 @@ fn each_beginning_of_a_record_is_open(rt: HostRuntime) -> Result<(), Fail> {
         assert_eq!(rt; (front.len(), front.chunk_count()), (n, n));
     }
     assert_eq!(rt;
-        Record::read_cfg(alloc, &mut bytewise(alloc, whole)?, &()),
+        Record::read_cfg(alloc, &mut bytewise(alloc, &IoBuf::from(whole))?, &()),
         Ok(record)
     );
     Ok(())

@@ -1,7 +1,7 @@
 // Lengths and views as they are written and read.
-use iobufs_core::buf::{IoBuf, IoBufMut};
-use iobufs_core::codec::{Buf, EncodeSize, Error, RangeCfg, Read, Write};
-use std::alloc::Global;
+use crate::encode::{inline_size, written};
+use iobufs_core::buf::IoBuf;
+use iobufs_core::codec::{Buf, EncodeSize, Error, RangeCfg, Read};
 use std::process::Abort;
 use std::test::Fail;
 
@@ -80,20 +80,6 @@ fn lengths_are_read(rt: HostRuntime) -> Result<(), Fail> {
         (Some(1), Some(2))
     );
     Ok(())
-}
-
-// How many bytes of a view are put inline.
-fn inline_size(view: &IoBuf) -> Option<usize> {
-    view.encode_size()?;
-    Some(view.encode_inline_size())
-}
-
-// A buffer of just the size of a view, with the view written to it.
-fn written(alloc: Global, view: &IoBuf) -> Result<IoBufMut, Fail> {
-    let size = view.encode_size().ok_or("too long")?;
-    let mut part = IoBufMut::with_capacity(alloc, size)?;
-    view.write(&mut part);
-    Ok(part)
 }
 
 #[test]

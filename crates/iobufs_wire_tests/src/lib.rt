@@ -14,8 +14,11 @@ mod hostile;
 mod lengths;
 #[cfg(test)]
 mod made;
+mod message;
 mod record;
 mod shard;
 #[cfg(test)]
 mod values;
+#[cfg(test)]
+mod whole;
 mod zeros;

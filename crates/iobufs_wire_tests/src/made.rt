@@ -118,7 +118,8 @@ fn assert_plain<B: OwnedBuf>(
     buf
 }
 
-fn bytewise(alloc: Global, view: &IoBuf) -> Result<IoBufs, Fail> {
+// A view as a text with a chunk a byte.
+pub fn bytewise(alloc: Global, view: &IoBuf) -> Result<IoBufs, Fail> {
     let mut all = IoBufs::default();
     for i in 0..view.len() {
         all.append(alloc, view.slice(Included(i), Included(i))?)?;

@@ -1,3 +1,4 @@
+pub mod Front
 pub mod Many
 pub mod NextWord
 pub mod Numbers

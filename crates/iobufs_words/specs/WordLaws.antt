@@ -2,6 +2,7 @@
 --     spaceless, AreSpaceless           a word that a reader of words takes whole: it has no space; and each of some
 --     last_word, next_word,             words that are written with one space between them are read again
 --     words_joined
+--     onto_word                         a first word goes on to the front
 --     number_spelled, byte_spelled,     so are numbers and bytes
 --     numbers_spelled, bytes_spelled
 --     digits_are                        bytes are written as the crate `hex` writes them
@@ -45,12 +46,18 @@ pub next_word : (w rest : List ℕ) → spaceless w ≡ true → words_of (w ++ 
 next_word [] rest e = refl
 next_word (b ∷ bs) rest e = let f = front b bs e in rw f.byte (rw (next_word bs rest f.others) refl)
 
+-- what stands in front of a line, and has no space, stands in front of its first word
+pub onto_word : (front_of line word : List ℕ) (words : List (List ℕ)) → spaceless front_of ≡ true → words_of line ≡ word ∷ words
+    → words_of (front_of ++ line) ≡ (front_of ++ word) ∷ words
+onto_word [] line word words e is = is
+onto_word (b ∷ bs) line word words e is = let f = front b bs e in rw f.byte (rw (onto_word bs line word words f.others is) refl)
+
 -- two words with a plus between them are one
 pub spaceless_seam : (xs ys : List ℕ) → spaceless xs ≡ true → spaceless ys ≡ true → spaceless (xs ++ 43 ∷ ys) ≡ true
 spaceless_seam [] ys g h = h
 spaceless_seam (x ∷ xs) ys g h = let f = front x xs g in rw f.byte (spaceless_seam xs ys f.others h)
 
-spaceless_digits : (ds : List ℕ) → AllDigits 10 ds → spaceless ds ≡ true
+pub spaceless_digits : (ds : List ℕ) → AllDigits 10 ds → spaceless ds ≡ true
 spaceless_digits [] h = refl
 spaceless_digits (c ∷ cs) h =
     let r = digit_from_value c h.0 in

@@ -1,8 +1,11 @@
 // The words of a line.
-ghost use Rattle.std.specs.Prelude.{◌≡◌, ◌⊎◌, ℕ, ◌≤◌, List, [], ◌∷◌, length, MatchOption, Some, None, IfOk, IfErr};
+ghost use Rattle.std.specs.Char.{digit_value};
+ghost use Rattle.std.specs.Prelude.{◌≡◌, ◌⊎◌, ℕ, ◌+◌, ◌*◌, ◌^◌, ◌<◌, ◌≤◌, List, [], ◌∷◌, length, MatchOption, Some, None, IfOk, IfErr};
+ghost use Rattle.iobufs_words.specs.Reading.{words_left};
 ghost use Rattle.iobufs_words.specs.Words.{byte_of, bytes_of, first_byte, first_bytes, first_number, number_of, numbers_of, words_of};
 
 use hex::FromHexError;
+use memchr::memchr;
 use std::alloc::{AllocError, AllocFailed, Global};
 use std::marker::Model;
 
@@ -65,10 +68,10 @@ impl<'a> Words<'a> {
         ensures { MatchOption result ((self.old ≡ []) × (self.new ≡ [])) (λ word. self.old ≡ word.now ∷ self.new) }
     {
         let line = self.rest?;
-        match line.split_once(' ') {
-            Some((word, rest)) => {
-                self.rest = Some(rest);
-                Some(word)
+        match memchr(b' ', line.as_bytes()) {
+            Some(end) => {
+                self.rest = Some(&line[end + 1..]);
+                Some(&line[..end])
             }
             None => {
                 self.rest = None;
@@ -82,10 +85,12 @@ impl<'a> Words<'a> {
         ensures ok { IfOk result (λ n. (word : List ℕ) × (self.old ≡ word ∷ self.new) × (number_of word ≡ Some n)) }
         ensures err { IfErr result (λ error. (error ≡ LineError.NoCommand) × (first_number self.old ≡ None)) }
     {
-        match self.next_word() {
-            Some(word) => number(word),
-            None => Err(LineError::NoCommand),
-        }
+        let Some(line) = self.rest else {
+            return Err(LineError::NoCommand);
+        };
+        let (n, rest) = front_number(line)?;
+        self.rest = rest;
+        Ok(n)
     }
 
     /// Takes the next word, which is a number of at most 255.
@@ -132,6 +137,39 @@ impl<'a> Words<'a> {
             None => Ok(()),
         }
     }
+}
+
+// The number in front of a line, up to its first space, and what stands behind that space, if there is one.
+fn front_number(line: &str) -> Result<(usize, Option<&str>), LineError>
+    ensures ok { IfOk result (λ n. (word : List ℕ) × (words_of line.now ≡ word ∷ words_left n.1) × (number_of word ≡ Some n.0)) }
+    ensures err { IfErr result (λ error. (error ≡ LineError.NoCommand) × (first_number (words_of line.now) ≡ None)) }
+{
+    let bytes = line.as_bytes();
+    if bytes.is_empty() {
+        return Err(LineError::NoCommand);
+    }
+    let mut n = 0;
+    for place in 0..bytes.len() {
+        if bytes[place] == b' ' && place > 0 {
+            return Ok((n, Some(&line[place + 1..])));
+        }
+        let Some(more) = with_digit(n, bytes[place]) else {
+            return Err(LineError::NoCommand);
+        };
+        n = more;
+    }
+    Ok((n, None))
+}
+
+// A number with one more digit behind it, if it is a digit and the number is not too large.
+fn with_digit(n: usize, digit: u8) -> Option<usize>
+    ensures { MatchOption result ((10 ≤ digit_value digit) ⊎ (2 ^ 64 ≤ n * 10 + digit_value digit))
+        (λ more. (digit_value digit < 10) × (more ≡ n * 10 + digit_value digit) × (more < 2 ^ 64)) }
+{
+    if !digit.is_ascii_digit() {
+        return None;
+    }
+    n.checked_mul(10)?.checked_add((digit - b'0') as usize)
 }
 
 /// Decimal digits, up to the largest number.

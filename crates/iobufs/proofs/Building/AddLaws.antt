@@ -22,6 +22,7 @@ add-full vs ws v is full =
     (λ (h : length v.bytes ≤ 0). subst AreFull (sym (is ∙ rw (same_eq (length v.bytes) 0 (omega arith)) refl)) full)
     (cases_lt 0 (length v.bytes))
 
+-- where views have room for their bytes and so has one more, they have it with that one behind them, or without it where it is empty
 pub add-views : (vs ws : List View) (v : View) → ws ≡ (if length v.bytes == 0 then vs else vs ++ v ∷ []) → AreViews vs → IsView v → AreViews ws
 add-views vs ws v is all view =
     ⊎_elim
@@ -29,6 +30,7 @@ add-views vs ws v is all view =
     (λ (h : length v.bytes ≤ 0). subst AreViews (sym (is ∙ rw (same_eq (length v.bytes) 0 (omega arith)) refl)) all)
     (cases_lt 0 (length v.bytes))
 
+-- full pieces with a view behind them, but without it where it is empty, make their text with the view appended
 pub add-text : (vs ws : List View) (v : View) → ws ≡ (if length v.bytes == 0 then vs else vs ++ v ∷ []) → AreFull vs
     → of_pieces ws ≡ text_append (of_pieces vs) v
 add-text vs ws v is full =
@@ -55,6 +57,7 @@ pub record IsAdded (vs ws : List View) (v : View) : Type 0 where
   pub at_most : length ws ≤ length vs + 1
   pub bytes : length (pieces_bytes ws) ≡ length (pieces_bytes vs) + length v.bytes
 
+-- a view behind others, but not where it is empty, adds its bytes to theirs, and at most one to their number
 pub add-length : (vs ws : List View) (v : View) → ws ≡ (if length v.bytes == 0 then vs else vs ++ v ∷ []) → IsAdded vs ws v
 add-length vs ws v is =
     ⊎_elim
@@ -82,5 +85,6 @@ full-joined ws (v ∷ vs) some full =
     ∙ full-joined (ws ++ v ∷ []) vs (add-full ws (ws ++ v ∷ []) v more some) full.1
     ∙ ap (λ (t : MarkedText). fold text_append t vs) (add-text ws (ws ++ v ∷ []) v more some)
 
+-- full pieces make the text that joining them makes
 pub of_pieces-joined : (vs : List View) → AreFull vs → of_pieces vs ≡ joined vs
 of_pieces-joined vs full = full-joined [] vs tt full ∙ ap (λ (t : MarkedText). fold text_append t vs) of_pieces-none

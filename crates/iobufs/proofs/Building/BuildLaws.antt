@@ -8,7 +8,7 @@ use Rattle.iobufs_core.specs.LayoutLaws.{good_layout, large_layout}
 use Rattle.iobufs_core.specs.View.{View, view_of_bytes}
 use Rattle.iobufs_core.specs.Items.{Item, push_item, items_inline, items_pushed}
 use Rattle.iobufs_core.specs.Part.{Part, empty_part, part_put, part_capacity}
-use Rattle.iobufs.specs.Building.{Building, AreInTurn, IsBuilding, inline_run, empty_building, building_put, building_push, building_room, room_for_pushes}
+use Rattle.iobufs.specs.Building.{Building, AreInTurn, IsBuilding, building_items, inline_run, empty_building, building_put, building_push, building_room, room_for_pushes}
 use Rattle.iobufs.specs.Laws.Building.{items_inline-append, items_pushed-append, run-inline, run-pushed, push-some}
 use Rattle.iobufs.specs.Inside.Gaps.{AreSlots, gaps_len, slots_pushed, stood_len}
 use Rattle.iobufs.specs.Inside.Pushes.{items_front, building_with}
@@ -101,6 +101,16 @@ room-building part ss placed counted within =
     let n = front-inline part.filled ss (omega arith) in
     omega arith
 
+-- all inline bytes are in items
+pub inline-building : (part : Part) (ss : List Slot) (placed : ℕ) → gaps_len ss ≡ placed → placed ≤ length part.filled
+    → items_inline (building_items (building_with part ss placed)) ≡ length part.filled
+inline-building part ss placed counted within =
+    let d = length-drop placed part.filled in
+    let n = front-inline part.filled ss (omega arith) in
+    let r = run-inline (drop placed part.filled) in
+    let a = items_inline-append (items_front part.filled ss) (inline_run (drop placed part.filled)) in
+    omega arith
+
 pub pushes-building : (part : Part) (ss : List Slot) (placed pushable : ℕ) → part_capacity part + stood_len ss + pushable + 1 ≡ 2 ^ 64
     → room_for_pushes (building_with part ss placed) ≡ pushable
 pushes-building part ss placed pushable limited =
@@ -149,6 +159,7 @@ in_turn-front bytes (gap n ∷ gap m ∷ ss) h = absurd h
 in_turn-front bytes (gap n ∷ standing view ∷ ss) (some, stands, others) =
     in_turn-run (take n bytes) view (items_front (drop n bytes) ss) stands (in_turn-front (drop n bytes) ss others)
 
+-- what the fields of a builder say takes turns and keeps to its room, where the fields keep what they have to
 pub IsBuilding-kept : (part : Part) (ss : List Slot) (placed pushable : ℕ) (b : Building) → gaps_len ss ≡ placed → placed ≤ length part.filled
     → AreSlots ss → part_capacity part + stood_len ss + pushable + 1 ≡ 2 ^ 64 → building_with part ss placed ≡ b → IsBuilding b
 IsBuilding-kept part ss placed pushable b counted within slots limited is = subst IsBuilding is (
@@ -158,6 +169,7 @@ IsBuilding-kept part ss placed pushable b counted within slots limited is = subs
       fits = omega (arith, front-pushed part.filled ss);
     })
 
+-- a view of bytes has as many as there are
 pub bytes-len : (bytes : List ℕ) → length (view_of_bytes bytes).bytes ≡ length bytes
 bytes-len bytes = grind (arith, nat_tests, common_steps)
 

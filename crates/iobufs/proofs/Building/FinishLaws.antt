@@ -120,6 +120,7 @@ inline-bytes : (room : ℕ) (bytes : List ℕ) → (inline_view room bytes).byte
 inline-bytes room [] = refl
 inline-bytes room (b ∷ bs) = ap (λ (v : View). v.bytes) (inline-some room (b ∷ bs) (omega arith))
 
+-- a part is frozen with its filled bytes
 pub frozen-bytes : (part : Part) → (part_frozen part).bytes ≡ part.filled
 frozen-bytes part = inline-bytes (part_capacity part) part.filled
 
@@ -136,9 +137,11 @@ finished-bytes b =
     ∙ items_bytes-append b.front (inline_run b.last)
     ∙ ap (λ more. items_bytes b.front ++ more) (run-bytes b.last)
 
+-- what a new builder makes of items has the bytes of the items, whatever its capacity
 pub encoded-bytes : (capacity : ℕ) (items : List Item) → (finished (building_after (empty_building capacity) items)).bytes ≡ items_bytes items
 encoded-bytes capacity items = finished-bytes (building_after (empty_building capacity) items) ∙ bytes-built (empty_building capacity) items
 
+-- the bytes of items are as many as those that are put and those that are pushed
 pub items-len : (items : List Item) → length (items_bytes items) ≡ items_inline items + items_pushed items
 items-len [] = omega arith
 items-len (put_item bytes ∷ items) = let n = length-append bytes (items_bytes items) in let ih = items-len items in omega arith
@@ -163,6 +166,7 @@ built-nothing b (push_item view ∷ items) none =
     let n = length-append view.bytes (items_bytes items) in
     built-nothing (building_push b view) items (omega arith) ∙ push-none b view (omega arith)
 
+-- a new builder that is given items without bytes has no item
 pub nothing-built : (capacity : ℕ) (items : List Item) → length (items_bytes items) ≡ 0 → building_items (building_after (empty_building capacity) items) ≡ []
 nothing-built capacity items none = ap building_items (built-nothing (empty_building capacity) items none)
 

@@ -39,15 +39,18 @@ slots-append (gap n ∷ standing v ∷ ss) ts (some, stands, others) g = (some, 
 pushed-some : (n : ℕ) (v : View) → 0 < n → slots_pushed n v ≡ gap n ∷ standing v ∷ []
 pushed-some n v some = rw (not_zero n some) refl
 
+-- a view pushed behind n bytes adds n to those that are to come
 pub gaps-push : (ss : List Slot) (n : ℕ) (v : View) → gaps_len (ss ++ slots_pushed n v) ≡ gaps_len ss + n
 gaps-push ss zero v = gaps-append ss (slots_pushed 0 v)
 gaps-push ss (suc n) v = gaps-append ss (slots_pushed (suc n) v) ∙ ap (λ ts. gaps_len ss + gaps_len ts) (pushed-some (suc n) v (omega arith)) ∙ (omega arith)
 
+-- a view that is pushed adds its bytes to those that stand
 pub stood-push : (ss : List Slot) (n : ℕ) (v : View) → stood_len (ss ++ slots_pushed n v) ≡ stood_len ss + length v.bytes
 stood-push ss zero v = stood-append ss (slots_pushed 0 v) ∙ (omega arith)
 stood-push ss (suc n) v = stood-append ss (slots_pushed (suc n) v) ∙ ap (λ ts. stood_len ss + stood_len ts) (pushed-some (suc n) v (omega arith))
     ∙ (omega arith)
 
+-- where no slot is empty, none is with a view with bytes pushed behind them
 pub slots-push : (ss : List Slot) (n : ℕ) (v : View) → AreSlots ss → 0 < length v.bytes → AreSlots (ss ++ slots_pushed n v)
 slots-push ss zero v h some = slots-append ss (slots_pushed 0 v) h (some, tt)
 slots-push ss (suc n) v h some = slots-append ss (slots_pushed (suc n) v) h (subst AreSlots (sym (pushed-some (suc n) v (omega arith))) (omega arith, some, tt))
@@ -62,6 +65,7 @@ pub record IsFilling (all : List View) (done waiting : List Piece) (rest : View)
   pub within : gaps_len (slots_in waiting) ≤ length rest.bytes
   pub fits : end + stood_len (slots_in waiting) + length rest.bytes < 2 ^ 64
 
+-- a filling begins with no piece done, where the gaps want no more bytes than there are to fill them, and all bytes fit a number
 pub filling-none : (ps : List Piece) (rest : View) → AreSlots (slots_in ps) → gaps_len (slots_in ps) ≤ length rest.bytes
     → stood_len (slots_in ps) + length rest.bytes < 2 ^ 64 → IsFilling (filled rest (slots_in ps)) [] ps rest 0
 filling-none ps rest slots within fits = record {

@@ -1,4 +1,4 @@
--- Several parts as one.
+-- What several parts coalesce to, and bytes that are put into exactly their room.
 use Rattle.std.proofs.Common.{◌≡◌, ℕ, ◌<◌, List, [], ◌∷◌, length, refl, arith}
 use Rattle.iobufs_core.specs.LayoutLaws.{bad_layout_one}
 use Rattle.iobufs_core.specs.Part.{Part, empty_part, part_put}

@@ -1,5 +1,5 @@
--- Draining several parts, and what it keeps.
-use Rattle.std.proofs.Common.{◌≡◌, ℕ, ◌+◌, ◌-◌, ◌<◌, ◌≤◌, List, [], ◌∷◌, ◌++◌, length, drop, refl, sym, ap, ◌∙◌, arith, length-append, length-drop, nat_eq, nat_lt}
+-- What draining leaves of several parts, by the definitions: shares, and those that can hold a byte.
+use Rattle.std.proofs.Common.{◌≡◌, ℕ, ◌-◌, ◌<◌, ◌≤◌, List, [], ◌∷◌, ◌++◌, length, drop, refl, sym, ap, ◌∙◌, arith, length-append, length-drop, nat_eq, nat_lt}
 use Rattle.std.proofs.Math.Seq.{drop-nil}
 use Rattle.std.proofs.lemmas.Bool.{cond_both, cond-true, cond-false, eqb-true, ltb-true, ltb-false, lt-ltb, le-ltb}
 use Rattle.std.proofs.lemmas.List.{nil_from_length}
@@ -53,6 +53,7 @@ able-with_capacity (p ∷ parts) =
     cond_both (nat_lt 0 (part_capacity p)) (p ∷ with_capacity parts) (with_capacity parts) HaveCapacity
     (λ e. (ltb-true 0 (part_capacity p) e, ih)) (λ _. ih)
 
+-- the parts that can hold a byte have the capacity of all
 pub capacity-with_capacity : (parts : List Part) → parts_capacity (with_capacity parts) ≡ parts_capacity parts
 capacity-with_capacity [] = refl
 capacity-with_capacity (p ∷ parts) =
@@ -62,6 +63,7 @@ capacity-with_capacity (p ∷ parts) =
     (λ _. omega (arith, sum_by-cons part_capacity p (with_capacity parts)))
     (λ e. omega (arith, ltb-false 0 (part_capacity p) e))
 
+-- parts that lose their share of some bytes have no more capacity than before
 pub capacity-shared_out : (parts : List Part) (n : ℕ) → parts_capacity (parts_shared_out parts n) ≤ parts_capacity parts
 capacity-shared_out [] n = omega arith
 capacity-shared_out (p ∷ parts) n =
@@ -88,6 +90,7 @@ drained-empty p n none =
     let nil = nil_from_length p.filled none in
     same_part (part_drained p n) p (ap (drop n) nil ∙ drop-nil n ∙ sym nil) refl
 
+-- parts without bytes in front of others lose none, and the others lose their share
 pub shared_out-behind : (empty parts : List Part) (n : ℕ) → length (parts_filled empty) ≡ 0
     → parts_shared_out (empty ++ parts) n ≡ empty ++ parts_shared_out parts n
 shared_out-behind [] parts n none = refl
@@ -103,10 +106,12 @@ pub able-both : (ps qs : List Part) → HaveCapacity ps → HaveCapacity qs → 
 able-both [] qs first second = second
 able-both (p ∷ ps) qs first second = (first.0, able-both ps qs first.1 second)
 
+-- where each part of two lists can hold a byte, each of the first can
 pub able-front : (ps qs : List Part) → HaveCapacity (ps ++ qs) → HaveCapacity ps
 able-front [] qs able = tt
 able-front (p ∷ ps) qs able = (able.0, able-front ps qs able.1)
 
+-- where each part of two lists can hold a byte, each of the second can
 pub able-rest : (ps qs : List Part) → HaveCapacity (ps ++ qs) → HaveCapacity qs
 able-rest [] qs able = able
 able-rest (p ∷ ps) qs able = able-rest ps qs able.1

@@ -19,6 +19,7 @@ pub record IsDraining (row : List Part) (used n : ℕ) (left : List Part) : Type
   pub some : n ≤ length (parts_filled others)
   pub left_is : with_capacity (behind ++ parts_shared_out others n) ≡ left
 
+-- a draining of no more bytes than there are begins; it is to leave each part, in order, without its share, where it can hold a byte then
 pub draining-begins : (row : List Part) (used n : ℕ) → AreBehind row used → HaveCapacity (in_order row used) → n ≤ length (parts_filled row)
     → IsDraining row used n (with_capacity (parts_shared_out (in_order row used) n))
 draining-begins row used n behind able some =
@@ -35,6 +36,7 @@ draining-begins row used n behind able some =
       left_is = ap with_capacity (sym (shared_out-behind (drop k row) (take k row) n behind.empty));
     }
 
+-- where no bytes are to go any more, the parts in order are those that were to be left, and those that are used up stand at the back
 pub draining-ends : (row : List Part) (used n : ℕ) (left : List Part) → n ≡ 0 → IsDraining row used n left → (in_order row used ≡ left) × AreBehind row used
 draining-ends row used n left none d =
     let placed = ap (λ ps. in_order ps used) d.row_is ∙ order-both d.others d.behind used d.used_is in

@@ -16,6 +16,7 @@ order-none row used none =
     let all : length row - used ≡ length row = omega arith in
     ap (λ k. drop k row ++ take k row) all ∙ (λ i. drop_all (length row) row (omega arith) i ++ take_all (length row) row (omega arith) i)
 
+-- a row of which no part is used up is kept, where the sums beside it are its own
 pub kept-none : (row : List Part) (used len capacity : ℕ) → used ≡ 0 → AreSummed row len capacity → AreKept row used len capacity
 kept-none row used len capacity none sums = record {
   behind = record {
@@ -33,6 +34,7 @@ order-both others behind used e =
     ap (λ n. drop n (others ++ behind) ++ take n (others ++ behind)) k
     ∙ (λ i. drop_at others behind (length others) refl i ++ take_at others behind (length others) refl i)
 
+-- parts without bytes at the back of a row are those that are used up
 pub behind-both : (others behind : List Part) (used : ℕ) → used ≡ length behind → length (parts_filled behind) ≡ 0 → AreBehind (others ++ behind) used
 behind-both others behind used e none =
     let sum = length-append others behind in
@@ -42,6 +44,7 @@ behind-both others behind used e none =
       empty = ap (λ ps. length (parts_filled ps)) (drop_at others behind (length (others ++ behind) - used) k) ∙ none;
     }
 
+-- there are as many parts in order as in their row
 pub order-length : (row : List Part) (used : ℕ) → length (in_order row used) ≡ length row
 order-length row used =
     let k = length row - used in
@@ -51,6 +54,7 @@ order-length row used =
 pub filled-both : (ps qs : List Part) → parts_filled (ps ++ qs) ≡ parts_filled ps ++ parts_filled qs
 filled-both ps qs = flat_map-append (λ (p : Part). p.filled) ps qs
 
+-- the bytes of two rows are as many as those of the one and of the other
 pub filled-length : (ps qs : List Part) → length (parts_filled (ps ++ qs)) ≡ length (parts_filled ps) + length (parts_filled qs)
 filled-length ps qs = ap length (filled-both ps qs) ∙ length-append (parts_filled ps) (parts_filled qs)
 
@@ -75,6 +79,7 @@ filled-order row used behind =
     ∙ filled-both (take k row) (drop k row) ∙ ap (λ w. parts_filled (take k row) ++ w) none ∙ append-nil (parts_filled (take k row))
     ∙ sym (filled-both (drop k row) (take k row) ∙ ap (λ w. w ++ parts_filled (take k row)) none)
 
+-- a row has the chunks of its parts in order
 pub chunks-order : (row : List Part) (used : ℕ) → AreBehind row used → parts_chunks row ≡ parts_chunks (in_order row used)
 chunks-order row used behind =
     let k = length row - used in
@@ -99,10 +104,12 @@ pub first-filled : (row : List Part) → length (get_or row 0 (empty_part 0)).fi
 first-filled [] = omega arith
 first-filled (p ∷ row) = omega (arith, length-append p.filled (parts_filled row))
 
+-- a row whose first part is drained has as many parts
 pub first-length : (row : List Part) (n : ℕ) → length (first_drained row n) ≡ length row
 first-length [] n = refl
 first-length (p ∷ row) n = refl
 
+-- a row in which its first part is put back drained is the row whose first part is drained
 pub first-set : (row : List Part) (p q : Part) (n : ℕ) → 0 < length row → p ≡ get_or row 0 p → q ≡ part_drained p n → set row 0 q ≡ first_drained row n
 first-set [] p q n some first is = absurd (omega arith)
 first-set (r ∷ row) p q n some first is = ap (λ x. x ∷ row) (is ∙ ap (λ x. part_drained x n) first)
@@ -128,6 +135,7 @@ overwritten-empty (p ∷ ps) w none =
     let rest : parts_overwritten ps (drop (length p.filled) w) ≡ ps = overwritten-empty ps (drop (length p.filled) w) (omega (arith, both, none)) in
     λ i. same i ∷ rest i
 
+-- bytes written over the parts of a row are written over the parts in order, and those that are used up stay at the back
 pub overwritten-order : (row new : List Part) (used : ℕ) (w : List ℕ) → AreBehind row used → new ≡ parts_overwritten row w
     → (in_order new used ≡ parts_overwritten (in_order row used) w) × AreBehind new used
 overwritten-order row new used w behind is =

@@ -39,6 +39,7 @@ same-length [] (q ∷ qs) h = absurd h
 same-length (p ∷ ps) [] h = absurd h
 same-length (p ∷ ps) (q ∷ qs) h = omega (arith, same-length ps qs h.1)
 
+-- parts each of which has the same capacity as before have the same capacity together
 pub same-capacity : (ps qs : List Part) → HaveSame ps qs → parts_capacity ps ≡ parts_capacity qs
 same-capacity [] [] h = refl
 same-capacity [] (q ∷ qs) h = absurd h
@@ -58,6 +59,7 @@ several-same ps qs h a = record {
   fits = omega (arith, same-capacity ps qs h, a.fits);
 }
 
+-- filling leaves the capacity of each part
 pub same-fill : (parts : List Part) (w : List ℕ) → HaveSame parts (parts_fill parts w)
 same-fill [] w = tt
 same-fill (p ∷ parts) w =
@@ -68,6 +70,7 @@ same-fill (p ∷ parts) w =
 pub several-fill : (parts : List Part) (w : List ℕ) → AreSeveral parts → AreSeveral (parts_fill parts w)
 several-fill parts w h = several-same parts (parts_fill parts w) (same-fill parts w) h
 
+-- another length leaves the capacity of each part
 pub same-with_len : (parts : List Part) (n : ℕ) → HaveSame parts (parts_with_len parts n)
 same-with_len [] n = tt
 same-with_len (p ∷ parts) n =
@@ -80,6 +83,7 @@ same-with_len (p ∷ parts) n =
 pub several-with_len : (parts : List Part) (n : ℕ) → AreSeveral parts → AreSeveral (parts_with_len parts n)
 several-with_len parts n h = several-same parts (parts_with_len parts n) (same-with_len parts n) h
 
+-- bytes written over those that are filled leave the capacity of each part
 pub same-overwritten : (parts : List Part) (w : List ℕ) → HaveSame parts (parts_overwritten parts w)
 same-overwritten [] w = tt
 same-overwritten (p ∷ parts) w =

@@ -1,4 +1,4 @@
--- Parts taken one by one, as an iterator gives them.
+-- Parts that are strung together one by one: which are kept, and why the last one is refused.
 use Rattle.std.proofs.Common.{◌≡◌, ◌+◌, ◌<◌, ◌≤◌, ◌^◌, List, [], ◌∷◌, ◌++◌, length, length-append, refl, sym, ap, ◌∙◌, arith, nat_lt}
 use Rattle.std.proofs.lemmas.Bool.{cond-true, cond-false, lt-ltb, le-ltb}
 use Rattle.std.proofs.lemmas.List.Sums.{sum_by-cons, sum_by_push}
@@ -9,6 +9,7 @@ use Rattle.iobufs.specs.Parts.{HaveCapacity, kept_parts, parts_capacity, parts_o
 use Rattle.iobufs.specs.Inside.PartShape.{AreSeveral}
 use Rattle.iobufs.proofs.Parts.DrainShapes.{able-with_capacity, capacity-with_capacity, with_capacity-all, with_capacity-push}
 
+-- where there is a part, no other has to stand for them
 pub default-some : (parts : List Part) → 0 < length parts → parts_or_default parts ≡ parts
 default-some [] some = absurd (omega arith)
 default-some (p ∷ parts) some = refl
@@ -85,6 +86,7 @@ refused-long front last fits last_fits long =
           (le-ltb (parts_capacity (front ++ last ∷ [])) (2 ^ 64) (omega arith)));
     }
 
+-- a last part with capacity, behind others with some, was refused for want of memory where the capacity of all fits a number
 pub refused-short : (front : List Part) (last : Part) → 0 < parts_capacity front → 0 < part_capacity last
     → parts_capacity front + part_capacity last < 2 ^ 64 → IsRowRefusedAt (front ++ last ∷ []) Memory
 refused-short front last some more short =

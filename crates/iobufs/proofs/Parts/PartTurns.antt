@@ -1,5 +1,5 @@
 -- One turn of a loop that goes over parts by index, front to back.
-use Rattle.std.proofs.Common.{◌≡◌, ℕ, ◌+◌, ◌-◌, ◌<◌, ◌≤◌, List, [], ◌∷◌, ◌++◌, length, take, drop, refl, sym, ap, ◌∙◌, arith, append-nil, append_assoc, take-append-drop, ⊎_elim, min, take_all, get_or, set}
+use Rattle.std.proofs.Common.{◌≡◌, ℕ, ◌+◌, ◌<◌, ◌≤◌, List, [], ◌∷◌, ◌++◌, length, take, drop, refl, sym, ap, ◌∙◌, arith, append-nil, append_assoc, take-append-drop, ⊎_elim, min, take_all, get_or, set}
 use Rattle.std.proofs.lemmas.Bool.{cases_lt}
 use Rattle.std.proofs.Math.Seq.{drop-set-lt}
 use Rattle.std.proofs.lemmas.List.{drop_all, drop_more, take_more_set}

@@ -15,6 +15,7 @@ use Rattle.iobufs.proofs.Parts.PartRuns.{capacity-kept}
 pub spare-summed : (parts : List Part) (len capacity : ℕ) → AreSummed parts len capacity → len + parts_spare parts ≡ capacity
 spare-summed parts len capacity sums = omega (arith, capacity-parts parts, sums.len_is, sums.capacity_is)
 
+-- bytes filled in where there is room for them add to the sum of bytes, and leave that of capacities
 pub summed-fill : (parts new : List Part) (w : List ℕ) (len capacity : ℕ) → AreSummed parts len capacity → length w ≤ parts_spare parts
     → new ≡ parts_fill parts w → AreSummed new (len + length w) capacity
 summed-fill parts new w len capacity sums fits is =
@@ -39,6 +40,7 @@ len-parts (p ∷ parts) n fits =
     let here = len-part p m in
     omega (arith, length-append (part_with_len p m).filled (parts_filled (parts_with_len parts (n - part_capacity p))))
 
+-- so many bytes filled, within the capacity, are the sum of bytes, and leave that of capacities
 pub summed-with_len : (parts new : List Part) (n len capacity : ℕ) → AreSummed parts len capacity → n ≤ parts_capacity parts
     → new ≡ parts_with_len parts n → AreSummed new n capacity
 summed-with_len parts new n len capacity sums fits is =
@@ -62,6 +64,7 @@ len-overwritten (p ∷ parts) w =
       length-append p.filled (parts_filled parts),
     )
 
+-- bytes written over those that are filled leave both sums
 pub summed-overwritten : (parts new : List Part) (w : List ℕ) (len capacity : ℕ) → AreSummed parts len capacity → new ≡ parts_overwritten parts w
     → AreSummed new len capacity
 summed-overwritten parts new w len capacity sums is =
@@ -93,6 +96,7 @@ capacity-drained (p ∷ q ∷ parts) n =
     (λ e. omega (arith, eqb-true n 0 e))
     (λ _. omega (arith, capacity-kept (parts_shared_out all n), capacity-shared all n))
 
+-- bytes that are dropped, no more than there are, go from the sum of bytes and from that of capacities
 pub summed-drained : (parts new : List Part) (n len capacity : ℕ) → AreSummed parts len capacity → n ≤ length (parts_filled parts)
     → new ≡ parts_drained parts n → AreSummed new (len - n) (capacity - n)
 summed-drained parts new n len capacity sums some is =

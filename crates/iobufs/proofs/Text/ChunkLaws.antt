@@ -1,4 +1,4 @@
--- The chunks that a reader sees.
+-- The chunks of a text (`text_chunks`): of pieces that hold bytes the bytes of each, of the empty text none.
 use Rattle.std.proofs.Common.{◌≡◌, ◌<◌, length, true, zero, suc, ℕ, ◌+◌, ◌-◌, List, [], ◌∷◌, ◌++◌, take, drop, map, refl, sym, ap, ◌∙◌, arith}
 use Rattle.std.proofs.Math.Seq.{take-append_seam}
 use Rattle.iobufs_core.specs.View.{View, Mark}

@@ -1,13 +1,13 @@
 -- Bytes copied piece by piece.
-use Rattle.std.proofs.Common.{◌≡◌, ℕ, ◌+◌, ◌-◌, ◌<◌, ◌≤◌, List, [], ◌∷◌, ◌++◌, length, take, drop, map, zero, suc, min, sym, ap, ◌∙◌, arith, add-one, append-nil, append_assoc, length-append, length-drop, length-take-le, drop-cons, get_or, take_all, ⊎_elim, refl}
-use Rattle.std.proofs.lemmas.List.{map-append, take-append-le, drop-append-le}
+use Rattle.std.proofs.Common.{◌≡◌, ℕ, ◌+◌, ◌-◌, ◌<◌, ◌≤◌, List, [], ◌∷◌, ◌++◌, length, take, drop, map, zero, suc, min, sym, ap, ◌∙◌, arith, add-one, append-nil, append_assoc, length-append, length-drop, length-take-le, drop-cons, get_or, take_all, ⊎_elim, refl, take-append-drop}
+use Rattle.std.proofs.lemmas.List.{map-append, take-append-le, drop-append-le, drop-drop, drop_at}
 use Rattle.std.proofs.lemmas.Bool.{cases_lt}
 use Rattle.std.proofs.lemmas.Grind.{flat_map-append}
 use Rattle.iobufs_core.specs.Part.{Part, part_put}
 use Rattle.iobufs_core.specs.View.{View, default_view}
 use Rattle.iobufs.specs.declared.bufs.row.Piece.{Piece}
 use Rattle.iobufs.specs.Inside.Ends.{views_in}
-use Rattle.iobufs.specs.Inside.Pieces.{view_len, piece_at, pieces_bytes}
+use Rattle.iobufs.specs.Inside.Pieces.{view_len, piece_at, pieces_bytes, piece_start}
 use Rattle.std.proofs.Common.{Result, Err, Ok, IsErrAnd, IsOkUnless}
 use Rattle.iobufs.specs.Laws.Filling.{take_past}
 
@@ -42,6 +42,7 @@ pub record IsCopied (ps : List View) (i n : ℕ) (copy target : List ℕ) : Type
   pub left : n - length copy ≤ length (pieces_bytes (drop i ps))
   pub so_far : copy ++ take (n - length copy) (pieces_bytes (drop i ps)) ≡ target
 
+-- a copy that goes on with the bytes of a piece from a place in it on, as many as are wanted, goes on with the next piece from its first byte on
 pub copied-step : (ps : List View) (i o n c k : ℕ) (copy more bytes target : List ℕ) → i < length ps → o ≤ view_len (piece_at ps i)
     → bytes ≡ drop o (piece_at ps i).bytes → c ≤ n → c ≡ length copy → n - c + o ≤ length (pieces_bytes (drop i ps))
     → copy ++ take (n - c) (drop o (pieces_bytes (drop i ps))) ≡ target → k ≡ min (length bytes) (n - c) → more ≡ copy ++ take k bytes →
@@ -93,6 +94,42 @@ filled-step ps i f k dst now bytes l b s r t m same x =
           ∙ append_assoc (take f dst) (take k bytes) (take (length dst - f - k) rest) ∙ ap (λ xs. take f dst ++ xs) (sym turn) ∙ t
           ∙ ap (λ n. take n (pieces_bytes ps)) (sym same);
     }
+
+-- the same from inside a piece on, of bytes that are to come
+pub record IsFilledFrom (ps : List View) (i filled : ℕ) (dst target : List ℕ) : Type 0 where
+  pub some : filled ≤ length dst
+  pub left : length dst - filled ≤ length (pieces_bytes (drop i ps))
+  pub so_far : take filled dst ++ take (length dst - filled) (pieces_bytes (drop i ps)) ≡ target
+
+-- a destination that is filled up to a piece, with as much of that piece as fits put behind, is filled up to the next piece
+pub filled_from-step : (ps : List View) (i o f k : ℕ) (dst now bytes target : List ℕ) → i < length ps → o ≤ view_len (piece_at ps i)
+    → bytes ≡ drop o (piece_at ps i).bytes → f ≤ length dst → length dst - f + o ≤ length (pieces_bytes (drop i ps))
+    → take f dst ++ take (length dst - f) (drop o (pieces_bytes (drop i ps))) ≡ target → k ≡ min (length bytes) (length dst - f) → length now ≡ length dst
+    → take (f + k) now ≡ take f dst ++ take k bytes → IsFilledFrom ps (i + 1) (f + k) now target
+filled_from-step ps i o f k dst now bytes target l h b s r t m same x =
+    let rest = pieces_bytes (drop (i + 1) ps) in
+    let whole : drop o (pieces_bytes (drop i ps)) ≡ bytes ++ rest = bytes-from ps i o l h ∙ ap (λ xs. xs ++ rest) (sym b) in
+    let total : length (pieces_bytes (drop i ps)) - o ≡ length bytes + length rest =
+    sym (length-drop o (pieces_bytes (drop i ps))) ∙ ap length whole ∙ length-append bytes rest in
+    let left : length now - (f + k) ≡ length dst - f - k = omega arith in
+    let turn : take (length dst - f) (drop o (pieces_bytes (drop i ps))) ≡ take k bytes ++ take (length dst - f - k) rest =
+    copied-turn ps i o (length dst - f) bytes l h b ∙ ap (λ j. take j bytes ++ take (length dst - f - j) rest) (sym m) in
+    record {
+      some = omega arith;
+      left = omega arith;
+      so_far = ap (λ j. take (f + k) now ++ take j rest) left ∙ ap (λ xs. xs ++ take (length dst - f - k) rest) x
+          ∙ append_assoc (take f dst) (take k bytes) (take (length dst - f - k) rest) ∙ ap (λ xs. take f dst ++ xs) (sym turn) ∙ t;
+    }
+
+-- the bytes from a place on, seen from its piece and from the front
+pub from-place : (ps : List View) (at i o : ℕ) → piece_start ps i + o ≡ at → drop o (pieces_bytes (drop i ps)) ≡ drop at (pieces_bytes ps)
+from-place ps at i o e =
+    let front = pieces_bytes (take i ps) in
+    let behind = pieces_bytes (drop i ps) in
+    let whole : front ++ behind ≡ pieces_bytes ps =
+    sym (flat_map-append (λ (v : View). v.bytes) (take i ps) (drop i ps)) ∙ ap pieces_bytes (take-append-drop i ps) in
+    ap (drop o) (sym (drop_at front behind (length front) refl)) ∙ drop-drop o (length front) (front ++ behind) ∙ ap (λ n. drop n (front ++ behind)) e
+    ∙ ap (drop at) whole
 
 chunk-next : (ps : List View) (i : ℕ) → i < length ps → take (suc i) (map (λ (p : View). p.bytes) ps) ≡ take i (map (λ (p : View). p.bytes) ps)
     ++ (piece_at ps i).bytes ∷ []

@@ -1,4 +1,4 @@
--- Ends of pieces, counted from a base.
+-- Stored ends of pieces, counted from a base, and that a row stays one (`IsRow`) where a piece comes or goes.
 use Rattle.std.proofs.Common.{◌≡◌, ℕ, ◌+◌, ◌-◌, ◌%◌, ◌^◌, ◌<◌, ◌≤◌, List, [], ◌∷◌, ◌++◌, length, take, drop, zero, suc, refl, sym, ap, ◌∙◌, arith, subst, get_or, take_all, append-nil, zero-add, length-append, length-drop, slice_index_or}
 use Rattle.std.proofs.lemmas.List.{length-map, map-append}
 use Rattle.iobufs.proofs.Text.PieceLaws.{AreFull-append}
@@ -85,6 +85,7 @@ end-at b start (suc i) (p ∷ ps) h l =
     let len = length-first p.view (take (suc i) (views_in ps)) in
     end-at b (start + view_len p.view) i ps h.1 (omega arith) ∙ (omega arith)
 
+-- the next piece begins where this one ends
 pub start-next : (vs : List View) (i : ℕ) → i < length vs → piece_start vs (suc i) ≡ piece_start vs i + view_len (piece_at vs i)
 start-next [] i l = absurd (omega arith)
 start-next (v ∷ vs) zero l = ap length (append-nil v.bytes) ∙ (omega arith)
@@ -109,6 +110,7 @@ starts-rise vs i (suc n) f l =
     let s = start-next vs (i + suc n) (omega arith) in
     let e : i + suc (suc n) ≡ suc (i + suc n) = omega arith in rw e (omega arith)
 
+-- of full pieces a later one begins further on, and the end lies further on than each
 pub starts-below : (vs : List View) (i j : ℕ) → AreFull vs → i < j → j ≤ length vs → piece_start vs i < piece_start vs j
 starts-below vs i j f l m =
     let h = starts-rise vs i (j - i - 1) f (omega arith) in
@@ -157,9 +159,11 @@ place-first b ps at i start h first is =
 full-push : (vs : List View) (v : View) → AreFull vs → 0 < view_len v → AreFull (vs ++ v ∷ [])
 full-push vs v f p = AreFull-append vs (v ∷ []) f (p, tt)
 
+-- the views of pieces with one more are those of the pieces, and behind them its own
 pub views-push : (ps : List Piece) (p : Piece) → views_in (ps ++ p ∷ []) ≡ views_in ps ++ p.view ∷ []
 views-push ps p = map-append (λ (q : Piece). q.view) ps (p ∷ [])
 
+-- a row with one more piece behind it, which has bytes and whose end is stored, is a row, where all bytes fit a number
 pub row-push : (b e : ℕ) (ps qs : List Piece) (v : View) → IsRow b ps → 0 < view_len v → length (pieces_bytes (views_in ps)) + view_len v < 2 ^ 64
     → e ≡ (b + (length (pieces_bytes (views_in ps)) + view_len v)) % 2 ^ 64 → qs ≡ ps ++ record { view = v; end = e } ∷ [] → IsRow b qs
 row-push b e ps qs v h some fits ends is =
@@ -173,6 +177,7 @@ row-push b e ps qs v h some fits ends is =
       full = subst AreFull (sym (views-push ps (record { view = v; end = e }))) (full-push (views_in ps) v h.full some);
     })
 
+-- a row with one more piece in front, which has bytes and ends at the base, is a row from the base moved down by them, where all bytes fit a number
 pub row-cons : (b c : ℕ) (ps qs : List Piece) (v : View) → IsRow b ps → 0 < view_len v → length (pieces_bytes (views_in ps)) + view_len v < 2 ^ 64
     → c ≡ (b + (2 ^ 64 - view_len v)) % 2 ^ 64 → qs ≡ record { view = v; end = b } ∷ ps → IsRow c qs
 row-cons b c ps qs v h some fits base is =
@@ -186,6 +191,7 @@ row-cons b c ps qs v h some fits base is =
       full = (some, h.full);
     }))
 
+-- a row without its first piece is a row, and its base is the end of that piece
 pub row-pop : (b : ℕ) (p : Piece) (ps qs : List Piece) → IsRow b qs → qs ≡ p ∷ ps → IsRow p.end ps
 row-pop b p ps qs h is =
     let g = subst (IsRow b) is h in
@@ -200,6 +206,7 @@ row-pop b p ps qs h is =
       full = g.full.1;
     }
 
+-- the first pieces of a row are a row from the same base
 pub row-take : (b n : ℕ) (ps : List Piece) → IsRow b ps → IsRow b (take n ps)
 row-take b n ps h = record { based = h.based; ended = ends-take b 0 n ps h.ended; full = take-full n ps h.full }
   where
@@ -208,6 +215,7 @@ row-take b n ps h = record { based = h.based; ended = ends-take b 0 n ps h.ended
     take-full (suc n) [] f = tt
     take-full (suc n) (p ∷ ps) f = (f.0, take-full n ps f.1)
 
+-- the pieces of a row from one on are a row, and its base is moved up by the bytes before them
 pub row-drop : (b n start : ℕ) (ps : List Piece) → IsRow b ps → start ≡ piece_start (views_in ps) n → IsRow ((b + start) % 2 ^ 64) (drop n ps)
 row-drop b n start ps h is =
     let z : 0 + piece_start (views_in ps) n - start ≡ 0 = omega arith in
@@ -223,6 +231,7 @@ row-drop b n start ps h is =
     drop-full (suc n) [] f = f
     drop-full (suc n) (p ∷ ps) f = drop-full n ps f.1
 
+-- a row whose first piece loses fewer bytes than it has is a row, and its base is moved up by them
 pub row-shorten : (b n : ℕ) (ps qs : List Piece) → IsRow b ps → n < view_len (piece_at (views_in ps) 0) → qs ≡ shortened ps n → IsRow ((b + n) % 2 ^ 64) qs
 row-shorten b n [] qs h l is = absurd (omega arith)
 row-shorten b n (p ∷ ps) qs h l is =
@@ -261,6 +270,7 @@ end-of b i ps p h l is = ap (λ (q : Piece). from_base b q.end) is ∙ get-end p
     get-end (q ∷ ps) zero l = refl
     get-end (q ∷ ps) (suc i) l = get-end ps i (omega arith)
 
+-- the end of a row's last piece, less the base, is the number of all bytes
 pub end-of_last : (b n : ℕ) (ps : List Piece) (p : Piece) → IsRow b ps → 0 < n → n ≡ length ps → p ≡ slice_index_or ps (n - 1) p
     → from_base b p.end ≡ length (pieces_bytes (views_in ps))
 end-of_last b n ps p h l e is =
@@ -269,3 +279,11 @@ end-of_last b n ps p h l e is =
     end-of b (n - 1) ps p h (omega arith) is
     ∙ ap (piece_start (views_in ps)) s
     ∙ ap (λ (vs : List View). length (pieces_bytes vs)) (take_all n (views_in ps) (omega arith))
+
+-- a number holds where the last piece ends
+pub ends-fit : (b start : ℕ) (ps : List Piece) → start < 2 ^ 64 → AreEnds b start ps → start + length (pieces_bytes (views_in ps)) < 2 ^ 64
+ends-fit b start [] less ends = omega arith
+ends-fit b start (p ∷ ps) less ends =
+    let here : start + view_len p.view < 2 ^ 64 = omega (arith, ends.0.placed) in
+    let rest = ends-fit b (start + view_len p.view) ps here ends.1 in
+    omega (arith, length-append p.view.bytes (pieces_bytes (views_in ps)))

@@ -10,6 +10,7 @@ product x w v n l h =
     let twice : (x * 2) * v ≡ x * (v + v) = grind arith in
     omega arith
 
+-- where 2 ^ p widths are less than n, so are 2 ^ (p + 1) widths of at most half
 pub halved : (p q w v n : ℕ) → q ≡ p + 1 → v + v ≤ w → 2 ^ p * w < n → 2 ^ q * v < n
 halved p q w v n e l h = let d = pow-add 2 p 1 in rw (e, d) (product (2 ^ p) w v n l h)
 
@@ -18,6 +19,7 @@ some x w n l h =
     let more = mul-le x 1 x w (omega arith) l in
     omega arith
 
+-- where 2 ^ p widths above 0 are less than n, 2 ^ (p + 1) is at most twice n
 pub one_more : (p q w n : ℕ) → q ≡ p + 1 → 0 < w → 2 ^ p * w < n → 2 ^ q ≤ 2 * n
 one_more p q w n e l h = let d = pow-add 2 p 1 in rw (e, d) (some (2 ^ p) w n l h)
 
@@ -28,6 +30,7 @@ scaled x w v n l h =
     let twice : (x * 2) * v ≡ x * (v + v) = grind arith in
     omega arith
 
+-- where 2 ^ p widths are more than n, so are 2 ^ (p + 1) widths of at least half
 pub no_less : (p q w v n : ℕ) → q ≡ p + 1 → w ≤ v + v → n < 2 ^ p * w → n < 2 ^ q * v
 no_less p q w v n e l h = let d = pow-add 2 p 1 in rw (e, d) (scaled (2 ^ p) w v n l h)
 
@@ -35,6 +38,7 @@ no_less p q w v n e l h = let d = pow-add 2 p 1 in rw (e, d) (scaled (2 ^ p) w v
 pub twice : (p w n : ℕ) → w ≡ 2 → n < 2 ^ p * w → n < 2 ^ (p + 1)
 twice p w n e h = let d = pow-add 2 p 1 in rw d (subst (λ k. n < 2 ^ p * k) e h)
 
+-- where 2 ^ p is at most twice a number below 2 ^ 64, p is below 2 ^ 32 - 1
 pub few_probes : (p n : ℕ) → 2 ^ p ≤ 2 * n → n < 2 ^ 64 → p < 2 ^ 32 - 1
 few_probes p n l m =
     ⊎_elim

@@ -1,4 +1,4 @@
--- Pieces in front of and behind others.
+-- A view with bytes that is appended or prepended to a text is one piece more.
 use Rattle.std.proofs.Common.{◌≡◌, ◌<◌, List, [], ◌∷◌, ◌++◌, length, arith}
 use Rattle.std.proofs.lemmas.List.Sums.{fold-append}
 use Rattle.iobufs_core.specs.View.{View}
@@ -20,6 +20,7 @@ append-push v vs w p q =
     let s = len-of_pieces (v ∷ vs) in
     rw (of_pieces-append v w vs [], of_pieces-one w) (append-both _ _ (omega arith) q)
 
+-- a view with bytes prepended to the text of pieces with bytes is one piece more in front
 pub prepend-cons : (v : View) (w : View) (vs : List View) → 0 < length (pieces_bytes (w ∷ vs)) → 0 < view_len v
     → text_prepend (of_pieces (w ∷ vs)) v ≡ of_pieces (v ∷ w ∷ vs)
 prepend-cons v w vs p q =

@@ -1,4 +1,4 @@
--- What the code keeps is well formed.
+-- Room for the bytes of pieces (`AreViews`), also on either side of a place; with it the text that they make is well formed (`IsMarked`).
 use Rattle.std.proofs.Common.{◌≡◌, ℕ, ◌+◌, ◌-◌, ◌<◌, ◌≤◌, List, [], ◌∷◌, ◌++◌, length, take, map, arith, length-append, length-drop, length-take, suc, zero, ⊎_elim, All}
 use Rattle.std.proofs.lemmas.Bool.{cases_lt}
 use Rattle.iobufs_core.specs.View.{View, Mark, HasRoom, IsView, mark_after, native_mark, static_mark, bytes_mark, view_front, view_advanced}
@@ -40,6 +40,7 @@ HasRoom-less static_mark n k l h = tt
 HasRoom-less bytes_mark n k l h = tt
 HasRoom-less (native_mark r) n k l h = omega arith
 
+-- a view with room for its bytes has room for those that are left when it is advanced
 pub IsView-advanced : (at : ℕ) (v : View) → IsView v → IsView (view_advanced v at)
 IsView-advanced at v h = rw (length-drop at v.bytes) (HasRoom-on v.mark (view_len v) at h)
 
@@ -47,10 +48,12 @@ pub IsView-front : (at : ℕ) (v : View) → IsView v → IsView (view_front v a
 IsView-front at v h = let n : length (take at v.bytes) ≤ view_len v =
     (let t = length-take at v.bytes in omega arith) in HasRoom-less v.mark (view_len v) (length (take at v.bytes)) n h
 
+-- where pieces have room for their bytes and so have those behind them, all have
 pub AreViews-append : (vs ws : List View) → AreViews vs → AreViews ws → AreViews (vs ++ ws)
 AreViews-append [] ws f g = g
 AreViews-append (v ∷ vs) ws f g = (f.0, AreViews-append vs ws f.1 g)
 
+-- where pieces have room for their bytes, so have those from a place on
 pub AreViews-right : (at : ℕ) (vs : List View) → AreViews vs → AreViews (right_pieces vs at)
 AreViews-right at [] f = tt
 AreViews-right at (v ∷ vs) f =
@@ -59,6 +62,7 @@ AreViews-right at (v ∷ vs) f =
     (λ (h : view_len v ≤ at). rw (right_pieces-past at v vs h) (AreViews-right (at - view_len v) vs f.1))
     (cases_lt at (view_len v))
 
+-- where pieces have room for their bytes, so have those up to a place
 pub AreViews-left : (at : ℕ) (vs : List View) → AreViews vs → AreViews (left_pieces vs at)
 AreViews-left at [] f = tt
 AreViews-left at (v ∷ vs) f =
@@ -71,6 +75,7 @@ AreViews-left at (v ∷ vs) f =
     (λ (p : at ≤ 0). let z : at ≡ 0 = omega arith in rw z tt)
     (cases_lt 0 at)
 
+-- pieces with room for their bytes, one or several of which none is empty, make a well formed text
 pub IsMarked-from_views : (vs : List View) → IsPieces vs → AreViews vs → IsMarked (of_pieces vs)
 IsMarked-from_views [] p h = absurd p
 IsMarked-from_views (v ∷ vs) p h = IsMarked-of_pieces v vs p (at_each (v ∷ vs) h)

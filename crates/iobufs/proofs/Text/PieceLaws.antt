@@ -1,4 +1,4 @@
--- Lists of pieces, and the marked texts that they make.
+-- Which marked text a list of pieces makes (`of_pieces`): its bytes, mark, cuts and two sides; and the pieces on either side of a place.
 use Rattle.std.proofs.Common.{◌≡◌, ℕ, ◌+◌, ◌-◌, ◌<◌, ◌≤◌, List, [], ◌∷◌, ◌++◌, length, take, drop, refl, sym, ap, ◌∙◌, arith, append-nil, length-append, length-drop, suc, ⊎_elim, length-take-le, nat_eq, take_all, ◌⊎◌}
 use Rattle.std.proofs.lemmas.List.{length-map}
 use Rattle.std.proofs.lemmas.Bool.{cases_lt, cases_order}
@@ -7,58 +7,72 @@ use Rattle.iobufs_core.specs.MarkedText.{MarkedText, of_view, default_text, text
 use Rattle.iobufs.specs.Inside.Pieces.{view_len, pieces_bytes, of_pieces, AreFull, IsPieces, left_pieces, right_pieces}
 use Rattle.iobufs.proofs.Text.Sides.{glue_assoc, right-of_view, left-of_view, is_lt, not_zero, not_lt, right-glue_within, right-glue_past, left-glue_within, left-glue_past, same_eq, not_eq, same_view, mark_after-zero}
 
+-- a piece in front of others makes its view's text with theirs behind it
 pub of_pieces-cons : (v w : View) (vs : List View) → of_pieces (v ∷ w ∷ vs) ≡ text_glue (of_view v) (of_pieces (w ∷ vs))
 unfolding of_pieces
 of_pieces-cons v w vs = refl
 
+-- one piece makes its view's text
 pub of_pieces-one : (v : View) → of_pieces (v ∷ []) ≡ of_view v
 unfolding of_pieces
 of_pieces-one v = refl
 
+-- the text of pieces has their bytes
 pub bytes-of_pieces : (vs : List View) → (of_pieces vs).bytes ≡ pieces_bytes vs
 unfolding of_pieces text_glue
 bytes-of_pieces [] = refl
 bytes-of_pieces (v ∷ []) = sym (append-nil v.bytes)
 bytes-of_pieces (v ∷ w ∷ vs) = ap (λ t. v.bytes ++ t) (bytes-of_pieces (w ∷ vs))
 
+-- the text of pieces has a cut for each piece but the first
 pub cuts-of_pieces : (v : View) (vs : List View) → length (of_pieces (v ∷ vs)).cuts ≡ length vs
 unfolding of_pieces text_glue
 cuts-of_pieces v [] = refl
 cuts-of_pieces v (w ∷ vs) = ap suc (length-map (of_pieces (w ∷ vs)).cuts (moved_up (view_len v)) ∙ cuts-of_pieces w vs)
 
+-- pieces in front of others make their text with that of the others behind it
 pub of_pieces-append : (v w : View) (vs ws : List View) → of_pieces ((v ∷ vs) ++ (w ∷ ws)) ≡ text_glue (of_pieces (v ∷ vs)) (of_pieces (w ∷ ws))
 unfolding of_pieces
 of_pieces-append v w [] ws = refl
 of_pieces-append v w (u ∷ us) ws = ap (text_glue (of_view v)) (of_pieces-append u w us ws)
     ∙ sym (glue_assoc (of_view v) (of_pieces (u ∷ us)) (of_pieces (w ∷ ws)))
 
+-- from a place within the first piece on stand that piece advanced, and the others
 pub right_pieces-within : (at : ℕ) (v : View) (vs : List View) → at < view_len v → right_pieces (v ∷ vs) at ≡ view_advanced v at ∷ vs
 right_pieces-within at v vs l = rw (is_lt at (view_len v) l)
 
+-- from a place behind the bytes of the first piece on stands what the others have from there on
 pub right_pieces-past : (at : ℕ) (v : View) (vs : List View) → view_len v ≤ at → right_pieces (v ∷ vs) at ≡ right_pieces vs (at - view_len v)
 right_pieces-past at v vs l = rw (not_lt at (view_len v) l)
 
+-- up to place 0 stands no piece
 pub left_pieces-none : (vs : List View) → left_pieces vs 0 ≡ []
 left_pieces-none [] = refl
 left_pieces-none (v ∷ vs) = refl
 
+-- up to a place within the first piece stands its front
 pub left_pieces-within : (at : ℕ) (v : View) (vs : List View) → 0 < at → at < view_len v → left_pieces (v ∷ vs) at ≡ view_front v at ∷ []
 left_pieces-within at v vs p l = rw (not_zero at p, is_lt at (view_len v) l)
 
+-- up to the end of the first piece, or a place behind it, stand that piece and what the others have up to there
 pub left_pieces-past : (at : ℕ) (v : View) (vs : List View) → 0 < at → view_len v ≤ at → left_pieces (v ∷ vs) at ≡ v ∷ left_pieces vs (at - view_len v)
 left_pieces-past at v vs p l = rw (not_zero at p, not_lt at (view_len v) l)
 
+-- up to the end of the first piece, where that has bytes, stands that piece
 pub left_pieces-first : (at : ℕ) (v : View) (vs : List View) → 0 < at → at ≡ view_len v → left_pieces (v ∷ vs) at ≡ v ∷ []
 left_pieces-first at v vs p e =
     let z : at - view_len v ≡ 0 = omega arith in
     left_pieces-past at v vs p (omega arith) ∙ ap (λ m. v ∷ left_pieces vs m) z ∙ ap (λ x. v ∷ x) (left_pieces-none vs)
 
+-- the front of a view up to its end, or behind it, is the view
 pub front-all : (at : ℕ) (v : View) → view_len v ≤ at → view_front v at ≡ v
 front-all at v l = same_view _ _ (take_all at v.bytes l) refl
 
+-- the bytes of pieces are as many as those of the first and of the others
 pub length-bytes : (v : View) (vs : List View) → length (pieces_bytes (v ∷ vs)) ≡ view_len v + length (pieces_bytes vs)
 length-bytes v vs = length-append v.bytes (pieces_bytes vs)
 
+-- the right side of a place below the end is the text of the pieces from there on
 pub right-of_pieces : (at : ℕ) (vs : List View) → at < length (pieces_bytes vs) → text_right (of_pieces vs) at ≡ of_pieces (right_pieces vs at)
 right-of_pieces at [] l = absurd (omega arith)
 right-of_pieces at (v ∷ []) l =
@@ -117,6 +131,7 @@ left-of_pieces at (v ∷ w ∷ vs) p l =
     )
     (left-glue_past at v (of_pieces (w ∷ vs)) h ∙ ap (text_glue (of_view v)) (left-of_pieces (at - view_len v) (w ∷ vs) (omega arith) (omega arith)))))
 
+-- the text of pieces is as long as their bytes
 pub len-of_pieces : (vs : List View) → text_len (of_pieces vs) ≡ length (pieces_bytes vs)
 len-of_pieces vs = ap length (bytes-of_pieces vs)
 
@@ -126,14 +141,17 @@ AreFull-from_pieces [] p l = tt
 AreFull-from_pieces (v ∷ []) p l = let n : length (v.bytes ++ []) ≡ view_len v = ap length (append-nil v.bytes) in (omega arith, tt)
 AreFull-from_pieces (v ∷ w ∷ vs) p l = p
 
+-- one or more pieces of which none is empty are as the code keeps them
 pub IsPieces-from_full : (v : View) (vs : List View) → AreFull (v ∷ vs) → IsPieces (v ∷ vs)
 IsPieces-from_full v [] f = tt
 IsPieces-from_full v (w ∷ vs) f = f
 
+-- where no piece is empty, nor one of those behind them, none of all is
 pub AreFull-append : (vs ws : List View) → AreFull vs → AreFull ws → AreFull (vs ++ ws)
 AreFull-append [] ws f g = g
 AreFull-append (v ∷ vs) ws f g = (f.0, AreFull-append vs ws f.1 g)
 
+-- where no piece is empty, none is of those from a place below the end on, and there is one
 pub AreFull-right : (at : ℕ) (vs : List View) → AreFull vs → at < length (pieces_bytes vs) → AreFull (right_pieces vs at) × (0 < length (right_pieces vs at))
 AreFull-right at [] f l = absurd (omega arith)
 AreFull-right at (v ∷ vs) f l =
@@ -144,6 +162,7 @@ AreFull-right at (v ∷ vs) f l =
     (λ (h : view_len v ≤ at). rw (right_pieces-past at v vs h) (AreFull-right (at - view_len v) vs f.1 (omega arith)))
     (cases_lt at (view_len v))
 
+-- where no piece is empty, none is of those up to a place
 pub AreFull-left : (at : ℕ) (vs : List View) → AreFull vs → AreFull (left_pieces vs at)
 AreFull-left at [] f = tt
 AreFull-left at (v ∷ vs) f =
@@ -157,11 +176,13 @@ AreFull-left at (v ∷ vs) f =
     (λ (p : at ≤ 0). let z : at ≡ 0 = omega arith in rw z tt)
     (cases_lt 0 at)
 
+-- the text of pieces has the mark of the first
 pub mark-of_pieces : (v : View) (vs : List View) → (of_pieces (v ∷ vs)).mark ≡ v.mark
 unfolding of_pieces text_glue
 mark-of_pieces v [] = refl
 mark-of_pieces v (w ∷ vs) = refl
 
+-- a split at the end of a text with bytes leaves the default text
 pub rest-all : (at : ℕ) (t : MarkedText) → 0 < at → at ≡ text_len t → text_rest t at ≡ default_text
 rest-all at t p e = rw (not_zero at p, same_eq at (text_len t) e)
 
@@ -171,19 +192,23 @@ rest-inside at t p l = rw (not_zero at p, not_eq at (text_len t) l)
 pub split_front-inside : (at : ℕ) (t : MarkedText) → 0 < at → at < text_len t → text_split_front t at ≡ text_left t at
 split_front-inside at t p l = rw (not_zero at p, not_eq at (text_len t) l)
 
+-- a split inside leaves the text of the pieces from there on
 pub rest-of_pieces : (at : ℕ) (vs : List View) → 0 < at → at < length (pieces_bytes vs) → text_rest (of_pieces vs) at ≡ of_pieces (right_pieces vs at)
 rest-of_pieces at vs p l = let s = len-of_pieces vs in rest-inside at (of_pieces vs) p (omega arith) ∙ right-of_pieces at vs l
 
+-- a split inside answers the text of the pieces up to there
 pub split_front-of_pieces : (at : ℕ) (vs : List View) → 0 < at → at < length (pieces_bytes vs)
     → text_split_front (of_pieces vs) at ≡ of_pieces (left_pieces vs at)
 split_front-of_pieces at vs p l = let s = len-of_pieces vs in split_front-inside at (of_pieces vs) p (omega arith) ∙ left-of_pieces at vs p (omega arith)
 
+-- the text of pieces is single exactly where there is none behind the first
 pub is_single-of_pieces : (v : View) (vs : List View) → is_single (of_pieces (v ∷ vs)) ≡ nat_eq (length vs) 0
 is_single-of_pieces v vs = ap (λ n. nat_eq n 0) (cuts-of_pieces v vs)
 
 pub advanced_view-none : (v : View) → view_advanced v 0 ≡ v
 advanced_view-none v = same_view _ _ refl (mark_after-zero v.mark)
 
+-- where no piece is empty, those from place 0 on are all
 pub right_pieces-none : (vs : List View) → AreFull vs → right_pieces vs 0 ≡ vs
 right_pieces-none [] f = refl
 right_pieces-none (v ∷ vs) f = right_pieces-within 0 v vs f.0 ∙ ap (λ w. w ∷ vs) (advanced_view-none v)
@@ -213,5 +238,6 @@ bytes-left at vs p l =
     sym (bytes-of_pieces (left_pieces vs at)) ∙ ap (λ t. t.bytes) (sym (left-of_pieces at vs p l)) ∙ bytes-text_left at (of_pieces vs)
     ∙ ap (take at) (bytes-of_pieces vs)
 
+-- the pieces up to a place have as many bytes as it says
 pub length-left : (at : ℕ) (vs : List View) → 0 < at → at ≤ length (pieces_bytes vs) → length (pieces_bytes (left_pieces vs at)) ≡ at
 length-left at vs p l = ap length (bytes-left at vs p l) ∙ length-take-le at (pieces_bytes vs) l

@@ -1,9 +1,9 @@
--- The piece that holds a place.
-use Rattle.std.proofs.Common.{◌≡◌, ℕ, ◌+◌, ◌-◌, ◌<◌, ◌≤◌, List, [], ◌∷◌, ◌++◌, length, take, drop, refl, sym, ap, ◌∙◌, arith, length-append, suc, zero, get_or}
+-- The pieces on either side of a place, told by the piece that holds it and how far it lies in that.
+use Rattle.std.proofs.Common.{◌≡◌, ℕ, ◌+◌, ◌-◌, ◌^◌, ◌<◌, ◌≤◌, List, [], ◌∷◌, ◌++◌, length, take, drop, refl, sym, ap, ◌∙◌, arith, length-append, suc, zero, get_or}
 use Rattle.iobufs_core.specs.View.{View, default_view, view_front, view_advanced}
 use Rattle.iobufs.specs.Inside.Pieces.{view_len, pieces_bytes, piece_start, piece_at, IsPlace, AreFull, left_pieces, right_pieces}
 use Rattle.iobufs.proofs.Text.Sides.{no_sub}
-use Rattle.iobufs.proofs.Text.PieceLaws.{right_pieces-none, right_pieces-within, right_pieces-past, left_pieces-none, left_pieces-within, left_pieces-past, left_pieces-first, front-all, order3}
+use Rattle.iobufs.proofs.Text.PieceLaws.{length-bytes, right_pieces-none, right_pieces-within, right_pieces-past, left_pieces-none, left_pieces-within, left_pieces-past, left_pieces-first, front-all, order3}
 
 -- By the index of the piece that holds a place. `piece_start i vs` is the number of bytes before the i-th piece.
 pub right_pieces-at : (i at : ℕ) (vs : List View) (d : View) → i < length vs → piece_start vs i ≤ at
@@ -56,6 +56,15 @@ index-of_place vs at i o h = within vs i h.inside
     within (v ∷ vs) zero l = omega arith
     within (v ∷ vs) (suc i) l = let ih = within vs i l in omega arith
 
+-- where a number holds the bytes of the place's piece, and those of several pieces, it holds those of all
+pub bytes-fit : (vs : List View) (at i o : ℕ) → IsPlace vs at i o → view_len (piece_at vs i) < 2 ^ 64
+    → (1 < length vs → length (pieces_bytes vs) < 2 ^ 64) → length (pieces_bytes vs) < 2 ^ 64
+bytes-fit [] at i o place here many = omega arith
+bytes-fit (v ∷ []) at zero o place here many = omega (arith, length-bytes v [])
+bytes-fit (v ∷ []) at (suc i) o place here many = absurd (omega (arith, index-of_place (v ∷ []) at (suc i) o place))
+bytes-fit (v ∷ w ∷ vs) at i o place here many = many (omega arith)
+
+-- up to a place inside a piece stand the pieces before that one, and its front
 pub left-at_place : (vs : List View) (at i o : ℕ) → IsPlace vs at i o → 0 < o → left_pieces vs at ≡ take i vs ++ view_front (piece_at vs i) o ∷ []
 left-at_place vs at i o h p =
     let n = index-of_place vs at i o h in
@@ -64,6 +73,7 @@ left-at_place vs at i o h p =
     let d : at - piece_start vs i ≡ o = omega arith in
     left_pieces-at i at vs default_view n (omega arith) (omega arith) ∙ ap (λ m. take i vs ++ view_front (piece_at vs i) m ∷ []) d
 
+-- from a place in a piece on stand that piece advanced, and those behind it
 pub right-at_place : (vs : List View) (at i o : ℕ) → IsPlace vs at i o → right_pieces vs at ≡ view_advanced (piece_at vs i) o ∷ drop (suc i) vs
 right-at_place vs at i o h =
     let n = index-of_place vs at i o h in
@@ -79,6 +89,7 @@ left-at_edge vs at i o f h z =
     let e : at ≡ piece_start vs i = omega arith in
     ap (λ m. left_pieces vs m) e ∙ left_pieces-seam i vs f
 
+-- where no piece is empty, from the first byte of one on stand that one and those behind it
 pub right-at_edge : (vs : List View) (at i o : ℕ) → AreFull vs → IsPlace vs at i o → o ≡ 0 → right_pieces vs at ≡ drop i vs
 right-at_edge vs at i o f h z =
     let s = h.sum in

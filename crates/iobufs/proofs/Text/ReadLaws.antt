@@ -11,7 +11,7 @@ use Rattle.std.proofs.Math.Seq.{take-append_seam}
 use Rattle.iobufs_core.specs.Chunks.{first_chunk, IsChunkOf}
 use Rattle.iobufs_core.specs.View.{View, default_view, view_front, view_advanced, view_slice, native_mark}
 use Rattle.iobufs_core.specs.Part.{part_frozen}
-use Rattle.iobufs_core.specs.MarkedText.{MarkedText, of_view, text_len, is_single, text_advanced, text_chunks, text_coalesced, text_rest, text_right, taken_view}
+use Rattle.iobufs_core.specs.MarkedText.{MarkedText, of_view, text_len, is_single, text_chunks, text_coalesced, text_rest, text_right, taken_view}
 use Rattle.iobufs.specs.Inside.Pieces.{view_len, pieces_bytes, piece_at, piece_start, of_pieces, behind_first, right_pieces, AreFull, IsPieces, IsPlace, AreViews}
 use Rattle.iobufs.specs.Inside.Several.{views, IsPieced}
 use Rattle.iobufs.specs.Inside.Kept.{text_of, IsKept}
@@ -19,11 +19,10 @@ use Rattle.iobufs.specs.declared.bufs.pieces.Pieces.{Pieces}
 use Rattle.iobufs.specs.declared.bufs.text.IoBufs.TheInside.{Inside}
 use Rattle.iobufs.proofs.Text.PieceLaws.{bytes-of_pieces, len-of_pieces, right-of_pieces, length-bytes, AreFull-from_pieces, of_pieces-one, front-all, rest-all, right_pieces-past, right_pieces-none}
 use Rattle.iobufs.proofs.Text.PlaceLaws.{index-of_place, right-at_place}
-use Rattle.iobufs.proofs.Text.KeptLaws.{IsView-advanced}
 use Rattle.iobufs.proofs.Text.TakenLaws.{taken_view-right, taken_view-within, taken_view-across}
 use Rattle.iobufs.proofs.Text.ChunkLaws.{chunks-of_empty}
 use Rattle.iobufs.proofs.Text.CopyLaws.{bytes-from}
-use Rattle.iobufs.proofs.Text.TextLaws.{length-kept, IsPieces-from_pieced, some_views, chunks-kept, single-kept, advanced-one, rest-kept}
+use Rattle.iobufs.proofs.Text.TextLaws.{length-kept, IsPieces-from_pieced, some_views, chunks-kept, single-kept, rest-kept}
 
 -- the first piece is the first chunk, and a beginning of the text
 first-of : (vs : List View) (t : MarkedText) → of_pieces vs ≡ t → 0 < length vs → (0 < length (pieces_bytes vs) → AreFull vs)
@@ -37,6 +36,7 @@ first-of (v ∷ vs) t e l f =
     (λ (h : length (pieces_bytes (v ∷ vs)) ≤ 0). nil_from_length v.bytes (omega arith) ∙ sym (ap first_chunk (chunks-of_empty t (omega arith))))
     (cases_lt 0 (length (pieces_bytes (v ∷ vs))))
 
+-- the bytes of a text's first piece are its first chunk
 pub first-kept : (s : Pieces) (t : MarkedText) → of_pieces (views s) ≡ t → IsPieced s → (piece_at (views s) 0).bytes ≡ first_chunk (text_chunks t)
 first-kept s t e h = first-of (views s) t e (some_views s h) (AreFull-from_pieces (views s) (IsPieces-from_pieced s h))
 
@@ -52,6 +52,7 @@ front-of (v ∷ vs) l f =
           (cases_lt 0 (length (pieces_bytes (v ∷ vs))));
     }
 
+-- the bytes of a text's first piece are a chunk of it
 pub front-chunk : (s : Pieces) (t : MarkedText) (chunk : List ℕ) → of_pieces (views s) ≡ t → IsPieced s → chunk ≡ (piece_at (views s) 0).bytes
     → IsChunkOf chunk t.bytes
 front-chunk s t chunk e h c =
@@ -69,6 +70,7 @@ get-past [] ys m n e = ap (slice_get ys) (e ∙ zero-add n)
 get-past (x ∷ xs) ys zero n e = absurd (omega arith)
 get-past (x ∷ xs) ys (suc m) n e = get-past xs ys m n (omega arith)
 
+-- the byte at a place is that of its piece, so far in it
 pub byte-at_place : (vs : List View) (at i o : ℕ) → IsPlace vs at i o → slice_get (pieces_bytes vs) at ≡ Some (get_or (piece_at vs i).bytes o 0)
 byte-at_place vs at i o h = at_index vs at i h.sum h.inside
   where
@@ -96,6 +98,7 @@ right-place : (vs : List View) (t : MarkedText) (skip i o : ℕ) → of_pieces v
 right-place vs t skip i o e h l =
     ap (λ (x : MarkedText). text_right x skip) (sym e) ∙ right-of_pieces skip vs l ∙ ap of_pieces (right-at_place vs skip i o h)
 
+-- bytes that lie in one piece are taken as a slice of it
 pub taken-within : (vs : List View) (t : MarkedText) (skip n i o : ℕ) → of_pieces vs ≡ t → IsPlace vs skip i o → skip < length (pieces_bytes vs)
     → 0 < n → n ≤ view_len (piece_at vs i) - o → view_slice (piece_at vs i) (Included o) (Excluded (o + n)) ≡ taken_view t skip n
 taken-within vs t skip n i o e h l p m =
@@ -104,6 +107,7 @@ taken-within vs t skip n i o e h l p m =
     sym (taken_view-right skip n t ∙ ap (λ (x : MarkedText). taken_view x 0 n) (right-place vs t skip i o e h l)
     ∙ taken_view-within n v (drop (suc i) vs) p (omega arith) ∙ front-advanced (piece_at vs i) o n p)
 
+-- bytes that lie in several pieces are taken as a copy without spare bytes, frozen
 pub taken-across : (vs : List View) (t : MarkedText) (skip n i o : ℕ) (copy : List ℕ) → of_pieces vs ≡ t → IsPlace vs skip i o
     → skip + n ≤ length (pieces_bytes vs) → view_len (piece_at vs i) - o < n → copy ≡ take n (drop o (pieces_bytes (drop i vs)))
     → part_frozen (record { filled = copy; spare = 0 }) ≡ taken_view t skip n
@@ -137,6 +141,7 @@ pub first-whole : (vs : List View) (t : MarkedText) (n : ℕ) → of_pieces vs �
 first-whole [] t n e p w = absurd (omega arith)
 first-whole (v ∷ vs) t n e p w = sym (ap (λ (x : MarkedText). taken_view x 0 n) e) ∙ taken_view-within n v vs p (omega arith) ∙ front-all n v (omega arith)
 
+-- a text whose first piece goes, as many bytes as that has, leaves the pieces behind it, or the default view where it was the only one
 pub first-rest : (vs ws : List View) (t : MarkedText) (n : ℕ) → of_pieces vs ≡ t → AreFull vs → 0 < n → n ≡ view_len (piece_at vs 0)
     → ws ≡ behind_first vs → of_pieces ws ≡ text_rest t n
 first-rest [] ws t n e f p w is = absurd (omega arith)
@@ -150,6 +155,7 @@ first-rest (v ∷ u ∷ vs) ws t n e (first, behind) p w is =
     let m = length-bytes u vs in
     rest-kept (v ∷ u ∷ vs) ws t n e p (omega (arith, behind.0)) (is ∙ sym right)
 
+-- all bytes are as many as those of the first piece and of the pieces behind it
 pub length-behind : (vs : List View) → length (pieces_bytes vs) ≡ view_len (piece_at vs 0) + length (pieces_bytes (behind_first vs))
 length-behind [] = refl
 length-behind (v ∷ []) = ap length (append-nil v.bytes) ∙ (omega arith)
@@ -160,6 +166,7 @@ AreViews-behind [] h = tt
 AreViews-behind (v ∷ []) h = (tt, tt)
 AreViews-behind (v ∷ w ∷ vs) h = h.1
 
+-- where kept pieces without the first one are one, or several of which none is empty, they are kept
 pub kept-behind : (s : Inside) (p : Pieces) → IsKept s → IsPieced p → views p ≡ behind_first (views s.pieces) → IsKept (record { pieces = p })
 kept-behind s p k h is =
     record {
@@ -174,30 +181,10 @@ one-piece s t e k h = is_one (length (views s.pieces)) (sym (single-kept s t e k
     is_one : (n : ℕ) → nat_eq n 1 ≡ true → n ≡ 1
     is_one n h = grind (arith, tests)
 
-pub one-len : (vs : List View) → length vs ≡ 1 → length (pieces_bytes vs) ≡ view_len (piece_at vs 0)
-one-len [] e = absurd (omega arith)
-one-len (v ∷ []) e = ap length (append-nil v.bytes)
-one-len (v ∷ w ∷ vs) e = absurd (omega arith)
-
 one-as : (vs : List View) → length vs ≡ 1 → vs ≡ piece_at vs 0 ∷ []
 one-as [] e = absurd (omega arith)
 one-as (v ∷ []) e = refl
 one-as (v ∷ w ∷ vs) e = absurd (omega arith)
-
-one-view_room : (vs : List View) → length vs ≡ 1 → AreViews vs → AreViews (piece_at vs 0 ∷ [])
-one-view_room vs e h = subst AreViews (one-as vs e) h
-
-pub kept-single : (s : Inside) (n : ℕ) (p : Pieces) → IsKept s → length (views s.pieces) ≡ 1 → IsPieced p
-    → views p ≡ view_advanced (piece_at (views s.pieces) 0) n ∷ [] → IsKept (record { pieces = p })
-kept-single s n p k one h is =
-    record {
-      pieced = h;
-      roomy = subst AreViews (sym is) (IsView-advanced n (piece_at (views s.pieces) 0) (one-view_room (views s.pieces) one k.roomy).0, tt);
-    }
-
-pub advanced-single : (vs ws : List View) (t : MarkedText) (n : ℕ) → of_pieces vs ≡ t → length vs ≡ 1 → n ≤ view_len (piece_at vs 0)
-    → ws ≡ view_advanced (piece_at vs 0) n ∷ [] → of_pieces ws ≡ text_advanced t n
-advanced-single vs ws t n e one l is = ap of_pieces is ∙ advanced-one (piece_at vs 0) t n (sym (ap of_pieces (one-as vs one)) ∙ e) l
 
 -- several pieces as one
 pub coalesced-copy : (vs : List View) (t : MarkedText) (copy : List ℕ) (n : ℕ) → of_pieces vs ≡ t → is_single t ≡ false
@@ -225,9 +212,11 @@ none-shown now items t max e z = ap (map now) e ∙ sym (ap (take max) (chunks-o
 pub as_view : {E : Type 0} (result : Result View E) (a b : View) → a ≡ b → IfOk result (λ v. v ≡ a) → IfOk result (λ v. v ≡ b)
 as_view result a b e h = subst (λ x. IfOk result (λ v. v ≡ x)) e h
 
+-- bytes that a call answers are those that they equal
 pub as_bytes : {E : Type 0} (result : Result (List ℕ) E) (a b : List ℕ) → a ≡ b → IfOk result (λ v. v ≡ a) → IfOk result (λ v. v ≡ b)
 as_bytes result a b e h = subst (λ x. IfOk result (λ v. v ≡ x)) e h
 
+-- a view that a call answers makes the text that it makes by itself
 pub as_text : {E : Type 0} (result : Result View E) (a : View) (t : MarkedText) → of_view a ≡ t → IfOk result (λ v. v ≡ a) → IfOk result (λ v. of_view v ≡ t)
 as_text (Ok v) a t e h = ap of_view h ∙ e
 as_text (Err error) a t e h = tt
@@ -253,6 +242,7 @@ single-view vs t v e one is = sym e ∙ ap of_pieces (one-as vs one) ∙ of_piec
 pub first-inside : (vs : List View) (n : ℕ) → n < view_len (piece_at vs 0) → n < length (pieces_bytes vs)
 first-inside vs n l = let k = length-behind vs in omega arith
 
+-- a split within the first of full pieces leaves the text of the pieces from there on
 pub short-rest : (vs ws : List View) (t : MarkedText) (n : ℕ) → of_pieces vs ≡ t → AreFull vs → n < view_len (piece_at vs 0) → ws ≡ right_pieces vs n
     → of_pieces ws ≡ text_rest t n
 short-rest vs ws t n e f l is =

@@ -1,5 +1,5 @@
 -- A text in a row that takes one more piece within the row's room.
-use Rattle.std.proofs.Common.{◌≡◌, ◌+◌, ◌<◌, List, [], ◌∷◌, ◌++◌, length, sym, subst, ap, ◌∙◌, arith}
+use Rattle.std.proofs.Common.{◌≡◌, ◌<◌, List, [], ◌∷◌, ◌++◌, length, sym, subst, ap, ◌∙◌, arith}
 use Rattle.iobufs_core.specs.View.{View, IsView}
 use Rattle.iobufs_core.specs.MarkedText.{MarkedText, text_append, text_len, text_prepend}
 use Rattle.iobufs.specs.Inside.Kept.{IsKept, text_of}

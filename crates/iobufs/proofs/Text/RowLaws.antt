@@ -1,4 +1,4 @@
--- The pieces of a row, cut at a place.
+-- A row that is cut at its first piece, at its last one, or anywhere: each side has the pieces of its side of the place, and is a row.
 use Rattle.std.proofs.Common.{◌≡◌, ℕ, ◌+◌, ◌-◌, ◌%◌, ◌^◌, ◌<◌, ◌≤◌, List, [], ◌∷◌, ◌++◌, length, take, drop, map, zero, suc, refl, sym, ap, ◌∙◌, arith, subst, append-nil, drop-cons, ⊎_elim, length-append, length-take-le, Option, Some, option_to_list}
 use Rattle.std.proofs.Math.Seq.{take-append_seam}
 use Rattle.std.proofs.lemmas.List.{map-append}
@@ -16,6 +16,7 @@ use Rattle.iobufs.proofs.Text.PlaceLaws.{left-at_edge, right-at_edge, left-at_pl
 pub first-left : (vs ws : List View) (v : View) (at : ℕ) → vs ≡ v ∷ ws → 0 < at → at ≡ view_len v → v ∷ [] ≡ left_pieces vs at
 first-left vs ws v at is some all = sym (ap (λ xs. left_pieces xs at) is ∙ left_pieces-first at v ws some all)
 
+-- where no piece is empty, the pieces but the first are those from its end on
 pub first-right : (vs ws : List View) (v : View) (at : ℕ) → vs ≡ v ∷ ws → AreFull vs → at ≡ view_len v → ws ≡ right_pieces vs at
 first-right vs ws v at is full all =
     let none : at - view_len v ≡ 0 = omega arith in
@@ -53,6 +54,7 @@ last-left vs ws v at i o is last full place edge =
     let e : i ≡ length ws = omega (arith, ap length is) in
     sym (left-at_edge vs at i o full place edge ∙ ap (take i) is ∙ take-seam ws v i e)
 
+-- where no piece is empty, the last is what stands from its first byte on
 pub last-right : (vs ws : List View) (v : View) (at i o : ℕ) → vs ≡ ws ++ v ∷ [] → i + 1 ≡ length vs → AreFull vs → IsPlace vs at i o → o ≡ 0
     → v ∷ [] ≡ right_pieces vs at
 last-right vs ws v at i o is last full place edge =
@@ -60,6 +62,7 @@ last-right vs ws v at i o is last full place edge =
     let e : i ≡ length ws = omega (arith, ap length is) in
     sym (right-at_edge vs at i o full place edge ∙ ap (drop i) is ∙ drop-seam ws v i e)
 
+-- the pieces but the last, and the front of that, are those up to a place inside it
 pub last-front : (vs ws : List View) (v front : View) (at i o : ℕ) → vs ≡ ws ++ v ∷ [] → i + 1 ≡ length vs → IsPlace vs at i o → 0 < o
     → front ≡ view_front v o → ws ++ front ∷ [] ≡ left_pieces vs at
 last-front vs ws v front at i o is last place some cut =
@@ -69,6 +72,7 @@ last-front vs ws v front at i o is last place some cut =
     let before : take i vs ≡ ws = ap (take i) is ∙ take-seam ws v i e in
     sym (left-at_place vs at i o place some ∙ (λ k. before k ++ view_front (here k) o ∷ []) ∙ ap (λ x. ws ++ x ∷ []) (sym cut))
 
+-- the last piece advanced is what stands from a place in it on
 pub last-behind : (vs ws : List View) (v behind : View) (at i o : ℕ) → vs ≡ ws ++ v ∷ [] → i + 1 ≡ length vs → IsPlace vs at i o
     → behind ≡ view_advanced v o → behind ∷ [] ≡ right_pieces vs at
 last-behind vs ws v behind at i o is last place cut =
@@ -78,6 +82,7 @@ last-behind vs ws v behind at i o is last place cut =
     let none : drop (suc i) vs ≡ [] = ap (drop (suc i)) is ∙ drop-all ws v i e in
     sym (right-at_place vs at i o place ∙ (λ k. view_advanced (here k) o ∷ none k) ∙ ap (λ x. x ∷ []) (sym cut))
 
+-- a place in the last piece lies in it before its end
 pub last-inside : (vs ws : List View) (v : View) (at i o : ℕ) → vs ≡ ws ++ v ∷ [] → i + 1 ≡ length vs → IsPlace vs at i o → o < view_len v
 last-inside vs ws v at i o is last place =
     let n = length-append ws (v ∷ []) in
@@ -90,9 +95,11 @@ last-inside vs ws v at i o is last place =
 pub popped : (ps qs : List Piece) (last : Option Piece) (p : Piece) → ps ≡ qs ++ option_to_list last → last ≡ Some p → ps ≡ qs ++ p ∷ []
 popped ps qs last p is some = is ∙ ap (λ x. qs ++ option_to_list x) some
 
+-- where a piece is the last, its view is the last of the views
 pub views-popped : (ps qs : List Piece) (p : Piece) → ps ≡ qs ++ p ∷ [] → views_in ps ≡ views_in qs ++ p.view ∷ []
 views-popped ps qs p is = ap (λ (xs : List Piece). views_in xs) is ∙ map-append (λ (q : Piece). q.view) qs (p ∷ [])
 
+-- a place in the last piece is the number of bytes before that piece, and how far it lies in it
 pub last-sum : (vs ws : List View) (v : View) (at i o : ℕ) → vs ≡ ws ++ v ∷ [] → i + 1 ≡ length vs → IsPlace vs at i o → at ≡ length (pieces_bytes ws) + o
 last-sum vs ws v at i o is last place =
     let n = length-append ws (v ∷ []) in
@@ -119,13 +126,16 @@ first-dropped (v ∷ vs) (suc n) = first-dropped vs n
 cut-some : (v : View) (e o : ℕ) → 0 < o → cut_piece v e o ≡ record { view = v; end = e } ∷ []
 cut-some v e o some = rw (not_zero o some) refl
 
+-- the first of the pieces from one on is that one
 pub piece-dropped : (ps behind : List Piece) (i : ℕ) → behind ≡ drop i ps → piece_at (views_in behind) 0 ≡ piece_at (views_in ps) i
 piece-dropped ps behind i is =
     ap (λ (xs : List Piece). piece_at (views_in xs) 0) is ∙ ap (λ vs. piece_at vs 0) (views-drop i ps) ∙ first-dropped (views_in ps) i
 
+-- a place in a piece lies before its end where that is the first of those from it on
 pub inside-dropped : (ps behind : List Piece) (at i o : ℕ) → IsPlace (views_in ps) at i o → behind ≡ drop i ps → o < view_len (piece_at (views_in behind) 0)
 inside-dropped ps behind at i o place is = omega (arith, place.inside, ap (λ (v : View). view_len v) (piece-dropped ps behind i is))
 
+-- the pieces of a row before the one that holds a place, and the front of that one, if any, are a row, of the pieces up to the place
 pub left-row : (b at i o e : ℕ) (ps moved front : List Piece) (inside : View) → IsRow b ps → IsPlace (views_in ps) at i o
     → (0 < o → inside ≡ view_front (piece_at (views_in ps) i) o) → at < 2 ^ 64 → e ≡ (b + at) % 2 ^ 64 → moved ≡ take i ps
     → front ≡ moved ++ cut_piece inside e o → IsRow b front × (views_in front ≡ left_pieces (views_in ps) at)
@@ -150,6 +160,7 @@ left-row b at i o e ps moved front inside h place cut fits end before join =
     ))
     (cases_lt 0 o)
 
+-- the pieces of a row from the one that holds a place on, that one shortened, are a row with its base at the place, of the pieces from there on
 pub right-row : (b at i o c : ℕ) (ps rest behind : List Piece) → IsRow b ps → IsPlace (views_in ps) at i o → c ≡ (b + at) % 2 ^ 64 → rest ≡ drop i ps
     → behind ≡ shortened rest o → IsRow c behind × (views_in behind ≡ right_pieces (views_in ps) at)
 right-row b at i o c ps rest behind h place base left cut =
@@ -167,6 +178,7 @@ right-row b at i o c ps rest behind h place base left cut =
           ∙ sym (right-at_place vs at i o place),
     )
 
+-- piece by piece, the bytes are those of the views
 pub bytes-in : (ps : List Piece) → map (λ (p : Piece). p.view.bytes) ps ≡ map (λ (v : View). v.bytes) (views_in ps)
 bytes-in [] = refl
 bytes-in (p ∷ ps) = ap (λ rest. p.view.bytes ∷ rest) (bytes-in ps)

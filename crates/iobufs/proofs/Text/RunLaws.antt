@@ -37,6 +37,7 @@ told total cause long short =
     (λ (h : 2 ^ 64 ≤ total). rw (not_lt total (2 ^ 64) h) (long h))
     (cases_lt total (2 ^ 64))
 
+-- a view with bytes behind views with bytes, joined so far, is refused as too long where all don't fit a number, else for want of memory
 pub refused-at : (views : List View) (view : View) (t : MarkedText) (cause : BufError) → t ≡ joined views → text_len t < 2 ^ 64 → 0 < text_len t
     → 0 < length view.bytes → (2 ^ 64 ≤ text_len t + length view.bytes → cause ≡ TooLong)
     → (text_len t + length view.bytes < 2 ^ 64 → cause ≡ Memory) → IsRefusedAt (views ++ view ∷ []) cause
@@ -53,6 +54,7 @@ refused-at views view t cause e fits some more long short =
       told = told (text_len (joined (views ++ view ∷ []))) cause (λ h. long (omega arith)) (λ h. short (omega arith));
     }
 
+-- a text with a view appended fits a number where their lengths together do
 pub fits-more : (t u : MarkedText) (view : View) → u ≡ text_append t view → (2 ^ 64 ≤ text_len t + length view.bytes → ⊥) → text_len u < 2 ^ 64
 fits-more t u view a never =
     let n = ap text_len a ∙ ap length (bytes-append t view) ∙ length-append t.bytes view.bytes in

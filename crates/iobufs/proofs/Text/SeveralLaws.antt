@@ -1,4 +1,4 @@
--- One piece or several, after one call.
+-- How many pieces stand on a side of a place or behind a push: at least one, or two or more, and none is empty; and where the last one stands.
 use Rattle.std.proofs.lemmas.List.Concat.{flat_map-append}
 use Rattle.std.proofs.Math.Seq.{take-append_seam}
 use Rattle.std.proofs.lemmas.Bool.{cases_lt}
@@ -15,6 +15,7 @@ use Rattle.iobufs.proofs.Text.PlaceLaws.{right-at_place, index-of_place}
 pub pieced-as : {a b : Pieces} → a ≡ b → IsPieced a → IsPieced b
 pieced-as is h = subst IsPieced is h
 
+-- several pieces of which none is empty are so with one more that has bytes
 pub several-push : (vs ws : List View) (w : View) → (1 < length vs) × AreFull vs → 0 < view_len w → ws ≡ vs ++ w ∷ [] → (1 < length ws) × AreFull ws
 several-push vs ws w h p e =
     let n = length-append vs (w ∷ []) in
@@ -22,6 +23,7 @@ several-push vs ws w h p e =
     let l = h.0 in
     (omega arith, subst AreFull (sym e) (AreFull-append vs (w ∷ []) h.1 (p, tt)))
 
+-- where no piece is empty, none is of those from a place below the end on, and there is one
 pub right-full : (p : Pieces) (vs ws : List View) (at : ℕ) → views p ≡ vs → AreFull (views p) → at < length (pieces_bytes (views p))
     → ws ≡ right_pieces vs at → AreFull ws × (0 < length ws)
 right-full p vs ws at e f l is =

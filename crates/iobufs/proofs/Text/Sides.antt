@@ -10,6 +10,7 @@ pub up_up : (m n : ℕ) (es : List (ℕ × Mark)) → map (moved_up m) (map (mov
 up_up m n [] = refl
 up_up m n (e ∷ es) = let h = up_up m n es in let k : m + (n + e.0) ≡ m + n + e.0 = omega arith in cc
 
+-- of three texts one behind the other the first two, or the last two, may be joined first
 pub glue_assoc : (x y z : MarkedText) → text_glue (text_glue x y) z ≡ text_glue x (text_glue y z)
 unfolding text_glue
 glue_assoc x y z =
@@ -18,6 +19,7 @@ glue_assoc x y z =
     let u = up_up (length x.bytes) (length y.bytes) z.cuts in
     simp (length-append, append_assoc, map-append, up_up)
 
+-- what a test chooses is alike for two functions where both of its answers are
 pub both : {A B C : Type 0} (f : A → C) (g : B → C) (b : Bool) (x y : A) (v w : B) → f x ≡ g v → f y ≡ g w → f (cond b x y) ≡ g (cond b v w)
 both f g true x y v w p q = p
 both f g false x y v w p q = q
@@ -28,6 +30,7 @@ lt_up at n k l = grind (arith, tests)
 pub lt_up_left : (at n k : ℕ) → n ≤ at → nat_lt (n + k) at ≡ nat_lt k (at - n)
 lt_up_left at n k l = grind (arith, tests)
 
+-- a key moved up is at most a place exactly where the key is at most the place moved down
 pub le_up : (at n k : ℕ) → n ≤ at → nat_le (n + k) at ≡ nat_le k (at - n)
 le_up at n k l = grind (arith, tests)
 
@@ -36,6 +39,7 @@ abbrev pub FromOn : ℕ → List (ℕ × Mark) → Type 0
 FromOn n [] = Unit {0}
 FromOn n (e ∷ es) = (n ≤ e.0) × FromOn n es
 
+-- cuts moved up by n stand at n or behind it
 pub from_on-up : (n : ℕ) (es : List (ℕ × Mark)) → FromOn n (map (moved_up n) es)
 from_on-up n [] = tt
 from_on-up n (e ∷ es) = (omega arith, from_on-up n es)
@@ -48,6 +52,7 @@ pub above_all : (at n : ℕ) (es : List (ℕ × Mark)) → FromOn n es → at < 
 above_all at n [] h l = refl
 above_all at n (e ∷ es) h l = let ih = above_all at n es h.1 l in grind (arith, tests)
 
+-- at a place in front of all cuts the last key is the one before them
 pub upto_none : (at n : ℕ) (k : ℕ × Mark) (es : List (ℕ × Mark)) → FromOn n es → at < n → key_upto k es at ≡ k
 upto_none at n k [] h l = refl
 upto_none at n k (e ∷ es) h l = let ih = upto_none at n k es h.1 l in grind (arith, tests)
@@ -71,6 +76,7 @@ filter_up_left at n (e ∷ es) l =
     let ih = filter_up_left at n es l in
     rw (lt_up_left at n e.0 l) (both (λ x. x) (map (moved_up n)) (nat_lt e.0 (at - n)) _ _ _ _ (cc) ih)
 
+-- keys moved up have as their last key up to a place the one that they had up to the place moved down, moved up
 pub upto_up : (at n : ℕ) (k : ℕ × Mark) (es : List (ℕ × Mark)) → n ≤ at → key_upto (moved_up n k) (map (moved_up n) es) at ≡ moved_up n (key_upto k es (at - n))
 upto_up at n k [] l = refl
 upto_up at n k (e ∷ es) l =
@@ -83,6 +89,7 @@ mark_up at n k es l =
     let d : at - (n + f.0) ≡ at - n - f.0 = omega arith in
     rw (upto_up at n k es l, d)
 
+-- a number less 0 is that number
 pub no_sub : (n : ℕ) → n - 0 ≡ n
 no_sub n = omega arith
 
@@ -94,22 +101,28 @@ pub right-of_view : (at : ℕ) (v : View) → text_right (of_view v) at ≡ of_v
 unfolding text_right
 right-of_view at v = rw (no_sub at)
 
+-- the left side of a view's text is the text of its front
 pub left-of_view : (at : ℕ) (v : View) → text_left (of_view v) at ≡ of_view (view_front v at)
 unfolding text_left
 left-of_view at v = refl
 
+-- a number that is less passes the test of less
 pub is_lt : (m n : ℕ) → m < n → nat_lt m n ≡ true
 is_lt m n l = grind (arith, tests)
 
+-- a number above 0 isn't equal to 0
 pub not_zero : (n : ℕ) → 0 < n → nat_eq n 0 ≡ false
 not_zero n l = grind (arith, tests)
 
+-- a number that isn't less fails the test of less
 pub not_lt : (m n : ℕ) → n ≤ m → nat_lt m n ≡ false
 not_lt m n l = grind (arith, tests)
 
+-- a number that is at most another passes the test of at most
 pub is_le : (m n : ℕ) → m ≤ n → nat_le m n ≡ true
 is_le m n l = grind (arith, tests)
 
+-- a number above another fails the test of at most
 pub not_le : (m n : ℕ) → n < m → nat_le m n ≡ false
 not_le m n l = grind (arith, tests)
 
@@ -128,6 +141,7 @@ right-glue_within at v y l =
     (rw (not_le (view_len v) at l, u, no_sub at))
     (rw (is_lt at (view_len v) l, a, d, n))
 
+-- from a place behind a view's bytes on stands what the text behind the view has from there on
 pub right-glue_past : (at : ℕ) (v : View) (y : MarkedText) → view_len v ≤ at → text_right (text_glue (of_view v) y) at ≡ text_right y (at - view_len v)
 unfolding text_right text_glue
 right-glue_past at v y l =
@@ -138,6 +152,7 @@ right-glue_past at v y l =
     (rw (is_le (view_len v) at l) (ap (λ z. mark_past (key_upto (z, y.mark) (map (moved_up (view_len v)) y.cuts) at) at) (sym z) ∙ u))
     (rw (not_lt at (view_len v) l) (filter_up at (view_len v) y.cuts l))
 
+-- up to a place within a view or at its end stands its front
 pub left-glue_within : (at : ℕ) (v : View) (y : MarkedText) → at ≤ view_len v → text_left (text_glue (of_view v) y) at ≡ of_view (view_front v at)
 unfolding text_left text_glue
 left-glue_within at v y l =
@@ -146,6 +161,7 @@ left-glue_within at v y l =
     refl
     (rw (not_lt (view_len v) at l) (below_all at (view_len v) _ (from_on-up (view_len v) y.cuts) l))
 
+-- up to a place behind a view's end stand the view and what the text behind it has up to there
 pub left-glue_past : (at : ℕ) (v : View) (y : MarkedText) → view_len v < at
     → text_left (text_glue (of_view v) y) at ≡ text_glue (of_view v) (text_left y (at - view_len v))
 unfolding text_left text_glue
@@ -160,12 +176,15 @@ left-glue_past at v y l =
 pub same_eq : (m n : ℕ) → m ≡ n → nat_eq m n ≡ true
 same_eq m n e = grind (arith, tests)
 
+-- a number that is less fails the test of equality
 pub not_eq : (m n : ℕ) → m < n → nat_eq m n ≡ false
 not_eq m n e = grind (arith, tests)
 
+-- views with the same bytes and the same mark are the same
 pub same_view : (v w : View) → v.bytes ≡ w.bytes → v.mark ≡ w.mark → v ≡ w
 same_view v w p q = λ i. record { bytes = p i; mark = q i }
 
+-- a mark moved on by 0 bytes is the same
 pub mark_after-zero : (m : Mark) → mark_after 0 m ≡ m
 mark_after-zero static_mark = refl
 mark_after-zero bytes_mark = refl

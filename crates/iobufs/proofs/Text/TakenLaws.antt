@@ -34,10 +34,12 @@ upto_zero skip k (e ∷ es) =
     (λ (h : e.0 ≤ skip). rw (not_lt skip e.0 h) ih)
     (cases_lt skip e.0)
 
+-- no bytes are taken as the default view
 pub taken_view-none : (skip : ℕ) (t : MarkedText) → taken_view t skip 0 ≡ default_view
 unfolding taken_view
 taken_view-none skip t = refl
 
+-- bytes from a place on are taken as the first ones of its right side
 pub taken_view-right : (skip n : ℕ) (t : MarkedText) → taken_view t skip n ≡ taken_view (text_right t skip) 0 n
 unfolding taken_view text_right
 taken_view-right skip n t =
@@ -55,6 +57,7 @@ any_from_on at n (e ∷ es) f l =
     let ih = any_from_on at n es f.1 l in
     let h : nat_lt e.0 n ≡ false = not_lt e.0 n (omega arith) in rw (h, and-false (nat_lt 0 e.0)) ih
 
+-- all cuts in a text of pieces stand at the end of the first or behind it
 pub from_on-of_pieces : (v : View) (vs : List View) → FromOn (view_len v) (of_pieces (v ∷ vs)).cuts
 unfolding of_pieces text_glue
 from_on-of_pieces v [] = tt

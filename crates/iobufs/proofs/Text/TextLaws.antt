@@ -1,4 +1,4 @@
--- What a text in several pieces keeps, and what its marked text is.
+-- The fields of a text: what its pieces say of its marked text, and that they stay kept (`IsKept`) where a call adds a piece or leaves a side.
 use Rattle.std.proofs.Common.{Bool, true, IsTrue, IsFalse, ◌≡◌, refl, ℕ, ◌<◌, ◌≤◌, false, List, [], ◌∷◌, ◌++◌, length, map, zero, suc, sym, ap, ◌∙◌, arith, tests, subst, nat_eq}
 use Rattle.std.specs.List.{slice_get}
 use Rattle.std.specs.Option.{option_map}
@@ -17,6 +17,7 @@ use Rattle.iobufs.proofs.Text.JoinLaws.{append-push, prepend-cons}
 use Rattle.iobufs.proofs.Text.KeptLaws.{AreViews-right, AreViews-left, AreViews-append, IsMarked-from_views}
 use Rattle.iobufs.proofs.Text.ChunkLaws.{chunks-of_pieces, chunks-of_empty}
 
+-- one piece, or several of which none is empty, are as the code keeps them
 pub IsPieces-from_pieced : (p : Pieces) → IsPieced p → IsPieces (views p)
 IsPieces-from_pieced (One v) h = tt
 IsPieces-from_pieced (Many row) h = many row.views h.0 h.1
@@ -26,13 +27,16 @@ IsPieces-from_pieced (Many row) h = many row.views h.0 h.1
     many (v ∷ []) l f = absurd (omega arith)
     many (v ∷ w ∷ vs) l f = f
 
+-- there is at least one piece
 pub some_views : (p : Pieces) → IsPieced p → 0 < length (views p)
 some_views (One v) h = omega arith
 some_views (Many row) h = omega (arith, h.0)
 
+-- the bytes of the pieces are those of their text
 pub bytes-kept : (s : Inside) (t : MarkedText) → text_of s ≡ t → pieces_bytes (views s.pieces) ≡ t.bytes
 bytes-kept s t e = sym (bytes-of_pieces (views s.pieces)) ∙ ap (λ (x : MarkedText). x.bytes) e
 
+-- the pieces have as many bytes as their text
 pub length-kept : (s : Inside) (t : MarkedText) → text_of s ≡ t → length (pieces_bytes (views s.pieces)) ≡ text_len t
 length-kept s t e = ap length (bytes-kept s t e)
 
@@ -40,6 +44,7 @@ length-kept s t e = ap length (bytes-kept s t e)
 pub full-kept : (s : Inside) (t : MarkedText) → text_of s ≡ t → IsKept s → 0 < text_len t → AreFull (views s.pieces)
 full-kept s t e k p = let n = length-kept s t e in AreFull-from_pieces (views s.pieces) (IsPieces-from_pieced s.pieces k.pieced) (omega arith)
 
+-- the text of kept pieces is well formed
 pub IsMarked-kept : (s : Inside) (t : MarkedText) → text_of s ≡ t → IsKept s → IsMarked t
 IsMarked-kept s t e k = subst IsMarked e (IsMarked-from_views (views s.pieces) (IsPieces-from_pieced s.pieces k.pieced) k.roomy)
 
@@ -53,14 +58,17 @@ single-of (v ∷ []) t e l = sym (ap is_single e) ∙ is_single-of_pieces v []
 single-of (v ∷ w ∷ vs) t e l = sym (ap is_single e) ∙ is_single-of_pieces v (w ∷ vs) ∙ not_zero (length (w ∷ vs)) (omega arith)
     ∙ sym (not_one (length (v ∷ w ∷ vs)) (omega arith))
 
+-- the text of kept pieces is single exactly where there is one
 pub single-kept : (s : Inside) (t : MarkedText) → text_of s ≡ t → IsKept s → is_single t ≡ nat_eq (length (views s.pieces)) 1
 single-kept s t e k = single-of (views s.pieces) t e (some_views s.pieces k.pieced)
 
+-- the text of more than one piece isn't single
 pub single-more : (vs : List View) (t : MarkedText) → of_pieces vs ≡ t → 1 < length vs → is_single t ≡ false
 single-more [] t e l = absurd (omega arith)
 single-more (v ∷ []) t e l = absurd (omega arith)
 single-more (v ∷ w ∷ vs) t e l = sym (ap is_single e) ∙ is_single-of_pieces v (w ∷ vs) ∙ not_zero (length (w ∷ vs)) (omega arith)
 
+-- a text with bytes has as many chunks as pieces
 pub count-pieces : (vs : List View) (t : MarkedText) → of_pieces vs ≡ t → 0 < length (pieces_bytes vs) → length vs ≡ chunk_count t
 count-pieces [] t e l = absurd (omega arith)
 count-pieces (v ∷ vs) t e l =
@@ -68,6 +76,7 @@ count-pieces (v ∷ vs) t e l =
     let n : length t.cuts ≡ length vs = ap (λ (x : MarkedText). length x.cuts) (sym e) ∙ cuts-of_pieces v vs in
     rw (not_zero (text_len t) s) (omega arith)
 
+-- where no piece is empty, the chunks of their text are the bytes of each
 pub chunks-kept : (vs : List View) (t : MarkedText) → of_pieces vs ≡ t → 0 < length vs → AreFull vs → text_chunks t ≡ map (λ (v : View). v.bytes) vs
 chunks-kept [] t e l f = absurd (omega arith)
 chunks-kept (v ∷ vs) t e l f = sym (ap text_chunks e) ∙ chunks-of_pieces v vs f
@@ -81,6 +90,7 @@ append-pieces (v ∷ vs) w t e p q =
     let z : text_len (of_pieces (v ∷ vs)) ≡ text_len t = ap text_len e in
     sym (append-push v vs w (omega arith) q) ∙ ap (λ (x : MarkedText). text_append x w) e
 
+-- a piece with bytes in front of those of a text with bytes makes the text with it prepended
 pub prepend-pieces : (vs : List View) (w : View) (t : MarkedText) → of_pieces vs ≡ t → 0 < text_len t → 0 < view_len w → of_pieces (w ∷ vs) ≡ text_prepend t w
 prepend-pieces [] w t e p q = let s = len-of_pieces [] in let z : text_len (of_pieces []) ≡ text_len t = ap text_len e in absurd (omega arith)
 prepend-pieces (v ∷ vs) w t e p q =
@@ -99,6 +109,7 @@ pub front-kept : (vs ws : List View) (t : MarkedText) (at : ℕ) → of_pieces v
     → of_pieces ws ≡ text_split_front t at
 front-kept vs ws t at e p l is = ap of_pieces is ∙ sym (split_front-of_pieces at vs p l) ∙ ap (λ (x : MarkedText). text_split_front x at) e
 
+-- the pieces from a place inside on make what a split there leaves
 pub rest-kept : (vs ws : List View) (t : MarkedText) (at : ℕ) → of_pieces vs ≡ t → 0 < at → at < length (pieces_bytes vs) → ws ≡ right_pieces vs at
     → of_pieces ws ≡ text_rest t at
 rest-kept vs ws t at e p l is = ap of_pieces is ∙ sym (rest-of_pieces at vs p l) ∙ ap (λ (x : MarkedText). text_rest x at) e
@@ -130,6 +141,7 @@ chunk-at vs t i piece e l f g =
     ap (option_map (λ (v : View). v.bytes)) g ∙ sym (slice_get-map (λ (v : View). v.bytes) vs i)
     ∙ ap (λ (xs : List (List ℕ)). slice_get xs i) (sym (chunks-kept vs t e l f))
 
+-- an empty text has no chunk, whichever is asked for
 pub chunk-none : (t : MarkedText) (i : ℕ) → text_len t ≡ 0 → None ≡ slice_get (text_chunks t) i
 chunk-none t i e = sym (ap (λ (xs : List (List ℕ)). slice_get xs i) (chunks-of_empty t e))
 
@@ -141,6 +153,7 @@ kept-push s p w k h is v =
       roomy = views-push (views s.pieces) (views p) w is k.roomy v;
     }
 
+-- where kept pieces with one more in front, which has room for its bytes, are several of which none is empty, or one, they are kept
 pub kept-cons : (s : Inside) (p : Pieces) (w : View) → IsKept s → IsPieced p → views p ≡ w ∷ views s.pieces → IsView w → IsKept (record { pieces = p })
 kept-cons s p w k h is v =
     record {
@@ -148,6 +161,7 @@ kept-cons s p w k h is v =
       roomy = views-cons (views s.pieces) (views p) w is k.roomy v;
     }
 
+-- where kept pieces up to a place are one, or several of which none is empty, they are kept
 pub kept-front : (s : Inside) (at : ℕ) (p : Pieces) → IsKept s → IsPieced p → views p ≡ left_pieces (views s.pieces) at → IsKept (record { pieces = p })
 kept-front s at p k h is =
     record {
@@ -155,6 +169,7 @@ kept-front s at p k h is =
       roomy = views-left (views s.pieces) (views p) at is k.roomy;
     }
 
+-- where kept pieces from a place on are one, or several of which none is empty, they are kept
 pub kept-rest : (s : Inside) (at : ℕ) (p : Pieces) → IsKept s → IsPieced p → views p ≡ right_pieces (views s.pieces) at → IsKept (record { pieces = p })
 kept-rest s at p k h is =
     record {
@@ -169,6 +184,7 @@ kept-same s p k h is =
       roomy = subst AreViews (sym is) k.roomy;
     }
 
+-- where a test tells that kept pieces are those from a place on, or stay, and they are one, or several of which none is empty, they are kept
 pub kept-short : (s : Inside) (n : ℕ) (p : Pieces) (short : Bool) → IsKept s → IsPieced p
     → (IsTrue short → views p ≡ right_pieces (views s.pieces) n) → (IsFalse short → views p ≡ views s.pieces) → IsKept (record { pieces = p })
 kept-short s n p true k h left same = kept-rest s n p k h (left refl)

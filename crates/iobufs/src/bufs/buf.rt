@@ -1,10 +1,11 @@
 // A text in several pieces, read from the front.
-ghost use Rattle.std.specs.Prelude.{◌≡◌, ◌+◌, ◌<◌, ◌≤◌, ◌^◌, nat_lt, length, map, take, slice_get, false, true, IsTrue, IsFalse, IsOk, IfOk, OnOk, OnErr, Err, IsOkUnless};
+ghost use Rattle.std.specs.Prelude.{◌≡◌, ◌+◌, ◌<◌, ◌≤◌, ◌^◌, nat_lt, length, map, take, drop, slice_get, false, true, IsTrue, IsFalse, IsOk, IfOk, OnOk, OnErr, Err, IsOkUnless};
 ghost use Rattle.iobufs_core.specs.Chunks.{first_chunk};
-ghost use Rattle.iobufs_core.specs.View.{static_mark};
+ghost use Rattle.iobufs_core.specs.View.{bytes_mark, static_mark};
 ghost use Rattle.iobufs_core.specs.MarkedText.{is_single, of_view, taken_view, text_advanced, text_chunks, text_coalesced, text_len, text_rest};
 
 use super::IoBufs;
+use super::pieces::Pieces;
 use bytes::Bytes;
 use iobufs_core::buf::{IoBuf, IoBufMut};
 use iobufs_core::codec::{Buf, BufError, OwnedBuf, OwnedBytes};
@@ -55,8 +56,8 @@ impl IoBufs {
         requires { n ≤ text_len self.old }
         ensures { self.new ≡ text_advanced self.old n }
     {
-        if self.is_single() {
-            self.pieces.drop_single(n);
+        if let Pieces::One(piece) = &mut self.pieces {
+            piece.advance(n);
             return;
         }
         self.drop_front(n);
@@ -97,13 +98,13 @@ impl IoBufs {
     ) -> Result<T, BufError>
         requires some { 0 < n }
         requires inside { skip + n ≤ length (first_chunk (text_chunks self.old)) }
+        requires fits { skip + n < 2 ^ 64 }
         ensures ok { IfOk result (T.makes (taken_view self.old skip n)) }
         ensures rest { OnOk result (self.new ≡ text_rest self.old (skip + n)) }
-        ensures err { OnErr result (self.new ≡ self.old) }
+        ensures unchanged { OnErr result (self.new ≡ self.old) }
         ensures memory { IsOkUnless result BufError.Memory }
         ensures static_text { (taken_view self.old skip n).mark ≡ static_mark → T.is_free (taken_view self.old skip n) → IsOk result }
     {
-        let _len = self.len();
         let (first, end) = (self.pieces.piece(0), skip + n);
         let view = first.slice(Bound::Included(skip), Bound::Excluded(end))?;
         let made = T::from_view(alloc, view)?;
@@ -122,12 +123,11 @@ impl IoBufs {
         requires { skip + n ≤ text_len self.old }
         ensures ok { IfOk result (T.makes (taken_view self.old skip n)) }
         ensures rest { OnOk result (self.new ≡ text_rest self.old (skip + n)) }
-        ensures err { OnErr result (self.new ≡ self.old) }
+        ensures unchanged { OnErr result (self.new ≡ self.old) }
         ensures memory { IsOkUnless result BufError.Memory }
         ensures static_text { (taken_view self.old skip n).mark ≡ static_mark → T.is_free (taken_view self.old skip n) → IsOk result }
         ensures nothing { n ≡ 0 → IsOk result }
     {
-        let _len = self.len();
         let view = self.taken(alloc, skip, n)?;
         let made = T::from_view(alloc, view)?;
         self.drop_front(skip + n);
@@ -138,6 +138,7 @@ impl IoBufs {
     fn taken(&self, alloc: Global, skip: usize, n: usize) -> Result<IoBuf, BufError>
         requires { skip + n ≤ text_len self.now }
         ensures ok { IfOk result (λ view. view ≡ taken_view self.now skip n) }
+        ensures fits { OnOk result (skip + n < 2 ^ 64) }
         ensures memory { IsOkUnless result BufError.Memory }
         ensures static_text { (taken_view self.now skip n).mark ≡ static_mark → IsOk result }
         ensures nothing { n ≡ 0 → IsOk result }
@@ -159,6 +160,20 @@ impl IoBufs {
         }
     }
 
+    // Copies bytes that lie behind the first piece, or span pieces.
+    #[inline(never)]
+    fn peek_behind(&self, skip: usize, dst: &mut [u8])
+        requires { skip + length dst.old ≤ text_len self.now }
+        ensures { dst.new ≡ take (length dst.old) (drop skip self.now.bytes) }
+    {
+        let n = dst.len();
+        if n == 0 {
+            return;
+        }
+        let place = self.pieces.locate(skip);
+        self.pieces.fill_from(place, dst);
+    }
+
     // A copy of the first bytes.
     fn front(&self, alloc: Global, n: usize) -> Result<Bytes, BufError>
         requires { n ≤ text_len self.now }
@@ -174,7 +189,7 @@ impl IoBufs {
         requires first { n ≡ length (first_chunk (text_chunks self.old)) }
         ensures ok { IfOk result (T.makes (taken_view self.old 0 n)) }
         ensures rest { OnOk result (self.new ≡ text_rest self.old n) }
-        ensures err { OnErr result (self.new ≡ self.old) }
+        ensures unchanged { OnErr result (self.new ≡ self.old) }
         ensures memory { IsOkUnless result BufError.Memory }
         ensures free { T.is_free (taken_view self.old 0 n) → IsOk result }
     {
@@ -258,7 +273,16 @@ impl Buf for IoBufs {
         self.advance(n);
     }
 
-    fn copy_to_bytes(&mut self, alloc: Global, n: usize) -> Result<Bytes, BufError> {
+    fn copy_to_bytes(&mut self, alloc: Global, n: usize) -> Result<Bytes, BufError>
+        requires { n ≤ text_len self.old }
+        ensures ok { IfOk result (λ bytes. bytes ≡ take n self.old.bytes) }
+        ensures rest { OnOk result (self.new ≡ text_rest self.old n) }
+        ensures unchanged { OnErr result (self.new ≡ self.old) }
+        ensures memory { IsOkUnless result BufError.Memory }
+        ensures nothing { n ≡ 0 → IsOk result }
+        ensures static_text { n ≤ length (first_chunk (text_chunks self.old)) → (taken_view self.old 0 n).mark ≡ static_mark → IsOk result }
+        ensures whole { n ≡ length (first_chunk (text_chunks self.old)) → (taken_view self.old 0 n).mark ≡ bytes_mark → IsOk result }
+    {
         if n <= self.chunk().len() {
             return self.take_owned_after(alloc, 0, n);
         }
@@ -294,7 +318,6 @@ impl OwnedBuf for IoBufs {
     ghost marked = { λ t. t };
 
     fn chunk_count(&self) -> usize {
-        let _len = self.len();
         IoBufs::chunk_count(self)
     }
 
@@ -313,6 +336,24 @@ impl OwnedBuf for IoBufs {
             return self.take_first(alloc, n);
         }
         self.take_inside(alloc, skip, n)
+    }
+
+    fn peek_owned<T: OwnedBytes>(
+        &self,
+        alloc: Global,
+        skip: usize,
+        n: usize,
+    ) -> Result<T, BufError> {
+        let view = self.taken(alloc, skip, n)?;
+        T::from_view(alloc, view)
+    }
+
+    fn peek_slice(&self, skip: usize, dst: &mut [u8]) {
+        let chunk = self.chunk();
+        match chunk.get(skip..) {
+            Some(bytes) if dst.len() <= bytes.len() => dst.copy_from_slice(&bytes[..dst.len()]),
+            _ => self.peek_behind(skip, dst),
+        }
     }
 
     ghost same_text = { Prim.search rules };

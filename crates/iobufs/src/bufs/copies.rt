@@ -67,6 +67,29 @@ impl Pieces {
         }
     }
 
+    /// Fills `dst` with the bytes from a place on.
+    pub(super) fn fill_from(&self, from: Located, dst: &mut [u8])
+        requires offset { from.offset ≤ length (piece_at (views self.now) from.index).bytes }
+        requires inside { length dst.old + from.offset ≤ length (pieces_bytes (drop from.index (views self.now))) }
+        ensures { dst.new ≡ take (length dst.old) (drop from.offset (pieces_bytes (drop from.index (views self.now)))) }
+    {
+        let count = self.count();
+        let Located {
+            mut index,
+            mut offset,
+            probes: _,
+        } = from;
+        let mut filled = 0;
+        while filled < dst.len() && index < count {
+            let bytes = &self.piece(index).as_ref()[offset..];
+            let some = bytes.len().min(dst.len() - filled);
+            dst[filled..filled + some].copy_from_slice(&bytes[..some]);
+            filled += some;
+            index += 1;
+            offset = 0;
+        }
+    }
+
     /// A copy of the first `n` bytes.
     pub(super) fn front(&self, alloc: Global, n: usize) -> Result<Vec<u8>, AllocError>
         requires { n ≤ length (pieces_bytes (views self.now)) }

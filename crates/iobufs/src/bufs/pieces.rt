@@ -1,7 +1,7 @@
 // One piece, or a row of several.
 ghost use Rattle.std.specs.Option.{option_copied};
 ghost use Rattle.std.specs.Prelude.{◌≡◌, List, ◌+◌, ◌*◌, ◌<◌, ◌≤◌, ◌^◌, ◌++◌, [], ◌∷◌, nat_lt, OnOk, OnErr, IfOk, IfErr, IsOk, IsTrue, IsFalse, IsOkUnless, MatchResult, length, slice_get};
-ghost use Rattle.iobufs_core.specs.View.{View, view_advanced};
+ghost use Rattle.iobufs_core.specs.View.{View, static_mark, view_advanced};
 ghost use Rattle.iobufs.specs.Inside.Pieces.{AreFull, IsPlace, behind_first, left_pieces, right_pieces, piece_at, pieces_bytes, view_len};
 ghost use Rattle.iobufs.specs.Inside.Several.{views, IsPieced};
 
@@ -109,20 +109,6 @@ impl Pieces {
         }
     }
 
-    /// Drops bytes of the only piece, which keeps its mark even where all go.
-    pub(super) fn drop_single(&mut self, n: usize)
-        requires pieced { IsPieced self.old }
-        requires single { length (views self.old) ≡ 1 }
-        requires inside { n ≤ length (piece_at (views self.old) 0).bytes }
-        ensures left { views self.new ≡ view_advanced (piece_at (views self.old) 0) n ∷ [] }
-        ensures pieced { IsPieced self.new }
-    {
-        match self {
-            Pieces::One(piece) => piece.advance(n),
-            Pieces::Many(_) => unreachable!(),
-        }
-    }
-
     /// Drops the first `n` bytes.
     pub(super) fn drop_front(&mut self, n: usize)
         requires pieced { IsPieced self.old }
@@ -162,7 +148,7 @@ impl Pieces {
         ensures made { IfOk result (T.makes (piece_at (views self.old) 0)) }
         ensures left { OnOk result (views self.new ≡ behind_first (views self.old)) }
         ensures pieced { IsPieced self.new }
-        ensures refused { OnErr result (views self.new ≡ views self.old) }
+        ensures unchanged { OnErr result (views self.new ≡ views self.old) }
         ensures memory { IsOkUnless result BufError.Memory }
         ensures free { T.is_free (piece_at (views self.old) 0) → IsOk result }
     {
@@ -180,6 +166,7 @@ impl Pieces {
     pub(super) fn locate(&self, at: usize) -> Located
         requires { at < length (pieces_bytes (views self.now)) }
         ensures place { IsPlace (views self.now) at result.index result.offset }
+        ensures fits { 1 < length (views self.now) → length (pieces_bytes (views self.now)) < 2 ^ 64 }
         ensures probes { 2 ^ result.probes ≤ 2 * length (views self.now) }
         ensures halves { length (views self.now) < 2 ^ (result.probes + 1) }
     {
@@ -203,9 +190,10 @@ impl Pieces {
         ensures front_pieced { IfOk result IsPieced }
         ensures left { OnOk result (views self.new ≡ right_pieces (views self.old) at) }
         ensures pieced { IsPieced self.new }
-        ensures refused { OnErr result (views self.new ≡ views self.old) }
+        ensures unchanged { OnErr result (views self.new ≡ views self.old) }
         ensures memory { IsOkUnless result BufError.Memory }
         ensures first { at ≡ view_len (piece_at (views self.old) 0) → IsOk result }
+        ensures static_text { at ≤ view_len (piece_at (views self.old) 0) → (piece_at (views self.old) 0).mark ≡ static_mark → IsOk result }
         ensures last { (front : List View) (last : View) → views self.old ≡ front ++ last ∷ []
             → at + view_len last ≡ length (pieces_bytes (views self.old)) → IsOk result }
     {
@@ -234,7 +222,7 @@ impl Pieces {
         ensures front_pieced { IfOk result IsPieced }
         ensures left { OnOk result (views self.new ≡ right_pieces (views self.old) at) }
         ensures pieced { IsPieced self.new }
-        ensures refused { OnErr result (views self.new ≡ views self.old) }
+        ensures unchanged { OnErr result (views self.new ≡ views self.old) }
         ensures memory { IsOkUnless result BufError.Memory }
         ensures last { (front : List View) (last : View) → views self.old ≡ front ++ last ∷ []
             → at + view_len last ≡ length (pieces_bytes (views self.old)) → IsOk result }
@@ -254,7 +242,8 @@ impl Pieces {
         Ok(Pieces::Many(row.split_right(place, at)?))
     }
 
-    /// Puts a piece behind the others, which makes them so long.
+    /// Puts a piece behind the others, which makes them so long. Where there was one piece, a row is made, with room for
+    /// four.
     pub(super) fn push_back(
         &mut self,
         alloc: Global,
@@ -267,46 +256,25 @@ impl Pieces {
         requires total { len ≡ length (pieces_bytes (views self.old)) + length piece.bytes }
         ensures pieced { IsPieced self.new }
         ensures done { OnOk result (views self.new ≡ views self.old ++ piece ∷ []) }
-        ensures refused { OnErr result (views self.new ≡ views self.old) }
+        ensures unchanged { OnErr result (views self.new ≡ views self.old) }
         ensures handed_back { IfErr result (λ e. e.value ≡ piece) }
     {
         match self {
-            Pieces::One(_) => self.push_second(alloc, piece, len),
+            Pieces::One(only) => {
+                let Ok(mut row) = Row::with_room(alloc, 4) else {
+                    return Err(AllocFailed { value: piece });
+                };
+                let before = only.len();
+                row.push_back_reserved(mem::take(only), before);
+                row.push_back_reserved(piece, len);
+                self.set(Pieces::Many(row));
+                Ok(())
+            }
             Pieces::Many(row) => Ok(row.push_back(piece, len)?),
         }
     }
 
-    // The same where there is one piece up to now: a row is made, with room for four.
-    #[inline(never)]
-    fn push_second(
-        &mut self,
-        alloc: Global,
-        piece: IoBuf,
-        len: usize,
-    ) -> Result<(), AllocFailed<IoBuf>>
-        requires single { length (views self.old) ≡ 1 }
-        requires pieced { IsPieced self.old }
-        requires full { AreFull (views self.old) }
-        requires some { 0 < length piece.bytes }
-        requires total { len ≡ length (pieces_bytes (views self.old)) + length piece.bytes }
-        ensures pieced { IsPieced self.new }
-        ensures done { OnOk result (views self.new ≡ views self.old ++ piece ∷ []) }
-        ensures refused { OnErr result (views self.new ≡ views self.old) }
-        ensures handed_back { IfErr result (λ e. e.value ≡ piece) }
-    {
-        let Pieces::One(only) = self else {
-            unreachable!()
-        };
-        let Ok(mut row) = Row::with_room(alloc, 4) else {
-            return Err(AllocFailed { value: piece });
-        };
-        let before = only.len();
-        row.push_back_reserved(mem::take(only), before);
-        row.push_back_reserved(piece, len);
-        self.set(Pieces::Many(row));
-        Ok(())
-    }
-
+    /// The same in front of the others.
     pub(super) fn push_front(
         &mut self,
         alloc: Global,
@@ -318,45 +286,30 @@ impl Pieces {
         requires fits { length (pieces_bytes (views self.old)) + length piece.bytes < 2 ^ 64 }
         ensures pieced { IsPieced self.new }
         ensures done { OnOk result (views self.new ≡ piece ∷ views self.old) }
-        ensures refused { OnErr result (views self.new ≡ views self.old) }
+        ensures unchanged { OnErr result (views self.new ≡ views self.old) }
         ensures handed_back { IfErr result (λ e. e.value ≡ piece) }
     {
         match self {
-            Pieces::One(_) => self.push_first(alloc, piece),
+            Pieces::One(only) => {
+                let Ok(mut row) = Row::with_room(alloc, 4) else {
+                    return Err(AllocFailed { value: piece });
+                };
+                let ahead = piece.len();
+                let len = ahead + only.len();
+                row.push_back_reserved(piece, ahead);
+                row.push_back_reserved(mem::take(only), len);
+                self.set(Pieces::Many(row));
+                Ok(())
+            }
             Pieces::Many(row) => row.push_front(piece),
         }
-    }
-
-    // The same where there is one piece up to now: a row is made, with room for four.
-    #[inline(never)]
-    fn push_first(&mut self, alloc: Global, piece: IoBuf) -> Result<(), AllocFailed<IoBuf>>
-        requires single { length (views self.old) ≡ 1 }
-        requires pieced { IsPieced self.old }
-        requires full { AreFull (views self.old) }
-        requires some { 0 < length piece.bytes }
-        requires fits { length (pieces_bytes (views self.old)) + length piece.bytes < 2 ^ 64 }
-        ensures pieced { IsPieced self.new }
-        ensures done { OnOk result (views self.new ≡ piece ∷ views self.old) }
-        ensures refused { OnErr result (views self.new ≡ views self.old) }
-        ensures handed_back { IfErr result (λ e. e.value ≡ piece) }
-    {
-        let Pieces::One(only) = self else {
-            unreachable!()
-        };
-        let Ok(mut row) = Row::with_room(alloc, 4) else {
-            return Err(AllocFailed { value: piece });
-        };
-        let ahead = piece.len();
-        let len = ahead + only.len();
-        row.push_back_reserved(piece, ahead);
-        row.push_back_reserved(mem::take(only), len);
-        self.set(Pieces::Many(row));
-        Ok(())
     }
 }
 
 impl Clone for Pieces {
     ghost is_clone = { λ a b. IsPieced a → (views b ≡ views a) × IsPieced b };
+
+    ghost is_infallible = { λ pieces. IsPieced pieces × (length (views pieces) ≡ 1) × ((piece_at (views pieces) 0).mark ≡ static_mark) };
 
     fn clone(&self) -> Result<Pieces, AllocError> {
         match self {

@@ -5,7 +5,7 @@ ghost use Rattle.std.specs.Option.{option_copied};
 ghost use Rattle.std.specs.Prelude.{◌≡◌, List, ◌+◌, ◌-◌, ◌*◌, ◌^◌, ◌<◌, ◌≤◌, ◌++◌, [], ◌∷◌, ◌==◌, if◌then◌else◌, nat_lt, length, map, take, drop, slice_get, IfOk, IfErr, IsOk, OnOk, OnErr, IsOkUnless, IsTrue, IsFalse};
 ghost use Rattle.std.specs.VecDeque.{deque_len, deque_capacity};
 ghost use Rattle.iobufs_core.specs.Part.{part_put};
-ghost use Rattle.iobufs_core.specs.View.{IsView, view_advanced, view_front};
+ghost use Rattle.iobufs_core.specs.View.{IsView, static_mark, view_advanced, view_front};
 ghost use Rattle.iobufs.specs.Inside.Ends.{cut_piece, shortened, views_in};
 ghost use Rattle.iobufs.specs.Inside.Pieces.{AreFull, IsPlace, left_pieces, piece_at, piece_start, pieces_bytes, right_pieces, view_len};
 
@@ -121,7 +121,7 @@ impl Row {
         requires some { 0 < length piece.bytes }
         requires total { len ≡ length (pieces_bytes self.old.views) + length piece.bytes }
         ensures done { OnOk result (self.new.views ≡ self.old.views ++ piece ∷ []) }
-        ensures refused { OnErr result (self.new.views ≡ self.old.views) }
+        ensures unchanged { OnErr result (self.new.views ≡ self.old.views) }
         ensures handed_back { IfErr result (λ e. e.value ≡ piece) }
     {
         if self.pieces.try_reserve(1).is_err() {
@@ -193,7 +193,7 @@ impl Row {
         requires some { 0 < length piece.bytes }
         requires fits { length (pieces_bytes self.old.views) + length piece.bytes < 2 ^ 64 }
         ensures done { OnOk result (self.new.views ≡ piece ∷ self.old.views) }
-        ensures refused { OnErr result (self.new.views ≡ self.old.views) }
+        ensures unchanged { OnErr result (self.new.views ≡ self.old.views) }
         ensures handed_back { IfErr result (λ e. e.value ≡ piece) }
     {
         if self.pieces.try_reserve(1).is_err() {
@@ -233,7 +233,7 @@ impl Row {
         requires { 0 < length self.old.views }
         ensures made { IfOk result (T.makes (piece_at self.old.views 0)) }
         ensures left { OnOk result (self.new.views ≡ drop 1 self.old.views) }
-        ensures refused { OnErr result (self.new.views ≡ self.old.views) }
+        ensures unchanged { OnErr result (self.new.views ≡ self.old.views) }
         ensures memory { IsOkUnless result BufError.Memory }
         ensures free { T.is_free (piece_at self.old.views 0) → IsOk result }
     {
@@ -280,6 +280,7 @@ impl Row {
     pub(super) fn locate(&self, at: usize) -> Located
         requires { at < length (pieces_bytes self.now.views) }
         ensures place { IsPlace self.now.views at result.index result.offset }
+        ensures fits { length (pieces_bytes self.now.views) < 2 ^ 64 }
         ensures probes { 2 ^ result.probes ≤ 2 * length self.now.views }
         ensures halves { length self.now.views < 2 ^ (result.probes + 1) }
     {
@@ -317,9 +318,10 @@ impl Row {
         requires inside { at ≤ view_len (piece_at self.old.views 0) }
         ensures answer { IfOk result (λ front. front ∷ [] ≡ left_pieces self.old.views at) }
         ensures left { OnOk result (self.new.views ≡ right_pieces self.old.views at) }
-        ensures refused { OnErr result (self.new.views ≡ self.old.views) }
+        ensures unchanged { OnErr result (self.new.views ≡ self.old.views) }
         ensures memory { IsOkUnless result BufError.Memory }
         ensures whole { at ≡ view_len (piece_at self.old.views 0) → IsOk result }
+        ensures static_text { (piece_at self.old.views 0).mark ≡ static_mark → IsOk result }
     {
         if at == self.piece(0).len() {
             return Ok(self.pop_front());
@@ -335,7 +337,7 @@ impl Row {
         requires last { place.index + 1 ≡ length self.old.views }
         ensures answer { IfOk result (λ last. last ∷ [] ≡ right_pieces self.old.views at) }
         ensures left { OnOk result (self.new.views ≡ left_pieces self.old.views at) }
-        ensures refused { OnErr result (self.new.views ≡ self.old.views) }
+        ensures unchanged { OnErr result (self.new.views ≡ self.old.views) }
         ensures memory { IsOkUnless result BufError.Memory }
         ensures edge { place.offset ≡ 0 → IsOk result }
     {
@@ -364,12 +366,12 @@ impl Row {
         at: usize,
     ) -> Result<Row, BufError>
         requires place { IsPlace self.old.views at place.index place.offset }
+        requires fits { place.index + 1 < 2 ^ 64 }
         ensures answer { IfOk result (λ front. front.views ≡ left_pieces self.old.views at) }
         ensures left { OnOk result (self.new.views ≡ right_pieces self.old.views at) }
-        ensures refused { OnErr result (self.new.views ≡ self.old.views) }
+        ensures unchanged { OnErr result (self.new.views ≡ self.old.views) }
         ensures memory { IsOkUnless result BufError.Memory }
     {
-        let _count = self.count();
         let mut front = VecDeque::with_capacity(alloc, place.index + 1)?;
         let inside = front_of(&self.pieces, place.index, place.offset)?;
         let base = self.base;
@@ -393,10 +395,9 @@ impl Row {
         requires place { IsPlace self.old.views at place.index place.offset }
         ensures answer { IfOk result (λ front. front.views ≡ left_pieces self.old.views at) }
         ensures left { OnOk result (self.new.views ≡ right_pieces self.old.views at) }
-        ensures refused { OnErr result (self.new.views ≡ self.old.views) }
+        ensures unchanged { OnErr result (self.new.views ≡ self.old.views) }
         ensures memory { IsOkUnless result BufError.Memory }
     {
-        let _count = self.count();
         let mut pieces = self.pieces.split_off(place.index)?;
         let inside = match front_of(&pieces, 0, place.offset) {
             Ok(inside) => inside,
@@ -418,8 +419,9 @@ pub(super) fn split_inside(piece: &mut IoBuf, at: usize) -> Result<IoBuf, BufErr
     requires inside { at < length piece.old.bytes }
     ensures front { IfOk result (λ front. front ≡ view_front piece.old at) }
     ensures rest { OnOk result (piece.new ≡ view_advanced piece.old at) }
-    ensures err { OnErr result (piece.new ≡ piece.old) }
+    ensures unchanged { OnErr result (piece.new ≡ piece.old) }
     ensures memory { IsOkUnless result BufError.Memory }
+    ensures static_text { piece.old.mark ≡ static_mark → IsOk result }
 {
     piece.split_to(at)
 }
@@ -474,8 +476,9 @@ fn split_first_inside(row: &mut VecDeque<Piece>, at: usize) -> Result<IoBuf, Buf
     requires inside { at < view_len (piece_at (views_in row.old.items) 0) }
     ensures front { IfOk result (λ front. front ≡ view_front (piece_at (views_in row.old.items) 0) at) }
     ensures rest { OnOk result (row.new.items ≡ shortened row.old.items at) }
-    ensures err { OnErr result (row.new.items ≡ row.old.items) }
+    ensures unchanged { OnErr result (row.new.items ≡ row.old.items) }
     ensures memory { IsOkUnless result BufError.Memory }
+    ensures static_text { (piece_at (views_in row.old.items) 0).mark ≡ static_mark → IsOk result }
 {
     match row.front_mut() {
         Some(first) => split_inside(&mut first.view, at),

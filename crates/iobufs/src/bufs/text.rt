@@ -2,7 +2,7 @@
 ghost use Rattle.std.specs.Fn.{CalledAt};
 ghost use Rattle.std.specs.List.{FoldsTo};
 ghost use Rattle.std.specs.Option.{option_copied};
-ghost use Rattle.std.specs.Prelude.{◌≡◌, ℕ, List, ◌∷◌, ◌++◌, ◌+◌, ◌*◌, ◌<◌, ◌≤◌, ◌^◌, ◌==◌, [], length, if◌then◌else◌, false, slice_get, IsOk, IfOk, IfErr, OnOk, OnErr, IsOkUnless, IsErrAnd, MatchOption, MatchResult};
+ghost use Rattle.std.specs.Prelude.{◌≡◌, ℕ, List, ◌∷◌, ◌++◌, ◌+◌, ◌*◌, ◌<◌, ◌≤◌, ◌^◌, ◌==◌, [], length, if◌then◌else◌, false, true, slice_get, IsOk, IfOk, IfErr, OnOk, OnErr, IsOkUnless, IsErrAnd, MatchOption, MatchResult};
 ghost use Rattle.std.specs.Iterator.{IsFinite};
 ghost use Rattle.std.specs.Iterator.Runs.{SomeRun, WholeRun};
 ghost use Rattle.iobufs.specs.Located.{greatest_key, keys_upto};
@@ -12,7 +12,7 @@ ghost use Rattle.iobufs_core.specs.Chunks.{first_chunk};
 ghost use Rattle.iobufs_core.specs.Part.{part_frozen};
 ghost use Rattle.iobufs_core.specs.Recovery.{IsAdopted};
 ghost use Rattle.iobufs_core.specs.View.{View, default_view, bytes_mark, static_mark};
-ghost use Rattle.iobufs_core.specs.MarkedText.{IsMarked, chunk_count as count_of, default_text, is_single, joined, of_view, text_append, text_chunks, text_len, text_prepend, text_rest, text_split_front};
+ghost use Rattle.iobufs_core.specs.MarkedText.{IsMarked, chunk_count as count_of, default_text, is_single, joined, of_view, taken_view, text_append, text_chunks, text_len, text_prepend, text_rest, text_split_front};
 
 use super::pieces::Pieces;
 use super::row::Row;
@@ -139,6 +139,7 @@ impl IoBufs {
     pub fn chunk_count(&self) -> usize
         ensures keys { result ≡ count_of self.now }
         ensures chunks { result ≡ length (text_chunks self.now) }
+        ensures marked { IsMarked self.now }
     {
         if self.len() == 0 {
             return 0;
@@ -184,7 +185,7 @@ impl IoBufs {
     /// Puts a buffer behind the text. An empty one changes nothing, and an empty text is replaced.
     pub fn append(&mut self, alloc: Global, piece: IoBuf) -> Result<(), Refused<IoBuf>>
         ensures done { OnOk result (self.new ≡ text_append self.old piece) }
-        ensures refused { OnErr result (self.new ≡ self.old) }
+        ensures unchanged { OnErr result (self.new ≡ self.old) }
         ensures handed_back { IfErr result (λ refused. refused.value ≡ piece) }
         ensures too_long { 2 ^ 64 ≤ text_len self.old + length piece.bytes → IsErrAnd result (λ refused. refused.cause ≡ BufError.TooLong) }
         ensures memory { text_len self.old + length piece.bytes < 2 ^ 64 → IfErr result (λ refused. refused.cause ≡ BufError.Memory) }
@@ -205,7 +206,7 @@ impl IoBufs {
     #[inline(never)]
     fn append_any(&mut self, alloc: Global, piece: IoBuf) -> Result<(), Refused<IoBuf>>
         ensures done { OnOk result (self.new ≡ text_append self.old piece) }
-        ensures refused { OnErr result (self.new ≡ self.old) }
+        ensures unchanged { OnErr result (self.new ≡ self.old) }
         ensures handed_back { IfErr result (λ refused. refused.value ≡ piece) }
         ensures too_long { 2 ^ 64 ≤ text_len self.old + length piece.bytes → IsErrAnd result (λ refused. refused.cause ≡ BufError.TooLong) }
         ensures memory { text_len self.old + length piece.bytes < 2 ^ 64 → IfErr result (λ refused. refused.cause ≡ BufError.Memory) }
@@ -238,7 +239,7 @@ impl IoBufs {
     /// Puts a buffer in front of the text. An empty one changes nothing, and an empty text is replaced.
     pub fn prepend(&mut self, alloc: Global, piece: IoBuf) -> Result<(), Refused<IoBuf>>
         ensures done { OnOk result (self.new ≡ text_prepend self.old piece) }
-        ensures refused { OnErr result (self.new ≡ self.old) }
+        ensures unchanged { OnErr result (self.new ≡ self.old) }
         ensures handed_back { IfErr result (λ refused. refused.value ≡ piece) }
         ensures too_long { 2 ^ 64 ≤ text_len self.old + length piece.bytes → IsErrAnd result (λ refused. refused.cause ≡ BufError.TooLong) }
         ensures memory { text_len self.old + length piece.bytes < 2 ^ 64 → IfErr result (λ refused. refused.cause ≡ BufError.Memory) }
@@ -259,7 +260,7 @@ impl IoBufs {
     #[inline(never)]
     fn prepend_any(&mut self, alloc: Global, piece: IoBuf) -> Result<(), Refused<IoBuf>>
         ensures done { OnOk result (self.new ≡ text_prepend self.old piece) }
-        ensures refused { OnErr result (self.new ≡ self.old) }
+        ensures unchanged { OnErr result (self.new ≡ self.old) }
         ensures handed_back { IfErr result (λ refused. refused.value ≡ piece) }
         ensures too_long { 2 ^ 64 ≤ text_len self.old + length piece.bytes → IsErrAnd result (λ refused. refused.cause ≡ BufError.TooLong) }
         ensures memory { text_len self.old + length piece.bytes < 2 ^ 64 → IfErr result (λ refused. refused.cause ≡ BufError.Memory) }
@@ -294,11 +295,12 @@ impl IoBufs {
         requires { at ≤ text_len self.old }
         ensures front { IfOk result (λ front. front ≡ text_split_front self.old at) }
         ensures rest { OnOk result (self.new ≡ text_rest self.old at) }
-        ensures err { OnErr result (self.new ≡ self.old) }
+        ensures unchanged { OnErr result (self.new ≡ self.old) }
         ensures memory { IsOkUnless result BufError.Memory }
         ensures nothing { at ≡ 0 → IsOk result }
         ensures whole { at ≡ text_len self.old → IsOk result }
         ensures first { at ≡ length (first_chunk (text_chunks self.old)) → IsOk result }
+        ensures static_text { at ≤ length (first_chunk (text_chunks self.old)) → (taken_view self.old 0 at).mark ≡ static_mark → IsOk result }
         ensures last { (front : List (List ℕ)) (chunk : List ℕ) → text_chunks self.old ≡ front ++ chunk ∷ [] → at + length chunk ≡ text_len self.old
             → IsOk result }
     {
@@ -318,7 +320,7 @@ impl IoBufs {
     pub fn from_mut(part: IoBufMut) -> Result<IoBufs, BufError>
         ensures ok { IfOk result (λ text. text ≡ of_view (part_frozen part)) }
         ensures memory { IsOkUnless result BufError.Memory }
-        ensures empty { length part.filled ≡ 0 → IsOk result }
+        ensures nothing { length part.filled ≡ 0 → IsOk result }
     {
         Ok(IoBufs::from(part.freeze()?))
     }
@@ -327,7 +329,7 @@ impl IoBufs {
     pub fn from_vec(bytes: Vec<u8>) -> Result<IoBufs, BufError>
         ensures ok { IfOk result (λ text. (view : View) × IsAdopted bytes.items view × (text ≡ of_view view)) }
         ensures memory { IsOkUnless result BufError.Memory }
-        ensures empty { length bytes.items ≡ 0 → IsOk result }
+        ensures nothing { length bytes.items ≡ 0 → IsOk result }
     {
         Ok(IoBufs::from(IoBuf::from_vec(bytes)?))
     }
@@ -382,6 +384,9 @@ impl IoBufs {
 
 impl Clone for IoBufs {
     ghost is_clone = { λ a b. b ≡ a };
+
+    // One static piece.
+    ghost is_infallible = { λ text. (is_single text ≡ true) × (text.mark ≡ static_mark) };
 
     fn clone(&self) -> Result<IoBufs, AllocError> {
         let pieces = self.pieces.clone()?;

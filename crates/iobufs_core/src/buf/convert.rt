@@ -13,7 +13,7 @@ impl IoBufMut {
     /// want of memory alone, with the view.
     pub fn from_view(alloc: Global, view: IoBuf) -> Result<IoBufMut, IoBuf>
         ensures same { MatchResult result (IsPartOf view) (λ other. other ≡ view) }
-        ensures empty { length view.bytes ≡ 0 → IsOk result }
+        ensures nothing { length view.bytes ≡ 0 → IsOk result }
     {
         match view.try_into_mut(alloc) {
             Ok(part) => Ok(part),
@@ -28,8 +28,8 @@ impl IoBufMut {
     #[inline(always)]
     pub fn freeze(self) -> Result<IoBuf, BufError>
         ensures ok { IfOk result (λ b. b ≡ part_frozen self) }
-        ensures err { IsOkUnless result BufError.Memory }
-        ensures empty { length self.filled ≡ 0 → IsOk result }
+        ensures memory { IsOkUnless result BufError.Memory }
+        ensures nothing { length self.filled ≡ 0 → IsOk result }
     {
         let (storage, start, limit, shell) = self.into_storage();
         if start == storage.len() {

@@ -135,7 +135,7 @@ impl IoBufMut {
     pub fn copy_from_slice(alloc: Global, src: &[u8]) -> Result<IoBufMut, BufError>
         ensures ok { IfOk result (λ b. b ≡ record { filled = src.now; spare = 0 }) }
         ensures memory { IsOkUnless result BufError.Memory }
-        ensures empty { length src.now ≡ 0 → IsOk result }
+        ensures nothing { length src.now ≡ 0 → IsOk result }
     {
         if src.is_empty() {
             return Ok(IoBufMut::default(alloc));
@@ -149,7 +149,7 @@ impl IoBufMut {
     pub fn from_bytes(alloc: Global, bytes: Bytes) -> Result<IoBufMut, BufError>
         ensures ok { IfOk result (λ b. b.filled ≡ bytes) }
         ensures memory { IsOkUnless result BufError.Memory }
-        ensures empty { length bytes ≡ 0 → IsOk result }
+        ensures nothing { length bytes ≡ 0 → IsOk result }
     {
         match bytes.try_into_mut() {
             Ok(bytes) => IoBufMut::from_bytes_mut(bytes),
@@ -161,7 +161,7 @@ impl IoBufMut {
     pub fn from_bytes_mut(bytes: BytesMut) -> Result<IoBufMut, BufError>
         ensures ok { IfOk result (λ b. b.filled ≡ bytes.items) }
         ensures memory { IsOkUnless result BufError.Memory }
-        ensures empty { length bytes.items ≡ 0 → IsOk result }
+        ensures nothing { length bytes.items ≡ 0 → IsOk result }
     {
         let alloc = *bytes.allocator();
         match bytes.into_vec() {

@@ -1,5 +1,5 @@
 // A text of one piece that is read and shared.
-ghost use Rattle.std.specs.Prelude.{◌≡◌, ◌≤◌, ◌-◌, ◌⊎◌, ◌==◌, if◌then◌else◌, [], ◌∷◌, length, IsTrue, IfOk, IfErr, OnOk, OnErr, IsOk, IsOkUnless, MatchResult};
+ghost use Rattle.std.specs.Prelude.{◌≡◌, ◌≤◌, ◌-◌, ◌⊎◌, ◌==◌, if◌then◌else◌, [], ◌∷◌, length, take, IsTrue, IfOk, IfErr, OnOk, OnErr, IsOk, IsOkUnless, MatchResult};
 ghost use Rattle.iobufs_core.specs.View.{HasRoom, IsView, default_view, view_advanced, view_front, view_of_bytes, view_rest, view_slice, view_split_front, start_place, end_place, range_fits, static_mark, bytes_mark, native_mark};
 ghost use Rattle.iobufs_core.specs.Recovery.{IsAdopted, IsRecovery};
 
@@ -73,7 +73,7 @@ impl IoBuf {
     pub fn copy_from_slice(alloc: Global, src: &[u8]) -> Result<IoBuf, BufError>
         ensures ok { IfOk result (λ b. b ≡ (if length src.now == 0 then default_view else record { bytes = src.now; mark = native_mark (length src.now) })) }
         ensures memory { IsOkUnless result BufError.Memory }
-        ensures empty { length src.now ≡ 0 → IsOk result }
+        ensures nothing { length src.now ≡ 0 → IsOk result }
     {
         if src.is_empty() {
             return Ok(IoBuf::default());
@@ -85,7 +85,7 @@ impl IoBuf {
     pub fn from_vec(bytes: Vec<u8>) -> Result<IoBuf, BufError>
         ensures ok { IfOk result (IsAdopted bytes.items) }
         ensures memory { IsOkUnless result BufError.Memory }
-        ensures empty { length bytes.items ≡ 0 → IsOk result }
+        ensures nothing { length bytes.items ≡ 0 → IsOk result }
     {
         IoBufMut::from(bytes).freeze()
     }
@@ -94,7 +94,7 @@ impl IoBuf {
     pub fn from_bytes_mut(bytes: BytesMut) -> Result<IoBuf, BufError>
         ensures ok { IfOk result (IsAdopted bytes.items) }
         ensures memory { IsOkUnless result BufError.Memory }
-        ensures empty { length bytes.items ≡ 0 → IsOk result }
+        ensures nothing { length bytes.items ≡ 0 → IsOk result }
     {
         Ok(IoBuf::from(bytes.freeze()?))
     }
@@ -178,7 +178,7 @@ impl IoBuf {
         ensures ok { IfOk result (λ slice. slice ≡ view_slice self.now lo hi) }
         ensures memory { IsOkUnless result BufError.Memory }
         ensures static_text { self.now.mark ≡ static_mark → IsOk result }
-        ensures empty { start_place lo ≡ end_place hi (length self.now.bytes) → IsOk result }
+        ensures nothing { start_place lo ≡ end_place hi (length self.now.bytes) → IsOk result }
     {
         let (Some(from), Some(to)) = (start_of(lo), end_of(hi, self.len())) else {
             unreachable!()
@@ -197,7 +197,7 @@ impl IoBuf {
         requires { at ≤ length self.old.bytes }
         ensures front { IfOk result (λ front. front ≡ view_split_front self.old at) }
         ensures rest { OnOk result (self.new ≡ view_rest self.old at) }
-        ensures err { OnErr result (self.new ≡ self.old) }
+        ensures unchanged { OnErr result (self.new ≡ self.old) }
         ensures memory { IsOkUnless result BufError.Memory }
         ensures nothing { at ≡ 0 → IsOk result }
         ensures whole { at ≡ length self.old.bytes → IsOk result }
@@ -234,7 +234,7 @@ impl IoBuf {
     pub fn to_vec(&self, alloc: Global) -> Result<Vec<u8>, BufError>
         ensures ok { IfOk result (λ v. v.items ≡ self.now.bytes) }
         ensures memory { IsOkUnless result BufError.Memory }
-        ensures empty { length self.now.bytes ≡ 0 → IsOk result }
+        ensures nothing { length self.now.bytes ≡ 0 → IsOk result }
     {
         if self.is_empty() {
             return Ok(Vec::new(alloc));
@@ -248,7 +248,7 @@ impl IoBuf {
         ensures same { MatchResult result (λ bytes. bytes ≡ self.bytes) (λ view. view ≡ self) }
         ensures static_text { self.mark ≡ static_mark → IsOk result }
         ensures shared_text { self.mark ≡ bytes_mark → IsOk result }
-        ensures empty { length self.bytes ≡ 0 → IsOk result }
+        ensures nothing { length self.bytes ≡ 0 → IsOk result }
     {
         if self.is_empty() {
             return Ok(Bytes::new());
@@ -268,11 +268,11 @@ impl IoBuf {
     pub(crate) fn take_bytes(&mut self, alloc: Global) -> Result<Bytes, BufError>
         ensures ok { IfOk result (λ bytes. bytes ≡ self.old.bytes) }
         ensures taken { OnOk result (self.new ≡ default_view) }
-        ensures err { OnErr result (self.new ≡ self.old) }
+        ensures unchanged { OnErr result (self.new ≡ self.old) }
         ensures memory { IsOkUnless result BufError.Memory }
         ensures static_text { self.old.mark ≡ static_mark → IsOk result }
         ensures shared_text { self.old.mark ≡ bytes_mark → IsOk result }
-        ensures empty { length self.old.bytes ≡ 0 → IsOk result }
+        ensures nothing { length self.old.bytes ≡ 0 → IsOk result }
     {
         match mem::take(self).into_bytes(alloc) {
             Ok(bytes) => Ok(bytes),
@@ -421,7 +421,16 @@ impl Buf for IoBuf {
         self.advance(n);
     }
 
-    fn copy_to_bytes(&mut self, alloc: Global, n: usize) -> Result<Bytes, BufError> {
+    fn copy_to_bytes(&mut self, alloc: Global, n: usize) -> Result<Bytes, BufError>
+        requires { n ≤ length self.old.bytes }
+        ensures ok { IfOk result (λ bytes. bytes ≡ take n self.old.bytes) }
+        ensures rest { OnOk result (self.new ≡ view_rest self.old n) }
+        ensures unchanged { OnErr result (self.new ≡ self.old) }
+        ensures memory { IsOkUnless result BufError.Memory }
+        ensures nothing { n ≡ 0 → IsOk result }
+        ensures static_text { self.old.mark ≡ static_mark → IsOk result }
+        ensures whole { n ≡ length self.old.bytes → self.old.mark ≡ bytes_mark → IsOk result }
+    {
         if n == 0 {
             return Ok(Bytes::new());
         }

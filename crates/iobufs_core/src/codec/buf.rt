@@ -49,7 +49,7 @@ pub trait Buf {
         requires { n ≤ length (text self.old) }
         ensures ok { IfOk result (λ bytes. bytes ≡ take n (text self.old)) }
         ensures rest { OnOk result (self.new ≡ copied self.old n) }
-        ensures err { OnErr result (self.new ≡ self.old) }
+        ensures unchanged { OnErr result (self.new ≡ self.old) }
         ensures memory { IsOkUnless result BufError.Memory }
         ensures nothing { n ≡ 0 → IsOk result };
 
@@ -86,7 +86,7 @@ pub trait Buf {
         ensures bytes { OnOk result (dst.new ≡ take (length dst.old) (text self.old)) }
         ensures rest { OnOk result (self.new ≡ advanced self.old (length dst.old)) }
         ensures lengths { IfErr result (λ error. error ≡ record { requested = length dst.old; available = length (text self.old) }) }
-        ensures same { OnErr result (self.new ≡ self.old) }
+        ensures unchanged { OnErr result (self.new ≡ self.old) }
         ensures untouched { OnErr result (dst.new ≡ dst.old) }
     {
         let available = self.remaining();

@@ -1,5 +1,5 @@
 // Lengths, as they are spelled: seven bits a byte, lowest first.
-ghost use Rattle.std.specs.Prelude.{◌≡◌, ℕ, ◌+◌, ◌/◌, ◌%◌, ◌^◌, ◌<◌, ◌≤◌, ◌∷◌, ◌++◌, [], List, length, take, Ok, Err, IfOk, IfErr};
+ghost use Rattle.std.specs.Prelude.{◌≡◌, ℕ, ◌+◌, ◌/◌, ◌%◌, ◌^◌, ◌<◌, ◌≤◌, ◌∷◌, ◌++◌, [], List, length, take, drop, slice_get, Ok, Err, IfOk, IfErr};
 ghost use Rattle.iobufs_core.specs.Spelling.{IsSpelledAt, spell};
 ghost use Rattle.iobufs_core.specs.Wire.{IsLengthRead, IsNoLength};
 
@@ -56,13 +56,27 @@ pub(super) fn put_length<B: BufMut>(buf: &mut B, n: usize)
     buf.put_slice(&bytes[..len]);
 }
 
+/// The byte at a place behind the first `skip`.
+#[inline(always)]
+fn byte_behind<B: Buf>(buf: &B, skip: usize, i: usize) -> Option<u8>
+    requires { skip ≤ length (B.text buf.now) }
+    ensures { result ≡ slice_get (drop skip (B.text buf.now)) i }
+{
+    if i < buf.remaining() - skip {
+        buf.byte_at(skip + i)
+    } else {
+        None
+    }
+}
+
 /// The length that a text begins with.
 #[inline(always)]
-fn length_at<B: Buf>(buf: &B) -> Result<Spelled, Error>
-    ensures ok { IfOk result (λ s. IsSpelledAt (B.text buf.now) s.value × (s.len ≡ length (spell s.value))) }
-    ensures err { IfErr result (IsNoLength (B.text buf.now)) }
+fn length_at<B: Buf>(buf: &B, skip: usize) -> Result<Spelled, Error>
+    requires { skip ≤ length (B.text buf.now) }
+    ensures ok { IfOk result (λ s. IsSpelledAt (drop skip (B.text buf.now)) s.value × (s.len ≡ length (spell s.value))) }
+    ensures err { IfErr result (IsNoLength (drop skip (B.text buf.now))) }
 {
-    if let Some(byte) = buf.byte_at(0) {
+    if let Some(byte) = byte_behind(buf, skip, 0) {
         if byte < 128 {
             return Ok(Spelled {
                 value: usize::from(byte),
@@ -70,19 +84,20 @@ fn length_at<B: Buf>(buf: &B) -> Result<Spelled, Error>
             });
         }
     }
-    long_length_at(buf)
+    long_length_at(buf, skip)
 }
 
 // The same byte by byte: apart, since most lengths have one byte.
 #[inline(never)]
-fn long_length_at<B: Buf>(buf: &B) -> Result<Spelled, Error>
-    ensures ok { IfOk result (λ s. IsSpelledAt (B.text buf.now) s.value × (s.len ≡ length (spell s.value))) }
-    ensures err { IfErr result (IsNoLength (B.text buf.now)) }
+fn long_length_at<B: Buf>(buf: &B, skip: usize) -> Result<Spelled, Error>
+    requires { skip ≤ length (B.text buf.now) }
+    ensures ok { IfOk result (λ s. IsSpelledAt (drop skip (B.text buf.now)) s.value × (s.len ≡ length (spell s.value))) }
+    ensures err { IfErr result (IsNoLength (drop skip (B.text buf.now))) }
 {
     let mut value = 0usize;
     let mut place = 1usize;
     for i in 0..9usize {
-        let Some(byte) = buf.byte_at(i) else {
+        let Some(byte) = byte_behind(buf, skip, i) else {
             return Err(Error::EndOfBuffer);
         };
         if byte < 128 {
@@ -97,7 +112,7 @@ fn long_length_at<B: Buf>(buf: &B) -> Result<Spelled, Error>
         value += place * usize::from(byte - 128);
         place *= 128;
     }
-    match buf.byte_at(9) {
+    match byte_behind(buf, skip, 9) {
         None => Err(Error::EndOfBuffer),
         Some(1) => Ok(Spelled {
             value: value + place,
@@ -109,16 +124,42 @@ fn long_length_at<B: Buf>(buf: &B) -> Result<Spelled, Error>
 
 /// The length that a text begins with, if it is in a range.
 #[inline(always)]
-pub(super) fn length_in<B: Buf>(buf: &B, range: &RangeCfg) -> Result<Spelled, Error>
-    ensures ok { IfOk result (λ s. IsLengthRead (B.text buf.now) range.now (Ok s.value) × (s.len ≡ length (spell s.value))) }
-    ensures err { IfErr result (λ error. IsLengthRead (B.text buf.now) range.now (Err error)) }
+pub(super) fn length_behind<B: Buf>(
+    buf: &B,
+    skip: usize,
+    range: &RangeCfg,
+) -> Result<Spelled, Error>
+    requires { skip ≤ length (B.text buf.now) }
+    ensures ok { IfOk result (λ s. IsLengthRead (drop skip (B.text buf.now)) range.now (Ok s.value) × (s.len ≡ length (spell s.value))) }
+    ensures err { IfErr result (λ error. IsLengthRead (drop skip (B.text buf.now)) range.now (Err error)) }
 {
-    let found = length_at(buf)?;
+    let found = length_at(buf, skip)?;
     if range.contains(found.value) {
         Ok(found)
     } else {
         Err(Error::InvalidLength(found.value))
     }
+}
+
+/// The length that a text begins with, if it is in a range.
+#[inline(always)]
+pub(super) fn length_in<B: Buf>(buf: &B, range: &RangeCfg) -> Result<Spelled, Error>
+    ensures ok { IfOk result (λ s. IsLengthRead (B.text buf.now) range.now (Ok s.value) × (s.len ≡ length (spell s.value))) }
+    ensures err { IfErr result (λ error. IsLengthRead (B.text buf.now) range.now (Err error)) }
+{
+    length_behind(buf, 0, range)
+}
+
+/// The length that stands behind the first `skip` bytes, and how many bytes spell it.
+pub fn peek_length<B: Buf>(buf: &B, skip: usize, range: &RangeCfg) -> Result<(usize, usize), Error>
+    requires { skip ≤ length (B.text buf.now) }
+    ensures ok { IfOk result (λ s. IsLengthRead (drop skip (B.text buf.now)) range.now (Ok s.0)) }
+    ensures len { IfOk result (λ s. s.1 ≡ length (spell s.0)) }
+    ensures within { IfOk result (λ s. skip + s.1 ≤ length (B.text buf.now)) }
+    ensures err { IfErr result (λ error. IsLengthRead (drop skip (B.text buf.now)) range.now (Err error)) }
+{
+    let found = length_behind(buf, skip, range)?;
+    Ok((found.value, found.len))
 }
 
 /// Does nothing. Its contract is two laws of spelling. A length below 128 is spelled by itself, a larger one by its low

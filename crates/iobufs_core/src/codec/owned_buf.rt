@@ -1,5 +1,6 @@
 // The traits to take pieces of a text out and keep them.
-ghost use Rattle.std.specs.Prelude.{◌≡◌, ◌⊎◌, ⊤, ℕ, ◌+◌, ◌≤◌, ◌<◌, List, length, Err, IfOk, IsOk, OnOk, OnErr, IsOkUnless};
+ghost use Rattle.std.specs.Prelude.{◌≡◌, ◌⊎◌, ⊤, ℕ, ◌+◌, ◌≤◌, ◌<◌, List, length, take, drop, Err, IfOk, IsOk, OnOk, OnErr, IsOkUnless};
+ghost use Rattle.iobufs_core.specs.Chunks.{first_chunk};
 ghost use Rattle.iobufs_core.specs.View.{View, static_mark, bytes_mark, default_view};
 ghost use Rattle.iobufs_core.specs.MarkedText.{MarkedText, IsMarked, chunk_count as count_of, taken_view, text_advanced, text_rest, text_chunks};
 
@@ -29,16 +30,16 @@ pub trait OwnedBytes: Sized {
     fn from_view(alloc: Global, view: IoBuf) -> Result<Self, BufError>
         ensures ok { IfOk result (makes view) }
         ensures memory { IsOkUnless result BufError.Memory }
-        ensures empty { length view.bytes ≡ 0 → IsOk result }
+        ensures nothing { length view.bytes ≡ 0 → IsOk result }
         ensures free { is_free view → IsOk result };
 
     /// What `from_view` makes of a view, which is then empty. A refusal leaves it (the original has no such call).
     fn take_view(alloc: Global, view: &mut IoBuf) -> Result<Self, BufError>
         ensures ok { IfOk result (makes view.old) }
         ensures taken { OnOk result (view.new ≡ default_view) }
-        ensures err { OnErr result (view.new ≡ view.old) }
+        ensures unchanged { OnErr result (view.new ≡ view.old) }
         ensures memory { IsOkUnless result BufError.Memory }
-        ensures empty { length view.old.bytes ≡ 0 → IsOk result }
+        ensures nothing { length view.old.bytes ≡ 0 → IsOk result }
         ensures free { is_free view.old → IsOk result };
 
     ghost same_bytes: { (view : View) (made : Self) → makes view made → bytes_of made ≡ view.bytes };
@@ -53,7 +54,8 @@ pub trait OwnedBuf: Buf {
         ensures count { result ≡ count_of (marked self.now) }
         ensures marked { IsMarked (marked self.now) };
 
-    /// Takes the `n` bytes behind the first `skip` out, and drops all of them.
+    /// Takes the `n` bytes behind the first `skip` out, and drops all of them. The whole first piece is handed over as it
+    /// is.
     fn take_owned_after<T: OwnedBytes>(
         &mut self,
         alloc: Global,
@@ -63,10 +65,24 @@ pub trait OwnedBuf: Buf {
         requires { skip + n ≤ length (Self.text self.old) }
         ensures ok { IfOk result (T.makes (taken_view (marked self.old) skip n)) }
         ensures rest { OnOk result (self.new ≡ Self.copied self.old (skip + n)) }
-        ensures err { OnErr result (self.new ≡ self.old) }
+        ensures unchanged { OnErr result (self.new ≡ self.old) }
         ensures memory { IsOkUnless result BufError.Memory }
         ensures nothing { n ≡ 0 → IsOk result }
-        ensures static_text { (taken_view (marked self.old) skip n).mark ≡ static_mark → T.is_free (taken_view (marked self.old) skip n) → IsOk result };
+        ensures static_text { (taken_view (marked self.old) skip n).mark ≡ static_mark → T.is_free (taken_view (marked self.old) skip n) → IsOk result }
+        ensures whole { skip ≡ 0 → n ≡ length (first_chunk (Self.pieces self.old)) → T.is_free (taken_view (marked self.old) skip n) → IsOk result };
+
+    /// What is made of the `n` bytes behind the first `skip`, which stay (the original has no such call).
+    fn peek_owned<T: OwnedBytes>(&self, alloc: Global, skip: usize, n: usize) -> Result<T, BufError>
+        requires { skip + n ≤ length (Self.text self.now) }
+        ensures ok { IfOk result (T.makes (taken_view (marked self.now) skip n)) }
+        ensures memory { IsOkUnless result BufError.Memory }
+        ensures nothing { n ≡ 0 → IsOk result }
+        ensures static_text { (taken_view (marked self.now) skip n).mark ≡ static_mark → T.is_free (taken_view (marked self.now) skip n) → IsOk result };
+
+    /// Fills `dst` with the bytes behind the first `skip`, which stay (the original has no such call).
+    fn peek_slice(&self, skip: usize, dst: &mut [u8])
+        requires { skip + length dst.old ≤ length (Self.text self.now) }
+        ensures { dst.new ≡ take (length dst.old) (drop skip (Self.text self.now)) };
 
     ghost same_text: { (s : Self) → (marked s).bytes ≡ Self.text s };
 
@@ -84,10 +100,11 @@ pub trait OwnedBuf: Buf {
         requires { n ≤ length (Self.text self.old) }
         ensures ok { IfOk result (T.makes (taken_view (marked self.old) 0 n)) }
         ensures rest { OnOk result (self.new ≡ Self.copied self.old n) }
-        ensures err { OnErr result (self.new ≡ self.old) }
+        ensures unchanged { OnErr result (self.new ≡ self.old) }
         ensures memory { IsOkUnless result BufError.Memory }
         ensures nothing { n ≡ 0 → IsOk result }
         ensures static_text { (taken_view (marked self.old) 0 n).mark ≡ static_mark → T.is_free (taken_view (marked self.old) 0 n) → IsOk result }
+        ensures whole { n ≡ length (first_chunk (Self.pieces self.old)) → T.is_free (taken_view (marked self.old) 0 n) → IsOk result }
     {
         self.take_owned_after(alloc, 0, n)
     }
@@ -98,12 +115,13 @@ pub trait OwnedBuf: Buf {
         Self: Sized,
         ensures ok { IfOk result (T.makes (taken_view (marked self.old) 0 n)) }
         ensures rest { OnOk result (self.new ≡ Self.copied self.old n) }
-        ensures err { OnErr result (self.new ≡ self.old) }
+        ensures unchanged { OnErr result (self.new ≡ self.old) }
         ensures short { length (Self.text self.old) < n → result ≡ Err Error.EndOfBuffer }
         ensures memory { n ≤ length (Self.text self.old) → IsOkUnless result Error.Memory }
         ensures nothing { n ≡ 0 → IsOk result }
         ensures static_text { n ≤ length (Self.text self.old) → (taken_view (marked self.old) 0 n).mark ≡ static_mark
             → T.is_free (taken_view (marked self.old) 0 n) → IsOk result }
+        ensures whole { n ≡ length (first_chunk (Self.pieces self.old)) → T.is_free (taken_view (marked self.old) 0 n) → IsOk result }
     {
         if n > self.remaining() {
             return Err(Error::EndOfBuffer);
@@ -204,6 +222,23 @@ impl OwnedBuf for IoBuf {
         let made = T::from_view(alloc, view)?;
         self.drop_front(end);
         Ok(made)
+    }
+
+    #[tactic(auto, using(crate::specs::ViewLaws::taken_of_view))]
+    fn peek_owned<T: OwnedBytes>(
+        &self,
+        alloc: Global,
+        skip: usize,
+        n: usize,
+    ) -> Result<T, BufError> {
+        let _len = self.len();
+        let end = skip + n;
+        let view = self.slice(Bound::Included(skip), Bound::Excluded(end))?;
+        T::from_view(alloc, view)
+    }
+
+    fn peek_slice(&self, skip: usize, dst: &mut [u8]) {
+        dst.copy_from_slice(&self.as_ref()[skip..skip + dst.len()]);
     }
 
     ghost same_text = { Prim.search rules };

@@ -1,6 +1,9 @@
 // A `Bytes` as a value that is written and read behind its length.
-ghost use Rattle.std.specs.Prelude.{◌≡◌, ◌^◌, ◌<◌, [], ◌∷◌, length};
+ghost use Rattle.std.specs.Prelude.{◌≡◌, ◌⊎◌, ◌^◌, ◌<◌, ◌≤◌, [], ◌∷◌, length, OnOk, OnErr, IfErr, IsOk};
 ghost use Rattle.iobufs_core.specs.Dropping.{by_copy};
+ghost use Rattle.iobufs_core.specs.Items.{IsBegun, items_inline, items_pushed, put_item};
+ghost use Rattle.iobufs_core.specs.Spelling.{spell};
+ghost use Rattle.iobufs_core.specs.Wire.{bytes_items, bytes_written};
 
 use super::length::{put_length, spelled_len};
 use super::wire::read_bytes;
@@ -34,7 +37,16 @@ impl Write for Bytes {
         buf.put_slice(self.as_slice());
     }
 
-    fn write_bufs<B: BufsMut>(&self, buf: &mut B) -> Result<(), Error> {
+    /// The bytes are shared before their length is put: a refusal leaves the target as it was, or with the length alone.
+    fn write_bufs<B: BufsMut>(&self, buf: &mut B) -> Result<(), Error>
+        requires { items_inline (bytes_items self.now) ≤ B.room buf.old }
+        ensures ok { OnOk result (B.done buf.old (bytes_items self.now) buf.new) }
+        ensures begun { OnErr result (IsBegun (B.joined buf.old) (bytes_written self.now) (B.joined buf.new)) }
+        ensures left { OnErr result ((buf.new ≡ buf.old) ⊎ B.done buf.old (put_item (spell (length self.now)) ∷ []) buf.new) }
+        ensures cause { IfErr result
+            (λ error. (error ≡ Error.Memory) ⊎ ((error ≡ Error.TooLong) × (B.pushable buf.old < items_pushed (bytes_items self.now)))) }
+        ensures no_push { items_pushed (bytes_items self.now) ≡ 0 → IsOk result }
+    {
         if self.is_empty() {
             put_length(buf, 0);
             return Ok(());

@@ -30,7 +30,7 @@ pub trait BufsMut: BufMut {
     /// Takes a view. `BufError::TooLong` exactly where it is longer than pushes may still add.
     fn push(&mut self, view: IoBuf) -> Result<(), Refused<IoBuf>>
         ensures ok { OnOk result (done self.old (push_item view ∷ []) self.new) }
-        ensures err { OnErr result (self.new ≡ self.old) }
+        ensures unchanged { OnErr result (self.new ≡ self.old) }
         ensures back { IfErr result (λ refused. refused.value ≡ view) }
         ensures too_long { pushable self.old < length view.bytes → IsErrAnd result (λ refused. refused.cause ≡ BufError.TooLong) }
         ensures memory { length view.bytes ≤ pushable self.old → IfErr result (λ refused. refused.cause ≡ BufError.Memory) }
@@ -39,7 +39,7 @@ pub trait BufsMut: BufMut {
     /// The same with a `Bytes`.
     fn push_bytes(&mut self, bytes: Bytes) -> Result<(), Refused<Bytes>>
         ensures ok { OnOk result (done self.old (push_item (view_of_bytes bytes) ∷ []) self.new) }
-        ensures err { OnErr result (self.new ≡ self.old) }
+        ensures unchanged { OnErr result (self.new ≡ self.old) }
         ensures back { IfErr result (λ refused. refused.value ≡ bytes) }
         ensures too_long { pushable self.old < length bytes → IsErrAnd result (λ refused. refused.cause ≡ BufError.TooLong) }
         ensures memory { length bytes ≤ pushable self.old → IfErr result (λ refused. refused.cause ≡ BufError.Memory) }
@@ -91,7 +91,7 @@ pub trait Write: EncodeSize {
     fn write_bufs<B: BufsMut>(&self, buf: &mut B) -> Result<(), Error>
         requires { items_inline (Self.items self.now) ≤ B.room buf.old }
         ensures ok { OnOk result (B.done buf.old (Self.items self.now) buf.new) }
-        ensures err { OnErr result (IsBegun (B.joined buf.old) (Self.written self.now) (B.joined buf.new)) }
+        ensures begun { OnErr result (IsBegun (B.joined buf.old) (Self.written self.now) (B.joined buf.new)) }
         ensures cause { IfErr result (λ error. (error ≡ Error.Memory) ⊎ ((error ≡ Error.TooLong) × (B.pushable buf.old < items_pushed (Self.items self.now)))) }
         ensures no_push { items_pushed (Self.items self.now) ≡ 0 → IsOk result };
 }
@@ -114,7 +114,7 @@ pub trait Read: Sized {
         ensures answer { is_read (B.marked buf.old) cfg.now result }
         ensures left { IfOk result (λ value. buf.new ≡ dropped B.advanced B.copied buf.old (dropping value)) }
         ensures rest { IfOk result (λ value. B.marked buf.new ≡ dropped text_advanced text_rest (B.marked buf.old) (dropping value)) }
-        ensures err { OnErr result (buf.new ≡ buf.old) };
+        ensures unchanged { OnErr result (buf.new ≡ buf.old) };
 
     // Reading doesn't depend on where a text is cut.
     ghost alike: { (s t : MarkedText) (cfg : Self.Cfg) (a b : Result Self AnyError) → s.bytes ≡ t.bytes → is_read s cfg a → is_read t cfg b
@@ -250,7 +250,7 @@ impl Write for IoBuf {
     fn write_bufs<B: BufsMut>(&self, buf: &mut B) -> Result<(), Error>
         requires { items_inline (view_items self.now) ≤ B.room buf.old }
         ensures ok { OnOk result (B.done buf.old (view_items self.now) buf.new) }
-        ensures err { OnErr result (IsBegun (B.joined buf.old) (view_written self.now) (B.joined buf.new)) }
+        ensures begun { OnErr result (IsBegun (B.joined buf.old) (view_written self.now) (B.joined buf.new)) }
         ensures left { OnErr result ((buf.new ≡ buf.old) ⊎ B.done buf.old (put_item (spell (length self.now.bytes)) ∷ []) buf.new) }
         ensures cause { IfErr result (λ error. (error ≡ Error.Memory) ⊎ ((error ≡ Error.TooLong) × (B.pushable buf.old < items_pushed (view_items self.now)))) }
         ensures no_push { items_pushed (view_items self.now) ≡ 0 → IsOk result }
@@ -315,7 +315,7 @@ pub(super) fn read_bytes<T: OwnedBytes, B: OwnedBuf>(
 ) -> Result<T, Error>
     ensures ok { IfOk result (IsTaken T.makes B.copied (B.marked buf.old) range.now buf.old buf.new) }
     ensures fault { IfErr result (IsViewFault (B.marked buf.old) range.now) }
-    ensures err { OnErr result (buf.new ≡ buf.old) }
+    ensures unchanged { OnErr result (buf.new ≡ buf.old) }
 {
     let found = length_in(buf, range)?;
     if buf.remaining() - found.len < found.value {

@@ -19,7 +19,7 @@ use Rattle.iobufs_owner.specs.declared.owner.types.Word.{Word}
 use Rattle.iobufs_owner.specs.declared.owner.types.Word.TheVariants.{Record as Counted}
 use Rattle.iobufs_owner.proofs.Soundness.Counts.{count-append, count-some, count-map, count-less, holders-more, users-more}
 use Rattle.iobufs_owner.proofs.Soundness.Keeps.{Keeps, KeepsLetGo, all-fit-kept, calls-fit-kept, calls-read-kept, releases-kept}
-use Rattle.iobufs_owner.proofs.Soundness.Kept.{at-some, append-at, owner-counted}
+use Rattle.iobufs_owner.proofs.Soundness.StaysSound.{at-some, append-at, owner-counted}
 use Rattle.iobufs_owner.proofs.Soundness.Frames.{handles-kept, alone-kept, describes-kept, holders-tables, users-tables, not-eqb, is-eqb}
 use Rattle.iobufs_owner.proofs.Soundness.Edits.{counted-at, live-inside, alone-shared, describes-counted}
 use Rattle.iobufs_owner.proofs.Soundness.Holders.{alone-holds, held_by, held-at, holders-as}
@@ -35,12 +35,15 @@ field-set f (x ∷ xs) (suc i) (suc q) v d e = field-set f xs i q v d e
 
 -- ---- another count for a record
 
+-- another count for one record leaves the block of each
 pub counted-block : (g : Tables) (r n q : ℕ) → (record_at (counted g r n) q).block ≡ (record_at g q).block
 counted-block g r n q = field-set (λ (v : Record). v.block) g.records r q _ _ refl
 
+-- another count for one record leaves each live or dead as it was
 pub counted-live : (g : Tables) (r n q : ℕ) → (record_at (counted g r n) q).live ≡ (record_at g q).live
 counted-live g r n q = field-set (λ (v : Record). v.live) g.records r q _ _ refl
 
+-- tables with another count for a record keep what live handles and calls speak of
 pub counted-keeps : (g : Tables) (r n : ℕ) → Keeps g (counted g r n)
 counted-keeps g r n = record {
   align_bits = refl;
@@ -98,14 +101,18 @@ counted-more s h x r k at w =
     let held = count-some (held_by s b) s.handles h None (at-some s.handles h x at) (held-at s h x b at (owner-counted s.tables x r w)) in
     sym (more-some (record_at s.tables r).count (omega (arith, (k.counted r f.live).counts f.shown, holders-as s b, held)))
 
+-- a record of the table has the count that it is given
 pub counted-same : (g : Tables) (r n : ℕ) → r < length g.records → (record_at (counted g r n) r).count ≡ n
 counted-same g r n l = rw (get_or-set_same g.records r (record { count = n; block = (record_at g r).block; live = (record_at g r).live })
     (record { count = 0; block = 0; live = false }) l) refl
 
+-- another count for one record leaves those of the others
 pub counted-other : (g : Tables) (r n q : ℕ) → q ≢ r → (record_at (counted g r n) q).count ≡ (record_at g q).count
 counted-other g r n q ne = rw (get_or-set_other g.records r q (record { count = n; block = (record_at g r).block; live = (record_at g r).live })
     (record { count = 0; block = 0; live = false }) ne) refl
 
+-- one more view by the record of a view, inside the record's block and counted there, keeps the machine sound, where the
+-- count was at most the ceiling and there were fewer than 2^32 handles
 pub sound-added : (s : State) (h r : ℕ) (x y : Handle) → IsSound s → handle_at s h ≡ Some x → x.kind ≡ View → x.word ≡ Counted r → y.kind ≡ View
     → y.word ≡ Counted r → LiesIn (block_at s.tables (record_at s.tables r).block) y View → (record_at s.tables r).count ≤ s.ceiling
     → length s.handles < 2 ^ 32 → IsSound (with_handle (with_count s r ((record_at s.tables r).count + 1)) y)

@@ -13,7 +13,7 @@ use Rattle.iobufs_owner.specs.declared.owner.types.Pending.TheVariants.{Loaded, 
 use Rattle.iobufs_owner.specs.declared.owner.types.Word.TheVariants.{Record as Counted}
 use Rattle.iobufs_owner.proofs.Soundness.Counts.{count-some, count-two, count-find, count-sum}
 use Rattle.iobufs_owner.proofs.Soundness.Keeps.{lent-by, names, fits-kept, owner-kept, live-of}
-use Rattle.iobufs_owner.proofs.Soundness.Kept.{at-some, owner-counted}
+use Rattle.iobufs_owner.proofs.Soundness.StaysSound.{at-some, owner-counted}
 use Rattle.iobufs_owner.proofs.Soundness.Frames.{is-eqb}
 use Rattle.iobufs_owner.proofs.Soundness.Edits.{counted-at}
 use Rattle.iobufs_owner.proofs.Soundness.Holders.{held_by, still_by, drops_by, holders-as, users-as, held-at, lets_go, drops-split}
@@ -38,6 +38,7 @@ pub record Only (s : State) (h b : ℕ) : Type 0 where
   pub users : users (reading s) b ≡ 1
   pub handle : (i : ℕ) (y : Handle) → handle_at s i ≡ Some y → owner_of s.tables y ≡ Some b → i ≡ h
 
+-- where a handle's block has one holder, the handle is its only one, no unfinished drop is of the block, and it has one user
 pub only : (s : State) (h b : ℕ) (x : Handle) → IsSound s → handle_at s h ≡ Some x → owner_of s.tables x ≡ Some b → holders (reading s) b ≡ 1 → Only s h b
 only s h b x k at o one =
     let l = at-some s.handles h x at in

@@ -8,7 +8,7 @@ use Rattle.iobufs_owner.specs.State.{State, Tables, owner_of, record_at, block_a
 use Rattle.iobufs_owner.specs.World.{holds, is_block, holders, users, tally}
 use Rattle.iobufs_owner.specs.Reading.{reading, read_handle, read_call, has_let_go}
 use Rattle.iobufs_owner.specs.Sound.{IsSound, Fits, FitsCall, alone, describes}
-use Rattle.iobufs_owner.specs.Changes.{detached, replaced, block_freed, both_freed, tables_without}
+use Rattle.iobufs_owner.specs.Changes.{detached_handle, replaced, block_freed, both_freed, tables_without}
 use Rattle.iobufs_owner.specs.Lending.{is_lent}
 use Rattle.iobufs_owner.specs.ShortCalls.{IsLoose}
 use Rattle.iobufs_owner.specs.declared.owner.types.Freed.{Freed}
@@ -18,7 +18,7 @@ use Rattle.iobufs_owner.specs.declared.owner.types.Pending.{Pending}
 use Rattle.iobufs_owner.specs.declared.owner.types.Word.TheVariants.{Empty, Descriptor, Record as Counted}
 use Rattle.iobufs_owner.proofs.Soundness.Counts.{count-set, count-some, holders-changed, users-changed}
 use Rattle.iobufs_owner.proofs.Soundness.Keeps.{keeps-self, call-kept, lent-by, owner-kept, calls-read-kept, releases-kept}
-use Rattle.iobufs_owner.proofs.Soundness.Kept.{at-some, block-log-kept, owner-empty, owner-counted}
+use Rattle.iobufs_owner.proofs.Soundness.StaysSound.{at-some, block-log-kept, owner-empty, owner-counted}
 use Rattle.iobufs_owner.proofs.Soundness.Frames.{holders-alike, users-alike, not-eqb, is-eqb, handles-kept, alone-kept, describes-kept, holders-tables, users-tables}
 use Rattle.iobufs_owner.proofs.Soundness.Edits.{fits-at, alone-at, described-at, counted-at, live-inside, alone-described, describes-described, alone-written}
 use Rattle.iobufs_owner.proofs.Soundness.Holders.{alone-few}
@@ -45,17 +45,18 @@ loose g calls o (inl e) = subst (λ (o : Option Handle). Loose g calls o) (sym e
   owner = λ b x i. absurd (cc);
 })
 loose g calls o (inr e) =
-    let n = owner-empty g (detached 0) refl in
+    let n = owner-empty g (detached_handle 0) refl in
     subst (λ (o : Option Handle). Loose g calls o) (sym e) (record {
       holds = λ c. rw n refl;
       describes = λ c. rw n refl;
       alone = λ c. rw n refl;
       fits = record { no_room = refl; ends = omega arith; no_bytes = λ m. refl };
-      owner = λ b x i own. (let q : detached 0 ≡ x = cc in let u = sym n ∙ ap (owner_of g) q ∙ own in cc);
+      owner = λ b x i own. (let q : detached_handle 0 ≡ x = cc in let u = sym n ∙ ap (owner_of g) q ∙ own in cc);
     })
 
 -- ---- by a descriptor
 
+-- a handle by a descriptor that no call borrows goes, or is detached, and its block is freed: the machine stays sound
 pub sound-freed_described : (s : State) (h : ℕ) (x : Handle) (w : ℕ) (o : Option Handle) → IsSound s → handle_at s h ≡ Some x
     → is_lent h s.calls ≡ false → x.word ≡ Descriptor w → IsLoose o → IsSound (replaced (block_freed s (recovered s.tables x w)) h o)
 sound-freed_described s h x w o k at free xw is =
@@ -135,6 +136,7 @@ pub record CountedEnds (s : State) (r : ℕ) : Type 0 where
   pub block_log : length s.freed_blocks < length s.tables.blocks
   pub record_log : length s.freed_records < length s.tables.records
 
+-- in a sound machine a live record is one of the table, its block is known, and both logs are shorter than their tables
 pub counted-ends : (s : State) (r : ℕ) → IsSound s → (record_at s.tables r).live ≡ true → CountedEnds s r
 counted-ends s r k live =
     let c = k.counted r live in
@@ -146,6 +148,7 @@ counted-ends s r k live =
       record_log = record-log-room s.tables.records s.freed_records r inside live k.record_log;
     }
 
+-- a writable handle by a record that no call borrows goes, or is detached, and block and record are freed: the machine stays sound
 pub sound-freed_counted : (s : State) (h : ℕ) (x : Handle) (r : ℕ) (o : Option Handle) → IsSound s → handle_at s h ≡ Some x
     → is_lent h s.calls ≡ false → x.kind ≡ Mut → x.word ≡ Counted r → IsLoose o → IsSound (replaced (both_freed s r) h o)
 sound-freed_counted s h x r o k at free xm xw is =
@@ -237,6 +240,7 @@ sound-freed_counted s h x r o k at free xm xw is =
 
 -- ---- a handle without block is gone
 
+-- a handle without block that no call borrows goes, and the machine stays sound
 pub sound-gone_empty : (s : State) (h : ℕ) (x : Handle) → IsSound s → handle_at s h ≡ Some x → is_lent h s.calls ≡ false → x.word ≡ Empty
     → IsSound (replaced s h None)
 sound-gone_empty s h x k at free xw =

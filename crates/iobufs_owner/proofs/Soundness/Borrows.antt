@@ -1,4 +1,4 @@
--- The count of borrows of each handle.
+-- The counts of borrows kept beside the handles say how many calls borrow each (`CountsBorrows`), and stay so.
 use Rattle.std.proofs.Common.{◌≡◌, inl, inr, replicate, length-append, ℕ, zero, suc, ◌+◌, ◌-◌, ◌<◌, ◌≤◌, ◌==◌, ◌||◌, Bool, true, false, not, cond, nat_eq, List, [], ◌∷◌, ◌++◌, length, get_or, set, Option, Some, None, ap, sym, ◌∙◌, subst, refl, arith}
 use Rattle.std.proofs.lemmas.Bool.Decides.{nat_tests, eqb_tells}
 use Rattle.std.proofs.Math.ListN.{length-set}
@@ -66,6 +66,7 @@ pub some-borrowed : (bs : List ℕ) (cs : List (Option Pending)) (p h : ℕ) (d 
     → borrows_it h d ≡ true → CountsBorrows bs cs → 0 < get_or bs h 0
 some-borrowed bs cs p h d m at e k = let a = k h in let b = count-some (borrows_it h) cs p None m (ap (borrows_it h) at ∙ e) in omega (arith, a, b)
 
+-- where the borrows are counted, a handle has at most as many as there are calls
 pub few-borrowed : (bs : List ℕ) (cs : List (Option Pending)) (h : ℕ) → CountsBorrows bs cs → get_or bs h 0 ≤ length cs
 few-borrowed bs cs h k = let a = k h in let b = count-few (borrows_it h) cs in omega (arith, a, b)
 
@@ -77,6 +78,7 @@ pub any-tally : {X : Type 0} (p : X → Bool) (xs : List X) → list_any p xs �
 any-tally p [] = refl
 any-tally p (x ∷ xs) = none-some (p x) (tally p xs) (list_any p xs) (any-tally p xs)
 
+-- where the borrows are counted, a handle is lent exactly where its count isn't 0
 pub lent-tells : (bs : List ℕ) (cs : List (Option Pending)) (h : ℕ) → CountsBorrows bs cs → is_lent h cs ≡ not (nat_eq (get_or bs h 0) 0)
 lent-tells bs cs h k = any-tally (borrows_it h) cs ∙ ap (λ (n : ℕ). not (nat_eq n 0)) (sym (k h))
 
@@ -84,6 +86,7 @@ lent-tells bs cs h k = any-tally (borrows_it h) cs ∙ ap (λ (n : ℕ). not (na
 pub kept-pushed : (bs : List ℕ) (hs : List (Option Handle)) (x : Option Handle) → length bs ≡ length hs → length (bs ++ 0 ∷ []) ≡ length (hs ++ x ∷ [])
 kept-pushed bs hs x e = omega (arith, e, length-append bs (0 ∷ []), length-append hs (x ∷ []))
 
+-- there are as many counts as handles again, with one of each more and another handle in a place
 pub kept-set-pushed : (bs : List ℕ) (hs : List (Option Handle)) (h : ℕ) (x y : Option Handle) → length bs ≡ length hs
     → length (bs ++ 0 ∷ []) ≡ length (set hs h y ++ x ∷ [])
 kept-set-pushed bs hs h x y e = omega (arith, e, length-append bs (0 ∷ []), length-append (set hs h y) (x ∷ []), length-set hs h y)
@@ -93,9 +96,11 @@ after-by : (h r : ℕ) (v : Bool) → borrows_it h (Some (cond v (Release r) (Su
 after-by h r true = refl
 after-by h r false = refl
 
+-- a drop that has read the count borrows no handle
 pub after-quiet : (h count r : ℕ) → borrows_it h (Some (after_count count r)) ≡ false
 after-quiet h count r = after-by h r (nat_eq count 1)
 
+-- where no call is unfinished, an empty list counts the borrows
 pub counts-fresh : (n : ℕ) → CountsBorrows [] (replicate n None)
 counts-fresh zero = λ h. refl
 counts-fresh (suc n) = λ h. (let k = counts-fresh n h in omega (arith, k))

@@ -15,7 +15,7 @@ use Rattle.iobufs_owner.specs.declared.owner.types.Pending.{Pending}
 use Rattle.iobufs_owner.specs.declared.owner.types.Pending.TheVariants.{Loaded, Add}
 use Rattle.iobufs_owner.proofs.Soundness.Counts.{count-set}
 use Rattle.iobufs_owner.proofs.Soundness.Keeps.{keeps-self, call-kept, fits-calls}
-use Rattle.iobufs_owner.proofs.Soundness.Kept.{block-log-kept}
+use Rattle.iobufs_owner.proofs.Soundness.StaysSound.{block-log-kept}
 use Rattle.iobufs_owner.proofs.WorldSteps.Shown.{get_or-read}
 
 -- calls that count for nothing
@@ -25,12 +25,15 @@ pub record IsQuiet (s : State) (c : Option Pending) : Type 0 where
   pub readies : (q : ℕ) → readies q c ≡ false
   pub releases : (b : ℕ) → releases s.tables b c ≡ false
 
+-- where there is no call, nothing is held, dropped or released by it, and it has made no record
 pub quiet-none : (s : State) → IsQuiet s None
 quiet-none s = record { still = λ b. refl; drops = λ b. refl; readies = λ q. refl; releases = λ b. refl }
 
+-- a clone or slice that has loaded a descriptor holds, drops and releases no block, and has made no record
 pub quiet-loaded : (s : State) (k : Share) (w : ℕ) → IsQuiet s (Some (Loaded k w))
 quiet-loaded s k w = record { still = λ b. refl; drops = λ b. refl; readies = λ q. refl; releases = λ b. refl }
 
+-- a clone or slice that is to be counted holds, drops and releases no block, and has made no record that isn't shown
 pub quiet-add : (s : State) (k : Share) (r : ℕ) → IsQuiet s (Some (Add k r))
 quiet-add s k r = record { still = λ b. refl; drops = λ b. refl; readies = λ q. refl; releases = λ b. refl }
 
@@ -59,6 +62,7 @@ fit-called : (g : Tables) (cs ds : List (Option Pending)) → ((q : ℕ) → hid
 fit-called g cs ds less None f = tt
 fit-called g cs ds less (Some x) f = fits-calls g cs ds x x.word less f
 
+-- another call of a party keeps the machine sound, where it fits and both it and the one before it count for nothing
 pub sound-called : (s : State) (p : ℕ) (c : Option Pending) → IsSound s → p < length s.calls → IsQuiet s (call_at s p) → IsQuiet s c → FitsCall s c
     → IsSound (called s p c)
 sound-called s p c k l q r f =

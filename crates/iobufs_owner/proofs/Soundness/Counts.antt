@@ -6,25 +6,30 @@ use Rattle.iobufs_owner.specs.Reading.{reading, read_handle}
 use Rattle.iobufs_owner.specs.State.{State}
 use Rattle.iobufs_owner.specs.declared.owner.types.Handle.{Handle}
 
+-- an element behind a list adds one to the count where it passes, else nothing
 pub count-append : {X : Type 0} (p : X → Bool) (xs : List X) (y : X) → tally p (xs ++ y ∷ []) ≡ tally p xs + cond (p y) 1 0
 count-append p [] y = omega arith
 count-append p (x ∷ xs) y = omega (arith, count-append p xs y)
 
+-- with another element in a place the count loses one where the old one passes, and gains one where the new one does
 pub count-set : {X : Type 0} (p : X → Bool) (xs : List X) (i : ℕ) (y d : X) → i < length xs
     → tally p (set xs i y) + cond (p (get_or xs i d)) 1 0 ≡ tally p xs + cond (p y) 1 0
 count-set p [] i y d h = absurd (omega arith)
 count-set p (x ∷ xs) zero y d h = omega arith
 count-set p (x ∷ xs) (suc i) y d h = omega (arith, count-set p xs i y d (omega arith))
 
+-- the count of a mapped list is that of the list, by the test of what is mapped
 pub count-map : {X Y : Type 0} (p : Y → Bool) (f : X → Y) (xs : List X) → tally p (map f xs) ≡ tally (λ x. p (f x)) xs
 count-map p f [] = refl
 count-map p f (x ∷ xs) = omega (arith, count-map p f xs)
 
+-- where the element at a place passes, the count is above 0
 pub count-some : {X : Type 0} (p : X → Bool) (xs : List X) (i : ℕ) (d : X) → i < length xs → p (get_or xs i d) ≡ true → 0 < tally p xs
 count-some p [] i d h e = absurd (omega arith)
 count-some p (x ∷ xs) zero d h e = rw e (omega arith)
 count-some p (x ∷ xs) (suc i) d h e = omega (arith, count-some p xs i d (omega arith) e)
 
+-- no more elements pass than there are
 pub count-few : {X : Type 0} (p : X → Bool) (xs : List X) → tally p xs ≤ length xs
 count-few p [] = omega arith
 count-few p (x ∷ xs) = elim (p x) as (λ v. cond v 1 0 + tally p xs ≤ length (x ∷ xs))
@@ -37,10 +42,12 @@ one-less true false h = omega arith
 one-less false true h = let e = h refl in absurd (cc)
 one-less false false h = omega arith
 
+-- where one test implies another, it passes at most as many
 pub count-most : {X : Type 0} (p q : X → Bool) (xs : List X) → ((x : X) → q x ≡ true → p x ≡ true) → tally q xs ≤ tally p xs
 count-most p q [] h = omega arith
 count-most p q (x ∷ xs) h = omega (arith, one-less (p x) (q x) (h x), count-most p q xs h)
 
+-- where one test implies another and the element at a place passes only the other, it passes fewer
 pub count-less : {X : Type 0} (p q : X → Bool) (xs : List X) (i : ℕ) (d : X) → ((x : X) → q x ≡ true → p x ≡ true) → i < length xs
     → p (get_or xs i d) ≡ true → q (get_or xs i d) ≡ false → tally q xs < tally p xs
 count-less p q [] i d h l t f = absurd (omega arith)
@@ -70,6 +77,7 @@ pub reading-append : (s : State) (x : Option Handle) → reading (record s { han
     ≡ record (reading s) { handles = (reading s).handles ++ read_handle s.tables x ∷ [] }
 reading-append s x = ap (λ (hs : List (Option Held)). record (reading s) { handles = hs }) (map-append (read_handle s.tables) s.handles (x ∷ []))
 
+-- another handle under a number is, read, another handle of the world there
 pub reading-set : (s : State) (h : ℕ) (x : Option Handle)
     → reading (record s { handles = set s.handles h x }) ≡ record (reading s) { handles = set (reading s).handles h (read_handle s.tables x) }
 reading-set s h x = ap (λ (hs : List (Option Held)). record (reading s) { handles = hs }) (map-set (read_handle s.tables) s.handles h x)
@@ -79,10 +87,12 @@ pub holders-more : (s : State) (x : Option Handle) (b : ℕ)
     → holders (reading (record s { handles = s.handles ++ x ∷ [] })) b ≡ holders (reading s) b + cond (holds b (read_handle s.tables x)) 1 0
 holders-more s x b = rw (reading-append s x) (holders-append (reading s) (read_handle s.tables x) b)
 
+-- with a handle more a block has one user more where the handle holds it, else as many
 pub users-more : (s : State) (x : Option Handle) (b : ℕ)
     → users (reading (record s { handles = s.handles ++ x ∷ [] })) b ≡ users (reading s) b + cond (holds b (read_handle s.tables x)) 1 0
 users-more s x b = rw (reading-append s x) (users-append (reading s) (read_handle s.tables x) b)
 
+-- with another handle under a number a block loses one holder where the old one held it, and gains one where the new one does
 pub holders-changed : (s : State) (h : ℕ) (x : Option Handle) (b : ℕ) → h < length s.handles
     → holders (reading (record s { handles = set s.handles h x })) b + cond (holds b (read_handle s.tables (get_or s.handles h None))) 1 0
     ≡ holders (reading s) b + cond (holds b (read_handle s.tables x)) 1 0
@@ -91,6 +101,7 @@ holders-changed s h x b l =
     let e = holders-set (reading s) h (read_handle s.tables x) b (rw length-map l) in
     rw (reading-set s h x, ← m) e
 
+-- with another handle under a number a block loses one user where the old one held it, and gains one where the new one does
 pub users-changed : (s : State) (h : ℕ) (x : Option Handle) (b : ℕ) → h < length s.handles
     → users (reading (record s { handles = set s.handles h x })) b + cond (holds b (read_handle s.tables (get_or s.handles h None))) 1 0
     ≡ users (reading s) b + cond (holds b (read_handle s.tables x)) 1 0
@@ -130,6 +141,7 @@ pub record Passing {X : Type 0} (p : X → Bool) (d : X) (xs : List X) : Type 0 
   pub inside : place < length xs
   pub passes : p (get_or xs place d) ≡ true
 
+-- where the count is above 0, there is a place whose element passes
 pub count-find : {X : Type 0} (p : X → Bool) (d : X) (xs : List X) → 0 < tally p xs → Passing p d xs
 count-find p d [] h = absurd (omega arith)
 count-find p d (x ∷ xs) h =
@@ -141,6 +153,7 @@ count-find p d (x ∷ xs) h =
       passes = r.passes;
     }) refl
 
+-- where each element passes one test as often as two others together, so does the whole list
 pub count-sum : {X : Type 0} (p q r : X → Bool) (xs : List X) → ((x : X) → cond (p x) 1 0 ≡ cond (q x) 1 0 + cond (r x) 1 0)
     → tally p xs ≡ tally q xs + tally r xs
 count-sum p q r [] h = omega arith

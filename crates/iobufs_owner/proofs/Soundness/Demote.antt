@@ -10,7 +10,7 @@ use Rattle.iobufs_owner.specs.World.{is_block, holders, users, tally}
 use Rattle.iobufs_owner.specs.Reading.{reading}
 use Rattle.iobufs_owner.specs.Sound.{IsSound, ArePlaced, Fits, FitsCall, IsDescribed, alone, describes}
 use Rattle.iobufs_owner.specs.Changes.{Outcome, edited, tables_without, record_freed}
-use Rattle.iobufs_owner.specs.Lending.{Lends, owning_view_of}
+use Rattle.iobufs_owner.specs.Lending.{Lends, lend_owning_view_of}
 use Rattle.iobufs_owner.specs.ShortCalls.{fits_in, tail_of, may_demote, described, demote_counted, declined, IsDemotedBy, IsDemoted}
 use Rattle.iobufs_owner.specs.declared.owner.types.Block.{Block}
 use Rattle.iobufs_owner.specs.declared.owner.types.Handle.{Handle}
@@ -22,7 +22,7 @@ use Rattle.iobufs_owner.specs.declared.owner.types.Reply.TheVariants.{Declined, 
 use Rattle.iobufs_owner.proofs.Words.{word-size, word-tail, fits-room, fits-true}
 use Rattle.iobufs_owner.proofs.Soundness.Counts.{count-set, holders-changed, users-changed}
 use Rattle.iobufs_owner.proofs.Soundness.Keeps.{call-kept, lent-by, owner-kept, calls-read-kept, releases-kept}
-use Rattle.iobufs_owner.proofs.Soundness.Kept.{at-some, block-log-kept, owner-counted}
+use Rattle.iobufs_owner.proofs.Soundness.StaysSound.{at-some, block-log-kept, owner-counted}
 use Rattle.iobufs_owner.proofs.Soundness.Frames.{holders-alike, users-alike, not-eqb, is-eqb, handles-kept, alone-kept, describes-kept, holders-tables, users-tables}
 use Rattle.iobufs_owner.proofs.Soundness.Edits.{fits-at, counted-at, lies-as, live-inside, no_block, owner-described, alone-described, describes-described, describes-counted, alone-shared}
 use Rattle.iobufs_owner.proofs.Soundness.Logs.{bases, record-log-dead}
@@ -49,6 +49,7 @@ all-three true false false e = absurd (cc)
 all-three true true u e = absurd (cc)
 all-three false q u e = absurd (cc)
 
+-- where the test of a demotion passes, the record counts one, its block is native, and size, alignment and tail have room in a word
 pub may-tells : (g : Tables) (x : Handle) (r log : ℕ) → may_demote g x r log ≡ true → MayDemote g x r log
 may-tells g x r log e =
     let b : Block = block_at g (record_at g r).block in
@@ -121,6 +122,8 @@ described-demoted s h r log x k t xw align m =
 
 -- ---- Demote
 
+-- a view by a record that no call borrows goes by a descriptor instead, and its record is freed: the machine stays sound,
+-- where the record may go and the block's alignment is 2 ^ log
 pub sound-demoted : (s : State) (h r log : ℕ) (x : Handle) → IsSound s → Lends s h View x → x.word ≡ Counted r
     → (block_at s.tables (record_at s.tables r).block).align ≡ 2 ^ log → MayDemote s.tables x r log
     → IsSound (edited (record_freed s r) h (described s.tables x r log))
@@ -236,6 +239,8 @@ pub record Demoting (s : State) (x : Handle) (r : ℕ) : Type 0 where
   pub power : IsPowerOfTwo (block_at s.tables (record_at s.tables r).block).align
   pub log_room : length s.freed_records < length s.tables.records
 
+-- of a view by a record that no call borrows: the record is one of the table, the view ends in its block, the alignment there
+-- is a power of two, and the log of freed records is shorter than the table
 pub demoting : (s : State) (h r : ℕ) (x : Handle) → IsSound s → Lends s h View x → x.word ≡ Counted r → Demoting s x r
 demoting s h r x k t xw =
     let f = counted-at s h x r k t.at xw in
@@ -248,20 +253,23 @@ demoting s h r x k t xw =
       log_room = ends.record_log;
     }
 
+-- where the record may not go, a demotion declines and changes nothing
 pub keeps-record : (s : State) (h r log : ℕ) (x : Handle) → (MayDemote s.tables x r log → ⊥) → (Declined ≡ (demote_counted s h x r log).reply)
     × (s ≡ (demote_counted s h x r log).state)
 keeps-record s h r log x n = rw (may-false s.tables x r log n) (refl, refl)
 
+-- where the record may go, a demotion is done: the record alone is freed, and the view has the descriptor
 pub frees-record : (s : State) (h r log : ℕ) (x : Handle) → MayDemote s.tables x r log → (Done ≡ (demote_counted s h x r log).reply)
     × (edited (record_freed s r) h (described s.tables x r log) ≡ (demote_counted s h x r log).state)
 frees-record s h r log x m = rw (may-true s.tables x r log m) (refl, refl)
 
 -- what the call answers and leaves, as a step takes it
-pub demote-takes : (m n : Seen) (h : ℕ) (reply : Reply) → (o : Outcome) × IsDemoted m.state h (owning_view_of m.state h) o × (reply ≡ o.reply)
-    × (n.state ≡ o.state) × (n.room ≡ m.room) → (o : Outcome) × IsDemoted m.state h (owning_view_of m.state h) o
+pub demote-takes : (m n : Seen) (h : ℕ) (reply : Reply) → (o : Outcome) × IsDemoted m.state h (lend_owning_view_of m.state h) o × (reply ≡ o.reply)
+    × (n.state ≡ o.state) × (n.room ≡ m.room) → (o : Outcome) × IsDemoted m.state h (lend_owning_view_of m.state h) o
     × ((reply ≡ o.reply) × (n.state ≡ o.state) × (n.room ≡ m.room))
 demote-takes m n h reply (o, is, e, f, k) = (o, is, (e, f, k))
 
+-- a word that isn't a record's stays, and the demotion declines
 pub keeps-word : (s : State) (h : ℕ) (x : Handle) (w : Word) → ((r : ℕ) → w ≡ Counted r → ⊥) → IsDemotedBy s h x w (declined s)
 keeps-word s h x Empty n = refl
 keeps-word s h x (Descriptor v) n = refl

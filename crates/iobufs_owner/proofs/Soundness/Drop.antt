@@ -17,7 +17,7 @@ use Rattle.iobufs_owner.specs.declared.owner.types.Pending.TheVariants.{Loaded, 
 use Rattle.iobufs_owner.specs.declared.owner.types.Word.TheVariants.{Record as Counted}
 use Rattle.iobufs_owner.proofs.Soundness.Counts.{count-set, count-find}
 use Rattle.iobufs_owner.proofs.Soundness.Keeps.{keeps-self, call-kept, fits-calls, lent-by}
-use Rattle.iobufs_owner.proofs.Soundness.Kept.{at-some, owner-counted, block-log-kept}
+use Rattle.iobufs_owner.proofs.Soundness.StaysSound.{at-some, owner-counted, block-log-kept}
 use Rattle.iobufs_owner.proofs.Soundness.Frames.{not-eqb, is-eqb}
 use Rattle.iobufs_owner.proofs.WorldSteps.Shown.{get_or-read}
 use Rattle.iobufs_owner.proofs.Soundness.AddHolder.{release-elsewhere}
@@ -60,6 +60,7 @@ fit-dropping : (s : State) (p : ℕ) (c : Pending) → ((q : ℕ) → hidden (se
 fit-dropping s p c less None f = tt
 fit-dropping s p c less (Some x) f = fits-calls s.tables s.calls (set s.calls p (Some c)) x x.word less f
 
+-- a view by a record that no call borrows goes, and a drop that hasn't let go is the call of a party that had none: the machine stays sound
 pub sound-dropping : (s : State) (p h r : ℕ) (x : Handle) (c : Pending) → IsSound s → handle_at s h ≡ Some x → x.word ≡ Counted r → x.kind ≡ View
     → is_lent h s.calls ≡ false → call_at s p ≡ None → p < length s.calls → IsDrop s r c → IsSound (dropping s p h c)
 sound-dropping s p h r x c k at word view free none lp d =

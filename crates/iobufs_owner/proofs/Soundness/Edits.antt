@@ -1,4 +1,4 @@
--- Handles that change and hold what they held keep the machine sound.
+-- What a handle's word says in a sound machine; and that puts, advances, freezes and recoveries in place keep it sound.
 use Rattle.std.proofs.Common.{◌≡◌, inl, inr, ℕ, ◌+◌, ◌-◌, ◌%◌, ◌^◌, ◌<◌, ◌≤◌, ◌&&◌, ◌||◌, zero, suc, get_or, List, [], ◌∷◌, Bool, true, false, Option, Some, None, SomeIff, sym, ◌∙◌, ap, subst, refl, arith, length}
 use Rattle.std.proofs.lemmas.Bool.Decides.{leb_tells}
 use Rattle.std.proofs.Math.Nat.{mod-eq_of_lt}
@@ -12,7 +12,7 @@ use Rattle.iobufs_owner.specs.declared.owner.types.Word.{Word}
 use Rattle.iobufs_owner.specs.declared.owner.types.Word.TheVariants.{Empty, Descriptor, Record as Counted}
 use Rattle.iobufs_owner.specs.Word.{HasRoom, IsWord, word_of}
 use Rattle.iobufs_owner.specs.State.{State, Tables, owner_of, base_by, block_with, handle_at, record_at, block_at, size_in, tail_in, retailed}
-use Rattle.iobufs_owner.specs.Changes.{edited, detached}
+use Rattle.iobufs_owner.specs.Changes.{edited, detached_handle}
 use Rattle.iobufs_owner.specs.Lending.{is_lent, Lends}
 use Rattle.iobufs_owner.specs.ShortCalls.{advanced, frozen, thawed}
 use Rattle.iobufs_owner.specs.Kinds.{is_mut}
@@ -20,13 +20,14 @@ use Rattle.iobufs_owner.specs.World.{holders, is_block}
 use Rattle.iobufs_owner.specs.Reading.{reading, read_handle, read_call}
 use Rattle.iobufs_owner.specs.Sound.{IsSound, FitsWord, DescribesBlock, HoldsNothing, IsDescribed, IsCounted, LiesIn, LeavesBehind, alone, describes, is_descriptor, hidden}
 use Rattle.iobufs_owner.proofs.Words.{word-size, word-tail, retailed-is, log-below}
-use Rattle.iobufs_owner.proofs.Soundness.Kept.{sound-edited, at-some, owner-empty, owner-counted}
+use Rattle.iobufs_owner.proofs.Soundness.StaysSound.{sound-edited, at-some, owner-empty, owner-counted}
 use Rattle.iobufs_owner.proofs.WorldSteps.Lent.{owner-same, base-mut}
 use Rattle.iobufs_owner.proofs.Soundness.Counts.{count-some, holders-few}
 use Rattle.std.proofs.lemmas.Nat.{pow_pos}
 use Rattle.std.proofs.lemmas.List.{length-map}
 use Rattle.std.proofs.lemmas.Bool.Decides.{nat_tests}
 
+-- in a sound machine a handle fits the tables, by its word
 pub fits-at : (s : State) (h : ℕ) (x : Handle) → IsSound s → handle_at s h ≡ Some x → FitsWord s.tables s.calls x x.word
 fits-at s h x k at =
     let f = k.fit h None (at-some s.handles h x at) in
@@ -36,6 +37,7 @@ fits-at s h x k at =
 pub alone-at : (s : State) (h : ℕ) (x : Handle) (b : ℕ) → IsSound s → handle_at s h ≡ Some x → alone s.tables b (Some x) ≡ true → holders (reading s) b ≡ 1
 alone-at s h x b k at e = k.sole b (count-some (alone s.tables b) s.handles h None (at-some s.handles h x at) (rw at e))
 
+-- a live record is one of the table
 pub live-inside : (rs : List Record) (r : ℕ) → (get_or rs r (record { count = 0; block = 0; live = false })).live ≡ true → r < length rs
 live-inside [] r e = absurd (cc)
 live-inside (v ∷ rs) zero e = omega arith
@@ -43,6 +45,7 @@ live-inside (v ∷ rs) (suc r) e = omega (arith, live-inside rs r e)
 
 -- ---- what a descriptor says
 
+-- a handle by a descriptor holds the first block with the base that is recovered
 pub owner-described : (g : Tables) (x : Handle) (w : ℕ) → x.word ≡ Descriptor w → owner_of g x ≡ block_with (base_by g x w) g.blocks
 unfolding owner_of
 owner-described g x w e = rw e refl
@@ -53,9 +56,11 @@ pub owner-redescribed : (g : Tables) (x y : Handle) (w v : ℕ) → x.word ≡ D
 owner-redescribed g x y w v ex ey e =
     owner-described g y v ey ∙ ap (λ n. block_with n g.blocks) e ∙ sym (owner-described g x w ex)
 
+-- the size in a descriptor is that of the block that it describes
 pub size-says : (g : Tables) (x : Handle) (w b log tail : ℕ) → IsDescribed g x w b log tail → size_in g w ≡ (block_at g b).size
 size-says g x w b log tail d = word-size g.align_bits g.tail_bits g.size_bits w (block_at g b).size log tail d.room d.word
 
+-- the tail in a descriptor is the one with which it describes its block
 pub tail-says : (g : Tables) (x : Handle) (w b log tail : ℕ) → IsDescribed g x w b log tail → tail_in g w ≡ tail
 tail-says g x w b log tail d = word-tail g.align_bits g.tail_bits g.size_bits w (block_at g b).size log tail d.room d.word
 
@@ -89,6 +94,7 @@ pub align-small : (base align : ℕ) → 0 < base → base < 2 ^ 64 → base % a
 align-small base align p q e = elim (leb_tells align base)
     [ inl l ↦ (let m = l.1 in omega arith) | inr l ↦ absurd (let z = mod-eq_of_lt l.1 in omega (arith, z, e)) ]
 
+-- in a sound machine a descriptor that describes a block is a word of the format
 pub word-fits : (s : State) (x : Handle) (w b log tail : ℕ) → IsSound s → IsDescribed s.tables x w b log tail
     → IsWord s.tables.align_bits s.tables.tail_bits s.tables.size_bits w
 word-fits s x w b log tail k d =
@@ -114,6 +120,7 @@ end-by s x (Descriptor w) k d = end-kind (block_at s.tables d.block) x x.kind (k
 end-by s x (Counted r) k f = end-kind (block_at s.tables (record_at s.tables r).block) x x.kind
     (k.blocks.places (record_at s.tables r).block no_block f.known).ends f.lies
 
+-- in a sound machine each handle ends where addresses end
 pub end-small : (s : State) (h : ℕ) (x : Handle) → IsSound s → handle_at s h ≡ Some x → x.ptr + x.len < 2 ^ 64
 end-small s h x k at = end-by s x x.word k (fits-at s h x k at)
 
@@ -155,9 +162,11 @@ put-fits s x n (Counted r) m l o f =
       native = f.native;
     }
 
+-- bytes put to a writable handle leave the block that it holds
 pub owner-put : (g : Tables) (x : Handle) (n : ℕ) → x.kind ≡ Mut → owner_of g (record x { len = x.len + n }) ≡ owner_of g x
 owner-put g x n m = owner-same g x (record x { len = x.len + n }) refl (base-mut g x (record x { len = x.len + n }) m m refl)
 
+-- bytes put to a writable handle that no call borrows, within its capacity, keep the machine sound
 pub sound-put : (s : State) (h : ℕ) (x : Handle) (n : ℕ) → IsSound s → Lends s h Mut x → n ≤ x.cap - x.len → IsSound (edited s h (record x { len = x.len + n }))
 sound-put s h x n k t l =
     let y : Handle = record x { len = x.len + n } in
@@ -167,6 +176,7 @@ sound-put s h x n k t l =
 
 -- ---- Advance
 
+-- a test with false behind it is false
 pub and-no : (v : Bool) → (v && false) ≡ false
 and-no true = refl
 and-no false = refl
@@ -189,6 +199,7 @@ base-kind : (g : Tables) (x : Handle) (n : ℕ) (kind : Kind) → n ≤ x.len �
 base-kind g x n View l c w e = rw e (omega arith)
 base-kind g x n Mut l c w e = let z = c refl in rw e (omega arith)
 
+-- a handle that gives up bytes that it has holds what it held, where a writable one has no more bytes than capacity
 pub owner-advanced : (g : Tables) (x : Handle) (n : ℕ) → n ≤ x.len → (x.kind ≡ Mut → x.len ≤ x.cap) → owner_of g (advanced x n) ≡ owner_of g x
 owner-advanced g x n l c = owner-same g x (advanced x n) refl (λ w. base-kind g x n x.kind l c w refl)
 
@@ -231,6 +242,7 @@ advance-fits g calls x n (Descriptor w) l o f =
 advance-fits g calls x n (Counted r) l o f =
     record { live = f.live; known = f.known; shown = f.shown; lies = advance-lies (block_at g (record_at g r).block) x n x.kind l f.lies; native = f.native }
 
+-- a handle that no call borrows gives up bytes that it has, and the machine stays sound
 pub sound-advanced : (s : State) (h : ℕ) (x : Handle) (n : ℕ) → IsSound s → handle_at s h ≡ Some x → is_lent h s.calls ≡ false → n ≤ x.len
     → IsSound (edited s h (advanced x n))
 sound-advanced s h x n k at free l =
@@ -240,6 +252,7 @@ sound-advanced s h x n k at free l =
 
 -- ---- Freeze, where the handle keeps what it owns by
 
+-- a writable handle gives the same base as a view whose descriptor has its spare bytes for a tail, where these fit the field
 pub base-frozen : (g : Tables) (x : Handle) (w b log tail : ℕ) → x.kind ≡ Mut → x.len ≤ x.cap → IsDescribed g x w b log tail
     → x.cap - x.len < 2 ^ g.tail_bits → base_by g (frozen x (Descriptor (retailed g w (x.cap - x.len)))) (retailed g w (x.cap - x.len)) ≡ base_by g x w
 base-frozen g x w b log tail m c d l =
@@ -255,12 +268,15 @@ base-frozen g x w b log tail m c d l =
 pub described-at : (s : State) (h : ℕ) (x : Handle) (w : ℕ) → IsSound s → handle_at s h ≡ Some x → x.word ≡ Descriptor w → DescribesBlock s.tables x w
 described-at s h x w k at i = subst (λ (v : Word). FitsWord s.tables s.calls x v) i (fits-at s h x k at)
 
+-- in a sound machine a handle by a record lies in the record's block, and the record is live and published
 pub counted-at : (s : State) (h : ℕ) (x : Handle) (r : ℕ) → IsSound s → handle_at s h ≡ Some x → x.word ≡ Counted r → IsCounted s.tables s.calls x r
 counted-at s h x r k at i = subst (λ (v : Word). FitsWord s.tables s.calls x v) i (fits-at s h x k at)
 
+-- in a sound machine a handle without block has no capacity, ends where addresses end, and is empty where it is writable
 pub empty-at : (s : State) (h : ℕ) (x : Handle) → IsSound s → handle_at s h ≡ Some x → x.word ≡ Empty → HoldsNothing x
 empty-at s h x k at i = subst (λ (v : Word). FitsWord s.tables s.calls x v) i (fits-at s h x k at)
 
+-- a handle of this kind lies in its block as this kind does
 pub lies-as : (b : Block) (x : Handle) (kind : Kind) → x.kind ≡ kind → LiesIn b x x.kind → LiesIn b x kind
 lies-as b x kind e l = subst (λ (q : Kind). LiesIn b x q) e l
 
@@ -269,6 +285,7 @@ pub lies-still : (b : Block) (x : Handle) (v : Word) (kind : Kind) → LiesIn b 
 lies-still b x v View l = record { begins = l.begins; ends = l.ends; no_room = l.no_room }
 lies-still b x v Mut l = record { begins = l.begins; ends = l.ends; within = l.within }
 
+-- behind a handle of this kind is left what this kind leaves
 pub behind-as : (b : Block) (x : Handle) (tail : ℕ) (kind : Kind) → x.kind ≡ kind → LeavesBehind b x tail x.kind → LeavesBehind b x tail kind
 behind-as b x tail kind e l = subst (λ (q : Kind). LeavesBehind b x tail q) e l
 
@@ -276,17 +293,21 @@ behind-as b x tail kind e l = subst (λ (q : Kind). LeavesBehind b x tail q) e l
 pub alone-described : (g : Tables) (c : ℕ) (x : Handle) (w : ℕ) → x.word ≡ Descriptor w → alone g c (Some x) ≡ is_block c (owner_of g x)
 alone-described g c x w e = ap (λ (v : Word). is_block c (owner_of g x) && (is_descriptor v || is_mut x.kind)) e ∙ and-yes (is_block c (owner_of g x))
 
+-- a handle by a descriptor describes the block that it holds, and no other
 pub describes-described : (g : Tables) (c : ℕ) (x : Handle) (w : ℕ) → x.word ≡ Descriptor w → describes g c (Some x) ≡ is_block c (owner_of g x)
 describes-described g c x w e = ap (λ (v : Word). is_block c (owner_of g x) && is_descriptor v) e ∙ and-yes (is_block c (owner_of g x))
 
+-- a handle by a record describes no block
 pub describes-counted : (g : Tables) (c : ℕ) (x : Handle) (r : ℕ) → x.word ≡ Counted r → describes g c (Some x) ≡ false
 describes-counted g c x r e = ap (λ (v : Word). is_block c (owner_of g x) && is_descriptor v) e ∙ and-no (is_block c (owner_of g x))
 
+-- a view by a record needn't be alone on any block
 pub alone-shared : (g : Tables) (c : ℕ) (x : Handle) (r : ℕ) → x.word ≡ Counted r → x.kind ≡ View → alone g c (Some x) ≡ false
 alone-shared g c x r e v =
     ap (λ (v : Word). is_block c (owner_of g x) && (is_descriptor v || is_mut x.kind)) e ∙ ap (λ (q : Kind). is_block c (owner_of g x) && is_mut q) v
     ∙ and-no (is_block c (owner_of g x))
 
+-- a writable handle by a record has to be alone on the block that it holds, and on no other
 pub alone-written : (g : Tables) (c : ℕ) (x : Handle) (r : ℕ) → x.word ≡ Counted r → x.kind ≡ Mut → alone g c (Some x) ≡ is_block c (owner_of g x)
 alone-written g c x r e v =
     ap (λ (v : Word). is_block c (owner_of g x) && (is_descriptor v || is_mut x.kind)) e ∙ ap (λ (q : Kind). is_block c (owner_of g x) && is_mut q) v
@@ -313,6 +334,7 @@ sound-redescribed s h x y w b log tail n k at free xw d l yw base lies behind =
       says = described-again s.tables x y w b log tail n d l o lies behind;
     }))
 
+-- a writable handle by a descriptor that no call borrows becomes a view with its spare bytes for a tail, where these fit the field: the machine stays sound
 pub sound-frozen_described : (s : State) (h : ℕ) (x : Handle) (w : ℕ) → IsSound s → Lends s h Mut x → x.word ≡ Descriptor w
     → x.cap - x.len < 2 ^ s.tables.tail_bits → IsSound (edited s h (frozen x (Descriptor (retailed s.tables w (x.cap - x.len)))))
 sound-frozen_described s h x w k t i l =
@@ -326,6 +348,7 @@ sound-frozen_described s h x w k t i l =
     (record { begins = omega (arith, lies.begins); ends = omega (arith, lies.ends, c); no_room = refl })
     (omega (arith, lies.ends, c))
 
+-- a writable handle by a record that no call borrows becomes a view by that record, and the machine stays sound
 pub sound-frozen_counted : (s : State) (h : ℕ) (x : Handle) (r : ℕ) → IsSound s → Lends s h Mut x → x.word ≡ Counted r
     → IsSound (edited s h (frozen x (Counted r)))
 sound-frozen_counted s h x r k t i =
@@ -343,6 +366,7 @@ sound-frozen_counted s h x r k t i =
       native = λ m. absurd (cc);
     })
 
+-- a writable handle without block that no call borrows becomes a view, and the machine stays sound
 pub sound-frozen_empty : (s : State) (h : ℕ) (x : Handle) → IsSound s → Lends s h Mut x → x.word ≡ Empty → IsSound (edited s h (frozen x Empty))
 sound-frozen_empty s h x k t i =
     let y : Handle = frozen x Empty in
@@ -352,15 +376,17 @@ sound-frozen_empty s h x k t i =
     (λ c a. absurd (let q = rw oy at a in cc)) (record { no_room = refl; ends = f.ends; no_bytes = λ m. absurd (cc) })
 
 -- a handle without block becomes the detached view
-pub sound-detached_empty : (s : State) (h : ℕ) (x : Handle) (kind : Kind) → IsSound s → Lends s h kind x → x.word ≡ Empty → IsSound (edited s h (detached 0))
+pub sound-detached_empty : (s : State) (h : ℕ) (x : Handle) (kind : Kind) → IsSound s → Lends s h kind x → x.word ≡ Empty
+    → IsSound (edited s h (detached_handle 0))
 sound-detached_empty s h x kind k t i =
-    let y : Handle = detached 0 in
+    let y : Handle = detached_handle 0 in
     let oy = owner-empty s.tables y refl in
     sound-edited s h x y k t.at t.free (oy ∙ sym (owner-empty s.tables x i)) (λ c. rw (oy, owner-empty s.tables x i) refl)
     (λ c a. absurd (let q = rw oy at a in cc)) (record { no_room = refl; ends = omega arith; no_bytes = λ m. refl })
 
 -- ---- TryIntoMut
 
+-- an empty view without block that no call borrows becomes writable, and the machine stays sound
 pub sound-thawed_empty : (s : State) (h : ℕ) (x : Handle) → IsSound s → Lends s h View x → x.word ≡ Empty → x.len ≡ 0 → IsSound (edited s h (thawed x 0 Empty))
 sound-thawed_empty s h x k t i z =
     let y : Handle = thawed x 0 Empty in
@@ -369,6 +395,7 @@ sound-thawed_empty s h x k t i z =
     sound-edited s h x y k t.at t.free (oy ∙ sym (owner-empty s.tables x i)) (λ c. rw (oy, owner-empty s.tables x i) refl)
     (λ c a. absurd (let q = rw oy at a in cc)) (record { no_room = refl; ends = f.ends; no_bytes = λ m. z })
 
+-- a view by a descriptor gives the same base as a writable handle with the tail for spare bytes and a descriptor of tail 0
 pub base-thawed : (g : Tables) (x : Handle) (w b log tail : ℕ) → x.kind ≡ View → IsDescribed g x w b log tail
     → base_by g (thawed x (x.len + tail_in g w) (Descriptor (retailed g w 0))) (retailed g w 0) ≡ base_by g x w
 base-thawed g x w b log tail m d =
@@ -378,6 +405,7 @@ base-thawed g x w b log tail m d =
     let old = size-says g x w b log tail d in
     rw (size, m, old) (omega arith)
 
+-- a view by a descriptor that no call borrows becomes writable with the tail for spare bytes, and the machine stays sound
 pub sound-thawed_described : (s : State) (h : ℕ) (x : Handle) (w : ℕ) → IsSound s → Lends s h View x → x.word ≡ Descriptor w
     → IsSound (edited s h (thawed x (x.len + tail_in s.tables w) (Descriptor (retailed s.tables w 0))))
 sound-thawed_described s h x w k t i =
@@ -392,6 +420,7 @@ sound-thawed_described s h x w k t i =
     (record { begins = lies.begins; ends = rw tail (omega (arith, behind)); within = omega arith })
     refl
 
+-- a view by a record that counts one, of a native block, becomes writable up to the block's end where no call borrows it: the machine stays sound
 pub sound-thawed_counted : (s : State) (h : ℕ) (x : Handle) (r : ℕ) → IsSound s → Lends s h View x → x.word ≡ Counted r
     → (block_at s.tables (record_at s.tables r).block).external ≡ false → (record_at s.tables r).count ≡ 1
     → IsSound
@@ -421,6 +450,7 @@ pub word-at : (s : State) (h : ℕ) (x : Handle) (w : ℕ) → IsSound s → han
     → IsWord s.tables.align_bits s.tables.tail_bits s.tables.size_bits w
 word-at s h x w k at i = let d = described-at s h x w k at i in word-fits s x w d.block d.log d.tail k d.says
 
+-- in a sound machine a view by a descriptor and the tail behind it are less than 2^64 bytes together
 pub tail-small : (s : State) (h : ℕ) (x : Handle) (w : ℕ) → IsSound s → Lends s h View x → x.word ≡ Descriptor w → x.len + tail_in s.tables w < 2 ^ 64
 tail-small s h x w k t i =
     let d = described-at s h x w k t.at i in

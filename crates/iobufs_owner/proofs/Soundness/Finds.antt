@@ -1,4 +1,4 @@
--- The places of the blocks, by their bases.
+-- What the greatest base in a range says of the blocks: that a new one touches none, and which one a descriptor describes.
 use Rattle.std.proofs.Common.{◌≡◌, ◌≢◌, ◌⊎◌, inl, inr, ℕ, ◌+◌, ◌^◌, ◌<◌, ◌≤◌, ◌==◌, Bool, true, false, cond, nat_lt, List, [], ◌∷◌, ◌++◌, length, map, Option, get_or, Some, None, IsSome, ap, sym, ◌∙◌, subst, refl, arith, All}
 use Rattle.std.proofs.lemmas.Bool.Decides.{nat_tests, eqb_tells}
 use Rattle.std.proofs.lemmas.List.Elements.{All-get_or, All-from_get_or}
@@ -62,18 +62,22 @@ free-last g base size b a (k, lo, hi, all) le =
     All-from_get_or (λ x. ApartFrom x base size) g.blocks no_block
     (λ i l. last-at g base size b i a m l le (base-of (λ q. (q ≤ (block_at g b).base) ⊎ (base + size ≤ q)) g.blocks i (rw (base-at g.blocks b m) at all) l))
 
+-- the block with the last base in a range is one of the table
 pub known-last : (g : Tables) (low end b : ℕ) → IsLast (map (λ (b : Block). b.base) g.blocks) low end (Some b) → b < length g.blocks
 known-last g low end b (k, lo, hi, all) = rw length-map at k
 
+-- each block ends where addresses end
 pub ends-small : (g : Tables) (b : ℕ) → ArePlaced g → b < length g.blocks → (block_at g b).base + (block_at g b).size < 2 ^ 64
 ends-small g b k m = (All-get_or (λ x. IsPlace x.base x.size x.align) g.blocks b no_block m k.places).ends
 
 -- ---- one block more
 
+-- the bases of the blocks with one more are those bases with the new block's behind them
 pub bases-more : (places : List ℕ) (blocks : List Block) (b : Block) → places ≡ map (λ (b : Block). b.base) blocks
     → places ++ b.base ∷ [] ≡ map (λ (b : Block). b.base) (blocks ++ b ∷ [])
 bases-more places blocks b e = rw e (sym (map-append (λ (b : Block). b.base) blocks (b ∷ [])))
 
+-- where no block has this base, it is none of their bases
 pub other-bases : (places : List ℕ) (blocks : List Block) (b : Block) → places ≡ map (λ (b : Block). b.base) blocks
     → All (λ x. x.base ≢ b.base) blocks → All (λ q. q ≢ b.base) places
 other-bases places blocks b e all = rw e

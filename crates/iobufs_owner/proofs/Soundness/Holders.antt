@@ -9,7 +9,7 @@ use Rattle.iobufs_owner.specs.declared.owner.types.Handle.{Handle}
 use Rattle.iobufs_owner.specs.declared.owner.types.Pending.{Pending}
 use Rattle.iobufs_owner.specs.declared.owner.types.Pending.TheVariants.{Loaded, Ready, Add, Subtract, Release}
 use Rattle.iobufs_owner.proofs.Soundness.Counts.{count-some, count-map, count-most}
-use Rattle.iobufs_owner.proofs.Soundness.Kept.{at-some}
+use Rattle.iobufs_owner.proofs.Soundness.StaysSound.{at-some}
 use Rattle.iobufs_owner.proofs.Soundness.Frames.{is-eqb}
 
 abbrev pub held_by : State → ℕ → Option Handle → Bool
@@ -21,10 +21,12 @@ still_by s b c = still_holds b (read_call s.tables c)
 abbrev pub drops_by : State → ℕ → Option Pending → Bool
 drops_by s b c = drops b (read_call s.tables c)
 
+-- a block's holders are the handles and the calls of the tables that are read as holding it
 pub holders-as : (s : State) (b : ℕ) → holders (reading s) b ≡ tally (held_by s b) s.handles + tally (still_by s b) s.calls
 unfolding holders
 holders-as s b = omega (arith, count-map (holds b) (read_handle s.tables) s.handles, count-map (still_holds b) (read_call s.tables) s.calls)
 
+-- a block's users are the handles of the tables that are read as holding it and the calls that are read as drops of it
 pub users-as : (s : State) (b : ℕ) → users (reading s) b ≡ tally (held_by s b) s.handles + tally (drops_by s b) s.calls
 unfolding users
 users-as s b = omega (arith, count-map (holds b) (read_handle s.tables) s.handles, count-map (drops b) (read_call s.tables) s.calls)
@@ -33,6 +35,7 @@ pub and-left : (a b : Bool) → (a && b) ≡ true → a ≡ true
 and-left true b e = refl
 and-left false b e = e
 
+-- a handle that has to be alone on a block holds it
 pub alone-holds : (g : Tables) (b : ℕ) (o : Option Handle) → alone g b o ≡ true → holds b (read_handle g o) ≡ true
 alone-holds g b None e = e
 alone-holds g b (Some x) e = and-left (holds b (read_handle g (Some x))) (is_descriptor x.word || is_mut x.kind) e
@@ -45,6 +48,7 @@ describes-holds g b (Some x) e = and-left (holds b (read_handle g (Some x))) (is
 pub alone-few : (s : State) (b : ℕ) → tally (alone s.tables b) s.handles ≤ holders (reading s) b
 alone-few s b = omega (arith, holders-as s b, count-most (held_by s b) (alone s.tables b) s.handles (alone-holds s.tables b))
 
+-- no more handles describe a block than hold it
 pub describes-few : (s : State) (b : ℕ) → tally (describes s.tables b) s.handles ≤ holders (reading s) b
 describes-few s b = omega (arith, holders-as s b, count-most (held_by s b) (describes s.tables b) s.handles (describes-holds s.tables b))
 
@@ -71,6 +75,7 @@ dropping-split : (b c : ℕ) (v : Bool) → cond (b == c) 1 0 ≡ cond (still_ho
 dropping-split b c true = elim (b == c) as (λ v. cond v 1 0 ≡ 0 + cond (v && true) 1 0) [ true ↦ refl | false ↦ refl ]
 dropping-split b c false = elim (b == c) as (λ v. cond v 1 0 ≡ cond v 1 0 + cond (v && false) 1 0) [ true ↦ refl | false ↦ refl ]
 
+-- a call is a drop of a block exactly where it holds it still or has let go of it, and it is never both
 pub drops-split : (g : Tables) (b : ℕ) (c : Option Pending)
     → cond (drops b (read_call g c)) 1 0 ≡ cond (still_holds b (read_call g c)) 1 0 + cond (lets_go g b c) 1 0
 drops-split g b None = refl
@@ -84,6 +89,7 @@ first-and : (a b : Bool) → (a && b) ≡ true → a ≡ true
 first-and true b e = refl
 first-and false b e = e
 
+-- a drop that has let go of a block has its last step to take
 pub go-releases : (g : Tables) (b : ℕ) (c : Option Pending) → lets_go g b c ≡ true → releases g b c ≡ true
 go-releases g b None e = e
 go-releases g b (Some (Loaded h w)) e = e

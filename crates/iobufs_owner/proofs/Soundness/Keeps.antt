@@ -1,4 +1,4 @@
--- What tables keep for those who speak of them.
+-- Tables that keep what live handles and calls speak of (`Keeps`): handles and calls that fit go on to fit.
 use Rattle.std.proofs.Common.{◌≡◌, ℕ, zero, suc, ◌<◌, ◌≤◌, ◌==◌, ◌||◌, Bool, true, false, List, [], ◌∷◌, length, get_or, map, sym, ◌∙◌, ap, refl, arith, All, Option, Some, None}
 use Rattle.std.proofs.lemmas.List.Elements.{All-head, All-tail, All-weaker}
 use Rattle.std.proofs.lemmas.Bool.Decides.{nat_tests}
@@ -6,7 +6,7 @@ use Rattle.iobufs_owner.specs.State.{State, Tables, owner_of, owner_by, base_by,
 use Rattle.iobufs_owner.specs.World.{holders, tally}
 use Rattle.iobufs_owner.specs.Reading.{reading, read_call, has_let_go}
 use Rattle.iobufs_owner.specs.Lending.{borrows_it, is_lent}
-use Rattle.iobufs_owner.specs.Sound.{FitsWord, Fits, FitsCall, Shares, Promised, IsDescribed, hidden, releases}
+use Rattle.iobufs_owner.specs.Sound.{FitsWord, Fits, FitsCall, Shares, SpeaksOf, IsDescribed, hidden, releases}
 use Rattle.iobufs_owner.specs.declared.owner.types.Handle.{Handle}
 use Rattle.iobufs_owner.specs.declared.owner.types.Share.{Share}
 use Rattle.iobufs_owner.specs.declared.owner.types.Pending.{Pending}
@@ -24,6 +24,7 @@ pub record Keeps (g k : Tables) : Type 0 where
   pub with' : (base b : ℕ) → block_with base g.blocks ≡ Some b → block_with base k.blocks ≡ Some b
   pub records : (r : ℕ) → (record_at g r).live ≡ true → (record_at k r).block ≡ (record_at g r).block
 
+-- unchanged tables keep what live handles and calls speak of
 pub keeps-self : (g : Tables) → Keeps g g
 keeps-self g = record {
   align_bits = refl;
@@ -35,6 +36,7 @@ keeps-self g = record {
   records = λ r h. refl;
 }
 
+-- a handle that fits holds the same block by tables that keep what it speaks of
 pub owner-kept : (g k : Tables) (calls : List (Option Pending)) (x : Handle) → Keeps g k → FitsWord g calls x x.word → owner_of k x ≡ owner_of g x
 unfolding owner_of
 owner-kept g k calls x e f =
@@ -48,6 +50,7 @@ owner-kept g k calls x e f =
     ] in
     by x.word refl f
 
+-- a descriptor describes its block alike by tables that keep what it speaks of, where its handle holds the same by them
 pub described-kept : (g k : Tables) (x : Handle) (w b log tail : ℕ) → owner_of k x ≡ owner_of g x → Keeps g k → IsDescribed g x w b log tail
     → IsDescribed k x w b log tail
 described-kept g k x w b log tail o e d =
@@ -65,6 +68,7 @@ described-kept g k x w b log tail o e d =
       behind = rw same d.behind;
     }
 
+-- the record by which a fitting handle goes is live
 pub live-of : (g : Tables) (calls : List (Option Pending)) (x : Handle) (w : Word) (r : ℕ) → w ≡ Counted r → FitsWord g calls x w → (record_at g r).live ≡ true
 live-of g calls x Empty r i f = absurd (cc)
 live-of g calls x (Descriptor w) r i f = absurd (cc)
@@ -83,6 +87,7 @@ fits-kept g k calls x (Counted r) o e l f =
     let known = f.known in
     record { live = l r refl; known = rw b (omega arith); shown = f.shown; lies = rw (b, same) f.lies; native = λ m. rw (b, same) (f.native m) }
 
+-- handles that fit go on to fit tables that keep what they speak of, where each live record stays live
 pub all-fit-kept : (g k : Tables) (calls : List (Option Pending)) (hs : List (Option Handle)) → Keeps g k
     → ((r : ℕ) → (record_at g r).live ≡ true → (record_at k r).live ≡ true) → All (Fits g calls) hs → All (Fits k calls) hs
 all-fit-kept g k calls hs e l f =
@@ -126,17 +131,20 @@ or-true false = refl
 pub same-eqb : (n : ℕ) → (n == n) ≡ true
 same-eqb n = grind (arith, nat_tests)
 
+-- a clone or slice that shares a view shares it in another state, where the view stands there too
 pub shares-kept : (s t : State) (part : Share) (x : Handle) → (handle_at s part.handle ≡ Some x → handle_at t part.handle ≡ Some x) → Shares s part x
     → Shares t part x
 shares-kept s t part x at h = record { at = at h.at; view = h.view; order = h.order; within = h.within }
 
-pub promised-kept : (g k : Tables) (x : Handle) (w b : ℕ) → Keeps g k → owner_of k x ≡ owner_of g x → Promised g x w b → Promised k x w b
+-- what a loaded descriptor promised holds by tables that keep what it speaks of, where the view holds the same by them
+pub promised-kept : (g k : Tables) (x : Handle) (w b : ℕ) → Keeps g k → owner_of k x ≡ owner_of g x → SpeaksOf g x w b → SpeaksOf k x w b
 promised-kept g k x w b e o p =
     let y : Handle = record x { word = Descriptor w } in
     let calls : List (Option Pending) = [] in
     let oy : owner_of k y ≡ owner_of g y = owner-kept g k calls y e (record { block = b; log = p.log; tail = p.tail; says = p.says }) in
     record { log = p.log; tail = p.tail; says = described-kept g k y w b p.log p.tail oy e p.says; owner = o ∙ p.owner; now' = p.now' }
 
+-- a call that fits goes on to fit a state that leaves what it relies on
 pub call-kept : (s t : State) (c : Option Pending) → Leaves s t c → FitsCall s c → FitsCall t c
 call-kept s t None l f = f
 call-kept s t (Some (Loaded part w)) l f = record {
@@ -209,6 +217,7 @@ call-read-kept s k (Some (Add part r)) e a f = refl
 call-read-kept s k (Some (Subtract r)) e a f = rw (e.records r f.0) refl
 call-read-kept s k (Some (Release r)) e a f = rw (e.records r f.live, a r refl f.live) refl
 
+-- calls that fit are read alike by tables that keep what they speak of, where each that frees a live record has let go as before
 pub calls-read-kept : (s : State) (k : Tables) (cs : List (Option Pending)) → Keeps s.tables k → All (KeepsLetGo s.tables k) cs → All (FitsCall s) cs
     → map (read_call k) cs ≡ map (read_call s.tables) cs
 calls-read-kept s k [] e a f = refl
@@ -225,6 +234,7 @@ release-kept s k b (Some (Add part r)) e f = refl
 release-kept s k b (Some (Subtract r)) e f = refl
 release-kept s k b (Some (Release r)) e f = rw (e.records r f.live) refl
 
+-- of calls that fit as many release a block, by tables that keep what they speak of
 pub releases-kept : (s : State) (k : Tables) (b : ℕ) (cs : List (Option Pending)) → Keeps s.tables k → All (FitsCall s) cs
     → tally (releases k b) cs ≡ tally (releases s.tables b) cs
 releases-kept s k b [] e f = refl

@@ -1,4 +1,4 @@
--- The logs of freed blocks and freed records.
+-- The logs of freed blocks and freed records stay exact (`LogsBlocks`, `LogsRecords`) where one comes or is freed.
 use Rattle.std.proofs.Common.{◌≡◌, ◌≢◌, ◌⊎◌, inl, inr, ℕ, zero, suc, ◌+◌, ◌<◌, ◌≤◌, ◌==◌, ◌||◌, Bool, true, false, not, cond, List, [], ◌∷◌, ◌++◌, length, get_or, set, map, sym, ◌∙◌, ap, refl, arith, All, nat_eq, length-append}
 use Rattle.std.proofs.Math.ListN.{length-set}
 use Rattle.std.proofs.lemmas.List.Elements.{All-push, All-weaker, All-head, All-tail}
@@ -57,6 +57,7 @@ once-push xs y old new i j d h l =
       | inr z ↦ (let lj : j < length xs = (let n = z.1 in omega arith) in rw (get_or_append_left xs (y ∷ []) d j lj) (old i j d h lj))
     ])
 
+-- a number below n + 1 is below n, or is n
 pub below-or : (c n : ℕ) → c < n + 1 → (c < n) ⊎ (c ≡ n)
 below-or c n h = elim (eqb_tells c n) [ inl e ↦ inr e.1 | inr e ↦ inl (let ne = e.1 in omega arith) ]
 
@@ -67,6 +68,7 @@ is_logged-append q [] r = elim (q == r) as (λ v. (v || false) ≡ (false || v))
 is_logged-append q (x ∷ log) r = rw (is_logged-append q log r)
     (elim (q == x) as (λ v. (v || (is_logged q log || (q == r))) ≡ ((v || is_logged q log) || (q == r))) [ true ↦ refl | false ↦ refl ])
 
+-- each entry of a log of records is logged there
 pub logged-at : (log : List ℕ) (i d : ℕ) → i < length log → is_logged (get_or log i d) log ≡ true
 logged-at [] i d l = absurd (omega arith)
 logged-at (r ∷ log) zero d l = rw (is-eqb r r refl) refl

@@ -17,7 +17,7 @@ use Rattle.iobufs_owner.specs.declared.owner.types.Word.{Word}
 use Rattle.iobufs_owner.specs.declared.owner.types.Word.TheVariants.{Record as Counted}
 use Rattle.iobufs_owner.proofs.Soundness.Counts.{count-set, count-some, count-two}
 use Rattle.iobufs_owner.proofs.Soundness.Keeps.{names, call-kept, calls-read-kept, releases-kept, owner-kept, fits-kept, fits-calls, live-of, shares-kept}
-use Rattle.iobufs_owner.proofs.Soundness.Kept.{at-some, block-log-kept}
+use Rattle.iobufs_owner.proofs.Soundness.StaysSound.{at-some, block-log-kept}
 use Rattle.iobufs_owner.proofs.Soundness.Frames.{holders-alike, users-alike, handles-kept, alone-kept, describes-kept, holders-tables, users-tables, not-eqb, is-eqb}
 use Rattle.iobufs_owner.proofs.Soundness.Edits.{fits-at, live-inside}
 use Rattle.iobufs_owner.proofs.Soundness.Logs.{record-log-dead}
@@ -59,6 +59,7 @@ fit-lost s r cs hid less (Some x) f =
     (fits-kept s.tables (tables_without s.tables r) s.calls x x.word (owner-kept s.tables (tables_without s.tables r) s.calls x e f) e
     (λ q w. dead-other s.tables r q (never q w) ∙ live-of s.tables s.calls x x.word q w f) f)
 
+-- a clone or slice whose view goes by another record by now frees the one that it made, and is to be counted by the other: the machine stays sound
 pub sound-lost : (s : State) (p r w winner : ℕ) (k : Share) (x : Handle) → IsSound s → call_at s p ≡ Some (Ready k w r)
     → handle_at s k.handle ≡ Some x → x.word ≡ Counted winner → IsSound (called (record_freed s r) p (Some (Add k winner)))
 sound-lost s p r w winner part' x k at atx xw =

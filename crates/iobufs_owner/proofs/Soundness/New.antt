@@ -16,7 +16,7 @@ use Rattle.iobufs_owner.specs.declared.owner.types.Handle.{Handle}
 use Rattle.iobufs_owner.specs.declared.owner.types.Word.TheVariants.{Descriptor}
 use Rattle.iobufs_owner.proofs.Words.{unpack-size}
 use Rattle.iobufs_owner.proofs.Soundness.Keeps.{all-fit-kept, calls-kept}
-use Rattle.iobufs_owner.proofs.Soundness.Kept.{at-some, append-at}
+use Rattle.iobufs_owner.proofs.Soundness.StaysSound.{at-some, append-at}
 use Rattle.iobufs_owner.proofs.Soundness.Counts.{count-append, holders-more, users-more, holders-le-users}
 use Rattle.iobufs_owner.proofs.Soundness.Frames.{grown, grown-keeps, with-fresh, handles-kept, alone-kept, describes-kept, holders-tables, users-tables, not-eqb, is-eqb}
 use Rattle.iobufs_owner.proofs.Soundness.Edits.{no_block}
@@ -38,6 +38,7 @@ first-base g b log w room is =
     let u = unpack-size g.align_bits g.tail_bits b.size log 0 room.log_fits room.tail_fits in
     rw (is, u) (omega arith)
 
+-- the first handle of a block at a good place, by the descriptor of its size and alignment, holds the new block
 pub first-owner : (g : Tables) (b : Block) (log w : ℕ) → All (λ (x : Block). IsPlace x.base x.size x.align) g.blocks
     → IsGoodPlace g.blocks b.base b.size b.align → HasRoom g.align_bits g.tail_bits g.size_bits b.size log 0
     → w ≡ word_of g.align_bits g.tail_bits b.size log 0 → owner_of (grown g b) (first_handle b (Descriptor w)) ≡ Some (length g.blocks)
@@ -59,12 +60,14 @@ made-apart g b old new c d h l =
       | inr i ↦ rw (i, at, keep c (omega (arith, i))) (new c no_block (omega (arith, i)))
     ]
 
+-- placed blocks with one more at a good place are placed
 pub placed-more : (g : Tables) (b : Block) → ArePlaced g → IsGoodPlace g.blocks b.base b.size b.align → ArePlaced (grown g b)
 placed-more g b k good = record {
   places = All-push (λ (b : Block). IsPlace b.base b.size b.align) g.blocks b k.places good.place;
   apart = λ c d h l. made-apart g b k.apart good.apart c d h (rw length-append at l);
 }
 
+-- a new native block at a good place, with its first handle by a descriptor, keeps the machine sound, where there were fewer than 2^32 blocks and handles
 pub sound-made : (s : State) (b : Block) (log w : ℕ) → IsSound s → IsGoodPlace s.tables.blocks b.base b.size b.align → b.external ≡ false
     → b.align ≡ 2 ^ log → HasRoom s.tables.align_bits s.tables.tail_bits s.tables.size_bits b.size log 0
     → w ≡ word_of s.tables.align_bits s.tables.tail_bits b.size log 0 → length s.tables.blocks < 2 ^ 32 → length s.handles < 2 ^ 32

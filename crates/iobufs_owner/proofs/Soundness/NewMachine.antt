@@ -23,6 +23,7 @@ no-users : (a t z c n b : ℕ) → users (reading (fresh a t z c n)) b ≡ 0
 unfolding users
 no-users a t z c n b = rw (calls-none (fresh a t z c n).tables n) (omega (arith, tally-none (drops b) n refl))
 
+-- a new machine is sound, where the fields of a descriptor and one bit fit 64, the ceiling is above 0 and there are at most 2^32 parties
 pub sound-fresh : (a t z ceiling parties : ℕ) → 1 + a + t + z ≤ 64 → 0 < ceiling → parties ≤ 2 ^ 32 → IsSound (fresh a t z ceiling parties)
 sound-fresh a t z c n wide some few =
     let s : State = fresh a t z c n in

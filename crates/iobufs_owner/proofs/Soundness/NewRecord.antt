@@ -23,7 +23,7 @@ use Rattle.iobufs_owner.specs.declared.owner.types.Pending.TheVariants.{Loaded, 
 use Rattle.iobufs_owner.specs.declared.owner.types.Word.{Word}
 use Rattle.iobufs_owner.specs.declared.owner.types.Word.TheVariants.{Descriptor, Record as Counted}
 use Rattle.iobufs_owner.proofs.Soundness.Keeps.{Keeps, all-fit-kept, calls-kept, calls-read-kept, releases-kept, owner-kept}
-use Rattle.iobufs_owner.proofs.Soundness.Kept.{at-some, append-at, set-at, owner-counted, block-log-kept}
+use Rattle.iobufs_owner.proofs.Soundness.StaysSound.{at-some, append-at, set-at, owner-counted, block-log-kept}
 use Rattle.iobufs_owner.proofs.Soundness.Counts.{count-append, count-set, count-find, holders-more, users-more, holders-changed, users-changed, holders-le-users}
 use Rattle.iobufs_owner.proofs.Soundness.Frames.{grown, grown-keeps, handles-kept, alone-kept, describes-kept, holders-tables, users-tables, not-eqb, is-eqb}
 use Rattle.iobufs_owner.proofs.Soundness.Edits.{lies-as, fits-at, live-inside, described-at, alone-at, alone-described, describes-described, describes-counted, alone-shared}
@@ -39,9 +39,11 @@ recorded g n b = record g { records = g.records ++ record { count = n; block = b
 pub recorded-old : (g : Tables) (n b r : ℕ) → r < length g.records → record_at (recorded g n b) r ≡ record_at g r
 recorded-old g n b r l = get_or_append_left g.records (record { count = n; block = b; live = true } ∷ []) no_record r l
 
+-- the record that is added is live, with its count and its block
 pub recorded-new : (g : Tables) (n b : ℕ) → record_at (recorded g n b) (length g.records) ≡ record { count = n; block = b; live = true }
 recorded-new g n b = get_or-append_seam g.records (record { count = n; block = b; live = true }) [] no_record
 
+-- tables with a record more keep what live handles and calls speak of
 pub recorded-keeps : (g : Tables) (n b : ℕ) → Keeps g (recorded g n b)
 recorded-keeps g n b = record {
   align_bits = refl;
@@ -53,9 +55,11 @@ recorded-keeps g n b = record {
   records = λ r e. ap (λ (v : Record). v.block) (recorded-old g n b r (live-inside g.records r e));
 }
 
+-- with a record more the drop of a live one has let go as before
 pub recorded-let_go : (g : Tables) (n b r : ℕ) → (record_at g r).live ≡ true → has_let_go (recorded g n b) r ≡ has_let_go g r
 recorded-let_go g n b r e = ap (λ (v : Record). nat_eq v.count 0) (recorded-old g n b r (live-inside g.records r e))
 
+-- with a record more each live one is live
 pub recorded-live : (g : Tables) (n b r : ℕ) → (record_at g r).live ≡ true → (record_at (recorded g n b) r).live ≡ true
 recorded-live g n b r e = ap (λ (v : Record). v.live) (recorded-old g n b r (live-inside g.records r e)) ∙ e
 
@@ -93,6 +97,7 @@ unhidden-next s k =
 abbrev pub both : Tables → Block → Tables
 both g b = recorded (grown g b) 1 (length g.blocks)
 
+-- tables with a block and a record of it more keep what live handles and calls speak of
 pub both-keeps : (g : Tables) (b : Block) → Keeps g (both g b)
 both-keeps g b =
     let one = grown-keeps g b in
@@ -102,6 +107,8 @@ both-keeps g b =
 no-alone : (g : Tables) (c n : ℕ) (x : Handle) → owner_of g x ≡ Some n → c ≢ n → alone g c (Some x) ≡ false
 no-alone g c n x o ne = rw (o, not-eqb c n ne) refl
 
+-- a new block at a good place, a record of it that counts one, and a handle by it inside the block, writable only where that
+-- is native, keep the machine sound, where there were fewer than 2^32 of each
 pub sound-recorded : (s : State) (b : Block) (x : Handle) → IsSound s → IsGoodPlace s.tables.blocks b.base b.size b.align
     → x.word ≡ Counted (length s.tables.records) → LiesIn b x x.kind → (x.kind ≡ Mut → b.external ≡ false) → length s.tables.blocks < 2 ^ 32
     → length s.tables.records < 2 ^ 32 → length s.handles < 2 ^ 32 → IsSound (with_handle (with_record (with_block s b) 1 (length s.tables.blocks)) x)
@@ -312,6 +319,8 @@ sound-promoted s h x y w b k at free xw ox kb yw yv lies few =
       record_log = record-log-more g.records s.freed_records (record { count = 1; block = b; live = true }) refl k.record_log;
     }
 
+-- a writable handle by a descriptor that no call borrows becomes a view by a new record that counts one, where there were
+-- fewer than 2^32 records: the machine stays sound
 pub sound-promoted-frozen : (s : State) (h : ℕ) (x : Handle) (w b : ℕ) → IsSound s → Lends s h Mut x → x.word ≡ Descriptor w
     → owner_of s.tables x ≡ Some b → length s.tables.records < 2 ^ 32 → IsSound (edited (with_record s 1 b) h (frozen x (Counted (length s.tables.records))))
 sound-promoted-frozen s h x w b k t i o few =

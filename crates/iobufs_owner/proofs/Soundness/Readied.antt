@@ -7,7 +7,7 @@ use Rattle.std.proofs.lemmas.Bool.Decides.{eqb_tells}
 use Rattle.iobufs_owner.specs.State.{State, Tables, record_at, call_at}
 use Rattle.iobufs_owner.specs.World.{holders, users, tally}
 use Rattle.iobufs_owner.specs.Reading.{reading}
-use Rattle.iobufs_owner.specs.Sound.{IsSound, Fits, FitsWord, FitsCall, FitsRecord, IsLoading, Promised, hidden, readies, releases}
+use Rattle.iobufs_owner.specs.Sound.{IsSound, Fits, FitsWord, FitsCall, FitsRecord, IsLoading, SpeaksOf, hidden, readies, releases}
 use Rattle.iobufs_owner.specs.Changes.{called, with_record, part}
 use Rattle.iobufs_owner.specs.LongCalls.{loaded_found, loaded_block}
 use Rattle.iobufs_owner.specs.declared.owner.types.Record.{Record}
@@ -19,7 +19,7 @@ use Rattle.iobufs_owner.specs.declared.owner.types.Word.{Word}
 use Rattle.iobufs_owner.specs.declared.owner.types.Word.TheVariants.{Empty, Descriptor, Record as Counted}
 use Rattle.iobufs_owner.proofs.Soundness.Counts.{count-set}
 use Rattle.iobufs_owner.proofs.Soundness.Keeps.{call-kept, calls-read-kept, releases-kept, owner-kept, fits-kept, live-of, shares-kept, promised-kept}
-use Rattle.iobufs_owner.proofs.Soundness.Kept.{at-some, block-log-kept}
+use Rattle.iobufs_owner.proofs.Soundness.StaysSound.{at-some, block-log-kept}
 use Rattle.iobufs_owner.proofs.Soundness.Frames.{handles-kept, alone-kept, describes-kept, holders-tables, users-tables, not-eqb, is-eqb}
 use Rattle.iobufs_owner.proofs.Soundness.Edits.{fits-at, live-inside}
 use Rattle.iobufs_owner.proofs.Soundness.Holders.{owner-used}
@@ -27,6 +27,7 @@ use Rattle.iobufs_owner.proofs.Soundness.Logs.{record-log-more}
 use Rattle.iobufs_owner.proofs.Soundness.NewRecord.{recorded, recorded-new, recorded-keeps, recorded-let_go, recorded-live, recorded-either, unhidden-next}
 use Rattle.iobufs_owner.proofs.Soundness.Called.{IsQuiet, quiet-loaded, count-calls, called-still}
 
+-- in a sound machine a clone or slice that has loaded a descriptor knows its view and the block that the descriptor says
 pub loading : (s : State) (p : ℕ) (k : Share) (w : ℕ) → IsSound s → call_at s p ≡ Some (Loaded k w) → IsLoading s k w
 loading s p k w i at = subst (λ (c : Option Pending). FitsCall s c) at (i.calls_fit p None (at-some s.calls p (Loaded k w) at))
 
@@ -56,11 +57,12 @@ fit-readied s n b cs same (Some x) f =
     ] in
     by x.word refl y
 
+-- a clone or slice that has loaded a descriptor of a block makes a record of it that counts two, where there were fewer than 2^32: the machine stays sound
 pub sound-readied : (s : State) (p : ℕ) (k : Share) (w b : ℕ) → IsSound s → call_at s p ≡ Some (Loaded k w) → (l : IsLoading s k w) → l.block ≡ b
     → length s.tables.records < 2 ^ 32 → IsSound (called (with_record s 2 b) p (Some (Ready k w (length s.tables.records))))
 sound-readied s p part w b k at ld same few =
     let g : Tables = s.tables in
-    let promised : Promised s.tables ld.view w b = subst (λ (n : ℕ). Promised s.tables ld.view w n) same ld.promised in
+    let promised : SpeaksOf s.tables ld.view w b = subst (λ (n : ℕ). SpeaksOf s.tables ld.view w n) same ld.promised in
     let r : ℕ = length s.tables.records in
     let g' : Tables = recorded s.tables 2 b in
     let c : Option Pending = Some (Ready part w (length s.tables.records)) in

@@ -1,4 +1,4 @@
--- Records that are freed.
+-- What a record that is freed leaves as it was.
 use Rattle.std.proofs.Common.{◌≡◌, ◌≢◌, inl, inr, ℕ, ◌<◌, true, false, length, sym, ◌∙◌, ap, refl, arith, nat_eq}
 use Rattle.std.proofs.lemmas.List.{get_or-set_same, get_or-set_other}
 use Rattle.std.proofs.lemmas.Bool.Decides.{eqb_tells}
@@ -9,12 +9,15 @@ use Rattle.iobufs_owner.specs.declared.owner.types.Record.{Record}
 use Rattle.iobufs_owner.proofs.Soundness.Keeps.{Keeps}
 use Rattle.iobufs_owner.proofs.Soundness.AddHolder.{field-set}
 
+-- a record that is freed leaves the block of each
 pub dead-block : (g : Tables) (r q : ℕ) → (record_at (tables_without g r) q).block ≡ (record_at g q).block
 dead-block g r q = field-set (λ (v : Record). v.block) g.records r q _ _ refl
 
+-- a record that is freed leaves the count of each
 pub dead-count : (g : Tables) (r q : ℕ) → (record_at (tables_without g r) q).count ≡ (record_at g q).count
 dead-count g r q = field-set (λ (v : Record). v.count) g.records r q _ _ refl
 
+-- a record that is freed leaves the others live or dead as they were
 pub dead-other : (g : Tables) (r q : ℕ) → q ≢ r → (record_at (tables_without g r) q).live ≡ (record_at g q).live
 dead-other g r q ne = ap (λ (v : Record). v.live)
     (get_or-set_other g.records r q (record { count = (record_at g r).count; block = (record_at g r).block; live = false })
@@ -25,6 +28,7 @@ dead-same g r l = ap (λ (v : Record). v.live)
     (get_or-set_same g.records r (record { count = (record_at g r).count; block = (record_at g r).block; live = false })
     (record { count = 0; block = 0; live = false }) l)
 
+-- tables in which a record is freed keep what live handles and calls speak of
 pub dead-keeps : (g : Tables) (r : ℕ) → Keeps g (tables_without g r)
 dead-keeps g r = record {
   align_bits = refl;
@@ -36,6 +40,7 @@ dead-keeps g r = record {
   records = λ q e. dead-block g r q;
 }
 
+-- where a record is freed, each drop has let go as before
 pub dead-let_go : (g : Tables) (r q : ℕ) → has_let_go (tables_without g r) q ≡ has_let_go g q
 dead-let_go g r q = ap (λ (n : ℕ). nat_eq n 0) (dead-count g r q)
 

@@ -61,6 +61,8 @@ pub record SaysEnds (g : Tables) (x : Handle) (w : ℕ) : Type 0 where
   pub room : x.kind ≡ Mut → x.ptr + x.cap < 2 ^ 64
   pub below : size_in g w ≤ end_of x (tail_in g w)
 
+-- in a sound machine a descriptor that describes a block is a word of the format, and the block's end, told from the handle,
+-- is an address and no less than its size
 pub says-ends : (s : State) (x : Handle) (w b log tail : ℕ) → IsSound s → IsDescribed s.tables x w b log tail → SaysEnds s.tables x w
 says-ends s x w b log tail k d =
     let g : Tables = s.tables in
@@ -81,6 +83,8 @@ pub record DescribedEnds (s : State) (x : Handle) (w : ℕ) : Type 0 where
   pub below : size_in s.tables w ≤ end_of x (tail_in s.tables w)
   pub log : length s.freed_blocks < length s.tables.blocks
 
+-- in a sound machine a handle's descriptor is a word of the format, the block's end, told from the handle, is an address and
+-- no less than its size, and the log of freed blocks is shorter than the table
 pub described-ends : (s : State) (h : ℕ) (x : Handle) (w : ℕ) → IsSound s → handle_at s h ≡ Some x → x.word ≡ Descriptor w → DescribedEnds s x w
 described-ends s h x w k at i =
     let d = described-at s h x w k at i in

@@ -15,7 +15,7 @@ use Rattle.iobufs_owner.specs.declared.owner.types.Pending.TheVariants.{Loaded, 
 use Rattle.iobufs_owner.proofs.Soundness.Counts.{count-set, count-some, count-less, count-most, count-two, count-find, count-sum, holders-le-users}
 use Rattle.iobufs_owner.proofs.Soundness.Keeps.{names, call-kept, calls-read-kept, releases-kept, owner-kept, fits-kept, fits-calls, live-of}
 use Rattle.iobufs_owner.proofs.WorldSteps.Shown.{get_or-read}
-use Rattle.iobufs_owner.proofs.Soundness.Kept.{at-some, owner-counted}
+use Rattle.iobufs_owner.proofs.Soundness.StaysSound.{at-some, owner-counted}
 use Rattle.iobufs_owner.proofs.Soundness.Frames.{handles-kept, alone-kept, describes-kept, not-eqb, is-eqb}
 use Rattle.iobufs_owner.proofs.Soundness.Edits.{fits-at, live-inside, and-no}
 use Rattle.iobufs_owner.proofs.Soundness.Holders.{held_by, still_by, drops_by, holders-as, users-as, alone-holds, lets_go, drops-split, go-releases}
@@ -132,6 +132,7 @@ other-block s r q k lr hr none lq ne e =
           none-holds s (record_at s.tables r).block y.handle y.view none y.at (y.owner ∙ ap Some e))
     ]
 
+-- the last step of a drop frees record and block and ends the call, and the machine stays sound
 pub sound-released : (s : State) (p r : ℕ) → IsSound s → call_at s p ≡ Some (Release r) → IsSound (released s p r)
 sound-released s p r k at =
     let g : Tables = s.tables in

@@ -10,7 +10,7 @@ use Rattle.iobufs_owner.specs.declared.owner.types.Pending.{Pending}
 use Rattle.iobufs_owner.specs.declared.owner.types.Pending.TheVariants.{Loaded, Ready, Add}
 use Rattle.iobufs_owner.specs.declared.owner.types.Word.{Word}
 use Rattle.iobufs_owner.specs.declared.owner.types.Word.TheVariants.{Descriptor, Record as Counted}
-use Rattle.iobufs_owner.proofs.Soundness.Kept.{at-some}
+use Rattle.iobufs_owner.proofs.Soundness.StaysSound.{at-some}
 use Rattle.iobufs_owner.proofs.Soundness.Edits.{described-at, counted-at, lies-as}
 use Rattle.iobufs_owner.proofs.Soundness.AddHolder.{sound-added}
 use Rattle.iobufs_owner.proofs.Soundness.Called.{IsQuiet, quiet-none, quiet-add, sound-called}
@@ -34,9 +34,11 @@ loaded-fits s k x w i sh xw =
       };
     }
 
+-- in a sound machine a clone or slice that has made a record knows its view and its block, and that the record is live and of this block
 pub racing : (s : State) (p : ℕ) (k : Share) (w r : ℕ) → IsSound s → call_at s p ≡ Some (Ready k w r) → IsRacing s k w r
 racing s p k w r i at = subst (λ (c : Option Pending). FitsCall s c) at (i.calls_fit p None (at-some s.calls p (Ready k w r) at))
 
+-- in a sound machine a clone or slice that is to be counted shares a view that goes by this record
 pub adding : (s : State) (p : ℕ) (k : Share) (r : ℕ) → IsSound s → call_at s p ≡ Some (Add k r) → IsAdding s k r
 adding s p k r i at = subst (λ (c : Option Pending). FitsCall s c) at (i.calls_fit p None (at-some s.calls p (Add k r) at))
 

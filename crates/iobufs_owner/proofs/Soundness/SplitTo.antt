@@ -7,7 +7,7 @@ use Rattle.iobufs_owner.specs.State.{State, Tables, owner_of, record_at, block_a
 use Rattle.iobufs_owner.specs.World.{holders, users, tally}
 use Rattle.iobufs_owner.specs.Reading.{reading}
 use Rattle.iobufs_owner.specs.Sound.{IsSound, Fits, LiesIn, alone, describes}
-use Rattle.iobufs_owner.specs.Changes.{counted, with_count, with_handle, with_record, edited, detached, part, next_record}
+use Rattle.iobufs_owner.specs.Changes.{counted, with_count, with_handle, with_record, edited, detached_handle, part, next_record}
 use Rattle.iobufs_owner.specs.Lending.{Lends}
 use Rattle.iobufs_owner.specs.declared.owner.types.Record.{Record}
 use Rattle.iobufs_owner.specs.declared.owner.types.Handle.{Handle}
@@ -15,7 +15,7 @@ use Rattle.iobufs_owner.specs.declared.owner.types.Kind.TheVariants.{View}
 use Rattle.iobufs_owner.specs.declared.owner.types.Word.TheVariants.{Empty, Descriptor, Record as Counted}
 use Rattle.iobufs_owner.proofs.Soundness.Counts.{count-append, count-set, holders-more, users-more, holders-changed, users-changed}
 use Rattle.iobufs_owner.proofs.Soundness.Keeps.{keeps-self, calls-kept}
-use Rattle.iobufs_owner.proofs.Soundness.Kept.{at-some, append-at, set-at, sound-edited, sound-detached, owner-empty, owner-counted, block-log-kept}
+use Rattle.iobufs_owner.proofs.Soundness.StaysSound.{at-some, append-at, set-at, sound-edited, sound-detached, owner-empty, owner-counted, block-log-kept}
 use Rattle.iobufs_owner.proofs.Soundness.Edits.{fits-at, counted-at, empty-at, described-at, lies-as, describes-counted, alone-shared}
 use Rattle.iobufs_owner.proofs.Soundness.NewRecord.{recorded, recorded-new, sound-promoted}
 use Rattle.iobufs_owner.proofs.Soundness.AddHolder.{sound-added}
@@ -61,6 +61,7 @@ sound-part_counted s h x r lo hi k t i low high =
 
 -- ---- the parts
 
+-- a view without block that no call borrows becomes two at a place within it, where there were fewer than 2^32 handles: the machine stays sound
 pub sound-split_empty : (s : State) (h at : ℕ) (x : Handle) → IsSound s → Lends s h View x → x.word ≡ Empty → at ≤ x.len → length s.handles < 2 ^ 32
     → IsSound (with_handle (edited s h (part x at x.len Empty)) (part x 0 at Empty))
 sound-split_empty s h at x k t i low few =
@@ -72,6 +73,8 @@ lends-more : (s : State) (g : Tables) (y : Handle) (h : ℕ) (x : Handle) → Le
     → Lends (record s { tables = g; handles = s.handles ++ Some y ∷ [] }) h View x
 lends-more s g y h x t = record { at = append-at s.handles (Some y) h x t.at; kind_is = t.kind_is; free = t.free }
 
+-- a view by a record that no call borrows becomes two at a place within it, and the record counts one more, where the count
+-- was at most the ceiling and there were fewer than 2^32 handles: the machine stays sound
 pub sound-split_counted : (s : State) (h r at : ℕ) (x : Handle) → IsSound s → Lends s h View x → x.word ≡ Counted r → at ≤ x.len
     → (record_at s.tables r).count ≤ s.ceiling → length s.handles < 2 ^ 32
     → IsSound (with_handle (edited (with_count s r ((record_at s.tables r).count + 1)) h (part x at x.len (Counted r))) (part x 0 at (Counted r)))
@@ -104,6 +107,8 @@ counted-new g b =
     (record { count = v.count + 1; block = v.block; live = v.live })) e
     ∙ set-last g.records (record { count = 1; block = b; live = true }) (record { count = 2; block = b; live = true }))
 
+-- a view by a descriptor that no call borrows becomes two at a place within it, by a new record that counts two, where there
+-- were fewer than 2^32 records and handles: the machine stays sound
 pub sound-split_described : (s : State) (h w b at : ℕ) (x : Handle) → IsSound s → Lends s h View x → x.word ≡ Descriptor w
     → owner_of s.tables x ≡ Some b → at ≤ x.len → length s.tables.records < 2 ^ 32 → length s.handles < 2 ^ 32
     → IsSound (with_handle (edited (with_record s 2 b) h (part x at x.len (Counted (next_record s)))) (part x 0 at (Counted (next_record s))))
@@ -154,24 +159,26 @@ sound-split_described s h w b at x k t i o low few' few =
 
 -- ---- the whole view moves to a new number
 
+-- a view that no call borrows moves to a new number, and an empty detached one stands in its place, where there were fewer
+-- than 2^32 handles: the machine stays sound
 pub sound-moved : (s : State) (h : ℕ) (x : Handle) → IsSound s → Lends s h View x → length s.handles < 2 ^ 32
-    → IsSound (with_handle (edited s h (detached 0)) x)
+    → IsSound (with_handle (edited s h (detached_handle 0)) x)
 sound-moved s h x k t few =
     let g : Tables = s.tables in
-    let y : Handle = detached 0 in
-    let next : State = with_handle (edited s h (detached 0)) x in
+    let y : Handle = detached_handle 0 in
+    let next : State = with_handle (edited s h (detached_handle 0)) x in
     let l = at-some s.handles h x t.at in
     let oy = owner-empty g y refl in
-    let hm : (c : ℕ) → holders (reading next) c ≡ holders (reading s) c = λ c. let a = holders-more (edited s h (detached 0)) (Some x) c in let m =
-    rw (t.at, oy) at (holders-changed s h (Some (detached 0)) c l) in omega (arith, a, m) in
-    let um : (c : ℕ) → users (reading next) c ≡ users (reading s) c = λ c. let a = users-more (edited s h (detached 0)) (Some x) c in let m =
-    rw (t.at, oy) at (users-changed s h (Some (detached 0)) c l) in omega (arith, a, m) in
-    let dm : (c : ℕ) → tally (describes g c) (set s.handles h (Some (detached 0)) ++ Some x ∷ []) ≡ tally (describes g c) s.handles = λ c. let a =
-    count-append (describes g c) (set s.handles h (Some (detached 0))) (Some x) in let m =
-    rw (t.at, oy) at (count-set (describes g c) s.handles h (Some (detached 0)) None l) in omega (arith, a, m) in
-    let am : (c : ℕ) → tally (alone g c) (set s.handles h (Some (detached 0)) ++ Some x ∷ []) ≡ tally (alone g c) s.handles = λ c. let a =
-    count-append (alone g c) (set s.handles h (Some (detached 0))) (Some x) in let m =
-    rw (t.at, oy) at (count-set (alone g c) s.handles h (Some (detached 0)) None l) in omega (arith, a, m) in
+    let hm : (c : ℕ) → holders (reading next) c ≡ holders (reading s) c = λ c. let a = holders-more (edited s h (detached_handle 0)) (Some x) c in let m =
+    rw (t.at, oy) at (holders-changed s h (Some (detached_handle 0)) c l) in omega (arith, a, m) in
+    let um : (c : ℕ) → users (reading next) c ≡ users (reading s) c = λ c. let a = users-more (edited s h (detached_handle 0)) (Some x) c in let m =
+    rw (t.at, oy) at (users-changed s h (Some (detached_handle 0)) c l) in omega (arith, a, m) in
+    let dm : (c : ℕ) → tally (describes g c) (set s.handles h (Some (detached_handle 0)) ++ Some x ∷ []) ≡ tally (describes g c) s.handles = λ c. let a =
+    count-append (describes g c) (set s.handles h (Some (detached_handle 0))) (Some x) in let m =
+    rw (t.at, oy) at (count-set (describes g c) s.handles h (Some (detached_handle 0)) None l) in omega (arith, a, m) in
+    let am : (c : ℕ) → tally (alone g c) (set s.handles h (Some (detached_handle 0)) ++ Some x ∷ []) ≡ tally (alone g c) s.handles = λ c. let a =
+    count-append (alone g c) (set s.handles h (Some (detached_handle 0))) (Some x) in let m =
+    rw (t.at, oy) at (count-set (alone g c) s.handles h (Some (detached_handle 0)) None l) in omega (arith, a, m) in
     let size = k.size in
     record {
       size = record {
@@ -183,12 +190,12 @@ sound-moved s h x k t few =
         few_calls = size.few_calls;
       };
       blocks = k.blocks;
-      fit = All-push (Fits g s.calls) (set s.handles h (Some (detached 0))) (Some x)
-          (All-set (Fits g s.calls) s.handles h (Some (detached 0)) (record { no_room = refl; ends = omega arith; no_bytes = λ m. refl }) k.fit)
+      fit = All-push (Fits g s.calls) (set s.handles h (Some (detached_handle 0))) (Some x)
+          (All-set (Fits g s.calls) s.handles h (Some (detached_handle 0)) (record { no_room = refl; ends = omega arith; no_bytes = λ m. refl }) k.fit)
           (fits-at s h x k t.at);
       calls_fit = calls-kept s next refl (keeps-self g) (λ r t. t)
-          (λ i z b a. append-at (set s.handles h (Some (detached 0))) (Some x) i z
-          (set-at s.handles h i (Some (detached 0)) z (λ e. let q = rw e at b in let u = t.free in cc) a)) k.fit (λ i z a. at-some s.handles i z a)
+          (λ i z b a. append-at (set s.handles h (Some (detached_handle 0))) (Some x) i z
+          (set-at s.handles h i (Some (detached_handle 0)) z (λ e. let q = rw e at b in let u = t.free in cc) a)) k.fit (λ i z a. at-some s.handles i z a)
           (λ i d l q j t. refl) (λ c _. hm c) (λ q t. (k.counted q t).known) k.calls_fit;
       one_release = k.one_release;
       counted = λ r live. let c = k.counted r live in record {

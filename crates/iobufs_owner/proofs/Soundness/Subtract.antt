@@ -12,7 +12,7 @@ use Rattle.iobufs_owner.specs.declared.owner.types.Pending.{Pending}
 use Rattle.iobufs_owner.specs.declared.owner.types.Pending.TheVariants.{Loaded, Ready, Add, Subtract, Release}
 use Rattle.iobufs_owner.proofs.Soundness.Counts.{count-set, count-some, count-find, count-most, count-two, holders-le-users}
 use Rattle.iobufs_owner.proofs.Soundness.Keeps.{KeepsLetGo, call-kept, calls-read-kept, releases-kept, owner-kept}
-use Rattle.iobufs_owner.proofs.Soundness.Kept.{at-some}
+use Rattle.iobufs_owner.proofs.Soundness.StaysSound.{at-some}
 use Rattle.iobufs_owner.proofs.Soundness.Frames.{handles-kept, alone-kept, describes-kept, not-eqb, is-eqb}
 use Rattle.iobufs_owner.proofs.WorldSteps.Shown.{get_or-read}
 use Rattle.iobufs_owner.specs.Changes.{counted, with_count, called}
@@ -172,6 +172,7 @@ one-after s p r c lp kept old none at =
           omega (arith, n, kept, old, z))
     ]
 
+-- a drop lowers the count by one, and is over, or has to free where it was the last: the machine stays sound
 pub sound-subtracted : (s : State) (p r : ℕ) → IsSound s → call_at s p ≡ Some (Subtract r) → IsSound (subtracted s p r)
 sound-subtracted s p r k at =
     let g : Tables = s.tables in
@@ -278,6 +279,7 @@ pub record IsLettingGo (s : State) (r : ℕ) : Type 0 where
   pub shown : hidden s.calls r ≡ 0
   pub some : 0 < (record_at s.tables r).count
 
+-- in a sound machine the record that a drop has to lower is live and published, and counts at least one
 pub letting-go : (s : State) (p r : ℕ) → IsSound s → call_at s p ≡ Some (Subtract r) → IsLettingGo s r
 letting-go s p r k at =
     let lp = at-some s.calls p (Subtract r) at in
@@ -288,8 +290,10 @@ letting-go s p r k at =
     let n = (k.counted r f.0).counts f.1 in
     record { live = f.0; shown = f.1; some = omega (arith, h, one, n) }
 
+-- a drop that lowers a count of 1 has to free then
 pub afterwards-one : (r n : ℕ) → n ≡ 1 → afterwards r n ≡ Some (Release r)
 afterwards-one r n e = rw (is-eqb n 1 e) refl
 
+-- a drop that lowers another count is over then
 pub afterwards-none : (r n : ℕ) → n ≢ 1 → afterwards r n ≡ None
 afterwards-none r n e = rw (not-eqb n 1 e) refl

@@ -7,7 +7,7 @@ use Rattle.std.proofs.lemmas.Bool.Decides.{eqb_tells}
 use Rattle.iobufs_owner.specs.State.{State, Tables, owner_of, record_at, block_at, handle_at, call_at}
 use Rattle.iobufs_owner.specs.World.{holds, holders, users, still_holds, drops, is_block, tally}
 use Rattle.iobufs_owner.specs.Reading.{reading, read_handle, read_call, has_let_go}
-use Rattle.iobufs_owner.specs.Sound.{IsSound, Fits, FitsCall, Shares, Promised, LiesIn, alone, describes, hidden, readies, releases}
+use Rattle.iobufs_owner.specs.Sound.{IsSound, Fits, FitsCall, Shares, SpeaksOf, LiesIn, alone, describes, hidden, readies, releases}
 use Rattle.iobufs_owner.specs.Changes.{counted, called, edited, with_handle, part}
 use Rattle.iobufs_owner.specs.declared.owner.types.Record.{Record}
 use Rattle.iobufs_owner.specs.declared.owner.types.Handle.{Handle}
@@ -18,7 +18,7 @@ use Rattle.iobufs_owner.specs.declared.owner.types.Pending.TheVariants.{Loaded, 
 use Rattle.iobufs_owner.specs.declared.owner.types.Word.TheVariants.{Descriptor, Record as Counted}
 use Rattle.iobufs_owner.proofs.Soundness.Counts.{count-set, count-some}
 use Rattle.iobufs_owner.proofs.Soundness.Keeps.{calls-read-kept, releases-kept, owner-kept, fits-kept, fits-calls, live-of, shares-kept, promised-kept, described-kept}
-use Rattle.iobufs_owner.proofs.Soundness.Kept.{at-some, owner-counted, block-log-kept}
+use Rattle.iobufs_owner.proofs.Soundness.StaysSound.{at-some, owner-counted, block-log-kept}
 use Rattle.iobufs_owner.proofs.Soundness.Frames.{handles-kept, alone-kept, describes-kept, not-eqb, is-eqb}
 use Rattle.iobufs_owner.proofs.Soundness.Edits.{fits-at, alone-at, live-inside, lies-as, lies-still, alone-described, describes-described, describes-counted, alone-shared}
 use Rattle.iobufs_owner.proofs.Soundness.Holders.{describes-few}
@@ -39,6 +39,7 @@ shown s p h r x = record s {
   calls = set s.calls p None;
 }
 
+-- two values are the same where `Some` of them is
 pub some-same : {X : Type 0} (x y : X) → Some x ≡ Some y → x ≡ y
 some-same x y e = cc
 
@@ -46,18 +47,18 @@ some-same x y e = cc
 record IsStillPromised (s : State) (part : Share) (w b : ℕ) : Type 0 where
   pub view : Handle
   pub shares : Shares s part view
-  pub promised : Promised s.tables view w b
+  pub promised : SpeaksOf s.tables view w b
 
 share-shown : (s : State) (p h r : ℕ) (x : Handle) (b : ℕ) (part : Share) (z : ℕ) (y : Handle) (d : ℕ) → handle_at s h ≡ Some x
     → h < length s.handles → All (Fits s.tables s.calls) s.handles → owner_of s.tables x ≡ Some b → (record_at s.tables r).block ≡ b
-    → Shares s part y → Promised s.tables y z d → IsStillPromised (shown s p h r x) part z d
+    → Shares s part y → SpeaksOf s.tables y z d → IsStillPromised (shown s p h r x) part z d
 share-shown s p h r x b part z y d at l fit o bl sh pr =
     let g : Tables = s.tables in
     let g' : Tables = counted s.tables r 1 in
     let e = counted-keeps g r 1 in
     elim (eqb_tells part.handle h) [
       | inl i ↦ (let yx : y ≡ x = some-same y x (sym sh.at ∙ ap (λ n. get_or s.handles n None) i.1 ∙ at) in
-          let pr' : Promised g x z d = subst (λ (y : Handle). Promised g y z d) yx pr in
+          let pr' : SpeaksOf g x z d = subst (λ (y : Handle). SpeaksOf g y z d) yx pr in
           let sh' : Shares s part x = subst (λ (y : Handle). Shares s part y) yx sh in
           let u : Handle = by_record x r in
           let v : Handle = record x { word = Descriptor z } in
@@ -162,6 +163,7 @@ users-shown s p h r x part w b c at l ap' lp o o' hs cs =
       cs,
     ) (omega (arith, n, m, hx, hy))
 
+-- a handle that fits goes on to fit with another count for a record and calls that hide no more records
 pub fit-counted : (s : State) (r n : ℕ) (cs : List (Option Pending)) → ((q : ℕ) → hidden cs q ≤ hidden s.calls q) → (o : Option Handle)
     → Fits s.tables s.calls o → Fits (counted s.tables r n) cs o
 fit-counted s r n cs less None f = tt
@@ -184,7 +186,7 @@ sound-shown s p r w part x k atp at word =
     let f : FitsCall s (Some (Ready part w r)) = subst (λ (c : Option Pending). FitsCall s c) atp (k.calls_fit p None lp) in
     let b : ℕ = f.block in
     let yx : f.view ≡ x = some-same f.view x (sym f.shares.at ∙ at) in
-    let pr : Promised g x w b = subst (λ (y : Handle). Promised g y w b) yx f.promised in
+    let pr : SpeaksOf g x w b = subst (λ (y : Handle). SpeaksOf g y w b) yx f.promised in
     let view : x.kind ≡ View = subst (λ (y : Handle). y.kind ≡ View) yx f.shares.view in
     let o : owner_of g x ≡ Some b = pr.owner in
     let e = counted-keeps g r 1 in
@@ -301,6 +303,7 @@ sound-shown s p r w part x k atp at word =
 
 -- ---- the race is won: one more view, and the record counts both
 
+-- a list in which a place gets what stands there is the same
 pub set-get : {X : Type 0} (xs : List X) (i : ℕ) (v d : X) → i < length xs → v ≡ get_or xs i d → set xs i v ≡ xs
 set-get [] i v d l e = refl
 set-get (x ∷ xs) zero v d l e = ap (λ (y : List _). y) (rw e refl)
@@ -334,6 +337,8 @@ twice g r l two =
       live = (record_at (counted g r 1) r).live;
     }) no_record l same)
 
+-- a clone or slice whose view has the loaded descriptor still puts its record there and makes one more view by it, where
+-- there were fewer than 2^32 handles: the machine stays sound
 pub sound-won : (s : State) (p r w : ℕ) (k : Share) (x : Handle) → IsSound s → call_at s p ≡ Some (Ready k w r) → handle_at s k.handle ≡ Some x
     → x.word ≡ Descriptor w → length s.handles < 2 ^ 32
     → IsSound (with_handle (called (edited s k.handle (by_record x r)) p None) (part x k.lo k.hi (Counted r)))
@@ -343,7 +348,7 @@ sound-won s p r w part' x k at atx xw few =
     subst (λ (c : Option Pending). FitsCall s c) at (k.calls_fit p None (at-some s.calls p (Ready part' w r) at)) in
     let yx : f.view ≡ x = some-same f.view x (sym f.shares.at ∙ atx) in
     let sh : Shares s part' x = subst (λ (y : Handle). Shares s part' y) yx f.shares in
-    let pr : Promised g x w f.block = subst (λ (y : Handle). Promised g y w f.block) yx f.promised in
+    let pr : SpeaksOf g x w f.block = subst (λ (y : Handle). SpeaksOf g y w f.block) yx f.promised in
     let inside = live-inside g.records r f.live in
     let one = sound-shown s p r w part' x k at atx xw in
     let s1 : State = shown s p part'.handle r x in

@@ -18,7 +18,7 @@ use Rattle.iobufs_owner.specs.World.{World, Held, Unfinished, Sharing, Dropping,
 use Rattle.iobufs_owner.specs.Word.{IsPowerOfTwo}
 use Rattle.iobufs_owner.specs.Places.{IsPlace, IsGoodPlace, ApartFrom}
 use Rattle.iobufs_owner.specs.Steps as world
-use Rattle.iobufs_owner.specs.Steps.{NoRoom, Makes, IsOver, GoesOnWithin, SharesOn, Goes, Begins, ActsAt, Steps}
+use Rattle.iobufs_owner.specs.Steps.{NoRoom, Makes, IsAboveCeiling, GoesOnWithin, SharesOn, Goes, Begins, ActsAt, Steps}
 use Rattle.iobufs_owner.specs.Causes.{cause_if, cause_or, is_power_below, is_place, is_taken, is_good_place, is_over, split_cause, cause_begun, is_over_at, cause_gone, cause_at, cause_of, may_take, IsCaused}
 use Rattle.iobufs_owner.proofs.Words.{log-below}
 use Rattle.iobufs_owner.proofs.Soundness.Edits.{align-small}
@@ -166,11 +166,11 @@ good-is bs base size align e =
 
 -- ---- the ceiling
 
-over-yes : (w : World) (o : Option ℕ) → IsOver w o → is_over w o ≡ true
+over-yes : (w : World) (o : Option ℕ) → IsAboveCeiling w o → is_over w o ≡ true
 over-yes w None v = absurd v
 over-yes w (Some b) v = lt-yes w.ceiling (holders w b) v
 
-over-no : (w : World) (o : Option ℕ) → (IsOver w o → ⊥) → is_over w o ≡ false
+over-no : (w : World) (o : Option ℕ) → (IsAboveCeiling w o → ⊥) → is_over w o ≡ false
 over-no w None n = refl
 over-no w (Some b) n = grind (arith, nat_tests, n)
 
@@ -360,6 +360,7 @@ acts-caused w next p (Begin call memory) (Some c) reply r = r.0
 acts-caused w next p (Go memory) None reply r = r.0
 acts-caused w next p (Go memory) (Some c) reply r = goes-caused w next p c memory reply r
 
+-- a step of the world is refused by its cause where one stands, and else only for memory that it is denied or for want of room
 pub caused : (w next : World) (step : Step) (reply : Reply) → Steps w step reply next → IsCaused (may_take step.act) (cause_of w step) reply
 caused w next step reply m =
     choose (λ v. IsCaused (may_take step.act) (cond v (cause_at w step.act (going_at w step.party)) (Some Idle)) reply) _ _

@@ -1,4 +1,4 @@
--- The further steps of calls, read as steps of the world.
+-- Clones and slices, and the further steps of drops, read as steps of the world.
 use Rattle.std.proofs.Common.{◌≡◌, ◌≢◌, ◌⊎◌, inl, inr, ℕ, ◌+◌, ◌-◌, ◌<◌, Bool, true, false, cond, nat_lt, nat_eq, get_or, map, ◌||◌, Option, Some, None, Result, Ok, Err, MatchOption, ap, sym, ◌∙◌, subst, refl, arith, All}
 use Rattle.std.proofs.Math.ListN.{length-set}
 use Rattle.std.proofs.lemmas.List.{length-map, map-set}
@@ -25,10 +25,10 @@ use Rattle.iobufs_owner.specs.Changes.{called, unfinished_call, done, edited, pa
 use Rattle.iobufs_owner.specs.LongCalls.{ended, shared, loaded_block, ready_of}
 use Rattle.iobufs_owner.specs.Moves.{gone_on}
 use Rattle.iobufs_owner.specs.Steps as world
-use Rattle.iobufs_owner.specs.Steps.{NoRoom, Makes, IsOver, GoesOnWithin, SharesOn, Goes, call_set, free_in, part_of}
+use Rattle.iobufs_owner.specs.Steps.{NoRoom, Makes, IsAboveCeiling, GoesOnWithin, SharesOn, Goes, call_set, free_in, part_of}
 use Rattle.iobufs_owner.proofs.WorldSteps.Sizes.{IsAnswered, entries, grows-never}
 use Rattle.iobufs_owner.proofs.Soundness.Keeps.{Keeps, KeepsLetGo, calls-read-kept}
-use Rattle.iobufs_owner.proofs.Soundness.Kept.{at-some, owner-empty, owner-counted}
+use Rattle.iobufs_owner.proofs.Soundness.StaysSound.{at-some, owner-empty, owner-counted}
 use Rattle.iobufs_owner.proofs.Soundness.Frames.{handles-kept, is-eqb}
 use Rattle.iobufs_owner.proofs.WorldSteps.Shown.{get_or-read, held-reads, view-reads, read_lent}
 use Rattle.iobufs_owner.proofs.Soundness.Edits.{described-at, counted-at, alone-at, live-inside, alone-described}
@@ -82,6 +82,7 @@ loaded-as s t p k w x false reply i y =
     let a = reply-taken s (called s p None) t (call_set (reading s) p None) (Refused Memory) reply refl (called-reads s p None) y in
     inl (refl, refl, a.0, a.1)
 
+-- users see the step that makes a record, of a clone or slice in a sound machine, as one of a call with three steps left
 pub loaded-goes : (s t : State) (p : ℕ) (k : Share) (w : ℕ) (memory : Bool) (reply : Reply) → IsSound s → call_at s p ≡ Some (Loaded k w)
     → IsAnswered s (gone_on s p (Loaded k w) memory) reply t → Goes (reading s) p (Sharing k.handle k.lo k.hi 3) memory reply (reading t)
 unfolding Goes gone_on
@@ -119,8 +120,8 @@ race-as s t p k w r memory reply (Descriptor u) i a e y =
           (change.refused s Idle)) reply t) (is-eqb u w same) y in
           let front : Handle = part a.view k.lo k.hi (Counted r) in
           let of = owner-counted s.tables front r refl ∙ ap Some a.same ∙ sym ow in
-          let never : IsOver (reading s) (owner_of s.tables a.view) → ⊥ =
-          subst (λ (o : Option ℕ). IsOver (reading s) o → ⊥) (sym ow) (λ z. omega (arith, z, one, c)) in
+          let never : IsAboveCeiling (reading s) (owner_of s.tables a.view) → ⊥ =
+          subst (λ (o : Option ℕ). IsAboveCeiling (reading s) o → ⊥) (sym ow) (λ z. omega (arith, z, one, c)) in
           inr
           (inr
           (inr
@@ -140,6 +141,7 @@ race-as s t p k w r memory reply (Counted winner) i a e y =
     reply (cc n) (called-kept s (tables_without s.tables r) p (Some (Add k winner)) i q (λ n d l v j t. dead-let_go s.tables r v) refl) y in
     inr (inl (1, omega arith, omega arith, z))
 
+-- users see the compare-exchange of a clone or slice in a sound machine as a step of a call with two steps left
 pub ready-goes : (s t : State) (p : ℕ) (k : Share) (w r : ℕ) (memory : Bool) (reply : Reply) → IsSound s → call_at s p ≡ Some (Ready k w r)
     → IsAnswered s (gone_on s p (Ready k w r) memory) reply t → Goes (reading s) p (Sharing k.handle k.lo k.hi 2) memory reply (reading t)
 unfolding Goes gone_on
@@ -158,7 +160,7 @@ add-as s t p k r memory reply true i a e y =
     let n = (i.counted r c.live).counts c.shown in
     let m = lt-true s.ceiling (record_at s.tables r).count e in
     let z = reply-taken s (called s p None) t (call_set (reading s) p None) (Refused Ceiling) reply refl (called-reads s p None) y in
-    inr (inr (inr (inl (refl, subst (λ (o : Option ℕ). IsOver (reading s) o) (sym (owner-counted s.tables a.view r a.word)) (rw (← n) m), z.0, z.1))))
+    inr (inr (inr (inl (refl, subst (λ (o : Option ℕ). IsAboveCeiling (reading s) o) (sym (owner-counted s.tables a.view r a.word)) (rw (← n) m), z.0, z.1))))
 add-as s t p k r memory reply false i a e y =
     let c = counted-at s k.handle a.view r i a.shares.at a.word in
     let n = (i.counted r c.live).counts c.shown in
@@ -168,8 +170,8 @@ add-as s t p k r memory reply false i a e y =
     let front : Handle = part a.view k.lo k.hi (Counted r) in
     let of = owner-counted g' front r refl ∙ ap Some (counted-block s.tables r ((record_at s.tables r).count + 1) r)
     ∙ sym (owner-counted s.tables a.view r a.word) in
-    let never : IsOver (reading s) (owner_of s.tables a.view) → ⊥ =
-    subst (λ (o : Option ℕ). IsOver (reading s) o → ⊥) (sym (owner-counted s.tables a.view r a.word)) (λ z. omega (arith, z, n, m)) in
+    let never : IsAboveCeiling (reading s) (owner_of s.tables a.view) → ⊥ =
+    subst (λ (o : Option ℕ). IsAboveCeiling (reading s) o → ⊥) (sym (owner-counted s.tables a.view r a.word)) (λ z. omega (arith, z, n, m)) in
     inr
     (inr
     (inr
@@ -183,6 +185,7 @@ add-as s t p k r memory reply false i a e y =
           (ap (λ (b : Option ℕ). record { kind = View; block = b; place = a.view.ptr + k.lo; len = k.hi - k.lo }) of) y,
     ))))
 
+-- users see the step that counts a holder, of a clone or slice in a sound machine, as one of a call with one step left
 pub add-goes : (s t : State) (p : ℕ) (k : Share) (r : ℕ) (memory : Bool) (reply : Reply) → IsSound s → call_at s p ≡ Some (Add k r)
     → IsAnswered s (gone_on s p (Add k r) memory) reply t → Goes (reading s) p (Sharing k.handle k.lo k.hi 1) memory reply (reading t)
 unfolding Goes gone_on
@@ -232,6 +235,7 @@ subtract-as s t p r memory reply false i at live shown some e y =
     (counted-drops s p r ((record_at s.tables r).count - 1) i at) refl) y in
     inl (omega (arith, n, ne, some), z.0, z.1)
 
+-- users see the step that lowers the count, of a drop in a sound machine, as one of a drop with two steps left that hasn't let go
 pub subtract-goes : (s t : State) (p r : ℕ) (memory : Bool) (reply : Reply) → IsSound s → call_at s p ≡ Some (Subtract r)
     → IsAnswered s (gone_on s p (Subtract r) memory) reply t → Goes (reading s) p (Dropping (record_at s.tables r).block false 2) memory reply (reading t)
 unfolding gone_on
@@ -259,6 +263,7 @@ unfolding Goes
 frees w next p b true memory reply n z = (n, z.0, z.1)
 frees w next p b false memory reply n z = inr (inr (n, z.0, z.1))
 
+-- users see the step that frees record and block in a sound machine as that of a drop with one step left, which has let go where the record counts none
 pub release-goes : (s t : State) (p r : ℕ) (memory : Bool) (reply : Reply) → IsSound s → call_at s p ≡ Some (Release r)
     → IsAnswered s (gone_on s p (Release r) memory) reply t
     → Goes (reading s) p (Dropping (record_at s.tables r).block (has_let_go s.tables r) 1) memory reply (reading t)
@@ -276,10 +281,10 @@ view-is : (y x : Handle) (v : Bool) → cond v (Ok y) (Err WrongKind) ≡ Ok x �
 view-is y x true e = cc
 view-is y x false e = absurd (cc)
 
-view-tells : (s : State) (h : ℕ) (x : Handle) → lending.view_of s h ≡ Ok x → handle_at s h ≡ Some x
+view-tells : (s : State) (h : ℕ) (x : Handle) → lending.lend_view_of s h ≡ Ok x → handle_at s h ≡ Some x
 view-tells s h x e =
-    let by : (o : Option Handle) → lending.view_found o ≡ Ok x → o ≡ Some x =
-    λ o. elim o as (λ o. lending.view_found o ≡ Ok x → o ≡ Some x) [
+    let by : (o : Option Handle) → lending.lend_view_found o ≡ Ok x → o ≡ Some x =
+    λ o. elim o as (λ o. lending.lend_view_found o ≡ Ok x → o ≡ Some x) [
       | None ↦ λ i. absurd (cc)
       | Some y ↦ λ i. view-is y x (same_kind y.kind View) i
     ] in
@@ -313,27 +318,29 @@ begun-word s t p h lo hi x reply (Counted r) k at e y =
     subst (λ (o : Option ℕ). Begun s p h lo hi x o reply (reading t)) (sym (owner-counted s.tables x r e))
     (record { left = 1; some = omega arith; few = omega arith; goes = z })
 
-clone-lent : (s t : State) (p h : ℕ) (reply : Reply) (r : Result Handle Refusal) → IsSound s → lending.view_of s h ≡ r
+clone-lent : (s t : State) (p h : ℕ) (reply : Reply) (r : Result Handle Refusal) → IsSound s → lending.lend_view_of s h ≡ r
     → IsAnswered s (long.clone_lent s p h r) reply t → world.CloneIs (reading s) p h (read_lent s.tables r) reply (reading t)
 clone-lent s t p h reply (Err why) k e i = refused-taken s t why reply i
 clone-lent s t p h reply (Ok x) k e i = begun-word s t p h 0 x.len x reply x.word k (view-tells s h x e) refl i
 
+-- users of a sound machine see the first step of a clone as that of the view that they see under the number
 pub clone-steps : (s t : State) (p h : ℕ) (reply : Reply) → IsSound s → IsAnswered s (long.clone_of s p h) reply t
     → world.CloneIs (reading s) p h (world.view_of (reading s) h) reply (reading t)
-clone-steps s t p h reply k i = rw (view-reads s h) (clone-lent s t p h reply (lending.view_of s h) k refl i)
+clone-steps s t p h reply k i = rw (view-reads s h) (clone-lent s t p h reply (lending.lend_view_of s h) k refl i)
 
-slice-lent : (s t : State) (p h lo hi : ℕ) (reply : Reply) (r : Result Handle Refusal) → IsSound s → lending.view_of s h ≡ r
+slice-lent : (s t : State) (p h lo hi : ℕ) (reply : Reply) (r : Result Handle Refusal) → IsSound s → lending.lend_view_of s h ≡ r
     → IsAnswered s (long.slice_lent s p h lo hi r) reply t → world.SliceIs (reading s) p h lo hi (read_lent s.tables r) reply (reading t)
 slice-lent s t p h lo hi reply (Err why) k e i = refused-taken s t why reply i
 slice-lent s t p h lo hi reply (Ok x) k e i =
     by-test _ _ s t (change.refused s OutOfRange)
-    (cond (nat_eq lo hi) (made s (change.detached 0)) (long.share_by s p (record { handle = h; lo = lo; hi = hi }) x x.word)) reply
+    (cond (nat_eq lo hi) (made s (change.detached_handle 0)) (long.share_by s p (record { handle = h; lo = lo; hi = hi }) x x.word)) reply
     (nat_lt hi lo || nat_lt x.len hi)
     (λ _ i. refused-taken s t OutOfRange reply i)
-    (λ _ i. by-test _ _ s t (made s (change.detached 0)) (long.share_by s p (record { handle = h; lo = lo; hi = hi }) x x.word) reply (nat_eq lo hi)
-    (λ _ i. made-taken s s t (reading s) (change.detached 0) (world.detached 0) reply refl (reads-detached s.tables 0) i)
+    (λ _ i. by-test _ _ s t (made s (change.detached_handle 0)) (long.share_by s p (record { handle = h; lo = lo; hi = hi }) x x.word) reply (nat_eq lo hi)
+    (λ _ i. made-taken s s t (reading s) (change.detached_handle 0) (world.detached 0) reply refl (reads-detached s.tables 0) i)
     (λ _ i. begun-word s t p h lo hi x reply x.word k (view-tells s h x e) refl i) i) i
 
+-- users of a sound machine see the first step of a slice as that of the view that they see under the number
 pub slice-steps : (s t : State) (p h lo hi : ℕ) (reply : Reply) → IsSound s → IsAnswered s (long.slice_of s p h lo hi) reply t
     → world.SliceIs (reading s) p h lo hi (world.view_of (reading s) h) reply (reading t)
-slice-steps s t p h lo hi reply k i = rw (view-reads s h) (slice-lent s t p h lo hi reply (lending.view_of s h) k refl i)
+slice-steps s t p h lo hi reply k i = rw (view-reads s h) (slice-lent s t p h lo hi reply (lending.lend_view_of s h) k refl i)

@@ -16,7 +16,7 @@ use Rattle.iobufs_owner.specs.Kinds.{same_kind}
 use Rattle.iobufs_owner.specs.Lending as lending
 use Rattle.iobufs_owner.specs.ShortCalls as short
 use Rattle.iobufs_owner.specs.Changes.{Outcome, refused, done, edited, tables_without, record_freed}
-use Rattle.iobufs_owner.specs.Lending.{is_empty, is_lent, owning_found, Lends}
+use Rattle.iobufs_owner.specs.Lending.{is_empty, is_lent, lend_owning_found, Lends}
 use Rattle.iobufs_owner.specs.ShortCalls.{declined, may_demote, described, IsDemoted}
 use Rattle.iobufs_owner.specs.Steps as world
 use Rattle.iobufs_owner.proofs.WorldSteps.Sizes.{IsAnswered, entries}
@@ -24,7 +24,7 @@ use Rattle.iobufs_owner.proofs.WorldSteps.Lent.{same-kind}
 use Rattle.iobufs_owner.proofs.WorldSteps.Shown.{get_or-read, held-reads, shared-reads}
 use Rattle.iobufs_owner.proofs.WorldSteps.Taken.{refused-taken, declined-taken, done-taken}
 use Rattle.iobufs_owner.proofs.Soundness.Keeps.{calls-read-kept}
-use Rattle.iobufs_owner.proofs.Soundness.Kept.{at-some, owner-empty, owner-counted}
+use Rattle.iobufs_owner.proofs.Soundness.StaysSound.{at-some, owner-empty, owner-counted}
 use Rattle.iobufs_owner.proofs.Soundness.Frames.{handles-kept}
 use Rattle.iobufs_owner.proofs.Soundness.Edits.{counted-at, described-at}
 use Rattle.iobufs_owner.proofs.Soundness.RecordFreed.{dead-keeps, dead-let_go}
@@ -92,7 +92,7 @@ by-borrow s t h b x o reply false f d i = f refl d
 
 by-word : (s t : State) (h : ℕ) (x : Handle) (o : Outcome) (reply : Reply) (w : Word) → IsSound s → handle_at s h ≡ Some x → x.kind ≡ View
     → x.word ≡ w → IsDemoted s h (cond (is_empty w) (Err WrongKind) (cond (is_lent h s.calls) (Err Borrowed) (Ok x))) o → IsAnswered s o reply t
-    → world.DemoteIs (reading s) (world.with_block (reading s) h (owner_of s.tables x)) reply (reading t)
+    → world.DemoteIs (reading s) (world.unborrowed_block (reading s) h (owner_of s.tables x)) reply (reading t)
 by-word s t h x o reply Empty k at v w d i = rw (owner-empty s.tables x w) (refuses s t WrongKind o reply d i)
 by-word s t h x o reply (Descriptor n) k at v w e i =
     let d = described-at s h x n k at w in
@@ -104,17 +104,18 @@ by-word s t h x o reply (Counted r) k at v w d i =
     (λ u z. demote-recorded s t h r x o reply k (record { at = at; kind_is = v; free = u }) w (subst (λ (w : Word). short.IsDemotedBy s h x w o) w z) i) d i)
 
 by-kind : (s t : State) (h : ℕ) (x : Handle) (o : Outcome) (reply : Reply) (v : Bool) → IsSound s → handle_at s h ≡ Some x
-    → same_kind x.kind View ≡ v → IsDemoted s h (cond v (owning_found s h (Some x)) (Err WrongKind)) o → IsAnswered s o reply t
-    → world.DemoteIs (reading s) (cond v (world.with_block (reading s) h (owner_of s.tables x)) (Err WrongKind)) reply (reading t)
+    → same_kind x.kind View ≡ v → IsDemoted s h (cond v (lend_owning_found s h (Some x)) (Err WrongKind)) o → IsAnswered s o reply t
+    → world.DemoteIs (reading s) (cond v (world.unborrowed_block (reading s) h (owner_of s.tables x)) (Err WrongKind)) reply (reading t)
 by-kind s t h x o reply true k at e d i = by-word s t h x o reply x.word k at (same-kind x.kind View e) refl d i
 by-kind s t h x o reply false k at e d i = refuses s t WrongKind o reply d i
 
 by-handle : (s t : State) (h : ℕ) (o : Outcome) (reply : Reply) (found : Option Handle) → IsSound s → handle_at s h ≡ found
-    → IsDemoted s h (lending.owning_view_found s h found) o → IsAnswered s o reply t
+    → IsDemoted s h (lending.lend_owning_view_found s h found) o → IsAnswered s o reply t
     → world.DemoteIs (reading s) (world.view_block_found (reading s) h (read_handle s.tables found)) reply (reading t)
 by-handle s t h o reply None k at d i = refuses s t NoHandle o reply d i
 by-handle s t h o reply (Some x) k at d i = by-kind s t h x o reply (same_kind x.kind View) k at refl d i
 
-pub demote-steps : (s t : State) (h : ℕ) (o : Outcome) (reply : Reply) → IsSound s → IsDemoted s h (lending.owning_view_of s h) o
+-- users of a sound machine see a demotion as that of the block of the view that they see under the number
+pub demote-steps : (s t : State) (h : ℕ) (o : Outcome) (reply : Reply) → IsSound s → IsDemoted s h (lending.lend_owning_view_of s h) o
     → IsAnswered s o reply t → world.DemoteIs (reading s) (world.view_block_of (reading s) h) reply (reading t)
 demote-steps s t h o reply k d i = rw (held-reads s h) (by-handle s t h o reply (handle_at s h) k refl d i)

@@ -24,7 +24,7 @@ use Rattle.iobufs_owner.specs.Changes.{done, unfinished_call, called, state_with
 use Rattle.iobufs_owner.specs.Steps as world
 use Rattle.iobufs_owner.specs.Steps.{GoesOnWithin, free_in, held_gone, call_set}
 use Rattle.iobufs_owner.proofs.WorldSteps.Sizes.{IsAnswered}
-use Rattle.iobufs_owner.proofs.Soundness.Kept.{owner-empty, owner-counted}
+use Rattle.iobufs_owner.proofs.Soundness.StaysSound.{owner-empty, owner-counted}
 use Rattle.iobufs_owner.proofs.Soundness.Frames.{is-eqb}
 use Rattle.iobufs_owner.proofs.WorldSteps.Shown.{any-reads, read_lent}
 use Rattle.iobufs_owner.proofs.Soundness.Edits.{described-at, counted-at, alone-at, alone-described, alone-written}
@@ -103,11 +103,12 @@ drop-word s t p h x reply (Descriptor v) k at w i =
 drop-word s t p h x reply (Counted r) k at w i =
     subst (λ (o : Option ℕ). Begun s p h o reply (reading t)) (sym (owner-counted s.tables x r w)) (drop-kind s t p h r x reply x.kind k at w refl i)
 
-drop-lent : (s t : State) (p h : ℕ) (reply : Reply) (r : Result Handle Refusal) → IsSound s → lending.any_of s h ≡ r
+drop-lent : (s t : State) (p h : ℕ) (reply : Reply) (r : Result Handle Refusal) → IsSound s → lending.lend_any_of s h ≡ r
     → IsAnswered s (long.drop_lent s p h r) reply t → world.DropIs (reading s) p h (read_lent s.tables r) reply (reading t)
 drop-lent s t p h reply (Err why) k e i = refused-taken s t why reply i
 drop-lent s t p h reply (Ok x) k e i = drop-word s t p h x reply x.word k (any-tells s h x e).at refl i
 
+-- users of a sound machine see the first step of a drop as that of the handle that they see under the number
 pub drop-steps : (s t : State) (p h : ℕ) (reply : Reply) → IsSound s → IsAnswered s (long.drop_of s p h) reply t
     → world.DropIs (reading s) p h (world.any_of (reading s) h) reply (reading t)
-drop-steps s t p h reply k i = rw (any-reads s h) (drop-lent s t p h reply (lending.any_of s h) k refl i)
+drop-steps s t p h reply k i = rw (any-reads s h) (drop-lent s t p h reply (lending.lend_any_of s h) k refl i)

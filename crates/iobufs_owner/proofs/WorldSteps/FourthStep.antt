@@ -354,6 +354,7 @@ near-call g (Some (Add k r)) = (omega arith, omega arith)
 near-call g (Some (Subtract r)) = (omega arith, omega arith)
 near-call g (Some (Release r)) = (omega arith, omega arith)
 
+-- a step leaves its party's call with fewer than four steps taken, and no more than the call that is unfinished then has taken at most
 pub counts-taken : (s : State) (next : World) (step : Step) (reply : Reply) → Steps (reading s) step reply next → CountsTaken (reading s) step reply next
 counts-taken s next step reply m = λ n l.
     let p = step.party in
@@ -365,6 +366,7 @@ counts-taken s next step reply m = λ n l.
     let r = own (reading s) next p n reply j c in
     (r.few, rw r.is r.taken)
 
+-- in a run in which tables may grow no call of a party is unfinished after its fourth step, where the one that it has at first has taken n
 pub ends-in-four : (m next : Seen) (p n : ℕ) (steps : List Step) (replies : List Reply) → GrowingRuns m steps replies next
     → IsNear (reading m.state) p n → EndsInFour p n steps replies
 ends-in-four m next p n [] replies r j = tt
@@ -383,6 +385,7 @@ ends-in-four m next p n (step ∷ steps) (reply ∷ replies) (grown, mid, has, o
           (others (reading grown.state) (reading mid.state) p step.party n (going_at (reading grown.state) step.party) reply (λ z. e.1 (sym z)) j c))
     ]
 
+-- a party's call in any machine has taken fewer than four steps and may take at most three more
 pub near-start : (s : State) (p : ℕ) → IsNear (reading s) p (taken_of (going_at (reading s) p))
 near-start s p =
     let e = get_or-read (read_call s.tables) s.calls p None in

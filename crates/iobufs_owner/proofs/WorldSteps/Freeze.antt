@@ -25,7 +25,7 @@ use Rattle.iobufs_owner.specs.Steps as world
 use Rattle.iobufs_owner.specs.Steps.{Denied, GrantedNoRoom, free_in, free_of, held_set}
 use Rattle.iobufs_owner.proofs.WorldSteps.Sizes.{IsAnswered, entries}
 use Rattle.iobufs_owner.proofs.Soundness.Keeps.{calls-read-kept}
-use Rattle.iobufs_owner.proofs.Soundness.Kept.{owner-empty, owner-counted}
+use Rattle.iobufs_owner.proofs.Soundness.StaysSound.{owner-empty, owner-counted}
 use Rattle.iobufs_owner.proofs.WorldSteps.Lent.{lend-tells}
 use Rattle.iobufs_owner.proofs.Soundness.Frames.{handles-kept}
 use Rattle.iobufs_owner.proofs.WorldSteps.Shown.{alone-reads, read_lent}
@@ -61,29 +61,29 @@ both-reads s h r o k live =
 
 -- what stands after an empty handle is frozen
 nothing-reads : (s : State) (h : ℕ) (x : Handle) (w : Word) → IsSound s → Lends s h Mut x → x.word ≡ w
-    → reading (edited (short.freed_with s x w) h (change.detached 0)) ≡ held_set (free_of (reading s) (owner_of s.tables x)) h (world.detached 0)
+    → reading (edited (short.freed_with s x w) h (change.detached_handle 0)) ≡ held_set (free_of (reading s) (owner_of s.tables x)) h (world.detached 0)
 nothing-reads s h x Empty k l w = rw (owner-empty s.tables x w)
-    (rw (map-set (read_handle s.tables) s.handles h (Some (change.detached 0)), reads-detached s.tables 0) refl)
+    (rw (map-set (read_handle s.tables) s.handles h (Some (change.detached_handle 0)), reads-detached s.tables 0) refl)
 nothing-reads s h x (Descriptor v) k l w =
     let d = described-at s h x v k l.at w in
-    subst (λ (f : Freed). reading (replaced (block_freed s f) h (Some (change.detached 0)))
+    subst (λ (f : Freed). reading (replaced (block_freed s f) h (Some (change.detached_handle 0)))
     ≡ held_set (free_of (reading s) (owner_of s.tables x)) h (world.detached 0)) (sym (recovered-is s h x v d.block k l.at w d.says.owner))
-    (subst (λ (o : Option ℕ). reading (replaced (block_freed s (triple (block_at s.tables d.block))) h (Some (change.detached 0)))
+    (subst (λ (o : Option ℕ). reading (replaced (block_freed s (triple (block_at s.tables d.block))) h (Some (change.detached_handle 0)))
     ≡ held_set (free_of (reading s) o) h (world.detached 0)) (sym d.says.owner)
-    (freed-reads s h d.block (Some (change.detached 0)) k d.says.known
+    (freed-reads s h d.block (Some (change.detached_handle 0)) k d.says.known
     ∙ ap (λ (z : Held). record (free_in (reading s) d.block) { handles = set (reading s).handles h (Some z) }) (reads-detached s.tables 0)))
 nothing-reads s h x (Counted r) k l w =
     let c = counted-at s h x r k l.at w in
-    subst (λ (o : Option ℕ). reading (replaced (both_freed s r) h (Some (change.detached 0)))
+    subst (λ (o : Option ℕ). reading (replaced (both_freed s r) h (Some (change.detached_handle 0)))
     ≡ held_set (free_of (reading s) o) h (world.detached 0)) (sym (owner-counted s.tables x r w))
-    (both-reads s h r (Some (change.detached 0)) k c.live
+    (both-reads s h r (Some (change.detached_handle 0)) k c.live
     ∙ ap (λ (z : Held). record (free_in (reading s) (record_at s.tables r).block) { handles = set (reading s).handles h (Some z) })
     (reads-detached (tables_without s.tables r) 0))
 
-nothing-entries : (s : State) (h : ℕ) (x : Handle) (w : Word) → entries (edited (short.freed_with s x w) h (change.detached 0)) ≡ entries s
+nothing-entries : (s : State) (h : ℕ) (x : Handle) (w : Word) → entries (edited (short.freed_with s x w) h (change.detached_handle 0)) ≡ entries s
 nothing-entries s h x Empty = rw length-set refl
 nothing-entries s h x (Descriptor v) = rw length-set refl
-nothing-entries s h x (Counted r) = let a = length-set s.handles h (Some (change.detached 0)) in let b = length-set s.tables.records r (record {
+nothing-entries s h x (Counted r) = let a = length-set s.handles h (Some (change.detached_handle 0)) in let b = length-set s.tables.records r (record {
   count = (record_at s.tables r).count;
   block = (record_at s.tables r).block;
   live = false;
@@ -91,6 +91,7 @@ nothing-entries s h x (Counted r) = let a = length-set s.handles h (Some (change
 
 -- ---- a handle whose descriptor becomes a record
 
+-- a record more and another handle under a number are, read, that handle in the world, in a sound machine where one stood there
 pub promoted-reads : (s : State) (h b n : ℕ) (x y : Handle) (z : Held) → IsSound s → handle_at s h ≡ Some x → read_held (recorded s.tables n b) y ≡ z
     → reading (edited (change.with_record s n b) h y) ≡ held_set (reading s) h z
 promoted-reads s h b n x y z k at e =
@@ -158,12 +159,13 @@ freeze-lent : (s t : State) (h : ℕ) (memory : Bool) (reply : Reply) (r : Resul
 freeze-lent s t h memory reply (Err why) k e i = refused-taken s t why reply i
 freeze-lent s t h memory reply (Ok x) k e i =
     let l = lend-tells s h Mut x e in
-    by-test _ _ s t (done (edited (short.freed_with s x x.word) h (change.detached 0))) (short.freeze_by s h memory x x.word) reply (nat_eq x.len 0)
-    (λ _ i. done-taken s (edited (short.freed_with s x x.word) h (change.detached 0)) t
+    by-test _ _ s t (done (edited (short.freed_with s x x.word) h (change.detached_handle 0))) (short.freeze_by s h memory x x.word) reply (nat_eq x.len 0)
+    (λ _ i. done-taken s (edited (short.freed_with s x x.word) h (change.detached_handle 0)) t
     (held_set (free_of (reading s) (owner_of s.tables x)) h (world.detached 0)) reply (nothing-entries s h x x.word)
     (nothing-reads s h x x.word k l refl) i)
     (λ _ i. freeze-word s t h x memory reply x.word k l refl i) i
 
+-- users of a sound machine see a freeze as that of the writable handle that they see under the number
 pub freeze-steps : (s t : State) (h : ℕ) (memory : Bool) (reply : Reply) → IsSound s → IsAnswered s (short.freeze_of s h memory) reply t
     → world.FreezeIs (reading s) h memory (world.alone_of (reading s) h Mut) reply (reading t)
 freeze-steps s t h memory reply k i = rw (alone-reads s h Mut) (freeze-lent s t h memory reply (lend_of s h Mut) k refl i)

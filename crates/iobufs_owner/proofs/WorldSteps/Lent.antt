@@ -10,6 +10,7 @@ use Rattle.iobufs_owner.specs.State.{State, Tables, owner_of, owner_by, base_by,
 use Rattle.iobufs_owner.specs.Lending.{lend_of, lend_found, is_lent, Lends}
 use Rattle.iobufs_owner.specs.Kinds.{same_kind}
 
+-- kinds that the test finds alike are the same
 pub same-kind : (a b : Kind) → same_kind a b ≡ true → a ≡ b
 same-kind View View e = refl
 same-kind View Mut e = absurd (cc)
@@ -24,6 +25,7 @@ free-of s h kind x y true false at e f i =
     record { at = at ∙ ap Some q; kind_is = ap (λ (x : Handle). x.kind) (sym q) ∙ same-kind y.kind kind e; free = f }
 free-of s h kind x y false u at e f i = absurd (cc)
 
+-- a handle that is lent stands under the number, is of the kind, and is borrowed by no call
 pub lend-tells : (s : State) (h : ℕ) (kind : Kind) (x : Handle) → lend_of s h kind ≡ Ok x → Lends s h kind x
 lend-tells s h kind x e =
     let by : (o : Option Handle) → handle_at s h ≡ o → lend_found s h kind o ≡ Ok x → Lends s h kind x =
@@ -41,5 +43,6 @@ owner-same g x y e b =
     λ v. elim v as (λ v. owner_by g y v ≡ owner_by g x v) [ Empty ↦ refl | Descriptor w ↦ ap (λ n. block_with n g.blocks) (b w) | Counted r ↦ refl ] in
     rw e (by x.word)
 
+-- by any word writable handles whose capacities end at one address give the same base
 pub base-mut : (g : Tables) (x y : Handle) → x.kind ≡ Mut → y.kind ≡ Mut → y.ptr + y.cap ≡ x.ptr + x.cap → (w : ℕ) → base_by g y w ≡ base_by g x w
 base-mut g x y p q e w = rw (p, q) (omega (arith, e))

@@ -1,4 +1,4 @@
--- A step by the tables answers no want of room, and adds at most one entry to a table.
+-- A step by the tables answers no want of room, and adds at most one entry to each table.
 use Rattle.std.proofs.Common.{◌≡◌, ℕ, ◌+◌, ◌-◌, ◌^◌, ◌≤◌, arith, Bool, true, false, cond, nat_lt, nat_eq, ◌==◌, [], ◌∷◌, length, length-append, Option, Some, None, Result, Ok, Err, inl, inr, refl, subst, sym, MatchBool}
 use Rattle.std.proofs.Math.ListN.{length-set}
 use Rattle.std.proofs.lemmas.List.{append-nil}
@@ -80,21 +80,21 @@ lend-other s h kind None = λ e. absurd (cc)
 lend-other s h kind (Some x) = other-by (same_kind x.kind kind) (cond (is_lent h s.calls) (Err Borrowed) (Ok x)) (Err WrongKind)
     (other-by (is_lent h s.calls) (Err Borrowed) (Ok x) (λ e. absurd (cc)) tt) (λ e. absurd (cc))
 
-any-other : (s : State) (h : ℕ) (o : Option Handle) → AreOther (lending.any_found s h o)
+any-other : (s : State) (h : ℕ) (o : Option Handle) → AreOther (lending.lend_any_found s h o)
 any-other s h None = λ e. absurd (cc)
 any-other s h (Some x) = other-by (is_lent h s.calls) (Err Borrowed) (Ok x) (λ e. absurd (cc)) tt
 
-owning-other : (s : State) (h : ℕ) (o : Option Handle) → AreOther (lending.owning_found s h o)
+owning-other : (s : State) (h : ℕ) (o : Option Handle) → AreOther (lending.lend_owning_found s h o)
 owning-other s h None = λ e. absurd (cc)
 owning-other s h (Some x) = other-by (lending.is_empty x.word) (Err WrongKind) (cond (is_lent h s.calls) (Err Borrowed) (Ok x)) (λ e. absurd (cc))
     (other-by (is_lent h s.calls) (Err Borrowed) (Ok x) (λ e. absurd (cc)) tt)
 
-owning-view-other : (s : State) (h : ℕ) (o : Option Handle) → AreOther (lending.owning_view_found s h o)
+owning-view-other : (s : State) (h : ℕ) (o : Option Handle) → AreOther (lending.lend_owning_view_found s h o)
 owning-view-other s h None = λ e. absurd (cc)
-owning-view-other s h (Some x) = other-by (same_kind x.kind View) (lending.owning_found s h (Some x)) (Err WrongKind) (owning-other s h (Some x))
+owning-view-other s h (Some x) = other-by (same_kind x.kind View) (lending.lend_owning_found s h (Some x)) (Err WrongKind) (owning-other s h (Some x))
     (λ e. absurd (cc))
 
-view-other : (o : Option Handle) → AreOther (lending.view_found o)
+view-other : (o : Option Handle) → AreOther (lending.lend_view_found o)
 view-other None = λ e. absurd (cc)
 view-other (Some x) = other-by (same_kind x.kind View) (Ok x) (Err WrongKind) tt (λ e. absurd (cc))
 
@@ -155,7 +155,7 @@ new-granted : (s : State) (base size align : ℕ) (memory : Bool) (o : Outcome)
 new-granted s base size align true o (log, e, f) = subst (IsModest s true) (sym f) (placed s base size log)
 new-granted s base size align false o f = subst (IsModest s true) (sym f) (refuses s true Memory (λ e. absurd (cc)))
 
-new-modest : (s : State) (base size align : ℕ) (memory : Bool) (o : Outcome) → short.IsNew s base size align memory o → IsModest s true o
+new-modest : (s : State) (base size align : ℕ) (memory : Bool) (o : Outcome) → short.IsAllocated s base size align memory o → IsModest s true o
 new-modest s base size align memory o (inl (bad, f)) = subst (IsModest s true) (sym f) (refuses s true BadPlace (λ e. absurd (cc)))
 new-modest s base size align memory o (inr (good, m)) = new-granted s base size align memory o m
 
@@ -202,7 +202,7 @@ freeze-modest s h memory (Err why) a = refuses s false why a
 freeze-modest s h memory (Ok x) a =
     let l = freed-long s x x.word in
     by (IsModest s false) (nat_eq x.len 0) _ _
-    (frees s (change.edited (short.freed_with s x x.word) h (change.detached 0)) Done l.logs (λ e. absurd (cc)) (rw length-set l.handles)
+    (frees s (change.edited (short.freed_with s x x.word) h (change.detached_handle 0)) Done l.logs (λ e. absurd (cc)) (rw length-set l.handles)
     l.records l.blocks) (freeze-by s h memory x x.word)
 
 declined : (s : State) → IsModest s false (short.declined s)
@@ -336,15 +336,15 @@ begun-modest s p (New base size align) memory o b = new-modest s base size align
 begun-modest s p (External base size) memory o b = external-modest s base size memory o b
 begun-modest s p (Static len) memory o b = same-as s _ o b (made s s refl refl _ false refl (omega arith) (omega arith))
 begun-modest s p (Put h n) memory o b = same-as s _ o b (put-modest s h n (lending.lend_of s h Mut) (lend-other s h Mut (handle_at s h)))
-begun-modest s p (Advance h n) memory o b = same-as s _ o b (advance-modest s h n (lending.any_of s h) (any-other s h (handle_at s h)))
+begun-modest s p (Advance h n) memory o b = same-as s _ o b (advance-modest s h n (lending.lend_any_of s h) (any-other s h (handle_at s h)))
 begun-modest s p (Freeze h) memory o b = same-as s _ o b (freeze-modest s h memory (lending.lend_of s h Mut) (lend-other s h Mut (handle_at s h)))
 begun-modest s p (TryIntoMut h) memory o b = same-as s _ o b (recover-modest s h (lending.lend_of s h View) (lend-other s h View (handle_at s h)))
 begun-modest s p (SplitTo h at) memory o b = same-as s _ o b (split-modest s h at memory (lending.lend_of s h View) (lend-other s h View (handle_at s h)))
-begun-modest s p (IsUnique h) memory o b = same-as s _ o b (unique-modest s (lending.owning_of s h) (owning-other s h (handle_at s h)))
-begun-modest s p (Demote h) memory o b = demote-modest s h (lending.owning_view_of s h) o (owning-view-other s h (handle_at s h)) b
-begun-modest s p (Clone h) memory o b = same-as s _ o b (clone-modest s p h (lending.view_of s h) (view-other (handle_at s h)))
-begun-modest s p (Slice h lo hi) memory o b = same-as s _ o b (slice-modest s p h lo hi (lending.view_of s h) (view-other (handle_at s h)))
-begun-modest s p (Drop h) memory o b = same-as s _ o b (drop-modest s p h (lending.any_of s h) (any-other s h (handle_at s h)))
+begun-modest s p (IsUnique h) memory o b = same-as s _ o b (unique-modest s (lending.lend_owning_of s h) (owning-other s h (handle_at s h)))
+begun-modest s p (Demote h) memory o b = demote-modest s h (lending.lend_owning_view_of s h) o (owning-view-other s h (handle_at s h)) b
+begun-modest s p (Clone h) memory o b = same-as s _ o b (clone-modest s p h (lending.lend_view_of s h) (view-other (handle_at s h)))
+begun-modest s p (Slice h lo hi) memory o b = same-as s _ o b (slice-modest s p h lo hi (lending.lend_view_of s h) (view-other (handle_at s h)))
+begun-modest s p (Drop h) memory o b = same-as s _ o b (drop-modest s p h (lending.lend_any_of s h) (any-other s h (handle_at s h)))
 
 -- what adds no block adds none where it might
 loosely : (s : State) (block : Bool) (o : Outcome) → IsModest s false o → IsModest s block o
@@ -361,5 +361,6 @@ party-modest : (s : State) (step : Step) (o : Outcome) (v : Bool)
 party-modest s step o true m = at-modest s step.party step.act (call_at s step.party) o m
 party-modest s step o false m = loosely s (adds_block step.act) o (same-as s _ o m (idle s))
 
+-- a step by the tables never answers want of room, adds at most a handle, a record and, where its call makes one, a block, and writes the logs on
 pub modest : (s : State) (step : Step) (o : Outcome) → IsMoved s step o → IsModest s (adds_block step.act) o
 modest s step o m = party-modest s step o (nat_lt step.party (length s.calls)) m

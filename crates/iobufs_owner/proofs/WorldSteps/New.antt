@@ -20,7 +20,7 @@ use Rattle.iobufs_owner.specs.Steps as world
 use Rattle.iobufs_owner.specs.Steps.{NoRoom, Makes, Refuses, block_more, native_block, external_block}
 use Rattle.iobufs_owner.proofs.WorldSteps.Sizes.{IsAnswered}
 use Rattle.iobufs_owner.proofs.Soundness.Keeps.{calls-read-kept}
-use Rattle.iobufs_owner.proofs.Soundness.Kept.{owner-counted}
+use Rattle.iobufs_owner.proofs.Soundness.StaysSound.{owner-counted}
 use Rattle.iobufs_owner.proofs.Soundness.Frames.{grown, grown-keeps, handles-kept}
 use Rattle.iobufs_owner.proofs.Soundness.Logs.{fresh-log}
 use Rattle.iobufs_owner.proofs.Soundness.New.{other-base, first-owner}
@@ -118,8 +118,9 @@ new-good s t base size align true o reply k good (log, e, p) i =
     (new-placed s t base size log o reply k (subst (λ (a : ℕ). IsGoodPlace s.tables.blocks base size a) e good) (short.fits_in s.tables size log 0) refl p i)
 new-good s t base size align false o reply k good e i = refused-taken s t Memory reply (subst (λ (o : Outcome). IsAnswered s o reply t) e i)
 
+-- users of a sound machine see New as one native block more with an empty writable handle at its base, or as a refusal that changes nothing
 pub new-steps : (s t : State) (base size align : ℕ) (memory : Bool) (o : Outcome) (reply : Reply) → IsSound s
-    → short.IsNew s base size align memory o → IsAnswered s o reply t
+    → short.IsAllocated s base size align memory o → IsAnswered s o reply t
     → world.NewIs (reading s) (native_block base size align) (record { kind = Mut; block = Some (length s.tables.blocks); place = base; len = 0 })
     memory reply (reading t)
 new-steps s t base size align memory o reply k (inl (bad, e)) i =
@@ -135,6 +136,7 @@ external-good s t base size true reply k good i =
     recorded-made s t (block_of base size 1 true) (whole_view (block_of base size 1 true) (Counted (next_record s))) reply k good refl i
 external-good s t base size false reply k good i = refused-taken s t Memory reply i
 
+-- users of a sound machine see External as one adopted block more with a view of all of it, or as a refusal that changes nothing
 pub external-steps : (s t : State) (base size : ℕ) (memory : Bool) (o : Outcome) (reply : Reply) → IsSound s → short.IsExternal s base size memory o
     → IsAnswered s o reply t → world.NewIs (reading s) (external_block base size)
     (record { kind = View; block = Some (length s.tables.blocks); place = base; len = size }) memory reply (reading t)

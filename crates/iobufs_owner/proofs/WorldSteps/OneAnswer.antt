@@ -16,9 +16,9 @@ use Rattle.iobufs_owner.specs.declared.owner.types.Refusal.TheVariants.{Idle, Me
 use Rattle.iobufs_owner.specs.declared.owner.types.Reply.{Reply}
 use Rattle.iobufs_owner.specs.State.{State, Seen, Room as Space, call_at}
 use Rattle.iobufs_owner.specs.Changes.{Outcome, refused}
-use Rattle.iobufs_owner.specs.Lending.{owning_view_of}
+use Rattle.iobufs_owner.specs.Lending.{lend_owning_view_of}
 use Rattle.iobufs_owner.specs.ShortCalls as short
-use Rattle.iobufs_owner.specs.Moves.{IsBegun, IsMoved, IsMovedAt, IsTaken}
+use Rattle.iobufs_owner.specs.Moves.{IsBegun, IsMoved, IsMovedAt, IsCarriedOut}
 use Rattle.iobufs_owner.specs.Runs.{IsStep}
 
 -- ---- one outcome
@@ -41,8 +41,8 @@ one-granted s base size align true o u (k, e, f) (l, g, h) =
     f ∙ ap (λ log. short.placed s base size log) (one-log k l (sym e ∙ g)) ∙ sym h
 one-granted s base size align false o u e f = e ∙ sym f
 
-one-new : (s : State) (base size align : ℕ) (memory : Bool) (o u : Outcome) → short.IsNew s base size align memory o
-    → short.IsNew s base size align memory u → o ≡ u
+one-new : (s : State) (base size align : ℕ) (memory : Bool) (o u : Outcome) → short.IsAllocated s base size align memory o
+    → short.IsAllocated s base size align memory u → o ≡ u
 one-new s base size align memory o u (inl (bad, e)) (inl (other, f)) = e ∙ sym f
 one-new s base size align memory o u (inl (bad, e)) (inr (good, f)) = absurd (bad good)
 one-new s base size align memory o u (inr (good, e)) (inl (bad, f)) = absurd (bad good)
@@ -76,7 +76,7 @@ one-begun s p (Freeze h) memory o u e f = e ∙ sym f
 one-begun s p (TryIntoMut h) memory o u e f = e ∙ sym f
 one-begun s p (SplitTo h at) memory o u e f = e ∙ sym f
 one-begun s p (IsUnique h) memory o u e f = e ∙ sym f
-one-begun s p (Demote h) memory o u e f = one-demoted s h (owning_view_of s h) o u e f
+one-begun s p (Demote h) memory o u e f = one-demoted s h (lend_owning_view_of s h) o u e f
 one-begun s p (Clone h) memory o u e f = e ∙ sym f
 one-begun s p (Slice h lo hi) memory o u e f = e ∙ sym f
 one-begun s p (Drop h) memory o u e f = e ∙ sym f
@@ -101,7 +101,7 @@ one-outcome s step o u e f = one-party s step o u (nat_lt step.party (length s.c
 abbrev AreAlike : (reply answer : Reply) (next other : State) → Type 0
 AreAlike reply answer next other = (answer ≡ reply) × (other ≡ next)
 
-one-taken : (m : Seen) (o : Outcome) (reply answer : Reply) (next other : State) → IsTaken m o reply next → IsTaken m o answer other
+one-taken : (m : Seen) (o : Outcome) (reply answer : Reply) (next other : State) → IsCarriedOut m o reply next → IsCarriedOut m o answer other
     → AreAlike reply answer next other
 one-taken m o reply answer next other (inl (n, e, f)) (inl (k, g, h)) = (g ∙ sym e, h ∙ sym f)
 one-taken m o reply answer next other (inl (n, e, f)) (inr (w, g, h)) = absurd (n w)
@@ -115,11 +115,12 @@ same-seen : (n m : Seen) → n.state ≡ m.state → n.room ≡ m.room → n ≡
 unfolding with-room
 same-seen n m e f = ap (λ (s : State). with-room s n.room) e ∙ ap (λ (r : Space). with-room m.state r) f
 
+-- two outcomes of one step of one machine are the same answer and the same machine
 pub one-answer : (m next other : Seen) (step : Step) (reply answer : Reply) → IsStep m step reply next → IsStep m step answer other
     → (answer ≡ reply) × (other ≡ next)
 one-answer m next other step reply answer one two =
     let (o, moved, taken) = one.moves in
     let (u, also, took) = two.moves in
     let e = one-outcome m.state step u o also moved in
-    let a = one-taken m o reply answer next.state other.state taken (subst (λ (o : Outcome). IsTaken m o answer other.state) e took) in
+    let a = one-taken m o reply answer next.state other.state taken (subst (λ (o : Outcome). IsCarriedOut m o answer other.state) e took) in
     (a.0, same-seen other next a.1 (two.room ∙ sym one.room))

@@ -7,7 +7,7 @@ use Rattle.iobufs_owner.specs.declared.owner.types.Step.{Step}
 use Rattle.iobufs_owner.specs.declared.owner.types.Reply.{Reply}
 use Rattle.iobufs_owner.specs.State.{Seen, State, Room as Space, HasGrown, KeepsLogs, IsBeginning}
 use Rattle.iobufs_owner.specs.Changes.{Outcome}
-use Rattle.iobufs_owner.specs.Moves.{IsTaken, Moves, WantsRoom}
+use Rattle.iobufs_owner.specs.Moves.{IsCarriedOut, Moves, WantsRoom}
 use Rattle.iobufs_owner.specs.Runs.{GrowingRuns}
 use Rattle.iobufs_owner.specs.Reserved.{HasMemory, IsFew, IsReserved, FindsRoom, adds_block, blocks_of, new_blocks}
 use Rattle.iobufs_owner.proofs.WorldSteps.Modest.{IsModest, modest, logs-same}
@@ -22,19 +22,22 @@ wants-none m o block r n (inr (inr (grows, inl full))) = let l = r.records in om
 wants-none m o block r n (inr (inr (grows, inr many))) = let l = r.few_records in omega (arith, l, many)
 
 taken-finds : (m : Seen) (o : Outcome) (block : Bool) (reply : Reply) (next : State) → IsReserved m (cond block 1 0) 1 → IsModest m.state block o
-    → IsTaken m o reply next → FindsRoom reply
+    → IsCarriedOut m o reply next → FindsRoom reply
 taken-finds m o block reply next r n (inl (found, e, f)) = λ q. n.answers (sym e ∙ q)
 taken-finds m o block reply next r n (inr (w, e, f)) = λ _. wants-none m o block r n w
 
+-- a step of a machine with room for its block and for one step isn't refused for want of room
 pub finds : (m : Seen) (step : Step) (reply : Reply) (next : Seen) → Moves m step reply next → IsReserved m (new_blocks step.act) 1 → FindsRoom reply
 finds m step reply next (o, moved, taken) r = taken-finds m o (adds_block step.act) reply next.state r (modest m.state step o moved) taken
 
 -- ---- the logs
 
-taken-logs : (m : Seen) (o : Outcome) (block : Bool) (reply : Reply) (next : State) → IsModest m.state block o → IsTaken m o reply next → KeepsLogs m.state next
+taken-logs : (m : Seen) (o : Outcome) (block : Bool) (reply : Reply) (next : State) → IsModest m.state block o → IsCarriedOut m o reply next
+    → KeepsLogs m.state next
 taken-logs m o block reply next n (inl (found, e, f)) = rw f n.logs
 taken-logs m o block reply next n (inr (w, e, f)) = rw f (logs-same m.state)
 
+-- a step leaves in the logs what they have, and adds behind it
 pub keeps-logs : (m : Seen) (step : Step) (reply : Reply) (next : Seen) → Moves m step reply next → KeepsLogs m.state next.state
 keeps-logs m step reply next (o, moved, taken) = taken-logs m o (adds_block step.act) reply next.state (modest m.state step o moved) taken
 
@@ -46,7 +49,7 @@ record IsLeft (m next : Seen) (blocks : ℕ) : Type 0 where
   records : length next.state.tables.records ≤ length m.state.tables.records + 1
   more : length next.state.tables.blocks ≤ length m.state.tables.blocks + blocks
 
-taken-left : (m : Seen) (o : Outcome) (block : Bool) (reply : Reply) (next : Seen) → IsModest m.state block o → IsTaken m o reply next.state
+taken-left : (m : Seen) (o : Outcome) (block : Bool) (reply : Reply) (next : Seen) → IsModest m.state block o → IsCarriedOut m o reply next.state
     → IsLeft m next (cond block 1 0)
 taken-left m o block reply next n (inl (found, e, f)) = record { handles = rw f n.handles; records = rw f n.records; more = rw f n.blocks }
 taken-left m o block reply next n (inr (w, e, f)) = record { handles = rw f (omega arith); records = rw f (omega arith); more = rw f (omega arith) }
@@ -110,6 +113,7 @@ find-each m (step ∷ steps) (reply ∷ replies) next (grown, mid, has, one, oth
       find-each mid steps replies next others (moves-left grown step reply mid (blocks_of steps) _ (length steps) e one.moves one.room g),
     )
 
+-- no step of a run in which tables may grow is refused for want of room, where the machine has room for its blocks and steps
 pub find : (m : Seen) (steps : List Step) (replies : List Reply) (next : Seen) → GrowingRuns m steps replies next
     → IsReserved m (blocks_of steps) (length steps) → All FindsRoom replies
 find m steps replies next r i = All-from_recursion FindsRoom replies (find-each m steps replies next r i)
@@ -129,6 +133,7 @@ reserved m made steps held few =
 begins-through : {X : Type 0} (a b c : List X) → IsBeginning a b → IsBeginning b c → IsBeginning a c
 begins-through a b c (m, e) (n, f) = (m ++ n, f ∙ ap (λ l. l ++ n) e ∙ append_assoc a m n)
 
+-- a run in which tables may grow leaves in the logs what they have, and adds behind it
 pub logs-run : (m : Seen) (steps : List Step) (replies : List Reply) (next : Seen) → GrowingRuns m steps replies next → KeepsLogs m.state next.state
 logs-run m [] [] next r = subst (λ (n : Seen). KeepsLogs m.state n.state) (sym r) (logs-same m.state)
 logs-run m [] (reply ∷ replies) next r = absurd r

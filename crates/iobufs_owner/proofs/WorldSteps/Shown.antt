@@ -1,4 +1,4 @@
--- What the reading of a machine shows at a place.
+-- What users see under a number is what the tables have there, read: a handle, its capacity, and the cause against it.
 use Rattle.std.proofs.Common.{◌≡◌, ℕ, zero, suc, Bool, true, false, cond, Option, Some, None, Result, Ok, Err, List, [], ◌∷◌, map, get_or, sym, refl, arith}
 use Rattle.iobufs_owner.specs.declared.owner.types.Handle.{Handle}
 use Rattle.iobufs_owner.specs.declared.owner.types.Kind.{Kind}
@@ -11,7 +11,7 @@ use Rattle.iobufs_owner.specs.declared.owner.types.Refusal.{Refusal}
 use Rattle.iobufs_owner.specs.declared.owner.types.Refusal.TheVariants.{WrongKind, Borrowed}
 use Rattle.iobufs_owner.specs.State.{State, Tables, owner_of, handle_at}
 use Rattle.iobufs_owner.specs.Sound.{IsSound, FitsWord}
-use Rattle.iobufs_owner.proofs.Soundness.Kept.{owner-empty, owner-counted}
+use Rattle.iobufs_owner.proofs.Soundness.StaysSound.{owner-empty, owner-counted}
 use Rattle.iobufs_owner.proofs.Soundness.Edits.{fits-at}
 use Rattle.iobufs_owner.specs.World.{Held, held_at, borrows, is_shared}
 use Rattle.iobufs_owner.specs.Reading.{reading, read_handle, read_held, read_call}
@@ -20,11 +20,13 @@ use Rattle.iobufs_owner.specs.Lending.{lend_of, lend_found, is_lent, borrows_it}
 use Rattle.iobufs_owner.specs.Kinds.{same_kind}
 use Rattle.iobufs_owner.specs.Steps.{alone_of, alone_found, any_of, any_found, view_of, view_found, capacity, capacity_in}
 
+-- what a mapped list has at a place is what the list has there, mapped, and so behind its end
 pub get_or-read : {X Y : Type 0} (f : X → Y) (xs : List X) (i : ℕ) (d : X) → get_or (map f xs) i (f d) ≡ f (get_or xs i d)
 get_or-read f [] i d = refl
 get_or-read f (x ∷ xs) zero d = refl
 get_or-read f (x ∷ xs) (suc i) d = get_or-read f xs i d
 
+-- users see under a number the handle of the tables, read
 pub held-reads : (s : State) (h : ℕ) → held_at (reading s) h ≡ read_handle s.tables (handle_at s h)
 held-reads s h = get_or-read (read_handle s.tables) s.handles h None
 
@@ -36,6 +38,7 @@ borrow-reads g h (Some (Add k r)) = refl
 borrow-reads g h (Some (Subtract r)) = refl
 borrow-reads g h (Some (Release r)) = refl
 
+-- users see a handle borrowed exactly where a call of the tables borrows it
 pub shared-reads : (g : Tables) (h : ℕ) (cs : List (Option Pending)) → is_shared h (map (read_call g) cs) ≡ is_lent h cs
 shared-reads g h [] = refl
 shared-reads g h (c ∷ cs) = rw (borrow-reads g h c, shared-reads g h cs) refl
@@ -59,6 +62,7 @@ view-found-reads : (g : Tables) (x : Handle) (u : Bool) → cond u (Ok (read_hel
 view-found-reads g x true = refl
 view-found-reads g x false = refl
 
+-- users see the handle of this kind that a call may have alone, or the same cause against it
 pub alone-reads : (s : State) (h : ℕ) (kind : Kind) → alone_of (reading s) h kind ≡ read_lent s.tables (lend_of s h kind)
 alone-reads s h kind =
     let by : (o : Option Handle) → alone_found (reading s) h kind (read_handle s.tables o) ≡ read_lent s.tables (lend_found s h kind o) =
@@ -68,24 +72,27 @@ alone-reads s h kind =
     ] in
     rw (held-reads s h) (by (handle_at s h))
 
-pub any-reads : (s : State) (h : ℕ) → any_of (reading s) h ≡ read_lent s.tables (lending.any_of s h)
+-- users see the handle of either kind that a call may have alone, or the same cause against it
+pub any-reads : (s : State) (h : ℕ) → any_of (reading s) h ≡ read_lent s.tables (lending.lend_any_of s h)
 any-reads s h =
-    let by : (o : Option Handle) → any_found (reading s) h (read_handle s.tables o) ≡ read_lent s.tables (lending.any_found s h o) =
-    λ o. elim o as (λ o. any_found (reading s) h (read_handle s.tables o) ≡ read_lent s.tables (lending.any_found s h o)) [
+    let by : (o : Option Handle) → any_found (reading s) h (read_handle s.tables o) ≡ read_lent s.tables (lending.lend_any_found s h o) =
+    λ o. elim o as (λ o. any_found (reading s) h (read_handle s.tables o) ≡ read_lent s.tables (lending.lend_any_found s h o)) [
       | None ↦ refl
       | Some x ↦ rw (shared-reads s.tables h s.calls) (any-found-reads s.tables x (is_lent h s.calls))
     ] in
     rw (held-reads s h) (by (handle_at s h))
 
-pub view-reads : (s : State) (h : ℕ) → view_of (reading s) h ≡ read_lent s.tables (lending.view_of s h)
+-- users see the view that a call may share, or the same cause against it
+pub view-reads : (s : State) (h : ℕ) → view_of (reading s) h ≡ read_lent s.tables (lending.lend_view_of s h)
 view-reads s h =
-    let by : (o : Option Handle) → view_found (read_handle s.tables o) ≡ read_lent s.tables (lending.view_found o) =
-    λ o. elim o as (λ o. view_found (read_handle s.tables o) ≡ read_lent s.tables (lending.view_found o)) [
+    let by : (o : Option Handle) → view_found (read_handle s.tables o) ≡ read_lent s.tables (lending.lend_view_found o) =
+    λ o. elim o as (λ o. view_found (read_handle s.tables o) ≡ read_lent s.tables (lending.lend_view_found o)) [
       | None ↦ refl
       | Some x ↦ view-found-reads s.tables x (same_kind x.kind View)
     ] in
     rw (held-reads s h) (by (handle_at s h))
 
+-- in a sound machine the capacity that users see of a writable handle is its own
 pub capacity-reads : (s : State) (h : ℕ) (x : Handle) → IsSound s → handle_at s h ≡ Some x → x.kind ≡ Mut → capacity (reading s) (read_held s.tables x) ≡ x.cap
 capacity-reads s h x k at m =
     let by : (w : Word) → x.word ≡ w → FitsWord s.tables s.calls x w → capacity_in (reading s) x.ptr (owner_of s.tables x) ≡ x.cap =

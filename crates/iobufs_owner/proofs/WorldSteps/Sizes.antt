@@ -10,7 +10,7 @@ use Rattle.iobufs_owner.specs.State.{State, Seen, Room as Space, KeepsRoom}
 use Rattle.iobufs_owner.specs.Changes.{Outcome}
 use Rattle.iobufs_owner.specs.Reserved.{HasMemory}
 use Rattle.iobufs_owner.specs.Sound.{IsInSize, IsSound}
-use Rattle.iobufs_owner.specs.Moves.{WantsRoom, IsMoved, IsTaken, Moves, Took}
+use Rattle.iobufs_owner.specs.Moves.{WantsRoom, IsMoved, IsCarriedOut, Moves, Took}
 
 pub keeps-room : (r : Space) → KeepsRoom r r
 keeps-room r = (omega arith, omega arith, omega arith)
@@ -28,6 +28,7 @@ entries s = record { handles = length s.handles; blocks = length s.tables.blocks
 abbrev pub Grows : State → State → Type 0
 Grows s t = (length s.handles < length t.handles) ⊎ (length s.tables.blocks < length t.tables.blocks) ⊎ (length s.tables.records < length t.tables.records)
 
+-- where all tables have as many entries, none has more
 pub grows-never : (s t : State) → entries t ≡ entries s → Grows s t → ⊥
 grows-never s t e (inl l) = let a = ap (λ (n : Entries). n.handles) e in omega (arith, a, l)
 grows-never s t e (inr (inl l)) = let a = ap (λ (n : Entries). n.blocks) e in omega (arith, a, l)
@@ -48,7 +49,8 @@ wants-grows m t (inl w) = inl w.0
 wants-grows m t (inr (inl w)) = inr (inl w.0)
 wants-grows m t (inr (inr w)) = inr (inr w.0)
 
-pub answered : (m : Seen) (o : Outcome) (reply : Reply) (t : State) → IsTaken m o reply t → IsAnswered m.state o reply t
+-- what the tables say of a step is done, or it would add an entry, answers want of room and changes nothing
+pub answered : (m : Seen) (o : Outcome) (reply : Reply) (t : State) → IsCarriedOut m o reply t → IsAnswered m.state o reply t
 answered m o reply t (inl (found, e, f)) = inl (e, f)
 answered m o reply t (inr (w, e, f)) = inr (record { grows = wants-grows m o.state w; refused = e; same = f })
 
@@ -77,7 +79,7 @@ found m next t e f size held (inr (inr (grows, full))) =
 
 -- a result as a reply
 taken-of : (m : Seen) (o : Outcome) (result : Result Reply Full) (next : Seen) → IsInSize next.state → HasMemory next 0 0 0 → Took m o result next
-    → IsTaken m o (result_unwrap_or result (Refused Room)) next.state
+    → IsCarriedOut m o (result_unwrap_or result (Refused Room)) next.state
 taken-of m o (Ok reply) next size held (e, f, k) = inl (found m next o.state f k size held, e, f)
 taken-of m o (Err full) next size held (w, e) = inr (w, refl, ap (λ (n : Seen). n.state) e)
 
@@ -85,10 +87,13 @@ room-of : (m : Seen) (o : Outcome) (result : Result Reply Full) (next : Seen) �
 room-of m o (Ok reply) next (e, f, k) = k
 room-of m o (Err full) next (w, e) = ap (λ (n : Seen). n.room) e
 
+-- a step leaves the room of each table, whichever its result
 pub moves-keep : (m : Seen) (step : Step) (result : Result Reply Full) (next : Seen) → (o : Outcome) × IsMoved m.state step o × Took m o result next
     → next.room ≡ m.room
 moves-keep m step result next (o, moved, took) = room-of m o result next took
 
+-- what the code does is a move of the machine, with want of room for an error, where the state behind it is sound and the
+-- tables there have memory for their entries
 pub moves-of : (m : Seen) (step : Step) (result : Result Reply Full) (next : Seen) → IsSound next.state → HasMemory next 0 0 0 → (o : Outcome)
     × IsMoved m.state step o × Took m o result next → Moves m step (result_unwrap_or result (Refused Room)) next
 moves-of m step result next sound held (o, moved, took) = (o, moved, taken-of m o result next sound.size held took)

@@ -87,9 +87,9 @@ unique-free w next b reply v true (e, f) q = absurd (let z = sym e ∙ q in cc)
 unique-free w next b reply v false (e, f) q = let z : Unique (nat_eq (holders w b) 1) ≡ Unique v = sym e ∙ q in cc
 
 unique-block : (w next : World) (h b : ℕ) (reply : Reply) (v : Bool) (o : Option ℕ) → o ≡ Some b
-    → world.UniqueIs w (world.with_block w h o) reply next → reply ≡ Unique v → v ≡ nat_eq (holders w b) 1
+    → world.UniqueIs w (world.unborrowed_block w h o) reply next → reply ≡ Unique v → v ≡ nat_eq (holders w b) 1
 unique-block w next h b reply v o e m q =
-    unique-free w next b reply v (is_shared h w.calls) (subst (λ (o : Option ℕ). world.UniqueIs w (world.with_block w h o) reply next) e m) q
+    unique-free w next b reply v (is_shared h w.calls) (subst (λ (o : Option ℕ). world.UniqueIs w (world.unborrowed_block w h o) reply next) e m) q
 
 unique-at : (w next : World) (h b : ℕ) (x : Held) (reply : Reply) (v : Bool) (o : Option Held) → o ≡ Some x → x.block ≡ Some b
     → world.UniqueIs w (world.block_found w h o) reply next → reply ≡ Unique v → v ≡ nat_eq (holders w b) 1
@@ -117,6 +117,7 @@ unique-by w next step h b memory v false x reply m act at block q = absurd (let 
 eq-yes : (m n : ℕ) → m ≡ n → nat_eq m n ≡ true
 eq-yes m n e = grind (arith, nat_tests)
 
+-- a step of the world answers that a handle is unique exactly where no other handle and no unfinished drop holds its block
 pub tells-unique : (w next : World) (step : Step) (reply : Reply) → Steps w step reply next → TellsUnique w step reply
 tells-unique w next step reply m = λ h b memory v x act q at block.
     let e = unique-by w next step h b memory v (nat_lt step.party (length w.calls)) x reply m act at block q in

@@ -18,10 +18,10 @@ use Rattle.iobufs_owner.specs.Changes.{refused, made, edited, part, counted, wit
 use Rattle.iobufs_owner.specs.Lending.{lend_of, Lends}
 use Rattle.iobufs_owner.specs.ShortCalls.{promoted}
 use Rattle.iobufs_owner.specs.Steps as world
-use Rattle.iobufs_owner.specs.Steps.{NoRoom, Denied, Makes, Refuses, IsOver, held_set, part_of}
+use Rattle.iobufs_owner.specs.Steps.{NoRoom, Denied, Makes, Refuses, IsAboveCeiling, held_set, part_of}
 use Rattle.iobufs_owner.proofs.WorldSteps.Sizes.{IsAnswered}
 use Rattle.iobufs_owner.proofs.Soundness.Keeps.{calls-read-kept}
-use Rattle.iobufs_owner.proofs.Soundness.Kept.{owner-empty, owner-counted}
+use Rattle.iobufs_owner.proofs.Soundness.StaysSound.{owner-empty, owner-counted}
 use Rattle.iobufs_owner.proofs.WorldSteps.Lent.{lend-tells}
 use Rattle.iobufs_owner.proofs.Soundness.Frames.{handles-kept, is-eqb}
 use Rattle.iobufs_owner.proofs.WorldSteps.Shown.{alone-reads, read_lent}
@@ -34,8 +34,8 @@ use Rattle.iobufs_owner.proofs.WorldSteps.Taken.{refused-taken, made-taken, read
 -- what the world says of a split inside the view, by the block
 abbrev Splits : State → (h at : ℕ) → Handle → Bool → Option ℕ → Reply → World → Type 0
 Splits s h at x memory o reply next =
-    (IsOver (reading s) o × Refuses (reading s) Ceiling reply next)
-    ⊎ ((IsOver (reading s) o → ⊥)
+    (IsAboveCeiling (reading s) o × Refuses (reading s) Ceiling reply next)
+    ⊎ ((IsAboveCeiling (reading s) o → ⊥)
     × (Denied (reading s) o memory reply next ⊎ NoRoom (reading s) reply next
     ⊎ Makes (held_set (reading s) h (part_of (read_held s.tables x) at x.len)) (part_of (read_held s.tables x) 0 at) reply next))
 
@@ -141,17 +141,18 @@ split-lent s t h at memory reply (Err why) k e i = refused-taken s t why reply i
 split-lent s t h at memory reply (Ok x) k e i =
     let l = lend-tells s h View x e in
     by-test _ _ s t (refused s OutOfRange)
-    (cond (nat_eq at 0) (made s (change.detached 0))
-    (cond (nat_eq at x.len) (made (edited s h (change.detached 0)) x) (short.split_by s h at memory x x.word))) reply (nat_lt x.len at)
+    (cond (nat_eq at 0) (made s (change.detached_handle 0))
+    (cond (nat_eq at x.len) (made (edited s h (change.detached_handle 0)) x) (short.split_by s h at memory x x.word))) reply (nat_lt x.len at)
     (λ _ i. refused-taken s t OutOfRange reply i)
-    (λ _ i. by-test _ _ s t (made s (change.detached 0))
-    (cond (nat_eq at x.len) (made (edited s h (change.detached 0)) x) (short.split_by s h at memory x x.word)) reply (nat_eq at 0)
-    (λ _ i. made-taken s s t (reading s) (change.detached 0) (world.detached 0) reply refl (reads-detached s.tables 0) i)
-    (λ _ i. by-test _ _ s t (made (edited s h (change.detached 0)) x) (short.split_by s h at memory x x.word) reply (nat_eq at x.len)
-    (λ _ i. made-taken s (edited s h (change.detached 0)) t (held_set (reading s) h (world.detached 0)) x (read_held s.tables x) reply
-    (reads-edited s h (change.detached 0) (world.detached 0) (reads-detached s.tables 0)) refl i)
+    (λ _ i. by-test _ _ s t (made s (change.detached_handle 0))
+    (cond (nat_eq at x.len) (made (edited s h (change.detached_handle 0)) x) (short.split_by s h at memory x x.word)) reply (nat_eq at 0)
+    (λ _ i. made-taken s s t (reading s) (change.detached_handle 0) (world.detached 0) reply refl (reads-detached s.tables 0) i)
+    (λ _ i. by-test _ _ s t (made (edited s h (change.detached_handle 0)) x) (short.split_by s h at memory x x.word) reply (nat_eq at x.len)
+    (λ _ i. made-taken s (edited s h (change.detached_handle 0)) t (held_set (reading s) h (world.detached 0)) x (read_held s.tables x) reply
+    (reads-edited s h (change.detached_handle 0) (world.detached 0) (reads-detached s.tables 0)) refl i)
     (λ _ i. split-word s t h at x memory reply x.word k l refl i) i) i) i
 
+-- users of a sound machine see a split as that of the view that they see under the number
 pub split-steps : (s t : State) (h at : ℕ) (memory : Bool) (reply : Reply) → IsSound s → IsAnswered s (short.split_of s h at memory) reply t
     → world.SplitIs (reading s) h at memory (world.alone_of (reading s) h View) reply (reading t)
 split-steps s t h at memory reply k i = rw (alone-reads s h View) (split-lent s t h at memory reply (lend_of s h View) k refl i)

@@ -70,6 +70,7 @@ by-party : (s t : State) (step : Step) (o : Outcome) (reply : Reply) (v : Bool) 
 by-party s t step o reply true k m i = acts s t step.party step.act (call_at s step.party) o reply k refl m i
 by-party s t step o reply false k m i = refused-taken s t Idle reply (by-outcome s t o _ reply m i)
 
+-- users of a sound machine see a move of it as a step of the world
 pub steps-of : (m n : Seen) (step : Step) (reply : Reply) → IsSound m.state → Moves m step reply n → Steps (reading m.state) step reply (reading n.state)
 steps-of m n step reply k (o, f, i) =
     rw (length-map, get_or-read (read_call m.state.tables) m.state.calls step.party None)
@@ -77,6 +78,7 @@ steps-of m n step reply k (o, f, i) =
 
 -- ---- what is refused before a call is looked at
 
+-- a step of a party that isn't there is refused as idle
 pub moved-nobody : (s : State) (step : Step) → length s.calls ≤ step.party → IsMoved s step (refused s Idle)
 moved-nobody s step l = let e : nat_lt step.party (length s.calls) ≡ false = grind (arith, nat_tests) in rw e refl
 
@@ -85,6 +87,7 @@ idle-at s p (Begin call memory) m c e n = absurd (cc)
 idle-at s p (Go memory) m None e n = refl
 idle-at s p (Go memory) m (Some c) e n = absurd (cc)
 
+-- a step that goes on is refused as idle where its party has no call
 pub moved-idle : (s : State) (step : Step) (memory : Bool) → step.party < length s.calls → step.act ≡ Go memory → call_at s step.party ≡ None
     → IsMoved s step (refused s Idle)
 moved-idle s step memory l a n = let e : nat_lt step.party (length s.calls) ≡ true =
@@ -96,6 +99,7 @@ busy-at s p (Begin call memory) b m None d e n = absurd (cc)
 busy-at s p (Begin call memory) b m (Some c) d e n = refl
 busy-at s p (Go memory) b m c d e n = absurd (cc)
 
+-- a step that begins a call is refused as busy where its party has one
 pub moved-busy : (s : State) (step : Step) (call : Call) (memory : Bool) (d : Pending) → step.party < length s.calls → step.act ≡ Begin call memory
     → call_at s step.party ≡ Some d → IsMoved s step (refused s Busy)
 moved-busy s step call memory d l a n = let e : nat_lt step.party (length s.calls) ≡ true =
@@ -107,6 +111,7 @@ goes-at s p (Begin call memory) m c d e n = absurd (cc)
 goes-at s p (Go memory) m None d e n = absurd (cc)
 goes-at s p (Go memory) m (Some c) d e n = let a : c ≡ d = cc in let b : memory ≡ m = cc in rw (a, b) refl
 
+-- a step that goes on does what its party's call does next
 pub moved-goes : (s : State) (step : Step) (memory : Bool) (d : Pending) → step.party < length s.calls → step.act ≡ Go memory
     → call_at s step.party ≡ Some d → IsMoved s step (gone_on s step.party d memory)
 moved-goes s step memory d l a n = let e : nat_lt step.party (length s.calls) ≡ true =

@@ -21,7 +21,7 @@ use Rattle.iobufs_owner.specs.ShortCalls.{declined, thawed, is_unique}
 use Rattle.iobufs_owner.specs.Steps as world
 use Rattle.iobufs_owner.specs.Steps.{Declines, MayRecover, held_set}
 use Rattle.iobufs_owner.proofs.WorldSteps.Sizes.{IsAnswered, grows-never}
-use Rattle.iobufs_owner.proofs.Soundness.Kept.{owner-empty, owner-counted}
+use Rattle.iobufs_owner.proofs.Soundness.StaysSound.{owner-empty, owner-counted}
 use Rattle.iobufs_owner.proofs.WorldSteps.Lent.{lend-tells}
 use Rattle.iobufs_owner.proofs.Soundness.Frames.{is-eqb}
 use Rattle.iobufs_owner.proofs.WorldSteps.Shown.{alone-reads, read_lent, held-reads, shared-reads}
@@ -88,6 +88,7 @@ recover-lent : (s t : State) (h : ℕ) (reply : Reply) (r : Result Handle Refusa
 recover-lent s t h reply (Err why) k e i = refused-taken s t why reply i
 recover-lent s t h reply (Ok x) k e i = recover-word s t h x reply x.word k (lend-tells s h View x e) refl i
 
+-- users of a sound machine see a recovery as that of the view that they see under the number
 pub recover-steps : (s t : State) (h : ℕ) (reply : Reply) → IsSound s → IsAnswered s (short.recover_of s h) reply t
     → world.RecoverIs (reading s) h (world.alone_of (reading s) h View) reply (reading t)
 recover-steps s t h reply k i = rw (alone-reads s h View) (recover-lent s t h reply (lend_of s h View) k refl i)
@@ -117,26 +118,27 @@ is-unique-counted s h r x Mut k at w e =
 
 unique-word : (s t : State) (h : ℕ) (x : Handle) (reply : Reply) (w : Word) → IsSound s → handle_at s h ≡ Some x → x.word ≡ w
     → IsAnswered s (short.unique_lent s (cond (lending.is_empty w) (Err WrongKind) (cond (is_lent h s.calls) (Err Borrowed) (Ok x)))) reply t
-    → world.UniqueIs (reading s) (world.with_block (reading s) h (owner_of s.tables x)) reply (reading t)
+    → world.UniqueIs (reading s) (world.unborrowed_block (reading s) h (owner_of s.tables x)) reply (reading t)
 unique-word s t h x reply Empty k at w i = rw (owner-empty s.tables x w) (refused-taken s t WrongKind reply i)
 unique-word s t h x reply (Descriptor v) k at w i =
     let d = described-at s h x v k at w in
     let one = alone-at s h x d.block k at (alone-described s.tables d.block x v w ∙ ap (is_block d.block) d.says.owner ∙ is-eqb d.block d.block refl) in
-    subst (λ (o : Option ℕ). world.UniqueIs (reading s) (world.with_block (reading s) h o) reply (reading t)) (sym d.says.owner)
+    subst (λ (o : Option ℕ). world.UniqueIs (reading s) (world.unborrowed_block (reading s) h o) reply (reading t)) (sym d.says.owner)
     (rw (shared-reads s.tables h s.calls)
     (unique-answers s t h d.block x reply (is_lent h s.calls) (ap (is_unique s.tables x) w ∙ sym (is-eqb (holders (reading s) d.block) 1 one)) i))
 unique-word s t h x reply (Counted r) k at w i =
-    subst (λ (o : Option ℕ). world.UniqueIs (reading s) (world.with_block (reading s) h o) reply (reading t)) (sym (owner-counted s.tables x r w))
+    subst (λ (o : Option ℕ). world.UniqueIs (reading s) (world.unborrowed_block (reading s) h o) reply (reading t)) (sym (owner-counted s.tables x r w))
     (rw (shared-reads s.tables h s.calls)
     (unique-answers s t h (record_at s.tables r).block x reply (is_lent h s.calls)
     (ap (is_unique s.tables x) w ∙ is-unique-counted s h r x x.kind k at w refl) i))
 
 unique-found : (s t : State) (h : ℕ) (reply : Reply) (o : Option Handle) → IsSound s → handle_at s h ≡ o
-    → IsAnswered s (short.unique_lent s (lending.owning_found s h o)) reply t
+    → IsAnswered s (short.unique_lent s (lending.lend_owning_found s h o)) reply t
     → world.UniqueIs (reading s) (world.block_found (reading s) h (read_handle s.tables o)) reply (reading t)
 unique-found s t h reply None k at i = refused-taken s t NoHandle reply i
 unique-found s t h reply (Some x) k at i = unique-word s t h x reply x.word k at refl i
 
+-- users of a sound machine see the question for uniqueness as that of the block of the handle that they see under the number
 pub unique-steps : (s t : State) (h : ℕ) (reply : Reply) → IsSound s → IsAnswered s (short.unique_of s h) reply t
     → world.UniqueIs (reading s) (world.block_of (reading s) h) reply (reading t)
 unique-steps s t h reply k i = rw (held-reads s h) (unique-found s t h reply (handle_at s h) k refl i)
@@ -146,5 +148,6 @@ unique-same : (s : State) (r : Result Handle Refusal) → s ≡ (short.unique_le
 unique-same s (Err why) = refl
 unique-same s (Ok x) = refl
 
+-- the question for uniqueness leaves the state
 pub unique-state : (s : State) (h : ℕ) → s ≡ (short.unique_of s h).state
-unique-state s h = unique-same s (lending.owning_of s h)
+unique-state s h = unique-same s (lending.lend_owning_of s h)

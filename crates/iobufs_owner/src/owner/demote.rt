@@ -4,7 +4,7 @@ ghost use Rattle.iobufs_owner.specs.declared.owner.types.Kind.TheVariants.{View}
 ghost use Rattle.iobufs_owner.specs.declared.owner.types.Word.TheVariants.{Record as Counted};
 ghost use Rattle.iobufs_owner.specs.ShortCalls as short;
 ghost use Rattle.iobufs_owner.specs.Changes.{Outcome};
-ghost use Rattle.iobufs_owner.specs.Lending.{Lends, owning_view_of};
+ghost use Rattle.iobufs_owner.specs.Lending.{Lends, lend_owning_view_of};
 ghost use Rattle.iobufs_owner.specs.ShortCalls.{IsDemoted};
 ghost use Rattle.iobufs_owner.specs.State.{record_at, block_at};
 
@@ -14,7 +14,7 @@ impl Machine {
     /// A view's record is freed, where it counts the view alone and a descriptor can stand in its place.
     pub(super) fn demote(&mut self, h: usize) -> Reply
         ensures { (o : Outcome)
-            × IsDemoted self.old.state h (owning_view_of self.old.state h) o
+            × IsDemoted self.old.state h (lend_owning_view_of self.old.state h) o
             × (result ≡ o.reply)
             × (self.new.state ≡ o.state)
             × (self.new.room ≡ self.old.room) }

@@ -49,7 +49,7 @@ impl Machine {
     fn freeze_nothing(&mut self, h: usize, x: Handle) -> Reply
         requires { Lends self.old.state h Mut x }
         ensures reply { result ≡ Done }
-        ensures state { self.new.state ≡ edited (short.freed_with self.old.state x x.word) h (change.detached 0) }
+        ensures state { self.new.state ≡ edited (short.freed_with self.old.state x x.word) h (change.detached_handle 0) }
         ensures room { self.new.room ≡ self.old.room }
     {
         match x.word {
@@ -64,7 +64,7 @@ impl Machine {
     fn detach(&mut self, h: usize, x: Handle)
         requires lent { Lends self.old.state h Mut x }
         requires word { x.word ≡ Empty }
-        ensures state { self.new.state ≡ edited self.old.state h (change.detached 0) }
+        ensures state { self.new.state ≡ edited self.old.state h (change.detached_handle 0) }
         ensures room { self.new.room ≡ self.old.room }
     {
         self.handles[h] = Some(detached());

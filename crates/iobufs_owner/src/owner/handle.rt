@@ -24,7 +24,7 @@ pub(super) fn part(x: Handle, lo: u64, hi: u64, word: Word) -> Handle
 
 /// A view of no bytes without block.
 pub(super) fn detached() -> Handle
-    ensures { result ≡ change.detached 0 }
+    ensures { result ≡ change.detached_handle 0 }
 {
     Handle {
         kind: Kind::View,

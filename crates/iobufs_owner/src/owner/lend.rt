@@ -1,24 +1,13 @@
 //! Handles as a call asks for them: there, of the right kind, and not borrowed.
-ghost use Rattle.std.specs.Prelude.{◌≡◌, ◌+◌, ◌-◌, ◌^◌, ◌<◌, length, IfOk, IfSome, Some};
+ghost use Rattle.std.specs.Prelude.{◌≡◌, ◌+◌, ◌^◌, ◌<◌, length, IfOk, IfSome};
 ghost use Rattle.iobufs_owner.specs.declared.owner.types.Kind.TheVariants.{View};
-ghost use Rattle.iobufs_owner.specs.declared.owner.types.Word.TheVariants.{Descriptor};
-ghost use Rattle.iobufs_owner.specs.Lending.{is_lent, lend_of, any_of, owning_of, owning_view_of, Lends};
-ghost use Rattle.iobufs_owner.specs.Reserved.{HasMemory};
-ghost use Rattle.iobufs_owner.specs.Sound.{IsSound, DescribesBlock};
-ghost use Rattle.iobufs_owner.specs.State.{handle_at, record_at, block_at, owner_of, owned_by};
+ghost use Rattle.iobufs_owner.specs.Lending.{is_lent, lend_of, lend_any_of, lend_owning_of, lend_owning_view_of, Lends};
+ghost use Rattle.iobufs_owner.specs.Sound.{IsSound};
+ghost use Rattle.iobufs_owner.specs.State.{handle_at};
 
-use crate::owner::handle::end;
-use crate::owner::{Block, Handle, Kind, Machine, Record, Refusal, Word};
+use crate::owner::{Handle, Kind, Machine, Refusal, Word};
 
 impl Machine {
-    /// What the machine keeps true, for the prover: a look at a field tells it.
-    pub(super) fn known(&self)
-        ensures sound { IsSound self.now.state }
-        ensures held { HasMemory self.now 0 0 0 }
-    {
-        let _ = &self.format;
-    }
-
     /// Whether an unfinished call borrows the handle.
     fn is_lent(&self, h: usize) -> bool
         requires { h < length self.now.state.handles }
@@ -61,7 +50,7 @@ impl Machine {
 
     /// The same where either kind may be given.
     pub(super) fn lend_any(&self, h: usize) -> Result<Handle, Refusal>
-        ensures value { result ≡ any_of self.now.state h }
+        ensures value { result ≡ lend_any_of self.now.state h }
         ensures sound { IsSound self.now.state }
         ensures lends { IfOk result (λ x. Lends self.now.state h x.kind x) }
     {
@@ -76,7 +65,7 @@ impl Machine {
 
     /// The same for a handle that has a block.
     pub(super) fn lend_owning(&self, h: usize) -> Result<Handle, Refusal>
-        ensures value { result ≡ owning_of self.now.state h }
+        ensures value { result ≡ lend_owning_of self.now.state h }
         ensures sound { IsSound self.now.state }
         ensures lends { IfOk result (λ x. Lends self.now.state h x.kind x) }
     {
@@ -94,7 +83,7 @@ impl Machine {
 
     /// The same for a view that has a block.
     pub(super) fn lend_owning_view(&self, h: usize) -> Result<Handle, Refusal>
-        ensures value { result ≡ owning_view_of self.now.state h }
+        ensures value { result ≡ lend_owning_view_of self.now.state h }
         ensures sound { IsSound self.now.state }
         ensures lends { IfOk result (Lends self.now.state h View) }
     {
@@ -105,46 +94,5 @@ impl Machine {
             return Err(Refusal::WrongKind);
         }
         self.lend_owning(h)
-    }
-
-    /// The record of this number.
-    pub(super) fn record(&self, r: usize) -> Record
-        requires { r < length self.now.state.tables.records }
-        ensures { result ≡ record_at self.now.state.tables r }
-    {
-        self.records[r]
-    }
-
-    /// The block of this number.
-    pub(super) fn block(&self, b: usize) -> Block
-        requires { b < length self.now.state.tables.blocks }
-        ensures { result ≡ block_at self.now.state.tables b }
-    {
-        self.blocks[b]
-    }
-
-    /// The number of the block that a descriptor of this handle describes: the one at the base that both give.
-    pub(super) fn described(&self, x: Handle, word: u64) -> usize
-        requires word { x.word ≡ Descriptor word }
-        requires says { DescribesBlock self.now.state.tables x word }
-        ensures { owner_of self.now.state.tables x ≡ Some result }
-    {
-        let fields = self.format.unpack(word);
-        let base = end(x, fields.tail) - fields.size;
-        match self.places.last(base, base + 1) {
-            Some(number) => number,
-            None => unreachable!(),
-        }
-    }
-
-    /// The number of the block of a handle with a descriptor.
-    pub(super) fn owned(&self, h: usize, x: Handle, word: u64) -> usize
-        requires at { handle_at self.now.state h ≡ Some x }
-        requires word { x.word ≡ Descriptor word }
-        ensures owner { owner_of self.now.state.tables x ≡ Some result }
-        ensures number { result ≡ owned_by self.now.state.tables x }
-    {
-        self.known();
-        self.described(x, word)
     }
 }

@@ -2,8 +2,8 @@
 ghost use Rattle.std.specs.Prelude.{◌≡◌, ℕ, ◌+◌, ◌^◌, ◌<◌, ◌≤◌, ◌∷◌, [], ◌++◌, length, vec_len, vec_capacity, OnOk, All, true, false};
 ghost use Rattle.iobufs_owner.specs.declared.owner.types.Kind.TheVariants.{Mut};
 ghost use Rattle.iobufs_owner.specs.declared.owner.types.Word.TheVariants.{Record as Counted};
-ghost use Rattle.iobufs_owner.specs.Changes.{Outcome, made, detached, next_record};
-ghost use Rattle.iobufs_owner.specs.ShortCalls.{CanDescribe, IsNew, IsExternal, described_of, recorded_of};
+ghost use Rattle.iobufs_owner.specs.Changes.{Outcome, made, detached_handle, next_record};
+ghost use Rattle.iobufs_owner.specs.ShortCalls.{CanDescribe, IsAllocated, IsExternal, described_of, recorded_of};
 ghost use Rattle.iobufs_owner.specs.Moves.{Took};
 ghost use Rattle.iobufs_owner.specs.Places.{IsPlace, ApartFrom, IsGoodPlace};
 ghost use Rattle.iobufs_owner.specs.Sound.{LiesIn};
@@ -64,7 +64,7 @@ impl Machine {
         memory: bool,
     ) -> Result<Reply, Full>
         ensures { (o : Outcome)
-            × IsNew self.old.state base size align memory o
+            × IsAllocated self.old.state base size align memory o
             × Took self.old o result self.new }
     {
         if !self.is_good_place(base, size, align) {
@@ -129,7 +129,7 @@ impl Machine {
 
     /// A view of so many bytes without block, as the next handle.
     pub(super) fn add_detached(&mut self, len: u64) -> Result<Reply, Full>
-        ensures { Took self.old (made self.old.state (detached len)) result self.new }
+        ensures { Took self.old (made self.old.state (detached_handle len)) result self.new }
     {
         room_for_handle(&self.handles, &self.borrows)?;
         let h = self.handles.len();

@@ -34,8 +34,8 @@ impl Machine {
         ensures blocks { OnOk result (length self.old.state.tables.blocks + blocks ≤ self.new.room.blocks) }
         ensures handles { OnOk result (length self.old.state.handles + handles ≤ self.new.room.handles) }
         ensures records { OnOk result (length self.old.state.tables.records + records ≤ self.new.room.records) }
-        ensures err { IfErr result (λ e. e ≡ Memory) }
-        ensures refused { OnErr result (self.new ≡ self.old) }
+        ensures memory { IfErr result (λ e. e ≡ Memory) }
+        ensures unchanged { OnErr result (self.new ≡ self.old) }
         ensures enough { length self.old.state.tables.blocks + blocks ≤ self.old.room.blocks
             → length self.old.state.handles + handles ≤ self.old.room.handles
             → length self.old.state.tables.records + records ≤ self.old.room.records

@@ -43,7 +43,7 @@ fn borrow_less(borrows: &mut Vec<usize>, h: usize)
 impl Machine {
     /// The view, for a call that shares it.
     fn view(&self, h: usize) -> Result<Handle, Refusal>
-        ensures value { result ≡ lending.view_of self.now.state h }
+        ensures value { result ≡ lending.lend_view_of self.now.state h }
         ensures at { IfOk result (λ x. handle_at self.now.state h ≡ Some x) }
         ensures kind { IfOk result (λ x. x.kind ≡ View) }
         ensures sound { IsSound self.now.state }

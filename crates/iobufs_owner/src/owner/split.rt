@@ -42,7 +42,7 @@ impl Machine {
     fn move_whole(&mut self, h: usize, x: Handle) -> Result<Reply, Full>
         requires { Lends self.old.state h View x }
         ensures { Took self.old
-            (made (edited self.old.state h (change.detached 0)) x) result self.new }
+            (made (edited self.old.state h (change.detached_handle 0)) x) result self.new }
     {
         room_for_handle(&self.handles, &self.borrows)?;
         let new = self.handles.len();

@@ -139,7 +139,7 @@ fn push(slots: &mut [Slot], name: usize, builder: &mut Builder) -> Result<(), Re
     requires fits { extent (slot_named slots.old name) ≤ room_for_pushes builder.old }
     ensures ok { OnOk result (builder.new ≡ building_push builder.old (view_held (slot_named slots.old name))) }
     ensures freed { slots.new ≡ slice_set slots.old name Slot.Free }
-    ensures err { IsOkUnless result Refusal.Memory }
+    ensures memory { IsOkUnless result Refusal.Memory }
 {
     let view = take_view(&mut slots[name])?;
     builder.push(view)?;
@@ -153,7 +153,7 @@ fn add(slots: &mut [Slot], item: &Item, builder: &mut Builder) -> Result<(), Ref
     requires pushable { item_pushed (item_held slots.old item.now) ≤ room_for_pushes builder.old }
     ensures ok { OnOk result (builder.new ≡ building_with builder.old (item_held slots.old item.now)) }
     ensures freed { slots.new ≡ all_freed slots.old (pushed_names (item.now ∷ [])) }
-    ensures err { IsOkUnless result Refusal.Memory }
+    ensures memory { IsOkUnless result Refusal.Memory }
 {
     match item {
         Item::Inline(bytes) => {

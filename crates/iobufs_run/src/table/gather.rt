@@ -104,7 +104,7 @@ fn take_views(alloc: Global, slots: &mut [Slot], sources: &[usize]) -> Result<Io
     ensures ok { IfOk result (λ text. text ≡ joined (map (λ src. view_held (slot_named slots.old src)) sources.now)) }
     ensures freed { OnOk result (slots.new ≡ all_freed slots.old sources.now) }
     ensures err { IfErr result (λ refusal. (refusal ≡ Refusal.Memory) × MayFree sources.now slots.old slots.new) }
-    ensures none { length sources.now ≡ 0 → IsOk result }
+    ensures nothing { length sources.now ≡ 0 → IsOk result }
 {
     let mut text = IoBufs::default();
     for src in sources {
@@ -121,7 +121,7 @@ fn take_row(alloc: Global, slots: &mut [Slot], sources: &[usize]) -> Result<Vec<
     ensures ok { IfOk result (λ row. row.items ≡ map (λ src. part_held (slot_named slots.old src)) sources.now) }
     ensures freed { OnOk result (slots.new ≡ all_freed slots.old sources.now) }
     ensures err { IfErr result (λ refusal. (refusal ≡ Refusal.Memory) × (slots.new ≡ slots.old)) }
-    ensures none { length sources.now ≡ 0 → IsOk result }
+    ensures nothing { length sources.now ≡ 0 → IsOk result }
 {
     let mut row = Vec::with_capacity(alloc, sources.len())?;
     for src in sources {
@@ -135,8 +135,8 @@ fn take_row(alloc: Global, slots: &mut [Slot], sources: &[usize]) -> Result<Vec<
 fn strung(alloc: Global, row: Vec<IoBufMut>) -> Result<IoBufsMut, Refusal>
     requires { parts_capacity row.items < 2 ^ 64 }
     ensures ok { IfOk result (λ parts. parts ≡ kept_parts row.items) }
-    ensures err { IsOkUnless result Refusal.Memory }
-    ensures none { length row.items ≡ 0 → IsOk result }
+    ensures memory { IsOkUnless result Refusal.Memory }
+    ensures nothing { length row.items ≡ 0 → IsOk result }
 {
     Ok(IoBufsMut::from_parts(alloc, row.into_iter())?)
 }
@@ -149,7 +149,7 @@ fn take_parts(alloc: Global, slots: &mut [Slot], sources: &[usize]) -> Result<Io
     ensures ok { IfOk result (λ parts. parts ≡ kept_parts (map (λ src. part_held (slot_named slots.old src)) sources.now)) }
     ensures freed { OnOk result (slots.new ≡ all_freed slots.old sources.now) }
     ensures err { IfErr result (λ refusal. (refusal ≡ Refusal.Memory) × MayFree sources.now slots.old slots.new) }
-    ensures none { length sources.now ≡ 0 → IsOk result }
+    ensures nothing { length sources.now ≡ 0 → IsOk result }
 {
     let row = take_row(alloc, slots, sources)?;
     strung(alloc, row)

@@ -25,7 +25,7 @@ pub(super) fn of_static(slots: &mut [Slot], dst: usize, text: &'static [u8]) -> 
 // A copy of these bytes.
 fn copied(alloc: Global, bytes: &[u8]) -> Result<Bytes, AllocError>
     ensures ok { IfOk result (λ copy. copy ≡ bytes.now) }
-    ensures empty { length bytes.now ≡ 0 → IsOk result }
+    ensures nothing { length bytes.now ≡ 0 → IsOk result }
 {
     if bytes.is_empty() {
         return Ok(Bytes::new());

@@ -46,7 +46,7 @@ pub(super) fn zeroed(
 // A copy of these bytes, which asks for no memory where there are none.
 fn copied(alloc: Global, bytes: &[u8]) -> Result<Vec<u8>, AllocError>
     ensures ok { IfOk result (λ copy. copy.items ≡ bytes.now) }
-    ensures empty { length bytes.now ≡ 0 → IsOk result }
+    ensures nothing { length bytes.now ≡ 0 → IsOk result }
 {
     if bytes.is_empty() {
         return Ok(Vec::new(alloc));
@@ -178,7 +178,7 @@ pub(super) fn freeze(alloc: Global, slots: &mut [Slot], src: usize, dst: usize) 
 // Takes the view that a slot holds as a part, which leaves the slot. It stays where it can't be written.
 fn recover_slot(alloc: Global, slot: &mut Slot) -> Result<IoBufMut, Refusal>
     ensures ok { IfOk result (λ part. (Slot.Part part ≡ slot_recovered slot.old) × (slot.new ≡ Slot.Free) × (is_fixed_view slot.old ≡ false)) }
-    ensures kept { OnErr result (slot.new ≡ slot.old) }
+    ensures unchanged { OnErr result (slot.new ≡ slot.old) }
     ensures err { IfErr result (λ refusal.
         ((refusal ≡ Refusal.Declined) × (IsTrue (is_fixed_view slot.old) ⊎ IsTrue (is_native_view slot.old)))
         ⊎ (is_view slot.old ≡ false)) }

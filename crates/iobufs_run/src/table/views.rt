@@ -20,7 +20,7 @@ use std::alloc::Global;
 fn split_slot(alloc: Global, slot: &mut Slot, at: usize) -> Result<Slot, Refusal>
     requires within { at ≤ readable_bytes slot.old }
     ensures ok { IfOk result (λ front. (front ≡ slot_split_front slot.old at) × (slot.new ≡ slot_rest slot.old at)) }
-    ensures kept { OnErr result (slot.new ≡ slot.old) }
+    ensures unchanged { OnErr result (slot.new ≡ slot.old) }
     ensures err { IfErr result (λ refusal.
         ((refusal ≡ Refusal.Memory) × (nat_eq at 0 ≡ false) × (nat_eq at (readable_bytes slot.old) ≡ false) × (is_static_view slot.old ≡ false))
         ⊎ (is_one_of (Kind.View ∷ Kind.Text ∷ []) slot.old ≡ false)) }
@@ -62,7 +62,7 @@ fn take_slot(alloc: Global, slot: &mut Slot, n: usize) -> Result<Bytes, Refusal>
     requires within { n ≤ readable_bytes slot.old }
     ensures ok { IfOk result (λ bytes. bytes ≡ first n (bytes_held slot.old)) }
     ensures rest { OnOk result (slot.new ≡ slot_copied slot.old n) }
-    ensures kept { OnErr result (slot.new ≡ slot.old) }
+    ensures unchanged { OnErr result (slot.new ≡ slot.old) }
     ensures err { IfErr result (λ refusal. ((refusal ≡ Refusal.Memory) × (0 < n)) ⊎ (is_free slot.old ≡ true)) }
 {
     match slot {
@@ -86,7 +86,7 @@ pub(super) fn take(alloc: Global, slots: &mut [Slot], target: usize, n: usize) -
 // Reads a view from a view or a text that a slot holds.
 fn read_slot(alloc: Global, slot: &mut Slot, range: &RangeCfg) -> Result<IoBuf, Refusal>
     ensures ok { IfOk result (λ taken. IsViewRead (marked_held slot.old) range.now (Ok taken) × (slot.new ≡ slot_read slot.old taken)) }
-    ensures kept { OnErr result (slot.new ≡ slot.old) }
+    ensures unchanged { OnErr result (slot.new ≡ slot.old) }
     ensures err { IfErr result (λ refusal.
         ((error : Error) × IsViewRead (marked_held slot.old) range.now (Err error) × (refusal ≡ codec_refusal error))
         ⊎ (is_one_of (Kind.View ∷ Kind.Text ∷ []) slot.old ≡ false)) }

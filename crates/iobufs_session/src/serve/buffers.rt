@@ -7,11 +7,10 @@ use crate::fault::{Fault, Stop};
 use crate::input::{Source, text};
 use crate::output::Sink;
 use iobufs_lines::line::command;
-use iobufs_lines::reply::Line;
+use iobufs_lines::reply::push_line;
 use iobufs_run::table::Table;
 use iobufs_words::words::LineError;
 use std::alloc::Global;
-use std::fmt::Write;
 
 // How many names there are.
 const NAMES: usize = 16;
@@ -24,9 +23,8 @@ fn answer(alloc: Global, table: &mut Table, line: &str, reply: &mut String) -> R
         Ok(cmd) => cmd,
         Err(error) => return Err(error),
     };
-    let answered = table.apply(&cmd);
     reply.clear();
-    match writeln!(reply, "{}", Line(&answered)) {
+    match push_line(&table.apply(&cmd), reply) {
         Ok(()) => Ok(()),
         Err(_) => Err(LineError::Memory),
     }

@@ -1,5 +1,5 @@
 // A row in the making, with gaps.
-ghost use Rattle.std.specs.Prelude.{◌≡◌, List, ◌+◌, ◌^◌, ◌<◌, ◌≤◌, ◌++◌, [], ◌∷◌, ◌==◌, length, IfOk, OnOk, IsOkUnless};
+ghost use Rattle.std.specs.Prelude.{◌≡◌, List, ◌+◌, ◌^◌, ◌<◌, ◌≤◌, ◌++◌, [], ◌∷◌, ◌==◌, length, IfOk, OnOk, IsOk, IsOkUnless};
 ghost use Rattle.iobufs_core.specs.View.{IsView};
 ghost use Rattle.iobufs.specs.Inside.Gaps.{AreSlots, filled, gap_len, gaps_len, slot_len, slot_of, slots_pushed, stood_len};
 ghost use Rattle.iobufs.specs.Inside.RowValues.{Slot};
@@ -95,6 +95,7 @@ impl Gapped {
         ensures full { IfOk result (λ row. AreFull row.views) }
         ensures roomy { IfOk result (λ row. AreViews row.views) }
         ensures memory { IsOkUnless result BufError.Memory }
+        ensures no_bytes { length rest.bytes ≡ 0 → IsOk result }
     {
         let Gapped { mut pieces } = self;
         let mut rest = rest;
@@ -118,6 +119,7 @@ fn fill_gap(piece: &mut Piece, rest: &mut IoBuf) -> Result<(), BufError>
     ensures len { OnOk result (view_len piece.new.view ≡ slot_len (slot_of piece.old)) }
     ensures left { OnOk result (length rest.new.bytes + gap_len (slot_of piece.old) ≡ length rest.old.bytes) }
     ensures memory { IsOkUnless result BufError.Memory }
+    ensures no_bytes { length rest.old.bytes ≡ 0 → IsOk result }
 {
     if !piece.view.is_empty() {
         return Ok(());
@@ -136,6 +138,7 @@ fn fill_piece(piece: &mut Piece, rest: &mut IoBuf, start: u64) -> Result<u64, Bu
     ensures end { IfOk result (λ end. (end ≡ start + view_len piece.new.view) × (piece.new.end ≡ end)) }
     ensures roomy { OnOk result (IsView piece.new.view) }
     ensures memory { IsOkUnless result BufError.Memory }
+    ensures no_bytes { length rest.old.bytes ≡ 0 → IsOk result }
 {
     fill_gap(piece, rest)?;
     let end = start + piece.view.len() as u64;

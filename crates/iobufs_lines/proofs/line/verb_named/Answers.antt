@@ -1,6 +1,5 @@
-use Rattle.std.proofs.Common.{rules, ◌≡◌, codes, refl, arith, sym, ◌∙◌}
+use Rattle.std.proofs.Common.{◌≡◌, codes, refl, arith, sym, ◌∙◌}
 use Rattle.std.proofs.lemmas.Slice.Eq.{text_from_reads}
-use Rattle.iobufs_lines.specs.Said.{verb_of}
 use Rattle.iobufs_lines.proofs.line.verb_named.Goals as goal
 
 pub returns-in-adopt : goal.returns-in-adopt

@@ -1,10 +1,13 @@
-use Rattle.std.proofs.Common.{ap, ◌∙◌}
+use Rattle.std.proofs.Common.{ap, arith, length, ◌∙◌}
+use Rattle.std.proofs.lemmas.Bool.{false≢true}
+use Rattle.iobufs_core.specs.Items.{items_inline}
 use Rattle.iobufs_core.specs.View.{View}
 use Rattle.iobufs_core.specs.MarkedText.{joined}
-use Rattle.iobufs.specs.Building.{finished}
+use Rattle.iobufs.specs.Building.{Building, building_items, finished}
 use Rattle.iobufs.specs.Inside.Gaps.{filled}
 use Rattle.iobufs.proofs.Building.AddLaws.{of_pieces-joined}
-use Rattle.iobufs.proofs.Building.FinishLaws.{finished-views}
+use Rattle.iobufs.proofs.Building.BuildLaws.{inline-building}
+use Rattle.iobufs.proofs.Building.FinishLaws.{finished-views, frozen-bytes}
 use Rattle.iobufs.proofs.builder.Builder.finish.Goals as goal
 
 pub returns-clause-ok : goal.returns-clause-ok
@@ -17,3 +20,20 @@ returns-clause-ok c =
     ∙ ap (λ (v : View). joined (filled v b.pushes.slots)) c.in_ok-rest.ensures.ok
     ∙ finished-views b.inline b.pushes.slots b.placed inv.slots inv.counted inv.within
     ∙ ap finished c.self.view_is
+
+pub returns-in_err-rest-clause-no_inline : goal.returns-in_err-rest-clause-no_inline
+returns-in_err-rest-clause-no_inline c = λ none.
+    let b = c.self.inside in
+    let inv = c.self.invariant in
+    let all = inline-building b.inline b.pushes.slots b.placed inv.counted inv.within in
+    let same = ap (λ (w : Building). items_inline (building_items w)) c.self.view_is in
+    absurd (false≢true (c.in_err-rest.ensures.nothing (omega (arith, none, all, same))))
+
+pub returns-in_err-fill-clause-no_inline : goal.returns-in_err-fill-clause-no_inline
+returns-in_err-fill-clause-no_inline c = λ none.
+    let b = c.self.inside in
+    let inv = c.self.invariant in
+    let all = inline-building b.inline b.pushes.slots b.placed inv.counted inv.within in
+    let same = ap (λ (w : Building). items_inline (building_items w)) c.self.view_is in
+    let bytes = ap (λ (v : View). length v.bytes) c.in_ok-rest.ensures.ok ∙ ap length (frozen-bytes b.inline) in
+    absurd (false≢true (c.in_err-fill.ensures.no_bytes (omega (arith, none, all, same, bytes))))

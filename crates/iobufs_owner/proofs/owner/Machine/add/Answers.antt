@@ -5,7 +5,7 @@ use Rattle.iobufs_owner.specs.declared.owner.types.Pending.TheVariants.{Add}
 use Rattle.iobufs_owner.specs.Inside.{state_of}
 use Rattle.iobufs_owner.specs.State.{State, Seen, call_at}
 use Rattle.iobufs_owner.proofs.Soundness.Edits.{counted-at, live-inside}
-use Rattle.iobufs_owner.proofs.Soundness.Kept.{at-some}
+use Rattle.iobufs_owner.proofs.Soundness.StaysSound.{at-some}
 use Rattle.iobufs_owner.proofs.Soundness.Called.{IsQuiet, quiet-none, quiet-add, sound-called}
 use Rattle.iobufs_owner.proofs.Soundness.Share.{adding}
 use Rattle.iobufs_owner.proofs.Soundness.Frames.{is-eqb}

@@ -7,7 +7,7 @@ use Rattle.iobufs_owner.proofs.Soundness.Edits.{counted-at, count-small, end-sma
 use Rattle.iobufs_owner.proofs.Soundness.Share.{adding, sound-added-call}
 use Rattle.iobufs_owner.proofs.Soundness.Frames.{is-eqb}
 use Rattle.iobufs_owner.proofs.Soundness.Borrows.{counts-less, some-borrowed, counts-pushed, kept-pushed}
-use Rattle.iobufs_owner.proofs.Soundness.Kept.{at-some}
+use Rattle.iobufs_owner.proofs.Soundness.StaysSound.{at-some}
 use Rattle.iobufs_owner.proofs.owner.Machine.add_holder.Goals as goal
 
 pub overflow_add-record : goal.overflow_add-record

@@ -8,7 +8,7 @@ use Rattle.iobufs_owner.specs.State.{State, Seen, call_at}
 use Rattle.iobufs_owner.proofs.Soundness.Called.{IsQuiet, quiet-none, quiet-loaded, sound-called}
 use Rattle.iobufs_owner.proofs.Soundness.Share.{loaded-fits}
 use Rattle.iobufs_owner.proofs.Soundness.Borrows.{counts-more, few-borrowed}
-use Rattle.iobufs_owner.proofs.Soundness.Kept.{at-some}
+use Rattle.iobufs_owner.proofs.Soundness.StaysSound.{at-some}
 use Rattle.iobufs_owner.proofs.owner.Machine.load.Goals as goal
 
 pub invariant_of-self : goal.invariant_of-self

@@ -7,7 +7,7 @@ use Rattle.iobufs_owner.proofs.Soundness.BlockFreed.{counted-ends}
 use Rattle.iobufs_owner.proofs.Soundness.Lost.{sound-lost}
 use Rattle.iobufs_owner.proofs.Soundness.Share.{racing}
 use Rattle.iobufs_owner.proofs.Soundness.Borrows.{counts-same}
-use Rattle.iobufs_owner.proofs.Soundness.Kept.{at-some}
+use Rattle.iobufs_owner.proofs.Soundness.StaysSound.{at-some}
 use Rattle.iobufs_owner.specs.Lending.{borrows_it}
 use Rattle.iobufs_owner.proofs.owner.Machine.lose.Goals as goal
 

@@ -6,7 +6,7 @@ use Rattle.iobufs_owner.specs.Inside.{state_of}
 use Rattle.iobufs_owner.specs.Lending.{borrows_it}
 use Rattle.iobufs_owner.specs.LongCalls.{loaded_block}
 use Rattle.iobufs_owner.specs.State.{State, Seen, call_at}
-use Rattle.iobufs_owner.proofs.Soundness.Kept.{at-some}
+use Rattle.iobufs_owner.proofs.Soundness.StaysSound.{at-some}
 use Rattle.iobufs_owner.proofs.Soundness.Called.{IsQuiet, quiet-none, quiet-loaded, sound-called}
 use Rattle.iobufs_owner.proofs.Soundness.Readied.{loading, loading-block, sound-readied}
 use Rattle.iobufs_owner.proofs.Soundness.Frames.{is-eqb}

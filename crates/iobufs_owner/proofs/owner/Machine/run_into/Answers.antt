@@ -1,7 +1,7 @@
 use Rattle.std.proofs.Common.{arith}
 use Rattle.std.proofs.lemmas.Grind.{common_steps}
 use Rattle.iobufs_owner.specs.Runs.{Runs}
-use Rattle.iobufs_owner.proofs.Soundness.Promised.{promises-of}
+use Rattle.iobufs_owner.proofs.Soundness.Promises.{promises-of}
 use Rattle.iobufs_owner.proofs.WorldSteps.FourthStep.{ends-in-four, near-start}
 use Rattle.iobufs_owner.proofs.WorldSteps.Run.{runs-step, growing, run-keeps}
 use Rattle.iobufs_owner.proofs.WorldSteps.Reserved.{find}

@@ -3,7 +3,7 @@ use Rattle.iobufs_owner.specs.Inside.{state_of}
 use Rattle.iobufs_owner.specs.Changes.{part}
 use Rattle.iobufs_owner.specs.Sound.{Shares}
 use Rattle.iobufs_owner.specs.State.{State, Seen}
-use Rattle.iobufs_owner.proofs.Soundness.Kept.{sound-detached}
+use Rattle.iobufs_owner.proofs.Soundness.StaysSound.{sound-detached}
 use Rattle.iobufs_owner.proofs.Soundness.Edits.{empty-at}
 use Rattle.iobufs_owner.specs.declared.owner.types.Word.TheVariants.{Empty}
 use Rattle.iobufs_owner.proofs.Soundness.Borrows.{kept-pushed, counts-pushed}

@@ -1,4 +1,4 @@
-use Rattle.iobufs_owner.proofs.Soundness.Promised.{promises-of}
+use Rattle.iobufs_owner.proofs.Soundness.Promises.{promises-of}
 use Rattle.iobufs_owner.proofs.WorldSteps.Sizes.{moves-of, moves-keep}
 use Rattle.iobufs_owner.proofs.WorldSteps.Step.{steps-of}
 use Rattle.iobufs_owner.proofs.WorldSteps.Reserved.{finds, keeps-logs}

@@ -9,7 +9,7 @@ use Rattle.iobufs_owner.specs.Lending.{borrows_it}
 use Rattle.iobufs_owner.specs.Sound.{IsSound}
 use Rattle.iobufs_owner.proofs.Soundness.Subtract.{afterwards-one, afterwards-none, sound-subtracted, letting-go}
 use Rattle.iobufs_owner.proofs.Soundness.Borrows.{counts-same}
-use Rattle.iobufs_owner.proofs.Soundness.Kept.{at-some}
+use Rattle.iobufs_owner.proofs.Soundness.StaysSound.{at-some}
 use Rattle.iobufs_owner.proofs.owner.Machine.subtract.Goals as goal
 
 pub overflow_sub-record : goal.overflow_sub-record

@@ -6,7 +6,7 @@ use Rattle.iobufs_owner.specs.State.{State, Seen, handle_at, call_at}
 use Rattle.iobufs_owner.proofs.Soundness.Won.{sound-won}
 use Rattle.iobufs_owner.proofs.Soundness.Frames.{is-eqb}
 use Rattle.iobufs_owner.proofs.Soundness.Borrows.{counts-less, some-borrowed, counts-pushed, kept-set-pushed}
-use Rattle.iobufs_owner.proofs.Soundness.Kept.{at-some}
+use Rattle.iobufs_owner.proofs.Soundness.StaysSound.{at-some}
 use Rattle.iobufs_owner.proofs.owner.Machine.win.Goals as goal
 
 pub invariant_of-self : goal.invariant_of-self

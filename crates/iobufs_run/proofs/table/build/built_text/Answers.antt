@@ -25,7 +25,7 @@ returns-in_err-add-clause-err c =
     let more = drop_more c.args.items.now l.item-index item c.loop-item-test.true in
     let left = rw (more, ← c.item-item.is) at l.invariant in
     let (refusal, told, cause) = err_from_is_err_and c.from_residual-in_err-add.result c.from_residual-in_err-add.ensures.1 in
-    rw (told, cause, c.in_err-add.ensures.err, c.add.ensures.freed) (refl, left.costs _ (item_costs l.slots item rest))
+    rw (told, cause, c.in_err-add.ensures.memory, c.add.ensures.freed) (refl, left.costs _ (item_costs l.slots item rest))
 
 pub loop-item-preserved : goal.loop-item-preserved
 loop-item-preserved c =

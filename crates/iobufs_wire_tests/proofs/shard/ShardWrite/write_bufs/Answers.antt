@@ -5,14 +5,14 @@ use Rattle.iobufs_core.specs.Wire.{view_written}
 use Rattle.iobufs_core.specs.CallerFacts.{begun_behind, on_err_always}
 use Rattle.iobufs_wire_tests.proofs.shard.ShardWrite.write_bufs.Goals as goal
 
-pub returns-in_err-write_bufs-clause-err : goal.returns-in_err-write_bufs-clause-err
-returns-in_err-write_bufs-clause-err g c =
+pub returns-in_err-write_bufs-clause-begun : goal.returns-in_err-write_bufs-clause-begun
+returns-in_err-write_bufs-clause-begun g c =
     let shard = c.args.self.now in
     let id = to_be_bytes w16 shard.id in
     let put = g.met.B.BufsMut.puts _ _ id c.put_u16.ensures in
     let after = g.met.B.BufsMut.adds _ _ (put_item id ∷ []) put in
     let begun = begun_behind (g.B.BufsMut.joined c.args.buf.now) id (view_written shard.body) (to_be_bytes w32 shard.sum) _ _ after
-    c.in_err-write_bufs.ensures.err in
+    c.in_err-write_bufs.ensures.begun in
     on_err_always c.from_residual.result begun
 
 pub returns-clause-ok : goal.returns-clause-ok

@@ -4,7 +4,7 @@ use Rattle.iobufs.specs.Inside.Ends.{from_base}
 use Rattle.iobufs.specs.declared.bufs.row.Piece.{Piece}
 use Rattle.iobufs.specs.Inside.Pieces.{IsPlace, piece_start, pieces_bytes}
 use Rattle.iobufs.specs.Inside.RowValues.{ViewRow}
-use Rattle.iobufs.proofs.Text.EndLaws.{row-search, place-first}
+use Rattle.iobufs.proofs.Text.EndLaws.{ends-fit, row-search, place-first}
 use Rattle.iobufs.proofs.bufs.row.Row.locate.Goals as goal
 
 pub invariant_of-ends : goal.invariant_of-ends
@@ -35,3 +35,8 @@ returns-clause-place c =
     subst (λ (r : ViewRow). IsPlace r.views c.args.at c.find_end-index.result (c.args.at - c.start.result)) c.self.view_is
     (place-first c.self.inside.base c.self.inside.pieces.items c.args.at c.find_end-index.result c.start.result c.self.invariant.ended
     c.find_end-index.ensures.found (c.start.ensures ∙ sym start)).1
+
+pub returns-clause-fits : goal.returns-clause-fits
+returns-clause-fits c =
+    let n = ap (λ (r : ViewRow). length (pieces_bytes r.views)) c.self.view_is in
+    omega (arith, ends-fit c.self.inside.base 0 c.self.inside.pieces.items (omega arith) c.self.invariant.ended)

@@ -1,8 +1,9 @@
 use Rattle.std.proofs.Common.{sym, ap, ◌∙◌, length, arith}
 use Rattle.std.proofs.lemmas.Bool.{false≢true}
-use Rattle.iobufs.proofs.Text.ReadLaws.{first-kept}
+use Rattle.iobufs.proofs.Text.ReadLaws.{first-kept, length-behind}
 use Rattle.iobufs.specs.Inside.Several.{views}
-use Rattle.iobufs.proofs.Text.SeveralLaws.{last-view}
+use Rattle.iobufs.proofs.Text.SeveralLaws.{last-view, place-in_first}
+use Rattle.iobufs.proofs.Text.StaticLaws.{static-within}
 use Rattle.iobufs.proofs.Text.TextLaws.{chunks-kept, some_views, length-kept, full-kept, kept-front, kept-rest, front-kept, rest-kept}
 use Rattle.iobufs.proofs.bufs.text.IoBufs.split_to.Goals as goal
 
@@ -44,3 +45,12 @@ returns-in_err-pieces-clause-last c = λ front chunk is edge.
     let chunks = chunks-kept (views s.pieces) _ c.self.view_is (some_views s.pieces c.self.invariant.pieced) full in
     let last = last-view (views s.pieces) front chunk (sym chunks ∙ is) in
     absurd (false≢true (c.in_err-pieces.ensures.last last.before last.last last.is (omega (arith, edge, ap length last.bytes))))
+
+pub returns-in_err-pieces-clause-static_text : goal.returns-in_err-pieces-clause-static_text
+returns-in_err-pieces-clause-static_text c = λ inside static.
+    let s = c.self.inside in
+    let vs = views s.pieces in
+    let held = ap length (first-kept s.pieces _ c.self.view_is c.self.invariant.pieced) in
+    let first = static-within vs _ 0 c.args.at 0 0 c.self.view_is (place-in_first vs 0 (omega (arith, held, inside, c.if-at-eq0.false)))
+    (omega (arith, held, inside, c.if-at-eq0.false, length-behind vs)) (omega (arith, c.if-at-eq0.false)) (omega (arith, held, inside)) static in
+    absurd (false≢true (c.in_err-pieces.ensures.static_text (omega (arith, held, inside)) first))

@@ -9,18 +9,6 @@ use Rattle.iobufs.proofs.Text.SeveralLaws.{place-in_first}
 use Rattle.iobufs.proofs.Text.TextLaws.{length-kept}
 use Rattle.iobufs.proofs.bufs.text.IoBufs.take_inside.Goals as goal
 
-pub overflow_add-end : goal.overflow_add-end
-overflow_add-end g c =
-    let s = c.self.inside in
-    omega (
-      arith,
-      c.requires.inside,
-      ap length (first-kept s.pieces _ c.self.view_is c.self.invariant.pieced),
-      length-behind (views s.pieces),
-      length-kept s _ c.self.view_is,
-      c.len-len.ensures,
-    )
-
 pub slice-requires : goal.slice-requires
 slice-requires g c =
     let s = c.self.inside in

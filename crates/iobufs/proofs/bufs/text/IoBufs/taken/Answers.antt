@@ -1,8 +1,11 @@
-use Rattle.std.proofs.Common.{◌+◌, sym, ap, ◌∙◌, arith, length, refl}
+use Rattle.std.proofs.Common.{◌+◌, ◌^◌, ◌<◌, Ok, Err, Result, sym, ap, ◌∙◌, arith, length, refl}
+use Rattle.std.specs.Result.{OnOk}
 use Rattle.std.specs.declared.ops.Bound.TheVariants.{Included, Excluded}
 use Rattle.iobufs_core.specs.View.{View, view_slice}
 use Rattle.iobufs_core.specs.MarkedText.{taken_view}
+use Rattle.iobufs.specs.Inside.Pieces.{piece_at, view_len}
 use Rattle.iobufs.specs.Inside.Several.{views}
+use Rattle.iobufs.proofs.Text.PlaceLaws.{bytes-fit}
 use Rattle.iobufs.proofs.Text.ReadLaws.{taken-within, taken-across, rest-length, as_view}
 use Rattle.iobufs.proofs.Text.StaticLaws.{static-within, across-native}
 use Rattle.iobufs.proofs.Text.TakenLaws.{taken_view-none}
@@ -50,3 +53,25 @@ returns-in-Err-clause-static_text c = λ static.
     let n = length-kept c.self.inside _ c.self.view_is in
     absurd (across-native _ c.args.self.now c.args.skip c.args.n _ _ c.self.view_is c.locate-place.ensures.place
     (omega (arith, c.requires, c.if-n-eq0.false)) (omega (arith, ap (λ (v : View). length v.bytes) c.piece-piece.ensures)) static)
+
+whichever : {P E : Type 0} (result : Result View E) → P → OnOk result P
+whichever (Ok view) true_anyway = true_anyway
+whichever (Err cause) true_anyway = tt
+
+-- a number holds where the bytes that are taken end
+pub returns-then-n-len-clause-fits : goal.returns-then-n-len-clause-fits
+returns-then-n-len-clause-fits c =
+    let n = length-kept c.self.inside _ c.self.view_is in
+    let here : view_len (piece_at (views c.self.inside.pieces) c.locate-place.result.index) < 2 ^ 64 =
+    omega (arith, ap (λ (v : View). length v.bytes) c.piece-piece.ensures) in
+    let all = bytes-fit _ _ _ _ c.locate-place.ensures.place here c.locate-place.ensures.fits in
+    let fits : c.args.skip + c.args.n < 2 ^ 64 = omega (arith, c.requires) in
+    whichever c.slice.result fits
+
+pub returns-in-Ok-clause-fits : goal.returns-in-Ok-clause-fits
+returns-in-Ok-clause-fits c =
+    let n = length-kept c.self.inside _ c.self.view_is in
+    let here : view_len (piece_at (views c.self.inside.pieces) c.locate-place.result.index) < 2 ^ 64 =
+    omega (arith, ap (λ (v : View). length v.bytes) c.piece-piece.ensures) in
+    let all = bytes-fit _ _ _ _ c.locate-place.ensures.place here c.locate-place.ensures.fits in
+    omega (arith, c.requires)

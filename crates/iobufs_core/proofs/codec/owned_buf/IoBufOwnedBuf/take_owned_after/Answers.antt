@@ -12,3 +12,8 @@ pub returns-then-n-len-clause-static_text : goal.returns-then-n-len-clause-stati
 returns-then-n-len-clause-static_text g c = λ static free.
     let whole = taken-whole c.args.self.now c.args.skip c.args.n c.requires (c.if-n-len.true ∙ c.len.ensures.value) c.if-n-ne0.true in
     c.take_view.ensures.free (subst (λ (view : View). g.T.OwnedBytes.is_free view) whole free)
+
+pub returns-then-n-len-clause-whole : goal.returns-then-n-len-clause-whole
+returns-then-n-len-clause-whole g c = λ start first free.
+    let whole = taken-whole c.args.self.now c.args.skip c.args.n c.requires (c.if-n-len.true ∙ c.len.ensures.value) c.if-n-ne0.true in
+    c.take_view.ensures.free (subst (λ (view : View). g.T.OwnedBytes.is_free view) whole free)

@@ -15,6 +15,7 @@ loop-i-init c =
     record {
       count = refl;
       room = refl;
+      left = omega arith;
       filling = filling-none c.self.inside.pieces.items c.args.rest
           (subst AreSlots (sym is) c.requires.slots)
           (subst (λ slots. gaps_len slots ≤ length c.args.rest.bytes) (sym is) c.requires.within)
@@ -46,6 +47,7 @@ loop-i-preserved c =
     record {
       count = l.invariant.count;
       room = l.invariant.room;
+      left = omega (arith, l.invariant.left, done.left);
       filling = filling-set _ l.pieces.items l.i c.in-Some.piece.now c.fill_piece.new.piece l.rest c.fill_piece.new.rest l.end c.in_ok-end.end
           (omega (arith, c.loop-i-test.true, l.invariant.count, c.len-i-end.ensures, l.pieces.ok.0))
           c.in-Some.ensures.value l.invariant.filling

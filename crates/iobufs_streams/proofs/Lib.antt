@@ -1,0 +1,2 @@
+pub mod EchoLaws
+pub mod StreamLaws

@@ -1,0 +1,303 @@
+-- What reads and writes do to the bytes that are known, and what becomes of frames then.
+use Rattle.std.specs.Prelude.{◌≡◌, ℕ, ◌+◌, ◌^◌, ◌<◌, ◌≤◌, Bool, true, false, nat_eq, Option, None, Some, IfSome, Result, Ok, Err, List, [], ◌++◌, length, take, drop, refl}
+use Rattle.std.specs.Io.KnownBytes.{Appends, Consumes, IsAtEnd, Keeps}
+use Rattle.std.proofs.Common.{arith, inl, inr, ap, sym, subst, ◌∙◌, append_assoc, append-nil, length-append, length-drop, length-take, take-append-drop}
+use Rattle.std.proofs.lemmas.Bool.Decides.{nat_tests}
+use Rattle.std.proofs.lemmas.Grind.{common_steps}
+use Rattle.std.proofs.lemmas.List.{nil_from_length}
+use Rattle.iobufs_core.specs.MarkedText.{MarkedText, text_glue, text_prepend}
+use Rattle.iobufs_core.specs.Spelled.{none_high}
+use Rattle.iobufs_core.specs.View.{View}
+use Rattle.iobufs_core.specs.Wire.{bytes_written}
+use Rattle.iobufs_core.specs.declared.codec.base.RangeCfg.{RangeCfg}
+use Rattle.iobufs_frames.specs.FrameFacts.{first_is, none_in_front, stands, stays_bad}
+use Rattle.iobufs_frames.specs.Frames.{HasNoFrame, IsFramed, frames_written}
+use Rattle.iobufs_frames.specs.declared.End.{End}
+use Rattle.iobufs_frames.specs.declared.End.TheVariants as end
+use Rattle.iobufs_streams.specs.Streams.{HasFrame, IsEnd, IsFilled, IsFirstOf, IsFront, IsHeldFront, IsNeeded, TakesFrame}
+use Rattle.iobufs_streams.specs.declared.error.FrameError.{FrameError}
+use Rattle.iobufs_streams.specs.declared.error.FrameError.TheVariants.{Bad, Cut, Io, Memory, TooLong}
+
+-- the bytes of a text with a view in front are the bytes of the view and then those of the text
+pub bytes-prepend : (t : MarkedText) (v : View) → (text_prepend t v).bytes ≡ v.bytes ++ t.bytes
+unfolding text_glue
+bytes-prepend t v = grind (arith, nat_tests, common_steps, append-nil, nil_from_length)
+
+-- known bytes that stay as they were
+pub stays : (a : Option (List ℕ)) → Keeps a a
+stays None = tt
+stays (Some xs) = refl
+
+pub stays_on : (a b c : Option (List ℕ)) → Keeps a b → Keeps b c → Keeps a c
+stays_on None b c p q = tt
+stays_on (Some xs) None c p q = absurd p
+stays_on (Some xs) (Some ys) None p q = absurd q
+stays_on (Some xs) (Some ys) (Some zs) p q = q ∙ p
+
+pub consumes_after : (a b c : Option (List ℕ)) (u : List ℕ) → Keeps a b → Consumes b c u → Consumes a c u
+consumes_after None b c u p q = tt
+consumes_after (Some xs) None c u p q = absurd p
+consumes_after (Some xs) (Some ys) None u p q = absurd q
+consumes_after (Some xs) (Some ys) (Some zs) u p q = sym p ∙ q
+
+pub appends_after : (a b c : Option (List ℕ)) (u : List ℕ) → Keeps a b → Appends b c u → Appends a c u
+appends_after None b c u p q = tt
+appends_after (Some xs) None c u p q = absurd p
+appends_after (Some xs) (Some ys) None u p q = absurd q
+appends_after (Some xs) (Some ys) (Some zs) u p q = q ∙ ap (λ w. w ++ u) p
+
+pub consumes_on : (a b c : Option (List ℕ)) (u v : List ℕ) → Consumes a b u → Consumes b c v → Consumes a c (u ++ v)
+consumes_on None b c u v p q = tt
+consumes_on (Some xs) None c u v p q = absurd p
+consumes_on (Some xs) (Some ys) None u v p q = absurd q
+consumes_on (Some xs) (Some ys) (Some zs) u v p q = p ∙ ap (λ w. u ++ w) q ∙ sym (append_assoc u v zs)
+
+pub consumes_none : (a b : Option (List ℕ)) → Keeps a b → Consumes a b []
+consumes_none None b h = tt
+consumes_none (Some xs) None h = absurd h
+consumes_none (Some xs) (Some ys) h = sym h
+
+pub consumes_before : (a b c : Option (List ℕ)) (u : List ℕ) → Consumes a b u → Keeps b c → Consumes a c u
+consumes_before None b c u p q = tt
+consumes_before (Some xs) None c u p q = absurd p
+consumes_before (Some xs) (Some ys) None u p q = absurd q
+consumes_before (Some xs) (Some ys) (Some zs) u p q = p ∙ ap (λ w. u ++ w) (sym q)
+
+pub ruleset again = (stays, stays_on, consumes_after, appends_after)
+
+-- ---- one read
+
+zero_of : (n : ℕ) → nat_eq n 0 ≡ true → n ≡ 0
+zero_of n h = grind (arith, nat_tests, h)
+
+some_of : (n : ℕ) → nat_eq n 0 ≡ false → 0 < n
+some_of n h = grind (arith, nat_tests, h)
+
+-- what was written over all of a vector
+pub same_items : (is was : List ℕ) (len : ℕ) → length is ≡ len → length was ≡ len → take len (is ++ drop (length is) was) ≡ is
+same_items is was len a b =
+    let none : drop (length is) was ≡ [] = nil_from_length (drop (length is) was) (omega (arith, length-drop (length is) was, a, b)) in
+    let after : drop len is ≡ [] = nil_from_length (drop len is) (omega (arith, length-drop len is, a)) in
+    ap (λ w. take len (is ++ w)) none ∙ ap (take len) (append-nil is) ∙ sym (append-nil (take len is)) ∙ ap (λ w. take len is ++ w) (sym after)
+    ∙ take-append-drop len is
+
+filled_by : (had has : Option (List ℕ)) (fed was is : List ℕ) (m n : ℕ) → m ≡ 0 → n ≤ length is → 0 < length is
+    → Consumes had has (take n is) × (n ≡ 0 → 0 < length is → IsAtEnd has) → IsFilled had has (fed ++ take m was) (fed ++ take n is) (nat_eq n 0)
+filled_by had has fed was is m n zero fits room (took, last) =
+    let nothing : take m was ≡ [] = ap (λ k. take k was) zero in
+    let count : length (take n is) ≡ n = omega (arith, length-take n is, fits) in record {
+      is = record {
+        read = take n is;
+        took = took;
+        grew = sym (ap (λ w. (fed ++ w) ++ take n is) nothing ∙ ap (λ w. w ++ take n is) (append-nil fed));
+      };
+      empty = ap (λ k. nat_eq k 0) (sym count);
+      last = λ none. last (zero_of n none) room;
+    }
+
+-- what a read put over the first bytes of a piece, where none of the earlier ones were left, is held behind what was fed; no byte is the end
+pub filled_so : (had has : Option (List ℕ)) (fed was is items : List ℕ) (m n : ℕ) → items ≡ is → m ≡ 0 → n ≤ length is → 0 < length is
+    → Consumes had has (take n is) × (n ≡ 0 → 0 < length is → IsAtEnd has) → IsFilled had has (fed ++ take m was) (fed ++ take n items) (nat_eq n 0)
+filled_so had has fed was is items m n same zero fits room both =
+    subst (λ (w : List ℕ). IsFilled had has (fed ++ take m was) (fed ++ take n w) (nat_eq n 0)) (sym same)
+    (filled_by had has fed was is m n zero fits room both)
+
+-- ---- reads that wait for a frame
+
+-- what was read so far gave no whole frame before its last read; the reader is as it was where a frame was held
+pub record IsWaiting {Reader : Type 0} (range now_range : RangeCfg) (from now_from : Reader) (had has : Option (List ℕ))
+    (old now : List ℕ) (count : ℕ) : Type 0 where
+  pub read : List ℕ
+  pub took : Consumes had has read
+  pub grew : now ≡ old ++ read
+  pub needed : IsNeeded range old read
+  pub counted : count ≤ length read
+  pub ready : HasFrame range old → now_from ≡ from
+  pub same_range : now_range ≡ range
+
+pub not_waited : {Reader : Type 0} (range : RangeCfg) (from : Reader) (had : Option (List ℕ)) (old : List ℕ) → IsWaiting range range from from had had old old 0
+not_waited range from had old = record {
+  read = [];
+  took = consumes_none had had (stays had);
+  grew = sym (append-nil old);
+  needed = inl refl;
+  counted = omega arith;
+  ready = λ _. refl;
+  same_range = refl;
+}
+
+-- a frame that was held stands in front still
+pub not_ready : (range : RangeCfg) (old read now : List ℕ) → now ≡ old ++ read → HasNoFrame range now end.Open → HasFrame range old → ⊥
+not_ready range old read now grew none has =
+    let whole : now ≡ bytes_written has.body ++ (has.more ++ read) =
+    grew ∙ ap (λ w. w ++ read) has.whole ∙ append_assoc (bytes_written has.body) has.more read in
+    stands range has.body (has.more ++ read) end.Open has.admitted (subst (λ (w : List ℕ). HasNoFrame range w end.Open) whole none)
+
+-- so none was held, where none is
+pub never_ready : {Reader : Type 0} (range now_range : RangeCfg) (from now_from : Reader) (had has : Option (List ℕ)) (old held left : List ℕ) (count : ℕ)
+    → IsWaiting range now_range from now_from had has old held count → (left ≡ held) × HasNoFrame now_range held end.Open → HasFrame range old → ⊥
+never_ready range now_range from now_from had has old held left count so_far (same, none) =
+    not_ready range old so_far.read held so_far.grew (subst (λ (r : RangeCfg). HasNoFrame r held end.Open) so_far.same_range none)
+
+-- what is known of bytes that hold no whole frame
+pub none_held : (range : RangeCfg) (held left : List ℕ) (found : Option View) → found ≡ None → IsHeldFront range held (Ok found) left
+    → (left ≡ held) × HasNoFrame range held end.Open
+none_held range held left found is h = subst (λ (o : Option View). IsHeldFront range held (Ok o) left) is h
+
+-- one more read
+pub waits_on : {Reader : Type 0} (range now_range : RangeCfg) (from mid new : Reader) (a b c : Option (List ℕ)) (old held left now : List ℕ) (count next : ℕ)
+    (last : Bool)
+    → IsWaiting range now_range from mid a b old held count → (left ≡ held) × HasNoFrame now_range held end.Open → IsFilled b c left now last → last ≡ false
+    → next ≡ count + 1 → IsWaiting range now_range from new a c old now next
+waits_on range now_range from mid new a b c old held left now count next last so_far (same, none) filled some step =
+    let before = so_far.read in
+    let more = filled.is.read in
+    let open_front = subst (λ (r : RangeCfg). HasNoFrame r held end.Open) so_far.same_range none in
+    let long : 0 < length more = some_of (length more) (sym filled.empty ∙ some) in record {
+      read = before ++ more;
+      took = consumes_on a b c before more so_far.took filled.is.took;
+      grew = filled.is.grew ∙ ap (λ w. w ++ more) (same ∙ so_far.grew) ∙ append_assoc old before more;
+      needed = inr (record {
+        before = before;
+        last = more;
+        whole = refl;
+        none = subst (λ (w : List ℕ). HasNoFrame range w end.Open) so_far.grew open_front;
+      });
+      counted = omega (arith, step, so_far.counted, length-append before more, long);
+      ready = λ has. absurd (not_ready range old before held so_far.grew open_front has);
+      same_range = so_far.same_range;
+    }
+
+-- what was held is answered: a frame, or why none is there
+front_some : (range : RangeCfg) (has : Option (List ℕ)) (bytes left : List ℕ) (error : FrameError) → IsHeldFront range bytes (Err error) left
+    → IsFront range has bytes (Err error) left
+front_some range has bytes left (Bad error) h = h
+front_some range has bytes left Cut h = absurd h
+front_some range has bytes left (Io error) h = absurd h
+front_some range has bytes left Memory h = h
+front_some range has bytes left TooLong h = (h.0, omega (arith, h.1))
+
+-- a reader that waited holds a frame in front and takes it
+pub took_some : {Reader : Type 0} (range now_range : RangeCfg) (from now_from : Reader) (had has : Option (List ℕ)) (old now left : List ℕ) (count : ℕ)
+    (found : Option View) (body : View)
+    → IsWaiting range now_range from now_from had has old now count → found ≡ Some body → IsHeldFront now_range now (Ok found) left
+    → TakesFrame range had has old left (Ok (Some body))
+took_some range now_range from now_from had has old now left count found body so_far is h =
+    let (admitted, whole) = subst (λ (r : RangeCfg). IsHeldFront r now (Ok (Some body)) left) so_far.same_range
+    (subst (λ (o : Option View). IsHeldFront now_range now (Ok o) left) is h) in record {
+      read = so_far.read;
+      took = so_far.took;
+      needed = so_far.needed;
+      front = (admitted, sym so_far.grew ∙ whole);
+    }
+
+-- a reader that waited holds a front that is no frame, and answers its error
+pub took_none : {Reader : Type 0} (range now_range : RangeCfg) (from now_from : Reader) (had has : Option (List ℕ)) (old now left : List ℕ) (count : ℕ)
+    (error : FrameError)
+    → IsWaiting range now_range from now_from had has old now count → IsHeldFront now_range now (Err error) left
+    → TakesFrame range had has old left (Err error)
+took_none range now_range from now_from had has old now left count error so_far h = record {
+  read = so_far.read;
+  took = so_far.took;
+  needed = so_far.needed;
+  front =
+      subst (λ (w : List ℕ). IsFront range has w (Err error) left) so_far.grew
+      (subst (λ (r : RangeCfg). IsFront r has now (Err error) left) so_far.same_range (front_some now_range has now left error h));
+}
+
+-- nothing more came: the input ends
+ended : (range : RangeCfg) (has : Option (List ℕ)) (bytes : List ℕ) (result : Result (Option View) FrameError) → IsAtEnd has → HasNoFrame range bytes end.Open
+    → IsEnd bytes result → IsFront range has bytes result bytes
+ended range has bytes (Ok None) last none h = (h, h, last)
+ended range has bytes (Ok (Some body)) last none h = absurd h
+ended range has bytes (Err (Bad error)) last none h = absurd h
+ended range has bytes (Err Cut) last none h = (refl, h, none, last)
+ended range has bytes (Err (Io error)) last none h = absurd h
+ended range has bytes (Err Memory) last none h = absurd h
+ended range has bytes (Err TooLong) last none h = absurd h
+
+-- a reader that waited reads no more bytes, and answers as its end does
+pub took_end : {Reader : Type 0} (range now_range : RangeCfg) (from now_from : Reader) (a b c : Option (List ℕ)) (old held left now : List ℕ) (count : ℕ)
+    (last : Bool)
+    (result : Result (Option View) FrameError) → IsWaiting range now_range from now_from a b old held count → (left ≡ held) × HasNoFrame now_range held end.Open
+    → IsFilled b c left now last → last ≡ true → IsEnd now result → TakesFrame range a c old now result
+took_end range now_range from now_from a b c old held left now count last result so_far (same, none) filled at h =
+    let nothing : filled.is.read ≡ [] = nil_from_length filled.is.read (zero_of (length filled.is.read) (sym filled.empty ∙ at)) in
+    let stays_so : now ≡ held = filled.is.grew ∙ ap (λ w. left ++ w) nothing ∙ append-nil left ∙ same in
+    let open_front : HasNoFrame range now end.Open = subst (λ (w : List ℕ). HasNoFrame range w end.Open) (sym stays_so)
+    (subst (λ (r : RangeCfg). HasNoFrame r held end.Open) so_far.same_range none) in record {
+      read = so_far.read;
+      took =
+          subst (λ (w : List ℕ). Consumes a c w) (ap (λ w. so_far.read ++ w) nothing ∙ append-nil so_far.read)
+          (consumes_on a b c so_far.read filled.is.read so_far.took filled.is.took);
+      needed = so_far.needed;
+      front = subst (λ (w : List ℕ). IsFront range c w result now) (stays_so ∙ so_far.grew) (ended range c now result (filled.last at) open_front h);
+    }
+
+-- the reader failed
+pub took_fault : {Reader : Type 0} (range now_range : RangeCfg) (from now_from : Reader) (a b c : Option (List ℕ)) (old held left now : List ℕ) (count : ℕ)
+    (error : FrameError)
+    → IsWaiting range now_range from now_from a b old held count → left ≡ held → now ≡ left → Keeps b c
+    → ((bytes : List ℕ) → bytes ≡ now → IsFront range c bytes (Err error) now) → TakesFrame range a c old now (Err error)
+took_fault range now_range from now_from a b c old held left now count error so_far same kept keeps h = record {
+  read = so_far.read;
+  took = consumes_before a b c so_far.read so_far.took keeps;
+  needed = so_far.needed;
+  front = h (old ++ so_far.read) (sym (kept ∙ same ∙ so_far.grew));
+}
+
+-- as many reads as there can be gave no frame
+pub took_long : {Reader : Type 0} (range now_range : RangeCfg) (from now_from : Reader) (a b : Option (List ℕ)) (old now : List ℕ) (count : ℕ)
+    → IsWaiting range now_range from now_from a b old now count → 2 ^ 64 ≤ count + 1 → TakesFrame range a b old now (Err TooLong)
+took_long range now_range from now_from a b old now count so_far enough = record {
+  read = so_far.read;
+  took = so_far.took;
+  needed = so_far.needed;
+  front = (so_far.grew, omega (arith, enough, so_far.counted, length-append old so_far.read));
+}
+
+-- ---- the frames of the stream
+
+nothing_framed : (range : RangeCfg) (text : List ℕ) → text ≡ [] → HasNoFrame range text end.Open
+nothing_framed range text e = subst (λ (xs : List ℕ). HasNoFrame range xs end.Open) (sym e) (inl (none_high [] tt, (omega arith, tt)))
+
+-- where a text has no frames, all of it is behind them
+all_behind : (range : RangeCfg) (text : List ℕ) (frames : List (List ℕ)) (stop : End) (rest : List ℕ) → IsFramed range text frames stop rest → frames ≡ []
+    → text ≡ rest
+all_behind range text frames stop rest is none = is.whole ∙ ap (λ fs. frames_written fs ++ rest) none
+
+first_of : (range : RangeCfg) (old new bytes left : List ℕ) (result : Result (Option View) FrameError) (frames : List (List ℕ)) (stop : End) (rest : List ℕ)
+    → IsFront range (Some left) bytes result new → IsFramed range (bytes ++ left) frames stop rest → IsFirstOf range frames stop rest result (new ++ left)
+first_of range old new bytes left (Ok (Some body)) frames stop rest (admitted, whole) is =
+    first_is range (bytes ++ left) (new ++ left) body.bytes stop frames rest admitted
+    (ap (λ w. w ++ left) whole ∙ append_assoc (bytes_written body.bytes) new left) is
+first_of range old new bytes left (Ok None) frames stop rest (empty, gone, last) is =
+    let whole : bytes ++ left ≡ [] = ap (λ w. w ++ left) empty ∙ last in
+    let (none, stopped) = none_in_front range (bytes ++ left) stop end.Open frames rest (nothing_framed range (bytes ++ left) whole) is in
+    (none, sym (all_behind range (bytes ++ left) frames stop rest is none) ∙ whole, ap (λ w. w ++ left) gone ∙ last)
+first_of range old new bytes left (Err Cut) frames stop rest (same, some, open_front, last) is =
+    let whole : bytes ++ left ≡ bytes = ap (λ w. bytes ++ w) last ∙ append-nil bytes in
+    let (none, stopped) = none_in_front range (bytes ++ left) stop end.Open frames rest
+    (subst (λ (w : List ℕ). HasNoFrame range w end.Open) (sym whole) open_front) is in
+    let behind : bytes ++ left ≡ rest = all_behind range (bytes ++ left) frames stop rest is none in
+    (none, stopped, subst (λ (w : List ℕ). 0 < length w) (sym whole ∙ behind) some, ap (λ w. w ++ left) same ∙ behind)
+first_of range old new bytes left (Err (Bad error)) frames stop rest (same, bad) is =
+    let (none, stopped) = none_in_front range (bytes ++ left) stop (end.Bad error) frames rest (stays_bad range bytes left error bad) is in
+    (none, stopped, ap (λ w. w ++ left) same ∙ all_behind range (bytes ++ left) frames stop rest is none)
+first_of range old new bytes left (Err (Io error)) frames stop rest same is =
+    subst (λ (w : List ℕ). IsFramed range w frames stop rest) (ap (λ w. w ++ left) (sym same)) is
+first_of range old new bytes left (Err Memory) frames stop rest same is =
+    subst (λ (w : List ℕ). IsFramed range w frames stop rest) (ap (λ w. w ++ left) (sym same)) is
+first_of range old new bytes left (Err TooLong) frames stop rest (same, long) is =
+    subst (λ (w : List ℕ). IsFramed range w frames stop rest) (ap (λ w. w ++ left) (sym same)) is
+
+-- what `next` answers is the first of the frames of all bytes held and still to be read, or what their end says
+pub first_taken : (range : RangeCfg) (had has : Option (List ℕ)) (old new : List ℕ) (result : Result (Option View) FrameError)
+    → TakesFrame range had has old new result
+    → IfSome had (λ text. IfSome has (λ left. (frames : List (List ℕ)) (stop : End) (rest : List ℕ)
+    → IsFramed range (old ++ text) frames stop rest → IsFirstOf range frames stop rest result (new ++ left)))
+first_taken range None has old new result is = tt
+first_taken range (Some text) None old new result is = absurd is.took
+first_taken range (Some text) (Some left) old new result is = λ frames stop rest framed.
+    first_of range old new (old ++ is.read) left result frames stop rest is.front
+    (subst (λ (w : List ℕ). IsFramed range w frames stop rest) (ap (λ w. old ++ w) is.took ∙ sym (append_assoc old is.read left)) framed)

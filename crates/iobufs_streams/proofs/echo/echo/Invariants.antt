@@ -1,0 +1,11 @@
+use Rattle.std.proofs.Common.{◌≡◌, []}
+use Rattle.iobufs_streams.specs.Streams.{held_bytes}
+use Rattle.iobufs_streams.proofs.EchoLaws.{Echoes}
+use Rattle.iobufs_streams.proofs.echo.echo.Given as goal
+
+abbrev pub invariant-loop : goal.invariant-loop
+invariant-loop g l = record {
+  echoes : Echoes (g.R.Read.remaining l.fn.from.from) (g.R.Read.remaining l.from.from) (held_bytes l.fn.from.held) (held_bytes l.from.held)
+      (g.W.Write.contents l.fn.to.to) (g.W.Write.contents l.to.to);
+  nothing : l.to.rest.bytes ≡ [];
+}

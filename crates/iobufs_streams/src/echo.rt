@@ -1,0 +1,59 @@
+//! Frames that are sent back as they come.
+ghost use Rattle.std.specs.Prelude.{◌≡◌, ◌++◌, [], IfSome, OnOk};
+ghost use Rattle.std.specs.Io.KnownBytes.{Appends};
+ghost use Rattle.iobufs_core.specs.Wire.{bytes_written};
+ghost use Rattle.iobufs_streams.specs.Streams.{HasSent, held_bytes};
+
+use crate::error::FrameError;
+use crate::reader::FrameReader;
+use crate::writer::FrameWriter;
+use iobufs::bufs::IoBufs;
+use iobufs_core::buf::IoBuf;
+use iobufs_core::codec::BufError;
+use std::alloc::Global;
+use std::io::{Read, Write};
+
+// Sends one frame off.
+#[tactic(auto, using(crate::proofs::EchoLaws::sending))]
+fn send_frame<W: Write + Drop>(
+    alloc: Global,
+    to: &mut FrameWriter<W>,
+    body: IoBuf,
+) -> Result<(), FrameError>
+    requires { to.old.rest.bytes ≡ [] }
+    ensures sent { HasSent (W.contents to.old.to) (W.contents to.new.to) (bytes_written body.bytes) }
+    ensures all { OnOk result (Appends (W.contents to.old.to) (W.contents to.new.to) (bytes_written body.bytes)) }
+    ensures nothing { OnOk result (to.new.rest.bytes ≡ []) }
+{
+    if let Err(refused) = to.put(alloc, IoBufs::from(body)) {
+        return Err(match refused.cause {
+            BufError::TooLong => FrameError::TooLong,
+            _ => FrameError::Memory,
+        });
+    }
+    to.send(alloc).map_err(FrameError::Io)?;
+    to.to.flush().map_err(FrameError::Io)
+}
+
+/// Sends each frame back as soon as it came, until the input ends between two frames. What was sent is a beginning of what
+/// came, whatever the answer.
+pub fn echo<R: Read + Drop, W: Write + Drop>(
+    alloc: Global,
+    from: &mut FrameReader<R>,
+    to: &mut FrameWriter<W>,
+) -> Result<(), FrameError>
+    requires { to.old.rest.bytes ≡ [] }
+    ensures all { OnOk result (IfSome (R.remaining from.old.from)
+        (λ text. Appends (W.contents to.old.to) (W.contents to.new.to) (held_bytes from.old.held ++ text))) }
+    ensures begun { IfSome (R.remaining from.old.from)
+        (λ text. HasSent (W.contents to.old.to) (W.contents to.new.to) (held_bytes from.old.held ++ text)) }
+{
+    for _ in 0..u64::MAX {
+        match from.next(alloc) {
+            Ok(Some(body)) => send_frame(alloc, to, body)?,
+            Ok(None) => return Ok(()),
+            Err(error) => return Err(error),
+        }
+    }
+    Err(FrameError::TooLong)
+}

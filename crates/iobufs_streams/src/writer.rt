@@ -1,0 +1,167 @@
+//! Frames as lists of chunks, whatever a write takes.
+ghost use Rattle.std.specs.Prelude.{◌≡◌, ◌≢◌, ◌+◌, ◌^◌, ◌<◌, ◌≤◌, [], length, map, nat_eq, take, IfErr, IfOk, IsOkUnless, OnErr, OnOk};
+ghost use Rattle.std.specs.IoError.{error_kind};
+ghost use Rattle.std.specs.declared.io.ErrorKind.TheVariants.{Interrupted, OutOfMemory};
+ghost use Rattle.std.specs.Io.KnownBytes.{Appends, WriteAppends};
+ghost use Rattle.std.specs.Io.{WritesAtMost};
+ghost use Rattle.std.specs.Io.Slices.{io_slice_bytes, io_slices_bytes};
+ghost use Rattle.iobufs.specs.CallerFacts.{IsSent};
+ghost use Rattle.iobufs_core.specs.MarkedText.{text_chunks};
+ghost use Rattle.iobufs_core.specs.Spelling.{spell};
+ghost use Rattle.iobufs_core.specs.Wire.{bytes_written};
+
+use iobufs::bufs::IoBufs;
+use iobufs_core::buf::IoBuf;
+use iobufs_core::codec::{Buf, BufError, Encode, Refused};
+use std::alloc::Global;
+use std::io::{self, ErrorKind, IoSlice, Write};
+
+// How many chunks are handed over at a time.
+const BATCH: usize = 64;
+
+// A length as it is spelled.
+fn spelled(alloc: Global, n: usize) -> Result<IoBuf, BufError>
+    ensures bytes { IfOk result (λ view. view.bytes ≡ spell n) }
+    ensures memory { IsOkUnless result BufError.Memory }
+{
+    match n.encode(alloc) {
+        Ok(part) => part.freeze(),
+        Err(_) => Err(BufError::Memory),
+    }
+}
+
+/// A body behind its length; its chunks aren't copied. `BufError::TooLong` only where both are longer than `usize::MAX`.
+pub fn framed(alloc: Global, mut body: IoBufs) -> Result<IoBufs, Refused<IoBufs>>
+    ensures bytes { IfOk result (λ text. text.bytes ≡ bytes_written body.bytes) }
+    ensures handed_back { IfErr result (λ refused. refused.value ≡ body) }
+    ensures memory { length (bytes_written body.bytes) < 2 ^ 64 → IfErr result (λ refused. refused.cause ≡ BufError.Memory) }
+{
+    let length = match spelled(alloc, body.len()) {
+        Ok(length) => length,
+        Err(cause) => return Err(Refused { cause, value: body }),
+    };
+    match body.prepend(alloc, length) {
+        Ok(()) => Ok(body),
+        Err(refused) => Err(Refused {
+            cause: refused.cause,
+            value: body,
+        }),
+    }
+}
+
+// The first chunks of a text.
+fn batch(alloc: Global, text: &IoBufs) -> io::Result<Vec<IoSlice<'_>>>
+    ensures batch { IfOk result (λ slices. map io_slice_bytes slices.items ≡ take 64 (text_chunks text.now)) }
+    ensures memory { IfErr result (λ error. error_kind error ≡ OutOfMemory) }
+{
+    let Ok(chunks) = text.chunks_vectored(alloc, BATCH) else {
+        return Err(io::Error::from(ErrorKind::OutOfMemory));
+    };
+    let mut slices = Vec::new(alloc);
+    for chunk in chunks {
+        slices.push(IoSlice::new(chunk))?;
+    }
+    Ok(slices)
+}
+
+// Writes once, and again where a signal interrupts it.
+#[tactic(auto, using(crate::proofs::StreamLaws::again))]
+fn write_again<W: Write>(to: &mut W, slices: &[IoSlice<'_>]) -> io::Result<usize>
+    ensures bound { WritesAtMost result (io_slices_bytes slices.now) }
+    ensures bytes { WriteAppends (W.contents to.old) (W.contents to.new) result (io_slices_bytes slices.now) }
+    ensures retried { IfErr result (λ error. error_kind error ≢ Interrupted) }
+{
+    for _ in 0..u64::MAX {
+        match to.write_vectored(slices) {
+            Err(error) if error.kind() == ErrorKind::Interrupted => {}
+            answer => return answer,
+        }
+    }
+    Err(io::Error::from(ErrorKind::TimedOut))
+}
+
+// Hands the first chunks of a text to the writer, and says how many bytes it took.
+#[tactic(auto, using(iobufs::specs::CallerFacts::sending))]
+fn write_batch<W: Write>(alloc: Global, to: &mut W, text: &IoBufs) -> io::Result<usize>
+    ensures within { IfOk result (λ n. n ≤ length text.now.bytes) }
+    ensures bytes { WriteAppends (W.contents to.old) (W.contents to.new) result text.now.bytes }
+    ensures retried { IfErr result (λ error. error_kind error ≢ Interrupted) }
+{
+    let slices = batch(alloc, text)?;
+    write_again(to, &slices)
+}
+
+// The same, and drops from the front what was taken.
+#[tactic(auto, using(iobufs::specs::CallerFacts::sending))]
+fn send_batch<W: Write>(alloc: Global, to: &mut W, text: &mut IoBufs) -> io::Result<usize>
+    ensures sent { IsSent (W.contents to.old) (W.contents to.new) text.old.bytes text.new.bytes }
+    ensures unchanged { OnErr result (text.new ≡ text.old) }
+    ensures count { IfOk result (λ n. length text.old.bytes ≡ n + length text.new.bytes) }
+    ensures retried { IfErr result (λ error. error_kind error ≢ Interrupted) }
+{
+    let n = write_batch(alloc, to, text)?;
+    text.advance(n);
+    Ok(n)
+}
+
+/// A writer to which whole frames are sent.
+#[derive(Drop)]
+pub struct FrameWriter<W> {
+    /// The writer.
+    pub to: W,
+    /// What it didn't take yet of the frame that was put last.
+    pub rest: IoBufs,
+}
+
+impl<W: Write + Drop> FrameWriter<W> {
+    /// Frames to this writer.
+    pub fn new(to: W) -> FrameWriter<W>
+        ensures to { result.to ≡ to }
+        ensures nothing { result.rest.bytes ≡ [] }
+    {
+        FrameWriter {
+            to,
+            rest: IoBufs::default(),
+        }
+    }
+
+    /// Whether all that was put was sent.
+    pub fn is_sent(&self) -> bool
+        ensures { result ≡ nat_eq (length self.now.rest.bytes) 0 }
+    {
+        self.rest.is_empty()
+    }
+
+    /// Begins a frame of this body, none of which is sent yet. `BufError::TooLong` only where it is longer than
+    /// `usize::MAX`.
+    pub fn put(&mut self, alloc: Global, body: IoBufs) -> Result<(), Refused<IoBufs>>
+        requires { self.old.rest.bytes ≡ [] }
+        ensures put { OnOk result (self.new.rest.bytes ≡ bytes_written body.bytes) }
+        ensures to { self.new.to ≡ self.old.to }
+        ensures refused { OnErr result (self.new.rest ≡ self.old.rest) }
+        ensures handed_back { IfErr result (λ refused. refused.value ≡ body) }
+        ensures memory { length (bytes_written body.bytes) < 2 ^ 64 → IfErr result (λ refused. refused.cause ≡ BufError.Memory) }
+    {
+        self.rest = framed(alloc, body)?;
+        Ok(())
+    }
+
+    /// Sends what is left of the frame that was put, in as many writes as the writer makes of them. Whatever is refused, no
+    /// byte is lost or sent twice: what the writer didn't take is left, and it may be called again. An error is the
+    /// writer's (never `ErrorKind::Interrupted`), `ErrorKind::WriteZero` where it takes none, or `ErrorKind::OutOfMemory`.
+    #[tactic(auto, using(iobufs::specs::CallerFacts::sending))]
+    pub fn send(&mut self, alloc: Global) -> io::Result<()>
+        ensures sent { IsSent (W.contents self.old.to) (W.contents self.new.to) self.old.rest.bytes self.new.rest.bytes }
+        ensures all { OnOk result (self.new.rest.bytes ≡ []) }
+        ensures left { OnErr result (0 < length self.new.rest.bytes) }
+        ensures contents { OnOk result (Appends (W.contents self.old.to) (W.contents self.new.to) self.old.rest.bytes) }
+        ensures retried { IfErr result (λ error. error_kind error ≢ Interrupted) }
+    {
+        while !self.rest.is_empty() {
+            if send_batch(alloc, &mut self.to, &mut self.rest)? == 0 {
+                return Err(io::Error::from(ErrorKind::WriteZero));
+            }
+        }
+        Ok(())
+    }
+}

@@ -1,0 +1,89 @@
+-- What a value that is looked for has to meet, and what is found of bytes, truths and values that are there or not.
+--     IsForm            how a value is written and found: what is found is admitted and stands there as it is written,
+--                       the bytes of a value begin those of no other, and where one stands only memory can be wanting
+--     no_memory         the fault of a request for memory that was refused
+--     IsCodecFault      a fault is one of these errors
+--     behind            a text whose bytes are those behind the first of another
+--     IsMadeThere       a length stands behind the first bytes, and a value was made of a view of as many bytes
+--     IsShortThere      fewer bytes than these stand behind the first
+--     IsByteAt          this byte stands behind the first
+--     IsBoolFault       no byte is there, or one that is neither 0 nor 1
+--     IsOptionFound,    a value that is there or not behind its byte, and why none is found
+--     IsOptionFault
+--     IsSameOption, IsOptionAdmitted    the same where both or neither are there; admitted where it is there
+--     IsPairFault       the first value has a fault, or it is found and what is behind it has one
+use Rattle.std.specs.Prelude.{◌≡◌, ◌⊎◌, ℕ, ◌+◌, ◌<◌, ◌≤◌, Option, Some, None, List, [], ◌∷◌, ◌++◌, length, take, drop, Ok}
+use Rattle.iobufs_core.specs.MarkedText.{MarkedText, taken_view}
+use Rattle.iobufs_core.specs.Spelling.{spell}
+use Rattle.iobufs_core.specs.View.{View}
+use Rattle.iobufs_core.specs.Wire.{IsLengthRead}
+use Rattle.iobufs_core.specs.declared.codec.base.RangeCfg.{RangeCfg}
+use Rattle.iobufs_core.specs.declared.codec.base.Error.{Error}
+use Rattle.iobufs_core.specs.declared.codec.base.Error.TheVariants.{EndOfBuffer, Memory}
+use Rattle.iobufs_values.specs.declared.fault.Fault.{Fault}
+use Rattle.iobufs_values.specs.declared.fault.Fault.TheVariants.{Codec, InvalidBool}
+
+abbrev pub no_memory : Fault
+no_memory = Codec Memory
+
+pub record IsForm (Value Cfg : Type 0) (written : Value → List ℕ) (same : Value → Value → Type 0) (admits : Cfg → Value → Type 0)
+    (is_found : MarkedText → ℕ → Cfg → Value → Type 0) (is_fault : MarkedText → ℕ → Cfg → Fault → Type 0) : Type 0 where
+  -- the same value is written as the same bytes
+  pub same_written : (x y : Value) → same x y → written x ≡ written y
+  -- the bytes of a value begin those of no other
+  pub no_front : (x y : Value) (cfg other : Cfg) (u v : List ℕ) → admits cfg x → admits other y → written x ++ u ≡ written y ++ v → same x y
+  -- what is found is admitted, and stands there as it is written
+  pub found_written : (value : Value) (cfg : Cfg) (text : MarkedText) (skip : ℕ) → is_found text skip cfg value
+      → admits cfg value × (take (length (written value)) (drop skip text.bytes) ≡ written value)
+  -- where an admitted value stands, nothing is refused but for memory
+  pub refuses : (value : Value) (cfg : Cfg) (text : MarkedText) (skip : ℕ) (rest : List ℕ) (fault : Fault) → admits cfg value
+      → drop skip text.bytes ≡ written value ++ rest → is_fault text skip cfg fault → fault ≡ no_memory
+  -- two refusals at the same bytes are one, memory aside
+  pub one_fault : (s t : MarkedText) (skip : ℕ) (cfg : Cfg) (a b : Fault) → s.bytes ≡ t.bytes → is_fault s skip cfg a → is_fault t skip cfg b
+      → (a ≡ b) ⊎ ((a ≡ no_memory) ⊎ (b ≡ no_memory))
+
+abbrev pub IsCodecFault : (Error → Type 0) → Fault → Type 0
+IsCodecFault is (Codec error) = is error
+IsCodecFault is other = ⊥
+
+abbrev pub behind : MarkedText → ℕ → MarkedText
+behind text skip = record { bytes = drop skip text.bytes; mark = text.mark; cuts = [] }
+
+-- a length in the range stands behind the first bytes, and the value is made of the bytes behind it
+pub record IsMadeThere {Value : Type 0} (makes : View → Value → Type 0) (text : MarkedText) (skip : ℕ) (range : RangeCfg) (value : Value) : Type 0 where
+  pub n : ℕ
+  pub read : IsLengthRead (drop skip text.bytes) range (Ok n)
+  pub within : length (spell n) + n ≤ length (drop skip text.bytes)
+  pub made : makes (taken_view text (skip + length (spell n)) n) value
+
+abbrev pub IsShortThere : MarkedText → ℕ → ℕ → Error → Type 0
+IsShortThere text skip n error = (error ≡ EndOfBuffer) × (length (drop skip text.bytes) < n)
+
+abbrev pub IsByteAt : MarkedText → ℕ → ℕ → Type 0
+IsByteAt text skip byte = take 1 (drop skip text.bytes) ≡ byte ∷ []
+
+abbrev pub IsBoolFault : MarkedText → ℕ → Fault → Type 0
+IsBoolFault text skip fault =
+    ((fault ≡ Codec EndOfBuffer) × (drop skip text.bytes ≡ [])) ⊎ ((fault ≡ InvalidBool) × ((byte : ℕ) × IsByteAt text skip byte × (1 < byte)))
+
+abbrev pub IsSameOption : {Value : Type 0} → (Value → Value → Type 0) → Option Value → Option Value → Type 0
+IsSameOption same None None = Unit {0}
+IsSameOption same None (Some y) = ⊥
+IsSameOption same (Some x) None = ⊥
+IsSameOption same (Some x) (Some y) = same x y
+
+abbrev pub IsOptionAdmitted : {Value Cfg : Type 0} → (Cfg → Value → Type 0) → Cfg → Option Value → Type 0
+IsOptionAdmitted admits cfg None = Unit {0}
+IsOptionAdmitted admits cfg (Some x) = admits cfg x
+
+abbrev pub IsOptionFound : {Value Cfg : Type 0} → (MarkedText → ℕ → Cfg → Value → Type 0) → MarkedText → ℕ → Cfg → Option Value → Type 0
+IsOptionFound is_found text skip cfg None = IsByteAt text skip 0
+IsOptionFound is_found text skip cfg (Some x) = IsByteAt text skip 1 × is_found text (skip + 1) cfg x
+
+abbrev pub IsOptionFault : {Cfg : Type 0} → (MarkedText → ℕ → Cfg → Fault → Type 0) → MarkedText → ℕ → Cfg → Fault → Type 0
+IsOptionFault is_fault text skip cfg fault = IsBoolFault text skip fault ⊎ (IsByteAt text skip 1 × is_fault text (skip + 1) cfg fault)
+
+abbrev pub IsPairFault : {Value Cfg : Type 0} (written : Value → List ℕ) (is_found : MarkedText → ℕ → Cfg → Value → Type 0)
+    (is_fault : MarkedText → ℕ → Cfg → Fault → Type 0) (behind_fault : MarkedText → ℕ → Fault → Type 0) → MarkedText → ℕ → Cfg → Fault → Type 0
+IsPairFault {Value} written is_found is_fault behind_fault text skip cfg fault =
+    is_fault text skip cfg fault ⊎ ((x : Value) × is_found text skip cfg x × behind_fault text (skip + length (written x)) fault)

@@ -1,0 +1,39 @@
+// Why a value is not found.
+ghost use Rattle.std.specs.Prelude.{◌≡◌};
+ghost use Rattle.iobufs_core.specs.Errors.{error_of};
+ghost use Rattle.iobufs_values.specs.declared.fault.Fault.TheVariants.{Codec};
+
+use iobufs_core::codec::{BufError, Error};
+
+/// Why a value is not found (the codec's `Error`, of which iobufs_core has the part that lengths and bytes need).
+#[derive(Clone, Copy, Debug, PartialEq, Eq, thiserror::Error)]
+pub enum Fault {
+    /// A number, a length or bytes aren't there, or memory was refused.
+    #[error("{0}")]
+    Codec(Error),
+    /// A byte that tells yes or no is neither 0 nor 1.
+    #[error("InvalidBool")]
+    InvalidBool,
+    /// This byte names no kind of the value.
+    #[error("InvalidEnum")]
+    InvalidEnum(u8),
+    /// So many bytes stand behind the value, where it was to be all.
+    #[error("ExtraData")]
+    ExtraData(usize),
+}
+
+impl From<Error> for Fault {
+    ghost from_gives = { λ error e. e ≡ Codec error };
+
+    fn from(error: Error) -> Fault {
+        Fault::Codec(error)
+    }
+}
+
+impl From<BufError> for Fault {
+    ghost from_gives = { λ cause e. e ≡ Codec (error_of cause) };
+
+    fn from(cause: BufError) -> Fault {
+        Fault::Codec(Error::from(cause))
+    }
+}

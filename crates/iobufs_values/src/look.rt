@@ -1,0 +1,90 @@
+// The trait of values that are found without taking them.
+ghost use Rattle.std.specs.Prelude.{◌≡◌, ◌⊎◌, ℕ, ◌+◌, ◌<◌, ◌≤◌, ◌++◌, length, IfOk, IfErr, OnErr};
+ghost use Rattle.iobufs_core.specs.MarkedText.{MarkedText};
+ghost use Rattle.iobufs_values.specs.Form.{IsForm};
+ghost use Rattle.iobufs_values.specs.declared.fault.Fault.{Fault as AnyFault};
+ghost use Rattle.iobufs_values.specs.declared.fault.Fault.TheVariants.{ExtraData};
+
+use crate::Fault;
+use iobufs_core::buf::IoBuf;
+use iobufs_core::codec::{EncodeSize, OwnedBuf};
+use std::alloc::Global;
+
+/// A value that is found in a text without taking it, so that whatever is made of several is read whole or not at all
+/// (the codec's `Read` takes as it goes).
+pub trait Look: EncodeSize + Sized {
+    /// What is asked of the value.
+    type Cfg;
+
+    // A value stands behind the first bytes of a text; or why none does.
+    ghost is_found: { MarkedText → ℕ → Self.Cfg → Self → Type 0 };
+
+    ghost is_fault: { MarkedText → ℕ → Self.Cfg → AnyFault → Type 0 };
+
+    // Which values a configuration admits, and which are the same, wherever their bytes are kept.
+    ghost admits: { Self.Cfg → Self → Type 0 };
+
+    ghost same: { Self → Self → Type 0 };
+
+    /// The value behind the first `skip` bytes, and how many bytes it has. All of them stay.
+    fn look<B: OwnedBuf>(
+        alloc: Global,
+        buf: &B,
+        skip: usize,
+        cfg: &Self::Cfg,
+    ) -> Result<(Self, usize), Fault>
+        requires { skip ≤ length (B.text buf.now) }
+        ensures found { IfOk result (λ found. is_found (B.marked buf.now) skip cfg.now found.0) }
+        ensures len { IfOk result (λ found. found.1 ≡ length (Self.written found.0)) }
+        ensures within { IfOk result (λ found. skip + found.1 ≤ length (B.text buf.now)) }
+        ensures fault { IfErr result (is_fault (B.marked buf.now) skip cfg.now) };
+
+    ghost form: { IsForm Self Self.Cfg Self.written same admits is_found is_fault };
+
+    /// Reads the value from the front, whole: it leaves what one copy of its bytes leaves. A refusal leaves the reader as
+    /// it was.
+    final fn read_whole<B: OwnedBuf>(
+        alloc: Global,
+        buf: &mut B,
+        cfg: &Self::Cfg,
+    ) -> Result<Self, Fault>
+        ensures found { IfOk result (is_found (B.marked buf.old) 0 cfg.now) }
+        ensures left { IfOk result (λ value. buf.new ≡ B.copied buf.old (length (Self.written value))) }
+        ensures bytes { IfOk result (λ value. B.text buf.old ≡ Self.written value ++ B.text buf.new) }
+        ensures fault { IfErr result (is_fault (B.marked buf.old) 0 cfg.now) }
+        ensures unchanged { OnErr result (buf.new ≡ buf.old) }
+    {
+        let (value, len) = Self::look(alloc, buf, 0, cfg)?;
+        drop_copied(alloc, buf, len);
+        Ok(value)
+    }
+
+    /// The value that a text is, from its first byte to its last (`decode_cfg`). `Fault::ExtraData` tells how many bytes
+    /// are left behind it.
+    final fn decode_cfg<B: OwnedBuf>(alloc: Global, buf: &B, cfg: &Self::Cfg) -> Result<Self, Fault>
+    where
+        Self: Drop,
+        ensures found { IfOk result (is_found (B.marked buf.now) 0 cfg.now) }
+        ensures whole { IfOk result (λ value. B.text buf.now ≡ Self.written value) }
+        ensures fault { IfErr result (λ fault. is_fault (B.marked buf.now) 0 cfg.now fault ⊎ ((value : Self) × (n : ℕ) × (fault ≡ ExtraData n)
+            × (is_found (B.marked buf.now) 0 cfg.now value) × (0 < n) × (length (B.text buf.now) ≡ length (Self.written value) + n))) }
+    {
+        let (value, len) = Self::look(alloc, buf, 0, cfg)?;
+        let left = buf.remaining() - len;
+        if left != 0 {
+            return Err(Fault::ExtraData(left));
+        }
+        Ok(value)
+    }
+}
+
+// Drops the first bytes as a copy of them does.
+fn drop_copied<B: OwnedBuf>(alloc: Global, buf: &mut B, n: usize)
+    requires { n ≤ length (B.text buf.old) }
+    ensures { buf.new ≡ B.copied buf.old n }
+{
+    match buf.take_owned_after::<IoBuf>(alloc, n, 0) {
+        Ok(_) => {}
+        Err(_) => unreachable!(),
+    }
+}

@@ -1,0 +1,71 @@
+// A truth, and a value that is there or not, behind a byte that tells it.
+ghost use Rattle.std.specs.Prelude.{◌≡◌, ⊤};
+ghost use Rattle.iobufs_core.specs.Wire.{flag};
+ghost use Rattle.iobufs_values.specs.Form.{IsBoolFault, IsByteAt};
+
+use crate::views::bytes_at;
+use crate::{Fault, Look};
+use iobufs_core::codec::{Buf, OwnedBuf};
+use std::alloc::Global;
+
+impl Look for bool {
+    type Cfg = ();
+
+    ghost use Rattle.iobufs_values.specs.Forms.{bool_form};
+
+    ghost is_found = { λ text skip _ truth. IsByteAt text skip (flag truth) };
+
+    ghost is_fault = { λ text skip _ fault. IsBoolFault text skip fault };
+
+    ghost admits = { λ _ _. Unit {0} };
+
+    ghost same = { λ x y. x ≡ y };
+
+    fn look<B: OwnedBuf>(
+        _alloc: Global,
+        buf: &B,
+        skip: usize,
+        _cfg: &(),
+    ) -> Result<(bool, usize), Fault> {
+        let bytes: [u8; 1] = bytes_at(buf, skip)?;
+        match bytes {
+            [0] => Ok((false, 1)),
+            [1] => Ok((true, 1)),
+            _ => Err(Fault::InvalidBool),
+        }
+    }
+
+    ghost form = { bool_form _ };
+}
+
+impl<T: Look + Drop> Look for Option<T> {
+    type Cfg = T::Cfg;
+
+    ghost use Rattle.iobufs_values.specs.Form.{IsOptionAdmitted, IsOptionFault, IsOptionFound, IsSameOption};
+    ghost use Rattle.iobufs_values.specs.Forms.{option_form};
+
+    ghost is_found = { IsOptionFound T.is_found };
+
+    ghost is_fault = { IsOptionFault T.is_fault };
+
+    ghost admits = { IsOptionAdmitted T.admits };
+
+    ghost same = { IsSameOption T.same };
+
+    fn look<B: OwnedBuf>(
+        alloc: Global,
+        buf: &B,
+        skip: usize,
+        cfg: &T::Cfg,
+    ) -> Result<(Option<T>, usize), Fault> {
+        let _len = buf.remaining();
+        let (is_there, _) = bool::look(alloc, buf, skip, &())?;
+        if !is_there {
+            return Ok((None, 1));
+        }
+        let (value, len) = T::look(alloc, buf, skip + 1, cfg)?;
+        Ok((Some(value), 1 + len))
+    }
+
+    ghost form = { option_form T.form };
+}

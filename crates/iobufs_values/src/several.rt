@@ -1,0 +1,113 @@
+// Several values, one behind the other.
+ghost use Rattle.std.specs.Prelude.{◌≡◌, ◌+◌, ◌++◌, ◌≤◌, length, IfOk, IfErr};
+ghost use Rattle.iobufs_values.specs.Form.{IsPairFault};
+
+use crate::{Fault, Look};
+use iobufs_core::codec::{Buf, OwnedBuf};
+use std::alloc::Global;
+
+impl<A: Look + Drop, B: Look + Drop> Look for (A, B) {
+    type Cfg = (A::Cfg, B::Cfg);
+
+    ghost use Rattle.iobufs_values.specs.Forms.{pair_form};
+
+    ghost is_found = { λ text skip cfg p. A.is_found text skip cfg.0 p.0 × B.is_found text (skip + length (A.written p.0)) cfg.1 p.1 };
+
+    ghost is_fault = { λ text skip cfg fault. IsPairFault A.written A.is_found A.is_fault (λ t k f. B.is_fault t k cfg.1 f) text skip cfg.0 fault };
+
+    ghost admits = { λ cfg p. A.admits cfg.0 p.0 × B.admits cfg.1 p.1 };
+
+    ghost same = { λ p q. A.same p.0 q.0 × B.same p.1 q.1 };
+
+    fn look<R: OwnedBuf>(
+        alloc: Global,
+        buf: &R,
+        skip: usize,
+        cfg: &(A::Cfg, B::Cfg),
+    ) -> Result<((A, B), usize), Fault> {
+        look_two(alloc, buf, skip, &cfg.0, &cfg.1)
+    }
+
+    ghost form = { pair_form A.form B.form };
+}
+
+impl<A: Look + Drop, B: Look + Drop, C: Look + Drop> Look for (A, B, C) {
+    type Cfg = (A::Cfg, B::Cfg, C::Cfg);
+
+    ghost use Rattle.iobufs_values.specs.Forms.{form_as, pair_form};
+    ghost use Rattle.std.proofs.Common.{refl};
+
+    ghost is_found = { λ text skip cfg p. A.is_found text skip cfg.0 p.0
+        × (B.is_found text (skip + length (A.written p.0)) cfg.1 p.1
+        × C.is_found text (skip + length (A.written p.0) + length (B.written p.1)) cfg.2 p.2) };
+
+    ghost is_fault = { λ text skip cfg fault. IsPairFault A.written A.is_found A.is_fault
+        (λ t k f. IsPairFault B.written B.is_found B.is_fault
+        (λ t k f. C.is_fault t k cfg.2 f) t k cfg.1 f)
+        text skip cfg.0 fault };
+
+    ghost admits = { λ cfg p. A.admits cfg.0 p.0 × (B.admits cfg.1 p.1 × C.admits cfg.2 p.2) };
+
+    ghost same = { λ p q. A.same p.0 q.0 × (B.same p.1 q.1 × C.same p.2 q.2) };
+
+    fn look<R: OwnedBuf>(
+        alloc: Global,
+        buf: &R,
+        skip: usize,
+        cfg: &(A::Cfg, B::Cfg, C::Cfg),
+    ) -> Result<((A, B, C), usize), Fault> {
+        look_three(alloc, buf, skip, &cfg.0, &cfg.1, &cfg.2)
+    }
+
+    ghost form = { form_as (λ p. (p.0, (p.1, p.2))) (λ cfg. (cfg.0, (cfg.1, cfg.2)))
+        (λ p. A.written p.0 ++ (B.written p.1 ++ C.written p.2)) (λ p. refl)
+        (pair_form A.form (pair_form B.form C.form)) };
+}
+
+// The values behind the first `skip` bytes, and how many bytes they have.
+fn look_two<A: Look + Drop, B: Look + Drop, R: OwnedBuf>(
+    alloc: Global,
+    buf: &R,
+    skip: usize,
+    first: &A::Cfg,
+    second: &B::Cfg,
+) -> Result<((A, B), usize), Fault>
+    requires { skip ≤ length (R.text buf.now) }
+    ensures found { IfOk result (λ found. A.is_found (R.marked buf.now) skip first.now found.0.0
+        × B.is_found (R.marked buf.now) (skip + length (A.written found.0.0)) second.now found.0.1) }
+    ensures len { IfOk result (λ found. found.1 ≡ length (A.written found.0.0 ++ B.written found.0.1)) }
+    ensures within { IfOk result (λ found. skip + found.1 ≤ length (R.text buf.now)) }
+    ensures fault { IfErr result (λ fault. IsPairFault A.written A.is_found A.is_fault (λ t k f. B.is_fault t k second.now f)
+        (R.marked buf.now) skip first.now fault) }
+{
+    let _len = buf.remaining();
+    let (one, len) = A::look(alloc, buf, skip, first)?;
+    let (two, more) = B::look(alloc, buf, skip + len, second)?;
+    Ok(((one, two), len + more))
+}
+
+// The values behind the first `skip` bytes, and how many bytes they have.
+fn look_three<A: Look + Drop, B: Look + Drop, C: Look + Drop, R: OwnedBuf>(
+    alloc: Global,
+    buf: &R,
+    skip: usize,
+    first: &A::Cfg,
+    second: &B::Cfg,
+    third: &C::Cfg,
+) -> Result<((A, B, C), usize), Fault>
+    requires { skip ≤ length (R.text buf.now) }
+    ensures found { IfOk result (λ found. A.is_found (R.marked buf.now) skip first.now found.0.0
+        × (B.is_found (R.marked buf.now) (skip + length (A.written found.0.0)) second.now found.0.1
+        × C.is_found (R.marked buf.now) (skip + length (A.written found.0.0) + length (B.written found.0.1)) third.now found.0.2)) }
+    ensures len { IfOk result (λ found. found.1 ≡ length (A.written found.0.0 ++ (B.written found.0.1 ++ C.written found.0.2))) }
+    ensures within { IfOk result (λ found. skip + found.1 ≤ length (R.text buf.now)) }
+    ensures fault { IfErr result (λ fault. IsPairFault A.written A.is_found A.is_fault
+        (λ t k f. IsPairFault B.written B.is_found B.is_fault
+        (λ t k f. C.is_fault t k third.now f) t k second.now f)
+        (R.marked buf.now) skip first.now fault) }
+{
+    let _len = buf.remaining();
+    let (one, len) = A::look(alloc, buf, skip, first)?;
+    let ((two, three), more) = look_two(alloc, buf, skip + len, second, third)?;
+    Ok(((one, two, three), len + more))
+}
