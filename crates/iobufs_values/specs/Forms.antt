@@ -209,7 +209,7 @@ whole_by : (u d : List ℕ) → take (length u) d ≡ u → d ≡ u ++ drop (len
 whole_by u d front = sym (take-append-drop (length u) d) ∙ ap (λ xs. xs ++ drop (length u) d) front
 
 -- where the first value of two is found, the other is behind it
-behind_first : {A C : Type 0} {written : A → List ℕ} {same : A → A → Type 0} {admits : C → A → Type 0} {is_found : MarkedText → ℕ → C → A → Type 0}
+pub behind_first : {A C : Type 0} {written : A → List ℕ} {same : A → A → Type 0} {admits : C → A → Type 0} {is_found : MarkedText → ℕ → C → A → Type 0}
     {is_fault : MarkedText → ℕ → C → Fault → Type 0} → IsForm A C written same admits is_found is_fault
     → (x y : A) (cfg : C) (text : MarkedText) (skip : ℕ) (more : List ℕ)
     → admits cfg x → drop skip text.bytes ≡ written x ++ more → is_found text skip cfg y → drop (skip + length (written y)) text.bytes ≡ more

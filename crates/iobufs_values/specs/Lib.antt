@@ -1,2 +1,4 @@
 pub mod Form
 pub mod Forms
+pub mod Listed
+pub mod Signed

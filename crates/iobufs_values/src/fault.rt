@@ -4,6 +4,7 @@ ghost use Rattle.iobufs_core.specs.Errors.{error_of};
 ghost use Rattle.iobufs_values.specs.declared.fault.Fault.TheVariants.{Codec};
 
 use iobufs_core::codec::{BufError, Error};
+use std::alloc::AllocFailed;
 
 /// Why a value is not found (the codec's `Error`, of which iobufs_core has the part that lengths and bytes need).
 #[derive(Clone, Copy, Debug, PartialEq, Eq, thiserror::Error)]
@@ -35,5 +36,15 @@ impl From<BufError> for Fault {
 
     fn from(cause: BufError) -> Fault {
         Fault::Codec(Error::from(cause))
+    }
+}
+
+impl<T: Drop> From<AllocFailed<T>> for Fault {
+    ghost use Rattle.iobufs_core.specs.declared.codec.base.Error.TheVariants as error;
+
+    ghost from_gives = { λ _ e. e ≡ Codec error.Memory };
+
+    fn from(_error: AllocFailed<T>) -> Fault {
+        Fault::Codec(Error::Memory)
     }
 }

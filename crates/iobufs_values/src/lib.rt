@@ -1,5 +1,6 @@
 //! Whole values: what is made of several is read whole or not at all, since reading looks before it takes.
 //!
+//! - `gets`: numbers out of the front of any reader.
 //! - `look`: the trait `Look`, with `read_whole` and `decode_cfg` over it. `fault`: why a value is not found.
 //! - `numbers`, `views`, `option`, `several`: numbers and lengths; views, `Bytes` and arrays; truths and `Option`; tuples.
 //! - `specs/`: `Form` has what a value has to meet, in one record, and what is found of each kind; `Forms` that each kind
@@ -7,11 +8,19 @@
 #![tactic(auto)]
 
 mod fault;
+mod gets;
+mod list;
 mod look;
 mod numbers;
 mod option;
+mod parts;
 mod several;
+mod signed;
 mod views;
 
 pub use fault::Fault;
+pub use gets::GetNumbers;
+pub use list::List;
 pub use look::Look;
+pub use parts::ByParts;
+pub use signed::Signed;

@@ -1,5 +1,5 @@
 // The trait of values that are found without taking them.
-ghost use Rattle.std.specs.Prelude.{◌≡◌, ◌⊎◌, ℕ, ◌+◌, ◌<◌, ◌≤◌, ◌++◌, length, IfOk, IfErr, OnErr};
+ghost use Rattle.std.specs.Prelude.{◌≡◌, ◌⊎◌, ℕ, ◌+◌, ◌<◌, ◌≤◌, ◌^◌, ◌++◌, length, IfOk, IfErr, OnErr};
 ghost use Rattle.iobufs_core.specs.MarkedText.{MarkedText};
 ghost use Rattle.iobufs_values.specs.Form.{IsForm};
 ghost use Rattle.iobufs_values.specs.declared.fault.Fault.{Fault as AnyFault};
@@ -76,6 +76,14 @@ pub trait Look: EncodeSize + Sized {
         }
         Ok(value)
     }
+}
+
+/// That a reader's bytes are as many as a `usize` says, and so a sum of places within them is one too. The prover knows it
+/// only of a length that was asked for, so this asks; nothing of the call is left in the program.
+pub(crate) fn has_len<B: OwnedBuf>(buf: &B)
+    ensures { length (B.text buf.now) < 2 ^ 64 }
+{
+    let _ = buf.remaining();
 }
 
 // Drops the first bytes as a copy of them does.

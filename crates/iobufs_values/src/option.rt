@@ -3,6 +3,7 @@ ghost use Rattle.std.specs.Prelude.{◌≡◌, ⊤};
 ghost use Rattle.iobufs_core.specs.Wire.{flag};
 ghost use Rattle.iobufs_values.specs.Form.{IsBoolFault, IsByteAt};
 
+use crate::look::has_len;
 use crate::views::bytes_at;
 use crate::{Fault, Look};
 use iobufs_core::codec::{Buf, OwnedBuf};
@@ -58,7 +59,7 @@ impl<T: Look + Drop> Look for Option<T> {
         skip: usize,
         cfg: &T::Cfg,
     ) -> Result<(Option<T>, usize), Fault> {
-        let _len = buf.remaining();
+        has_len(buf);
         let (is_there, _) = bool::look(alloc, buf, skip, &())?;
         if !is_there {
             return Ok((None, 1));

@@ -9,12 +9,17 @@ mod chunks;
 #[cfg(test)]
 mod encode;
 #[cfg(test)]
+mod gets;
+#[cfg(test)]
 mod hostile;
 #[cfg(test)]
 mod lengths;
 #[cfg(test)]
+mod lists;
+#[cfg(test)]
 mod made;
 mod message;
+mod note;
 mod record;
 mod shard;
 #[cfg(test)]

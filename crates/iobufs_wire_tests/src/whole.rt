@@ -20,12 +20,12 @@ const ABC: &[u8] = b"abc";
 // Yes; 258 behind its byte; `xyz`; and 300, spelled.
 const SOME: &[u8] = b"\x01\x01\x01\x02xyz\xac\x02";
 
-fn view(text: &'static [u8]) -> IoBuf {
+pub fn view(text: &'static [u8]) -> IoBuf {
     IoBuf::from(text)
 }
 
 // A chunk a byte.
-fn bytewise(alloc: Global, text: &[u8]) -> Result<IoBufs, Fail> {
+pub fn bytewise(alloc: Global, text: &[u8]) -> Result<IoBufs, Fail> {
     let mut all = IoBufs::default();
     for i in 0..text.len() {
         all.append(alloc, IoBuf::copy_from_slice(alloc, &text[i..=i])?)?;
@@ -43,7 +43,7 @@ fn chunks<B: Buf>(alloc: Global, buf: &B) -> Result<Vec<Vec<u8>>, Fail> {
 }
 
 // A refusal is this one, and leaves each chunk.
-fn assert_refused<T: Look + Drop, B: OwnedBuf>(
+pub fn assert_refused<T: Look + Drop, B: OwnedBuf>(
     rt: &(impl Abort + AllocGlobal),
     buf: &mut B,
     cfg: &T::Cfg,
