@@ -14,7 +14,7 @@ use Rattle.iobufs_core.specs.declared.codec.base.Error.TheVariants.{EndOfBuffer,
 use Rattle.iobufs_core.specs.declared.codec.base.RangeCfg.{RangeCfg}
 use Rattle.iobufs.specs.Laws.Joined.{bytes-append}
 use Rattle.iobufs_frames.specs.FrameFacts.{first_is, none_in_front, one_end, stands, stays_bad}
-use Rattle.iobufs_frames.specs.Frames.{frames_written, AreAdmitted, AreAlike, AreMoved, BeginsWithBytes, HasBytes, HasFrames, HasNoFrame, IsAdmitted, IsFramed, IsNext, IsFirst, bodies, found_of}
+use Rattle.iobufs_frames.specs.Frames.{frames_written, AreAdmitted, AreAlike, AreMoved, BeginsWithBytes, HasBytes, HasFrames, HasNoFrame, IsAdmitted, IsBehindLength, IsFramed, IsNext, IsFirst, bodies, found_of}
 use Rattle.iobufs_frames.specs.declared.End.{End}
 use Rattle.iobufs_frames.specs.declared.End.TheVariants.{Open, Bad}
 
@@ -165,6 +165,27 @@ taken_rest old new (Err (InvalidLength n)) result e h = subst (HasRest old new) 
 taken_rest old new (Err Memory) result e h = subst (HasRest old new) (sym e) tt
 taken_rest old new (Err BadLayout) result e h = subst (HasRest old new) (sym e) tt
 taken_rest old new (Err TooLong) result e h = subst (HasRest old new) (sym e) tt
+
+HasBody : MarkedText → Result (Option View) Error → Type 0
+HasBody text result = IfOk result (λ found. IfSome found (λ body. IsBehindLength text body))
+
+behind_length : (range : RangeCfg) (text : MarkedText) (view : View) → IsViewRead text range (Ok view) → IsBehindLength text view
+behind_length range text view (n, (((small, at), inside), long), is) =
+    let there = view_there text n view at long is in
+    record { fits = there.within; is = subst (λ m. view ≡ taken_view text (length (spell m)) m) (sym there.long) is }
+
+-- a taken frame's body is the view behind its length
+pub taken_body : (range : RangeCfg) (text : MarkedText) (read : Result View Error) (result : Result (Option View) Error) → result ≡ found_of read
+    → IsViewRead text range read
+    → IfOk result (λ found. IfSome found (λ body. IsBehindLength text body))
+unfolding HasBody
+taken_body range text (Ok view) result e h = subst (HasBody text) (sym e) (behind_length range text view h)
+taken_body range text (Err EndOfBuffer) result e h = subst (HasBody text) (sym e) tt
+taken_body range text (Err InvalidVarint) result e h = subst (HasBody text) (sym e) tt
+taken_body range text (Err (InvalidLength n)) result e h = subst (HasBody text) (sym e) tt
+taken_body range text (Err Memory) result e h = subst (HasBody text) (sym e) tt
+taken_body range text (Err BadLayout) result e h = subst (HasBody text) (sym e) tt
+taken_body range text (Err TooLong) result e h = subst (HasBody text) (sym e) tt
 
 first_wanted : (range : RangeCfg) (old : List ℕ) (end : End) (frames : List (List ℕ)) (rest : List ℕ) → HasBytes range old
     → IsFramed range old frames end rest → BeginsWithBytes frames

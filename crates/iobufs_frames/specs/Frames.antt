@@ -1,6 +1,8 @@
 -- The frames of a text. A frame is its length as it is spelled, and behind it so many bytes, its body.
 --     frames_written              frames, one behind the other
 --     bodies, joined_bytes        the bytes of bodies that are views: each by itself, and all in one
+--     IsBehindLength,             a body is the view behind its length in front of a text, with its mark; and several
+--     IsTakenApart                are so, each in what those before it left
 --     IsAdmitted, AreAdmitted     the length of a body is in the range, and of each
 --     HasNoFrame                  no whole frame stands in front, and why: more bytes may complete it, or none can
 --     HasBytes                    a whole frame with bytes stands in front
@@ -13,11 +15,12 @@
 --     AreAlike, HaveOneReading    two readings of a text are the same; and so are any two
 --     BeginningsAreOpen,          a beginning of a frame may go on; what can't be a frame stays so whatever follows
 --     BadStaysBad
-use Rattle.std.specs.Prelude.{◌≡◌, ◌⊎◌, ℕ, ◌+◌, ◌^◌, ◌<◌, true, Option, None, Some, Result, Ok, Err, List, [], ◌∷◌, ◌++◌, map, flat_map, length}
+use Rattle.std.specs.Prelude.{◌≡◌, ◌⊎◌, ℕ, ◌+◌, ◌^◌, ◌<◌, ◌≤◌, true, Option, None, Some, Result, Ok, Err, List, [], ◌∷◌, ◌++◌, map, flat_map, length}
 use Rattle.iobufs_core.specs.Ranges.{in_range}
 use Rattle.iobufs_core.specs.Spelling.{spell}
+use Rattle.iobufs_core.specs.MarkedText.{MarkedText, taken_view, text_len, text_rest}
 use Rattle.iobufs_core.specs.View.{View}
-use Rattle.iobufs_core.specs.Wire.{IsLengthRead, bytes_written}
+use Rattle.iobufs_core.specs.Wire.{IsLengthRead, bytes_written, view_written}
 use Rattle.iobufs_core.specs.declared.codec.base.Error.{Error}
 use Rattle.iobufs_core.specs.declared.codec.base.Error.TheVariants.{EndOfBuffer, Memory}
 use Rattle.iobufs_core.specs.declared.codec.base.RangeCfg.{RangeCfg}
@@ -64,6 +67,16 @@ pub record IsFramed (range : RangeCfg) (text : List ℕ) (frames : List (List �
 -- the bytes of views, view by view
 abbrev pub bodies : List View → List (List ℕ)
 bodies views = map (λ view. view.bytes) views
+
+-- a body is the view behind its length in front of a text: of its piece, or native where it spans pieces
+pub record IsBehindLength (text : MarkedText) (body : View) : Type 0 where
+  pub fits : length (view_written body) ≤ text_len text
+  pub is : body ≡ taken_view text (length (spell (length body.bytes))) (length body.bytes)
+
+-- bodies are so one behind the other, each in what those before it left, and this is left behind them
+abbrev pub IsTakenApart : MarkedText → List View → MarkedText → Type 0
+IsTakenApart text [] rest = rest ≡ text
+IsTakenApart text (body ∷ bodies) rest = IsBehindLength text body × IsTakenApart (text_rest text (length (view_written body))) bodies rest
 
 -- the answer by what reading a view answers: none where that ends with the text
 abbrev pub found_of : Result View Error → Result (Option View) Error

@@ -1,10 +1,11 @@
 // Frames on a text that comes in pieces: a body behind its length, one behind the other.
 #![tactic(auto)]
 
-ghost use Rattle.std.specs.Prelude.{◌≡◌, ◌⊎◌, ℕ, ◌+◌, ◌^◌, ◌<◌, ◌≤◌, List, ◌++◌, length, OnOk, OnErr, IfOk, IfErr, IsOk, IsErrAnd, IsOkUnless, IfNone, IfSome};
-ghost use Rattle.iobufs_core.specs.MarkedText.{text_append, text_rest};
+ghost use Rattle.std.specs.Prelude.{◌≡◌, ◌⊎◌, ℕ, ◌+◌, ◌^◌, ◌<◌, ◌≤◌, List, [], ◌∷◌, ◌++◌, length, OnOk, OnErr, IfOk, IfErr, IsOk, IsErrAnd, IsOkUnless, IfNone, IfSome};
+ghost use Rattle.iobufs_core.specs.MarkedText.{MarkedText, joined, text_append, text_rest};
+ghost use Rattle.iobufs_core.specs.View.{View};
 ghost use Rattle.iobufs_core.specs.Wire.{view_written};
-ghost use Rattle.iobufs_frames.specs.Frames.{AreMoved, BadStaysBad, BeginningsAreOpen, HasFrames, HasNoFrame, HaveOneReading, IsFirst, IsFramed, IsNext, bodies, found_of, joined_bytes};
+ghost use Rattle.iobufs_frames.specs.Frames.{AreMoved, BadStaysBad, BeginningsAreOpen, HasFrames, HasNoFrame, HaveOneReading, IsBehindLength, IsFirst, IsFramed, IsNext, IsTakenApart, bodies, found_of, joined_bytes};
 
 use iobufs::bufs::IoBufs;
 use iobufs_core::buf::IoBuf;
@@ -95,6 +96,7 @@ impl Frames {
     /// but a taken frame leave the rest as it was.
     pub fn next(&mut self, alloc: Global, range: &RangeCfg) -> Result<Option<IoBuf>, Error>
         ensures next { IsNext range.now self.old.bytes result self.new.bytes }
+        ensures body { IfOk result (λ found. IfSome found (λ body. IsBehindLength self.old body)) }
         ensures left { IfOk result (λ found. IfSome found (λ body. self.new ≡ text_rest self.old (length (view_written body)))) }
         ensures same { IfOk result (λ found. IfNone found (self.new ≡ self.old)) }
         ensures unchanged { OnErr result (self.new ≡ self.old) }
@@ -119,6 +121,8 @@ impl Frames {
         found: &mut Vec<IoBuf>,
     ) -> Result<Option<End>, BufError>
         ensures moved { IfOk result (λ end. IfNone end (AreMoved range.now (bodies found.old.items) self.old.bytes (bodies found.new.items) self.new.bytes)) }
+        ensures marks { IfOk result (λ end. IfNone end ((text : MarkedText) → IsTakenApart text found.old.items self.old
+            → IsTakenApart text found.new.items self.new)) }
         ensures shorter { IfOk result (λ end. IfNone end (length self.new.bytes < length self.old.bytes)) }
         ensures ends { IfOk result (λ end. IfSome end (HasNoFrame range.now self.old.bytes)) }
         ensures same { IfOk result (λ end. IfSome end (λ _. (self.new ≡ self.old) × (found.new.items ≡ found.old.items))) }
@@ -143,6 +147,7 @@ impl Frames {
         found: &mut Vec<IoBuf>,
     ) -> Result<End, BufError>
         ensures moved { OnOk result (AreMoved range.now (bodies found.old.items) self.old.bytes (bodies found.new.items) self.new.bytes) }
+        ensures marks { OnOk result ((text : MarkedText) → IsTakenApart text found.old.items self.old → IsTakenApart text found.new.items self.new) }
         ensures ends { IfOk result (HasNoFrame range.now self.new.bytes) }
         ensures memory { IsOkUnless result BufError.Memory }
     {
@@ -164,6 +169,8 @@ impl Frames {
     ) -> Result<End, BufError>
         ensures framed { IfOk result (λ end. (text : List ℕ) → IsFramed range.now text (bodies found.old.items) stop self.old.bytes
             → IsFramed range.now (text ++ piece.bytes) (bodies found.new.items) end self.new.bytes) }
+        ensures marks { OnOk result ((fed : List View) → IsTakenApart (joined fed) found.old.items self.old
+            → IsTakenApart (joined (fed ++ piece ∷ [])) found.new.items self.new) }
         ensures memory { length self.old.bytes + length piece.bytes < 2 ^ 64 → IsOkUnless result BufError.Memory }
         ensures causes { IfErr result (λ cause. (cause ≡ BufError.Memory) ⊎ (cause ≡ BufError.TooLong)) }
     {
@@ -178,6 +185,7 @@ impl Frames {
     /// text is longer than `usize::MAX`. A refusal gives the pieces up.
     pub fn run(alloc: Global, pieces: Vec<IoBuf>, range: &RangeCfg) -> Result<Run, BufError>
         ensures framed { IfOk result (λ run. IsFramed range.now (joined_bytes pieces.items) (bodies run.frames.items) run.stop run.rest.bytes) }
+        ensures marks { IfOk result (λ run. IsTakenApart (joined pieces.items) run.frames.items run.rest) }
         ensures memory { length (joined_bytes pieces.items) < 2 ^ 64 → IsOkUnless result BufError.Memory }
         ensures nothing { length pieces.items ≡ 0 → IsOk result }
         ensures causes { IfErr result (λ cause. (cause ≡ BufError.Memory) ⊎ (cause ≡ BufError.TooLong)) }

@@ -1,4 +1,5 @@
 use Rattle.iobufs_frames.proofs.FrameLaws.{moved_one}
+use Rattle.iobufs_frames.proofs.MarkLaws.{moved_marks}
 use Rattle.iobufs_frames.proofs.Frames.move_frame.Goals as goal
 
 -- src/lib.rt:83:5
@@ -12,3 +13,8 @@ pub returns-in_ok-push-in-Ok-Some-clause-shorter : goal.returns-in_ok-push-in-Ok
 returns-in_ok-push-in-Ok-Some-clause-shorter c =
     (moved_one c.args.range.now c.args.self.now.bytes c.next.new.self.bytes c.in-Ok-Some.body c.in-Ok-Some.field-0 c.args.found.now.items
     c.push.new.self.items c.in-Ok-Some.field-0-is c.in-Ok-Some.ensures.next c.in_ok-push-in-Ok-Some.ensures.items).1
+
+pub returns-in_ok-push-in-Ok-Some-clause-marks : goal.returns-in_ok-push-in-Ok-Some-clause-marks
+returns-in_ok-push-in-Ok-Some-clause-marks c =
+    moved_marks c.args.self.now c.next.new.self c.in-Ok-Some.body c.in-Ok-Some.field-0 c.args.found.now.items
+    c.push.new.self.items c.in-Ok-Some.field-0-is c.in-Ok-Some.ensures.body c.in-Ok-Some.ensures.left c.in_ok-push-in-Ok-Some.ensures.items

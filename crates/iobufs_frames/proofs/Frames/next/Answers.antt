@@ -1,8 +1,8 @@
 use Rattle.std.proofs.Common.{◌≡◌, length, subst, IfOk, IfSome}
 use Rattle.iobufs_core.specs.Wire.{view_written}
 use Rattle.iobufs_core.specs.MarkedText.{MarkedText, text_rest}
-use Rattle.iobufs_frames.specs.Frames.{IsNext}
-use Rattle.iobufs_frames.proofs.FrameLaws.{first_of_next, next_is, taken_rest}
+use Rattle.iobufs_frames.specs.Frames.{IsBehindLength, IsNext}
+use Rattle.iobufs_frames.proofs.FrameLaws.{first_of_next, next_is, taken_body, taken_rest}
 use Rattle.iobufs_frames.proofs.Frames.next.Goals as goal
 
 -- src/lib.rt:73:5
@@ -21,3 +21,8 @@ pub returns-clause-left : goal.returns-clause-left
 returns-clause-left c =
     subst (λ (t : MarkedText). IfOk c.found.result (λ found. IfSome found (λ v. c.read_cfg.new.buf ≡ text_rest t (length (view_written v))))) c.self.view_is
     (taken_rest c.self.inside.rest c.read_cfg.new.buf c.read_cfg.result c.found.result c.found.ensures c.read_cfg.ensures.rest)
+
+pub returns-clause-body : goal.returns-clause-body
+returns-clause-body c =
+    subst (λ (t : MarkedText). IfOk c.found.result (λ found. IfSome found (λ v. IsBehindLength t v))) c.self.view_is
+    (taken_body c.args.range.now c.self.inside.rest c.read_cfg.result c.found.result c.found.ensures c.read_cfg.ensures.answer)
