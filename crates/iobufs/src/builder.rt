@@ -57,9 +57,9 @@ impl Model for Builder {
 
 // Room for one more push of so many bytes, if pushes may still add them.
 fn make_room(pushes: &mut Gapped, pushable: usize, len: usize) -> Result<(), BufError>
-    ensures same { pushes.new.slots ≡ pushes.old.slots }
+    ensures same { pushes.new.segments ≡ pushes.old.segments }
     ensures more { pushes.old.room ≤ pushes.new.room }
-    ensures ok { OnOk result ((len ≤ pushable) × (length pushes.new.slots + 3 ≤ pushes.new.room)) }
+    ensures ok { OnOk result ((len ≤ pushable) × (length pushes.new.segments + 3 ≤ pushes.new.room)) }
     ensures too_long { pushable < len → IsErrAnd result (λ cause. cause ≡ BufError.TooLong) }
     ensures memory { len ≤ pushable → IfErr result (λ cause. cause ≡ BufError.Memory) }
 {

@@ -1,6 +1,9 @@
 // Sends the frames of the standard input back to the standard output, each as soon as it came.
 #![tactic(auto)]
 
+ghost use Rattle.std.specs.Prelude.{◌≡◌};
+ghost use Rattle.iobufs_echo.specs.Status.{status_of};
+
 use iobufs_core::codec::RangeCfg;
 use iobufs_streams::echo::echo;
 use iobufs_streams::error::FrameError;
@@ -14,7 +17,9 @@ const MOST: usize = 1 << 20;
 
 // The exit status: 0 where the input ended between two frames, 1 where it ended inside one, 2 for a bad frame, 3 where a
 // stream or memory failed.
-fn status(ended: &Result<(), FrameError>) -> u8 {
+fn status(ended: &Result<(), FrameError>) -> u8
+    ensures { result ≡ status_of ended.now }
+{
     match ended {
         Ok(()) => 0,
         Err(FrameError::Cut) => 1,

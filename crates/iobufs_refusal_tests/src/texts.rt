@@ -174,6 +174,34 @@ fn taken_across_pieces_as_bytes(rt: HostRuntime) -> Result<(), Fail> {
 }
 
 #[test]
+fn copied_to_a_list(rt: HostRuntime) -> Result<(), Fail> {
+    on_each(&rt, cut(rt.alloc()), is_cut, |text: &mut IoBufs| {
+        let copy = text.to_vec(rt.alloc())?;
+        Ok(copy.as_slice() == b"abcdef".as_slice() || copy.as_slice() == b"abcdefgh".as_slice())
+    })
+}
+
+#[test]
+fn truncated(rt: HostRuntime) -> Result<(), Fail> {
+    on_each(&rt, cut(rt.alloc()), is_cut, |text: &mut IoBufs| {
+        text.truncate(rt.alloc(), 4)?;
+        Ok(shows_rest(text, &[b"abc", b"d"], &[b"ab", b"cd"]))
+    })
+}
+
+#[test]
+fn sliced(rt: HostRuntime) -> Result<(), Fail> {
+    on_each(&rt, cut(rt.alloc()), is_cut, |text: &mut IoBufs| {
+        if text.len() < 5 {
+            return Err(BufError::TooLong);
+        }
+        let slice = text.slice(rt.alloc(), 1..5)?;
+        let is_whole = shows(text, &[b"abc", b"def"]) || shows_pieces(text, 4);
+        Ok(is_whole && shows_rest(&slice, &[b"bc", b"de"], &[b"b", b"cd", b"e"]))
+    })
+}
+
+#[test]
 fn tried_to_take(rt: HostRuntime) -> Result<(), Fail> {
     let mut text = fixture!(rt, pieces(rt.alloc(), 4));
     let (part, word) = lent!(

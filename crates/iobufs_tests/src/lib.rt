@@ -9,6 +9,8 @@ mod frames;
 #[cfg(test)]
 mod generic;
 #[cfg(test)]
+mod limits;
+#[cfg(test)]
 mod located;
 #[cfg(test)]
 mod many;

@@ -1,4 +1,5 @@
 // Each text that a cause prints, in one table, and a command as it is printed and compared.
+use iobufs::bufs::IoBufs;
 use iobufs_core::buf::IoBuf;
 use iobufs_core::codec::{BufError, Error, RangeCfg, Refused, TryGetError};
 use iobufs_run::command::Cmd;
@@ -58,5 +59,17 @@ fn a_command_is_printed_copied_and_compared(rt: HostRuntime) -> Result<(), Fail>
     assert!(rt; put.clone()? == put);
     assert!(rt; decode.clone()? == decode);
     assert!(rt; put != decode);
+    Ok(())
+}
+
+#[test]
+fn a_text_prints_its_length_and_its_chunks(rt: HostRuntime) -> Result<(), Fail> {
+    let alloc = rt.alloc();
+    let mut text = IoBufs::from(b"ab".as_slice());
+    if text.append(alloc, IoBuf::from(b"cde".as_slice())).is_err() {
+        return Err(Fail::new("refused"));
+    }
+    let printed = format!(in alloc; "{text:?}")?;
+    assert_eq!(rt; printed.as_str(), "IoBufs { len: 5, chunks: 2 }");
     Ok(())
 }

@@ -1,7 +1,8 @@
 // Frames over readers and writers that take and give as they like.
 use iobufs::bufs::IoBufs;
-use iobufs_core::buf::IoBuf;
+use iobufs_core::buf::{IoBuf, IoBufMut};
 use iobufs_core::codec::{Error, RangeCfg};
+use iobufs_streams::adapters::{Reader, Writer};
 use iobufs_streams::echo::echo;
 use iobufs_streams::error::FrameError;
 use iobufs_streams::reader::FrameReader;
@@ -225,5 +226,39 @@ fn frames_are_echoed(rt: HostRuntime) -> Result<(), Fail> {
     let mut to = FrameWriter::new(Narrow::new(alloc, 3, 100));
     assert!(rt; matches!(echo(alloc, &mut from, &mut to), Err(FrameError::Cut)));
     assert_eq!(rt; to.to.taken.as_slice(), b"\x01a".as_slice());
+    Ok(())
+}
+
+#[test]
+fn a_text_is_read_by_std(rt: HostRuntime) -> Result<(), Fail> {
+    let alloc = rt.alloc();
+    let mut text = IoBufs::from(b"ab".as_slice());
+    if text.append(alloc, IoBuf::from(b"cde".as_slice())).is_err() {
+        return Err(Fail::new("refused"));
+    }
+    let mut reader = Reader { buf: text };
+    let mut four = [0; 4];
+    assert_eq!(rt; reader.read(&mut four).ok(), Some(4));
+    assert_eq!(rt; four, *b"abcd");
+    let mut rest = Vec::new(alloc);
+    assert_eq!(rt; reader.read_to_end(&mut rest).ok(), Some(1));
+    assert_eq!(rt; rest.as_slice(), b"e".as_slice());
+    assert_eq!(rt; reader.read(&mut four).ok(), Some(0));
+    Ok(())
+}
+
+#[test]
+fn a_part_is_written_by_std(rt: HostRuntime) -> Result<(), Fail> {
+    let mut writer = Writer {
+        buf: IoBufMut::with_capacity(rt.alloc(), 4)?,
+    };
+    assert!(rt; writer.write_all(b"abc").is_ok());
+    assert_eq!(rt; writer.write(b"de").ok(), Some(1));
+    assert_eq!(rt;
+        writer.write_all(b"e").err().map(|error| error.kind()),
+        Some(ErrorKind::WriteZero)
+    );
+    assert!(rt; writer.flush().is_ok());
+    assert_eq!(rt; writer.buf.as_ref(), b"abcd".as_slice());
     Ok(())
 }

@@ -118,6 +118,19 @@ fn chunks_of_four_pieces(rt: HostRuntime) -> Result<(), Fail> {
 }
 
 #[test]
+fn chunks_come_in_order(rt: HostRuntime) -> Result<(), Fail> {
+    let text = pieces(rt.alloc(), 3)?;
+    let mut chunks = text.chunks();
+    assert_eq!(rt; chunks.next(), Some(b"ab".as_slice()));
+    assert_eq!(rt; chunks.next(), Some(b"cd".as_slice()));
+    assert_eq!(rt; chunks.next(), Some(b"ef".as_slice()));
+    assert_eq!(rt; chunks.next(), None);
+    assert_eq!(rt; chunks.next(), None);
+    assert_eq!(rt; IoBufs::default().chunks().next(), None);
+    Ok(())
+}
+
+#[test]
 fn a_part_is_filled_from_two_pieces(rt: HostRuntime) -> Result<(), Fail> {
     let alloc = rt.alloc();
     let mut text = IoBufs::from(b"hel".as_slice());
@@ -214,5 +227,41 @@ fn a_destination_is_filled_across_pieces(rt: HostRuntime) -> Result<(), Fail> {
     assert_eq!(rt; shown(alloc, &text)?.as_slice(), b"d|ef".as_slice());
     assert!(rt; text.try_copy_to_slice(&mut [0; 4]).is_err());
     assert_eq!(rt; text.chunk(), b"d".as_slice());
+    Ok(())
+}
+
+#[test]
+fn a_text_is_copied_and_cut(rt: HostRuntime) -> Result<(), Fail> {
+    let alloc = rt.alloc();
+    let mut text = pieces(alloc, 3)?;
+    assert_eq!(rt; text.to_vec(alloc)?.as_slice(), b"abcdef".as_slice());
+    for (len, left) in [
+        (9usize, b"ab|cd|ef".as_slice()),
+        (6, b"ab|cd|ef".as_slice()),
+        (3, b"ab|c".as_slice()),
+        (2, b"ab".as_slice()),
+        (0, b"".as_slice()),
+    ] {
+        text.truncate(alloc, len)?;
+        assert!(rt; shown(alloc, &text)?.as_slice() == left, "{len}");
+    }
+    assert!(rt; text.to_vec(alloc)?.is_empty());
+    Ok(())
+}
+
+#[test]
+fn a_text_is_sliced_between_any_places(rt: HostRuntime) -> Result<(), Fail> {
+    let alloc = rt.alloc();
+    let text = pieces(alloc, 3)?;
+    for from in 0..7usize {
+        for to in from..7usize {
+            if text.len() < to {
+                return Err(Fail::new("too short"));
+            }
+            let slice = text.slice(alloc, from..to)?;
+            assert!(rt; shown(alloc, &slice)? == cut_up(alloc, from, to)?);
+        }
+    }
+    assert_eq!(rt; text.len(), 6);
     Ok(())
 }

@@ -10,14 +10,14 @@ use Rattle.iobufs_core.specs.Items.{Item, push_item, items_inline, items_pushed}
 use Rattle.iobufs_core.specs.Part.{Part, empty_part, part_put, part_capacity}
 use Rattle.iobufs.specs.Building.{Building, AreInTurn, IsBuilding, building_items, inline_run, empty_building, building_put, building_push, building_room, room_for_pushes}
 use Rattle.iobufs.specs.Laws.Building.{items_inline-append, items_pushed-append, run-inline, run-pushed, push-some}
-use Rattle.iobufs.specs.Inside.Gaps.{AreSlots, gaps_len, slots_pushed, stood_len}
-use Rattle.iobufs.specs.Inside.Pushes.{items_front, building_with}
-use Rattle.iobufs.specs.Inside.RowValues.{Slot, gap, standing}
-use Rattle.iobufs.proofs.Building.GapLaws.{gaps-push, stood-push, slots-push}
+use Rattle.iobufs.specs.Inside.Gaps.{AreSegments, gaps_len, segments_pushed, stood_len}
+use Rattle.iobufs.specs.Inside.Pushes.{items_front, building_from}
+use Rattle.iobufs.specs.Inside.RowValues.{Segment, gap, standing}
+use Rattle.iobufs.proofs.Building.GapLaws.{gaps-push, stood-push, segments-push}
 use Rattle.iobufs.proofs.Text.Sides.{not_zero}
 
 -- bytes behind the gaps change nothing before them
-front-put : (bytes more : List ℕ) (ss : List Slot) → gaps_len ss ≤ length bytes → items_front (bytes ++ more) ss ≡ items_front bytes ss
+front-put : (bytes more : List ℕ) (ss : List Segment) → gaps_len ss ≤ length bytes → items_front (bytes ++ more) ss ≡ items_front bytes ss
 front-put bytes more [] fits = refl
 front-put bytes more (standing view ∷ ss) fits = ap (λ items. push_item view ∷ items) (front-put bytes more ss (omega arith))
 front-put bytes more (gap n ∷ ss) fits =
@@ -27,7 +27,7 @@ front-put bytes more (gap n ∷ ss) fits =
     ∙ ap (λ rest. inline_run (take n bytes) ++ items_front rest ss) (drop-append-le n bytes more inside)
     ∙ ap (λ items. inline_run (take n bytes) ++ items) (front-put (drop n bytes) more ss (omega arith))
 
-front-inline : (bytes : List ℕ) (ss : List Slot) → gaps_len ss ≤ length bytes → items_inline (items_front bytes ss) ≡ gaps_len ss
+front-inline : (bytes : List ℕ) (ss : List Segment) → gaps_len ss ≤ length bytes → items_inline (items_front bytes ss) ≡ gaps_len ss
 front-inline bytes [] fits = refl
 front-inline bytes (standing view ∷ ss) fits = let ih = front-inline bytes ss (omega arith) in omega arith
 front-inline bytes (gap n ∷ ss) fits =
@@ -38,7 +38,7 @@ front-inline bytes (gap n ∷ ss) fits =
     let a = items_inline-append (inline_run (take n bytes)) (items_front (drop n bytes) ss) in
     omega arith
 
-front-pushed : (bytes : List ℕ) (ss : List Slot) → items_pushed (items_front bytes ss) ≡ stood_len ss
+front-pushed : (bytes : List ℕ) (ss : List Segment) → items_pushed (items_front bytes ss) ≡ stood_len ss
 front-pushed bytes [] = refl
 front-pushed bytes (standing view ∷ ss) = let ih = front-pushed bytes ss in omega arith
 front-pushed bytes (gap n ∷ ss) =
@@ -47,8 +47,8 @@ front-pushed bytes (gap n ∷ ss) =
     let a = items_pushed-append (inline_run (take n bytes)) (items_front (drop n bytes) ss) in
     omega arith
 
--- slots behind others get the bytes that no gap had
-front-append : (bytes : List ℕ) (ss ts : List Slot) → items_front bytes (ss ++ ts) ≡ items_front bytes ss ++ items_front (drop (gaps_len ss) bytes) ts
+-- segments behind others get the bytes that no gap had
+front-append : (bytes : List ℕ) (ss ts : List Segment) → items_front bytes (ss ++ ts) ≡ items_front bytes ss ++ items_front (drop (gaps_len ss) bytes) ts
 front-append bytes [] ts = refl
 front-append bytes (standing view ∷ ss) ts =
     let same : gaps_len ss ≡ 0 + gaps_len ss = omega arith in
@@ -58,16 +58,17 @@ front-append bytes (gap n ∷ ss) ts =
     ∙ ap (λ rest. items_front (drop n bytes) ss ++ items_front rest ts) (drop-drop (gaps_len ss) n bytes))
     ∙ sym (append_assoc (inline_run (take n bytes)) (items_front (drop n bytes) ss) _)
 
-front-pushed_slots : (bytes : List ℕ) (run : ℕ) (view : View) → items_front bytes (slots_pushed run view) ≡ inline_run (take run bytes) ++ push_item view ∷ []
-front-pushed_slots bytes zero view = refl
-front-pushed_slots bytes (suc n) view = rw (not_zero (suc n) (omega arith)) refl
+front-pushed_segments : (bytes : List ℕ) (run : ℕ) (view : View)
+    → items_front bytes (segments_pushed run view) ≡ inline_run (take run bytes) ++ push_item view ∷ []
+front-pushed_segments bytes zero view = refl
+front-pushed_segments bytes (suc n) view = rw (not_zero (suc n) (omega arith)) refl
 
-pub new-building : (capacity : ℕ) → building_with (empty_part capacity) [] 0 ≡ empty_building capacity
+pub new-building : (capacity : ℕ) → building_from (empty_part capacity) [] 0 ≡ empty_building capacity
 new-building capacity =
     let n : 0 + capacity ≡ capacity = omega arith in ap empty_building n
 
-pub put-building : (part : Part) (ss : List Slot) (placed : ℕ) (bytes : List ℕ) → gaps_len ss ≡ placed → placed ≤ length part.filled
-    → length bytes ≤ part.spare → building_with (part_put part bytes) ss placed ≡ building_put (building_with part ss placed) bytes
+pub put-building : (part : Part) (ss : List Segment) (placed : ℕ) (bytes : List ℕ) → gaps_len ss ≡ placed → placed ≤ length part.filled
+    → length bytes ≤ part.spare → building_from (part_put part bytes) ss placed ≡ building_put (building_from part ss placed) bytes
 put-building part ss placed bytes counted within fits =
     let n = length-append part.filled bytes in
     let capacity : part_capacity (part_put part bytes) ≡ part_capacity part = omega arith in
@@ -77,33 +78,33 @@ put-building part ss placed bytes counted within fits =
     ∙ ap (λ f. record { capacity = part_capacity part; front = f; last = drop placed (part.filled ++ bytes) }) front
     ∙ ap (λ l. record { capacity = part_capacity part; front = items_front part.filled ss; last = l }) last
 
-pub push-building : (part : Part) (ss : List Slot) (placed run : ℕ) (view : View) → gaps_len ss ≡ placed → placed ≤ length part.filled
+pub push-building : (part : Part) (ss : List Segment) (placed run : ℕ) (view : View) → gaps_len ss ≡ placed → placed ≤ length part.filled
     → run ≡ length part.filled - placed → 0 < length view.bytes
-    → building_with part (ss ++ slots_pushed run view) (placed + run) ≡ building_push (building_with part ss placed) view
+    → building_from part (ss ++ segments_pushed run view) (placed + run) ≡ building_push (building_from part ss placed) view
 push-building part ss placed run view counted within is some =
     let d = length-drop placed part.filled in
     let all = take_all run (drop placed part.filled) (omega arith) in
     let before = items_front part.filled ss in
     let front =
-    front-append part.filled ss (slots_pushed run view)
-    ∙ ap (λ items. before ++ items) (front-pushed_slots (drop (gaps_len ss) part.filled) run view)
+    front-append part.filled ss (segments_pushed run view)
+    ∙ ap (λ items. before ++ items) (front-pushed_segments (drop (gaps_len ss) part.filled) run view)
     ∙ ap (λ n. before ++ (inline_run (take run (drop n part.filled)) ++ push_item view ∷ [])) counted
     ∙ ap (λ bytes. before ++ (inline_run bytes ++ push_item view ∷ [])) all in
     let last = drop_all (placed + run) part.filled (omega arith) in
     ap (λ f. record { capacity = part_capacity part; front = f; last = drop (placed + run) part.filled }) front
     ∙ ap (λ l. record { capacity = part_capacity part; front = before ++ (inline_run (drop placed part.filled) ++ push_item view ∷ []); last = l }) last
-    ∙ sym (push-some (building_with part ss placed) view some)
+    ∙ sym (push-some (building_from part ss placed) view some)
 
-pub room-building : (part : Part) (ss : List Slot) (placed : ℕ) → gaps_len ss ≡ placed → placed ≤ length part.filled
-    → building_room (building_with part ss placed) ≡ part.spare
+pub room-building : (part : Part) (ss : List Segment) (placed : ℕ) → gaps_len ss ≡ placed → placed ≤ length part.filled
+    → building_room (building_from part ss placed) ≡ part.spare
 room-building part ss placed counted within =
     let d = length-drop placed part.filled in
     let n = front-inline part.filled ss (omega arith) in
     omega arith
 
 -- all inline bytes are in items
-pub inline-building : (part : Part) (ss : List Slot) (placed : ℕ) → gaps_len ss ≡ placed → placed ≤ length part.filled
-    → items_inline (building_items (building_with part ss placed)) ≡ length part.filled
+pub inline-building : (part : Part) (ss : List Segment) (placed : ℕ) → gaps_len ss ≡ placed → placed ≤ length part.filled
+    → items_inline (building_items (building_from part ss placed)) ≡ length part.filled
 inline-building part ss placed counted within =
     let d = length-drop placed part.filled in
     let n = front-inline part.filled ss (omega arith) in
@@ -111,8 +112,8 @@ inline-building part ss placed counted within =
     let a = items_inline-append (items_front part.filled ss) (inline_run (drop placed part.filled)) in
     omega arith
 
-pub pushes-building : (part : Part) (ss : List Slot) (placed pushable : ℕ) → part_capacity part + stood_len ss + pushable + 1 ≡ 2 ^ 64
-    → room_for_pushes (building_with part ss placed) ≡ pushable
+pub pushes-building : (part : Part) (ss : List Segment) (placed pushable : ℕ) → part_capacity part + stood_len ss + pushable + 1 ≡ 2 ^ 64
+    → room_for_pushes (building_from part ss placed) ≡ pushable
 pushes-building part ss placed pushable limited =
     let n = front-pushed part.filled ss in
     omega arith
@@ -121,28 +122,28 @@ pub put-capacity : (part : Part) (bytes : List ℕ) → length bytes ≤ part.sp
 put-capacity part bytes fits = let n = length-append part.filled bytes in omega arith
 
 -- a put into the fields of a builder is a put into what they say
-pub put-kept : (part after : Part) (ss : List Slot) (placed : ℕ) (b : Building) (bytes : List ℕ) → gaps_len ss ≡ placed → placed ≤ length part.filled
-    → building_with part ss placed ≡ b → length bytes ≤ building_room b → after ≡ part_put part bytes → building_with after ss placed ≡ building_put b bytes
+pub put-kept : (part after : Part) (ss : List Segment) (placed : ℕ) (b : Building) (bytes : List ℕ) → gaps_len ss ≡ placed → placed ≤ length part.filled
+    → building_from part ss placed ≡ b → length bytes ≤ building_room b → after ≡ part_put part bytes → building_from after ss placed ≡ building_put b bytes
 put-kept part after ss placed b bytes counted within is fits put =
     let room = room-building part ss placed counted within in
     let same = ap building_room is in
-    ap (λ (p : Part). building_with p ss placed) put
+    ap (λ (p : Part). building_from p ss placed) put
     ∙ put-building part ss placed bytes counted within (omega arith)
     ∙ ap (λ (x : Building). building_put x bytes) is
 
 -- and so is a push
-pub push-kept : (part : Part) (ss after : List Slot) (placed end : ℕ) (b : Building) (run : ℕ) (view : View) → gaps_len ss ≡ placed
-    → placed ≤ length part.filled → building_with part ss placed ≡ b → run ≡ length part.filled - placed → 0 < length view.bytes
-    → after ≡ ss ++ slots_pushed run view → end ≡ placed + run → building_with part after end ≡ building_push b view
+pub push-kept : (part : Part) (ss after : List Segment) (placed end : ℕ) (b : Building) (run : ℕ) (view : View) → gaps_len ss ≡ placed
+    → placed ≤ length part.filled → building_from part ss placed ≡ b → run ≡ length part.filled - placed → 0 < length view.bytes
+    → after ≡ ss ++ segments_pushed run view → end ≡ placed + run → building_from part after end ≡ building_push b view
 push-kept part ss after placed end b run view counted within is run_is some pushed moved =
-    ap (λ (all : List Slot). building_with part all end) pushed
-    ∙ ap (λ n. building_with part (ss ++ slots_pushed run view) n) moved
+    ap (λ (all : List Segment). building_from part all end) pushed
+    ∙ ap (λ n. building_from part (ss ++ segments_pushed run view) n) moved
     ∙ push-building part ss placed run view counted within run_is some
     ∙ ap (λ (x : Building). building_push x view) is
 
 -- how many bytes pushes may still add
-pub pushes-kept : (part : Part) (ss : List Slot) (placed pushable : ℕ) (b : Building) → part_capacity part + stood_len ss + pushable + 1 ≡ 2 ^ 64
-    → building_with part ss placed ≡ b → room_for_pushes b ≡ pushable
+pub pushes-kept : (part : Part) (ss : List Segment) (placed pushable : ℕ) (b : Building) → part_capacity part + stood_len ss + pushable + 1 ≡ 2 ^ 64
+    → building_from part ss placed ≡ b → room_for_pushes b ≡ pushable
 pushes-kept part ss placed pushable b limited is = ap room_for_pushes (sym is) ∙ pushes-building part ss placed pushable limited
 
 -- what the fields keep is what a builder keeps
@@ -151,7 +152,7 @@ in_turn-run : (bytes : List ℕ) (view : View) (items : List Item) → 0 < lengt
 in_turn-run [] view items some rest = (some, rest)
 in_turn-run (byte ∷ bytes) view items some rest = (omega arith, some, rest)
 
-in_turn-front : (bytes : List ℕ) (ss : List Slot) → AreSlots ss → AreInTurn (items_front bytes ss)
+in_turn-front : (bytes : List ℕ) (ss : List Segment) → AreSegments ss → AreInTurn (items_front bytes ss)
 in_turn-front bytes [] h = tt
 in_turn-front bytes (standing view ∷ ss) h = (h.0, in_turn-front bytes ss h.1)
 in_turn-front bytes (gap n ∷ []) h = absurd h
@@ -160,11 +161,11 @@ in_turn-front bytes (gap n ∷ standing view ∷ ss) (some, stands, others) =
     in_turn-run (take n bytes) view (items_front (drop n bytes) ss) stands (in_turn-front (drop n bytes) ss others)
 
 -- what the fields of a builder say takes turns and keeps to its room, where the fields keep what they have to
-pub IsBuilding-kept : (part : Part) (ss : List Slot) (placed pushable : ℕ) (b : Building) → gaps_len ss ≡ placed → placed ≤ length part.filled
-    → AreSlots ss → part_capacity part + stood_len ss + pushable + 1 ≡ 2 ^ 64 → building_with part ss placed ≡ b → IsBuilding b
-IsBuilding-kept part ss placed pushable b counted within slots limited is = subst IsBuilding is (
+pub IsBuilding-kept : (part : Part) (ss : List Segment) (placed pushable : ℕ) (b : Building) → gaps_len ss ≡ placed → placed ≤ length part.filled
+    → AreSegments ss → part_capacity part + stood_len ss + pushable + 1 ≡ 2 ^ 64 → building_from part ss placed ≡ b → IsBuilding b
+IsBuilding-kept part ss placed pushable b counted within segments limited is = subst IsBuilding is (
     record {
-      in_turn = in_turn-front part.filled ss slots;
+      in_turn = in_turn-front part.filled ss segments;
       within = omega (arith, front-inline part.filled ss (omega arith), length-drop placed part.filled);
       fits = omega (arith, front-pushed part.filled ss);
     })
@@ -183,7 +184,7 @@ pub ruleset building = (
   pushes-building,
   gaps-push,
   stood-push,
-  slots-push,
+  segments-push,
   put-capacity,
   pushes-kept,
   bytes-len,

@@ -13,10 +13,10 @@ use Rattle.iobufs.specs.Laws.Building.{bytes-built, items_bytes-append, push-non
 use Rattle.iobufs.specs.Inside.Pieces.{pieces_bytes}
 use Rattle.iobufs.proofs.Text.Sides.{not_zero}
 use Rattle.iobufs.specs.Laws.Joined.{bytes-joined}
-use Rattle.iobufs.specs.Inside.Gaps.{AreSlots, filled, gaps_len}
-use Rattle.iobufs.specs.Inside.Pushes.{items_front, building_with}
-use Rattle.iobufs.specs.Inside.RowValues.{Slot, gap, standing}
-use Rattle.iobufs.proofs.Building.GapLaws.{slots-first}
+use Rattle.iobufs.specs.Inside.Gaps.{AreSegments, filled, gaps_len}
+use Rattle.iobufs.specs.Inside.Pushes.{items_front, building_from}
+use Rattle.iobufs.specs.Inside.RowValues.{Segment, gap, standing}
+use Rattle.iobufs.proofs.Building.GapLaws.{segments-first}
 use Rattle.iobufs.proofs.Parts.Frozen.{len-append}
 
 -- inline bytes as a view
@@ -82,15 +82,15 @@ last-views room (b ∷ bs) =
     ∙ rw (not_zero (length (b ∷ bs)) (omega arith)) refl
 
 -- the gaps are filled by the inline texts
-filled-views : (room : ℕ) (bytes : List ℕ) (ss : List Slot) → AreSlots ss → gaps_len ss ≤ length bytes
+filled-views : (room : ℕ) (bytes : List ℕ) (ss : List Segment) → AreSegments ss → gaps_len ss ≤ length bytes
     → filled (inline_view room bytes) ss ≡ views_from room (items_front bytes ss ++ inline_run (drop (gaps_len ss) bytes))
-filled-views room bytes [] slots fits = last-views room bytes
-filled-views room bytes (standing view ∷ ss) slots fits =
+filled-views room bytes [] segments fits = last-views room bytes
+filled-views room bytes (standing view ∷ ss) segments fits =
     let same : gaps_len ss ≡ 0 + gaps_len ss = omega arith in
-    ap (λ vs. view ∷ vs) (filled-views room bytes ss slots.1 (omega arith))
+    ap (λ vs. view ∷ vs) (filled-views room bytes ss segments.1 (omega arith))
     ∙ ap (λ n. view ∷ views_from room (items_front bytes ss ++ inline_run (drop n bytes))) same
-filled-views room bytes (gap n ∷ ss) slots fits =
-    let first = slots-first (gap n) ss slots in
+filled-views room bytes (gap n ∷ ss) segments fits =
+    let first = segments-first (gap n) ss segments in
     let some : 0 < n = omega (arith, first.0) in
     let inside : n ≤ length bytes = omega arith in
     let d = length-drop n bytes in
@@ -110,10 +110,10 @@ filled-views room bytes (gap n ∷ ss) slots fits =
     ∙ ap (λ (all : List Item). views_from room all) (sym (append_assoc (inline_run w) (items_front left ss) _))
 
 -- so they make what the builder says
-pub finished-views : (part : Part) (ss : List Slot) (placed : ℕ) → AreSlots ss → gaps_len ss ≡ placed → placed ≤ length part.filled
-    → joined (filled (part_frozen part) ss) ≡ finished (building_with part ss placed)
-finished-views part ss placed slots counted within =
-    ap joined (filled-views (part_capacity part) part.filled ss slots (omega arith))
+pub finished-views : (part : Part) (ss : List Segment) (placed : ℕ) → AreSegments ss → gaps_len ss ≡ placed → placed ≤ length part.filled
+    → joined (filled (part_frozen part) ss) ≡ finished (building_from part ss placed)
+finished-views part ss placed segments counted within =
+    ap joined (filled-views (part_capacity part) part.filled ss segments (omega arith))
     ∙ ap (λ n. joined (views_from (part_capacity part) (items_front part.filled ss ++ inline_run (drop n part.filled)))) counted
 
 inline-bytes : (room : ℕ) (bytes : List ℕ) → (inline_view room bytes).bytes ≡ bytes

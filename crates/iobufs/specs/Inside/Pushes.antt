@@ -1,6 +1,6 @@
 -- How the fields of a builder are read: inline bytes, and views that stand between them.
 --     items_front                   inline bytes shared out to the gaps between the views pushed, as items in order
---     building_with, building_of    what has been written, read off the bytes, the slots and how many bytes have
+--     building_from, building_of    what has been written, read off the bytes, the segments and how many bytes have
 --                                   their place; and off a builder
 --     IsBuilder                     what a builder keeps true of its fields: how many bytes have their place, a free
 --                                   place in the row for those behind the last view, how much may still be pushed
@@ -8,27 +8,27 @@ use Rattle.std.specs.Prelude.{◌≡◌, ◌≤◌, ◌<◌, ℕ, ◌+◌, ◌^�
 use Rattle.iobufs_core.specs.Items.{Item, push_item}
 use Rattle.iobufs_core.specs.Part.{Part, part_capacity}
 use Rattle.iobufs.specs.Building.{Building, inline_run}
-use Rattle.iobufs.specs.Inside.Gaps.{AreSlots, gaps_len, stood_len}
-use Rattle.iobufs.specs.Inside.RowValues.{Slot, gap, standing}
+use Rattle.iobufs.specs.Inside.Gaps.{AreSegments, gaps_len, stood_len}
+use Rattle.iobufs.specs.Inside.RowValues.{Segment, gap, standing}
 use Rattle.iobufs.specs.declared.builder.Builder.TheInside.{Inside}
 
 -- the items up to the last view
-abbrev pub items_front : List ℕ → List Slot → List Item
+abbrev pub items_front : List ℕ → List Segment → List Item
 items_front bytes [] = []
-items_front bytes (gap n ∷ slots) = inline_run (take n bytes) ++ items_front (drop n bytes) slots
-items_front bytes (standing view ∷ slots) = push_item view ∷ items_front bytes slots
+items_front bytes (gap n ∷ segments) = inline_run (take n bytes) ++ items_front (drop n bytes) segments
+items_front bytes (standing view ∷ segments) = push_item view ∷ items_front bytes segments
 
 -- the last of the inline bytes stand behind the last view
-abbrev pub building_with : Part → List Slot → ℕ → Building
-building_with part slots placed = record { capacity = part_capacity part; front = items_front part.filled slots; last = drop placed part.filled }
+abbrev pub building_from : Part → List Segment → ℕ → Building
+building_from part segments placed = record { capacity = part_capacity part; front = items_front part.filled segments; last = drop placed part.filled }
 
 abbrev pub building_of : Inside → Building
-building_of b = building_with b.inline b.pushes.slots b.placed
+building_of b = building_from b.inline b.pushes.segments b.placed
 
 -- what a builder keeps true of its fields
 pub record IsBuilder (b : Inside) : Type 0 where
-  pub counted : gaps_len b.pushes.slots ≡ b.placed
+  pub counted : gaps_len b.pushes.segments ≡ b.placed
   pub within : b.placed ≤ length b.inline.filled
-  pub slots : AreSlots b.pushes.slots
-  pub roomy : 0 < length b.pushes.slots → length b.pushes.slots < b.pushes.room
-  pub limited : part_capacity b.inline + stood_len b.pushes.slots + b.pushable + 1 ≡ 2 ^ 64
+  pub segments : AreSegments b.pushes.segments
+  pub roomy : 0 < length b.pushes.segments → length b.pushes.segments < b.pushes.room
+  pub limited : part_capacity b.inline + stood_len b.pushes.segments + b.pushable + 1 ≡ 2 ^ 64

@@ -1,6 +1,6 @@
 -- What a row of pieces, a row in the making, and a search among ends are seen as.
 --     ViewRow          views in order, and how many there is room for
---     Slot, SlotRow    a `gap` for bytes to come or a `standing` view; several in order, and how many there is room
+--     Segment, SegmentRow    a `gap` for bytes to come or a `standing` view; several in order, and how many there is room
 --                      for
 --     Sought           a search under way: ends, the place looked for, and how many ends were looked at
 use Rattle.std.specs.Prelude.{ℕ, List}
@@ -12,13 +12,13 @@ pub record ViewRow : Type 0 where
   pub room : ℕ
 
 -- a place in a row in the making: so many bytes that are to come, or a view that stands
-pub data Slot : Type 0 where
-  gap : ℕ → Slot
-  standing : View → Slot
+pub data Segment : Type 0 where
+  gap : ℕ → Segment
+  standing : View → Segment
 
--- slots in order, and how many there is room for
-pub record SlotRow : Type 0 where
-  pub slots : List Slot
+-- segments in order, and how many there is room for
+pub record SegmentRow : Type 0 where
+  pub segments : List Segment
   pub room : ℕ
 
 -- rising ends, a place below the last of them, and how many ends were looked at

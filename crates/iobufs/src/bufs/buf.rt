@@ -14,7 +14,7 @@ use std::ops::Bound;
 
 impl IoBufs {
     // Drops the first bytes, and keeps no mark where none are left.
-    fn drop_front(&mut self, n: usize)
+    pub(super) fn drop_front(&mut self, n: usize)
         requires { n ≤ text_len self.old }
         ensures { self.new ≡ text_rest self.old n }
     {

@@ -309,7 +309,9 @@ impl Pieces {
 impl Clone for Pieces {
     ghost is_clone = { λ a b. IsPieced a → (views b ≡ views a) × IsPieced b };
 
-    ghost is_infallible = { λ pieces. IsPieced pieces × (length (views pieces) ≡ 1) × ((piece_at (views pieces) 0).mark ≡ static_mark) };
+    ghost use Rattle.iobufs_core.specs.View.{IsFreelyShared};
+
+    ghost is_infallible = { λ pieces. IsPieced pieces × (length (views pieces) ≡ 1) × IsFreelyShared (piece_at (views pieces) 0) };
 
     fn clone(&self) -> Result<Pieces, AllocError> {
         match self {

@@ -2,7 +2,8 @@
 ghost use Rattle.std.specs.Prelude.{◌≡◌, ℕ, ◌+◌, ◌-◌, ◌*◌, ◌^◌, ◌<◌, ◌≤◌, nat_lt, List, length, get_or};
 ghost use Rattle.iobufs.specs.Search.{IsFirstPast, IsRising};
 
-/// A place in a text: the piece that holds it, the number of bytes before it there, and how many ends were looked at.
+/// A place in a text: the piece that holds it, the number of bytes before it there, and how many ends it was compared
+/// with.
 #[derive(Clone, Copy)]
 pub struct Located {
     pub index: usize,

@@ -70,6 +70,7 @@ impl From<IoBuf> for IoBufs {
     ghost from_gives = { λ piece b. b ≡ of_view piece };
 
     fn from(piece: IoBuf) -> IoBufs {
+        // A view's value has no bound of its length; a text's has one, which is known of a length that was asked for.
         let _len = piece.len();
         IoBufs {
             pieces: Pieces::One(piece),
@@ -385,8 +386,10 @@ impl IoBufs {
 impl Clone for IoBufs {
     ghost is_clone = { λ a b. b ≡ a };
 
-    // One static piece.
-    ghost is_infallible = { λ text. (is_single text ≡ true) × (text.mark ≡ static_mark) };
+    ghost use Rattle.iobufs_core.specs.View.{IsFreelyShared};
+
+    // One piece whose clone asks for no memory.
+    ghost is_infallible = { λ text. (is_single text ≡ true) × IsFreelyShared (record { bytes = text.bytes; mark = text.mark }) };
 
     fn clone(&self) -> Result<IoBufs, AllocError> {
         let pieces = self.pieces.clone()?;

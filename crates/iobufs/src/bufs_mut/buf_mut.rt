@@ -16,7 +16,7 @@ impl BufMut for IoBufsMut {
     fn remaining_mut(&self) -> usize {
         match &self.shape {
             Shape::One(part) => part.remaining_mut(),
-            Shape::Many(parts) => parts.room(),
+            Shape::Many(parts) => parts.spare(),
         }
     }
 

@@ -129,7 +129,7 @@ impl Several {
     }
 
     #[tactic(auto, using(crate::proofs::Parts::PartLaws::sums))]
-    pub(super) fn room(&self) -> usize
+    pub(super) fn spare(&self) -> usize
         ensures { result ≡ parts_spare self.now }
     {
         self.capacity - self.len

@@ -45,9 +45,9 @@ impl Model for IoBuf {
 
     ghost Value = { View };
 
-    ghost use Rattle.iobufs_core.specs.Storage.{view_of};
+    ghost use Rattle.iobufs_core.specs.Storage.{stored_view};
 
-    ghost view = { λ b. view_of b.storage };
+    ghost view = { λ b. stored_view b.storage };
 }
 
 impl Default for IoBuf {

@@ -213,10 +213,10 @@ impl OwnedBuf for IoBuf {
         skip: usize,
         n: usize,
     ) -> Result<T, BufError> {
-        if n != 0 && n == self.len() {
+        let len = self.len();
+        if n != 0 && n == len {
             return T::take_view(alloc, self);
         }
-        let _len = self.len();
         let end = skip + n;
         let view = self.slice(Bound::Included(skip), Bound::Excluded(end))?;
         let made = T::from_view(alloc, view)?;
@@ -231,6 +231,7 @@ impl OwnedBuf for IoBuf {
         skip: usize,
         n: usize,
     ) -> Result<T, BufError> {
+        // A view's value has no bound of its length, so that the sum fits is known only of a length that was asked for.
         let _len = self.len();
         let end = skip + n;
         let view = self.slice(Bound::Included(skip), Bound::Excluded(end))?;

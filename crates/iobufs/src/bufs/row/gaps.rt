@@ -1,8 +1,8 @@
 // A row in the making, with gaps.
 ghost use Rattle.std.specs.Prelude.{◌≡◌, List, ◌+◌, ◌^◌, ◌<◌, ◌≤◌, ◌++◌, [], ◌∷◌, ◌==◌, length, IfOk, OnOk, IsOk, IsOkUnless};
 ghost use Rattle.iobufs_core.specs.View.{IsView};
-ghost use Rattle.iobufs.specs.Inside.Gaps.{AreSlots, filled, gap_len, gaps_len, slot_len, slot_of, slots_pushed, stood_len};
-ghost use Rattle.iobufs.specs.Inside.RowValues.{Slot};
+ghost use Rattle.iobufs.specs.Inside.Gaps.{AreSegments, filled, gap_len, gaps_len, segment_len, segment_of, segments_pushed, stood_len};
+ghost use Rattle.iobufs.specs.Inside.RowValues.{Segment};
 ghost use Rattle.iobufs.specs.Inside.Pieces.{AreFull, AreViews, view_len};
 
 use super::{Piece, Row};
@@ -31,20 +31,20 @@ impl Drop for Gapped {
 }
 
 impl Model for Gapped {
-    ghost use Rattle.iobufs.specs.Inside.RowValues.{SlotRow};
+    ghost use Rattle.iobufs.specs.Inside.RowValues.{SegmentRow};
 
-    ghost Value = { SlotRow };
+    ghost Value = { SegmentRow };
 
     ghost use Rattle.std.specs.VecDeque.{deque_capacity};
-    ghost use Rattle.iobufs.specs.Inside.Gaps.{slots_in};
+    ghost use Rattle.iobufs.specs.Inside.Gaps.{segments_in};
 
-    ghost view = { λ g. record { slots = slots_in g.pieces.items; room = deque_capacity g.pieces } };
+    ghost view = { λ g. record { segments = segments_in g.pieces.items; room = deque_capacity g.pieces } };
 }
 
 impl Gapped {
     /// Nothing yet, and no room.
     pub(crate) fn new(alloc: Global) -> Gapped
-        ensures { result.slots ≡ [] }
+        ensures { result.segments ≡ [] }
     {
         Gapped {
             pieces: VecDeque::new(alloc),
@@ -52,16 +52,16 @@ impl Gapped {
     }
 
     pub(crate) fn is_empty(&self) -> bool
-        ensures { result ≡ (length self.now.slots == 0) }
+        ensures { result ≡ (length self.now.segments == 0) }
     {
         self.pieces.is_empty()
     }
 
     /// Room for a gap and a piece, and for the bytes behind them; the first room is for two of each.
     pub(crate) fn make_room(&mut self) -> Result<(), AllocError>
-        ensures same { self.new.slots ≡ self.old.slots }
+        ensures same { self.new.segments ≡ self.old.segments }
         ensures more { self.old.room ≤ self.new.room }
-        ensures room { OnOk result (length self.new.slots + 3 ≤ self.new.room) }
+        ensures room { OnOk result (length self.new.segments + 3 ≤ self.new.room) }
     {
         if self.pieces.is_empty() {
             return self.pieces.try_reserve(5);
@@ -72,9 +72,9 @@ impl Gapped {
     /// Puts a piece behind a gap; there is none where it is for no bytes.
     pub(crate) fn push(&mut self, run: usize, view: IoBuf)
         requires some { 0 < length view.bytes }
-        requires room { length self.old.slots + 3 ≤ self.old.room }
-        ensures pushed { self.new.slots ≡ self.old.slots ++ slots_pushed run view }
-        ensures room { length self.new.slots < self.new.room }
+        requires room { length self.old.segments + 3 ≤ self.old.room }
+        ensures pushed { self.new.segments ≡ self.old.segments ++ segments_pushed run view }
+        ensures room { length self.new.segments < self.new.room }
     {
         if run != 0 {
             self.pieces.push_back_reserved(Piece {
@@ -87,11 +87,11 @@ impl Gapped {
 
     /// Fills each gap by the next bytes of a buffer. What none got stands behind.
     pub(crate) fn fill(self, rest: IoBuf) -> Result<Row, BufError>
-        requires slots { AreSlots self.slots }
-        requires within { gaps_len self.slots ≤ length rest.bytes }
-        requires fits { stood_len self.slots + length rest.bytes < 2 ^ 64 }
-        requires room { length self.slots < self.room }
-        ensures filled { IfOk result (λ row. row.views ≡ filled rest self.slots) }
+        requires segments { AreSegments self.segments }
+        requires within { gaps_len self.segments ≤ length rest.bytes }
+        requires fits { stood_len self.segments + length rest.bytes < 2 ^ 64 }
+        requires room { length self.segments < self.room }
+        ensures filled { IfOk result (λ row. row.views ≡ filled rest self.segments) }
         ensures full { IfOk result (λ row. AreFull row.views) }
         ensures roomy { IfOk result (λ row. AreViews row.views) }
         ensures memory { IsOkUnless result BufError.Memory }
@@ -114,10 +114,10 @@ impl Gapped {
 
 // Fills a gap by the next bytes of a buffer. A piece that stands stays.
 fn fill_gap(piece: &mut Piece, rest: &mut IoBuf) -> Result<(), BufError>
-    requires { gap_len (slot_of piece.old) ≤ length rest.old.bytes }
-    ensures filled { OnOk result ((slots : List Slot) → filled rest.old (slot_of piece.old ∷ slots) ≡ piece.new.view ∷ filled rest.new slots) }
-    ensures len { OnOk result (view_len piece.new.view ≡ slot_len (slot_of piece.old)) }
-    ensures left { OnOk result (length rest.new.bytes + gap_len (slot_of piece.old) ≡ length rest.old.bytes) }
+    requires { gap_len (segment_of piece.old) ≤ length rest.old.bytes }
+    ensures filled { OnOk result ((segments : List Segment) → filled rest.old (segment_of piece.old ∷ segments) ≡ piece.new.view ∷ filled rest.new segments) }
+    ensures len { OnOk result (view_len piece.new.view ≡ segment_len (segment_of piece.old)) }
+    ensures left { OnOk result (length rest.new.bytes + gap_len (segment_of piece.old) ≡ length rest.old.bytes) }
     ensures memory { IsOkUnless result BufError.Memory }
     ensures no_bytes { length rest.old.bytes ≡ 0 → IsOk result }
 {
@@ -130,11 +130,11 @@ fn fill_gap(piece: &mut Piece, rest: &mut IoBuf) -> Result<(), BufError>
 
 // The same, and tells where the piece ends behind so many bytes.
 fn fill_piece(piece: &mut Piece, rest: &mut IoBuf, start: u64) -> Result<u64, BufError>
-    requires within { gap_len (slot_of piece.old) ≤ length rest.old.bytes }
-    requires fits { start + slot_len (slot_of piece.old) < 2 ^ 64 }
-    ensures filled { OnOk result ((slots : List Slot) → filled rest.old (slot_of piece.old ∷ slots) ≡ piece.new.view ∷ filled rest.new slots) }
-    ensures len { OnOk result (view_len piece.new.view ≡ slot_len (slot_of piece.old)) }
-    ensures left { OnOk result (length rest.new.bytes + gap_len (slot_of piece.old) ≡ length rest.old.bytes) }
+    requires within { gap_len (segment_of piece.old) ≤ length rest.old.bytes }
+    requires fits { start + segment_len (segment_of piece.old) < 2 ^ 64 }
+    ensures filled { OnOk result ((segments : List Segment) → filled rest.old (segment_of piece.old ∷ segments) ≡ piece.new.view ∷ filled rest.new segments) }
+    ensures len { OnOk result (view_len piece.new.view ≡ segment_len (segment_of piece.old)) }
+    ensures left { OnOk result (length rest.new.bytes + gap_len (segment_of piece.old) ≡ length rest.old.bytes) }
     ensures end { IfOk result (λ end. (end ≡ start + view_len piece.new.view) × (piece.new.end ≡ end)) }
     ensures roomy { OnOk result (IsView piece.new.view) }
     ensures memory { IsOkUnless result BufError.Memory }

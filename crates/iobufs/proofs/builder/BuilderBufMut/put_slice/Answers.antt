@@ -5,4 +5,4 @@ pub returns : goal.returns
 returns c =
     let b = c.self.inside in
     let inv = c.self.invariant in
-    (c.requires, put-kept b.inline _ b.pushes.slots b.placed _ c.args.src.now inv.counted inv.within c.self.view_is c.requires c.put_slice.ensures.1)
+    (c.requires, put-kept b.inline _ b.pushes.segments b.placed _ c.args.src.now inv.counted inv.within c.self.view_is c.requires c.put_slice.ensures.1)

@@ -5,4 +5,4 @@ pub returns-clause-building : goal.returns-clause-building
 returns-clause-building c =
     let b = c.self.inside in
     let inv = c.self.invariant in
-    IsBuilding-kept b.inline b.pushes.slots b.placed b.pushable _ inv.counted inv.within inv.slots inv.limited c.self.view_is
+    IsBuilding-kept b.inline b.pushes.segments b.placed b.pushable _ inv.counted inv.within inv.segments inv.limited c.self.view_is

@@ -1,20 +1,20 @@
 use Rattle.std.proofs.Common.{◌≡◌, ◌≤◌, ◌<◌, ◌-◌, List, ◌++◌, length, arith, refl, ap, ◌∙◌}
 use Rattle.iobufs.specs.Building.{room_for_pushes}
-use Rattle.iobufs.specs.Inside.Gaps.{slots_pushed}
-use Rattle.iobufs.specs.Inside.RowValues.{Slot}
+use Rattle.iobufs.specs.Inside.Gaps.{segments_pushed}
+use Rattle.iobufs.specs.Inside.RowValues.{Segment}
 use Rattle.iobufs.proofs.Building.BuildLaws.{push-kept, pushes-kept}
 use Rattle.iobufs.proofs.builder.BuilderBufsMut.push.Goals as goal
 
 pub returns-in-Err-clause-too_long : goal.returns-in-Err-clause-too_long
 returns-in-Err-clause-too_long c =
     let b = c.self.inside in
-    let limit = pushes-kept b.inline b.pushes.slots b.placed b.pushable _ c.self.invariant.limited c.self.view_is in
+    let limit = pushes-kept b.inline b.pushes.segments b.placed b.pushable _ c.self.invariant.limited c.self.view_is in
     λ (long : room_for_pushes c.args.self.now < length c.args.view.bytes). c.in-Err.ensures.too_long (omega arith)
 
 pub returns-in-Err-clause-memory : goal.returns-in-Err-clause-memory
 returns-in-Err-clause-memory c =
     let b = c.self.inside in
-    let limit = pushes-kept b.inline b.pushes.slots b.placed b.pushable _ c.self.invariant.limited c.self.view_is in
+    let limit = pushes-kept b.inline b.pushes.segments b.placed b.pushable _ c.self.invariant.limited c.self.view_is in
     λ (fits : length c.args.view.bytes ≤ room_for_pushes c.args.self.now). c.in-Err.ensures.memory (omega arith)
 
 pub returns-clause-ok : goal.returns-clause-ok
@@ -22,15 +22,16 @@ returns-clause-ok c =
     let b = c.self.inside in
     let inv = c.self.invariant in
     let run : c.len.result - b.placed ≡ length b.inline.filled - b.placed = ap (λ n. n - b.placed) c.len.ensures in
-    let limit = pushes-kept b.inline b.pushes.slots b.placed b.pushable _ inv.limited c.self.view_is in (
+    let limit = pushes-kept b.inline b.pushes.segments b.placed b.pushable _ inv.limited c.self.view_is in (
       omega arith,
       omega (arith, limit, c.in_default.ensures.ok.0),
-      push-kept b.inline b.pushes.slots _ b.placed _ _ (c.len.result - b.placed) c.args.view inv.counted inv.within c.self.view_is run (omega arith)
-          (c.push.ensures.pushed ∙ ap (λ (slots : List Slot). slots ++ slots_pushed (c.len.result - b.placed) c.args.view) c.make_room.ensures.same) refl,
+      push-kept b.inline b.pushes.segments _ b.placed _ _ (c.len.result - b.placed) c.args.view inv.counted inv.within c.self.view_is run (omega arith)
+          (c.push.ensures.pushed
+          ∙ ap (λ (segments : List Segment). segments ++ segments_pushed (c.len.result - b.placed) c.args.view) c.make_room.ensures.same) refl,
     )
 
 pub returns-clause-too_long : goal.returns-clause-too_long
 returns-clause-too_long c =
     let b = c.self.inside in
-    let limit = pushes-kept b.inline b.pushes.slots b.placed b.pushable _ c.self.invariant.limited c.self.view_is in
+    let limit = pushes-kept b.inline b.pushes.segments b.placed b.pushable _ c.self.invariant.limited c.self.view_is in
     λ (long : room_for_pushes c.args.self.now < length c.args.view.bytes). c.in_default.ensures.too_long (omega arith)

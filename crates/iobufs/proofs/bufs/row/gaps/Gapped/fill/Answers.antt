@@ -1,9 +1,9 @@
 use Rattle.std.proofs.Common.{rules, ◌+◌, ◌^◌, ◌<◌, ◌≤◌, List, length, drop, refl, ap, sym, subst, ◌∙◌, arith, take_all}
 use Rattle.std.proofs.lemmas.List.{drop_all, length-map}
 use Rattle.iobufs.specs.Inside.Ends.{IsRow, views_in}
-use Rattle.iobufs.specs.Inside.Gaps.{AreSlots, filled, gaps_len, slot_of, slots_in, stood_len}
+use Rattle.iobufs.specs.Inside.Gaps.{AreSegments, filled, gaps_len, segment_of, segments_in, stood_len}
 use Rattle.iobufs.specs.Inside.Pieces.{AreViews, pieces_bytes}
-use Rattle.iobufs.specs.Inside.RowValues.{SlotRow}
+use Rattle.iobufs.specs.Inside.RowValues.{SegmentRow}
 use Rattle.iobufs.specs.declared.bufs.row.Piece.{Piece}
 use Rattle.iobufs.proofs.Building.AddLaws.{add-full, add-views}
 use Rattle.iobufs.proofs.Building.GapLaws.{IsFilling, filled-last, filling-first, filling-none, filling-set}
@@ -11,15 +11,15 @@ use Rattle.iobufs.proofs.bufs.row.gaps.Gapped.fill.Goals as goal
 
 pub loop-i-init : goal.loop-i-init
 loop-i-init c =
-    let is = ap (λ (g : SlotRow). g.slots) c.self.view_is in
+    let is = ap (λ (g : SegmentRow). g.segments) c.self.view_is in
     record {
       count = refl;
       room = refl;
       left = omega arith;
       filling = filling-none c.self.inside.pieces.items c.args.rest
-          (subst AreSlots (sym is) c.requires.slots)
-          (subst (λ slots. gaps_len slots ≤ length c.args.rest.bytes) (sym is) c.requires.within)
-          (subst (λ slots. stood_len slots + length c.args.rest.bytes < 2 ^ 64) (sym is) c.requires.fits);
+          (subst AreSegments (sym is) c.requires.segments)
+          (subst (λ segments. gaps_len segments ≤ length c.args.rest.bytes) (sym is) c.requires.within)
+          (subst (λ segments. stood_len segments + length c.args.rest.bytes < 2 ^ 64) (sym is) c.requires.fits);
     }
 
 pub unreachable-requires : goal.unreachable-requires
@@ -71,8 +71,8 @@ pub add-requires-clause-room : goal.add-requires-clause-room
 add-requires-clause-room c =
     let l = c.loop-i in
     let views = length-map l.pieces.items (λ (p : Piece). p.view) in
-    let slots = sym (length-map c.self.inside.pieces.items slot_of) ∙ ap (λ (g : SlotRow). length g.slots) c.self.view_is in
-    let room = ap (λ (g : SlotRow). g.room) c.self.view_is in
+    let segments = sym (length-map c.self.inside.pieces.items segment_of) ∙ ap (λ (g : SegmentRow). length g.segments) c.self.view_is in
+    let room = ap (λ (g : SegmentRow). g.room) c.self.view_is in
     omega (arith, c.requires.room, l.invariant.count, l.invariant.room, l.pieces.ok.0, c.self.inside.pieces.ok.0)
 
 pub returns-clause-filled : goal.returns-clause-filled
@@ -81,11 +81,11 @@ returns-clause-filled c =
     let past : length l.pieces.items ≤ l.i = omega (arith, c.loop-i-test.false, l.invariant.count, c.len-i-end.ensures, l.pieces.ok.0) in
     let all = take_all l.i l.pieces.items past in
     let none = drop_all l.i l.pieces.items past in
-    let views = filled c.args.rest (slots_in c.self.inside.pieces.items) in
+    let views = filled c.args.rest (segments_in c.self.inside.pieces.items) in
     let so_far = subst (λ (ps : List Piece). IsFilling views ps (drop l.i l.pieces.items) l.rest l.end) all l.invariant.filling in
     let last = subst (λ (ps : List Piece). IsFilling views l.pieces.items ps l.rest l.end) none so_far in
     filled-last views (views_in l.pieces.items) c.add.new.self.views l.rest last.so_far c.add.ensures.added
-    ∙ ap (λ (g : SlotRow). filled c.args.rest g.slots) c.self.view_is
+    ∙ ap (λ (g : SegmentRow). filled c.args.rest g.segments) c.self.view_is
 
 pub returns-clause-full : goal.returns-clause-full
 returns-clause-full c =

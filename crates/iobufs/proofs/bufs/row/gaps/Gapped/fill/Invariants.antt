@@ -1,5 +1,5 @@
 use Rattle.std.proofs.Common.{◌≡◌, ◌≤◌, length, take, drop, deque_len, deque_capacity}
-use Rattle.iobufs.specs.Inside.Gaps.{filled, slots_in}
+use Rattle.iobufs.specs.Inside.Gaps.{filled, segments_in}
 use Rattle.iobufs.proofs.Building.GapLaws.{IsFilling}
 use Rattle.iobufs.proofs.bufs.row.gaps.Gapped.fill.Given as goal
 
@@ -8,5 +8,5 @@ invariant-loop-i l = record {
   count : deque_len l.pieces ≡ deque_len l.initial.pieces;
   room : deque_capacity l.pieces ≡ deque_capacity l.initial.pieces;
   left : length l.rest.bytes ≤ length l.initial.rest.bytes;
-  filling : IsFilling (filled l.initial.rest (slots_in l.initial.pieces.items)) (take l.i l.pieces.items) (drop l.i l.pieces.items) l.rest l.end;
+  filling : IsFilling (filled l.initial.rest (segments_in l.initial.pieces.items)) (take l.i l.pieces.items) (drop l.i l.pieces.items) l.rest l.end;
 }
