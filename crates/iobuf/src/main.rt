@@ -11,6 +11,9 @@ use std::io::BufWriter;
 use std::process::ExitCode;
 use std::{env, io};
 
+// How many bytes of replies are written at once.
+const AT_ONCE: usize = 1 << 16;
+
 // Tells why no session begins, and gives the status.
 fn stopped(rt: &HostRuntime, stop: Stop) -> u8 {
     let _ = tell(&stop, &mut rt.stderr());
@@ -35,7 +38,7 @@ fn run(rt: &HostRuntime) -> io::Result<u8> {
     for word in &words {
         args.push(word.as_str())?;
     }
-    let mut output = Stream::new(BufWriter::new(alloc, rt.stdout())?);
+    let mut output = Stream::new(BufWriter::with_capacity(alloc, AT_ONCE, rt.stdout())?);
     Ok(serve(
         alloc,
         args.as_slice(),

@@ -1,3 +1,4 @@
+pub mod Held
 pub mod Hexes
 pub mod Numerals
 pub mod Replies

@@ -2,6 +2,9 @@
 --     reply_text, line_of                             a reply as it is printed, and its line
 --     kind_text, piece_text                           the first word of what is shown; each piece in hexadecimal
 --                                                     digits, of a part with the room behind it
+--     held_text                                       the same of a piece of what a name holds
+--     IsPrinted                                       a command is answered by one step, and the line of its reply is
+--                                                     put behind a text
 --     ReplyFits, PieceFits, PiecesFit, RefusalFits    what the program replies: bytes are bytes, lengths fit a
 --                                                     `usize`, and only parts have room
 --     OneReplyALine                                   replies that print the same line say the same
@@ -10,6 +13,8 @@ use Rattle.std.specs.Fmt.{decimal}
 use Rattle.iobufs_core.specs.declared.codec.base.Error.TheVariants as fault
 use Rattle.iobufs_run.specs.Choices.{SameReply}
 use Rattle.iobufs_run.specs.Printed.{refusal_text}
+use Rattle.iobufs_run.specs.Run.{Step}
+use Rattle.iobufs_run.specs.declared.command.Cmd.{Cmd}
 use Rattle.iobufs_run.specs.declared.command.Kind.{Kind}
 use Rattle.iobufs_run.specs.declared.command.Kind.TheVariants as kind
 use Rattle.iobufs_run.specs.declared.command.Piece.{Piece}
@@ -17,6 +22,7 @@ use Rattle.iobufs_run.specs.declared.command.Refusal.{Refusal}
 use Rattle.iobufs_run.specs.declared.command.Refusal.TheVariants.{Codec}
 use Rattle.iobufs_run.specs.declared.command.Reply.{Reply}
 use Rattle.iobufs_run.specs.declared.command.Reply.TheVariants.{Done, Bytes, Shown, Refused}
+use Rattle.iobufs_run.specs.declared.table.Slot.{Slot}
 use Rattle.iobufs_words.specs.Spelled.{AreBytes, hex_text}
 
 -- the first word of what is shown
@@ -33,6 +39,13 @@ piece_text kind.Parts piece = codes " " ++ hex_text piece.bytes.items ++ codes "
 piece_text kind.View piece = codes " " ++ hex_text piece.bytes.items
 piece_text kind.Text piece = codes " " ++ hex_text piece.bytes.items
 
+-- the same of a piece of what a name holds: its bytes, and the room behind them
+abbrev pub held_text : Kind → List ℕ × ℕ → List ℕ
+held_text kind.Part piece = codes " " ++ hex_text piece.0 ++ codes "+" ++ decimal piece.1
+held_text kind.Parts piece = codes " " ++ hex_text piece.0 ++ codes "+" ++ decimal piece.1
+held_text kind.View piece = codes " " ++ hex_text piece.0
+held_text kind.Text piece = codes " " ++ hex_text piece.0
+
 -- a reply, as it is printed
 abbrev pub reply_text : Reply → List ℕ
 reply_text Done = codes "ok"
@@ -43,6 +56,10 @@ reply_text (Shown kind pieces) = kind_text kind ++ flat_map (piece_text kind) pi
 -- the line of a reply
 abbrev pub line_of : Reply → List ℕ
 line_of reply = reply_text reply ++ codes "\n"
+
+-- a command makes these names of those, by one step, and behind a text stands the line of its reply
+abbrev pub IsPrinted : (old : List Slot) → Cmd → (new : List Slot) → (before after : List ℕ) → Type 0
+IsPrinted old command new before after = (reply : Reply) × Step old command reply new × (after ≡ before ++ line_of reply)
 
 -- what is printed of a reply: its bytes are bytes, its numbers fit a `usize`, and no piece of a view or a text has room
 abbrev pub PieceFits : Kind → Piece → Type 0

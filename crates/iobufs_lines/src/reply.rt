@@ -1,9 +1,18 @@
 // Replies as lines of text.
-ghost use Rattle.std.specs.Prelude.{◌≡◌, ◌≤◌, ◌++◌, flat_map, length, string_bytes, OnOk};
-ghost use Rattle.iobufs_lines.specs.Printed.{kind_text, line_of, piece_text, reply_text, OneReplyALine};
+ghost use Rattle.std.specs.Prelude.{◌≡◌, ◌≤◌, ◌++◌, codes, flat_map, length, string_bytes, IfSome, OnOk};
+ghost use Rattle.std.specs.Fmt.{decimal};
+ghost use Rattle.iobufs_run.specs.Slots.{kind_of, pieces_of};
+ghost use Rattle.iobufs_run.specs.declared.command.Cmd.{Cmd};
+ghost use Rattle.iobufs_run.specs.declared.command.Kind.{Kind};
+ghost use Rattle.iobufs_run.specs.declared.table.Slot.{Slot};
+ghost use Rattle.iobufs_lines.specs.Printed.{held_text, kind_text, line_of, piece_text, reply_text, IsPrinted, OneReplyALine};
 ghost use Rattle.iobufs_words.specs.Spelled.{hex_text, two_digits};
 
+use iobufs::bufs::IoBufs;
+use iobufs::bufs_mut::IoBufsMut;
+use iobufs_core::codec::BufMut;
 use iobufs_run::command::{Kind, Piece, Reply};
+use iobufs_run::table::{Slot, Table};
 use std::alloc::AllocError;
 use std::fmt::Write;
 use std::str;
@@ -62,15 +71,29 @@ fn name(kind: Kind) -> &'static str
     }
 }
 
+// Puts a space and bytes there.
+fn push_bytes(bytes: &[u8], text: &mut String) -> Result<(), AllocError>
+    ensures { OnOk result (string_bytes text.new ≡ string_bytes text.old ++ (codes " " ++ hex_text bytes.now)) }
+{
+    text.push_str(" ")?;
+    push_hex(bytes, text)
+}
+
+// The same of a part, with the room behind its bytes.
+fn push_part(bytes: &[u8], spare: usize, text: &mut String) -> Result<(), AllocError>
+    ensures { OnOk result (string_bytes text.new ≡ string_bytes text.old ++ (codes " " ++ hex_text bytes.now ++ codes "+" ++ decimal spare)) }
+{
+    push_bytes(bytes, text)?;
+    write!(text, "+{spare}").map_err(|_| AllocError)
+}
+
 // Puts one piece of what is shown behind a text and a space.
 fn push_piece(kind: Kind, piece: &Piece, text: &mut String) -> Result<(), AllocError>
     ensures { OnOk result (string_bytes text.new ≡ string_bytes text.old ++ piece_text kind piece.now) }
 {
-    text.push_str(" ")?;
-    push_hex(piece.bytes.as_slice(), text)?;
     match kind {
-        Kind::Part | Kind::Parts => write!(text, "+{}", piece.spare).map_err(|_| AllocError),
-        Kind::View | Kind::Text => Ok(()),
+        Kind::Part | Kind::Parts => push_part(piece.bytes.as_slice(), piece.spare, text),
+        Kind::View | Kind::Text => push_bytes(piece.bytes.as_slice(), text),
     }
 }
 
@@ -102,12 +125,75 @@ fn push_reply(reply: &Reply, text: &mut String) -> Result<(), AllocError>
     }
 }
 
+// Ends a line.
+fn push_end(text: &mut String) -> Result<(), AllocError>
+    ensures { OnOk result (string_bytes text.new ≡ string_bytes text.old ++ codes "\n") }
+{
+    text.push_str("\n")
+}
+
 /// Puts the line of a reply behind a text.
 pub fn push_line(reply: &Reply, text: &mut String) -> Result<(), AllocError>
     ensures { OnOk result (string_bytes text.new ≡ string_bytes text.old ++ line_of reply.now) }
 {
     push_reply(reply, text)?;
-    text.push_str("\n")
+    push_end(text)
+}
+
+// Puts each chunk of a text there.
+fn push_chunks(chunks: &IoBufs, text: &mut String) -> Result<(), AllocError>
+    ensures { OnOk result (string_bytes text.new ≡ string_bytes text.old ++ flat_map (held_text Kind.Text) (pieces_of (Slot.Text chunks.now))) }
+{
+    for place in 0..chunks.chunk_count() {
+        let Some(chunk) = chunks.chunk_at(place) else {
+            unreachable!()
+        };
+        push_bytes(chunk, text)?;
+    }
+    Ok(())
+}
+
+// Puts each of several parts there.
+fn push_parts(parts: &IoBufsMut, text: &mut String) -> Result<(), AllocError>
+    ensures { OnOk result (string_bytes text.new ≡ string_bytes text.old ++ flat_map (held_text Kind.Parts) (pieces_of (Slot.Parts parts.now))) }
+{
+    for place in 0..parts.part_count() {
+        let Some(part) = parts.part_at(place) else {
+            unreachable!()
+        };
+        push_part(part.as_ref(), part.remaining_mut(), text)?;
+    }
+    Ok(())
+}
+
+// Puts the pieces of what a name holds there.
+fn push_held(slot: &Slot, text: &mut String) -> Result<(), AllocError>
+    ensures { IfSome (kind_of slot.now) (λ kind.
+        OnOk result (string_bytes text.new ≡ string_bytes text.old ++ flat_map (held_text kind) (pieces_of slot.now))) }
+{
+    match slot {
+        Slot::Free => Ok(()),
+        Slot::Part(part) => push_part(part.as_ref(), part.remaining_mut(), text),
+        Slot::View(view) => push_bytes(view.as_ref(), text),
+        Slot::Text(chunks) => push_chunks(chunks, text),
+        Slot::Parts(parts) => push_parts(parts, text),
+    }
+}
+
+/// Puts the line that answers `Show` behind a text, with no copy of the bytes in between.
+pub fn push_shown(table: &Table, target: usize, text: &mut String) -> Result<(), AllocError>
+    ensures { OnOk result (IsPrinted table.now (Cmd.Show target) table.now (string_bytes text.old) (string_bytes text.new)) }
+{
+    let slot = match table.shown(target) {
+        Ok(slot) => slot,
+        Err(refusal) => return push_line(&Reply::Refused(refusal), text),
+    };
+    let Some(kind) = slot.kind() else {
+        unreachable!()
+    };
+    text.push_str(name(kind))?;
+    push_held(slot, text)?;
+    push_end(text)
 }
 
 /// Does nothing. Its contract is a law: replies that are printed as the same line say the same.

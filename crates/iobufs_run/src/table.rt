@@ -1,8 +1,9 @@
 // Named buffers, and the commands on them.
-ghost use Rattle.std.specs.Prelude.{◌≡◌, true, length, replicate, IfOk, IsOk, IsOkUnless, OnErr};
+ghost use Rattle.std.specs.Prelude.{◌≡◌, ◌≢◌, true, length, replicate, IfErr, IfOk, IsOk, IsOkUnless, None, OnErr};
+ghost use Rattle.iobufs_run.specs.Causes.{refusal_for};
 ghost use Rattle.iobufs_run.specs.Choices.{NoOtherChoices, OnlyWants, RefusalsKeep};
 ghost use Rattle.iobufs_run.specs.Run.{Run, Step, reply_of};
-ghost use Rattle.iobufs_run.specs.Slots.{AreSlots, IsSlot, kind_of};
+ghost use Rattle.iobufs_run.specs.Slots.{AreSlots, IsSlot, kind_of, slot_named};
 
 mod build;
 mod causes;
@@ -14,7 +15,7 @@ mod slots;
 mod texts;
 mod views;
 
-use crate::command::{Cmd, Kind, Outcome, Reply};
+use crate::command::{Cmd, Kind, Outcome, Refusal, Reply};
 use iobufs::bufs::IoBufs;
 use iobufs::bufs_mut::IoBufsMut;
 use iobufs_core::buf::{IoBuf, IoBufMut};
@@ -168,6 +169,17 @@ impl Table {
             slots.push(Slot::Free)?;
         }
         Ok(Table { slots })
+    }
+
+    /// What the command `Show` shows of a name, or why it is refused. Nothing is copied.
+    pub fn shown(&self, target: usize) -> Result<&Slot, Refusal>
+        ensures ok { IfOk result (λ slot. (refusal_for self.now (Cmd.Show target) ≡ None) × (slot.now ≡ slot_named self.now target)) }
+        ensures held { IfOk result (λ slot. slot.now ≢ Slot.Free) }
+        ensures err { IfErr result (λ refusal. Step self.now (Cmd.Show target) (Reply.Refused refusal) self.now) }
+    {
+        let slots = self.slots.as_slice();
+        causes::in_use(slots, target)?;
+        Ok(&slots[target])
     }
 
     /// Does one command.

@@ -1,10 +1,11 @@
 -- A writer that takes a text bit by bit.
-use Rattle.std.proofs.Common.{◌≡◌, ℕ, List, [], ◌∷◌, ◌++◌, Option, Some, None, Err, refl, sym, ap, subst, ◌∙◌, append-nil, append_assoc, ◌-◌, length, take, drop, take-append-drop}
+use Rattle.std.proofs.Common.{◌≡◌, ℕ, List, [], ◌∷◌, ◌++◌, Option, Some, None, IfErr, Ok, Err, Result, refl, sym, ap, subst, ◌∙◌, append-nil, append_assoc, ◌-◌, length, take, drop, take-append-drop}
 use Rattle.std.proofs.Math.Seq.{take-length}
 use Rattle.std.proofs.lemmas.List.{length-drop}
 use Rattle.std.specs.Io.KnownBytes.{Appends, Keeps}
 use Rattle.iobufs_session.specs.Faults.{Takes}
-use Rattle.iobufs_session.specs.declared.fault.Fault.TheVariants.{Writing}
+use Rattle.iobufs_session.specs.declared.fault.Fault.{Fault}
+use Rattle.iobufs_session.specs.declared.fault.Fault.TheVariants.{Reading, Writing, Memory, NotText, TooManyLines}
 
 -- the writer took the front of a text, and this is the rest
 pub record Sent (old new : Option (List ℕ)) (text rest : List ℕ) : Type 0 where
@@ -59,3 +60,15 @@ front_taken (x ∷ front) rest = ap (λ l. x ∷ l) (front_taken front rest)
 pub part_sent : (old new : Option (List ℕ)) (text rest : List ℕ) → Sent old new text rest → Takes old new text (Err Writing)
 part_sent old new text rest s =
     (length s.front, subst (λ (l : List ℕ). Appends old new l) (sym (ap (take (length s.front)) s.split ∙ front_taken s.front rest)) s.appends)
+
+-- a writer that took the first n bytes of a text, and then the others or a front of them, took the text or a front of it
+pub takes_on : (old mid new : Option (List ℕ)) (text : List ℕ) (n : ℕ) (result : Result (Unit {0}) Fault) → IfErr result (λ fault. fault ≡ Writing)
+    → Appends old mid (take n text) → Takes mid new (drop n text) result → Takes old new text result
+takes_on old mid new text n (Ok done) fails first more =
+    subst (λ (l : List ℕ). Appends old new l) (take-append-drop n text) (appends_more old mid new (take n text) (drop n text) first more)
+takes_on old mid new text n (Err Writing) fails first (m, more) =
+    part_sent old new text (drop m (drop n text)) (more_sent old mid new text (drop n text) m (more_sent old old mid text text n (none_sent old text) first) more)
+takes_on old mid new text n (Err Reading) fails first more = elim more [ ]
+takes_on old mid new text n (Err Memory) fails first more = cc fails
+takes_on old mid new text n (Err NotText) fails first more = elim more [ ]
+takes_on old mid new text n (Err TooManyLines) fails first more = elim more [ ]

@@ -39,6 +39,9 @@ pub trait Source {
         ensures { result.now ≡ last self.now };
 }
 
+// How many bytes of an input are read at once.
+const AT_ONCE: usize = 1 << 16;
+
 /// A line without its end: LF, or CR LF.
 pub fn text(line: &[u8]) -> Result<&str, Fault>
     ensures cases { MatchResult result
@@ -68,7 +71,7 @@ impl<R: Read + Drop> Input<R> {
         ensures { IfOk result (λ input. reader_remaining R.remaining input.reader ≡ R.remaining reader) }
     {
         Ok(Input {
-            reader: BufReader::new(alloc, reader)?,
+            reader: BufReader::with_capacity(alloc, AT_ONCE, reader)?,
             line: Vec::new(alloc),
         })
     }

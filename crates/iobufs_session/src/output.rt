@@ -1,5 +1,7 @@
 //! Where replies go.
-ghost use Rattle.std.specs.Prelude.{◌≡◌};
+ghost use Rattle.std.specs.Prelude.{◌≡◌, IfErr};
+ghost use Rattle.iobufs_session.specs.Faults.{Takes};
+ghost use Rattle.iobufs_session.specs.declared.fault.Fault.TheVariants.{Writing};
 
 use crate::fault::Fault;
 use std::io::{self, Write};
@@ -57,6 +59,28 @@ impl<W: Write> Stream<W> {
     }
 }
 
+// Writes a text, as often as that takes. It stands apart, so that one write is inlined.
+#[cold]
+#[inline(never)]
+fn write_on<W: Write>(output: &mut W, text: &[u8]) -> Result<(), Fault>
+    ensures bytes { Takes (W.contents output.old) (W.contents output.new) text.now result }
+    ensures err { IfErr result (λ fault. fault ≡ Writing) }
+{
+    let mut rest = text;
+    for _ in 0..u64::MAX {
+        if rest.is_empty() {
+            return Ok(());
+        }
+        match output.write(rest) {
+            Ok(0) => return Err(Fault::Writing),
+            Ok(n) => rest = &rest[n..],
+            Err(error) if error.kind() == io::ErrorKind::Interrupted => {}
+            Err(_) => return Err(Fault::Writing),
+        }
+    }
+    Err(Fault::Writing)
+}
+
 impl<W: Write> Sink for Stream<W> {
     ghost use Rattle.std.specs.Prelude.{true};
 
@@ -66,21 +90,18 @@ impl<W: Write> Sink for Stream<W> {
 
     ghost can_fail = { true };
 
+    #[inline(always)]
     fn take(&mut self, text: &[u8]) -> Result<(), Fault> {
         self.is_sent = false;
-        let mut rest = text;
-        for _ in 0..u64::MAX {
-            if rest.is_empty() {
-                return Ok(());
+        match self.output.write(text) {
+            Ok(n) if n == text.len() => Ok(()),
+            Ok(0) => Err(Fault::Writing),
+            Ok(n) => write_on(&mut self.output, &text[n..]),
+            Err(error) if error.kind() == io::ErrorKind::Interrupted => {
+                write_on(&mut self.output, text)
             }
-            match self.output.write(rest) {
-                Ok(0) => return Err(Fault::Writing),
-                Ok(n) => rest = &rest[n..],
-                Err(error) if error.kind() == io::ErrorKind::Interrupted => {}
-                Err(_) => return Err(Fault::Writing),
-            }
+            Err(_) => Err(Fault::Writing),
         }
-        Err(Fault::Writing)
     }
 
     fn send(&mut self) -> Result<(), Fault> {

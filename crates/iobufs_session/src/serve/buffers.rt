@@ -1,5 +1,6 @@
 // Named buffers, line by line.
-ghost use Rattle.std.specs.Prelude.{IfErr, IfSome, string_bytes};
+ghost use Rattle.std.specs.Prelude.{IfErr, IfSome, OnOk, string_bytes};
+ghost use Rattle.iobufs_lines.specs.Printed.{IsPrinted};
 ghost use Rattle.iobufs_session.specs.Halves.{MayEnd};
 ghost use Rattle.iobufs_session.specs.Session.{AnswersLine, Serves};
 
@@ -7,13 +8,24 @@ use crate::fault::{Fault, Stop};
 use crate::input::{Source, text};
 use crate::output::Sink;
 use iobufs_lines::line::command;
-use iobufs_lines::reply::push_line;
+use iobufs_lines::reply::{push_line, push_shown};
+use iobufs_run::command::Cmd;
 use iobufs_run::table::Table;
 use iobufs_words::words::LineError;
-use std::alloc::Global;
+use std::alloc::{AllocError, Global};
 
 // How many names there are.
 const NAMES: usize = 16;
+
+// Does a command, and puts the line of its reply behind a text.
+fn push_answer(table: &mut Table, cmd: &Cmd, text: &mut String) -> Result<(), AllocError>
+    ensures { OnOk result (IsPrinted table.old cmd.now table.new (string_bytes text.old) (string_bytes text.new)) }
+{
+    match cmd {
+        Cmd::Show { target } => push_shown(table, *target, text),
+        cmd => push_line(&table.apply(cmd), text),
+    }
+}
 
 // Answers one line, and prints its reply.
 fn answer(alloc: Global, table: &mut Table, line: &str, reply: &mut String) -> Result<(), LineError>
@@ -24,7 +36,7 @@ fn answer(alloc: Global, table: &mut Table, line: &str, reply: &mut String) -> R
         Err(error) => return Err(error),
     };
     reply.clear();
-    match push_line(&table.apply(&cmd), reply) {
+    match push_answer(table, &cmd, reply) {
         Ok(()) => Ok(()),
         Err(_) => Err(LineError::Memory),
     }
