@@ -1,6 +1,6 @@
 // The trait to fill room with bytes, in order.
 ghost use Rattle.std.specs.Prelude.{◌≡◌, ℕ, ◌+◌, ◌≤◌, List, [], ◌∷◌, ◌++◌, length, replicate};
-ghost use Rattle.std.specs.Int.{w16, w32, w64, to_be_bytes};
+ghost use Rattle.std.specs.Int.{w16, w32, w64, w128, to_be_bytes};
 
 use super::Buf;
 
@@ -72,6 +72,16 @@ pub trait BufMut {
         ensures { filled self.old (to_be_bytes w64 n) self.new }
     {
         self.put_slice(&u64::to_be_bytes(n));
+    }
+
+    /// Fills sixteen bytes in, the highest of the number first.
+    final fn put_u128(&mut self, n: u128)
+    where
+        Self: Sized,
+        requires { 16 ≤ room self.old }
+        ensures { filled self.old (to_be_bytes w128 n) self.new }
+    {
+        self.put_slice(&u128::to_be_bytes(n));
     }
 
     /// Fills all bytes of a reader in, one copy for each of its chunks.

@@ -1,6 +1,6 @@
 // Numbers as values of a fixed size, the highest byte first.
 ghost use Rattle.std.specs.Prelude.{◌≡◌, ◌^◌, ◌<◌, ℕ, [], ◌∷◌};
-ghost use Rattle.std.specs.Int.{w16, w32, w64, to_be_bytes};
+ghost use Rattle.std.specs.Int.{w16, w32, w64, w128, to_be_bytes};
 ghost use Rattle.iobufs_core.specs.Dropping.{by_advance};
 ghost use Rattle.iobufs_core.specs.Items.{put_item};
 ghost use Rattle.iobufs_core.specs.Wire.{IsNumberRead};
@@ -296,6 +296,78 @@ impl Codec for u64 {
     ghost drops_written = { λ n. refl };
 }
 
+impl EncodeSize for u128 {
+    ghost use Rattle.iobufs_core.specs.WireLaws.{joins-put};
+
+    ghost written = { λ n. to_be_bytes w128 n };
+
+    ghost items = { λ n. put_item (to_be_bytes w128 n) ∷ [] };
+
+    fn encode_size(&self) -> Option<usize> {
+        Some(16)
+    }
+
+    fn encode_inline_size(&self) -> usize {
+        16
+    }
+
+    ghost joins_items = { λ n. joins-put (to_be_bytes w128 n) };
+}
+
+impl Write for u128 {
+    fn write<B: BufMut>(&self, buf: &mut B) {
+        buf.put_u128(*self);
+    }
+
+    fn write_bufs<B: BufsMut>(&self, buf: &mut B) -> Result<(), Error> {
+        buf.put_u128(*self);
+        Ok(())
+    }
+}
+
+impl Read for u128 {
+    type Cfg = ();
+
+    ghost is_read = { λ text _ answer. IsNumberRead (λ n. to_be_bytes w128 n) 16 text.bytes answer };
+
+    ghost dropping = { λ _. by_advance 16 ∷ [] };
+
+    ghost same = { λ m n. m ≡ n };
+
+    fn read_cfg<B: OwnedBuf>(_alloc: Global, buf: &mut B, _cfg: &()) -> Result<u128, Error> {
+        let mut bytes = [0; 16];
+        if buf.try_copy_to_slice(&mut bytes).is_err() {
+            return Err(Error::EndOfBuffer);
+        }
+        Ok(u128_of(bytes))
+    }
+
+    ghost use Rattle.iobufs_core.specs.NumberLaws.{form_128};
+    ghost use Rattle.iobufs_core.specs.ReadLaws.{number_alike};
+
+    ghost alike = { λ s t _ a b e p q. number_alike (to_be_bytes w128) 16 form_128 s t a b e p q };
+}
+
+impl Codec for u128 {
+    ghost use Rattle.iobufs_core.specs.NumberLaws.{form_128};
+    ghost use Rattle.iobufs_core.specs.ReadLaws.{number_back};
+
+    ghost admits = { λ _ n. n < 2 ^ 128 };
+
+    ghost gives_back = { λ n _ text rest answer ok e h. number_back (to_be_bytes w128) 16 n text.bytes rest answer form_128 ok e h };
+
+    ghost use Rattle.iobufs_core.specs.CodecLaws.{number_front, number_one};
+    ghost use Rattle.std.proofs.Common.{ap, refl};
+
+    ghost same_written = { λ m n e. ap (to_be_bytes w128) e };
+
+    ghost no_front = { λ m n _ _ u v p q e. number_one (to_be_bytes w128) 16 form_128 m n u v p q e };
+
+    ghost read_written = { λ n _ text h. number_front (to_be_bytes w128) 16 form_128 text.bytes n h };
+
+    ghost drops_written = { λ n. refl };
+}
+
 // The number with these bytes.
 fn u16_of(bytes: [u8; 2]) -> u16
     ensures { to_be_bytes w16 result ≡ bytes }
@@ -315,4 +387,11 @@ fn u64_of(bytes: [u8; 8]) -> u64
     ensures { to_be_bytes w64 result ≡ bytes }
 {
     u64::from_be_bytes(bytes)
+}
+
+// The number with these bytes.
+fn u128_of(bytes: [u8; 16]) -> u128
+    ensures { to_be_bytes w128 result ≡ bytes }
+{
+    u128::from_be_bytes(bytes)
 }
