@@ -2,8 +2,8 @@
 -- stands in front as it would be written.
 --     bytes_one, number_one                     no two bodies, and no two numbers, are written at the front of the
 --                                               same text
---     bytes_front, view_front, length_front,    what was read, written again, is what stands in front
---     number_front
+--     bytes_front, view_in_front,               what was read, written again, is what stands in front
+--     length_front, number_front
 --     same_view                                 views of the same bytes are written alike, whatever their storage
 --     one_drop, bytes-dropped, left_behind      what stays behind written bytes once they are dropped
 use Rattle.std.proofs.Common.{◌≡◌, ℕ, ◌+◌, ◌^◌, ◌<◌, ◌≤◌, true, Ok, List, [], ◌∷◌, ◌++◌, length, take, drop, ap, sym, subst, ◌∙◌, refl, arith, append_assoc, length-append, length-drop}
@@ -47,9 +47,9 @@ bytes_front text range bytes (n, there, is) =
     let stands = subst (λ (xs : List ℕ). take (length (bytes_written xs)) text.bytes ≡ bytes_written xs) same front in
     ((subst (λ k. k < 2 ^ 64) len there.0.0.0, subst (λ k. in_range range k ≡ true) len there.0.1), stands)
 
-pub view_front : (text : MarkedText) (range : RangeCfg) (view : View) → IsViewRead text range (Ok view)
+pub view_in_front : (text : MarkedText) (range : RangeCfg) (view : View) → IsViewRead text range (Ok view)
     → ((length view.bytes < 2 ^ 64) × (in_range range (length view.bytes) ≡ true)) × (take (length (view_written view)) text.bytes ≡ view_written view)
-view_front text range view (n, there, is) =
+view_in_front text range view (n, there, is) =
     bytes_front text range view.bytes (n, there, ap (λ (v : View). v.bytes) is ∙ bytes-taken_view text (length (spell n)) n)
 
 -- ---- lengths

@@ -54,7 +54,8 @@ not_both bytes range n error at inside out =
 pub one_outside : (bytes : List ℕ) (range : RangeCfg) (a b : Error) → IsOutside bytes range a → IsOutside bytes range b → a ≡ b
 one_outside bytes range a b out other = out.told ∙ ap InvalidLength (spelled_as_one bytes out.n other.n out.at other.at) ∙ sym other.told
 
-no_fault : (bytes : List ℕ) (range : RangeCfg) (n : ℕ) (error : Error) → IsLengthRead bytes range (Ok n) → IsLengthRead bytes range (Err error) → ⊥
+-- a length that stands in front in the range is not refused
+pub no_fault : (bytes : List ℕ) (range : RangeCfg) (n : ℕ) (error : Error) → IsLengthRead bytes range (Ok n) → IsLengthRead bytes range (Err error) → ⊥
 unfolding LengthFault
 no_fault bytes range n error found fault =
     elim (length_fault bytes range error fault) [

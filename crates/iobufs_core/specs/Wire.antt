@@ -7,7 +7,7 @@
 --     IsLengthRead, IsNoLength       what reading a length answers, and why none is read: the text ends inside it, or
 --                                    it isn't one
 --     IsNumberRead, IsInFront        what reading a number of so many bytes answers, and that it stands in front
---     HasView                        a length in the range, and as many bytes behind it
+--     HasView, HasStaticView         a length in the range, and as many bytes behind it; static ones
 --     IsViewRead, IsBytesRead,       what reading a view, or a copy of its bytes, answers; and why it is refused
 --     IsViewFault
 --     IsTaken                        a value was made of the bytes behind a length, and one copy took both from the
@@ -16,7 +16,7 @@
 use Rattle.std.specs.Prelude.{◌≡◌, ◌⊎◌, ℕ, ◌+◌, ◌^◌, ◌<◌, ◌≤◌, Bool, true, false, if◌then◌else◌, Option, Some, None, Result, Ok, Err, List, [], ◌∷◌, ◌++◌, length, take, drop}
 use Rattle.iobufs_core.specs.Ranges.{in_range}
 use Rattle.iobufs_core.specs.Spelling.{spell, IsSpelledAt, HasNoLength, IsOpen}
-use Rattle.iobufs_core.specs.View.{View, view_of_bytes}
+use Rattle.iobufs_core.specs.View.{View, static_mark, view_of_bytes}
 use Rattle.iobufs_core.specs.MarkedText.{MarkedText, taken_view, text_rest}
 use Rattle.iobufs_core.specs.Items.{Item, put_item, push_item}
 use Rattle.iobufs_core.specs.declared.codec.base.Error.{Error}
@@ -76,6 +76,12 @@ IsNumberRead written size bytes (Err error) = ⊥
 -- a length in the range is spelled in front, and so many bytes are behind it
 abbrev pub HasView : MarkedText → RangeCfg → ℕ → Type 0
 HasView text range n = IsLengthRead text.bytes range (Ok n) × (length (spell n) + n ≤ length text.bytes)
+
+-- the bytes behind such a length are static
+pub record HasStaticView (text : MarkedText) (range : RangeCfg) : Type 0 where
+  pub n : ℕ
+  pub there : HasView text range n
+  pub static : (taken_view text (length (spell n)) n).mark ≡ static_mark
 
 -- the bytes behind a length were read as this value, which is made of a view of them, and dropped with it
 pub record IsTaken {Value Reader : Type 0} (makes : View → Value → Type 0) (copied : Reader → ℕ → Reader) (text : MarkedText) (range : RangeCfg)

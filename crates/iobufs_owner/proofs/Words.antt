@@ -7,7 +7,7 @@ use Rattle.std.proofs.Math.Nat.{div-eq_of_lt}
 use Rattle.std.specs.Int.{trailing_zeros, Width}
 use mir.Val.{bits}
 use mir.Syntax.{w64}
-use Rattle.iobufs_owner.specs.Word.{fits, word_of, HasRoom, IsWord, size_in, tail_in, log_in, retailed}
+use Rattle.iobufs_owner.specs.Word.{fits, word_of, HasRoom, IsWord, size_of_word, tail_of_word, log_of_word, word_with_tail}
 
 -- the trailing zeros of a power of two are its logarithm
 pub zeros_pow : (w : Width) (k : ℕ) → 2 ^ k < 2 ^ bits w → trailing_zeros w (2 ^ k) ≡ k
@@ -98,20 +98,20 @@ some-iff P Q None v s f g = λ q. s (g q)
 some-iff P Q (Some x) v s f g = (f s.0, s.1)
 
 -- the fields of a word, by division
-pub word-size : (a t s word size log tail : ℕ) → HasRoom a t s size log tail → word ≡ word_of a t size log tail → size_in a t word ≡ size
+pub word-size : (a t s word size log tail : ℕ) → HasRoom a t s size log tail → word ≡ word_of a t size log tail → size_of_word a t word ≡ size
 word-size a t s word size log tail room is = rw is (unpack-size a t size log tail room.log_fits room.tail_fits)
 
 -- the tail by division is the one of which the word was made, where its fields have room
-pub word-tail : (a t s word size log tail : ℕ) → HasRoom a t s size log tail → word ≡ word_of a t size log tail → tail_in a t word ≡ tail
+pub word-tail : (a t s word size log tail : ℕ) → HasRoom a t s size log tail → word ≡ word_of a t size log tail → tail_of_word a t word ≡ tail
 word-tail a t s word size log tail room is = rw (is, unpack-high a t size log tail room.log_fits) (mod_low size t tail room.tail_fits)
 
 -- the logarithm by division is the one of which the word was made, where its fields have room
-pub word-log : (a t s word size log tail : ℕ) → HasRoom a t s size log tail → word ≡ word_of a t size log tail → log_in a word ≡ log
+pub word-log : (a t s word size log tail : ℕ) → HasRoom a t s size log tail → word ≡ word_of a t size log tail → log_of_word a word ≡ log
 word-log a t s word size log tail room is = let e = unpack-log a t size log tail room.log_fits in rw (is, ← and_mask) e
 
 -- a word with another tail
 pub retailed-is : (a t s word size log tail n : ℕ) → HasRoom a t s size log tail → word ≡ word_of a t size log tail
-    → retailed a t word n ≡ word_of a t size log n
+    → word_with_tail a t word n ≡ word_of a t size log n
 retailed-is a t s word size log tail n room is = rw (word-size a t s word size log tail room is, word-log a t s word size log tail room is) refl
 
 -- ---- whether the fields have room

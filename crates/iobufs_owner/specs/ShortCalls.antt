@@ -1,5 +1,5 @@
 -- What a call that ends with its first step makes of a state: each call but clones, slices and drops.
---     block_of, first_handle, whole_view            a block, and the first handle on it: writable and empty, or a
+--     made_block, first_handle, whole_view           a block, and the first handle on it: writable and empty, or a
 --                                                   view of all
 --     described_of, recorded_of                     a new block under a descriptor, and under a record
 --     CanDescribe, fits_in, placed                  a block that a word can tell; whether the fields suffice; and the
@@ -37,8 +37,8 @@ use Rattle.iobufs_owner.specs.Lending.{lend_of, lend_any_of, lend_owning_of}
 
 -- ---- new blocks
 
-abbrev pub block_of : (base size align : ℕ) → Bool → Block
-block_of base size align external = record { base = base; size = size; align = align; external = external }
+abbrev pub made_block : (base size align : ℕ) → Bool → Block
+made_block base size align external = record { base = base; size = size; align = align; external = external }
 
 -- a new writable handle on a block
 abbrev pub first_handle : Block → Word → Handle
@@ -71,7 +71,7 @@ fits_in g size log tail = fits g.align_bits g.tail_bits g.size_bits size log tai
 -- where the fields have room a descriptor of tail 0, else a record
 abbrev pub placed : State → (base size log : ℕ) → Outcome
 placed s base size log =
-    let b = block_of base size (2 ^ log) false in
+    let b = made_block base size (2 ^ log) false in
     if fits_in s.tables size log 0
     then described_of s b (word_of s.tables.align_bits s.tables.tail_bits size log 0)
     else recorded_of s b (first_handle b (Counted (next_record s)))
@@ -84,7 +84,7 @@ IsAllocated s base size align memory o =
 
 abbrev pub external_of : State → (base size : ℕ) → Bool → Outcome
 external_of s base size memory =
-    if memory then recorded_of s (block_of base size 1 true) (whole_view (block_of base size 1 true) (Counted (next_record s))) else refused s Memory
+    if memory then recorded_of s (made_block base size 1 true) (whole_view (made_block base size 1 true) (Counted (next_record s))) else refused s Memory
 
 abbrev pub IsExternal : State → (base size : ℕ) → Bool → Outcome → Type 0
 IsExternal s base size memory o =

@@ -3,8 +3,9 @@
 --     IsPowerOfTwo                an alignment that a word can tell by its logarithm
 --     word_of, IsWord             the number that packs a size, an alignment and a tail; a number that is one
 --     HasRoom, fits               the fields are wide enough for them; and whether they are
---     size_in, tail_in, log_in    what is read off a word
---     retailed                    the same block with another tail
+--     size_of_word, tail_of_word, what is read off a word
+--     log_of_word
+--     word_with_tail              the same block with another tail
 use Rattle.std.specs.Prelude.{◌≡◌, ℕ, ◌+◌, ◌*◌, ◌/◌, ◌%◌, ◌^◌, ◌<◌, ◌&&◌, nat_lt, Bool}
 
 -- an alignment is a power of two
@@ -36,15 +37,15 @@ pub record IsWord (a t s : ℕ) (word : ℕ) : Type 0 where
   pub is : word ≡ word_of a t size log tail
 
 -- the fields of a word, by division
-abbrev pub size_in : (a t word : ℕ) → ℕ
-size_in a t word = word / 2 ^ (1 + a + t)
+abbrev pub size_of_word : (a t word : ℕ) → ℕ
+size_of_word a t word = word / 2 ^ (1 + a + t)
 
-abbrev pub tail_in : (a t word : ℕ) → ℕ
-tail_in a t word = word / 2 ^ (1 + a) % 2 ^ t
+abbrev pub tail_of_word : (a t word : ℕ) → ℕ
+tail_of_word a t word = word / 2 ^ (1 + a) % 2 ^ t
 
-abbrev pub log_in : (a word : ℕ) → ℕ
-log_in a word = word / 2 % 2 ^ a
+abbrev pub log_of_word : (a word : ℕ) → ℕ
+log_of_word a word = word / 2 % 2 ^ a
 
 -- the word with the same size and alignment, and with another tail
-abbrev pub retailed : (a t word tail : ℕ) → ℕ
-retailed a t word tail = word_of a t (size_in a t word) (log_in a word) tail
+abbrev pub word_with_tail : (a t word tail : ℕ) → ℕ
+word_with_tail a t word tail = word_of a t (size_of_word a t word) (log_of_word a word) tail

@@ -1,6 +1,6 @@
 //! Descriptor words: a size, an alignment and a tail in one number.
 ghost use Rattle.std.specs.Prelude.{◌≡◌, ℕ, ◌+◌, ◌^◌, ◌<◌, ◌≤◌, ◌↔◌, SomeIff, IfSome, IsTrue, MatchOption};
-ghost use Rattle.iobufs_owner.specs.Word.{IsPowerOfTwo, fits, word_of, HasRoom, IsWord, size_in, tail_in, log_in, retailed};
+ghost use Rattle.iobufs_owner.specs.Word.{IsPowerOfTwo, fits, word_of, HasRoom, IsWord, size_of_word, tail_of_word, log_of_word, word_with_tail};
 
 /// How many bits of a word hold the alignment, the tail and the size. Below them a word has one bit that is always set:
 ///
@@ -126,9 +126,9 @@ impl Format {
             → HasRoom self.now.align_bits self.now.tail_bits self.now.size_bits size log tail
             → word ≡ word_of self.now.align_bits self.now.tail_bits size log tail
             → (result.size ≡ size) × (result.align ≡ 2 ^ log) × (result.tail ≡ tail) }
-        ensures size { result.size ≡ size_in self.now.align_bits self.now.tail_bits word }
-        ensures align { result.align ≡ 2 ^ log_in self.now.align_bits word }
-        ensures tail { result.tail ≡ tail_in self.now.align_bits self.now.tail_bits word }
+        ensures size { result.size ≡ size_of_word self.now.align_bits self.now.tail_bits word }
+        ensures align { result.align ≡ 2 ^ log_of_word self.now.align_bits word }
+        ensures tail { result.tail ≡ tail_of_word self.now.align_bits self.now.tail_bits word }
     {
         let log = word >> 1 & (1 << self.align_bits) - 1;
         Fields {
@@ -147,7 +147,7 @@ impl Format {
             (tail < 2 ^ self.now.tail_bits)
             (word_of self.now.align_bits self.now.tail_bits size log tail) }
         ensures same { SomeIff result (tail < 2 ^ self.now.tail_bits)
-            (retailed self.now.align_bits self.now.tail_bits word tail) }
+            (word_with_tail self.now.align_bits self.now.tail_bits word tail) }
         ensures word { IfSome result
             (IsWord self.now.align_bits self.now.tail_bits self.now.size_bits) }
     {

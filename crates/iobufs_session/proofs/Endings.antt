@@ -4,7 +4,7 @@ use Rattle.std.specs.Io.KnownBytes.{Keeps}
 use Rattle.iobufs_run.specs.declared.table.Slot.TheVariants.{Free}
 use Rattle.iobufs_session.specs.Faults.{Halts}
 use Rattle.iobufs_session.specs.Halves.{IsSentAtEnd, ServesHalf}
-use Rattle.iobufs_session.specs.MachineSession.{ServesMachine, AnsweredFirst as AnsweredFirstByMachine}
+use Rattle.iobufs_session.specs.MachineSession.{ServesMachine, MachineAnsweredFirst}
 use Rattle.iobufs_session.specs.Session.{AnsweredFirst, Serves, commands_of}
 use Rattle.iobufs_session.specs.declared.fault.Fault.TheVariants.{Reading, Writing, Memory, NotText, TooManyLines}
 use Rattle.iobufs_session.specs.declared.fault.Stop.{Stop}
@@ -39,17 +39,17 @@ buffers_so_far input before written (Err (CannotContinue NotText)) s = let (coun
 buffers_so_far input before written (Err (CannotContinue TooManyLines)) s = buffers_first input before written _ s
 buffers_so_far input before written (Err OtherWords) s = elim s [ ]
 
-machine_first : (input before : List ℕ) (written : Option (List ℕ)) (count : ℕ) → AnsweredFirstByMachine input before count written
-    → Halts (AnsweredFirstByMachine input before) input written Writing
+machine_first : (input before : List ℕ) (written : Option (List ℕ)) (count : ℕ) → MachineAnsweredFirst input before count written
+    → Halts (MachineAnsweredFirst input before) input written Writing
 machine_first input before written count first =
     elim first [
-      | inl (zero, e) ↦ whole (AnsweredFirstByMachine input before) input written before count e (inl (zero, e))
-      | inr (left, a) ↦ whole (AnsweredFirstByMachine input before) input written _ count a.prints (inr (left, a))
+      | inl (zero, e) ↦ whole (MachineAnsweredFirst input before) input written before count e (inl (zero, e))
+      | inr (left, a) ↦ whole (MachineAnsweredFirst input before) input written _ count a.prints (inr (left, a))
     ]
 
 -- the same with the machine
 machine_so_far : (input before : List ℕ) (written : Option (List ℕ)) (served : Result (Unit {0}) Stop) → ServesMachine input before written served
-    → Halts (AnsweredFirstByMachine input before) input written Writing
+    → Halts (MachineAnsweredFirst input before) input written Writing
 machine_so_far input before written (Ok done) s =
     elim s [
       | inl none ↦ machine_first input before written 0 (inl (refl, none.prints))

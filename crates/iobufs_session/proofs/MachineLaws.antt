@@ -12,7 +12,7 @@ use Rattle.iobufs_owner_lines.specs.Session.{Answered, AreAnswered, line_of}
 use Rattle.iobufs_words.specs.declared.words.LineError.TheVariants.{NoCommand}
 use Rattle.iobufs_session.specs.Faults.{LineAt, ReadFails, Takes, most_lines}
 use Rattle.iobufs_session.specs.Lines.{TakesLine, line_text}
-use Rattle.iobufs_session.specs.MachineSession.{AnswersLine, Begins, ServesMachine}
+use Rattle.iobufs_session.specs.MachineSession.{AnswersMachineLine, Begins, ServesMachine}
 use Rattle.iobufs_session.specs.declared.fault.Fault.{Fault}
 use Rattle.iobufs_session.specs.declared.fault.Fault.TheVariants.{Reading, Writing, Memory, NotText, TooManyLines}
 use Rattle.iobufs_session.specs.declared.fault.Stop.{Stop}
@@ -271,7 +271,7 @@ line_read (Some input) None left next written mid line number m g takes keeps = 
 line_read None told left next written mid line number m g takes keeps = tt
 
 goes_on : (input before line reply : List ℕ) (left mid new : Option (List ℕ)) (number : ℕ) (m after : Seen)
-    → (r : Read input before line left mid number m) → AnswersLine line m after reply (Ok tt)
+    → (r : Read input before line left mid number m) → AnswersMachineLine line m after reply (Ok tt)
     → new ≡ Some (before ++ line_of (codes "ok") ++ flat_map line_of r.answered.texts ++ reply)
     → GoesOn input before left new (number + 1) after
 goes_on input before line reply left mid new number m after r said e =
@@ -309,7 +309,7 @@ goes_on input before line reply left mid new number m after r said e =
 
 -- a line that was read and answered, and whose answer is written, is one more answered line, and the machine goes on behind it
 pub line_answered : (read told left mid new : Option (List ℕ)) (line reply : List ℕ) (number : ℕ) (m after : Seen)
-    → Reads read told line left mid number m → AnswersLine line m after reply (Ok tt) → Appends mid new reply → Going read told left new (number + 1) after
+    → Reads read told line left mid number m → AnswersMachineLine line m after reply (Ok tt) → Appends mid new reply → Going read told left new (number + 1) after
 line_answered (Some input) (Some before) left mid new line reply number m after r said e =
     goes_on input before line reply left mid new number m after r said
     (line_more (before ++ line_of (codes "ok") ++ flat_map line_of r.answered.texts) reply mid new r.answered.prints e)
@@ -344,7 +344,7 @@ bad_at input before line left mid number m r is none =
 
 -- a line that is text and asks nothing ends the session there, by its number
 pub bad_line : (read told left mid : Option (List ℕ)) (line reply : List ℕ) (number : ℕ) (m after : Seen)
-    → Reads read told line left mid number m → IsUtf8 line → AnswersLine line m after reply (Err NoCommand) → Ended read told mid (Err (BadCommand number))
+    → Reads read told line left mid number m → IsUtf8 line → AnswersMachineLine line m after reply (Err NoCommand) → Ended read told mid (Err (BadCommand number))
 bad_line (Some input) (Some before) left mid line reply number m after r is none = bad_at input before line left mid number m r is none
 bad_line (Some input) None left mid line reply number m after r is none = tt
 bad_line None told left mid line reply number m after r is none = tt
@@ -400,7 +400,7 @@ not_read reads writes (Some input) None left written mid number m fault g why ke
 not_read reads writes None told left written mid number m fault g why keeps = tt
 
 cut : (input before line reply : List ℕ) (left mid new : Option (List ℕ)) (number : ℕ) (m after : Seen) (fault : Fault)
-    → (r : Read input before line left mid number m) → AnswersLine line m after reply (Ok tt) → Takes mid new reply (Err fault)
+    → (r : Read input before line left mid number m) → AnswersMachineLine line m after reply (Ok tt) → Takes mid new reply (Err fault)
     → ServesMachine input before new (Err (CannotContinue fault))
 cut input before line reply left mid new number m after Reading r said takes = elim takes [ ]
 cut input before line reply left mid new number m after Writing r said takes =
@@ -427,7 +427,7 @@ cut input before line reply left mid new number m after TooManyLines r said take
 
 -- where the answer to a line isn't taken whole, the session ends by this fault
 pub not_written : (read told left mid new : Option (List ℕ)) (line reply : List ℕ) (number : ℕ) (m after : Seen) (fault : Fault)
-    → Reads read told line left mid number m → AnswersLine line m after reply (Ok tt) → Takes mid new reply (Err fault)
+    → Reads read told line left mid number m → AnswersMachineLine line m after reply (Ok tt) → Takes mid new reply (Err fault)
     → Ended read told new (Err (CannotContinue fault))
 not_written (Some input) (Some before) left mid new line reply number m after fault r said takes =
     cut input before line reply left mid new number m after fault r said takes

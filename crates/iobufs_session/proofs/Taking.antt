@@ -67,7 +67,8 @@ pub takes_on : (old mid new : Option (List ℕ)) (text : List ℕ) (n : ℕ) (re
 takes_on old mid new text n (Ok done) fails first more =
     subst (λ (l : List ℕ). Appends old new l) (take-append-drop n text) (appends_more old mid new (take n text) (drop n text) first more)
 takes_on old mid new text n (Err Writing) fails first (m, more) =
-    part_sent old new text (drop m (drop n text)) (more_sent old mid new text (drop n text) m (more_sent old old mid text text n (none_sent old text) first) more)
+    part_sent old new text (drop m (drop n text))
+    (more_sent old mid new text (drop n text) m (more_sent old old mid text text n (none_sent old text) first) more)
 takes_on old mid new text n (Err Reading) fails first more = elim more [ ]
 takes_on old mid new text n (Err Memory) fails first more = cc fails
 takes_on old mid new text n (Err NotText) fails first more = elim more [ ]

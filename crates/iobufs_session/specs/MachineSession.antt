@@ -1,9 +1,10 @@
 -- A session with an owner machine: what it reads, and what it prints.
---     Begins, Begun               the first line makes the machine that it asks for, or asks for none
---     AnswersLine, AskAnswered    what one further line makes of the machine, and the line that it prints
---     AnsweredFirst               so many lines of the input were answered, whatever is in the others
---     ServesMachine               what a session has read and written when it ends, by how it ends
---     HasMachineStatus            the same by the program's status
+--     Begins, Begun           the first line makes the machine that it asks for, or asks for none
+--     AnswersMachineLine,     what one further line makes of the machine, and the line that it prints
+--     AskAnswered
+--     MachineAnsweredFirst    so many lines of the input were answered, whatever is in the others
+--     ServesMachine           what a session has read and written when it ends, by how it ends
+--     HasMachineStatus        the same by the program's status
 use Rattle.std.specs.Prelude.{◌≡◌, ◌⊎◌, ℕ, ◌+◌, List, Option, Some, None, Result, Ok, Err, ⊤}
 use Rattle.iobufs_owner.specs.Promises.{Promises}
 use Rattle.iobufs_owner.specs.State.{Seen}
@@ -40,14 +41,14 @@ pub record AskAnswered (line : List ℕ) (old new : Seen) (printed : List ℕ) :
   pub prints : printed ≡ line_of text
 
 -- a line that asks something is answered
-abbrev pub AnswersLine : (line : List ℕ) → (old new : Seen) → (printed : List ℕ) → Result (Unit {0}) LineError → Type 0
-AnswersLine line old new printed (Ok done) = AskAnswered line old new printed
-AnswersLine line old new printed (Err NoCommand) = ask_of line ≡ None
-AnswersLine line old new printed (Err Memory) = ⊤
+abbrev pub AnswersMachineLine : (line : List ℕ) → (old new : Seen) → (printed : List ℕ) → Result (Unit {0}) LineError → Type 0
+AnswersMachineLine line old new printed (Ok done) = AskAnswered line old new printed
+AnswersMachineLine line old new printed (Err NoCommand) = ask_of line ≡ None
+AnswersMachineLine line old new printed (Err Memory) = ⊤
 
 -- so many lines were answered, whatever the others ask; where none was, nothing is written
-abbrev pub AnsweredFirst : (input before : List ℕ) → ℕ → Option (List ℕ) → Type 0
-AnsweredFirst input before count written =
+abbrev pub MachineAnsweredFirst : (input before : List ℕ) → ℕ → Option (List ℕ) → Type 0
+MachineAnsweredFirst input before count written =
     ((count ≡ 0) × (written ≡ Some before)) ⊎ ((left : List (Option Ask)) × Answered input before left written count)
 
 -- At the end of the input each line was answered, at a line that asks nothing each before it, and that line is text.
@@ -56,7 +57,7 @@ abbrev pub ServesMachine : (input before : List ℕ) → (written : Option (List
 ServesMachine input before written (Ok done) = AllAnswered input before written
 ServesMachine input before written (Err (BadCommand number)) = (count : ℕ) × (number ≡ count + 1) × AnsweredUpTo count input before written
     × IsTextAt input count
-ServesMachine input before written (Err (CannotContinue fault)) = Halts (AnsweredFirst input before) input written fault
+ServesMachine input before written (Err (CannotContinue fault)) = Halts (MachineAnsweredFirst input before) input written fault
 ServesMachine input before written (Err OtherWords) = ⊥
 
 -- the same by the status

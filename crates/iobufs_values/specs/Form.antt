@@ -5,6 +5,7 @@
 --     IsCodecFault      a fault is one of these errors
 --     behind            a text whose bytes are those behind the first of another
 --     IsMadeThere       a length stands behind the first bytes, and a value was made of a view of as many bytes
+--     HasStaticViewThere    such a length stands there, and static bytes behind it
 --     IsShortThere      fewer bytes than these stand behind the first
 --     IsByteAt          this byte stands behind the first
 --     IsBoolFault       no byte is there, or one that is neither 0 nor 1
@@ -15,8 +16,8 @@
 use Rattle.std.specs.Prelude.{◌≡◌, ◌⊎◌, ℕ, ◌+◌, ◌<◌, ◌≤◌, Option, Some, None, List, [], ◌∷◌, ◌++◌, length, take, drop, Ok}
 use Rattle.iobufs_core.specs.MarkedText.{MarkedText, taken_view}
 use Rattle.iobufs_core.specs.Spelling.{spell}
-use Rattle.iobufs_core.specs.View.{View}
-use Rattle.iobufs_core.specs.Wire.{IsLengthRead}
+use Rattle.iobufs_core.specs.View.{View, static_mark}
+use Rattle.iobufs_core.specs.Wire.{HasView, IsLengthRead}
 use Rattle.iobufs_core.specs.declared.codec.base.RangeCfg.{RangeCfg}
 use Rattle.iobufs_core.specs.declared.codec.base.Error.{Error}
 use Rattle.iobufs_core.specs.declared.codec.base.Error.TheVariants.{EndOfBuffer, Memory}
@@ -55,6 +56,12 @@ pub record IsMadeThere {Value : Type 0} (makes : View → Value → Type 0) (tex
   pub read : IsLengthRead (drop skip text.bytes) range (Ok n)
   pub within : length (spell n) + n ≤ length (drop skip text.bytes)
   pub made : makes (taken_view text (skip + length (spell n)) n) value
+
+-- static bytes stand behind a length in the range there
+pub record HasStaticViewThere (text : MarkedText) (skip : ℕ) (range : RangeCfg) : Type 0 where
+  pub n : ℕ
+  pub there : HasView (behind text skip) range n
+  pub static : (taken_view text (skip + length (spell n)) n).mark ≡ static_mark
 
 abbrev pub IsShortThere : MarkedText → ℕ → ℕ → Error → Type 0
 IsShortThere text skip n error = (error ≡ EndOfBuffer) × (length (drop skip text.bytes) < n)

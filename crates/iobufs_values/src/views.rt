@@ -1,7 +1,10 @@
 // Bytes: a view or a `Bytes` behind its length, and so many bytes as they are.
-ghost use Rattle.std.specs.Prelude.{◌≡◌, ◌+◌, ◌^◌, ◌<◌, ◌≤◌, length, take, drop, true, IfOk, IfErr};
-ghost use Rattle.iobufs_core.specs.Wire.{IsViewFault, bytes_written};
-ghost use Rattle.iobufs_values.specs.Form.{IsCodecFault, IsMadeThere, IsShortThere, behind};
+ghost use Rattle.std.specs.Prelude.{◌≡◌, ℕ, ◌+◌, ◌^◌, ◌<◌, ◌≤◌, length, take, drop, true, IfOk, IfErr, IsOk};
+ghost use Rattle.iobufs_core.specs.MarkedText.{taken_view};
+ghost use Rattle.iobufs_core.specs.Spelling.{spell};
+ghost use Rattle.iobufs_core.specs.View.{static_mark};
+ghost use Rattle.iobufs_core.specs.Wire.{HasView, IsViewFault, bytes_written};
+ghost use Rattle.iobufs_values.specs.Form.{HasStaticViewThere, IsCodecFault, IsMadeThere, IsShortThere, behind};
 
 use crate::{Fault, Look};
 use bytes::Bytes;
@@ -21,6 +24,9 @@ fn look_bytes<T: OwnedBytes, B: OwnedBuf>(
     ensures len { IfOk result (λ found. found.1 ≡ length (bytes_written (T.bytes_of found.0))) }
     ensures within { IfOk result (λ found. skip + found.1 ≤ length (B.text buf.now)) }
     ensures fault { IfErr result (IsCodecFault (IsViewFault (behind (B.marked buf.now) skip) range.now)) }
+    ensures static_text { (n : ℕ) → HasView (behind (B.marked buf.now) skip) range.now n
+        → (taken_view (B.marked buf.now) (skip + length (spell n)) n).mark ≡ static_mark
+        → T.is_free (taken_view (B.marked buf.now) (skip + length (spell n)) n) → IsOk result }
 {
     let (n, len) = peek_length(buf, skip, range)?;
     let left = buf.remaining() - skip - len;
@@ -61,12 +67,20 @@ impl Look for IoBuf {
 
     ghost same = { λ x y. x.bytes ≡ y.bytes };
 
+    /// Static bytes are never refused.
     fn look<B: OwnedBuf>(
         alloc: Global,
         buf: &B,
         skip: usize,
         range: &RangeCfg,
-    ) -> Result<(IoBuf, usize), Fault> {
+    ) -> Result<(IoBuf, usize), Fault>
+        requires { skip ≤ length (B.text buf.now) }
+        ensures found { IfOk result (λ found. IsMadeThere (λ view made. made ≡ view) (B.marked buf.now) skip range.now found.0) }
+        ensures len { IfOk result (λ found. found.1 ≡ length (bytes_written found.0.bytes)) }
+        ensures within { IfOk result (λ found. skip + found.1 ≤ length (B.text buf.now)) }
+        ensures fault { IfErr result (IsCodecFault (IsViewFault (behind (B.marked buf.now) skip) range.now)) }
+        ensures static_text { HasStaticViewThere (B.marked buf.now) skip range.now → IsOk result }
+    {
         look_bytes(alloc, buf, skip, range)
     }
 
@@ -87,12 +101,20 @@ impl Look for Bytes {
 
     ghost same = { λ x y. x ≡ y };
 
+    /// Static bytes are never refused.
     fn look<B: OwnedBuf>(
         alloc: Global,
         buf: &B,
         skip: usize,
         range: &RangeCfg,
-    ) -> Result<(Bytes, usize), Fault> {
+    ) -> Result<(Bytes, usize), Fault>
+        requires { skip ≤ length (B.text buf.now) }
+        ensures found { IfOk result (λ found. IsMadeThere (λ view made. made ≡ view.bytes) (B.marked buf.now) skip range.now found.0) }
+        ensures len { IfOk result (λ found. found.1 ≡ length (bytes_written found.0)) }
+        ensures within { IfOk result (λ found. skip + found.1 ≤ length (B.text buf.now)) }
+        ensures fault { IfErr result (IsCodecFault (IsViewFault (behind (B.marked buf.now) skip) range.now)) }
+        ensures static_text { HasStaticViewThere (B.marked buf.now) skip range.now → IsOk result }
+    {
         look_bytes(alloc, buf, skip, range)
     }
 

@@ -1,9 +1,10 @@
 // A `Bytes` as a value that is written and read behind its length.
-ghost use Rattle.std.specs.Prelude.{◌≡◌, ◌⊎◌, ◌^◌, ◌<◌, ◌≤◌, [], ◌∷◌, length, OnOk, OnErr, IfErr, IsOk};
-ghost use Rattle.iobufs_core.specs.Dropping.{by_copy};
+ghost use Rattle.std.specs.Prelude.{◌≡◌, ◌⊎◌, ◌^◌, ◌<◌, ◌≤◌, [], ◌∷◌, length, OnOk, OnErr, IfOk, IfErr, IsOk};
+ghost use Rattle.iobufs_core.specs.Dropping.{by_copy, dropped};
 ghost use Rattle.iobufs_core.specs.Items.{IsBegun, items_inline, items_pushed, put_item};
+ghost use Rattle.iobufs_core.specs.MarkedText.{text_advanced, text_rest};
 ghost use Rattle.iobufs_core.specs.Spelling.{spell};
-ghost use Rattle.iobufs_core.specs.Wire.{bytes_items, bytes_written};
+ghost use Rattle.iobufs_core.specs.Wire.{HasStaticView, IsBytesRead, bytes_items, bytes_written};
 
 use super::length::{put_length, spelled_len};
 use super::wire::read_bytes;
@@ -70,7 +71,14 @@ impl Read for Bytes {
 
     ghost same = { λ x y. x ≡ y };
 
-    fn read_cfg<B: OwnedBuf>(alloc: Global, buf: &mut B, range: &RangeCfg) -> Result<Bytes, Error> {
+    /// Static bytes are never refused.
+    fn read_cfg<B: OwnedBuf>(alloc: Global, buf: &mut B, range: &RangeCfg) -> Result<Bytes, Error>
+        ensures answer { IsBytesRead (B.marked buf.old) range.now result }
+        ensures left { IfOk result (λ bytes. buf.new ≡ dropped B.advanced B.copied buf.old (by_copy (length (bytes_written bytes)) ∷ [])) }
+        ensures rest { IfOk result (λ bytes. B.marked buf.new ≡ dropped text_advanced text_rest (B.marked buf.old) (by_copy (length (bytes_written bytes)) ∷ [])) }
+        ensures unchanged { OnErr result (buf.new ≡ buf.old) }
+        ensures static_text { HasStaticView (B.marked buf.old) range.now → IsOk result }
+    {
         read_bytes(alloc, buf, range)
     }
 

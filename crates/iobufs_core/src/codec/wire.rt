@@ -1,9 +1,9 @@
 // The traits to write and read values, with bytes that are pushed and not copied.
 ghost use Rattle.std.specs.Prelude.{◌≡◌, ◌⊎◌, ℕ, ◌+◌, ◌^◌, ◌<◌, ◌≤◌, List, [], ◌∷◌, ◌++◌, length, take, Result, Ok, SomeIff, OnOk, OnErr, IfOk, IfErr, IsOk, IsErrAnd};
-ghost use Rattle.iobufs_core.specs.View.{View};
+ghost use Rattle.iobufs_core.specs.View.{View, static_mark};
 ghost use Rattle.iobufs_core.specs.MarkedText.{MarkedText, taken_view, text_advanced, text_rest};
 ghost use Rattle.iobufs_core.specs.Spelling.{spell};
-ghost use Rattle.iobufs_core.specs.Wire.{IsTaken, IsViewFault, view_items, view_written};
+ghost use Rattle.iobufs_core.specs.Wire.{HasStaticView, HasView, IsTaken, IsViewFault, IsViewRead, view_items, view_written};
 ghost use Rattle.iobufs_core.specs.ReadBack.{IsReadAlike, IsReadBack};
 ghost use Rattle.iobufs_core.specs.Dropping.{Dropping, by_advance, by_copy, dropped, dropped_len};
 ghost use Rattle.iobufs_core.specs.Items.{Item, put_item, push_item, items_bytes, items_inline, items_pushed, IsBegun};
@@ -278,7 +278,14 @@ impl Read for IoBuf {
 
     ghost same = { λ x y. x.bytes ≡ y.bytes };
 
-    fn read_cfg<B: OwnedBuf>(alloc: Global, buf: &mut B, range: &RangeCfg) -> Result<IoBuf, Error> {
+    /// Static bytes are never refused.
+    fn read_cfg<B: OwnedBuf>(alloc: Global, buf: &mut B, range: &RangeCfg) -> Result<IoBuf, Error>
+        ensures answer { IsViewRead (B.marked buf.old) range.now result }
+        ensures left { IfOk result (λ view. buf.new ≡ dropped B.advanced B.copied buf.old (by_copy (length (view_written view)) ∷ [])) }
+        ensures rest { IfOk result (λ view. B.marked buf.new ≡ dropped text_advanced text_rest (B.marked buf.old) (by_copy (length (view_written view)) ∷ [])) }
+        ensures unchanged { OnErr result (buf.new ≡ buf.old) }
+        ensures static_text { HasStaticView (B.marked buf.old) range.now → IsOk result }
+    {
         read_bytes(alloc, buf, range)
     }
 
@@ -294,7 +301,7 @@ impl Codec for IoBuf {
 
     ghost gives_back = { λ view range text rest answer ok e h. view_back view range text rest answer ok.0 ok.1 e h };
 
-    ghost use Rattle.iobufs_core.specs.CodecLaws.{bytes_one, same_view, view_front, one_drop};
+    ghost use Rattle.iobufs_core.specs.CodecLaws.{bytes_one, same_view, view_in_front, one_drop};
     ghost use Rattle.iobufs_core.specs.Wire.{view_written};
     ghost use Rattle.std.proofs.Common.{refl};
 
@@ -302,7 +309,7 @@ impl Codec for IoBuf {
 
     ghost no_front = { λ x y _ _ u v p q e. bytes_one x.bytes y.bytes u v p.0 q.0 e };
 
-    ghost read_written = { λ view range text h. view_front text range view h };
+    ghost read_written = { λ view range text h. view_in_front text range view h };
 
     ghost drops_written = { λ view. one_drop (length (view_written view)) };
 }
@@ -316,6 +323,8 @@ pub(super) fn read_bytes<T: OwnedBytes, B: OwnedBuf>(
     ensures ok { IfOk result (IsTaken T.makes B.copied (B.marked buf.old) range.now buf.old buf.new) }
     ensures fault { IfErr result (IsViewFault (B.marked buf.old) range.now) }
     ensures unchanged { OnErr result (buf.new ≡ buf.old) }
+    ensures static_text { (n : ℕ) → HasView (B.marked buf.old) range.now n → (taken_view (B.marked buf.old) (length (spell n)) n).mark ≡ static_mark
+        → T.is_free (taken_view (B.marked buf.old) (length (spell n)) n) → IsOk result }
 {
     let found = length_in(buf, range)?;
     if buf.remaining() - found.len < found.value {

@@ -15,7 +15,7 @@ use Rattle.iobufs_owner.specs.Places.{IsGoodPlace}
 use Rattle.iobufs_owner.specs.Word.{HasRoom, word_of}
 use Rattle.iobufs_owner.specs.ShortCalls as short
 use Rattle.iobufs_owner.specs.Changes.{Outcome, refused, with_block, with_record, next_record}
-use Rattle.iobufs_owner.specs.ShortCalls.{block_of, first_handle, whole_view, described_of, recorded_of}
+use Rattle.iobufs_owner.specs.ShortCalls.{made_block, first_handle, whole_view, described_of, recorded_of}
 use Rattle.iobufs_owner.specs.Steps as world
 use Rattle.iobufs_owner.specs.Steps.{NoRoom, Makes, Refuses, block_more, native_block, external_block}
 use Rattle.iobufs_owner.proofs.WorldSteps.Sizes.{IsAnswered}
@@ -79,16 +79,16 @@ recorded-made s t b x reply k good w i =
 
 new-placed : (s t : State) (base size log : ℕ) (o : Outcome) (reply : Reply) → IsSound s → IsGoodPlace s.tables.blocks base size (2 ^ log)
     → (v : Bool) → short.fits_in s.tables size log 0 ≡ v
-    → o ≡ cond v (described_of s (block_of base size (2 ^ log) false) (word_of s.tables.align_bits s.tables.tail_bits size log 0))
-    (recorded_of s (block_of base size (2 ^ log) false) (first_handle (block_of base size (2 ^ log) false) (Counted (next_record s))))
+    → o ≡ cond v (described_of s (made_block base size (2 ^ log) false) (word_of s.tables.align_bits s.tables.tail_bits size log 0))
+    (recorded_of s (made_block base size (2 ^ log) false) (first_handle (made_block base size (2 ^ log) false) (Counted (next_record s))))
     → IsAnswered s o reply t → NoRoom (reading s) reply (reading t)
     ⊎ Makes (block_more (reading s) (native_block base size (2 ^ log)))
     (record { kind = Mut; block = Some (length s.tables.blocks); place = base; len = 0 }) reply (reading t)
 new-placed s t base size log o reply k good true f e i =
     let room = fits-room s.tables.align_bits s.tables.tail_bits s.tables.size_bits size log 0 f in
-    let b : Block = block_of base size (2 ^ log) false in
+    let b : Block = made_block base size (2 ^ log) false in
     let w : ℕ = word_of s.tables.align_bits s.tables.tail_bits size log 0 in
-    let x : Handle = first_handle (block_of base size (2 ^ log) false) (Descriptor w) in
+    let x : Handle = first_handle (made_block base size (2 ^ log) false) (Descriptor w) in
     let own = first-owner s.tables b log w k.blocks.places good room refl in
     let z : read_held (grown s.tables b) x ≡ record { kind = Mut; block = Some (length s.tables.blocks); place = base; len = 0 } =
     ap (λ (o : Option ℕ). record { kind = Mut; block = o; place = base; len = 0 }) own in
@@ -96,13 +96,13 @@ new-placed s t base size log o reply k good true f e i =
     (record { kind = Mut; block = Some (length s.tables.blocks); place = base; len = 0 }) reply (described-reads s b k good) z
     (subst (λ (o : Outcome). IsAnswered s o reply t) e i)
 new-placed s t base size log o reply k good false f e i =
-    recorded-made s t (block_of base size (2 ^ log) false) (first_handle (block_of base size (2 ^ log) false) (Counted (next_record s))) reply k good
+    recorded-made s t (made_block base size (2 ^ log) false) (first_handle (made_block base size (2 ^ log) false) (Counted (next_record s))) reply k good
     refl (subst (λ (o : Outcome). IsAnswered s o reply t) e i)
 
 -- a word that describes the block
 pub described-placed : (s : State) (base size align log w : ℕ) → align ≡ 2 ^ log
     → HasRoom s.tables.align_bits s.tables.tail_bits s.tables.size_bits size log 0 → w ≡ word_of s.tables.align_bits s.tables.tail_bits size log 0
-    → described_of s (block_of base size align false) w ≡ short.placed s base size log
+    → described_of s (made_block base size align false) w ≡ short.placed s base size log
 described-placed s base size align log w e room is = rw (e, is, fits-true s.tables.align_bits s.tables.tail_bits s.tables.size_bits size log 0 room) refl
 
 new-good : (s t : State) (base size align : ℕ) (memory : Bool) (o : Outcome) (reply : Reply) → IsSound s
@@ -133,7 +133,7 @@ external-good : (s t : State) (base size : ℕ) (memory : Bool) (reply : Reply) 
     ⊎ Makes (block_more (reading s) (external_block base size))
     (record { kind = View; block = Some (length s.tables.blocks); place = base; len = size }) reply (reading t)) (Refuses (reading s) Memory reply (reading t))
 external-good s t base size true reply k good i =
-    recorded-made s t (block_of base size 1 true) (whole_view (block_of base size 1 true) (Counted (next_record s))) reply k good refl i
+    recorded-made s t (made_block base size 1 true) (whole_view (made_block base size 1 true) (Counted (next_record s))) reply k good refl i
 external-good s t base size false reply k good i = refused-taken s t Memory reply i
 
 -- users of a sound machine see External as one adopted block more with a view of all of it, or as a refusal that changes nothing

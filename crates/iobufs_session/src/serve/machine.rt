@@ -1,7 +1,7 @@
 // The owner machine, line by line.
 ghost use Rattle.std.specs.Prelude.{IfErr, IfSome};
 ghost use Rattle.iobufs_session.specs.Halves.{MayEnd};
-ghost use Rattle.iobufs_session.specs.MachineSession.{AnswersLine, Begins, ServesMachine};
+ghost use Rattle.iobufs_session.specs.MachineSession.{AnswersMachineLine, Begins, ServesMachine};
 
 use crate::fault::{Fault, Stop};
 use crate::input::{Source, text};
@@ -73,7 +73,7 @@ fn begin(alloc: Global, line: &str) -> Result<Machine, LineError>
 
 // Answers a line, and prints its answer.
 fn answer(machine: &mut Machine, line: &str, reply: &mut Vec<u8>) -> Result<(), LineError>
-    ensures { AnswersLine line.now machine.old machine.new reply.new.items result }
+    ensures { AnswersMachineLine line.now machine.old machine.new reply.new.items result }
 {
     let Ok(ask) = further_line(line) else {
         return Err(LineError::NoCommand);

@@ -1,6 +1,6 @@
 use Rattle.std.proofs.Common.{◌≡◌, inl, inr, refl, ap, subst, false}
 use Rattle.iobufs_owner.specs.Changes.{refused}
-use Rattle.iobufs_owner.specs.ShortCalls.{block_of, described_of, placed}
+use Rattle.iobufs_owner.specs.ShortCalls.{made_block, described_of, placed}
 use Rattle.iobufs_owner.specs.Inside.{state_of}
 use Rattle.iobufs_owner.specs.State.{State, Seen}
 use Rattle.iobufs_owner.proofs.WorldSteps.New.{described-placed}
@@ -22,7 +22,7 @@ returns-in-Some c =
     let is = good.place.power.1 in
     let w = c.in-Some.ensures.sum log is in
     let e = described-placed (state_of c.self.inside) c.args.base c.args.size c.args.align log c.in-Some.word is w.0 w.1 in
-    let b = block_of c.args.base c.args.size c.args.align false in (
+    let b = made_block c.args.base c.args.size c.args.align false in (
       described_of c.args.self.now.state b c.in-Some.word,
       inr (
         good,
