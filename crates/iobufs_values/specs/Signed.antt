@@ -3,7 +3,7 @@
 --     signed_form      the form of a signed number, from the form of its bits
 use Rattle.std.proofs.Common.{◌≡◌, ℕ, ℤ, ◌^◌, ◌<◌, Ok, Err, List, drop, ap, sym, ◌∙◌, arith}
 use Rattle.std.proofs.lemmas.Int.{ints, to_z-of_z}
-use Rattle.std.specs.Int.{Width, w8, w16, w32, w64, cast_signed, cast_unsigned}
+use Rattle.std.specs.Int.{Width, w8, w16, w32, w64, w128, cast_signed, cast_unsigned}
 use Rattle.std.specs.Int.RustNames.{FitsSigned}
 use Rattle.iobufs_core.specs.MarkedText.{MarkedText}
 use Rattle.iobufs_core.specs.ReadLaws.{IsNumberForm}
@@ -41,3 +41,6 @@ small_32 z fits = omega (arith, ints)
 
 pub small_64 : (z : ℤ) → FitsSigned w64 z → cast_unsigned w64 z < 256 ^ 8
 small_64 z fits = omega (arith, ints)
+
+pub small_128 : (z : ℤ) → FitsSigned w128 z → cast_unsigned w128 z < 256 ^ 16
+small_128 z fits = omega (arith, ints)

@@ -1,6 +1,6 @@
 // Numbers of a fixed size, and lengths.
 ghost use Rattle.std.specs.Prelude.{◌≡◌, ◌^◌, ◌<◌, ℕ, [], ◌∷◌, drop, true, Ok, Err};
-ghost use Rattle.std.specs.Int.{w16, w32, w64, to_be_bytes};
+ghost use Rattle.std.specs.Int.{w16, w32, w64, w128, to_be_bytes};
 ghost use Rattle.iobufs_core.specs.Wire.{IsNumberRead};
 ghost use Rattle.iobufs_values.specs.Form.{IsCodecFault};
 
@@ -115,6 +115,32 @@ impl Look for u64 {
     ghost form = { number_form _ (to_be_bytes w64) 8 form_64 };
 }
 
+impl Look for u128 {
+    type Cfg = ();
+
+    ghost use Rattle.iobufs_core.specs.NumberLaws.{form_128};
+    ghost use Rattle.iobufs_values.specs.Forms.{number_form};
+
+    ghost is_found = { λ text skip _ n. IsNumberRead (to_be_bytes w128) 16 (drop skip text.bytes) (Ok n) };
+
+    ghost is_fault = { λ text skip _ fault. IsCodecFault (λ error. IsNumberRead (to_be_bytes w128) 16 (drop skip text.bytes) (Err error)) fault };
+
+    ghost admits = { λ _ n. n < 2 ^ 128 };
+
+    ghost same = { λ m n. m ≡ n };
+
+    fn look<B: OwnedBuf>(
+        _alloc: Global,
+        buf: &B,
+        skip: usize,
+        _cfg: &(),
+    ) -> Result<(u128, usize), Fault> {
+        Ok((u128_of(bytes_at(buf, skip)?), 16))
+    }
+
+    ghost form = { number_form _ (to_be_bytes w128) 16 form_128 };
+}
+
 impl Look for usize {
     type Cfg = RangeCfg;
 
@@ -161,4 +187,11 @@ fn u64_of(bytes: [u8; 8]) -> u64
     ensures { to_be_bytes w64 result ≡ bytes }
 {
     u64::from_be_bytes(bytes)
+}
+
+// The number with these bytes.
+fn u128_of(bytes: [u8; 16]) -> u128
+    ensures { to_be_bytes w128 result ≡ bytes }
+{
+    u128::from_be_bytes(bytes)
 }

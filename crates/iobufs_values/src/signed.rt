@@ -1,6 +1,6 @@
 // Signed numbers, as the number of their bits.
 ghost use Rattle.std.specs.Prelude.{◌≡◌, ℕ, [], ◌∷◌, drop, Err};
-ghost use Rattle.std.specs.Int.{cast_unsigned, to_be_bytes, w8, w16, w32, w64};
+ghost use Rattle.std.specs.Int.{cast_unsigned, to_be_bytes, w8, w16, w32, w64, w128};
 ghost use Rattle.std.specs.Int.RustNames.{FitsSigned};
 ghost use Rattle.iobufs_core.specs.Wire.{IsNumberRead};
 ghost use Rattle.iobufs_values.specs.Form.{IsCodecFault};
@@ -255,4 +255,64 @@ impl Look for Signed<i64> {
 
     ghost form = { form_as (λ n. n.value) (λ cfg. cfg) (λ n. to_be_bytes w64 (cast_unsigned w64 n.value)) (λ n. refl)
         (signed_form _ w64 (to_be_bytes w64) 8 form_64 small_64) };
+}
+
+impl EncodeSize for Signed<i128> {
+    ghost use Rattle.iobufs_core.specs.Items.{put_item};
+    ghost use Rattle.iobufs_core.specs.WireLaws.{joins-put};
+
+    ghost written = { λ n. to_be_bytes w128 (cast_unsigned w128 n.value) };
+
+    ghost items = { λ n. put_item (to_be_bytes w128 (cast_unsigned w128 n.value)) ∷ [] };
+
+    fn encode_size(&self) -> Option<usize> {
+        Some(16)
+    }
+
+    fn encode_inline_size(&self) -> usize {
+        16
+    }
+
+    ghost joins_items = { λ n. joins-put (to_be_bytes w128 (cast_unsigned w128 n.value)) };
+}
+
+impl Write for Signed<i128> {
+    fn write<B: BufMut>(&self, buf: &mut B) {
+        self.value.cast_unsigned().write(buf)
+    }
+
+    fn write_bufs<B: BufsMut>(&self, buf: &mut B) -> Result<(), Error> {
+        self.value.cast_unsigned().write_bufs(buf)
+    }
+}
+
+impl Look for Signed<i128> {
+    type Cfg = ();
+
+    ghost use Rattle.iobufs_core.specs.NumberLaws.{form_128};
+    ghost use Rattle.iobufs_values.specs.Forms.{form_as};
+    ghost use Rattle.iobufs_values.specs.Signed.{signed_form, small_128};
+    ghost use Rattle.std.proofs.Common.{refl};
+
+    ghost is_found = { λ text skip _ n. IsSignedFound w128 (to_be_bytes w128) 16 text skip n.value };
+
+    ghost is_fault = { λ text skip _ fault. IsCodecFault (λ error. IsNumberRead (to_be_bytes w128) 16 (drop skip text.bytes) (Err error)) fault };
+
+    ghost admits = { λ _ n. FitsSigned w128 n.value };
+
+    ghost same = { λ m n. m.value ≡ n.value };
+
+    fn look<B: OwnedBuf>(
+        alloc: Global,
+        buf: &B,
+        skip: usize,
+        cfg: &(),
+    ) -> Result<(Signed<i128>, usize), Fault> {
+        let (bits, len) = u128::look(alloc, buf, skip, cfg)?;
+        let value = bits.cast_signed();
+        Ok((Signed { value }, len))
+    }
+
+    ghost form = { form_as (λ n. n.value) (λ cfg. cfg) (λ n. to_be_bytes w128 (cast_unsigned w128 n.value)) (λ n. refl)
+        (signed_form _ w128 (to_be_bytes w128) 16 form_128 small_128) };
 }
