@@ -5,7 +5,11 @@
 --     form_as                                  of a value that is written and found as its parts
 --     found_same, found_or_memory              looks at the same bytes find the same value, and refuse it for memory alone
 --     read_back                                what was written is what is found
---     two_bytes, behind_first                  the bytes of two values, and what stands behind the first of them
+--     two_bytes, behind_first, behind_byte     the bytes of two values, and what stands behind the first of them; behind
+--                                              a byte
+--     first_of, two_firsts, no_first,          the first byte of bytes is one; equal bytes have an equal first, and equal
+--     heads, tails                             bytes behind it
+--     whole_by                                 a text is the bytes that it begins with, and what is behind them
 use Rattle.std.proofs.Common.{◌≡◌, ◌⊎◌, inl, inr, ℕ, ◌+◌, ◌^◌, ◌<◌, ◌≤◌, Bool, true, false, Option, Some, None, Ok, Err, List, [], ◌∷◌, ◌++◌, length, take, drop, ap, sym, subst, ◌∙◌, refl, arith, append_assoc, length-append, take-append-drop}
 use Rattle.std.proofs.Math.Seq.{take-append-add, drop-append_seam}
 use Rattle.std.proofs.lemmas.List.{take_at, append_cancel_left, drop-drop}
@@ -135,22 +139,27 @@ array_form Cfg n = record {
 
 -- ---- a truth
 
-first_of : (d : List ℕ) (b c : ℕ) (more : List ℕ) → take 1 d ≡ b ∷ [] → d ≡ c ∷ more → b ≡ c
+-- a first byte, and the head of the same bytes, are one
+pub first_of : (d : List ℕ) (b c : ℕ) (more : List ℕ) → take 1 d ≡ b ∷ [] → d ≡ c ∷ more → b ≡ c
 first_of d b c more p e = let both : b ∷ [] ≡ c ∷ [] = sym p ∙ ap (take 1) e in cc
 
-two_firsts : (d : List ℕ) (b c : ℕ) → take 1 d ≡ b ∷ [] → take 1 d ≡ c ∷ [] → b ≡ c
+-- a first byte is one
+pub two_firsts : (d : List ℕ) (b c : ℕ) → take 1 d ≡ b ∷ [] → take 1 d ≡ c ∷ [] → b ≡ c
 two_firsts d b c p q = let both : b ∷ [] ≡ c ∷ [] = sym p ∙ q in cc
 
-no_first : (d : List ℕ) (b : ℕ) → take 1 d ≡ b ∷ [] → d ≡ [] → ⊥
+-- where there is a first byte, there are bytes
+pub no_first : (d : List ℕ) (b : ℕ) → take 1 d ≡ b ∷ [] → d ≡ [] → ⊥
 no_first d b p e = let both : b ∷ [] ≡ [] = sym p ∙ ap (take 1) e in cc
 
 no_first_of : (d : List ℕ) (b : ℕ) (more : List ℕ) → d ≡ b ∷ more → d ≡ [] → ⊥
 no_first_of d b more p e = let both : b ∷ more ≡ [] = sym p ∙ e in cc
 
-heads : (b c : ℕ) (u v : List ℕ) → b ∷ u ≡ c ∷ v → b ≡ c
+-- lists that are the same have the same first byte
+pub heads : (b c : ℕ) (u v : List ℕ) → b ∷ u ≡ c ∷ v → b ≡ c
 heads b c u v e = cc
 
-tails : (b c : ℕ) (u v : List ℕ) → b ∷ u ≡ c ∷ v → u ≡ v
+-- and the same bytes behind it
+pub tails : (b c : ℕ) (u v : List ℕ) → b ∷ u ≡ c ∷ v → u ≡ v
 tails b c u v e = cc
 
 flag_small : (truth : Bool) → flag truth ≤ 1
@@ -205,7 +214,7 @@ two_bytes d u v p q =
     ∙ ap (λ xs. u ++ xs) q
 
 -- a text that begins with these bytes is these, and what is behind them
-whole_by : (u d : List ℕ) → take (length u) d ≡ u → d ≡ u ++ drop (length u) d
+pub whole_by : (u d : List ℕ) → take (length u) d ≡ u → d ≡ u ++ drop (length u) d
 whole_by u d front = sym (take-append-drop (length u) d) ∙ ap (λ xs. xs ++ drop (length u) d) front
 
 -- where the first value of two is found, the other is behind it
@@ -319,7 +328,8 @@ form_as {w = w} parts config written is form = record {
 
 -- ---- a value that is there or not
 
-behind_byte : (text : MarkedText) (skip b : ℕ) (more : List ℕ) → drop skip text.bytes ≡ b ∷ more → drop (skip + 1) text.bytes ≡ more
+-- what stands behind a byte stands one place further on
+pub behind_byte : (text : MarkedText) (skip b : ℕ) (more : List ℕ) → drop skip text.bytes ≡ b ∷ more → drop (skip + 1) text.bytes ≡ more
 behind_byte text skip b more e = sym (drop-drop 1 skip text.bytes) ∙ ap (drop 1) e
 
 same_option : {A : Type 0} (w : A → List ℕ) (s : A → A → Type 0) → ((x y : A) → s x y → w x ≡ w y) → (x y : Option A) → IsSameOption s x y

@@ -3,12 +3,14 @@
 //! - `gets`: numbers out of the front of any reader.
 //! - `look`: the trait `Look`, with `read_whole` and `decode_cfg` over it. `fault`: why a value is not found.
 //! - `numbers`, `views`, `option`, `several`: numbers and lengths; views, `Bytes` and arrays; truths and `Option`; tuples.
+//! - `kinds`: a value behind a byte that tells its kind, and a value of one kind or another.
 //! - `specs/`: `Form` has what a value has to meet, in one record, and what is found of each kind; `Forms` that each kind
 //!   meets it.
 #![tactic(auto)]
 
 mod fault;
 mod gets;
+mod kinds;
 mod list;
 mod look;
 mod numbers;
@@ -20,6 +22,7 @@ mod views;
 
 pub use fault::Fault;
 pub use gets::GetNumbers;
+pub use kinds::{Either, Kind, Tagged};
 pub use list::List;
 pub use look::Look;
 pub use parts::ByParts;
