@@ -14,6 +14,7 @@ pub mod RoomLaws
 pub mod RowLaws
 pub mod RunLaws
 pub mod SeveralLaws
+pub mod SliceLaws
 pub mod Sides
 pub mod StaticLaws
 pub mod TakenLaws

@@ -59,6 +59,23 @@ fn a_text_is_split(rt: HostRuntime) -> Result<(), Fail> {
 }
 
 #[test]
+fn a_text_is_sliced(rt: HostRuntime) -> Result<(), Fail> {
+    let alloc = rt.alloc();
+    let text = numbered(alloc)?;
+    if text.len() != 10000 {
+        return Err(Fail::new("another length"));
+    }
+    assert!(rt; is_numbered(&text.slice(alloc, 0..10000)?, 0, PIECES));
+    assert!(rt; is_numbered(&text.slice(alloc, 2..9998)?, 1, 4999));
+    assert!(rt; is_numbered(&text.slice(alloc, 6000..6002)?, 3000, 3001));
+    let inside = text.slice(alloc, 4999..5003)?;
+    assert_eq!(rt; inside.to_vec(alloc)?.as_slice(), [0xc3u8, 0x09, 0xc4, 0x09].as_slice());
+    assert_eq!(rt; inside.chunk_count(), 3);
+    assert!(rt; is_numbered(&text, 0, PIECES));
+    Ok(())
+}
+
+#[test]
 fn a_text_is_coalesced(rt: HostRuntime) -> Result<(), Fail> {
     let alloc = rt.alloc();
     let whole = numbered(alloc)?.coalesce(alloc)?;

@@ -6,6 +6,7 @@ use Rattle.iobufs_core.specs.View.{View, default_view, view_front, view_advanced
 use Rattle.iobufs.specs.Inside.Pieces.{view_len, piece_at, pieces_bytes, piece_start, AreFull, IsPlace, left_pieces, right_pieces}
 use Rattle.std.proofs.lemmas.Bool.{cases_lt}
 use Rattle.iobufs.specs.Inside.Ends.{views_in, cut_piece, shortened, IsRow}
+use Rattle.iobufs.specs.Inside.RowValues.{ViewRow}
 use Rattle.iobufs.proofs.Text.Sides.{not_zero}
 use Rattle.iobufs.proofs.Text.EndLaws.{row-push, row-take, row-drop, row-shorten}
 use Rattle.iobufs.specs.declared.bufs.row.Piece.{Piece}
@@ -182,3 +183,12 @@ right-row b at i o c ps rest behind h place base left cut =
 pub bytes-in : (ps : List Piece) → map (λ (p : Piece). p.view.bytes) ps ≡ map (λ (v : View). v.bytes) (views_in ps)
 bytes-in [] = refl
 bytes-in (p ∷ ps) = ap (λ rest. p.view.bytes ∷ rest) (bytes-in ps)
+
+-- clones of the pieces of a row from one on, so many, are a row, and its base is moved up by the bytes before them
+pub row-run : (b c first n start : ℕ) (ps run : List Piece) (r : ViewRow) → IsRow b ps → views_in ps ≡ r.views → start ≡ piece_start r.views first
+    → c ≡ (b + start) % 2 ^ 64 → run ≡ take n (drop first ps) → IsRow c run × (views_in run ≡ take n (drop first r.views))
+row-run b c first n start ps run r row seen before base is =
+    let shown : views_in run ≡ take n (drop first r.views) =
+    ap (λ (xs : List Piece). views_in xs) is ∙ views-take n (drop first ps) ∙ ap (take n) (views-drop first ps ∙ ap (drop first) seen) in
+    let behind = row-drop b first start ps row (before ∙ ap (λ vs. piece_start vs first) (sym seen)) in
+    (subst (IsRow c) (sym is) (row-take c n (drop first ps) (subst (λ m. IsRow m (drop first ps)) (sym base) behind)), shown)

@@ -1,6 +1,6 @@
 // One piece, or a row of several.
 ghost use Rattle.std.specs.Option.{option_copied};
-ghost use Rattle.std.specs.Prelude.{◌≡◌, List, ◌+◌, ◌*◌, ◌<◌, ◌≤◌, ◌^◌, ◌++◌, [], ◌∷◌, nat_lt, OnOk, OnErr, IfOk, IfErr, IsOk, IsTrue, IsFalse, IsOkUnless, MatchResult, length, slice_get};
+ghost use Rattle.std.specs.Prelude.{◌≡◌, List, ◌+◌, ◌*◌, ◌<◌, ◌≤◌, ◌^◌, ◌++◌, [], ◌∷◌, nat_lt, OnOk, OnErr, IfOk, IfErr, IsOk, IsTrue, IsFalse, IsOkUnless, MatchResult, length, slice_get, take, drop};
 ghost use Rattle.iobufs_core.specs.View.{View, static_mark, view_advanced};
 ghost use Rattle.iobufs.specs.Inside.Pieces.{AreFull, IsPlace, behind_first, left_pieces, right_pieces, piece_at, pieces_bytes, view_len};
 ghost use Rattle.iobufs.specs.Inside.Several.{views, IsPieced};
@@ -177,6 +177,27 @@ impl Pieces {
                 probes: 0,
             },
             Pieces::Many(row) => row.locate(at),
+        }
+    }
+
+    /// Clones of a piece and of so many behind it.
+    pub(super) fn run(
+        &self,
+        alloc: Global,
+        first: usize,
+        behind: usize,
+    ) -> Result<Pieces, AllocError>
+        requires full { AreFull (views self.now) }
+        requires inside { first + behind < length (views self.now) }
+        ensures run { IfOk result (λ run. views run ≡ take (behind + 1) (drop first (views self.now))) }
+        ensures pieced { IfOk result IsPieced }
+    {
+        if behind == 0 {
+            return Ok(Pieces::One(self.piece(first).clone()?));
+        }
+        match self {
+            Pieces::One(_) => unreachable!(),
+            Pieces::Many(row) => Ok(Pieces::Many(row.run(alloc, first, behind)?)),
         }
     }
 

@@ -298,6 +298,18 @@ impl Row {
         }
     }
 
+    /// Clones of a piece and of so many behind it.
+    pub(super) fn run(&self, alloc: Global, first: usize, behind: usize) -> Result<Row, AllocError>
+        requires { first + behind < length self.now.views }
+        ensures { IfOk result (λ run. run.views ≡ take (behind + 1) (drop first self.now.views)) }
+    {
+        let base = self.base.wrapping_add(self.start(first) as u64);
+        let count = behind + 1;
+        let mut pieces = VecDeque::with_capacity(alloc, count)?;
+        clone_run(&self.pieces, &mut pieces, first, count)?;
+        Ok(Row { base, pieces })
+    }
+
     // The number of bytes before a piece.
     fn start(&self, index: usize) -> usize
         requires { index < length self.now.views }
@@ -520,6 +532,26 @@ fn move_front(row: &mut VecDeque<Piece>, front: &mut VecDeque<Piece>, count: usi
     for _ in 0..count {
         front.push_back_reserved(row.pop_front().unwrap());
     }
+}
+
+// Puts clones of the pieces from one on, so many, behind those of another row, which has room for them.
+fn clone_run(
+    row: &VecDeque<Piece>,
+    run: &mut VecDeque<Piece>,
+    first: usize,
+    count: usize,
+) -> Result<(), AllocError>
+    requires inside { first + count ≤ deque_len row.now }
+    requires room { deque_len run.old + count ≤ deque_capacity run.old }
+    ensures { OnOk result (run.new.items ≡ run.old.items ++ take count (drop first row.now.items)) }
+{
+    for i in 0..count {
+        let Some(piece) = row.get(first + i) else {
+            unreachable!()
+        };
+        run.push_back_reserved(piece.clone()?);
+    }
+    Ok(())
 }
 
 impl Clone for Row {

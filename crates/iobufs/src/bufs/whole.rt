@@ -43,8 +43,8 @@ impl IoBufs {
         Ok(())
     }
 
-    /// The bytes of a range as a text of their own, which shares their storage: a clone that is cut at both ends, and costs
-    /// as much as a clone (`IoBuf::slice`; the original's texts have no such call).
+    /// The bytes of a range as a text of their own, which shares their storage: clones of the pieces that hold them, which
+    /// are found by two searches, cut at both ends (`IoBuf::slice`; the original's texts have no such call).
     pub fn slice(&self, alloc: Global, range: Range<usize>) -> Result<IoBufs, BufError>
         requires order { range.start ≤ range.end }
         requires inside { range.end ≤ text_len self.now }
@@ -56,8 +56,12 @@ impl IoBufs {
         if start == end {
             return Ok(IoBufs::default());
         }
-        let mut text = self.clone()?;
-        text.drop_front(start);
+        let first = self.pieces.locate(start);
+        let last = self.pieces.locate(end - 1);
+        let behind = last.index - first.index;
+        let pieces = self.pieces.run(alloc, first.index, behind)?;
+        let mut text = IoBufs { pieces };
+        text.drop_front(first.offset);
         text.truncate(alloc, end - start)?;
         Ok(text)
     }

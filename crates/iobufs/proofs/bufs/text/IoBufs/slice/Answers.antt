@@ -1,26 +1,62 @@
-use Rattle.std.proofs.Common.{◌≡◌, ℕ, ◌-◌, ◌<◌, ◌≤◌, ◌∙◌, arith, ap, length, length-drop, sym, ⊎_elim}
+use Rattle.std.proofs.Common.{◌≡◌, ◌-◌, ◌<◌, ◌≤◌, ◌∙◌, arith, ap, refl, sym, ⊎_elim}
 use Rattle.std.proofs.lemmas.Bool.{cases_lt}
-use Rattle.std.proofs.lemmas.Bool.Decides.{nat_tests}
-use Rattle.std.proofs.lemmas.Grind.{common_steps}
-use Rattle.iobufs_core.specs.CallerFacts.{bytes-rest}
 use Rattle.iobufs_core.specs.MarkedText.{MarkedText, text_len, text_rest, text_split_front}
+use Rattle.iobufs.specs.Inside.Pieces.{of_pieces}
+use Rattle.iobufs.specs.Inside.Several.{views}
+use Rattle.iobufs.proofs.Text.PieceLaws.{len-of_pieces}
+use Rattle.iobufs.proofs.Text.SliceLaws.{cut-run, front-all, full-between, held-between, kept-run, places-rise, rest-len}
+use Rattle.iobufs.proofs.Text.TextLaws.{full-kept, length-kept}
 use Rattle.iobufs.proofs.bufs.text.IoBufs.slice.Goals as goal
 
--- all bytes of a text that has some are the text
-front-all : (t : MarkedText) (n : ℕ) → 0 < n → n ≡ text_len t → text_split_front t n ≡ t
-front-all t n some all = grind (arith, nat_tests, common_steps)
+pub locate-first-requires : goal.locate-first-requires
+locate-first-requires c = omega (arith, c.requires.order, c.requires.inside, c.if-start-end.false, length-kept c.self.inside _ c.self.view_is)
+
+pub locate-last-requires : goal.locate-last-requires
+locate-last-requires c = omega (arith, c.requires.order, c.requires.inside, c.if-start-end.false, length-kept c.self.inside _ c.self.view_is)
+
+pub run-requires-clause-full : goal.run-requires-clause-full
+run-requires-clause-full c =
+    full-kept c.self.inside _ c.self.view_is c.self.invariant (omega (arith, c.requires.order, c.requires.inside, c.if-start-end.false))
+
+pub overflow_sub-behind : goal.overflow_sub-behind
+overflow_sub-behind c =
+    let full = full-kept c.self.inside _ c.self.view_is c.self.invariant (omega (arith, c.requires.order, c.requires.inside, c.if-start-end.false)) in
+    places-rise _ _ _ _ _ _ _ full c.locate-first.ensures.place c.locate-last.ensures.place (omega (arith, c.requires.order, c.if-start-end.false))
+
+pub invariant_of-text : goal.invariant_of-text
+invariant_of-text c =
+    kept-run (views c.self.inside.pieces) c.locate-first.result.index _ c.in_ok-pieces.pieces c.self.invariant.roomy c.in_ok-pieces.ensures.pieced
+    c.in_ok-pieces.ensures.run
+
+pub drop_front-requires : goal.drop_front-requires
+drop_front-requires c =
+    let full = full-kept c.self.inside _ c.self.view_is c.self.invariant (omega (arith, c.requires.order, c.requires.inside, c.if-start-end.false)) in
+    let l : c.args.range.start ≤ c.args.range.end - 1 = omega (arith, c.requires.order, c.if-start-end.false) in
+    let first = c.locate-first.ensures.place in
+    let last = c.locate-last.ensures.place in
+    let held = held-between _ _ _ _ _ _ _ _ first last (places-rise _ _ _ _ _ _ _ full first last l) l c.in_ok-pieces.ensures.run in
+    omega (arith, held, len-of_pieces (views c.in_ok-pieces.pieces))
 
 pub returns-clause-ok : goal.returns-clause-ok
 returns-clause-ok c =
     let from = c.args.range.start in
     let n = c.args.range.end - from in
-    let left : c.drop_front.new.self ≡ text_rest c.args.self.now from =
-    c.drop_front.ensures ∙ ap (λ (t : MarkedText). text_rest t from) c.in_ok-text.ensures.cases in
-    let len : text_len (text_rest c.args.self.now from) ≡ text_len c.args.self.now - from =
-    ap length (bytes-rest c.args.self.now from (omega (arith, c.requires.order, c.requires.inside))) ∙ length-drop from c.args.self.now.bytes in
-    let same = ap (λ (t : MarkedText). text_len t) left in
+    let s = c.self.inside in
+    let run = views c.in_ok-pieces.pieces in
+    let o = c.locate-first.result.offset in
+    let full = full-kept s _ c.self.view_is c.self.invariant (omega (arith, c.requires.order, c.requires.inside, c.if-start-end.false)) in
+    let l : from ≤ c.args.range.end - 1 = omega (arith, c.requires.order, c.if-start-end.false) in
+    let first = c.locate-first.ensures.place in
+    let last = c.locate-last.ensures.place in
+    let held = held-between _ _ _ _ _ _ _ _ first last (places-rise _ _ _ _ _ _ _ full first last l) l c.in_ok-pieces.ensures.run in
+    let some : 0 < n = omega (arith, c.requires.order, c.if-start-end.false) in
+    let cut : text_split_front (text_rest (of_pieces run) o) n ≡ text_split_front (text_rest c.args.self.now from) n =
+    cut-run (views s.pieces) run _ _ from n _ o _ c.self.view_is refl full (full-between _ _ _ _ full c.in_ok-pieces.ensures.run) c.in_ok-pieces.ensures.run first some
+    (omega (arith, c.requires.order, c.requires.inside, length-kept s _ c.self.view_is)) (omega (arith, held, some)) in
+    let same = ap (λ (t : MarkedText). text_len t) c.drop_front.ensures in
+    let len = rest-len (of_pieces run) o (omega (arith, held, len-of_pieces run)) in
     ⊎_elim
-    (λ (h : n < text_len c.drop_front.new.self). c.in_ok-truncate.ensures.kept h ∙ ap (λ (t : MarkedText). text_split_front t n) left)
-    (λ (h : text_len c.drop_front.new.self ≤ n). (c.truncate.ensures.longer h).0 ∙ left
-    ∙ sym (front-all (text_rest c.args.self.now from) n (omega (arith, c.requires.order, c.if-start-end.false)) (omega (arith, len, same, h, c.requires.inside))))
+    (λ (h : n < text_len c.drop_front.new.self). c.in_ok-truncate.ensures.kept h ∙ ap (λ (t : MarkedText). text_split_front t n) c.drop_front.ensures ∙ cut)
+    (λ (h : text_len c.drop_front.new.self ≤ n). (c.truncate.ensures.longer h).0 ∙ c.drop_front.ensures
+    ∙ sym (front-all (text_rest (of_pieces run) o) n some (omega (arith, same, len, held, h, len-of_pieces run))) ∙ cut)
     (cases_lt n (text_len c.drop_front.new.self))

@@ -1,0 +1,189 @@
+-- A range of a text: the pieces that hold it, cut at both ends.
+use Rattle.std.proofs.Common.{◌≡◌, ℕ, ◌+◌, ◌-◌, ◌<◌, ◌≤◌, List, [], ◌∷◌, ◌++◌, length, take, drop, get_or, zero, suc, refl, sym, ap, ◌∙◌, arith, add-one, subst, append_assoc, length-append, length-drop, ⊎_elim}
+use Rattle.std.proofs.lemmas.Bool.{cases_lt}
+use Rattle.std.proofs.lemmas.Bool.Decides.{nat_tests}
+use Rattle.std.proofs.lemmas.Grind.{common_steps}
+use Rattle.std.proofs.lemmas.List.{get_or-drop, take_more}
+use Rattle.std.proofs.lemmas.List.Concat.{flat_map-append}
+use Rattle.std.proofs.Math.Seq.{take-add, drop-cons}
+use Rattle.iobufs_core.specs.CallerFacts.{bytes-rest}
+use Rattle.iobufs_core.specs.View.{View, default_view, view_advanced}
+use Rattle.iobufs_core.specs.MarkedText.{MarkedText, text_len, text_rest, text_split_front}
+use Rattle.iobufs.specs.Inside.Kept.{IsKept}
+use Rattle.iobufs.specs.Inside.Pieces.{AreFull, AreViews, IsPlace, left_pieces, of_pieces, piece_at, piece_start, pieces_bytes, right_pieces, view_len}
+use Rattle.iobufs.specs.Inside.Several.{views, IsPieced}
+use Rattle.iobufs.specs.declared.bufs.pieces.Pieces.{Pieces}
+use Rattle.iobufs.specs.declared.bufs.row.Piece.{Piece}
+use Rattle.iobufs.proofs.Text.EndLaws.{start-next, starts-below}
+use Rattle.iobufs.proofs.Text.PieceLaws.{AreFull-right, left_pieces-none, left_pieces-past, left_pieces-within, len-of_pieces, length-bytes, rest-of_pieces, right_pieces-none, right_pieces-past, right_pieces-within, split_front-of_pieces}
+use Rattle.iobufs.proofs.Text.PlaceLaws.{index-of_place, left_pieces-seam, right-at_place}
+
+-- a clone of the next piece behind clones of those from one on
+pub run-more : (ps begun run more : List Piece) (first i : ℕ) (piece clone : Piece) → first + i < length ps → piece ≡ get_or ps (first + i) piece → clone ≡ piece
+    → run ≡ begun ++ take i (drop first ps) → more ≡ run ++ clone ∷ [] → more ≡ begun ++ take (i + 1) (drop first ps)
+run-more ps begun run more first i piece clone l is same so_far put =
+    let behind = drop first ps in
+    let here : get_or behind i piece ≡ clone = get_or-drop first ps i piece ∙ sym is ∙ sym same in
+    put ∙ ap (λ xs. xs ++ clone ∷ []) so_far ∙ append_assoc begun (take i behind) (clone ∷ [])
+    ∙ ap (λ p. begun ++ (take i behind ++ p ∷ [])) (sym here)
+    ∙ ap (λ xs. begun ++ xs) (sym (take_more behind i piece (omega (arith, l, length-drop first ps))))
+
+-- up to a place that the first of some pieces reach, these say what stands
+left_pieces-take : (m n : ℕ) (vs : List View) → n ≤ length (pieces_bytes (take m vs)) → left_pieces (take m vs) n ≡ left_pieces vs n
+left_pieces-take zero n vs l = let none : n ≡ 0 = omega (arith, l) in rw none (sym (left_pieces-none vs))
+left_pieces-take (suc m) n [] l = refl
+left_pieces-take (suc m) n (v ∷ vs) l =
+    ⊎_elim
+    (λ (some : 0 < n). ⊎_elim
+    (λ (h : n < view_len v). left_pieces-within n v (take m vs) some h ∙ sym (left_pieces-within n v vs some h))
+    (λ (h : view_len v ≤ n). left_pieces-past n v (take m vs) some h
+    ∙ ap (λ ws. v ∷ ws) (left_pieces-take m (n - view_len v) vs (omega (arith, l, length-bytes v (take m vs))))
+    ∙ sym (left_pieces-past n v vs some h))
+    (cases_lt n (view_len v)))
+    (λ (h : n ≤ 0). let none : n ≡ 0 = omega (arith, h) in rw none (left_pieces-none (take (suc m) (v ∷ vs)) ∙ sym (left_pieces-none (v ∷ vs))))
+    (cases_lt 0 n)
+
+-- how many bytes stand before the pieces behind a run
+start-run : (vs : List View) (i m : ℕ) → piece_start vs (i + m) ≡ piece_start vs i + length (pieces_bytes (take m (drop i vs)))
+start-run vs i m =
+    ap (λ (ws : List View). length (pieces_bytes ws)) (take-add i m vs)
+    ∙ ap length (flat_map-append (λ (v : View). v.bytes) (take i vs) (take m (drop i vs)))
+    ∙ length-append (pieces_bytes (take i vs)) (pieces_bytes (take m (drop i vs)))
+
+-- pieces that hold n bytes from within the first on, and others behind them, have the same n bytes from there on
+within-run : (v : View) (vs : List View) (k o n : ℕ) → o < view_len v → o + n ≤ length (pieces_bytes (take (suc k) (v ∷ vs)))
+    → left_pieces (right_pieces (take (suc k) (v ∷ vs)) o) n ≡ left_pieces (view_advanced v o ∷ vs) n
+within-run v vs k o n inside l =
+    ap (λ ws. left_pieces ws n) (right_pieces-within o v (take k vs) inside)
+    ∙ left_pieces-take (suc k) n (view_advanced v o ∷ vs)
+    (omega (arith, l, inside, length-bytes v (take k vs), length-bytes (view_advanced v o) (take k vs), length-drop o v.bytes))
+
+-- all bytes of a text that has some are the text
+pub front-all : (t : MarkedText) (n : ℕ) → 0 < n → n ≡ text_len t → text_split_front t n ≡ t
+front-all t n some all = grind (arith, nat_tests, common_steps)
+
+take-all : (vs : List View) → take (length vs) vs ≡ vs
+take-all [] = refl
+take-all (v ∷ vs) = ap (λ ws. v ∷ ws) (take-all vs)
+
+-- all bytes of full pieces are these
+left_pieces-all : (vs : List View) (n : ℕ) → AreFull vs → n ≡ length (pieces_bytes vs) → left_pieces vs n ≡ vs
+left_pieces-all vs n full all =
+    ap (left_pieces vs) (all ∙ ap (λ (ws : List View). length (pieces_bytes ws)) (sym (take-all vs))) ∙ left_pieces-seam (length vs) vs full ∙ take-all vs
+
+front-of_pieces : (vs : List View) (n : ℕ) → AreFull vs → 0 < n → n ≤ length (pieces_bytes vs) → text_split_front (of_pieces vs) n ≡ of_pieces (left_pieces vs n)
+front-of_pieces vs n full some l =
+    ⊎_elim
+    (λ (h : n < length (pieces_bytes vs)). split_front-of_pieces n vs some h)
+    (λ (h : length (pieces_bytes vs) ≤ n). front-all (of_pieces vs) n some (omega (arith, l, h, len-of_pieces vs))
+    ∙ ap of_pieces (sym (left_pieces-all vs n full (omega (arith, l, h)))))
+    (cases_lt n (length (pieces_bytes vs)))
+
+rest-from : (vs : List View) (at : ℕ) → AreFull vs → at < length (pieces_bytes vs) → text_rest (of_pieces vs) at ≡ of_pieces (right_pieces vs at)
+rest-from vs at full l =
+    ⊎_elim
+    (λ (some : 0 < at). rest-of_pieces at vs some l)
+    (λ (h : at ≤ 0). let none : at ≡ 0 = omega (arith, h) in rw none (ap of_pieces (sym (right_pieces-none vs full))))
+    (cases_lt 0 at)
+
+length-right : (at : ℕ) (vs : List View) → at < length (pieces_bytes vs) → at + length (pieces_bytes (right_pieces vs at)) ≡ length (pieces_bytes vs)
+length-right at [] l = absurd (omega (arith, l))
+length-right at (v ∷ vs) l =
+    let n = length-bytes v vs in
+    ⊎_elim
+    (λ (h : at < view_len v). omega (
+      arith,
+      h,
+      n,
+      ap (λ (ws : List View). length (pieces_bytes ws)) (right_pieces-within at v vs h),
+      length-bytes (view_advanced v at) vs,
+      length-drop at v.bytes,
+    ))
+    (λ (h : view_len v ≤ at). omega (
+      arith,
+      h,
+      n,
+      ap (λ (ws : List View). length (pieces_bytes ws)) (right_pieces-past at v vs h),
+      length-right (at - view_len v) vs (omega (arith, l, h, n)),
+    ))
+    (cases_lt at (view_len v))
+
+-- n bytes of full pieces from a place on are what stands up to n behind the place
+cut-of_pieces : (vs : List View) (at n : ℕ) → AreFull vs → 0 < n → at + n ≤ length (pieces_bytes vs)
+    → text_split_front (text_rest (of_pieces vs) at) n ≡ of_pieces (left_pieces (right_pieces vs at) n)
+cut-of_pieces vs at n full some l =
+    let right = AreFull-right at vs full (omega (arith, l, some)) in
+    ap (λ (t : MarkedText). text_split_front t n) (rest-from vs at full (omega (arith, l, some)))
+    ∙ front-of_pieces (right_pieces vs at) n right.0 some (omega (arith, l, some, length-right at vs (omega (arith, l, some))))
+
+-- behind a place inside stand as many bytes as are left of the text
+pub rest-len : (t : MarkedText) (at : ℕ) → at ≤ text_len t → at + text_len (text_rest t at) ≡ text_len t
+rest-len t at l = omega (arith, l, ap length (bytes-rest t at l), length-drop at t.bytes)
+
+-- a run of pieces from the place's on that hold n bytes from there, cut at both ends, is the range
+pub cut-run : (vs run : List View) (t u : MarkedText) (start n i o k : ℕ) → of_pieces vs ≡ t → of_pieces run ≡ u → AreFull vs → AreFull run
+    → run ≡ take (k + 1) (drop i vs) → IsPlace vs start i o → 0 < n → start + n ≤ length (pieces_bytes vs) → o + n ≤ length (pieces_bytes run)
+    → text_split_front (text_rest u o) n ≡ text_split_front (text_rest t start) n
+cut-run vs run t u start n i o k text run_text full run_full is place some l held =
+    let ranged : MarkedText → ℕ → MarkedText = λ x at. text_split_front (text_rest x at) n in
+    let index = index-of_place vs start i o place in
+    let from : run ≡ take (suc k) (piece_at vs i ∷ drop (suc i) vs) =
+    is ∙ ap (take (k + 1)) (drop-cons vs i default_view index) ∙ ap (λ m. take m (piece_at vs i ∷ drop (suc i) vs)) (add-one k) in
+    let pieces : left_pieces (right_pieces run o) n ≡ left_pieces (right_pieces vs start) n =
+    ap (λ ws. left_pieces (right_pieces ws o) n) from
+    ∙ within-run (piece_at vs i) (drop (suc i) vs) k o n place.inside (omega (arith, held, ap (λ (ws : List View). length (pieces_bytes ws)) from))
+    ∙ ap (λ ws. left_pieces ws n) (sym (right-at_place vs start i o place)) in
+    ap (λ x. ranged x o) (sym run_text) ∙ cut-of_pieces run o n run_full some held ∙ ap of_pieces pieces
+    ∙ sym (cut-of_pieces vs start n full some l) ∙ ap (λ x. ranged x start) text
+
+-- of full pieces the one that holds a place stands no further on than that of a place behind it
+pub places-rise : (vs : List View) (from to i j o p : ℕ) → AreFull vs → IsPlace vs from i o → IsPlace vs to j p → from ≤ to → i ≤ j
+places-rise vs from to i j o p full here there l =
+    ⊎_elim
+    (λ (h : j < i). let index = index-of_place vs from i o here in
+    let next = start-next vs j (omega (arith, h, index)) in
+    let start : piece_start vs (suc j) ≤ piece_start vs i = ⊎_elim
+    (λ (m : suc j < i). let below = starts-below vs (suc j) i full m (omega (arith, index)) in omega (arith, below))
+    (λ (m : i ≤ suc j). let same : suc j ≡ i = omega (arith, m, h) in omega (arith, ap (piece_start vs) same))
+    (cases_lt (suc j) i) in
+    absurd (omega (arith, next, start, here.sum, there.sum, there.inside, l)))
+    (λ (h : i ≤ j). h)
+    (cases_lt j i)
+
+-- the pieces from that of a place to that of a place behind it hold what lies between, with the byte there
+pub held-between : (vs run : List View) (from to i j o p : ℕ) → IsPlace vs from i o → IsPlace vs to j p → i ≤ j → from ≤ to
+    → run ≡ take (j - i + 1) (drop i vs) → o + (to - from) < length (pieces_bytes run)
+held-between vs run from to i j o p here there rise l is =
+    let next = start-next vs j (index-of_place vs to j p there) in
+    let sum = start-run vs i (j - i + 1) in
+    let last : piece_start vs (i + (j - i + 1)) ≡ piece_start vs (suc j) = (let e : i + (j - i + 1) ≡ suc j = omega (arith, rise) in ap (piece_start vs) e) in
+    omega (arith, next, sum, last, here.sum, there.sum, there.inside, l, ap (λ (ws : List View). length (pieces_bytes ws)) is)
+
+full-run : (m : ℕ) (vs : List View) → AreFull vs → AreFull (take m vs)
+full-run zero vs full = tt
+full-run (suc m) [] full = tt
+full-run (suc m) (v ∷ vs) full = (full.0, full-run m vs full.1)
+
+full-behind : (i : ℕ) (vs : List View) → AreFull vs → AreFull (drop i vs)
+full-behind zero vs full = full
+full-behind (suc i) [] full = tt
+full-behind (suc i) (v ∷ vs) full = full-behind i vs full.1
+
+-- a run of full pieces is of full pieces
+pub full-between : (vs run : List View) (i m : ℕ) → AreFull vs → run ≡ take m (drop i vs) → AreFull run
+full-between vs run i m full is = subst AreFull (sym is) (full-run m (drop i vs) (full-behind i vs full))
+
+roomy-run : (m : ℕ) (vs : List View) → AreViews vs → AreViews (take m vs)
+roomy-run zero vs roomy = tt
+roomy-run (suc m) [] roomy = tt
+roomy-run (suc m) (v ∷ vs) roomy = (roomy.0, roomy-run m vs roomy.1)
+
+roomy-behind : (i : ℕ) (vs : List View) → AreViews vs → AreViews (drop i vs)
+roomy-behind zero vs roomy = roomy
+roomy-behind (suc i) [] roomy = tt
+roomy-behind (suc i) (v ∷ vs) roomy = roomy-behind i vs roomy.1
+
+-- a run of kept pieces, one or several, is kept
+pub kept-run : (vs : List View) (i m : ℕ) (p : Pieces) → AreViews vs → IsPieced p → views p ≡ take m (drop i vs) → IsKept (record { pieces = p })
+kept-run vs i m p roomy pieced is =
+    record { pieced = pieced; roomy = subst AreViews (sym is) (roomy-run m (drop i vs) (roomy-behind i vs roomy)) }

@@ -1,0 +1,25 @@
+use Rattle.std.proofs.Common.{◌≡◌, List, ap, arith, ◌+◌, ◌++◌, ◌∙◌, drop, length, take, refl}
+use Rattle.std.proofs.lemmas.List.{length-map}
+use Rattle.iobufs.specs.Inside.Ends.{views_in}
+use Rattle.iobufs.specs.Inside.RowValues.{ViewRow}
+use Rattle.iobufs.specs.declared.bufs.row.Piece.{Piece}
+use Rattle.iobufs.proofs.Text.RowLaws.{row-run}
+use Rattle.iobufs.proofs.bufs.row.Row.run.Goals as goal
+
+pub overflow_add-count : goal.overflow_add-count
+overflow_add-count c =
+    let pieces = c.self.inside.pieces in
+    let count : length (views_in pieces.items) ≡ length c.args.self.now.views = ap (λ (r : ViewRow). length r.views) c.self.view_is in
+    omega (arith, c.requires, count, length-map pieces.items (λ (p : Piece). p.view), pieces.ok.0, pieces.small.0, pieces.small.1)
+
+pub invariant_of-result : goal.invariant_of-result
+invariant_of-result c =
+    let s = c.self.inside in
+    (row-run s.base _ c.args.first _ _ s.pieces.items _ c.args.self.now c.self.invariant (ap (λ (r : ViewRow). r.views) c.self.view_is) c.start.ensures
+    refl (c.in_ok-clone_run.ensures ∙ ap (λ (xs : List Piece). xs ++ take (c.args.behind + 1) (drop c.args.first s.pieces.items)) c.in_ok-pieces.ensures.items)).0
+
+pub returns : goal.returns
+returns c =
+    let s = c.self.inside in
+    (row-run s.base _ c.args.first _ _ s.pieces.items _ c.args.self.now c.self.invariant (ap (λ (r : ViewRow). r.views) c.self.view_is) c.start.ensures
+    refl (c.in_ok-clone_run.ensures ∙ ap (λ (xs : List Piece). xs ++ take (c.args.behind + 1) (drop c.args.first s.pieces.items)) c.in_ok-pieces.ensures.items)).1

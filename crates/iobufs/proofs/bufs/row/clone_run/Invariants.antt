@@ -1,0 +1,10 @@
+use Rattle.std.proofs.Common.{◌≡◌, ◌+◌, ◌++◌, take, drop, deque_len, deque_capacity}
+use Rattle.iobufs.proofs.bufs.row.clone_run.Given as goal
+
+abbrev pub invariant-loop-i : goal.invariant-loop-i
+invariant-loop-i l =
+    record {
+      cloned : l.run.items ≡ l.initial.run.items ++ take l.i (drop l.first l.row.items);
+      len : deque_len l.run ≡ deque_len l.initial.run + l.i;
+      capacity : deque_capacity l.run ≡ deque_capacity l.initial.run;
+    }
