@@ -1,9 +1,14 @@
-// A type of one's own, read as the tuple of its fields.
-ghost use Rattle.std.specs.Prelude.{◌≡◌, ◌⊎◌, ℕ, ◌+◌, ◌<◌, ◌++◌, length, IfOk, IfErr, OnErr};
+// A type of one's own, read and written as the tuple of its fields.
+ghost use Rattle.std.specs.Prelude.{◌≡◌, ◌⊎◌, ℕ, ◌+◌, ◌^◌, ◌<◌, ◌≤◌, ◌++◌, length, Err, IfOk, IfErr, OnErr, IsOk, IsOkUnless};
+ghost use Rattle.iobufs.specs.Building.{building_after, empty_building, finished};
+ghost use Rattle.iobufs_core.specs.Items.{items_inline};
 ghost use Rattle.iobufs_values.specs.declared.fault.Fault.TheVariants.{ExtraData};
 
 use crate::{Fault, Look};
-use iobufs_core::codec::OwnedBuf;
+use iobufs::EncodeExt;
+use iobufs::bufs::IoBufs;
+use iobufs_core::buf::IoBufMut;
+use iobufs_core::codec::{Encode, Error, OwnedBuf, Write};
 use std::alloc::Global;
 
 /// A type that is read as a tuple of its fields: whatever `Look` promises of the tuple holds of it. Of a field that is such a
@@ -50,5 +55,42 @@ pub trait ByParts: Sized {
     {
         let all = <Self::Parts as Look>::decode_cfg(alloc, buf, cfg)?;
         Ok(Self::from_parts(all))
+    }
+}
+
+/// A type that is written as its parts too.
+pub trait IntoParts: ByParts
+where
+    Self::Parts: Write,
+{
+    /// What the value is made of.
+    fn into_parts(self) -> Self::Parts
+        ensures { result ≡ Self.parts self };
+
+    /// The written value as a text, as `EncodeExt` makes it of the parts: views are pushed and not copied.
+    final fn encode_iobufs(self, alloc: Global) -> Result<IoBufs, Error>
+        ensures pieces { IfOk result (λ text. text ≡ finished (building_after (empty_building (items_inline (Self.Parts.items (Self.parts self))))
+            (Self.Parts.items (Self.parts self)))) }
+        ensures bytes { IfOk result (λ text. text.bytes ≡ Self.Parts.written (Self.parts self)) }
+        ensures too_long { 2 ^ 64 ≤ length (Self.Parts.written (Self.parts self)) → result ≡ Err Error.TooLong }
+        ensures bad_layout { length (Self.Parts.written (Self.parts self)) < 2 ^ 64 → 2 ^ 63 ≤ items_inline (Self.Parts.items (Self.parts self))
+            → result ≡ Err Error.BadLayout }
+        ensures memory { length (Self.Parts.written (Self.parts self)) < 2 ^ 64 → items_inline (Self.Parts.items (Self.parts self)) < 2 ^ 63
+            → IsOkUnless result Error.Memory }
+        ensures nothing { length (Self.Parts.written (Self.parts self)) ≡ 0 → IsOk result }
+    {
+        self.into_parts().encode_iobufs(alloc)
+    }
+
+    /// The written value in one buffer of exactly its size, as `Encode` makes it of the parts.
+    final fn encode(self, alloc: Global) -> Result<IoBufMut, Error>
+        ensures ok { IfOk result (λ part. part ≡ record { filled = Self.Parts.written (Self.parts self); spare = 0 }) }
+        ensures too_long { 2 ^ 64 ≤ length (Self.Parts.written (Self.parts self)) → result ≡ Err Error.TooLong }
+        ensures bad_layout { length (Self.Parts.written (Self.parts self)) < 2 ^ 64 → 2 ^ 63 ≤ length (Self.Parts.written (Self.parts self))
+            → result ≡ Err Error.BadLayout }
+        ensures memory { length (Self.Parts.written (Self.parts self)) < 2 ^ 63 → IsOkUnless result Error.Memory }
+        ensures nothing { length (Self.Parts.written (Self.parts self)) ≡ 0 → IsOk result }
+    {
+        self.into_parts().encode(alloc)
     }
 }

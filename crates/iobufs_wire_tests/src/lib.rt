@@ -21,9 +21,14 @@ mod made;
 mod message;
 mod note;
 mod record;
+mod request;
+#[cfg(test)]
+mod requests;
 mod shard;
 #[cfg(test)]
 mod values;
 #[cfg(test)]
 mod whole;
+#[cfg(test)]
+mod wide;
 mod zeros;

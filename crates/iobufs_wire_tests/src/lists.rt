@@ -34,7 +34,7 @@ const LETTER: &[u8] =
 const LYING: &[u8] = b"\x80\x80\x80\x80\x80\x80\x80\x80\x80\x01";
 
 // Each beginning is refused for its end, as one chunk and as a chunk a byte.
-fn assert_beginnings<T: Look + Drop>(
+pub fn assert_beginnings<T: Look + Drop>(
     rt: &(impl Abort + AllocGlobal),
     text: &'static [u8],
     cfg: &T::Cfg,

@@ -1,0 +1,65 @@
+// A request of one of three kinds: it is read and written as a value of one kind or another, behind the byte that tells
+// which.
+ghost use Rattle.std.specs.Prelude.{◌≡◌};
+ghost use Rattle.iobufs_values.specs.declared.kinds.Either.TheVariants.{First, Second};
+
+use iobufs_core::buf::IoBuf;
+use iobufs_values::{ByParts, Either, IntoParts, Kind};
+
+/// What is asked of a store.
+#[derive(Drop)]
+pub enum Request {
+    /// Give what stands under the key, at most so many bytes of it.
+    Get { key: IoBuf, limit: u32 },
+    /// Keep the body under the key.
+    Put { key: IoBuf, body: IoBuf },
+    /// Keep all that was put, up to this number.
+    Sync(u64),
+}
+
+/// What a request is made of: each kind stands behind its byte.
+pub type RequestParts = Either<
+    Kind<0, (IoBuf, u32)>,
+    Either<Kind<1, (IoBuf, IoBuf)>, Kind<2, u64>>,
+>;
+
+impl ByParts for Request {
+    type Parts = RequestParts;
+
+    ghost parts = { λ request. elim request [
+      | Get key limit ↦ First (record { value = (key, limit) })
+      | Put key body ↦ Second (First (record { value = (key, body) }))
+      | Sync last ↦ Second (Second (record { value = last }))
+    ] };
+
+    ghost use Rattle.iobufs_wire_tests.specs.declared.request.Request.TheVariants.{Get, Put, Sync};
+
+    fn from_parts(all: RequestParts) -> Request {
+        match all {
+            Either::First(
+                Kind {
+                    value: (key, limit),
+                },
+            ) => Request::Get { key, limit },
+            Either::Second(Either::First(Kind { value: (key, body) })) => Request::Put {
+                key,
+                body,
+            },
+            Either::Second(Either::Second(Kind { value })) => Request::Sync(value),
+        }
+    }
+}
+
+impl IntoParts for Request {
+    fn into_parts(self) -> RequestParts {
+        match self {
+            Request::Get { key, limit } => Either::First(Kind {
+                value: (key, limit),
+            }),
+            Request::Put { key, body } => Either::Second(Either::First(Kind {
+                value: (key, body),
+            })),
+            Request::Sync(value) => Either::Second(Either::Second(Kind { value })),
+        }
+    }
+}
