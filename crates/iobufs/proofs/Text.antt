@@ -2,6 +2,7 @@
 pub mod ChunkLaws
 pub mod CopyLaws
 pub mod EndLaws
+pub mod EqualLaws
 pub mod Examples
 pub mod Halves
 pub mod JoinLaws

@@ -2,6 +2,7 @@
 mod buf;
 mod chunks;
 mod copies;
+mod equal;
 mod pieces;
 pub(crate) mod row;
 mod search;

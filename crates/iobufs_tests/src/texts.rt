@@ -265,3 +265,47 @@ fn a_text_is_sliced_between_any_places(rt: HostRuntime) -> Result<(), Fail> {
     assert_eq!(rt; text.len(), 6);
     Ok(())
 }
+
+// Bytes in three pieces, that end at these places.
+fn in_three(
+    alloc: Global,
+    bytes: &'static [u8],
+    from: usize,
+    to: usize,
+) -> Result<IoBufs, Fail> {
+    let mut text = IoBufs::default();
+    for piece in [bytes.get(..from), bytes.get(from..to), bytes.get(to..)] {
+        let piece = piece.ok_or("out of range")?;
+        joined(text.append(alloc, IoBuf::from(piece)).is_ok())?;
+    }
+    Ok(text)
+}
+
+#[test]
+fn texts_are_the_same_by_their_bytes(rt: HostRuntime) -> Result<(), Fail> {
+    let alloc = rt.alloc();
+    let text = pieces(alloc, 3)?;
+    for from in 0..7usize {
+        for to in from..7usize {
+            let same = in_three(alloc, b"abcdef", from, to)?;
+            assert!(rt; same == text && text == same && same.eq_bytes(b"abcdef"));
+            for bytes in [b"xbcdef", b"abxdef", b"abcdex"] {
+                let other = in_three(alloc, bytes, from, to)?;
+                assert!(rt; other != text && text != other);
+                assert!(rt; !other.eq_bytes(b"abcdef") && !text.eq_bytes(bytes));
+            }
+        }
+    }
+    Ok(())
+}
+
+#[test]
+fn texts_of_other_lengths_differ(rt: HostRuntime) -> Result<(), Fail> {
+    let alloc = rt.alloc();
+    let (four, six) = (pieces(alloc, 2)?, pieces(alloc, 3)?);
+    assert!(rt; four != six && six != four);
+    assert!(rt; four.eq_bytes(b"abcd") && !four.eq_bytes(b"abc") && !four.eq_bytes(b"abcdef"));
+    assert!(rt; IoBufs::default() == IoBufs::default() && IoBufs::default().eq_bytes(b""));
+    assert!(rt; IoBufs::default() != four && !IoBufs::default().eq_bytes(b"a"));
+    Ok(())
+}

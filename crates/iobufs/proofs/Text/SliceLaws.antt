@@ -19,8 +19,8 @@ use Rattle.iobufs.proofs.Text.PieceLaws.{AreFull-right, left_pieces-none, left_p
 use Rattle.iobufs.proofs.Text.PlaceLaws.{index-of_place, left_pieces-seam, right-at_place}
 
 -- a clone of the next piece behind clones of those from one on
-pub run-more : (ps begun run more : List Piece) (first i : ℕ) (piece clone : Piece) → first + i < length ps → piece ≡ get_or ps (first + i) piece → clone ≡ piece
-    → run ≡ begun ++ take i (drop first ps) → more ≡ run ++ clone ∷ [] → more ≡ begun ++ take (i + 1) (drop first ps)
+pub run-more : (ps begun run more : List Piece) (first i : ℕ) (piece clone : Piece) → first + i < length ps → piece ≡ get_or ps (first + i) piece
+    → clone ≡ piece → run ≡ begun ++ take i (drop first ps) → more ≡ run ++ clone ∷ [] → more ≡ begun ++ take (i + 1) (drop first ps)
 run-more ps begun run more first i piece clone l is same so_far put =
     let behind = drop first ps in
     let here : get_or behind i piece ≡ clone = get_or-drop first ps i piece ∙ sym is ∙ sym same in
@@ -71,7 +71,8 @@ left_pieces-all : (vs : List View) (n : ℕ) → AreFull vs → n ≡ length (pi
 left_pieces-all vs n full all =
     ap (left_pieces vs) (all ∙ ap (λ (ws : List View). length (pieces_bytes ws)) (sym (take-all vs))) ∙ left_pieces-seam (length vs) vs full ∙ take-all vs
 
-front-of_pieces : (vs : List View) (n : ℕ) → AreFull vs → 0 < n → n ≤ length (pieces_bytes vs) → text_split_front (of_pieces vs) n ≡ of_pieces (left_pieces vs n)
+front-of_pieces : (vs : List View) (n : ℕ) → AreFull vs → 0 < n → n ≤ length (pieces_bytes vs)
+    → text_split_front (of_pieces vs) n ≡ of_pieces (left_pieces vs n)
 front-of_pieces vs n full some l =
     ⊎_elim
     (λ (h : n < length (pieces_bytes vs)). split_front-of_pieces n vs some h)

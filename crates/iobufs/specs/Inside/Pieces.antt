@@ -7,8 +7,9 @@
 --     IsPlace                   a place, told as a piece and how far in it
 --     left_pieces,              the pieces of the two sides of a place
 --     right_pieces
+--     bytes_behind              the bytes from a place on, told as a piece and how far in it
 --     behind_first              the pieces but the first; the empty view where it was the only one
-use Rattle.std.specs.Prelude.{◌≡◌, ℕ, ◌+◌, ◌-◌, ◌<◌, get_or, nat_lt, ◌==◌, if◌then◌else◌, List, [], ◌∷◌, length, take, flat_map}
+use Rattle.std.specs.Prelude.{◌≡◌, ℕ, ◌+◌, ◌-◌, ◌<◌, get_or, nat_lt, ◌==◌, if◌then◌else◌, List, [], ◌∷◌, length, take, drop, flat_map}
 use Rattle.iobufs_core.specs.View.{View, IsView, default_view, view_front, view_advanced}
 use Rattle.iobufs_core.specs.MarkedText.{MarkedText, of_view, default_text, text_glue}
 
@@ -67,3 +68,7 @@ piece_at pieces i = get_or pieces i default_view
 pub record IsPlace (pieces : List View) (at index offset : ℕ) : Type 0 where
   pub sum : piece_start pieces index + offset ≡ at
   pub inside : offset < view_len (piece_at pieces index)
+
+-- the bytes from a place on
+abbrev pub bytes_behind : List View → ℕ → ℕ → List ℕ
+bytes_behind pieces index offset = drop offset (pieces_bytes (drop index pieces))

@@ -15,11 +15,15 @@ overflow_add-count c =
 pub invariant_of-result : goal.invariant_of-result
 invariant_of-result c =
     let s = c.self.inside in
-    (row-run s.base _ c.args.first _ _ s.pieces.items _ c.args.self.now c.self.invariant (ap (λ (r : ViewRow). r.views) c.self.view_is) c.start.ensures
-    refl (c.in_ok-clone_run.ensures ∙ ap (λ (xs : List Piece). xs ++ take (c.args.behind + 1) (drop c.args.first s.pieces.items)) c.in_ok-pieces.ensures.items)).0
+    let wanted = take (c.args.behind + 1) (drop c.args.first s.pieces.items) in
+    let run = c.in_ok-clone_run.ensures ∙ ap (λ (xs : List Piece). xs ++ wanted) c.in_ok-pieces.ensures.items in
+    let seen = ap (λ (r : ViewRow). r.views) c.self.view_is in
+    (row-run s.base _ c.args.first _ _ s.pieces.items _ c.args.self.now c.self.invariant seen c.start.ensures refl run).0
 
 pub returns : goal.returns
 returns c =
     let s = c.self.inside in
-    (row-run s.base _ c.args.first _ _ s.pieces.items _ c.args.self.now c.self.invariant (ap (λ (r : ViewRow). r.views) c.self.view_is) c.start.ensures
-    refl (c.in_ok-clone_run.ensures ∙ ap (λ (xs : List Piece). xs ++ take (c.args.behind + 1) (drop c.args.first s.pieces.items)) c.in_ok-pieces.ensures.items)).1
+    let wanted = take (c.args.behind + 1) (drop c.args.first s.pieces.items) in
+    let run = c.in_ok-clone_run.ensures ∙ ap (λ (xs : List Piece). xs ++ wanted) c.in_ok-pieces.ensures.items in
+    let seen = ap (λ (r : ViewRow). r.views) c.self.view_is in
+    (row-run s.base _ c.args.first _ _ s.pieces.items _ c.args.self.now c.self.invariant seen c.start.ensures refl run).1

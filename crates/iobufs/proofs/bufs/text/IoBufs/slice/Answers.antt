@@ -51,7 +51,8 @@ returns-clause-ok c =
     let held = held-between _ _ _ _ _ _ _ _ first last (places-rise _ _ _ _ _ _ _ full first last l) l c.in_ok-pieces.ensures.run in
     let some : 0 < n = omega (arith, c.requires.order, c.if-start-end.false) in
     let cut : text_split_front (text_rest (of_pieces run) o) n ≡ text_split_front (text_rest c.args.self.now from) n =
-    cut-run (views s.pieces) run _ _ from n _ o _ c.self.view_is refl full (full-between _ _ _ _ full c.in_ok-pieces.ensures.run) c.in_ok-pieces.ensures.run first some
+    cut-run (views s.pieces) run _ _ from n _ o _ c.self.view_is refl full (full-between _ _ _ _ full c.in_ok-pieces.ensures.run)
+    c.in_ok-pieces.ensures.run first some
     (omega (arith, c.requires.order, c.requires.inside, length-kept s _ c.self.view_is)) (omega (arith, held, some)) in
     let same = ap (λ (t : MarkedText). text_len t) c.drop_front.ensures in
     let len = rest-len (of_pieces run) o (omega (arith, held, len-of_pieces run)) in
