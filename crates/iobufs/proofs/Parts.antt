@@ -3,6 +3,7 @@ pub mod Coalesced
 pub mod DrainShapes
 pub mod DrainTurns
 pub mod Examples
+pub mod FewLaws
 pub mod Frozen
 pub mod OrderLaws
 pub mod PartChunks

@@ -11,10 +11,12 @@ ghost use Rattle.iobufs.specs.PartLimits.{IsRowRefusedAt};
 
 mod buf;
 mod buf_mut;
+mod few;
 mod several;
 mod walks;
 
 use crate::bufs::IoBufs;
+use few::Few;
 use iobufs_core::buf::IoBufMut;
 use iobufs_core::codec::BufError;
 use several::Several;
@@ -47,6 +49,7 @@ impl Drop for IoBufsMut {
 #[derive(Drop)]
 enum Shape {
     One(IoBufMut),
+    Few(Few),
     Many(Several),
 }
 
@@ -56,7 +59,7 @@ impl Shape {
     ghost use Rattle.iobufs.specs.Inside.PartShape.{IsShape, shape_parts, shape_single};
 
     // One more part, which can hold a byte; one that can't makes way for it.
-    #[tactic(auto, using(crate::proofs::Parts::PartRuns::growing))]
+    #[tactic(auto, using(crate::proofs::Parts::PartRuns::growing, crate::proofs::Parts::FewLaws::growing_few))]
     fn with_part(self, alloc: Global, part: IoBufMut) -> Result<Shape, BufError>
         requires shape { IsShape self }
         requires more { 0 < part_capacity part }
@@ -71,11 +74,30 @@ impl Shape {
                 if first.capacity() == 0 {
                     return Ok(Shape::One(part));
                 }
-                Ok(Shape::Many(Several::of_two(alloc, first, part)?))
+                Ok(Shape::Few(Few::of_two(alloc, first, part)))
+            }
+            Shape::Few(mut few) => {
+                let Some(part) = few.push(part) else {
+                    return Ok(Shape::Few(few));
+                };
+                Ok(Shape::Many(few.with_fourth(part)?))
             }
             Shape::Many(mut row) => {
                 row.push(part)?;
                 Ok(Shape::Many(row))
+            }
+        }
+    }
+
+    // A row of few of which only one can hold a byte becomes that part.
+    fn settle(&mut self)
+        ensures same { shape_parts self.new ≡ shape_parts self.old }
+        ensures shape { IsShape self.old → IsShape self.new }
+        ensures settled { IsShape self.old → shape_single self.new ≡ single_part (shape_parts self.old) }
+    {
+        if let Shape::Few(few) = self {
+            if let Some(part) = few.take_single() {
+                *self = Shape::One(part);
             }
         }
     }
@@ -141,12 +163,13 @@ impl IoBufsMut {
     }
 
     /// The number of readable bytes.
-    #[tactic(auto, using(crate::proofs::Parts::PartLaws::sums))]
+    #[tactic(auto, using(crate::proofs::Parts::PartLaws::sums, crate::proofs::Parts::FewLaws::keeping))]
     pub fn len(&self) -> usize
         ensures { result ≡ length (parts_filled self.now) }
     {
         match &self.shape {
             Shape::One(part) => part.len(),
+            Shape::Few(parts) => parts.len(),
             Shape::Many(parts) => parts.len(),
         }
     }
@@ -159,37 +182,41 @@ impl IoBufsMut {
     }
 
     /// How many bytes fit, counted from the first readable one.
+    #[tactic(auto, using(crate::proofs::Parts::FewLaws::keeping))]
     pub fn capacity(&self) -> usize
         ensures sum { result ≡ parts_capacity self.now }
         ensures parts { IsParts self.now }
     {
         match &self.shape {
             Shape::One(part) => part.capacity(),
+            Shape::Few(parts) => parts.capacity(),
             Shape::Many(parts) => parts.capacity(),
         }
     }
 
     /// Makes `n` bytes readable, the parts filled in order (`IoBufsMut::set_len`, which is unsafe there). Bytes that
     /// were not are zero.
-    #[tactic(auto, using(crate::proofs::Parts::PartLaws::kept))]
+    #[tactic(auto, using(crate::proofs::Parts::PartLaws::kept, crate::proofs::Parts::FewLaws::keeping))]
     pub fn set_len(&mut self, n: usize)
         requires { n ≤ parts_capacity self.old }
         ensures { self.new ≡ parts_with_len self.old n }
     {
         match &mut self.shape {
             Shape::One(part) => part.set_len(n),
+            Shape::Few(parts) => parts.set_len(n),
             Shape::Many(parts) => parts.set_len(n),
         }
     }
 
     /// Writes over the readable bytes.
-    #[tactic(auto, using(crate::proofs::Parts::PartLaws::kept))]
+    #[tactic(auto, using(crate::proofs::Parts::PartLaws::kept, crate::proofs::Parts::FewLaws::keeping))]
     pub fn copy_from_slice(&mut self, src: &[u8])
         requires { length src.now ≡ length (parts_filled self.old) }
         ensures { self.new ≡ parts_overwritten self.old src.now }
     {
         match &mut self.shape {
             Shape::One(part) => part.as_mut().copy_from_slice(src),
+            Shape::Few(parts) => parts.copy_from_slice(src),
             Shape::Many(parts) => parts.copy_from_slice(src),
         }
     }
@@ -200,6 +227,7 @@ impl IoBufsMut {
     {
         match &self.shape {
             Shape::One(_) => 1,
+            Shape::Few(parts) => parts.count(),
             Shape::Many(parts) => parts.count(),
         }
     }
@@ -213,6 +241,7 @@ impl IoBufsMut {
                 0 => Some(part),
                 _ => None,
             },
+            Shape::Few(parts) => parts.get(i),
             Shape::Many(parts) => parts.get(i),
         }
     }
@@ -223,6 +252,7 @@ impl IoBufsMut {
     {
         match &self.shape {
             Shape::One(_) => true,
+            Shape::Few(parts) => parts.count() == 1,
             Shape::Many(_) => false,
         }
     }
@@ -233,6 +263,7 @@ impl IoBufsMut {
     {
         match &self.shape {
             Shape::One(part) => Some(part),
+            Shape::Few(parts) => parts.single(),
             Shape::Many(_) => None,
         }
     }
@@ -242,11 +273,12 @@ impl IoBufsMut {
         ensures* writes_back { sem 𝓛 (LendsIf the_row part_row self.entry result (λ part. part ∷ []) self.old) }
         ensures value { option_map (λ part. part.now) result ≡ single_part self.old }
     {
+        self.shape.settle();
         self.shape.single_mut()
     }
 
     /// The parts that hold bytes, as the pieces of one text.
-    #[tactic(auto, using(crate::proofs::Parts::Frozen::freezing))]
+    #[tactic(auto, using(crate::proofs::Parts::Frozen::freezing, crate::proofs::Parts::FewLaws::freezing_few))]
     pub fn freeze(self, alloc: Global) -> Result<IoBufs, BufError>
         ensures ok { IfOk result (λ text. text ≡ parts_frozen self) }
         ensures memory { IsOkUnless result BufError.Memory }
@@ -255,6 +287,7 @@ impl IoBufsMut {
         let IoBufsMut { shape } = self;
         match shape {
             Shape::One(part) => IoBufs::from_mut(part),
+            Shape::Few(mut parts) => parts.freeze(alloc),
             Shape::Many(parts) => {
                 let len = parts.len();
                 walks::freeze(alloc, parts.into_row(), len)
@@ -264,7 +297,7 @@ impl IoBufsMut {
 
     /// One part as it is; more as a copy of the readable bytes with no room behind them. `BufError::BadLayout` exactly
     /// where two or more hold over `isize::MAX` bytes.
-    #[tactic(auto, using(crate::proofs::Parts::Coalesced::coalescing))]
+    #[tactic(auto, using(crate::proofs::Parts::Coalesced::coalescing, crate::proofs::Parts::FewLaws::freezing_few))]
     pub fn coalesce(self, alloc: Global) -> Result<IoBufMut, BufError>
         ensures ok { IfOk result (λ part. part ≡ parts_coalesced self) }
         ensures single { length self ≡ 1 → IsOk result }
@@ -273,13 +306,18 @@ impl IoBufsMut {
         ensures nothing { length (parts_filled self) ≡ 0 → IsOk result }
     {
         let IoBufsMut { shape } = self;
-        let parts = match shape {
-            Shape::One(part) => return Ok(part),
-            Shape::Many(parts) => parts,
-        };
-        let mut whole = IoBufMut::with_capacity(alloc, parts.len())?;
-        walks::put_all(parts.into_row(), &mut whole);
-        Ok(whole)
+        match shape {
+            Shape::One(part) => Ok(part),
+            Shape::Few(mut parts) => match parts.take_single() {
+                Some(part) => Ok(part),
+                None => parts.coalesce(alloc),
+            },
+            Shape::Many(parts) => {
+                let mut whole = IoBufMut::with_capacity(alloc, parts.len())?;
+                walks::put_all(parts.into_row(), &mut whole);
+                Ok(whole)
+            }
+        }
     }
 
     /// The only part, if there is just one; several parts come back (`IoBufsMut::try_into_single`).
@@ -289,6 +327,12 @@ impl IoBufsMut {
         let IoBufsMut { shape } = self;
         match shape {
             Shape::One(part) => Ok(part),
+            Shape::Few(mut parts) => match parts.take_single() {
+                Some(part) => Ok(part),
+                None => Err(IoBufsMut {
+                    shape: Shape::Few(parts),
+                }),
+            },
             shape => Err(IoBufsMut { shape }),
         }
     }

@@ -26,7 +26,7 @@ unfolding text_glue
 len-append text view = grind (arith, nat_tests, common_steps, length-append)
 
 -- parts that hold no bytes add nothing
-frozen-none : (text : MarkedText) (parts : List Part) → length (parts_filled parts) ≡ 0 → fold text_append text (map part_frozen parts) ≡ text
+pub frozen-none : (text : MarkedText) (parts : List Part) → length (parts_filled parts) ≡ 0 → fold text_append text (map part_frozen parts) ≡ text
 frozen-none text [] none = refl
 frozen-none text (p ∷ ps) none =
     let n = length-append p.filled (parts_filled ps) in

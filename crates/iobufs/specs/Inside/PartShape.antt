@@ -1,20 +1,23 @@
 -- How the code keeps parts, as a list of parts.
---     shape_parts, shape_single    one part or a row of them, as a list; and the only part, if one is kept by itself
---     AreSeveral, IsShape          a row has two parts or more, each with capacity, and a number holds all of it; one
---                                  part may be any
+--     shape_parts, shape_single    one part, a few in place or a row of them, as a list; and the only part, if one is
+--                                  kept by itself
+--     AreSeveral, IsShape          a row has two parts or more, each with capacity, and a number holds all of it, as of
+--                                  a few; one part may be any
 use Rattle.std.specs.Prelude.{◌<◌, ◌^◌, Option, None, Some, List, [], ◌∷◌, length}
 use Rattle.iobufs_core.specs.Part.{Part}
-use Rattle.iobufs.specs.Parts.{HaveCapacity, parts_capacity}
+use Rattle.iobufs.specs.Parts.{HaveCapacity, kept_parts, parts_capacity}
 use Rattle.iobufs.specs.declared.bufs_mut.Shape.{Shape}
-use Rattle.iobufs.specs.declared.bufs_mut.Shape.TheVariants.{One, Many}
+use Rattle.iobufs.specs.declared.bufs_mut.Shape.TheVariants.{One, Few, Many}
 
 abbrev pub shape_parts : Shape → List Part
 shape_parts (One part) = part ∷ []
+shape_parts (Few parts) = kept_parts parts
 shape_parts (Many row) = row
 
 -- the part that is kept beside no others
 abbrev pub shape_single : Shape → Option Part
 shape_single (One part) = Some part
+shape_single (Few parts) = None
 shape_single (Many row) = None
 
 -- several parts, each with capacity, whose capacities together fit a number
@@ -25,4 +28,5 @@ pub record AreSeveral (parts : List Part) : Type 0 where
 
 abbrev pub IsShape : Shape → Type 0
 IsShape (One part) = Unit {0}
+IsShape (Few parts) = parts_capacity parts < 2 ^ 64
 IsShape (Many row) = AreSeveral row

@@ -177,7 +177,7 @@ impl Row {
     }
 
     /// As `push_back`, within the row's room.
-    pub(super) fn push_back_reserved(&mut self, piece: IoBuf, len: usize)
+    pub(crate) fn push_back_reserved(&mut self, piece: IoBuf, len: usize)
         requires some { 0 < length piece.bytes }
         requires total { len ≡ length (pieces_bytes self.old.views) + length piece.bytes }
         requires room { length self.old.views < self.old.room }

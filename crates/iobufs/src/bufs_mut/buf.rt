@@ -10,12 +10,14 @@ use std::alloc::Global;
 impl IoBufsMut {
     // Drops the first `n` bytes, also where whole parts go.
     #[inline(never)]
+    #[tactic(auto, using(crate::proofs::Parts::FewLaws::keeping))]
     fn drain(&mut self, n: usize)
         requires { n ≤ length (parts_filled self.old) }
         ensures { self.new ≡ parts_drained self.old n }
     {
         match &mut self.shape {
             Shape::One(part) => part.advance(n),
+            Shape::Few(parts) => parts.advance(n),
             Shape::Many(parts) => {
                 if let Some(part) = parts.advance(n) {
                     self.shape = Shape::One(part);
@@ -40,26 +42,34 @@ impl Buf for IoBufsMut {
         self.len()
     }
 
-    #[tactic(auto, using(crate::proofs::Parts::PartChunks::reading))]
+    #[tactic(auto, using(crate::proofs::Parts::PartChunks::reading, crate::proofs::Parts::FewLaws::keeping))]
     fn chunk(&self) -> &[u8] {
         match &self.shape {
             Shape::One(part) => part.as_ref(),
+            Shape::Few(parts) => parts.chunk(),
             Shape::Many(parts) => walks::chunk(parts.row()),
         }
     }
 
-    #[tactic(auto, using(crate::proofs::Parts::PartChunks::reading))]
+    #[tactic(auto, using(crate::proofs::Parts::PartChunks::reading, crate::proofs::Parts::FewLaws::keeping))]
     fn byte_at(&self, i: usize) -> Option<u8> {
         match &self.shape {
             Shape::One(part) => part.byte_at(i),
+            Shape::Few(parts) => parts.byte_at(i),
             Shape::Many(parts) => walks::byte_at(parts.row(), i),
         }
     }
 
     /// A part that is used up keeps its room; with two or more, those that can't hold a byte any more go.
+    #[tactic(auto, using(crate::proofs::Parts::FewLaws::keeping))]
     fn advance(&mut self, n: usize) {
         match &mut self.shape {
             Shape::One(part) => part.advance(n),
+            Shape::Few(parts) => {
+                if !parts.shorten(n) {
+                    parts.advance(n);
+                }
+            }
             Shape::Many(parts) => {
                 if !parts.shorten(n) {
                     self.drain(n);
@@ -68,36 +78,39 @@ impl Buf for IoBufsMut {
         }
     }
 
-    #[tactic(auto, using(crate::proofs::Parts::PartChunks::reading))]
+    #[tactic(auto, using(crate::proofs::Parts::PartChunks::reading, crate::proofs::Parts::FewLaws::keeping))]
     fn copy_to_slice(&mut self, dst: &mut [u8]) {
         match &self.shape {
             Shape::One(part) => dst.copy_from_slice(&part.as_ref()[..dst.len()]),
+            Shape::Few(parts) => parts.read(dst),
             Shape::Many(parts) => walks::read(parts.row(), dst),
         }
         self.advance(dst.len());
     }
 
     /// Leaves what `advance` leaves, of one part too.
-    #[tactic(auto, using(crate::proofs::Parts::PartChunks::reading))]
+    #[tactic(auto, using(crate::proofs::Parts::PartChunks::reading, crate::proofs::Parts::FewLaws::keeping))]
     fn copy_to_bytes(&mut self, alloc: Global, n: usize) -> Result<Bytes, BufError> {
         if n == 0 {
             return Ok(Bytes::new());
         }
         let bytes = match &self.shape {
             Shape::One(part) => Bytes::copy_from_slice(alloc, &part.as_ref()[..n])?,
+            Shape::Few(parts) => Bytes::from_vec(parts.front(alloc, n)?)?,
             Shape::Many(parts) => Bytes::from_vec(walks::front(alloc, parts.row(), n)?)?,
         };
         self.advance(n);
         Ok(bytes)
     }
 
-    #[tactic(auto, using(crate::proofs::Parts::PartChunks::reading))]
+    #[tactic(auto, using(crate::proofs::Parts::PartChunks::reading, crate::proofs::Parts::FewLaws::keeping))]
     fn chunks_vectored(&self, alloc: Global, max: usize) -> Result<Vec<&[u8]>, BufError> {
         if max == 0 || self.len() == 0 {
             return Ok(Vec::new(alloc));
         }
         match &self.shape {
             Shape::One(part) => part.chunks_vectored(alloc, max),
+            Shape::Few(parts) => Ok(parts.chunks(alloc, max)?),
             Shape::Many(parts) => Ok(walks::chunks(alloc, parts.row(), max)?),
         }
     }

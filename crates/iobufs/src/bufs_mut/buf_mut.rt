@@ -12,26 +12,29 @@ impl BufMut for IoBufsMut {
 
     ghost filled = { AreFilled };
 
-    #[tactic(auto, using(crate::proofs::Parts::PartLaws::sums))]
+    #[tactic(auto, using(crate::proofs::Parts::PartLaws::sums, crate::proofs::Parts::FewLaws::keeping))]
     fn remaining_mut(&self) -> usize {
         match &self.shape {
             Shape::One(part) => part.remaining_mut(),
+            Shape::Few(parts) => parts.spare(),
             Shape::Many(parts) => parts.spare(),
         }
     }
 
-    #[tactic(auto, using(crate::proofs::Parts::PartLaws::kept))]
+    #[tactic(auto, using(crate::proofs::Parts::PartLaws::kept, crate::proofs::Parts::FewLaws::keeping))]
     fn put_slice(&mut self, src: &[u8]) {
         match &mut self.shape {
             Shape::One(part) => part.put_slice(src),
+            Shape::Few(parts) => parts.put(src),
             Shape::Many(parts) => parts.put(src),
         }
     }
 
-    #[tactic(auto, using(crate::proofs::Parts::PartLaws::kept))]
+    #[tactic(auto, using(crate::proofs::Parts::PartLaws::kept, crate::proofs::Parts::FewLaws::keeping))]
     fn put_bytes(&mut self, value: u8, n: usize) {
         match &mut self.shape {
             Shape::One(part) => part.put_bytes(value, n),
+            Shape::Few(parts) => parts.put_bytes(value, n),
             Shape::Many(parts) => parts.put_bytes(value, n),
         }
     }

@@ -38,19 +38,23 @@ impl Model for Several {
 }
 
 impl Several {
-    pub(super) fn of_two(
+    pub(super) fn of_four(
         alloc: Global,
         first: IoBufMut,
         second: IoBufMut,
+        third: IoBufMut,
+        fourth: IoBufMut,
     ) -> Result<Several, AllocError>
-        requires { part_capacity first + part_capacity second < 2 ^ 64 }
-        ensures { IfOk result (λ parts. parts ≡ first ∷ second ∷ []) }
+        requires { part_capacity first + part_capacity second + part_capacity third + part_capacity fourth < 2 ^ 64 }
+        ensures { IfOk result (λ parts. parts ≡ first ∷ second ∷ third ∷ fourth ∷ []) }
     {
-        let len = first.len() + second.len();
-        let capacity = first.capacity() + second.capacity();
-        let mut row = VecDeque::with_capacity(alloc, 4)?;
+        let len = first.len() + second.len() + third.len() + fourth.len();
+        let capacity = first.capacity() + second.capacity() + third.capacity() + fourth.capacity();
+        let mut row = VecDeque::with_capacity(alloc, 8)?;
         row.push_back_reserved(first);
         row.push_back_reserved(second);
+        row.push_back_reserved(third);
+        row.push_back_reserved(fourth);
         Ok(Several {
             row,
             used: 0,

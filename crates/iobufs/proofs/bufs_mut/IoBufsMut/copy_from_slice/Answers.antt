@@ -1,0 +1,19 @@
+use Rattle.std.proofs.Common.{ap, arith, sym, ◌∙◌}
+use Rattle.std.proofs.lemmas.Grind.{common_steps}
+use Rattle.iobufs.specs.Inside.PartShape.{shape_parts}
+use Rattle.iobufs.specs.Parts.{kept_parts, parts_overwritten}
+use Rattle.iobufs.specs.contracts.bufs_mut.IoBufsMut.{the_view}
+use Rattle.iobufs.proofs.Parts.FewLaws.{kept-overwritten}
+use Rattle.iobufs.proofs.bufs_mut.IoBufsMut.copy_from_slice.Goals as goal
+use Rattle.iobufs.proofs.bufs_mut.IoBufsMut.copy_from_slice.Goals.{in-One, in-Few, in-Many}
+
+pub returns : goal.returns
+returns c =
+    let src = c.args.src.now in
+    elim c.match-self.branch [
+      | in-One w ↦ grind (arith, common_steps)
+      | in-Few w ↦
+          ap the_view w.self-inside-is ∙ ap kept_parts w.copy_from_slice-in-Few.ensures ∙ sym (kept-overwritten w.in-Few.parts src)
+          ∙ ap (λ ps. parts_overwritten ps src) (ap shape_parts (sym w.in-Few.is) ∙ c.self.view_is)
+      | in-Many w ↦ grind (arith, common_steps)
+    ]

@@ -1,0 +1,471 @@
+// Two or three parts in place.
+ghost use Rattle.std.specs.Option.{option_copied};
+ghost use Rattle.std.specs.Prelude.{◌≡◌, ◌+◌, ◌-◌, ◌^◌, ◌<◌, ◌≤◌, ◌++◌, [], ◌∷◌, drop, false, length, map, min, replicate, slice_get, take, ◌==◌, if◌then◌else◌, Err, IfOk, OnOk, IfNone, IfSome, IsOk, IsOkUnless, IsTrue};
+ghost use Rattle.iobufs_core.specs.Chunks.{first_chunk};
+ghost use Rattle.iobufs_core.specs.Part.{empty_part, part_capacity, part_drained, part_frozen, part_overwritten, part_put, part_with_len};
+ghost use Rattle.iobufs.specs.Inside.Pieces.{pieces_bytes};
+ghost use Rattle.iobufs.specs.Parts.{HaveCapacity, kept_parts, parts_capacity, parts_chunks, parts_fill, parts_filled, parts_frozen, parts_overwritten, parts_shared_out, parts_spare, parts_with_len, single_part, with_capacity};
+
+use super::several::Several;
+use crate::bufs::IoBufs;
+use crate::bufs::row::Row;
+use iobufs_core::buf::IoBufMut;
+use iobufs_core::codec::{Buf, BufError, BufMut};
+use std::alloc::{AllocError, Global};
+use std::marker::Model;
+use std::mem;
+
+/// Up to three parts in place, in order. One that can't hold a byte is none: it stands where there are fewer, and where
+/// a part was used up that has no room.
+#[derive(Drop)]
+pub(super) struct Few {
+    alloc: Global,
+    first: IoBufMut,
+    second: IoBufMut,
+    third: IoBufMut,
+}
+
+impl Model for Few {
+    ghost use Rattle.std.specs.Prelude.{List, ◌∷◌, []};
+    ghost use Rattle.iobufs_core.specs.Part.{Part};
+
+    ghost Value = { List Part };
+
+    ghost view = { λ f. f.first ∷ f.second ∷ f.third ∷ [] };
+}
+
+// Fills the room of a part as far as it goes, and answers the bytes that are left.
+#[inline(always)]
+fn put_share<'a>(part: &mut IoBufMut, src: &'a [u8]) -> &'a [u8]
+    ensures put { part.new ≡ part_put part.old (take part.old.spare src.now) }
+    ensures left { result.now ≡ drop part.old.spare src.now }
+{
+    let room = part.remaining_mut();
+    if room == 0 {
+        return src;
+    }
+    let n = src.len().min(room);
+    part.put_slice(&src[..n]);
+    &src[n..]
+}
+
+// The same with `n` times one byte: answers how often it is left.
+fn put_bytes_share(part: &mut IoBufMut, value: u8, n: usize) -> usize
+    ensures put { part.new ≡ part_put part.old (take part.old.spare (replicate n value)) }
+    ensures left { result ≡ n - part.old.spare }
+{
+    let share = n.min(part.remaining_mut());
+    part.put_bytes(value, share);
+    n - share
+}
+
+// Makes `n` bytes readable as far as the capacity goes, and answers how many are left.
+fn len_share(part: &mut IoBufMut, n: usize) -> usize
+    ensures set { part.new ≡ part_with_len part.old (min n (part_capacity part.old)) }
+    ensures left { result ≡ n - part_capacity part.old }
+{
+    let share = n.min(part.capacity());
+    part.set_len(share);
+    n - share
+}
+
+// Writes over the readable bytes of a part, and answers the bytes that are left.
+fn copy_share<'a>(part: &mut IoBufMut, src: &'a [u8]) -> &'a [u8]
+    requires { length part.old.filled ≤ length src.now }
+    ensures written { part.new ≡ part_overwritten part.old (take (length part.old.filled) src.now) }
+    ensures left { result.now ≡ drop (length part.old.filled) src.now }
+{
+    let (share, rest) = src.split_at(part.len());
+    part.as_mut().copy_from_slice(share);
+    rest
+}
+
+// Drops the first `n` bytes of a part, at most all, and answers how many are left to drop.
+#[inline(always)]
+fn drain_share(part: &mut IoBufMut, n: usize) -> usize
+    ensures drained { part.new ≡ part_drained part.old n }
+    ensures left { result ≡ n - length part.old.filled }
+{
+    let share = n.min(part.len());
+    part.advance(share);
+    n - share
+}
+
+// Frees the storage of a part that can't hold a byte.
+#[inline(always)]
+fn free_used(alloc: Global, part: &mut IoBufMut)
+    ensures { part.new ≡ part.old }
+{
+    if part.capacity() == 0 {
+        *part = IoBufMut::default(alloc);
+    }
+}
+
+// Whether a part can hold a byte, as a number.
+fn count_of(part: &IoBufMut) -> usize
+    ensures { result ≡ length (with_capacity (part.now ∷ [])) }
+{
+    if part.capacity() == 0 {
+        return 0;
+    }
+    1
+}
+
+// Copies the bytes of a part to a place of `dst`, as many as there is room for, and answers the place behind them.
+#[inline(always)]
+fn read_share(part: &IoBufMut, dst: &mut [u8], at: usize) -> usize
+    requires { at ≤ length dst.old }
+    ensures behind { result ≡ at + min (length part.now.filled) (length dst.old - at) }
+    ensures long { length dst.new ≡ length dst.old }
+    ensures read { take result dst.new ≡ take at dst.old ++ take (length dst.old - at) part.now.filled }
+{
+    let n = part.len().min(dst.len() - at);
+    dst[at..at + n].copy_from_slice(&part.as_ref()[..n]);
+    at + n
+}
+
+// Puts the first `n` bytes of a part behind others, and answers how many are left.
+#[inline(always)]
+fn extend_share(bytes: &mut Vec<u8>, part: &IoBufMut, n: usize) -> Result<usize, AllocError>
+    ensures put { IfOk result (λ left. bytes.new.items ≡ bytes.old.items ++ take n part.now.filled) }
+    ensures left { IfOk result (λ left. left ≡ n - length part.now.filled) }
+    ensures nothing { n ≡ 0 → IsOk result }
+{
+    let share = n.min(part.len());
+    bytes.extend_from_slice(&part.as_ref()[..share])?;
+    Ok(n - share)
+}
+
+// Chunks, and behind them that of a part, if it holds bytes and `max` isn't reached.
+fn push_chunk<'a>(
+    mut chunks: Vec<&'a [u8]>,
+    part: &'a IoBufMut,
+    max: usize,
+) -> Result<Vec<&'a [u8]>, AllocError>
+    requires { length chunks.items ≤ max }
+    ensures few { IfOk result (λ more. length more.items ≤ max) }
+    ensures pushed { IfOk result (λ more. map (λ chunk. chunk.now) more.items ≡ take max (map (λ chunk. chunk.now) chunks.entry.items ++ parts_chunks (part.now ∷ []))) }
+{
+    if chunks.len() < max && !part.is_empty() {
+        chunks.push(part.as_ref())?;
+    }
+    Ok(chunks)
+}
+
+// Puts a part as a piece behind others that end at a place, unless it holds no bytes, and answers where it ends.
+#[inline(always)]
+fn add_frozen(row: &mut Row, part: IoBufMut, before: usize) -> Result<usize, BufError>
+    requires before { before ≡ length (pieces_bytes row.old.views) }
+    requires fits { before + length part.filled < 2 ^ 64 }
+    requires room { length row.old.views < row.old.room }
+    ensures end { IfOk result (λ end. end ≡ before + length part.filled) }
+    ensures added { OnOk result (row.new.views ≡ (if length (part_frozen part).bytes == 0 then row.old.views else row.old.views ++ part_frozen part ∷ [])) }
+    ensures same_room { OnOk result (row.new.room ≡ row.old.room) }
+    ensures memory { IsOkUnless result BufError.Memory }
+{
+    if part.is_empty() {
+        return Ok(before);
+    }
+    let piece = part.freeze()?;
+    let end = before + piece.len();
+    row.push_back_reserved(piece, end);
+    Ok(end)
+}
+
+impl Few {
+    pub(super) fn of_two(alloc: Global, first: IoBufMut, second: IoBufMut) -> Few
+        ensures { result ≡ first ∷ second ∷ empty_part 0 ∷ [] }
+    {
+        Few {
+            alloc,
+            first,
+            second,
+            third: IoBufMut::default(alloc),
+        }
+    }
+
+    /// Puts a part behind the others; it comes back where there are three already.
+    pub(super) fn push(&mut self, part: IoBufMut) -> Option<IoBufMut>
+        ensures pushed { IfNone result (kept_parts self.new ≡ kept_parts (self.old ++ part ∷ [])) }
+        ensures fits { IfNone result (parts_capacity self.new ≡ parts_capacity self.old + part_capacity part) }
+        ensures full { IfSome result (λ back. (back ≡ part) × (self.new ≡ self.old) × HaveCapacity self.old × (1 < length self.old)) }
+    {
+        if self.third.capacity() == 0 {
+            self.third = part;
+            return None;
+        }
+        if self.second.capacity() == 0 {
+            self.second = mem::replace(&mut self.third, part);
+            return None;
+        }
+        if self.first.capacity() == 0 {
+            let third = mem::replace(&mut self.third, part);
+            self.first = mem::replace(&mut self.second, third);
+            return None;
+        }
+        Some(part)
+    }
+
+    /// The parts and a fourth one, in a deque.
+    pub(super) fn with_fourth(self, part: IoBufMut) -> Result<Several, AllocError>
+        requires { parts_capacity self + part_capacity part < 2 ^ 64 }
+        ensures { IfOk result (λ parts. parts ≡ self ++ part ∷ []) }
+    {
+        let Few {
+            alloc,
+            first,
+            second,
+            third,
+        } = self;
+        Several::of_four(alloc, first, second, third, part)
+    }
+
+    pub(super) fn count(&self) -> usize
+        ensures { result ≡ length (kept_parts self.now) }
+    {
+        let count = count_of(&self.first) + count_of(&self.second) + count_of(&self.third);
+        count.max(1)
+    }
+
+    pub(super) fn get(&self, i: usize) -> Option<&IoBufMut>
+        ensures { option_copied result ≡ slice_get (kept_parts self.now) i }
+    {
+        let one = count_of(&self.first);
+        let two = one + count_of(&self.second);
+        let all = two + count_of(&self.third);
+        if i < one {
+            return Some(&self.first);
+        }
+        if i < two {
+            return Some(&self.second);
+        }
+        if i < all.max(1) {
+            return Some(&self.third);
+        }
+        None
+    }
+
+    /// The only part, if no more than one can hold a byte.
+    pub(super) fn single(&self) -> Option<&IoBufMut>
+        ensures { option_copied result ≡ single_part (kept_parts self.now) }
+    {
+        if self.count() > 1 {
+            return None;
+        }
+        self.get(0)
+    }
+
+    /// Takes the only part out, if no more than one can hold a byte.
+    pub(super) fn take_single(&mut self) -> Option<IoBufMut>
+        ensures none { IfNone result ((self.new ≡ self.old) × (1 < length (kept_parts self.old))) }
+        ensures some { IfSome result (λ part. kept_parts self.old ≡ part ∷ []) }
+    {
+        if self.count() > 1 {
+            return None;
+        }
+        if self.first.capacity() > 0 {
+            return Some(mem::replace(&mut self.first, IoBufMut::default(self.alloc)));
+        }
+        if self.second.capacity() > 0 {
+            return Some(mem::replace(&mut self.second, IoBufMut::default(self.alloc)));
+        }
+        Some(mem::replace(&mut self.third, IoBufMut::default(self.alloc)))
+    }
+
+    pub(super) fn len(&self) -> usize
+        requires { parts_capacity self.now < 2 ^ 64 }
+        ensures { result ≡ length (parts_filled self.now) }
+    {
+        self.first.len() + self.second.len() + self.third.len()
+    }
+
+    pub(super) fn capacity(&self) -> usize
+        requires { parts_capacity self.now < 2 ^ 64 }
+        ensures { result ≡ parts_capacity self.now }
+    {
+        self.first.capacity() + self.second.capacity() + self.third.capacity()
+    }
+
+    pub(super) fn spare(&self) -> usize
+        requires { parts_capacity self.now < 2 ^ 64 }
+        ensures { result ≡ parts_spare self.now }
+    {
+        self.first.remaining_mut() + self.second.remaining_mut() + self.third.remaining_mut()
+    }
+
+    pub(super) fn put(&mut self, src: &[u8])
+        requires { length src.now ≤ parts_spare self.old }
+        ensures { self.new ≡ parts_fill self.old src.now }
+    {
+        let rest = put_share(&mut self.first, src);
+        if rest.is_empty() {
+            return;
+        }
+        let rest = put_share(&mut self.second, rest);
+        if rest.is_empty() {
+            return;
+        }
+        self.third.put_slice(rest);
+    }
+
+    pub(super) fn put_bytes(&mut self, value: u8, n: usize)
+        requires { n ≤ parts_spare self.old }
+        ensures { self.new ≡ parts_fill self.old (replicate n value) }
+    {
+        let rest = put_bytes_share(&mut self.first, value, n);
+        let rest = put_bytes_share(&mut self.second, value, rest);
+        put_bytes_share(&mut self.third, value, rest);
+    }
+
+    pub(super) fn set_len(&mut self, n: usize)
+        ensures { self.new ≡ parts_with_len self.old n }
+    {
+        let rest = len_share(&mut self.first, n);
+        let rest = len_share(&mut self.second, rest);
+        len_share(&mut self.third, rest);
+    }
+
+    pub(super) fn copy_from_slice(&mut self, src: &[u8])
+        requires { length src.now ≡ length (parts_filled self.old) }
+        ensures { self.new ≡ parts_overwritten self.old src.now }
+    {
+        let rest = copy_share(&mut self.first, src);
+        let rest = copy_share(&mut self.second, rest);
+        copy_share(&mut self.third, rest);
+    }
+
+    /// Drops the first `n` bytes if the first part that holds some holds more, and tells whether it does.
+    #[inline(always)]
+    pub(super) fn shorten(&mut self, n: usize) -> bool
+        ensures drained { IsTrue result → self.new ≡ parts_shared_out self.old n }
+        ensures same { result ≡ false → self.new ≡ self.old }
+    {
+        if n < self.first.len() {
+            self.first.advance(n);
+            return true;
+        }
+        if !self.first.is_empty() {
+            return false;
+        }
+        if n < self.second.len() {
+            self.second.advance(n);
+            return true;
+        }
+        if self.second.is_empty() && n < self.third.len() {
+            self.third.advance(n);
+            return true;
+        }
+        false
+    }
+
+    /// Drops the first `n` bytes. The storage of a part that is used up is freed once another part can hold a byte.
+    #[inline(never)]
+    pub(super) fn advance(&mut self, n: usize)
+        requires { parts_capacity self.old < 2 ^ 64 }
+        ensures { self.new ≡ parts_shared_out self.old n }
+    {
+        let rest = drain_share(&mut self.first, n);
+        let rest = drain_share(&mut self.second, rest);
+        drain_share(&mut self.third, rest);
+        if self.capacity() > 0 {
+            free_used(self.alloc, &mut self.first);
+            free_used(self.alloc, &mut self.second);
+        }
+    }
+
+    pub(super) fn chunk(&self) -> &[u8]
+        ensures { result.now ≡ first_chunk (parts_chunks self.now) }
+    {
+        if !self.first.is_empty() {
+            return self.first.as_ref();
+        }
+        if !self.second.is_empty() {
+            return self.second.as_ref();
+        }
+        self.third.as_ref()
+    }
+
+    pub(super) fn byte_at(&self, i: usize) -> Option<u8>
+        ensures { result ≡ slice_get (parts_filled self.now) i }
+    {
+        let len = self.first.len();
+        if i < len {
+            return self.first.byte_at(i);
+        }
+        let behind = i - len;
+        let len = self.second.len();
+        if behind < len {
+            return self.second.byte_at(behind);
+        }
+        self.third.byte_at(behind - len)
+    }
+
+    /// Fills `dst` with the first bytes.
+    pub(super) fn read(&self, dst: &mut [u8])
+        requires { length dst.old ≤ length (parts_filled self.now) }
+        ensures { dst.new ≡ take (length dst.old) (parts_filled self.now) }
+    {
+        let at = read_share(&self.first, dst, 0);
+        let at = read_share(&self.second, dst, at);
+        read_share(&self.third, dst, at);
+    }
+
+    /// A copy of the first `n` bytes.
+    pub(super) fn front(&self, alloc: Global, n: usize) -> Result<Vec<u8>, AllocError>
+        ensures bytes { IfOk result (λ bytes. bytes.items ≡ take n (parts_filled self.now)) }
+        ensures nothing { n ≡ 0 → IsOk result }
+    {
+        let mut bytes = Vec::with_capacity(alloc, n)?;
+        let rest = extend_share(&mut bytes, &self.first, n)?;
+        let rest = extend_share(&mut bytes, &self.second, rest)?;
+        extend_share(&mut bytes, &self.third, rest)?;
+        Ok(bytes)
+    }
+
+    /// The first parts that hold bytes, at most `max`.
+    pub(super) fn chunks(&self, alloc: Global, max: usize) -> Result<Vec<&[u8]>, AllocError>
+        ensures { IfOk result (λ chunks. map (λ chunk. chunk.now) chunks.items ≡ take max (parts_chunks self.now)) }
+    {
+        let chunks = push_chunk(Vec::new(alloc), &self.first, max)?;
+        let chunks = push_chunk(chunks, &self.second, max)?;
+        push_chunk(chunks, &self.third, max)
+    }
+
+    /// The parts that hold bytes, one piece behind the other; no bytes are left. No room is made for a single piece.
+    #[inline(never)]
+    pub(super) fn freeze(&mut self, alloc: Global) -> Result<IoBufs, BufError>
+        requires { parts_capacity self.old < 2 ^ 64 }
+        ensures ok { IfOk result (λ text. text ≡ parts_frozen self.old) }
+        ensures memory { IsOkUnless result BufError.Memory }
+        ensures nothing { length (parts_filled self.old) ≡ 0 → IsOk result }
+    {
+        let len = self.len();
+        if self.first.len() == len {
+            return IoBufs::from_mut(mem::replace(&mut self.first, IoBufMut::default(alloc)));
+        }
+        let mut row = Row::with_room(alloc, 3)?;
+        let first = mem::replace(&mut self.first, IoBufMut::default(alloc));
+        let end = add_frozen(&mut row, first, 0)?;
+        let second = mem::replace(&mut self.second, IoBufMut::default(alloc));
+        let end = add_frozen(&mut row, second, end)?;
+        let third = mem::replace(&mut self.third, IoBufMut::default(alloc));
+        add_frozen(&mut row, third, end)?;
+        Ok(IoBufs::from_row(row))
+    }
+
+    /// All bytes in one part, with no room behind them.
+    #[tactic(auto, using(crate::proofs::Parts::Coalesced::coalescing))]
+    pub(super) fn coalesce(self, alloc: Global) -> Result<IoBufMut, BufError>
+        requires { parts_capacity self < 2 ^ 64 }
+        ensures ok { IfOk result (λ part. part ≡ record { filled = parts_filled self; spare = 0 }) }
+        ensures bad_layout { 2 ^ 63 ≤ length (parts_filled self) → result ≡ Err BufError.BadLayout }
+        ensures good_layout { length (parts_filled self) < 2 ^ 63 → IsOkUnless result BufError.Memory }
+        ensures nothing { length (parts_filled self) ≡ 0 → IsOk result }
+    {
+        let mut whole = IoBufMut::with_capacity(alloc, self.len())?;
+        whole.put_slice(self.first.as_ref());
+        whole.put_slice(self.second.as_ref());
+        whole.put_slice(self.third.as_ref());
+        Ok(whole)
+    }
+}
