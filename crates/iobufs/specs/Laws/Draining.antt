@@ -1,6 +1,7 @@
 -- The laws of draining several parts, which hold for all parts.
 --     filled-drained                the bytes behind the first n are left
---     joined-chunks, full-chunks    the chunks join to the bytes, and none is empty
+--     joined-part_chunks,           the chunks join to the bytes, and none is empty
+--     full-part_chunks
 --     the rest                      the same of parts that are dropped for want of capacity, or share out n bytes
 use Rattle.std.specs.Prelude.{◌≡◌, ℕ, ◌-◌, ◌==◌, List, [], ◌∷◌, ◌++◌, length, drop, map, refl, nat_lt}
 use Rattle.std.specs.List.{flat_map}
@@ -48,8 +49,8 @@ joined-filled : (parts : List Part) → flat_map (λ chunk. chunk) (map (λ (p :
 joined-filled [] = refl
 joined-filled (p ∷ parts) = ap (λ w. p.filled ++ w) (joined-filled parts)
 
-pub joined-chunks : (parts : List Part) → flat_map (λ chunk. chunk) (parts_chunks parts) ≡ parts_filled parts
-joined-chunks parts = joined-full_chunks (map (λ p. p.filled) parts) ∙ joined-filled parts
+pub joined-part_chunks : (parts : List Part) → flat_map (λ chunk. chunk) (parts_chunks parts) ≡ parts_filled parts
+joined-part_chunks parts = joined-full_chunks (map (λ p. p.filled) parts) ∙ joined-filled parts
 
-pub full-chunks : (parts : List Part) → full_chunks (parts_chunks parts) ≡ parts_chunks parts
-full-chunks parts = full_chunks-twice (map (λ p. p.filled) parts)
+pub full-part_chunks : (parts : List Part) → full_chunks (parts_chunks parts) ≡ parts_chunks parts
+full-part_chunks parts = full_chunks-twice (map (λ p. p.filled) parts)

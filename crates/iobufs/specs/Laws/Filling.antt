@@ -58,9 +58,9 @@ fill-nil (p ∷ parts) =
     let b = ap (λ w. parts_fill parts w) (drop-nil p.spare) ∙ fill-nil parts in
     λ i. a i ∷ b i
 
-put-append : (p : Part) (u v : List ℕ)
+part_put-append : (p : Part) (u v : List ℕ)
     → part_put p (take p.spare (u ++ v)) ≡ part_put (part_put p (take p.spare u)) (take (p.spare - length (take p.spare u)) v)
-put-append p u v =
+part_put-append p u v =
     let n = length-append u v in
     let t = length-take p.spare u in
     let s : p.spare - length (take p.spare u) ≡ p.spare - length u = omega arith in
@@ -77,7 +77,7 @@ fill-append [] u v = refl
 fill-append (p ∷ parts) u v =
     let t = length-take p.spare u in
     let s : p.spare - length u ≡ p.spare - length (take p.spare u) = omega arith in
-    let a = put-append p u v in
+    let a = part_put-append p u v in
     let b = ap (λ w. parts_fill parts w) (drop_both p.spare u v ∙ ap (λ k. drop p.spare u ++ drop k v) s)
     ∙ fill-append parts (drop p.spare u) (drop (p.spare - length (take p.spare u)) v) in
     λ i. a i ∷ b i

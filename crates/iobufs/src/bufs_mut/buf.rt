@@ -28,7 +28,7 @@ impl IoBufsMut {
 }
 
 impl Buf for IoBufsMut {
-    ghost use Rattle.iobufs.specs.Laws.Draining.{filled-drained, joined-chunks, full-chunks};
+    ghost use Rattle.iobufs.specs.Laws.Draining.{filled-drained, joined-part_chunks, full-part_chunks};
 
     ghost text = { parts_filled };
 
@@ -119,7 +119,7 @@ impl Buf for IoBufsMut {
 
     ghost copies = { λ parts n h. filled-drained parts n };
 
-    ghost joins = { joined-chunks };
+    ghost joins = { joined-part_chunks };
 
-    ghost full = { full-chunks };
+    ghost full = { full-part_chunks };
 }
