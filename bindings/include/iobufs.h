@@ -62,7 +62,7 @@ typedef uint8_t iobufs_status;
 #define IOBUF_SIZE 48
 #define IOBUFMUT_SIZE 64
 #define IOBUFS_SIZE 56
-#define IOBUFSMUT_SIZE 80
+#define IOBUFSMUT_SIZE 184
 #define IOBUFS_BUILDER_SIZE 120
 #define IOBUFS_FRAMES_SIZE 56
 #define IOBUFS_ALIGN 8

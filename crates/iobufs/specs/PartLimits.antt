@@ -1,13 +1,14 @@
 -- Why a row of parts was not made.
 --     IsRowRefusedAt    with the last part, the capacity is more than a number holds (`TooLong`), or there was no
---                       memory
-use Rattle.std.specs.Prelude.{◌≡◌, ◌<◌, ◌^◌, nat_lt, if◌then◌else◌, List, [], ◌∷◌, ◌++◌}
+--                       memory for a fourth part or one behind it
+use Rattle.std.specs.Prelude.{◌≡◌, ◌<◌, ◌^◌, nat_lt, if◌then◌else◌, List, [], ◌∷◌, ◌++◌, length}
 use Rattle.iobufs_core.specs.Part.{Part, part_capacity}
 use Rattle.iobufs_core.specs.declared.codec.base.BufError.{BufError}
 use Rattle.iobufs_core.specs.declared.codec.base.BufError.TheVariants.{Memory, TooLong}
-use Rattle.iobufs.specs.Parts.{parts_capacity}
+use Rattle.iobufs.specs.Parts.{parts_capacity, with_capacity}
 
--- the last part was refused: it can hold a byte, and so can one before it; with it there is too much capacity, or there was no memory
+-- the last part was refused: it can hold a byte, and so can one before it; with it there is too much capacity, or more
+-- than three parts can hold a byte and there was no memory
 pub record IsRowRefusedAt (parts : List Part) (cause : BufError) : Type 0 where
   pub front : List Part
   pub last : Part
@@ -16,3 +17,4 @@ pub record IsRowRefusedAt (parts : List Part) (cause : BufError) : Type 0 where
   pub fits : parts_capacity front < 2 ^ 64
   pub more : 0 < part_capacity last
   pub told : cause ≡ (if nat_lt (parts_capacity parts) (2 ^ 64) then Memory else TooLong)
+  pub several : parts_capacity parts < 2 ^ 64 → 3 < length (with_capacity parts)

@@ -6,7 +6,7 @@ ghost use Rattle.std.specs.Option.{option_copied, option_map};
 ghost use Rattle.std.specs.Borrow.{LendsIf, sem};
 ghost use Rattle.iobufs_core.specs.Part.{empty_part, part_capacity};
 ghost use Rattle.iobufs_core.specs.contracts.buf.part.IoBufMut.{the_row as part_row};
-ghost use Rattle.iobufs.specs.Parts.{IsParts, kept_parts, parts_capacity, parts_coalesced, parts_filled, parts_frozen, parts_overwritten, parts_with_len, single_part};
+ghost use Rattle.iobufs.specs.Parts.{IsParts, kept_parts, parts_capacity, parts_coalesced, parts_filled, parts_frozen, parts_overwritten, parts_with_len, single_part, with_capacity};
 ghost use Rattle.iobufs.specs.PartLimits.{IsRowRefusedAt};
 
 mod buf;
@@ -56,7 +56,7 @@ enum Shape {
 impl Shape {
     ghost use Rattle.iobufs.specs.contracts.bufs_mut.Shape.{the_row};
     ghost use Rattle.iobufs.specs.declared.bufs_mut.Shape.TheVariants.{One};
-    ghost use Rattle.iobufs.specs.Inside.PartShape.{IsShape, shape_parts, shape_single};
+    ghost use Rattle.iobufs.specs.Inside.PartShape.{IsBuilt, IsShape, shape_parts, shape_single};
 
     // One more part, which can hold a byte; one that can't makes way for it.
     #[tactic(auto, using(crate::proofs::Parts::PartRuns::growing, crate::proofs::Parts::FewLaws::growing_few))]
@@ -68,6 +68,8 @@ impl Shape {
         ensures shape { IfOk result IsShape }
         ensures memory { IsOkUnless result BufError.Memory }
         ensures first { parts_capacity (shape_parts self) ≡ 0 → IsOk result }
+        ensures built { IsBuilt self → IfOk result IsBuilt }
+        ensures few { IsBuilt self → length (with_capacity (shape_parts self)) < 3 → IsOk result }
     {
         match self {
             Shape::One(first) => {
@@ -137,7 +139,7 @@ impl IoBufsMut {
 
     /// The parts of an iterator that can hold a byte; where there are none, one of capacity 0. `BufError::TooLong` where
     /// a part's capacity and those before it together pass `usize::MAX`, tested before memory is asked for. The first
-    /// part that can hold a byte asks for none.
+    /// three parts that can hold a byte ask for none.
     pub fn from_parts<I: Iterator<Item = IoBufMut>>(
         alloc: Global,
         mut items: I,

@@ -1,14 +1,12 @@
 -- The text that parts freeze to.
-use Rattle.std.proofs.Common.{◌≡◌, ℕ, ◌+◌, ◌<◌, ◌≤◌, ◌==◌, if◌then◌else◌, List, [], ◌∷◌, ◌++◌, drop, fold, length, map, refl, ap, ◌∙◌, arith, length-append}
+use Rattle.std.proofs.Common.{◌≡◌, ℕ, ◌+◌, ◌<◌, ◌≤◌, ◌==◌, if◌then◌else◌, List, [], ◌∷◌, ◌++◌, fold, length, map, refl, ap, ◌∙◌, arith, length-append}
 use Rattle.std.proofs.lemmas.Bool.Decides.{nat_tests}
 use Rattle.std.proofs.lemmas.Grind.{common_steps}
-use Rattle.std.proofs.lemmas.List.Sums.{sum_by-cons}
 use Rattle.iobufs_core.specs.View.{View, IsView}
 use Rattle.iobufs_core.specs.MarkedText.{MarkedText, default_text, of_view, text_append, text_len, text_glue}
 use Rattle.iobufs_core.specs.Part.{Part, part_capacity, part_frozen}
-use Rattle.iobufs.specs.Inside.PartOrder.{first_frozen}
 use Rattle.iobufs.specs.Inside.Pieces.{AreFull, AreViews, of_pieces, pieces_bytes}
-use Rattle.iobufs.specs.Parts.{parts_capacity, parts_filled, parts_frozen}
+use Rattle.iobufs.specs.Parts.{parts_filled, parts_frozen}
 use Rattle.iobufs.proofs.Building.AddLaws.{add-full, add-length, add-text, add-views}
 use Rattle.iobufs.proofs.Text.PieceLaws.{of_pieces-one}
 use Rattle.iobufs.proofs.Text.Sides.{not_zero, same_eq}
@@ -37,21 +35,6 @@ frozen-none text (p ∷ ps) none =
 -- where no part behind the first holds bytes, the parts freeze to the view of the first
 pub frozen-whole : (p : Part) (parts : List Part) → length (parts_filled parts) ≡ 0 → parts_frozen (p ∷ parts) ≡ of_view (part_frozen p)
 frozen-whole p parts none = frozen-none (text_append default_text (part_frozen p)) parts none ∙ frozen-one p
-
--- at most two parts, as two views
-pub frozen-few : (text : MarkedText) (parts : List Part) → length parts ≤ 2
-    → fold text_append text (map part_frozen parts) ≡ text_append (text_append text (first_frozen parts)) (first_frozen (drop 1 parts))
-frozen-few text [] few = refl
-frozen-few text (p ∷ []) few = refl
-frozen-few text (p ∷ q ∷ []) few = refl
-frozen-few text (p ∷ q ∷ r ∷ parts) few = absurd (omega arith)
-
--- the first two parts of a list, frozen, hold at most as many bytes as all parts can
-pub len-few : (parts : List Part) → length (first_frozen parts).bytes + length (first_frozen (drop 1 parts)).bytes ≤ parts_capacity parts
-len-few [] = omega arith
-len-few (p ∷ []) = omega (arith, frozen-len p, sum_by-cons part_capacity p [])
-len-few (p ∷ q ∷ parts) =
-    omega (arith, frozen-len p, frozen-len q, sum_by-cons part_capacity p (q ∷ parts), sum_by-cons part_capacity q parts)
 
 -- a row under way: the text that its views make, none of them empty, how many they are at most, and how many bytes
 pub record IsRowOf (views : List View) (text : MarkedText) (most bytes : ℕ) : Type 0 where

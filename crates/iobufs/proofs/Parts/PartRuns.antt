@@ -70,6 +70,18 @@ kept-more parts p more = ap parts_or_default (beside (with_capacity parts) (able
     beside [] able = with_capacity-push [] p more
     beside (q ∷ parts) able = with_capacity-push (q ∷ parts) p more ∙ ap (λ ps. ps ++ p ∷ []) (with_capacity-all (q ∷ parts) able)
 
+-- the kept parts that can hold a byte are those of all
+pub able-kept : (parts : List Part) → with_capacity (kept_parts parts) ≡ with_capacity parts
+able-kept parts = of_able (with_capacity parts) (able-with_capacity parts)
+  where
+    of_able : (able : List Part) → HaveCapacity able → with_capacity (parts_or_default able) ≡ able
+    of_able [] h = refl
+    of_able (p ∷ able) h = with_capacity-all (p ∷ able) h
+
+-- so many parts can hold a byte where all of three and more can
+pub able-three : (parts : List Part) → HaveCapacity parts → 3 ≤ length parts → length (with_capacity parts) < 3 → ⊥
+able-three parts able three less = omega (arith, ap (λ (ps : List Part). length ps) (with_capacity-all parts able))
+
 -- the part that takes the capacity past the largest number, and one for which there was no memory
 pub refused-long : (front : List Part) (last : Part) → parts_capacity front < 2 ^ 64 → part_capacity last < 2 ^ 64
     → 2 ^ 64 ≤ parts_capacity front + part_capacity last → IsRowRefusedAt (front ++ last ∷ []) TooLong
@@ -84,12 +96,13 @@ refused-long front last fits last_fits long =
       more = omega arith;
       told = sym (cond-false (nat_lt (parts_capacity (front ++ last ∷ [])) (2 ^ 64)) Memory TooLong
           (le-ltb (parts_capacity (front ++ last ∷ [])) (2 ^ 64) (omega arith)));
+      several = λ short. absurd (omega arith);
     }
 
--- a last part with capacity, behind others with some, was refused for want of memory where the capacity of all fits a number
+-- a last part with capacity, behind three others with some or more, was refused for want of memory where the capacity of all fits a number
 pub refused-short : (front : List Part) (last : Part) → 0 < parts_capacity front → 0 < part_capacity last
-    → parts_capacity front + part_capacity last < 2 ^ 64 → IsRowRefusedAt (front ++ last ∷ []) Memory
-refused-short front last some more short =
+    → parts_capacity front + part_capacity last < 2 ^ 64 → 3 ≤ length (with_capacity front) → IsRowRefusedAt (front ++ last ∷ []) Memory
+refused-short front last some more short several =
     let sum = sum_by_push part_capacity front last in
     record {
       front = front;
@@ -100,6 +113,7 @@ refused-short front last some more short =
       more = more;
       told = sym (cond-true (nat_lt (parts_capacity (front ++ last ∷ [])) (2 ^ 64)) Memory TooLong
           (lt-ltb (parts_capacity (front ++ last ∷ [])) (2 ^ 64) (omega arith)));
+      several = λ _. omega (arith, ap (λ (ps : List Part). length ps) (with_capacity-push front last more), length-append (with_capacity front) (last ∷ []));
     }
 
 pub ruleset growing = (kept-first, kept-two, several-two, kept-push, several-push, several-some)

@@ -2,12 +2,10 @@
 -- that whoever reads begins with the first part that can hold a byte to be read.
 --     in_order         the parts of a row, of which so many at the back are used up, in order
 --     first_drained    the row without the first bytes of its first part
---     first_frozen     the first part of the row as a view, the default one where there is none
 --     AreBehind        so many stand at the back, and hold no bytes
 --     AreKept          and the sums beside the row are those of all
 use Rattle.std.specs.Prelude.{◌≡◌, ℕ, ◌-◌, ◌≤◌, List, [], ◌∷◌, ◌++◌, length, drop, take}
-use Rattle.iobufs_core.specs.Part.{Part, part_drained, part_frozen}
-use Rattle.iobufs_core.specs.View.{View, default_view}
+use Rattle.iobufs_core.specs.Part.{Part, part_drained}
 use Rattle.iobufs.specs.Inside.PartSums.{AreSummed}
 use Rattle.iobufs.specs.Parts.{parts_filled}
 
@@ -18,11 +16,6 @@ in_order row used = drop (length row - used) row ++ take (length row - used) row
 abbrev pub first_drained : List Part → ℕ → List Part
 first_drained [] n = []
 first_drained (part ∷ row) n = part_drained part n ∷ row
-
--- the first part of the row as a view
-abbrev pub first_frozen : List Part → View
-first_frozen [] = default_view
-first_frozen (part ∷ row) = part_frozen part
 
 -- so many parts at the back of the row hold no bytes
 pub record AreBehind (row : List Part) (used : ℕ) : Type 0 where

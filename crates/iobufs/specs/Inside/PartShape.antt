@@ -3,6 +3,7 @@
 --                                  kept by itself
 --     AreSeveral, IsShape          a row has two parts or more, each with capacity, and a number holds all of it, as of
 --                                  a few; one part may be any
+--     IsBuilt                      a row has more parts than stand in place, as where no bytes were taken yet
 use Rattle.std.specs.Prelude.{◌<◌, ◌^◌, Option, None, Some, List, [], ◌∷◌, length}
 use Rattle.iobufs_core.specs.Part.{Part}
 use Rattle.iobufs.specs.Parts.{HaveCapacity, kept_parts, parts_capacity}
@@ -30,3 +31,9 @@ abbrev pub IsShape : Shape → Type 0
 IsShape (One part) = Unit {0}
 IsShape (Few parts) = parts_capacity parts < 2 ^ 64
 IsShape (Many row) = AreSeveral row
+
+-- more parts than three are in the row, if there is one
+abbrev pub IsBuilt : Shape → Type 0
+IsBuilt (One part) = Unit {0}
+IsBuilt (Few parts) = Unit {0}
+IsBuilt (Many row) = 3 < length row

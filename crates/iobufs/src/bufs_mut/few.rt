@@ -154,19 +154,24 @@ fn push_chunk<'a>(
 
 // Puts a part as a piece behind others that end at a place, unless it holds no bytes, and answers where it ends.
 #[inline(always)]
-fn add_frozen(row: &mut Row, part: IoBufMut, before: usize) -> Result<usize, BufError>
+fn add_frozen(
+    alloc: Global,
+    row: &mut Row,
+    part: &mut IoBufMut,
+    before: usize,
+) -> Result<usize, BufError>
     requires before { before ≡ length (pieces_bytes row.old.views) }
-    requires fits { before + length part.filled < 2 ^ 64 }
+    requires fits { before + length part.old.filled < 2 ^ 64 }
     requires room { length row.old.views < row.old.room }
-    ensures end { IfOk result (λ end. end ≡ before + length part.filled) }
-    ensures added { OnOk result (row.new.views ≡ (if length (part_frozen part).bytes == 0 then row.old.views else row.old.views ++ part_frozen part ∷ [])) }
+    ensures end { IfOk result (λ end. end ≡ before + length part.old.filled) }
+    ensures added { OnOk result (row.new.views ≡ (if length (part_frozen part.old).bytes == 0 then row.old.views else row.old.views ++ part_frozen part.old ∷ [])) }
     ensures same_room { OnOk result (row.new.room ≡ row.old.room) }
     ensures memory { IsOkUnless result BufError.Memory }
 {
     if part.is_empty() {
         return Ok(before);
     }
-    let piece = part.freeze()?;
+    let piece = mem::replace(part, IoBufMut::default(alloc)).freeze()?;
     let end = before + piece.len();
     row.push_back_reserved(piece, end);
     Ok(end)
@@ -188,7 +193,7 @@ impl Few {
     pub(super) fn push(&mut self, part: IoBufMut) -> Option<IoBufMut>
         ensures pushed { IfNone result (kept_parts self.new ≡ kept_parts (self.old ++ part ∷ [])) }
         ensures fits { IfNone result (parts_capacity self.new ≡ parts_capacity self.old + part_capacity part) }
-        ensures full { IfSome result (λ back. (back ≡ part) × (self.new ≡ self.old) × HaveCapacity self.old × (1 < length self.old)) }
+        ensures full { IfSome result (λ back. (back ≡ part) × (self.new ≡ self.old) × HaveCapacity self.old × (length self.old ≡ 3)) }
     {
         if self.third.capacity() == 0 {
             self.third = part;
@@ -444,12 +449,9 @@ impl Few {
             return IoBufs::from_mut(mem::replace(&mut self.first, IoBufMut::default(alloc)));
         }
         let mut row = Row::with_room(alloc, 3)?;
-        let first = mem::replace(&mut self.first, IoBufMut::default(alloc));
-        let end = add_frozen(&mut row, first, 0)?;
-        let second = mem::replace(&mut self.second, IoBufMut::default(alloc));
-        let end = add_frozen(&mut row, second, end)?;
-        let third = mem::replace(&mut self.third, IoBufMut::default(alloc));
-        add_frozen(&mut row, third, end)?;
+        let end = add_frozen(alloc, &mut row, &mut self.first, 0)?;
+        let end = add_frozen(alloc, &mut row, &mut self.second, end)?;
+        add_frozen(alloc, &mut row, &mut self.third, end)?;
         Ok(IoBufs::from_row(row))
     }
 

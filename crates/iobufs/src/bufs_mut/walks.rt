@@ -3,7 +3,7 @@ ghost use Rattle.std.specs.Prelude.{◌≡◌, ◌+◌, ◌^◌, ◌<◌, ◌≤
 ghost use Rattle.iobufs_core.specs.Chunks.{first_chunk};
 ghost use Rattle.iobufs_core.specs.MarkedText.{of_view, text_append};
 ghost use Rattle.iobufs_core.specs.Part.{empty_part, part_frozen, part_put};
-ghost use Rattle.iobufs.specs.Inside.PartOrder.{AreBehind, first_drained, first_frozen, in_order};
+ghost use Rattle.iobufs.specs.Inside.PartOrder.{AreBehind, first_drained, in_order};
 ghost use Rattle.iobufs.specs.Parts.{HaveCapacity, parts_capacity, parts_chunks, parts_fill, parts_filled, parts_frozen, parts_or_default, parts_overwritten, parts_shared_out, parts_spare, parts_with_len, with_capacity};
 
 use crate::bufs::IoBufs;
@@ -296,54 +296,10 @@ fn freeze_behind(
     ensures ok { IfOk result (λ text. text ≡ fold text_append (of_view first) (map part_frozen parts.items)) }
     ensures memory { IsOkUnless result BufError.Memory }
 {
-    if parts.len() <= 2 {
-        return freeze_few(alloc, first, parts);
-    }
     let mut row = Row::with_room(alloc, parts.len() + 1)?;
     row.add(first);
     while let Some(part) = parts.pop_front() {
         row.add(part.freeze()?);
     }
     Ok(IoBufs::from_row(row))
-}
-
-// The same with at most two parts behind the piece. What held the parts is freed first: made for two or three, it has
-// as much memory as four pieces ask for.
-#[tactic(auto, using(crate::proofs::Parts::Frozen::freezing))]
-fn freeze_few(alloc: Global, first: IoBuf, parts: VecDeque<IoBufMut>) -> Result<IoBufs, BufError>
-    requires some { 0 < length first.bytes }
-    requires fits { length first.bytes + parts_capacity parts.items < 2 ^ 64 }
-    requires few { length parts.items ≤ 2 }
-    ensures ok { IfOk result (λ text. text ≡ fold text_append (of_view first) (map part_frozen parts.items)) }
-    ensures memory { IsOkUnless result BufError.Memory }
-{
-    let (second, third) = freeze_two(parts)?;
-    let mut row = Row::with_room(alloc, 4)?;
-    row.add(first);
-    row.add(second);
-    row.add(third);
-    Ok(IoBufs::from_row(row))
-}
-
-// The first two parts as pieces, empty ones where there are fewer.
-fn freeze_two(mut parts: VecDeque<IoBufMut>) -> Result<(IoBuf, IoBuf), BufError>
-    ensures first { IfOk result (λ pieces. pieces.0 ≡ first_frozen parts.items) }
-    ensures second { IfOk result (λ pieces. pieces.1 ≡ first_frozen (drop 1 parts.items)) }
-    ensures memory { IsOkUnless result BufError.Memory }
-{
-    let first = freeze_first(&mut parts)?;
-    let second = freeze_first(&mut parts)?;
-    Ok((first, second))
-}
-
-// The first part, which goes, as a piece; an empty one where there is no part.
-fn freeze_first(parts: &mut VecDeque<IoBufMut>) -> Result<IoBuf, BufError>
-    ensures ok { IfOk result (λ piece. piece ≡ first_frozen parts.old.items) }
-    ensures left { parts.new.items ≡ drop 1 parts.old.items }
-    ensures memory { IsOkUnless result BufError.Memory }
-{
-    match parts.pop_front() {
-        Some(part) => part.freeze(),
-        None => Ok(IoBuf::default()),
-    }
 }

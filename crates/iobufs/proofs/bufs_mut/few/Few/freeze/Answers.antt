@@ -1,4 +1,4 @@
-use Rattle.std.proofs.Common.{List, [], ◌∷◌, ap, arith, length, ◌∙◌}
+use Rattle.std.proofs.Common.{List, ap, arith, length, ◌∙◌}
 use Rattle.iobufs_core.specs.Part.{part_frozen}
 use Rattle.iobufs_core.specs.View.{View}
 use Rattle.iobufs.specs.Inside.Pieces.{pieces_bytes}
@@ -9,21 +9,21 @@ use Rattle.iobufs.proofs.bufs_mut.few.Few.freeze.Goals as goal
 
 pub add_frozen-requires-3-clause-before : goal.add_frozen-requires-3-clause-before
 add_frozen-requires-3-clause-before c =
-    let one = add-length c.in_ok-row.row.views c.add_frozen.new.row.views (part_frozen c.replace-first.result) c.in_ok-end.ensures.added in
-    let two = add-length c.add_frozen.new.row.views c.add_frozen-2.new.row.views (part_frozen c.replace-second.result) c.in_ok-end-2.ensures.added in
+    let one = add-length c.in_ok-row.row.views c.add_frozen.new.row.views (part_frozen c.self.inside.first) c.in_ok-end.ensures.added in
+    let two = add-length c.add_frozen.new.row.views c.add_frozen-2.new.row.views (part_frozen c.self.inside.second) c.in_ok-end-2.ensures.added in
     omega (
       arith,
       one.bytes,
       two.bytes,
       c.in_ok-end.ensures.end,
       c.in_ok-end-2.ensures.end,
-      frozen-length c.replace-first.result,
-      frozen-length c.replace-second.result,
+      frozen-length c.self.inside.first,
+      frozen-length c.self.inside.second,
       ap (λ (vs : List View). length (pieces_bytes vs)) c.in_ok-row.ensures.views,
     )
 
 pub returns-clause-ok : goal.returns-clause-ok
 returns-clause-ok c =
     c.from_row.ensures
-    ∙ frozen-three c.replace-first.result c.replace-second.result c.replace-third.result _ _ _ _ c.in_ok-row.ensures.views c.in_ok-end.ensures.added c.in_ok-end-2.ensures.added c.in_ok-add_frozen.ensures.added
-    ∙ (λ i. parts_frozen (c.replace-first.ensures.value i ∷ c.replace-second.ensures.value i ∷ c.replace-third.ensures.value i ∷ [])) ∙ ap parts_frozen c.self.view_is
+    ∙ frozen-three c.self.inside.first c.self.inside.second c.self.inside.third _ _ _ _ c.in_ok-row.ensures.views c.in_ok-end.ensures.added c.in_ok-end-2.ensures.added c.in_ok-add_frozen.ensures.added
+    ∙ ap parts_frozen c.self.view_is
