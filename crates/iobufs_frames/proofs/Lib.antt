@@ -1,2 +1,4 @@
 pub mod FrameLaws
 pub mod MarkLaws
+pub mod PrefixLaws
+pub mod PrefixReadings

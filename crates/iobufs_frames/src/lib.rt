@@ -1,15 +1,21 @@
 // Frames on a text that comes in pieces: a body behind its length, one behind the other.
 #![tactic(auto)]
 
-ghost use Rattle.std.specs.Prelude.{◌≡◌, ◌⊎◌, ℕ, ◌+◌, ◌^◌, ◌<◌, ◌≤◌, List, [], ◌∷◌, ◌++◌, length, OnOk, OnErr, IfOk, IfErr, IsOk, IsErrAnd, IsOkUnless, IfNone, IfSome};
+ghost use Rattle.std.specs.Prelude.{◌≡◌, ◌≢◌, ◌⊎◌, ℕ, ◌+◌, ◌^◌, ◌<◌, ◌≤◌, List, [], ◌∷◌, ◌++◌, length, OnOk, OnErr, IfOk, IfErr, IsOk, IsErrAnd, IsOkUnless, IfNone, IfSome};
 ghost use Rattle.iobufs_core.specs.MarkedText.{MarkedText, joined, text_append, text_rest};
 ghost use Rattle.iobufs_core.specs.View.{View};
 ghost use Rattle.iobufs_core.specs.Wire.{view_written};
+ghost use Rattle.iobufs_frames.specs.Prefixes.{BadStaysBadWith, BeginningsAreOpenWith, HaveOneReadingWith, IsBehindPrefix, IsFirstWith, IsFramedWith, IsNextWith, frame_written};
+ghost use Rattle.iobufs_frames.specs.declared.lengths.Prefix.{Prefix as AnyPrefix};
 ghost use Rattle.iobufs_frames.specs.Frames.{AreMoved, BadStaysBad, BeginningsAreOpen, HasFrames, HasNoFrame, HaveOneReading, IsBehindLength, IsFirst, IsFramed, IsNext, IsTakenApart, bodies, found_of, joined_bytes};
+
+mod lengths;
 
 use iobufs::bufs::IoBufs;
 use iobufs_core::buf::IoBuf;
-use iobufs_core::codec::{BufError, Error, RangeCfg, Read, Refused};
+use iobufs_core::codec::{BufError, Error, OwnedBuf, RangeCfg, Read, Refused};
+use lengths::length_in;
+pub use lengths::{ByteOrder, Prefix, Width, framed_with};
 use std::alloc::Global;
 use std::marker::Model;
 
@@ -104,6 +110,59 @@ impl Frames {
             → IsFirst range.now frames end rest result self.new.bytes }
     {
         found(IoBuf::read_cfg(alloc, &mut self.rest, range))
+    }
+
+    /// As `next`, of frames whose lengths are written in another way. `Error::InvalidVarint` is of spelled ones alone.
+    pub fn next_with(
+        &mut self,
+        alloc: Global,
+        prefix: Prefix,
+        range: &RangeCfg,
+    ) -> Result<Option<IoBuf>, Error>
+        ensures next { IsNextWith prefix range.now self.old.bytes result self.new.bytes }
+        ensures body { IfOk result (λ found. IfSome found (λ body. IsBehindPrefix prefix self.old body)) }
+        ensures left { IfOk result (λ found. IfSome found (λ body. self.new ≡ text_rest self.old (length (frame_written prefix body.bytes)))) }
+        ensures same { IfOk result (λ found. IfNone found (self.new ≡ self.old)) }
+        ensures unchanged { OnErr result (self.new ≡ self.old) }
+        ensures spelled { IfErr result (λ error. error ≡ Error.InvalidVarint → prefix ≡ Prefix.Spelled) }
+        ensures first { (frames : List (List ℕ)) (end : End) (rest : List ℕ) → IsFramedWith prefix range.now self.old.bytes frames end rest
+            → IsFirstWith prefix range.now frames end rest result self.new.bytes }
+    {
+        match prefix {
+            Prefix::Spelled => self.next(alloc, range),
+            Prefix::Fixed(width, order) => self.next_fixed(alloc, width, order, range),
+        }
+    }
+
+    // The same of lengths of a fixed size.
+    fn next_fixed(
+        &mut self,
+        alloc: Global,
+        width: Width,
+        order: ByteOrder,
+        range: &RangeCfg,
+    ) -> Result<Option<IoBuf>, Error>
+        ensures next { IsNextWith (Prefix.Fixed width order) range.now self.old.bytes result self.new.bytes }
+        ensures body { IfOk result (λ found. IfSome found (λ body. IsBehindPrefix (Prefix.Fixed width order) self.old body)) }
+        ensures left { IfOk result (λ found. IfSome found (λ body.
+            self.new ≡ text_rest self.old (length (frame_written (Prefix.Fixed width order) body.bytes)))) }
+        ensures same { IfOk result (λ found. IfNone found (self.new ≡ self.old)) }
+        ensures unchanged { OnErr result (self.new ≡ self.old) }
+        ensures never { IfErr result (λ error. error ≢ Error.InvalidVarint) }
+    {
+        let Some(n) = length_in(&self.rest, width, order) else {
+            return Ok(None);
+        };
+        if !range.contains(n) {
+            return Err(Error::InvalidLength(n));
+        }
+        if self.rest.len() - width.size() < n {
+            return Ok(None);
+        }
+        let Ok(body) = self.rest.take_owned_after(alloc, width.size(), n) else {
+            return Err(Error::Memory);
+        };
+        Ok(Some(body))
     }
 
     fn into_rest(self) -> IoBufs
@@ -223,4 +282,12 @@ pub fn frames_law()
     ensures some { (range : RangeCfg) (text : List ℕ) → HasFrames range text }
     ensures begun { BeginningsAreOpen }
     ensures bad { BadStaysBad }
+{}
+
+/// Does nothing. Its contract is the same law of lengths in any form: what `Frames::next_with` answers, one call behind the
+/// other, depends on the joined text alone, however it was cut.
+pub fn prefixes_law()
+    ensures one { (prefix : AnyPrefix) → HaveOneReadingWith prefix }
+    ensures begun { (prefix : AnyPrefix) → BeginningsAreOpenWith prefix }
+    ensures bad { (prefix : AnyPrefix) → BadStaysBadWith prefix }
 {}

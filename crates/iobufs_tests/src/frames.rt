@@ -1,7 +1,8 @@
 // Texts of frames, and where they are cut.
+use iobufs::bufs::IoBufs;
 use iobufs_core::buf::IoBuf;
 use iobufs_core::codec::{Buf, Error, RangeCfg};
-use iobufs_frames::{End, Frames, Run};
+use iobufs_frames::{ByteOrder, End, Frames, Prefix, Run, Width, framed_with};
 use std::alloc::Global;
 use std::process::Abort;
 use std::test::Fail;
@@ -119,5 +120,113 @@ fn frame_by_frame(rt: HostRuntime) -> Result<(), Fail> {
         None => return Err(Fail::new("no frame")),
     }
     assert!(rt; frames.rest().is_empty());
+    Ok(())
+}
+
+// Two frames as each kind of length writes them.
+const KINDS: [(Prefix, &'static [u8]); 7] = [
+    (Prefix::Spelled, b"\x02ab\x03cde"),
+    (
+        Prefix::Fixed(Width::U16, ByteOrder::Big),
+        b"\0\x02ab\0\x03cde",
+    ),
+    (
+        Prefix::Fixed(Width::U16, ByteOrder::Little),
+        b"\x02\0ab\x03\0cde",
+    ),
+    (
+        Prefix::Fixed(Width::U32, ByteOrder::Big),
+        b"\0\0\0\x02ab\0\0\0\x03cde",
+    ),
+    (
+        Prefix::Fixed(Width::U32, ByteOrder::Little),
+        b"\x02\0\0\0ab\x03\0\0\0cde",
+    ),
+    (
+        Prefix::Fixed(Width::U64, ByteOrder::Big),
+        b"\0\0\0\0\0\0\0\x02ab\0\0\0\0\0\0\0\x03cde",
+    ),
+    (
+        Prefix::Fixed(Width::U64, ByteOrder::Little),
+        b"\x02\0\0\0\0\0\0\0ab\x03\0\0\0\0\0\0\0cde",
+    ),
+];
+
+// Feeds a piece, and puts the frames that are then whole behind others, each with `|` behind it.
+fn feed_with(
+    alloc: Global,
+    prefix: Prefix,
+    frames: &mut Frames,
+    piece: &'static [u8],
+    shown: &mut Vec<u8>,
+) -> Result<(), Fail> {
+    if frames.feed(alloc, IoBuf::from(piece)).is_err() {
+        return Err(Fail::new("refused"));
+    }
+    for _ in 0..3 {
+        let Some(body) = frames.next_with(alloc, prefix, &ANY)? else {
+            return Ok(());
+        };
+        shown.extend_from_slice(body.as_ref())?;
+        shown.push(b'|')?;
+    }
+    Err(Fail::new("too many frames"))
+}
+
+#[test]
+fn each_kind_of_length_in_every_cut(rt: HostRuntime) -> Result<(), Fail> {
+    let alloc = rt.alloc();
+    for (prefix, text) in KINDS {
+        for at in 0..text.len() + 1 {
+            let mut frames = Frames::default();
+            let mut shown = Vec::new(alloc);
+            for piece in [text.get(..at), text.get(at..)] {
+                let piece = piece.ok_or("out of range")?;
+                feed_with(alloc, prefix, &mut frames, piece, &mut shown)?;
+            }
+            assert_eq!(rt; shown.as_slice(), b"ab|cde|".as_slice(), "at {at}");
+            assert!(rt; frames.rest().is_empty());
+        }
+    }
+    Ok(())
+}
+
+#[test]
+fn each_kind_of_length_is_written(rt: HostRuntime) -> Result<(), Fail> {
+    let alloc = rt.alloc();
+    for (prefix, text) in KINDS {
+        let mut written = Vec::new(alloc);
+        for body in [b"ab".as_slice(), b"cde"] {
+            let body = IoBufs::from(body);
+            let frame = framed_with(alloc, prefix, body).map_err(|refused| refused.cause)?;
+            written.extend_from_slice(frame.to_vec(alloc)?.as_slice())?;
+        }
+        assert_eq!(rt; written.as_slice(), text);
+    }
+    Ok(())
+}
+
+#[test]
+fn fixed_lengths_outside_the_range(rt: HostRuntime) -> Result<(), Fail> {
+    let alloc = rt.alloc();
+    let mut frames = Frames::default();
+    let big = Prefix::Fixed(Width::U16, ByteOrder::Big);
+    let little = Prefix::Fixed(Width::U16, ByteOrder::Little);
+    assert!(rt;
+        frames
+            .feed(alloc, IoBuf::from(b"\x01\x02ab".as_slice()))
+            .is_ok()
+    );
+    assert_eq!(rt;
+        frames.next_with(alloc, big, &SHORT).err(),
+        Some(Error::InvalidLength(258))
+    );
+    assert_eq!(rt;
+        frames.next_with(alloc, little, &SHORT).err(),
+        Some(Error::InvalidLength(513))
+    );
+    assert!(rt; frames.next_with(alloc, big, &ANY)?.is_none());
+    assert_eq!(rt; frames.rest().len(), 4);
+    assert!(rt; big.fits(65535) && !big.fits(65536) && Prefix::Spelled.fits(65536));
     Ok(())
 }

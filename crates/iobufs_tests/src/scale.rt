@@ -69,7 +69,10 @@ fn a_text_is_sliced(rt: HostRuntime) -> Result<(), Fail> {
     assert!(rt; is_numbered(&text.slice(alloc, 2..9998)?, 1, 4999));
     assert!(rt; is_numbered(&text.slice(alloc, 6000..6002)?, 3000, 3001));
     let inside = text.slice(alloc, 4999..5003)?;
-    assert_eq!(rt; inside.to_vec(alloc)?.as_slice(), [0xc3u8, 0x09, 0xc4, 0x09].as_slice());
+    assert_eq!(rt;
+        inside.to_vec(alloc)?.as_slice(),
+        [0xc3u8, 0x09, 0xc4, 0x09].as_slice()
+    );
     assert_eq!(rt; inside.chunk_count(), 3);
     assert!(rt; is_numbered(&text, 0, PIECES));
     Ok(())

@@ -267,12 +267,7 @@ fn a_text_is_sliced_between_any_places(rt: HostRuntime) -> Result<(), Fail> {
 }
 
 // Bytes in three pieces, that end at these places.
-fn in_three(
-    alloc: Global,
-    bytes: &'static [u8],
-    from: usize,
-    to: usize,
-) -> Result<IoBufs, Fail> {
+fn in_three(alloc: Global, bytes: &'static [u8], from: usize, to: usize) -> Result<IoBufs, Fail> {
     let mut text = IoBufs::default();
     for piece in [bytes.get(..from), bytes.get(from..to), bytes.get(to..)] {
         let piece = piece.ok_or("out of range")?;

@@ -1,0 +1,134 @@
+-- Frames behind lengths that are written in one of several ways.
+use Rattle.std.proofs.Common.{◌≡◌, ℕ, ◌+◌, ◌-◌, ◌<◌, ◌≤◌, true, List, ◌++◌, length, take, drop, refl, ap, sym, ◌∙◌, arith, append_assoc, drop-drop, length-append, length-take, take-append-drop}
+use Rattle.std.proofs.lemmas.Bool.Decides.{nat_tests}
+use Rattle.std.proofs.lemmas.Grind.{common_steps}
+use Rattle.std.proofs.lemmas.List.{append-nil, nil_from_length}
+use Rattle.std.proofs.lemmas.Nat.{from_le_bytes-to_le_bytes_2, from_le_bytes-to_le_bytes_4, from_le_bytes-to_le_bytes_8}
+use Rattle.std.specs.Int.{w16, w32, w64, from_le_bytes}
+use Rattle.iobufs_core.specs.CallerFacts.{bytes-rest}
+use Rattle.iobufs_core.specs.MarkedText.{MarkedText, taken_view, text_glue, text_len, text_prepend, text_rest}
+use Rattle.iobufs_core.specs.NumberLaws.{form_16, form_32, form_64}
+use Rattle.iobufs_core.specs.Ranges.{in_range}
+use Rattle.iobufs_core.specs.ReadBytes.{bytes-taken_view, length-taken_view}
+use Rattle.iobufs_core.specs.ReadLaws.{IsNumberForm}
+use Rattle.iobufs_core.specs.View.{View}
+use Rattle.iobufs_core.specs.declared.codec.base.RangeCfg.{RangeCfg}
+use Rattle.iobufs_frames.specs.Prefixes.{CanFollow, HasBodyBytes, HasNoLengthAt, IsBehindPrefix, IsLengthAt, frame_written, prefix_written, width_size}
+use Rattle.iobufs_frames.specs.declared.lengths.ByteOrder.{ByteOrder}
+use Rattle.iobufs_frames.specs.declared.lengths.ByteOrder.TheVariants.{Big, Little}
+use Rattle.iobufs_frames.specs.declared.lengths.Prefix.{Prefix}
+use Rattle.iobufs_frames.specs.declared.lengths.Prefix.TheVariants.{Fixed}
+use Rattle.iobufs_frames.specs.declared.lengths.Width.{Width}
+use Rattle.iobufs_frames.specs.declared.lengths.Width.TheVariants.{U16, U32, U64}
+
+-- numbers of one size are written in so many bytes, and no two alike
+pub form_of : (width : Width) (order : ByteOrder) → IsNumberForm (prefix_written (Fixed width order)) (width_size width)
+form_of U16 Big = form_16
+form_of U32 Big = form_32
+form_of U64 Big = form_64
+form_of U16 Little = record {
+  long = λ n. refl;
+  one = λ m n p q e. sym (from_le_bytes-to_le_bytes_2 m p) ∙ ap (from_le_bytes w16) e ∙ from_le_bytes-to_le_bytes_2 n q;
+}
+form_of U32 Little = record {
+  long = λ n. refl;
+  one = λ m n p q e. sym (from_le_bytes-to_le_bytes_4 m p) ∙ ap (from_le_bytes w32) e ∙ from_le_bytes-to_le_bytes_4 n q;
+}
+form_of U64 Little = record {
+  long = λ n. refl;
+  one = λ m n p q e. sym (from_le_bytes-to_le_bytes_8 m p) ∙ ap (from_le_bytes w64) e ∙ from_le_bytes-to_le_bytes_8 n q;
+}
+
+-- a length stands in front only where its bytes are there
+pub length-there : (prefix : Prefix) (bytes : List ℕ) (n : ℕ) → IsLengthAt prefix bytes n → length (prefix_written prefix n) ≤ length bytes
+length-there prefix bytes n (small, is) =
+    let k = length (prefix_written prefix n) in
+    omega (arith, length-take k bytes, ap length is)
+
+-- where there are fewer bytes than a number has, none stands
+pub too_few : (width : Width) (order : ByteOrder) (bytes : List ℕ) → length bytes < width_size width → HasNoLengthAt (Fixed width order) bytes
+too_few width order bytes few n at =
+    let there = length-there (Fixed width order) bytes n at in
+    absurd (omega (arith, few, there, (form_of width order).long n))
+
+-- a view of n bytes stands behind its length in front of a text
+pub record IsThereWith (prefix : Prefix) (text : MarkedText) (n : ℕ) (view : View) : Type 0 where
+  pub long : length view.bytes ≡ n
+  pub sized : length (frame_written prefix view.bytes) ≡ length (prefix_written prefix n) + n
+  pub within : length (frame_written prefix view.bytes) ≤ text_len text
+  pub whole : text.bytes ≡ frame_written prefix view.bytes ++ drop (length (frame_written prefix view.bytes)) text.bytes
+
+-- the view of the bytes behind a length stands there
+pub there-with : (prefix : Prefix) (text : MarkedText) (n : ℕ) (view : View) → IsLengthAt prefix text.bytes n
+    → length (prefix_written prefix n) + n ≤ text_len text → view ≡ taken_view text (length (prefix_written prefix n)) n
+    → IsThereWith prefix text n view
+there-with prefix text n view (small, at) within is =
+    let k = length (prefix_written prefix n) in
+    let body = take n (drop k text.bytes) in
+    let bytes : view.bytes ≡ body = ap (λ (v : View). v.bytes) is ∙ bytes-taken_view text k n in
+    let len : length view.bytes ≡ n = ap (λ (v : View). length v.bytes) is ∙ length-taken_view text k n within in
+    let long : length (frame_written prefix view.bytes) ≡ k + n =
+    length-append (prefix_written prefix (length view.bytes)) view.bytes ∙ ap (λ m. length (prefix_written prefix m) + m) len in
+    let whole : prefix_written prefix n ++ (body ++ drop (k + n) text.bytes) ≡ text.bytes =
+    ap (λ xs. prefix_written prefix n ++ (body ++ xs)) (sym (drop-drop n k text.bytes))
+    ∙ ap (λ xs. prefix_written prefix n ++ xs) (take-append-drop n (drop k text.bytes)) ∙ ap (λ xs. xs ++ drop k text.bytes) (sym at)
+    ∙ take-append-drop k text.bytes in
+    let front : frame_written prefix view.bytes ≡ prefix_written prefix n ++ body =
+    ap (λ m. prefix_written prefix m ++ view.bytes) len ∙ ap (λ xs. prefix_written prefix n ++ xs) bytes in
+    let end = length (frame_written prefix view.bytes) in record {
+      long = len;
+      sized = long;
+      within = omega (arith, within, long);
+      whole =
+          sym (ap (λ xs. xs ++ drop end text.bytes) front ∙ append_assoc (prefix_written prefix n) body (drop end text.bytes)
+          ∙ ap (λ m. prefix_written prefix n ++ (body ++ drop m text.bytes)) long ∙ whole);
+    }
+
+-- a view that is taken from behind its length, in the range, is a frame's body, and leaves what is behind it
+pub record IsTakenWith (prefix : Prefix) (range : RangeCfg) (old new : MarkedText) (view : View) : Type 0 where
+  pub follows : CanFollow prefix range view.bytes
+  pub whole : old.bytes ≡ frame_written prefix view.bytes ++ new.bytes
+  pub behind : IsBehindPrefix prefix old view
+  pub left : new ≡ text_rest old (length (frame_written prefix view.bytes))
+
+pub taken-with : (prefix : Prefix) (range : RangeCfg) (old new : MarkedText) (n k : ℕ) (view : View) → IsLengthAt prefix old.bytes n
+    → in_range range n ≡ true → k ≡ length (prefix_written prefix n) → k + n ≤ text_len old → view ≡ taken_view old k n → new ≡ text_rest old (k + n)
+    → IsTakenWith prefix range old new view
+taken-with prefix range old new n k view at inside size within is left =
+    let there = there-with prefix old n view at (omega (arith, size, within)) (is ∙ ap (λ m. taken_view old m n) size) in
+    let behind : new ≡ text_rest old (length (frame_written prefix view.bytes)) =
+    left ∙ ap (text_rest old) (ap (λ m. m + n) size ∙ sym there.sized) in record {
+      follows = record { small = omega (arith, there.long, at.0); inside = ap (in_range range) there.long ∙ inside };
+      whole = there.whole ∙ ap (λ xs. frame_written prefix view.bytes ++ xs)
+          (sym (ap (λ (t : MarkedText). t.bytes) behind ∙ bytes-rest old (length (frame_written prefix view.bytes)) there.within));
+      behind = record {
+        fits = there.within;
+        is = is ∙ (λ i. taken_view old ((size ∙ ap (λ m. length (prefix_written prefix m)) (sym there.long)) i) (sym there.long i));
+      };
+      left = behind;
+    }
+
+-- a body that finds no memory has bytes
+pub wanted-with : (prefix : Prefix) (range : RangeCfg) (old : MarkedText) (n k : ℕ) → IsLengthAt prefix old.bytes n
+    → in_range range n ≡ true → k ≡ length (prefix_written prefix n) → k + n ≤ text_len old → 0 < n → HasBodyBytes prefix range old.bytes
+wanted-with prefix range old n k at inside size within some =
+    let view = taken_view old (length (prefix_written prefix n)) n in
+    let there = there-with prefix old n view at (omega (arith, size, within)) refl in record {
+      body = view.bytes;
+      more = drop (length (frame_written prefix view.bytes)) old.bytes;
+      admitted = record { small = omega (arith, there.long, at.0); inside = ap (in_range range) there.long ∙ inside };
+      whole = there.whole;
+      some = omega (arith, there.long, some);
+    }
+
+-- as many bytes as a length says stand behind it, by the numbers that were compared
+pub within-with : (width : Width) (order : ByteOrder) (bytes : List ℕ) (n len size again : ℕ) → IsLengthAt (Fixed width order) bytes n
+    → len ≡ length bytes → size ≡ width_size width → again ≡ width_size width → n ≤ len - size → again + n ≤ length bytes
+within-with width order bytes n len size again at whole one two l =
+    let there = length-there (Fixed width order) bytes n at in
+    omega (arith, there, (form_of width order).long n, whole, one, two, l)
+
+-- the bytes of a text with a view in front are the bytes of the view and then those of the text
+pub bytes-prepend : (t : MarkedText) (v : View) → (text_prepend t v).bytes ≡ v.bytes ++ t.bytes
+unfolding text_glue
+bytes-prepend t v = grind (arith, nat_tests, common_steps, append-nil, nil_from_length)
