@@ -84,13 +84,14 @@ there-with prefix text n view (small, at) within is =
           ∙ ap (λ m. prefix_written prefix n ++ (body ++ drop m text.bytes)) long ∙ whole);
     }
 
--- a view that is taken from behind its length, in the range, is a frame's body, and leaves what is behind it
+-- a view was taken: it is a frame's body, and what is behind it is left
 pub record IsTakenWith (prefix : Prefix) (range : RangeCfg) (old new : MarkedText) (view : View) : Type 0 where
   pub follows : CanFollow prefix range view.bytes
   pub whole : old.bytes ≡ frame_written prefix view.bytes ++ new.bytes
   pub behind : IsBehindPrefix prefix old view
   pub left : new ≡ text_rest old (length (frame_written prefix view.bytes))
 
+-- a view that is taken from behind its length, in the range, is a frame's body, and leaves what is behind it
 pub taken-with : (prefix : Prefix) (range : RangeCfg) (old new : MarkedText) (n k : ℕ) (view : View) → IsLengthAt prefix old.bytes n
     → in_range range n ≡ true → k ≡ length (prefix_written prefix n) → k + n ≤ text_len old → view ≡ taken_view old k n → new ≡ text_rest old (k + n)
     → IsTakenWith prefix range old new view
