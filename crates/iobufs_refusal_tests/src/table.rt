@@ -1,8 +1,10 @@
 // A table of names, and a run of commands. `tests/sessions` have each command with each request refused.
-use crate::word::{Word, ensure, say};
+use crate::made::shows;
+use crate::word::{Word, end, ensure, say};
 use iobufs_core::codec::BufError;
-use iobufs_run::command::{Cmd, Refusal, Reply};
-use iobufs_run::table::Table;
+use iobufs_run::command::{Cmd, Kind, Piece, Refusal, Reply};
+use iobufs_run::table::{Slot, Table};
+use std::alloc::Global;
 use std::test::Fail;
 
 const FREE: Reply = Reply::Refused(Refusal::WrongKind);
@@ -32,4 +34,92 @@ fn run(rt: HostRuntime) -> Result<(), Fail> {
     let done = [Reply::Done, Reply::Done];
     ensure(replies.as_slice() == done.as_slice(), "other replies")?;
     say(&rt, word)
+}
+
+// Three views under the names 0 to 2, and of the first two of them a text under the name 3.
+fn filled(alloc: Global) -> Result<Table, BufError> {
+    let mut table = Table::new(alloc, 4)?;
+    let mut sources = Vec::with_capacity(alloc, 2)?;
+    sources.push(0)?;
+    sources.push(1)?;
+    let cmds = [
+        Cmd::Static {
+            dst: 0,
+            text: b"ab",
+        },
+        Cmd::Static {
+            dst: 1,
+            text: b"cde",
+        },
+        Cmd::Static {
+            dst: 2,
+            text: b"fg",
+        },
+        Cmd::Gather { dst: 3, sources },
+    ];
+    for cmd in cmds {
+        if table.apply(&cmd) != Reply::Done {
+            return Err(BufError::Memory);
+        }
+    }
+    Ok(table)
+}
+
+// Whether a name holds what `filled` puts there.
+fn stays(table: &Table, target: usize) -> bool {
+    match table.shown(target) {
+        Ok(Slot::View(view)) => target == 2 && view.as_ref() == b"fg".as_slice(),
+        Ok(Slot::Text(text)) => target == 3 && shows(text, &[b"ab", b"cde"]),
+        _ => false,
+    }
+}
+
+fn is_piece(piece: &Piece, bytes: &[u8]) -> bool {
+    piece.bytes.as_slice() == bytes && piece.spare == 0
+}
+
+// Whether this shows it.
+fn is_told(reply: &Reply, target: usize) -> bool {
+    match reply {
+        Reply::Shown {
+            kind: Kind::View,
+            pieces,
+        } => { target == 2 && pieces.len() == 1 && is_piece(&pieces[0], b"fg") }
+        Reply::Shown {
+            kind: Kind::Text,
+            pieces,
+        } => {
+            target == 3
+                && pieces.len() == 2
+                && is_piece(&pieces[0], b"ab")
+                && is_piece(&pieces[1], b"cde")
+        }
+        _ => false,
+    }
+}
+
+// Shows a name. Refused, it answers want of memory, and the name holds what it held.
+fn told(rt: &(impl Print + AllocGlobal), target: usize) -> Result<(), Fail> {
+    let Ok(mut table) = filled(rt.alloc()) else {
+        return say(rt, Word::Fixture);
+    };
+    let mut word = Word::Whole;
+    let mut reply = shown(&mut table, target);
+    if reply == Reply::Refused(Refusal::Memory) {
+        ensure(stays(&table, target), "changed by a refusal")?;
+        word = Word::Refused;
+        reply = shown(&mut table, target);
+    }
+    ensure(is_told(&reply, target), "another reply")?;
+    end(rt, word, stays(&table, target))
+}
+
+#[test]
+fn a_view_is_shown(rt: HostRuntime) -> Result<(), Fail> {
+    told(&rt, 2)
+}
+
+#[test]
+fn a_text_of_two_pieces_is_shown(rt: HostRuntime) -> Result<(), Fail> {
+    told(&rt, 3)
 }

@@ -6,6 +6,7 @@ use iobufs::bufs::IoBufs;
 use iobufs::builder::Builder;
 use iobufs_core::buf::IoBuf;
 use iobufs_core::codec::{BufError, BufMut, Encode, Error, RangeCfg, Read, Write};
+use iobufs_values::{Fault, List, Look};
 use std::alloc::Global;
 use std::test::Fail;
 
@@ -154,4 +155,63 @@ fn encoded_into_one_buffer(rt: HostRuntime) -> Result<(), Fail> {
 #[test]
 fn a_byte_is_written(rt: HostRuntime) -> Result<(), Fail> {
     written(&rt, &b'a', &[])
+}
+
+// Views in three pieces: a count of two, `wx` in one piece, and `yz` in two.
+const LISTED: [&'static [u8]; 3] = [b"\x02\x02wx\x02", b"y", b"z!"];
+
+#[test]
+fn a_list_of_bytes_is_read(rt: HostRuntime) -> Result<(), Fail> {
+    let mut text = fixture!(rt, spelled(rt.alloc(), &LISTED));
+    let (list, word) = lent!(
+        <List<Bytes> as Look>::read_whole(rt.alloc(), &mut text, &(RANGE, RANGE)),
+        Fault::Codec(Error::Memory),
+        shows(&text, &LISTED)
+    );
+    let values = list.values.as_slice();
+    let two = values.len() == 2 && values[0].as_slice() == b"wx".as_slice();
+    end(
+        &rt,
+        word,
+        two && values[1].as_slice() == b"yz".as_slice() && shows(&text, &[b"!"]),
+    )
+}
+
+const ANY: RangeCfg = RangeCfg {
+    lo: 0,
+    hi: usize::MAX,
+};
+
+// A count of 2^63 in ten bytes, and of a thousand million in five, before five bytes.
+const LARGEST: [&'static [u8]; 1] = [b"\x80\x80\x80\x80\x80\x80\x80\x80\x80\x01"];
+
+const MANY: [&'static [u8]; 2] = [b"\x80\x94\xeb\xdc\x03", b"abcde"];
+
+// Whether a list is refused for the end of the text, and the text stays.
+fn ends<T: Look + Drop>(
+    alloc: Global,
+    text: &mut IoBufs,
+    cfg: &(RangeCfg, T::Cfg),
+    cuts: &[&[u8]],
+) -> bool {
+    let end = Some(Fault::Codec(Error::EndOfBuffer));
+    <List<T> as Look>::read_whole(alloc, text, cfg).err() == end
+        && <List<T> as Look>::decode_cfg(alloc, text, cfg).err() == end
+        && shows(text, cuts)
+}
+
+// A count takes no memory, however much it says: room is made for values that are found.
+#[test]
+fn counts_that_lie_ask_for_nothing(rt: HostRuntime) -> Result<(), Fail> {
+    let mut largest = fixture!(rt, spelled(rt.alloc(), &LARGEST));
+    let mut many = fixture!(rt, spelled(rt.alloc(), &MANY));
+    let alloc = rt.alloc();
+    let numbers = ends::<u64>(alloc, &mut largest, &(ANY, ()), &LARGEST)
+        && ends::<u64>(alloc, &mut many, &(ANY, ()), &MANY);
+    let bytes = ends::<Bytes>(alloc, &mut largest, &(ANY, ANY), &LARGEST)
+        && ends::<Bytes>(alloc, &mut many, &(ANY, ANY), &MANY);
+    let lists = ends::<List<u8>>(alloc, &mut largest, &(ANY, (ANY, ())), &LARGEST);
+    let few = <List<u64> as Look>::read_whole(alloc, &mut largest, &(RANGE, ())).err();
+    let outside = few == Some(Fault::Codec(Error::InvalidLength(1 << 63)));
+    end(&rt, Word::Whole, numbers && bytes && lists && outside)
 }

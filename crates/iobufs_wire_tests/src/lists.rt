@@ -36,11 +36,16 @@ const LYING: &[u8] = b"\x80\x80\x80\x80\x80\x80\x80\x80\x80\x01";
 // Each beginning is refused for its end, as one chunk and as a chunk a byte.
 pub fn assert_beginnings<T: Look + Drop>(
     rt: &(impl Abort + AllocGlobal),
-    text: &'static [u8],
+    text: &[u8],
     cfg: &T::Cfg,
 ) -> Result<(), Fail> {
     for n in 0..text.len() {
-        assert_refused::<T, IoBuf>(rt, &mut view(&text[..n]), cfg, END)?;
+        assert_refused::<T, IoBuf>(
+            rt,
+            &mut IoBuf::copy_from_slice(rt.alloc(), &text[..n])?,
+            cfg,
+            END,
+        )?;
         assert_refused::<T, IoBufs>(rt, &mut bytewise(rt.alloc(), &text[..n])?, cfg, END)?;
     }
     Ok(())

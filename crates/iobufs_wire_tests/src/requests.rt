@@ -21,6 +21,20 @@ const SYNC: &[u8] = b"\x02\0\0\0\0\0\0\x01\x2c";
 // Both kinds behind the byte 7.
 type Alike = Either<Kind<7, u8>, Kind<7, u16>>;
 
+fn is_get(request: &Request, of: &[u8], most: u32) -> bool {
+    match request {
+        Request::Get { key, limit } => key.as_ref() == of && *limit == most,
+        _ => false,
+    }
+}
+
+fn is_put(request: &Request, under: &[u8], what: &[u8]) -> bool {
+    match request {
+        Request::Put { key, body } => key.as_ref() == under && body.as_ref() == what,
+        _ => false,
+    }
+}
+
 #[test]
 fn a_request_of_two_fields_goes_there_and_back(rt: HostRuntime) -> Result<(), Fail> {
     let alloc = rt.alloc();
@@ -35,11 +49,8 @@ fn a_request_of_two_fields_goes_there_and_back(rt: HostRuntime) -> Result<(), Fa
     };
     let mut text = get.encode_iobufs(alloc)?;
     assert!(rt; text.len() == 9 && text.chunk_count() == 3);
-    match Request::read_whole(alloc, &mut text, &CFG)? {
-        Request::Get { key, limit } => assert!(rt; key.as_ref() == b"key".as_slice() && limit == 7),
-        _ => assert!(rt; false),
-    }
-    assert!(rt; text.is_empty());
+    let read = Request::read_whole(alloc, &mut text, &CFG)?;
+    assert!(rt; is_get(&read, b"key", 7) && text.is_empty());
     Ok(())
 }
 
@@ -58,12 +69,8 @@ fn a_request_of_two_views_is_not_copied(rt: HostRuntime) -> Result<(), Fail> {
     let text = put.encode_iobufs(alloc)?;
     assert!(rt; text.len() == 10 && text.chunk_count() == 4);
     assert_eq!(rt; text.to_vec(alloc)?.as_slice(), PUT);
-    match Request::decode_cfg(alloc, &bytewise(alloc, PUT)?, &CFG)? {
-        Request::Put { key, body } => {
-            assert!(rt; key.as_ref() == b"key".as_slice() && body.as_ref() == b"body".as_slice())
-        }
-        _ => assert!(rt; false),
-    }
+    let read = Request::decode_cfg(alloc, &bytewise(alloc, PUT)?, &CFG)?;
+    assert!(rt; is_put(&read, b"key", b"body"));
     Ok(())
 }
 
