@@ -25,5 +25,5 @@ pub use gets::GetNumbers;
 pub use kinds::{Either, Kind, Tagged};
 pub use list::List;
 pub use look::Look;
-pub use parts::{ByParts, IntoParts};
+pub use parts::{ByParts, FromText, IntoParts};
 pub use signed::Signed;

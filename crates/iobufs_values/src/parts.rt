@@ -2,6 +2,7 @@
 ghost use Rattle.std.specs.Prelude.{◌≡◌, ◌⊎◌, ℕ, ◌+◌, ◌^◌, ◌<◌, ◌≤◌, ◌++◌, length, Err, IfOk, IfErr, OnErr, IsOk, IsOkUnless};
 ghost use Rattle.iobufs.specs.Building.{building_after, empty_building, finished};
 ghost use Rattle.iobufs_core.specs.Items.{items_inline};
+ghost use Rattle.iobufs_core.specs.MarkedText.{MarkedText};
 ghost use Rattle.iobufs_values.specs.declared.fault.Fault.TheVariants.{ExtraData};
 
 use crate::{Fault, Look};
@@ -58,6 +59,24 @@ pub trait ByParts: Sized {
     }
 }
 
+/// What a text is handed over as: `IoBufs`. It stands in for `IoBufs` where a value with several views is written, since
+/// no call at such a type can be proved whose signature names a view.
+pub trait FromText: Sized {
+    ghost as_text: { Self → MarkedText };
+
+    /// The text itself.
+    fn from_text(text: IoBufs) -> Self
+        ensures { as_text result ≡ text };
+}
+
+impl FromText for IoBufs {
+    ghost as_text = { λ text. text };
+
+    fn from_text(text: IoBufs) -> IoBufs {
+        text
+    }
+}
+
 /// A type that is written as its parts too.
 pub trait IntoParts: ByParts
 where
@@ -67,11 +86,12 @@ where
     fn into_parts(self) -> Self::Parts
         ensures { result ≡ Self.parts self };
 
-    /// The written value as a text, as `EncodeExt` makes it of the parts: views are pushed and not copied.
-    final fn encode_iobufs(self, alloc: Global) -> Result<IoBufs, Error>
-        ensures pieces { IfOk result (λ text. text ≡ finished (building_after (empty_building (items_inline (Self.Parts.items (Self.parts self))))
+    /// The written value as a text, as `EncodeExt` makes it of the parts: views are pushed and not copied. `X` is
+    /// `IoBufs`.
+    final fn encode_iobufs<X: FromText>(self, alloc: Global) -> Result<X, Error>
+        ensures pieces { IfOk result (λ made. X.as_text made ≡ finished (building_after (empty_building (items_inline (Self.Parts.items (Self.parts self))))
             (Self.Parts.items (Self.parts self)))) }
-        ensures bytes { IfOk result (λ text. text.bytes ≡ Self.Parts.written (Self.parts self)) }
+        ensures bytes { IfOk result (λ made. (X.as_text made).bytes ≡ Self.Parts.written (Self.parts self)) }
         ensures too_long { 2 ^ 64 ≤ length (Self.Parts.written (Self.parts self)) → result ≡ Err Error.TooLong }
         ensures bad_layout { length (Self.Parts.written (Self.parts self)) < 2 ^ 64 → 2 ^ 63 ≤ items_inline (Self.Parts.items (Self.parts self))
             → result ≡ Err Error.BadLayout }
@@ -79,7 +99,8 @@ where
             → IsOkUnless result Error.Memory }
         ensures nothing { length (Self.Parts.written (Self.parts self)) ≡ 0 → IsOk result }
     {
-        self.into_parts().encode_iobufs(alloc)
+        let text = self.into_parts().encode_iobufs(alloc)?;
+        Ok(X::from_text(text))
     }
 
     /// The written value in one buffer of exactly its size, as `Encode` makes it of the parts.

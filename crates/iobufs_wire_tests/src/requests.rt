@@ -2,6 +2,7 @@
 use crate::lists::assert_beginnings;
 use crate::request::{Request, RequestParts};
 use crate::whole::{assert_refused, bytewise, view};
+use iobufs::bufs::IoBufs;
 use iobufs_core::buf::IoBuf;
 use iobufs_core::codec::{Encode, EncodeSize, Error, RangeCfg};
 use iobufs_values::{ByParts, Either, Fault, IntoParts, Kind, List, Look, Tagged};
@@ -47,7 +48,7 @@ fn a_request_of_two_fields_goes_there_and_back(rt: HostRuntime) -> Result<(), Fa
         key: view(b"key"),
         limit: 7,
     };
-    let mut text = get.encode_iobufs(alloc)?;
+    let mut text: IoBufs = get.encode_iobufs(alloc)?;
     assert!(rt; text.len() == 9 && text.chunk_count() == 3);
     let read = Request::read_whole(alloc, &mut text, &CFG)?;
     assert!(rt; is_get(&read, b"key", 7) && text.is_empty());
@@ -66,7 +67,7 @@ fn a_request_of_two_views_is_not_copied(rt: HostRuntime) -> Result<(), Fail> {
         key: view(b"key"),
         body: view(b"body"),
     };
-    let text = put.encode_iobufs(alloc)?;
+    let text: IoBufs = put.encode_iobufs(alloc)?;
     assert!(rt; text.len() == 10 && text.chunk_count() == 4);
     assert_eq!(rt; text.to_vec(alloc)?.as_slice(), PUT);
     let read = Request::decode_cfg(alloc, &bytewise(alloc, PUT)?, &CFG)?;
