@@ -309,9 +309,9 @@ impl IoBufsMut {
     {
         let IoBufsMut { shape } = self;
         match shape {
-            Shape::One(part) => Ok(part),
+            Shape::One(whole) => Ok(whole),
             Shape::Few(mut parts) => match parts.take_single() {
-                Some(part) => Ok(part),
+                Some(whole) => Ok(whole),
                 None => parts.coalesce(alloc),
             },
             Shape::Many(parts) => {

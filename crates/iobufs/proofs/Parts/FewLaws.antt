@@ -198,7 +198,8 @@ frozen-kept parts = of_default (with_capacity parts) ∙ of_able default_text pa
         (cases_lt 0 (part_capacity p))
 
 -- two or more that are kept coalesce to the bytes of all
-pub coalesced-kept : (parts : List Part) → 1 < length (kept_parts parts) → parts_coalesced (kept_parts parts) ≡ record { filled = parts_filled parts; spare = 0 }
+pub coalesced-kept : (parts : List Part) → 1 < length (kept_parts parts)
+    → parts_coalesced (kept_parts parts) ≡ record { filled = parts_filled parts; spare = 0 }
 coalesced-kept parts more =
     coalesced-several (kept_parts parts) more ∙ ap (λ bytes. record { filled = bytes; spare = 0 }) (filled-kept_parts parts)
 

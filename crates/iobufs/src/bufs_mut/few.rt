@@ -105,10 +105,10 @@ fn free_used(alloc: Global, part: &mut IoBufMut)
 fn count_of(part: &IoBufMut) -> usize
     ensures { result ≡ length (with_capacity (part.now ∷ [])) }
 {
-    if part.capacity() == 0 {
-        return 0;
+    if part.capacity() > 0 {
+        return 1;
     }
-    1
+    0
 }
 
 // Copies the bytes of a part to a place of `dst`, as many as there is room for, and answers the place behind them.
@@ -144,7 +144,8 @@ fn push_chunk<'a>(
 ) -> Result<Vec<&'a [u8]>, AllocError>
     requires { length chunks.items ≤ max }
     ensures few { IfOk result (λ more. length more.items ≤ max) }
-    ensures pushed { IfOk result (λ more. map (λ chunk. chunk.now) more.items ≡ take max (map (λ chunk. chunk.now) chunks.entry.items ++ parts_chunks (part.now ∷ []))) }
+    ensures pushed { IfOk result (λ more.
+        map (λ chunk. chunk.now) more.items ≡ take max (map (λ chunk. chunk.now) chunks.entry.items ++ parts_chunks (part.now ∷ []))) }
 {
     if chunks.len() < max && !part.is_empty() {
         chunks.push(part.as_ref())?;
@@ -164,7 +165,8 @@ fn add_frozen(
     requires fits { before + length part.old.filled < 2 ^ 64 }
     requires room { length row.old.views < row.old.room }
     ensures end { IfOk result (λ end. end ≡ before + length part.old.filled) }
-    ensures added { OnOk result (row.new.views ≡ (if length (part_frozen part.old).bytes == 0 then row.old.views else row.old.views ++ part_frozen part.old ∷ [])) }
+    ensures added { OnOk result (row.new.views
+        ≡ (if length (part_frozen part.old).bytes == 0 then row.old.views else row.old.views ++ part_frozen part.old ∷ [])) }
     ensures same_room { OnOk result (row.new.room ≡ row.old.room) }
     ensures memory { IsOkUnless result BufError.Memory }
 {

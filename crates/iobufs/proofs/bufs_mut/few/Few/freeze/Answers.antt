@@ -25,5 +25,6 @@ add_frozen-requires-3-clause-before c =
 pub returns-clause-ok : goal.returns-clause-ok
 returns-clause-ok c =
     c.from_row.ensures
-    ∙ frozen-three c.self.inside.first c.self.inside.second c.self.inside.third _ _ _ _ c.in_ok-row.ensures.views c.in_ok-end.ensures.added c.in_ok-end-2.ensures.added c.in_ok-add_frozen.ensures.added
+    ∙ frozen-three c.self.inside.first c.self.inside.second c.self.inside.third _ _ _ _ c.in_ok-row.ensures.views
+    c.in_ok-end.ensures.added c.in_ok-end-2.ensures.added c.in_ok-add_frozen.ensures.added
     ∙ ap parts_frozen c.self.view_is
