@@ -30,7 +30,10 @@ fn the_first_bytes_are_read(rt: HostRuntime) -> Result<(), Fail> {
         first.chunks_vectored(alloc, 9)?.as_slice(),
         [b"ab".as_slice(), b"cd", b"e"].as_slice()
     );
-    assert_eq!(rt; first.chunks_vectored(alloc, 1)?.as_slice(), [b"ab".as_slice()].as_slice());
+    assert_eq!(rt;
+        first.chunks_vectored(alloc, 1)?.as_slice(),
+        [b"ab".as_slice()].as_slice()
+    );
     let mut three = [0; 3];
     assert!(rt; first.try_copy_to_slice(&mut three).is_ok());
     assert_eq!(rt; three, *b"abc");
@@ -55,7 +58,10 @@ fn a_limit_above_the_bytes_is_none(rt: HostRuntime) -> Result<(), Fail> {
     if all.remaining() < 6 {
         return Err(Fail::new("too short"));
     }
-    assert_eq!(rt; all.copy_to_bytes(alloc, 6)?.as_slice(), b"abcdef".as_slice());
+    assert_eq!(rt;
+        all.copy_to_bytes(alloc, 6)?.as_slice(),
+        b"abcdef".as_slice()
+    );
     assert_eq!(rt; (all.remaining(), all.limit), (0, 3));
     Ok(())
 }
