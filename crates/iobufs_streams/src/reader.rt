@@ -134,7 +134,7 @@ impl<R: Read + Drop> FrameReader<R> {
     pub fn new(alloc: Global, from: R, range: RangeCfg) -> Result<FrameReader<R>, AllocError>
         ensures from { IfOk result (λ reader. reader.from ≡ from) }
         ensures range { IfOk result (λ reader. reader.range ≡ range) }
-        ensures nothing { IfOk result (λ reader. held_bytes reader.held ≡ []) }
+        ensures empty { IfOk result (λ reader. held_bytes reader.held ≡ []) }
     {
         let held = Held::new(alloc)?;
         Ok(FrameReader { from, range, held })
