@@ -23,7 +23,7 @@ fn send_frame<W: Write + Drop>(
     requires { to.old.rest.bytes ≡ [] }
     ensures sent { HasSent (W.contents to.old.to) (W.contents to.new.to) (bytes_written body.bytes) }
     ensures all { OnOk result (Appends (W.contents to.old.to) (W.contents to.new.to) (bytes_written body.bytes)) }
-    ensures nothing { OnOk result (to.new.rest.bytes ≡ []) }
+    ensures empty { OnOk result (to.new.rest.bytes ≡ []) }
 {
     if let Err(refused) = to.put(alloc, IoBufs::from(body)) {
         return Err(match refused.cause {

@@ -117,7 +117,7 @@ impl<W: Write + Drop> FrameWriter<W> {
     /// Frames to this writer.
     pub fn new(to: W) -> FrameWriter<W>
         ensures to { result.to ≡ to }
-        ensures nothing { result.rest.bytes ≡ [] }
+        ensures empty { result.rest.bytes ≡ [] }
     {
         FrameWriter {
             to,

@@ -31,5 +31,5 @@ loop-preserved g c = record {
       (g.R.Read.remaining c.next.new.self.from) (held_bytes c.args.from.now.held) (held_bytes c.loop.from.held) (held_bytes c.next.new.self.held)
       (g.W.Write.contents c.args.to.now.to) (g.W.Write.contents c.loop.to.to) (g.W.Write.contents c.send_frame.new.to.to) c.in-Ok-Some.field-0
       c.in-Ok-Some.body c.loop.invariant.echoes c.in-Ok-Some.field-0-is c.in-Ok-Some.ensures.next c.in_ok-send_frame-in-Ok-Some.ensures.all;
-  nothing = c.in_ok-send_frame-in-Ok-Some.ensures.nothing;
+  nothing = c.in_ok-send_frame-in-Ok-Some.ensures.empty;
 }
