@@ -10,6 +10,7 @@ use Rattle.iobufs.proofs.Text.PieceLaws.{AreFull-append, length-bytes, of_pieces
 use Rattle.iobufs.proofs.Text.KeptLaws.{AreViews-append}
 use Rattle.iobufs.proofs.Text.JoinLaws.{append-push}
 
+-- no pieces make the empty text
 pub of_pieces-none : of_pieces [] ≡ default_text
 unfolding of_pieces
 of_pieces-none = refl

@@ -5,6 +5,7 @@ use Rattle.iobufs_core.specs.Part.{Part, empty_part, part_put}
 use Rattle.iobufs.specs.Laws.Filling.{same_part}
 use Rattle.iobufs.specs.Parts.{parts_coalesced, parts_filled}
 
+-- two parts or more become one of their bytes, with no room behind them
 pub coalesced-several : (parts : List Part) → 1 < length parts → parts_coalesced parts ≡ record { filled = parts_filled parts; spare = 0 }
 coalesced-several [] h = absurd (omega arith)
 coalesced-several (p ∷ []) h = absurd (omega arith)

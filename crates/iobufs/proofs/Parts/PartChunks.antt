@@ -9,6 +9,7 @@ use Rattle.std.proofs.lemmas.List.{nil_from_length}
 use Rattle.iobufs.specs.Laws.Filling.{take_both}
 use Rattle.iobufs.specs.Parts.{parts_chunks, parts_filled}
 
+-- one part holds its bytes
 pub filled-one : (p : Part) → parts_filled (p ∷ []) ≡ p.filled
 filled-one p = append-nil p.filled
 
