@@ -21,8 +21,6 @@ mod pool;
 #[cfg(test)]
 mod printed;
 #[cfg(test)]
-mod readers;
-#[cfg(test)]
 mod records;
 #[cfg(test)]
 mod runs;
