@@ -1,9 +1,10 @@
 // Frames on a text that comes in pieces.
 use crate::made::shows;
 use crate::word::{Word, end, ensure, say};
+use iobufs::bufs::IoBufs;
 use iobufs_core::buf::IoBuf;
 use iobufs_core::codec::{BufError, Error, RangeCfg};
-use iobufs_frames::{End, Frames};
+use iobufs_frames::{ByteOrder, End, Frames, Prefix, Width, framed_with};
 use std::alloc::Global;
 use std::test::Fail;
 
@@ -81,4 +82,45 @@ fn run(rt: HostRuntime) -> Result<(), Fail> {
     };
     let whole = run.frames.len() == 2 && run.rest.is_empty();
     end(&rt, word, whole && run.stop == End::Open)
+}
+
+// The same frames behind lengths of two bytes.
+const FIXED_PIECES: [&'static [u8]; 2] = [b"\0\x03ab", b"c\0\x01d"];
+
+const FIXED: Prefix = Prefix::Fixed(Width::U16, ByteOrder::Big);
+
+fn fed_fixed(alloc: Global) -> Result<Frames, BufError> {
+    let mut frames = Frames::default();
+    for piece in FIXED_PIECES {
+        frames.feed(alloc, IoBuf::from(piece))?;
+    }
+    Ok(frames)
+}
+
+#[test]
+fn next_behind_a_fixed_length(rt: HostRuntime) -> Result<(), Fail> {
+    let mut frames = fixture!(rt, fed_fixed(rt.alloc()));
+    let (body, word) = lent!(
+        frames.next_with(rt.alloc(), FIXED, &RANGE),
+        Error::Memory,
+        shows(frames.rest(), &FIXED_PIECES)
+    );
+    let body = body.ok_or("no frame")?;
+    let rest = shows(frames.rest(), &[b"\0\x01d"]);
+    end(&rt, word, body.as_ref() == b"abc".as_slice() && rest)
+}
+
+#[test]
+fn framed_behind_a_fixed_length(rt: HostRuntime) -> Result<(), Fail> {
+    let body = IoBufs::from(b"abc".as_slice());
+    let (frame, word) = match framed_with(rt.alloc(), FIXED, body) {
+        Ok(frame) => (frame, Word::Whole),
+        Err(refused) => {
+            ensure(refused.cause == BufError::Memory, "another refusal")?;
+            ensure(shows(&refused.value, &[b"abc"]), "another body")?;
+            let again = framed_with(rt.alloc(), FIXED, refused.value);
+            (again.ok().ok_or("refused twice")?, Word::Refused)
+        }
+    };
+    end(&rt, word, shows(&frame, &[b"\0\x03", b"abc"]))
 }
