@@ -10,7 +10,8 @@ pub cut-more : (shown more xs target : List (List ℕ)) (chunk : List ℕ) (i le
     → more ++ first_chunks (drop (i + 1) xs) (left - some) ≡ target
 cut-more shown more xs target chunk i left some here lasts least put so_far =
     let behind = drop (i + 1) xs in
-    let same : take some chunk ≡ take left chunk = ap (λ k. take k chunk) (let e : some ≡ min left (length chunk) = omega (arith, least) in e) ∙ take_min left chunk in
+    let count : some ≡ min left (length chunk) = omega (arith, least) in
+    let same : take some chunk ≡ take left chunk = ap (λ k. take k chunk) count ∙ take_min left chunk in
     let less : left - some ≡ left - length chunk = omega (arith, least) in
     ap (λ xs. xs ++ first_chunks behind (left - some)) put ∙ append_assoc shown (take some chunk ∷ []) (first_chunks behind (left - some))
     ∙ ap (λ c. shown ++ c ∷ first_chunks behind (left - some)) same ∙ ap (λ k. shown ++ take left chunk ∷ first_chunks behind k) less

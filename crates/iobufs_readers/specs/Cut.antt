@@ -18,7 +18,8 @@ pub none-first : (chunks : List (List ℕ)) (n : ℕ) → n ≡ 0 → first_chun
 none-first [] n none = refl
 none-first (chunk ∷ chunks) n none = rw none refl
 
-pub some-first : (chunk : List ℕ) (chunks : List (List ℕ)) (n : ℕ) → 0 < n → first_chunks (chunk ∷ chunks) n ≡ take n chunk ∷ first_chunks chunks (n - length chunk)
+pub some-first : (chunk : List ℕ) (chunks : List (List ℕ)) (n : ℕ) → 0 < n
+    → first_chunks (chunk ∷ chunks) n ≡ take n chunk ∷ first_chunks chunks (n - length chunk)
 some-first chunk chunks n some = grind (arith, nat_tests)
 
 -- the first bytes of what is left are what is left of the first bytes

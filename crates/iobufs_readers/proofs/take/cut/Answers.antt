@@ -7,14 +7,14 @@ use Rattle.iobufs_readers.proofs.take.cut.Goals as goal
 
 pub loop-index-preserved : goal.loop-index-preserved
 loop-index-preserved c =
-    let items = c.args.chunks.items in
-    let i = c.loop-index.index in
-    let here = shown-behind (λ (chunk : Bor (List ℕ)). chunk.now) items i c.index-chunk.result.now
+    let l = c.loop-index in
+    let shown : Bor (List ℕ) → List ℕ = λ chunk. chunk.now in
+    let here = shown-behind shown c.args.chunks.items l.index c.index-chunk.result.now
     (omega (arith, c.loop-index-test.true, c.len.ensures, c.args.chunks.ok.0)) c.index-chunk.ensures in
-    let put = ap (map (λ (chunk : Bor (List ℕ)). chunk.now)) c.in_ok-push.ensures.items ∙ map-append (λ (chunk : Bor (List ℕ)). chunk.now) c.loop-index.cut.items _ in
+    let put = ap (map shown) c.in_ok-push.ensures.items ∙ map-append shown l.cut.items _ in
     record {
-      same = c.loop-index.invariant.same;
-      so_far = cut-more _ _ _ _ _ i c.loop-index.left c.min-some.result here (omega (arith, c.if-left-ne0.true)) c.min-some.ensures put c.loop-index.invariant.so_far;
+      same = l.invariant.same;
+      so_far = cut-more _ _ _ _ _ l.index l.left c.min-some.result here (omega (arith, c.if-left-ne0.true)) c.min-some.ensures put l.invariant.so_far;
     }
 
 pub returns-clause-ok : goal.returns-clause-ok
