@@ -45,7 +45,7 @@ impl Drop for IoBufsMut {
     }
 }
 
-// One part, which asks for no memory of its own, or a row of two or more.
+// One part, or up to three in place, which ask for no memory of their own; or a row of more.
 #[derive(Drop)]
 enum Shape {
     One(IoBufMut),

@@ -1,4 +1,4 @@
-// Two or three parts in place.
+// Up to three parts in place.
 ghost use Rattle.std.specs.Option.{option_copied};
 ghost use Rattle.std.specs.Prelude.{◌≡◌, ◌+◌, ◌-◌, ◌^◌, ◌<◌, ◌≤◌, ◌++◌, [], ◌∷◌, drop, false, length, map, min, replicate, slice_get, take, ◌==◌, if◌then◌else◌, Err, IfOk, OnOk, IfNone, IfSome, IsOk, IsOkUnless, IsTrue};
 ghost use Rattle.iobufs_core.specs.Chunks.{first_chunk};
