@@ -82,7 +82,7 @@ pub struct Chunk {
 pub const VIEW: usize = 6;
 pub const PART: usize = 8;
 pub const TEXT: usize = 7;
-pub const PARTS: usize = 10;
+pub const PARTS: usize = 23;
 pub const BUILDER: usize = 15;
 pub const FRAMES: usize = 7;
 
