@@ -309,7 +309,8 @@ goes_on input before line reply left mid new number m after r said e =
 
 -- a line that was read and answered, and whose answer is written, is one more answered line, and the machine goes on behind it
 pub line_answered : (read told left mid new : Option (List ℕ)) (line reply : List ℕ) (number : ℕ) (m after : Seen)
-    → Reads read told line left mid number m → AnswersMachineLine line m after reply (Ok tt) → Appends mid new reply → Going read told left new (number + 1) after
+    → Reads read told line left mid number m → AnswersMachineLine line m after reply (Ok tt) → Appends mid new reply
+    → Going read told left new (number + 1) after
 line_answered (Some input) (Some before) left mid new line reply number m after r said e =
     goes_on input before line reply left mid new number m after r said
     (line_more (before ++ line_of (codes "ok") ++ flat_map line_of r.answered.texts) reply mid new r.answered.prints e)
@@ -344,7 +345,8 @@ bad_at input before line left mid number m r is none =
 
 -- a line that is text and asks nothing ends the session there, by its number
 pub bad_line : (read told left mid : Option (List ℕ)) (line reply : List ℕ) (number : ℕ) (m after : Seen)
-    → Reads read told line left mid number m → IsUtf8 line → AnswersMachineLine line m after reply (Err NoCommand) → Ended read told mid (Err (BadCommand number))
+    → Reads read told line left mid number m → IsUtf8 line → AnswersMachineLine line m after reply (Err NoCommand)
+    → Ended read told mid (Err (BadCommand number))
 bad_line (Some input) (Some before) left mid line reply number m after r is none = bad_at input before line left mid number m r is none
 bad_line (Some input) None left mid line reply number m after r is none = tt
 bad_line None told left mid line reply number m after r is none = tt
