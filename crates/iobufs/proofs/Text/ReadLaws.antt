@@ -25,7 +25,7 @@ use Rattle.iobufs.proofs.Text.CopyLaws.{bytes-from}
 use Rattle.iobufs.proofs.Text.TextLaws.{length-kept, IsPieces-from_pieced, some_views, chunks-kept, single-kept, rest-kept}
 
 -- the first piece is the first chunk, and a beginning of the text
-first-of : (vs : List View) (t : MarkedText) → of_pieces vs ≡ t → 0 < length vs → (0 < length (pieces_bytes vs) → AreFull vs)
+pub first-of : (vs : List View) (t : MarkedText) → of_pieces vs ≡ t → 0 < length vs → (0 < length (pieces_bytes vs) → AreFull vs)
     → (piece_at vs 0).bytes ≡ first_chunk (text_chunks t)
 first-of [] t e l f = absurd (omega arith)
 first-of (v ∷ vs) t e l f =

@@ -7,8 +7,9 @@ use Rattle.std.proofs.lemmas.List.{get_or-drop, take_more}
 use Rattle.std.proofs.lemmas.List.Concat.{flat_map-append}
 use Rattle.std.proofs.Math.Seq.{take-add, drop-cons}
 use Rattle.iobufs_core.specs.CallerFacts.{bytes-rest}
-use Rattle.iobufs_core.specs.View.{View, default_view, view_advanced}
-use Rattle.iobufs_core.specs.MarkedText.{MarkedText, text_len, text_rest, text_split_front}
+use Rattle.iobufs_core.specs.View.{View, default_view, mark_after, static_mark, view_advanced}
+use Rattle.iobufs_core.specs.Chunks.{first_chunk}
+use Rattle.iobufs_core.specs.MarkedText.{MarkedText, taken_view, text_chunks, text_len, text_rest, text_split_front}
 use Rattle.iobufs.specs.Inside.Kept.{IsKept}
 use Rattle.iobufs.specs.Inside.Pieces.{AreFull, AreViews, IsPlace, left_pieces, of_pieces, piece_at, piece_start, pieces_bytes, right_pieces, view_len}
 use Rattle.iobufs.specs.Inside.Several.{views, IsPieced}
@@ -16,6 +17,8 @@ use Rattle.iobufs.specs.declared.bufs.pieces.Pieces.{Pieces}
 use Rattle.iobufs.specs.declared.bufs.row.Piece.{Piece}
 use Rattle.iobufs.proofs.Text.EndLaws.{start-next, starts-below}
 use Rattle.iobufs.proofs.Text.PieceLaws.{AreFull-right, left_pieces-none, left_pieces-past, left_pieces-within, len-of_pieces, length-bytes, rest-of_pieces, right_pieces-none, right_pieces-past, right_pieces-within, split_front-of_pieces}
+use Rattle.iobufs.proofs.Text.ReadLaws.{first-of}
+use Rattle.iobufs.proofs.Text.TakenLaws.{taken_view-within}
 use Rattle.iobufs.proofs.Text.PlaceLaws.{index-of_place, left_pieces-seam, right-at_place}
 
 -- a clone of the next piece behind clones of those from one on
@@ -159,6 +162,46 @@ held-between vs run from to i j o p here there rise l is =
     let sum = start-run vs i (j - i + 1) in
     let last : piece_start vs (i + (j - i + 1)) ≡ piece_start vs (suc j) = (let e : i + (j - i + 1) ≡ suc j = omega (arith, rise) in ap (piece_start vs) e) in
     omega (arith, next, sum, last, here.sum, there.sum, there.inside, l, ap (λ (ws : List View). length (pieces_bytes ws)) is)
+
+-- a piece that holds all bytes from a place to one behind it holds that one too
+pub places-meet : (vs : List View) (from to i j o p : ℕ) → AreFull vs → IsPlace vs from i o → IsPlace vs to j p → from ≤ to
+    → o + (to - from) < view_len (piece_at vs i) → j - i ≡ 0
+places-meet vs from to i j o p full here there l within =
+    ⊎_elim
+    (λ (h : i < j). let index = index-of_place vs to j p there in
+    let next = start-next vs i (omega (arith, h, index)) in
+    let start : piece_start vs (suc i) ≤ piece_start vs j = ⊎_elim
+    (λ (m : suc i < j). let below = starts-below vs (suc i) j full m (omega (arith, index)) in omega (arith, below))
+    (λ (m : j ≤ suc i). let same : suc i ≡ j = omega (arith, m, h) in omega (arith, ap (piece_start vs) same))
+    (cases_lt (suc i) j) in
+    absurd (omega (arith, next, start, here.sum, there.sum, within, l)))
+    (λ (h : j ≤ i). omega (arith, h))
+    (cases_lt i j)
+
+-- a run of the piece of a place alone
+only-run : (vs run : List View) (i k : ℕ) → i < length vs → run ≡ take (k + 1) (drop i vs) → k ≡ 0 → run ≡ piece_at vs i ∷ []
+only-run vs run i k index is none =
+    is ∙ ap (λ m. take (m + 1) (drop i vs)) none ∙ ap (take 1) (drop-cons vs i default_view index)
+
+-- what stands behind a place of a static piece alone, which has n bytes there: its first chunk has them, and is static
+pub static-run : (vs run : List View) (t : MarkedText) (from n i o k : ℕ) → AreFull vs → IsPlace vs from i o → run ≡ take (k + 1) (drop i vs) → k ≡ 0
+    → 0 < n → o + n ≤ view_len (piece_at vs i) → (piece_at vs i).mark ≡ static_mark → t ≡ text_rest (of_pieces run) o
+    → (n ≤ length (first_chunk (text_chunks t))) × ((taken_view t 0 n).mark ≡ static_mark)
+static-run vs run t from n i o k full place is none some l static rest =
+    let v = piece_at vs i in
+    let one = only-run vs run i k (index-of_place vs from i o place) is none in
+    let kept : AreFull (v ∷ []) = (omega (arith, place.inside), tt) in
+    let w = view_advanced v o in
+    let len : view_len w ≡ view_len v - o = length-drop o v.bytes in
+    let text : t ≡ of_pieces (w ∷ []) =
+    rest ∙ ap (λ ws. text_rest (of_pieces ws) o) one ∙ rest-from (v ∷ []) o kept (omega (arith, place.inside, length-bytes v []))
+    ∙ ap of_pieces (right_pieces-within o v [] place.inside) in
+    let chunk = ap length (first-of (w ∷ []) t (sym text) (omega arith) (λ h. (omega (arith, len, some, l), tt))) in
+    let mark = ap (λ (u : View). u.mark) (ap (λ u. taken_view u 0 n) text ∙ taken_view-within n w [] some (omega (arith, len, l))) in
+    (omega (arith, chunk, len, l), mark ∙ advanced-static v o static)
+  where
+    advanced-static : (v : View) (o : ℕ) → v.mark ≡ static_mark → mark_after o v.mark ≡ static_mark
+    advanced-static v o static = ap (mark_after o) static
 
 full-run : (m : ℕ) (vs : List View) → AreFull vs → AreFull (take m vs)
 full-run zero vs full = tt

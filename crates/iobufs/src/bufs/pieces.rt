@@ -1,7 +1,7 @@
 // One piece, or a row of several.
 ghost use Rattle.std.specs.Option.{option_copied};
 ghost use Rattle.std.specs.Prelude.{◌≡◌, List, ◌+◌, ◌*◌, ◌<◌, ◌≤◌, ◌^◌, ◌++◌, [], ◌∷◌, nat_lt, OnOk, OnErr, IfOk, IfErr, IsOk, IsTrue, IsFalse, IsOkUnless, MatchResult, length, slice_get, take, drop};
-ghost use Rattle.iobufs_core.specs.View.{View, static_mark, view_advanced};
+ghost use Rattle.iobufs_core.specs.View.{View, IsFreelyShared, static_mark, view_advanced};
 ghost use Rattle.iobufs.specs.Inside.Pieces.{AreFull, IsPlace, behind_first, left_pieces, right_pieces, piece_at, pieces_bytes, view_len};
 ghost use Rattle.iobufs.specs.Inside.Several.{views, IsPieced};
 
@@ -191,6 +191,7 @@ impl Pieces {
         requires inside { first + behind < length (views self.now) }
         ensures run { IfOk result (λ run. views run ≡ take (behind + 1) (drop first (views self.now))) }
         ensures pieced { IfOk result IsPieced }
+        ensures free { behind ≡ 0 → IsFreelyShared (piece_at (views self.now) first) → IsOk result }
     {
         if behind == 0 {
             return Ok(Pieces::One(self.piece(first).clone()?));

@@ -51,6 +51,7 @@ impl IoBufs {
         ensures ok { IfOk result (λ text. text ≡ text_split_front (text_rest self.now range.start) (range.end - range.start)) }
         ensures memory { IsOkUnless result BufError.Memory }
         ensures nothing { range.start ≡ range.end → IsOk result }
+        ensures static_text { (taken_view self.now range.start (range.end - range.start)).mark ≡ static_mark → IsOk result }
     {
         let Range { start, end } = range;
         if start == end {

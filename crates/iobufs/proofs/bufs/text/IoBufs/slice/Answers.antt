@@ -1,10 +1,11 @@
-use Rattle.std.proofs.Common.{◌≡◌, ◌-◌, ◌<◌, ◌≤◌, ◌∙◌, arith, ap, refl, sym, ⊎_elim}
-use Rattle.std.proofs.lemmas.Bool.{cases_lt}
+use Rattle.std.proofs.Common.{◌≡◌, ◌+◌, ◌-◌, ◌<◌, ◌≤◌, ◌∙◌, arith, ap, inl, length, refl, sym, ⊎_elim}
+use Rattle.std.proofs.lemmas.Bool.{cases_lt, false≢true}
 use Rattle.iobufs_core.specs.MarkedText.{MarkedText, text_len, text_rest, text_split_front}
-use Rattle.iobufs.specs.Inside.Pieces.{of_pieces}
+use Rattle.iobufs.specs.Inside.Pieces.{of_pieces, piece_at, pieces_bytes, view_len}
 use Rattle.iobufs.specs.Inside.Several.{views}
 use Rattle.iobufs.proofs.Text.PieceLaws.{len-of_pieces}
-use Rattle.iobufs.proofs.Text.SliceLaws.{cut-run, front-all, full-between, held-between, kept-run, places-rise, rest-len}
+use Rattle.iobufs.proofs.Text.SliceLaws.{cut-run, front-all, full-between, held-between, kept-run, places-meet, places-rise, rest-len, static-run}
+use Rattle.iobufs.proofs.Text.StaticLaws.{across-native, static-within}
 use Rattle.iobufs.proofs.Text.TextLaws.{full-kept, length-kept}
 use Rattle.iobufs.proofs.bufs.text.IoBufs.slice.Goals as goal
 
@@ -61,3 +62,47 @@ returns-clause-ok c =
     (λ (h : text_len c.drop_front.new.self ≤ n). (c.truncate.ensures.longer h).0 ∙ c.drop_front.ensures
     ∙ sym (front-all (text_rest (of_pieces run) o) n some (omega (arith, same, len, held, h, len-of_pieces run))) ∙ cut)
     (cases_lt n (text_len c.drop_front.new.self))
+
+pub returns-in_err-pieces-clause-static_text : goal.returns-in_err-pieces-clause-static_text
+returns-in_err-pieces-clause-static_text c = λ static.
+    let from = c.args.range.start in
+    let n = c.args.range.end - from in
+    let s = c.self.inside in
+    let vs = views s.pieces in
+    let i = c.locate-first.result.index in
+    let o = c.locate-first.result.offset in
+    let first = c.locate-first.ensures.place in
+    let len = length-kept s _ c.self.view_is in
+    let full = full-kept s _ c.self.view_is c.self.invariant (omega (arith, c.requires.order, c.requires.inside, c.if-start-end.false)) in
+    let some : 0 < n = omega (arith, c.requires.order, c.if-start-end.false) in
+    let l : from ≤ c.args.range.end - 1 = omega (arith, c.requires.order, c.if-start-end.false) in
+    let inside : from + n ≤ length (pieces_bytes vs) = omega (arith, c.requires.order, c.requires.inside, len) in
+    ⊎_elim
+    (λ (h : view_len (piece_at vs i) - o < n). absurd (across-native vs _ from n i o c.self.view_is first inside h static))
+    (λ (h : n ≤ view_len (piece_at vs i) - o). let piece = static-within vs _ from n i o c.self.view_is first (omega (arith, inside, some)) some h static in
+    let alone = places-meet vs _ _ _ _ _ _ full first c.locate-last.ensures.place l (omega (arith, h, some, first.inside)) in
+    absurd (false≢true (c.in_err-pieces.ensures.free alone (inl piece))))
+    (cases_lt (view_len (piece_at vs i) - o) n)
+
+pub returns-in_err-truncate-clause-static_text : goal.returns-in_err-truncate-clause-static_text
+returns-in_err-truncate-clause-static_text c = λ static.
+    let from = c.args.range.start in
+    let n = c.args.range.end - from in
+    let s = c.self.inside in
+    let vs = views s.pieces in
+    let i = c.locate-first.result.index in
+    let o = c.locate-first.result.offset in
+    let first = c.locate-first.ensures.place in
+    let len = length-kept s _ c.self.view_is in
+    let full = full-kept s _ c.self.view_is c.self.invariant (omega (arith, c.requires.order, c.requires.inside, c.if-start-end.false)) in
+    let some : 0 < n = omega (arith, c.requires.order, c.if-start-end.false) in
+    let l : from ≤ c.args.range.end - 1 = omega (arith, c.requires.order, c.if-start-end.false) in
+    let inside : from + n ≤ length (pieces_bytes vs) = omega (arith, c.requires.order, c.requires.inside, len) in
+    ⊎_elim
+    (λ (h : view_len (piece_at vs i) - o < n). absurd (across-native vs _ from n i o c.self.view_is first inside h static))
+    (λ (h : n ≤ view_len (piece_at vs i) - o). let piece = static-within vs _ from n i o c.self.view_is first (omega (arith, inside, some)) some h static in
+    let alone = places-meet vs _ _ _ _ _ _ full first c.locate-last.ensures.place l (omega (arith, h, some, first.inside)) in
+    let left = static-run vs _ c.drop_front.new.self from n i o _ full first c.in_ok-pieces.ensures.run alone some (omega (arith, h, some, first.inside)) piece
+    c.drop_front.ensures in
+    absurd (false≢true (c.in_err-truncate.ensures.static_text left.0 left.1)))
+    (cases_lt (view_len (piece_at vs i) - o) n)
