@@ -1,11 +1,11 @@
 // How the length in front of a body is written, and lengths of a fixed size in front of a text.
-ghost use Rattle.std.specs.Prelude.{◌≡◌, ◌≤◌, ◌<◌, ◌^◌, length, nat_lt, take, MatchOption, IfOk, IfErr, IsErrAnd, IsOkUnless};
+ghost use Rattle.std.specs.Prelude.{◌≡◌, ◌≤◌, ◌<◌, ◌+◌, ◌^◌, length, nat_lt, take, MatchOption, SomeIff, IfOk, IfErr, IsErrAnd, IsOkUnless};
 ghost use Rattle.iobufs_core.specs.Spelling.{spell};
 ghost use Rattle.iobufs_frames.specs.Prefixes.{IsLengthAt, IsOpenAt, frame_written, prefix_limit, prefix_written, width_size};
 
 use iobufs::bufs::IoBufs;
 use iobufs_core::buf::IoBuf;
-use iobufs_core::codec::{BufError, Encode, OwnedBuf, Refused};
+use iobufs_core::codec::{BufError, Encode, EncodeSize, OwnedBuf, Refused};
 use std::alloc::Global;
 
 /// The size of a length that is written as a number.
@@ -145,8 +145,19 @@ impl Prefix {
     }
 }
 
+// How many bytes a body of so many is together with its length; none where that passes `usize::MAX`.
+fn framed_size(prefix: Prefix, len: usize) -> Option<usize>
+    ensures { SomeIff result (length (prefix_written prefix len) + len < 2 ^ 64) (length (prefix_written prefix len) + len) }
+{
+    let size = match prefix {
+        Prefix::Spelled => len.encode_size()?,
+        Prefix::Fixed(width, _) => width.size(),
+    };
+    size.checked_add(len)
+}
+
 /// A body behind its length; its chunks aren't copied. `BufError::TooLong` where the length can't be written so (see
-/// `Prefix::fits`), or both are longer than `usize::MAX`.
+/// `Prefix::fits`), or both are longer than `usize::MAX`, tested before memory is asked for.
 pub fn framed_with(
     alloc: Global,
     prefix: Prefix,
@@ -155,11 +166,12 @@ pub fn framed_with(
     ensures bytes { IfOk result (λ text. text.bytes ≡ frame_written prefix body.bytes) }
     ensures handed_back { IfErr result (λ refused. refused.value ≡ body) }
     ensures too_long { prefix_limit prefix ≤ length body.bytes → IsErrAnd result (λ refused. refused.cause ≡ BufError.TooLong) }
+    ensures both_too_long { 2 ^ 64 ≤ length (frame_written prefix body.bytes) → IsErrAnd result (λ refused. refused.cause ≡ BufError.TooLong) }
     ensures memory { length body.bytes < prefix_limit prefix → length (frame_written prefix body.bytes) < 2 ^ 64
         → IfErr result (λ refused. refused.cause ≡ BufError.Memory) }
 {
     let len = body.len();
-    if !prefix.fits(len) {
+    if !prefix.fits(len) || framed_size(prefix, len).is_none() {
         return Err(Refused {
             cause: BufError::TooLong,
             value: body,
