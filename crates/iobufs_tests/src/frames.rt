@@ -206,6 +206,76 @@ fn each_kind_of_length_is_written(rt: HostRuntime) -> Result<(), Fail> {
     Ok(())
 }
 
+// Lengths of long bodies, as each kind of length writes them.
+const LONG: [(Prefix, usize, &'static [u8]); 8] = [
+    (
+        Prefix::Spelled,
+        18446744073709551615,
+        b"\xff\xff\xff\xff\xff\xff\xff\xff\xff\x01",
+    ),
+    (Prefix::Spelled, 16384, b"\x80\x80\x01"),
+    (
+        Prefix::Fixed(Width::U16, ByteOrder::Big),
+        65535,
+        b"\xff\xff",
+    ),
+    (
+        Prefix::Fixed(Width::U16, ByteOrder::Little),
+        258,
+        b"\x02\x01",
+    ),
+    (
+        Prefix::Fixed(Width::U32, ByteOrder::Big),
+        4294967295,
+        b"\xff\xff\xff\xff",
+    ),
+    (
+        Prefix::Fixed(Width::U32, ByteOrder::Little),
+        16909060,
+        b"\x04\x03\x02\x01",
+    ),
+    (
+        Prefix::Fixed(Width::U64, ByteOrder::Big),
+        18446744073709551615,
+        b"\xff\xff\xff\xff\xff\xff\xff\xff",
+    ),
+    (
+        Prefix::Fixed(Width::U64, ByteOrder::Little),
+        1099511627777,
+        b"\x01\0\0\0\0\x01\0\0",
+    ),
+];
+
+#[test]
+fn lengths_of_long_bodies_are_written(rt: HostRuntime) -> Result<(), Fail> {
+    for (prefix, n, bytes) in LONG {
+        if !prefix.fits(n) {
+            return Err(Fail::new("doesn't fit"));
+        }
+        assert_eq!(rt; prefix.written(rt.alloc(), n)?.as_ref(), bytes);
+    }
+    Ok(())
+}
+
+#[test]
+fn a_long_body_comes_back_behind_each_kind_of_length(rt: HostRuntime) -> Result<(), Fail> {
+    let alloc = rt.alloc();
+    let range = RangeCfg { lo: 0, hi: 5000 };
+    for (prefix, _) in KINDS {
+        let body = IoBufs::from_vec(Vec::from_slice(alloc, &[7; 5000])?)?;
+        let text = framed_with(alloc, prefix, body).map_err(|refused| refused.cause)?;
+        let mut frames = Frames::default();
+        let frame = IoBuf::from_vec(text.to_vec(alloc)?)?;
+        assert!(rt; frames.feed(alloc, frame).is_ok());
+        let Some(body) = frames.next_with(alloc, prefix, &range)? else {
+            return Err(Fail::new("no frame"));
+        };
+        assert_eq!(rt; body.as_ref(), [7; 5000].as_slice());
+        assert!(rt; frames.rest().is_empty());
+    }
+    Ok(())
+}
+
 #[test]
 fn fixed_lengths_outside_the_range(rt: HostRuntime) -> Result<(), Fail> {
     let alloc = rt.alloc();

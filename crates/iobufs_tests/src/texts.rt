@@ -266,6 +266,22 @@ fn a_text_is_sliced_between_any_places(rt: HostRuntime) -> Result<(), Fail> {
     Ok(())
 }
 
+#[test]
+fn a_long_slice_of_two_pieces(rt: HostRuntime) -> Result<(), Fail> {
+    let alloc = rt.alloc();
+    let mut text = IoBufs::from_vec(Vec::from_slice(alloc, &[7; 3000])?)?;
+    let behind = IoBuf::from_vec(Vec::from_slice(alloc, &[9; 3000])?)?;
+    joined(text.append(alloc, behind).is_ok())?;
+    if text.len() < 5500 {
+        return Err(Fail::new("too short"));
+    }
+    let slice = text.slice(alloc, 500..5500)?;
+    assert_eq!(rt; slice.chunk_count(), 2);
+    assert_eq!(rt; slice.chunk_at(0), Some([7; 2500].as_slice()));
+    assert_eq!(rt; slice.chunk_at(1), Some([9; 2500].as_slice()));
+    Ok(())
+}
+
 // Bytes in three pieces, that end at these places.
 fn in_three(alloc: Global, bytes: &'static [u8], from: usize, to: usize) -> Result<IoBufs, Fail> {
     let mut text = IoBufs::default();
