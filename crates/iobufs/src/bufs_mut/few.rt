@@ -450,6 +450,12 @@ impl Few {
         if self.first.len() == len {
             return IoBufs::from_mut(mem::replace(&mut self.first, IoBufMut::default(alloc)));
         }
+        if self.second.len() == len {
+            return IoBufs::from_mut(mem::replace(&mut self.second, IoBufMut::default(alloc)));
+        }
+        if self.third.len() == len {
+            return IoBufs::from_mut(mem::replace(&mut self.third, IoBufMut::default(alloc)));
+        }
         let mut row = Row::with_room(alloc, 3)?;
         let end = add_frozen(alloc, &mut row, &mut self.first, 0)?;
         let end = add_frozen(alloc, &mut row, &mut self.second, end)?;
