@@ -1,1 +1,2 @@
 pub mod CutTurns
+pub mod GatheredTurns

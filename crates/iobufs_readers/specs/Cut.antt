@@ -61,10 +61,12 @@ full-short [] = omega arith
 full-short ([] ∷ chunks) = let l = full-short chunks in omega (arith, l)
 full-short ((byte ∷ bytes) ∷ chunks) = let l = full-short chunks in omega (arith, l)
 
-empty_first : (chunks : List (List ℕ)) → full_chunks chunks ≡ [] ∷ chunks → ⊥
+-- no full chunks begin with an empty one
+pub empty_first : (chunks : List (List ℕ)) → full_chunks chunks ≡ [] ∷ chunks → ⊥
 empty_first chunks full = absurd (omega (arith, full-short chunks, ap (λ (xs : List (List ℕ)). length xs) full))
 
-behind-full : (byte : ℕ) (bytes : List ℕ) (chunks : List (List ℕ)) → full_chunks ((byte ∷ bytes) ∷ chunks) ≡ (byte ∷ bytes) ∷ chunks
+-- behind a full chunk of some full ones are full ones
+pub behind-full : (byte : ℕ) (bytes : List ℕ) (chunks : List (List ℕ)) → full_chunks ((byte ∷ bytes) ∷ chunks) ≡ (byte ∷ bytes) ∷ chunks
     → full_chunks chunks ≡ chunks
 behind-full byte bytes chunks full = ap (drop 1) full
 

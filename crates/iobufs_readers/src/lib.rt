@@ -1,6 +1,8 @@
-//! Readers over readers (`bytes::buf`): `Take`, the first bytes of one.
+//! Readers over readers (`bytes::buf`): `Take`, the first bytes of one, and `Chain`, one and then another.
 #![tactic(auto)]
 
+mod chain;
 mod take;
 
+pub use chain::Chain;
 pub use take::Take;

@@ -16,7 +16,11 @@ pub struct Take<R> {
 }
 
 // The chunks that hold the first bytes, the last of them cut where these end.
-fn cut<'a>(alloc: Global, chunks: Vec<&'a [u8]>, limit: usize) -> Result<Vec<&'a [u8]>, BufError>
+pub(crate) fn cut<'a>(
+    alloc: Global,
+    chunks: Vec<&'a [u8]>,
+    limit: usize,
+) -> Result<Vec<&'a [u8]>, BufError>
     ensures ok { IfOk result (λ cut. map (λ chunk. chunk.now) cut.items ≡ first_chunks (map (λ chunk. chunk.now) chunks.entry.items) limit) }
     ensures memory { IsOkUnless result BufError.Memory }
     ensures nothing { length chunks.entry.items ≡ 0 → IsOk result }
