@@ -1,10 +1,9 @@
 -- Chunks copied one by one.
-use Rattle.std.proofs.Common.{◌≡◌, ℕ, ◌+◌, ◌-◌, ◌≤◌, List, [], ◌∷◌, ◌++◌, length, take, drop, min, zero, suc, refl, ap, sym, ◌∙◌, arith, add-one, append_assoc, append-nil, drop-cons, get_or, map, ◌<◌}
+use Rattle.std.proofs.Common.{◌≡◌, ℕ, ◌+◌, ◌-◌, ◌≤◌, List, [], ◌∷◌, ◌++◌, length, take, drop, min, zero, suc, refl, ap, sym, ◌∙◌, arith, add-one, append_assoc, drop-cons, get_or, map, ◌<◌}
 use Rattle.std.proofs.lemmas.List.{drop-map, take_min}
 use Rattle.std.specs.List.{flat_map}
 use Rattle.iobufs_core.specs.Chunks.{full_chunks}
-use Rattle.iobufs_readers.specs.Both.{take-two}
-use Rattle.iobufs_readers.specs.Cut.{behind-full, empty_first}
+use Rattle.iobufs_readers.specs.Cut.{behind-full, empty_first, take-two}
 
 -- from a place on stand its element and those behind it, seen by what each shows
 pub shown-at : {X : Type 0} (show : X → List ℕ) (items : List X) (i : ℕ) (otherwise : X) → i < length items
@@ -25,23 +24,8 @@ gathered-more xs copy more chunk target i left some here least put so_far =
     let less : left - some ≡ left - length chunk = omega (arith, least) in
     ap (λ xs. xs ++ take (left - some) behind) put ∙ append_assoc copy (take some chunk) (take (left - some) behind)
     ∙ ap (λ ys. copy ++ (ys ++ take (left - some) behind)) same ∙ ap (λ k. copy ++ (take left chunk ++ take k behind)) less
-    ∙ ap (λ ys. copy ++ ys) (sym (take-two left chunk behind))
+    ∙ ap (λ ys. copy ++ ys) (take-two left chunk behind)
     ∙ ap (λ chunks. copy ++ take left (flat_map (λ chunk. chunk) chunks)) (sym here) ∙ so_far
-
-take-nothing : (n : ℕ) → take {A = ℕ} n [] ≡ []
-take-nothing zero = refl
-take-nothing (suc n) = refl
-
--- no chunk is left
-pub gathered-all : (xs : List (List ℕ)) (copy target : List ℕ) (left : ℕ) → xs ≡ [] → copy ++ take left (flat_map (λ chunk. chunk) xs) ≡ target
-    → copy ≡ target
-gathered-all xs copy target left none so_far =
-    sym (append-nil copy) ∙ ap (λ ys. copy ++ ys) (sym (take-nothing left))
-    ∙ ap (λ chunks. copy ++ take left (flat_map (λ chunk. chunk) chunks)) (sym none) ∙ so_far
-
--- no byte is left to copy
-pub gathered-enough : (copy behind target : List ℕ) (left : ℕ) → left ≡ 0 → copy ++ take left behind ≡ target → copy ≡ target
-gathered-enough copy behind target left none so_far = sym (append-nil copy) ∙ ap (λ k. copy ++ take k behind) (sym none) ∙ so_far
 
 -- where no chunk is empty, so many chunks hold so many bytes
 pub taken-enough : (chunks : List (List ℕ)) (m n : ℕ) → m ≤ n → full_chunks chunks ≡ chunks
@@ -53,5 +37,5 @@ taken-enough ([] ∷ chunks) (suc m) (suc n) l full = absurd (empty_first chunks
 taken-enough ((byte ∷ bytes) ∷ chunks) (suc m) (suc n) l full =
     let chunk = byte ∷ bytes in
     let behind = taken-enough chunks (suc m - length chunk) n (omega (arith, l)) (behind-full byte bytes chunks full) in
-    take-two (suc m) chunk (flat_map (λ chunk. chunk) (take n chunks)) ∙ ap (λ ys. take (suc m) chunk ++ ys) behind
-    ∙ sym (take-two (suc m) chunk (flat_map (λ chunk. chunk) chunks))
+    sym (take-two (suc m) chunk (flat_map (λ chunk. chunk) (take n chunks))) ∙ ap (λ ys. take (suc m) chunk ++ ys) behind
+    ∙ take-two (suc m) chunk (flat_map (λ chunk. chunk) chunks)

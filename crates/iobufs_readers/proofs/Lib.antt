@@ -1,2 +1,3 @@
+pub mod AskedBoth
 pub mod CutTurns
 pub mod GatheredTurns

@@ -6,7 +6,7 @@
 --     and facts about them
 use Rattle.std.specs.Prelude.{◌≡◌, ℕ, ◌+◌, ◌-◌, ◌<◌, ◌≤◌, ◌==◌, nat_le, min, if◌then◌else◌, true, false, List, [], ◌∷◌, ◌++◌, length, take, drop}
 use Rattle.std.specs.List.{flat_map}
-use Rattle.std.proofs.Common.{zero, suc, refl, ap, sym, ◌∙◌, arith, length-append, length-take, ⊎_elim}
+use Rattle.std.proofs.Common.{zero, suc, refl, ap, sym, ◌∙◌, arith, length-append, take_all, ⊎_elim}
 use Rattle.std.proofs.lemmas.Bool.{cases_lt}
 use Rattle.std.proofs.lemmas.Bool.Decides.{nat_tests}
 use Rattle.std.proofs.lemmas.Grind.{flat_map-append}
@@ -27,16 +27,8 @@ copied_first copied advanced s n here = if nat_le n here then copied s n else if
 abbrev pub copied_second : {S : Type 0} → (S → ℕ → S) → (S → ℕ → S) → S → ℕ → ℕ → S
 copied_second copied advanced s n here = if nat_le n here then s else if here == 0 then copied s n else advanced s (n - here)
 
--- the first bytes of two texts
-pub take-two : {X : Type 0} (n : ℕ) (xs ys : List X) → take n (xs ++ ys) ≡ take n xs ++ take (n - length xs) ys
-take-two zero xs ys = let none : 0 - length xs ≡ 0 = omega arith in ap (λ k. take k ys) (sym none)
-take-two (suc n) [] ys = let same : suc n - 0 ≡ suc n = omega arith in ap (λ k. take k ys) (sym same)
-take-two (suc n) (x ∷ xs) ys =
-    let less : n - length xs ≡ suc n - length (x ∷ xs) = omega arith in
-    ap (λ rest. x ∷ rest) (take-two n xs ys) ∙ ap (λ k. x ∷ (take n xs ++ take k ys)) less
-
 -- what is left of two texts
-pub drop-two : {X : Type 0} (n : ℕ) (xs ys : List X) → drop n (xs ++ ys) ≡ drop n xs ++ drop (n - length xs) ys
+drop-two : {X : Type 0} (n : ℕ) (xs ys : List X) → drop n (xs ++ ys) ≡ drop n xs ++ drop (n - length xs) ys
 drop-two zero xs ys = let none : 0 - length xs ≡ 0 = omega arith in ap (λ k. xs ++ drop k ys) (sym none)
 drop-two (suc n) [] ys = let same : suc n - 0 ≡ suc n = omega arith in ap (λ k. drop k ys) (sym same)
 drop-two (suc n) (x ∷ xs) ys =
@@ -48,6 +40,10 @@ pub joins_both : (chunks more : List (List ℕ)) (text behind : List ℕ) → fl
     → flat_map (λ chunk. chunk) (chunks ++ more) ≡ text ++ behind
 joins_both chunks more text behind joins joins_more =
     flat_map-append (λ chunk. chunk) chunks more ∙ ap (λ xs. xs ++ flat_map (λ chunk. chunk) more) joins ∙ ap (λ ys. text ++ ys) joins_more
+
+-- where both are no longer together than the limit, it cuts nothing off
+pub whole_both : (limit : ℕ) (text behind : List ℕ) → length text + length behind ≤ limit → take limit (text ++ behind) ≡ text ++ behind
+whole_both limit text behind l = take_all limit (text ++ behind) (omega (arith, l, length-append text behind))
 
 -- ---- what is left of both
 
@@ -81,7 +77,8 @@ module _ {S : Type 0} (text : S → List ℕ) (advanced copied : S → ℕ → S
       ⊎_elim
       (λ (some : 0 < length (text s)).
       let filled : (length (text s) == 0) ≡ false = grind (arith, nat_tests) in
-      rw (no, filled) (drops s (length (text s)) (omega arith) ∙ drop_all (length (text s)) (text s) (omega arith) ∙ sym (drop_all n (text s) (omega (arith, more)))))
+      rw (no, filled) (drops s (length (text s)) (omega arith) ∙ drop_all (length (text s)) (text s) (omega arith)
+      ∙ sym (drop_all n (text s) (omega (arith, more)))))
       (λ (h : length (text s) ≤ 0).
       let empty : (length (text s) == 0) ≡ true = grind (arith, nat_tests) in
       rw (no, empty) (drop_all 0 (text s) h ∙ sym (drop_all n (text s) (omega (arith, more)))))
@@ -145,9 +142,3 @@ first_both (chunk ∷ chunks) more some = refl
 pub second_both : (chunks more : List (List ℕ)) → full_chunks chunks ≡ chunks → length (flat_map (λ chunk. chunk) chunks) ≡ 0
     → first_chunk (chunks ++ more) ≡ first_chunk more
 second_both chunks more full none = ap (λ xs. first_chunk (xs ++ more)) (none-left chunks full none)
-
--- the first chunks of two texts, asked for one after the other
-pub take_both : (max : ℕ) (chunks more : List (List ℕ)) → take max chunks ++ take (max - length (take max chunks)) more ≡ take max (chunks ++ more)
-take_both max chunks more =
-    let count : max - length (take max chunks) ≡ max - length chunks = omega (arith, length-take max chunks) in
-    ap (λ k. take max chunks ++ take k more) count ∙ sym (take-two max chunks more)

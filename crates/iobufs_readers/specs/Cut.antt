@@ -3,7 +3,7 @@
 --     and facts about them
 use Rattle.std.specs.Prelude.{◌≡◌, ℕ, ◌+◌, ◌-◌, ◌<◌, ◌≤◌, ◌==◌, if◌then◌else◌, List, [], ◌∷◌, ◌++◌, length, take, drop}
 use Rattle.std.specs.List.{flat_map}
-use Rattle.std.proofs.Common.{zero, suc, refl, ap, sym, ◌∙◌, arith, length-take, ⊎_elim}
+use Rattle.std.proofs.Common.{zero, suc, refl, ap, sym, ◌∙◌, arith, length-append, length-take, take_all, ⊎_elim}
 use Rattle.std.proofs.lemmas.Bool.{cases_lt}
 use Rattle.std.proofs.lemmas.List.{drop-take}
 use Rattle.std.proofs.lemmas.Bool.Decides.{nat_tests}
@@ -31,13 +31,13 @@ drops_first limit n text left l drops =
     let sum : n + (limit - n) ≡ limit = omega (arith, within) in
     ap (take (limit - n)) (drops (omega (arith, l, shorter))) ∙ sym (drop-take n (limit - n) text) ∙ ap (λ m. drop n (take m text)) sum
 
--- the first bytes of a chunk and of those behind it
-take-both : (n : ℕ) (chunk behind : List ℕ) → take n chunk ++ take (n - length chunk) behind ≡ take n (chunk ++ behind)
-take-both zero chunk behind = let none : 0 - length chunk ≡ 0 = omega arith in ap (λ k. take k behind) none
-take-both (suc n) [] behind = let same : suc n - 0 ≡ suc n = omega arith in ap (λ k. take k behind) same
-take-both (suc n) (byte ∷ chunk) behind =
-    let less : suc n - length (byte ∷ chunk) ≡ n - length chunk = omega arith in
-    ap (λ k. byte ∷ (take n chunk ++ take k behind)) less ∙ ap (λ xs. byte ∷ xs) (take-both n chunk behind)
+-- the first of two lists are the first of the one, and of the other where the one ends
+pub take-two : {X : Type 0} (n : ℕ) (xs ys : List X) → take n xs ++ take (n - length xs) ys ≡ take n (xs ++ ys)
+take-two zero xs ys = let none : 0 - length xs ≡ 0 = omega arith in ap (λ k. take k ys) none
+take-two (suc n) [] ys = let same : suc n - 0 ≡ suc n = omega arith in ap (λ k. take k ys) same
+take-two (suc n) (x ∷ xs) ys =
+    let less : suc n - length (x ∷ xs) ≡ n - length xs = omega arith in
+    ap (λ k. x ∷ (take n xs ++ take k ys)) less ∙ ap (λ rest. x ∷ rest) (take-two n xs ys)
 
 joined_first : (chunks : List (List ℕ)) (n : ℕ) → flat_map (λ chunk. chunk) (first_chunks chunks n) ≡ take n (flat_map (λ chunk. chunk) chunks)
 joined_first [] zero = refl
@@ -45,7 +45,7 @@ joined_first [] (suc n) = refl
 joined_first (chunk ∷ chunks) n =
     ⊎_elim
     (λ (some : 0 < n). ap (flat_map (λ chunk. chunk)) (some-first chunk chunks n some)
-    ∙ ap (λ xs. take n chunk ++ xs) (joined_first chunks (n - length chunk)) ∙ take-both n chunk (flat_map (λ chunk. chunk) chunks))
+    ∙ ap (λ xs. take n chunk ++ xs) (joined_first chunks (n - length chunk)) ∙ take-two n chunk (flat_map (λ chunk. chunk) chunks))
     (λ (h : n ≤ 0). let none : n ≡ 0 = omega (arith, h) in rw none refl)
     (cases_lt 0 n)
 
@@ -111,6 +111,16 @@ first_take (chunk ∷ chunks) (suc max) n =
     ∙ ap (take (suc max)) (sym (some-first chunk chunks n some)))
     (λ (h : n ≤ 0). let none : n ≡ 0 = omega (arith, h) in rw none refl)
     (cases_lt 0 n)
+
+-- where no byte lies behind the first, they are all there are
+pub first_all : (chunks : List (List ℕ)) (n : ℕ) → full_chunks chunks ≡ chunks → length (flat_map (λ chunk. chunk) chunks) ≤ n → first_chunks chunks n ≡ chunks
+first_all [] n full l = refl
+first_all ([] ∷ chunks) n full l = absurd (empty_first chunks full)
+first_all ((byte ∷ bytes) ∷ chunks) n full l =
+    let chunk = byte ∷ bytes in
+    let long = length-append chunk (flat_map (λ chunk. chunk) chunks) in
+    some-first chunk chunks n (omega (arith, l, long)) ∙ ap (λ c. c ∷ first_chunks chunks (n - length chunk)) (take_all n chunk (omega (arith, l, long)))
+    ∙ ap (λ rest. chunk ∷ rest) (first_all chunks (n - length chunk) (behind-full byte bytes chunks full) (omega (arith, l, long)))
 
 -- of no chunks the first are none
 pub take-nothing : (n : ℕ) → take {A = List ℕ} n [] ≡ []

@@ -1,5 +1,5 @@
 // One reader, and then another.
-ghost use Rattle.std.specs.Prelude.{◌≡◌, ◌-◌, ◌^◌, ◌≤◌, ◌++◌, length, take, map, IfOk, IsOkUnless};
+ghost use Rattle.std.specs.Prelude.{◌≡◌, ◌+◌, ◌-◌, ◌^◌, ◌≤◌, ◌++◌, nat_le, length, take, map, IfOk, IsOkUnless};
 ghost use Rattle.std.specs.List.{flat_map};
 
 use crate::take::cut;
@@ -52,6 +52,14 @@ fn gathered(alloc: Global, chunks: &[&[u8]], n: usize) -> Result<Vec<u8>, AllocE
 }
 
 impl<A: Buf, B: Buf> Chain<A, B> {
+    // Whether no byte lies behind the limit.
+    fn is_whole(&self) -> bool
+        ensures { result ≡ nat_le (length (A.text self.now.first) + length (B.text self.now.second)) self.now.limit }
+    {
+        let front = self.first.remaining();
+        front <= self.limit && self.second.remaining() <= self.limit - front
+    }
+
     // A copy of the first bytes as one buffer.
     fn across(&self, alloc: Global, n: usize) -> Result<Bytes, BufError>
         requires { n ≤ length (take self.now.limit (A.text self.now.first ++ B.text self.now.second)) }
@@ -159,6 +167,9 @@ impl<A: Buf, B: Buf> Buf for Chain<A, B> {
         let mut chunks = self.first.chunks_vectored(alloc, max)?;
         let more = self.second.chunks_vectored(alloc, max - chunks.len())?;
         chunks.extend_from_slice(&more)?;
+        if self.is_whole() {
+            return Ok(chunks);
+        }
         cut(alloc, chunks, self.limit)
     }
 
@@ -171,5 +182,6 @@ impl<A: Buf, B: Buf> Buf for Chain<A, B> {
     ghost joins = { λ t. joins_first (A.pieces t.first ++ B.pieces t.second) t.limit (A.text t.first ++ B.text t.second)
         (joins_both (A.pieces t.first) (B.pieces t.second) (A.text t.first) (B.text t.second) (A.joins t.first) (B.joins t.second)) };
 
-    ghost full = { λ t. full_first (A.pieces t.first ++ B.pieces t.second) t.limit (full_both (A.pieces t.first) (B.pieces t.second) (A.full t.first) (B.full t.second)) };
+    ghost full = { λ t. full_first (A.pieces t.first ++ B.pieces t.second) t.limit
+        (full_both (A.pieces t.first) (B.pieces t.second) (A.full t.first) (B.full t.second)) };
 }

@@ -3,6 +3,8 @@
 
 mod chain;
 mod take;
+#[cfg(test)]
+mod worked;
 
 pub use chain::Chain;
 pub use take::Take;

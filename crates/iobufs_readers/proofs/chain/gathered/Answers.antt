@@ -8,5 +8,5 @@ loop-index-preserved c =
     let shown : Bor (List ℕ) → List ℕ = λ chunk. chunk.now in
     let none : Bor (List ℕ) = record { ref_ptr = (0, 0); now = [] } in
     let here = shown-at shown c.args.chunks.now l.index none (omega (arith, c.loop-index-test.true)) in
-    gathered-more (map shown c.args.chunks.now) l.copy.items _ (get_or c.args.chunks.now l.index none).now _ l.index l.left c.min-some.result here c.min-some.ensures
-    c.in_ok-extend_from_slice.ensures.items l.invariant
+    gathered-more (map shown c.args.chunks.now) l.copy.items _ (get_or c.args.chunks.now l.index none).now _ l.index l.left c.min-some.result here
+    c.min-some.ensures c.in_ok-extend_from_slice.ensures.items l.invariant
