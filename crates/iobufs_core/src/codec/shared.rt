@@ -75,7 +75,8 @@ impl Read for Bytes {
     fn read_cfg<B: OwnedBuf>(alloc: Global, buf: &mut B, range: &RangeCfg) -> Result<Bytes, Error>
         ensures answer { IsBytesRead (B.marked buf.old) range.now result }
         ensures left { IfOk result (λ bytes. buf.new ≡ dropped B.advanced B.copied buf.old (by_copy (length (bytes_written bytes)) ∷ [])) }
-        ensures rest { IfOk result (λ bytes. B.marked buf.new ≡ dropped text_advanced text_rest (B.marked buf.old) (by_copy (length (bytes_written bytes)) ∷ [])) }
+        ensures rest { IfOk result (λ bytes. B.marked buf.new
+            ≡ dropped text_advanced text_rest (B.marked buf.old) (by_copy (length (bytes_written bytes)) ∷ [])) }
         ensures unchanged { OnErr result (buf.new ≡ buf.old) }
         ensures static_text { HasStaticView (B.marked buf.old) range.now → IsOk result }
     {

@@ -1,9 +1,8 @@
-use Rattle.std.proofs.Common.{arith, ◌≡◌, ◌+◌, ◌≤◌, ◌<◌, ℕ, List, Ok, length, ap, subst, sym, ◌∙◌}
+use Rattle.std.proofs.Common.{arith, ◌≡◌, ℕ, List, Ok, length, ap, subst, sym, ◌∙◌}
 use Rattle.iobufs_core.specs.ReadLaws.{no_fault}
 use Rattle.iobufs_core.specs.Spelled.{spelled_as_one}
 use Rattle.iobufs_core.specs.Spelling.{spell, IsSpelledAt}
 use Rattle.iobufs_core.specs.MarkedText.{taken_view}
-use Rattle.iobufs_core.specs.View.{static_mark}
 use Rattle.iobufs_core.specs.Wire.{IsLengthRead}
 use Rattle.iobufs_core.proofs.codec.wire.read_bytes.Goals as goal
 

@@ -1,5 +1,4 @@
-use Rattle.std.proofs.Common.{arith, ◌≡◌, ◌++◌, ◌+◌, ◌<◌, ◌≤◌, ◌^◌, length, ap, sym, ◌∙◌, length-append}
-use Rattle.iobufs_core.specs.Items.{items_inline, items_bytes}
+use Rattle.std.proofs.Common.{arith, length, ap, length-append}
 use Rattle.iobufs_core.specs.SeveralLaws.{inline_append, inline_few}
 use Rattle.iobufs_core.proofs.codec.several.Tuple2EncodeSize.encode_inline_size.Goals as goal
 

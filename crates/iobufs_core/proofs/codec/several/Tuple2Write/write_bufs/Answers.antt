@@ -1,4 +1,4 @@
-use Rattle.std.proofs.Common.{arith, ◌≡◌, ◌++◌, ◌+◌, ◌<◌, ◌≤◌}
+use Rattle.std.proofs.Common.{arith}
 use Rattle.iobufs_core.specs.SeveralLaws.{inline_append}
 use Rattle.iobufs_core.proofs.codec.several.Tuple2Write.write_bufs.Goals as goal
 

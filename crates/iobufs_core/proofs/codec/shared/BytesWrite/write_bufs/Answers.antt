@@ -2,7 +2,7 @@ use Rattle.std.proofs.Common.{List, ℕ, [], ◌∷◌, length, subst, sym, ◌�
 use Rattle.std.proofs.lemmas.Bool.{eqb-true}
 use Rattle.iobufs_core.specs.Items.{put_item, push_item}
 use Rattle.iobufs_core.specs.Spelling.{spell}
-use Rattle.iobufs_core.specs.View.{View, view_of_bytes}
+use Rattle.iobufs_core.specs.View.{view_of_bytes}
 use Rattle.iobufs_core.specs.WireLaws.{view_of_bytes-bytes}
 use Rattle.iobufs_core.proofs.codec.shared.BytesWrite.write_bufs.Goals as goal
 
