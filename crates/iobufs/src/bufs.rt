@@ -1,14 +1,912 @@
-// Chunked text.
-mod buf;
-mod chunks;
-mod copies;
-mod equal;
+// Texts in several pieces.
+ghost use Rattle.iobufs.specs.Inside.Pieces.{AreFull, AreViews, of_pieces};
+ghost use Rattle.iobufs.specs.Located.{greatest_key, keys_upto};
+ghost use Rattle.iobufs.specs.Refusals.{IsRefusedAt};
+ghost use Rattle.iobufs_core.specs.Chunks.{first_chunk};
+ghost use Rattle.iobufs_core.specs.MarkedText.{IsMarked, chunk_count as count_of, default_text, is_single, joined, of_view, taken_view, text_append, text_chunks, text_len, text_prepend, text_rest, text_split_front, text_advanced, text_coalesced};
+ghost use Rattle.iobufs_core.specs.Part.{part_frozen};
+ghost use Rattle.iobufs_core.specs.Recovery.{IsAdopted};
+ghost use Rattle.iobufs_core.specs.View.{View, default_view, bytes_mark, static_mark};
+ghost use Rattle.std.specs.Cmp.Lexicographic.{pointwise};
+ghost use Rattle.std.specs.Fn.{CalledAt};
+ghost use Rattle.std.specs.Iterator.{IsFinite};
+ghost use Rattle.std.specs.Iterator.Runs.{SomeRun, WholeRun};
+ghost use Rattle.std.specs.List.{FoldsTo};
+ghost use Rattle.std.specs.Option.{option_copied};
+ghost use Rattle.std.specs.Prelude.{◌≡◌, ℕ, List, ◌∷◌, ◌++◌, ◌+◌, ◌*◌, ◌<◌, ◌≤◌, ◌^◌, ◌==◌, [], length, if◌then◌else◌, false, true, slice_get, IsOk, IfOk, IfErr, OnOk, OnErr, IsOkUnless, IsErrAnd, MatchOption, MatchResult, nat_lt, map, take, drop, IsTrue, IsFalse, Err, ◌-◌, nat_eq};
+
 mod pieces;
 pub(crate) mod row;
 mod search;
-mod text;
-mod whole;
 
-pub use chunks::Chunks;
+use bytes::Bytes;
+use iobufs_core::buf::{IoBuf, IoBufMut};
+use iobufs_core::codec::{Buf, BufError, OwnedBuf, OwnedBytes, Refused};
+use pieces::{Pieces, START};
+use row::Row;
 pub use search::{Ends, Located, find_end};
-pub use text::IoBufs;
+use std::alloc::{AllocError, Global};
+use std::marker::Model;
+use std::ops::{Bound, Range};
+use std::{fmt, mem};
+
+/// A read-only text in pieces (the original's `IoBufs`). Two or more pieces are never empty, and stand in a deque, each
+/// with the place where it ends:
+///
+/// ```text
+/// text     | a b c | d e | f g h i |
+/// piece        0      1       2
+/// end          3      5       9       less the base: how many bytes there are up to there
+/// ```
+///
+/// To join and to split texts moves pieces and copies none of their bytes; the text shares their storage with whoever
+/// else has it. A place is found by a search among the ends, and a split then moves the pieces of the smaller side.
+pub struct IoBufs {
+    pieces: Pieces,
+}
+
+// Written out, so that what a caller proves about a text that it drops names no field.
+impl Drop for IoBufs {
+    fn drop(self) {
+        let IoBufs { pieces: _ } = self;
+    }
+}
+
+impl Model for IoBufs {
+    ghost use Rattle.iobufs_core.specs.MarkedText.{MarkedText};
+
+    ghost Value = { MarkedText };
+
+    ghost use Rattle.iobufs.specs.Inside.Kept.{text_of, IsKept};
+
+    ghost view = { text_of };
+
+    ghost invariant = { IsKept };
+}
+
+impl IoBufs {
+    /// The pieces of a row, at least one.
+    pub(crate) fn from_row(row: Row) -> IoBufs
+        requires some { 0 < length row.views }
+        requires full { AreFull row.views }
+        requires roomy { AreViews row.views }
+        ensures { result ≡ of_pieces row.views }
+    {
+        IoBufs {
+            pieces: Pieces::from_row(row),
+        }
+    }
+
+    /// The text of a writable buffer (`From<IoBufMut>` of the original).
+    pub fn from_mut(part: IoBufMut) -> Result<IoBufs, BufError>
+        ensures ok { IfOk result (λ text. text ≡ of_view (part_frozen part)) }
+        ensures memory { IsOkUnless result BufError.Memory }
+        ensures nothing { length part.filled ≡ 0 → IsOk result }
+    {
+        Ok(IoBufs::from(part.freeze()?))
+    }
+
+    /// The bytes of a vector, in its storage (`From<Vec<u8>>` of the original).
+    pub fn from_vec(bytes: Vec<u8>) -> Result<IoBufs, BufError>
+        ensures ok { IfOk result (λ text. (view : View) × IsAdopted bytes.items view × (text ≡ of_view view)) }
+        ensures memory { IsOkUnless result BufError.Memory }
+        ensures nothing { length bytes.items ≡ 0 → IsOk result }
+    {
+        Ok(IoBufs::from(IoBuf::from_vec(bytes)?))
+    }
+
+    /// Joins buffers in order, and leaves the empty ones out (`FromIterator` of the original). `BufError::TooLong` where
+    /// the bytes of a buffer and those before it together pass `usize::MAX`.
+    pub fn from_chunks<I: Iterator<Item = IoBuf>>(
+        alloc: Global,
+        mut chunks: I,
+    ) -> Result<IoBufs, BufError>
+        requires can { I.can_next chunks }
+        requires finite { IsFinite (I.remaining chunks) }
+        ensures ok { IfOk result (λ text. WholeRun I.next_gives chunks (λ run. (text_len (joined run.items) < 2 ^ 64) × (text ≡ joined run.items))) }
+        ensures err { IfErr result (λ cause. SomeRun I.next_gives chunks (λ run. IsRefusedAt run.items cause)) }
+    {
+        let mut text = IoBufs::default();
+        while let Some(chunk) = chunks.next() {
+            text.append(alloc, chunk)?;
+        }
+        Ok(text)
+    }
+
+    /// The number of bytes (`IoBufs::len`).
+    pub fn len(&self) -> usize
+        ensures value { result ≡ text_len self.now }
+        ensures marked { IsMarked self.now }
+    {
+        self.pieces.len()
+    }
+
+    /// Whether there are no bytes (`IoBufs::is_empty`).
+    pub fn is_empty(&self) -> bool
+        ensures { result ≡ (text_len self.now == 0) }
+    {
+        self.len() == 0
+    }
+
+    /// Whether all bytes are in one piece.
+    pub fn is_single(&self) -> bool
+        ensures { result ≡ is_single self.now }
+    {
+        self.pieces.count() == 1
+    }
+
+    /// The number of pieces that hold bytes.
+    pub fn chunk_count(&self) -> usize
+        ensures keys { result ≡ count_of self.now }
+        ensures chunks { result ≡ length (text_chunks self.now) }
+        ensures marked { IsMarked self.now }
+    {
+        if self.len() == 0 {
+            return 0;
+        }
+        self.pieces.count()
+    }
+
+    /// The bytes of a piece, counted from 0.
+    pub fn chunk_at(&self, i: usize) -> Option<&[u8]>
+        ensures { option_copied result ≡ slice_get (text_chunks self.now) i }
+    {
+        if self.len() == 0 {
+            return None;
+        }
+        match self.pieces.get(i) {
+            Some(piece) => Some(piece.as_ref()),
+            None => None,
+        }
+    }
+
+    /// The only piece, if there are no more.
+    pub fn as_single(&self) -> Option<&IoBuf>
+        ensures { MatchOption result (is_single self.now ≡ false) (λ piece. self.now ≡ of_view piece.now) }
+    {
+        if self.is_single() {
+            Some(self.pieces.piece(0))
+        } else {
+            None
+        }
+    }
+
+    /// Its chunks, in order (the original has `for_each_chunk` alone).
+    pub fn chunks(&self) -> Chunks<'_>
+        ensures { result ≡ text_chunks self.now }
+    {
+        Chunks {
+            text: self,
+            next: 0,
+        }
+    }
+
+    /// Shows each piece that holds bytes, in order.
+    pub fn for_each_chunk<F: FnMut(&[u8])>(&self, mut visit: F)
+        requires { F.IsAlwaysCallable visit }
+        ensures { (last : F)
+            × FoldsTo (λ before chunk after. CalledAt F.FnMut before chunk tt after) visit (text_chunks self.now) last }
+    {
+        match &self.pieces {
+            Pieces::One(piece) => {
+                if piece.len() != 0 {
+                    visit(piece.as_ref());
+                }
+            }
+            Pieces::Many(row) => row.for_each(visit),
+        }
+    }
+
+    /// The only piece; the text itself where there are more.
+    pub fn try_into_single(self) -> Result<IoBuf, IoBufs>
+        ensures { MatchResult result (λ piece. self ≡ of_view piece) (λ text. (text ≡ self) × (is_single self ≡ false)) }
+    {
+        let IoBufs { pieces } = self;
+        match pieces.into_single() {
+            Ok(piece) => Ok(piece),
+            Err(pieces) => Err(IoBufs { pieces }),
+        }
+    }
+
+    /// Puts a buffer behind the text. An empty one changes nothing, and an empty text is replaced.
+    pub fn append(&mut self, alloc: Global, piece: IoBuf) -> Result<(), Refused<IoBuf>>
+        ensures done { OnOk result (self.new ≡ text_append self.old piece) }
+        ensures unchanged { OnErr result (self.new ≡ self.old) }
+        ensures handed_back { IfErr result (λ refused. refused.value ≡ piece) }
+        ensures too_long { 2 ^ 64 ≤ text_len self.old + length piece.bytes → IsErrAnd result (λ refused. refused.cause ≡ BufError.TooLong) }
+        ensures memory { text_len self.old + length piece.bytes < 2 ^ 64 → IfErr result (λ refused. refused.cause ≡ BufError.Memory) }
+        ensures nothing { length piece.bytes ≡ 0 → IsOk result }
+        ensures onto_nothing { text_len self.old ≡ 0 → IsOk result }
+    {
+        if let Pieces::Many(row) = &mut self.pieces {
+            let (len, more) = (row.len(), piece.len());
+            if more != 0 && more <= usize::MAX - len && row.has_room() {
+                row.push_back_reserved(piece, len + more);
+                return Ok(());
+            }
+        }
+        self.append_any(alloc, piece)
+    }
+
+    // The same of any text and any buffer.
+    #[inline(never)]
+    fn append_any(&mut self, alloc: Global, piece: IoBuf) -> Result<(), Refused<IoBuf>>
+        ensures done { OnOk result (self.new ≡ text_append self.old piece) }
+        ensures unchanged { OnErr result (self.new ≡ self.old) }
+        ensures handed_back { IfErr result (λ refused. refused.value ≡ piece) }
+        ensures too_long { 2 ^ 64 ≤ text_len self.old + length piece.bytes → IsErrAnd result (λ refused. refused.cause ≡ BufError.TooLong) }
+        ensures memory { text_len self.old + length piece.bytes < 2 ^ 64 → IfErr result (λ refused. refused.cause ≡ BufError.Memory) }
+        ensures nothing { length piece.bytes ≡ 0 → IsOk result }
+        ensures onto_nothing { text_len self.old ≡ 0 → IsOk result }
+    {
+        let (len, more) = (self.len(), piece.len());
+        if more == 0 {
+            return Ok(());
+        }
+        if len == 0 {
+            self.set(IoBufs::from(piece));
+            return Ok(());
+        }
+        if more > usize::MAX - len {
+            return Err(Refused {
+                cause: BufError::TooLong,
+                value: piece,
+            });
+        }
+        if let Err(refused) = self.pieces.push_back(alloc, piece, len + more) {
+            return Err(Refused {
+                cause: BufError::Memory,
+                value: refused.value,
+            });
+        }
+        Ok(())
+    }
+
+    /// Puts a buffer in front of the text. An empty one changes nothing, and an empty text is replaced.
+    pub fn prepend(&mut self, alloc: Global, piece: IoBuf) -> Result<(), Refused<IoBuf>>
+        ensures done { OnOk result (self.new ≡ text_prepend self.old piece) }
+        ensures unchanged { OnErr result (self.new ≡ self.old) }
+        ensures handed_back { IfErr result (λ refused. refused.value ≡ piece) }
+        ensures too_long { 2 ^ 64 ≤ text_len self.old + length piece.bytes → IsErrAnd result (λ refused. refused.cause ≡ BufError.TooLong) }
+        ensures memory { text_len self.old + length piece.bytes < 2 ^ 64 → IfErr result (λ refused. refused.cause ≡ BufError.Memory) }
+        ensures nothing { length piece.bytes ≡ 0 → IsOk result }
+        ensures onto_nothing { text_len self.old ≡ 0 → IsOk result }
+    {
+        if let Pieces::Many(row) = &mut self.pieces {
+            let (len, ahead) = (row.len(), piece.len());
+            if ahead != 0 && ahead <= usize::MAX - len && row.has_room() {
+                row.push_front_reserved(piece, ahead);
+                return Ok(());
+            }
+        }
+        self.prepend_any(alloc, piece)
+    }
+
+    // The same of any text and any buffer.
+    #[inline(never)]
+    fn prepend_any(&mut self, alloc: Global, piece: IoBuf) -> Result<(), Refused<IoBuf>>
+        ensures done { OnOk result (self.new ≡ text_prepend self.old piece) }
+        ensures unchanged { OnErr result (self.new ≡ self.old) }
+        ensures handed_back { IfErr result (λ refused. refused.value ≡ piece) }
+        ensures too_long { 2 ^ 64 ≤ text_len self.old + length piece.bytes → IsErrAnd result (λ refused. refused.cause ≡ BufError.TooLong) }
+        ensures memory { text_len self.old + length piece.bytes < 2 ^ 64 → IfErr result (λ refused. refused.cause ≡ BufError.Memory) }
+        ensures nothing { length piece.bytes ≡ 0 → IsOk result }
+        ensures onto_nothing { text_len self.old ≡ 0 → IsOk result }
+    {
+        let (len, ahead) = (self.len(), piece.len());
+        if ahead == 0 {
+            return Ok(());
+        }
+        if len == 0 {
+            self.set(IoBufs::from(piece));
+            return Ok(());
+        }
+        if ahead > usize::MAX - len {
+            return Err(Refused {
+                cause: BufError::TooLong,
+                value: piece,
+            });
+        }
+        if let Err(refused) = self.pieces.push_front(alloc, piece) {
+            return Err(Refused {
+                cause: BufError::Memory,
+                value: refused.value,
+            });
+        }
+        Ok(())
+    }
+
+    /// Takes the first `at` bytes away. Whole pieces move, and a piece that holds the place is split.
+    pub fn split_to(&mut self, alloc: Global, at: usize) -> Result<IoBufs, BufError>
+        requires { at ≤ text_len self.old }
+        ensures front { IfOk result (λ front. front ≡ text_split_front self.old at) }
+        ensures rest { OnOk result (self.new ≡ text_rest self.old at) }
+        ensures unchanged { OnErr result (self.new ≡ self.old) }
+        ensures memory { IsOkUnless result BufError.Memory }
+        ensures nothing { at ≡ 0 → IsOk result }
+        ensures whole { at ≡ text_len self.old → IsOk result }
+        ensures first { at ≡ length (first_chunk (text_chunks self.old)) → IsOk result }
+        ensures static_text { at ≤ length (first_chunk (text_chunks self.old)) → (taken_view self.old 0 at).mark ≡ static_mark → IsOk result }
+        ensures last { (front : List (List ℕ)) (chunk : List ℕ) → text_chunks self.old ≡ front ++ chunk ∷ [] → at + length chunk ≡ text_len self.old
+            → IsOk result }
+    {
+        if at == 0 {
+            return Ok(IoBufs::default());
+        }
+        if at == self.len() {
+            return Ok(mem::take(self));
+        }
+        let pieces = self.pieces.split_front(alloc, at)?;
+        Ok(IoBufs { pieces })
+    }
+
+    /// Keeps the first `len` bytes, and gives up those behind them as `split_to` does. A text of no more bytes stays as
+    /// it is (`BytesMut::truncate`; the original's texts have no such call).
+    pub fn truncate(&mut self, alloc: Global, len: usize) -> Result<(), BufError>
+        ensures kept { OnOk result (len < text_len self.old → self.new ≡ text_split_front self.old len) }
+        ensures longer { text_len self.old ≤ len → (self.new ≡ self.old) × IsOk result }
+        ensures unchanged { OnErr result (self.new ≡ self.old) }
+        ensures memory { IsOkUnless result BufError.Memory }
+        ensures nothing { len ≡ 0 → IsOk result }
+        ensures first { len ≡ length (first_chunk (text_chunks self.old)) → IsOk result }
+        ensures static_text { len ≤ length (first_chunk (text_chunks self.old)) → (taken_view self.old 0 len).mark ≡ static_mark → IsOk result }
+    {
+        if len >= self.len() {
+            return Ok(());
+        }
+        let front = self.split_to(alloc, len)?;
+        self.set(front);
+        Ok(())
+    }
+
+    /// The bytes of a range as a text of their own, which shares their storage: clones of the pieces that hold them, which
+    /// are found by two searches, cut at both ends (`IoBuf::slice`; the original's texts have no such call).
+    pub fn slice(&self, alloc: Global, range: Range<usize>) -> Result<IoBufs, BufError>
+        requires order { range.start ≤ range.end }
+        requires inside { range.end ≤ text_len self.now }
+        ensures ok { IfOk result (λ text. text ≡ text_split_front (text_rest self.now range.start) (range.end - range.start)) }
+        ensures memory { IsOkUnless result BufError.Memory }
+        ensures nothing { range.start ≡ range.end → IsOk result }
+        ensures static_text { (taken_view self.now range.start (range.end - range.start)).mark ≡ static_mark → IsOk result }
+    {
+        let Range { start, end } = range;
+        if start == end {
+            return Ok(IoBufs::default());
+        }
+        let first = self.pieces.locate(start);
+        let last = self.pieces.locate(end - 1);
+        let behind = last.index - first.index;
+        let pieces = self.pieces.run(alloc, first.index, behind)?;
+        let mut text = IoBufs { pieces };
+        text.drop_front(first.offset);
+        text.truncate(alloc, end - start)?;
+        Ok(text)
+    }
+
+    /// Whether its bytes are these, however it is cut (the original's users call `coalesce` first).
+    pub fn eq_bytes(&self, bytes: &[u8]) -> bool
+        ensures { result ≡ pointwise nat_eq self.now.bytes bytes.now }
+    {
+        self.len() == bytes.len() && self.pieces.matched(START, bytes).is_some()
+    }
+
+    /// The piece that holds a place, and the bytes before it there, by a search among the ends (the original has no
+    /// such call).
+    pub fn locate(&self, at: usize) -> Located
+        requires { at < text_len self.now }
+        ensures index { result.index + 1 ≡ keys_upto self.now at }
+        ensures offset { greatest_key self.now at + result.offset ≡ at }
+        ensures probes { 2 ^ result.probes ≤ 2 * count_of self.now }
+        ensures digits { (d : ℕ) → count_of self.now < 2 ^ d → result.probes ≤ d }
+        ensures halves { count_of self.now < 2 ^ (result.probes + 1) }
+    {
+        self.pieces.locate(at)
+    }
+
+    /// A copy of the bytes, in one vector (the original's users call `coalesce` first).
+    pub fn to_vec(&self, alloc: Global) -> Result<Vec<u8>, BufError>
+        ensures ok { IfOk result (λ copy. copy.items ≡ self.now.bytes) }
+        ensures memory { IsOkUnless result BufError.Memory }
+        ensures nothing { text_len self.now ≡ 0 → IsOk result }
+    {
+        let len = self.len();
+        if len == 0 {
+            return Ok(Vec::new(alloc));
+        }
+        Ok(self.pieces.front(alloc, len)?)
+    }
+
+    /// The text as one piece, with a copy where there are several. `BufError::BadLayout` exactly where these hold over
+    /// `isize::MAX` bytes.
+    pub fn coalesce(self, alloc: Global) -> Result<IoBuf, BufError>
+        ensures ok { IfOk result (λ view. of_view view ≡ text_coalesced self) }
+        ensures single { is_single self ≡ true → IsOk result }
+        ensures bad_layout { is_single self ≡ false → 2 ^ 63 ≤ text_len self → result ≡ Err BufError.BadLayout }
+        ensures memory { text_len self < 2 ^ 63 → IsOkUnless result BufError.Memory }
+    {
+        if !self.is_single() {
+            return self.gathered(alloc);
+        }
+        match self.try_into_single() {
+            Ok(view) => Ok(view),
+            Err(text) => text.gathered(alloc),
+        }
+    }
+
+    // A copy of several pieces as one.
+    fn gathered(&self, alloc: Global) -> Result<IoBuf, BufError>
+        requires { is_single self.now ≡ false }
+        ensures ok { IfOk result (λ view. of_view view ≡ text_coalesced self.now) }
+        ensures bad_layout { 2 ^ 63 ≤ text_len self.now → result ≡ Err BufError.BadLayout }
+        ensures memory { text_len self.now < 2 ^ 63 → IsOkUnless result BufError.Memory }
+    {
+        let mut copy = IoBufMut::with_capacity(alloc, self.len())?;
+        self.pieces.copy_to(&mut copy);
+        copy.freeze()
+    }
+}
+
+impl Default for IoBufs {
+    ghost is_default = { λ b. b ≡ default_text };
+
+    fn default() -> IoBufs {
+        IoBufs::from(IoBuf::default())
+    }
+}
+
+impl From<IoBuf> for IoBufs {
+    ghost from_gives = { λ piece b. b ≡ of_view piece };
+
+    fn from(piece: IoBuf) -> IoBufs {
+        // A view's value has no bound of its length; a text's has one, which is known of a length that was asked for.
+        let _len = piece.len();
+        IoBufs {
+            pieces: Pieces::One(piece),
+        }
+    }
+}
+
+impl From<Bytes> for IoBufs {
+    ghost from_gives = { λ bytes b. b ≡ of_view (if length bytes == 0 then default_view else record { bytes = bytes; mark = bytes_mark }) };
+
+    fn from(bytes: Bytes) -> IoBufs {
+        IoBufs::from(IoBuf::from(bytes))
+    }
+}
+
+impl From<&'static [u8]> for IoBufs {
+    ghost from_gives = { λ text b. b ≡ of_view (record { bytes = text.now; mark = static_mark }) };
+
+    fn from(text: &'static [u8]) -> IoBufs {
+        IoBufs::from(IoBuf::from(text))
+    }
+}
+
+impl Buf for IoBufs {
+    ghost use Rattle.iobufs_core.specs.CallerFacts.{bytes-advanced, bytes-rest};
+    ghost use Rattle.iobufs.specs.Laws.Reading.{joined-chunks, full-chunks};
+
+    ghost text = { λ t. t.bytes };
+
+    ghost advanced = { text_advanced };
+
+    ghost copied = { text_rest };
+
+    ghost pieces = { text_chunks };
+
+    fn remaining(&self) -> usize {
+        IoBufs::len(self)
+    }
+
+    fn chunk(&self) -> &[u8] {
+        self.pieces.piece(0).as_ref()
+    }
+
+    fn byte_at(&self, i: usize) -> Option<u8> {
+        match self.chunk().get(i) {
+            Some(byte) => Some(*byte),
+            None => self.byte_behind(i),
+        }
+    }
+
+    #[inline(always)]
+    fn advance(&mut self, n: usize) {
+        if self.shorten(n) {
+            return;
+        }
+        self.use_up(n);
+    }
+
+    fn copy_to_slice(&mut self, dst: &mut [u8]) {
+        let n = dst.len();
+        let chunk = self.chunk();
+        if n > chunk.len() {
+            self.copy_pieces(dst);
+            return;
+        }
+        dst.copy_from_slice(&chunk[..n]);
+        self.advance(n);
+    }
+
+    fn copy_to_bytes(&mut self, alloc: Global, n: usize) -> Result<Bytes, BufError>
+        requires { n ≤ text_len self.old }
+        ensures ok { IfOk result (λ bytes. bytes ≡ take n self.old.bytes) }
+        ensures rest { OnOk result (self.new ≡ text_rest self.old n) }
+        ensures unchanged { OnErr result (self.new ≡ self.old) }
+        ensures memory { IsOkUnless result BufError.Memory }
+        ensures nothing { n ≡ 0 → IsOk result }
+        ensures static_text { n ≤ length (first_chunk (text_chunks self.old)) → (taken_view self.old 0 n).mark ≡ static_mark → IsOk result }
+        ensures whole { n ≡ length (first_chunk (text_chunks self.old)) → (taken_view self.old 0 n).mark ≡ bytes_mark → IsOk result }
+    {
+        if n <= self.chunk().len() {
+            return self.take_owned_after(alloc, 0, n);
+        }
+        let bytes = self.front(alloc, n)?;
+        self.drop_front(n);
+        Ok(bytes)
+    }
+
+    fn chunks_vectored(&self, alloc: Global, max: usize) -> Result<Vec<&[u8]>, BufError>
+        ensures ok { IfOk result (λ chunks. map (λ chunk. chunk.now) chunks.items ≡ take max (text_chunks self.now)) }
+        ensures memory { IsOkUnless result BufError.Memory }
+        ensures nothing { max ≡ 0 → IsOk result }
+        ensures empty { text_len self.now ≡ 0 → IsOk result }
+    {
+        if self.len() == 0 {
+            return Ok(Vec::new(alloc));
+        }
+        Ok(self.pieces.chunks(alloc, max)?)
+    }
+
+    ghost drops = { bytes-advanced };
+
+    ghost copies = { bytes-rest };
+
+    ghost joins = { joined-chunks };
+
+    ghost full = { full-chunks };
+}
+
+impl OwnedBuf for IoBufs {
+    ghost use Rattle.std.proofs.Common.{rules};
+
+    ghost marked = { λ t. t };
+
+    fn chunk_count(&self) -> usize {
+        IoBufs::chunk_count(self)
+    }
+
+    #[inline(always)]
+    fn take_owned_after<T: OwnedBytes>(
+        &mut self,
+        alloc: Global,
+        skip: usize,
+        n: usize,
+    ) -> Result<T, BufError> {
+        let first = self.chunk().len();
+        if n == 0 || first <= skip || first - skip < n {
+            return self.take_behind(alloc, skip, n);
+        }
+        if skip == 0 && n == first {
+            return self.take_first(alloc, n);
+        }
+        self.take_inside(alloc, skip, n)
+    }
+
+    fn peek_owned<T: OwnedBytes>(
+        &self,
+        alloc: Global,
+        skip: usize,
+        n: usize,
+    ) -> Result<T, BufError> {
+        let view = self.taken(alloc, skip, n)?;
+        T::from_view(alloc, view)
+    }
+
+    fn peek_slice(&self, skip: usize, dst: &mut [u8]) {
+        let chunk = self.chunk();
+        match chunk.get(skip..) {
+            Some(bytes) if dst.len() <= bytes.len() => dst.copy_from_slice(&bytes[..dst.len()]),
+            _ => self.peek_behind(skip, dst),
+        }
+    }
+
+    ghost same_text = { Prim.search rules };
+
+    ghost same_pieces = { Prim.search rules };
+
+    ghost advances_marked = { Prim.search rules };
+
+    ghost copies_marked = { Prim.search rules };
+}
+
+impl Clone for IoBufs {
+    ghost is_clone = { λ a b. b ≡ a };
+
+    ghost use Rattle.iobufs_core.specs.View.{IsFreelyShared};
+
+    // One piece whose clone asks for no memory.
+    ghost is_infallible = { λ text. (is_single text ≡ true) × IsFreelyShared (record { bytes = text.bytes; mark = text.mark }) };
+
+    fn clone(&self) -> Result<IoBufs, AllocError> {
+        let pieces = self.pieces.clone()?;
+        Ok(IoBufs { pieces })
+    }
+}
+
+impl PartialEq for IoBufs {
+    ghost use Rattle.std.specs.Cmp.Rules.{comparing};
+    ghost use Rattle.std.specs.Ordering.{on};
+    ghost use Rattle.std.proofs.Common.{rules};
+
+    ghost eq = { on (λ t. t.bytes) (pointwise nat_eq) };
+
+    ghost laws = { Prim.search (comparing, rules) };
+
+    /// Whether the bytes are the same, however each is cut.
+    fn eq(&self, other: &IoBufs) -> bool {
+        if self.len() != other.len() {
+            return false;
+        }
+        let mut reached = START;
+        for index in 0..self.pieces.count() {
+            let Some(end) = other
+                .pieces
+                .matched(reached, self.pieces.piece(index).as_ref())
+            else {
+                return false;
+            };
+            reached = end;
+        }
+        true
+    }
+}
+
+impl Eq for IoBufs {
+    ghost use Rattle.std.specs.Cmp.Rules.{comparing};
+    ghost use Rattle.std.proofs.Common.{rules};
+
+    ghost laws = { Prim.search (comparing, rules) };
+}
+
+impl fmt::Debug for IoBufs {
+    ghost use Rattle.std.specs.Prelude.{Some, codes, ◌++◌};
+    ghost use Rattle.std.specs.Fmt.{decimal};
+    ghost use Rattle.iobufs_core.specs.MarkedText.{chunk_count};
+
+    ghost debug_output = { λ t. Some (codes "IoBufs { len: " ++ decimal (text_len t) ++ codes ", chunks: " ++ decimal (chunk_count t) ++ codes " }") };
+
+    fn fmt<W: fmt::Write>(&self, f: &mut fmt::Formatter<W>) -> fmt::Result {
+        let len = self.len();
+        let chunks = self.chunk_count();
+        write!(f, "IoBufs {{ len: {len}, chunks: {chunks} }}")
+    }
+}
+
+/// The chunks of a text that are left to give, in order; made by `IoBufs::chunks`. Its value is the list of these.
+#[derive(Drop)]
+pub struct Chunks<'a> {
+    text: &'a IoBufs,
+    next: usize,
+}
+
+impl<'a> Model for Chunks<'a> {
+    ghost use Rattle.std.specs.Prelude.{ℕ, List, drop};
+    ghost use Rattle.iobufs_core.specs.MarkedText.{text_chunks};
+
+    ghost Value = { List (List ℕ) };
+
+    ghost view = { λ c. drop c.next (text_chunks c.text.now) };
+}
+
+impl<'a> Iterator for Chunks<'a> {
+    type Item = &'a [u8];
+
+    ghost use Rattle.std.specs.Iterator.{YieldsFirstBy, item_count};
+
+    ghost next_gives = { YieldsFirstBy (λ chunk. chunk.now) (λ left. left) };
+
+    ghost remaining = { item_count (λ left. left) };
+
+    fn next(&mut self) -> Option<&'a [u8]> {
+        if self.next >= self.text.chunk_count() {
+            return None;
+        }
+        let chunk = self.text.chunk_at(self.next)?;
+        self.next += 1;
+        Some(chunk)
+    }
+}
+
+impl IoBufs {
+    // The old text goes here, and not in each place that puts a new one.
+    fn set(&mut self, text: IoBufs)
+        ensures { self.new ≡ text }
+    {
+        *self = text;
+    }
+
+    // Drops the first bytes, and keeps no mark where none are left.
+    fn drop_front(&mut self, n: usize)
+        requires { n ≤ text_len self.old }
+        ensures { self.new ≡ text_rest self.old n }
+    {
+        if n == 0 || self.shorten(n) {
+            return;
+        }
+        self.drop_pieces(n);
+    }
+
+    // Drops the first bytes where the first piece has more. Else nothing changes.
+    #[inline(always)]
+    fn shorten(&mut self, n: usize) -> bool
+        requires { n ≤ text_len self.old }
+        ensures answer { result ≡ nat_lt n (length (first_chunk (text_chunks self.old))) }
+        ensures rest { IsTrue result → self.new ≡ text_rest self.old n }
+        ensures inside { IsTrue result → n < text_len self.old }
+        ensures same { IsFalse result → self.new ≡ self.old }
+    {
+        self.pieces.shorten(n)
+    }
+
+    // Drops bytes where whole pieces go: apart, since what it needs costs at entry.
+    #[inline(never)]
+    fn drop_pieces(&mut self, n: usize)
+        requires some { 0 < n }
+        requires inside { n ≤ text_len self.old }
+        ensures { self.new ≡ text_rest self.old n }
+    {
+        if n == self.len() {
+            self.set(IoBufs::default());
+            return;
+        }
+        self.pieces.drop_front(n);
+    }
+
+    // As `advance`, where whole pieces go: an only one that is used up keeps its mark.
+    #[inline(never)]
+    fn use_up(&mut self, n: usize)
+        requires { n ≤ text_len self.old }
+        ensures { self.new ≡ text_advanced self.old n }
+    {
+        if let Pieces::One(piece) = &mut self.pieces {
+            piece.advance(n);
+            return;
+        }
+        self.drop_front(n);
+    }
+
+    // A byte behind the first piece.
+    #[inline(never)]
+    fn byte_behind(&self, i: usize) -> Option<u8>
+        ensures { result ≡ slice_get self.now.bytes i }
+    {
+        if i >= self.len() {
+            return None;
+        }
+        let place = self.pieces.locate(i);
+        let bytes = self.pieces.piece(place.index).as_ref();
+        Some(bytes[place.offset])
+    }
+
+    // Copies more than the first piece.
+    #[inline(never)]
+    fn copy_pieces(&mut self, dst: &mut [u8])
+        requires { length dst.old ≤ text_len self.old }
+        ensures bytes { dst.new ≡ take (length dst.old) self.old.bytes }
+        ensures rest { self.new ≡ text_advanced self.old (length dst.old) }
+    {
+        self.pieces.fill(dst);
+        let n = dst.len();
+        self.use_up(n);
+    }
+
+    // Takes bytes of the first piece out, and drops those in front too.
+    #[inline(always)]
+    fn take_inside<T: OwnedBytes>(
+        &mut self,
+        alloc: Global,
+        skip: usize,
+        n: usize,
+    ) -> Result<T, BufError>
+        requires some { 0 < n }
+        requires inside { skip + n ≤ length (first_chunk (text_chunks self.old)) }
+        requires fits { skip + n < 2 ^ 64 }
+        ensures ok { IfOk result (T.makes (taken_view self.old skip n)) }
+        ensures rest { OnOk result (self.new ≡ text_rest self.old (skip + n)) }
+        ensures unchanged { OnErr result (self.new ≡ self.old) }
+        ensures memory { IsOkUnless result BufError.Memory }
+        ensures static_text { (taken_view self.old skip n).mark ≡ static_mark → T.is_free (taken_view self.old skip n) → IsOk result }
+    {
+        let (first, end) = (self.pieces.piece(0), skip + n);
+        let view = first.slice(Bound::Included(skip), Bound::Excluded(end))?;
+        let made = T::from_view(alloc, view)?;
+        self.drop_front(end);
+        Ok(made)
+    }
+
+    // The same, where the first piece doesn't hold all of them: apart, so that no view is moved for both.
+    #[inline(never)]
+    fn take_behind<T: OwnedBytes>(
+        &mut self,
+        alloc: Global,
+        skip: usize,
+        n: usize,
+    ) -> Result<T, BufError>
+        requires { skip + n ≤ text_len self.old }
+        ensures ok { IfOk result (T.makes (taken_view self.old skip n)) }
+        ensures rest { OnOk result (self.new ≡ text_rest self.old (skip + n)) }
+        ensures unchanged { OnErr result (self.new ≡ self.old) }
+        ensures memory { IsOkUnless result BufError.Memory }
+        ensures static_text { (taken_view self.old skip n).mark ≡ static_mark → T.is_free (taken_view self.old skip n) → IsOk result }
+        ensures nothing { n ≡ 0 → IsOk result }
+    {
+        let view = self.taken(alloc, skip, n)?;
+        let made = T::from_view(alloc, view)?;
+        self.drop_front(skip + n);
+        Ok(made)
+    }
+
+    // Bytes from a place on as one buffer: of their piece, or a copy where they span pieces.
+    fn taken(&self, alloc: Global, skip: usize, n: usize) -> Result<IoBuf, BufError>
+        requires { skip + n ≤ text_len self.now }
+        ensures ok { IfOk result (λ view. view ≡ taken_view self.now skip n) }
+        ensures fits { OnOk result (skip + n < 2 ^ 64) }
+        ensures memory { IsOkUnless result BufError.Memory }
+        ensures static_text { (taken_view self.now skip n).mark ≡ static_mark → IsOk result }
+        ensures nothing { n ≡ 0 → IsOk result }
+    {
+        if n == 0 {
+            return Ok(IoBuf::default());
+        }
+        let place = self.pieces.locate(skip);
+        let piece = self.pieces.piece(place.index);
+        if n <= piece.len() - place.offset {
+            return piece.slice(
+                Bound::Included(place.offset),
+                Bound::Excluded(place.offset + n),
+            );
+        }
+        match self.pieces.copied(alloc, place, n) {
+            Ok(copy) => Ok(copy),
+            Err(_) => Err(BufError::Memory),
+        }
+    }
+
+    // Copies bytes that lie behind the first piece, or span pieces.
+    #[inline(never)]
+    fn peek_behind(&self, skip: usize, dst: &mut [u8])
+        requires { skip + length dst.old ≤ text_len self.now }
+        ensures { dst.new ≡ take (length dst.old) (drop skip self.now.bytes) }
+    {
+        let n = dst.len();
+        if n == 0 {
+            return;
+        }
+        let place = self.pieces.locate(skip);
+        self.pieces.fill_from(place, dst);
+    }
+
+    // A copy of the first bytes.
+    fn front(&self, alloc: Global, n: usize) -> Result<Bytes, BufError>
+        requires { n ≤ text_len self.now }
+        ensures ok { IfOk result (λ bytes. bytes ≡ take n self.now.bytes) }
+        ensures memory { IsOkUnless result BufError.Memory }
+    {
+        Ok(Bytes::from_vec(self.pieces.front(alloc, n)?)?)
+    }
+
+    // What is made of the first piece, which has `n` bytes and goes.
+    fn take_first<T: OwnedBytes>(&mut self, alloc: Global, n: usize) -> Result<T, BufError>
+        requires some { 0 < n }
+        requires first { n ≡ length (first_chunk (text_chunks self.old)) }
+        ensures ok { IfOk result (T.makes (taken_view self.old 0 n)) }
+        ensures rest { OnOk result (self.new ≡ text_rest self.old n) }
+        ensures unchanged { OnErr result (self.new ≡ self.old) }
+        ensures memory { IsOkUnless result BufError.Memory }
+        ensures free { T.is_free (taken_view self.old 0 n) → IsOk result }
+    {
+        let made = self.pieces.take_first(alloc)?;
+        Ok(made)
+    }
+}

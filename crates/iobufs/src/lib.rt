@@ -1,8 +1,7 @@
 //! Buffers of several pieces: texts to be read, parts to be filled, and a builder of texts.
 //!
-//! - `bufs`: `IoBufs`. `text` has its calls but `coalesce`, which stands in `buf` beside its readers; both go through
-//!   `pieces` (one piece or a row), with `copies` of their bytes, to `row`, a deque that alone knows where pieces end, by
-//!   `search`.
+//! - `bufs`: `IoBufs`, with its traits. Its calls go through `pieces` (one piece or a row) to `row`, a deque that alone
+//!   knows where pieces end, by `search`.
 //! - `bufs_mut`: `IoBufsMut`, with its traits in `buf` and `buf_mut`; `several` keeps two or more parts with their sums,
 //!   and `walks` goes over them.
 //! - `builder`: `Builder`, and `EncodeExt` for every value that can be written.

@@ -3,7 +3,7 @@ ghost use Rattle.std.specs.Prelude.{◌≡◌, ◌+◌, ◌≤◌, ◌<◌, ◌^
 ghost use Rattle.std.specs.Borrow.{sem, Lends, full_share};
 ghost use Rattle.std.specs.Ptr.{lies_at, room_at};
 ghost use Rattle.iobufs.specs.Located.{greatest_key, keys_upto};
-ghost use Rattle.iobufs.specs.contracts.bufs.text.IoBufs.{the_row as text_row};
+ghost use Rattle.iobufs.specs.contracts.bufs.IoBufs.{the_row as text_row};
 ghost use Rattle.iobufs_core.specs.Chunks.{first_chunk};
 ghost use Rattle.iobufs_core.specs.MarkedText.{MarkedText, chunk_count as count_of, default_text, is_single, of_view, taken_view, text_advanced, text_append, text_chunks, text_coalesced, text_len, text_prepend, text_rest, text_split_front};
 ghost use Rattle.iobufs_core.specs.Part.{part_frozen};
@@ -31,7 +31,7 @@ pub struct TextAt {
 impl Model for TextAt {
     ghost use Rattle.std.specs.Borrow.{full_share};
     ghost use Rattle.std.specs.Ptr.{lies_at};
-    ghost use Rattle.iobufs.specs.contracts.bufs.text.IoBufs.{the_row as text_row};
+    ghost use Rattle.iobufs.specs.contracts.bufs.IoBufs.{the_row as text_row};
 
     ghost also_owns = { λ h. lies_at text_row full_share h.at h.value };
 }

@@ -16,7 +16,7 @@ use Rattle.iobufs.specs.Inside.Pieces.{view_len, pieces_bytes, piece_at, piece_s
 use Rattle.iobufs.specs.Inside.Several.{views, IsPieced}
 use Rattle.iobufs.specs.Inside.Kept.{text_of, IsKept}
 use Rattle.iobufs.specs.declared.bufs.pieces.Pieces.{Pieces}
-use Rattle.iobufs.specs.declared.bufs.text.IoBufs.TheInside.{Inside}
+use Rattle.iobufs.specs.declared.bufs.IoBufs.TheInside.{Inside}
 use Rattle.iobufs.proofs.Text.PieceLaws.{bytes-of_pieces, len-of_pieces, right-of_pieces, length-bytes, AreFull-from_pieces, of_pieces-one, front-all, rest-all, right_pieces-past, right_pieces-none}
 use Rattle.iobufs.proofs.Text.PlaceLaws.{index-of_place, right-at_place}
 use Rattle.iobufs.proofs.Text.TakenLaws.{taken_view-right, taken_view-within, taken_view-across}

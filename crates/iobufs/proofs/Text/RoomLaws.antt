@@ -8,7 +8,7 @@ use Rattle.iobufs.specs.Inside.RowValues.{ViewRow}
 use Rattle.iobufs.specs.Inside.Several.{views, IsPieced}
 use Rattle.iobufs.specs.declared.bufs.pieces.Pieces.{Pieces}
 use Rattle.iobufs.specs.declared.bufs.pieces.Pieces.TheVariants.{Many}
-use Rattle.iobufs.specs.declared.bufs.text.IoBufs.TheInside.{Inside}
+use Rattle.iobufs.specs.declared.bufs.IoBufs.TheInside.{Inside}
 use Rattle.iobufs.proofs.Text.PieceLaws.{length-bytes}
 use Rattle.iobufs.proofs.Text.SeveralLaws.{pieced-as, several-push}
 use Rattle.iobufs.proofs.Text.TextLaws.{append-pieces, kept-cons, kept-push, length-kept, prepend-pieces}

@@ -10,7 +10,7 @@ use Rattle.iobufs.specs.Inside.Several.{views, IsPieced}
 use Rattle.iobufs.specs.Inside.Kept.{text_of, IsKept}
 use Rattle.iobufs.specs.declared.bufs.pieces.Pieces.{Pieces}
 use Rattle.iobufs.specs.declared.bufs.pieces.Pieces.TheVariants.{One, Many}
-use Rattle.iobufs.specs.declared.bufs.text.IoBufs.TheInside.{Inside}
+use Rattle.iobufs.specs.declared.bufs.IoBufs.TheInside.{Inside}
 use Rattle.iobufs.proofs.Text.Sides.{not_zero}
 use Rattle.iobufs.proofs.Text.PieceLaws.{bytes-of_pieces, len-of_pieces, of_pieces-one, cuts-of_pieces, is_single-of_pieces, AreFull-from_pieces, rest-of_pieces, split_front-of_pieces, advanced-of_view}
 use Rattle.iobufs.proofs.Text.JoinLaws.{append-push, prepend-cons}

@@ -4,7 +4,7 @@
 use Rattle.iobufs_core.specs.MarkedText.{MarkedText}
 use Rattle.iobufs.specs.Inside.Pieces.{of_pieces, AreViews}
 use Rattle.iobufs.specs.Inside.Several.{views, IsPieced}
-use Rattle.iobufs.specs.declared.bufs.text.IoBufs.TheInside.{Inside}
+use Rattle.iobufs.specs.declared.bufs.IoBufs.TheInside.{Inside}
 
 abbrev pub text_of : Inside → MarkedText
 text_of s = of_pieces (views s.pieces)

@@ -1,14 +1,15 @@
 // One piece, or a row of several.
-ghost use Rattle.std.specs.Option.{option_copied};
-ghost use Rattle.std.specs.Prelude.{◌≡◌, List, ◌+◌, ◌*◌, ◌<◌, ◌≤◌, ◌^◌, ◌++◌, [], ◌∷◌, nat_lt, OnOk, OnErr, IfOk, IfErr, IsOk, IsTrue, IsFalse, IsOkUnless, MatchResult, length, slice_get, take, drop};
-ghost use Rattle.iobufs_core.specs.View.{View, IsFreelyShared, static_mark, view_advanced};
-ghost use Rattle.iobufs.specs.Inside.Pieces.{AreFull, IsPlace, behind_first, left_pieces, right_pieces, piece_at, pieces_bytes, view_len};
+ghost use Rattle.iobufs.specs.Inside.Pieces.{AreFull, IsPlace, behind_first, left_pieces, right_pieces, piece_at, pieces_bytes, view_len, bytes_behind};
 ghost use Rattle.iobufs.specs.Inside.Several.{views, IsPieced};
+ghost use Rattle.iobufs_core.specs.Part.{part_frozen, part_put};
+ghost use Rattle.iobufs_core.specs.View.{View, IsFreelyShared, static_mark, view_advanced};
+ghost use Rattle.std.specs.Option.{option_copied};
+ghost use Rattle.std.specs.Prelude.{◌≡◌, List, ◌+◌, ◌*◌, ◌<◌, ◌≤◌, ◌^◌, ◌++◌, [], ◌∷◌, nat_lt, OnOk, OnErr, IfOk, IfErr, IsOk, IsTrue, IsFalse, IsOkUnless, MatchResult, length, slice_get, take, drop, map, Err, ℕ, MatchOption};
 
 use super::row::{Row, split_inside};
 use super::search::Located;
-use iobufs_core::buf::IoBuf;
-use iobufs_core::codec::{Buf, BufError, OwnedBytes};
+use iobufs_core::buf::{IoBuf, IoBufMut};
+use iobufs_core::codec::{Buf, BufError, BufMut, OwnedBytes};
 use std::alloc::{AllocError, AllocFailed, Global};
 use std::mem;
 
@@ -18,6 +19,18 @@ pub(super) enum Pieces {
     One(IoBuf),
     Many(Row),
 }
+
+/// A place up to which pieces were compared: one of them, or behind the last, and how far in it.
+#[derive(Clone, Copy)]
+pub(super) struct Reached {
+    index: usize,
+    offset: usize,
+}
+
+pub(super) const START: Reached = Reached {
+    index: 0,
+    offset: 0,
+};
 
 impl Pieces {
     // The old pieces go here, and not in each place that puts new ones.
@@ -85,6 +98,69 @@ impl Pieces {
         match self {
             Pieces::One(piece) => Ok(piece),
             pieces => Err(pieces),
+        }
+    }
+
+    /// Puts a piece behind the others, which makes them so long. Where there was one piece, a row is made, with room for
+    /// four.
+    pub(super) fn push_back(
+        &mut self,
+        alloc: Global,
+        piece: IoBuf,
+        len: usize,
+    ) -> Result<(), AllocFailed<IoBuf>>
+        requires pieced { IsPieced self.old }
+        requires full { AreFull (views self.old) }
+        requires some { 0 < length piece.bytes }
+        requires total { len ≡ length (pieces_bytes (views self.old)) + length piece.bytes }
+        ensures pieced { IsPieced self.new }
+        ensures done { OnOk result (views self.new ≡ views self.old ++ piece ∷ []) }
+        ensures unchanged { OnErr result (views self.new ≡ views self.old) }
+        ensures handed_back { IfErr result (λ e. e.value ≡ piece) }
+    {
+        match self {
+            Pieces::One(only) => {
+                let Ok(mut row) = Row::with_room(alloc, 4) else {
+                    return Err(AllocFailed { value: piece });
+                };
+                let before = only.len();
+                row.push_back_reserved(mem::take(only), before);
+                row.push_back_reserved(piece, len);
+                self.set(Pieces::Many(row));
+                Ok(())
+            }
+            Pieces::Many(row) => Ok(row.push_back(piece, len)?),
+        }
+    }
+
+    /// The same in front of the others.
+    pub(super) fn push_front(
+        &mut self,
+        alloc: Global,
+        piece: IoBuf,
+    ) -> Result<(), AllocFailed<IoBuf>>
+        requires pieced { IsPieced self.old }
+        requires full { AreFull (views self.old) }
+        requires some { 0 < length piece.bytes }
+        requires fits { length (pieces_bytes (views self.old)) + length piece.bytes < 2 ^ 64 }
+        ensures pieced { IsPieced self.new }
+        ensures done { OnOk result (views self.new ≡ piece ∷ views self.old) }
+        ensures unchanged { OnErr result (views self.new ≡ views self.old) }
+        ensures handed_back { IfErr result (λ e. e.value ≡ piece) }
+    {
+        match self {
+            Pieces::One(only) => {
+                let Ok(mut row) = Row::with_room(alloc, 4) else {
+                    return Err(AllocFailed { value: piece });
+                };
+                let ahead = piece.len();
+                let len = ahead + only.len();
+                row.push_back_reserved(piece, ahead);
+                row.push_back_reserved(mem::take(only), len);
+                self.set(Pieces::Many(row));
+                Ok(())
+            }
+            Pieces::Many(row) => row.push_front(piece),
         }
     }
 
@@ -162,46 +238,6 @@ impl Pieces {
         }
     }
 
-    /// The piece that holds a place.
-    pub(super) fn locate(&self, at: usize) -> Located
-        requires { at < length (pieces_bytes (views self.now)) }
-        ensures place { IsPlace (views self.now) at result.index result.offset }
-        ensures fits { 1 < length (views self.now) → length (pieces_bytes (views self.now)) < 2 ^ 64 }
-        ensures probes { 2 ^ result.probes ≤ 2 * length (views self.now) }
-        ensures halves { length (views self.now) < 2 ^ (result.probes + 1) }
-    {
-        match self {
-            Pieces::One(_) => Located {
-                index: 0,
-                offset: at,
-                probes: 0,
-            },
-            Pieces::Many(row) => row.locate(at),
-        }
-    }
-
-    /// Clones of a piece and of so many behind it.
-    pub(super) fn run(
-        &self,
-        alloc: Global,
-        first: usize,
-        behind: usize,
-    ) -> Result<Pieces, AllocError>
-        requires full { AreFull (views self.now) }
-        requires inside { first + behind < length (views self.now) }
-        ensures run { IfOk result (λ run. views run ≡ take (behind + 1) (drop first (views self.now))) }
-        ensures pieced { IfOk result IsPieced }
-        ensures free { behind ≡ 0 → IsFreelyShared (piece_at (views self.now) first) → IsOk result }
-    {
-        if behind == 0 {
-            return Ok(Pieces::One(self.piece(first).clone()?));
-        }
-        match self {
-            Pieces::One(_) => unreachable!(),
-            Pieces::Many(row) => Ok(Pieces::Many(row.run(alloc, first, behind)?)),
-        }
-    }
-
     /// Takes the first `at` bytes, some but not all.
     pub(super) fn split_front(&mut self, alloc: Global, at: usize) -> Result<Pieces, BufError>
         requires pieced { IsPieced self.old }
@@ -264,67 +300,185 @@ impl Pieces {
         Ok(Pieces::Many(row.split_right(place, at)?))
     }
 
-    /// Puts a piece behind the others, which makes them so long. Where there was one piece, a row is made, with room for
-    /// four.
-    pub(super) fn push_back(
-        &mut self,
+    /// Clones of a piece and of so many behind it.
+    pub(super) fn run(
+        &self,
         alloc: Global,
-        piece: IoBuf,
-        len: usize,
-    ) -> Result<(), AllocFailed<IoBuf>>
-        requires pieced { IsPieced self.old }
-        requires full { AreFull (views self.old) }
-        requires some { 0 < length piece.bytes }
-        requires total { len ≡ length (pieces_bytes (views self.old)) + length piece.bytes }
-        ensures pieced { IsPieced self.new }
-        ensures done { OnOk result (views self.new ≡ views self.old ++ piece ∷ []) }
-        ensures unchanged { OnErr result (views self.new ≡ views self.old) }
-        ensures handed_back { IfErr result (λ e. e.value ≡ piece) }
+        first: usize,
+        behind: usize,
+    ) -> Result<Pieces, AllocError>
+        requires full { AreFull (views self.now) }
+        requires inside { first + behind < length (views self.now) }
+        ensures run { IfOk result (λ run. views run ≡ take (behind + 1) (drop first (views self.now))) }
+        ensures pieced { IfOk result IsPieced }
+        ensures free { behind ≡ 0 → IsFreelyShared (piece_at (views self.now) first) → IsOk result }
     {
+        if behind == 0 {
+            return Ok(Pieces::One(self.piece(first).clone()?));
+        }
         match self {
-            Pieces::One(only) => {
-                let Ok(mut row) = Row::with_room(alloc, 4) else {
-                    return Err(AllocFailed { value: piece });
-                };
-                let before = only.len();
-                row.push_back_reserved(mem::take(only), before);
-                row.push_back_reserved(piece, len);
-                self.set(Pieces::Many(row));
-                Ok(())
-            }
-            Pieces::Many(row) => Ok(row.push_back(piece, len)?),
+            Pieces::One(_) => unreachable!(),
+            Pieces::Many(row) => Ok(Pieces::Many(row.run(alloc, first, behind)?)),
         }
     }
 
-    /// The same in front of the others.
-    pub(super) fn push_front(
-        &mut self,
-        alloc: Global,
-        piece: IoBuf,
-    ) -> Result<(), AllocFailed<IoBuf>>
-        requires pieced { IsPieced self.old }
-        requires full { AreFull (views self.old) }
-        requires some { 0 < length piece.bytes }
-        requires fits { length (pieces_bytes (views self.old)) + length piece.bytes < 2 ^ 64 }
-        ensures pieced { IsPieced self.new }
-        ensures done { OnOk result (views self.new ≡ piece ∷ views self.old) }
-        ensures unchanged { OnErr result (views self.new ≡ views self.old) }
-        ensures handed_back { IfErr result (λ e. e.value ≡ piece) }
+    /// The piece that holds a place.
+    pub(super) fn locate(&self, at: usize) -> Located
+        requires { at < length (pieces_bytes (views self.now)) }
+        ensures place { IsPlace (views self.now) at result.index result.offset }
+        ensures fits { 1 < length (views self.now) → length (pieces_bytes (views self.now)) < 2 ^ 64 }
+        ensures probes { 2 ^ result.probes ≤ 2 * length (views self.now) }
+        ensures halves { length (views self.now) < 2 ^ (result.probes + 1) }
     {
         match self {
-            Pieces::One(only) => {
-                let Ok(mut row) = Row::with_room(alloc, 4) else {
-                    return Err(AllocFailed { value: piece });
-                };
-                let ahead = piece.len();
-                let len = ahead + only.len();
-                row.push_back_reserved(piece, ahead);
-                row.push_back_reserved(mem::take(only), len);
-                self.set(Pieces::Many(row));
-                Ok(())
-            }
-            Pieces::Many(row) => row.push_front(piece),
+            Pieces::One(_) => Located {
+                index: 0,
+                offset: at,
+                probes: 0,
+            },
+            Pieces::Many(row) => row.locate(at),
         }
+    }
+
+    /// Where the bytes end that stand from a place on, if they do.
+    pub(super) fn matched(&self, from: Reached, bytes: &[u8]) -> Option<Reached>
+        requires offset { from.offset ≤ view_len (piece_at (views self.now) from.index) }
+        requires inside { length bytes.now ≤ length (bytes_behind (views self.now) from.index from.offset) }
+        ensures { MatchOption result ((more : List ℕ) → bytes_behind (views self.now) from.index from.offset ≡ bytes.now ++ more → ⊥)
+            (λ end. (end.offset ≤ view_len (piece_at (views self.now) end.index))
+            × (bytes_behind (views self.now) from.index from.offset ≡ bytes.now ++ bytes_behind (views self.now) end.index end.offset)) }
+    {
+        let count = self.count();
+        let Reached {
+            mut index,
+            mut offset,
+        } = from;
+        let mut left = bytes;
+        while index < count {
+            let chunk = &self.piece(index).as_ref()[offset..];
+            if left.len() < chunk.len() {
+                if left != &chunk[..left.len()] {
+                    return None;
+                }
+                offset += left.len();
+                return Some(Reached { index, offset });
+            }
+            let Some(behind) = left.strip_prefix(chunk) else {
+                return None;
+            };
+            left = behind;
+            index += 1;
+            offset = 0;
+        }
+        Some(Reached { index, offset })
+    }
+
+    /// Fills `dst` with the first bytes.
+    pub(super) fn fill(&self, dst: &mut [u8])
+        requires { length dst.old ≤ length (pieces_bytes (views self.now)) }
+        ensures { dst.new ≡ take (length dst.old) (pieces_bytes (views self.now)) }
+    {
+        let count = self.count();
+        let mut filled = 0;
+        let mut index = 0;
+        while filled < dst.len() && index < count {
+            let bytes = self.piece(index).as_ref();
+            let some = bytes.len().min(dst.len() - filled);
+            dst[filled..filled + some].copy_from_slice(&bytes[..some]);
+            filled += some;
+            index += 1;
+        }
+    }
+
+    /// Fills `dst` with the bytes from a place on.
+    pub(super) fn fill_from(&self, from: Located, dst: &mut [u8])
+        requires offset { from.offset ≤ length (piece_at (views self.now) from.index).bytes }
+        requires inside { length dst.old + from.offset ≤ length (pieces_bytes (drop from.index (views self.now))) }
+        ensures { dst.new ≡ take (length dst.old) (drop from.offset (pieces_bytes (drop from.index (views self.now)))) }
+    {
+        let count = self.count();
+        let Located {
+            mut index,
+            mut offset,
+            probes: _,
+        } = from;
+        let mut filled = 0;
+        while filled < dst.len() && index < count {
+            let bytes = &self.piece(index).as_ref()[offset..];
+            let some = bytes.len().min(dst.len() - filled);
+            dst[filled..filled + some].copy_from_slice(&bytes[..some]);
+            filled += some;
+            index += 1;
+            offset = 0;
+        }
+    }
+
+    /// A copy of the first `n` bytes.
+    pub(super) fn front(&self, alloc: Global, n: usize) -> Result<Vec<u8>, AllocError>
+        requires { n ≤ length (pieces_bytes (views self.now)) }
+        ensures { IfOk result (λ copy. copy.items ≡ take n (pieces_bytes (views self.now))) }
+    {
+        let count = self.count();
+        let mut copy = Vec::with_capacity(alloc, n)?;
+        let mut index = 0;
+        while copy.len() < n && index < count {
+            let bytes = self.piece(index).as_ref();
+            let some = bytes.len().min(n - copy.len());
+            copy.extend_from_slice(&bytes[..some])?;
+            index += 1;
+        }
+        Ok(copy)
+    }
+
+    /// A copy of `n` bytes from a place on, in storage of just that capacity.
+    pub(super) fn copied(&self, alloc: Global, from: Located, n: usize) -> Result<IoBuf, BufError>
+        requires offset { from.offset ≤ length (piece_at (views self.now) from.index).bytes }
+        requires inside { n + from.offset ≤ length (pieces_bytes (drop from.index (views self.now))) }
+        ensures ok { IfOk result (λ copy. copy ≡ part_frozen (record {
+          filled = take n (drop from.offset (pieces_bytes (drop from.index (views self.now))));
+          spare = 0;
+        })) }
+        ensures bad_layout { 2 ^ 63 ≤ n → result ≡ Err BufError.BadLayout }
+        ensures memory { n < 2 ^ 63 → IsOkUnless result BufError.Memory }
+    {
+        let count = self.count();
+        let mut copy = IoBufMut::with_capacity(alloc, n)?;
+        let Located {
+            mut index,
+            mut offset,
+            probes: _,
+        } = from;
+        while copy.len() < n && index < count {
+            let bytes = &self.piece(index).as_ref()[offset..];
+            let some = bytes.len().min(n - copy.len());
+            copy.put_slice(&bytes[..some]);
+            index += 1;
+            offset = 0;
+        }
+        copy.freeze()
+    }
+
+    /// Puts all bytes behind those of a buffer that has room for them.
+    pub(super) fn copy_to(&self, copy: &mut IoBufMut)
+        requires { length (pieces_bytes (views self.now)) ≤ copy.old.spare }
+        ensures { copy.new ≡ part_put copy.old (pieces_bytes (views self.now)) }
+    {
+        match self {
+            Pieces::One(piece) => copy.put_slice(piece.as_ref()),
+            Pieces::Many(row) => row.copy_to(copy),
+        }
+    }
+
+    /// The bytes of the first pieces, at most `max` of these.
+    pub(super) fn chunks(&self, alloc: Global, max: usize) -> Result<Vec<&[u8]>, AllocError>
+        ensures ok { IfOk result (λ chunks. map (λ chunk. chunk.now) chunks.items ≡ take max (map (λ piece. piece.bytes) (views self.now))) }
+        ensures nothing { max ≡ 0 → IsOk result }
+    {
+        let mut chunks = Vec::new(alloc);
+        for index in 0..self.count().min(max) {
+            chunks.push(self.piece(index).as_ref())?;
+        }
+        Ok(chunks)
     }
 }
 

@@ -30,8 +30,8 @@ use sound.WpLaws.{FmC}
 use denote.Triple.Table.{framed}
 use Rattle.std.proofs.raw_atomic.Walks.{proved}
 use Rattle.iobufs_core.specs.MarkedText.{MarkedText, default_text}
-use Rattle.iobufs.specs.contracts.bufs.text.IoBufs.{the_row as V}
-use Rattle.iobufs.proofs.bufs.text.IoBufs.TheLaws.{the_row_laws}
+use Rattle.iobufs.specs.contracts.bufs.IoBufs.{the_row as V}
+use Rattle.iobufs.proofs.bufs.IoBufs.TheLaws.{the_row_laws}
 use Rattle.iobufs_c.specs.contracts.text.empty as of
 use Rattle.iobufs_c.proofs.text.empty.Met.{met}
 use Rattle.iobufs_c.specs.contracts.text.iobufs_init.{ended, clauses}

@@ -6,8 +6,8 @@ use denote.Struct.Struct.{exits_of}
 use denote.Struct.Owning.{shape, fields, to}
 use base.Fraction.{full_share}
 use base.Shift.{Keyless}
-use Rattle.iobufs.specs.contracts.bufs.text.IoBufs.{the_row as V}
-use Rattle.iobufs.proofs.bufs.text.IoBufs.TheSendSync.{the_send}
+use Rattle.iobufs.specs.contracts.bufs.IoBufs.{the_row as V}
+use Rattle.iobufs.proofs.bufs.IoBufs.TheSendSync.{the_send}
 use Rattle.iobufs_c.specs.contracts.text.TextAt.{the_row, the_type}
 
 quiet : {D X : Type 0} (to : D → X) (e : Exit X) → Quiet e → Quiet (hidden (under to e))

@@ -26,7 +26,7 @@ use denote.Follow.{follows, lends_Part}
 use denote.Triple.Walked.{says, Stays, stay_dropped, walk_of, ends_at, Goes-spent_ref}
 use Rattle.std.proofs.alloc.Shapes.{after}
 use Rattle.std.proofs.raw_atomic.Walks.{proved}
-use Rattle.iobufs.specs.contracts.bufs.text.IoBufs.{the_row as V}
+use Rattle.iobufs.specs.contracts.bufs.IoBufs.{the_row as V}
 use Rattle.iobufs_c.specs.contracts.text.TextAt.{the_row as Row, the_type}
 use Rattle.iobufs_c.specs.contracts.text.TextAt.get.{ended, clauses}
 use Rattle.iobufs_c.specs.contracts.text.TextAt.get.Key.{name as #self}

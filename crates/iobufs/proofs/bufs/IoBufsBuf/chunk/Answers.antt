@@ -1,0 +1,10 @@
+use Rattle.std.proofs.Common.{ap, ◌∙◌}
+use Rattle.iobufs_core.specs.View.{View}
+use Rattle.iobufs.proofs.Text.ReadLaws.{first-kept, front-chunk}
+use Rattle.iobufs.proofs.bufs.IoBufsBuf.chunk.Goals as goal
+
+pub returns-clause-first : goal.returns-clause-first
+returns-clause-first c = c.as_ref.ensures ∙ ap (λ (v : View). v.bytes) c.piece.ensures ∙ first-kept _ _ c.self.view_is c.self.invariant.pieced
+
+pub returns-clause-front : goal.returns-clause-front
+returns-clause-front c = front-chunk _ _ _ c.self.view_is c.self.invariant.pieced (c.as_ref.ensures ∙ ap (λ (v : View). v.bytes) c.piece.ensures)

@@ -1,6 +1,0 @@
-use Rattle.std.proofs.Common.{sym, ap, ◌∙◌, nat_eq}
-use Rattle.iobufs.proofs.Text.TextLaws.{single-kept}
-use Rattle.iobufs.proofs.bufs.text.IoBufs.is_single.Goals as goal
-
-pub returns : goal.returns
-returns c = ap (λ n. nat_eq n 1) c.count.ensures ∙ sym (single-kept _ _ c.self.view_is c.self.invariant)
