@@ -413,7 +413,7 @@ impl IoBufs {
         if len == 0 {
             return Ok(Vec::new(alloc));
         }
-        Ok(self.pieces.front(alloc, len)?)
+        Ok(self.pieces.copy_front(alloc, len)?)
     }
 
     /// The text as one piece, with a copy where there are several. `BufError::BadLayout` exactly where these hold over
@@ -511,10 +511,11 @@ impl Buf for IoBufs {
 
     #[inline(always)]
     fn advance(&mut self, n: usize) {
-        if self.shorten(n) {
+        if let Pieces::One(piece) = &mut self.pieces {
+            piece.advance(n);
             return;
         }
-        self.use_up(n);
+        self.drop_front(n);
     }
 
     fn copy_to_slice(&mut self, dst: &mut [u8]) {
@@ -541,7 +542,7 @@ impl Buf for IoBufs {
         if n <= self.chunk().len() {
             return self.take_owned_after(alloc, 0, n);
         }
-        let bytes = self.front(alloc, n)?;
+        let bytes = self.copy_front(alloc, n)?;
         self.drop_front(n);
         Ok(bytes)
     }
@@ -727,53 +728,14 @@ impl IoBufs {
     }
 
     // Drops the first bytes, and keeps no mark where none are left.
+    #[inline(always)]
     fn drop_front(&mut self, n: usize)
         requires { n ≤ text_len self.old }
         ensures { self.new ≡ text_rest self.old n }
     {
-        if n == 0 || self.shorten(n) {
-            return;
+        if n != 0 {
+            self.pieces.drop_front(n);
         }
-        self.drop_pieces(n);
-    }
-
-    // Drops the first bytes where the first piece has more. Else nothing changes.
-    #[inline(always)]
-    fn shorten(&mut self, n: usize) -> bool
-        requires { n ≤ text_len self.old }
-        ensures answer { result ≡ nat_lt n (length (first_chunk (text_chunks self.old))) }
-        ensures rest { IsTrue result → self.new ≡ text_rest self.old n }
-        ensures inside { IsTrue result → n < text_len self.old }
-        ensures same { IsFalse result → self.new ≡ self.old }
-    {
-        self.pieces.shorten(n)
-    }
-
-    // Drops bytes where whole pieces go: apart, since what it needs costs at entry.
-    #[inline(never)]
-    fn drop_pieces(&mut self, n: usize)
-        requires some { 0 < n }
-        requires inside { n ≤ text_len self.old }
-        ensures { self.new ≡ text_rest self.old n }
-    {
-        if n == self.len() {
-            self.set(IoBufs::default());
-            return;
-        }
-        self.pieces.drop_front(n);
-    }
-
-    // As `advance`, where whole pieces go: an only one that is used up keeps its mark.
-    #[inline(never)]
-    fn use_up(&mut self, n: usize)
-        requires { n ≤ text_len self.old }
-        ensures { self.new ≡ text_advanced self.old n }
-    {
-        if let Pieces::One(piece) = &mut self.pieces {
-            piece.advance(n);
-            return;
-        }
-        self.drop_front(n);
     }
 
     // A byte behind the first piece.
@@ -796,9 +758,9 @@ impl IoBufs {
         ensures bytes { dst.new ≡ take (length dst.old) self.old.bytes }
         ensures rest { self.new ≡ text_advanced self.old (length dst.old) }
     {
-        self.pieces.fill(dst);
+        self.pieces.copy_from(START, dst);
         let n = dst.len();
-        self.use_up(n);
+        self.advance(n);
     }
 
     // Takes bytes of the first piece out, and drops those in front too.
@@ -884,16 +846,16 @@ impl IoBufs {
             return;
         }
         let place = self.pieces.locate(skip);
-        self.pieces.fill_from(place, dst);
+        self.pieces.copy_from(place, dst);
     }
 
     // A copy of the first bytes.
-    fn front(&self, alloc: Global, n: usize) -> Result<Bytes, BufError>
+    fn copy_front(&self, alloc: Global, n: usize) -> Result<Bytes, BufError>
         requires { n ≤ text_len self.now }
         ensures ok { IfOk result (λ bytes. bytes ≡ take n self.now.bytes) }
         ensures memory { IsOkUnless result BufError.Memory }
     {
-        Ok(Bytes::from_vec(self.pieces.front(alloc, n)?)?)
+        Ok(Bytes::from_vec(self.pieces.copy_front(alloc, n)?)?)
     }
 
     // What is made of the first piece, which has `n` bytes and goes.

@@ -70,43 +70,17 @@ pub slice_from : (o : ℕ) (b : List ℕ) → take (length b - o) (drop o b) ≡
 slice_from o b = take_all (length b - o) (drop o b) (let n = length-drop o b in omega arith)
 
 -- so many bytes of a slice are filled, and the pieces from here on have those that are to come
-pub record IsFilled (ps : List View) (i filled : ℕ) (dst : List ℕ) : Type 0 where
-  pub some : filled ≤ length dst
-  pub left : length dst - filled ≤ length (pieces_bytes (drop i ps))
-  pub so_far : take filled dst ++ take (length dst - filled) (pieces_bytes (drop i ps)) ≡ take (length dst) (pieces_bytes ps)
-
--- one turn of filling a slice from the front
-pub filled-step : (ps : List View) (i f k : ℕ) (dst now bytes : List ℕ) → i < length ps → bytes ≡ (piece_at ps i).bytes → f ≤ length dst
-    → length dst - f ≤ length (pieces_bytes (drop i ps)) → take f dst ++ take (length dst - f) (pieces_bytes (drop i ps))
-    ≡ take (length dst) (pieces_bytes ps) → k ≡ min (length bytes) (length dst - f) → length now ≡ length dst → take (f + k) now ≡ take f dst ++ take k bytes →
-    IsFilled ps (i + 1) (f + k) now
-filled-step ps i f k dst now bytes l b s r t m same x =
-    let rest = pieces_bytes (drop (i + 1) ps) in
-    let whole : pieces_bytes (drop i ps) ≡ bytes ++ rest = bytes-from ps i 0 l (omega arith) ∙ ap (λ xs. xs ++ rest) (sym b) in
-    let total : length (pieces_bytes (drop i ps)) ≡ length bytes + length rest = ap length whole ∙ length-append bytes rest in
-    let left : length now - (f + k) ≡ length dst - f - k = omega arith in
-    let turn : take (length dst - f) (pieces_bytes (drop i ps)) ≡ take k bytes ++ take (length dst - f - k) rest =
-    copied-turn ps i 0 (length dst - f) bytes l (omega arith) b ∙ ap (λ j. take j bytes ++ take (length dst - f - j) rest) (sym m) in
-    record {
-      some = omega arith;
-      left = omega arith;
-      so_far = ap (λ j. take (f + k) now ++ take j rest) left ∙ ap (λ xs. xs ++ take (length dst - f - k) rest) x
-          ∙ append_assoc (take f dst) (take k bytes) (take (length dst - f - k) rest) ∙ ap (λ xs. take f dst ++ xs) (sym turn) ∙ t
-          ∙ ap (λ n. take n (pieces_bytes ps)) (sym same);
-    }
-
--- the same from inside a piece on, of bytes that are to come
-pub record IsFilledFrom (ps : List View) (i filled : ℕ) (dst target : List ℕ) : Type 0 where
+pub record IsFilled (ps : List View) (i filled : ℕ) (dst target : List ℕ) : Type 0 where
   pub some : filled ≤ length dst
   pub left : length dst - filled ≤ length (pieces_bytes (drop i ps))
   pub so_far : take filled dst ++ take (length dst - filled) (pieces_bytes (drop i ps)) ≡ target
 
 -- a destination that is filled up to a piece, with as much of that piece as fits put behind, is filled up to the next piece
-pub filled_from-step : (ps : List View) (i o f k : ℕ) (dst now bytes target : List ℕ) → i < length ps → o ≤ view_len (piece_at ps i)
+pub filled-step : (ps : List View) (i o f k : ℕ) (dst now bytes target : List ℕ) → i < length ps → o ≤ view_len (piece_at ps i)
     → bytes ≡ drop o (piece_at ps i).bytes → f ≤ length dst → length dst - f + o ≤ length (pieces_bytes (drop i ps))
     → take f dst ++ take (length dst - f) (drop o (pieces_bytes (drop i ps))) ≡ target → k ≡ min (length bytes) (length dst - f) → length now ≡ length dst
-    → take (f + k) now ≡ take f dst ++ take k bytes → IsFilledFrom ps (i + 1) (f + k) now target
-filled_from-step ps i o f k dst now bytes target l h b s r t m same x =
+    → take (f + k) now ≡ take f dst ++ take k bytes → IsFilled ps (i + 1) (f + k) now target
+filled-step ps i o f k dst now bytes target l h b s r t m same x =
     let rest = pieces_bytes (drop (i + 1) ps) in
     let whole : drop o (pieces_bytes (drop i ps)) ≡ bytes ++ rest = bytes-from ps i o l h ∙ ap (λ xs. xs ++ rest) (sym b) in
     let total : length (pieces_bytes (drop i ps)) - o ≡ length bytes + length rest =

@@ -1,9 +1,9 @@
 -- Room for the bytes of pieces (`AreViews`), also on either side of a place; with it the text that they make is well formed (`IsMarked`).
-use Rattle.std.proofs.Common.{◌≡◌, ℕ, ◌+◌, ◌-◌, ◌<◌, ◌≤◌, List, [], ◌∷◌, ◌++◌, length, take, map, arith, length-append, length-drop, length-take, suc, zero, ⊎_elim, All}
+use Rattle.std.proofs.Common.{Bool, true, false, cond, nat_eq, ◌≡◌, ℕ, ◌+◌, ◌-◌, ◌<◌, ◌≤◌, List, [], ◌∷◌, ◌++◌, length, take, map, arith, length-append, length-drop, length-take, suc, zero, ⊎_elim, All}
 use Rattle.std.proofs.lemmas.Bool.{cases_lt}
-use Rattle.iobufs_core.specs.View.{View, Mark, HasRoom, IsView, mark_after, native_mark, static_mark, bytes_mark, view_front, view_advanced}
+use Rattle.iobufs_core.specs.View.{View, Mark, HasRoom, IsView, default_view, mark_after, native_mark, static_mark, bytes_mark, view_front, view_advanced}
 use Rattle.iobufs_core.specs.MarkedText.{IsMarked, AreCuts, text_len, moved_up, text_glue}
-use Rattle.iobufs.specs.Inside.Pieces.{view_len, of_pieces, IsPieces, AreViews, left_pieces, right_pieces}
+use Rattle.iobufs.specs.Inside.Pieces.{view_len, of_pieces, IsPieces, AreViews, left_pieces, right_pieces, rest_pieces, pieces_bytes}
 use Rattle.iobufs.proofs.Text.Sides.{no_sub}
 use Rattle.iobufs.proofs.Text.PieceLaws.{right_pieces-within, right_pieces-past, left_pieces-within, left_pieces-past, length-bytes, len-of_pieces, IsPieces-from_full}
 
@@ -61,6 +61,14 @@ AreViews-right at (v ∷ vs) f =
     (λ (h : at < view_len v). rw (right_pieces-within at v vs h) (IsView-advanced at v f.0, f.1))
     (λ (h : view_len v ≤ at). rw (right_pieces-past at v vs h) (AreViews-right (at - view_len v) vs f.1))
     (cases_lt at (view_len v))
+
+-- where pieces have room for their bytes, so have those that are left without the first bytes
+pub AreViews-rest : (n : ℕ) (vs : List View) → AreViews vs → AreViews (rest_pieces vs n)
+AreViews-rest n vs f = either (nat_eq n (length (pieces_bytes vs))) (default_view ∷ []) (right_pieces vs n) (tt, tt) (AreViews-right n vs f)
+  where
+    either : (b : Bool) (us ws : List View) → AreViews us → AreViews ws → AreViews (cond b us ws)
+    either true us ws f g = f
+    either false us ws f g = g
 
 -- where pieces have room for their bytes, so have those up to a place
 pub AreViews-left : (at : ℕ) (vs : List View) → AreViews vs → AreViews (left_pieces vs at)

@@ -1,10 +1,10 @@
 -- Which marked text a list of pieces makes (`of_pieces`): its bytes, mark, cuts and two sides; and the pieces on either side of a place.
-use Rattle.std.proofs.Common.{◌≡◌, ℕ, ◌+◌, ◌-◌, ◌<◌, ◌≤◌, List, [], ◌∷◌, ◌++◌, length, take, drop, refl, sym, ap, ◌∙◌, arith, append-nil, length-append, length-drop, suc, ⊎_elim, length-take-le, nat_eq, take_all, ◌⊎◌}
+use Rattle.std.proofs.Common.{◌≡◌, ℕ, ◌+◌, ◌-◌, ◌<◌, ◌≤◌, List, [], ◌∷◌, ◌++◌, length, take, drop, refl, sym, ap, ◌∙◌, arith, append-nil, length-append, length-drop, suc, ⊎_elim, length-take-le, nat_eq, take_all, ◌⊎◌, true, false, tests}
 use Rattle.std.proofs.lemmas.List.{length-map}
 use Rattle.std.proofs.lemmas.Bool.{cases_lt, cases_order}
-use Rattle.iobufs_core.specs.View.{View, view_front, view_advanced}
+use Rattle.iobufs_core.specs.View.{View, default_view, view_front, view_advanced}
 use Rattle.iobufs_core.specs.MarkedText.{MarkedText, of_view, default_text, text_len, moved_up, text_left, text_right, text_split_front, text_rest, is_single, text_advanced, text_glue}
-use Rattle.iobufs.specs.Inside.Pieces.{view_len, pieces_bytes, of_pieces, AreFull, IsPieces, left_pieces, right_pieces}
+use Rattle.iobufs.specs.Inside.Pieces.{view_len, pieces_bytes, of_pieces, AreFull, IsPieces, left_pieces, rest_pieces, right_pieces}
 use Rattle.iobufs.proofs.Text.Sides.{glue_assoc, right-of_view, left-of_view, is_lt, not_zero, not_lt, right-glue_within, right-glue_past, left-glue_within, left-glue_past, same_eq, not_eq, same_view, mark_after-zero}
 
 -- a piece in front of others makes its view's text with theirs behind it
@@ -207,6 +207,20 @@ is_single-of_pieces v vs = ap (λ n. nat_eq n 0) (cuts-of_pieces v vs)
 
 pub advanced_view-none : (v : View) → view_advanced v 0 ≡ v
 advanced_view-none v = same_view _ _ refl (mark_after-zero v.mark)
+
+-- where some bytes stay, they are those from there on
+pub rest_pieces-inside : (n : ℕ) (vs : List View) → n < length (pieces_bytes vs) → rest_pieces vs n ≡ right_pieces vs n
+rest_pieces-inside n vs l = rw (differs n (length (pieces_bytes vs)) l) refl
+  where
+    differs : (n m : ℕ) → n < m → nat_eq n m ≡ false
+    differs n m l = grind (arith, tests)
+
+-- where all bytes go, the default view is left
+pub rest_pieces-all : (n : ℕ) (vs : List View) → n ≡ length (pieces_bytes vs) → rest_pieces vs n ≡ default_view ∷ []
+rest_pieces-all n vs e = rw (same n (length (pieces_bytes vs)) e) refl
+  where
+    same : (n m : ℕ) → n ≡ m → nat_eq n m ≡ true
+    same n m e = grind (arith, tests)
 
 -- where no piece is empty, those from place 0 on are all
 pub right_pieces-none : (vs : List View) → AreFull vs → right_pieces vs 0 ≡ vs

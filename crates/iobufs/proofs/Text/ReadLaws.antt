@@ -12,12 +12,12 @@ use Rattle.iobufs_core.specs.Chunks.{first_chunk, IsChunkOf}
 use Rattle.iobufs_core.specs.View.{View, default_view, view_front, view_advanced, view_slice, native_mark}
 use Rattle.iobufs_core.specs.Part.{part_frozen}
 use Rattle.iobufs_core.specs.MarkedText.{MarkedText, of_view, text_len, is_single, text_chunks, text_coalesced, text_rest, text_right, taken_view}
-use Rattle.iobufs.specs.Inside.Pieces.{view_len, pieces_bytes, piece_at, piece_start, of_pieces, behind_first, right_pieces, AreFull, IsPieces, IsPlace, AreViews}
+use Rattle.iobufs.specs.Inside.Pieces.{view_len, pieces_bytes, piece_at, piece_start, of_pieces, behind_first, rest_pieces, right_pieces, AreFull, IsPieces, IsPlace, AreViews}
 use Rattle.iobufs.specs.Inside.Several.{views, IsPieced}
 use Rattle.iobufs.specs.Inside.Kept.{text_of, IsKept}
 use Rattle.iobufs.specs.declared.bufs.pieces.Pieces.{Pieces}
 use Rattle.iobufs.specs.declared.bufs.IoBufs.TheInside.{Inside}
-use Rattle.iobufs.proofs.Text.PieceLaws.{bytes-of_pieces, len-of_pieces, right-of_pieces, length-bytes, AreFull-from_pieces, of_pieces-one, front-all, rest-all, right_pieces-past, right_pieces-none}
+use Rattle.iobufs.proofs.Text.PieceLaws.{bytes-of_pieces, len-of_pieces, right-of_pieces, length-bytes, AreFull-from_pieces, of_pieces-one, front-all, rest-all, rest_pieces-all, rest_pieces-inside, right_pieces-past, right_pieces-none}
 use Rattle.iobufs.proofs.Text.PlaceLaws.{index-of_place, right-at_place}
 use Rattle.iobufs.proofs.Text.TakenLaws.{taken_view-right, taken_view-within, taken_view-across}
 use Rattle.iobufs.proofs.Text.ChunkLaws.{chunks-of_empty}
@@ -155,6 +155,17 @@ first-rest (v ∷ u ∷ vs) ws t n e (first, behind) p w is =
     let m = length-bytes u vs in
     rest-kept (v ∷ u ∷ vs) ws t n e p (omega (arith, behind.0)) (is ∙ sym right)
 
+-- a text whose first bytes go leaves the pieces from there on, or the default view where all go
+pub dropped-rest : (vs ws : List View) (t : MarkedText) (n : ℕ) → of_pieces vs ≡ t → 0 < n → n ≤ length (pieces_bytes vs) → ws ≡ rest_pieces vs n
+    → of_pieces ws ≡ text_rest t n
+dropped-rest vs ws t n e p l is =
+    ⊎_elim
+    (λ (h : n < length (pieces_bytes vs)). rest-kept vs ws t n e p h (is ∙ rest_pieces-inside n vs h))
+    (λ (h : length (pieces_bytes vs) ≤ n).
+    let whole : n ≡ text_len t = omega (arith, len-of_pieces vs, ap text_len e) in
+    ap of_pieces (is ∙ rest_pieces-all n vs (omega arith)) ∙ of_pieces-one default_view ∙ sym (rest-all n t p whole))
+    (cases_lt n (length (pieces_bytes vs)))
+
 -- all bytes are as many as those of the first piece and of the pieces behind it
 pub length-behind : (vs : List View) → length (pieces_bytes vs) ≡ view_len (piece_at vs 0) + length (pieces_bytes (behind_first vs))
 length-behind [] = refl
@@ -241,14 +252,3 @@ single-view vs t v e one is = sym e ∙ ap of_pieces (one-as vs one) ∙ of_piec
 -- bytes that are fewer than those of the first piece
 pub first-inside : (vs : List View) (n : ℕ) → n < view_len (piece_at vs 0) → n < length (pieces_bytes vs)
 first-inside vs n l = let k = length-behind vs in omega arith
-
--- a split within the first of full pieces leaves the text of the pieces from there on
-pub short-rest : (vs ws : List View) (t : MarkedText) (n : ℕ) → of_pieces vs ≡ t → AreFull vs → n < view_len (piece_at vs 0) → ws ≡ right_pieces vs n
-    → of_pieces ws ≡ text_rest t n
-short-rest vs ws t n e f l is =
-    ⊎_elim
-    (λ (h : 0 < n). rest-kept vs ws t n e h (first-inside vs n l) is)
-    (λ (h : n ≤ 0).
-    let z : n ≡ 0 = omega arith in
-    ap of_pieces (is ∙ ap (right_pieces vs) z ∙ right_pieces-none vs f) ∙ e ∙ sym (ap (text_rest t) z))
-    (cases_lt 0 n)

@@ -1,11 +1,11 @@
 -- The fields of a text: what its pieces say of its marked text, and that they stay kept (`IsKept`) where a call adds a piece or leaves a side.
-use Rattle.std.proofs.Common.{Bool, true, IsTrue, IsFalse, ◌≡◌, refl, ℕ, ◌<◌, ◌≤◌, false, List, [], ◌∷◌, ◌++◌, length, map, zero, suc, sym, ap, ◌∙◌, arith, tests, subst, nat_eq}
+use Rattle.std.proofs.Common.{◌≡◌, refl, ℕ, ◌<◌, ◌≤◌, false, List, [], ◌∷◌, ◌++◌, length, map, zero, suc, sym, ap, ◌∙◌, arith, tests, subst, nat_eq}
 use Rattle.std.specs.List.{slice_get}
 use Rattle.std.specs.Option.{option_map}
 use Rattle.std.proofs.Common.{Option, None}
 use Rattle.iobufs_core.specs.View.{View, IsView, view_advanced}
 use Rattle.iobufs_core.specs.MarkedText.{MarkedText, of_view, text_len, is_single, chunk_count, text_append, text_prepend, text_rest, text_split_front, text_advanced, text_chunks, IsMarked}
-use Rattle.iobufs.specs.Inside.Pieces.{view_len, pieces_bytes, of_pieces, AreFull, IsPieces, AreViews, left_pieces, right_pieces}
+use Rattle.iobufs.specs.Inside.Pieces.{view_len, pieces_bytes, of_pieces, AreFull, IsPieces, AreViews, left_pieces, right_pieces, rest_pieces}
 use Rattle.iobufs.specs.Inside.Several.{views, IsPieced}
 use Rattle.iobufs.specs.Inside.Kept.{text_of, IsKept}
 use Rattle.iobufs.specs.declared.bufs.pieces.Pieces.{Pieces}
@@ -14,7 +14,7 @@ use Rattle.iobufs.specs.declared.bufs.IoBufs.TheInside.{Inside}
 use Rattle.iobufs.proofs.Text.Sides.{not_zero}
 use Rattle.iobufs.proofs.Text.PieceLaws.{bytes-of_pieces, len-of_pieces, of_pieces-one, cuts-of_pieces, is_single-of_pieces, AreFull-from_pieces, rest-of_pieces, split_front-of_pieces, advanced-of_view}
 use Rattle.iobufs.proofs.Text.JoinLaws.{append-push, prepend-cons}
-use Rattle.iobufs.proofs.Text.KeptLaws.{AreViews-right, AreViews-left, AreViews-append, IsMarked-from_views}
+use Rattle.iobufs.proofs.Text.KeptLaws.{AreViews-right, AreViews-left, AreViews-rest, AreViews-append, IsMarked-from_views}
 use Rattle.iobufs.proofs.Text.ChunkLaws.{chunks-of_pieces, chunks-of_empty}
 
 -- one piece, or several of which none is empty, are as the code keeps them
@@ -177,15 +177,10 @@ kept-rest s at p k h is =
       roomy = views-right (views s.pieces) (views p) at is k.roomy;
     }
 
-pub kept-same : (s : Inside) (p : Pieces) → IsKept s → IsPieced p → views p ≡ views s.pieces → IsKept (record { pieces = p })
-kept-same s p k h is =
+-- where kept pieces without their first bytes are one, or several of which none is empty, they are kept
+pub kept-dropped : (s : Inside) (n : ℕ) (p : Pieces) → IsKept s → IsPieced p → views p ≡ rest_pieces (views s.pieces) n → IsKept (record { pieces = p })
+kept-dropped s n p k h is =
     record {
       pieced = h;
-      roomy = subst AreViews (sym is) k.roomy;
+      roomy = subst AreViews (sym is) (AreViews-rest n (views s.pieces) k.roomy);
     }
-
--- where a test tells that kept pieces are those from a place on, or stay, and they are one, or several of which none is empty, they are kept
-pub kept-short : (s : Inside) (n : ℕ) (p : Pieces) (short : Bool) → IsKept s → IsPieced p
-    → (IsTrue short → views p ≡ right_pieces (views s.pieces) n) → (IsFalse short → views p ≡ views s.pieces) → IsKept (record { pieces = p })
-kept-short s n p true k h left same = kept-rest s n p k h (left refl)
-kept-short s n p false k h left same = kept-same s p k h (same refl)

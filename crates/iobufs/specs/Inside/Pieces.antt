@@ -7,6 +7,7 @@
 --     IsPlace                   a place, told as a piece and how far in it
 --     left_pieces,              the pieces of the two sides of a place
 --     right_pieces
+--     rest_pieces               what is left without the first bytes; the empty view where all go
 --     bytes_behind              the bytes from a place on, told as a piece and how far in it
 --     behind_first              the pieces but the first; the empty view where it was the only one
 use Rattle.std.specs.Prelude.{◌≡◌, ℕ, ◌+◌, ◌-◌, ◌<◌, get_or, nat_lt, ◌==◌, if◌then◌else◌, List, [], ◌∷◌, length, take, drop, flat_map}
@@ -53,6 +54,10 @@ left_pieces (v ∷ vs) at = if at == 0 then [] else if nat_lt at (view_len v) th
 abbrev pub right_pieces : List View → ℕ → List View
 right_pieces [] at = []
 right_pieces (v ∷ vs) at = if nat_lt at (view_len v) then view_advanced v at ∷ vs else right_pieces vs (at - view_len v)
+
+-- what is left without the first bytes; the empty view where all go
+abbrev pub rest_pieces : List View → ℕ → List View
+rest_pieces pieces n = if n == length (pieces_bytes pieces) then default_view ∷ [] else right_pieces pieces n
 
 -- the pieces behind the first; an only one leaves the default view
 abbrev pub behind_first : List View → List View

@@ -1,5 +1,5 @@
 // One piece, or a row of several.
-ghost use Rattle.iobufs.specs.Inside.Pieces.{AreFull, IsPlace, behind_first, left_pieces, right_pieces, piece_at, pieces_bytes, view_len, bytes_behind};
+ghost use Rattle.iobufs.specs.Inside.Pieces.{AreFull, IsPlace, behind_first, left_pieces, rest_pieces, right_pieces, piece_at, pieces_bytes, view_len, bytes_behind};
 ghost use Rattle.iobufs.specs.Inside.Several.{views, IsPieced};
 ghost use Rattle.iobufs_core.specs.Part.{part_frozen, part_put};
 ghost use Rattle.iobufs_core.specs.View.{View, IsFreelyShared, static_mark, view_advanced};
@@ -20,16 +20,11 @@ pub(super) enum Pieces {
     Many(Row),
 }
 
-/// A place up to which pieces were compared: one of them, or behind the last, and how far in it.
-#[derive(Clone, Copy)]
-pub(super) struct Reached {
-    index: usize,
-    offset: usize,
-}
-
-pub(super) const START: Reached = Reached {
+/// The place in front of all bytes.
+pub(super) const START: Located = Located {
     index: 0,
     offset: 0,
+    probes: 0,
 };
 
 impl Pieces {
@@ -42,8 +37,7 @@ impl Pieces {
 
     /// The pieces of a row, at least one.
     pub(super) fn from_row(row: Row) -> Pieces
-        requires some { 0 < length row.views }
-        requires full { AreFull row.views }
+        requires { 0 < length row.views }
         ensures same { views result ≡ row.views }
         ensures pieced { IsPieced result }
     {
@@ -164,48 +158,55 @@ impl Pieces {
         }
     }
 
-    /// Drops the first `n` bytes where the first piece has more. Else nothing changes.
+    /// Drops the first `n` bytes, at least one. Where all go, an empty piece is left.
     #[inline(always)]
-    pub(super) fn shorten(&mut self, n: usize) -> bool
+    pub(super) fn drop_front(&mut self, n: usize)
         requires pieced { IsPieced self.old }
-        ensures answer { result ≡ nat_lt n (view_len (piece_at (views self.old) 0)) }
-        ensures left { IsTrue result → views self.new ≡ right_pieces (views self.old) n }
-        ensures same { IsFalse result → views self.new ≡ views self.old }
+        requires full { AreFull (views self.old) }
+        requires some { 0 < n }
+        requires inside { n ≤ length (pieces_bytes (views self.old)) }
+        ensures left { views self.new ≡ rest_pieces (views self.old) n }
         ensures pieced { IsPieced self.new }
     {
         match self {
             Pieces::One(piece) => {
-                if n >= piece.len() {
-                    return false;
+                if n < piece.len() {
+                    piece.advance(n);
+                } else {
+                    self.set(Pieces::One(IoBuf::default()));
                 }
-                piece.advance(n);
-                true
             }
-            Pieces::Many(row) => row.shorten(n),
+            Pieces::Many(row) => {
+                if !row.shorten(n) {
+                    self.drop_pieces(n);
+                }
+            }
         }
     }
 
-    /// Drops the first `n` bytes.
-    pub(super) fn drop_front(&mut self, n: usize)
+    // The same where the first piece goes: apart, since what it needs costs at entry.
+    #[inline(never)]
+    fn drop_pieces(&mut self, n: usize)
         requires pieced { IsPieced self.old }
         requires full { AreFull (views self.old) }
-        requires inside { n < length (pieces_bytes (views self.old)) }
-        ensures left { views self.new ≡ right_pieces (views self.old) n }
+        requires some { 0 < n }
+        requires inside { n ≤ length (pieces_bytes (views self.old)) }
+        requires first { view_len (piece_at (views self.old) 0) ≤ n }
+        ensures left { views self.new ≡ rest_pieces (views self.old) n }
         ensures pieced { IsPieced self.new }
     {
         match self {
-            Pieces::One(piece) => piece.advance(n),
-            Pieces::Many(row) => {
+            Pieces::Many(row) if n < row.len() => {
                 row.drop_front(n);
                 self.settle();
             }
+            _ => self.set(Pieces::One(IoBuf::default())),
         }
     }
 
     // A row of one piece becomes that piece.
     fn settle(&mut self)
-        requires some { 0 < length (views self.old) }
-        requires full { AreFull (views self.old) }
+        requires { 0 < length (views self.old) }
         ensures same { views self.new ≡ views self.old }
         ensures pieced { IsPieced self.new }
     {
@@ -238,7 +239,7 @@ impl Pieces {
         }
     }
 
-    /// Takes the first `at` bytes, some but not all.
+    /// Takes the first `at` bytes, some but not all. A side of one piece asks for no row.
     pub(super) fn split_front(&mut self, alloc: Global, at: usize) -> Result<Pieces, BufError>
         requires pieced { IsPieced self.old }
         requires full { AreFull (views self.old) }
@@ -263,41 +264,15 @@ impl Pieces {
                     self.settle();
                     return Ok(Pieces::One(front));
                 }
-                self.split_row(alloc, at)
+                let place = row.locate(at);
+                let behind = row.count() - place.index;
+                if behind == 1 {
+                    let last = row.split_last(place, at)?;
+                    return Ok(mem::replace(self, Pieces::One(last)));
+                }
+                Ok(Pieces::Many(row.split_front(alloc, place, at)?))
             }
         }
-    }
-
-    // The same behind the first piece: room is made for the side with fewer pieces, and none for a side of one.
-    #[inline(never)]
-    fn split_row(&mut self, alloc: Global, at: usize) -> Result<Pieces, BufError>
-        requires pieced { IsPieced self.old }
-        requires full { AreFull (views self.old) }
-        requires some { 0 < at }
-        requires behind { view_len (piece_at (views self.old) 0) < at }
-        requires inside { at < length (pieces_bytes (views self.old)) }
-        ensures answer { IfOk result (λ front. views front ≡ left_pieces (views self.old) at) }
-        ensures front_pieced { IfOk result IsPieced }
-        ensures left { OnOk result (views self.new ≡ right_pieces (views self.old) at) }
-        ensures pieced { IsPieced self.new }
-        ensures unchanged { OnErr result (views self.new ≡ views self.old) }
-        ensures memory { IsOkUnless result BufError.Memory }
-        ensures last { (front : List View) (last : View) → views self.old ≡ front ++ last ∷ []
-            → at + view_len last ≡ length (pieces_bytes (views self.old)) → IsOk result }
-    {
-        let Pieces::Many(row) = self else {
-            unreachable!()
-        };
-        let place = row.locate(at);
-        let behind = row.count() - place.index;
-        if behind == 1 {
-            let last = row.split_last(place, at)?;
-            return Ok(mem::replace(self, Pieces::One(last)));
-        }
-        if place.index < behind {
-            return Ok(Pieces::Many(row.split_left(alloc, place, at)?));
-        }
-        Ok(Pieces::Many(row.split_right(place, at)?))
     }
 
     /// Clones of a piece and of so many behind it.
@@ -313,11 +288,9 @@ impl Pieces {
         ensures pieced { IfOk result IsPieced }
         ensures free { behind ≡ 0 → IsFreelyShared (piece_at (views self.now) first) → IsOk result }
     {
-        if behind == 0 {
-            return Ok(Pieces::One(self.piece(first).clone()?));
-        }
         match self {
-            Pieces::One(_) => unreachable!(),
+            Pieces::One(piece) => Ok(Pieces::One(piece.clone()?)),
+            Pieces::Many(row) if behind == 0 => Ok(Pieces::One(row.piece(first).clone()?)),
             Pieces::Many(row) => Ok(Pieces::Many(row.run(alloc, first, behind)?)),
         }
     }
@@ -341,7 +314,7 @@ impl Pieces {
     }
 
     /// Where the bytes end that stand from a place on, if they do.
-    pub(super) fn matched(&self, from: Reached, bytes: &[u8]) -> Option<Reached>
+    pub(super) fn matched(&self, from: Located, bytes: &[u8]) -> Option<Located>
         requires offset { from.offset ≤ view_len (piece_at (views self.now) from.index) }
         requires inside { length bytes.now ≤ length (bytes_behind (views self.now) from.index from.offset) }
         ensures { MatchOption result ((more : List ℕ) → bytes_behind (views self.now) from.index from.offset ≡ bytes.now ++ more → ⊥)
@@ -349,9 +322,10 @@ impl Pieces {
             × (bytes_behind (views self.now) from.index from.offset ≡ bytes.now ++ bytes_behind (views self.now) end.index end.offset)) }
     {
         let count = self.count();
-        let Reached {
+        let Located {
             mut index,
             mut offset,
+            probes,
         } = from;
         let mut left = bytes;
         while index < count {
@@ -361,7 +335,11 @@ impl Pieces {
                     return None;
                 }
                 offset += left.len();
-                return Some(Reached { index, offset });
+                return Some(Located {
+                    index,
+                    offset,
+                    probes,
+                });
             }
             let Some(behind) = left.strip_prefix(chunk) else {
                 return None;
@@ -370,28 +348,15 @@ impl Pieces {
             index += 1;
             offset = 0;
         }
-        Some(Reached { index, offset })
-    }
-
-    /// Fills `dst` with the first bytes.
-    pub(super) fn fill(&self, dst: &mut [u8])
-        requires { length dst.old ≤ length (pieces_bytes (views self.now)) }
-        ensures { dst.new ≡ take (length dst.old) (pieces_bytes (views self.now)) }
-    {
-        let count = self.count();
-        let mut filled = 0;
-        let mut index = 0;
-        while filled < dst.len() && index < count {
-            let bytes = self.piece(index).as_ref();
-            let some = bytes.len().min(dst.len() - filled);
-            dst[filled..filled + some].copy_from_slice(&bytes[..some]);
-            filled += some;
-            index += 1;
-        }
+        Some(Located {
+            index,
+            offset,
+            probes,
+        })
     }
 
     /// Fills `dst` with the bytes from a place on.
-    pub(super) fn fill_from(&self, from: Located, dst: &mut [u8])
+    pub(super) fn copy_from(&self, from: Located, dst: &mut [u8])
         requires offset { from.offset ≤ length (piece_at (views self.now) from.index).bytes }
         requires inside { length dst.old + from.offset ≤ length (pieces_bytes (drop from.index (views self.now))) }
         ensures { dst.new ≡ take (length dst.old) (drop from.offset (pieces_bytes (drop from.index (views self.now)))) }
@@ -414,7 +379,7 @@ impl Pieces {
     }
 
     /// A copy of the first `n` bytes.
-    pub(super) fn front(&self, alloc: Global, n: usize) -> Result<Vec<u8>, AllocError>
+    pub(super) fn copy_front(&self, alloc: Global, n: usize) -> Result<Vec<u8>, AllocError>
         requires { n ≤ length (pieces_bytes (views self.now)) }
         ensures { IfOk result (λ copy. copy.items ≡ take n (pieces_bytes (views self.now))) }
     {

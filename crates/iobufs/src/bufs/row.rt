@@ -95,7 +95,8 @@ impl Row {
     }
 
     pub(super) fn count(&self) -> usize
-        ensures { result ≡ length self.now.views }
+        ensures value { result ≡ length self.now.views }
+        ensures full { AreFull self.now.views }
     {
         self.pieces.len()
     }
@@ -318,10 +319,8 @@ impl Row {
         if index == 0 {
             return 0;
         }
-        match self.pieces.get(index - 1) {
-            Some(before) => before.end.wrapping_sub(self.base) as usize,
-            None => unreachable!(),
-        }
+        let before = self.pieces.get(index - 1).unwrap();
+        before.end.wrapping_sub(self.base) as usize
     }
 
     /// Takes the first bytes, of the first piece alone.
@@ -370,13 +369,27 @@ impl Row {
         }
     }
 
-    /// Takes the first bytes, up to a place, with room for their pieces.
-    pub(super) fn split_left(
+    /// Takes the first bytes, up to a place. Room is made for the side with fewer pieces.
+    pub(super) fn split_front(
         &mut self,
         alloc: Global,
         place: Located,
         at: usize,
     ) -> Result<Row, BufError>
+        requires place { IsPlace self.old.views at place.index place.offset }
+        ensures answer { IfOk result (λ front. front.views ≡ left_pieces self.old.views at) }
+        ensures left { OnOk result (self.new.views ≡ right_pieces self.old.views at) }
+        ensures unchanged { OnErr result (self.new.views ≡ self.old.views) }
+        ensures memory { IsOkUnless result BufError.Memory }
+    {
+        if place.index < self.count() - place.index {
+            return self.split_left(alloc, place, at);
+        }
+        self.split_right(place, at)
+    }
+
+    // With room for the pieces in front of the place.
+    fn split_left(&mut self, alloc: Global, place: Located, at: usize) -> Result<Row, BufError>
         requires place { IsPlace self.old.views at place.index place.offset }
         requires fits { place.index + 1 < 2 ^ 64 }
         ensures answer { IfOk result (λ front. front.views ≡ left_pieces self.old.views at) }
@@ -402,8 +415,8 @@ impl Row {
         })
     }
 
-    /// The same, with room for the pieces from the place on. The room is made first.
-    pub(super) fn split_right(&mut self, place: Located, at: usize) -> Result<Row, BufError>
+    // The same, with room for the pieces from the place on. The room is made first.
+    fn split_right(&mut self, place: Located, at: usize) -> Result<Row, BufError>
         requires place { IsPlace self.old.views at place.index place.offset }
         ensures answer { IfOk result (λ front. front.views ≡ left_pieces self.old.views at) }
         ensures left { OnOk result (self.new.views ≡ right_pieces self.old.views at) }
@@ -546,9 +559,7 @@ fn clone_run(
     ensures { OnOk result (run.new.items ≡ run.old.items ++ take count (drop first row.now.items)) }
 {
     for i in 0..count {
-        let Some(piece) = row.get(first + i) else {
-            unreachable!()
-        };
+        let piece = row.get(first + i).unwrap();
         run.push_back_reserved(piece.clone()?);
     }
     Ok(())

@@ -6,7 +6,7 @@ use Rattle.iobufs.specs.Inside.Several.{views}
 use Rattle.iobufs.proofs.Text.PieceLaws.{length-bytes}
 use Rattle.iobufs.proofs.Text.SeveralLaws.{pieced-as}
 use Rattle.iobufs.proofs.Text.TextLaws.{advanced-one, length-kept, single-more}
-use Rattle.iobufs.proofs.bufs.IoBufs.use_up.Goals as goal
+use Rattle.iobufs.proofs.bufs.IoBufsBuf.advance.Goals as goal
 
 pub advance-requires : goal.advance-requires
 advance-requires c =

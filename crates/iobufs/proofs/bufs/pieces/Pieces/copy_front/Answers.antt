@@ -2,7 +2,7 @@ use Rattle.std.proofs.Common.{◌-◌, ap, ◌∙◌, arith, length, min, refl}
 use Rattle.iobufs_core.specs.View.{View}
 use Rattle.iobufs.specs.Inside.Several.{views}
 use Rattle.iobufs.proofs.Text.CopyLaws.{copied-step}
-use Rattle.iobufs.proofs.bufs.pieces.Pieces.front.Goals as goal
+use Rattle.iobufs.proofs.bufs.pieces.Pieces.copy_front.Goals as goal
 
 pub loop-bytes-preserved : goal.loop-bytes-preserved
 loop-bytes-preserved c =

@@ -4,8 +4,8 @@ use borrow.Rule.Slice.PartMut.{put_mid, same_len_mid}
 use Rattle.iobufs_core.specs.View.{View}
 use Rattle.iobufs.specs.Inside.Several.{views}
 use Rattle.iobufs.specs.Inside.Pieces.{pieces_bytes}
-use Rattle.iobufs.proofs.Text.CopyLaws.{filled_from-step, slice_from}
-use Rattle.iobufs.proofs.bufs.pieces.Pieces.fill_from.Goals as goal
+use Rattle.iobufs.proofs.Text.CopyLaws.{filled-step, slice_from}
+use Rattle.iobufs.proofs.bufs.pieces.Pieces.copy_from.Goals as goal
 
 pub loop-filled-preserved : goal.loop-filled-preserved
 loop-filled-preserved c =
@@ -25,7 +25,7 @@ loop-filled-preserved c =
     let now = put_mid f (f + k - f) dst part in
     let taken = take-put_mid f (f + k - f) dst part (f + k) (omega (arith, count)) some ∙ ap (λ xs. take f dst ++ xs) after in
     let target = take (length dst) (drop c.args.from.offset (pieces_bytes (drop c.args.from.index (views c.args.self.now)))) in
-    let step = filled_from-step (views c.args.self.now) c.loop-filled.index o f k dst now bytes target (omega arith) c.loop-filled.invariant.offset
+    let step = filled-step (views c.args.self.now) c.loop-filled.index o f k dst now bytes target (omega arith) c.loop-filled.invariant.offset
     (slice_from o all ∙ ap (drop o) is) some c.loop-filled.invariant.left c.loop-filled.invariant.so_far short same taken in
     record {
       offset = omega arith;

@@ -1,7 +1,7 @@
 use Rattle.std.proofs.Common.{◌≡◌, ◌+◌, ◌-◌, ◌≤◌, ◌++◌, length, take, drop}
 use Rattle.iobufs.specs.Inside.Pieces.{piece_at, pieces_bytes}
 use Rattle.iobufs.specs.Inside.Several.{views}
-use Rattle.iobufs.proofs.bufs.pieces.Pieces.fill_from.Given as goal
+use Rattle.iobufs.proofs.bufs.pieces.Pieces.copy_from.Given as goal
 
 abbrev pub invariant-loop-filled : goal.invariant-loop-filled
 invariant-loop-filled l =

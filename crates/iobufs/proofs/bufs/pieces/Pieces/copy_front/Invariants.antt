@@ -1,7 +1,7 @@
 use Rattle.std.proofs.Common.{◌≡◌, ◌-◌, ◌≤◌, ◌++◌, length, take, drop}
 use Rattle.iobufs.specs.Inside.Pieces.{pieces_bytes}
 use Rattle.iobufs.specs.Inside.Several.{views}
-use Rattle.iobufs.proofs.bufs.pieces.Pieces.front.Given as goal
+use Rattle.iobufs.proofs.bufs.pieces.Pieces.copy_front.Given as goal
 
 abbrev pub invariant-loop-bytes : goal.invariant-loop-bytes
 invariant-loop-bytes l =

@@ -1,0 +1,20 @@
+use Rattle.std.proofs.Common.{arith}
+use Rattle.iobufs.proofs.Text.ReadLaws.{dropped-rest}
+use Rattle.iobufs.proofs.Text.TextLaws.{length-kept, full-kept, kept-dropped}
+use Rattle.iobufs.proofs.bufs.IoBufs.drop_front.Goals as goal
+
+pub drop_front-requires-clause-full : goal.drop_front-requires-clause-full
+drop_front-requires-clause-full c =
+    let n = length-kept c.self.inside _ c.self.view_is in
+    full-kept c.self.inside _ c.self.view_is c.self.invariant (omega arith)
+
+pub drop_front-requires-clause-inside : goal.drop_front-requires-clause-inside
+drop_front-requires-clause-inside c = omega (arith, c.requires, length-kept c.self.inside _ c.self.view_is)
+
+pub invariant_of-self : goal.invariant_of-self
+invariant_of-self c = kept-dropped c.self.inside c.args.n _ c.self.invariant c.drop_front.ensures.pieced c.drop_front.ensures.left
+
+pub returns-then-n-ne0 : goal.returns-then-n-ne0
+returns-then-n-ne0 c =
+    dropped-rest _ _ c.args.self.now c.args.n c.self.view_is (omega (arith, c.if-n-ne0.true))
+    (omega (arith, c.requires, length-kept c.self.inside _ c.self.view_is)) c.drop_front.ensures.left

@@ -1,9 +1,0 @@
-use Rattle.std.proofs.Common.{arith, ap, ◌∙◌, take}
-use Rattle.iobufs.proofs.Text.TextLaws.{length-kept, bytes-kept}
-use Rattle.iobufs.proofs.bufs.IoBufs.front.Goals as goal
-
-pub front-requires : goal.front-requires
-front-requires c = omega (arith, c.requires, length-kept c.self.inside _ c.self.view_is)
-
-pub returns-clause-ok : goal.returns-clause-ok
-returns-clause-ok c = c.in_ok-from_vec.ensures.ok ∙ c.in_ok-front.ensures ∙ ap (take c.args.n) (bytes-kept c.self.inside _ c.self.view_is)
