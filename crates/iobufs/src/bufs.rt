@@ -68,7 +68,6 @@ impl IoBufs {
     /// The pieces of a row, at least one.
     pub(crate) fn from_row(row: Row) -> IoBufs
         requires some { 0 < length row.views }
-        requires full { AreFull row.views }
         requires roomy { AreViews row.views }
         ensures { result ≡ of_pieces row.views }
     {

@@ -8,12 +8,18 @@ use Rattle.iobufs_core.specs.View.{View}
 use Rattle.iobufs.specs.Inside.Pieces.{view_len, piece_at, piece_start, pieces_bytes, AreFull, IsPlace, left_pieces, right_pieces}
 use Rattle.iobufs.specs.Inside.Several.{views, IsPieced}
 use Rattle.iobufs.specs.declared.bufs.pieces.Pieces.{Pieces}
+use Rattle.iobufs.specs.declared.bufs.pieces.Pieces.TheVariants.{One, Many}
 use Rattle.iobufs.proofs.Text.PieceLaws.{order3, length-left, left_pieces-past, length-bytes, AreFull-append, AreFull-right, AreFull-left}
 use Rattle.iobufs.proofs.Text.PlaceLaws.{right-at_place, index-of_place}
 
 -- in an arm: what is known, by that arm's pieces
 pub pieced-as : {a b : Pieces} → a ≡ b → IsPieced a → IsPieced b
 pieced-as is h = subst IsPieced is h
+
+-- pieces that have bytes: none of them is empty
+pub full-pieced : (p : Pieces) → IsPieced p → 0 < length (pieces_bytes (views p)) → AreFull (views p)
+full-pieced (One v) h l = (omega (arith, length-bytes v []), tt)
+full-pieced (Many row) h l = h.1
 
 -- several pieces of which none is empty are so with one more that has bytes
 pub several-push : (vs ws : List View) (w : View) → (1 < length vs) × AreFull vs → 0 < view_len w → ws ≡ vs ++ w ∷ [] → (1 < length ws) × AreFull ws

@@ -12,7 +12,8 @@ use Rattle.iobufs.specs.declared.bufs.pieces.Pieces.{Pieces}
 use Rattle.iobufs.specs.declared.bufs.pieces.Pieces.TheVariants.{One, Many}
 use Rattle.iobufs.specs.declared.bufs.IoBufs.TheInside.{Inside}
 use Rattle.iobufs.proofs.Text.Sides.{not_zero}
-use Rattle.iobufs.proofs.Text.PieceLaws.{bytes-of_pieces, len-of_pieces, of_pieces-one, cuts-of_pieces, is_single-of_pieces, AreFull-from_pieces, rest-of_pieces, split_front-of_pieces, advanced-of_view}
+use Rattle.iobufs.proofs.Text.PieceLaws.{bytes-of_pieces, len-of_pieces, of_pieces-one, cuts-of_pieces, is_single-of_pieces, rest-of_pieces, split_front-of_pieces, advanced-of_view}
+use Rattle.iobufs.proofs.Text.SeveralLaws.{full-pieced}
 use Rattle.iobufs.proofs.Text.JoinLaws.{append-push, prepend-cons}
 use Rattle.iobufs.proofs.Text.KeptLaws.{AreViews-right, AreViews-left, AreViews-rest, AreViews-append, IsMarked-from_views}
 use Rattle.iobufs.proofs.Text.ChunkLaws.{chunks-of_pieces, chunks-of_empty}
@@ -42,7 +43,7 @@ length-kept s t e = ap length (bytes-kept s t e)
 
 -- the pieces of a kept text that has bytes
 pub full-kept : (s : Inside) (t : MarkedText) → text_of s ≡ t → IsKept s → 0 < text_len t → AreFull (views s.pieces)
-full-kept s t e k p = let n = length-kept s t e in AreFull-from_pieces (views s.pieces) (IsPieces-from_pieced s.pieces k.pieced) (omega arith)
+full-kept s t e k p = full-pieced s.pieces k.pieced (omega (arith, length-kept s t e))
 
 -- the text of kept pieces is well formed
 pub IsMarked-kept : (s : Inside) (t : MarkedText) → text_of s ≡ t → IsKept s → IsMarked t

@@ -104,7 +104,7 @@ impl Pieces {
         len: usize,
     ) -> Result<(), AllocFailed<IoBuf>>
         requires pieced { IsPieced self.old }
-        requires full { AreFull (views self.old) }
+        requires bytes { 0 < length (pieces_bytes (views self.old)) }
         requires some { 0 < length piece.bytes }
         requires total { len ≡ length (pieces_bytes (views self.old)) + length piece.bytes }
         ensures pieced { IsPieced self.new }
@@ -134,7 +134,7 @@ impl Pieces {
         piece: IoBuf,
     ) -> Result<(), AllocFailed<IoBuf>>
         requires pieced { IsPieced self.old }
-        requires full { AreFull (views self.old) }
+        requires bytes { 0 < length (pieces_bytes (views self.old)) }
         requires some { 0 < length piece.bytes }
         requires fits { length (pieces_bytes (views self.old)) + length piece.bytes < 2 ^ 64 }
         ensures pieced { IsPieced self.new }
@@ -162,7 +162,6 @@ impl Pieces {
     #[inline(always)]
     pub(super) fn drop_front(&mut self, n: usize)
         requires pieced { IsPieced self.old }
-        requires full { AreFull (views self.old) }
         requires some { 0 < n }
         requires inside { n ≤ length (pieces_bytes (views self.old)) }
         ensures left { views self.new ≡ rest_pieces (views self.old) n }
@@ -188,7 +187,6 @@ impl Pieces {
     #[inline(never)]
     fn drop_pieces(&mut self, n: usize)
         requires pieced { IsPieced self.old }
-        requires full { AreFull (views self.old) }
         requires some { 0 < n }
         requires inside { n ≤ length (pieces_bytes (views self.old)) }
         requires first { view_len (piece_at (views self.old) 0) ≤ n }
@@ -221,7 +219,6 @@ impl Pieces {
     /// What is made of the first piece, which goes; an only one leaves an empty one.
     pub(super) fn take_first<T: OwnedBytes>(&mut self, alloc: Global) -> Result<T, BufError>
         requires pieced { IsPieced self.old }
-        requires full { AreFull (views self.old) }
         ensures made { IfOk result (T.makes (piece_at (views self.old) 0)) }
         ensures left { OnOk result (views self.new ≡ behind_first (views self.old)) }
         ensures pieced { IsPieced self.new }
@@ -242,7 +239,6 @@ impl Pieces {
     /// Takes the first `at` bytes, some but not all. A side of one piece asks for no row.
     pub(super) fn split_front(&mut self, alloc: Global, at: usize) -> Result<Pieces, BufError>
         requires pieced { IsPieced self.old }
-        requires full { AreFull (views self.old) }
         requires some { 0 < at }
         requires inside { at < length (pieces_bytes (views self.old)) }
         ensures answer { IfOk result (λ front. views front ≡ left_pieces (views self.old) at) }
@@ -282,7 +278,7 @@ impl Pieces {
         first: usize,
         behind: usize,
     ) -> Result<Pieces, AllocError>
-        requires full { AreFull (views self.now) }
+        requires pieced { IsPieced self.now }
         requires inside { first + behind < length (views self.now) }
         ensures run { IfOk result (λ run. views run ≡ take (behind + 1) (drop first (views self.now))) }
         ensures pieced { IfOk result IsPieced }

@@ -1,12 +1,7 @@
 use Rattle.std.proofs.Common.{ap, ◌∙◌, arith}
 use Rattle.iobufs.specs.Inside.Pieces.{of_pieces}
-use Rattle.iobufs.proofs.Text.TextLaws.{length-kept, full-kept, append-pieces, kept-push}
+use Rattle.iobufs.proofs.Text.TextLaws.{length-kept, append-pieces, kept-push}
 use Rattle.iobufs.proofs.bufs.IoBufs.append_any.Goals as goal
-
-pub push_back-requires-clause-full : goal.push_back-requires-clause-full
-push_back-requires-clause-full c =
-    let n = length-kept c.self.inside _ c.self.view_is in
-    full-kept c.self.inside _ c.self.view_is c.self.invariant (omega arith)
 
 pub invariant_of-self-2 : goal.invariant_of-self-2
 invariant_of-self-2 c = kept-push c.self.inside _ c.args.piece c.self.invariant c.push_back.ensures.pieced c.in_default.ensures.done c.len-more.ensures.room
@@ -16,3 +11,6 @@ returns-clause-done c = ap of_pieces c.in_default.ensures.done ∙ append-pieces
 
 pub push_back-requires-clause-total : goal.push_back-requires-clause-total
 push_back-requires-clause-total c = omega (arith, length-kept c.self.inside _ c.self.view_is)
+
+pub push_back-requires-clause-bytes : goal.push_back-requires-clause-bytes
+push_back-requires-clause-bytes c = omega (arith, length-kept c.self.inside _ c.self.view_is)

@@ -1,12 +1,7 @@
 use Rattle.std.proofs.Common.{arith}
 use Rattle.iobufs.proofs.Text.ReadLaws.{dropped-rest}
-use Rattle.iobufs.proofs.Text.TextLaws.{length-kept, full-kept, kept-dropped}
+use Rattle.iobufs.proofs.Text.TextLaws.{length-kept, kept-dropped}
 use Rattle.iobufs.proofs.bufs.IoBufs.drop_front.Goals as goal
-
-pub drop_front-requires-clause-full : goal.drop_front-requires-clause-full
-drop_front-requires-clause-full c =
-    let n = length-kept c.self.inside _ c.self.view_is in
-    full-kept c.self.inside _ c.self.view_is c.self.invariant (omega arith)
 
 pub drop_front-requires-clause-inside : goal.drop_front-requires-clause-inside
 drop_front-requires-clause-inside c = omega (arith, c.requires, length-kept c.self.inside _ c.self.view_is)

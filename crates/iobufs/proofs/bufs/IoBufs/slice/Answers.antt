@@ -15,10 +15,6 @@ locate-first-requires c = omega (arith, c.requires.order, c.requires.inside, c.i
 pub locate-last-requires : goal.locate-last-requires
 locate-last-requires c = omega (arith, c.requires.order, c.requires.inside, c.if-start-end.false, length-kept c.self.inside _ c.self.view_is)
 
-pub run-requires-clause-full : goal.run-requires-clause-full
-run-requires-clause-full c =
-    full-kept c.self.inside _ c.self.view_is c.self.invariant (omega (arith, c.requires.order, c.requires.inside, c.if-start-end.false))
-
 pub overflow_sub-behind : goal.overflow_sub-behind
 overflow_sub-behind c =
     let full = full-kept c.self.inside _ c.self.view_is c.self.invariant (omega (arith, c.requires.order, c.requires.inside, c.if-start-end.false)) in

@@ -7,11 +7,6 @@ use Rattle.iobufs.proofs.Text.StaticLaws.{static-within}
 use Rattle.iobufs.proofs.Text.TextLaws.{chunks-kept, some_views, length-kept, full-kept, kept-front, kept-rest, front-kept, rest-kept}
 use Rattle.iobufs.proofs.bufs.IoBufs.split_to.Goals as goal
 
-pub split_front-requires-clause-full : goal.split_front-requires-clause-full
-split_front-requires-clause-full c =
-    let n = length-kept c.self.inside _ c.self.view_is in
-    full-kept c.self.inside _ c.self.view_is c.self.invariant (omega arith)
-
 pub split_front-requires-clause-inside : goal.split_front-requires-clause-inside
 split_front-requires-clause-inside c =
     let n = length-kept c.self.inside _ c.self.view_is in

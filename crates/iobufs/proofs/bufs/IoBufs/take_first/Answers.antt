@@ -5,12 +5,6 @@ use Rattle.iobufs.proofs.Text.ReadLaws.{first-kept, first-rest, first-whole, kep
 use Rattle.iobufs.proofs.Text.TextLaws.{length-kept, full-kept}
 use Rattle.iobufs.proofs.bufs.IoBufs.take_first.Goals as goal
 
-pub take_first-requires-clause-full : goal.take_first-requires-clause-full
-take_first-requires-clause-full g c =
-    let s = c.self.inside in
-    let n = c.requires.first ∙ sym (ap length (first-kept s.pieces _ c.self.view_is c.self.invariant.pieced)) in
-    full-kept s _ c.self.view_is c.self.invariant (omega (arith, n, c.requires.some, length-behind (views s.pieces), length-kept s _ c.self.view_is))
-
 pub invariant_of-self-2 : goal.invariant_of-self-2
 invariant_of-self-2 g c = kept-behind c.self.inside _ c.self.invariant c.in_ok-made.ensures.pieced c.in_ok-made.ensures.left
 
