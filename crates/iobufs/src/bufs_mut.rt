@@ -13,7 +13,6 @@ mod buf;
 mod buf_mut;
 mod few;
 mod several;
-mod walks;
 
 use crate::bufs::IoBufs;
 use few::Few;
@@ -290,10 +289,7 @@ impl IoBufsMut {
         match shape {
             Shape::One(part) => IoBufs::from_mut(part),
             Shape::Few(mut parts) => parts.freeze(alloc),
-            Shape::Many(parts) => {
-                let len = parts.len();
-                walks::freeze(alloc, parts.into_row(), len)
-            }
+            Shape::Many(parts) => parts.freeze(alloc),
         }
     }
 
@@ -314,11 +310,7 @@ impl IoBufsMut {
                 Some(whole) => Ok(whole),
                 None => parts.coalesce(alloc),
             },
-            Shape::Many(parts) => {
-                let mut whole = IoBufMut::with_capacity(alloc, parts.len())?;
-                walks::put_all(parts.into_row(), &mut whole);
-                Ok(whole)
-            }
+            Shape::Many(parts) => parts.coalesce(alloc),
         }
     }
 

@@ -1,13 +1,16 @@
 -- Parts in order, and as they stand in their row, those that are used up behind the others.
-use Rattle.std.proofs.Common.{◌≡◌, ℕ, zero, suc, ◌+◌, ◌-◌, ◌<◌, ◌≤◌, List, [], ◌∷◌, ◌++◌, length, take, drop, refl, sym, subst, ap, ◌∙◌, arith, append-nil, length-append, length-drop, length-take, take-append-drop, take_all, drop-drop, get_or, set, ⊎_elim}
+use Rattle.std.proofs.Common.{◌≡◌, ℕ, zero, suc, ◌+◌, ◌-◌, ◌<◌, ◌≤◌, List, [], ◌∷◌, ◌++◌, length, take, drop, fold, map, refl, sym, subst, ap, ◌∙◌, arith, append-nil, length-append, length-drop, length-take, take-append-drop, take_all, drop-drop, get_or, set, ⊎_elim}
 use Rattle.std.proofs.lemmas.Bool.{cases_lt}
 use Rattle.std.proofs.lemmas.List.{drop_all, drop_at, take_at, nil_from_length}
 use Rattle.std.proofs.lemmas.List.Concat.{flat_map-append}
-use Rattle.iobufs_core.specs.Part.{Part, empty_part, part_drained, part_overwritten}
+use Rattle.std.proofs.lemmas.List.Sums.{sum_by-append}
+use Rattle.iobufs_core.specs.MarkedText.{MarkedText, default_text, text_append}
+use Rattle.iobufs_core.specs.Part.{Part, empty_part, part_capacity, part_drained, part_frozen, part_overwritten}
 use Rattle.iobufs.specs.Laws.Filling.{fill-nil, same_part}
 use Rattle.iobufs.specs.Inside.PartOrder.{AreBehind, AreKept, first_drained, in_order}
 use Rattle.iobufs.specs.Inside.PartSums.{AreSummed}
-use Rattle.iobufs.specs.Parts.{parts_chunks, parts_fill, parts_filled, parts_or_default, parts_overwritten}
+use Rattle.iobufs.specs.Parts.{parts_capacity, parts_chunks, parts_fill, parts_filled, parts_frozen, parts_or_default, parts_overwritten}
+use Rattle.iobufs.proofs.Parts.Frozen.{frozen-none}
 use Rattle.iobufs.proofs.Parts.PartChunks.{chunks-empty, chunks-full, chunks-none}
 
 -- a row of which none is used up
@@ -70,6 +73,11 @@ chunks-both (p ∷ ps) qs =
     chunks-empty p (ps ++ qs) none ∙ ih ∙ ap (λ texts. texts ++ parts_chunks qs) (sym (chunks-empty p ps none)))
     (cases_lt 0 (length p.filled))
 
+frozen-both : (text : MarkedText) (ps qs : List Part)
+    → fold text_append text (map part_frozen (ps ++ qs)) ≡ fold text_append (fold text_append text (map part_frozen ps)) (map part_frozen qs)
+frozen-both text [] qs = refl
+frozen-both text (p ∷ ps) qs = frozen-both (text_append text (part_frozen p)) ps qs
+
 -- a reader sees the same of the row and of the parts in order
 pub filled-order : (row : List Part) (used : ℕ) → AreBehind row used → parts_filled row ≡ parts_filled (in_order row used)
 filled-order row used behind =
@@ -87,6 +95,26 @@ chunks-order row used behind =
     ap parts_chunks (sym (take-append-drop k row))
     ∙ chunks-both (take k row) (drop k row) ∙ ap (λ texts. parts_chunks (take k row) ++ texts) none ∙ append-nil (parts_chunks (take k row))
     ∙ sym (chunks-both (drop k row) (take k row) ∙ ap (λ texts. texts ++ parts_chunks (take k row)) none)
+
+-- a row freezes to the text of its parts in order
+pub frozen-order : (row : List Part) (used : ℕ) → AreBehind row used → parts_frozen row ≡ parts_frozen (in_order row used)
+frozen-order row used behind =
+    let k = length row - used in
+    ap parts_frozen (sym (take-append-drop k row))
+    ∙ frozen-both default_text (take k row) (drop k row) ∙ frozen-none (parts_frozen (take k row)) (drop k row) behind.empty
+    ∙ sym (frozen-both default_text (drop k row) (take k row)
+    ∙ ap (λ (text : MarkedText). fold text_append text (map part_frozen (take k row))) (frozen-none default_text (drop k row) behind.empty))
+
+-- a row has the capacity of its parts in order
+pub capacity-order : (row : List Part) (used : ℕ) → parts_capacity row ≡ parts_capacity (in_order row used)
+capacity-order row used =
+    let k = length row - used in
+    omega (
+      arith,
+      ap parts_capacity (take-append-drop k row),
+      sum_by-append part_capacity (take k row) (drop k row),
+      sum_by-append part_capacity (drop k row) (take k row),
+    )
 
 -- a row of at most one part
 pub order-single : (row : List Part) (used : ℕ) (part : Part) → parts_or_default row ≡ part ∷ [] → parts_or_default (in_order row used) ≡ part ∷ []

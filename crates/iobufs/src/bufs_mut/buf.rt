@@ -2,7 +2,7 @@
 ghost use Rattle.std.specs.Prelude.{◌≡◌, ◌≤◌, [], ◌∷◌, length};
 ghost use Rattle.iobufs.specs.Parts.{parts_chunks, parts_drained, parts_filled};
 
-use super::{IoBufsMut, Shape, walks};
+use super::{IoBufsMut, Shape};
 use bytes::Bytes;
 use iobufs_core::codec::{Buf, BufError};
 use std::alloc::Global;
@@ -47,7 +47,7 @@ impl Buf for IoBufsMut {
         match &self.shape {
             Shape::One(part) => part.as_ref(),
             Shape::Few(parts) => parts.chunk(),
-            Shape::Many(parts) => walks::chunk(parts.row()),
+            Shape::Many(parts) => parts.chunk(),
         }
     }
 
@@ -56,7 +56,7 @@ impl Buf for IoBufsMut {
         match &self.shape {
             Shape::One(part) => part.byte_at(i),
             Shape::Few(parts) => parts.byte_at(i),
-            Shape::Many(parts) => walks::byte_at(parts.row(), i),
+            Shape::Many(parts) => parts.byte_at(i),
         }
     }
 
@@ -83,7 +83,7 @@ impl Buf for IoBufsMut {
         match &self.shape {
             Shape::One(part) => dst.copy_from_slice(&part.as_ref()[..dst.len()]),
             Shape::Few(parts) => parts.read(dst),
-            Shape::Many(parts) => walks::read(parts.row(), dst),
+            Shape::Many(parts) => parts.read(dst),
         }
         self.advance(dst.len());
     }
@@ -96,8 +96,8 @@ impl Buf for IoBufsMut {
         }
         let bytes = match &self.shape {
             Shape::One(part) => Bytes::copy_from_slice(alloc, &part.as_ref()[..n])?,
-            Shape::Few(parts) => Bytes::from_vec(parts.front(alloc, n)?)?,
-            Shape::Many(parts) => Bytes::from_vec(walks::front(alloc, parts.row(), n)?)?,
+            Shape::Few(parts) => Bytes::from_vec(parts.copy_front(alloc, n)?)?,
+            Shape::Many(parts) => Bytes::from_vec(parts.copy_front(alloc, n)?)?,
         };
         self.advance(n);
         Ok(bytes)
@@ -111,7 +111,7 @@ impl Buf for IoBufsMut {
         match &self.shape {
             Shape::One(part) => part.chunks_vectored(alloc, max),
             Shape::Few(parts) => Ok(parts.chunks(alloc, max)?),
-            Shape::Many(parts) => Ok(walks::chunks(alloc, parts.row(), max)?),
+            Shape::Many(parts) => Ok(parts.chunks(alloc, max)?),
         }
     }
 

@@ -418,7 +418,7 @@ impl Few {
     }
 
     /// A copy of the first `n` bytes.
-    pub(super) fn front(&self, alloc: Global, n: usize) -> Result<Vec<u8>, AllocError>
+    pub(super) fn copy_front(&self, alloc: Global, n: usize) -> Result<Vec<u8>, AllocError>
         ensures bytes { IfOk result (λ bytes. bytes.items ≡ take n (parts_filled self.now)) }
         ensures nothing { n ≡ 0 → IsOk result }
     {

@@ -1,0 +1,7 @@
+use Rattle.std.proofs.Common.{◌≡◌, slice_get}
+use Rattle.std.specs.VecDeque.Iter.{deque_iter_rest}
+use Rattle.iobufs.specs.Parts.{parts_filled}
+use Rattle.iobufs.proofs.bufs_mut.several.Several.byte_at.Given as goal
+
+abbrev pub invariant-loop-part : goal.invariant-loop-part
+invariant-loop-part l = slice_get (parts_filled l.fn.self) l.fn.i ≡ slice_get (parts_filled (deque_iter_rest l.part-iterator)) l.at

@@ -1,0 +1,48 @@
+use Rattle.std.proofs.Common.{◌≡◌, ℕ, List, ◌-◌, ◌++◌, [], length, take, min, ap, sym, ◌∙◌, append-nil, arith}
+use Rattle.std.proofs.Math.Seq.{take-nil}
+use Rattle.std.specs.VecDeque.Iter.{deque_iter_rest}
+use Rattle.iobufs_core.specs.Part.{Part}
+use Rattle.std.proofs.lemmas.List.{nil_from_length}
+use Rattle.iobufs.specs.Parts.{parts_filled}
+use Rattle.iobufs.proofs.Parts.OrderLaws.{filled-order}
+use Rattle.iobufs.proofs.Parts.PartChunks.{share-turn}
+use Rattle.iobufs.proofs.bufs_mut.several.Several.copy_front.Goals as goal
+use Rattle.iobufs.proofs.bufs_mut.several.Several.copy_front.Goals.{in-None, in-Some+then-rest-eq0}
+
+pub loop-part-init : goal.loop-part-init
+loop-part-init c =
+    let s = c.self.inside in
+    let n = c.args.n in
+    let bytes = filled-order s.row.items s.used c.self.invariant.behind ∙ ap parts_filled c.self.view_is in
+    record {
+      some = omega arith;
+      so_far = ap (take n) (sym bytes ∙ ap parts_filled (sym c.into_iter-part-iterator.ensures.into_iter_gives.0))
+          ∙ ap (λ w. w ++ take n (parts_filled (deque_iter_rest c.into_iter-part-iterator.result))) (sym c.in_ok-bytes.ensures.items);
+    }
+
+pub loop-part-preserved : goal.loop-part-preserved
+loop-part-preserved c =
+    let l = c.loop-part in
+    let part = c.in-Some.part.now in
+    let rest = parts_filled (deque_iter_rest c.next.new.self) in
+    let share : c.min-share.result ≡ min l.rest (length part.filled) = c.min-share.ensures ∙ ap (min l.rest) c.len.ensures in
+    let bytes : take c.min-share.result c.as_ref.result.now ≡ take c.min-share.result part.filled = ap (take c.min-share.result) c.as_ref.ensures in
+    record {
+      some = omega (arith, l.invariant.some);
+      so_far = share-turn _ l.bytes.items part.filled rest l.rest c.min-share.result share
+          (l.invariant.so_far ∙ ap (λ ps. l.bytes.items ++ take l.rest (parts_filled ps)) c.in-Some.ensures.steps)
+          ∙ ap (λ w. w ++ take (l.rest - c.min-share.result) rest) (ap (λ w. l.bytes.items ++ w) (sym bytes) ∙ sym c.in_ok-extend_from_slice.ensures.items);
+    }
+
+pub returns-clause-bytes : goal.returns-clause-bytes
+returns-clause-bytes c =
+    let l = c.loop-part in
+    let left = λ (k : ℕ) (ps : List Part). l.bytes.items ++ take k (parts_filled ps) in
+    elim c.match-next.branch [
+      | in-None w ↦
+          let none : deque_iter_rest l.part-iterator ≡ [] = nil_from_length _ w.in-None.ensures.steps.0 in
+          sym (l.invariant.so_far ∙ ap (left l.rest) none ∙ ap (λ bytes. l.bytes.items ++ bytes) (take-nil l.rest) ∙ append-nil l.bytes.items)
+      | in-Some+then-rest-eq0 w ↦
+          let done : l.rest ≡ 0 = omega (arith, w.if-rest-eq0.true) in
+          sym (l.invariant.so_far ∙ ap (λ k. left k (deque_iter_rest l.part-iterator)) done ∙ append-nil l.bytes.items)
+    ]

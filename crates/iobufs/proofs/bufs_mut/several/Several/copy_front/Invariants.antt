@@ -1,0 +1,10 @@
+use Rattle.std.proofs.Common.{◌≡◌, ◌≤◌, ◌++◌, take}
+use Rattle.std.specs.VecDeque.Iter.{deque_iter_rest}
+use Rattle.iobufs.specs.Parts.{parts_filled}
+use Rattle.iobufs.proofs.bufs_mut.several.Several.copy_front.Given as goal
+
+abbrev pub invariant-loop-part : goal.invariant-loop-part
+invariant-loop-part l = record {
+  some : l.rest ≤ l.n;
+  so_far : take l.n (parts_filled l.fn.self) ≡ l.bytes.items ++ take l.rest (parts_filled (deque_iter_rest l.part-iterator));
+}

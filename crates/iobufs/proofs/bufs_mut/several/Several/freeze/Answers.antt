@@ -1,0 +1,36 @@
+use Rattle.std.proofs.Common.{◌≡◌, length, length-append, arith, ap, sym, ◌∙◌}
+use Rattle.iobufs_core.specs.MarkedText.{of_view}
+use Rattle.iobufs_core.specs.View.{View}
+use Rattle.iobufs.specs.Parts.{parts_capacity, parts_filled, parts_frozen}
+use Rattle.iobufs.proofs.Building.FinishLaws.{frozen-bytes}
+use Rattle.iobufs.proofs.Parts.Frozen.{frozen-whole}
+use Rattle.iobufs.proofs.Parts.OrderLaws.{capacity-order, filled-order, frozen-order}
+use Rattle.iobufs.proofs.bufs_mut.several.Several.freeze.Goals as goal
+
+pub loop-part-init : goal.loop-part-init
+loop-part-init c =
+    let s = c.self.inside in
+    let behind = c.self.invariant.behind in
+    record {
+      so_far = frozen-order s.row.items s.used behind ∙ ap parts_frozen c.self.view_is;
+      fits = omega (arith, capacity-order s.row.items s.used, ap parts_capacity c.self.view_is, c.requires);
+      bytes = ap length (filled-order s.row.items s.used behind) ∙ sym c.self.invariant.sums.len_is;
+    }
+
+-- where a part holds all bytes, those behind it hold none
+pub returns-then-len-clause-ok : goal.returns-then-len-clause-ok
+returns-then-len-clause-ok c =
+    let l = c.loop-part in
+    let part = c.in-Some.part in
+    let rest = c.pop_front.new.self.items in
+    let items = c.in-Some.ensures.items in
+    let frozen = c.in_ok-piece.ensures.ok in
+    let bytes = ap (λ parts. length (parts_filled parts)) items in
+    let len = ap (λ (v : View). length v.bytes) frozen ∙ ap length (frozen-bytes part) in
+    let none : length (parts_filled rest) ≡ 0 =
+    omega (arith, bytes, len, length-append part.filled (parts_filled rest), l.invariant.bytes, c.len.ensures.value, c.if-len.true) in
+    c.from.ensures
+    ∙ ap of_view frozen
+    ∙ sym (frozen-whole part rest none)
+    ∙ ap parts_frozen (sym items)
+    ∙ l.invariant.so_far

@@ -1,0 +1,10 @@
+use Rattle.std.proofs.Common.{◌≡◌, ◌++◌, take, drop, deque_len}
+use Rattle.iobufs.specs.Parts.{parts_fill}
+use Rattle.iobufs.proofs.bufs_mut.several.put.Given as goal
+
+abbrev pub invariant-loop-i : goal.invariant-loop-i
+invariant-loop-i l =
+    record {
+      same_len : deque_len l.parts ≡ l.i-end;
+      so_far : parts_fill l.initial.parts.items l.src ≡ take l.i l.parts.items ++ parts_fill (drop l.i l.parts.items) l.left;
+    }
