@@ -60,15 +60,15 @@ impl Shape {
     // One more part, which can hold a byte; one that can't makes way for it.
     #[tactic(auto, using(crate::proofs::Parts::PartRuns::growing, crate::proofs::Parts::FewLaws::growing_few))]
     fn with_part(self, alloc: Global, part: IoBufMut) -> Result<Shape, BufError>
+        requires built { IsBuilt self }
         requires shape { IsShape self }
         requires more { 0 < part_capacity part }
         requires fits { parts_capacity (shape_parts self) + part_capacity part < 2 ^ 64 }
         ensures parts { IfOk result (λ shape. shape_parts shape ≡ kept_parts (shape_parts self ++ part ∷ [])) }
+        ensures built { IfOk result IsBuilt }
         ensures shape { IfOk result IsShape }
         ensures memory { IsOkUnless result BufError.Memory }
-        ensures first { parts_capacity (shape_parts self) ≡ 0 → IsOk result }
-        ensures built { IsBuilt self → IfOk result IsBuilt }
-        ensures few { IsBuilt self → length (with_capacity (shape_parts self)) < 3 → IsOk result }
+        ensures few { length (shape_parts self) < 3 → IsOk result }
     {
         match self {
             Shape::One(first) => {
@@ -90,15 +90,23 @@ impl Shape {
         }
     }
 
-    // A row of few of which only one can hold a byte becomes that part.
+    // A row of which only one part is left becomes that part.
     fn settle(&mut self)
         ensures same { shape_parts self.new ≡ shape_parts self.old }
         ensures shape { IsShape self.old → IsShape self.new }
         ensures settled { IsShape self.old → shape_single self.new ≡ single_part (shape_parts self.old) }
     {
-        if let Shape::Few(few) = self {
-            if let Some(part) = few.take_single() {
-                *self = Shape::One(part);
+        match self {
+            Shape::One(_) => {}
+            Shape::Few(parts) => {
+                if let Some(part) = parts.take_single() {
+                    *self = Shape::One(part);
+                }
+            }
+            Shape::Many(parts) => {
+                if let Some(part) = parts.take_single() {
+                    *self = Shape::One(part);
+                }
             }
         }
     }
@@ -197,7 +205,7 @@ impl IoBufsMut {
 
     /// Makes `n` bytes readable, the parts filled in order (`IoBufsMut::set_len`, which is unsafe there). Bytes that
     /// were not are zero.
-    #[tactic(auto, using(crate::proofs::Parts::PartLaws::kept, crate::proofs::Parts::FewLaws::keeping))]
+    #[tactic(auto, using(crate::proofs::Parts::FewLaws::keeping))]
     pub fn set_len(&mut self, n: usize)
         requires { n ≤ parts_capacity self.old }
         ensures { self.new ≡ parts_with_len self.old n }
@@ -210,7 +218,7 @@ impl IoBufsMut {
     }
 
     /// Writes over the readable bytes.
-    #[tactic(auto, using(crate::proofs::Parts::PartLaws::kept, crate::proofs::Parts::FewLaws::keeping))]
+    #[tactic(auto, using(crate::proofs::Parts::FewLaws::keeping))]
     pub fn copy_from_slice(&mut self, src: &[u8])
         requires { length src.now ≡ length (parts_filled self.old) }
         ensures { self.new ≡ parts_overwritten self.old src.now }
@@ -251,11 +259,7 @@ impl IoBufsMut {
     pub fn is_single(&self) -> bool
         ensures { result ≡ (length self.now == 1) }
     {
-        match &self.shape {
-            Shape::One(_) => true,
-            Shape::Few(parts) => parts.count() == 1,
-            Shape::Many(_) => false,
-        }
+        self.part_count() == 1
     }
 
     /// The only part, if there is just one.
@@ -265,7 +269,7 @@ impl IoBufsMut {
         match &self.shape {
             Shape::One(part) => Some(part),
             Shape::Few(parts) => parts.single(),
-            Shape::Many(_) => None,
+            Shape::Many(parts) => parts.single(),
         }
     }
 
@@ -296,37 +300,30 @@ impl IoBufsMut {
     /// One part as it is; more as a copy of the readable bytes with no room behind them. `BufError::BadLayout` exactly
     /// where two or more hold over `isize::MAX` bytes.
     #[tactic(auto, using(crate::proofs::Parts::Coalesced::coalescing, crate::proofs::Parts::FewLaws::freezing_few))]
-    pub fn coalesce(self, alloc: Global) -> Result<IoBufMut, BufError>
+    pub fn coalesce(mut self, alloc: Global) -> Result<IoBufMut, BufError>
         ensures ok { IfOk result (λ part. part ≡ parts_coalesced self) }
         ensures single { length self ≡ 1 → IsOk result }
         ensures bad_layout { 1 < length self → 2 ^ 63 ≤ length (parts_filled self) → result ≡ Err BufError.BadLayout }
         ensures good_layout { length (parts_filled self) < 2 ^ 63 → IsOkUnless result BufError.Memory }
         ensures nothing { length (parts_filled self) ≡ 0 → IsOk result }
     {
+        self.shape.settle();
         let IoBufsMut { shape } = self;
         match shape {
             Shape::One(whole) => Ok(whole),
-            Shape::Few(mut parts) => match parts.take_single() {
-                Some(whole) => Ok(whole),
-                None => parts.coalesce(alloc),
-            },
+            Shape::Few(parts) => parts.coalesce(alloc),
             Shape::Many(parts) => parts.coalesce(alloc),
         }
     }
 
     /// The only part, if there is just one; several parts come back (`IoBufsMut::try_into_single`).
-    pub fn try_into_single(self) -> Result<IoBufMut, IoBufsMut>
+    pub fn try_into_single(mut self) -> Result<IoBufMut, IoBufsMut>
         ensures { MatchResult result (λ part. self ≡ part ∷ []) (λ parts. (parts ≡ self) × (single_part self ≡ None)) }
     {
+        self.shape.settle();
         let IoBufsMut { shape } = self;
         match shape {
             Shape::One(part) => Ok(part),
-            Shape::Few(mut parts) => match parts.take_single() {
-                Some(part) => Ok(part),
-                None => Err(IoBufsMut {
-                    shape: Shape::Few(parts),
-                }),
-            },
             shape => Err(IoBufsMut { shape }),
         }
     }

@@ -1,14 +1,15 @@
 -- What several parts coalesce to, and bytes that are put into exactly their room.
-use Rattle.std.proofs.Common.{◌≡◌, ℕ, ◌<◌, List, [], ◌∷◌, length, refl, arith}
+use Rattle.std.proofs.Common.{◌≡◌, ℕ, None, List, [], ◌∷◌, length, refl, sym, arith}
+use Rattle.std.proofs.lemmas.Option.{none-some}
 use Rattle.iobufs_core.specs.LayoutLaws.{bad_layout_one}
 use Rattle.iobufs_core.specs.Part.{Part, empty_part, part_put}
 use Rattle.iobufs.specs.Laws.Filling.{same_part}
-use Rattle.iobufs.specs.Parts.{parts_coalesced, parts_filled}
+use Rattle.iobufs.specs.Parts.{parts_coalesced, parts_filled, single_part}
 
--- two parts or more become one of their bytes, with no room behind them
-pub coalesced-several : (parts : List Part) → 1 < length parts → parts_coalesced parts ≡ record { filled = parts_filled parts; spare = 0 }
-coalesced-several [] h = absurd (omega arith)
-coalesced-several (p ∷ []) h = absurd (omega arith)
+-- where no part is the only one, they become one of their bytes, with no room behind them
+pub coalesced-several : (parts : List Part) → single_part parts ≡ None → parts_coalesced parts ≡ record { filled = parts_filled parts; spare = 0 }
+coalesced-several [] h = refl
+coalesced-several (p ∷ []) h = absurd (none-some p (sym h))
 coalesced-several (p ∷ q ∷ parts) h = refl
 
 -- all bytes put into exactly as much room

@@ -1,12 +1,15 @@
 -- A row of parts whose bytes are dropped, part by part.
-use Rattle.std.proofs.Common.{◌≡◌, ℕ, ◌+◌, ◌-◌, ◌<◌, ◌≤◌, List, [], ◌∷◌, ◌++◌, length, take, drop, refl, sym, subst, ap, ◌∙◌, arith, append_assoc, length-append, length-drop, take-append-drop, get_or}
+use Rattle.std.proofs.Common.{◌≡◌, ℕ, ◌+◌, ◌-◌, ◌^◌, ◌<◌, ◌≤◌, List, [], ◌∷◌, ◌++◌, length, take, drop, refl, sym, subst, ap, ◌∙◌, arith, append_assoc, length-append, length-drop, take-append-drop, get_or}
 use Rattle.std.proofs.lemmas.List.{drop_all}
+use Rattle.std.proofs.lemmas.List.Sums.{sum_by_push}
 use Rattle.iobufs_core.specs.Part.{Part, empty_part, part_capacity, part_drained}
-use Rattle.iobufs.specs.Inside.PartOrder.{AreBehind, first_drained, in_order}
-use Rattle.iobufs.specs.Parts.{HaveCapacity, parts_drained, parts_filled, parts_or_default, parts_shared_out, with_capacity}
-use Rattle.iobufs.proofs.Parts.DrainShapes.{able-both, able-front, able-rest, able-with_capacity, drained-several, shared_out-behind, shared_out-first, shared_out-none, with_capacity-all, with_capacity-spent}
-use Rattle.iobufs.proofs.Parts.OrderLaws.{behind-both, filled-length, filled-order, first-filled, first-length, order-both, order-length}
-use Rattle.iobufs.proofs.Parts.PartRuns.{default-some}
+use Rattle.iobufs.specs.Inside.PartOrder.{AreBehind, AreKept, first_drained, in_order}
+use Rattle.iobufs.specs.Parts.{HaveCapacity, IsParts, kept_parts, parts_capacity, parts_drained, parts_filled, parts_or_default, parts_shared_out}
+use Rattle.iobufs.proofs.Parts.DrainShapes.{able-both, able-front, able-rest, capacity-shared_out, shared_out-behind, shared_out-first, shared_out-none, with_capacity-spent}
+use Rattle.iobufs.proofs.Parts.FewLaws.{drained-parts, kept-same, parts-kept}
+use Rattle.iobufs.proofs.Parts.OrderLaws.{behind-both, filled-length, filled-order, first-filled, kept-none, order-both}
+use Rattle.iobufs.proofs.Parts.PartRuns.{parts-push}
+use Rattle.iobufs.proofs.Parts.SumLaws.{summed-drained}
 
 -- n more bytes are to go from a row of which so many parts are used up; what is left then
 pub record IsDraining (row : List Part) (used n : ℕ) (left : List Part) : Type 0 where
@@ -15,14 +18,15 @@ pub record IsDraining (row : List Part) (used n : ℕ) (left : List Part) : Type
   pub row_is : row ≡ others ++ behind
   pub used_is : used ≡ length behind
   pub empty : length (parts_filled behind) ≡ 0
-  pub have_capacity : HaveCapacity (behind ++ others)
+  pub one : 0 < length (behind ++ others)
+  pub have_capacity : 1 < length (behind ++ others) → HaveCapacity (behind ++ others)
   pub some : n ≤ length (parts_filled others)
-  pub left_is : with_capacity (behind ++ parts_shared_out others n) ≡ left
+  pub left_is : kept_parts (behind ++ parts_shared_out others n) ≡ left
 
--- a draining of no more bytes than there are begins; it is to leave each part, in order, without its share, where it can hold a byte then
-pub draining-begins : (row : List Part) (used n : ℕ) → AreBehind row used → HaveCapacity (in_order row used) → n ≤ length (parts_filled row)
-    → IsDraining row used n (with_capacity (parts_shared_out (in_order row used) n))
-draining-begins row used n behind able some =
+-- a draining of no more bytes than there are begins; it is to leave what draining leaves
+pub draining-begins : (row : List Part) (used n : ℕ) → AreBehind row used → IsParts (in_order row used) → n ≤ length (parts_filled row)
+    → IsDraining row used n (parts_drained (in_order row used) n)
+draining-begins row used n behind parts some =
     let k = length row - used in
     let all = ap (λ ps. length (parts_filled ps)) (take-append-drop k row) in
     record {
@@ -31,9 +35,10 @@ draining-begins row used n behind able some =
       row_is = sym (take-append-drop k row);
       used_is = omega (arith, length-drop k row, behind.within);
       empty = behind.empty;
-      have_capacity = able;
+      one = parts.some;
+      have_capacity = parts.have_capacity;
       some = omega (arith, all, filled-length (take k row) (drop k row), behind.empty, some);
-      left_is = ap with_capacity (sym (shared_out-behind (drop k row) (take k row) n behind.empty));
+      left_is = ap kept_parts (sym (shared_out-behind (drop k row) (take k row) n behind.empty)) ∙ sym (drained-parts (in_order row used) n parts);
     }
 
 -- where no bytes are to go any more, the parts in order are those that were to be left, and those that are used up stand at the back
@@ -41,7 +46,7 @@ pub draining-ends : (row : List Part) (used n : ℕ) (left : List Part) → n �
 draining-ends row used n left none d =
     let placed = ap (λ ps. in_order ps used) d.row_is ∙ order-both d.others d.behind used d.used_is in
     let same = ap (parts_shared_out d.others) none ∙ shared_out-none d.others in
-    let all = sym (with_capacity-all (d.behind ++ d.others) d.have_capacity) ∙ ap (λ ps. with_capacity (d.behind ++ ps)) (sym same) ∙ d.left_is in
+    let all = kept-same (d.behind ++ d.others) d.one d.have_capacity ∙ ap (λ ps. kept_parts (d.behind ++ ps)) (sym same) ∙ d.left_is in
     (placed ∙ all, subst (λ ps. AreBehind ps used) (sym d.row_is) (behind-both d.others d.behind used d.used_is d.empty))
 
 -- where bytes are to go there is a part that isn't used up
@@ -63,17 +68,22 @@ draining-stops row new used n left d less drained =
     let (p, rest, are) = first_behind d.others d.behind n d.empty held in
     let row_is : row ≡ p ∷ (rest ++ d.behind) = d.row_is ∙ ap (λ ps. ps ++ d.behind) are in
     let inside : n < length p.filled = subst (λ (ps : List Part). n < length (get_or ps 0 (empty_part 0)).filled) row_is less in
-    let able = subst HaveCapacity are (able-rest d.behind d.others d.have_capacity) in
+    let count = ap (λ (ps : List Part). length ps) are in
+    let ahead = length-append d.behind d.others in
+    let after = length-append d.behind (part_drained p n ∷ rest) in
     record {
       others = part_drained p n ∷ rest;
       behind = d.behind;
       row_is = drained ∙ ap (λ ps. first_drained ps n) row_is;
       used_is = d.used_is;
       empty = d.empty;
-      have_capacity = able-both d.behind (part_drained p n ∷ rest) (able-front d.behind d.others d.have_capacity)
-          (omega (arith, length-drop n p.filled), able.1);
+      one = omega (arith, after);
+      have_capacity = λ more.
+          let all = d.have_capacity (omega (arith, count, ahead, after, more)) in
+          let able = subst HaveCapacity are (able-rest d.behind d.others all) in
+          able-both d.behind (part_drained p n ∷ rest) (able-front d.behind d.others all) (omega (arith, length-drop n p.filled), able.1);
       some = omega arith;
-      left_is = ap (λ ps. with_capacity (d.behind ++ ps))
+      left_is = ap (λ ps. kept_parts (d.behind ++ ps))
           (shared_out-none (part_drained p n ∷ rest) ∙ sym (shared_out-first p rest n inside) ∙ ap (λ ps. parts_shared_out ps n) (sym are)) ∙ d.left_is;
     }
 
@@ -94,63 +104,97 @@ module _ (row rest : List Part) (p q : Part) (used n len : ℕ) (left : List Par
       let none : drop len p.filled ≡ drop n p.filled = drop_all len p.filled (omega arith) ∙ sym (drop_all n p.filled (omega arith)) in
       is ∙ (λ i. record { filled = none i; spare = p.spare })
 
-  shared : (others : List Part) → d.others ≡ p ∷ others → with_capacity (d.behind ++ q ∷ parts_shared_out others (n - len)) ≡ left
+  shared : (others : List Part) → d.others ≡ p ∷ others → kept_parts (d.behind ++ q ∷ parts_shared_out others (n - len)) ≡ left
   shared others are =
-      ap (λ x. with_capacity (d.behind ++ x ∷ parts_shared_out others (n - len))) gone
-      ∙ ap (λ m. with_capacity (d.behind ++ part_drained p n ∷ parts_shared_out others (n - m))) len_is
-      ∙ ap (λ ps. with_capacity (d.behind ++ parts_shared_out ps n)) (sym are) ∙ d.left_is
+      ap (λ x. kept_parts (d.behind ++ x ∷ parts_shared_out others (n - len))) gone
+      ∙ ap (λ m. kept_parts (d.behind ++ part_drained p n ∷ parts_shared_out others (n - m))) len_is
+      ∙ ap (λ ps. kept_parts (d.behind ++ parts_shared_out ps n)) (sym are) ∙ d.left_is
 
   fewer : (others : List Part) → d.others ≡ p ∷ others → n - len ≤ length (parts_filled others)
   fewer others are = omega (arith, d.some, ap (λ ps. length (parts_filled ps)) are, length-append p.filled (parts_filled others))
 
-  pub draining-kept : (new : List Part) → 0 < part_capacity q → new ≡ rest ++ q ∷ [] → IsDraining new (used + 1) (n - len) left
+  -- the parts that there were, where there were two or more, could each hold a byte
+  able_all : (others : List Part) → d.others ≡ p ∷ others → 1 < length (d.behind ++ p ∷ others) → HaveCapacity (d.behind ++ p ∷ others)
+  able_all others are = subst (λ (ps : List Part). 1 < length (d.behind ++ ps) → HaveCapacity (d.behind ++ ps)) are d.have_capacity
+
+  pub draining-kept : (new : List Part) → (1 < length new → 0 < part_capacity q) → new ≡ rest ++ q ∷ [] → IsDraining new (used + 1) (n - len) left
   draining-kept new able last =
       let (others, are, tail) = first_is in
-      let all = subst HaveCapacity are (able-rest d.behind d.others d.have_capacity) in
       let none : length q.filled ≡ 0 = omega (arith, ap (λ (x : Part). length x.filled) is, length-drop len p.filled) in
+      let count = ap (λ (ps : List Part). length ps) (last ∙ ap (λ ps. ps ++ q ∷ []) tail) in
+      let placed = length-append (others ++ d.behind) (q ∷ []) in
+      let both = length-append others d.behind in
+      let before = length-append d.behind (p ∷ others) in
+      let ahead = length-append d.behind (q ∷ []) in
+      let after = length-append (d.behind ++ q ∷ []) others in
       record {
         others = others;
         behind = d.behind ++ q ∷ [];
         row_is = last ∙ ap (λ ps. ps ++ q ∷ []) tail ∙ append_assoc others d.behind (q ∷ []);
-        used_is = omega (arith, length-append d.behind (q ∷ []), d.used_is);
+        used_is = omega (arith, ahead, d.used_is);
         empty = omega (arith, filled-length d.behind (q ∷ []), length-append q.filled [], none, d.empty);
-        have_capacity = able-both (d.behind ++ q ∷ []) others (able-both d.behind (q ∷ []) (able-front d.behind d.others d.have_capacity) (able, tt)) all.1;
+        one = omega (arith, ahead, after);
+        have_capacity = λ more.
+            let all = able_all others are (omega (arith, before, ahead, after, more)) in
+            let last_able = able (omega (arith, count, placed, both, ahead, after, more)) in
+            able-both (d.behind ++ q ∷ []) others (able-both d.behind (q ∷ []) (able-front d.behind (p ∷ others) all) (last_able, tt))
+            (able-rest d.behind (p ∷ others) all).1;
         some = fewer others are;
-        left_is = ap with_capacity (append_assoc d.behind (q ∷ []) (parts_shared_out others (n - len))) ∙ shared others are;
+        left_is = ap kept_parts (append_assoc d.behind (q ∷ []) (parts_shared_out others (n - len))) ∙ shared others are;
       }
 
-  -- or it is dropped, where it can't hold a byte
-  pub draining-spent : part_capacity q ≡ 0 → IsDraining rest used (n - len) left
-  draining-spent none =
+  -- or it is dropped, where it can't hold a byte and others are left
+  pub draining-spent : part_capacity q ≡ 0 → 0 < length rest → IsDraining rest used (n - len) left
+  draining-spent none beside =
       let (others, are, tail) = first_is in
-      let all = subst HaveCapacity are (able-rest d.behind d.others d.have_capacity) in
+      let count = ap (λ (ps : List Part). length ps) tail in
+      let both = length-append others d.behind in
+      let before = length-append d.behind (p ∷ others) in
+      let after = length-append d.behind others in
       record {
         others = others;
         behind = d.behind;
         row_is = tail;
         used_is = d.used_is;
         empty = d.empty;
-        have_capacity = able-both d.behind others (able-front d.behind d.others d.have_capacity) all.1;
+        one = omega (arith, count, both, after, beside);
+        have_capacity = λ more.
+            let all = able_all others are (omega (arith, before, after, more)) in
+            able-both d.behind others (able-front d.behind (p ∷ others) all) (able-rest d.behind (p ∷ others) all).1;
         some = fewer others are;
-        left_is = sym (with_capacity-spent d.behind (parts_shared_out others (n - len)) q none) ∙ shared others are;
+        left_is = sym (ap parts_or_default (with_capacity-spent d.behind (parts_shared_out others (n - len)) q none)) ∙ shared others are;
       }
 
--- what is left in order is what draining leaves, while there is a part
-pub drained-row : (row all : List Part) (used n : ℕ) → 1 < length all → HaveCapacity all → 0 < length row
-    → in_order row used ≡ with_capacity (parts_shared_out all n) → in_order row used ≡ parts_drained all n
-drained-row row all used n several able some same =
-    sym (default-some (in_order row used) (omega (arith, order-length row used, some))) ∙ ap parts_or_default same ∙ sym (drained-several all n several able)
-
 -- the first part alone loses bytes
-pub shortened-row : (row new all : List Part) (used n : ℕ) → in_order row used ≡ all → AreBehind row used → 1 < length all
-    → HaveCapacity all → n ≤ length (parts_filled all) → n < length (get_or row 0 (empty_part 0)).filled → new ≡ first_drained row n
-    → (in_order new used ≡ parts_drained all n) × AreBehind new used × HaveCapacity (in_order new used)
-shortened-row row new all used n is behind several able some less drained =
-    let bytes = ap (λ (w : List ℕ). length w) (filled-order row used behind) in
-    let fits : n ≤ length (parts_filled row) = omega (arith, some, ap (λ ps. length (parts_filled ps)) is, bytes) in
-    let begun = draining-begins row used n behind (subst HaveCapacity (sym is) able) fits in
-    let ended = draining-ends new used 0 _ refl (draining-stops row new used n _ begun less drained) in
-    let same = ended.0 ∙ ap (λ ps. with_capacity (parts_shared_out ps n)) is in
-    let count = ap (λ (ps : List Part). length ps) drained ∙ first-length row n in
-    let held : 0 < length new = omega (arith, count, order-length row used, ap (λ (ps : List Part). length ps) is, several) in
-    (drained-row new all used n several able held same, ended.1, subst HaveCapacity (sym same) (able-with_capacity (parts_shared_out all n)))
+pub shortened-row : (row new : List Part) (used n : ℕ) → AreBehind row used → IsParts (in_order row used) → n ≤ length (parts_filled row)
+    → n < length (get_or row 0 (empty_part 0)).filled → new ≡ first_drained row n
+    → (in_order new used ≡ parts_drained (in_order row used) n) × AreBehind new used
+shortened-row row new used n behind parts some less drained =
+    draining-ends new used 0 _ refl (draining-stops row new used n _ (draining-begins row used n behind parts some) less drained)
+
+-- what draining leaves is kept with its sums
+pub kept-drained-row : (row new : List Part) (used behind n len capacity : ℕ) → AreKept row used len capacity → n ≤ length (parts_filled row)
+    → in_order new behind ≡ parts_drained (in_order row used) n → AreBehind new behind → AreKept new behind (len - n) (capacity - n)
+kept-drained-row row new used behind n len capacity kept some is are =
+    let all = in_order row used in
+    let bytes = ap (λ (w : List ℕ). length w) (filled-order row used kept.behind) in
+    let left = is ∙ drained-parts all n kept.parts in
+    let fits : parts_capacity (parts_shared_out all n) < 2 ^ 64 = omega (arith, capacity-shared_out all n, kept.parts.fits) in
+    record {
+      behind = are;
+      sums = summed-drained all (in_order new behind) n len capacity kept.sums (omega (arith, bytes, some)) is;
+      parts = subst IsParts (sym left) (parts-kept (parts_shared_out all n) fits);
+    }
+
+-- a part that can hold a byte, put behind two or more in order, is kept with their sums
+pub kept-pushed : (row new : List Part) (used none : ℕ) (p : Part) (len capacity n m : ℕ) → AreKept row used len capacity → new ≡ in_order row used ++ p ∷ []
+    → none ≡ 0 → 1 < length (in_order row used) → 0 < part_capacity p → parts_capacity (in_order row used) + part_capacity p < 2 ^ 64
+    → n ≡ length p.filled → m ≡ part_capacity p → AreKept new none (len + n) (capacity + m)
+kept-pushed row new used none p len capacity n m kept is zero several more fits len_is capacity_is =
+    let all = in_order row used in
+    let bytes = ap (λ ps. length (parts_filled ps)) is ∙ filled-length all (p ∷ []) in
+    let sum = ap parts_capacity is ∙ sum_by_push part_capacity all p in
+    let last = length-append p.filled [] in
+    kept-none new none (len + n) (capacity + m) zero
+    (record { len_is = omega (arith, bytes, last, kept.sums.len_is, len_is); capacity_is = omega (arith, sum, kept.sums.capacity_is, capacity_is) })
+    (subst IsParts (sym is) (parts-push all p kept.parts several more fits))

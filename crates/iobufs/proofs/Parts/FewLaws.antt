@@ -1,5 +1,5 @@
 -- Parts some of which can't hold a byte, and those of them that are kept: each call does the same to both.
-use Rattle.std.proofs.Common.{◌≡◌, ℕ, ◌+◌, ◌-◌, ◌^◌, ◌<◌, ◌≤◌, ◌==◌, List, [], ◌∷◌, ◌++◌, length, take, drop, min, fold, map, if◌then◌else◌, refl, sym, ap, ◌∙◌, arith, append-nil, append_assoc, length-append, length-drop, length-take, nat_lt, subst, take_all, ⊎_elim}
+use Rattle.std.proofs.Common.{◌≡◌, ℕ, None, ◌+◌, ◌-◌, ◌^◌, ◌<◌, ◌≤◌, ◌==◌, List, [], ◌∷◌, ◌++◌, length, take, drop, min, fold, map, if◌then◌else◌, refl, sym, ap, ◌∙◌, arith, append-nil, append_assoc, length-append, length-drop, length-take, nat_lt, subst, take_all, ⊎_elim}
 use Rattle.std.proofs.lemmas.Bool.{cases_lt, cond-true, cond-false, lt-ltb, le-ltb}
 use Rattle.std.proofs.lemmas.Bool.Decides.{nat_tests}
 use Rattle.std.proofs.lemmas.Grind.{common_steps}
@@ -10,14 +10,14 @@ use Rattle.iobufs_core.specs.Part.{Part, empty_part, part_capacity, part_drained
 use Rattle.iobufs.specs.Inside.Pieces.{AreFull, of_pieces}
 use Rattle.iobufs.specs.Laws.Draining.{filled-kept_parts}
 use Rattle.iobufs.specs.Laws.Filling.{same_part, take_both}
-use Rattle.iobufs.specs.Parts.{HaveCapacity, IsParts, kept_parts, parts_capacity, parts_chunks, parts_coalesced, parts_drained, parts_fill, parts_filled, parts_frozen, parts_or_default, parts_overwritten, parts_shared_out, parts_spare, parts_with_len, with_capacity}
+use Rattle.iobufs.specs.Parts.{HaveCapacity, IsParts, kept_parts, parts_capacity, parts_chunks, parts_coalesced, parts_drained, parts_fill, parts_filled, parts_frozen, parts_or_default, parts_overwritten, parts_shared_out, parts_spare, parts_with_len, single_part, with_capacity}
 use Rattle.iobufs.proofs.Building.AddLaws.{add-full, add-text, of_pieces-none}
 use Rattle.iobufs.proofs.Parts.Coalesced.{coalesced-several}
-use Rattle.iobufs.proofs.Parts.DrainShapes.{able-with_capacity, capacity-with_capacity, drained-several}
+use Rattle.iobufs.proofs.Parts.DrainShapes.{able-with_capacity, capacity-shared_out, capacity-with_capacity, drained-several}
 use Rattle.iobufs.proofs.Parts.Frozen.{frozen-none}
 use Rattle.iobufs.proofs.Parts.PartChunks.{chunks-empty, chunks-full, filled-one}
 use Rattle.iobufs.proofs.Parts.PartLaws.{capacity-parts, same-capacity, same-fill, same-overwritten, same-with_len}
-use Rattle.iobufs.proofs.Parts.PartRuns.{capacity-kept, kept-more}
+use Rattle.iobufs.proofs.Parts.PartRuns.{capacity-kept, kept-all, kept-more}
 
 -- a part that can't hold a byte is the empty one
 pub spent-empty : (p : Part) → part_capacity p ≡ 0 → p ≡ empty_part 0
@@ -151,6 +151,21 @@ parts-kept parts fits = of_able (with_capacity parts) (able-with_capacity parts)
     of_able [] h fits = record { some = omega arith; have_capacity = λ more. absurd (omega arith); fits = omega arith }
     of_able (p ∷ able) h fits = record { some = omega arith; have_capacity = λ more. h; fits = fits }
 
+-- parts are all kept
+pub kept-same : (parts : List Part) → 0 < length parts → (1 < length parts → HaveCapacity parts) → parts ≡ kept_parts parts
+kept-same [] some able = absurd (omega arith)
+kept-same (p ∷ []) some able =
+    ⊎_elim
+    (λ (more : 0 < part_capacity p). kept-all (p ∷ []) (more, tt) (omega arith))
+    (λ (none : part_capacity p ≤ 0).
+    ap (λ q. q ∷ []) (spent-empty p (omega arith)) ∙ sym (ap parts_or_default (with_capacity-none p [] (omega arith))))
+    (cases_lt 0 (part_capacity p))
+kept-same (p ∷ q ∷ parts) some able = kept-all (p ∷ q ∷ parts) (able (omega arith)) (omega arith)
+
+-- parts that lose bytes are those of them that are kept then
+pub drained-parts : (parts : List Part) (n : ℕ) → IsParts parts → parts_drained parts n ≡ kept_parts (parts_shared_out parts n)
+drained-parts parts n are = ap (λ ps. parts_drained ps n) (kept-same parts are.some are.have_capacity) ∙ kept-drained parts n
+
 -- the chunks of the kept parts are those of all
 pub chunks-kept : (parts : List Part) → parts_chunks (kept_parts parts) ≡ parts_chunks parts
 chunks-kept parts = of_default (with_capacity parts) ∙ of_able parts
@@ -197,11 +212,11 @@ frozen-kept parts = of_default (with_capacity parts) ∙ of_able default_text pa
         (sym (frozen-none text (p ∷ []) (omega (arith, ap (λ (w : List ℕ). length w) (filled-one p))))))
         (cases_lt 0 (part_capacity p))
 
--- two or more that are kept coalesce to the bytes of all
-pub coalesced-kept : (parts : List Part) → 1 < length (kept_parts parts)
+-- where more than one is kept, they coalesce to the bytes of all
+pub coalesced-kept : (parts : List Part) → single_part (kept_parts parts) ≡ None
     → parts_coalesced (kept_parts parts) ≡ record { filled = parts_filled parts; spare = 0 }
-coalesced-kept parts more =
-    coalesced-several (kept_parts parts) more ∙ ap (λ bytes. record { filled = bytes; spare = 0 }) (filled-kept_parts parts)
+coalesced-kept parts none =
+    coalesced-several (kept_parts parts) none ∙ ap (λ bytes. record { filled = bytes; spare = 0 }) (filled-kept_parts parts)
 
 -- what the calls leave has the capacity that was there
 pub fits-fill : (parts : List Part) (w : List ℕ) → parts_capacity parts < 2 ^ 64 → parts_capacity (parts_fill parts w) < 2 ^ 64
@@ -212,6 +227,9 @@ fits-with_len parts n fits = omega (arith, same-capacity parts (parts_with_len p
 
 pub fits-overwritten : (parts : List Part) (w : List ℕ) → parts_capacity parts < 2 ^ 64 → parts_capacity (parts_overwritten parts w) < 2 ^ 64
 fits-overwritten parts w fits = omega (arith, same-capacity parts (parts_overwritten parts w) (same-overwritten parts w))
+
+pub fits-shared_out : (parts : List Part) (n : ℕ) → parts_capacity parts < 2 ^ 64 → parts_capacity (parts_shared_out parts n) < 2 ^ 64
+fits-shared_out parts n fits = omega (arith, capacity-shared_out parts n)
 
 pub ruleset keeping = (
   filled-kept_parts,
@@ -226,6 +244,7 @@ pub ruleset keeping = (
   fits-fill,
   fits-with_len,
   fits-overwritten,
+  fits-shared_out,
 )
 
 pub ruleset growing_few = (kept-more)

@@ -9,7 +9,7 @@ use Rattle.iobufs_core.specs.Part.{Part, empty_part, part_capacity, part_drained
 use Rattle.iobufs.specs.Laws.Filling.{fill-nil, same_part}
 use Rattle.iobufs.specs.Inside.PartOrder.{AreBehind, AreKept, first_drained, in_order}
 use Rattle.iobufs.specs.Inside.PartSums.{AreSummed}
-use Rattle.iobufs.specs.Parts.{parts_capacity, parts_chunks, parts_fill, parts_filled, parts_frozen, parts_or_default, parts_overwritten}
+use Rattle.iobufs.specs.Parts.{IsParts, parts_capacity, parts_chunks, parts_fill, parts_filled, parts_frozen, parts_overwritten}
 use Rattle.iobufs.proofs.Parts.Frozen.{frozen-none}
 use Rattle.iobufs.proofs.Parts.PartChunks.{chunks-empty, chunks-full, chunks-none}
 
@@ -20,14 +20,23 @@ order-none row used none =
     ap (λ k. drop k row ++ take k row) all ∙ (λ i. drop_all (length row) row (omega arith) i ++ take_all (length row) row (omega arith) i)
 
 -- a row of which no part is used up is kept, where the sums beside it are its own
-pub kept-none : (row : List Part) (used len capacity : ℕ) → used ≡ 0 → AreSummed row len capacity → AreKept row used len capacity
-kept-none row used len capacity none sums = record {
+pub kept-none : (row : List Part) (used len capacity : ℕ) → used ≡ 0 → AreSummed row len capacity → IsParts row → AreKept row used len capacity
+kept-none row used len capacity none sums parts = record {
   behind = record {
     within = omega arith;
     empty = ap (λ ps. length (parts_filled ps)) (drop_all (length row - used) row (omega arith));
   };
   sums = subst (λ ps. AreSummed ps len capacity) (sym (order-none row used none)) sums;
+  parts = subst IsParts (sym (order-none row used none)) parts;
 }
+
+-- a row of which one part is taken out, and one of capacity 0 stands for it
+pub kept-default : (row new : List Part) (p : Part) → length row ≡ 1 → new ≡ set row 0 p → p ≡ empty_part 0 → AreKept new 0 0 0
+kept-default [] new p one is none = absurd (omega arith)
+kept-default (q ∷ []) new p one is none =
+    rw (is, none) (kept-none (empty_part 0 ∷ []) 0 0 0 refl (record { len_is = refl; capacity_is = refl })
+    (record { some = omega arith; have_capacity = λ more. absurd (omega arith); fits = omega arith }))
+kept-default (q ∷ r ∷ row) new p one is none = absurd (omega arith)
 
 -- those at the back stand in front of the others
 pub order-both : (others behind : List Part) (used : ℕ) → used ≡ length behind → in_order (others ++ behind) used ≡ behind ++ others
@@ -116,16 +125,14 @@ capacity-order row used =
       sum_by-append part_capacity (drop k row) (take k row),
     )
 
--- a row of at most one part
-pub order-single : (row : List Part) (used : ℕ) (part : Part) → parts_or_default row ≡ part ∷ [] → parts_or_default (in_order row used) ≡ part ∷ []
-order-single [] used part e =
-    let none = nil_from_length (in_order [] used) (order-length [] used) in
-    ap parts_or_default none ∙ e
-order-single (p ∷ []) zero part e = e
-order-single (p ∷ []) (suc used) part e =
+-- the only part of a row, in order
+pub order-single : (row : List Part) (used : ℕ) (p : Part) → length row ≡ 1 → p ≡ get_or row 0 p → in_order row used ≡ p ∷ []
+order-single [] used p one is = absurd (omega arith)
+order-single (q ∷ []) zero p one is = ap (λ r. r ∷ []) (sym is)
+order-single (q ∷ []) (suc used) p one is =
     let k : 1 - suc used ≡ 0 = omega arith in
-    ap (λ n. parts_or_default (drop n (p ∷ []) ++ take n (p ∷ []))) k ∙ e
-order-single (p ∷ q ∷ row) used part e = absurd (omega (arith, ap length e))
+    ap (λ n. drop n (q ∷ []) ++ take n (q ∷ [])) k ∙ ap (λ r. r ∷ []) (sym is)
+order-single (q ∷ r ∷ row) used p one is = absurd (omega arith)
 
 -- the first part of a row
 pub first-filled : (row : List Part) → length (get_or row 0 (empty_part 0)).filled ≤ length (parts_filled row)

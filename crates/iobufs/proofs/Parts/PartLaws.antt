@@ -1,11 +1,10 @@
--- What the calls on parts keep: capacities, lengths, and what is kept true of several parts.
+-- What the calls on parts keep: capacities, lengths, and what is kept true of parts.
 use Rattle.std.proofs.Common.{◌≡◌, ℕ, ◌+◌, ◌-◌, List, [], ◌∷◌, ◌++◌, length, take, drop, replicate, min, refl, sym, ap, ◌∙◌, arith, length-append, length-take, length-drop}
 use Rattle.std.specs.List.{sum_by}
 use Rattle.std.proofs.lemmas.List.{length-replicate}
 use Rattle.std.proofs.lemmas.List.Sums.{sum_by-cons}
 use Rattle.iobufs_core.specs.Part.{Part, part_capacity}
-use Rattle.iobufs.specs.Parts.{HaveCapacity, parts_capacity, parts_fill, parts_filled, parts_overwritten, parts_spare, parts_with_len}
-use Rattle.iobufs.specs.Inside.PartShape.{AreSeveral}
+use Rattle.iobufs.specs.Parts.{HaveCapacity, IsParts, parts_capacity, parts_fill, parts_filled, parts_overwritten, parts_spare, parts_with_len}
 
 -- sums over parts, as an iterator gives them
 pub filled-sum : (parts : List Part) → sum_by (λ (p : Part). length p.filled) parts ≡ length (parts_filled parts)
@@ -52,12 +51,15 @@ same-able [] (q ∷ qs) h a = absurd h
 same-able (p ∷ ps) [] h a = absurd h
 same-able (p ∷ ps) (q ∷ qs) h a = (omega (arith, h.0, a.0), same-able ps qs h.1 a.1)
 
-several-same : (ps qs : List Part) → HaveSame ps qs → AreSeveral ps → AreSeveral qs
-several-same ps qs h a = record {
-  several = omega (arith, same-length ps qs h, a.several);
-  have_capacity = same-able ps qs h a.have_capacity;
-  fits = omega (arith, same-capacity ps qs h, a.fits);
-}
+-- parts each of which has the same capacity as before are parts as before
+parts-same : (ps qs : List Part) → HaveSame ps qs → IsParts ps → IsParts qs
+parts-same ps qs h a =
+    let n = same-length ps qs h in
+    record {
+      some = omega (arith, n, a.some);
+      have_capacity = λ more. same-able ps qs h (a.have_capacity (omega (arith, n, more)));
+      fits = omega (arith, same-capacity ps qs h, a.fits);
+    }
 
 -- filling leaves the capacity of each part
 pub same-fill : (parts : List Part) (w : List ℕ) → HaveSame parts (parts_fill parts w)
@@ -67,8 +69,8 @@ same-fill (p ∷ parts) w =
     let t = length-take p.spare w in
     (omega arith, same-fill parts (drop p.spare w))
 
-pub several-fill : (parts : List Part) (w : List ℕ) → AreSeveral parts → AreSeveral (parts_fill parts w)
-several-fill parts w h = several-same parts (parts_fill parts w) (same-fill parts w) h
+pub parts-fill : (parts : List Part) (w : List ℕ) → IsParts parts → IsParts (parts_fill parts w)
+parts-fill parts w h = parts-same parts (parts_fill parts w) (same-fill parts w) h
 
 -- another length leaves the capacity of each part
 pub same-with_len : (parts : List Part) (n : ℕ) → HaveSame parts (parts_with_len parts n)
@@ -80,8 +82,8 @@ same-with_len (p ∷ parts) n =
     let a = length-append (take m p.filled) (replicate (m - length p.filled) 0) in
     (omega arith, same-with_len parts (n - part_capacity p))
 
-pub several-with_len : (parts : List Part) (n : ℕ) → AreSeveral parts → AreSeveral (parts_with_len parts n)
-several-with_len parts n h = several-same parts (parts_with_len parts n) (same-with_len parts n) h
+pub parts-with_len : (parts : List Part) (n : ℕ) → IsParts parts → IsParts (parts_with_len parts n)
+parts-with_len parts n h = parts-same parts (parts_with_len parts n) (same-with_len parts n) h
 
 -- bytes written over those that are filled leave the capacity of each part
 pub same-overwritten : (parts : List Part) (w : List ℕ) → HaveSame parts (parts_overwritten parts w)
@@ -94,7 +96,5 @@ same-overwritten (p ∷ parts) w =
     let v = length-take (length p.filled) w in
     (omega arith, same-overwritten parts (drop (length p.filled) w))
 
-pub several-overwritten : (parts : List Part) (w : List ℕ) → AreSeveral parts → AreSeveral (parts_overwritten parts w)
-several-overwritten parts w h = several-same parts (parts_overwritten parts w) (same-overwritten parts w) h
-
-pub ruleset kept = (several-fill, several-with_len, several-overwritten)
+pub parts-overwritten : (parts : List Part) (w : List ℕ) → IsParts parts → IsParts (parts_overwritten parts w)
+parts-overwritten parts w h = parts-same parts (parts_overwritten parts w) (same-overwritten parts w) h

@@ -5,8 +5,7 @@ use Rattle.std.proofs.lemmas.List.Sums.{sum_by-cons, sum_by_push}
 use Rattle.iobufs_core.specs.Part.{Part, part_capacity}
 use Rattle.iobufs_core.specs.declared.codec.base.BufError.TheVariants.{Memory, TooLong}
 use Rattle.iobufs.specs.PartLimits.{IsRowRefusedAt}
-use Rattle.iobufs.specs.Parts.{HaveCapacity, kept_parts, parts_capacity, parts_or_default, with_capacity}
-use Rattle.iobufs.specs.Inside.PartShape.{AreSeveral}
+use Rattle.iobufs.specs.Parts.{HaveCapacity, IsParts, kept_parts, parts_capacity, parts_or_default, with_capacity}
 use Rattle.iobufs.proofs.Parts.DrainShapes.{able-with_capacity, capacity-with_capacity, with_capacity-all, with_capacity-push}
 
 -- where there is a part, no other has to stand for them
@@ -28,31 +27,18 @@ kept-first first p none more =
     ∙ ap parts_or_default
     (sym (cond-false (nat_lt 0 (part_capacity first)) (first ∷ with_capacity (p ∷ [])) (with_capacity (p ∷ [])) (le-ltb 0 (part_capacity first) (omega arith))))
 
--- two parts, and one more than several
+-- two parts
 pub kept-two : (p q : Part) → 0 < part_capacity p → 0 < part_capacity q → p ∷ q ∷ [] ≡ kept_parts (p ∷ q ∷ [])
 kept-two p q first second = kept-all (p ∷ q ∷ []) (first, (second, tt)) (omega arith)
 
-pub several-two : (p q : Part) → 0 < part_capacity p → 0 < part_capacity q → parts_capacity (p ∷ []) + part_capacity q < 2 ^ 64 → AreSeveral (p ∷ q ∷ [])
-several-two p q first second fits = record {
-  several = omega arith;
-  have_capacity = (first, (second, tt));
-  fits = omega (arith, sum_by_push part_capacity (p ∷ []) q);
-}
-
-pub kept-push : (parts : List Part) (p : Part) → AreSeveral parts → 0 < part_capacity p → parts ++ p ∷ [] ≡ kept_parts (parts ++ p ∷ [])
-kept-push parts p several more = kept-all (parts ++ p ∷ []) (able-push parts p several.have_capacity more) (omega (arith, length-append parts (p ∷ [])))
-
-pub several-push : (parts : List Part) (p : Part) → AreSeveral parts → 0 < part_capacity p → parts_capacity parts + part_capacity p < 2 ^ 64
-    → AreSeveral (parts ++ p ∷ [])
-several-push parts p several more fits = record {
-  several = omega (arith, length-append parts (p ∷ []), several.several);
-  have_capacity = able-push parts p several.have_capacity more;
+-- one part more than two or more
+pub parts-push : (parts : List Part) (p : Part) → IsParts parts → 1 < length parts → 0 < part_capacity p → parts_capacity parts + part_capacity p < 2 ^ 64
+    → IsParts (parts ++ p ∷ [])
+parts-push parts p are several more fits = record {
+  some = omega (arith, length-append parts (p ∷ []));
+  have_capacity = λ _. able-push parts p (are.have_capacity several) more;
   fits = omega (arith, sum_by_push part_capacity parts p);
 }
-
-pub several-some : (parts : List Part) → AreSeveral parts → 0 < parts_capacity parts
-several-some [] several = absurd (omega (arith, several.several))
-several-some (p ∷ parts) several = omega (arith, several.have_capacity.0, sum_by-cons part_capacity p parts)
 
 -- the capacity of the parts that are kept
 pub capacity-kept : (parts : List Part) → parts_capacity (kept_parts parts) ≡ parts_capacity parts
@@ -78,9 +64,14 @@ able-kept parts = of_able (with_capacity parts) (able-with_capacity parts)
     of_able [] h = refl
     of_able (p ∷ able) h = with_capacity-all (p ∷ able) h
 
--- so many parts can hold a byte where all of three and more can
-pub able-three : (parts : List Part) → HaveCapacity parts → 3 ≤ length parts → length (with_capacity parts) < 3 → ⊥
-able-three parts able three less = omega (arith, ap (λ (ps : List Part). length ps) (with_capacity-all parts able))
+-- where parts that can hold a byte are kept, they are some, and have capacity
+pub able-some : (parts : List Part) → 1 < length (kept_parts parts) → (length (with_capacity parts) ≡ length (kept_parts parts)) × (0 < parts_capacity parts)
+able-some parts more = of_able (with_capacity parts) (able-with_capacity parts) (capacity-with_capacity parts) more
+  where
+    of_able : (able : List Part) → HaveCapacity able → parts_capacity able ≡ parts_capacity parts → 1 < length (parts_or_default able)
+        → (length able ≡ length (parts_or_default able)) × (0 < parts_capacity parts)
+    of_able [] h sum more = absurd (omega (arith, more))
+    of_able (p ∷ able) h sum more = (refl, omega (arith, h.0, sum, sum_by-cons part_capacity p able))
 
 -- the part that takes the capacity past the largest number, and one for which there was no memory
 pub refused-long : (front : List Part) (last : Part) → parts_capacity front < 2 ^ 64 → part_capacity last < 2 ^ 64
@@ -116,4 +107,4 @@ refused-short front last some more short several =
       several = λ _. omega (arith, ap (λ (ps : List Part). length ps) (with_capacity-push front last more), length-append (with_capacity front) (last ∷ []));
     }
 
-pub ruleset growing = (kept-first, kept-two, several-two, kept-push, several-push, several-some)
+pub ruleset growing = (kept-first, kept-two, parts-push)

@@ -3,11 +3,11 @@
 --     in_order         the parts of a row, of which so many at the back are used up, in order
 --     first_drained    the row without the first bytes of its first part
 --     AreBehind        so many stand at the back, and hold no bytes
---     AreKept          and the sums beside the row are those of all
+--     AreKept          and the parts in order are parts, with the sums of all beside the row
 use Rattle.std.specs.Prelude.{◌≡◌, ℕ, ◌-◌, ◌≤◌, List, [], ◌∷◌, ◌++◌, length, drop, take}
 use Rattle.iobufs_core.specs.Part.{Part, part_drained}
 use Rattle.iobufs.specs.Inside.PartSums.{AreSummed}
-use Rattle.iobufs.specs.Parts.{parts_filled}
+use Rattle.iobufs.specs.Parts.{IsParts, parts_filled}
 
 abbrev pub in_order : List Part → ℕ → List Part
 in_order row used = drop (length row - used) row ++ take (length row - used) row
@@ -25,3 +25,4 @@ pub record AreBehind (row : List Part) (used : ℕ) : Type 0 where
 pub record AreKept (row : List Part) (used len capacity : ℕ) : Type 0 where
   pub behind : AreBehind row used
   pub sums : AreSummed (in_order row used) len capacity
+  pub parts : IsParts (in_order row used)

@@ -7,26 +7,6 @@ use bytes::Bytes;
 use iobufs_core::codec::{Buf, BufError};
 use std::alloc::Global;
 
-impl IoBufsMut {
-    // Drops the first `n` bytes, also where whole parts go.
-    #[inline(never)]
-    #[tactic(auto, using(crate::proofs::Parts::FewLaws::keeping))]
-    fn drain(&mut self, n: usize)
-        requires { n ≤ length (parts_filled self.old) }
-        ensures { self.new ≡ parts_drained self.old n }
-    {
-        match &mut self.shape {
-            Shape::One(part) => part.advance(n),
-            Shape::Few(parts) => parts.advance(n),
-            Shape::Many(parts) => {
-                if let Some(part) = parts.advance(n) {
-                    self.shape = Shape::One(part);
-                }
-            }
-        }
-    }
-}
-
 impl Buf for IoBufsMut {
     ghost use Rattle.iobufs.specs.Laws.Draining.{filled-drained, joined-part_chunks, full-part_chunks};
 
@@ -65,16 +45,8 @@ impl Buf for IoBufsMut {
     fn advance(&mut self, n: usize) {
         match &mut self.shape {
             Shape::One(part) => part.advance(n),
-            Shape::Few(parts) => {
-                if !parts.shorten(n) {
-                    parts.advance(n);
-                }
-            }
-            Shape::Many(parts) => {
-                if !parts.shorten(n) {
-                    self.drain(n);
-                }
-            }
+            Shape::Few(parts) => parts.advance(n),
+            Shape::Many(parts) => parts.advance(n),
         }
     }
 

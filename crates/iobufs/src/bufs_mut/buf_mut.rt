@@ -21,7 +21,7 @@ impl BufMut for IoBufsMut {
         }
     }
 
-    #[tactic(auto, using(crate::proofs::Parts::PartLaws::kept, crate::proofs::Parts::FewLaws::keeping))]
+    #[tactic(auto, using(crate::proofs::Parts::FewLaws::keeping))]
     fn put_slice(&mut self, src: &[u8]) {
         match &mut self.shape {
             Shape::One(part) => part.put_slice(src),
@@ -30,7 +30,7 @@ impl BufMut for IoBufsMut {
         }
     }
 
-    #[tactic(auto, using(crate::proofs::Parts::PartLaws::kept, crate::proofs::Parts::FewLaws::keeping))]
+    #[tactic(auto, using(crate::proofs::Parts::FewLaws::keeping))]
     fn put_bytes(&mut self, value: u8, n: usize) {
         match &mut self.shape {
             Shape::One(part) => part.put_bytes(value, n),

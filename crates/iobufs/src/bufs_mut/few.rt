@@ -215,7 +215,9 @@ impl Few {
 
     /// The parts and a fourth one, in a deque.
     pub(super) fn with_fourth(self, part: IoBufMut) -> Result<Several, AllocError>
-        requires { parts_capacity self + part_capacity part < 2 ^ 64 }
+        requires have_capacity { HaveCapacity self }
+        requires more { 0 < part_capacity part }
+        requires fits { parts_capacity self + part_capacity part < 2 ^ 64 }
         ensures { IfOk result (λ parts. parts ≡ self ++ part ∷ []) }
     {
         let Few {
@@ -341,9 +343,19 @@ impl Few {
         copy_share(&mut self.third, rest);
     }
 
-    /// Drops the first `n` bytes if the first part that holds some holds more, and tells whether it does.
+    /// Drops the first `n` bytes. The storage of a part that is used up is freed once another part can hold a byte.
+    pub(super) fn advance(&mut self, n: usize)
+        requires { parts_capacity self.old < 2 ^ 64 }
+        ensures { self.new ≡ parts_shared_out self.old n }
+    {
+        if !self.shorten(n) {
+            self.drain(n);
+        }
+    }
+
+    // Drops the first `n` bytes if the first part that holds some holds more, and tells whether it does.
     #[inline(always)]
-    pub(super) fn shorten(&mut self, n: usize) -> bool
+    fn shorten(&mut self, n: usize) -> bool
         ensures drained { IsTrue result → self.new ≡ parts_shared_out self.old n }
         ensures same { result ≡ false → self.new ≡ self.old }
     {
@@ -365,9 +377,9 @@ impl Few {
         false
     }
 
-    /// Drops the first `n` bytes. The storage of a part that is used up is freed once another part can hold a byte.
+    // Drops the first `n` bytes, also where whole parts go.
     #[inline(never)]
-    pub(super) fn advance(&mut self, n: usize)
+    fn drain(&mut self, n: usize)
         requires { parts_capacity self.old < 2 ^ 64 }
         ensures { self.new ≡ parts_shared_out self.old n }
     {

@@ -1,11 +1,11 @@
-// Several parts with their sums.
+// A row of parts with their sums.
 ghost use Rattle.std.specs.Option.{option_copied};
 ghost use Rattle.std.specs.Prelude.{◌≡◌, ◌+◌, ◌^◌, ◌<◌, ◌≤◌, ◌++◌, [], ◌∷◌, false, fold, length, map, nat_lt, replicate, slice_get, slice_index_or, take, Err, IfNone, IfOk, IfSome, IsOk, IsOkUnless, IsTrue, OnOk};
 ghost use Rattle.iobufs_core.specs.Chunks.{first_chunk};
 ghost use Rattle.iobufs_core.specs.MarkedText.{of_view, text_append};
 ghost use Rattle.iobufs_core.specs.Part.{empty_part, part_capacity, part_frozen};
 ghost use Rattle.iobufs.specs.Inside.PartOrder.{AreBehind, first_drained, in_order};
-ghost use Rattle.iobufs.specs.Parts.{HaveCapacity, parts_capacity, parts_chunks, parts_drained, parts_fill, parts_filled, parts_frozen, parts_or_default, parts_overwritten, parts_shared_out, parts_spare, parts_with_len, with_capacity};
+ghost use Rattle.iobufs.specs.Parts.{HaveCapacity, IsParts, kept_parts, parts_capacity, parts_chunks, parts_drained, parts_fill, parts_filled, parts_frozen, parts_overwritten, parts_spare, parts_with_len, single_part};
 
 use crate::bufs::IoBufs;
 use crate::bufs::row::Row;
@@ -14,9 +14,11 @@ use iobufs_core::codec::{Buf, BufError, BufMut};
 use std::alloc::{AllocError, Global};
 use std::collections::VecDeque;
 use std::marker::Model;
+use std::mem;
 
-/// Parts in a deque, and beside it how many bytes they hold and how many fit, so that neither asks for a walk. Parts
-/// that were used up stand behind the others, so that no call walks over them again before bytes are put into them:
+/// One part or more in a deque, and beside it how many bytes they hold and how many fit, so that neither asks for a
+/// walk. With two or more, each can hold a byte. Parts that were used up stand behind the others, so that no call walks
+/// over them again before bytes are put into them:
 ///
 /// ```text
 /// in order | . . | . . | b c | d e |
@@ -50,7 +52,8 @@ impl Several {
         third: IoBufMut,
         fourth: IoBufMut,
     ) -> Result<Several, AllocError>
-        requires { part_capacity first + part_capacity second + part_capacity third + part_capacity fourth < 2 ^ 64 }
+        requires have_capacity { HaveCapacity (first ∷ second ∷ third ∷ fourth ∷ []) }
+        requires fits { parts_capacity (first ∷ second ∷ third ∷ fourth ∷ []) < 2 ^ 64 }
         ensures { IfOk result (λ parts. parts ≡ first ∷ second ∷ third ∷ fourth ∷ []) }
     {
         let len = first.len() + second.len() + third.len() + fourth.len();
@@ -70,8 +73,11 @@ impl Several {
 
     #[tactic(auto, using(crate::proofs::Parts::OrderLaws::ordered))]
     pub(super) fn push(&mut self, part: IoBufMut) -> Result<(), AllocError>
-        requires { parts_capacity self.old + part_capacity part < 2 ^ 64 }
-        ensures { OnOk result (self.new ≡ self.old ++ part ∷ []) }
+        requires several { 1 < length self.old }
+        requires more { 0 < part_capacity part }
+        requires fits { parts_capacity self.old + part_capacity part < 2 ^ 64 }
+        ensures pushed { OnOk result (self.new ≡ self.old ++ part ∷ []) }
+        ensures kept { OnOk result (self.new ≡ kept_parts self.new) }
     {
         let (len, capacity) = (part.len(), part.capacity());
         settle(&mut self.row, &mut self.used);
@@ -104,6 +110,32 @@ impl Several {
         None
     }
 
+    /// The only part, if there is just one.
+    #[tactic(auto, using(crate::proofs::Parts::OrderLaws::ordered))]
+    pub(super) fn single(&self) -> Option<&IoBufMut>
+        ensures { option_copied result ≡ single_part self.now }
+    {
+        if self.row.len() > 1 {
+            return None;
+        }
+        self.get(0)
+    }
+
+    /// Takes the only part out, if there is just one; one of capacity 0 is left.
+    pub(super) fn take_single(&mut self) -> Option<IoBufMut>
+        ensures none { IfNone result ((self.new ≡ self.old) × (1 < length self.old)) }
+        ensures some { IfSome result (λ part. self.old ≡ part ∷ []) }
+    {
+        if self.row.len() > 1 {
+            return None;
+        }
+        let none = IoBufMut::default(*self.row.allocator());
+        self.used = 0;
+        self.len = 0;
+        self.capacity = 0;
+        Some(mem::replace(&mut self.row[0], none))
+    }
+
     pub(super) fn len(&self) -> usize
         ensures { result ≡ length (parts_filled self.now) }
     {
@@ -111,7 +143,8 @@ impl Several {
     }
 
     pub(super) fn capacity(&self) -> usize
-        ensures { result ≡ parts_capacity self.now }
+        ensures sum { result ≡ parts_capacity self.now }
+        ensures parts { IsParts self.now }
     {
         self.capacity
     }
@@ -166,47 +199,16 @@ impl Several {
         copy_from_slice(&mut self.row, src);
     }
 
-    /// Drops the first `n` bytes if the first part of the row holds more, and tells whether it does.
-    pub(super) fn shorten(&mut self, n: usize) -> bool
-        requires several { 1 < length self.old }
-        requires have_capacity { HaveCapacity self.old }
-        requires some { n ≤ length (parts_filled self.old) }
-        ensures drained { IsTrue result → self.new ≡ parts_drained self.old n }
-        ensures have_capacity { IsTrue result → HaveCapacity self.new }
-        ensures several { IsTrue result → 1 < length self.new }
-        ensures fits { IsTrue result → parts_capacity self.new ≤ parts_capacity self.old }
-        ensures same { result ≡ false → self.new ≡ self.old }
+    /// Drops the first `n` bytes, and with two or more the parts that can't hold a byte any more. One part is left.
+    pub(super) fn advance(&mut self, n: usize)
+        requires { n ≤ length (parts_filled self.old) }
+        ensures { self.new ≡ parts_drained self.old n }
     {
+        self.len -= n;
+        self.capacity -= n;
         if !shorten(&mut self.row, n) {
-            return false;
+            self.used = drain(&mut self.row, n, self.used);
         }
-        self.len -= n;
-        self.capacity -= n;
-        true
-    }
-
-    /// Drops the first `n` bytes, and the parts that can't hold a byte any more. The only part that is left then comes
-    /// out, or one of capacity 0.
-    pub(super) fn advance(&mut self, n: usize) -> Option<IoBufMut>
-        requires several { 1 < length self.old }
-        requires have_capacity { HaveCapacity self.old }
-        requires some { n ≤ length (parts_filled self.old) }
-        ensures single { IfSome result (λ part. part ∷ [] ≡ parts_drained self.old n) }
-        ensures rest { IfNone result (self.new ≡ parts_drained self.old n) }
-        ensures several { IfNone result (1 < length self.new) }
-        ensures have_capacity { IfNone result (HaveCapacity self.new) }
-        ensures fits { IfNone result (parts_capacity self.new ≤ parts_capacity self.old) }
-    {
-        self.used = advance(&mut self.row, n, self.used);
-        self.len -= n;
-        self.capacity -= n;
-        let Some(part) = take_single(&mut self.row) else {
-            return None;
-        };
-        self.used = 0;
-        self.len = 0;
-        self.capacity = 0;
-        Some(part)
     }
 
     /// The first part that holds bytes, or none of them.
@@ -294,7 +296,6 @@ impl Several {
     /// The parts that hold bytes, one piece behind the other. No room is made for a single piece.
     #[tactic(auto, using(crate::proofs::Parts::Frozen::freezing))]
     pub(super) fn freeze(self, alloc: Global) -> Result<IoBufs, BufError>
-        requires fits { parts_capacity self < 2 ^ 64 }
         ensures ok { IfOk result (λ text. text ≡ parts_frozen self) }
         ensures memory { IsOkUnless result BufError.Memory }
         ensures nothing { length (parts_filled self) ≡ 0 → IsOk result }
@@ -445,12 +446,14 @@ fn shorten(row: &mut VecDeque<IoBufMut>, n: usize) -> bool
 }
 
 // Drops the first `n` bytes. A part that is used up goes behind the others, where `used` stand already, if it can still
-// hold a byte. Answers how many stand there then. No part is looked at behind the last byte that goes.
-fn advance(row: &mut VecDeque<IoBufMut>, n: usize, used: usize) -> usize
+// hold a byte or none is left beside it. Answers how many stand there then. No part is looked at behind the last byte
+// that goes.
+#[inline(never)]
+fn drain(row: &mut VecDeque<IoBufMut>, n: usize, used: usize) -> usize
     requires behind { AreBehind row.old.items used }
-    requires have_capacity { HaveCapacity (in_order row.old.items used) }
+    requires parts { IsParts (in_order row.old.items used) }
     requires some { n ≤ length (parts_filled row.old.items) }
-    ensures rest { in_order row.new.items result ≡ with_capacity (parts_shared_out (in_order row.old.items used) n) }
+    ensures drained { in_order row.new.items result ≡ parts_drained (in_order row.old.items used) n }
     ensures behind { AreBehind row.new.items result }
 {
     let mut rest = n;
@@ -463,24 +466,12 @@ fn advance(row: &mut VecDeque<IoBufMut>, n: usize, used: usize) -> usize
         let len = part.len();
         part.advance(len);
         rest -= len;
-        if part.capacity() > 0 {
+        if part.capacity() > 0 || row.is_empty() {
             row.push_back_reserved(part);
             behind += 1;
         }
     }
     behind
-}
-
-// Where fewer than two parts are left: the one that is left, or one of capacity 0, and then none is.
-fn take_single(parts: &mut VecDeque<IoBufMut>) -> Option<IoBufMut>
-    ensures none { IfNone result ((1 < length parts.old.items) × (parts.new.items ≡ parts.old.items)) }
-    ensures some { IfSome result (λ part. (parts_or_default parts.old.items ≡ part ∷ []) × (parts.new.items ≡ [])) }
-{
-    if parts.len() > 1 {
-        return None;
-    }
-    let alloc = *parts.allocator();
-    Some(parts.pop_front().unwrap_or(IoBufMut::default(alloc)))
 }
 
 // A piece, and behind it the parts that hold bytes. Room for all is made at once.

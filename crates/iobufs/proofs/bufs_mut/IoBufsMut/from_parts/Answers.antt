@@ -1,12 +1,11 @@
 use Rattle.std.proofs.Common.{◌<◌, ◌++◌, ◌∷◌, [], ◌≤◌, List, length, ⊎_elim, arith, refl, subst, sym, ◌∙◌, ap}
 use Rattle.std.proofs.lemmas.Bool.{cases_lt, false≢true}
-use Rattle.std.proofs.Math.Nat.{pos_of_ne-zero}
 use Rattle.std.proofs.lemmas.Result.{err_from_is_err_and}
 use Rattle.std.proofs.lemmas.List.Sums.{sum_by_push}
 use Rattle.iobufs_core.specs.Part.{Part, part_capacity}
 use Rattle.iobufs.specs.PartLimits.{IsRowRefusedAt}
-use Rattle.iobufs.specs.Parts.{kept_parts, parts_capacity, with_capacity}
-use Rattle.iobufs.proofs.Parts.PartRuns.{able-kept, capacity-kept, kept-more, refused-long, refused-short}
+use Rattle.iobufs.specs.Parts.{kept_parts, parts_capacity}
+use Rattle.iobufs.proofs.Parts.PartRuns.{able-some, capacity-kept, kept-more, refused-long, refused-short}
 use Rattle.iobufs.proofs.Text.RunLaws.{run_to_end, run_to_item}
 use Rattle.iobufs.proofs.bufs_mut.IoBufsMut.from_parts.Goals as goal
 
@@ -29,17 +28,17 @@ pub returns-in_err-shape-clause-err : goal.returns-in_err-shape-clause-err
 returns-in_err-shape-clause-err g c =
     let l = c.loop-part in
     let part = c.in-Some.part in
-    let kept = ap parts_capacity l.invariant.kept ∙ capacity-kept l.yielded in
-    let some : 0 < parts_capacity l.yielded = pos_of_ne-zero (λ none. false≢true (c.in_err-shape.ensures.first (kept ∙ none))) in
-    let able = ap (λ (ps : List Part). length (with_capacity ps)) l.invariant.kept ∙ ap (λ (ps : List Part). length ps) (able-kept l.yielded) in
-    let three : 3 ≤ length (with_capacity l.yielded) =
-    ⊎_elim (λ (less : length (with_capacity l.yielded) < 3). absurd (false≢true (c.in_err-shape.ensures.few l.invariant.built (omega (arith, able)))))
-    (λ (more : 3 ≤ length (with_capacity l.yielded)). more) (cases_lt (length (with_capacity l.yielded)) 3) in
+    let count = ap (λ (ps : List Part). length ps) l.invariant.kept in
+    let three : 3 ≤ length (kept_parts l.yielded) =
+    ⊎_elim (λ (less : length (kept_parts l.yielded) < 3). absurd (false≢true (c.in_err-shape.ensures.few (omega (arith, count, less)))))
+    (λ (more : 3 ≤ length (kept_parts l.yielded)). more) (cases_lt (length (kept_parts l.yielded)) 3) in
+    let some = able-some l.yielded (omega (arith, three)) in
+    let sum = ap parts_capacity l.invariant.kept ∙ capacity-kept l.yielded in
     let (error, told, cause) = err_from_is_err_and c.from_residual.result c.from_residual.ensures.1 in
     rw (told, cause) (
       run_to_item g.I.Iterator.next_gives _ l.yielded l.yielded_by part c.in-Some.ensures.steps,
       refl,
-      subst (IsRowRefusedAt (l.yielded ++ part ∷ [])) (sym c.in_err-shape.ensures.memory) (refused-short l.yielded part some (omega arith) (omega arith) three),
+      subst (IsRowRefusedAt (l.yielded ++ part ∷ [])) (sym c.in_err-shape.ensures.memory) (refused-short l.yielded part some.1 (omega arith) (omega arith) (omega (arith, some.0, three))),
     )
 
 pub loop-part-preserved-then-capacity-gt0 : goal.loop-part-preserved-then-capacity-gt0
@@ -50,7 +49,7 @@ loop-part-preserved-then-capacity-gt0 g c =
     record {
       sum = omega arith;
       shape = c.in_ok-shape.ensures.shape;
-      built = c.in_ok-shape.ensures.built l.invariant.built;
+      built = c.in_ok-shape.ensures.built;
       kept = c.in_ok-shape.ensures.parts ∙ ap (λ ps. kept_parts (ps ++ part ∷ [])) l.invariant.kept ∙ kept-more l.yielded part (omega arith);
     }
 

@@ -1,7 +1,7 @@
 use Rattle.std.proofs.Common.{◌≡◌, length, length-append, arith, ap, sym, ◌∙◌}
 use Rattle.iobufs_core.specs.MarkedText.{of_view}
 use Rattle.iobufs_core.specs.View.{View}
-use Rattle.iobufs.specs.Parts.{parts_capacity, parts_filled, parts_frozen}
+use Rattle.iobufs.specs.Parts.{parts_filled, parts_frozen}
 use Rattle.iobufs.proofs.Building.FinishLaws.{frozen-bytes}
 use Rattle.iobufs.proofs.Parts.Frozen.{frozen-whole}
 use Rattle.iobufs.proofs.Parts.OrderLaws.{capacity-order, filled-order, frozen-order}
@@ -13,7 +13,7 @@ loop-part-init c =
     let behind = c.self.invariant.behind in
     record {
       so_far = frozen-order s.row.items s.used behind ∙ ap parts_frozen c.self.view_is;
-      fits = omega (arith, capacity-order s.row.items s.used, ap parts_capacity c.self.view_is, c.requires);
+      fits = omega (arith, capacity-order s.row.items s.used, c.self.invariant.parts.fits);
       bytes = ap length (filled-order s.row.items s.used behind) ∙ sym c.self.invariant.sums.len_is;
     }
 

@@ -1,7 +1,8 @@
-use Rattle.std.proofs.Common.{ap, arith, ◌∙◌}
+use Rattle.std.proofs.Common.{◌≤◌, ap, arith, length, subst, sym, ◌∙◌}
 use Rattle.iobufs.specs.Inside.PartOrder.{in_order}
-use Rattle.iobufs.specs.Parts.{parts_fill, parts_spare}
+use Rattle.iobufs.specs.Parts.{IsParts, parts_fill, parts_spare}
 use Rattle.iobufs.proofs.Parts.OrderLaws.{kept-none}
+use Rattle.iobufs.proofs.Parts.PartLaws.{parts-fill}
 use Rattle.iobufs.proofs.Parts.SumLaws.{spare-summed, summed-fill}
 use Rattle.iobufs.proofs.bufs_mut.several.Several.put.Goals as goal
 
@@ -15,5 +16,7 @@ invariant_of-self c =
     let s = c.self.inside in
     let src = c.args.src.now in
     let filled = c.put.ensures ∙ ap (λ ps. parts_fill ps src) c.settle.ensures.ordered in
-    kept-none _ _ _ s.capacity c.settle.ensures.none
-    (summed-fill (in_order s.row.items s.used) _ src s.len s.capacity c.self.invariant.sums (omega (arith, ap parts_spare c.self.view_is, c.requires)) filled)
+    let all = in_order s.row.items s.used in
+    let some : length src ≤ parts_spare all = omega (arith, ap parts_spare c.self.view_is, c.requires) in
+    kept-none _ _ _ s.capacity c.settle.ensures.none (summed-fill all _ src s.len s.capacity c.self.invariant.sums some filled)
+    (subst IsParts (sym filled) (parts-fill all src c.self.invariant.parts))

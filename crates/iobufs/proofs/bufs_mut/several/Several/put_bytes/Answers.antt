@@ -1,8 +1,9 @@
-use Rattle.std.proofs.Common.{◌≡◌, ap, arith, length, replicate, ◌∙◌}
+use Rattle.std.proofs.Common.{◌≡◌, ap, arith, length, replicate, subst, sym, ◌∙◌}
 use Rattle.std.proofs.lemmas.List.{length-replicate}
 use Rattle.iobufs.specs.Inside.PartOrder.{in_order}
-use Rattle.iobufs.specs.Parts.{parts_fill, parts_spare}
+use Rattle.iobufs.specs.Parts.{IsParts, parts_fill, parts_spare}
 use Rattle.iobufs.proofs.Parts.OrderLaws.{kept-none}
+use Rattle.iobufs.proofs.Parts.PartLaws.{parts-fill}
 use Rattle.iobufs.proofs.Parts.SumLaws.{spare-summed, summed-fill}
 use Rattle.iobufs.proofs.bufs_mut.several.Several.put_bytes.Goals as goal
 
@@ -20,3 +21,4 @@ invariant_of-self c =
     let sums = summed-fill (in_order s.row.items s.used) _ w s.len s.capacity c.self.invariant.sums
     (omega (arith, ap parts_spare c.self.view_is, c.requires)) filled in
     kept-none _ _ _ s.capacity c.settle.ensures.none (rw (← long) sums)
+    (subst IsParts (sym filled) (parts-fill (in_order s.row.items s.used) w c.self.invariant.parts))

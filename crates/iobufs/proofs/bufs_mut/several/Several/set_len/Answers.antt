@@ -1,7 +1,8 @@
-use Rattle.std.proofs.Common.{ap, arith, ◌∙◌}
+use Rattle.std.proofs.Common.{◌≤◌, ap, arith, subst, sym, ◌∙◌}
 use Rattle.iobufs.specs.Inside.PartOrder.{in_order}
-use Rattle.iobufs.specs.Parts.{parts_capacity, parts_with_len}
+use Rattle.iobufs.specs.Parts.{IsParts, parts_capacity, parts_with_len}
 use Rattle.iobufs.proofs.Parts.OrderLaws.{kept-none}
+use Rattle.iobufs.proofs.Parts.PartLaws.{parts-with_len}
 use Rattle.iobufs.proofs.Parts.SumLaws.{summed-with_len}
 use Rattle.iobufs.proofs.bufs_mut.several.Several.set_len.Goals as goal
 
@@ -10,6 +11,7 @@ invariant_of-self c =
     let s = c.self.inside in
     let n = c.args.n in
     let with_len = c.set_len.ensures ∙ ap (λ ps. parts_with_len ps n) c.settle.ensures.ordered in
-    kept-none _ _ n s.capacity c.settle.ensures.none
-    (summed-with_len (in_order s.row.items s.used) _ n s.len s.capacity c.self.invariant.sums
-    (omega (arith, ap parts_capacity c.self.view_is, c.requires)) with_len)
+    let all = in_order s.row.items s.used in
+    let fits : n ≤ parts_capacity all = omega (arith, ap parts_capacity c.self.view_is, c.requires) in
+    kept-none _ _ n s.capacity c.settle.ensures.none (summed-with_len all _ n s.len s.capacity c.self.invariant.sums fits with_len)
+    (subst IsParts (sym with_len) (parts-with_len all n c.self.invariant.parts))

@@ -1,11 +1,11 @@
 use Rattle.std.proofs.Common.{◌-◌, deque_len}
 use Rattle.iobufs.specs.Inside.PartOrder.{in_order}
-use Rattle.iobufs.specs.Parts.{parts_shared_out, with_capacity}
+use Rattle.iobufs.specs.Parts.{parts_drained}
 use Rattle.iobufs.proofs.Parts.DrainTurns.{IsDraining}
-use Rattle.iobufs.proofs.bufs_mut.several.advance.Given as goal
+use Rattle.iobufs.proofs.bufs_mut.several.drain.Given as goal
 
 abbrev pub invariant-loop-rest : goal.invariant-loop-rest
-invariant-loop-rest l = IsDraining l.row.items l.behind l.rest (with_capacity (parts_shared_out (in_order l.fn.row.items l.fn.used) l.fn.n))
+invariant-loop-rest l = IsDraining l.row.items l.behind l.rest (parts_drained (in_order l.fn.row.items l.fn.used) l.fn.n)
 
 abbrev pub decreases-loop-rest : goal.decreases-loop-rest
 decreases-loop-rest l = deque_len l.row - l.behind
