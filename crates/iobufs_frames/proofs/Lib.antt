@@ -1,4 +1,3 @@
 pub mod FrameLaws
 pub mod MarkLaws
 pub mod PrefixLaws
-pub mod PrefixReadings

@@ -10,10 +10,10 @@ use Rattle.std.proofs.lemmas.List.Elements.{filter-append}
 use Rattle.std.proofs.lemmas.List.Sums.{fold-append}
 use Rattle.iobufs_core.specs.LengthFacts.{less}
 use Rattle.iobufs_core.specs.MarkedText.{MarkedText, default_text, has_cut_between, joined, key_upto, mark_at, mark_past, moved_down, of_view, taken_view, text_append, text_glue, text_len, text_rest, text_right}
-use Rattle.iobufs_core.specs.Spelling.{spell}
 use Rattle.iobufs_core.specs.View.{Mark, View, default_view, mark_after, native_mark, static_mark, bytes_mark}
-use Rattle.iobufs_core.specs.Wire.{view_written}
-use Rattle.iobufs_frames.specs.Frames.{IsBehindLength, IsTakenApart}
+use Rattle.iobufs_frames.specs.Frames.{IsBehindPrefix, IsTakenApartWith, frame_written}
+use Rattle.iobufs_frames.specs.Prefixes.{prefix_written}
+use Rattle.iobufs_frames.specs.declared.lengths.Prefix.{Prefix}
 
 -- ---- a text with a piece behind it, neither of them empty
 
@@ -235,30 +235,33 @@ longer t v = elim (less 0 (length v.bytes)) [
   ]
 ]
 
-behind-append : (t : MarkedText) (v body : View) → IsBehindLength t body → IsBehindLength (text_append t v) body
-behind-append t v body is =
-    let k = length (spell (length body.bytes)) in record {
+behind-append : (prefix : Prefix) (t : MarkedText) (v body : View) → IsBehindPrefix prefix t body → IsBehindPrefix prefix (text_append t v) body
+behind-append prefix t v body is =
+    let k = length (prefix_written prefix (length body.bytes)) in record {
       fits = omega (arith, is.fits, longer t v);
-      is = is.is ∙ sym (taken-append t v k (length body.bytes) (omega (arith, is.fits, length-append (spell (length body.bytes)) body.bytes)));
+      is = is.is ∙ sym (taken-append t v k (length body.bytes) (omega (arith, is.fits, length-append (prefix_written prefix (length body.bytes)) body.bytes)));
     }
 
 -- a piece behind a text stands behind what is left of it
-pub apart-append : (t : MarkedText) (bodies : List View) (rest : MarkedText) (v : View) → HasCutsInside t → IsTakenApart t bodies rest
-    → IsTakenApart (text_append t v) bodies (text_append rest v)
-apart-append t [] rest v inside is = ap (λ (x : MarkedText). text_append x v) is
-apart-append t (body ∷ bodies) rest v inside (here, behind) =
-    let k = length (view_written body) in (
-      behind-append t v body here,
-      subst (λ (x : MarkedText). IsTakenApart x bodies (text_append rest v)) (rest-append t v k here.fits inside)
-          (apart-append (text_rest t k) bodies rest v (inside-rest t k here.fits inside) behind),
+pub apart-append : (prefix : Prefix) (t : MarkedText) (bodies : List View) (rest : MarkedText) (v : View) → HasCutsInside t
+    → IsTakenApartWith prefix t bodies rest
+    → IsTakenApartWith prefix (text_append t v) bodies (text_append rest v)
+apart-append prefix t [] rest v inside is = ap (λ (x : MarkedText). text_append x v) is
+apart-append prefix t (body ∷ bodies) rest v inside (here, behind) =
+    let k = length (frame_written prefix body.bytes) in (
+      behind-append prefix t v body here,
+      subst (λ (x : MarkedText). IsTakenApartWith prefix x bodies (text_append rest v)) (rest-append t v k here.fits inside)
+          (apart-append prefix (text_rest t k) bodies rest v (inside-rest t k here.fits inside) behind),
     )
 
 -- one body more
-pub apart-more : (t : MarkedText) (bodies : List View) (rest : MarkedText) (body : View) → IsTakenApart t bodies rest → IsBehindLength rest body
-    → IsTakenApart t (bodies ++ body ∷ []) (text_rest rest (length (view_written body)))
-apart-more t [] rest body is here =
-    (subst (λ (x : MarkedText). IsBehindLength x body) is here, ap (λ (x : MarkedText). text_rest x (length (view_written body))) is)
-apart-more t (first ∷ bodies) rest body (one, behind) here = (one, apart-more (text_rest t (length (view_written first))) bodies rest body behind here)
+pub apart-more : (prefix : Prefix) (t : MarkedText) (bodies : List View) (rest : MarkedText) (body : View) → IsTakenApartWith prefix t bodies rest
+    → IsBehindPrefix prefix rest body
+    → IsTakenApartWith prefix t (bodies ++ body ∷ []) (text_rest rest (length (frame_written prefix body.bytes)))
+apart-more prefix t [] rest body is here =
+    (subst (λ (x : MarkedText). IsBehindPrefix prefix x body) is here, ap (λ (x : MarkedText). text_rest x (length (frame_written prefix body.bytes))) is)
+apart-more prefix t (first ∷ bodies) rest body (one, behind) here =
+    (one, apart-more prefix (text_rest t (length (frame_written prefix first.bytes))) bodies rest body behind here)
 
 -- the cuts of joined views lie inside
 inside-fold : (t : MarkedText) (views : List View) → HasCutsInside t → HasCutsInside (fold text_append t views)
@@ -272,35 +275,39 @@ joined-push : (views : List View) (v : View) → joined (views ++ v ∷ []) ≡ 
 joined-push views v = fold-append text_append default_text views (v ∷ [])
 
 -- a piece that is fed stands behind what was left of those before it
-pub fed_marks : (views bodies : List View) (piece : View) (rest new : MarkedText) → new ≡ text_append rest piece → IsTakenApart (joined views) bodies rest
-    → IsTakenApart (joined (views ++ piece ∷ [])) bodies new
-fed_marks views bodies piece rest new is apart =
-    subst (λ (x : MarkedText). IsTakenApart x bodies new) (sym (joined-push views piece))
-    (subst (IsTakenApart (text_append (joined views) piece) bodies) (sym is) (apart-append (joined views) bodies rest piece (inside-joined views) apart))
+pub fed_marks : (prefix : Prefix) (views bodies : List View) (piece : View) (rest new : MarkedText) → new ≡ text_append rest piece
+    → IsTakenApartWith prefix (joined views) bodies rest
+    → IsTakenApartWith prefix (joined (views ++ piece ∷ [])) bodies new
+fed_marks prefix views bodies piece rest new is apart =
+    subst (λ (x : MarkedText). IsTakenApartWith prefix x bodies new) (sym (joined-push views piece))
+    (subst (IsTakenApartWith prefix (text_append (joined views) piece) bodies) (sym is)
+    (apart-append prefix (joined views) bodies rest piece (inside-joined views) apart))
 
 -- and the frames that it makes whole too
-pub fed_on : {Value Refusal : Type 0} (bodies more : List View) (piece : View) (old fed_to new : MarkedText) (result : Result Value Refusal)
+pub fed_on : {Value Refusal : Type 0} (prefix : Prefix) (bodies more : List View) (piece : View) (old fed_to new : MarkedText) (result : Result Value Refusal)
     → fed_to ≡ text_append old piece
-    → OnOk result ((text : MarkedText) → IsTakenApart text bodies fed_to → IsTakenApart text more new)
-    → OnOk result ((fed : List View) → IsTakenApart (joined fed) bodies old → IsTakenApart (joined (fed ++ piece ∷ [])) more new)
-fed_on bodies more piece old fed_to new (Ok value) is moves = λ fed apart.
-    moves (joined (fed ++ piece ∷ [])) (fed_marks fed bodies piece old fed_to is apart)
-fed_on bodies more piece old fed_to new (Err refusal) is moves = tt
+    → OnOk result ((text : MarkedText) → IsTakenApartWith prefix text bodies fed_to → IsTakenApartWith prefix text more new)
+    → OnOk result ((fed : List View) → IsTakenApartWith prefix (joined fed) bodies old → IsTakenApartWith prefix (joined (fed ++ piece ∷ [])) more new)
+fed_on prefix bodies more piece old fed_to new (Ok value) is moves = λ fed apart.
+    moves (joined (fed ++ piece ∷ [])) (fed_marks prefix fed bodies piece old fed_to is apart)
+fed_on prefix bodies more piece old fed_to new (Err refusal) is moves = tt
 
-moved_body : (old new : MarkedText) (body : View) (views more : List View) → IsBehindLength old body → new ≡ text_rest old (length (view_written body))
-    → more ≡ views ++ body ∷ [] → (text : MarkedText) → IsTakenApart text views old → IsTakenApart text more new
-moved_body old new body views more here left listed text apart =
-    subst (λ (vs : List View). IsTakenApart text vs new) (sym listed)
-    (subst (IsTakenApart text (views ++ body ∷ [])) (sym left) (apart-more text views old body apart here))
+moved_body : (prefix : Prefix) (old new : MarkedText) (body : View) (views more : List View) → IsBehindPrefix prefix old body
+    → new ≡ text_rest old (length (frame_written prefix body.bytes))
+    → more ≡ views ++ body ∷ [] → (text : MarkedText) → IsTakenApartWith prefix text views old → IsTakenApartWith prefix text more new
+moved_body prefix old new body views more here left listed text apart =
+    subst (λ (vs : List View). IsTakenApartWith prefix text vs new) (sym listed)
+    (subst (IsTakenApartWith prefix text (views ++ body ∷ [])) (sym left) (apart-more prefix text views old body apart here))
 
 -- a frame that is taken is one body more, and leaves what is behind it
-pub moved_marks : (old new : MarkedText) (body : View) (found : Option View) (views more : List View) → found ≡ Some body
-    → IfSome found (λ b. IsBehindLength old b) → IfSome found (λ b. new ≡ text_rest old (length (view_written b))) → more ≡ views ++ body ∷ []
-    → (text : MarkedText) → IsTakenApart text views old → IsTakenApart text more new
-moved_marks old new body found views more is here left listed =
-    moved_body old new body views more (subst (λ (o : Option View). IfSome o (λ b. IsBehindLength old b)) is here)
-    (subst (λ (o : Option View). IfSome o (λ b. new ≡ text_rest old (length (view_written b)))) is left) listed
+pub moved_marks : (prefix : Prefix) (old new : MarkedText) (body : View) (found : Option View) (views more : List View) → found ≡ Some body
+    → IfSome found (λ b. IsBehindPrefix prefix old b) → IfSome found (λ b. new ≡ text_rest old (length (frame_written prefix b.bytes)))
+    → more ≡ views ++ body ∷ []
+    → (text : MarkedText) → IsTakenApartWith prefix text views old → IsTakenApartWith prefix text more new
+moved_marks prefix old new body found views more is here left listed =
+    moved_body prefix old new body views more (subst (λ (o : Option View). IfSome o (λ b. IsBehindPrefix prefix old b)) is here)
+    (subst (λ (o : Option View). IfSome o (λ b. new ≡ text_rest old (length (frame_written prefix b.bytes)))) is left) listed
 
 -- before anything was fed nothing was taken
-pub started : (views : List View) (rest : MarkedText) → views ≡ [] → rest ≡ default_text → IsTakenApart (joined []) views rest
-started views rest none empty = subst (λ (vs : List View). IsTakenApart (joined []) vs rest) (sym none) empty
+pub started : (prefix : Prefix) (views : List View) (rest : MarkedText) → views ≡ [] → rest ≡ default_text → IsTakenApartWith prefix (joined []) views rest
+started prefix views rest none empty = subst (λ (vs : List View). IsTakenApartWith prefix (joined []) vs rest) (sym none) empty

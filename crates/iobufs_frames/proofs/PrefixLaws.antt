@@ -1,55 +1,21 @@
 -- Frames behind lengths that are written in one of several ways.
-use Rattle.std.proofs.Common.{◌≡◌, ℕ, ◌+◌, ◌-◌, ◌<◌, ◌≤◌, true, List, ◌++◌, length, take, drop, refl, ap, sym, ◌∙◌, arith, append_assoc, drop-drop, length-append, length-take, take-append-drop}
+use Rattle.std.proofs.Common.{◌≡◌, ℕ, ◌+◌, ◌-◌, ◌<◌, ◌≤◌, true, List, ◌++◌, length, take, drop, refl, ap, sym, ◌∙◌, arith, append_assoc, drop-drop, length-append, take-append-drop}
 use Rattle.std.proofs.lemmas.Bool.Decides.{nat_tests}
 use Rattle.std.proofs.lemmas.Grind.{common_steps}
 use Rattle.std.proofs.lemmas.List.{append-nil, nil_from_length}
-use Rattle.std.proofs.lemmas.Nat.{from_le_bytes-to_le_bytes_2, from_le_bytes-to_le_bytes_4, from_le_bytes-to_le_bytes_8}
-use Rattle.std.specs.Int.{w16, w32, w64, from_le_bytes}
 use Rattle.iobufs_core.specs.CallerFacts.{bytes-rest}
 use Rattle.iobufs_core.specs.MarkedText.{MarkedText, taken_view, text_glue, text_len, text_prepend, text_rest}
-use Rattle.iobufs_core.specs.NumberLaws.{form_16, form_32, form_64}
 use Rattle.iobufs_core.specs.Ranges.{in_range}
 use Rattle.iobufs_core.specs.ReadBytes.{bytes-taken_view, length-taken_view}
-use Rattle.iobufs_core.specs.ReadLaws.{IsNumberForm}
 use Rattle.iobufs_core.specs.View.{View}
 use Rattle.iobufs_core.specs.declared.codec.base.RangeCfg.{RangeCfg}
-use Rattle.iobufs_frames.specs.Prefixes.{CanFollow, HasBodyBytes, HasNoLengthAt, IsBehindPrefix, IsLengthAt, frame_written, prefix_written, width_size}
+use Rattle.iobufs_frames.specs.Frames.{CanFollow, HasBodyBytes, IsBehindPrefix, frame_written}
+use Rattle.iobufs_frames.specs.PrefixFacts.{form_of, length-there}
+use Rattle.iobufs_frames.specs.Prefixes.{IsLengthAt, prefix_written, width_size}
 use Rattle.iobufs_frames.specs.declared.lengths.ByteOrder.{ByteOrder}
-use Rattle.iobufs_frames.specs.declared.lengths.ByteOrder.TheVariants.{Big, Little}
 use Rattle.iobufs_frames.specs.declared.lengths.Prefix.{Prefix}
 use Rattle.iobufs_frames.specs.declared.lengths.Prefix.TheVariants.{Fixed}
 use Rattle.iobufs_frames.specs.declared.lengths.Width.{Width}
-use Rattle.iobufs_frames.specs.declared.lengths.Width.TheVariants.{U16, U32, U64}
-
--- numbers of one size are written in so many bytes, and no two alike
-pub form_of : (width : Width) (order : ByteOrder) → IsNumberForm (prefix_written (Fixed width order)) (width_size width)
-form_of U16 Big = form_16
-form_of U32 Big = form_32
-form_of U64 Big = form_64
-form_of U16 Little = record {
-  long = λ n. refl;
-  one = λ m n p q e. sym (from_le_bytes-to_le_bytes_2 m p) ∙ ap (from_le_bytes w16) e ∙ from_le_bytes-to_le_bytes_2 n q;
-}
-form_of U32 Little = record {
-  long = λ n. refl;
-  one = λ m n p q e. sym (from_le_bytes-to_le_bytes_4 m p) ∙ ap (from_le_bytes w32) e ∙ from_le_bytes-to_le_bytes_4 n q;
-}
-form_of U64 Little = record {
-  long = λ n. refl;
-  one = λ m n p q e. sym (from_le_bytes-to_le_bytes_8 m p) ∙ ap (from_le_bytes w64) e ∙ from_le_bytes-to_le_bytes_8 n q;
-}
-
--- a length stands in front only where its bytes are there
-pub length-there : (prefix : Prefix) (bytes : List ℕ) (n : ℕ) → IsLengthAt prefix bytes n → length (prefix_written prefix n) ≤ length bytes
-length-there prefix bytes n (small, is) =
-    let k = length (prefix_written prefix n) in
-    omega (arith, length-take k bytes, ap length is)
-
--- where there are fewer bytes than a number has, none stands
-pub too_few : (width : Width) (order : ByteOrder) (bytes : List ℕ) → length bytes < width_size width → HasNoLengthAt (Fixed width order) bytes
-too_few width order bytes few n at =
-    let there = length-there (Fixed width order) bytes n at in
-    absurd (omega (arith, few, there, (form_of width order).long n))
 
 -- a view of n bytes stands behind its length in front of a text
 pub record IsThereWith (prefix : Prefix) (text : MarkedText) (n : ℕ) (view : View) : Type 0 where

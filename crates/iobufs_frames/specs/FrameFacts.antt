@@ -1,138 +1,185 @@
 -- Facts about frames, for callers.
---     begins_open,     a beginning of a frame may go on, and what can't be one stays so with more bytes behind
---     stays_bad
 --     one_end          no frame stands in front for one reason alone
 --     stands           a frame stands in front of its bytes: that none does is false
 --     none_in_front    a text in front of which no frame stands has none
 --     first_is         a frame in front is the first of the text's
-use Rattle.std.proofs.Common.{◌≡◌, ◌⊎◌, inl, inr, ℕ, ◌+◌, ◌^◌, ◌<◌, ◌≤◌, List, [], ◌∷◌, ◌++◌, length, ap, sym, subst, ◌∙◌, refl, arith, append_assoc, length-append}
-use Rattle.iobufs_core.specs.CallerFacts.{one_front}
-use Rattle.iobufs_core.specs.LengthFacts.{begun_open, no_length_later, spelled_later, still_closed}
-use Rattle.iobufs_core.specs.ReadLaws.{IsOutside, not_both, one_outside}
-use Rattle.iobufs_core.specs.Spelled.{spelled_as_one, spelled_before}
-use Rattle.iobufs_core.specs.Spelling.{spell, IsSpelledAt, HasNoLength, IsOpen}
-use Rattle.iobufs_core.specs.Wire.{bytes_written}
+--     begins_open,     a beginning of a frame may go on, as nothing may, and what can't be one stays so with more bytes
+--     nothing_is_open, behind
+--     stays_bad
+use Rattle.std.proofs.Common.{◌≡◌, ◌⊎◌, inl, inr, ℕ, ◌+◌, true, false, List, [], ◌∷◌, ◌++◌, length, ap, sym, subst, ◌∙◌, refl, arith, append_assoc, length-append}
+use Rattle.std.proofs.lemmas.Bool.{false≢true}
+use Rattle.iobufs_core.specs.LengthFacts.{begun_open, less, no_length_later, still_closed}
+use Rattle.iobufs_core.specs.Ranges.{in_range}
+use Rattle.iobufs_core.specs.Spelled.{none_high}
 use Rattle.iobufs_core.specs.declared.codec.base.Error.{Error}
 use Rattle.iobufs_core.specs.declared.codec.base.Error.TheVariants.{EndOfBuffer, InvalidVarint, InvalidLength, Memory, BadLayout, TooLong}
 use Rattle.iobufs_core.specs.declared.codec.base.RangeCfg.{RangeCfg}
-use Rattle.iobufs_frames.specs.Frames.{BadStaysBad, BeginningsAreOpen, FirstTaken, HasNoFrame, IsAdmitted, IsFramed, frames_written}
+use Rattle.iobufs_frames.specs.Frames.{BadStaysBadWith, BeginningsAreOpenWith, CanFollow, FirstTakenWith, IsFramedWith, LacksFrame, all_written, frame_written}
+use Rattle.iobufs_frames.specs.PrefixFacts.{form_of, length-before, length-in_front, length-later, length-sooner, one_front, one_length, too_few}
+use Rattle.iobufs_frames.specs.Prefixes.{HasNoLengthAt, IsLengthAt, IsOpenAt, prefix_written, width_size}
 use Rattle.iobufs_frames.specs.declared.End.{End}
 use Rattle.iobufs_frames.specs.declared.End.TheVariants.{Open, Bad}
-
-pub begins_open : BeginningsAreOpen
-begins_open range body front back admitted whole some = begun_open range body front back admitted.small admitted.inside whole some
-
-pub stays_bad : BadStaysBad
-stays_bad range bytes more EndOfBuffer h = absurd h
-stays_bad range bytes more InvalidVarint h = (no_length_later bytes more h.0 h.1, still_closed bytes more h.1)
-stays_bad range bytes more (InvalidLength n) h = (spelled_later bytes more n h.0, h.1)
-stays_bad range bytes more Memory h = absurd h
-stays_bad range bytes more BadLayout h = absurd h
-stays_bad range bytes more TooLong h = absurd h
+use Rattle.iobufs_frames.specs.declared.lengths.Prefix.{Prefix}
+use Rattle.iobufs_frames.specs.declared.lengths.Prefix.TheVariants.{Spelled, Fixed}
+use Rattle.iobufs_frames.specs.declared.lengths.Width.TheVariants.{U16, U32, U64}
 
 -- ---- why no frame stands in front
 
--- no length is spelled in front, nor may one have begun
-record IsUnspelled (bytes : List ℕ) (error : Error) : Type 0 where
+-- no length stands in front, nor may one have begun
+record IsNone (prefix : Prefix) (bytes : List ℕ) (error : Error) : Type 0 where
   told : error ≡ InvalidVarint
-  never : HasNoLength bytes
-  closed : IsOpen bytes → ⊥
+  never : HasNoLengthAt prefix bytes
+  closed : IsOpenAt prefix bytes → ⊥
 
--- the front is bad
-IsBad : RangeCfg → List ℕ → Error → Type 0
-IsBad range bytes error = IsUnspelled bytes error ⊎ IsOutside bytes range error
+-- a length outside the range does
+record IsOut (prefix : Prefix) (range : RangeCfg) (bytes : List ℕ) (error : Error) : Type 0 where
+  n : ℕ
+  told : error ≡ InvalidLength n
+  at : IsLengthAt prefix bytes n
+  outside : in_range range n ≡ false
 
-bad : (range : RangeCfg) (bytes : List ℕ) (error : Error) → HasNoFrame range bytes (Bad error) → IsBad range bytes error
+IsBad : Prefix → RangeCfg → List ℕ → Error → Type 0
+IsBad prefix range bytes error = IsNone prefix bytes error ⊎ IsOut prefix range bytes error
+
+bad : (prefix : Prefix) (range : RangeCfg) (bytes : List ℕ) (error : Error) → LacksFrame prefix range bytes (Bad error) → IsBad prefix range bytes error
 unfolding IsBad
-bad range bytes EndOfBuffer h = absurd h
-bad range bytes InvalidVarint h = inl (record { told = refl; never = h.0; closed = h.1 })
-bad range bytes (InvalidLength n) h = inr (record { n = n; told = refl; at = h.0; outside = h.1 })
-bad range bytes Memory h = absurd h
-bad range bytes BadLayout h = absurd h
-bad range bytes TooLong h = absurd h
+bad prefix range bytes EndOfBuffer h = absurd h
+bad prefix range bytes InvalidVarint h = inl (record { told = refl; never = h.0; closed = h.1 })
+bad prefix range bytes (InvalidLength n) h = inr (record { n = n; told = refl; at = h.0; outside = h.1 })
+bad prefix range bytes Memory h = absurd h
+bad prefix range bytes BadLayout h = absurd h
+bad prefix range bytes TooLong h = absurd h
 
--- open and bad are two
-open_or_bad : (range : RangeCfg) (bytes : List ℕ) (error : Error) → HasNoFrame range bytes Open → HasNoFrame range bytes (Bad error) → ⊥
+-- a length in the range isn't outside it
+in_and_out : (prefix : Prefix) (range : RangeCfg) (bytes : List ℕ) (n : ℕ) (error : Error) → IsLengthAt prefix bytes n → in_range range n ≡ true
+    → IsOut prefix range bytes error → ⊥
+in_and_out prefix range bytes n error at inside out =
+    false≢true (sym out.outside ∙ ap (in_range range) (one_length prefix bytes out.n n out.at at) ∙ inside)
+
+open_or_bad : (prefix : Prefix) (range : RangeCfg) (bytes : List ℕ) (error : Error) → LacksFrame prefix range bytes Open
+    → LacksFrame prefix range bytes (Bad error) → ⊥
 unfolding IsBad
-open_or_bad range bytes error p q =
-    elim (bad range bytes error q) [
+open_or_bad prefix range bytes error p q =
+    elim (bad prefix range bytes error q) [
       | inl none ↦ elim p [ inl opened ↦ none.closed opened.1 | inr (n, (at, inside), few) ↦ none.never n at ]
       | inr out ↦ elim p [
         | inl opened ↦ opened.0 out.n out.at
-        | inr (n, (at, inside), few) ↦ not_both bytes range n error at inside out
+        | inr (n, (at, inside), few) ↦ in_and_out prefix range bytes n error at inside out
       ]
     ]
 
-one_bad : (range : RangeCfg) (bytes : List ℕ) (a b : Error) → HasNoFrame range bytes (Bad a) → HasNoFrame range bytes (Bad b) → a ≡ b
+one_bad : (prefix : Prefix) (range : RangeCfg) (bytes : List ℕ) (a b : Error) → LacksFrame prefix range bytes (Bad a)
+    → LacksFrame prefix range bytes (Bad b) → a ≡ b
 unfolding IsBad
-one_bad range bytes a b p q =
-    elim (bad range bytes a p) [
-      | inl none ↦ elim (bad range bytes b q) [ inl nor ↦ none.told ∙ sym nor.told | inr out ↦ absurd (none.never out.n out.at) ]
-      | inr out ↦ elim (bad range bytes b q) [
+one_bad prefix range bytes a b p q =
+    elim (bad prefix range bytes a p) [
+      | inl none ↦ elim (bad prefix range bytes b q) [ inl nor ↦ none.told ∙ sym nor.told | inr out ↦ absurd (none.never out.n out.at) ]
+      | inr out ↦ elim (bad prefix range bytes b q) [
         | inl none ↦ absurd (none.never out.n out.at)
-        | inr too ↦ one_outside bytes range a b out too
+        | inr too ↦ out.told ∙ ap InvalidLength (one_length prefix bytes out.n too.n out.at too.at) ∙ sym too.told
       ]
     ]
 
-pub one_end : (range : RangeCfg) (bytes : List ℕ) (a b : End) → HasNoFrame range bytes a → HasNoFrame range bytes b → a ≡ b
-one_end range bytes Open Open p q = refl
-one_end range bytes Open (Bad b) p q = absurd (open_or_bad range bytes b p q)
-one_end range bytes (Bad a) Open p q = absurd (open_or_bad range bytes a q p)
-one_end range bytes (Bad a) (Bad b) p q = ap Bad (one_bad range bytes a b p q)
+-- no frame stands in front for one reason alone
+pub one_end : (prefix : Prefix) (range : RangeCfg) (bytes : List ℕ) (a b : End) → LacksFrame prefix range bytes a → LacksFrame prefix range bytes b → a ≡ b
+one_end prefix range bytes Open Open p q = refl
+one_end prefix range bytes Open (Bad b) p q = absurd (open_or_bad prefix range bytes b p q)
+one_end prefix range bytes (Bad a) Open p q = absurd (open_or_bad prefix range bytes a q p)
+one_end prefix range bytes (Bad a) (Bad b) p q = ap Bad (one_bad prefix range bytes a b p q)
 
--- ---- a frame in front
-
--- its length is spelled there, and there are its bytes
-spelled_in_front : (body more : List ℕ) → length body < 2 ^ 64 → IsSpelledAt (bytes_written body ++ more) (length body)
-spelled_in_front body more small =
-    subst (λ (xs : List ℕ). IsSpelledAt xs (length body)) (sym (append_assoc (spell (length body)) body more))
-    (spelled_before (length body) (body ++ more) small)
-
-length-in_front : (body more : List ℕ) → length (spell (length body)) + length body ≤ length (bytes_written body ++ more)
-length-in_front body more = omega (arith, length-append (bytes_written body) more, length-append (spell (length body)) body)
-
--- it is there, so that none stands there is false
-pub stands : (range : RangeCfg) (body more : List ℕ) (end : End) → IsAdmitted range body → HasNoFrame range (bytes_written body ++ more) end → ⊥
+-- a frame stands in front of its bytes: that none does is false
+pub stands : (prefix : Prefix) (range : RangeCfg) (body more : List ℕ) (end : End) → CanFollow prefix range body
+    → LacksFrame prefix range (frame_written prefix body ++ more) end → ⊥
 unfolding IsBad
-stands range body more Open admitted h =
-    let spelled = spelled_in_front body more admitted.small in
+stands prefix range body more Open admitted h =
+    let w = prefix_written prefix in
+    let here = length-in_front prefix body more admitted.small in
+    let whole = length-append (frame_written prefix body) more in
+    let front = length-append (w (length body)) body in
     elim h [
-      | inl opened ↦ opened.0 (length body) spelled
+      | inl opened ↦ opened.0 (length body) here
       | inr (n, (at, inside), few) ↦
-          let same : n ≡ length body = spelled_as_one (bytes_written body ++ more) n (length body) at spelled in
-          let sum : length (spell n) + n ≡ length (spell (length body)) + length body = ap (λ k. length (spell k) + k) same in
-          absurd (omega (arith, few, sum, length-in_front body more))
+          let same : n ≡ length body = one_length prefix (frame_written prefix body ++ more) n (length body) at here in
+          let sum : length (w n) + n ≡ length (w (length body)) + length body = ap (λ k. length (w k) + k) same in
+          absurd (omega (arith, few, sum, whole, front))
     ]
-stands range body more (Bad error) admitted h =
-    let spelled = spelled_in_front body more admitted.small in
-    elim (bad range (bytes_written body ++ more) error h) [
-      | inl none ↦ none.never (length body) spelled
-      | inr out ↦ not_both (bytes_written body ++ more) range (length body) error spelled admitted.inside out
+stands prefix range body more (Bad error) admitted h =
+    let here = length-in_front prefix body more admitted.small in
+    elim (bad prefix range (frame_written prefix body ++ more) error h) [
+      | inl none ↦ none.never (length body) here
+      | inr out ↦ in_and_out prefix range (frame_written prefix body ++ more) (length body) error here admitted.inside out
     ]
 
 -- ---- the frames of a text, and what stands in front
 
 -- a text without a frame in front has none
-pub none_in_front : (range : RangeCfg) (old : List ℕ) (end now : End) (frames : List (List ℕ)) (rest : List ℕ) → HasNoFrame range old now
-    → IsFramed range old frames end rest → (frames ≡ []) × (end ≡ now)
-none_in_front range old end now [] rest h is =
-    (refl, one_end range rest end now is.ends (subst (λ (xs : List ℕ). HasNoFrame range xs now) is.whole h))
-none_in_front range old end now (f ∷ fs) rest h is =
-    let front : old ≡ bytes_written f ++ (frames_written fs ++ rest) = is.whole ∙ append_assoc (bytes_written f) (frames_written fs) rest in
+pub none_in_front : (prefix : Prefix) (range : RangeCfg) (old : List ℕ) (end now : End) (frames : List (List ℕ)) (rest : List ℕ)
+    → LacksFrame prefix range old now → IsFramedWith prefix range old frames end rest → (frames ≡ []) × (end ≡ now)
+none_in_front prefix range old end now [] rest h is =
+    (refl, one_end prefix range rest end now is.ends (subst (λ (xs : List ℕ). LacksFrame prefix range xs now) is.whole h))
+none_in_front prefix range old end now (f ∷ fs) rest h is =
+    let front : old ≡ frame_written prefix f ++ (all_written prefix fs ++ rest) =
+    is.whole ∙ append_assoc (frame_written prefix f) (all_written prefix fs) rest in
     let (admitted, others) = is.admitted in
-    absurd (stands range f (frames_written fs ++ rest) now admitted (subst (λ (xs : List ℕ). HasNoFrame range xs now) front h))
+    absurd (stands prefix range f (all_written prefix fs ++ rest) now admitted (subst (λ (xs : List ℕ). LacksFrame prefix range xs now) front h))
 
 -- a frame in front is the first
-pub first_is : (range : RangeCfg) (old new body : List ℕ) (end : End) (frames : List (List ℕ)) (rest : List ℕ)
-    → IsAdmitted range body → old ≡ bytes_written body ++ new
-    → IsFramed range old frames end rest → FirstTaken range frames end rest body new
-first_is range old new body end [] rest admitted e is =
-    absurd (stands range body new end admitted (subst (λ (xs : List ℕ). HasNoFrame range xs end) (sym is.whole ∙ e) is.ends))
-first_is range old new body end (f ∷ fs) rest admitted e is =
+pub first_is : (prefix : Prefix) (range : RangeCfg) (old new body : List ℕ) (end : End) (frames : List (List ℕ)) (rest : List ℕ)
+    → CanFollow prefix range body → old ≡ frame_written prefix body ++ new → IsFramedWith prefix range old frames end rest
+    → FirstTakenWith prefix range frames end rest body new
+first_is prefix range old new body end [] rest admitted e is =
+    absurd (stands prefix range body new end admitted (subst (λ (xs : List ℕ). LacksFrame prefix range xs end) (sym is.whole ∙ e) is.ends))
+first_is prefix range old new body end (f ∷ fs) rest admitted e is =
     let (first, others) = is.admitted in
-    let whole : old ≡ bytes_written f ++ (frames_written fs ++ rest) = is.whole ∙ append_assoc (bytes_written f) (frames_written fs) rest in
-    let (same, behind) = one_front body f new (frames_written fs ++ rest) admitted.small first.small (sym e ∙ whole) in record {
+    let whole : old ≡ frame_written prefix f ++ (all_written prefix fs ++ rest) =
+    is.whole ∙ append_assoc (frame_written prefix f) (all_written prefix fs) rest in
+    let (same, behind) = one_front prefix body f new (all_written prefix fs ++ rest) admitted.small first.small (sym e ∙ whole) in record {
       others = fs;
       first = ap (λ first. first ∷ fs) (sym same);
       behind = record { whole = behind; admitted = others; ends = is.ends };
     }
+
+-- ---- beginnings, and what is bad
+
+-- a beginning of a frame is open
+pub begins_open : (prefix : Prefix) → BeginningsAreOpenWith prefix
+begins_open Spelled range body front back admitted whole some =
+    begun_open range body front back admitted.small admitted.inside whole some
+begins_open (Fixed width order) range body front back admitted whole some =
+    let prefix = Fixed width order in
+    let n = length body in
+    let long = (form_of width order).long n in
+    let sum = length-append front back in
+    let parts = length-append (prefix_written prefix n) body in
+    elim (less (length front) (width_size width)) [
+      | inl few ↦ inl (too_few width order front few, few)
+      | inr enough ↦
+          let at : IsLengthAt prefix (front ++ back) n =
+          subst (λ (xs : List ℕ). IsLengthAt prefix xs n) whole (length-before prefix n body admitted.small) in
+          inr (n, (length-sooner prefix front back n (omega (arith, enough, long)) at, admitted.inside), omega (arith, some, sum, parts, ap length whole))
+    ]
+
+-- what is bad stays so whatever follows
+pub stays_bad : (prefix : Prefix) → BadStaysBadWith prefix
+stays_bad Spelled range bytes more EndOfBuffer h = absurd h
+stays_bad Spelled range bytes more InvalidVarint h = (no_length_later bytes more h.0 h.1, still_closed bytes more h.1)
+stays_bad (Fixed width order) range bytes more EndOfBuffer h = absurd h
+stays_bad (Fixed width order) range bytes more InvalidVarint h =
+    let prefix = Fixed width order in (
+      λ n at. elim (less (length bytes) (width_size width)) [
+        | inl few ↦ h.1 few
+        | inr enough ↦ h.0 n (length-sooner prefix bytes more n (omega (arith, enough, (form_of width order).long n)) at)
+      ],
+      λ few. h.1 (omega (arith, few, length-append bytes more)),
+    )
+stays_bad prefix range bytes more (InvalidLength n) h = (length-later prefix bytes more n h.0, h.1)
+stays_bad prefix range bytes more Memory h = absurd h
+stays_bad prefix range bytes more BadLayout h = absurd h
+stays_bad prefix range bytes more TooLong h = absurd h
+
+-- nothing may go on
+pub nothing_is_open : (prefix : Prefix) (range : RangeCfg) → LacksFrame prefix range [] Open
+nothing_is_open Spelled range = inl (none_high [] tt, (omega arith, tt))
+nothing_is_open (Fixed U16 order) range = inl (too_few U16 order [] (omega arith), omega arith)
+nothing_is_open (Fixed U32 order) range = inl (too_few U32 order [] (omega arith), omega arith)
+nothing_is_open (Fixed U64 order) range = inl (too_few U64 order [] (omega arith), omega arith)

@@ -1,82 +1,98 @@
--- The frames of a text. A frame is its length as it is spelled, and behind it so many bytes, its body.
---     frames_written              frames, one behind the other
---     bodies, joined_bytes        the bytes of bodies that are views: each by itself, and all in one
---     IsBehindLength,             a body is the view behind its length in front of a text, with its mark; and several
---     IsTakenApart                are so, each in what those before it left
---     IsAdmitted, AreAdmitted     the length of a body is in the range, and of each
---     HasNoFrame                  no whole frame stands in front, and why: more bytes may complete it, or none can
---     HasBytes                    a whole frame with bytes stands in front
---     IsFramed, HasFrames         a text is these frames and a rest in front of which none stands; and it has such
---                                 frames
---     IsNext, found_of            what taking one frame answers and leaves; the answer told by that of reading a view
---     IsFirst, FirstTaken,        the same told by the frames of the text: the first went, or has bytes that found no
---     BeginsWithBytes             memory
---     AreMoved                    frames went over from the front of a text to the end of a list
---     AreAlike, HaveOneReading    two readings of a text are the same; and so are any two
---     BeginningsAreOpen,          a beginning of a frame may go on; what can't be a frame stays so whatever follows
---     BadStaysBad
-use Rattle.std.specs.Prelude.{◌≡◌, ◌⊎◌, ℕ, ◌+◌, ◌^◌, ◌<◌, ◌≤◌, true, Option, None, Some, Result, Ok, Err, List, [], ◌∷◌, ◌++◌, map, flat_map, length}
+-- The frames of a text. A frame is its length, as a prefix says it is written, and behind it so many bytes, its body. What
+-- ends in `With` is said of any prefix, and the same name without it is that of spelled lengths.
+--     frame_written, all_written   a body behind its length; and several, one behind the other
+--     bodies, joined_bytes         the bytes of bodies that are views: each by itself, and all in one
+--     IsBehindPrefix,              a body is the view behind its length in front of a text, with its mark; and several
+--     IsTakenApartWith             are so, each in what those before it left
+--     CanFollow, CanAllFollow      the length of a body can be written, and is in the range; and of each
+--     LacksFrame                   no whole frame stands in front, and why: more bytes may complete it, or none can
+--     HasBodyBytes                 a whole frame with bytes stands in front
+--     IsFramedWith, HasFramesWith  a text is these frames and a rest in front of which none stands; and it has such
+--                                  frames
+--     IsNextWith, found_of         what taking one frame answers and leaves; the answer told by that of reading a view
+--     IsFirstWith, FirstTakenWith, the same told by the frames of the text: the first went, or has bytes that found no
+--     BeginsWithBytes              memory
+--     AreMoved                     frames went over from the front of a text to the end of a list
+--     AreAlike, HaveOneReadingWith two readings of a text are the same; and so are any two
+--     BeginningsAreOpenWith,       a beginning of a frame may go on; what can't be a frame stays so whatever follows
+--     BadStaysBadWith
+-- and of spelled lengths
+--     HasNoFrame, HasBytes, IsFramed, HasFrames, IsBehindLength, IsTakenApart, IsNext, IsFirst, HaveOneReading,
+--     BeginningsAreOpen, BadStaysBad
+use Rattle.std.specs.Prelude.{◌≡◌, ◌⊎◌, ℕ, ◌+◌, ◌<◌, ◌≤◌, true, false, Option, None, Some, Result, Ok, Err, List, [], ◌∷◌, ◌++◌, map, flat_map, length}
 use Rattle.iobufs_core.specs.Ranges.{in_range}
-use Rattle.iobufs_core.specs.Spelling.{spell}
 use Rattle.iobufs_core.specs.MarkedText.{MarkedText, taken_view, text_len, text_rest}
 use Rattle.iobufs_core.specs.View.{View}
-use Rattle.iobufs_core.specs.Wire.{IsLengthRead, bytes_written, view_written}
 use Rattle.iobufs_core.specs.declared.codec.base.Error.{Error}
-use Rattle.iobufs_core.specs.declared.codec.base.Error.TheVariants.{EndOfBuffer, Memory}
+use Rattle.iobufs_core.specs.declared.codec.base.Error.TheVariants.{EndOfBuffer, InvalidVarint, InvalidLength, Memory}
 use Rattle.iobufs_core.specs.declared.codec.base.RangeCfg.{RangeCfg}
+use Rattle.iobufs_frames.specs.Prefixes.{HasNoLengthAt, IsLengthAt, IsOpenAt, prefix_limit, prefix_written}
 use Rattle.iobufs_frames.specs.declared.End.{End}
 use Rattle.iobufs_frames.specs.declared.End.TheVariants.{Open, Bad}
+use Rattle.iobufs_frames.specs.declared.lengths.Prefix.{Prefix}
+use Rattle.iobufs_frames.specs.declared.lengths.Prefix.TheVariants.{Spelled}
+
+-- a body behind its length
+abbrev pub frame_written : Prefix → List ℕ → List ℕ
+frame_written prefix body = prefix_written prefix (length body) ++ body
 
 -- bodies behind their lengths, in order
-abbrev pub frames_written : List (List ℕ) → List ℕ
-frames_written [] = []
-frames_written (body ∷ bodies) = bytes_written body ++ frames_written bodies
+abbrev pub all_written : Prefix → List (List ℕ) → List ℕ
+all_written prefix [] = []
+all_written prefix (body ∷ bodies) = frame_written prefix body ++ all_written prefix bodies
 
--- the length of a body is in the range, and below 2 ^ 64
-pub record IsAdmitted (range : RangeCfg) (body : List ℕ) : Type 0 where
-  pub small : length body < 2 ^ 64
+-- the length of a body can be written so, and is in the range
+pub record CanFollow (prefix : Prefix) (range : RangeCfg) (body : List ℕ) : Type 0 where
+  pub small : length body < prefix_limit prefix
   pub inside : in_range range (length body) ≡ true
 
 -- the same of each body
-abbrev pub AreAdmitted : RangeCfg → List (List ℕ) → Type 0
-AreAdmitted range [] = Unit {0}
-AreAdmitted range (body ∷ bodies) = IsAdmitted range body × AreAdmitted range bodies
+abbrev pub CanAllFollow : Prefix → RangeCfg → List (List ℕ) → Type 0
+CanAllFollow prefix range [] = Unit {0}
+CanAllFollow prefix range (body ∷ bodies) = CanFollow prefix range body × CanAllFollow prefix range bodies
 
 -- No whole frame stands in front. It is open where its length may go on, or where there are fewer bytes behind the length
--- than it says; it is bad where no length is spelled there, or one outside the range.
-abbrev pub HasNoFrame : RangeCfg → List ℕ → End → Type 0
-HasNoFrame range bytes Open =
-    IsLengthRead bytes range (Err EndOfBuffer) ⊎ ((n : ℕ) × IsLengthRead bytes range (Ok n) × (length bytes < length (spell n) + n))
-HasNoFrame range bytes (Bad EndOfBuffer) = ⊥
-HasNoFrame range bytes (Bad error) = IsLengthRead bytes range (Err error)
+-- than it says; it is bad where no length stands there, or one outside the range.
+abbrev pub LacksFrame : Prefix → RangeCfg → List ℕ → End → Type 0
+LacksFrame prefix range bytes Open =
+    (HasNoLengthAt prefix bytes × IsOpenAt prefix bytes)
+    ⊎ ((n : ℕ) × (IsLengthAt prefix bytes n × (in_range range n ≡ true)) × (length bytes < length (prefix_written prefix n) + n))
+LacksFrame prefix range bytes (Bad InvalidVarint) = HasNoLengthAt prefix bytes × (IsOpenAt prefix bytes → ⊥)
+LacksFrame prefix range bytes (Bad (InvalidLength n)) = IsLengthAt prefix bytes n × (in_range range n ≡ false)
+LacksFrame prefix range bytes (Bad error) = ⊥
 
 -- a whole frame with bytes stands in front
-pub record HasBytes (range : RangeCfg) (bytes : List ℕ) : Type 0 where
+pub record HasBodyBytes (prefix : Prefix) (range : RangeCfg) (bytes : List ℕ) : Type 0 where
   pub body : List ℕ
   pub more : List ℕ
-  pub admitted : IsAdmitted range body
-  pub whole : bytes ≡ bytes_written body ++ more
+  pub admitted : CanFollow prefix range body
+  pub whole : bytes ≡ frame_written prefix body ++ more
   pub some : 0 < length body
 
--- The frames of a text, why no further one stands behind them, and what is behind them
-pub record IsFramed (range : RangeCfg) (text : List ℕ) (frames : List (List ℕ)) (end : End) (rest : List ℕ) : Type 0 where
-  pub whole : text ≡ frames_written frames ++ rest
-  pub admitted : AreAdmitted range frames
-  pub ends : HasNoFrame range rest end
+-- the frames of a text, why no further one stands behind them, and what is behind them
+pub record IsFramedWith (prefix : Prefix) (range : RangeCfg) (text : List ℕ) (frames : List (List ℕ)) (end : End) (rest : List ℕ) : Type 0 where
+  pub whole : text ≡ all_written prefix frames ++ rest
+  pub admitted : CanAllFollow prefix range frames
+  pub ends : LacksFrame prefix range rest end
 
 -- the bytes of views, view by view
 abbrev pub bodies : List View → List (List ℕ)
 bodies views = map (λ view. view.bytes) views
 
+-- all bytes of these views, in order
+abbrev pub joined_bytes : List View → List ℕ
+joined_bytes views = flat_map (λ view. view.bytes) views
+
 -- a body is the view behind its length in front of a text: of its piece, or native where it spans pieces
-pub record IsBehindLength (text : MarkedText) (body : View) : Type 0 where
-  pub fits : length (view_written body) ≤ text_len text
-  pub is : body ≡ taken_view text (length (spell (length body.bytes))) (length body.bytes)
+pub record IsBehindPrefix (prefix : Prefix) (text : MarkedText) (body : View) : Type 0 where
+  pub fits : length (frame_written prefix body.bytes) ≤ text_len text
+  pub is : body ≡ taken_view text (length (prefix_written prefix (length body.bytes))) (length body.bytes)
 
 -- bodies are so one behind the other, each in what those before it left, and this is left behind them
-abbrev pub IsTakenApart : MarkedText → List View → MarkedText → Type 0
-IsTakenApart text [] rest = rest ≡ text
-IsTakenApart text (body ∷ bodies) rest = IsBehindLength text body × IsTakenApart (text_rest text (length (view_written body))) bodies rest
+abbrev pub IsTakenApartWith : Prefix → MarkedText → List View → MarkedText → Type 0
+IsTakenApartWith prefix text [] rest = rest ≡ text
+IsTakenApartWith prefix text (body ∷ bodies) rest =
+    IsBehindPrefix prefix text body × IsTakenApartWith prefix (text_rest text (length (frame_written prefix body.bytes))) bodies rest
 
 -- the answer by what reading a view answers: none where that ends with the text
 abbrev pub found_of : Result View Error → Result (Option View) Error
@@ -85,17 +101,17 @@ found_of (Err EndOfBuffer) = Ok None
 found_of (Err error) = Err error
 
 -- What taking one frame answers of a text, and the text that it leaves. Memory is wanted only for a frame with bytes.
-abbrev pub IsNext : RangeCfg → List ℕ → Result (Option View) Error → List ℕ → Type 0
-IsNext range old (Ok (Some body)) new = IsAdmitted range body.bytes × (old ≡ bytes_written body.bytes ++ new)
-IsNext range old (Ok None) new = HasNoFrame range old Open
-IsNext range old (Err Memory) new = HasBytes range old
-IsNext range old (Err error) new = HasNoFrame range old (Bad error)
+abbrev pub IsNextWith : Prefix → RangeCfg → List ℕ → Result (Option View) Error → List ℕ → Type 0
+IsNextWith prefix range old (Ok (Some body)) new = CanFollow prefix range body.bytes × (old ≡ frame_written prefix body.bytes ++ new)
+IsNextWith prefix range old (Ok None) new = LacksFrame prefix range old Open
+IsNextWith prefix range old (Err Memory) new = HasBodyBytes prefix range old
+IsNextWith prefix range old (Err error) new = LacksFrame prefix range old (Bad error)
 
 -- the first frame of a text is taken, and what is left are the others
-pub record FirstTaken (range : RangeCfg) (frames : List (List ℕ)) (end : End) (rest body new : List ℕ) : Type 0 where
+pub record FirstTakenWith (prefix : Prefix) (range : RangeCfg) (frames : List (List ℕ)) (end : End) (rest body new : List ℕ) : Type 0 where
   pub others : List (List ℕ)
   pub first : frames ≡ body ∷ others
-  pub behind : IsFramed range new others end rest
+  pub behind : IsFramedWith prefix range new others end rest
 
 -- the first frame has bytes
 pub record BeginsWithBytes (frames : List (List ℕ)) : Type 0 where
@@ -105,19 +121,16 @@ pub record BeginsWithBytes (frames : List (List ℕ)) : Type 0 where
   pub some : 0 < length body
 
 -- the same of the frames of the text: the first is taken; where there is none, the answer is by the end
-abbrev pub IsFirst : RangeCfg → List (List ℕ) → End → List ℕ → Result (Option View) Error → List ℕ → Type 0
-IsFirst range frames end rest (Ok (Some taken)) new = FirstTaken range frames end rest taken.bytes new
-IsFirst range frames end rest (Ok None) new = (frames ≡ []) × (end ≡ Open)
-IsFirst range frames end rest (Err Memory) new = BeginsWithBytes frames
-IsFirst range frames end rest (Err error) new = (frames ≡ []) × (end ≡ Bad error)
+abbrev pub IsFirstWith : Prefix → RangeCfg → List (List ℕ) → End → List ℕ → Result (Option View) Error → List ℕ → Type 0
+IsFirstWith prefix range frames end rest (Ok (Some taken)) new = FirstTakenWith prefix range frames end rest taken.bytes new
+IsFirstWith prefix range frames end rest (Ok None) new = (frames ≡ []) × (end ≡ Open)
+IsFirstWith prefix range frames end rest (Err Memory) new = BeginsWithBytes frames
+IsFirstWith prefix range frames end rest (Err error) new = (frames ≡ []) × (end ≡ Bad error)
 
 -- frames went over from the front of a text behind others
-abbrev pub AreMoved : RangeCfg → List (List ℕ) → List ℕ → List (List ℕ) → List ℕ → Type 0
-AreMoved range frames text more rest = (frames_written frames ++ text ≡ frames_written more ++ rest) × (AreAdmitted range frames → AreAdmitted range more)
-
--- all bytes of these views, in order
-abbrev pub joined_bytes : List View → List ℕ
-joined_bytes views = flat_map (λ view. view.bytes) views
+abbrev pub AreMoved : Prefix → RangeCfg → List (List ℕ) → List ℕ → List (List ℕ) → List ℕ → Type 0
+AreMoved prefix range frames text more rest =
+    (all_written prefix frames ++ text ≡ all_written prefix more ++ rest) × (CanAllFollow prefix range frames → CanAllFollow prefix range more)
 
 -- two readings of a text are the same
 pub record AreAlike (frames others : List (List ℕ)) (end stop : End) (rest left : List ℕ) : Type 0 where
@@ -126,23 +139,59 @@ pub record AreAlike (frames others : List (List ℕ)) (end stop : End) (rest lef
   pub same_rest : rest ≡ left
 
 -- a text has at most one list of frames, one end and one rest
-abbrev pub HaveOneReading : Type 0
-HaveOneReading =
+abbrev pub HaveOneReadingWith : Prefix → Type 0
+HaveOneReadingWith prefix =
     (range : RangeCfg) (text : List ℕ) (frames others : List (List ℕ)) (end stop : End) (rest left : List ℕ)
-    → IsFramed range text frames end rest → IsFramed range text others stop left → AreAlike frames others end stop rest left
+    → IsFramedWith prefix range text frames end rest → IsFramedWith prefix range text others stop left → AreAlike frames others end stop rest left
 
 -- and it has one
-pub record HasFrames (range : RangeCfg) (text : List ℕ) : Type 0 where
+pub record HasFramesWith (prefix : Prefix) (range : RangeCfg) (text : List ℕ) : Type 0 where
   pub frames : List (List ℕ)
   pub end : End
   pub rest : List ℕ
-  pub is : IsFramed range text frames end rest
+  pub is : IsFramedWith prefix range text frames end rest
 
 -- a beginning of a frame is open
-abbrev pub BeginningsAreOpen : Type 0
-BeginningsAreOpen = (range : RangeCfg) (body front back : List ℕ) → IsAdmitted range body → bytes_written body ≡ front ++ back → 0 < length back
-    → HasNoFrame range front Open
+abbrev pub BeginningsAreOpenWith : Prefix → Type 0
+BeginningsAreOpenWith prefix = (range : RangeCfg) (body front back : List ℕ) → CanFollow prefix range body → frame_written prefix body ≡ front ++ back
+    → 0 < length back → LacksFrame prefix range front Open
 
 -- what is bad stays bad, whatever follows
+abbrev pub BadStaysBadWith : Prefix → Type 0
+BadStaysBadWith prefix = (range : RangeCfg) (bytes more : List ℕ) (error : Error) → LacksFrame prefix range bytes (Bad error)
+    → LacksFrame prefix range (bytes ++ more) (Bad error)
+
+-- ---- spelled lengths
+
+abbrev pub HasNoFrame : RangeCfg → List ℕ → End → Type 0
+HasNoFrame = LacksFrame Spelled
+
+abbrev pub HasBytes : RangeCfg → List ℕ → Type 0
+HasBytes = HasBodyBytes Spelled
+
+abbrev pub IsFramed : RangeCfg → List ℕ → List (List ℕ) → End → List ℕ → Type 0
+IsFramed = IsFramedWith Spelled
+
+abbrev pub HasFrames : RangeCfg → List ℕ → Type 0
+HasFrames = HasFramesWith Spelled
+
+abbrev pub IsBehindLength : MarkedText → View → Type 0
+IsBehindLength = IsBehindPrefix Spelled
+
+abbrev pub IsTakenApart : MarkedText → List View → MarkedText → Type 0
+IsTakenApart = IsTakenApartWith Spelled
+
+abbrev pub IsNext : RangeCfg → List ℕ → Result (Option View) Error → List ℕ → Type 0
+IsNext = IsNextWith Spelled
+
+abbrev pub IsFirst : RangeCfg → List (List ℕ) → End → List ℕ → Result (Option View) Error → List ℕ → Type 0
+IsFirst = IsFirstWith Spelled
+
+abbrev pub HaveOneReading : Type 0
+HaveOneReading = HaveOneReadingWith Spelled
+
+abbrev pub BeginningsAreOpen : Type 0
+BeginningsAreOpen = BeginningsAreOpenWith Spelled
+
 abbrev pub BadStaysBad : Type 0
-BadStaysBad = (range : RangeCfg) (bytes more : List ℕ) (error : Error) → HasNoFrame range bytes (Bad error) → HasNoFrame range (bytes ++ more) (Bad error)
+BadStaysBad = BadStaysBadWith Spelled

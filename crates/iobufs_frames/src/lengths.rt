@@ -1,7 +1,8 @@
 // How the length in front of a body is written, and lengths of a fixed size in front of a text.
 ghost use Rattle.std.specs.Prelude.{◌≡◌, ◌≤◌, ◌<◌, ◌+◌, ◌^◌, length, nat_lt, take, MatchOption, SomeIff, IfOk, IfErr, IsErrAnd, IsOkUnless};
 ghost use Rattle.iobufs_core.specs.Spelling.{spell};
-ghost use Rattle.iobufs_frames.specs.Prefixes.{IsLengthAt, IsOpenAt, frame_written, prefix_limit, prefix_written, width_size};
+ghost use Rattle.iobufs_frames.specs.Frames.{frame_written};
+ghost use Rattle.iobufs_frames.specs.Prefixes.{IsLengthAt, IsOpenAt, prefix_limit, prefix_written, width_size};
 
 use iobufs::bufs::IoBufs;
 use iobufs_core::buf::IoBuf;

@@ -5,9 +5,8 @@ ghost use Rattle.std.specs.Prelude.{◌≡◌, ◌≢◌, ◌⊎◌, ℕ, ◌+�
 ghost use Rattle.iobufs_core.specs.MarkedText.{MarkedText, joined, text_append, text_rest};
 ghost use Rattle.iobufs_core.specs.View.{View};
 ghost use Rattle.iobufs_core.specs.Wire.{view_written};
-ghost use Rattle.iobufs_frames.specs.Prefixes.{BadStaysBadWith, BeginningsAreOpenWith, HaveOneReadingWith, IsBehindPrefix, IsFirstWith, IsFramedWith, IsNextWith, frame_written};
 ghost use Rattle.iobufs_frames.specs.declared.lengths.Prefix.{Prefix as AnyPrefix};
-ghost use Rattle.iobufs_frames.specs.Frames.{AreMoved, BadStaysBad, BeginningsAreOpen, HasFrames, HasNoFrame, HaveOneReading, IsBehindLength, IsFirst, IsFramed, IsNext, IsTakenApart, bodies, found_of, joined_bytes};
+ghost use Rattle.iobufs_frames.specs.Frames.{AreMoved, BadStaysBad, BadStaysBadWith, BeginningsAreOpen, BeginningsAreOpenWith, HasFrames, HasFramesWith, HaveOneReading, HaveOneReadingWith, IsBehindLength, IsBehindPrefix, IsFirst, IsFirstWith, IsFramed, IsFramedWith, IsNext, IsNextWith, IsTakenApart, IsTakenApartWith, LacksFrame, bodies, found_of, frame_written, joined_bytes};
 
 mod lengths;
 
@@ -176,18 +175,20 @@ impl Frames {
     fn move_frame(
         &mut self,
         alloc: Global,
+        prefix: Prefix,
         range: &RangeCfg,
         found: &mut Vec<IoBuf>,
     ) -> Result<Option<End>, BufError>
-        ensures moved { IfOk result (λ end. IfNone end (AreMoved range.now (bodies found.old.items) self.old.bytes (bodies found.new.items) self.new.bytes)) }
-        ensures marks { IfOk result (λ end. IfNone end ((text : MarkedText) → IsTakenApart text found.old.items self.old
-            → IsTakenApart text found.new.items self.new)) }
+        ensures moved { IfOk result (λ end. IfNone end
+            (AreMoved prefix range.now (bodies found.old.items) self.old.bytes (bodies found.new.items) self.new.bytes)) }
+        ensures marks { IfOk result (λ end. IfNone end ((text : MarkedText) → IsTakenApartWith prefix text found.old.items self.old
+            → IsTakenApartWith prefix text found.new.items self.new)) }
         ensures shorter { IfOk result (λ end. IfNone end (length self.new.bytes < length self.old.bytes)) }
-        ensures ends { IfOk result (λ end. IfSome end (HasNoFrame range.now self.old.bytes)) }
+        ensures ends { IfOk result (λ end. IfSome end (LacksFrame prefix range.now self.old.bytes)) }
         ensures same { IfOk result (λ end. IfSome end (λ _. (self.new ≡ self.old) × (found.new.items ≡ found.old.items))) }
         ensures memory { IsOkUnless result BufError.Memory }
     {
-        match self.next(alloc, range) {
+        match self.next_with(alloc, prefix, range) {
             Ok(Some(body)) => {
                 found.push(body)?;
                 Ok(None)
@@ -202,16 +203,18 @@ impl Frames {
     fn move_frames(
         &mut self,
         alloc: Global,
+        prefix: Prefix,
         range: &RangeCfg,
         found: &mut Vec<IoBuf>,
     ) -> Result<End, BufError>
-        ensures moved { OnOk result (AreMoved range.now (bodies found.old.items) self.old.bytes (bodies found.new.items) self.new.bytes) }
-        ensures marks { OnOk result ((text : MarkedText) → IsTakenApart text found.old.items self.old → IsTakenApart text found.new.items self.new) }
-        ensures ends { IfOk result (HasNoFrame range.now self.new.bytes) }
+        ensures moved { OnOk result (AreMoved prefix range.now (bodies found.old.items) self.old.bytes (bodies found.new.items) self.new.bytes) }
+        ensures marks { OnOk result ((text : MarkedText) → IsTakenApartWith prefix text found.old.items self.old
+            → IsTakenApartWith prefix text found.new.items self.new) }
+        ensures ends { IfOk result (LacksFrame prefix range.now self.new.bytes) }
         ensures memory { IsOkUnless result BufError.Memory }
     {
         loop {
-            if let Some(end) = self.move_frame(alloc, range, found)? {
+            if let Some(end) = self.move_frame(alloc, prefix, range, found)? {
                 return Ok(end);
             }
         }
@@ -221,21 +224,22 @@ impl Frames {
     fn feed_and_move(
         &mut self,
         alloc: Global,
+        prefix: Prefix,
         range: &RangeCfg,
         found: &mut Vec<IoBuf>,
         stop: End,
         piece: IoBuf,
     ) -> Result<End, BufError>
-        ensures framed { IfOk result (λ end. (text : List ℕ) → IsFramed range.now text (bodies found.old.items) stop self.old.bytes
-            → IsFramed range.now (text ++ piece.bytes) (bodies found.new.items) end self.new.bytes) }
-        ensures marks { OnOk result ((fed : List View) → IsTakenApart (joined fed) found.old.items self.old
-            → IsTakenApart (joined (fed ++ piece ∷ [])) found.new.items self.new) }
+        ensures framed { IfOk result (λ end. (text : List ℕ) → IsFramedWith prefix range.now text (bodies found.old.items) stop self.old.bytes
+            → IsFramedWith prefix range.now (text ++ piece.bytes) (bodies found.new.items) end self.new.bytes) }
+        ensures marks { OnOk result ((fed : List View) → IsTakenApartWith prefix (joined fed) found.old.items self.old
+            → IsTakenApartWith prefix (joined (fed ++ piece ∷ [])) found.new.items self.new) }
         ensures memory { length self.old.bytes + length piece.bytes < 2 ^ 64 → IsOkUnless result BufError.Memory }
         ensures causes { IfErr result (λ cause. (cause ≡ BufError.Memory) ⊎ (cause ≡ BufError.TooLong)) }
     {
         self.feed(alloc, piece)?;
         match stop {
-            End::Open => self.move_frames(alloc, range, found),
+            End::Open => self.move_frames(alloc, prefix, range, found),
             End::Bad(_) => Ok(stop),
         }
     }
@@ -249,11 +253,27 @@ impl Frames {
         ensures nothing { length pieces.items ≡ 0 → IsOk result }
         ensures causes { IfErr result (λ cause. (cause ≡ BufError.Memory) ⊎ (cause ≡ BufError.TooLong)) }
     {
+        Frames::run_with(alloc, Prefix::Spelled, pieces, range)
+    }
+
+    /// As `run`, of frames whose lengths are written in another way.
+    pub fn run_with(
+        alloc: Global,
+        prefix: Prefix,
+        pieces: Vec<IoBuf>,
+        range: &RangeCfg,
+    ) -> Result<Run, BufError>
+        ensures framed { IfOk result (λ run. IsFramedWith prefix range.now (joined_bytes pieces.items) (bodies run.frames.items) run.stop run.rest.bytes) }
+        ensures marks { IfOk result (λ run. IsTakenApartWith prefix (joined pieces.items) run.frames.items run.rest) }
+        ensures memory { length (joined_bytes pieces.items) < 2 ^ 64 → IsOkUnless result BufError.Memory }
+        ensures nothing { length pieces.items ≡ 0 → IsOk result }
+        ensures causes { IfErr result (λ cause. (cause ≡ BufError.Memory) ⊎ (cause ≡ BufError.TooLong)) }
+    {
         let mut frames = Frames::default();
         let mut found = Vec::new(alloc);
         let mut stop = End::Open;
         for piece in pieces {
-            stop = frames.feed_and_move(alloc, range, &mut found, stop, piece)?;
+            stop = frames.feed_and_move(alloc, prefix, range, &mut found, stop, piece)?;
         }
         Ok(Run {
             frames: found,
@@ -284,10 +304,11 @@ pub fn frames_law()
     ensures bad { BadStaysBad }
 {}
 
-/// Does nothing. Its contract is the same law of lengths in any form: what `Frames::next_with` answers, one call behind the
-/// other, depends on the joined text alone, however it was cut.
+/// Does nothing. Its contract is the same law of lengths in any form: what `Frames::run_with` answers, or `next_with`, one
+/// call behind the other, depends on the joined text alone, however it was cut.
 pub fn prefixes_law()
     ensures one { (prefix : AnyPrefix) → HaveOneReadingWith prefix }
+    ensures some { (prefix : AnyPrefix) (range : RangeCfg) (text : List ℕ) → HasFramesWith prefix range text }
     ensures begun { (prefix : AnyPrefix) → BeginningsAreOpenWith prefix }
     ensures bad { (prefix : AnyPrefix) → BadStaysBadWith prefix }
 {}

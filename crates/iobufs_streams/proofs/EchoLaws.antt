@@ -1,11 +1,14 @@
 -- Frames that are sent back.
-use Rattle.std.specs.Prelude.{◌≡◌, ℕ, Option, None, Some, IfSome, Ok, List, [], ◌++◌}
+use Rattle.std.specs.Prelude.{◌≡◌, ℕ, Option, None, Some, IfSome, Ok, List, [], ◌∷◌, ◌++◌}
 use Rattle.std.specs.Io.KnownBytes.{Appends, Keeps}
-use Rattle.std.proofs.Common.{ap, sym, subst, ◌∙◌, append_assoc}
+use Rattle.std.proofs.Common.{ap, sym, subst, ◌∙◌, refl, append_assoc}
+use Rattle.std.proofs.lemmas.List.{append-nil}
+use Rattle.std.proofs.KnownBytes.{Appends-nil, Appends-trans}
 use Rattle.iobufs.specs.CallerFacts.{IsSent, sent_all, sent_kept, sent_nothing, sent_on}
 use Rattle.iobufs_core.specs.View.{View}
-use Rattle.iobufs_core.specs.Wire.{bytes_written}
 use Rattle.iobufs_core.specs.declared.codec.base.RangeCfg.{RangeCfg}
+use Rattle.iobufs_frames.specs.Frames.{CanAllFollow, CanFollow, all_written, frame_written}
+use Rattle.iobufs_frames.specs.declared.lengths.Prefix.{Prefix}
 use Rattle.iobufs_streams.specs.Streams.{HasSent, TakesFrame}
 
 -- nothing was sent, or some of it, and the writer was flushed
@@ -30,69 +33,145 @@ flushed (Some xs) (Some ys) (Some zs) text p q = q ∙ p
 
 pub ruleset sending = (has_not_sent, has_sent, has_flushed, flushed)
 
--- all frames that came were sent, and what is held and what the reader has left is still to be
-abbrev pub Echoes : Option (List ℕ) → Option (List ℕ) → List ℕ → List ℕ → Option (List ℕ) → Option (List ℕ) → Type 0
-Echoes None has old now held holds = Unit {0}
-Echoes (Some text) None old now held holds = ⊥
-Echoes (Some text) (Some left) old now held holds = IsSent held holds (old ++ text) (now ++ left)
+-- ---- frames that came were sent, each behind its length as the writer writes it
 
-pub echoes_none : (had : Option (List ℕ)) (old : List ℕ) (held : Option (List ℕ)) → Echoes had had old old held held
-echoes_none None old held = tt
-echoes_none (Some text) old held = sent_nothing held (old ++ text)
+pub record Resent (prefix to : Prefix) (range : RangeCfg) (text left : List ℕ) (held holds : Option (List ℕ)) : Type 0 where
+  pub done : List (List ℕ)
+  pub whole : text ≡ all_written prefix done ++ left
+  pub fits : CanAllFollow prefix range done
+  pub sent : Appends held holds (all_written to done)
+
+-- and what is held and what the reader has left is still to be
+abbrev pub Echoes : Prefix → Prefix → RangeCfg → Option (List ℕ) → Option (List ℕ) → List ℕ → List ℕ → Option (List ℕ) → Option (List ℕ) → Type 0
+Echoes prefix to range None has old now held holds = Unit {0}
+Echoes prefix to range (Some text) None old now held holds = ⊥
+Echoes prefix to range (Some text) (Some left) old now held holds = Resent prefix to range (old ++ text) (now ++ left) held holds
+
+pub echoes_none : (prefix to : Prefix) (range : RangeCfg) (had : Option (List ℕ)) (old : List ℕ) (held : Option (List ℕ))
+    → Echoes prefix to range had had old old held held
+echoes_none prefix to range None old held = tt
+echoes_none prefix to range (Some text) old held = record { done = []; whole = refl; fits = tt; sent = Appends-nil held }
+
+written-append : (prefix : Prefix) (fs gs : List (List ℕ)) → all_written prefix (fs ++ gs) ≡ all_written prefix fs ++ all_written prefix gs
+written-append prefix [] gs = refl
+written-append prefix (f ∷ fs) gs = ap (λ xs. frame_written prefix f ++ xs) (written-append prefix fs gs)
+    ∙ sym (append_assoc (frame_written prefix f) (all_written prefix fs) (all_written prefix gs))
+
+one_more : (prefix : Prefix) (range : RangeCfg) (fs : List (List ℕ)) (body : List ℕ) → CanFollow prefix range body → CanAllFollow prefix range fs
+    → CanAllFollow prefix range (fs ++ body ∷ [])
+one_more prefix range [] body admitted fine = (admitted, tt)
+one_more prefix range (f ∷ fs) body admitted fine = (fine.0, one_more prefix range fs body admitted fine.1)
+
+-- a reader and a writer stay as they were, but for what they hold
+pub record AreSame (prefix now_prefix to now_to : Prefix) (range now_range : RangeCfg) : Type 0 where
+  pub same_from : now_prefix ≡ prefix
+  pub same_to : now_to ≡ to
+  pub same_range : now_range ≡ range
 
 -- what is held and left begins with the next frame
-next_in : (range : RangeCfg) (left behind now new : List ℕ) (body : View) → TakesFrame range (Some left) (Some behind) now new (Ok (Some body))
-    → now ++ left ≡ bytes_written body.bytes ++ (new ++ behind)
-next_in range left behind now new body is =
+next_in : (prefix : Prefix) (range : RangeCfg) (left behind now new : List ℕ) (body : View)
+    → TakesFrame prefix range (Some left) (Some behind) now new (Ok (Some body)) → now ++ left ≡ frame_written prefix body.bytes ++ (new ++ behind)
+next_in prefix range left behind now new body is =
     ap (λ w. now ++ w) is.took ∙ sym (append_assoc now is.read behind) ∙ ap (λ w. w ++ behind) is.front.1
-    ∙ append_assoc (bytes_written body.bytes) new behind
+    ∙ append_assoc (frame_written prefix body.bytes) new behind
+
+-- at the end nothing is held or left
+nothing_left : (prefix : Prefix) (range : RangeCfg) (left behind now new : List ℕ) → TakesFrame prefix range (Some left) (Some behind) now new (Ok None)
+    → now ++ left ≡ []
+nothing_left prefix range left behind now new is =
+    let (empty, gone, last) = is.front in
+    ap (λ w. now ++ w) is.took ∙ sym (append_assoc now is.read behind) ∙ ap (λ w. w ++ behind) empty ∙ last
+
+written_behind : (prefix : Prefix) (fs : List (List ℕ)) (body : List ℕ)
+    → all_written prefix (fs ++ body ∷ []) ≡ all_written prefix fs ++ frame_written prefix body
+written_behind prefix fs body = written-append prefix fs (body ∷ []) ∙ ap (λ xs. all_written prefix fs ++ xs) (append-nil (frame_written prefix body))
+
+-- one frame more was sent
+sent_more : (prefix to : Prefix) (range : RangeCfg) (text now new body : List ℕ) (held mid holds : Option (List ℕ)) → Resent prefix to range text now held mid
+    → CanFollow prefix range body → now ≡ frame_written prefix body ++ new → Appends mid holds (frame_written to body)
+    → Resent prefix to range text new held holds
+sent_more prefix to range text now new body held mid holds so_far fits whole put = record {
+  done = so_far.done ++ body ∷ [];
+  whole =
+      so_far.whole ∙ ap (λ w. all_written prefix so_far.done ++ w) whole
+      ∙ sym (append_assoc (all_written prefix so_far.done) (frame_written prefix body) new)
+      ∙ ap (λ w. w ++ new) (sym (written_behind prefix so_far.done body));
+  fits = one_more prefix range so_far.done body fits so_far.fits;
+  sent =
+      subst (Appends held holds) (sym (written_behind to so_far.done body))
+      (Appends-trans held mid holds (all_written to so_far.done) (frame_written to body) so_far.sent put);
+}
+
+-- what is taken now is taken so from a reader that stays as it was
+taken_as : (p q : Prefix) (r s : RangeCfg) (had has : Option (List ℕ)) (now new : List ℕ) (found sought : Option View) → p ≡ q → r ≡ s → found ≡ sought
+    → TakesFrame p r had has now new (Ok found) → TakesFrame q s had has now new (Ok sought)
+taken_as p q r s had has now new found sought same range is h =
+    subst (λ (w : Prefix × (RangeCfg × Option View)). TakesFrame w.0 w.1.0 had has now new (Ok w.1.1)) (λ i. (same i, (range i, is i))) h
 
 -- a frame more that is taken and written is echoed behind those before it
-pub echoes_on : (range : RangeCfg) (a b c : Option (List ℕ)) (old now new : List ℕ) (held mid holds : Option (List ℕ)) (found : Option View) (body : View)
-    → Echoes a b old now held mid → found ≡ Some body → TakesFrame range b c now new (Ok found) → Appends mid holds (bytes_written body.bytes)
-    → Echoes a c old new held holds
-echoes_on range None b c old now new held mid holds found body so_far e is put = tt
-echoes_on range (Some text) None c old now new held mid holds found body so_far e is put = absurd so_far
-echoes_on range (Some text) (Some left) None old now new held mid holds found body so_far e is put = absurd is.took
-echoes_on range (Some text) (Some left) (Some behind) old now new held mid holds found body so_far e is put =
-    let taken = subst (λ (o : Option View). TakesFrame range (Some left) (Some behind) now new (Ok o)) e is in
-    sent_on held mid holds (old ++ text) (now ++ left) (new ++ behind) so_far
-    (record { front = bytes_written body.bytes; whole = next_in range left behind now new body taken; grew = put })
+pub echoes_on : (prefix now_prefix to now_to : Prefix) (range now_range : RangeCfg) (a b c : Option (List ℕ)) (old now new : List ℕ)
+    (held mid holds : Option (List ℕ)) (found : Option View) (body : View)
+    → AreSame prefix now_prefix to now_to range now_range → Echoes prefix to range a b old now held mid → found ≡ Some body
+    → TakesFrame now_prefix now_range b c now new (Ok found) → Appends mid holds (frame_written now_to body.bytes)
+    → Echoes prefix to range a c old new held holds
+echoes_on prefix now_prefix to now_to range now_range None b c old now new held mid holds found body same so_far e is put = tt
+echoes_on prefix now_prefix to now_to range now_range (Some text) None c old now new held mid holds found body same so_far e is put = absurd so_far
+echoes_on prefix now_prefix to now_to range now_range (Some text) (Some left) None old now new held mid holds found body same so_far e is put = absurd is.took
+echoes_on prefix now_prefix to now_to range now_range (Some text) (Some left) (Some behind) old now new held mid holds found body same so_far e is put =
+    let taken = taken_as now_prefix prefix now_range range (Some left) (Some behind) now new found (Some body) same.same_from same.same_range e is in
+    sent_more prefix to range (old ++ text) (now ++ left) (new ++ behind) body.bytes held mid holds so_far taken.front.0
+    (next_in prefix range left behind now new body taken) (subst (λ (p : Prefix). Appends mid holds (frame_written p body.bytes)) same.same_to put)
+
+-- where both write lengths alike, a front of what came was sent
+alike : (prefix to : Prefix) (range : RangeCfg) (text left : List ℕ) (held holds : Option (List ℕ)) → prefix ≡ to → Resent prefix to range text left held holds
+    → IsSent held holds text left
+alike prefix to range text left held holds same is = record {
+  front = all_written to is.done;
+  whole = is.whole ∙ ap (λ (p : Prefix). all_written p is.done ++ left) same;
+  grew = is.sent;
+}
 
 -- at the end all that came was sent
-pub echoed : (range : RangeCfg) (a b c : Option (List ℕ)) (old now new : List ℕ) (held holds : Option (List ℕ)) (found : Option View)
-    → Echoes a b old now held holds → found ≡ None → TakesFrame range b c now new (Ok found) → IfSome a (λ text. Appends held holds (old ++ text))
-echoed range None b c old now new held holds found so_far e is = tt
-echoed range (Some text) None c old now new held holds found so_far e is = absurd so_far
-echoed range (Some text) (Some left) None old now new held holds found so_far e is = absurd is.took
-echoed range (Some text) (Some left) (Some behind) old now new held holds found so_far e is =
-    let ended = subst (λ (o : Option View). TakesFrame range (Some left) (Some behind) now new (Ok o)) e is in
-    let (empty, gone, last) = ended.front in
-    let nothing : now ++ left ≡ [] =
-    ap (λ w. now ++ w) ended.took ∙ sym (append_assoc now ended.read behind) ∙ ap (λ w. w ++ behind) empty ∙ last in
-    sent_all held holds (old ++ text) (now ++ left) so_far nothing
+pub echoed : (prefix now_prefix to now_to : Prefix) (range now_range : RangeCfg) (a b c : Option (List ℕ)) (old now new : List ℕ)
+    (held holds : Option (List ℕ)) (found : Option View)
+    → AreSame prefix now_prefix to now_to range now_range → Echoes prefix to range a b old now held holds → found ≡ None
+    → TakesFrame now_prefix now_range b c now new (Ok found) → prefix ≡ to → IfSome a (λ text. Appends held holds (old ++ text))
+echoed prefix now_prefix to now_to range now_range None b c old now new held holds found same so_far e is one = tt
+echoed prefix now_prefix to now_to range now_range (Some text) None c old now new held holds found same so_far e is one = absurd so_far
+echoed prefix now_prefix to now_to range now_range (Some text) (Some left) None old now new held holds found same so_far e is one = absurd is.took
+echoed prefix now_prefix to now_to range now_range (Some text) (Some left) (Some behind) old now new held holds found same so_far e is one =
+    let ended = taken_as now_prefix prefix now_range range (Some left) (Some behind) now new found None same.same_from same.same_range e is in
+    sent_all held holds (old ++ text) (now ++ left) (alike prefix to range (old ++ text) (now ++ left) held holds one so_far)
+    (nothing_left prefix range left behind now new ended)
 
 -- what was sent so far is a beginning
-pub begun : (a b : Option (List ℕ)) (old now : List ℕ) (held holds : Option (List ℕ)) → Echoes a b old now held holds
-    → IfSome a (λ text. HasSent held holds (old ++ text))
-begun None b old now held holds so_far = tt
-begun (Some text) None old now held holds so_far = absurd so_far
-begun (Some text) (Some left) old now held holds so_far = (now ++ left, so_far)
+pub begun : (prefix to : Prefix) (range : RangeCfg) (a b : Option (List ℕ)) (old now : List ℕ) (held holds : Option (List ℕ))
+    → Echoes prefix to range a b old now held holds → prefix ≡ to → IfSome a (λ text. HasSent held holds (old ++ text))
+begun prefix to range None b old now held holds so_far one = tt
+begun prefix to range (Some text) None old now held holds so_far one = absurd so_far
+begun prefix to range (Some text) (Some left) old now held holds so_far one =
+    (now ++ left, alike prefix to range (old ++ text) (now ++ left) held holds one so_far)
 
 -- and with it some of one more frame
-pub begun_more : (range : RangeCfg) (a b c : Option (List ℕ)) (old now new : List ℕ) (held mid holds : Option (List ℕ)) (found : Option View) (body : View)
-    → Echoes a b old now held mid → found ≡ Some body → TakesFrame range b c now new (Ok found) → HasSent mid holds (bytes_written body.bytes)
+pub begun_more : (prefix now_prefix to now_to : Prefix) (range now_range : RangeCfg) (a b c : Option (List ℕ)) (old now new : List ℕ)
+    (held mid holds : Option (List ℕ)) (found : Option View) (body : View)
+    → AreSame prefix now_prefix to now_to range now_range → Echoes prefix to range a b old now held mid → found ≡ Some body
+    → TakesFrame now_prefix now_range b c now new (Ok found) → HasSent mid holds (frame_written now_to body.bytes) → prefix ≡ to
     → IfSome a (λ text. HasSent held holds (old ++ text))
-begun_more range None b c old now new held mid holds found body so_far e is put = tt
-begun_more range (Some text) None c old now new held mid holds found body so_far e is put = absurd so_far
-begun_more range (Some text) (Some left) None old now new held mid holds found body so_far e is put = absurd is.took
-begun_more range (Some text) (Some left) (Some behind) old now new held mid holds found body so_far e is (kept, sent) =
-    let taken = subst (λ (o : Option View). TakesFrame range (Some left) (Some behind) now new (Ok o)) e is in (
+begun_more prefix now_prefix to now_to range now_range None b c old now new held mid holds found body same so_far e is put one = tt
+begun_more prefix now_prefix to now_to range now_range (Some text) None c old now new held mid holds found body same so_far e is put one = absurd so_far
+begun_more prefix now_prefix to now_to range now_range (Some text) (Some left) None old now new held mid holds found body same so_far e is put one =
+    absurd is.took
+begun_more prefix now_prefix to now_to range now_range (Some text) (Some left) (Some behind) old now new held mid holds found body same so_far e is
+    (kept, sent) one =
+    let taken = taken_as now_prefix prefix now_range range (Some left) (Some behind) now new found (Some body) same.same_from same.same_range e is in (
       kept ++ (new ++ behind),
-      sent_on held mid holds (old ++ text) (now ++ left) (kept ++ (new ++ behind)) so_far
+      sent_on held mid holds (old ++ text) (now ++ left) (kept ++ (new ++ behind)) (alike prefix to range (old ++ text) (now ++ left) held mid one so_far)
           (record {
             front = sent.front;
-            whole = next_in range left behind now new body taken ∙ ap (λ w. w ++ (new ++ behind)) sent.whole ∙ append_assoc sent.front kept (new ++ behind);
+            whole = next_in prefix range left behind now new body taken
+                ∙ ap (λ (p : Prefix). frame_written p body.bytes ++ (new ++ behind)) (one ∙ sym same.same_to)
+                ∙ ap (λ w. w ++ (new ++ behind)) sent.whole ∙ append_assoc sent.front kept (new ++ behind);
             grew = sent.grew;
           }),
     )

@@ -3,25 +3,17 @@ use Rattle.std.specs.Prelude.{◌≡◌, ℕ, ◌+◌, ◌^◌, ◌<◌, ◌≤�
 use Rattle.std.specs.Io.KnownBytes.{Appends, Consumes, IsAtEnd, Keeps}
 use Rattle.std.proofs.Common.{arith, inl, inr, ap, sym, subst, ◌∙◌, append_assoc, append-nil, length-append, length-drop, length-take, take-append-drop}
 use Rattle.std.proofs.lemmas.Bool.Decides.{nat_tests}
-use Rattle.std.proofs.lemmas.Grind.{common_steps}
 use Rattle.std.proofs.lemmas.List.{nil_from_length}
-use Rattle.iobufs_core.specs.MarkedText.{MarkedText, text_glue, text_prepend}
-use Rattle.iobufs_core.specs.Spelled.{none_high}
 use Rattle.iobufs_core.specs.View.{View}
-use Rattle.iobufs_core.specs.Wire.{bytes_written}
 use Rattle.iobufs_core.specs.declared.codec.base.RangeCfg.{RangeCfg}
-use Rattle.iobufs_frames.specs.FrameFacts.{first_is, none_in_front, stands, stays_bad}
-use Rattle.iobufs_frames.specs.Frames.{HasNoFrame, IsFramed, frames_written}
+use Rattle.iobufs_frames.specs.FrameFacts.{first_is, none_in_front, nothing_is_open, stands, stays_bad}
+use Rattle.iobufs_frames.specs.Frames.{IsFramedWith, LacksFrame, all_written, frame_written}
 use Rattle.iobufs_frames.specs.declared.End.{End}
 use Rattle.iobufs_frames.specs.declared.End.TheVariants as end
+use Rattle.iobufs_frames.specs.declared.lengths.Prefix.{Prefix}
 use Rattle.iobufs_streams.specs.Streams.{HasFrame, IsEnd, IsFilled, IsFirstOf, IsFront, IsHeldFront, IsNeeded, TakesFrame}
 use Rattle.iobufs_streams.specs.declared.error.FrameError.{FrameError}
 use Rattle.iobufs_streams.specs.declared.error.FrameError.TheVariants.{Bad, Cut, Io, Memory, TooLong}
-
--- the bytes of a text with a view in front are the bytes of the view and then those of the text
-pub bytes-prepend : (t : MarkedText) (v : View) → (text_prepend t v).bytes ≡ v.bytes ++ t.bytes
-unfolding text_glue
-bytes-prepend t v = grind (arith, nat_tests, common_steps, append-nil, nil_from_length)
 
 -- known bytes that stay as they were
 pub stays : (a : Option (List ℕ)) → Keeps a a
@@ -105,54 +97,55 @@ filled_so had has fed was is items m n same zero fits room both =
 -- ---- reads that wait for a frame
 
 -- what was read so far gave no whole frame before its last read; the reader is as it was where a frame was held
-pub record IsWaiting {Reader : Type 0} (range now_range : RangeCfg) (from now_from : Reader) (had has : Option (List ℕ))
+pub record IsWaiting {Reader : Type 0} (prefix : Prefix) (range : RangeCfg) (from now_from : Reader) (had has : Option (List ℕ))
     (old now : List ℕ) (count : ℕ) : Type 0 where
   pub read : List ℕ
   pub took : Consumes had has read
   pub grew : now ≡ old ++ read
-  pub needed : IsNeeded range old read
+  pub needed : IsNeeded prefix range old read
   pub counted : count ≤ length read
-  pub ready : HasFrame range old → now_from ≡ from
-  pub same_range : now_range ≡ range
+  pub ready : HasFrame prefix range old → now_from ≡ from
 
-pub not_waited : {Reader : Type 0} (range : RangeCfg) (from : Reader) (had : Option (List ℕ)) (old : List ℕ) → IsWaiting range range from from had had old old 0
-not_waited range from had old = record {
+pub not_waited : {Reader : Type 0} (prefix : Prefix) (range : RangeCfg) (from : Reader) (had : Option (List ℕ)) (old : List ℕ)
+    → IsWaiting prefix range from from had had old old 0
+not_waited prefix range from had old = record {
   read = [];
   took = consumes_none had had (stays had);
   grew = sym (append-nil old);
   needed = inl refl;
   counted = omega arith;
   ready = λ _. refl;
-  same_range = refl;
 }
 
 -- a frame that was held stands in front still
-pub not_ready : (range : RangeCfg) (old read now : List ℕ) → now ≡ old ++ read → HasNoFrame range now end.Open → HasFrame range old → ⊥
-not_ready range old read now grew none has =
-    let whole : now ≡ bytes_written has.body ++ (has.more ++ read) =
-    grew ∙ ap (λ w. w ++ read) has.whole ∙ append_assoc (bytes_written has.body) has.more read in
-    stands range has.body (has.more ++ read) end.Open has.admitted (subst (λ (w : List ℕ). HasNoFrame range w end.Open) whole none)
+pub not_ready : (prefix : Prefix) (range : RangeCfg) (old read now : List ℕ) → now ≡ old ++ read → LacksFrame prefix range now end.Open
+    → HasFrame prefix range old → ⊥
+not_ready prefix range old read now grew none has =
+    let whole : now ≡ frame_written prefix has.body ++ (has.more ++ read) =
+    grew ∙ ap (λ w. w ++ read) has.whole ∙ append_assoc (frame_written prefix has.body) has.more read in
+    stands prefix range has.body (has.more ++ read) end.Open has.admitted (subst (λ (w : List ℕ). LacksFrame prefix range w end.Open) whole none)
 
 -- so none was held, where none is
-pub never_ready : {Reader : Type 0} (range now_range : RangeCfg) (from now_from : Reader) (had has : Option (List ℕ)) (old held left : List ℕ) (count : ℕ)
-    → IsWaiting range now_range from now_from had has old held count → (left ≡ held) × HasNoFrame now_range held end.Open → HasFrame range old → ⊥
-never_ready range now_range from now_from had has old held left count so_far (same, none) =
-    not_ready range old so_far.read held so_far.grew (subst (λ (r : RangeCfg). HasNoFrame r held end.Open) so_far.same_range none)
+pub never_ready : {Reader : Type 0} (prefix : Prefix) (range : RangeCfg) (from now_from : Reader) (had has : Option (List ℕ)) (old held left : List ℕ)
+    (count : ℕ)
+    → IsWaiting prefix range from now_from had has old held count → (left ≡ held) × LacksFrame prefix range held end.Open → HasFrame prefix range old → ⊥
+never_ready prefix range from now_from had has old held left count so_far (same, none) =
+    not_ready prefix range old so_far.read held so_far.grew none
 
 -- what is known of bytes that hold no whole frame
-pub none_held : (range : RangeCfg) (held left : List ℕ) (found : Option View) → found ≡ None → IsHeldFront range held (Ok found) left
-    → (left ≡ held) × HasNoFrame range held end.Open
-none_held range held left found is h = subst (λ (o : Option View). IsHeldFront range held (Ok o) left) is h
+pub none_held : (prefix : Prefix) (range : RangeCfg) (held left : List ℕ) (found : Option View) → found ≡ None → IsHeldFront prefix range held (Ok found) left
+    → (left ≡ held) × LacksFrame prefix range held end.Open
+none_held prefix range held left found is h = subst (λ (o : Option View). IsHeldFront prefix range held (Ok o) left) is h
 
 -- one more read
-pub waits_on : {Reader : Type 0} (range now_range : RangeCfg) (from mid new : Reader) (a b c : Option (List ℕ)) (old held left now : List ℕ) (count next : ℕ)
+pub waits_on : {Reader : Type 0} (prefix : Prefix) (range : RangeCfg) (from mid new : Reader) (a b c : Option (List ℕ)) (old held left now : List ℕ)
+    (count next : ℕ)
     (last : Bool)
-    → IsWaiting range now_range from mid a b old held count → (left ≡ held) × HasNoFrame now_range held end.Open → IsFilled b c left now last → last ≡ false
-    → next ≡ count + 1 → IsWaiting range now_range from new a c old now next
-waits_on range now_range from mid new a b c old held left now count next last so_far (same, none) filled some step =
+    → IsWaiting prefix range from mid a b old held count → (left ≡ held) × LacksFrame prefix range held end.Open → IsFilled b c left now last → last ≡ false
+    → next ≡ count + 1 → IsWaiting prefix range from new a c old now next
+waits_on prefix range from mid new a b c old held left now count next last so_far (same, none) filled some step =
     let before = so_far.read in
     let more = filled.is.read in
-    let open_front = subst (λ (r : RangeCfg). HasNoFrame r held end.Open) so_far.same_range none in
     let long : 0 < length more = some_of (length more) (sym filled.empty ∙ some) in record {
       read = before ++ more;
       took = consumes_on a b c before more so_far.took filled.is.took;
@@ -161,30 +154,29 @@ waits_on range now_range from mid new a b c old held left now count next last so
         before = before;
         last = more;
         whole = refl;
-        none = subst (λ (w : List ℕ). HasNoFrame range w end.Open) so_far.grew open_front;
+        none = subst (λ (w : List ℕ). LacksFrame prefix range w end.Open) so_far.grew none;
       });
       counted = omega (arith, step, so_far.counted, length-append before more, long);
-      ready = λ has. absurd (not_ready range old before held so_far.grew open_front has);
-      same_range = so_far.same_range;
+      ready = λ has. absurd (not_ready prefix range old before held so_far.grew none has);
     }
 
 -- what was held is answered: a frame, or why none is there
-front_some : (range : RangeCfg) (has : Option (List ℕ)) (bytes left : List ℕ) (error : FrameError) → IsHeldFront range bytes (Err error) left
-    → IsFront range has bytes (Err error) left
-front_some range has bytes left (Bad error) h = h
-front_some range has bytes left Cut h = absurd h
-front_some range has bytes left (Io error) h = absurd h
-front_some range has bytes left Memory h = h
-front_some range has bytes left TooLong h = (h.0, omega (arith, h.1))
+front_some : (prefix : Prefix) (range : RangeCfg) (has : Option (List ℕ)) (bytes left : List ℕ) (error : FrameError)
+    → IsHeldFront prefix range bytes (Err error) left
+    → IsFront prefix range has bytes (Err error) left
+front_some prefix range has bytes left (Bad error) h = h
+front_some prefix range has bytes left Cut h = absurd h
+front_some prefix range has bytes left (Io error) h = absurd h
+front_some prefix range has bytes left Memory h = h
+front_some prefix range has bytes left TooLong h = (h.0, omega (arith, h.1))
 
 -- a reader that waited holds a frame in front and takes it
-pub took_some : {Reader : Type 0} (range now_range : RangeCfg) (from now_from : Reader) (had has : Option (List ℕ)) (old now left : List ℕ) (count : ℕ)
+pub took_some : {Reader : Type 0} (prefix : Prefix) (range : RangeCfg) (from now_from : Reader) (had has : Option (List ℕ)) (old now left : List ℕ) (count : ℕ)
     (found : Option View) (body : View)
-    → IsWaiting range now_range from now_from had has old now count → found ≡ Some body → IsHeldFront now_range now (Ok found) left
-    → TakesFrame range had has old left (Ok (Some body))
-took_some range now_range from now_from had has old now left count found body so_far is h =
-    let (admitted, whole) = subst (λ (r : RangeCfg). IsHeldFront r now (Ok (Some body)) left) so_far.same_range
-    (subst (λ (o : Option View). IsHeldFront now_range now (Ok o) left) is h) in record {
+    → IsWaiting prefix range from now_from had has old now count → found ≡ Some body → IsHeldFront prefix range now (Ok found) left
+    → TakesFrame prefix range had has old left (Ok (Some body))
+took_some prefix range from now_from had has old now left count found body so_far is h =
+    let (admitted, whole) = subst (λ (o : Option View). IsHeldFront prefix range now (Ok o) left) is h in record {
       read = so_far.read;
       took = so_far.took;
       needed = so_far.needed;
@@ -192,54 +184,58 @@ took_some range now_range from now_from had has old now left count found body so
     }
 
 -- a reader that waited holds a front that is no frame, and answers its error
-pub took_none : {Reader : Type 0} (range now_range : RangeCfg) (from now_from : Reader) (had has : Option (List ℕ)) (old now left : List ℕ) (count : ℕ)
+pub took_none : {Reader : Type 0} (prefix : Prefix) (range : RangeCfg) (from now_from : Reader) (had has : Option (List ℕ)) (old now left : List ℕ) (count : ℕ)
     (error : FrameError)
-    → IsWaiting range now_range from now_from had has old now count → IsHeldFront now_range now (Err error) left
-    → TakesFrame range had has old left (Err error)
-took_none range now_range from now_from had has old now left count error so_far h = record {
+    → IsWaiting prefix range from now_from had has old now count → IsHeldFront prefix range now (Err error) left
+    → TakesFrame prefix range had has old left (Err error)
+took_none prefix range from now_from had has old now left count error so_far h = record {
   read = so_far.read;
   took = so_far.took;
   needed = so_far.needed;
   front =
-      subst (λ (w : List ℕ). IsFront range has w (Err error) left) so_far.grew
-      (subst (λ (r : RangeCfg). IsFront r has now (Err error) left) so_far.same_range (front_some now_range has now left error h));
+      subst (λ (w : List ℕ). IsFront prefix range has w (Err error) left) so_far.grew
+      (front_some prefix range has now left error h);
 }
 
 -- nothing more came: the input ends
-ended : (range : RangeCfg) (has : Option (List ℕ)) (bytes : List ℕ) (result : Result (Option View) FrameError) → IsAtEnd has → HasNoFrame range bytes end.Open
-    → IsEnd bytes result → IsFront range has bytes result bytes
-ended range has bytes (Ok None) last none h = (h, h, last)
-ended range has bytes (Ok (Some body)) last none h = absurd h
-ended range has bytes (Err (Bad error)) last none h = absurd h
-ended range has bytes (Err Cut) last none h = (refl, h, none, last)
-ended range has bytes (Err (Io error)) last none h = absurd h
-ended range has bytes (Err Memory) last none h = absurd h
-ended range has bytes (Err TooLong) last none h = absurd h
+ended : (prefix : Prefix) (range : RangeCfg) (has : Option (List ℕ)) (bytes : List ℕ) (result : Result (Option View) FrameError) → IsAtEnd has
+    → LacksFrame prefix range bytes end.Open
+    → IsEnd bytes result → IsFront prefix range has bytes result bytes
+ended prefix range has bytes (Ok None) last none h = (h, h, last)
+ended prefix range has bytes (Ok (Some body)) last none h = absurd h
+ended prefix range has bytes (Err (Bad error)) last none h = absurd h
+ended prefix range has bytes (Err Cut) last none h = (refl, h, none, last)
+ended prefix range has bytes (Err (Io error)) last none h = absurd h
+ended prefix range has bytes (Err Memory) last none h = absurd h
+ended prefix range has bytes (Err TooLong) last none h = absurd h
 
 -- a reader that waited reads no more bytes, and answers as its end does
-pub took_end : {Reader : Type 0} (range now_range : RangeCfg) (from now_from : Reader) (a b c : Option (List ℕ)) (old held left now : List ℕ) (count : ℕ)
+pub took_end : {Reader : Type 0} (prefix : Prefix) (range : RangeCfg) (from now_from : Reader) (a b c : Option (List ℕ)) (old held left now : List ℕ)
+    (count : ℕ)
     (last : Bool)
-    (result : Result (Option View) FrameError) → IsWaiting range now_range from now_from a b old held count → (left ≡ held) × HasNoFrame now_range held end.Open
-    → IsFilled b c left now last → last ≡ true → IsEnd now result → TakesFrame range a c old now result
-took_end range now_range from now_from a b c old held left now count last result so_far (same, none) filled at h =
+    (result : Result (Option View) FrameError) → IsWaiting prefix range from now_from a b old held count → (left ≡ held) × LacksFrame prefix range held end.Open
+    → IsFilled b c left now last → last ≡ true → IsEnd now result → TakesFrame prefix range a c old now result
+took_end prefix range from now_from a b c old held left now count last result so_far (same, none) filled at h =
     let nothing : filled.is.read ≡ [] = nil_from_length filled.is.read (zero_of (length filled.is.read) (sym filled.empty ∙ at)) in
     let stays_so : now ≡ held = filled.is.grew ∙ ap (λ w. left ++ w) nothing ∙ append-nil left ∙ same in
-    let open_front : HasNoFrame range now end.Open = subst (λ (w : List ℕ). HasNoFrame range w end.Open) (sym stays_so)
-    (subst (λ (r : RangeCfg). HasNoFrame r held end.Open) so_far.same_range none) in record {
+    let open_front : LacksFrame prefix range now end.Open = subst (λ (w : List ℕ). LacksFrame prefix range w end.Open) (sym stays_so)
+    none in record {
       read = so_far.read;
       took =
           subst (λ (w : List ℕ). Consumes a c w) (ap (λ w. so_far.read ++ w) nothing ∙ append-nil so_far.read)
           (consumes_on a b c so_far.read filled.is.read so_far.took filled.is.took);
       needed = so_far.needed;
-      front = subst (λ (w : List ℕ). IsFront range c w result now) (stays_so ∙ so_far.grew) (ended range c now result (filled.last at) open_front h);
+      front = subst (λ (w : List ℕ). IsFront prefix range c w result now) (stays_so
+          ∙ so_far.grew) (ended prefix range c now result (filled.last at) open_front h);
     }
 
 -- the reader failed
-pub took_fault : {Reader : Type 0} (range now_range : RangeCfg) (from now_from : Reader) (a b c : Option (List ℕ)) (old held left now : List ℕ) (count : ℕ)
+pub took_fault : {Reader : Type 0} (prefix : Prefix) (range : RangeCfg) (from now_from : Reader) (a b c : Option (List ℕ)) (old held left now : List ℕ)
+    (count : ℕ)
     (error : FrameError)
-    → IsWaiting range now_range from now_from a b old held count → left ≡ held → now ≡ left → Keeps b c
-    → ((bytes : List ℕ) → bytes ≡ now → IsFront range c bytes (Err error) now) → TakesFrame range a c old now (Err error)
-took_fault range now_range from now_from a b c old held left now count error so_far same kept keeps h = record {
+    → IsWaiting prefix range from now_from a b old held count → left ≡ held → now ≡ left → Keeps b c
+    → ((bytes : List ℕ) → bytes ≡ now → IsFront prefix range c bytes (Err error) now) → TakesFrame prefix range a c old now (Err error)
+took_fault prefix range from now_from a b c old held left now count error so_far same kept keeps h = record {
   read = so_far.read;
   took = consumes_before a b c so_far.read so_far.took keeps;
   needed = so_far.needed;
@@ -247,9 +243,9 @@ took_fault range now_range from now_from a b c old held left now count error so_
 }
 
 -- as many reads as there can be gave no frame
-pub took_long : {Reader : Type 0} (range now_range : RangeCfg) (from now_from : Reader) (a b : Option (List ℕ)) (old now : List ℕ) (count : ℕ)
-    → IsWaiting range now_range from now_from a b old now count → 2 ^ 64 ≤ count + 1 → TakesFrame range a b old now (Err TooLong)
-took_long range now_range from now_from a b old now count so_far enough = record {
+pub took_long : {Reader : Type 0} (prefix : Prefix) (range : RangeCfg) (from now_from : Reader) (a b : Option (List ℕ)) (old now : List ℕ) (count : ℕ)
+    → IsWaiting prefix range from now_from a b old now count → 2 ^ 64 ≤ count + 1 → TakesFrame prefix range a b old now (Err TooLong)
+took_long prefix range from now_from a b old now count so_far enough = record {
   read = so_far.read;
   took = so_far.took;
   needed = so_far.needed;
@@ -258,46 +254,49 @@ took_long range now_range from now_from a b old now count so_far enough = record
 
 -- ---- the frames of the stream
 
-nothing_framed : (range : RangeCfg) (text : List ℕ) → text ≡ [] → HasNoFrame range text end.Open
-nothing_framed range text e = subst (λ (xs : List ℕ). HasNoFrame range xs end.Open) (sym e) (inl (none_high [] tt, (omega arith, tt)))
+nothing_framed : (prefix : Prefix) (range : RangeCfg) (text : List ℕ) → text ≡ [] → LacksFrame prefix range text end.Open
+nothing_framed prefix range text e = subst (λ (xs : List ℕ). LacksFrame prefix range xs end.Open) (sym e) (nothing_is_open prefix range)
 
 -- where a text has no frames, all of it is behind them
-all_behind : (range : RangeCfg) (text : List ℕ) (frames : List (List ℕ)) (stop : End) (rest : List ℕ) → IsFramed range text frames stop rest → frames ≡ []
+all_behind : (prefix : Prefix) (range : RangeCfg) (text : List ℕ) (frames : List (List ℕ)) (stop : End) (rest : List ℕ)
+    → IsFramedWith prefix range text frames stop rest → frames ≡ []
     → text ≡ rest
-all_behind range text frames stop rest is none = is.whole ∙ ap (λ fs. frames_written fs ++ rest) none
+all_behind prefix range text frames stop rest is none = is.whole ∙ ap (λ fs. all_written prefix fs ++ rest) none
 
-first_of : (range : RangeCfg) (old new bytes left : List ℕ) (result : Result (Option View) FrameError) (frames : List (List ℕ)) (stop : End) (rest : List ℕ)
-    → IsFront range (Some left) bytes result new → IsFramed range (bytes ++ left) frames stop rest → IsFirstOf range frames stop rest result (new ++ left)
-first_of range old new bytes left (Ok (Some body)) frames stop rest (admitted, whole) is =
-    first_is range (bytes ++ left) (new ++ left) body.bytes stop frames rest admitted
-    (ap (λ w. w ++ left) whole ∙ append_assoc (bytes_written body.bytes) new left) is
-first_of range old new bytes left (Ok None) frames stop rest (empty, gone, last) is =
+first_of : (prefix : Prefix) (range : RangeCfg) (old new bytes left : List ℕ) (result : Result (Option View) FrameError) (frames : List (List ℕ))
+    (stop : End) (rest : List ℕ)
+    → IsFront prefix range (Some left) bytes result new → IsFramedWith prefix range (bytes ++ left) frames stop rest
+    → IsFirstOf prefix range frames stop rest result (new ++ left)
+first_of prefix range old new bytes left (Ok (Some body)) frames stop rest (admitted, whole) is =
+    first_is prefix range (bytes ++ left) (new ++ left) body.bytes stop frames rest admitted
+    (ap (λ w. w ++ left) whole ∙ append_assoc (frame_written prefix body.bytes) new left) is
+first_of prefix range old new bytes left (Ok None) frames stop rest (empty, gone, last) is =
     let whole : bytes ++ left ≡ [] = ap (λ w. w ++ left) empty ∙ last in
-    let (none, stopped) = none_in_front range (bytes ++ left) stop end.Open frames rest (nothing_framed range (bytes ++ left) whole) is in
-    (none, sym (all_behind range (bytes ++ left) frames stop rest is none) ∙ whole, ap (λ w. w ++ left) gone ∙ last)
-first_of range old new bytes left (Err Cut) frames stop rest (same, some, open_front, last) is =
+    let (none, stopped) = none_in_front prefix range (bytes ++ left) stop end.Open frames rest (nothing_framed prefix range (bytes ++ left) whole) is in
+    (none, sym (all_behind prefix range (bytes ++ left) frames stop rest is none) ∙ whole, ap (λ w. w ++ left) gone ∙ last)
+first_of prefix range old new bytes left (Err Cut) frames stop rest (same, some, open_front, last) is =
     let whole : bytes ++ left ≡ bytes = ap (λ w. bytes ++ w) last ∙ append-nil bytes in
-    let (none, stopped) = none_in_front range (bytes ++ left) stop end.Open frames rest
-    (subst (λ (w : List ℕ). HasNoFrame range w end.Open) (sym whole) open_front) is in
-    let behind : bytes ++ left ≡ rest = all_behind range (bytes ++ left) frames stop rest is none in
+    let (none, stopped) = none_in_front prefix range (bytes ++ left) stop end.Open frames rest
+    (subst (λ (w : List ℕ). LacksFrame prefix range w end.Open) (sym whole) open_front) is in
+    let behind : bytes ++ left ≡ rest = all_behind prefix range (bytes ++ left) frames stop rest is none in
     (none, stopped, subst (λ (w : List ℕ). 0 < length w) (sym whole ∙ behind) some, ap (λ w. w ++ left) same ∙ behind)
-first_of range old new bytes left (Err (Bad error)) frames stop rest (same, bad) is =
-    let (none, stopped) = none_in_front range (bytes ++ left) stop (end.Bad error) frames rest (stays_bad range bytes left error bad) is in
-    (none, stopped, ap (λ w. w ++ left) same ∙ all_behind range (bytes ++ left) frames stop rest is none)
-first_of range old new bytes left (Err (Io error)) frames stop rest same is =
-    subst (λ (w : List ℕ). IsFramed range w frames stop rest) (ap (λ w. w ++ left) (sym same)) is
-first_of range old new bytes left (Err Memory) frames stop rest same is =
-    subst (λ (w : List ℕ). IsFramed range w frames stop rest) (ap (λ w. w ++ left) (sym same)) is
-first_of range old new bytes left (Err TooLong) frames stop rest (same, long) is =
-    subst (λ (w : List ℕ). IsFramed range w frames stop rest) (ap (λ w. w ++ left) (sym same)) is
+first_of prefix range old new bytes left (Err (Bad error)) frames stop rest (same, bad) is =
+    let (none, stopped) = none_in_front prefix range (bytes ++ left) stop (end.Bad error) frames rest (stays_bad prefix range bytes left error bad) is in
+    (none, stopped, ap (λ w. w ++ left) same ∙ all_behind prefix range (bytes ++ left) frames stop rest is none)
+first_of prefix range old new bytes left (Err (Io error)) frames stop rest same is =
+    subst (λ (w : List ℕ). IsFramedWith prefix range w frames stop rest) (ap (λ w. w ++ left) (sym same)) is
+first_of prefix range old new bytes left (Err Memory) frames stop rest same is =
+    subst (λ (w : List ℕ). IsFramedWith prefix range w frames stop rest) (ap (λ w. w ++ left) (sym same)) is
+first_of prefix range old new bytes left (Err TooLong) frames stop rest (same, long) is =
+    subst (λ (w : List ℕ). IsFramedWith prefix range w frames stop rest) (ap (λ w. w ++ left) (sym same)) is
 
 -- what `next` answers is the first of the frames of all bytes held and still to be read, or what their end says
-pub first_taken : (range : RangeCfg) (had has : Option (List ℕ)) (old new : List ℕ) (result : Result (Option View) FrameError)
-    → TakesFrame range had has old new result
+pub first_taken : (prefix : Prefix) (range : RangeCfg) (had has : Option (List ℕ)) (old new : List ℕ) (result : Result (Option View) FrameError)
+    → TakesFrame prefix range had has old new result
     → IfSome had (λ text. IfSome has (λ left. (frames : List (List ℕ)) (stop : End) (rest : List ℕ)
-    → IsFramed range (old ++ text) frames stop rest → IsFirstOf range frames stop rest result (new ++ left)))
-first_taken range None has old new result is = tt
-first_taken range (Some text) None old new result is = absurd is.took
-first_taken range (Some text) (Some left) old new result is = λ frames stop rest framed.
-    first_of range old new (old ++ is.read) left result frames stop rest is.front
-    (subst (λ (w : List ℕ). IsFramed range w frames stop rest) (ap (λ w. old ++ w) is.took ∙ sym (append_assoc old is.read left)) framed)
+    → IsFramedWith prefix range (old ++ text) frames stop rest → IsFirstOf prefix range frames stop rest result (new ++ left)))
+first_taken prefix range None has old new result is = tt
+first_taken prefix range (Some text) None old new result is = absurd is.took
+first_taken prefix range (Some text) (Some left) old new result is = λ frames stop rest framed.
+    first_of prefix range old new (old ++ is.read) left result frames stop rest is.front
+    (subst (λ (w : List ℕ). IsFramedWith prefix range w frames stop rest) (ap (λ w. old ++ w) is.took ∙ sym (append_assoc old is.read left)) framed)

@@ -1,4 +1,4 @@
--- Frames on a stream.
+-- Frames on a stream, of lengths that are written as a prefix says.
 --     held_bytes           the bytes that were read from it and not taken
 --     HasFrame             a whole frame stands in front
 --     IsMore, IsFilled     more bytes are held, which a reader gave; and there are some, or it is at its end
@@ -16,15 +16,15 @@ use Rattle.std.specs.Prelude.{◌≡◌, ◌⊎◌, ℕ, ◌+◌, ◌^◌, ◌<�
 use Rattle.std.specs.Io.KnownBytes.{Consumes, IsAtEnd}
 use Rattle.iobufs.specs.CallerFacts.{IsSent}
 use Rattle.iobufs_core.specs.View.{View}
-use Rattle.iobufs_core.specs.Wire.{bytes_written}
 use Rattle.iobufs_core.specs.declared.codec.base.BufError.{BufError}
 use Rattle.iobufs_core.specs.declared.codec.base.BufError.TheVariants as cause
 use Rattle.iobufs_core.specs.declared.codec.base.Error.{Error}
 use Rattle.iobufs_core.specs.declared.codec.base.Error.TheVariants as error
 use Rattle.iobufs_core.specs.declared.codec.base.RangeCfg.{RangeCfg}
-use Rattle.iobufs_frames.specs.Frames.{FirstTaken, HasNoFrame, IsAdmitted, IsFramed}
+use Rattle.iobufs_frames.specs.Frames.{CanFollow, FirstTakenWith, IsFramedWith, LacksFrame, frame_written}
 use Rattle.iobufs_frames.specs.declared.End.{End}
 use Rattle.iobufs_frames.specs.declared.End.TheVariants as end
+use Rattle.iobufs_frames.specs.declared.lengths.Prefix.{Prefix}
 use Rattle.iobufs_streams.specs.declared.error.FrameError.{FrameError}
 use Rattle.iobufs_streams.specs.declared.error.FrameError.TheVariants.{Bad, Cut, Memory, TooLong}
 use Rattle.iobufs_streams.specs.declared.held.Held.{Held}
@@ -34,11 +34,11 @@ abbrev pub held_bytes : Held → List ℕ
 held_bytes held = held.frames.bytes ++ take held.read held.piece.items
 
 -- a whole frame stands in front
-pub record HasFrame (range : RangeCfg) (bytes : List ℕ) : Type 0 where
+pub record HasFrame (prefix : Prefix) (range : RangeCfg) (bytes : List ℕ) : Type 0 where
   pub body : List ℕ
   pub more : List ℕ
-  pub admitted : IsAdmitted range body
-  pub whole : bytes ≡ bytes_written body ++ more
+  pub admitted : CanFollow prefix range body
+  pub whole : bytes ≡ frame_written prefix body ++ more
 
 -- bytes that a reader gave are held behind the others
 pub record IsMore (had has : Option (List ℕ)) (old new : List ℕ) : Type 0 where
@@ -53,14 +53,14 @@ pub record IsFilled (had has : Option (List ℕ)) (old new : List ℕ) (none : B
   pub last : none ≡ true → IsAtEnd has
 
 -- before the last of these bytes were read, no whole frame was held
-pub record WasNeeded (range : RangeCfg) (held read : List ℕ) : Type 0 where
+pub record WasNeeded (prefix : Prefix) (range : RangeCfg) (held read : List ℕ) : Type 0 where
   pub before : List ℕ
   pub last : List ℕ
   pub whole : read ≡ before ++ last
-  pub none : HasNoFrame range (held ++ before) end.Open
+  pub none : LacksFrame prefix range (held ++ before) end.Open
 
-abbrev pub IsNeeded : RangeCfg → List ℕ → List ℕ → Type 0
-IsNeeded range held read = (read ≡ []) ⊎ WasNeeded range held read
+abbrev pub IsNeeded : Prefix → RangeCfg → List ℕ → List ℕ → Type 0
+IsNeeded prefix range held read = (read ≡ []) ⊎ WasNeeded prefix range held read
 
 -- why no frame is taken, where none can be read, and where bytes can't be held
 abbrev pub fault_of_error : Error → FrameError
@@ -72,13 +72,13 @@ fault_of_cause cause.TooLong = TooLong
 fault_of_cause fault = Memory
 
 -- What taking a frame answers of the bytes that are held, and what it leaves of them
-abbrev pub IsHeldFront : RangeCfg → List ℕ → Result (Option View) FrameError → List ℕ → Type 0
-IsHeldFront range bytes (Ok (Some body)) left = IsAdmitted range body.bytes × (bytes ≡ bytes_written body.bytes ++ left)
-IsHeldFront range bytes (Ok None) left = (left ≡ bytes) × HasNoFrame range bytes end.Open
-IsHeldFront range bytes (Err (Bad error)) left = (left ≡ bytes) × HasNoFrame range bytes (end.Bad error)
-IsHeldFront range bytes (Err Memory) left = left ≡ bytes
-IsHeldFront range bytes (Err TooLong) left = (left ≡ bytes) × (2 ^ 64 ≤ length bytes)
-IsHeldFront range bytes (Err error) left = ⊥
+abbrev pub IsHeldFront : Prefix → RangeCfg → List ℕ → Result (Option View) FrameError → List ℕ → Type 0
+IsHeldFront prefix range bytes (Ok (Some body)) left = CanFollow prefix range body.bytes × (bytes ≡ frame_written prefix body.bytes ++ left)
+IsHeldFront prefix range bytes (Ok None) left = (left ≡ bytes) × LacksFrame prefix range bytes end.Open
+IsHeldFront prefix range bytes (Err (Bad error)) left = (left ≡ bytes) × LacksFrame prefix range bytes (end.Bad error)
+IsHeldFront prefix range bytes (Err Memory) left = left ≡ bytes
+IsHeldFront prefix range bytes (Err TooLong) left = (left ≡ bytes) × (2 ^ 64 ≤ length bytes)
+IsHeldFront prefix range bytes (Err error) left = ⊥
 
 -- What is answered of bytes that are no whole frame, where no more come
 abbrev pub IsEnd : List ℕ → Result (Option View) FrameError → Type 0
@@ -89,29 +89,30 @@ IsEnd bytes (Err error) = ⊥
 
 -- What taking a frame answers of all that was held and read for it. There is none only at the end of the stream;
 -- one that was begun there is cut.
-abbrev pub IsFront : RangeCfg → Option (List ℕ) → List ℕ → Result (Option View) FrameError → List ℕ → Type 0
-IsFront range has bytes (Ok (Some body)) left = IsAdmitted range body.bytes × (bytes ≡ bytes_written body.bytes ++ left)
-IsFront range has bytes (Ok None) left = (bytes ≡ []) × (left ≡ []) × IsAtEnd has
-IsFront range has bytes (Err Cut) left = (left ≡ bytes) × (0 < length bytes) × HasNoFrame range bytes end.Open × IsAtEnd has
-IsFront range has bytes (Err (Bad error)) left = (left ≡ bytes) × HasNoFrame range bytes (end.Bad error)
-IsFront range has bytes (Err TooLong) left = (left ≡ bytes) × (2 ^ 64 ≤ length bytes + 1)
-IsFront range has bytes (Err error) left = left ≡ bytes
+abbrev pub IsFront : Prefix → RangeCfg → Option (List ℕ) → List ℕ → Result (Option View) FrameError → List ℕ → Type 0
+IsFront prefix range has bytes (Ok (Some body)) left = CanFollow prefix range body.bytes × (bytes ≡ frame_written prefix body.bytes ++ left)
+IsFront prefix range has bytes (Ok None) left = (bytes ≡ []) × (left ≡ []) × IsAtEnd has
+IsFront prefix range has bytes (Err Cut) left = (left ≡ bytes) × (0 < length bytes) × LacksFrame prefix range bytes end.Open × IsAtEnd has
+IsFront prefix range has bytes (Err (Bad error)) left = (left ≡ bytes) × LacksFrame prefix range bytes (end.Bad error)
+IsFront prefix range has bytes (Err TooLong) left = (left ≡ bytes) × (2 ^ 64 ≤ length bytes + 1)
+IsFront prefix range has bytes (Err error) left = left ≡ bytes
 
 -- bytes were read, none more than a frame needs, and the frame in front was taken
-pub record TakesFrame (range : RangeCfg) (had has : Option (List ℕ)) (old new : List ℕ) (result : Result (Option View) FrameError) : Type 0 where
+pub record TakesFrame (prefix : Prefix) (range : RangeCfg) (had has : Option (List ℕ)) (old new : List ℕ) (result : Result
+    (Option View) FrameError) : Type 0 where
   pub read : List ℕ
   pub took : Consumes had has read
-  pub needed : IsNeeded range old read
-  pub front : IsFront range has (old ++ read) result new
+  pub needed : IsNeeded prefix range old read
+  pub front : IsFront prefix range has (old ++ read) result new
 
 -- The same of the frames of the whole stream: the first is taken, and the others are left; where there is none, the answer
 -- is by the end. What else is refused leaves all of them.
-abbrev pub IsFirstOf : RangeCfg → List (List ℕ) → End → List ℕ → Result (Option View) FrameError → List ℕ → Type 0
-IsFirstOf range frames stop rest (Ok (Some body)) left = FirstTaken range frames stop rest body.bytes left
-IsFirstOf range frames stop rest (Ok None) left = (frames ≡ []) × (rest ≡ []) × (left ≡ [])
-IsFirstOf range frames stop rest (Err Cut) left = (frames ≡ []) × (stop ≡ end.Open) × (0 < length rest) × (left ≡ rest)
-IsFirstOf range frames stop rest (Err (Bad error)) left = (frames ≡ []) × (stop ≡ end.Bad error) × (left ≡ rest)
-IsFirstOf range frames stop rest (Err error) left = IsFramed range left frames stop rest
+abbrev pub IsFirstOf : Prefix → RangeCfg → List (List ℕ) → End → List ℕ → Result (Option View) FrameError → List ℕ → Type 0
+IsFirstOf prefix range frames stop rest (Ok (Some body)) left = FirstTakenWith prefix range frames stop rest body.bytes left
+IsFirstOf prefix range frames stop rest (Ok None) left = (frames ≡ []) × (rest ≡ []) × (left ≡ [])
+IsFirstOf prefix range frames stop rest (Err Cut) left = (frames ≡ []) × (stop ≡ end.Open) × (0 < length rest) × (left ≡ rest)
+IsFirstOf prefix range frames stop rest (Err (Bad error)) left = (frames ≡ []) × (stop ≡ end.Bad error) × (left ≡ rest)
+IsFirstOf prefix range frames stop rest (Err error) left = IsFramedWith prefix range left frames stop rest
 
 -- a writer was sent a beginning of a text
 abbrev pub HasSent : Option (List ℕ) → Option (List ℕ) → List ℕ → Type 0

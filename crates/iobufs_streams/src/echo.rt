@@ -1,7 +1,7 @@
 //! Frames that are sent back as they come.
 ghost use Rattle.std.specs.Prelude.{◌≡◌, ◌++◌, [], IfSome, OnOk};
 ghost use Rattle.std.specs.Io.KnownBytes.{Appends};
-ghost use Rattle.iobufs_core.specs.Wire.{bytes_written};
+ghost use Rattle.iobufs_frames.specs.Frames.{frame_written};
 ghost use Rattle.iobufs_streams.specs.Streams.{HasSent, held_bytes};
 
 use crate::error::FrameError;
@@ -21,9 +21,10 @@ fn send_frame<W: Write + Drop>(
     body: IoBuf,
 ) -> Result<(), FrameError>
     requires { to.old.rest.bytes ≡ [] }
-    ensures sent { HasSent (W.contents to.old.to) (W.contents to.new.to) (bytes_written body.bytes) }
-    ensures all { OnOk result (Appends (W.contents to.old.to) (W.contents to.new.to) (bytes_written body.bytes)) }
+    ensures sent { HasSent (W.contents to.old.to) (W.contents to.new.to) (frame_written to.old.prefix body.bytes) }
+    ensures all { OnOk result (Appends (W.contents to.old.to) (W.contents to.new.to) (frame_written to.old.prefix body.bytes)) }
     ensures empty { OnOk result (to.new.rest.bytes ≡ []) }
+    ensures prefix { to.new.prefix ≡ to.old.prefix }
 {
     if let Err(refused) = to.put(alloc, IoBufs::from(body)) {
         return Err(match refused.cause {
@@ -35,17 +36,17 @@ fn send_frame<W: Write + Drop>(
     to.to.flush().map_err(FrameError::Io)
 }
 
-/// Sends each frame back as soon as it came, until the input ends between two frames. What was sent is a beginning of what
-/// came, whatever the answer.
+/// Sends each frame back as soon as it came, until the input ends between two frames. Where both write lengths alike, what
+/// was sent is a beginning of what came, whatever the answer.
 pub fn echo<R: Read + Drop, W: Write + Drop>(
     alloc: Global,
     from: &mut FrameReader<R>,
     to: &mut FrameWriter<W>,
 ) -> Result<(), FrameError>
     requires { to.old.rest.bytes ≡ [] }
-    ensures all { OnOk result (IfSome (R.remaining from.old.from)
+    ensures all { from.old.prefix ≡ to.old.prefix → OnOk result (IfSome (R.remaining from.old.from)
         (λ text. Appends (W.contents to.old.to) (W.contents to.new.to) (held_bytes from.old.held ++ text))) }
-    ensures begun { IfSome (R.remaining from.old.from)
+    ensures begun { from.old.prefix ≡ to.old.prefix → IfSome (R.remaining from.old.from)
         (λ text. HasSent (W.contents to.old.to) (W.contents to.new.to) (held_bytes from.old.held ++ text)) }
 {
     for _ in 0..u64::MAX {

@@ -4,7 +4,7 @@ ghost use Rattle.std.specs.IoError.{error_kind};
 ghost use Rattle.std.specs.declared.io.ErrorKind.TheVariants.{Interrupted};
 ghost use Rattle.std.specs.Io.{ReadsAtMost};
 ghost use Rattle.std.specs.Io.KnownBytes.{Keeps, ReadConsumes};
-ghost use Rattle.iobufs_frames.specs.Frames.{IsFramed};
+ghost use Rattle.iobufs_frames.specs.Frames.{IsFramedWith};
 ghost use Rattle.iobufs_frames.specs.declared.End.{End};
 ghost use Rattle.iobufs_streams.specs.Streams.{HasFrame, IsEnd, IsFilled, IsFirstOf, IsHeldFront, TakesFrame, fault_of_cause, fault_of_error, held_bytes};
 
@@ -12,7 +12,7 @@ use crate::error::FrameError;
 use crate::held::Held;
 use iobufs_core::buf::IoBuf;
 use iobufs_core::codec::{BufError, Error, RangeCfg};
-use iobufs_frames::Frames;
+use iobufs_frames::{Frames, Prefix};
 use std::alloc::{AllocError, Global};
 use std::io::{self, ErrorKind, Read};
 
@@ -85,12 +85,19 @@ impl Held {
     }
 
     // Takes the whole frame in front of all that was read.
-    fn next(&mut self, alloc: Global, range: &RangeCfg) -> Result<Option<IoBuf>, FrameError>
-        ensures front { IsHeldFront range.now (held_bytes self.old) result (held_bytes self.new) }
+    fn next(
+        &mut self,
+        alloc: Global,
+        prefix: Prefix,
+        range: &RangeCfg,
+    ) -> Result<Option<IoBuf>, FrameError>
+        ensures front { IsHeldFront prefix range.now (held_bytes self.old) result (held_bytes self.new) }
         ensures fed { IfOk result (λ found. IfNone found (self.new.read ≡ 0)) }
     {
         self.feed(alloc).map_err(fault_of_holding)?;
-        self.frames.next(alloc, range).map_err(fault_of)
+        self.frames
+            .next_with(alloc, prefix, range)
+            .map_err(fault_of)
     }
 
     // Reads once behind what is held, and says whether no byte came.
@@ -116,6 +123,33 @@ impl Held {
             Err(FrameError::Cut)
         }
     }
+    // Takes the frame that comes next out of what is held and what a reader gives.
+    fn take<R: Read>(
+        &mut self,
+        alloc: Global,
+        from: &mut R,
+        prefix: Prefix,
+        range: &RangeCfg,
+    ) -> Result<Option<IoBuf>, FrameError>
+        ensures next { TakesFrame prefix range.now (R.remaining from.old) (R.remaining from.new) (held_bytes self.old) (held_bytes self.new) result }
+        ensures ready { HasFrame prefix range.now (held_bytes self.old) → from.new ≡ from.old }
+    {
+        for _ in 0..u64::MAX {
+            match self.next(alloc, prefix, range) {
+                Ok(Some(body)) => return Ok(Some(body)),
+                Err(error) => return Err(error),
+                Ok(None) => {}
+            }
+            let is_end = match self.fill(from) {
+                Ok(none) => none,
+                Err(error) => return Err(FrameError::Io(error)),
+            };
+            if is_end {
+                return self.end();
+            }
+        }
+        Err(FrameError::TooLong)
+    }
 }
 
 /// A reader out of which whole frames are taken, of lengths in a range.
@@ -123,6 +157,8 @@ impl Held {
 pub struct FrameReader<R> {
     /// The reader.
     pub from: R,
+    /// How the lengths are written.
+    pub prefix: Prefix,
     /// The lengths that a body may have.
     pub range: RangeCfg,
     /// What was read from it and not taken.
@@ -130,42 +166,52 @@ pub struct FrameReader<R> {
 }
 
 impl<R: Read + Drop> FrameReader<R> {
-    /// Frames out of this reader, of which nothing was read.
+    /// Frames behind spelled lengths out of this reader, of which nothing was read.
     pub fn new(alloc: Global, from: R, range: RangeCfg) -> Result<FrameReader<R>, AllocError>
         ensures from { IfOk result (λ reader. reader.from ≡ from) }
+        ensures prefix { IfOk result (λ reader. reader.prefix ≡ Prefix.Spelled) }
+        ensures range { IfOk result (λ reader. reader.range ≡ range) }
+        ensures empty { IfOk result (λ reader. held_bytes reader.held ≡ []) }
+    {
+        FrameReader::with_prefix(alloc, from, Prefix::Spelled, range)
+    }
+
+    /// The same of lengths that are written in another way.
+    pub fn with_prefix(
+        alloc: Global,
+        from: R,
+        prefix: Prefix,
+        range: RangeCfg,
+    ) -> Result<FrameReader<R>, AllocError>
+        ensures from { IfOk result (λ reader. reader.from ≡ from) }
+        ensures prefix { IfOk result (λ reader. reader.prefix ≡ prefix) }
         ensures range { IfOk result (λ reader. reader.range ≡ range) }
         ensures empty { IfOk result (λ reader. held_bytes reader.held ≡ []) }
     {
         let held = Held::new(alloc)?;
-        Ok(FrameReader { from, range, held })
+        Ok(FrameReader {
+            from,
+            prefix,
+            range,
+            held,
+        })
     }
 
     /// Takes the frame that comes next; none at the end of the input. It is answered as soon as it is held whole: no read
     /// is begun that it doesn't need. Whatever is refused, no byte is lost: what was read is held, and it may be called
     /// again.
     pub fn next(&mut self, alloc: Global) -> Result<Option<IoBuf>, FrameError>
-        ensures next { TakesFrame self.old.range (R.remaining self.old.from) (R.remaining self.new.from) (held_bytes self.old.held) (held_bytes self.new.held)
-            result }
-        ensures ready { HasFrame self.old.range (held_bytes self.old.held) → self.new.from ≡ self.old.from }
+        ensures next { TakesFrame self.old.prefix self.old.range (R.remaining self.old.from) (R.remaining self.new.from) (held_bytes self.old.held)
+            (held_bytes self.new.held) result }
+        ensures ready { HasFrame self.old.prefix self.old.range (held_bytes self.old.held) → self.new.from ≡ self.old.from }
         ensures first { IfSome (R.remaining self.old.from) (λ old. IfSome (R.remaining self.new.from) (λ new.
-            (frames : List (List ℕ)) (stop : End) (rest : List ℕ) → IsFramed self.old.range (held_bytes self.old.held ++ old) frames stop rest
-            → IsFirstOf self.old.range frames stop rest result (held_bytes self.new.held ++ new))) }
+            (frames : List (List ℕ)) (stop : End) (rest : List ℕ)
+            → IsFramedWith self.old.prefix self.old.range (held_bytes self.old.held ++ old) frames stop rest
+            → IsFirstOf self.old.prefix self.old.range frames stop rest result (held_bytes self.new.held ++ new))) }
+        ensures prefix { self.new.prefix ≡ self.old.prefix }
         ensures range { self.new.range ≡ self.old.range }
     {
-        for _ in 0..u64::MAX {
-            match self.held.next(alloc, &self.range) {
-                Ok(Some(body)) => return Ok(Some(body)),
-                Err(error) => return Err(error),
-                Ok(None) => {}
-            }
-            let is_end = match self.held.fill(&mut self.from) {
-                Ok(none) => none,
-                Err(error) => return Err(FrameError::Io(error)),
-            };
-            if is_end {
-                return self.held.end();
-            }
-        }
-        Err(FrameError::TooLong)
+        self.held
+            .take(alloc, &mut self.from, self.prefix, &self.range)
     }
 }

@@ -1,5 +1,5 @@
 //! Frames as lists of chunks, whatever a write takes.
-ghost use Rattle.std.specs.Prelude.{◌≡◌, ◌≢◌, ◌+◌, ◌^◌, ◌<◌, ◌≤◌, [], length, map, nat_eq, take, IfErr, IfOk, IsOkUnless, OnErr, OnOk};
+ghost use Rattle.std.specs.Prelude.{◌≡◌, ◌≢◌, ◌+◌, ◌^◌, ◌<◌, ◌≤◌, [], length, map, nat_eq, take, IfErr, IfOk, IsErrAnd, OnErr, OnOk};
 ghost use Rattle.std.specs.IoError.{error_kind};
 ghost use Rattle.std.specs.declared.io.ErrorKind.TheVariants.{Interrupted, OutOfMemory};
 ghost use Rattle.std.specs.Io.KnownBytes.{Appends, WriteAppends};
@@ -7,46 +7,27 @@ ghost use Rattle.std.specs.Io.{WritesAtMost};
 ghost use Rattle.std.specs.Io.Slices.{io_slice_bytes, io_slices_bytes};
 ghost use Rattle.iobufs.specs.CallerFacts.{IsSent};
 ghost use Rattle.iobufs_core.specs.MarkedText.{text_chunks};
-ghost use Rattle.iobufs_core.specs.Spelling.{spell};
 ghost use Rattle.iobufs_core.specs.Wire.{bytes_written};
+ghost use Rattle.iobufs_frames.specs.Frames.{frame_written};
+ghost use Rattle.iobufs_frames.specs.Prefixes.{prefix_limit};
 
 use iobufs::bufs::IoBufs;
-use iobufs_core::buf::IoBuf;
-use iobufs_core::codec::{Buf, BufError, Encode, Refused};
+use iobufs_core::codec::{Buf, BufError, Refused};
+use iobufs_frames::{Prefix, framed_with};
 use std::alloc::Global;
 use std::io::{self, ErrorKind, IoSlice, Write};
 
 // How many chunks are handed over at a time.
 const BATCH: usize = 64;
 
-// A length as it is spelled.
-fn spelled(alloc: Global, n: usize) -> Result<IoBuf, BufError>
-    ensures bytes { IfOk result (λ view. view.bytes ≡ spell n) }
-    ensures memory { IsOkUnless result BufError.Memory }
-{
-    match n.encode(alloc) {
-        Ok(part) => part.freeze(),
-        Err(_) => Err(BufError::Memory),
-    }
-}
-
-/// A body behind its length; its chunks aren't copied. `BufError::TooLong` only where both are longer than `usize::MAX`.
-pub fn framed(alloc: Global, mut body: IoBufs) -> Result<IoBufs, Refused<IoBufs>>
+/// A body behind its spelled length; its chunks aren't copied. `BufError::TooLong` only where both are longer than
+/// `usize::MAX`.
+pub fn framed(alloc: Global, body: IoBufs) -> Result<IoBufs, Refused<IoBufs>>
     ensures bytes { IfOk result (λ text. text.bytes ≡ bytes_written body.bytes) }
     ensures handed_back { IfErr result (λ refused. refused.value ≡ body) }
     ensures memory { length (bytes_written body.bytes) < 2 ^ 64 → IfErr result (λ refused. refused.cause ≡ BufError.Memory) }
 {
-    let length = match spelled(alloc, body.len()) {
-        Ok(length) => length,
-        Err(cause) => return Err(Refused { cause, value: body }),
-    };
-    match body.prepend(alloc, length) {
-        Ok(()) => Ok(body),
-        Err(refused) => Err(Refused {
-            cause: refused.cause,
-            value: body,
-        }),
-    }
+    framed_with(alloc, Prefix::Spelled, body)
 }
 
 // The first chunks of a text.
@@ -109,18 +90,31 @@ fn send_batch<W: Write>(alloc: Global, to: &mut W, text: &mut IoBufs) -> io::Res
 pub struct FrameWriter<W> {
     /// The writer.
     pub to: W,
+    /// How the lengths are written.
+    pub prefix: Prefix,
     /// What it didn't take yet of the frame that was put last.
     pub rest: IoBufs,
 }
 
 impl<W: Write + Drop> FrameWriter<W> {
-    /// Frames to this writer.
+    /// Frames behind spelled lengths to this writer.
     pub fn new(to: W) -> FrameWriter<W>
         ensures to { result.to ≡ to }
+        ensures prefix { result.prefix ≡ Prefix.Spelled }
+        ensures empty { result.rest.bytes ≡ [] }
+    {
+        FrameWriter::with_prefix(to, Prefix::Spelled)
+    }
+
+    /// The same of lengths that are written in another way.
+    pub fn with_prefix(to: W, prefix: Prefix) -> FrameWriter<W>
+        ensures to { result.to ≡ to }
+        ensures prefix { result.prefix ≡ prefix }
         ensures empty { result.rest.bytes ≡ [] }
     {
         FrameWriter {
             to,
+            prefix,
             rest: IoBufs::default(),
         }
     }
@@ -132,17 +126,22 @@ impl<W: Write + Drop> FrameWriter<W> {
         self.rest.is_empty()
     }
 
-    /// Begins a frame of this body, none of which is sent yet. `BufError::TooLong` only where it is longer than
-    /// `usize::MAX`.
+    /// Begins a frame of this body, none of which is sent yet. `BufError::TooLong` where its length can't be written so
+    /// (see `Prefix::fits`), or both are longer than `usize::MAX`.
     pub fn put(&mut self, alloc: Global, body: IoBufs) -> Result<(), Refused<IoBufs>>
         requires { self.old.rest.bytes ≡ [] }
-        ensures put { OnOk result (self.new.rest.bytes ≡ bytes_written body.bytes) }
+        ensures put { OnOk result (self.new.rest.bytes ≡ frame_written self.old.prefix body.bytes) }
         ensures to { self.new.to ≡ self.old.to }
+        ensures prefix { self.new.prefix ≡ self.old.prefix }
         ensures refused { OnErr result (self.new.rest ≡ self.old.rest) }
         ensures handed_back { IfErr result (λ refused. refused.value ≡ body) }
-        ensures memory { length (bytes_written body.bytes) < 2 ^ 64 → IfErr result (λ refused. refused.cause ≡ BufError.Memory) }
+        ensures too_long { prefix_limit self.old.prefix ≤ length body.bytes → IsErrAnd result (λ refused. refused.cause ≡ BufError.TooLong) }
+        ensures both_too_long { 2 ^ 64 ≤ length (frame_written self.old.prefix body.bytes)
+            → IsErrAnd result (λ refused. refused.cause ≡ BufError.TooLong) }
+        ensures memory { length body.bytes < prefix_limit self.old.prefix → length (frame_written self.old.prefix body.bytes) < 2 ^ 64
+            → IfErr result (λ refused. refused.cause ≡ BufError.Memory) }
     {
-        self.rest = framed(alloc, body)?;
+        self.rest = framed_with(alloc, self.prefix, body)?;
         Ok(())
     }
 
@@ -152,6 +151,7 @@ impl<W: Write + Drop> FrameWriter<W> {
     #[tactic(auto, using(iobufs::specs::CallerFacts::sending))]
     pub fn send(&mut self, alloc: Global) -> io::Result<()>
         ensures sent { IsSent (W.contents self.old.to) (W.contents self.new.to) self.old.rest.bytes self.new.rest.bytes }
+        ensures prefix { self.new.prefix ≡ self.old.prefix }
         ensures all { OnOk result (self.new.rest.bytes ≡ []) }
         ensures left { OnErr result (0 < length self.new.rest.bytes) }
         ensures contents { OnOk result (Appends (W.contents self.old.to) (W.contents self.new.to) self.old.rest.bytes) }

@@ -1,16 +1,16 @@
 use Rattle.iobufs_frames.specs.FrameFacts.{begins_open, stays_bad}
-use Rattle.iobufs_frames.proofs.FrameLaws.{framed, framed_once}
+use Rattle.iobufs_frames.specs.declared.lengths.Prefix.TheVariants.{Spelled}
+use Rattle.iobufs_frames.proofs.FrameLaws.{framed, one_reading}
 use Rattle.iobufs_frames.proofs.frames_law.Goals as goal
 
 pub returns-clause-one : goal.returns-clause-one
-returns-clause-one c = λ range text frames others end stop rest left is too.
-    framed_once range text frames others end stop rest left is.whole is.admitted is.ends too.whole too.admitted too.ends
+returns-clause-one c = one_reading Spelled
 
 pub returns-clause-some : goal.returns-clause-some
-returns-clause-some c = framed
+returns-clause-some c = framed Spelled
 
 pub returns-clause-begun : goal.returns-clause-begun
-returns-clause-begun c = begins_open
+returns-clause-begun c = begins_open Spelled
 
 pub returns-clause-bad : goal.returns-clause-bad
-returns-clause-bad c = stays_bad
+returns-clause-bad c = stays_bad Spelled

@@ -2,6 +2,7 @@ use Rattle.std.proofs.Common.{◌≡◌, length, subst, IfOk, IfSome}
 use Rattle.iobufs_core.specs.Wire.{view_written}
 use Rattle.iobufs_core.specs.MarkedText.{MarkedText, text_rest}
 use Rattle.iobufs_frames.specs.Frames.{IsBehindLength, IsNext}
+use Rattle.iobufs_frames.specs.declared.lengths.Prefix.TheVariants.{Spelled}
 use Rattle.iobufs_frames.proofs.FrameLaws.{first_of_next, next_is, taken_body, taken_rest}
 use Rattle.iobufs_frames.proofs.Frames.next.Goals as goal
 
@@ -15,7 +16,7 @@ returns-clause-next c =
 -- src/lib.rt:73:5
 pub returns-clause-first : goal.returns-clause-first
 returns-clause-first c =
-    first_of_next c.args.range.now c.args.self.now.bytes c.read_cfg.new.buf.bytes c.found.result (returns-clause-next c)
+    first_of_next Spelled c.args.range.now c.args.self.now.bytes c.read_cfg.new.buf.bytes c.found.result (returns-clause-next c)
 
 pub returns-clause-left : goal.returns-clause-left
 returns-clause-left c =

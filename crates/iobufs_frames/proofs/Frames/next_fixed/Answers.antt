@@ -5,7 +5,8 @@ use Rattle.iobufs_core.specs.LengthFacts.{less}
 use Rattle.iobufs_core.specs.MarkedText.{MarkedText, taken_view, text_len, text_rest}
 use Rattle.iobufs_frames.specs.Prefixes.{IsLengthAt, prefix_written}
 use Rattle.iobufs_frames.specs.declared.lengths.Prefix.TheVariants.{Fixed}
-use Rattle.iobufs_frames.proofs.PrefixLaws.{IsTakenWith, form_of, taken-with, wanted-with, within-with}
+use Rattle.iobufs_frames.specs.PrefixFacts.{form_of}
+use Rattle.iobufs_frames.proofs.PrefixLaws.{IsTakenWith, taken-with, wanted-with, within-with}
 use Rattle.iobufs_frames.proofs.Frames.next_fixed.Goals as goal
 
 -- the body that was taken

@@ -1,20 +1,19 @@
 use Rattle.std.proofs.Common.{subst, sym}
-use Rattle.iobufs_frames.specs.Prefixes.{IsNextWith}
+use Rattle.iobufs_frames.specs.Frames.{IsNextWith}
 use Rattle.iobufs_frames.specs.declared.lengths.Prefix.{Prefix}
-use Rattle.iobufs_frames.proofs.PrefixReadings.{first_of_next-with, spelled_next}
+use Rattle.iobufs_frames.proofs.FrameLaws.{first_of_next}
 use Rattle.iobufs_frames.proofs.Frames.next_with.Goals as goal
 
 pub returns-in-Spelled-clause-first : goal.returns-in-Spelled-clause-first
 returns-in-Spelled-clause-first c =
     let old = c.args.self.now.bytes in
     let new = c.next.new.self.bytes in
-    first_of_next-with c.args.prefix c.args.range.now old new c.next.result
-    (subst (λ (p : Prefix). IsNextWith p c.args.range.now old c.next.result new) (sym c.in-Spelled.is)
-    (spelled_next c.args.range.now old new c.next.result c.next.ensures.next))
+    first_of_next c.args.prefix c.args.range.now old new c.next.result
+    (subst (λ (p : Prefix). IsNextWith p c.args.range.now old c.next.result new) (sym c.in-Spelled.is) c.next.ensures.next)
 
 pub returns-in-Fixed-clause-first : goal.returns-in-Fixed-clause-first
 returns-in-Fixed-clause-first c =
     let old = c.args.self.now.bytes in
     let new = c.next_fixed.new.self.bytes in
-    first_of_next-with c.args.prefix c.args.range.now old new c.next_fixed.result
+    first_of_next c.args.prefix c.args.range.now old new c.next_fixed.result
     (subst (λ (p : Prefix). IsNextWith p c.args.range.now old c.next_fixed.result new) (sym c.in-Fixed.is) c.next_fixed.ensures.next)

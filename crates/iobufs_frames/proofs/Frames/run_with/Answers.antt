@@ -4,17 +4,17 @@ use Rattle.iobufs_core.specs.View.{View}
 use Rattle.iobufs_frames.specs.Frames.{joined_bytes}
 use Rattle.iobufs_frames.proofs.FrameLaws.{start}
 use Rattle.iobufs_frames.proofs.MarkLaws.{started}
-use Rattle.iobufs_frames.proofs.Frames.run.Goals as goal
+use Rattle.iobufs_frames.proofs.Frames.run_with.Goals as goal
 
 -- src/lib.rt:169:9
 pub loop-piece-init : goal.loop-piece-init
 loop-piece-init c = record {
   text = [];
-  framed = start c.args.range.now c.new-found.result.items c.default-frames.result.bytes c.new-found.ensures.items
+  framed = start c.args.prefix c.args.range.now c.new-found.result.items c.default-frames.result.bytes c.new-found.ensures.items
       (ap (λ (t : MarkedText). t.bytes) c.default-frames.ensures);
   whole = refl;
   fed = [];
-  marks = started c.new-found.result.items c.default-frames.result c.new-found.ensures.items c.default-frames.ensures;
+  marks = started c.args.prefix c.new-found.result.items c.default-frames.result c.new-found.ensures.items c.default-frames.ensures;
   listed = refl;
   fewer = omega arith;
 }

@@ -1,18 +1,18 @@
 use Rattle.std.proofs.Common.{◌≡◌, ◌≤◌, ℕ, List, ◌++◌, length}
 use Rattle.iobufs_core.specs.MarkedText.{joined}
 use Rattle.iobufs_core.specs.View.{View}
-use Rattle.iobufs_frames.specs.Frames.{IsFramed, IsTakenApart, bodies, joined_bytes}
-use Rattle.iobufs_frames.proofs.Frames.run.Given as goal
+use Rattle.iobufs_frames.specs.Frames.{IsFramedWith, IsTakenApartWith, bodies, joined_bytes}
+use Rattle.iobufs_frames.proofs.Frames.run_with.Given as goal
 
 -- what was fed so far is these frames and the rest, with their marks, and with what is still to be fed it is the whole
 -- text; no more pieces are to be fed than there were
 abbrev pub invariant-loop-piece : goal.invariant-loop-piece
 invariant-loop-piece l = record {
   text : List ℕ;
-  framed : IsFramed l.range text (bodies l.found.items) l.stop l.frames.bytes;
+  framed : IsFramedWith l.prefix l.range text (bodies l.found.items) l.stop l.frames.bytes;
   whole : text ++ joined_bytes l.piece-iterator.rest.items ≡ joined_bytes l.initial.piece-iterator.rest.items;
   fed : List View;
-  marks : IsTakenApart (joined fed) l.found.items l.frames;
+  marks : IsTakenApartWith l.prefix (joined fed) l.found.items l.frames;
   listed : fed ++ l.piece-iterator.rest.items ≡ l.initial.piece-iterator.rest.items;
   fewer : length l.piece-iterator.rest.items ≤ length l.initial.piece-iterator.rest.items;
 }

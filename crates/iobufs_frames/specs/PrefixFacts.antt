@@ -1,0 +1,160 @@
+-- Facts about lengths in front of a text, for callers.
+--     form_of              numbers of one size are written in so many bytes, and no two alike
+--     one_length           a text begins with one length
+--     length-there,        a length stands in front only where its bytes are there, so none where there are fewer than
+--     too_few              a number has
+--     length-before,       a length that was written stands in front, also that of a body; and stays whatever follows,
+--     length-in_front,     or where less does
+--     length-later,
+--     length-sooner
+--     one_front            one body stands in front, and one text behind it
+--     some_length          a length stands in front, or none does
+--     may_be_open          more bytes could make one, or can't
+use Rattle.std.proofs.Common.{◌≡◌, ◌⊎◌, inl, inr, ℕ, ◌<◌, ◌≤◌, Bool, true, false, List, ◌++◌, length, take, refl, ap, sym, subst, ◌∙◌, arith, append_assoc, length-take}
+use Rattle.std.proofs.lemmas.Bool.{false≢true}
+use Rattle.std.proofs.lemmas.List.{append_cancel_left, take-append-le}
+use Rattle.std.proofs.lemmas.Nat.{from_be_bytes-to_be_bytes_2, from_be_bytes-to_be_bytes_4, from_be_bytes-to_be_bytes_8, from_le_bytes-to_le_bytes_2, from_le_bytes-to_le_bytes_4, from_le_bytes-to_le_bytes_8}
+use Rattle.std.proofs.lemmas.Slice.Eq.{bytes_eq-Decides}
+use Rattle.std.proofs.Math.Seq.{take-append_seam}
+use Rattle.std.specs.Int.{w16, w32, w64, from_be_bytes, from_le_bytes}
+use Rattle.std.specs.Str.{bytes_eq}
+use Rattle.iobufs_core.specs.LengthFacts.{has_length, less, opened}
+use Rattle.iobufs_core.specs.NumberLaws.{form_16, form_32, form_64}
+use Rattle.iobufs_core.specs.ReadLaws.{IsNumberForm}
+use Rattle.iobufs_core.specs.Spelled.{spelled_as_one}
+use Rattle.iobufs_frames.specs.Frames.{frame_written}
+use Rattle.iobufs_frames.specs.Prefixes.{HasNoLengthAt, IsLengthAt, IsOpenAt, int_width, prefix_limit, prefix_written, width_size}
+use Rattle.iobufs_frames.specs.declared.lengths.ByteOrder.{ByteOrder}
+use Rattle.iobufs_frames.specs.declared.lengths.ByteOrder.TheVariants.{Big, Little}
+use Rattle.iobufs_frames.specs.declared.lengths.Prefix.{Prefix}
+use Rattle.iobufs_frames.specs.declared.lengths.Prefix.TheVariants.{Spelled, Fixed}
+use Rattle.iobufs_frames.specs.declared.lengths.Width.{Width}
+use Rattle.iobufs_frames.specs.declared.lengths.Width.TheVariants.{U16, U32, U64}
+
+-- numbers of one size are written in so many bytes, and no two alike
+pub form_of : (width : Width) (order : ByteOrder) → IsNumberForm (prefix_written (Fixed width order)) (width_size width)
+form_of U16 Big = form_16
+form_of U32 Big = form_32
+form_of U64 Big = form_64
+form_of U16 Little = record {
+  long = λ n. refl;
+  one = λ m n p q e. sym (from_le_bytes-to_le_bytes_2 m p) ∙ ap (from_le_bytes w16) e ∙ from_le_bytes-to_le_bytes_2 n q;
+}
+form_of U32 Little = record {
+  long = λ n. refl;
+  one = λ m n p q e. sym (from_le_bytes-to_le_bytes_4 m p) ∙ ap (from_le_bytes w32) e ∙ from_le_bytes-to_le_bytes_4 n q;
+}
+form_of U64 Little = record {
+  long = λ n. refl;
+  one = λ m n p q e. sym (from_le_bytes-to_le_bytes_8 m p) ∙ ap (from_le_bytes w64) e ∙ from_le_bytes-to_le_bytes_8 n q;
+}
+
+-- a length stands in front only where its bytes are there
+pub length-there : (prefix : Prefix) (bytes : List ℕ) (n : ℕ) → IsLengthAt prefix bytes n → length (prefix_written prefix n) ≤ length bytes
+length-there prefix bytes n (small, is) =
+    let k = length (prefix_written prefix n) in
+    omega (arith, length-take k bytes, ap length is)
+
+-- where there are fewer bytes than a number has, none stands
+pub too_few : (width : Width) (order : ByteOrder) (bytes : List ℕ) → length bytes < width_size width → HasNoLengthAt (Fixed width order) bytes
+too_few width order bytes few n at =
+    let there = length-there (Fixed width order) bytes n at in
+    absurd (omega (arith, few, there, (form_of width order).long n))
+
+-- a text begins with one length
+pub one_length : (prefix : Prefix) (bytes : List ℕ) (m n : ℕ) → IsLengthAt prefix bytes m → IsLengthAt prefix bytes n → m ≡ n
+one_length Spelled bytes m n p q = spelled_as_one bytes m n p q
+one_length (Fixed width order) bytes m n (small, p) (least, q) =
+    let form = form_of width order in
+    form.one m n small least (sym p ∙ ap (λ k. take k bytes) (form.long m ∙ sym (form.long n)) ∙ q)
+
+-- a length that was written stands in front
+pub length-before : (prefix : Prefix) (n : ℕ) (rest : List ℕ) → n < prefix_limit prefix → IsLengthAt prefix (prefix_written prefix n ++ rest) n
+length-before prefix n rest small = (small, take-append_seam (prefix_written prefix n) rest)
+
+pub length-in_front : (prefix : Prefix) (body more : List ℕ) → length body < prefix_limit prefix
+    → IsLengthAt prefix (frame_written prefix body ++ more) (length body)
+length-in_front prefix body more small =
+    subst (λ (xs : List ℕ). IsLengthAt prefix xs (length body)) (sym (append_assoc (prefix_written prefix (length body)) body more))
+    (length-before prefix (length body) (body ++ more) small)
+
+-- one body stands in front, and one text behind it
+pub one_front : (prefix : Prefix) (a b x y : List ℕ) → length a < prefix_limit prefix → length b < prefix_limit prefix
+    → frame_written prefix a ++ x ≡ frame_written prefix b ++ y → (a ≡ b) × (x ≡ y)
+one_front prefix a b x y small least e =
+    let w = prefix_written prefix in
+    let long : length a ≡ length b = one_length prefix (frame_written prefix a ++ x) (length a) (length b) (length-in_front prefix a x small)
+    (subst (λ (xs : List ℕ). IsLengthAt prefix xs (length b)) (sym e) (length-in_front prefix b y least)) in
+    let whole : w (length a) ++ (a ++ x) ≡ w (length b) ++ (b ++ y) = sym (append_assoc (w (length a)) a x) ∙ e ∙ append_assoc (w (length b)) b y in
+    let tail : a ++ x ≡ b ++ y = append_cancel_left (w (length a)) (a ++ x) (b ++ y) (whole ∙ ap (λ n. w n ++ (b ++ y)) (sym long)) in
+    let same : a ≡ b = sym (take-append_seam a x) ∙ ap (take (length a)) tail ∙ ap (λ n. take n (b ++ y)) long ∙ take-append_seam b y in
+    (same, append_cancel_left a x y (tail ∙ ap (λ w. w ++ y) (sym same)))
+
+-- a length stays in front whatever follows
+pub length-later : (prefix : Prefix) (bytes more : List ℕ) (n : ℕ) → IsLengthAt prefix bytes n → IsLengthAt prefix (bytes ++ more) n
+length-later prefix bytes more n at =
+    (at.0, take-append-le (length (prefix_written prefix n)) bytes more (length-there prefix bytes n at) ∙ at.1)
+
+pub length-sooner : (prefix : Prefix) (bytes more : List ℕ) (n : ℕ) → length (prefix_written prefix n) ≤ length bytes → IsLengthAt prefix (bytes ++ more) n
+    → IsLengthAt prefix bytes n
+length-sooner prefix bytes more n l at = (at.0, sym (take-append-le (length (prefix_written prefix n)) bytes more l) ∙ at.1)
+
+-- ---- whether a length stands in front
+
+-- the number that so many bytes are read as
+number_of : Width → ByteOrder → List ℕ → ℕ
+number_of width Big bytes = from_be_bytes (int_width width) bytes
+number_of width Little bytes = from_le_bytes (int_width width) bytes
+
+-- a number that was written is read again
+number_back : (width : Width) (order : ByteOrder) (n : ℕ) → n < prefix_limit (Fixed width order)
+    → number_of width order (prefix_written (Fixed width order) n) ≡ n
+unfolding number_of
+number_back U16 Big n small = from_be_bytes-to_be_bytes_2 n small
+number_back U32 Big n small = from_be_bytes-to_be_bytes_4 n small
+number_back U64 Big n small = from_be_bytes-to_be_bytes_8 n small
+number_back U16 Little n small = from_le_bytes-to_le_bytes_2 n small
+number_back U32 Little n small = from_le_bytes-to_le_bytes_4 n small
+number_back U64 Little n small = from_le_bytes-to_le_bytes_8 n small
+
+-- only the number that the front is read as can stand there
+only_number : (width : Width) (order : ByteOrder) (bytes : List ℕ) (n : ℕ) → IsLengthAt (Fixed width order) bytes n
+    → number_of width order (take (width_size width) bytes) ≡ n
+only_number width order bytes n (small, at) =
+    ap (number_of width order) (ap (λ k. take k bytes) (sym ((form_of width order).long n)) ∙ at) ∙ number_back width order n small
+
+written_there : (width : Width) (order : ByteOrder) (bytes : List ℕ) (n : ℕ) (same : Bool) → n < prefix_limit (Fixed width order)
+    → n ≡ number_of width order (take (width_size width) bytes)
+    → same ≡ bytes_eq (take (width_size width) bytes) (prefix_written (Fixed width order) n)
+    → ((n : ℕ) × IsLengthAt (Fixed width order) bytes n) ⊎ HasNoLengthAt (Fixed width order) bytes
+written_there width order bytes n true small is same =
+    let front = take (width_size width) bytes in
+    let at = (bytes_eq-Decides front (prefix_written (Fixed width order) n)).0 (sym same) in
+    inl (n, (small, ap (λ k. take k bytes) ((form_of width order).long n) ∙ at))
+written_there width order bytes n false small is same =
+    let prefix = Fixed width order in
+    let front = take (width_size width) bytes in
+    inr (λ m at.
+    let equal : m ≡ n = sym (only_number width order bytes m at) ∙ sym is in
+    let there : front ≡ prefix_written prefix n =
+    ap (λ k. take k bytes) (sym ((form_of width order).long m)) ∙ at.1 ∙ ap (prefix_written prefix) equal in
+    false≢true (same ∙ (bytes_eq-Decides front (prefix_written prefix n)).1 there))
+
+-- a length stands in front, or none does
+pub some_length : (prefix : Prefix) (bytes : List ℕ) → ((n : ℕ) × IsLengthAt prefix bytes n) ⊎ HasNoLengthAt prefix bytes
+some_length Spelled bytes = has_length bytes
+some_length (Fixed width order) bytes =
+    let front = take (width_size width) bytes in
+    let n = number_of width order front in
+    elim (less n (prefix_limit (Fixed width order))) [
+      | inl small ↦ written_there width order bytes n (bytes_eq front (prefix_written (Fixed width order) n)) small refl refl
+      | inr long ↦ inr (λ m at. let low = at.0 in absurd (omega (arith, long, low, only_number width order bytes m at)))
+    ]
+
+-- more bytes could make a length, or can't
+pub may_be_open : (prefix : Prefix) (bytes : List ℕ) → IsOpenAt prefix bytes ⊎ (IsOpenAt prefix bytes → ⊥)
+may_be_open Spelled bytes = opened bytes
+may_be_open (Fixed width order) bytes = elim (less (length bytes) (width_size width)) [
+  | inl few ↦ inl few
+  | inr enough ↦ inr (λ few. omega (arith, few, enough))
+]
