@@ -25,6 +25,7 @@ pub(super) fn readable(slot: &Slot) -> usize
 
 /// Puts a buffer under a name. What the name held is dropped here, so that no other function has the branches of a
 /// drop.
+#[inline(always)]
 pub(super) fn hold(slots: &mut [Slot], name: usize, slot: Slot)
     requires { name < length slots.old }
     ensures { slots.new ≡ slice_set slots.old name slot }
@@ -33,6 +34,7 @@ pub(super) fn hold(slots: &mut [Slot], name: usize, slot: Slot)
 }
 
 /// Takes the part out of a slot. What is of another kind stays.
+#[inline(always)]
 pub(super) fn take_part(slot: &mut Slot) -> Result<IoBufMut, Refusal>
     ensures ok { IfOk result (λ part. (slot.old ≡ Slot.Part part) × (slot.new ≡ Slot.Free)) }
     ensures err { IfErr result (λ refusal. (refusal ≡ Refusal.WrongKind) × (is_part slot.old ≡ false) × (slot.new ≡ slot.old)) }
@@ -47,6 +49,7 @@ pub(super) fn take_part(slot: &mut Slot) -> Result<IoBufMut, Refusal>
 }
 
 /// Takes the view out of a slot. What is of another kind stays.
+#[inline(always)]
 pub(super) fn take_view(slot: &mut Slot) -> Result<IoBuf, Refusal>
     ensures ok { IfOk result (λ view. (slot.old ≡ Slot.View view) × (slot.new ≡ Slot.Free)) }
     ensures err { IfErr result (λ refusal. (refusal ≡ Refusal.WrongKind) × (is_view slot.old ≡ false) × (slot.new ≡ slot.old)) }
