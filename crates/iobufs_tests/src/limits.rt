@@ -158,6 +158,7 @@ fn long_texts(rt: HostRuntime) -> Result<(), Fail> {
     let mut parts = in_a_row(alloc, 3, LONG)?;
     assert_eq!(rt; copied(alloc, &mut parts, LONG + 1)?, 2);
     drop(parts.coalesce(alloc)?);
+    assert_eq!(rt; in_a_row(alloc, 3, LONG)?.freeze(alloc)?.chunk_count(), 3);
     Ok(())
 }
 

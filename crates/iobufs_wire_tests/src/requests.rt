@@ -76,6 +76,20 @@ fn a_request_of_two_views_is_not_copied(rt: HostRuntime) -> Result<(), Fail> {
 }
 
 #[test]
+fn a_long_request_is_written(rt: HostRuntime) -> Result<(), Fail> {
+    let alloc = rt.alloc();
+    let put = Request::Put {
+        key: view(b"key"),
+        body: IoBuf::from_vec(vec![in alloc; 5u8; 2_000_000]?)?,
+    };
+    let written = put.encode(alloc)?;
+    assert_eq!(rt; written.len(), 2_000_008);
+    let front = written.as_ref().get(..9).ok_or("too short")?;
+    assert_eq!(rt; front, b"\x01\x03key\x80\x89\x7a\x05".as_slice());
+    Ok(())
+}
+
+#[test]
 fn the_third_kind_stands_behind_its_byte(rt: HostRuntime) -> Result<(), Fail> {
     let alloc = rt.alloc();
     assert_eq!(rt; Request::Sync(300).encode(alloc)?.as_ref(), SYNC);
