@@ -7,9 +7,12 @@ use Rattle.std.proofs.KnownBytes.{Appends-nil, Appends-trans}
 use Rattle.iobufs.specs.CallerFacts.{IsSent, sent_all, sent_kept, sent_nothing, sent_on}
 use Rattle.iobufs_core.specs.View.{View}
 use Rattle.iobufs_core.specs.declared.codec.base.RangeCfg.{RangeCfg}
-use Rattle.iobufs_frames.specs.Frames.{CanAllFollow, CanFollow, all_written, frame_written}
+use Rattle.iobufs_frames.specs.Frames.{CanAllFollow, CanFollow, IsFramedWith, all_written, frame_written}
+use Rattle.iobufs_frames.specs.FrameFacts.{first_is, none_in_front, nothing_is_open}
+use Rattle.iobufs_frames.specs.declared.End.{End}
+use Rattle.iobufs_frames.specs.declared.End.TheVariants.{Open}
 use Rattle.iobufs_frames.specs.declared.lengths.Prefix.{Prefix}
-use Rattle.iobufs_streams.specs.Streams.{HasSent, TakesFrame}
+use Rattle.iobufs_streams.specs.Streams.{HasSent, SendsAllFrames, SendsFrames, TakesFrame}
 
 -- nothing was sent, or some of it, and the writer was flushed
 pub has_not_sent : (held : Option (List ℕ)) (text : List ℕ) → HasSent held held text
@@ -47,6 +50,7 @@ Echoes prefix to range None has old now held holds = Unit {0}
 Echoes prefix to range (Some text) None old now held holds = ⊥
 Echoes prefix to range (Some text) (Some left) old now held holds = Resent prefix to range (old ++ text) (now ++ left) held holds
 
+-- before anything came nothing was sent
 pub echoes_none : (prefix to : Prefix) (range : RangeCfg) (had : Option (List ℕ)) (old : List ℕ) (held : Option (List ℕ))
     → Echoes prefix to range had had old old held held
 echoes_none prefix to range None old held = tt
@@ -175,3 +179,102 @@ begun_more prefix now_prefix to now_to range now_range (Some text) (Some left) (
             grew = sent.grew;
           }),
     )
+
+-- ---- the frames of what came
+
+-- frames that stand in front of a text are the first of its frames, and the others are those of what is behind them
+record Others (prefix : Prefix) (range : RangeCfg) (done frames : List (List ℕ)) (stop : End) (rest left : List ℕ) : Type 0 where
+  others : List (List ℕ)
+  listed : frames ≡ done ++ others
+  behind : IsFramedWith prefix range left others stop rest
+
+others_of : (prefix : Prefix) (range : RangeCfg) (text left : List ℕ) (done frames : List (List ℕ)) (stop : End) (rest : List ℕ)
+    → text ≡ all_written prefix done ++ left → CanAllFollow prefix range done → IsFramedWith prefix range text frames stop rest
+    → Others prefix range done frames stop rest left
+others_of prefix range text left [] frames stop rest e fits is = record {
+  others = frames;
+  listed = refl;
+  behind = subst (λ (w : List ℕ). IsFramedWith prefix range w frames stop rest) e is;
+}
+others_of prefix range text left (f ∷ fs) frames stop rest e (first, fits) is =
+    let behind = all_written prefix fs ++ left in
+    let taken = first_is prefix range text behind f stop frames rest first (e ∙ append_assoc (frame_written prefix f) (all_written prefix fs) left) is in
+    let more = others_of prefix range behind left fs taken.others stop rest refl fits taken.behind in
+    record { others = more.others; listed = taken.first ∙ ap (λ w. f ∷ w) more.listed; behind = more.behind }
+
+sent_so_far : (prefix to : Prefix) (range : RangeCfg) (text left : List ℕ) (held holds : Option (List ℕ)) → Resent prefix to range text left held holds
+    → SendsFrames prefix to range text held holds
+sent_so_far prefix to range text left held holds so_far frames stop rest is =
+    let more = others_of prefix range text left so_far.done frames stop rest so_far.whole so_far.fits is in (
+      all_written to more.others,
+      record {
+        front = all_written to so_far.done;
+        whole = ap (all_written to) more.listed ∙ written-append to so_far.done more.others;
+        grew = so_far.sent;
+      },
+    )
+
+sent_part : (prefix to : Prefix) (range : RangeCfg) (text now new body : List ℕ) (held mid holds : Option (List ℕ)) → Resent prefix to range text now held mid
+    → CanFollow prefix range body → now ≡ frame_written prefix body ++ new → HasSent mid holds (frame_written to body)
+    → SendsFrames prefix to range text held holds
+sent_part prefix to range text now new body held mid holds so_far fits whole (kept, part) frames stop rest is =
+    let done = so_far.done in
+    let more = others_of prefix range text now done frames stop rest so_far.whole so_far.fits is in
+    let taken = first_is prefix range now new body stop more.others rest fits whole more.behind in
+    let behind = all_written to taken.others in
+    let listed : frames ≡ done ++ body ∷ taken.others = more.listed ∙ ap (λ w. done ++ w) taken.first in (
+      kept ++ behind,
+      record {
+        front = all_written to done ++ part.front;
+        whole =
+            ap (all_written to) listed ∙ written-append to done (body ∷ taken.others)
+            ∙ ap (λ w. all_written to done ++ (w ++ behind)) part.whole ∙ ap (λ w. all_written to done ++ w) (append_assoc part.front kept behind)
+            ∙ sym (append_assoc (all_written to done) part.front (kept ++ behind));
+        grew = Appends-trans held mid holds (all_written to done) part.front so_far.sent part.grew;
+      },
+    )
+
+sent_to_the_end : (prefix to : Prefix) (range : RangeCfg) (text left : List ℕ) (held holds : Option (List ℕ)) → Resent prefix to range text left held holds
+    → left ≡ [] → SendsAllFrames prefix to range text held holds
+sent_to_the_end prefix to range text left held holds so_far nothing frames stop rest is =
+    let more = others_of prefix range text left so_far.done frames stop rest so_far.whole so_far.fits is in
+    let behind = subst (λ (w : List ℕ). IsFramedWith prefix range w more.others stop rest) nothing more.behind in
+    let (none, stopped) = none_in_front prefix range [] stop Open more.others rest (nothing_is_open prefix range) behind in
+    let all : so_far.done ≡ frames = sym (more.listed ∙ ap (λ w. so_far.done ++ w) none ∙ append-nil so_far.done) in
+    (sym (behind.whole ∙ ap (λ fs. all_written prefix fs ++ rest) none), subst (λ fs. Appends held holds (all_written to fs)) all so_far.sent)
+
+-- what was sent so far is a beginning of the frames that came
+pub frames_begun : (prefix to : Prefix) (range : RangeCfg) (a b : Option (List ℕ)) (old now : List ℕ) (held holds : Option (List ℕ))
+    → Echoes prefix to range a b old now held holds → IfSome a (λ text. SendsFrames prefix to range (old ++ text) held holds)
+frames_begun prefix to range None b old now held holds so_far = tt
+frames_begun prefix to range (Some text) None old now held holds so_far = absurd so_far
+frames_begun prefix to range (Some text) (Some left) old now held holds so_far =
+    sent_so_far prefix to range (old ++ text) (now ++ left) held holds so_far
+
+-- and with it some of one more frame
+pub frames_begun_more : (prefix now_prefix to now_to : Prefix) (range now_range : RangeCfg) (a b c : Option (List ℕ)) (old now new : List ℕ)
+    (held mid holds : Option (List ℕ)) (found : Option View) (body : View)
+    → AreSame prefix now_prefix to now_to range now_range → Echoes prefix to range a b old now held mid → found ≡ Some body
+    → TakesFrame now_prefix now_range b c now new (Ok found) → HasSent mid holds (frame_written now_to body.bytes)
+    → IfSome a (λ text. SendsFrames prefix to range (old ++ text) held holds)
+frames_begun_more prefix now_prefix to now_to range now_range None b c old now new held mid holds found body same so_far e is put = tt
+frames_begun_more prefix now_prefix to now_to range now_range (Some text) None c old now new held mid holds found body same so_far e is put = absurd so_far
+frames_begun_more prefix now_prefix to now_to range now_range (Some text) (Some left) None old now new held mid holds found body same so_far e is put =
+    absurd is.took
+frames_begun_more prefix now_prefix to now_to range now_range (Some text) (Some left) (Some behind) old now new held mid holds found body same so_far e is
+    put =
+    let taken = taken_as now_prefix prefix now_range range (Some left) (Some behind) now new found (Some body) same.same_from same.same_range e is in
+    sent_part prefix to range (old ++ text) (now ++ left) (new ++ behind) body.bytes held mid holds so_far taken.front.0
+    (next_in prefix range left behind now new body taken) (subst (λ (p : Prefix). HasSent mid holds (frame_written p body.bytes)) same.same_to put)
+
+-- at the end all frames that came were sent
+pub frames_echoed : (prefix now_prefix to now_to : Prefix) (range now_range : RangeCfg) (a b c : Option (List ℕ)) (old now new : List ℕ)
+    (held holds : Option (List ℕ)) (found : Option View)
+    → AreSame prefix now_prefix to now_to range now_range → Echoes prefix to range a b old now held holds → found ≡ None
+    → TakesFrame now_prefix now_range b c now new (Ok found) → IfSome a (λ text. SendsAllFrames prefix to range (old ++ text) held holds)
+frames_echoed prefix now_prefix to now_to range now_range None b c old now new held holds found same so_far e is = tt
+frames_echoed prefix now_prefix to now_to range now_range (Some text) None c old now new held holds found same so_far e is = absurd so_far
+frames_echoed prefix now_prefix to now_to range now_range (Some text) (Some left) None old now new held holds found same so_far e is = absurd is.took
+frames_echoed prefix now_prefix to now_to range now_range (Some text) (Some left) (Some behind) old now new held holds found same so_far e is =
+    let ended = taken_as now_prefix prefix now_range range (Some left) (Some behind) now new found None same.same_from same.same_range e is in
+    sent_to_the_end prefix to range (old ++ text) (now ++ left) held holds so_far (nothing_left prefix range left behind now new ended)

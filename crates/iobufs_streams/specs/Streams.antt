@@ -12,8 +12,10 @@
 --     TakesFrame           bytes were read, and a frame was taken
 --     IsFirstOf            the same told by the frames of the stream: the first went
 --     HasSent              a writer was sent a beginning of a text
+--     SendsFrames,         a writer was sent a beginning of the frames of a text, written with another prefix; or all, and
+--     SendsAllFrames       nothing is behind them
 use Rattle.std.specs.Prelude.{◌≡◌, ◌⊎◌, ℕ, ◌+◌, ◌^◌, ◌<◌, ◌≤◌, Bool, true, nat_eq, Option, None, Some, Result, Ok, Err, List, [], ◌++◌, length, take}
-use Rattle.std.specs.Io.KnownBytes.{Consumes, IsAtEnd}
+use Rattle.std.specs.Io.KnownBytes.{Appends, Consumes, IsAtEnd}
 use Rattle.iobufs.specs.CallerFacts.{IsSent}
 use Rattle.iobufs_core.specs.View.{View}
 use Rattle.iobufs_core.specs.declared.codec.base.BufError.{BufError}
@@ -21,7 +23,7 @@ use Rattle.iobufs_core.specs.declared.codec.base.BufError.TheVariants as cause
 use Rattle.iobufs_core.specs.declared.codec.base.Error.{Error}
 use Rattle.iobufs_core.specs.declared.codec.base.Error.TheVariants as error
 use Rattle.iobufs_core.specs.declared.codec.base.RangeCfg.{RangeCfg}
-use Rattle.iobufs_frames.specs.Frames.{CanFollow, FirstTakenWith, IsFramedWith, LacksFrame, frame_written}
+use Rattle.iobufs_frames.specs.Frames.{CanFollow, FirstTakenWith, IsFramedWith, LacksFrame, all_written, frame_written}
 use Rattle.iobufs_frames.specs.declared.End.{End}
 use Rattle.iobufs_frames.specs.declared.End.TheVariants as end
 use Rattle.iobufs_frames.specs.declared.lengths.Prefix.{Prefix}
@@ -117,3 +119,13 @@ IsFirstOf prefix range frames stop rest (Err error) left = IsFramedWith prefix r
 -- a writer was sent a beginning of a text
 abbrev pub HasSent : Option (List ℕ) → Option (List ℕ) → List ℕ → Type 0
 HasSent held holds text = (behind : List ℕ) × IsSent held holds text behind
+
+-- a writer was sent a beginning of the frames of a text, each of them written with another prefix
+abbrev pub SendsFrames : Prefix → Prefix → RangeCfg → List ℕ → Option (List ℕ) → Option (List ℕ) → Type 0
+SendsFrames prefix to range text held holds = (frames : List (List ℕ)) (stop : End) (rest : List ℕ) → IsFramedWith prefix range text frames stop rest
+    → HasSent held holds (all_written to frames)
+
+-- all of them, and nothing is behind them
+abbrev pub SendsAllFrames : Prefix → Prefix → RangeCfg → List ℕ → Option (List ℕ) → Option (List ℕ) → Type 0
+SendsAllFrames prefix to range text held holds = (frames : List (List ℕ)) (stop : End) (rest : List ℕ) → IsFramedWith prefix range text frames stop rest
+    → (rest ≡ []) × Appends held holds (all_written to frames)

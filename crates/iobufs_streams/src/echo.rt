@@ -2,7 +2,7 @@
 ghost use Rattle.std.specs.Prelude.{◌≡◌, ◌++◌, [], IfSome, OnOk};
 ghost use Rattle.std.specs.Io.KnownBytes.{Appends};
 ghost use Rattle.iobufs_frames.specs.Frames.{frame_written};
-ghost use Rattle.iobufs_streams.specs.Streams.{HasSent, held_bytes};
+ghost use Rattle.iobufs_streams.specs.Streams.{HasSent, SendsAllFrames, SendsFrames, held_bytes};
 
 use crate::error::FrameError;
 use crate::reader::FrameReader;
@@ -36,14 +36,19 @@ fn send_frame<W: Write + Drop>(
     to.to.flush().map_err(FrameError::Io)
 }
 
-/// Sends each frame back as soon as it came, until the input ends between two frames. Where both write lengths alike, what
-/// was sent is a beginning of what came, whatever the answer.
+/// Sends each frame back as soon as it came, behind its length as the writer writes it, until the input ends between two
+/// frames. What was sent is a beginning of these frames, whatever the answer; where both write lengths alike, it is a
+/// beginning of what came.
 pub fn echo<R: Read + Drop, W: Write + Drop>(
     alloc: Global,
     from: &mut FrameReader<R>,
     to: &mut FrameWriter<W>,
 ) -> Result<(), FrameError>
     requires { to.old.rest.bytes ≡ [] }
+    ensures frames { IfSome (R.remaining from.old.from) (λ text. SendsFrames from.old.prefix to.old.prefix from.old.range
+        (held_bytes from.old.held ++ text) (W.contents to.old.to) (W.contents to.new.to)) }
+    ensures all_frames { OnOk result (IfSome (R.remaining from.old.from) (λ text. SendsAllFrames from.old.prefix to.old.prefix from.old.range
+        (held_bytes from.old.held ++ text) (W.contents to.old.to) (W.contents to.new.to))) }
     ensures all { from.old.prefix ≡ to.old.prefix → OnOk result (IfSome (R.remaining from.old.from)
         (λ text. Appends (W.contents to.old.to) (W.contents to.new.to) (held_bytes from.old.held ++ text))) }
     ensures begun { from.old.prefix ≡ to.old.prefix → IfSome (R.remaining from.old.from)

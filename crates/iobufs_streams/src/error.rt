@@ -17,7 +17,8 @@ pub enum FrameError {
     /// A request for memory was refused.
     #[error("out of memory")]
     Memory,
-    /// More bytes than `usize::MAX` stand in front and are no whole frame.
+    /// More bytes than `usize::MAX` stand in front and are no whole frame; or a body is longer than the writer's lengths
+    /// can say.
     #[error("the frame is too long")]
     TooLong,
 }

@@ -192,6 +192,39 @@ fn each_kind_of_length_in_every_cut(rt: HostRuntime) -> Result<(), Fail> {
 }
 
 #[test]
+fn a_run_of_each_kind_of_length_in_every_cut(rt: HostRuntime) -> Result<(), Fail> {
+    let alloc = rt.alloc();
+    for (prefix, text) in KINDS {
+        for at in 0..text.len() + 1 {
+            let pieces = [&text[..at], &text[at..]];
+            let run = Frames::run_with(alloc, prefix, views(alloc, &pieces)?, &ANY)?;
+            assert_run(&rt, &run, &[b"ab", b"cde"], End::Open, b"", at);
+        }
+    }
+    Ok(())
+}
+
+// Runs of lengths of two and four bytes, with their frames, their ends and their rests.
+#[test]
+fn runs_of_fixed_lengths_and_their_ends(rt: HostRuntime) -> Result<(), Fail> {
+    let alloc = rt.alloc();
+    let big = Prefix::Fixed(Width::U16, ByteOrder::Big);
+    let little = Prefix::Fixed(Width::U32, ByteOrder::Little);
+    let bad = End::Bad(Error::InvalidLength(3));
+    let pieces = [b"\0\x02a".as_slice(), b"b\0\x03", b"cde"];
+    let run = Frames::run_with(alloc, big, views(alloc, &pieces)?, &SHORT)?;
+    assert_run(&rt, &run, &[b"ab"], bad, b"\0\x03cde", 0);
+    let pieces = [b"\x01\0\0\0a\x01\0".as_slice(), b"\0"];
+    let run = Frames::run_with(alloc, little, views(alloc, &pieces)?, &ANY)?;
+    assert_run(&rt, &run, &[b"a"], End::Open, b"\x01\0\0", 1);
+    let bad = End::Bad(Error::InvalidLength(513));
+    let pieces = [b"\0\0\x02\x01".as_slice(), b"aaa"];
+    let run = Frames::run_with(alloc, big, views(alloc, &pieces)?, &SHORT)?;
+    assert_run(&rt, &run, &[b""], bad, b"\x02\x01aaa", 2);
+    Ok(())
+}
+
+#[test]
 fn each_kind_of_length_is_written(rt: HostRuntime) -> Result<(), Fail> {
     let alloc = rt.alloc();
     for (prefix, text) in KINDS {

@@ -1,7 +1,8 @@
 // Frames over readers and writers that take and give as they like.
 use iobufs::bufs::IoBufs;
 use iobufs_core::buf::{IoBuf, IoBufMut};
-use iobufs_core::codec::{Error, RangeCfg};
+use iobufs_core::codec::{Buf, BufError, Error, RangeCfg};
+use iobufs_frames::{ByteOrder, Prefix, Width};
 use iobufs_streams::adapters::{Reader, Writer};
 use iobufs_streams::echo::echo;
 use iobufs_streams::error::FrameError;
@@ -226,6 +227,113 @@ fn frames_are_echoed(rt: HostRuntime) -> Result<(), Fail> {
     let mut to = FrameWriter::new(Narrow::new(alloc, 3, 100));
     assert!(rt; matches!(echo(alloc, &mut from, &mut to), Err(FrameError::Cut)));
     assert_eq!(rt; to.to.taken.as_slice(), b"\x01a".as_slice());
+    Ok(())
+}
+
+// `abc`, nothing and `hello`, as each kind of fixed length of two or four bytes writes them.
+const FIXED: [(Prefix, &'static [u8]); 4] = [
+    (
+        Prefix::Fixed(Width::U16, ByteOrder::Big),
+        b"\0\x03abc\0\0\0\x05hello",
+    ),
+    (
+        Prefix::Fixed(Width::U16, ByteOrder::Little),
+        b"\x03\0abc\0\0\x05\0hello",
+    ),
+    (
+        Prefix::Fixed(Width::U32, ByteOrder::Big),
+        b"\0\0\0\x03abc\0\0\0\0\0\0\0\x05hello",
+    ),
+    (
+        Prefix::Fixed(Width::U32, ByteOrder::Little),
+        b"\x03\0\0\0abc\0\0\0\0\x05\0\0\0hello",
+    ),
+];
+
+#[test]
+fn frames_behind_fixed_lengths_come_whole(rt: HostRuntime) -> Result<(), Fail> {
+    let alloc = rt.alloc();
+    for (prefix, text) in FIXED {
+        for most in [1usize, 2, 3, 5, 100] {
+            let from = Steps::new(text, most);
+            let mut reader = FrameReader::with_prefix(alloc, from, prefix, RANGE)?;
+            assert!(rt; takes(alloc, &mut reader, Some(b"abc"))?, "{most}");
+            assert!(rt; takes(alloc, &mut reader, Some(b""))?, "{most}");
+            assert!(rt; takes(alloc, &mut reader, Some(b"hello"))?, "{most}");
+            assert!(rt; takes(alloc, &mut reader, None)?, "{most}");
+        }
+    }
+    Ok(())
+}
+
+#[test]
+fn frames_go_off_behind_fixed_lengths(rt: HostRuntime) -> Result<(), Fail> {
+    let alloc = rt.alloc();
+    for (prefix, text) in FIXED {
+        let mut writer = FrameWriter::with_prefix(Narrow::new(alloc, 3, 100), prefix);
+        for body in [b"abc".as_slice(), b"", b"hello"] {
+            assert!(rt; writer.put(alloc, IoBufs::from(body)).is_ok());
+            writer.send(alloc)?;
+        }
+        assert_eq!(rt; writer.to.taken.as_slice(), text);
+    }
+    Ok(())
+}
+
+#[test]
+fn fixed_lengths_are_echoed_and_written_anew(rt: HostRuntime) -> Result<(), Fail> {
+    let alloc = rt.alloc();
+    for (prefix, text) in FIXED {
+        let mut from = FrameReader::with_prefix(alloc, Steps::new(text, 2), prefix, RANGE)?;
+        let mut to = FrameWriter::with_prefix(Narrow::new(alloc, 3, 100), prefix);
+        assert!(rt; echo(alloc, &mut from, &mut to).is_ok());
+        assert_eq!(rt; to.to.taken.as_slice(), text);
+        let mut from = FrameReader::with_prefix(alloc, Steps::new(text, 2), prefix, RANGE)?;
+        let mut to = FrameWriter::new(Narrow::new(alloc, 3, 100));
+        assert!(rt; echo(alloc, &mut from, &mut to).is_ok());
+        assert_eq!(rt; to.to.taken.as_slice(), FRAMES);
+    }
+    Ok(())
+}
+
+#[test]
+fn a_fixed_length_outside_the_range_is_bad(rt: HostRuntime) -> Result<(), Fail> {
+    let alloc = rt.alloc();
+    let big = Prefix::Fixed(Width::U16, ByteOrder::Big);
+    let mut reader = FrameReader::with_prefix(alloc, Steps::new(b"\x01\x02a", 1), big, RANGE)?;
+    for _ in 0..2u8 {
+        let bad = reader.next(alloc);
+        assert!(rt; matches!(bad, Err(FrameError::Bad(Error::InvalidLength(258)))));
+    }
+    let mut reader = FrameReader::with_prefix(alloc, Steps::new(b"\0", 1), big, RANGE)?;
+    assert!(rt; matches!(reader.next(alloc), Err(FrameError::Cut)));
+    Ok(())
+}
+
+// A body of so many bytes.
+fn long(alloc: Global, len: usize) -> Result<IoBufs, Fail> {
+    let mut bytes = Vec::new(alloc);
+    bytes.resize(len, 7)?;
+    Ok(IoBufs::from_vec(bytes)?)
+}
+
+#[test]
+fn a_body_above_its_length_is_refused(rt: HostRuntime) -> Result<(), Fail> {
+    let alloc = rt.alloc();
+    let big = Prefix::Fixed(Width::U16, ByteOrder::Big);
+    let mut writer = FrameWriter::with_prefix(Narrow::new(alloc, 100, 100), big);
+    match writer.put(alloc, long(alloc, 65536)?) {
+        Ok(()) => return Err(Fail::new("taken")),
+        Err(refused) => {
+            assert_eq!(rt; refused.cause, BufError::TooLong);
+            assert_eq!(rt; refused.value.len(), 65536);
+        }
+    }
+    assert!(rt; writer.is_sent());
+    assert!(rt; writer.put(alloc, long(alloc, 65535)?).is_ok());
+    assert_eq!(rt; writer.rest.len(), 65537);
+    assert_eq!(rt; writer.rest.byte_at(0), Some(255));
+    assert_eq!(rt; writer.rest.byte_at(1), Some(255));
     Ok(())
 }
 
