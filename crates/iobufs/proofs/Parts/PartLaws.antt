@@ -69,6 +69,7 @@ same-fill (p ∷ parts) w =
     let t = length-take p.spare w in
     (omega arith, same-fill parts (drop p.spare w))
 
+-- bytes that are put into parts leave them parts
 pub parts-fill : (parts : List Part) (w : List ℕ) → IsParts parts → IsParts (parts_fill parts w)
 parts-fill parts w h = parts-same parts (parts_fill parts w) (same-fill parts w) h
 
@@ -82,6 +83,7 @@ same-with_len (p ∷ parts) n =
     let a = length-append (take m p.filled) (replicate (m - length p.filled) 0) in
     (omega arith, same-with_len parts (n - part_capacity p))
 
+-- so many bytes filled leave them parts
 pub parts-with_len : (parts : List Part) (n : ℕ) → IsParts parts → IsParts (parts_with_len parts n)
 parts-with_len parts n h = parts-same parts (parts_with_len parts n) (same-with_len parts n) h
 
@@ -96,5 +98,6 @@ same-overwritten (p ∷ parts) w =
     let v = length-take (length p.filled) w in
     (omega arith, same-overwritten parts (drop (length p.filled) w))
 
+-- bytes written over those of parts leave them parts
 pub parts-overwritten : (parts : List Part) (w : List ℕ) → IsParts parts → IsParts (parts_overwritten parts w)
 parts-overwritten parts w h = parts-same parts (parts_overwritten parts w) (same-overwritten parts w) h

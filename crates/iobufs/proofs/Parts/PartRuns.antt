@@ -13,6 +13,7 @@ pub default-some : (parts : List Part) → 0 < length parts → parts_or_default
 default-some [] some = absurd (omega arith)
 default-some (p ∷ parts) some = refl
 
+-- parts that can all hold a byte are all kept
 pub kept-all : (parts : List Part) → HaveCapacity parts → 0 < length parts → parts ≡ kept_parts parts
 kept-all parts able some = sym (ap parts_or_default (with_capacity-all parts able) ∙ default-some parts some)
 

@@ -5,8 +5,8 @@ use Rattle.iobufs.specs.Inside.PartShape.{shape_parts}
 use Rattle.iobufs.specs.Parts.{kept_parts, parts_fill}
 use Rattle.iobufs.specs.contracts.bufs_mut.IoBufsMut.{the_view}
 use Rattle.iobufs.proofs.Parts.FewLaws.{kept-fill}
-use Rattle.iobufs.proofs.bufs_mut.buf_mut.IoBufsMutBufMut.put_bytes.Goals as goal
-use Rattle.iobufs.proofs.bufs_mut.buf_mut.IoBufsMutBufMut.put_bytes.Goals.{in-One, in-Few, in-Many}
+use Rattle.iobufs.proofs.bufs_mut.IoBufsMutBufMut.put_bytes.Goals as goal
+use Rattle.iobufs.proofs.bufs_mut.IoBufsMutBufMut.put_bytes.Goals.{in-One, in-Few, in-Many}
 
 pub returns : goal.returns
 returns c =
