@@ -123,6 +123,7 @@ impl Held {
             Err(FrameError::Cut)
         }
     }
+
     // Takes the frame that comes next out of what is held and what a reader gives.
     fn take<R: Read>(
         &mut self,
