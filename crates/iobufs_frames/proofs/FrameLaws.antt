@@ -13,7 +13,7 @@ use Rattle.iobufs_core.specs.declared.codec.base.Error.{Error}
 use Rattle.iobufs_core.specs.declared.codec.base.Error.TheVariants.{EndOfBuffer, InvalidVarint, InvalidLength, Memory, BadLayout, TooLong}
 use Rattle.iobufs_core.specs.declared.codec.base.RangeCfg.{RangeCfg}
 use Rattle.iobufs.specs.Laws.Joined.{bytes-append}
-use Rattle.iobufs_frames.specs.FrameFacts.{first_is, none_in_front, nothing_is_open, one_end, stands, stays_bad}
+use Rattle.iobufs_frames.specs.FrameFacts.{first_is, none_in_front, nothing_is_open, one_end, one_more, stands, stays_bad, written-push}
 use Rattle.iobufs_frames.specs.Frames.{AreAlike, AreMoved, BeginsWithBytes, CanAllFollow, CanFollow, HasBodyBytes, HasFramesWith, HaveOneReadingWith, IsBehindPrefix, IsFirstWith, IsFramedWith, IsNextWith, LacksFrame, all_written, bodies, found_of, frame_written}
 use Rattle.iobufs_frames.specs.PrefixFacts.{form_of, may_be_open, one_front, some_length}
 use Rattle.iobufs_frames.specs.Prefixes.{HasNoLengthAt, IsLengthAt, prefix_limit, prefix_written}
@@ -248,24 +248,13 @@ fed old new piece (Err refused) is = tt
 
 -- ---- frames found one behind the other
 
-written-append : (prefix : Prefix) (fs gs : List (List ℕ)) → all_written prefix (fs ++ gs) ≡ all_written prefix fs ++ all_written prefix gs
-written-append prefix [] gs = refl
-written-append prefix (f ∷ fs) gs = ap (λ xs. frame_written prefix f ++ xs) (written-append prefix fs gs)
-    ∙ sym (append_assoc (frame_written prefix f) (all_written prefix fs) (all_written prefix gs))
-
-one_more : (prefix : Prefix) (range : RangeCfg) (fs : List (List ℕ)) (body : List ℕ) → CanFollow prefix range body → CanAllFollow prefix range fs
-    → CanAllFollow prefix range (fs ++ body ∷ [])
-one_more prefix range [] body admitted fine = (admitted, tt)
-one_more prefix range (f ∷ fs) body admitted fine = (fine.0, one_more prefix range fs body admitted fine.1)
-
 moved_body : (prefix : Prefix) (range : RangeCfg) (old new : List ℕ) (body : View) (views more : List View)
     → IsNextWith prefix range old (Ok (Some body)) new → more ≡ views ++ body ∷ []
     → AreMoved prefix range (bodies views) old (bodies more) new × (length new < length old)
 moved_body prefix range old new body views more (admitted, whole) e =
     let listed : bodies more ≡ bodies views ++ body.bytes ∷ [] = ap bodies e ∙ map-append (λ (v : View). v.bytes) views (body ∷ []) in
     let written : all_written prefix (bodies more) ≡ all_written prefix (bodies views) ++ frame_written prefix body.bytes =
-    ap (all_written prefix) listed ∙ written-append prefix (bodies views) (body.bytes ∷ [])
-    ∙ ap (λ xs. all_written prefix (bodies views) ++ xs) (append-nil (frame_written prefix body.bytes)) in (
+    ap (all_written prefix) listed ∙ written-push prefix (bodies views) body.bytes in (
       (
         ap (λ xs. all_written prefix (bodies views) ++ xs) whole ∙ sym (append_assoc (all_written prefix (bodies views)) (frame_written prefix body.bytes) new)
             ∙ ap (λ xs. xs ++ new) (sym written),

@@ -6,15 +6,19 @@
 --     begins_open,     a beginning of a frame may go on, as nothing may, and what can't be one stays so with more bytes
 --     nothing_is_open, behind
 --     stays_bad
+--     written-append,  frames are written one behind the other, and so is one more; which can follow where its length can
+--     written-push,
+--     one_more
 use Rattle.std.proofs.Common.{◌≡◌, ◌⊎◌, inl, inr, ℕ, ◌+◌, true, false, List, [], ◌∷◌, ◌++◌, length, ap, sym, subst, ◌∙◌, refl, arith, append_assoc, length-append}
 use Rattle.std.proofs.lemmas.Bool.{false≢true}
+use Rattle.std.proofs.lemmas.List.{append-nil}
 use Rattle.iobufs_core.specs.LengthFacts.{begun_open, less, no_length_later, still_closed}
 use Rattle.iobufs_core.specs.Ranges.{in_range}
 use Rattle.iobufs_core.specs.Spelled.{none_high}
 use Rattle.iobufs_core.specs.declared.codec.base.Error.{Error}
 use Rattle.iobufs_core.specs.declared.codec.base.Error.TheVariants.{EndOfBuffer, InvalidVarint, InvalidLength, Memory, BadLayout, TooLong}
 use Rattle.iobufs_core.specs.declared.codec.base.RangeCfg.{RangeCfg}
-use Rattle.iobufs_frames.specs.Frames.{BadStaysBadWith, BeginningsAreOpenWith, CanFollow, FirstTakenWith, IsFramedWith, LacksFrame, all_written, frame_written}
+use Rattle.iobufs_frames.specs.Frames.{BadStaysBadWith, BeginningsAreOpenWith, CanAllFollow, CanFollow, FirstTakenWith, IsFramedWith, LacksFrame, all_written, frame_written}
 use Rattle.iobufs_frames.specs.PrefixFacts.{form_of, length-before, length-in_front, length-later, length-sooner, one_front, one_length, too_few}
 use Rattle.iobufs_frames.specs.Prefixes.{HasNoLengthAt, IsLengthAt, IsOpenAt, prefix_written, width_size}
 use Rattle.iobufs_frames.specs.declared.End.{End}
@@ -183,3 +187,22 @@ nothing_is_open Spelled range = inl (none_high [] tt, (omega arith, tt))
 nothing_is_open (Fixed U16 order) range = inl (too_few U16 order [] (omega arith), omega arith)
 nothing_is_open (Fixed U32 order) range = inl (too_few U32 order [] (omega arith), omega arith)
 nothing_is_open (Fixed U64 order) range = inl (too_few U64 order [] (omega arith), omega arith)
+
+-- ---- frames one behind the other
+
+-- lists of frames are written one behind the other
+pub written-append : (prefix : Prefix) (fs gs : List (List ℕ)) → all_written prefix (fs ++ gs) ≡ all_written prefix fs ++ all_written prefix gs
+written-append prefix [] gs = refl
+written-append prefix (f ∷ fs) gs = ap (λ xs. frame_written prefix f ++ xs) (written-append prefix fs gs)
+    ∙ sym (append_assoc (frame_written prefix f) (all_written prefix fs) (all_written prefix gs))
+
+-- and so is one more
+pub written-push : (prefix : Prefix) (fs : List (List ℕ)) (body : List ℕ)
+    → all_written prefix (fs ++ body ∷ []) ≡ all_written prefix fs ++ frame_written prefix body
+written-push prefix fs body = written-append prefix fs (body ∷ []) ∙ ap (λ xs. all_written prefix fs ++ xs) (append-nil (frame_written prefix body))
+
+-- one more that can follow
+pub one_more : (prefix : Prefix) (range : RangeCfg) (fs : List (List ℕ)) (body : List ℕ) → CanFollow prefix range body → CanAllFollow prefix range fs
+    → CanAllFollow prefix range (fs ++ body ∷ [])
+one_more prefix range [] body fits fine = (fits, tt)
+one_more prefix range (f ∷ fs) body fits fine = (fine.0, one_more prefix range fs body fits fine.1)

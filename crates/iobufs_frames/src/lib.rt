@@ -21,7 +21,7 @@ use std::marker::Model;
 /// Why no further frame stands behind the frames of a text.
 #[derive(Clone, Copy, Debug, PartialEq, Eq)]
 pub enum End {
-    /// The spelling of a length may go on, or fewer bytes stand behind a length in the range than it says. That more
+    /// A length may go on, or fewer bytes stand behind a length in the range than it says. That more
     /// bytes make a frame whole is not said: each length that begins with `80 80 80` is above 1024, and yet these bytes
     /// are open in 0 to 1024.
     Open,
@@ -29,8 +29,8 @@ pub enum End {
     Bad(Error),
 }
 
-/// A text that is fed at its end, and of which whole frames are taken from the front. A frame is a view as
-/// `IoBuf::write` puts it: its length and its bytes.
+/// A text that is fed at its end, and of which whole frames are taken from the front. A frame is a body behind its
+/// length: that is spelled, as `IoBuf::write` puts a view, or a number (`Prefix`).
 pub struct Frames {
     rest: IoBufs,
 }

@@ -8,7 +8,7 @@ use Rattle.iobufs.specs.CallerFacts.{IsSent, sent_all, sent_kept, sent_nothing, 
 use Rattle.iobufs_core.specs.View.{View}
 use Rattle.iobufs_core.specs.declared.codec.base.RangeCfg.{RangeCfg}
 use Rattle.iobufs_frames.specs.Frames.{CanAllFollow, CanFollow, IsFramedWith, all_written, frame_written}
-use Rattle.iobufs_frames.specs.FrameFacts.{first_is, none_in_front, nothing_is_open}
+use Rattle.iobufs_frames.specs.FrameFacts.{first_is, none_in_front, nothing_is_open, one_more, written-append, written-push}
 use Rattle.iobufs_frames.specs.declared.End.{End}
 use Rattle.iobufs_frames.specs.declared.End.TheVariants.{Open}
 use Rattle.iobufs_frames.specs.declared.lengths.Prefix.{Prefix}
@@ -56,16 +56,6 @@ pub echoes_none : (prefix to : Prefix) (range : RangeCfg) (had : Option (List �
 echoes_none prefix to range None old held = tt
 echoes_none prefix to range (Some text) old held = record { done = []; whole = refl; fits = tt; sent = Appends-nil held }
 
-written-append : (prefix : Prefix) (fs gs : List (List ℕ)) → all_written prefix (fs ++ gs) ≡ all_written prefix fs ++ all_written prefix gs
-written-append prefix [] gs = refl
-written-append prefix (f ∷ fs) gs = ap (λ xs. frame_written prefix f ++ xs) (written-append prefix fs gs)
-    ∙ sym (append_assoc (frame_written prefix f) (all_written prefix fs) (all_written prefix gs))
-
-one_more : (prefix : Prefix) (range : RangeCfg) (fs : List (List ℕ)) (body : List ℕ) → CanFollow prefix range body → CanAllFollow prefix range fs
-    → CanAllFollow prefix range (fs ++ body ∷ [])
-one_more prefix range [] body admitted fine = (admitted, tt)
-one_more prefix range (f ∷ fs) body admitted fine = (fine.0, one_more prefix range fs body admitted fine.1)
-
 -- a reader and a writer stay as they were, but for what they hold
 pub record AreSame (prefix now_prefix to now_to : Prefix) (range now_range : RangeCfg) : Type 0 where
   pub same_from : now_prefix ≡ prefix
@@ -86,10 +76,6 @@ nothing_left prefix range left behind now new is =
     let (empty, gone, last) = is.front in
     ap (λ w. now ++ w) is.took ∙ sym (append_assoc now is.read behind) ∙ ap (λ w. w ++ behind) empty ∙ last
 
-written_behind : (prefix : Prefix) (fs : List (List ℕ)) (body : List ℕ)
-    → all_written prefix (fs ++ body ∷ []) ≡ all_written prefix fs ++ frame_written prefix body
-written_behind prefix fs body = written-append prefix fs (body ∷ []) ∙ ap (λ xs. all_written prefix fs ++ xs) (append-nil (frame_written prefix body))
-
 -- one frame more was sent
 sent_more : (prefix to : Prefix) (range : RangeCfg) (text now new body : List ℕ) (held mid holds : Option (List ℕ)) → Resent prefix to range text now held mid
     → CanFollow prefix range body → now ≡ frame_written prefix body ++ new → Appends mid holds (frame_written to body)
@@ -99,10 +85,10 @@ sent_more prefix to range text now new body held mid holds so_far fits whole put
   whole =
       so_far.whole ∙ ap (λ w. all_written prefix so_far.done ++ w) whole
       ∙ sym (append_assoc (all_written prefix so_far.done) (frame_written prefix body) new)
-      ∙ ap (λ w. w ++ new) (sym (written_behind prefix so_far.done body));
+      ∙ ap (λ w. w ++ new) (sym (written-push prefix so_far.done body));
   fits = one_more prefix range so_far.done body fits so_far.fits;
   sent =
-      subst (Appends held holds) (sym (written_behind to so_far.done body))
+      subst (Appends held holds) (sym (written-push to so_far.done body))
       (Appends-trans held mid holds (all_written to so_far.done) (frame_written to body) so_far.sent put);
 }
 

@@ -139,8 +139,7 @@ none_held prefix range held left found is h = subst (λ (o : Option View). IsHel
 
 -- one more read
 pub waits_on : {Reader : Type 0} (prefix : Prefix) (range : RangeCfg) (from mid new : Reader) (a b c : Option (List ℕ)) (old held left now : List ℕ)
-    (count next : ℕ)
-    (last : Bool)
+    (count next : ℕ) (last : Bool)
     → IsWaiting prefix range from mid a b old held count → (left ≡ held) × LacksFrame prefix range held end.Open → IsFilled b c left now last → last ≡ false
     → next ≡ count + 1 → IsWaiting prefix range from new a c old now next
 waits_on prefix range from mid new a b c old held left now count next last so_far (same, none) filled some step =
@@ -199,8 +198,7 @@ took_none prefix range from now_from had has old now left count error so_far h =
 
 -- nothing more came: the input ends
 ended : (prefix : Prefix) (range : RangeCfg) (has : Option (List ℕ)) (bytes : List ℕ) (result : Result (Option View) FrameError) → IsAtEnd has
-    → LacksFrame prefix range bytes end.Open
-    → IsEnd bytes result → IsFront prefix range has bytes result bytes
+    → LacksFrame prefix range bytes end.Open → IsEnd bytes result → IsFront prefix range has bytes result bytes
 ended prefix range has bytes (Ok None) last none h = (h, h, last)
 ended prefix range has bytes (Ok (Some body)) last none h = absurd h
 ended prefix range has bytes (Err (Bad error)) last none h = absurd h
@@ -211,28 +209,26 @@ ended prefix range has bytes (Err TooLong) last none h = absurd h
 
 -- a reader that waited reads no more bytes, and answers as its end does
 pub took_end : {Reader : Type 0} (prefix : Prefix) (range : RangeCfg) (from now_from : Reader) (a b c : Option (List ℕ)) (old held left now : List ℕ)
-    (count : ℕ)
-    (last : Bool)
-    (result : Result (Option View) FrameError) → IsWaiting prefix range from now_from a b old held count → (left ≡ held) × LacksFrame prefix range held end.Open
+    (count : ℕ) (last : Bool) (result : Result (Option View) FrameError)
+    → IsWaiting prefix range from now_from a b old held count → (left ≡ held) × LacksFrame prefix range held end.Open
     → IsFilled b c left now last → last ≡ true → IsEnd now result → TakesFrame prefix range a c old now result
 took_end prefix range from now_from a b c old held left now count last result so_far (same, none) filled at h =
     let nothing : filled.is.read ≡ [] = nil_from_length filled.is.read (zero_of (length filled.is.read) (sym filled.empty ∙ at)) in
     let stays_so : now ≡ held = filled.is.grew ∙ ap (λ w. left ++ w) nothing ∙ append-nil left ∙ same in
-    let open_front : LacksFrame prefix range now end.Open = subst (λ (w : List ℕ). LacksFrame prefix range w end.Open) (sym stays_so)
-    none in record {
+    let open_front : LacksFrame prefix range now end.Open = subst (λ (w : List ℕ). LacksFrame prefix range w end.Open) (sym stays_so) none in record {
       read = so_far.read;
       took =
           subst (λ (w : List ℕ). Consumes a c w) (ap (λ w. so_far.read ++ w) nothing ∙ append-nil so_far.read)
           (consumes_on a b c so_far.read filled.is.read so_far.took filled.is.took);
       needed = so_far.needed;
-      front = subst (λ (w : List ℕ). IsFront prefix range c w result now) (stays_so
-          ∙ so_far.grew) (ended prefix range c now result (filled.last at) open_front h);
+      front =
+          subst (λ (w : List ℕ). IsFront prefix range c w result now) (stays_so ∙ so_far.grew)
+          (ended prefix range c now result (filled.last at) open_front h);
     }
 
 -- the reader failed
 pub took_fault : {Reader : Type 0} (prefix : Prefix) (range : RangeCfg) (from now_from : Reader) (a b c : Option (List ℕ)) (old held left now : List ℕ)
-    (count : ℕ)
-    (error : FrameError)
+    (count : ℕ) (error : FrameError)
     → IsWaiting prefix range from now_from a b old held count → left ≡ held → now ≡ left → Keeps b c
     → ((bytes : List ℕ) → bytes ≡ now → IsFront prefix range c bytes (Err error) now) → TakesFrame prefix range a c old now (Err error)
 took_fault prefix range from now_from a b c old held left now count error so_far same kept keeps h = record {
