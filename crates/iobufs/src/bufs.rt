@@ -22,7 +22,7 @@ mod search;
 use bytes::Bytes;
 use iobufs_core::buf::{IoBuf, IoBufMut};
 use iobufs_core::codec::{Buf, BufError, OwnedBuf, OwnedBytes, Refused};
-use pieces::{Pieces, START};
+use pieces::{Form, Pieces, START};
 use row::Row;
 pub use search::{Ends, Located, find_end};
 use std::alloc::{AllocError, Global};
@@ -164,7 +164,7 @@ impl IoBufs {
         ensures { MatchOption result (is_single self.now ≡ false) (λ piece. self.now ≡ of_view piece.now) }
     {
         if self.is_single() {
-            Some(self.pieces.piece(0))
+            Some(self.pieces.first())
         } else {
             None
         }
@@ -186,13 +186,13 @@ impl IoBufs {
         ensures { (last : F)
             × FoldsTo (λ before chunk after. CalledAt F.FnMut before chunk tt after) visit (text_chunks self.now) last }
     {
-        match &self.pieces {
-            Pieces::One(piece) => {
+        match &self.pieces.form {
+            Form::One(piece) => {
                 if piece.len() != 0 {
                     visit(piece.as_ref());
                 }
             }
-            Pieces::Many(row) => row.for_each(visit),
+            Form::Many(row) => row.for_each(visit),
         }
     }
 
@@ -217,7 +217,7 @@ impl IoBufs {
         ensures nothing { length piece.bytes ≡ 0 → IsOk result }
         ensures onto_nothing { text_len self.old ≡ 0 → IsOk result }
     {
-        if let Pieces::Many(row) = &mut self.pieces {
+        if let Form::Many(row) = &mut self.pieces.form {
             let (len, more) = (row.len(), piece.len());
             if more != 0 && more <= usize::MAX - len && row.has_room() {
                 row.push_back_reserved(piece, len + more);
@@ -271,7 +271,7 @@ impl IoBufs {
         ensures nothing { length piece.bytes ≡ 0 → IsOk result }
         ensures onto_nothing { text_len self.old ≡ 0 → IsOk result }
     {
-        if let Pieces::Many(row) = &mut self.pieces {
+        if let Form::Many(row) = &mut self.pieces.form {
             let (len, ahead) = (row.len(), piece.len());
             if ahead != 0 && ahead <= usize::MAX - len && row.has_room() {
                 row.push_front_reserved(piece, ahead);
@@ -460,7 +460,7 @@ impl From<IoBuf> for IoBufs {
         // A view's value has no bound of its length; a text's has one, which is known of a length that was asked for.
         let _len = piece.len();
         IoBufs {
-            pieces: Pieces::One(piece),
+            pieces: Pieces::one(piece),
         }
     }
 }
@@ -498,7 +498,7 @@ impl Buf for IoBufs {
     }
 
     fn chunk(&self) -> &[u8] {
-        self.pieces.piece(0).as_ref()
+        self.pieces.first().as_ref()
     }
 
     fn byte_at(&self, i: usize) -> Option<u8> {
@@ -510,7 +510,7 @@ impl Buf for IoBufs {
 
     #[inline(always)]
     fn advance(&mut self, n: usize) {
-        if let Pieces::One(piece) = &mut self.pieces {
+        if let Form::One(piece) = &mut self.pieces.form {
             piece.advance(n);
             return;
         }
@@ -779,7 +779,7 @@ impl IoBufs {
         ensures memory { IsOkUnless result BufError.Memory }
         ensures static_text { (taken_view self.old skip n).mark ≡ static_mark → T.is_free (taken_view self.old skip n) → IsOk result }
     {
-        let (first, end) = (self.pieces.piece(0), skip + n);
+        let (first, end) = (self.pieces.first(), skip + n);
         let view = first.slice(Bound::Included(skip), Bound::Excluded(end))?;
         let made = T::from_view(alloc, view)?;
         self.drop_front(end);

@@ -5,7 +5,7 @@ use Rattle.std.specs.declared.ops.Bound.TheVariants.{Included, Excluded}
 use Rattle.std.proofs.lemmas.Grind.{common_steps}
 use Rattle.std.proofs.lemmas.List.{nil_from_length, take-append-drop, drop-take}
 use Rattle.std.proofs.lemmas.List.Concat.{flat_map-append}
-use Rattle.std.proofs.lemmas.Bool.{cases_lt}
+use Rattle.std.proofs.lemmas.Bool.{cases_lt, false≢true}
 use Rattle.std.proofs.lemmas.Bool.Decides.{nat_tests}
 use Rattle.std.proofs.Math.Seq.{take-append_seam}
 use Rattle.iobufs_core.specs.Chunks.{first_chunk, IsChunkOf}
@@ -13,16 +13,14 @@ use Rattle.iobufs_core.specs.View.{View, default_view, view_front, view_advanced
 use Rattle.iobufs_core.specs.Part.{part_frozen}
 use Rattle.iobufs_core.specs.MarkedText.{MarkedText, of_view, text_len, is_single, text_chunks, text_coalesced, text_rest, text_right, taken_view}
 use Rattle.iobufs.specs.Inside.Pieces.{view_len, pieces_bytes, piece_at, piece_start, of_pieces, behind_first, rest_pieces, right_pieces, AreFull, IsPieces, IsPlace, AreViews}
-use Rattle.iobufs.specs.Inside.Several.{views, IsPieced}
-use Rattle.iobufs.specs.Inside.Kept.{text_of, IsKept}
-use Rattle.iobufs.specs.declared.bufs.pieces.Pieces.{Pieces}
+use Rattle.iobufs.specs.Inside.Kept.{text_of}
 use Rattle.iobufs.specs.declared.bufs.IoBufs.TheInside.{Inside}
 use Rattle.iobufs.proofs.Text.PieceLaws.{bytes-of_pieces, len-of_pieces, right-of_pieces, length-bytes, AreFull-from_pieces, of_pieces-one, front-all, rest-all, rest_pieces-all, rest_pieces-inside, right_pieces-past, right_pieces-none}
 use Rattle.iobufs.proofs.Text.PlaceLaws.{index-of_place, right-at_place}
 use Rattle.iobufs.proofs.Text.TakenLaws.{taken_view-right, taken_view-within, taken_view-across}
 use Rattle.iobufs.proofs.Text.ChunkLaws.{chunks-of_empty}
 use Rattle.iobufs.proofs.Text.CopyLaws.{bytes-from}
-use Rattle.iobufs.proofs.Text.TextLaws.{length-kept, IsPieces-from_pieced, some_views, chunks-kept, single-kept, rest-kept}
+use Rattle.iobufs.proofs.Text.TextLaws.{length-kept, some_views, chunks-kept, single-kept, single-more, rest-kept}
 
 -- the first piece is the first chunk, and a beginning of the text
 pub first-of : (vs : List View) (t : MarkedText) → of_pieces vs ≡ t → 0 < length vs → (0 < length (pieces_bytes vs) → AreFull vs)
@@ -37,8 +35,8 @@ first-of (v ∷ vs) t e l f =
     (cases_lt 0 (length (pieces_bytes (v ∷ vs))))
 
 -- the bytes of a text's first piece are its first chunk
-pub first-kept : (s : Pieces) (t : MarkedText) → of_pieces (views s) ≡ t → IsPieced s → (piece_at (views s) 0).bytes ≡ first_chunk (text_chunks t)
-first-kept s t e h = first-of (views s) t e (some_views s h) (AreFull-from_pieces (views s) (IsPieces-from_pieced s h))
+pub first-kept : (vs : List View) (t : MarkedText) → of_pieces vs ≡ t → IsPieces vs → (piece_at vs 0).bytes ≡ first_chunk (text_chunks t)
+first-kept vs t e h = first-of vs t e (some_views vs h) (AreFull-from_pieces vs h)
 
 front-of : (vs : List View) → 0 < length vs → (0 < length (pieces_bytes vs) → AreFull vs) → IsChunkOf (piece_at vs 0).bytes (pieces_bytes vs)
 front-of [] l f = absurd (omega arith)
@@ -53,11 +51,11 @@ front-of (v ∷ vs) l f =
     }
 
 -- the bytes of a text's first piece are a chunk of it
-pub front-chunk : (s : Pieces) (t : MarkedText) (chunk : List ℕ) → of_pieces (views s) ≡ t → IsPieced s → chunk ≡ (piece_at (views s) 0).bytes
+pub front-chunk : (vs : List View) (t : MarkedText) (chunk : List ℕ) → of_pieces vs ≡ t → IsPieces vs → chunk ≡ (piece_at vs 0).bytes
     → IsChunkOf chunk t.bytes
-front-chunk s t chunk e h c =
-    let b : pieces_bytes (views s) ≡ t.bytes = sym (bytes-of_pieces (views s)) ∙ ap (λ (x : MarkedText). x.bytes) e in
-    rw c (subst (IsChunkOf (piece_at (views s) 0).bytes) b (front-of (views s) (some_views s h) (AreFull-from_pieces (views s) (IsPieces-from_pieced s h))))
+front-chunk vs t chunk e h c =
+    let b : pieces_bytes vs ≡ t.bytes = sym (bytes-of_pieces vs) ∙ ap (λ (x : MarkedText). x.bytes) e in
+    rw c (subst (IsChunkOf (piece_at vs 0).bytes) b (front-of vs (some_views vs h) (AreFull-from_pieces vs h)))
 
 -- the byte at a place
 get-within : (xs ys : List ℕ) (n : ℕ) → n < length xs → slice_get (xs ++ ys) n ≡ Some (get_or xs n 0)
@@ -177,17 +175,13 @@ AreViews-behind [] h = tt
 AreViews-behind (v ∷ []) h = (tt, tt)
 AreViews-behind (v ∷ w ∷ vs) h = h.1
 
--- where kept pieces without the first one are one, or several of which none is empty, they are kept
-pub kept-behind : (s : Inside) (p : Pieces) → IsKept s → IsPieced p → views p ≡ behind_first (views s.pieces) → IsKept (record { pieces = p })
-kept-behind s p k h is =
-    record {
-      pieced = h;
-      roomy = subst AreViews (sym is) (AreViews-behind (views s.pieces) k.roomy);
-    }
+-- where pieces have room for their bytes, so have those behind the first
+pub views-behind : (vs ws : List View) → ws ≡ behind_first vs → AreViews vs → AreViews ws
+views-behind vs ws is h = subst AreViews (sym is) (AreViews-behind vs h)
 
 -- a text of one piece
-pub one-piece : (s : Inside) (t : MarkedText) → text_of s ≡ t → IsKept s → is_single t ≡ true → length (views s.pieces) ≡ 1
-one-piece s t e k h = is_one (length (views s.pieces)) (sym (single-kept s t e k) ∙ h)
+pub one-piece : (s : Inside) (t : MarkedText) → text_of s ≡ t → IsPieces s.pieces → is_single t ≡ true → length s.pieces ≡ 1
+one-piece s t e k h = is_one (length s.pieces) (sym (single-kept s t e k) ∙ h)
   where
     is_one : (n : ℕ) → nat_eq n 1 ≡ true → n ≡ 1
     is_one n h = grind (arith, tests)
@@ -233,9 +227,8 @@ as_text (Ok v) a t e h = ap of_view h ∙ e
 as_text (Err error) a t e h = tt
 
 -- a text of several pieces has bytes
-pub several-len : (s : Inside) (t : MarkedText) → text_of s ≡ t → IsKept s → is_single t ≡ false → 0 < text_len t
-several-len s t e k h = several (views s.pieces) (IsPieces-from_pieced s.pieces k.pieced)
-    (more (length (views s.pieces)) (sym (single-kept s t e k) ∙ h)) (omega (arith, length-kept s t e))
+pub several-len : (s : Inside) (t : MarkedText) → text_of s ≡ t → IsPieces s.pieces → is_single t ≡ false → 0 < text_len t
+several-len s t e k h = several s.pieces k (more (length s.pieces) (sym (single-kept s t e k) ∙ h)) (omega (arith, length-kept s t e))
   where
     more : (n : ℕ) → nat_eq n 1 ≡ false → n ≢ 1
     more n h = grind (arith, tests)
@@ -244,6 +237,14 @@ several-len s t e k h = several (views s.pieces) (IsPieces-from_pieced s.pieces 
     several [] p n l = absurd p
     several (v ∷ []) p n l = absurd (n refl)
     several (v ∷ w ∷ vs) p n l = let k = length-bytes v (w ∷ vs) in let f = p.0 in omega arith
+
+-- a single text is one piece at most, and the view that this piece is
+pub only-view : (vs : List View) (t : MarkedText) → of_pieces vs ≡ t → is_single t ≡ true
+    → (length vs ≤ 1) × (record { bytes = t.bytes; mark = t.mark } ≡ piece_at vs 0)
+unfolding of_pieces
+only-view [] t e h = (omega arith, ap (λ (x : MarkedText). record { bytes = x.bytes; mark = x.mark }) (sym e))
+only-view (v ∷ []) t e h = (omega arith, ap (λ (x : MarkedText). record { bytes = x.bytes; mark = x.mark }) (sym e ∙ of_pieces-one v))
+only-view (v ∷ w ∷ vs) t e h = absurd (false≢true (sym (single-more (v ∷ w ∷ vs) t e (omega arith)) ∙ h))
 
 -- a text of one piece is that view
 pub single-view : (vs : List View) (t : MarkedText) (v : View) → of_pieces vs ≡ t → length vs ≡ 1 → v ≡ piece_at vs 0 → t ≡ of_view v

@@ -2,24 +2,19 @@
 use Rattle.std.proofs.lemmas.List.Concat.{flat_map-append}
 use Rattle.std.proofs.Math.Seq.{take-append_seam}
 use Rattle.std.proofs.lemmas.Bool.{cases_lt}
+use Rattle.std.specs.Result.{OnOk, OnErr}
 use Rattle.iobufs.proofs.Text.EndLaws.{start-next, starts-below}
-use Rattle.std.proofs.Common.{map, refl, append-nil, ⊎_elim, ◌≡◌, ℕ, ◌+◌, ◌-◌, ◌<◌, ◌≤◌, List, [], ◌∷◌, ◌++◌, length, suc, sym, ap, ◌∙◌, arith, subst, length-append, length-drop}
+use Rattle.std.proofs.Common.{Result, Ok, Err, map, refl, append-nil, ⊎_elim, ◌≡◌, ℕ, ◌+◌, ◌-◌, ◌<◌, ◌≤◌, List, [], ◌∷◌, ◌++◌, length, suc, sym, ap, ◌∙◌, arith, subst, length-append, length-drop}
 use Rattle.iobufs_core.specs.View.{View}
 use Rattle.iobufs.specs.Inside.Pieces.{view_len, piece_at, piece_start, pieces_bytes, AreFull, IsPlace, left_pieces, right_pieces}
-use Rattle.iobufs.specs.Inside.Several.{views, IsPieced}
-use Rattle.iobufs.specs.declared.bufs.pieces.Pieces.{Pieces}
-use Rattle.iobufs.specs.declared.bufs.pieces.Pieces.TheVariants.{One, Many}
+use Rattle.iobufs.specs.Inside.Several.{IsPieced}
+use Rattle.iobufs.specs.declared.bufs.pieces.Form.{Form}
 use Rattle.iobufs.proofs.Text.PieceLaws.{order3, length-left, left_pieces-past, length-bytes, AreFull-append, AreFull-right, AreFull-left}
 use Rattle.iobufs.proofs.Text.PlaceLaws.{right-at_place, index-of_place}
 
 -- in an arm: what is known, by that arm's pieces
-pub pieced-as : {a b : Pieces} → a ≡ b → IsPieced a → IsPieced b
+pub pieced-as : {a b : Form} → a ≡ b → IsPieced a → IsPieced b
 pieced-as is h = subst IsPieced is h
-
--- pieces that have bytes: none of them is empty
-pub full-pieced : (p : Pieces) → IsPieced p → 0 < length (pieces_bytes (views p)) → AreFull (views p)
-full-pieced (One v) h l = (omega (arith, length-bytes v []), tt)
-full-pieced (Many row) h l = h.1
 
 -- several pieces of which none is empty are so with one more that has bytes
 pub several-push : (vs ws : List View) (w : View) → (1 < length vs) × AreFull vs → 0 < view_len w → ws ≡ vs ++ w ∷ [] → (1 < length ws) × AreFull ws
@@ -29,13 +24,19 @@ several-push vs ws w h p e =
     let l = h.0 in
     (omega arith, subst AreFull (sym e) (AreFull-append vs (w ∷ []) h.1 (p, tt)))
 
+-- a place below the end of pieces, under another name of these
+pub below-as : {vs ws : List View} {at : ℕ} → vs ≡ ws → at < length (pieces_bytes vs) → at < length (pieces_bytes ws)
+below-as {vs} {ws} {at} is l = subst (λ (us : List View). at < length (pieces_bytes us)) is l
+
+-- several pieces of which none is empty, and what a call makes of them where it isn't refused
+pub several-either : {A E : Type 0} (result : Result A E) (vs us ws : List View) → (1 < length vs) × AreFull vs → (1 < length us) × AreFull us
+    → OnOk result (ws ≡ us) → OnErr result (ws ≡ vs) → (1 < length ws) × AreFull ws
+several-either (Ok a) vs us ws old new done same = subst (λ xs. (1 < length xs) × AreFull xs) (sym done) new
+several-either (Err e) vs us ws old new done same = subst (λ xs. (1 < length xs) × AreFull xs) (sym same) old
+
 -- where no piece is empty, none is of those from a place below the end on, and there is one
-pub right-full : (p : Pieces) (vs ws : List View) (at : ℕ) → views p ≡ vs → AreFull (views p) → at < length (pieces_bytes (views p))
-    → ws ≡ right_pieces vs at → AreFull ws × (0 < length ws)
-right-full p vs ws at e f l is =
-    let g = subst AreFull e f in
-    let b = ap (λ (xs : List View). length (pieces_bytes xs)) e in
-    subst (λ xs. AreFull xs × (0 < length xs)) (sym is) (AreFull-right at vs g (omega arith))
+pub right-full : (vs ws : List View) (at : ℕ) → AreFull vs → at < length (pieces_bytes vs) → ws ≡ right_pieces vs at → AreFull ws × (0 < length ws)
+right-full vs ws at f l is = subst (λ xs. AreFull xs × (0 < length xs)) (sym is) (AreFull-right at vs f l)
 
 left-some : (vs : List View) (at : ℕ) → 0 < at → at ≤ length (pieces_bytes vs) → 0 < length (left_pieces vs at)
 left-some vs at p l = some (left_pieces vs at) (length-left at vs p l)
@@ -45,14 +46,12 @@ left-some vs at p l = some (left_pieces vs at) (length-left at vs p l)
     some (w ∷ ws) e = omega arith
 
 -- behind the first piece
-pub left-two : (p : Pieces) (vs ws : List View) (at : ℕ) → views p ≡ vs → AreFull (views p) → view_len (piece_at (views p) 0) < at
-    → at < length (pieces_bytes (views p)) → ws ≡ left_pieces vs at → (1 < length ws) × AreFull ws
-left-two p vs ws at e f past l is =
-    let first = ap (λ (xs : List View). view_len (piece_at xs 0)) e in
-    let bytes = ap (λ (xs : List View). length (pieces_bytes xs)) e in
-    let more = two vs (omega arith) (omega arith) in
+pub left-two : (vs ws : List View) (at : ℕ) → AreFull vs → view_len (piece_at vs 0) < at → at < length (pieces_bytes vs) → ws ≡ left_pieces vs at
+    → (1 < length ws) × AreFull ws
+left-two vs ws at f past l is =
+    let more = two vs past l in
     let n = ap (λ (xs : List View). length xs) is in
-    (omega arith, subst AreFull (sym is) (AreFull-left at vs (subst AreFull e f)))
+    (omega arith, subst AreFull (sym is) (AreFull-left at vs f))
   where
     two : (vs : List View) → view_len (piece_at vs 0) < at → at < length (pieces_bytes vs) → 1 < length (left_pieces vs at)
     two [] past l = absurd (omega arith)
@@ -62,12 +61,12 @@ left-two p vs ws at e f past l is =
         rw (left_pieces-past at v vs (omega arith) (omega arith)) (omega arith)
 
 -- up to the last piece
-pub right-two : (p : Pieces) (vs ws : List View) (at i o : ℕ) → views p ≡ vs → AreFull (views p) → at < length (pieces_bytes (views p))
-    → IsPlace vs at i o → i + 1 < length vs → ws ≡ right_pieces vs at → (1 < length ws) × AreFull ws
-right-two p vs ws at i o e f l place more is =
+pub right-two : (vs ws : List View) (at i o : ℕ) → AreFull vs → at < length (pieces_bytes vs) → IsPlace vs at i o → i + 1 < length vs
+    → ws ≡ right_pieces vs at → (1 < length ws) × AreFull ws
+right-two vs ws at i o f l place more is =
     let n = ap (λ (xs : List View). length xs) (is ∙ right-at_place vs at i o place) in
     let d = length-drop (suc i) vs in
-    (omega arith, (right-full p vs ws at e f l is).0)
+    (omega arith, (right-full vs ws at f l is).0)
 
 -- a place in the first piece
 pub place-in_first : (vs : List View) (at : ℕ) → at < view_len (piece_at vs 0) → IsPlace vs at 0 at

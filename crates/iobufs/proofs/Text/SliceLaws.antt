@@ -10,10 +10,7 @@ use Rattle.iobufs_core.specs.CallerFacts.{bytes-rest}
 use Rattle.iobufs_core.specs.View.{View, default_view, mark_after, static_mark, view_advanced}
 use Rattle.iobufs_core.specs.Chunks.{first_chunk}
 use Rattle.iobufs_core.specs.MarkedText.{MarkedText, taken_view, text_chunks, text_len, text_rest, text_split_front}
-use Rattle.iobufs.specs.Inside.Kept.{IsKept}
 use Rattle.iobufs.specs.Inside.Pieces.{AreFull, AreViews, IsPlace, left_pieces, of_pieces, piece_at, piece_start, pieces_bytes, right_pieces, view_len}
-use Rattle.iobufs.specs.Inside.Several.{views, IsPieced}
-use Rattle.iobufs.specs.declared.bufs.pieces.Pieces.{Pieces}
 use Rattle.iobufs.specs.declared.bufs.row.Piece.{Piece}
 use Rattle.iobufs.proofs.Text.EndLaws.{start-next, starts-below}
 use Rattle.iobufs.proofs.Text.PieceLaws.{AreFull-right, left_pieces-none, left_pieces-past, left_pieces-within, len-of_pieces, length-bytes, rest-of_pieces, right_pieces-none, right_pieces-past, right_pieces-within, split_front-of_pieces}
@@ -227,7 +224,6 @@ roomy-behind zero vs roomy = roomy
 roomy-behind (suc i) [] roomy = tt
 roomy-behind (suc i) (v ∷ vs) roomy = roomy-behind i vs roomy.1
 
--- a run of kept pieces, one or several, is kept
-pub kept-run : (vs : List View) (i m : ℕ) (p : Pieces) → AreViews vs → IsPieced p → views p ≡ take m (drop i vs) → IsKept (record { pieces = p })
-kept-run vs i m p roomy pieced is =
-    record { pieced = pieced; roomy = subst AreViews (sym is) (roomy-run m (drop i vs) (roomy-behind i vs roomy)) }
+-- where pieces have room for their bytes, so has a run of them
+pub views-run : (vs ws : List View) (i m : ℕ) → AreViews vs → ws ≡ take m (drop i vs) → AreViews ws
+views-run vs ws i m roomy is = subst AreViews (sym is) (roomy-run m (drop i vs) (roomy-behind i vs roomy))

@@ -8,18 +8,17 @@ use Rattle.iobufs_core.specs.MarkedText.{MarkedText, of_view, text_len, is_singl
 use Rattle.iobufs.specs.Inside.Pieces.{view_len, pieces_bytes, of_pieces, AreFull, IsPieces, AreViews, left_pieces, right_pieces, rest_pieces}
 use Rattle.iobufs.specs.Inside.Several.{views, IsPieced}
 use Rattle.iobufs.specs.Inside.Kept.{text_of, IsKept}
-use Rattle.iobufs.specs.declared.bufs.pieces.Pieces.{Pieces}
-use Rattle.iobufs.specs.declared.bufs.pieces.Pieces.TheVariants.{One, Many}
+use Rattle.iobufs.specs.declared.bufs.pieces.Form.{Form}
+use Rattle.iobufs.specs.declared.bufs.pieces.Form.TheVariants.{One, Many}
 use Rattle.iobufs.specs.declared.bufs.IoBufs.TheInside.{Inside}
 use Rattle.iobufs.proofs.Text.Sides.{not_zero}
-use Rattle.iobufs.proofs.Text.PieceLaws.{bytes-of_pieces, len-of_pieces, of_pieces-one, cuts-of_pieces, is_single-of_pieces, rest-of_pieces, split_front-of_pieces, advanced-of_view}
-use Rattle.iobufs.proofs.Text.SeveralLaws.{full-pieced}
+use Rattle.iobufs.proofs.Text.PieceLaws.{bytes-of_pieces, len-of_pieces, of_pieces-one, cuts-of_pieces, is_single-of_pieces, AreFull-from_pieces, rest-of_pieces, split_front-of_pieces, advanced-of_view}
 use Rattle.iobufs.proofs.Text.JoinLaws.{append-push, prepend-cons}
 use Rattle.iobufs.proofs.Text.KeptLaws.{AreViews-right, AreViews-left, AreViews-rest, AreViews-append, IsMarked-from_views}
 use Rattle.iobufs.proofs.Text.ChunkLaws.{chunks-of_pieces, chunks-of_empty}
 
 -- one piece, or several of which none is empty, are as the code keeps them
-pub IsPieces-from_pieced : (p : Pieces) → IsPieced p → IsPieces (views p)
+pub IsPieces-from_pieced : (p : Form) → IsPieced p → IsPieces (views p)
 IsPieces-from_pieced (One v) h = tt
 IsPieces-from_pieced (Many row) h = many row.views h.0 h.1
   where
@@ -29,25 +28,25 @@ IsPieces-from_pieced (Many row) h = many row.views h.0 h.1
     many (v ∷ w ∷ vs) l f = f
 
 -- there is at least one piece
-pub some_views : (p : Pieces) → IsPieced p → 0 < length (views p)
-some_views (One v) h = omega arith
-some_views (Many row) h = omega (arith, h.0)
+pub some_views : (vs : List View) → IsPieces vs → 0 < length vs
+some_views [] h = absurd h
+some_views (v ∷ vs) h = omega arith
 
 -- the bytes of the pieces are those of their text
-pub bytes-kept : (s : Inside) (t : MarkedText) → text_of s ≡ t → pieces_bytes (views s.pieces) ≡ t.bytes
-bytes-kept s t e = sym (bytes-of_pieces (views s.pieces)) ∙ ap (λ (x : MarkedText). x.bytes) e
+pub bytes-kept : (s : Inside) (t : MarkedText) → text_of s ≡ t → pieces_bytes s.pieces ≡ t.bytes
+bytes-kept s t e = sym (bytes-of_pieces s.pieces) ∙ ap (λ (x : MarkedText). x.bytes) e
 
 -- the pieces have as many bytes as their text
-pub length-kept : (s : Inside) (t : MarkedText) → text_of s ≡ t → length (pieces_bytes (views s.pieces)) ≡ text_len t
+pub length-kept : (s : Inside) (t : MarkedText) → text_of s ≡ t → length (pieces_bytes s.pieces) ≡ text_len t
 length-kept s t e = ap length (bytes-kept s t e)
 
 -- the pieces of a kept text that has bytes
-pub full-kept : (s : Inside) (t : MarkedText) → text_of s ≡ t → IsKept s → 0 < text_len t → AreFull (views s.pieces)
-full-kept s t e k p = full-pieced s.pieces k.pieced (omega (arith, length-kept s t e))
+pub full-kept : (s : Inside) (t : MarkedText) → text_of s ≡ t → IsPieces s.pieces → 0 < text_len t → AreFull s.pieces
+full-kept s t e k p = AreFull-from_pieces s.pieces k (omega (arith, length-kept s t e))
 
 -- the text of kept pieces is well formed
-pub IsMarked-kept : (s : Inside) (t : MarkedText) → text_of s ≡ t → IsKept s → IsMarked t
-IsMarked-kept s t e k = subst IsMarked e (IsMarked-from_views (views s.pieces) (IsPieces-from_pieced s.pieces k.pieced) k.roomy)
+pub IsMarked-kept : (s : Inside) (t : MarkedText) → text_of s ≡ t → IsPieces s.pieces → IsKept s → IsMarked t
+IsMarked-kept s t e k roomy = subst IsMarked e (IsMarked-from_views s.pieces k roomy)
 
 -- one piece, or several
 not_one : (n : ℕ) → 1 < n → nat_eq n 1 ≡ false
@@ -60,8 +59,8 @@ single-of (v ∷ w ∷ vs) t e l = sym (ap is_single e) ∙ is_single-of_pieces 
     ∙ sym (not_one (length (v ∷ w ∷ vs)) (omega arith))
 
 -- the text of kept pieces is single exactly where there is one
-pub single-kept : (s : Inside) (t : MarkedText) → text_of s ≡ t → IsKept s → is_single t ≡ nat_eq (length (views s.pieces)) 1
-single-kept s t e k = single-of (views s.pieces) t e (some_views s.pieces k.pieced)
+pub single-kept : (s : Inside) (t : MarkedText) → text_of s ≡ t → IsPieces s.pieces → is_single t ≡ nat_eq (length s.pieces) 1
+single-kept s t e k = single-of s.pieces t e (some_views s.pieces k)
 
 -- the text of more than one piece isn't single
 pub single-more : (vs : List View) (t : MarkedText) → of_pieces vs ≡ t → 1 < length vs → is_single t ≡ false
@@ -121,6 +120,9 @@ views-right vs ws at is h = subst AreViews (sym is) (AreViews-right at vs h)
 pub views-left : (vs ws : List View) (at : ℕ) → ws ≡ left_pieces vs at → AreViews vs → AreViews ws
 views-left vs ws at is h = subst AreViews (sym is) (AreViews-left at vs h)
 
+pub views-rest : (vs ws : List View) (n : ℕ) → ws ≡ rest_pieces vs n → AreViews vs → AreViews ws
+views-rest vs ws n is h = subst AreViews (sym is) (AreViews-rest n vs h)
+
 -- what `advance` leaves
 pub advanced-one : (v : View) (t : MarkedText) (n : ℕ) → of_pieces (v ∷ []) ≡ t → n ≤ view_len v → of_pieces (view_advanced v n ∷ []) ≡ text_advanced t n
 advanced-one v t n e l = of_pieces-one (view_advanced v n) ∙ sym (advanced-of_view n v l)
@@ -145,43 +147,3 @@ chunk-at vs t i piece e l f g =
 -- an empty text has no chunk, whichever is asked for
 pub chunk-none : (t : MarkedText) (i : ℕ) → text_len t ≡ 0 → None ≡ slice_get (text_chunks t) i
 chunk-none t i e = sym (ap (λ (xs : List (List ℕ)). slice_get xs i) (chunks-of_empty t e))
-
--- what is kept after a change of the pieces
-pub kept-push : (s : Inside) (p : Pieces) (w : View) → IsKept s → IsPieced p → views p ≡ views s.pieces ++ w ∷ [] → IsView w → IsKept (record { pieces = p })
-kept-push s p w k h is v =
-    record {
-      pieced = h;
-      roomy = views-push (views s.pieces) (views p) w is k.roomy v;
-    }
-
--- where kept pieces with one more in front, which has room for its bytes, are several of which none is empty, or one, they are kept
-pub kept-cons : (s : Inside) (p : Pieces) (w : View) → IsKept s → IsPieced p → views p ≡ w ∷ views s.pieces → IsView w → IsKept (record { pieces = p })
-kept-cons s p w k h is v =
-    record {
-      pieced = h;
-      roomy = views-cons (views s.pieces) (views p) w is k.roomy v;
-    }
-
--- where kept pieces up to a place are one, or several of which none is empty, they are kept
-pub kept-front : (s : Inside) (at : ℕ) (p : Pieces) → IsKept s → IsPieced p → views p ≡ left_pieces (views s.pieces) at → IsKept (record { pieces = p })
-kept-front s at p k h is =
-    record {
-      pieced = h;
-      roomy = views-left (views s.pieces) (views p) at is k.roomy;
-    }
-
--- where kept pieces from a place on are one, or several of which none is empty, they are kept
-pub kept-rest : (s : Inside) (at : ℕ) (p : Pieces) → IsKept s → IsPieced p → views p ≡ right_pieces (views s.pieces) at → IsKept (record { pieces = p })
-kept-rest s at p k h is =
-    record {
-      pieced = h;
-      roomy = views-right (views s.pieces) (views p) at is k.roomy;
-    }
-
--- where kept pieces without their first bytes are one, or several of which none is empty, they are kept
-pub kept-dropped : (s : Inside) (n : ℕ) (p : Pieces) → IsKept s → IsPieced p → views p ≡ rest_pieces (views s.pieces) n → IsKept (record { pieces = p })
-kept-dropped s n p k h is =
-    record {
-      pieced = h;
-      roomy = subst AreViews (sym is) (AreViews-rest n (views s.pieces) k.roomy);
-    }

@@ -4,14 +4,14 @@
 use Rattle.std.specs.Prelude.{◌<◌, List, [], ◌∷◌, length}
 use Rattle.iobufs_core.specs.View.{View}
 use Rattle.iobufs.specs.Inside.Pieces.{AreFull}
-use Rattle.iobufs.specs.declared.bufs.pieces.Pieces.{Pieces}
-use Rattle.iobufs.specs.declared.bufs.pieces.Pieces.TheVariants.{One, Many}
+use Rattle.iobufs.specs.declared.bufs.pieces.Form.{Form}
+use Rattle.iobufs.specs.declared.bufs.pieces.Form.TheVariants.{One, Many}
 
-abbrev pub views : Pieces → List View
+abbrev pub views : Form → List View
 views (One view) = view ∷ []
 views (Many row) = row.views
 
 -- a row has two pieces or more, and none is empty
-abbrev pub IsPieced : Pieces → Type 0
+abbrev pub IsPieced : Form → Type 0
 IsPieced (One view) = Unit {0}
 IsPieced (Many row) = (1 < length row.views) × AreFull row.views

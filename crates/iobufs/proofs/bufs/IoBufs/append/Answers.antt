@@ -1,20 +1,30 @@
-use Rattle.std.proofs.Common.{arith}
+use Rattle.std.proofs.Common.{◌≡◌, ap, sym, subst, ◌∙◌, arith}
+use Rattle.iobufs.specs.Inside.Pieces.{AreViews, of_pieces}
+use Rattle.iobufs.specs.Inside.Several.{views}
+use Rattle.iobufs.specs.declared.bufs.IoBufs.TheInside.{Inside}
 use Rattle.iobufs.proofs.Text.RoomLaws.{behind-row, length-row}
+use Rattle.iobufs.proofs.Text.SeveralLaws.{pieced-as, several-push}
+use Rattle.iobufs.proofs.Text.TextLaws.{views-push}
 use Rattle.iobufs.proofs.bufs.IoBufs.append.Goals as goal
+
+pub invariant_of-self-inside : goal.invariant_of-self-inside
+invariant_of-self-inside c =
+    several-push c.in-Many.row.views _ c.args.piece (pieced-as c.in-Many.is c.self-inside.invariant)
+    (omega (arith, c.if-more-ne0.true, c.len-more.ensures.value)) c.push_back_reserved.ensures.pushed
 
 pub invariant_of-self : goal.invariant_of-self
 invariant_of-self c =
-    let pushed = c.push_back_reserved in
-    (behind-row c.self.inside c.in-Many.row _ c.in-Many.is c.self.invariant c.self.view_is pushed.new.self c.args.piece (omega arith)
-    c.len-more.ensures.room pushed.ensures.pushed).1
+    let seen : c.in-Many.row.views ≡ c.self.inside.pieces = ap views (sym c.in-Many.is) ∙ ap (λ (s : Inside). s.pieces) c.self-inside.view_is in
+    views-push c.in-Many.row.views _ c.args.piece c.push_back_reserved.ensures.pushed (subst AreViews (sym seen) c.self.invariant) c.len-more.ensures.room
 
 pub returns-then-has_room-clause-done : goal.returns-then-has_room-clause-done
 returns-then-has_room-clause-done c =
-    let pushed = c.push_back_reserved in
-    (behind-row c.self.inside c.in-Many.row _ c.in-Many.is c.self.invariant c.self.view_is pushed.new.self c.args.piece (omega arith)
-    c.len-more.ensures.room pushed.ensures.pushed).0
+    let seen : c.in-Many.row.views ≡ c.self.inside.pieces = ap views (sym c.in-Many.is) ∙ ap (λ (s : Inside). s.pieces) c.self-inside.view_is in
+    behind-row c.in-Many.row.views _ (pieced-as c.in-Many.is c.self-inside.invariant) (ap of_pieces seen ∙ c.self.view_is) _ c.args.piece
+    (omega (arith, c.if-more-ne0.true, c.len-more.ensures.value)) c.push_back_reserved.ensures.pushed
 
 pub returns-then-has_room-clause-too_long : goal.returns-then-has_room-clause-too_long
 returns-then-has_room-clause-too_long c =
-    let len = length-row c.self.inside c.in-Many.row _ c.in-Many.is c.self.invariant c.self.view_is in
+    let seen : c.in-Many.row.views ≡ c.self.inside.pieces = ap views (sym c.in-Many.is) ∙ ap (λ (s : Inside). s.pieces) c.self-inside.view_is in
+    let len = length-row c.in-Many.row.views _ (pieced-as c.in-Many.is c.self-inside.invariant) (ap of_pieces seen ∙ c.self.view_is) in
     λ long. absurd (omega (arith, long, len, c.len-len.ensures.value, c.len-more.ensures.value, c.if-more-len.true))

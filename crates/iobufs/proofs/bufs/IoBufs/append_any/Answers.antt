@@ -1,10 +1,10 @@
 use Rattle.std.proofs.Common.{ap, ◌∙◌, arith}
 use Rattle.iobufs.specs.Inside.Pieces.{of_pieces}
-use Rattle.iobufs.proofs.Text.TextLaws.{length-kept, append-pieces, kept-push}
+use Rattle.iobufs.proofs.Text.TextLaws.{length-kept, append-pieces, views-push}
 use Rattle.iobufs.proofs.bufs.IoBufs.append_any.Goals as goal
 
 pub invariant_of-self-2 : goal.invariant_of-self-2
-invariant_of-self-2 c = kept-push c.self.inside _ c.args.piece c.self.invariant c.push_back.ensures.pieced c.in_default.ensures.done c.len-more.ensures.room
+invariant_of-self-2 c = views-push _ _ c.args.piece c.in_default.ensures.done c.self.invariant c.len-more.ensures.room
 
 pub returns-clause-done : goal.returns-clause-done
 returns-clause-done c = ap of_pieces c.in_default.ensures.done ∙ append-pieces _ _ _ c.self.view_is (omega arith) (omega arith)

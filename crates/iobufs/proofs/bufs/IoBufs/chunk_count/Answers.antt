@@ -14,13 +14,13 @@ returns-then-len-eq0-clause-chunks c =
 pub returns-clause-keys : goal.returns-clause-keys
 returns-clause-keys c =
     let n = length-kept c.self.inside _ c.self.view_is in
-    c.count.ensures ∙ count-pieces _ _ c.self.view_is (omega (arith))
+    c.count.ensures.value ∙ count-pieces _ _ c.self.view_is (omega (arith))
 
 pub returns-clause-chunks : goal.returns-clause-chunks
 returns-clause-chunks c =
     let text = c.args.self.now in
     let n = length-kept c.self.inside _ c.self.view_is in
-    let keys : c.count.result ≡ chunk_count text = c.count.ensures ∙ count-pieces _ _ c.self.view_is (omega (arith)) in
+    let keys : c.count.result ≡ chunk_count text = c.count.ensures.value ∙ count-pieces _ _ c.self.view_is (omega (arith)) in
     let value = c.len.ensures.value in
     let some : 0 < text_len text = omega arith in
     let chunks = length-text_chunks text c.len.ensures.marked some in

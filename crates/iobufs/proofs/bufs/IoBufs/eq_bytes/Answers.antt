@@ -1,6 +1,5 @@
 use Rattle.std.proofs.Common.{◌≤◌, arith, ◌∙◌, refl}
 use Rattle.iobufs.specs.Inside.Pieces.{bytes_behind, piece_at, view_len}
-use Rattle.iobufs.specs.Inside.Several.{views}
 use Rattle.iobufs.specs.declared.bufs.search.Located.{Located}
 use Rattle.iobufs.proofs.Text.EqualLaws.{found-same, of_texts}
 use Rattle.iobufs.proofs.Text.TextLaws.{bytes-kept, length-kept}
@@ -11,7 +10,7 @@ matched-requires-clause-inside c = omega (arith, c.if-len-bytes.true, c.len.ensu
 
 pub returns-then-len-bytes : goal.returns-then-len-bytes
 returns-then-len-bytes c =
-    let vs = views c.self.inside.pieces in
+    let vs = c.self.inside.pieces in
     of_texts _ _ _ _ _ (bytes-kept c.self.inside _ c.self.view_is) refl
     (c.is_some.ensures ∙ found-same _ c.args.bytes.now c.matched.result (λ (end : Located). end.offset ≤ view_len (piece_at vs end.index))
     (λ (end : Located). bytes_behind vs end.index end.offset)

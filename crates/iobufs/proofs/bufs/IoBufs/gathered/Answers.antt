@@ -3,7 +3,6 @@ use Rattle.iobufs_core.specs.LayoutLaws.{good_layout}
 use Rattle.iobufs_core.specs.MarkedText.{of_view}
 use Rattle.iobufs_core.specs.Part.{Part, part_frozen, part_put}
 use Rattle.iobufs.specs.Inside.Pieces.{pieces_bytes}
-use Rattle.iobufs.specs.Inside.Several.{views}
 use Rattle.iobufs.proofs.Text.CopyLaws.{only-cause}
 use Rattle.iobufs.proofs.Text.TextLaws.{length-kept}
 use Rattle.iobufs.proofs.Text.ReadLaws.{coalesced-copy, several-len, as_text}
@@ -20,12 +19,12 @@ copy_to-requires c =
 
 pub returns-clause-ok : goal.returns-clause-ok
 returns-clause-ok c =
-    let bytes = pieces_bytes (views c.self.inside.pieces) in
+    let bytes = pieces_bytes c.self.inside.pieces in
     let n = length-kept c.self.inside _ c.self.view_is in
-    let some = several-len c.self.inside _ c.self.view_is c.self.invariant c.requires in
+    let some = several-len c.self.inside _ c.self.view_is c.copy_to.ensures.pieces c.requires in
     let none : c.len.result - length bytes ≡ 0 = omega (arith, c.len.ensures.value) in
     let put : c.copy_to.new.copy ≡ record { filled = bytes; spare = 0 } =
-    c.copy_to.ensures ∙ ap (λ (p : Part). part_put p bytes) c.in_ok-copy.ensures.ok ∙ ap (λ k. record { filled = bytes; spare = k }) none in
+    c.copy_to.ensures.put ∙ ap (λ (p : Part). part_put p bytes) c.in_ok-copy.ensures.ok ∙ ap (λ k. record { filled = bytes; spare = k }) none in
     let whole = coalesced-copy _ c.args.self.now bytes c.len.result c.self.view_is c.requires (omega (arith, c.len.ensures.value))
     (omega (arith, c.len.ensures.value)) (sym (take_all c.len.result bytes (omega (arith, c.len.ensures.value)))) in
     as_text c.freeze.result _ _ (ap (λ (p : Part). of_view (part_frozen p)) put ∙ whole) c.freeze.ensures.ok

@@ -5,6 +5,6 @@ use Rattle.iobufs.proofs.bufs.IoBufs.len.Goals as goal
 pub returns : goal.returns
 returns c =
     record {
-      value = c.len.ensures ∙ length-kept c.self.inside _ c.self.view_is;
-      marked = IsMarked-kept c.self.inside c.args.self.now c.self.view_is c.self.invariant;
+      value = c.len.ensures.value ∙ length-kept c.self.inside _ c.self.view_is;
+      marked = IsMarked-kept c.self.inside c.args.self.now c.self.view_is c.len.ensures.pieces c.self.invariant;
     }

@@ -1,5 +1,4 @@
 use Rattle.std.proofs.Common.{ap, ◌∙◌, arith, drop, take}
-use Rattle.iobufs.specs.Inside.Several.{views}
 use Rattle.iobufs.proofs.Text.CopyLaws.{from-place}
 use Rattle.iobufs.proofs.Text.ReadLaws.{rest-length}
 use Rattle.iobufs.proofs.Text.TextLaws.{bytes-kept, length-kept}
@@ -11,11 +10,11 @@ locate-place-requires c = omega (arith, c.requires, c.if-n-eq0.false, length-kep
 pub copy_from-requires-clause-inside : goal.copy_from-requires-clause-inside
 copy_from-requires-clause-inside c =
     let n = length-kept c.self.inside _ c.self.view_is in
-    let rest = rest-length (views c.self.inside.pieces) c.locate-place.result.index in
+    let rest = rest-length c.self.inside.pieces c.locate-place.result.index in
     omega (arith, c.requires, c.if-n-eq0.false, c.locate-place.ensures.place.sum)
 
 pub returns : goal.returns
 returns c =
     c.copy_from.ensures
-    ∙ ap (take _) (from-place (views c.self.inside.pieces) c.args.skip c.locate-place.result.index c.locate-place.result.offset c.locate-place.ensures.place.sum
+    ∙ ap (take _) (from-place c.self.inside.pieces c.args.skip c.locate-place.result.index c.locate-place.result.offset c.locate-place.ensures.place.sum
     ∙ ap (drop c.args.skip) (bytes-kept c.self.inside _ c.self.view_is))

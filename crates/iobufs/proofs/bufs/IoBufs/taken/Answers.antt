@@ -4,7 +4,6 @@ use Rattle.std.specs.declared.ops.Bound.TheVariants.{Included, Excluded}
 use Rattle.iobufs_core.specs.View.{View, view_slice}
 use Rattle.iobufs_core.specs.MarkedText.{taken_view}
 use Rattle.iobufs.specs.Inside.Pieces.{piece_at, view_len}
-use Rattle.iobufs.specs.Inside.Several.{views}
 use Rattle.iobufs.proofs.Text.PlaceLaws.{bytes-fit}
 use Rattle.iobufs.proofs.Text.ReadLaws.{taken-within, taken-across, rest-length, as_view}
 use Rattle.iobufs.proofs.Text.StaticLaws.{static-within, across-native}
@@ -30,7 +29,7 @@ returns-then-n-len-clause-ok c =
 pub copied-requires-clause-inside : goal.copied-requires-clause-inside
 copied-requires-clause-inside c =
     let n = length-kept c.self.inside _ c.self.view_is in
-    let rest = rest-length (views c.self.inside.pieces) c.locate-place.result.index in
+    let rest = rest-length c.self.inside.pieces c.locate-place.result.index in
     omega (arith, c.requires, c.if-n-eq0.false, c.locate-place.ensures.place.sum)
 
 pub returns-in-Ok-clause-ok : goal.returns-in-Ok-clause-ok
@@ -62,7 +61,7 @@ whichever (Err cause) true_anyway = tt
 pub returns-then-n-len-clause-fits : goal.returns-then-n-len-clause-fits
 returns-then-n-len-clause-fits c =
     let n = length-kept c.self.inside _ c.self.view_is in
-    let here : view_len (piece_at (views c.self.inside.pieces) c.locate-place.result.index) < 2 ^ 64 =
+    let here : view_len (piece_at c.self.inside.pieces c.locate-place.result.index) < 2 ^ 64 =
     omega (arith, ap (λ (v : View). length v.bytes) c.piece-piece.ensures) in
     let all = bytes-fit _ _ _ _ c.locate-place.ensures.place here c.locate-place.ensures.fits in
     let fits : c.args.skip + c.args.n < 2 ^ 64 = omega (arith, c.requires) in
@@ -71,7 +70,7 @@ returns-then-n-len-clause-fits c =
 pub returns-in-Ok-clause-fits : goal.returns-in-Ok-clause-fits
 returns-in-Ok-clause-fits c =
     let n = length-kept c.self.inside _ c.self.view_is in
-    let here : view_len (piece_at (views c.self.inside.pieces) c.locate-place.result.index) < 2 ^ 64 =
+    let here : view_len (piece_at c.self.inside.pieces c.locate-place.result.index) < 2 ^ 64 =
     omega (arith, ap (λ (v : View). length v.bytes) c.piece-piece.ensures) in
     let all = bytes-fit _ _ _ _ c.locate-place.ensures.place here c.locate-place.ensures.fits in
     omega (arith, c.requires)

@@ -6,8 +6,8 @@ use Rattle.iobufs.proofs.bufs.IoBufsBuf.chunks_vectored.Goals as goal
 pub returns-clause-ok : goal.returns-clause-ok
 returns-clause-ok c =
     let n = length-kept c.self.inside _ c.self.view_is in
-    let full = full-kept c.self.inside _ c.self.view_is c.self.invariant (omega arith) in
-    c.in_ok-chunks.ensures.ok ∙ ap (take c.args.max) (sym (chunks-kept _ _ c.self.view_is (some_views _ c.self.invariant.pieced) full))
+    let full = full-kept c.self.inside _ c.self.view_is c.in_ok-chunks.ensures.pieces (omega arith) in
+    c.in_ok-chunks.ensures.ok ∙ ap (take c.args.max) (sym (chunks-kept _ _ c.self.view_is (some_views _ c.in_ok-chunks.ensures.pieces) full))
 
 pub returns-then-len-eq0-clause-ok : goal.returns-then-len-eq0-clause-ok
 returns-then-len-eq0-clause-ok c = none-shown (λ x. x.now) _ _ _ c.new.ensures.items (omega arith)

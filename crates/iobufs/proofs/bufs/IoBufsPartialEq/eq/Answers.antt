@@ -2,7 +2,6 @@ use Rattle.std.proofs.Common.{◌≡◌, ◌≤◌, ◌+◌, ◌++◌, List, ap,
 use Rattle.std.proofs.lemmas.List.{drop_all}
 use Rattle.iobufs_core.specs.View.{View}
 use Rattle.iobufs.specs.Inside.Pieces.{pieces_bytes}
-use Rattle.iobufs.specs.Inside.Several.{views}
 use Rattle.iobufs.proofs.Text.CopyLaws.{bytes-from}
 use Rattle.iobufs.proofs.Text.EqualLaws.{differ-at, matched-lengths, matched-more, matched-none, of_texts, same-to_end}
 use Rattle.iobufs.proofs.Text.TextLaws.{bytes-kept, length-kept}
@@ -10,18 +9,18 @@ use Rattle.iobufs.proofs.bufs.IoBufsPartialEq.eq.Goals as goal
 
 pub loop-index-init : goal.loop-index-init
 loop-index-init c =
-    record { offset = omega arith; matched = matched-none (pieces_bytes (views c.other.inside.pieces)) (pieces_bytes (views c.self.inside.pieces)) }
+    record { offset = omega arith; matched = matched-none (pieces_bytes c.other.inside.pieces) (pieces_bytes c.self.inside.pieces) }
 
 pub matched-requires-clause-offset : goal.matched-requires-clause-offset
 matched-requires-clause-offset c = c.loop-index.invariant.offset
 
 pub matched-requires-clause-inside : goal.matched-requires-clause-inside
 matched-requires-clause-inside c =
-    let ours = views c.self.inside.pieces in
+    let ours = c.self.inside.pieces in
     let i = c.loop-index.index in
     let same = length-kept c.self.inside _ c.self.view_is in
     let others = length-kept c.other.inside _ c.other.view_is in
-    let len : length (pieces_bytes ours) ≡ length (pieces_bytes (views c.other.inside.pieces)) =
+    let len : length (pieces_bytes ours) ≡ length (pieces_bytes c.other.inside.pieces) =
     omega (arith, same, others, c.if-len.false, c.len.ensures.value, c.len-2.ensures.value) in
     let left = matched-lengths _ _ _ _ c.loop-index.invariant.matched len in
     let is = c.as_ref.ensures ∙ ap (λ (v : View). v.bytes) c.piece.ensures in
@@ -30,7 +29,7 @@ matched-requires-clause-inside c =
 
 pub returns-in_default : goal.returns-in_default
 returns-in_default c =
-    let ours = views c.self.inside.pieces in
+    let ours = c.self.inside.pieces in
     let i = c.loop-index.index in
     let is = c.as_ref.ensures ∙ ap (λ (v : View). v.bytes) c.piece.ensures in
     let parts = bytes-from ours i 0 (omega arith) (omega arith) ∙ ap (λ xs. xs ++ pieces_bytes (drop (i + 1) ours)) (sym is) in
@@ -39,7 +38,7 @@ returns-in_default c =
 
 pub loop-index-preserved : goal.loop-index-preserved
 loop-index-preserved c =
-    let ours = views c.self.inside.pieces in
+    let ours = c.self.inside.pieces in
     let i = c.loop-index.index in
     let is = c.as_ref.ensures ∙ ap (λ (v : View). v.bytes) c.piece.ensures in
     let parts = bytes-from ours i 0 (omega arith) (omega arith) ∙ ap (λ xs. xs ++ pieces_bytes (drop (i + 1) ours)) (sym is) in
@@ -47,10 +46,10 @@ loop-index-preserved c =
 
 pub returns : goal.returns
 returns c =
-    let ours = views c.self.inside.pieces in
+    let ours = c.self.inside.pieces in
     let same = length-kept c.self.inside _ c.self.view_is in
     let others = length-kept c.other.inside _ c.other.view_is in
-    let len : length (pieces_bytes ours) ≡ length (pieces_bytes (views c.other.inside.pieces)) =
+    let len : length (pieces_bytes ours) ≡ length (pieces_bytes c.other.inside.pieces) =
     omega (arith, same, others, c.if-len.false, c.len.ensures.value, c.len-2.ensures.value) in
     let last : length ours ≤ c.loop-index.index = omega (arith, c.loop-index-test.false, c.count-index-end.ensures) in
     let none = ap (λ (ws : List View). pieces_bytes ws) (drop_all c.loop-index.index ours last) in

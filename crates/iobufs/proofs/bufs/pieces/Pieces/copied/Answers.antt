@@ -1,7 +1,6 @@
 use Rattle.std.proofs.Common.{◌-◌, ap, ◌∙◌, arith, drop, take, length, length-append, length-take-le, min, refl}
 use Rattle.iobufs_core.specs.View.{View}
 use Rattle.iobufs_core.specs.Part.{Part}
-use Rattle.iobufs.specs.Inside.Several.{views}
 use Rattle.iobufs_core.specs.LayoutLaws.{good_layout}
 use Rattle.iobufs.proofs.Text.CopyLaws.{only-cause, copied-step, slice_from}
 use Rattle.iobufs.proofs.bufs.pieces.Pieces.copied.Goals as goal
@@ -19,7 +18,7 @@ loop-offset-preserved c =
     let room = c.loop-offset.invariant.room in
     let count = c.min-some.ensures ∙ ap (λ n. min (length some) (c.args.n - n)) c.len-in-loop-offset.ensures in
     let step =
-    copied-step (views c.args.self.now) c.loop-offset.index o c.args.n (length copy.filled) c.min-some.result copy.filled more.filled some _
+    copied-step c.args.self.now c.loop-offset.index o c.args.n (length copy.filled) c.min-some.result copy.filled more.filled some _
     (omega arith) c.loop-offset.invariant.offset (slice_from o all ∙ ap (drop o) bytes) (omega arith) refl c.loop-offset.invariant.left
     c.loop-offset.invariant.so_far count put in
     let longer = ap length put ∙ length-append copy.filled (take c.min-some.result some) in

@@ -2,7 +2,6 @@ use Rattle.std.proofs.Common.{◌≡◌, ◌+◌, ◌-◌, ◌++◌, ap, ◌∙�
 use Rattle.std.proofs.lemmas.Slice.{take-put_mid}
 use borrow.Rule.Slice.PartMut.{put_mid, same_len_mid}
 use Rattle.iobufs_core.specs.View.{View}
-use Rattle.iobufs.specs.Inside.Several.{views}
 use Rattle.iobufs.specs.Inside.Pieces.{pieces_bytes}
 use Rattle.iobufs.proofs.Text.CopyLaws.{filled-step, slice_from}
 use Rattle.iobufs.proofs.bufs.pieces.Pieces.copy_from.Goals as goal
@@ -24,12 +23,12 @@ loop-filled-preserved c =
     let same = same_len_mid f (f + k - f) dst part c.copy_from_slice.ensures.len in
     let now = put_mid f (f + k - f) dst part in
     let taken = take-put_mid f (f + k - f) dst part (f + k) (omega (arith, count)) some ∙ ap (λ xs. take f dst ++ xs) after in
-    let target = take (length dst) (drop c.args.from.offset (pieces_bytes (drop c.args.from.index (views c.args.self.now)))) in
-    let step = filled-step (views c.args.self.now) c.loop-filled.index o f k dst now bytes target (omega arith) c.loop-filled.invariant.offset
+    let target = take (length dst) (drop c.args.from.offset (pieces_bytes (drop c.args.from.index c.args.self.now))) in
+    let step = filled-step c.args.self.now c.loop-filled.index o f k dst now bytes target (omega arith) c.loop-filled.invariant.offset
     (slice_from o all ∙ ap (drop o) is) some c.loop-filled.invariant.left c.loop-filled.invariant.so_far short same taken in
     record {
       offset = omega arith;
       some = step.some;
       left = omega (arith, step.left);
-      so_far = step.so_far ∙ ap (λ n. take n (drop c.args.from.offset (pieces_bytes (drop c.args.from.index (views c.args.self.now))))) (sym same);
+      so_far = step.so_far ∙ ap (λ n. take n (drop c.args.from.offset (pieces_bytes (drop c.args.from.index c.args.self.now)))) (sym same);
     }

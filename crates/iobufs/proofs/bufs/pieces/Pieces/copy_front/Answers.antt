@@ -1,6 +1,5 @@
 use Rattle.std.proofs.Common.{◌-◌, ap, ◌∙◌, arith, length, min, refl}
 use Rattle.iobufs_core.specs.View.{View}
-use Rattle.iobufs.specs.Inside.Several.{views}
 use Rattle.iobufs.proofs.Text.CopyLaws.{copied-step}
 use Rattle.iobufs.proofs.bufs.pieces.Pieces.copy_front.Goals as goal
 
@@ -12,7 +11,7 @@ loop-bytes-preserved c =
     let is = c.as_ref-bytes.ensures ∙ ap (λ (v : View). v.bytes) c.piece.ensures in
     let count = c.min-some.ensures ∙ ap (λ n. min (length bytes) (c.args.n - n)) (c.len-in-loop-bytes.ensures ∙ l.copy.ok.0) in
     let step =
-    copied-step (views c.args.self.now) l.index 0 c.args.n (length copy) c.min-some.result copy c.extend_from_slice.new.self.items bytes _
+    copied-step c.args.self.now l.index 0 c.args.n (length copy) c.min-some.result copy c.extend_from_slice.new.self.items bytes _
     (omega arith) (omega arith) is l.invariant.some refl (omega (arith, l.invariant.left)) l.invariant.so_far count
     c.in_ok-extend_from_slice.ensures.items in
     record {

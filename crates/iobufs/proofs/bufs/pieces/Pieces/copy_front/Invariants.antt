@@ -1,14 +1,13 @@
 use Rattle.std.proofs.Common.{◌≡◌, ◌-◌, ◌≤◌, ◌++◌, length, take, drop}
 use Rattle.iobufs.specs.Inside.Pieces.{pieces_bytes}
-use Rattle.iobufs.specs.Inside.Several.{views}
 use Rattle.iobufs.proofs.bufs.pieces.Pieces.copy_front.Given as goal
 
 abbrev pub invariant-loop-bytes : goal.invariant-loop-bytes
 invariant-loop-bytes l =
     record {
       some : length l.copy.items ≤ l.n;
-      left : l.n - length l.copy.items ≤ length (pieces_bytes (drop l.index (views l.self)));
-      so_far : l.copy.items ++ take (l.n - length l.copy.items) (pieces_bytes (drop l.index (views l.self))) ≡ take l.n (pieces_bytes (views l.self));
+      left : l.n - length l.copy.items ≤ length (pieces_bytes (drop l.index l.self));
+      so_far : l.copy.items ++ take (l.n - length l.copy.items) (pieces_bytes (drop l.index l.self)) ≡ take l.n (pieces_bytes l.self);
     }
 
 abbrev pub decreases-loop-bytes : goal.decreases-loop-bytes

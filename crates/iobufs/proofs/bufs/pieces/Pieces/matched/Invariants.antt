@@ -1,14 +1,13 @@
 use Rattle.std.proofs.Common.{◌≤◌, ◌-◌}
 use Rattle.iobufs.specs.Inside.Pieces.{bytes_behind, piece_at, view_len}
-use Rattle.iobufs.specs.Inside.Several.{views}
 use Rattle.iobufs.proofs.Text.EqualLaws.{IsMatched}
 use Rattle.iobufs.proofs.bufs.pieces.Pieces.matched.Given as goal
 
 abbrev pub invariant-loop-index : goal.invariant-loop-index
 invariant-loop-index l =
     record {
-      offset : l.offset ≤ view_len (piece_at (views l.self) l.index);
-      matched : IsMatched (bytes_behind (views l.self) l.fn.from.index l.fn.from.offset) l.bytes l.left (bytes_behind (views l.self) l.index l.offset);
+      offset : l.offset ≤ view_len (piece_at l.self l.index);
+      matched : IsMatched (bytes_behind l.self l.fn.from.index l.fn.from.offset) l.bytes l.left (bytes_behind l.self l.index l.offset);
     }
 
 abbrev pub decreases-loop-index : goal.decreases-loop-index

@@ -1,6 +1,9 @@
-use Rattle.iobufs.proofs.Text.SeveralLaws.{pieced-as, several-push}
+use Rattle.std.proofs.Common.{refl}
+use Rattle.iobufs.proofs.Text.SeveralLaws.{pieced-as, several-either, several-push}
 use Rattle.iobufs.proofs.bufs.pieces.Pieces.push_back.Goals as goal
 
-pub returns-in_ok-push_back-in-Many-clause-pieced : goal.returns-in_ok-push_back-in-Many-clause-pieced
-returns-in_ok-push_back-in-Many-clause-pieced c =
-    several-push _ _ c.args.piece (pieced-as c.in-Many.is c.requires.pieced) c.requires.some c.in_ok-push_back-in-Many.ensures.done
+pub invariant_of-self-in-Many : goal.invariant_of-self-in-Many
+invariant_of-self-in-Many c =
+    let pieced = pieced-as c.in-Many.is c.self.invariant in
+    several-either c.push_back.result _ _ _ pieced (several-push _ _ c.args.piece pieced c.requires.some refl) c.push_back.ensures.done
+    c.push_back.ensures.unchanged
