@@ -54,18 +54,16 @@ enum Shape {
 impl Shape {
     ghost use Rattle.iobufs.specs.contracts.bufs_mut.Shape.{the_row};
     ghost use Rattle.iobufs.specs.declared.bufs_mut.Shape.TheVariants.{One};
-    ghost use Rattle.iobufs.specs.Inside.PartShape.{IsBuilt, IsShape, shape_parts, shape_single};
+    ghost use Rattle.iobufs.specs.Inside.PartShape.{IsBuilt, shape_parts, shape_single};
 
     // One more part, which can hold a byte; one that can't makes way for it.
     #[tactic(auto, using(crate::proofs::Parts::PartRuns::growing, crate::proofs::Parts::FewLaws::growing_few))]
     fn with_part(self, alloc: Global, part: IoBufMut) -> Result<Shape, BufError>
         requires built { IsBuilt self }
-        requires shape { IsShape self }
         requires more { 0 < part_capacity part }
         requires fits { parts_capacity (shape_parts self) + part_capacity part < 2 ^ 64 }
         ensures parts { IfOk result (λ shape. shape_parts shape ≡ kept_parts (shape_parts self ++ part ∷ [])) }
         ensures built { IfOk result IsBuilt }
-        ensures shape { IfOk result IsShape }
         ensures memory { IsOkUnless result BufError.Memory }
         ensures few { length (shape_parts self) < 3 → IsOk result }
     {
@@ -92,8 +90,7 @@ impl Shape {
     // A row of which only one part is left becomes that part.
     fn settle(&mut self)
         ensures same { shape_parts self.new ≡ shape_parts self.old }
-        ensures shape { IsShape self.old → IsShape self.new }
-        ensures settled { IsShape self.old → shape_single self.new ≡ single_part (shape_parts self.old) }
+        ensures settled { shape_single self.new ≡ single_part (shape_parts self.old) }
     {
         match self {
             Shape::One(_) => {}
@@ -124,13 +121,11 @@ impl Shape {
 impl Model for IoBufsMut {
     ghost use Rattle.std.specs.Prelude.{List};
     ghost use Rattle.iobufs_core.specs.Part.{Part};
-    ghost use Rattle.iobufs.specs.Inside.PartShape.{shape_parts, IsShape};
+    ghost use Rattle.iobufs.specs.Inside.PartShape.{shape_parts};
 
     ghost Value = { List Part };
 
     ghost view = { λ parts. shape_parts parts.shape };
-
-    ghost invariant = { λ parts. IsShape parts.shape };
 }
 
 impl IoBufsMut {

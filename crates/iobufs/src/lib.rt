@@ -2,8 +2,8 @@
 //!
 //! - `bufs`: `IoBufs`, with its traits. Its calls go through `pieces` (one piece or a row) to `row`, a deque that alone
 //!   knows where pieces end, by `search`.
-//! - `bufs_mut`: `IoBufsMut`, with its traits in `buf` and `buf_mut`; `several` keeps two or more parts with their sums,
-//!   and `walks` goes over them.
+//! - `bufs_mut`: `IoBufsMut` and its traits; `few` keeps up to three parts in place, `several` a row of them with their
+//!   sums.
 //! - `builder`: `Builder`, and `EncodeExt` for every value that can be written.
 //! - `specs/`: the words of public contracts; in `Inside/` how private fields are read, in `Laws/` what impls cite.
 #![tactic(auto)]

@@ -13,10 +13,10 @@ use Rattle.iobufs.specs.Laws.Filling.{same_part, take_both}
 use Rattle.iobufs.specs.Parts.{HaveCapacity, IsParts, kept_parts, parts_capacity, parts_chunks, parts_coalesced, parts_drained, parts_fill, parts_filled, parts_frozen, parts_or_default, parts_overwritten, parts_shared_out, parts_spare, parts_with_len, single_part, with_capacity}
 use Rattle.iobufs.proofs.Building.AddLaws.{add-full, add-text, of_pieces-none}
 use Rattle.iobufs.proofs.Parts.Coalesced.{coalesced-several}
-use Rattle.iobufs.proofs.Parts.DrainShapes.{able-with_capacity, capacity-shared_out, capacity-with_capacity, drained-several}
+use Rattle.iobufs.proofs.Parts.DrainShapes.{able-with_capacity, capacity-with_capacity, drained-several}
 use Rattle.iobufs.proofs.Parts.Frozen.{frozen-none}
 use Rattle.iobufs.proofs.Parts.PartChunks.{chunks-empty, chunks-full, filled-one}
-use Rattle.iobufs.proofs.Parts.PartLaws.{capacity-parts, same-capacity, same-fill, same-overwritten, same-with_len}
+use Rattle.iobufs.proofs.Parts.PartLaws.{capacity-parts, same-fill, same-overwritten, same-with_len}
 use Rattle.iobufs.proofs.Parts.PartRuns.{capacity-kept, kept-all, kept-more}
 
 -- a part that can't hold a byte is the empty one
@@ -218,18 +218,23 @@ pub coalesced-kept : (parts : List Part) → single_part (kept_parts parts) ≡ 
 coalesced-kept parts none =
     coalesced-several (kept_parts parts) none ∙ ap (λ bytes. record { filled = bytes; spare = 0 }) (filled-kept_parts parts)
 
--- what the calls leave has the capacity that was there
-pub fits-fill : (parts : List Part) (w : List ℕ) → parts_capacity parts < 2 ^ 64 → parts_capacity (parts_fill parts w) < 2 ^ 64
-fits-fill parts w fits = omega (arith, same-capacity parts (parts_fill parts w) (same-fill parts w))
+-- a part that is put its share of bytes has the capacity that it had
+pub capacity-put : (p : Part) (w : List ℕ) → part_capacity (part_put p (take p.spare w)) ≡ part_capacity p
+capacity-put p w = sym (same-fill (p ∷ []) w).0
 
-pub fits-with_len : (parts : List Part) (n : ℕ) → parts_capacity parts < 2 ^ 64 → parts_capacity (parts_with_len parts n) < 2 ^ 64
-fits-with_len parts n fits = omega (arith, same-capacity parts (parts_with_len parts n) (same-with_len parts n))
+-- so has one of which so many bytes are filled
+pub capacity-with_len : (p : Part) (n : ℕ) → part_capacity (part_with_len p (min n (part_capacity p))) ≡ part_capacity p
+capacity-with_len p n = sym (same-with_len (p ∷ []) n).0
 
-pub fits-overwritten : (parts : List Part) (w : List ℕ) → parts_capacity parts < 2 ^ 64 → parts_capacity (parts_overwritten parts w) < 2 ^ 64
-fits-overwritten parts w fits = omega (arith, same-capacity parts (parts_overwritten parts w) (same-overwritten parts w))
+-- and one whose bytes are written over
+pub capacity-overwritten : (p : Part) (w : List ℕ) → part_capacity (part_overwritten p (take (length p.filled) w)) ≡ part_capacity p
+capacity-overwritten p w = sym (same-overwritten (p ∷ []) w).0
 
-pub fits-shared_out : (parts : List Part) (n : ℕ) → parts_capacity parts < 2 ^ 64 → parts_capacity (parts_shared_out parts n) < 2 ^ 64
-fits-shared_out parts n fits = omega (arith, capacity-shared_out parts n)
+-- one that loses bytes has no more
+pub capacity-drained : (p : Part) (n : ℕ) → part_capacity (part_drained p n) ≤ part_capacity p
+capacity-drained p n = omega (arith, length-drop n p.filled)
+
+pub ruleset capacities = (capacity-put, capacity-with_len, capacity-overwritten, capacity-drained)
 
 pub ruleset keeping = (
   filled-kept_parts,
@@ -241,10 +246,6 @@ pub ruleset keeping = (
   kept-with_len,
   kept-overwritten,
   kept-drained,
-  fits-fill,
-  fits-with_len,
-  fits-overwritten,
-  fits-shared_out,
 )
 
 pub ruleset growing_few = (kept-more)

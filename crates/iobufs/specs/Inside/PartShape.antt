@@ -1,11 +1,10 @@
 -- How the code keeps parts, as a list of parts.
 --     shape_parts, shape_single    one part, a few in place or a row of them, as a list; and the only part, if one is
 --                                  kept by itself
---     IsShape                      a number holds the capacity of a few
 --     IsBuilt                      a row has more parts than stand in place, as where no bytes were taken yet
-use Rattle.std.specs.Prelude.{◌<◌, ◌^◌, Option, None, Some, List, [], ◌∷◌, length}
+use Rattle.std.specs.Prelude.{◌<◌, Option, None, Some, List, [], ◌∷◌, length}
 use Rattle.iobufs_core.specs.Part.{Part}
-use Rattle.iobufs.specs.Parts.{kept_parts, parts_capacity}
+use Rattle.iobufs.specs.Parts.{kept_parts}
 use Rattle.iobufs.specs.declared.bufs_mut.Shape.{Shape}
 use Rattle.iobufs.specs.declared.bufs_mut.Shape.TheVariants.{One, Few, Many}
 
@@ -19,11 +18,6 @@ abbrev pub shape_single : Shape → Option Part
 shape_single (One part) = Some part
 shape_single (Few parts) = None
 shape_single (Many row) = None
-
-abbrev pub IsShape : Shape → Type 0
-IsShape (One part) = Unit {0}
-IsShape (Few parts) = parts_capacity parts < 2 ^ 64
-IsShape (Many row) = Unit {0}
 
 -- more parts than three are in the row, if there is one
 abbrev pub IsBuilt : Shape → Type 0

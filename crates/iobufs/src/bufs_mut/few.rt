@@ -4,7 +4,7 @@ ghost use Rattle.std.specs.Prelude.{◌≡◌, ◌+◌, ◌-◌, ◌^◌, ◌<�
 ghost use Rattle.iobufs_core.specs.Chunks.{first_chunk};
 ghost use Rattle.iobufs_core.specs.Part.{empty_part, part_capacity, part_drained, part_frozen, part_overwritten, part_put, part_with_len};
 ghost use Rattle.iobufs.specs.Inside.Pieces.{pieces_bytes};
-ghost use Rattle.iobufs.specs.Parts.{HaveCapacity, kept_parts, parts_capacity, parts_chunks, parts_fill, parts_filled, parts_frozen, parts_overwritten, parts_shared_out, parts_spare, parts_with_len, single_part, with_capacity};
+ghost use Rattle.iobufs.specs.Parts.{HaveCapacity, IsParts, kept_parts, parts_capacity, parts_chunks, parts_fill, parts_filled, parts_frozen, parts_overwritten, parts_shared_out, parts_spare, parts_with_len, single_part, with_capacity};
 
 use super::several::Several;
 use crate::bufs::IoBufs;
@@ -26,12 +26,15 @@ pub(super) struct Few {
 }
 
 impl Model for Few {
-    ghost use Rattle.std.specs.Prelude.{List, ◌∷◌, []};
+    ghost use Rattle.std.specs.Prelude.{List, ◌∷◌, [], ◌<◌, ◌^◌};
     ghost use Rattle.iobufs_core.specs.Part.{Part};
+    ghost use Rattle.iobufs.specs.Parts.{parts_capacity};
 
     ghost Value = { List Part };
 
     ghost view = { λ f. f.first ∷ f.second ∷ f.third ∷ [] };
+
+    ghost invariant = { λ f. parts_capacity (f.first ∷ f.second ∷ f.third ∷ []) < 2 ^ 64 };
 }
 
 // Fills the room of a part as far as it goes, and answers the bytes that are left.
@@ -168,6 +171,7 @@ fn add_frozen(
     ensures added { OnOk result (row.new.views
         ≡ (if length (part_frozen part.old).bytes == 0 then row.old.views else row.old.views ++ part_frozen part.old ∷ [])) }
     ensures same_room { OnOk result (row.new.room ≡ row.old.room) }
+    ensures capacity { part_capacity part.new ≤ part_capacity part.old }
     ensures memory { IsOkUnless result BufError.Memory }
 {
     if part.is_empty() {
@@ -181,6 +185,7 @@ fn add_frozen(
 
 impl Few {
     pub(super) fn of_two(alloc: Global, first: IoBufMut, second: IoBufMut) -> Few
+        requires { part_capacity first + part_capacity second < 2 ^ 64 }
         ensures { result ≡ first ∷ second ∷ empty_part 0 ∷ [] }
     {
         Few {
@@ -193,8 +198,8 @@ impl Few {
 
     /// Puts a part behind the others; it comes back where there are three already.
     pub(super) fn push(&mut self, part: IoBufMut) -> Option<IoBufMut>
+        requires { parts_capacity self.old + part_capacity part < 2 ^ 64 }
         ensures pushed { IfNone result (kept_parts self.new ≡ kept_parts (self.old ++ part ∷ [])) }
-        ensures fits { IfNone result (parts_capacity self.new ≡ parts_capacity self.old + part_capacity part) }
         ensures full { IfSome result (λ back. (back ≡ part) × (self.new ≡ self.old) × HaveCapacity self.old × (length self.old ≡ 3)) }
     {
         if self.third.capacity() == 0 {
@@ -265,6 +270,7 @@ impl Few {
     }
 
     /// Takes the only part out, if no more than one can hold a byte.
+    #[tactic(auto, using(crate::proofs::Parts::FewLaws::capacities))]
     pub(super) fn take_single(&mut self) -> Option<IoBufMut>
         ensures none { IfNone result ((self.new ≡ self.old) × (1 < length (kept_parts self.old))) }
         ensures some { IfSome result (λ part. kept_parts self.old ≡ part ∷ []) }
@@ -282,26 +288,26 @@ impl Few {
     }
 
     pub(super) fn len(&self) -> usize
-        requires { parts_capacity self.now < 2 ^ 64 }
         ensures { result ≡ length (parts_filled self.now) }
     {
         self.first.len() + self.second.len() + self.third.len()
     }
 
+    #[tactic(auto, using(crate::proofs::Parts::FewLaws::keeping))]
     pub(super) fn capacity(&self) -> usize
-        requires { parts_capacity self.now < 2 ^ 64 }
-        ensures { result ≡ parts_capacity self.now }
+        ensures sum { result ≡ parts_capacity self.now }
+        ensures parts { IsParts (kept_parts self.now) }
     {
         self.first.capacity() + self.second.capacity() + self.third.capacity()
     }
 
     pub(super) fn spare(&self) -> usize
-        requires { parts_capacity self.now < 2 ^ 64 }
         ensures { result ≡ parts_spare self.now }
     {
         self.first.remaining_mut() + self.second.remaining_mut() + self.third.remaining_mut()
     }
 
+    #[tactic(auto, using(crate::proofs::Parts::FewLaws::capacities))]
     pub(super) fn put(&mut self, src: &[u8])
         requires { length src.now ≤ parts_spare self.old }
         ensures { self.new ≡ parts_fill self.old src.now }
@@ -317,6 +323,7 @@ impl Few {
         self.third.put_slice(rest);
     }
 
+    #[tactic(auto, using(crate::proofs::Parts::FewLaws::capacities))]
     pub(super) fn put_bytes(&mut self, value: u8, n: usize)
         requires { n ≤ parts_spare self.old }
         ensures { self.new ≡ parts_fill self.old (replicate n value) }
@@ -326,6 +333,7 @@ impl Few {
         put_bytes_share(&mut self.third, value, rest);
     }
 
+    #[tactic(auto, using(crate::proofs::Parts::FewLaws::capacities))]
     pub(super) fn set_len(&mut self, n: usize)
         ensures { self.new ≡ parts_with_len self.old n }
     {
@@ -334,6 +342,7 @@ impl Few {
         len_share(&mut self.third, rest);
     }
 
+    #[tactic(auto, using(crate::proofs::Parts::FewLaws::capacities))]
     pub(super) fn copy_from_slice(&mut self, src: &[u8])
         requires { length src.now ≡ length (parts_filled self.old) }
         ensures { self.new ≡ parts_overwritten self.old src.now }
@@ -344,8 +353,8 @@ impl Few {
     }
 
     /// Drops the first `n` bytes. The storage of a part that is used up is freed once another part can hold a byte.
+    #[tactic(auto, using(crate::proofs::Parts::FewLaws::capacities))]
     pub(super) fn advance(&mut self, n: usize)
-        requires { parts_capacity self.old < 2 ^ 64 }
         ensures { self.new ≡ parts_shared_out self.old n }
     {
         if !self.shorten(n) {
@@ -355,6 +364,7 @@ impl Few {
 
     // Drops the first `n` bytes if the first part that holds some holds more, and tells whether it does.
     #[inline(always)]
+    #[tactic(auto, using(crate::proofs::Parts::FewLaws::capacities))]
     fn shorten(&mut self, n: usize) -> bool
         ensures drained { IsTrue result → self.new ≡ parts_shared_out self.old n }
         ensures same { result ≡ false → self.new ≡ self.old }
@@ -379,8 +389,8 @@ impl Few {
 
     // Drops the first `n` bytes, also where whole parts go.
     #[inline(never)]
+    #[tactic(auto, using(crate::proofs::Parts::FewLaws::capacities))]
     fn drain(&mut self, n: usize)
-        requires { parts_capacity self.old < 2 ^ 64 }
         ensures { self.new ≡ parts_shared_out self.old n }
     {
         let rest = drain_share(&mut self.first, n);
@@ -453,7 +463,6 @@ impl Few {
     /// The parts that hold bytes, one piece behind the other; no bytes are left. No room is made for a single piece.
     #[inline(never)]
     pub(super) fn freeze(&mut self, alloc: Global) -> Result<IoBufs, BufError>
-        requires { parts_capacity self.old < 2 ^ 64 }
         ensures ok { IfOk result (λ text. text ≡ parts_frozen self.old) }
         ensures memory { IsOkUnless result BufError.Memory }
         ensures nothing { length (parts_filled self.old) ≡ 0 → IsOk result }
@@ -477,12 +486,11 @@ impl Few {
 
     /// All bytes in one part, with no room behind them.
     #[tactic(auto, using(crate::proofs::Parts::Coalesced::coalescing))]
-    pub(super) fn coalesce(self, alloc: Global) -> Result<IoBufMut, BufError>
-        requires { parts_capacity self < 2 ^ 64 }
-        ensures ok { IfOk result (λ part. part ≡ record { filled = parts_filled self; spare = 0 }) }
-        ensures bad_layout { 2 ^ 63 ≤ length (parts_filled self) → result ≡ Err BufError.BadLayout }
-        ensures good_layout { length (parts_filled self) < 2 ^ 63 → IsOkUnless result BufError.Memory }
-        ensures nothing { length (parts_filled self) ≡ 0 → IsOk result }
+    pub(super) fn coalesce(&self, alloc: Global) -> Result<IoBufMut, BufError>
+        ensures ok { IfOk result (λ part. part ≡ record { filled = parts_filled self.now; spare = 0 }) }
+        ensures bad_layout { 2 ^ 63 ≤ length (parts_filled self.now) → result ≡ Err BufError.BadLayout }
+        ensures good_layout { length (parts_filled self.now) < 2 ^ 63 → IsOkUnless result BufError.Memory }
+        ensures nothing { length (parts_filled self.now) ≡ 0 → IsOk result }
     {
         let mut whole = IoBufMut::with_capacity(alloc, self.len())?;
         whole.put_slice(self.first.as_ref());

@@ -294,6 +294,7 @@ impl Several {
     }
 
     /// The parts that hold bytes, one piece behind the other. No room is made for a single piece.
+    #[inline(never)]
     #[tactic(auto, using(crate::proofs::Parts::Frozen::freezing))]
     pub(super) fn freeze(self, alloc: Global) -> Result<IoBufs, BufError>
         ensures ok { IfOk result (λ text. text ≡ parts_frozen self) }
@@ -320,20 +321,14 @@ impl Several {
 
     /// All bytes in one part, with no room behind them.
     #[tactic(auto, using(crate::proofs::Parts::PartChunks::reading, crate::proofs::Parts::Coalesced::coalescing))]
-    pub(super) fn coalesce(self, alloc: Global) -> Result<IoBufMut, BufError>
-        ensures ok { IfOk result (λ part. part ≡ record { filled = parts_filled self; spare = 0 }) }
-        ensures bad_layout { 2 ^ 63 ≤ length (parts_filled self) → result ≡ Err BufError.BadLayout }
-        ensures good_layout { length (parts_filled self) < 2 ^ 63 → IsOkUnless result BufError.Memory }
-        ensures nothing { length (parts_filled self) ≡ 0 → IsOk result }
+    pub(super) fn coalesce(&self, alloc: Global) -> Result<IoBufMut, BufError>
+        ensures ok { IfOk result (λ part. part ≡ record { filled = parts_filled self.now; spare = 0 }) }
+        ensures bad_layout { 2 ^ 63 ≤ length (parts_filled self.now) → result ≡ Err BufError.BadLayout }
+        ensures good_layout { length (parts_filled self.now) < 2 ^ 63 → IsOkUnless result BufError.Memory }
+        ensures nothing { length (parts_filled self.now) ≡ 0 → IsOk result }
     {
-        let Several {
-            mut row,
-            used: _,
-            len,
-            capacity: _,
-        } = self;
-        let mut whole = IoBufMut::with_capacity(alloc, len)?;
-        while let Some(part) = row.pop_front() {
+        let mut whole = IoBufMut::with_capacity(alloc, self.len)?;
+        for part in &self.row {
             whole.put_slice(part.as_ref());
         }
         Ok(whole)

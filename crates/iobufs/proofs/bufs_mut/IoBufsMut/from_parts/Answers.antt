@@ -48,7 +48,6 @@ loop-part-preserved-then-capacity-gt0 g c =
     let sum = sum_by_push part_capacity l.yielded part in
     record {
       sum = omega arith;
-      shape = c.in_ok-shape.ensures.shape;
       built = c.in_ok-shape.ensures.built;
       kept = c.in_ok-shape.ensures.parts ∙ ap (λ ps. kept_parts (ps ++ part ∷ [])) l.invariant.kept ∙ kept-more l.yielded part (omega arith);
     }

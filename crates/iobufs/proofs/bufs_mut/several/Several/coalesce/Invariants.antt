@@ -1,4 +1,5 @@
-use Rattle.std.proofs.Common.{◌≡◌, ◌≤◌, deque_len, length}
+use Rattle.std.proofs.Common.{◌≡◌, ◌≤◌, length}
+use Rattle.std.specs.VecDeque.Iter.{deque_iter_rest}
 use Rattle.iobufs_core.specs.Part.{part_put}
 use Rattle.iobufs.specs.Parts.{parts_filled}
 use Rattle.iobufs.proofs.bufs_mut.several.Several.coalesce.Given as goal
@@ -6,9 +7,6 @@ use Rattle.iobufs.proofs.bufs_mut.several.Several.coalesce.Given as goal
 -- the parts that are left make the same of the whole
 abbrev pub invariant-loop-part : goal.invariant-loop-part
 invariant-loop-part l = record {
-  fits : length (parts_filled l.row.items) ≤ l.whole.spare;
-  so_far : part_put l.whole (parts_filled l.row.items) ≡ record { filled = parts_filled l.fn.self; spare = 0 };
+  fits : length (parts_filled (deque_iter_rest l.part-iterator)) ≤ l.whole.spare;
+  so_far : part_put l.whole (parts_filled (deque_iter_rest l.part-iterator)) ≡ record { filled = parts_filled l.fn.self; spare = 0 };
 }
-
-abbrev pub decreases-loop-part : goal.decreases-loop-part
-decreases-loop-part l = deque_len l.row
