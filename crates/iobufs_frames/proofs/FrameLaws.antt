@@ -272,6 +272,10 @@ moved_one prefix range old new body found views more is h e =
 
 -- ---- a text in pieces
 
+-- an open end isn't bad
+pub open_is_not_bad : (error : Error) → Open ≡ Bad error → ⊥
+open_is_not_bad error e = cc
+
 -- before anything was fed there is no frame, and an open front
 pub start : (prefix : Prefix) (range : RangeCfg) (views : List View) (rest : List ℕ) → views ≡ [] → rest ≡ []
     → IsFramedWith prefix range [] (bodies views) Open rest

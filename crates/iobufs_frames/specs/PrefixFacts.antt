@@ -16,10 +16,9 @@ use Rattle.std.proofs.lemmas.List.{append_cancel_left, take-append-le}
 use Rattle.std.proofs.lemmas.Nat.{from_be_bytes-to_be_bytes_2, from_be_bytes-to_be_bytes_4, from_be_bytes-to_be_bytes_8, from_le_bytes-to_le_bytes_2, from_le_bytes-to_le_bytes_4, from_le_bytes-to_le_bytes_8}
 use Rattle.std.proofs.lemmas.Slice.Eq.{bytes_eq-Decides}
 use Rattle.std.proofs.Math.Seq.{take-append_seam}
-use Rattle.std.specs.Int.{w16, w32, w64, from_be_bytes, from_le_bytes}
+use Rattle.std.specs.Int.{from_be_bytes, from_le_bytes}
 use Rattle.std.specs.Str.{bytes_eq}
 use Rattle.iobufs_core.specs.LengthFacts.{has_length, less, opened}
-use Rattle.iobufs_core.specs.NumberLaws.{form_16, form_32, form_64}
 use Rattle.iobufs_core.specs.ReadLaws.{IsNumberForm}
 use Rattle.iobufs_core.specs.Spelled.{spelled_as_one}
 use Rattle.iobufs_frames.specs.Frames.{frame_written}
@@ -31,22 +30,36 @@ use Rattle.iobufs_frames.specs.declared.lengths.Prefix.TheVariants.{Spelled, Fix
 use Rattle.iobufs_frames.specs.declared.lengths.Width.{Width}
 use Rattle.iobufs_frames.specs.declared.lengths.Width.TheVariants.{U16, U32, U64}
 
--- numbers of one size are written in so many bytes, and no two alike
+-- the number that so many bytes are read as
+number_of : Width → ByteOrder → List ℕ → ℕ
+number_of width Big bytes = from_be_bytes (int_width width) bytes
+number_of width Little bytes = from_le_bytes (int_width width) bytes
+
+-- a number that was written is read again
+number_back : (width : Width) (order : ByteOrder) (n : ℕ) → n < prefix_limit (Fixed width order)
+    → number_of width order (prefix_written (Fixed width order) n) ≡ n
+unfolding number_of
+number_back U16 Big n small = from_be_bytes-to_be_bytes_2 n small
+number_back U32 Big n small = from_be_bytes-to_be_bytes_4 n small
+number_back U64 Big n small = from_be_bytes-to_be_bytes_8 n small
+number_back U16 Little n small = from_le_bytes-to_le_bytes_2 n small
+number_back U32 Little n small = from_le_bytes-to_le_bytes_4 n small
+number_back U64 Little n small = from_le_bytes-to_le_bytes_8 n small
+
+-- a number is written in so many bytes
+number_long : (width : Width) (order : ByteOrder) (n : ℕ) → length (prefix_written (Fixed width order) n) ≡ width_size width
+number_long U16 Big n = refl
+number_long U32 Big n = refl
+number_long U64 Big n = refl
+number_long U16 Little n = refl
+number_long U32 Little n = refl
+number_long U64 Little n = refl
+
+-- and no two of one size alike
 pub form_of : (width : Width) (order : ByteOrder) → IsNumberForm (prefix_written (Fixed width order)) (width_size width)
-form_of U16 Big = form_16
-form_of U32 Big = form_32
-form_of U64 Big = form_64
-form_of U16 Little = record {
-  long = λ n. refl;
-  one = λ m n p q e. sym (from_le_bytes-to_le_bytes_2 m p) ∙ ap (from_le_bytes w16) e ∙ from_le_bytes-to_le_bytes_2 n q;
-}
-form_of U32 Little = record {
-  long = λ n. refl;
-  one = λ m n p q e. sym (from_le_bytes-to_le_bytes_4 m p) ∙ ap (from_le_bytes w32) e ∙ from_le_bytes-to_le_bytes_4 n q;
-}
-form_of U64 Little = record {
-  long = λ n. refl;
-  one = λ m n p q e. sym (from_le_bytes-to_le_bytes_8 m p) ∙ ap (from_le_bytes w64) e ∙ from_le_bytes-to_le_bytes_8 n q;
+form_of width order = record {
+  long = number_long width order;
+  one = λ m n p q e. sym (number_back width order m p) ∙ ap (number_of width order) e ∙ number_back width order n q;
 }
 
 -- a length stands in front only where its bytes are there
@@ -100,22 +113,6 @@ pub length-sooner : (prefix : Prefix) (bytes more : List ℕ) (n : ℕ) → leng
 length-sooner prefix bytes more n l at = (at.0, sym (take-append-le (length (prefix_written prefix n)) bytes more l) ∙ at.1)
 
 -- ---- whether a length stands in front
-
--- the number that so many bytes are read as
-number_of : Width → ByteOrder → List ℕ → ℕ
-number_of width Big bytes = from_be_bytes (int_width width) bytes
-number_of width Little bytes = from_le_bytes (int_width width) bytes
-
--- a number that was written is read again
-number_back : (width : Width) (order : ByteOrder) (n : ℕ) → n < prefix_limit (Fixed width order)
-    → number_of width order (prefix_written (Fixed width order) n) ≡ n
-unfolding number_of
-number_back U16 Big n small = from_be_bytes-to_be_bytes_2 n small
-number_back U32 Big n small = from_be_bytes-to_be_bytes_4 n small
-number_back U64 Big n small = from_be_bytes-to_be_bytes_8 n small
-number_back U16 Little n small = from_le_bytes-to_le_bytes_2 n small
-number_back U32 Little n small = from_le_bytes-to_le_bytes_4 n small
-number_back U64 Little n small = from_le_bytes-to_le_bytes_8 n small
 
 -- only the number that the front is read as can stand there
 only_number : (width : Width) (order : ByteOrder) (bytes : List ℕ) (n : ℕ) → IsLengthAt (Fixed width order) bytes n

@@ -185,6 +185,7 @@ impl Frames {
             → IsTakenApartWith prefix text found.new.items self.new)) }
         ensures shorter { IfOk result (λ end. IfNone end (length self.new.bytes < length self.old.bytes)) }
         ensures ends { IfOk result (λ end. IfSome end (LacksFrame prefix range.now self.old.bytes)) }
+        ensures spelled { IfOk result (λ end. IfSome end (λ end. end ≡ End.Bad Error.InvalidVarint → prefix ≡ Prefix.Spelled)) }
         ensures same { IfOk result (λ end. IfSome end (λ _. (self.new ≡ self.old) × (found.new.items ≡ found.old.items))) }
         ensures memory { IsOkUnless result BufError.Memory }
     {
@@ -211,6 +212,7 @@ impl Frames {
         ensures marks { OnOk result ((text : MarkedText) → IsTakenApartWith prefix text found.old.items self.old
             → IsTakenApartWith prefix text found.new.items self.new) }
         ensures ends { IfOk result (LacksFrame prefix range.now self.new.bytes) }
+        ensures spelled { IfOk result (λ end. end ≡ End.Bad Error.InvalidVarint → prefix ≡ Prefix.Spelled) }
         ensures memory { IsOkUnless result BufError.Memory }
     {
         loop {
@@ -234,6 +236,8 @@ impl Frames {
             → IsFramedWith prefix range.now (text ++ piece.bytes) (bodies found.new.items) end self.new.bytes) }
         ensures marks { OnOk result ((fed : List View) → IsTakenApartWith prefix (joined fed) found.old.items self.old
             → IsTakenApartWith prefix (joined (fed ++ piece ∷ [])) found.new.items self.new) }
+        ensures spelled { (stop ≡ End.Bad Error.InvalidVarint → prefix ≡ Prefix.Spelled)
+            → IfOk result (λ end. end ≡ End.Bad Error.InvalidVarint → prefix ≡ Prefix.Spelled) }
         ensures memory { length self.old.bytes + length piece.bytes < 2 ^ 64 → IsOkUnless result BufError.Memory }
         ensures causes { IfErr result (λ cause. (cause ≡ BufError.Memory) ⊎ (cause ≡ BufError.TooLong)) }
     {
@@ -256,7 +260,8 @@ impl Frames {
         Frames::run_with(alloc, Prefix::Spelled, pieces, range)
     }
 
-    /// As `run`, of frames whose lengths are written in another way.
+    /// As `run`, of frames whose lengths are written in another way. An end of `Error::InvalidVarint` is of spelled ones
+    /// alone.
     pub fn run_with(
         alloc: Global,
         prefix: Prefix,
@@ -265,6 +270,7 @@ impl Frames {
     ) -> Result<Run, BufError>
         ensures framed { IfOk result (λ run. IsFramedWith prefix range.now (joined_bytes pieces.items) (bodies run.frames.items) run.stop run.rest.bytes) }
         ensures marks { IfOk result (λ run. IsTakenApartWith prefix (joined pieces.items) run.frames.items run.rest) }
+        ensures spelled { IfOk result (λ run. run.stop ≡ End.Bad Error.InvalidVarint → prefix ≡ Prefix.Spelled) }
         ensures memory { length (joined_bytes pieces.items) < 2 ^ 64 → IsOkUnless result BufError.Memory }
         ensures nothing { length pieces.items ≡ 0 → IsOk result }
         ensures causes { IfErr result (λ cause. (cause ≡ BufError.Memory) ⊎ (cause ≡ BufError.TooLong)) }

@@ -93,11 +93,13 @@ impl Held {
     ) -> Result<Option<IoBuf>, FrameError>
         ensures front { IsHeldFront prefix range.now (held_bytes self.old) result (held_bytes self.new) }
         ensures fed { IfOk result (λ found. IfNone found (self.new.read ≡ 0)) }
+        ensures spelled { IfErr result (λ error. error ≡ FrameError.Bad Error.InvalidVarint → prefix ≡ Prefix.Spelled) }
     {
         self.feed(alloc).map_err(fault_of_holding)?;
-        self.frames
-            .next_with(alloc, prefix, range)
-            .map_err(fault_of)
+        match self.frames.next_with(alloc, prefix, range) {
+            Ok(found) => Ok(found),
+            Err(error) => Err(fault_of(error)),
+        }
     }
 
     // Reads once behind what is held, and says whether no byte came.
@@ -134,6 +136,7 @@ impl Held {
     ) -> Result<Option<IoBuf>, FrameError>
         ensures next { TakesFrame prefix range.now (R.remaining from.old) (R.remaining from.new) (held_bytes self.old) (held_bytes self.new) result }
         ensures ready { HasFrame prefix range.now (held_bytes self.old) → from.new ≡ from.old }
+        ensures spelled { IfErr result (λ error. error ≡ FrameError.Bad Error.InvalidVarint → prefix ≡ Prefix.Spelled) }
     {
         for _ in 0..u64::MAX {
             match self.next(alloc, prefix, range) {
@@ -209,6 +212,7 @@ impl<R: Read + Drop> FrameReader<R> {
             (frames : List (List ℕ)) (stop : End) (rest : List ℕ)
             → IsFramedWith self.old.prefix self.old.range (held_bytes self.old.held ++ old) frames stop rest
             → IsFirstOf self.old.prefix self.old.range frames stop rest result (held_bytes self.new.held ++ new))) }
+        ensures spelled { IfErr result (λ error. error ≡ FrameError.Bad Error.InvalidVarint → self.old.prefix ≡ Prefix.Spelled) }
         ensures prefix { self.new.prefix ≡ self.old.prefix }
         ensures range { self.new.range ≡ self.old.range }
     {

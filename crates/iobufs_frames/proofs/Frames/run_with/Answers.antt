@@ -1,8 +1,9 @@
 use Rattle.std.proofs.Common.{[], ◌∷◌, List, ◌++◌, length, arith, refl, ap, sym, ◌∙◌, append_assoc}
 use Rattle.iobufs_core.specs.MarkedText.{MarkedText}
 use Rattle.iobufs_core.specs.View.{View}
+use Rattle.iobufs_core.specs.declared.codec.base.Error.TheVariants.{InvalidVarint}
 use Rattle.iobufs_frames.specs.Frames.{joined_bytes}
-use Rattle.iobufs_frames.proofs.FrameLaws.{start}
+use Rattle.iobufs_frames.proofs.FrameLaws.{open_is_not_bad, start}
 use Rattle.iobufs_frames.proofs.MarkLaws.{started}
 use Rattle.iobufs_frames.proofs.Frames.run_with.Goals as goal
 
@@ -15,6 +16,7 @@ loop-piece-init c = record {
   whole = refl;
   fed = [];
   marks = started c.args.prefix c.new-found.result.items c.default-frames.result c.new-found.ensures.items c.default-frames.ensures;
+  spelled = λ e. absurd (open_is_not_bad InvalidVarint e);
   listed = refl;
   fewer = omega arith;
 }
@@ -32,6 +34,7 @@ loop-piece-preserved c =
       whole = append_assoc text piece (joined_bytes c.next.new.self.rest.items) ∙ ap (λ xs. text ++ xs) (sym taken) ∙ c.loop-piece.invariant.whole;
       fed = fed ++ c.in-Some.piece ∷ [];
       marks = c.in_ok-stop.ensures.marks fed c.loop-piece.invariant.marks;
+      spelled = c.in_ok-stop.ensures.spelled c.loop-piece.invariant.spelled;
       listed =
           append_assoc fed (c.in-Some.piece ∷ []) c.next.new.self.rest.items ∙ ap (λ views. fed ++ views) (sym c.in-Some.ensures.steps.0)
           ∙ c.loop-piece.invariant.listed;

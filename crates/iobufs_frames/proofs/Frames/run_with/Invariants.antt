@@ -2,6 +2,9 @@ use Rattle.std.proofs.Common.{◌≡◌, ◌≤◌, ℕ, List, ◌++◌, length}
 use Rattle.iobufs_core.specs.MarkedText.{joined}
 use Rattle.iobufs_core.specs.View.{View}
 use Rattle.iobufs_frames.specs.Frames.{IsFramedWith, IsTakenApartWith, bodies, joined_bytes}
+use Rattle.iobufs_core.specs.declared.codec.base.Error.TheVariants.{InvalidVarint}
+use Rattle.iobufs_frames.specs.declared.End.TheVariants.{Bad}
+use Rattle.iobufs_frames.specs.declared.lengths.Prefix.TheVariants.{Spelled}
 use Rattle.iobufs_frames.proofs.Frames.run_with.Given as goal
 
 -- what was fed so far is these frames and the rest, with their marks, and with what is still to be fed it is the whole
@@ -13,6 +16,7 @@ invariant-loop-piece l = record {
   whole : text ++ joined_bytes l.piece-iterator.rest.items ≡ joined_bytes l.initial.piece-iterator.rest.items;
   fed : List View;
   marks : IsTakenApartWith l.prefix (joined fed) l.found.items l.frames;
+  spelled : l.stop ≡ Bad InvalidVarint → l.prefix ≡ Spelled;
   listed : fed ++ l.piece-iterator.rest.items ≡ l.initial.piece-iterator.rest.items;
   fewer : length l.piece-iterator.rest.items ≤ length l.initial.piece-iterator.rest.items;
 }
