@@ -24,11 +24,6 @@ shared_out-none (p ∷ parts) =
     let ih = ap (parts_shared_out parts) none ∙ shared_out-none parts in
     λ i. p ∷ ih i
 
-pub drained-none : (parts : List Part) → parts_drained parts 0 ≡ parts
-drained-none [] = refl
-drained-none (p ∷ []) = refl
-drained-none (p ∷ q ∷ parts) = refl
-
 -- with two or more that can all hold a byte, no bytes need no case of their own
 pub drained-several : (parts : List Part) (n : ℕ) → 1 < length parts → HaveCapacity parts → parts_drained parts n ≡ kept_parts (parts_shared_out parts n)
 drained-several [] n several able = absurd (omega arith)
@@ -115,5 +110,3 @@ able-front (p ∷ ps) qs able = (able.0, able-front ps qs able.1)
 pub able-rest : (ps qs : List Part) → HaveCapacity (ps ++ qs) → HaveCapacity qs
 able-rest [] qs able = able
 able-rest (p ∷ ps) qs able = able-rest ps qs able.1
-
-pub ruleset draining = (drained-none, drained-several, able-with_capacity, capacity-with_capacity, capacity-shared_out)

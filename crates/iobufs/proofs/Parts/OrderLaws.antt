@@ -1,5 +1,5 @@
 -- Parts in order, and as they stand in their row, those that are used up behind the others.
-use Rattle.std.proofs.Common.{◌≡◌, ℕ, zero, suc, ◌+◌, ◌-◌, ◌<◌, ◌≤◌, List, [], ◌∷◌, ◌++◌, length, take, drop, fold, map, refl, sym, subst, ap, ◌∙◌, arith, append-nil, length-append, length-drop, length-take, take-append-drop, take_all, drop-drop, get_or, set, ⊎_elim}
+use Rattle.std.proofs.Common.{◌≡◌, ℕ, ◌+◌, ◌-◌, ◌<◌, ◌≤◌, List, [], ◌∷◌, ◌++◌, length, take, drop, fold, map, refl, sym, subst, ap, ◌∙◌, arith, append-nil, length-append, length-drop, length-take, take-append-drop, take_all, drop-drop, get_or, set, ⊎_elim}
 use Rattle.std.proofs.lemmas.Bool.{cases_lt}
 use Rattle.std.proofs.lemmas.List.{drop_all, drop_at, take_at, nil_from_length}
 use Rattle.std.proofs.lemmas.List.Concat.{flat_map-append}
@@ -29,14 +29,6 @@ kept-none row used len capacity none sums parts = record {
   sums = subst (λ ps. AreSummed ps len capacity) (sym (order-none row used none)) sums;
   parts = subst IsParts (sym (order-none row used none)) parts;
 }
-
--- a row of which one part is taken out, and one of capacity 0 stands for it
-pub kept-default : (row new : List Part) (p : Part) → length row ≡ 1 → new ≡ set row 0 p → p ≡ empty_part 0 → AreKept new 0 0 0
-kept-default [] new p one is none = absurd (omega arith)
-kept-default (q ∷ []) new p one is none =
-    rw (is, none) (kept-none (empty_part 0 ∷ []) 0 0 0 refl (record { len_is = refl; capacity_is = refl })
-    (record { some = omega arith; have_capacity = λ more. absurd (omega arith); fits = omega arith }))
-kept-default (q ∷ r ∷ row) new p one is none = absurd (omega arith)
 
 -- those at the back stand in front of the others
 pub order-both : (others behind : List Part) (used : ℕ) → used ≡ length behind → in_order (others ++ behind) used ≡ behind ++ others
@@ -125,24 +117,10 @@ capacity-order row used =
       sum_by-append part_capacity (drop k row) (take k row),
     )
 
--- the only part of a row, in order
-pub order-single : (row : List Part) (used : ℕ) (p : Part) → length row ≡ 1 → p ≡ get_or row 0 p → in_order row used ≡ p ∷ []
-order-single [] used p one is = absurd (omega arith)
-order-single (q ∷ []) zero p one is = ap (λ r. r ∷ []) (sym is)
-order-single (q ∷ []) (suc used) p one is =
-    let k : 1 - suc used ≡ 0 = omega arith in
-    ap (λ n. drop n (q ∷ []) ++ take n (q ∷ [])) k ∙ ap (λ r. r ∷ []) (sym is)
-order-single (q ∷ r ∷ row) used p one is = absurd (omega arith)
-
 -- the first part of a row
 pub first-filled : (row : List Part) → length (get_or row 0 (empty_part 0)).filled ≤ length (parts_filled row)
 first-filled [] = omega arith
 first-filled (p ∷ row) = omega (arith, length-append p.filled (parts_filled row))
-
--- a row whose first part is drained has as many parts
-pub first-length : (row : List Part) (n : ℕ) → length (first_drained row n) ≡ length row
-first-length [] n = refl
-first-length (p ∷ row) n = refl
 
 -- a row in which its first part is put back drained is the row whose first part is drained
 pub first-set : (row : List Part) (p q : Part) (n : ℕ) → 0 < length row → p ≡ get_or row 0 p → q ≡ part_drained p n → set row 0 q ≡ first_drained row n

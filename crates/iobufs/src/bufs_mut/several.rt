@@ -199,7 +199,7 @@ impl Several {
         copy_from_slice(&mut self.row, src);
     }
 
-    /// Drops the first `n` bytes, and with two or more the parts that can't hold a byte any more. One part is left.
+    /// Drops the first `n` bytes, and with two or more the parts that can't hold a byte any more, but for the last one.
     pub(super) fn advance(&mut self, n: usize)
         requires { n ≤ length (parts_filled self.old) }
         ensures { self.new ≡ parts_drained self.old n }
