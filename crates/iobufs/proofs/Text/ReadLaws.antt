@@ -249,7 +249,3 @@ only-view (v ∷ w ∷ vs) t e h = absurd (false≢true (sym (single-more (v ∷
 -- a text of one piece is that view
 pub single-view : (vs : List View) (t : MarkedText) (v : View) → of_pieces vs ≡ t → length vs ≡ 1 → v ≡ piece_at vs 0 → t ≡ of_view v
 single-view vs t v e one is = sym e ∙ ap of_pieces (one-as vs one) ∙ of_pieces-one (piece_at vs 0) ∙ ap of_view (sym is)
-
--- bytes that are fewer than those of the first piece
-pub first-inside : (vs : List View) (n : ℕ) → n < view_len (piece_at vs 0) → n < length (pieces_bytes vs)
-first-inside vs n l = let k = length-behind vs in omega arith

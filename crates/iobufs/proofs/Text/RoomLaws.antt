@@ -1,5 +1,5 @@
 -- A text in a row that takes one more piece within the row's room.
-use Rattle.std.proofs.Common.{◌≡◌, ◌<◌, List, [], ◌∷◌, ◌++◌, length, sym, subst, ap, ◌∙◌, arith}
+use Rattle.std.proofs.Common.{◌≡◌, ◌<◌, List, [], ◌∷◌, ◌++◌, length, sym, ap, ◌∙◌, arith}
 use Rattle.iobufs_core.specs.View.{View}
 use Rattle.iobufs_core.specs.MarkedText.{MarkedText, text_append, text_len, text_prepend}
 use Rattle.iobufs.specs.Inside.Pieces.{AreFull, of_pieces, pieces_bytes, view_len}
@@ -25,9 +25,3 @@ module _ (vs : List View) (t : MarkedText) (pieced : (1 < length vs) × AreFull 
 
     pub ahead-row : ws ≡ w ∷ vs → of_pieces ws ≡ text_prepend t w
     ahead-row pushed = ap of_pieces pushed ∙ prepend-pieces vs w t text some more
-
-    pub ahead-pieced : ws ≡ w ∷ vs → (1 < length ws) × AreFull ws
-    ahead-pieced pushed = (
-      omega (arith, pieced.0, ap (λ (us : List View). length us) pushed),
-      subst AreFull (sym pushed) (more, pieced.1),
-    )

@@ -6,26 +6,13 @@ use Rattle.std.proofs.Common.{Option, None}
 use Rattle.iobufs_core.specs.View.{View, IsView, view_advanced}
 use Rattle.iobufs_core.specs.MarkedText.{MarkedText, of_view, text_len, is_single, chunk_count, text_append, text_prepend, text_rest, text_split_front, text_advanced, text_chunks, IsMarked}
 use Rattle.iobufs.specs.Inside.Pieces.{view_len, pieces_bytes, of_pieces, AreFull, IsPieces, AreViews, left_pieces, right_pieces, rest_pieces}
-use Rattle.iobufs.specs.Inside.Several.{views, IsPieced}
 use Rattle.iobufs.specs.Inside.Kept.{text_of, IsKept}
-use Rattle.iobufs.specs.declared.bufs.pieces.Form.{Form}
-use Rattle.iobufs.specs.declared.bufs.pieces.Form.TheVariants.{One, Many}
 use Rattle.iobufs.specs.declared.bufs.IoBufs.TheInside.{Inside}
 use Rattle.iobufs.proofs.Text.Sides.{not_zero}
 use Rattle.iobufs.proofs.Text.PieceLaws.{bytes-of_pieces, len-of_pieces, of_pieces-one, cuts-of_pieces, is_single-of_pieces, AreFull-from_pieces, rest-of_pieces, split_front-of_pieces, advanced-of_view}
 use Rattle.iobufs.proofs.Text.JoinLaws.{append-push, prepend-cons}
 use Rattle.iobufs.proofs.Text.KeptLaws.{AreViews-right, AreViews-left, AreViews-rest, AreViews-append, IsMarked-from_views}
 use Rattle.iobufs.proofs.Text.ChunkLaws.{chunks-of_pieces, chunks-of_empty}
-
--- one piece, or several of which none is empty, are as the code keeps them
-pub IsPieces-from_pieced : (p : Form) → IsPieced p → IsPieces (views p)
-IsPieces-from_pieced (One v) h = tt
-IsPieces-from_pieced (Many row) h = many row.views h.0 h.1
-  where
-    many : (vs : List View) → 1 < length vs → AreFull vs → IsPieces vs
-    many [] l f = absurd (omega arith)
-    many (v ∷ []) l f = absurd (omega arith)
-    many (v ∷ w ∷ vs) l f = f
 
 -- there is at least one piece
 pub some_views : (vs : List View) → IsPieces vs → 0 < length vs
@@ -98,9 +85,11 @@ prepend-pieces (v ∷ vs) w t e p q =
     let z : text_len (of_pieces (v ∷ vs)) ≡ text_len t = ap text_len e in
     sym (prepend-cons w v vs (omega arith) q) ∙ ap (λ (x : MarkedText). text_prepend x w) e
 
+-- one more piece behind pieces with room for their bytes, which has room for its own
 pub views-push : (vs ws : List View) (w : View) → ws ≡ vs ++ w ∷ [] → AreViews vs → IsView w → AreViews ws
 views-push vs ws w is h v = subst AreViews (sym is) (AreViews-append vs (w ∷ []) h (v, tt))
 
+-- the same in front of them
 pub views-cons : (vs ws : List View) (w : View) → ws ≡ w ∷ vs → AreViews vs → IsView w → AreViews ws
 views-cons vs ws w is h v = subst AreViews (sym is) (v, h)
 
@@ -114,12 +103,15 @@ pub rest-kept : (vs ws : List View) (t : MarkedText) (at : ℕ) → of_pieces vs
     → of_pieces ws ≡ text_rest t at
 rest-kept vs ws t at e p l is = ap of_pieces is ∙ sym (rest-of_pieces at vs p l) ∙ ap (λ (x : MarkedText). text_rest x at) e
 
+-- the two sides of a place have room for the bytes of their pieces where all have
 pub views-right : (vs ws : List View) (at : ℕ) → ws ≡ right_pieces vs at → AreViews vs → AreViews ws
 views-right vs ws at is h = subst AreViews (sym is) (AreViews-right at vs h)
 
+-- and so has the side in front
 pub views-left : (vs ws : List View) (at : ℕ) → ws ≡ left_pieces vs at → AreViews vs → AreViews ws
 views-left vs ws at is h = subst AreViews (sym is) (AreViews-left at vs h)
 
+-- and what is left without the first bytes
 pub views-rest : (vs ws : List View) (n : ℕ) → ws ≡ rest_pieces vs n → AreViews vs → AreViews ws
 views-rest vs ws n is h = subst AreViews (sym is) (AreViews-rest n vs h)
 
