@@ -196,8 +196,10 @@ fn a_run_of_each_kind_of_length_in_every_cut(rt: HostRuntime) -> Result<(), Fail
     let alloc = rt.alloc();
     for (prefix, text) in KINDS {
         for at in 0..text.len() + 1 {
-            let pieces = [&text[..at], &text[at..]];
-            let run = Frames::run_with(alloc, prefix, views(alloc, &pieces)?, &ANY)?;
+            let front = text.get(..at).ok_or("out of range")?;
+            let back = text.get(at..).ok_or("out of range")?;
+            let pieces = views(alloc, &[front, back])?;
+            let run = Frames::run_with(alloc, prefix, pieces, &ANY)?;
             assert_run(&rt, &run, &[b"ab", b"cde"], End::Open, b"", at);
         }
     }

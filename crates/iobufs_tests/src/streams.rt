@@ -271,10 +271,12 @@ fn frames_go_off_behind_fixed_lengths(rt: HostRuntime) -> Result<(), Fail> {
     let alloc = rt.alloc();
     for (prefix, text) in FIXED {
         let mut writer = FrameWriter::with_prefix(Narrow::new(alloc, 3, 100), prefix);
-        for body in [b"abc".as_slice(), b"", b"hello"] {
-            assert!(rt; writer.put(alloc, IoBufs::from(body)).is_ok());
-            writer.send(alloc)?;
-        }
+        assert!(rt; writer.put(alloc, IoBufs::from(b"abc".as_slice())).is_ok());
+        writer.send(alloc)?;
+        assert!(rt; writer.put(alloc, IoBufs::default()).is_ok());
+        writer.send(alloc)?;
+        assert!(rt; writer.put(alloc, IoBufs::from(b"hello".as_slice())).is_ok());
+        writer.send(alloc)?;
         assert_eq!(rt; writer.to.taken.as_slice(), text);
     }
     Ok(())
