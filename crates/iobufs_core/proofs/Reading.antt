@@ -89,6 +89,11 @@ still_open text i value place so few end =
     let high : AreHigh text = subst AreHigh all so.high in
     (none_high text high, (omega arith, high))
 
+-- no byte is there at all
+pub nothing_open : (text : List ℕ) → length text ≤ 0 → HasNoLength text × IsOpen text
+nothing_open [] end = (none_high [] tt, (omega arith, tt))
+nothing_open (x ∷ xs) end = absurd (omega arith)
+
 -- a byte below 128 stands at a place
 not_high : (text : List ℕ) (i b : ℕ) → slice_get text i ≡ Some b → b < 128 → AreHigh text → ⊥
 not_high [] i b e low high = cc

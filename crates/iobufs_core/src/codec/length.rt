@@ -1,5 +1,5 @@
 // Lengths, as they are spelled: seven bits a byte, lowest first.
-ghost use Rattle.std.specs.Prelude.{◌≡◌, ℕ, ◌+◌, ◌/◌, ◌%◌, ◌^◌, ◌<◌, ◌≤◌, ◌∷◌, ◌++◌, [], List, length, take, drop, slice_get, Ok, Err, IfOk, IfErr};
+ghost use Rattle.std.specs.Prelude.{◌≡◌, ℕ, ◌+◌, ◌/◌, ◌%◌, ◌^◌, ◌<◌, ◌≤◌, ◌∷◌, ◌++◌, [], List, length, take, drop, slice_get, Some, Ok, Err, IfOk, IfErr};
 ghost use Rattle.iobufs_core.specs.Spelling.{IsSpelledAt, spell};
 ghost use Rattle.iobufs_core.specs.Wire.{IsLengthRead, IsNoLength};
 
@@ -76,32 +76,35 @@ fn length_at<B: Buf>(buf: &B, skip: usize) -> Result<Spelled, Error>
     ensures ok { IfOk result (λ s. IsSpelledAt (drop skip (B.text buf.now)) s.value × (s.len ≡ length (spell s.value))) }
     ensures err { IfErr result (IsNoLength (drop skip (B.text buf.now))) }
 {
-    if let Some(byte) = byte_behind(buf, skip, 0) {
-        if byte < 128 {
-            return Ok(Spelled {
-                value: usize::from(byte),
-                len: 1,
-            });
-        }
+    let Some(byte) = byte_behind(buf, skip, 0) else {
+        return Err(Error::EndOfBuffer);
+    };
+    if byte < 128 {
+        return Ok(Spelled {
+            value: usize::from(byte),
+            len: 1,
+        });
     }
-    long_length_at(buf, skip)
+    long_length_at(buf, skip, byte)
 }
 
-// The same byte by byte: apart, since most lengths have one byte.
+// The same behind a first byte that says that others follow: apart, since most lengths have one byte.
 #[inline(never)]
-fn long_length_at<B: Buf>(buf: &B, skip: usize) -> Result<Spelled, Error>
-    requires { skip ≤ length (B.text buf.now) }
+fn long_length_at<B: Buf>(buf: &B, skip: usize, first: u8) -> Result<Spelled, Error>
+    requires within { skip ≤ length (B.text buf.now) }
+    requires first { slice_get (drop skip (B.text buf.now)) 0 ≡ Some first }
+    requires goes_on { 128 ≤ first }
     ensures ok { IfOk result (λ s. IsSpelledAt (drop skip (B.text buf.now)) s.value × (s.len ≡ length (spell s.value))) }
     ensures err { IfErr result (IsNoLength (drop skip (B.text buf.now))) }
 {
-    let mut value = 0usize;
-    let mut place = 1usize;
-    for i in 0..9usize {
+    let mut value = usize::from(first) - 128;
+    let mut place = 128usize;
+    for i in 1..9usize {
         let Some(byte) = byte_behind(buf, skip, i) else {
             return Err(Error::EndOfBuffer);
         };
         if byte < 128 {
-            if byte == 0 && i != 0 {
+            if byte == 0 {
                 return Err(Error::InvalidVarint);
             }
             return Ok(Spelled {

@@ -279,6 +279,7 @@ impl Read for IoBuf {
     ghost same = { λ x y. x.bytes ≡ y.bytes };
 
     /// Static bytes are never refused.
+    #[inline(always)]
     fn read_cfg<B: OwnedBuf>(alloc: Global, buf: &mut B, range: &RangeCfg) -> Result<IoBuf, Error>
         ensures answer { IsViewRead (B.marked buf.old) range.now result }
         ensures left { IfOk result (λ view. buf.new ≡ dropped B.advanced B.copied buf.old (by_copy (length (view_written view)) ∷ [])) }
@@ -315,6 +316,7 @@ impl Codec for IoBuf {
 }
 
 /// Reads the bytes behind a length, as what is made of a view.
+#[inline(always)]
 pub(super) fn read_bytes<T: OwnedBytes, B: OwnedBuf>(
     alloc: Global,
     buf: &mut B,

@@ -1,4 +1,4 @@
-use Rattle.std.proofs.Common.{◌≡◌, ◌<◌, ◌+◌, ◌*◌, ◌⊎◌, ◌∙◌, inl, inr, arith, ap, sym, Some, subst}
+use Rattle.std.proofs.Common.{◌≡◌, ◌^◌, ◌<◌, ◌+◌, ◌*◌, ◌⊎◌, ◌∙◌, inr, arith, ap, sym, Some, subst}
 use Rattle.std.specs.Prelude.{slice_get, drop}
 use Rattle.iobufs_core.proofs.Reading.{IsSoFar, more_so_far, ends, small, still_open, zero_behind, tenth_one, tenth_other, end_from_none}
 use Rattle.iobufs_core.proofs.codec.length.long_length_at.Goals as goal
@@ -9,10 +9,9 @@ returns-in_default-clause-err g c =
     let end = end_from_none text c.loop-i.i (sym c.byte_behind.ensures ∙ c.in_default.is) in
     still_open text c.loop-i.i c.loop-i.value c.loop-i.place c.loop-i.invariant (omega arith) end
 
-pub returns-then-i-ne0-clause-err : goal.returns-then-i-ne0-clause-err
-returns-then-i-ne0-clause-err g c =
+pub returns-then-byte-eq0-clause-err : goal.returns-then-byte-eq0-clause-err
+returns-then-byte-eq0-clause-err g c =
     let text = drop c.args.skip (g.B.Buf.text c.args.buf.now) in
-    let ne = c.if-i-ne0.true in
     let at : slice_get text c.loop-i.i ≡ Some 0 = sym c.byte_behind.ensures ∙ c.in-Some.is ∙ ap Some c.if-byte-eq0.true in
     zero_behind text c.loop-i.i c.loop-i.value c.loop-i.place c.loop-i.invariant (omega arith) at
 
@@ -33,7 +32,7 @@ returns-then-byte-lt128-clause-ok g c =
     let text = drop c.args.skip (g.B.Buf.text c.args.buf.now) in
     let fits = small text c.loop-i.i c.loop-i.value c.loop-i.place c.from.result c.loop-i.invariant (omega arith) (omega arith) in
     let at : slice_get text c.loop-i.i ≡ Some c.from.result = sym c.byte_behind.ensures ∙ c.in-Some.is ∙ ap Some (sym c.from.ensures) in
-    let some : (c.loop-i.i ≡ 0) ⊎ (0 < c.from.result) = elim c.else-byte-eq0.either [ inl e ↦ inl e.1 | inr ne ↦ inr (omega arith) ] in
+    let some : (c.loop-i.i ≡ 0) ⊎ (0 < c.from.result) = let ne = c.if-byte-eq0.false in inr (omega arith) in
     ends text c.loop-i.i c.loop-i.value c.loop-i.place c.from.result c.loop-i.invariant at (omega arith) some (omega (arith, fits.sum))
 
 pub overflow_mul-value : goal.overflow_mul-value
@@ -79,3 +78,9 @@ returns-in-Some-byte_behind-clause-err g c =
     let at : slice_get text 9 ≡ Some c.in-Some-byte_behind.field-0 = sym c.byte_behind-2.ensures ∙ c.in-Some-byte_behind.is in
     tenth_other text c.loop-i.i c.loop-i.value c.loop-i.place c.in-Some-byte_behind.field-0 c.loop-i.invariant (omega arith) at
     c.in-Some-byte_behind.field-0-test.1
+
+pub overflow_add-result-in-Some-eq1 : goal.overflow_add-result-in-Some-eq1
+overflow_add-result-in-Some-eq1 g c =
+    let nine : c.loop-i.i ≡ 9 = omega arith in
+    let place_is : c.loop-i.place ≡ 2 ^ 63 = c.loop-i.invariant.place_is ∙ ap (λ i. 128 ^ i) nine in
+    omega (arith, c.loop-i.invariant.below)
