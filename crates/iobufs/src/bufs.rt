@@ -1,5 +1,5 @@
 // Texts in several pieces.
-ghost use Rattle.iobufs.specs.Inside.Pieces.{AreFull, AreViews, of_pieces};
+ghost use Rattle.iobufs.specs.Inside.Pieces.{AreViews, of_pieces};
 ghost use Rattle.iobufs.specs.Located.{greatest_key, keys_upto};
 ghost use Rattle.iobufs.specs.Refusals.{IsRefusedAt};
 ghost use Rattle.iobufs_core.specs.Chunks.{first_chunk};
@@ -13,7 +13,7 @@ ghost use Rattle.std.specs.Iterator.{IsFinite};
 ghost use Rattle.std.specs.Iterator.Runs.{SomeRun, WholeRun};
 ghost use Rattle.std.specs.List.{FoldsTo};
 ghost use Rattle.std.specs.Option.{option_copied};
-ghost use Rattle.std.specs.Prelude.{◌≡◌, ℕ, List, ◌∷◌, ◌++◌, ◌+◌, ◌*◌, ◌<◌, ◌≤◌, ◌^◌, ◌==◌, [], length, if◌then◌else◌, false, true, slice_get, IsOk, IfOk, IfErr, OnOk, OnErr, IsOkUnless, IsErrAnd, MatchOption, MatchResult, nat_lt, map, take, drop, IsTrue, IsFalse, Err, ◌-◌, nat_eq};
+ghost use Rattle.std.specs.Prelude.{◌≡◌, ℕ, List, ◌∷◌, ◌++◌, ◌+◌, ◌*◌, ◌<◌, ◌≤◌, ◌^◌, ◌==◌, [], length, if◌then◌else◌, false, true, slice_get, IsOk, IfOk, IfErr, OnOk, OnErr, IsOkUnless, IsErrAnd, MatchOption, MatchResult, map, take, drop, Err, ◌-◌, nat_eq};
 
 mod pieces;
 pub(crate) mod row;
@@ -208,6 +208,7 @@ impl IoBufs {
     }
 
     /// Puts a buffer behind the text. An empty one changes nothing, and an empty text is replaced.
+    #[inline(always)]
     pub fn append(&mut self, alloc: Global, piece: IoBuf) -> Result<(), Refused<IoBuf>>
         ensures done { OnOk result (self.new ≡ text_append self.old piece) }
         ensures unchanged { OnErr result (self.new ≡ self.old) }
@@ -262,6 +263,7 @@ impl IoBufs {
     }
 
     /// Puts a buffer in front of the text. An empty one changes nothing, and an empty text is replaced.
+    #[inline(always)]
     pub fn prepend(&mut self, alloc: Global, piece: IoBuf) -> Result<(), Refused<IoBuf>>
         ensures done { OnOk result (self.new ≡ text_prepend self.old piece) }
         ensures unchanged { OnErr result (self.new ≡ self.old) }

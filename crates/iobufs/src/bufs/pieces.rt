@@ -2,9 +2,9 @@
 ghost use Rattle.iobufs.specs.Inside.Pieces.{AreFull, IsPieces, IsPlace, behind_first, left_pieces, rest_pieces, right_pieces, piece_at, pieces_bytes, view_len, bytes_behind};
 ghost use Rattle.iobufs.specs.Inside.Several.{views, IsPieced};
 ghost use Rattle.iobufs_core.specs.Part.{part_frozen, part_put};
-ghost use Rattle.iobufs_core.specs.View.{View, IsFreelyShared, static_mark, view_advanced};
+ghost use Rattle.iobufs_core.specs.View.{View, IsFreelyShared, static_mark};
 ghost use Rattle.std.specs.Option.{option_copied};
-ghost use Rattle.std.specs.Prelude.{◌≡◌, List, ◌+◌, ◌*◌, ◌<◌, ◌≤◌, ◌^◌, ◌++◌, [], ◌∷◌, nat_lt, OnOk, OnErr, IfOk, IfErr, IsOk, IsTrue, IsFalse, IsOkUnless, MatchResult, length, slice_get, take, drop, map, Err, ℕ, MatchOption};
+ghost use Rattle.std.specs.Prelude.{◌≡◌, List, ◌+◌, ◌*◌, ◌<◌, ◌≤◌, ◌^◌, ◌++◌, [], ◌∷◌, OnOk, OnErr, IfOk, IfErr, IsOk, IsOkUnless, MatchResult, length, slice_get, take, drop, map, Err, ℕ, MatchOption};
 
 use super::row::{Row, split_inside};
 use super::search::Located;

@@ -38,7 +38,8 @@ returns-in_err-shape-clause-err g c =
     rw (told, cause) (
       run_to_item g.I.Iterator.next_gives _ l.yielded l.yielded_by part c.in-Some.ensures.steps,
       refl,
-      subst (IsRowRefusedAt (l.yielded ++ part ∷ [])) (sym c.in_err-shape.ensures.memory) (refused-short l.yielded part some.1 (omega arith) (omega arith) (omega (arith, some.0, three))),
+      subst (IsRowRefusedAt (l.yielded ++ part ∷ [])) (sym c.in_err-shape.ensures.memory)
+          (refused-short l.yielded part some.1 (omega arith) (omega arith) (omega (arith, some.0, three))),
     )
 
 pub loop-part-preserved-then-capacity-gt0 : goal.loop-part-preserved-then-capacity-gt0
