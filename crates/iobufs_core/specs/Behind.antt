@@ -1,5 +1,5 @@
 -- Bytes behind the first of a text.
-use Rattle.std.proofs.Common.{◌≡◌, ℕ, ◌+◌, ◌-◌, ◌<◌, ◌≤◌, List, length, drop, slice_get, Some, None, ap, sym, ◌∙◌, arith, length-drop}
+use Rattle.std.proofs.Common.{◌≡◌, ℕ, zero, suc, ◌+◌, ◌-◌, ◌<◌, ◌≤◌, List, [], ◌∷◌, length, drop, slice_get, Some, None, ap, sym, refl, ◌∙◌, arith, length-drop}
 use Rattle.std.proofs.lemmas.List.{get_or-drop}
 use Rattle.std.proofs.lemmas.Option.{slice_get-get_or, slice_get_past}
 
@@ -10,3 +10,10 @@ get_behind xs k i h =
 
 pub none_behind : (xs : List ℕ) (k i : ℕ) → length xs - k ≤ i → slice_get (drop k xs) i ≡ None
 none_behind xs k i h = let len = length-drop k xs in slice_get_past (drop k xs) i (omega (arith, len))
+
+-- the first of them
+pub first_behind : (xs : List ℕ) (k : ℕ) → slice_get (drop k xs) 0 ≡ slice_get xs k
+first_behind [] zero = refl
+first_behind [] (suc k) = refl
+first_behind (x ∷ xs) zero = refl
+first_behind (x ∷ xs) (suc k) = first_behind xs k

@@ -76,7 +76,7 @@ fn length_at<B: Buf>(buf: &B, skip: usize) -> Result<Spelled, Error>
     ensures ok { IfOk result (λ s. IsSpelledAt (drop skip (B.text buf.now)) s.value × (s.len ≡ length (spell s.value))) }
     ensures err { IfErr result (IsNoLength (drop skip (B.text buf.now))) }
 {
-    let Some(byte) = byte_behind(buf, skip, 0) else {
+    let Some(byte) = buf.byte_at(skip) else {
         return Err(Error::EndOfBuffer);
     };
     if byte < 128 {
