@@ -4,7 +4,11 @@
 #[cfg(test)]
 mod ledger;
 #[cfg(test)]
+mod places;
+#[cfg(test)]
 mod runs;
+#[cfg(test)]
+mod same;
 #[cfg(test)]
 mod scale;
 #[cfg(test)]

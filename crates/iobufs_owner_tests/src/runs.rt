@@ -1,5 +1,6 @@
 // Schedules as one list, and step by step.
 use crate::ledger::{Begun, Ledger};
+use crate::same::assert_same;
 use crate::schedules::{FIRST, PARTIES, SCHEDULES, Schedule};
 use iobufs_owner::format::FORMAT_64;
 use iobufs_owner::owner::{Block, Freed, Machine, Pending, Step, Word};
@@ -23,18 +24,18 @@ const FREED: Freed = Freed {
 
 // Looks at the block, the number of live handles and of unfinished calls, and at what is freed.
 fn assert_state(rt: &impl Abort, machine: &Machine, ledger: &Ledger, step: Step) {
-    assert_eq!(rt; machine.blocks(), [BLOCK].as_slice(), "at {step:?}");
+    assert_same!(rt; machine.blocks(), [BLOCK].as_slice(), "at {step:?}");
     let handles = machine.handles().iter().flatten().count();
-    assert_eq!(rt; handles, ledger.handles, "at {step:?}");
+    assert_same!(rt; handles, ledger.handles, "at {step:?}");
     let calls = machine.calls().iter().flatten().count();
-    assert_eq!(rt; calls, ledger.calls(), "at {step:?}");
+    assert_same!(rt; calls, ledger.calls(), "at {step:?}");
     let releases = ledger.parties_at(Begun::Release);
     let freed: &[Freed] = if ledger.holders(rt) == 0 && releases == 0 {
         &[FREED]
     } else {
         &[]
     };
-    assert_eq!(rt; machine.freed_blocks(), freed, "at {step:?}");
+    assert_same!(rt; machine.freed_blocks(), freed, "at {step:?}");
     assert_records(rt, machine, ledger, step);
 }
 
@@ -42,20 +43,20 @@ fn assert_state(rt: &impl Abort, machine: &Machine, ledger: &Ledger, step: Step)
 fn assert_records(rt: &impl Abort, machine: &Machine, ledger: &Ledger, step: Step) {
     let records = machine.records();
     let dead = records.iter().filter(|record| !record.live).count();
-    assert_eq!(rt; machine.freed_records().len(), dead, "at {step:?}");
+    assert_same!(rt; machine.freed_records().len(), dead, "at {step:?}");
     let holders = ledger.holders(rt);
     for (number, record) in records.iter().enumerate() {
         let log = machine.freed_records().iter();
         let entries = log.filter(|entry| **entry == number).count();
-        assert_eq!(rt; entries, usize::from(!record.live), "at {step:?}");
+        assert_same!(rt; entries, usize::from(!record.live), "at {step:?}");
         let (count, handles) = if is_prepared(machine, number) {
             (2, 0)
         } else {
             (holders, ledger.handles)
         };
         if record.live {
-            assert_eq!(rt; record.count, count as u64, "at {step:?}");
-            assert_eq!(rt; handles_by(machine, number), handles, "at {step:?}");
+            assert_same!(rt; record.count, count as u64, "at {step:?}");
+            assert_same!(rt; handles_by(machine, number), handles, "at {step:?}");
         }
     }
 }
@@ -96,9 +97,9 @@ fn schedules_as_one_list(rt: HostRuntime) -> Result<(), Fail> {
         }
         let mut machine = machine_for(&rt, schedule)?;
         let replies = machine.run(rt.alloc(), steps.as_slice())?;
-        assert_eq!(rt; replies.as_slice(), wanted.as_slice());
-        assert_eq!(rt; machine.freed_blocks(), [FREED].as_slice());
-        assert_eq!(rt; machine.freed_records(), schedule.freed_records);
+        assert_same!(rt; replies.as_slice(), wanted.as_slice());
+        assert_same!(rt; machine.freed_blocks(), [FREED].as_slice());
+        assert_same!(rt; machine.freed_records(), schedule.freed_records);
     }
     Ok(())
 }
@@ -114,7 +115,7 @@ fn schedules_step_by_step(rt: HostRuntime) -> Result<(), Fail> {
                 act: *act,
             };
             machine.reserve(1, 1, 1)?;
-            assert_eq!(rt; machine.step(step), *reply, "at {step:?}");
+            assert_same!(rt; machine.step(step), *reply, "at {step:?}");
             ledger.enter(&rt, step, *reply);
             assert_state(&rt, &machine, &ledger, step);
         }

@@ -1,4 +1,5 @@
 // A thousand times what a session has.
+use crate::same::assert_same;
 use iobufs_owner::format::FORMAT_64;
 use iobufs_owner::owner::{Act, Call, Machine, Reply, Step};
 use std::test::Fail;
@@ -18,12 +19,12 @@ fn five_thousand_blocks(rt: HostRuntime) -> Result<(), Fail> {
     for handle in 0..5000 {
         let base = 64 * (handle as u64 + 1);
         machine.reserve(1, 1, 0)?;
-        assert_eq!(rt;
+        assert_same!(rt;
             machine.step(begin(Call::New(base, 16, 1))),
             Reply::Made(handle)
         );
     }
-    assert_eq!(rt;
+    assert_same!(rt;
         machine.step(begin(Call::IsUnique(4999))),
         Reply::Unique(true)
     );
@@ -39,10 +40,10 @@ fn a_hundred_thousand_steps(rt: HostRuntime) -> Result<(), Fail> {
         steps.push(begin(Call::IsUnique(0)))?;
     }
     let replies = machine.run(rt.alloc(), steps.as_slice())?;
-    assert_eq!(rt; replies.len(), 100000);
-    assert_eq!(rt; replies.as_slice().first(), Some(&Reply::Made(0)));
+    assert_same!(rt; replies.len(), 100000);
+    assert_same!(rt; replies.as_slice().first(), Some(&Reply::Made(0)));
     for reply in replies.iter().skip(1) {
-        assert_eq!(rt; *reply, Reply::Unique(true));
+        assert_same!(rt; *reply, Reply::Unique(true));
     }
     Ok(())
 }

@@ -1,8 +1,10 @@
 // Worked sessions of the machine: their replies, and what its tables hold behind them.
+use crate::same::assert_same;
 use iobufs_owner::format::FORMAT_64;
 use iobufs_owner::owner::{
     Act, Call, Freed, Handle, Kind, Machine, Record, Refusal, Reply, Step, Word,
 };
+use std::alloc::Global;
 use std::process::Abort;
 use std::test::Fail;
 
@@ -29,8 +31,8 @@ fn go(party: usize) -> Step {
 
 fn shows(rt: &impl Abort, machine: &mut Machine, rows: &[(Step, Reply)]) {
     for (step, want) in rows {
-        assert_eq!(rt; machine.reserve(1, 1, 1), Ok(()));
-        assert_eq!(rt; machine.step(*step), *want, "at {step:?}");
+        assert_same!(rt; machine.reserve(1, 1, 1), Ok(()));
+        assert_same!(rt; machine.step(*step), *want, "at {step:?}");
     }
 }
 
@@ -69,7 +71,7 @@ fn race_and_drops(rt: HostRuntime) -> Result<(), Fail> {
         (go(2), Reply::Made(2)),
     ];
     shows(&rt, &mut machine, &race);
-    assert_eq!(rt;
+    assert_same!(rt;
         machine.records(),
         [count(3, true), count(2, false)].as_slice()
     );
@@ -88,8 +90,8 @@ fn race_and_drops(rt: HostRuntime) -> Result<(), Fail> {
         size: 12,
         align: 1,
     };
-    assert_eq!(rt; machine.freed_blocks(), [freed].as_slice());
-    assert_eq!(rt; machine.freed_records(), [1, 0].as_slice());
+    assert_same!(rt; machine.freed_blocks(), [freed].as_slice());
+    assert_same!(rt; machine.freed_records(), [1, 0].as_slice());
     Ok(())
 }
 
@@ -122,7 +124,7 @@ fn recovery_after_a_race(rt: HostRuntime) -> Result<(), Fail> {
         cap: 12,
         word: Word::Record(0),
     };
-    assert_eq!(rt; machine.handles(), [Some(first), None, None].as_slice());
+    assert_same!(rt; machine.handles(), [Some(first), None, None].as_slice());
     Ok(())
 }
 
@@ -151,7 +153,7 @@ fn ceiling_and_borrowing(rt: HostRuntime) -> Result<(), Fail> {
         (go(1), Reply::Made(2)),
     ];
     shows(&rt, &mut machine, &rows);
-    assert_eq!(rt; machine.records(), [count(2, true)].as_slice());
+    assert_same!(rt; machine.records(), [count(2, true)].as_slice());
     Ok(())
 }
 
@@ -167,19 +169,19 @@ fn splits(rt: HostRuntime) -> Result<(), Fail> {
     ];
     shows(&rt, &mut machine, &made);
     let whole = view(68, 20, Word::Descriptor(1073746951));
-    assert_eq!(rt; machine.handles(), [Some(whole)].as_slice());
+    assert_same!(rt; machine.handles(), [Some(whole)].as_slice());
     let split = [
         (begin(0, Call::SplitTo(0, 5)), Reply::Made(1)),
         (begin(0, Call::SplitTo(0, 5)), Reply::Made(2)),
     ];
     shows(&rt, &mut machine, &split);
-    assert_eq!(rt; machine.records(), [count(3, true)].as_slice());
+    assert_same!(rt; machine.records(), [count(3, true)].as_slice());
     let parts = [
         Some(view(78, 10, Word::Record(0))),
         Some(view(68, 5, Word::Record(0))),
         Some(view(73, 5, Word::Record(0))),
     ];
-    assert_eq!(rt; machine.handles(), parts.as_slice());
+    assert_same!(rt; machine.handles(), parts.as_slice());
     Ok(())
 }
 
@@ -200,7 +202,7 @@ fn tails_and_other_calls(rt: HostRuntime) -> Result<(), Fail> {
         cap: 131073,
         word: Word::Descriptor(2199040032769),
     };
-    assert_eq!(rt; machine.handles(), [Some(first)].as_slice());
+    assert_same!(rt; machine.handles(), [Some(first)].as_slice());
     let others = [
         begin(0, Call::Freeze(0)),
         begin(0, Call::New(4611686018427387904, 4611686018427387904, 1)),
@@ -220,9 +222,9 @@ fn tails_and_other_calls(rt: HostRuntime) -> Result<(), Fail> {
         Reply::Refused(Refusal::BadPlace),
         Reply::Refused(Refusal::Idle),
     ];
-    assert_eq!(rt; replies.as_slice(), wanted.as_slice());
-    assert_eq!(rt; machine.blocks().len(), 3);
-    assert_eq!(rt; machine.calls(), [None].as_slice());
+    assert_same!(rt; replies.as_slice(), wanted.as_slice());
+    assert_same!(rt; machine.blocks().len(), 3);
+    assert_same!(rt; machine.calls(), [None].as_slice());
     Ok(())
 }
 
@@ -265,10 +267,10 @@ fn ample_memory(rt: HostRuntime) -> Result<(), Fail> {
         Some(view(0, 0, Word::Empty)),
         Some(view(512, 4, Word::Record(1))),
     ];
-    assert_eq!(rt; machine.handles(), handles.as_slice());
+    assert_same!(rt; machine.handles(), handles.as_slice());
     for made in 12..40 {
         machine.reserve(0, 1, 0)?;
-        assert_eq!(rt; machine.step(begin(0, Call::Static(1))), Reply::Made(made));
+        assert_same!(rt; machine.step(begin(0, Call::Static(1))), Reply::Made(made));
     }
     Ok(())
 }
@@ -289,27 +291,38 @@ fn life(base: u64, first: usize, second: usize) -> [Step; 10] {
     ]
 }
 
-// A long list answers what its steps do one by one.
-#[test]
-fn long_run(rt: HostRuntime) -> Result<(), Fail> {
-    let mut steps = Vec::new(rt.alloc());
+// Forty lives, one after the other.
+fn lives(alloc: Global) -> Result<Vec<Step>, Fail> {
+    let mut steps = Vec::new(alloc);
     for n in 0..40_usize {
         steps.extend_from_slice(&life(64 * (n as u64 + 1), 2 * n, 2 * n + 1))?;
     }
+    Ok(steps)
+}
+
+// Compares what two machines hold and have freed.
+fn are_alike(rt: &impl Abort, one: &Machine, other: &Machine) {
+    assert_same!(rt; one.handles(), other.handles());
+    assert_same!(rt; one.records(), other.records());
+    assert_same!(rt; one.freed_blocks(), other.freed_blocks());
+}
+
+// A long list answers what its steps do one by one.
+#[test]
+fn long_run(rt: HostRuntime) -> Result<(), Fail> {
+    let steps = lives(rt.alloc())?;
     let mut listed = Machine::new(rt.alloc(), 2, 9, FORMAT_64)?;
     let replies = listed.run(rt.alloc(), &steps)?;
     let mut single = Machine::new(rt.alloc(), 2, 9, FORMAT_64)?;
     for (step, reply) in steps.iter().zip(&replies) {
         single.reserve(1, 1, 1)?;
-        assert_eq!(rt; single.step(*step), *reply, "at {step:?}");
+        assert_same!(rt; single.step(*step), *reply, "at {step:?}");
     }
-    assert_eq!(rt; replies.len(), 400);
-    assert_eq!(rt; replies[390], Reply::Made(78));
-    assert_eq!(rt; replies[399], Reply::Done);
-    assert_eq!(rt; listed.handles(), single.handles());
-    assert_eq!(rt; listed.records(), single.records());
-    assert_eq!(rt; listed.freed_blocks(), single.freed_blocks());
-    assert_eq!(rt; listed.freed_blocks().len(), 40);
+    assert_same!(rt; replies.len(), 400);
+    assert_same!(rt; replies.get(390), Some(&Reply::Made(78)));
+    assert_same!(rt; replies.get(399), Some(&Reply::Done));
+    are_alike(&rt, &listed, &single);
+    assert_same!(rt; listed.freed_blocks().len(), 40);
     Ok(())
 }
 
@@ -319,12 +332,12 @@ fn long_run(rt: HostRuntime) -> Result<(), Fail> {
 fn reserved_room(rt: HostRuntime) -> Result<(), Fail> {
     let mut machine = Machine::new(rt.alloc(), 1, 9, FORMAT_64)?;
     let step = begin(0, Call::Static(5));
-    assert_eq!(rt; machine.step(step), Reply::Refused(Refusal::Room));
-    assert_eq!(rt; machine.reserve(1, 3, 1), Ok(()));
+    assert_same!(rt; machine.step(step), Reply::Refused(Refusal::Room));
+    assert_same!(rt; machine.reserve(1, 3, 1), Ok(()));
     assert!(rt; machine.handles().is_empty());
-    assert_eq!(rt; machine.step(begin(0, Call::New(64, 8, 1))), Reply::Made(0));
-    assert_eq!(rt; machine.step(step), Reply::Made(1));
-    assert_eq!(rt; machine.step(step), Reply::Made(2));
-    assert_eq!(rt; machine.step(step), Reply::Refused(Refusal::Room));
+    assert_same!(rt; machine.step(begin(0, Call::New(64, 8, 1))), Reply::Made(0));
+    assert_same!(rt; machine.step(step), Reply::Made(1));
+    assert_same!(rt; machine.step(step), Reply::Made(2));
+    assert_same!(rt; machine.step(step), Reply::Refused(Refusal::Room));
     Ok(())
 }

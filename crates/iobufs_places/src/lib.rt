@@ -9,9 +9,6 @@ ghost use Rattle.iobufs_places.specs.Spread.{AreEnough, IsBetween, IsEnough, IsS
 use std::alloc::{AllocError, Global};
 use std::marker::Model;
 
-#[cfg(test)]
-mod worked;
-
 /// A block's place in the search tree: blocks below a number in the middle lie on the one side, the others on the other.
 #[derive(Clone, Copy)]
 struct Place {

@@ -3,8 +3,6 @@
 
 mod chain;
 mod take;
-#[cfg(test)]
-mod worked;
 
 pub use chain::Chain;
 pub use take::Take;

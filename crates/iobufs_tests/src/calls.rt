@@ -1,4 +1,5 @@
 // Each caller once, with ample memory.
+use crate::same::assert_same;
 use iobufs::bufs::IoBufs;
 use iobufs::bufs_mut::IoBufsMut;
 use iobufs_core::buf::{IoBuf, IoBufMut};
@@ -37,12 +38,12 @@ fn pieces(alloc: Global) -> Result<IoBufs, Fail> {
 fn frames_are_lengths_and_bodies(rt: HostRuntime) -> Result<(), Fail> {
     let alloc = rt.alloc();
     let mut text = frame(alloc, &IoBuf::from(b"abc".as_slice()))?;
-    assert_eq!(rt; bytes_of(alloc, &text)?.as_slice(), b"\x03abc".as_slice());
+    assert_same!(rt; bytes_of(alloc, &text)?.as_slice(), b"\x03abc".as_slice());
     assert!(rt; text.append(alloc, IoBuf::from(b"\x00".as_slice())).is_ok());
     let body = read_frame(alloc, &mut text, 3)?;
-    assert_eq!(rt; body.as_ref(), b"abc".as_slice());
-    assert_eq!(rt; bytes_of(alloc, &text)?.as_slice(), b"\x00".as_slice());
-    assert_eq!(rt; echo(alloc, &body)?.as_ref(), b"abc".as_slice());
+    assert_same!(rt; body.as_ref(), b"abc".as_slice());
+    assert_same!(rt; bytes_of(alloc, &text)?.as_slice(), b"\x00".as_slice());
+    assert_same!(rt; echo(alloc, &body)?.as_ref(), b"abc".as_slice());
     Ok(())
 }
 
@@ -52,7 +53,7 @@ fn chunks_are_sent_two_at_a_time(rt: HostRuntime) -> Result<(), Fail> {
     let mut text = pieces(alloc)?;
     let mut to = Vec::from_slice(alloc, b">")?;
     assert!(rt; send(alloc, &mut to, &mut text, 2).is_ok());
-    assert_eq!(rt; to.as_slice(), b">abcdef".as_slice());
+    assert_same!(rt; to.as_slice(), b">abcdef".as_slice());
     assert!(rt; text.is_empty());
     Ok(())
 }
@@ -100,7 +101,7 @@ fn batches_begin_where_they_should(rt: HostRuntime) -> Result<(), Fail> {
         (3, 2, None),
         (3, 3, None),
     ] {
-        assert_eq!(rt; left_behind(rt.alloc(), most, before)?, left);
+        assert_same!(rt; left_behind(rt.alloc(), most, before)?, left);
     }
     Ok(())
 }
@@ -111,7 +112,7 @@ fn no_chunks_at_a_time_are_refused(rt: HostRuntime) -> Result<(), Fail> {
     let mut text = pieces(alloc)?;
     let mut to = Vec::new(alloc);
     assert!(rt; send(alloc, &mut to, &mut text, 0).is_err());
-    assert_eq!(rt; text.len(), 6);
+    assert_same!(rt; text.len(), 6);
     Ok(())
 }
 
@@ -128,17 +129,17 @@ fn parts_are_filled_from_a_reader(rt: HostRuntime) -> Result<(), Fail> {
     let alloc = rt.alloc();
     let mut from = b"abcdefgh".as_slice();
     let full = store(alloc, &mut from, parts(alloc, 2, 3)?)?;
-    assert_eq!(rt; bytes_of(alloc, &full)?.as_slice(), b"abcde".as_slice());
-    assert_eq!(rt; full.chunk_count(), 2);
+    assert_same!(rt; bytes_of(alloc, &full)?.as_slice(), b"abcde".as_slice());
+    assert_same!(rt; full.chunk_count(), 2);
     let rest = store(alloc, &mut from, parts(alloc, 2, 3)?)?;
-    assert_eq!(rt; bytes_of(alloc, &rest)?.as_slice(), b"fgh".as_slice());
+    assert_same!(rt; bytes_of(alloc, &rest)?.as_slice(), b"fgh".as_slice());
     Ok(())
 }
 
 #[test]
 fn the_sum_of_nine_digits(rt: HostRuntime) -> Result<(), Fail> {
-    assert_eq!(rt; crc32(b"123456789"), 0xcbf4_3926);
-    assert_eq!(rt; crc32(b""), 0);
+    assert_same!(rt; crc32(b"123456789"), 0xcbf4_3926);
+    assert_same!(rt; crc32(b""), 0);
     Ok(())
 }
 
@@ -154,9 +155,9 @@ fn journal(alloc: Global) -> Result<IoBufs, Fail> {
 fn records_are_replayed(rt: HostRuntime) -> Result<(), Fail> {
     let alloc = rt.alloc();
     let records = replay(alloc, journal(alloc)?, 100)?;
-    assert_eq!(rt; records.found.len(), 2);
-    assert_eq!(rt; records.found.get(0).map(|body| body.len()), Some(2));
-    assert_eq!(rt; records.end, End::Whole);
+    assert_same!(rt; records.found.len(), 2);
+    assert_same!(rt; records.found.get(0).map(|body| body.len()), Some(2));
+    assert_same!(rt; records.end, End::Whole);
     Ok(())
 }
 
@@ -164,7 +165,7 @@ fn records_are_replayed(rt: HostRuntime) -> Result<(), Fail> {
 fn a_torn_tail_and_a_damaged_record(rt: HostRuntime) -> Result<(), Fail> {
     let alloc = rt.alloc();
     let bytes = bytes_of(alloc, &journal(alloc)?)?;
-    assert_eq!(rt; bytes.len(), 28);
+    assert!(rt; bytes.len() == 28);
     let mut torn = IoBufs::default();
     assert!(rt;
         torn.append(
@@ -174,10 +175,10 @@ fn a_torn_tail_and_a_damaged_record(rt: HostRuntime) -> Result<(), Fail> {
         .is_ok()
     );
     let records = replay(alloc, torn, 100)?;
-    assert_eq!(rt; (records.found.len(), records.end), (1, End::Torn));
+    assert_same!(rt; (records.found.len(), records.end), (1, End::Torn));
     let mut damaged = journal(alloc)?;
     append_record(alloc, &mut damaged, 3, b"cd")?;
     let records = replay(alloc, damaged, 100)?;
-    assert_eq!(rt; (records.found.len(), records.end), (2, End::Damaged));
+    assert_same!(rt; (records.found.len(), records.end), (2, End::Damaged));
     Ok(())
 }

@@ -1,4 +1,5 @@
 // Texts of frames, and where they are cut.
+use crate::same::assert_same;
 use iobufs::bufs::IoBufs;
 use iobufs_core::buf::IoBuf;
 use iobufs_core::codec::{Buf, Error, RangeCfg};
@@ -24,14 +25,14 @@ fn views(alloc: Global, pieces: &[&'static [u8]]) -> Result<Vec<IoBuf>, Fail> {
 
 // The run has these frames, this end and this rest.
 fn assert_run(rt: &impl Abort, run: &Run, frames: &[&[u8]], stop: End, rest: &[u8], at: usize) {
-    assert_eq!(rt; run.frames.len(), frames.len(), "at {at}");
+    assert_same!(rt; run.frames.len(), frames.len(), "at {at}");
     for (found, wanted) in run.frames.iter().zip(frames) {
-        assert_eq!(rt; found.as_ref(), *wanted, "at {at}");
+        assert_same!(rt; found.as_ref(), *wanted, "at {at}");
     }
-    assert_eq!(rt; run.stop, stop, "at {at}");
-    assert_eq!(rt; run.rest.len(), rest.len(), "at {at}");
+    assert_same!(rt; run.stop, stop, "at {at}");
+    assert_same!(rt; run.rest.len(), rest.len(), "at {at}");
     for (i, byte) in rest.iter().enumerate() {
-        assert_eq!(rt; run.rest.byte_at(i), Some(*byte), "at {at}");
+        assert_same!(rt; run.rest.byte_at(i), Some(*byte), "at {at}");
     }
 }
 
@@ -109,14 +110,14 @@ fn frame_by_frame(rt: HostRuntime) -> Result<(), Fail> {
             .is_ok()
     );
     match frames.next(alloc, &ANY)? {
-        Some(body) => assert_eq!(rt; body.as_ref(), b"a".as_slice()),
+        Some(body) => assert_same!(rt; body.as_ref(), b"a".as_slice()),
         None => return Err(Fail::new("no frame")),
     }
     assert!(rt; frames.next(alloc, &ANY)?.is_none());
-    assert_eq!(rt; frames.rest().len(), 2);
+    assert_same!(rt; frames.rest().len(), 2);
     assert!(rt; frames.feed(alloc, IoBuf::from(b"c".as_slice())).is_ok());
     match frames.next(alloc, &ANY)? {
-        Some(body) => assert_eq!(rt; body.as_ref(), b"bc".as_slice()),
+        Some(body) => assert_same!(rt; body.as_ref(), b"bc".as_slice()),
         None => return Err(Fail::new("no frame")),
     }
     assert!(rt; frames.rest().is_empty());
@@ -184,7 +185,7 @@ fn each_kind_of_length_in_every_cut(rt: HostRuntime) -> Result<(), Fail> {
                 let piece = piece.ok_or("out of range")?;
                 feed_with(alloc, prefix, &mut frames, piece, &mut shown)?;
             }
-            assert_eq!(rt; shown.as_slice(), b"ab|cde|".as_slice(), "at {at}");
+            assert_same!(rt; shown.as_slice(), b"ab|cde|".as_slice(), "at {at}");
             assert!(rt; frames.rest().is_empty());
         }
     }
@@ -236,7 +237,7 @@ fn each_kind_of_length_is_written(rt: HostRuntime) -> Result<(), Fail> {
             let frame = framed_with(alloc, prefix, body).map_err(|refused| refused.cause)?;
             written.extend_from_slice(frame.to_vec(alloc)?.as_slice())?;
         }
-        assert_eq!(rt; written.as_slice(), text);
+        assert_same!(rt; written.as_slice(), text);
     }
     Ok(())
 }
@@ -287,7 +288,7 @@ fn lengths_of_long_bodies_are_written(rt: HostRuntime) -> Result<(), Fail> {
         if !prefix.fits(n) {
             return Err(Fail::new("doesn't fit"));
         }
-        assert_eq!(rt; prefix.written(rt.alloc(), n)?.as_ref(), bytes);
+        assert_same!(rt; prefix.written(rt.alloc(), n)?.as_ref(), bytes);
     }
     Ok(())
 }
@@ -305,7 +306,7 @@ fn a_long_body_comes_back_behind_each_kind_of_length(rt: HostRuntime) -> Result<
         let Some(body) = frames.next_with(alloc, prefix, &range)? else {
             return Err(Fail::new("no frame"));
         };
-        assert_eq!(rt; body.as_ref(), [7; 5000].as_slice());
+        assert_same!(rt; body.as_ref(), [7; 5000].as_slice());
         assert!(rt; frames.rest().is_empty());
     }
     Ok(())
@@ -322,16 +323,16 @@ fn fixed_lengths_outside_the_range(rt: HostRuntime) -> Result<(), Fail> {
             .feed(alloc, IoBuf::from(b"\x01\x02ab".as_slice()))
             .is_ok()
     );
-    assert_eq!(rt;
+    assert_same!(rt;
         frames.next_with(alloc, big, &SHORT).err(),
         Some(Error::InvalidLength(258))
     );
-    assert_eq!(rt;
+    assert_same!(rt;
         frames.next_with(alloc, little, &SHORT).err(),
         Some(Error::InvalidLength(513))
     );
     assert!(rt; frames.next_with(alloc, big, &ANY)?.is_none());
-    assert_eq!(rt; frames.rest().len(), 4);
+    assert_same!(rt; frames.rest().len(), 4);
     assert!(rt; big.fits(65535) && !big.fits(65536) && Prefix::Spelled.fits(65536));
     Ok(())
 }

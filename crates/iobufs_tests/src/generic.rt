@@ -2,6 +2,7 @@
 ghost use Rattle.std.specs.Prelude.{◌≡◌, ◌+◌, ◌≤◌, length, OnOk, IfOk, take};
 ghost use Rattle.iobufs_core.specs.MarkedText.{taken_view};
 
+use crate::same::assert_same;
 use bytes::Bytes;
 use iobufs_core::buf::{IoBuf, IoBufMut};
 use iobufs_core::codec::{Buf, BufError, BufMut, OwnedBuf, OwnedBytes};
@@ -32,8 +33,8 @@ fn numbers_and_a_reader_are_put(rt: HostRuntime) -> Result<(), Fail> {
     let mut part = IoBufMut::with_capacity(rt.alloc(), 18)?;
     frame(&mut part, IoBuf::from(b"abc".as_slice()));
     let wanted = b"\x01\x00\x63\x00\x00\x00\x07\x00\x00\x00\x00\x00\x00\x01\x02abc";
-    assert_eq!(rt; part.as_ref(), wanted.as_slice());
-    assert_eq!(rt; part.remaining_mut(), 0);
+    assert_same!(rt; part.as_ref(), wanted.as_slice());
+    assert_same!(rt; part.remaining_mut(), 0);
     Ok(())
 }
 
@@ -42,26 +43,26 @@ fn numbers_fill_a_part(rt: HostRuntime) -> Result<(), Fail> {
     let mut part = IoBufMut::with_capacity(rt.alloc(), 15)?;
     frame(&mut part, IoBuf::default());
     let wanted = b"\x01\x00\x63\x00\x00\x00\x07\x00\x00\x00\x00\x00\x00\x01\x02";
-    assert_eq!(rt; part.as_ref(), wanted.as_slice());
-    assert_eq!(rt; part.remaining_mut(), 0);
+    assert_same!(rt; part.as_ref(), wanted.as_slice());
+    assert_same!(rt; part.remaining_mut(), 0);
     Ok(())
 }
 
 #[test]
 fn bytes_are_taken_and_kept(rt: HostRuntime) -> Result<(), Fail> {
     let mut view = IoBuf::from(b"abcdefg".as_slice());
-    assert_eq!(rt;
+    assert_same!(rt;
         second::<IoBuf, IoBuf>(rt.alloc(), &mut view)?.as_ref(),
         b"bc".as_slice()
     );
-    assert_eq!(rt; view.as_ref(), b"defg".as_slice());
+    assert_same!(rt; view.as_ref(), b"defg".as_slice());
     if view.len() < 3 {
         return Err(Fail::new("too short"));
     }
-    assert_eq!(rt;
+    assert_same!(rt;
         second::<IoBuf, Bytes>(rt.alloc(), &mut view)?.as_slice(),
         b"ef".as_slice()
     );
-    assert_eq!(rt; (view.byte_at(0), view.byte_at(1)), (Some(b'g'), None));
+    assert_same!(rt; (view.byte_at(0), view.byte_at(1)), (Some(b'g'), None));
     Ok(())
 }

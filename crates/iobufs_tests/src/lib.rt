@@ -25,6 +25,8 @@ mod records;
 #[cfg(test)]
 mod runs;
 #[cfg(test)]
+mod same;
+#[cfg(test)]
 mod scale;
 #[cfg(test)]
 mod streams;

@@ -1,5 +1,6 @@
 // More than 4,096 pieces, and more than 2^20 bytes: each call that a contract lets be refused for want of memory, where
 // there is enough of it.
+use crate::same::assert_same;
 use bytes::{Bytes, BytesMut};
 use iobufs::EncodeExt;
 use iobufs::bufs::IoBufs;
@@ -17,6 +18,12 @@ const LONG: usize = 1048577;
 
 // Above 2^12.
 const MANY: usize = 4097;
+
+// Bodies of any length.
+const ANY: RangeCfg = RangeCfg {
+    lo: 0,
+    hi: usize::MAX,
+};
 
 // So many bytes in a list.
 fn bytes(alloc: Global, len: usize) -> Result<Vec<u8>, BufError> {
@@ -107,7 +114,7 @@ fn long_views(rt: HostRuntime) -> Result<(), Fail> {
     drop(view.to_vec(alloc)?);
     assert!(rt; view.clone()?.into_bytes(alloc).is_ok());
     assert!(rt; IoBufMut::from_view(alloc, view.clone()?).is_ok());
-    assert_eq!(rt; read(alloc, &mut view, LONG)?, 1);
+    assert_same!(rt; read(alloc, &mut view, LONG)?, 1);
     if view.len() < LONG {
         return Err(Fail::new("too short"));
     }
@@ -121,7 +128,7 @@ fn long_views_of_bytes(rt: HostRuntime) -> Result<(), Fail> {
     let alloc = rt.alloc();
     let mut view = IoBuf::from(shared(alloc, 4 * LONG)?);
     assert!(rt; IoBufMut::from_view(alloc, view.clone()?).is_ok());
-    assert_eq!(rt; read(alloc, &mut view, LONG)?, 1);
+    assert_same!(rt; read(alloc, &mut view, LONG)?, 1);
     assert!(rt; native(alloc, LONG)?.into_bytes(alloc).is_ok());
     drop(IoBuf::from_vec(bytes(alloc, LONG)?)?);
     drop(IoBuf::from_bytes_mut(BytesMut::from(bytes(alloc, LONG)?))?);
@@ -137,10 +144,10 @@ fn long_parts(rt: HostRuntime) -> Result<(), Fail> {
     drop(IoBufMut::from_bytes(alloc, bytes.clone()?)?);
     drop(IoBufMut::from_bytes(alloc, bytes)?);
     let mut part = IoBufMut::copy_from_slice(alloc, native(alloc, LONG)?.as_ref())?;
-    assert_eq!(rt; copied(alloc, &mut part, LONG - 1)?, 1);
+    assert_same!(rt; copied(alloc, &mut part, LONG - 1)?, 1);
     let view = with_room(alloc, LONG)?.freeze()?;
     let recovered = view.try_into_mut(alloc).ok().ok_or("declined")?;
-    assert_eq!(rt; recovered.capacity(), LONG + 1);
+    assert_same!(rt; recovered.capacity(), LONG + 1);
     Ok(())
 }
 
@@ -149,16 +156,16 @@ fn long_texts(rt: HostRuntime) -> Result<(), Fail> {
     let alloc = rt.alloc();
     let mut text = joined(alloc, 7, LONG)?;
     text.prepend(alloc, native(alloc, LONG)?)?;
-    assert_eq!(rt; read(alloc, &mut text.clone()?, LONG + 1)?, 5);
+    assert_same!(rt; read(alloc, &mut text.clone()?, LONG + 1)?, 5);
     let (front, rest) = halved(alloc, text)?;
-    assert_eq!(rt; front.len(), rest.len());
+    assert_same!(rt; front.len(), rest.len());
     drop(front.coalesce(alloc)?);
     drop(IoBufs::from_mut(with_room(alloc, LONG)?)?);
     drop(IoBufs::from_vec(bytes(alloc, LONG)?)?);
     let mut parts = in_a_row(alloc, 3, LONG)?;
-    assert_eq!(rt; copied(alloc, &mut parts, LONG + 1)?, 2);
+    assert_same!(rt; copied(alloc, &mut parts, LONG + 1)?, 2);
     drop(parts.coalesce(alloc)?);
-    assert_eq!(rt; in_a_row(alloc, 3, LONG)?.freeze(alloc)?.chunk_count(), 3);
+    assert_same!(rt; in_a_row(alloc, 3, LONG)?.freeze(alloc)?.chunk_count(), 3);
     Ok(())
 }
 
@@ -167,9 +174,9 @@ fn texts_of_many_pieces(rt: HostRuntime) -> Result<(), Fail> {
     let alloc = rt.alloc();
     let mut text = joined(alloc, 6 * MANY, 2)?;
     text.prepend(alloc, native(alloc, 2)?)?;
-    assert_eq!(rt; read(alloc, &mut text.clone()?, 2 * MANY)?, 3 * MANY);
+    assert_same!(rt; read(alloc, &mut text.clone()?, 2 * MANY)?, 3 * MANY);
     let (front, rest) = halved(alloc, text)?;
-    assert_eq!(rt; front.len(), rest.len());
+    assert_same!(rt; front.len(), rest.len());
     drop(front.coalesce(alloc)?);
     drop(rest.clone()?);
     Ok(())
@@ -179,10 +186,10 @@ fn texts_of_many_pieces(rt: HostRuntime) -> Result<(), Fail> {
 fn many_parts(rt: HostRuntime) -> Result<(), Fail> {
     let alloc = rt.alloc();
     let mut parts = in_a_row(alloc, 2 * MANY, 2)?;
-    assert_eq!(rt; copied(alloc, &mut parts, 2 * MANY)?, MANY);
-    assert_eq!(rt; parts.freeze(alloc)?.chunk_count(), MANY);
+    assert_same!(rt; copied(alloc, &mut parts, 2 * MANY)?, MANY);
+    assert_same!(rt; parts.freeze(alloc)?.chunk_count(), MANY);
     let parts = in_a_row(alloc, MANY, 2)?;
-    assert_eq!(rt; parts.coalesce(alloc)?.len(), 2 * MANY);
+    assert_same!(rt; parts.coalesce(alloc)?.len(), 2 * MANY);
     Ok(())
 }
 
@@ -202,31 +209,34 @@ fn built(alloc: Global, count: usize, len: usize) -> Result<IoBufs, BufError> {
 #[test]
 fn much_is_built(rt: HostRuntime) -> Result<(), Fail> {
     let alloc = rt.alloc();
-    assert_eq!(rt; built(alloc, MANY, 1)?.chunk_count(), 2 * MANY);
+    assert_same!(rt; built(alloc, MANY, 1)?.chunk_count(), 2 * MANY);
     let mut builder = Builder::new(alloc, LONG)?;
     builder.push(native(alloc, LONG)?)?;
     builder.push_bytes(shared(alloc, LONG)?)?;
-    assert_eq!(rt; builder.finish()?.len(), 2 * LONG);
+    assert_same!(rt; builder.finish()?.len(), 2 * LONG);
     let view = native(alloc, LONG)?;
-    assert_eq!(rt; view.encode_iobufs(alloc)?.len(), LONG + 3);
-    assert_eq!(rt; view.encode(alloc)?.len(), LONG + 3);
+    assert_same!(rt; view.encode_iobufs(alloc)?.len(), LONG + 3);
+    assert_same!(rt; view.encode(alloc)?.len(), LONG + 3);
     Ok(())
 }
 
-// As many frames as pieces, and one long frame in as many pieces.
+// As many frames as pieces.
 #[test]
-fn many_frames_and_a_long_one(rt: HostRuntime) -> Result<(), Fail> {
+fn many_frames(rt: HostRuntime) -> Result<(), Fail> {
     let alloc = rt.alloc();
-    let any = RangeCfg {
-        lo: 0,
-        hi: usize::MAX,
-    };
     let mut pieces = Vec::new(alloc);
     for _ in 0..MANY {
         pieces.push(IoBuf::from(b"\x01a".as_slice()))?;
     }
-    let run = Frames::run(alloc, pieces, &any)?;
-    assert_eq!(rt; (run.frames.len(), run.stop), (MANY, End::Open));
+    let run = Frames::run(alloc, pieces, &ANY)?;
+    assert_same!(rt; (run.frames.len(), run.stop), (MANY, End::Open));
+    Ok(())
+}
+
+// One long frame in as many pieces.
+#[test]
+fn a_long_frame(rt: HostRuntime) -> Result<(), Fail> {
+    let alloc = rt.alloc();
     let mut frames = Frames::default();
     let mut framed = native(alloc, LONG)?.encode(alloc)?.freeze()?;
     for _ in 0..5242 {
@@ -236,7 +246,7 @@ fn many_frames_and_a_long_one(rt: HostRuntime) -> Result<(), Fail> {
         frames.feed(alloc, framed.split_to(200)?)?;
     }
     frames.feed(alloc, framed)?;
-    let body = frames.next(alloc, &any)?.ok_or("no frame")?;
-    assert_eq!(rt; body.len(), LONG);
+    let body = frames.next(alloc, &ANY)?.ok_or("no frame")?;
+    assert_same!(rt; body.len(), LONG);
     Ok(())
 }

@@ -1,4 +1,5 @@
 // Places found among the ends of pieces.
+use crate::same::assert_same;
 use iobufs::bufs::{IoBufs, Located};
 use iobufs_core::buf::IoBuf;
 use std::alloc::Global;
@@ -31,11 +32,11 @@ fn located(text: &IoBufs, at: usize) -> Result<Located, Fail> {
 fn places_in_four_pieces(rt: HostRuntime) -> Result<(), Fail> {
     let text = four_pieces(rt.alloc())?;
     let first = located(&text, 0)?;
-    assert_eq!(rt; (first.index, first.offset, first.probes), (0, 0, 2));
+    assert_same!(rt; (first.index, first.offset, first.probes), (0, 0, 2));
     let inside = located(&text, 5)?;
-    assert_eq!(rt; (inside.index, inside.offset, inside.probes), (2, 1, 2));
+    assert_same!(rt; (inside.index, inside.offset, inside.probes), (2, 1, 2));
     let edge = located(&text, 6)?;
-    assert_eq!(rt; (edge.index, edge.offset, edge.probes), (3, 0, 2));
+    assert_same!(rt; (edge.index, edge.offset, edge.probes), (3, 0, 2));
     Ok(())
 }
 
@@ -43,7 +44,7 @@ fn places_in_four_pieces(rt: HostRuntime) -> Result<(), Fail> {
 fn a_place_in_one_piece(rt: HostRuntime) -> Result<(), Fail> {
     let text = IoBufs::from(b"ab".as_slice());
     let found = located(&text, 1)?;
-    assert_eq!(rt; (found.index, found.offset, found.probes), (0, 1, 0));
+    assert_same!(rt; (found.index, found.offset, found.probes), (0, 1, 0));
     Ok(())
 }
 
@@ -55,7 +56,7 @@ fn a_place_behind_a_piece_put_in_front(rt: HostRuntime) -> Result<(), Fail> {
         return Err(Fail::new("refused"));
     }
     let found = located(&text, 5)?;
-    assert_eq!(rt; (found.index, found.offset, found.probes), (2, 0, 2));
+    assert_same!(rt; (found.index, found.offset, found.probes), (2, 0, 2));
     Ok(())
 }
 
@@ -69,8 +70,8 @@ fn the_ends_of_a_thousand_pieces(rt: HostRuntime) -> Result<(), Fail> {
         append(alloc, &mut text, b"a")?;
     }
     let first = located(&text, 0)?;
-    assert_eq!(rt; (first.index, first.offset, first.probes), (0, 0, 10));
+    assert_same!(rt; (first.index, first.offset, first.probes), (0, 0, 10));
     let last = located(&text, 999)?;
-    assert_eq!(rt; (last.index, last.offset, last.probes), (999, 0, 9));
+    assert_same!(rt; (last.index, last.offset, last.probes), (999, 0, 9));
     Ok(())
 }

@@ -1,4 +1,5 @@
 // Ten thousand commands, and a list of five hundred names.
+use crate::same::assert_same;
 use iobufs_run::command::{Cmd, Kind, Reply};
 use iobufs_run::table::Table;
 use std::alloc::Global;
@@ -34,11 +35,11 @@ fn ten_thousand_commands(rt: HostRuntime) -> Result<(), Fail> {
     let alloc = rt.alloc();
     let mut table = Table::new(alloc, 10000)?;
     let replies = table.run(views(alloc, 10000)?.as_slice())?;
-    assert_eq!(rt; replies.len(), 10000);
+    assert_same!(rt; replies.len(), 10000);
     for reply in &replies {
-        assert_eq!(rt; *reply, Reply::Done);
+        assert_same!(rt; *reply, Reply::Done);
     }
-    assert_eq!(rt; shown(&mut table, 9999, Kind::View), Some(1));
+    assert_same!(rt; shown(&mut table, 9999, Kind::View), Some(1));
     Ok(())
 }
 
@@ -51,10 +52,10 @@ fn five_hundred_names(rt: HostRuntime) -> Result<(), Fail> {
     for source in 0..500 {
         sources.push(source)?;
     }
-    assert_eq!(rt;
+    assert_same!(rt;
         table.apply(&Cmd::Gather { dst: 500, sources }),
         Reply::Done
     );
-    assert_eq!(rt; shown(&mut table, 500, Kind::Text), Some(500));
+    assert_same!(rt; shown(&mut table, 500, Kind::Text), Some(500));
     Ok(())
 }

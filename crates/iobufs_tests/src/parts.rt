@@ -1,4 +1,5 @@
 // Writable buffers of one piece.
+use crate::same::assert_same;
 use iobufs_core::buf::IoBufMut;
 use iobufs_core::codec::{BufError, BufMut};
 use std::test::Fail;
@@ -9,19 +10,19 @@ fn bad_layouts(rt: HostRuntime) {
     assert!(rt; IoBufMut::with_alignment(alloc, 0, 3).is_ok());
     for (n, align) in [(64, 3), (64, 0), (9223372036854775807, 64)] {
         let refused = IoBufMut::with_alignment(alloc, n, align).err();
-        assert_eq!(rt; refused, Some(BufError::BadLayout));
+        assert_same!(rt; refused, Some(BufError::BadLayout));
     }
     let refused = IoBufMut::zeroed(alloc, 9223372036854775808).err();
-    assert_eq!(rt; refused, Some(BufError::BadLayout));
+    assert_same!(rt; refused, Some(BufError::BadLayout));
     let refused = IoBufMut::with_capacity(alloc, 4611686018427387904).err();
-    assert_eq!(rt; refused, Some(BufError::Memory));
+    assert_same!(rt; refused, Some(BufError::Memory));
 }
 
 #[test]
 fn bytes_are_written_over(rt: HostRuntime) -> Result<(), Fail> {
     let mut part = IoBufMut::copy_from_slice(rt.alloc(), b"abc")?;
     part.as_mut()[1] = b'x';
-    assert_eq!(rt; part.as_ref(), b"axc".as_slice());
+    assert_same!(rt; part.as_ref(), b"axc".as_slice());
     Ok(())
 }
 
@@ -30,7 +31,7 @@ fn printed_text(rt: HostRuntime) -> Result<(), Fail> {
     let mut part = IoBufMut::with_capacity(rt.alloc(), 8)?;
     part.put_slice(b"abc");
     let shown = format!(in rt.alloc(); "{part:?} {} {}", BufError::BadLayout, BufError::TooLong)?;
-    assert_eq!(rt;
+    assert_same!(rt;
         shown.as_str(),
         "IoBufMut { len: 3, cap: 8 } BadLayout TooLong"
     );

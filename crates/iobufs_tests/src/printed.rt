@@ -1,4 +1,5 @@
 // Each text that a cause prints, in one table, and a command as it is printed and compared.
+use crate::same::assert_same;
 use iobufs::bufs::IoBufs;
 use iobufs_core::buf::IoBuf;
 use iobufs_core::codec::{BufError, Error, RangeCfg, Refused, TryGetError};
@@ -55,7 +56,7 @@ fn a_command_is_printed_copied_and_compared(rt: HostRuntime) -> Result<(), Fail>
         range: RangeCfg { lo: 0, hi: 9 },
     };
     let text = format!(in alloc; "{put:?}")?;
-    assert_eq!(rt; text.as_str(), "Put { target: 1, bytes: [7, 8] }");
+    assert_same!(rt; text.as_str(), "Put { target: 1, bytes: [7, 8] }");
     assert!(rt; put.clone()? == put);
     assert!(rt; decode.clone()? == decode);
     assert!(rt; put != decode);
@@ -70,6 +71,6 @@ fn a_text_prints_its_length_and_its_chunks(rt: HostRuntime) -> Result<(), Fail> 
         return Err(Fail::new("refused"));
     }
     let printed = format!(in alloc; "{text:?}")?;
-    assert_eq!(rt; printed.as_str(), "IoBufs { len: 5, chunks: 2 }");
+    assert_same!(rt; printed.as_str(), "IoBufs { len: 5, chunks: 2 }");
     Ok(())
 }

@@ -1,4 +1,5 @@
 // Journals that come and go in small pieces, or not at all.
+use crate::same::assert_same;
 use iobufs_records::lines::{Appended, MOST, append};
 use iobufs_records::scan::Scan;
 use iobufs_uses::journal::End;
@@ -45,20 +46,20 @@ fn lines_come_and_go_in_small_pieces(rt: HostRuntime) -> Result<(), Fail> {
     let alloc = rt.alloc();
     let mut put = Vec::new(alloc);
     let done = append(alloc, 0, &mut Drops { left: b"one\n\n" }, &mut put)?;
-    assert_eq!(rt;
+    assert_same!(rt;
         done,
         Appended {
             records: 2,
             is_long: false
         }
     );
-    assert_eq!(rt; put.as_slice(), WHOLE);
+    assert_same!(rt; put.as_slice(), WHOLE);
     let mut printed = Vec::new(alloc);
     let mut scan = Scan::new();
     let end = scan.print(alloc, &mut Drops { left: WHOLE }, MOST, &mut printed)?;
-    assert_eq!(rt; end, End::Whole);
-    assert_eq!(rt; (scan.number, scan.taken), (2, 29));
-    assert_eq!(rt; printed.as_slice(), b"one\n\n".as_slice());
+    assert_same!(rt; end, End::Whole);
+    assert_same!(rt; (scan.number, scan.taken), (2, 29));
+    assert_same!(rt; printed.as_slice(), b"one\n\n".as_slice());
     Ok(())
 }
 
@@ -72,19 +73,19 @@ fn records_behind_a_flipped_byte_are_found(rt: HostRuntime) -> Result<(), Fail> 
     let mut from = Drops {
         left: bad.as_slice(),
     };
-    assert_eq!(rt;
+    assert_same!(rt;
         scan.print(alloc, &mut from, MOST, &mut printed)?,
         End::Torn
     );
-    assert_eq!(rt; scan.print_behind(alloc, &mut from, MOST, &mut printed)?, 1);
-    assert_eq!(rt; printed.as_slice(), b"\n".as_slice());
+    assert_same!(rt; scan.print_behind(alloc, &mut from, MOST, &mut printed)?, 1);
+    assert_same!(rt; printed.as_slice(), b"\n".as_slice());
     Ok(())
 }
 
 #[test]
 fn a_full_writer_is_an_error(rt: HostRuntime) -> Result<(), Fail> {
     let refused = append(rt.alloc(), 0, &mut Drops { left: b"one\n" }, &mut Full);
-    assert_eq!(rt;
+    assert_same!(rt;
         refused.map_err(|error| error.kind()).err(),
         Some(ErrorKind::StorageFull)
     );

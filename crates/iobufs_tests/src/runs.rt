@@ -1,4 +1,5 @@
 // Lists of commands, carried out as one list and one by one.
+use crate::same::assert_same;
 use bytes::Bytes;
 use iobufs_core::codec::{Error, RangeCfg};
 use iobufs_run::command::{Cmd, Item, Kind, Piece, Refusal, Reply};
@@ -187,13 +188,13 @@ fn assert_runs(rt: &(impl Abort + AllocGlobal), session: &Session) -> Result<(),
     let mut whole = Table::new(rt.alloc(), NAMES)?;
     let mut stepped = Table::new(rt.alloc(), NAMES)?;
     let replies = whole.run(session.cmds.as_slice())?;
-    assert_eq!(rt; replies.as_slice(), session.replies.as_slice());
+    assert_same!(rt; replies.as_slice(), session.replies.as_slice());
     for (cmd, reply) in session.cmds.iter().zip(session.replies.iter()) {
-        assert_eq!(rt; &stepped.apply(cmd), reply);
+        assert_same!(rt; &stepped.apply(cmd), reply);
     }
     for target in 0..NAMES {
         let show = Cmd::Show { target };
-        assert_eq!(rt; whole.apply(&show), stepped.apply(&show), "{target}");
+        assert_same!(rt; whole.apply(&show), stepped.apply(&show), "{target}");
     }
     Ok(())
 }

@@ -1,4 +1,5 @@
 // A thousand times what an example has.
+use crate::same::assert_same;
 use bytes::Bytes;
 use iobufs::bufs::IoBufs;
 use iobufs::bufs_mut::IoBufsMut;
@@ -39,7 +40,7 @@ fn is_numbered(text: &IoBufs, from: u16, to: u16) -> bool {
 #[test]
 fn a_text_is_shown_and_cloned(rt: HostRuntime) -> Result<(), Fail> {
     let text = numbered(rt.alloc())?;
-    assert_eq!(rt; text.len(), 10000);
+    assert_same!(rt; text.len(), 10000);
     assert!(rt; is_numbered(&text.clone()?, 0, PIECES));
     assert!(rt; is_numbered(&text, 0, PIECES));
     Ok(())
@@ -69,11 +70,11 @@ fn a_text_is_sliced(rt: HostRuntime) -> Result<(), Fail> {
     assert!(rt; is_numbered(&text.slice(alloc, 2..9998)?, 1, 4999));
     assert!(rt; is_numbered(&text.slice(alloc, 6000..6002)?, 3000, 3001));
     let inside = text.slice(alloc, 4999..5003)?;
-    assert_eq!(rt;
+    assert_same!(rt;
         inside.to_vec(alloc)?.as_slice(),
         [0xc3u8, 0x09, 0xc4, 0x09].as_slice()
     );
-    assert_eq!(rt; inside.chunk_count(), 3);
+    assert_same!(rt; inside.chunk_count(), 3);
     assert!(rt; is_numbered(&text, 0, PIECES));
     Ok(())
 }
@@ -82,11 +83,11 @@ fn a_text_is_sliced(rt: HostRuntime) -> Result<(), Fail> {
 fn a_text_is_coalesced(rt: HostRuntime) -> Result<(), Fail> {
     let alloc = rt.alloc();
     let whole = numbered(alloc)?.coalesce(alloc)?;
-    assert_eq!(rt; whole.len(), 10000);
+    assert_same!(rt; whole.len(), 10000);
     for i in 0..PIECES {
         let [high, low] = i.to_be_bytes();
         let at = 2 * i as usize;
-        assert_eq!(rt;
+        assert_same!(rt;
             (whole.byte_at(at), whole.byte_at(at + 1)),
             (Some(high), Some(low))
         );
@@ -99,14 +100,14 @@ fn a_mebibyte_is_taken(rt: HostRuntime) -> Result<(), Fail> {
     let alloc = rt.alloc();
     let mut text = IoBufs::from(IoBuf::from_vec(vec![in alloc; 1u8; MEBIBYTE]?)?);
     text.append(alloc, IoBuf::from_vec(vec![in alloc; 2u8; MEBIBYTE]?)?)?;
-    assert_eq!(rt; text.len(), 2 * MEBIBYTE);
+    assert_same!(rt; text.len(), 2 * MEBIBYTE);
     let across = text.try_take_owned::<Bytes>(alloc, MEBIBYTE + 1)?;
-    assert_eq!(rt; across.len(), MEBIBYTE + 1);
-    assert_eq!(rt;
+    assert_same!(rt; across.len(), MEBIBYTE + 1);
+    assert_same!(rt;
         across.as_slice().get(MEBIBYTE - 1..),
         Some([1, 2].as_slice())
     );
-    assert_eq!(rt; (text.len(), text.chunk_count()), (MEBIBYTE - 1, 1));
+    assert_same!(rt; (text.len(), text.chunk_count()), (MEBIBYTE - 1, 1));
     Ok(())
 }
 
@@ -128,8 +129,8 @@ fn a_mebibyte_is_stored(rt: HostRuntime) -> Result<(), Fail> {
     bytes.push(b'!')?;
     let mut from = bytes.as_slice();
     let text = store(alloc, &mut from, halves(alloc)?)?;
-    assert_eq!(rt; from, b"!".as_slice());
-    assert_eq!(rt; (text.len(), text.chunk_count()), (MEBIBYTE, 2));
+    assert_same!(rt; from, b"!".as_slice());
+    assert_same!(rt; (text.len(), text.chunk_count()), (MEBIBYTE, 2));
     assert!(rt; text.chunk_at(0) == bytes.as_slice().get(..HALF));
     assert!(rt; text.chunk_at(1) == bytes.as_slice().get(HALF..MEBIBYTE));
     Ok(())
@@ -166,7 +167,7 @@ fn read_numbers(parts: &mut IoBufsMut, from: u16, to: u16) -> Result<(), Fail> {
 fn parts_that_are_used_up_stand_in_front(rt: HostRuntime) -> Result<(), Fail> {
     let mut parts = numbered_parts(rt.alloc())?;
     read_numbers(&mut parts, 0, 4)?;
-    assert_eq!(rt; (parts.part_count(), parts.len()), (4998, 9992));
+    assert_same!(rt; (parts.part_count(), parts.len()), (4998, 9992));
     for (place, wanted) in [
         (0, Some(b"".as_slice())),
         (1, Some(b"".as_slice())),
@@ -184,7 +185,7 @@ fn parts_that_are_used_up_stand_in_front(rt: HostRuntime) -> Result<(), Fail> {
 fn parts_that_are_used_up_are_filled_again(rt: HostRuntime) -> Result<(), Fail> {
     let mut parts = numbered_parts(rt.alloc())?;
     read_numbers(&mut parts, 0, PIECES)?;
-    assert_eq!(rt;
+    assert_same!(rt;
         (parts.part_count(), parts.len(), parts.capacity()),
         (2500, 0, 5000)
     );
@@ -192,7 +193,7 @@ fn parts_that_are_used_up_are_filled_again(rt: HostRuntime) -> Result<(), Fail> 
         return Err(Fail::new("too little room"));
     }
     parts.put_slice(b"abc");
-    assert_eq!(rt; parts.chunk(), b"ab".as_slice());
+    assert_same!(rt; parts.chunk(), b"ab".as_slice());
     let bytes = parts.part_at(1).map(|part| part.as_ref());
     assert!(rt; bytes == Some(b"c".as_slice()));
     Ok(())
@@ -206,6 +207,6 @@ fn parts_are_joined_behind_those_that_are_used_up(rt: HostRuntime) -> Result<(),
     assert!(rt; is_numbered(&parts.freeze(alloc)?, 2500, PIECES));
     let mut parts = numbered_parts(alloc)?;
     read_numbers(&mut parts, 0, 4999)?;
-    assert_eq!(rt; parts.coalesce(alloc)?.as_ref(), [0x13, 0x87].as_slice());
+    assert_same!(rt; parts.coalesce(alloc)?.as_ref(), [0x13, 0x87].as_slice());
     Ok(())
 }

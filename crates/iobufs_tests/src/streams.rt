@@ -1,4 +1,5 @@
 // Frames over readers and writers that take and give as they like.
+use crate::same::assert_same;
 use iobufs::bufs::IoBufs;
 use iobufs_core::buf::{IoBuf, IoBufMut};
 use iobufs_core::codec::{Buf, BufError, Error, RangeCfg};
@@ -134,7 +135,7 @@ fn frames_that_are_held_are_answered_before_a_reader_fails(rt: HostRuntime) -> R
             Err(FrameError::Io(error)) => Some(error.kind()),
             _ => None,
         };
-        assert_eq!(rt; kind, Some(ErrorKind::ConnectionReset));
+        assert_same!(rt; kind, Some(ErrorKind::ConnectionReset));
     }
     Ok(())
 }
@@ -189,7 +190,7 @@ fn frames_go_off_however_they_are_taken(rt: HostRuntime) -> Result<(), Fail> {
         assert!(rt; writer.is_sent());
         assert!(rt; writer.put(alloc, IoBufs::default()).is_ok());
         writer.send(alloc)?;
-        assert_eq!(rt;
+        assert_same!(rt;
             writer.to.taken.as_slice(),
             b"\x06abcdef\0".as_slice(),
             "{most}"
@@ -204,15 +205,15 @@ fn what_a_full_writer_left_goes_off_later(rt: HostRuntime) -> Result<(), Fail> {
     let mut writer = FrameWriter::new(Narrow::new(alloc, 2, 5));
     assert!(rt; writer.put(alloc, pieces(alloc)?).is_ok());
     let refused = writer.send(alloc);
-    assert_eq!(rt;
+    assert_same!(rt;
         refused.map_err(|error| error.kind()).err(),
         Some(ErrorKind::StorageFull)
     );
-    assert_eq!(rt; writer.to.taken.as_slice(), b"\x06abcd".as_slice());
-    assert_eq!(rt; writer.rest.len(), 2);
+    assert_same!(rt; writer.to.taken.as_slice(), b"\x06abcd".as_slice());
+    assert_same!(rt; writer.rest.len(), 2);
     writer.to.room = 5;
     writer.send(alloc)?;
-    assert_eq!(rt; writer.to.taken.as_slice(), b"\x06abcdef".as_slice());
+    assert_same!(rt; writer.to.taken.as_slice(), b"\x06abcdef".as_slice());
     Ok(())
 }
 
@@ -222,11 +223,11 @@ fn frames_are_echoed(rt: HostRuntime) -> Result<(), Fail> {
     let mut from = FrameReader::new(alloc, Steps::new(FRAMES, 2), RANGE)?;
     let mut to = FrameWriter::new(Narrow::new(alloc, 3, 100));
     assert!(rt; echo(alloc, &mut from, &mut to).is_ok());
-    assert_eq!(rt; to.to.taken.as_slice(), FRAMES);
+    assert_same!(rt; to.to.taken.as_slice(), FRAMES);
     let mut from = FrameReader::new(alloc, Steps::new(b"\x01a\x02b", 2), RANGE)?;
     let mut to = FrameWriter::new(Narrow::new(alloc, 3, 100));
     assert!(rt; matches!(echo(alloc, &mut from, &mut to), Err(FrameError::Cut)));
-    assert_eq!(rt; to.to.taken.as_slice(), b"\x01a".as_slice());
+    assert_same!(rt; to.to.taken.as_slice(), b"\x01a".as_slice());
     Ok(())
 }
 
@@ -277,7 +278,7 @@ fn frames_go_off_behind_fixed_lengths(rt: HostRuntime) -> Result<(), Fail> {
         writer.send(alloc)?;
         assert!(rt; writer.put(alloc, IoBufs::from(b"hello".as_slice())).is_ok());
         writer.send(alloc)?;
-        assert_eq!(rt; writer.to.taken.as_slice(), text);
+        assert_same!(rt; writer.to.taken.as_slice(), text);
     }
     Ok(())
 }
@@ -289,11 +290,11 @@ fn fixed_lengths_are_echoed_and_written_anew(rt: HostRuntime) -> Result<(), Fail
         let mut from = FrameReader::with_prefix(alloc, Steps::new(text, 2), prefix, RANGE)?;
         let mut to = FrameWriter::with_prefix(Narrow::new(alloc, 3, 100), prefix);
         assert!(rt; echo(alloc, &mut from, &mut to).is_ok());
-        assert_eq!(rt; to.to.taken.as_slice(), text);
+        assert_same!(rt; to.to.taken.as_slice(), text);
         let mut from = FrameReader::with_prefix(alloc, Steps::new(text, 2), prefix, RANGE)?;
         let mut to = FrameWriter::new(Narrow::new(alloc, 3, 100));
         assert!(rt; echo(alloc, &mut from, &mut to).is_ok());
-        assert_eq!(rt; to.to.taken.as_slice(), FRAMES);
+        assert_same!(rt; to.to.taken.as_slice(), FRAMES);
     }
     Ok(())
 }
@@ -327,15 +328,15 @@ fn a_body_above_its_length_is_refused(rt: HostRuntime) -> Result<(), Fail> {
     match writer.put(alloc, long(alloc, 65536)?) {
         Ok(()) => return Err(Fail::new("taken")),
         Err(refused) => {
-            assert_eq!(rt; refused.cause, BufError::TooLong);
-            assert_eq!(rt; refused.value.len(), 65536);
+            assert_same!(rt; refused.cause, BufError::TooLong);
+            assert_same!(rt; refused.value.len(), 65536);
         }
     }
     assert!(rt; writer.is_sent());
     assert!(rt; writer.put(alloc, long(alloc, 65535)?).is_ok());
-    assert_eq!(rt; writer.rest.len(), 65537);
-    assert_eq!(rt; writer.rest.byte_at(0), Some(255));
-    assert_eq!(rt; writer.rest.byte_at(1), Some(255));
+    assert_same!(rt; writer.rest.len(), 65537);
+    assert_same!(rt; writer.rest.byte_at(0), Some(255));
+    assert_same!(rt; writer.rest.byte_at(1), Some(255));
     Ok(())
 }
 
@@ -348,12 +349,12 @@ fn a_text_is_read_by_std(rt: HostRuntime) -> Result<(), Fail> {
     }
     let mut reader = Reader { buf: text };
     let mut four = [0; 4];
-    assert_eq!(rt; reader.read(&mut four).ok(), Some(4));
-    assert_eq!(rt; four, *b"abcd");
+    assert_same!(rt; reader.read(&mut four).ok(), Some(4));
+    assert_same!(rt; four, *b"abcd");
     let mut rest = Vec::new(alloc);
-    assert_eq!(rt; reader.read_to_end(&mut rest).ok(), Some(1));
-    assert_eq!(rt; rest.as_slice(), b"e".as_slice());
-    assert_eq!(rt; reader.read(&mut four).ok(), Some(0));
+    assert_same!(rt; reader.read_to_end(&mut rest).ok(), Some(1));
+    assert_same!(rt; rest.as_slice(), b"e".as_slice());
+    assert_same!(rt; reader.read(&mut four).ok(), Some(0));
     Ok(())
 }
 
@@ -363,12 +364,12 @@ fn a_part_is_written_by_std(rt: HostRuntime) -> Result<(), Fail> {
         buf: IoBufMut::with_capacity(rt.alloc(), 4)?,
     };
     assert!(rt; writer.write_all(b"abc").is_ok());
-    assert_eq!(rt; writer.write(b"de").ok(), Some(1));
-    assert_eq!(rt;
+    assert_same!(rt; writer.write(b"de").ok(), Some(1));
+    assert_same!(rt;
         writer.write_all(b"e").err().map(|error| error.kind()),
         Some(ErrorKind::WriteZero)
     );
     assert!(rt; writer.flush().is_ok());
-    assert_eq!(rt; writer.buf.as_ref(), b"abcd".as_slice());
+    assert_same!(rt; writer.buf.as_ref(), b"abcd".as_slice());
     Ok(())
 }

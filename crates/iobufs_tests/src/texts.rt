@@ -1,4 +1,5 @@
 // Texts of several pieces.
+use crate::same::assert_same;
 use bytes::Bytes;
 use iobufs::bufs::IoBufs;
 use iobufs_core::buf::{IoBuf, IoBufMut};
@@ -78,16 +79,16 @@ fn emptied_pieces(rt: HostRuntime) -> Result<(), Fail> {
     let alloc = rt.alloc();
     let mut text = IoBufs::from(native(alloc, 8, b"abcd")?);
     advanced(&mut text, 4)?;
-    assert_eq!(rt; (text.chunk_count(), text.is_single()), (0, true));
+    assert_same!(rt; (text.chunk_count(), text.is_single()), (0, true));
     match text.try_into_single() {
-        Ok(view) => assert_eq!(rt; recovered(&rt, view)?, 4),
+        Ok(view) => assert_same!(rt; recovered(&rt, view)?, 4),
         Err(_) => return Err(Fail::new("several pieces")),
     }
     let mut text = IoBufs::from(native(alloc, 8, b"ab")?);
     joined(text.append(alloc, native(alloc, 8, b"cd")?).is_ok())?;
     advanced(&mut text, 4)?;
     match text.try_into_single() {
-        Ok(view) => assert_eq!(rt; recovered(&rt, view)?, 0),
+        Ok(view) => assert_same!(rt; recovered(&rt, view)?, 0),
         Err(_) => return Err(Fail::new("several pieces")),
     }
     Ok(())
@@ -97,23 +98,23 @@ fn emptied_pieces(rt: HostRuntime) -> Result<(), Fail> {
 fn chunks_of_four_pieces(rt: HostRuntime) -> Result<(), Fail> {
     let alloc = rt.alloc();
     let text = pieces(alloc, 4)?;
-    assert_eq!(rt; text.chunk_count(), 4);
-    assert_eq!(rt; text.chunk_at(3), Some(b"gh".as_slice()));
-    assert_eq!(rt; text.chunk_at(4), None);
+    assert_same!(rt; text.chunk_count(), 4);
+    assert_same!(rt; text.chunk_at(3), Some(b"gh".as_slice()));
+    assert_same!(rt; text.chunk_at(4), None);
     let two = text.chunks_vectored(alloc, 2)?;
-    assert_eq!(rt;
+    assert_same!(rt;
         two.as_slice(),
         [b"ab".as_slice(), b"cd".as_slice()].as_slice()
     );
     assert!(rt; text.chunks_vectored(alloc, 0)?.is_empty());
-    assert_eq!(rt; (text.byte_at(5), text.byte_at(8)), (Some(b'f'), None));
+    assert_same!(rt; (text.byte_at(5), text.byte_at(8)), (Some(b'f'), None));
     let mut seen = 0u64;
     text.for_each_chunk(|chunk: &[u8]| {
         for byte in chunk {
             seen = seen.wrapping_mul(256).wrapping_add(u64::from(*byte));
         }
     });
-    assert_eq!(rt; seen, u64::from_be_bytes(*b"abcdefgh"));
+    assert_same!(rt; seen, u64::from_be_bytes(*b"abcdefgh"));
     Ok(())
 }
 
@@ -121,12 +122,12 @@ fn chunks_of_four_pieces(rt: HostRuntime) -> Result<(), Fail> {
 fn chunks_come_in_order(rt: HostRuntime) -> Result<(), Fail> {
     let text = pieces(rt.alloc(), 3)?;
     let mut chunks = text.chunks();
-    assert_eq!(rt; chunks.next(), Some(b"ab".as_slice()));
-    assert_eq!(rt; chunks.next(), Some(b"cd".as_slice()));
-    assert_eq!(rt; chunks.next(), Some(b"ef".as_slice()));
-    assert_eq!(rt; chunks.next(), None);
-    assert_eq!(rt; chunks.next(), None);
-    assert_eq!(rt; IoBufs::default().chunks().next(), None);
+    assert_same!(rt; chunks.next(), Some(b"ab".as_slice()));
+    assert_same!(rt; chunks.next(), Some(b"cd".as_slice()));
+    assert_same!(rt; chunks.next(), Some(b"ef".as_slice()));
+    assert_same!(rt; chunks.next(), None);
+    assert_same!(rt; chunks.next(), None);
+    assert_same!(rt; IoBufs::default().chunks().next(), None);
     Ok(())
 }
 
@@ -140,8 +141,8 @@ fn a_part_is_filled_from_two_pieces(rt: HostRuntime) -> Result<(), Fail> {
         return Err(Fail::new("no room"));
     }
     part.put(text);
-    assert_eq!(rt; part.as_ref(), b"hello".as_slice());
-    assert_eq!(rt; part.remaining_mut(), 3);
+    assert_same!(rt; part.as_ref(), b"hello".as_slice());
+    assert_same!(rt; part.remaining_mut(), 3);
     Ok(())
 }
 
@@ -188,7 +189,7 @@ fn every_shape_is_cut_at_every_place(rt: HostRuntime) -> Result<(), Fail> {
 }
 
 #[test]
-fn texts_of_other_types(rt: HostRuntime) -> Result<(), Fail> {
+fn texts_of_one_buffer(rt: HostRuntime) -> Result<(), Fail> {
     let alloc = rt.alloc();
     let mut part = IoBufMut::with_capacity(alloc, 4)?;
     if part.remaining_mut() < 2 {
@@ -196,23 +197,29 @@ fn texts_of_other_types(rt: HostRuntime) -> Result<(), Fail> {
     }
     part.put_slice(b"ab");
     let text = IoBufs::from_mut(part)?;
-    assert_eq!(rt; shown(alloc, &text)?.as_slice(), b"ab".as_slice());
+    assert_same!(rt; shown(alloc, &text)?.as_slice(), b"ab".as_slice());
     assert!(rt; text.as_single().is_some());
     let text = IoBufs::from_vec(Vec::from_slice(alloc, b"cd")?)?;
-    assert_eq!(rt; shown(alloc, &text)?.as_slice(), b"cd".as_slice());
+    assert_same!(rt; shown(alloc, &text)?.as_slice(), b"cd".as_slice());
     let text = IoBufs::from(Bytes::copy_from_slice(alloc, b"ef")?);
-    assert_eq!(rt; shown(alloc, &text)?.as_slice(), b"ef".as_slice());
+    assert_same!(rt; shown(alloc, &text)?.as_slice(), b"ef".as_slice());
+    Ok(())
+}
+
+#[test]
+fn a_text_of_chunks_is_copied_out(rt: HostRuntime) -> Result<(), Fail> {
+    let alloc = rt.alloc();
     let mut views = Vec::new(alloc);
     for bytes in [b"ab".as_slice(), b"".as_slice(), b"c".as_slice()] {
         views.push(IoBuf::from(bytes))?;
     }
     let mut text = IoBufs::from_chunks(alloc, views.into_iter())?;
-    assert_eq!(rt; shown(alloc, &text)?.as_slice(), b"ab|c".as_slice());
+    assert_same!(rt; shown(alloc, &text)?.as_slice(), b"ab|c".as_slice());
     assert!(rt; text.as_single().is_none());
     if text.remaining() < 3 {
         return Err(Fail::new("too short"));
     }
-    assert_eq!(rt; text.copy_to_bytes(alloc, 3)?.as_slice(), b"abc".as_slice());
+    assert_same!(rt; text.copy_to_bytes(alloc, 3)?.as_slice(), b"abc".as_slice());
     assert!(rt; text.is_empty());
     Ok(())
 }
@@ -223,10 +230,10 @@ fn a_destination_is_filled_across_pieces(rt: HostRuntime) -> Result<(), Fail> {
     let mut text = pieces(alloc, 3)?;
     let mut bytes = [0; 3];
     assert!(rt; text.try_copy_to_slice(&mut bytes).is_ok());
-    assert_eq!(rt; bytes, *b"abc");
-    assert_eq!(rt; shown(alloc, &text)?.as_slice(), b"d|ef".as_slice());
+    assert_same!(rt; bytes, *b"abc");
+    assert_same!(rt; shown(alloc, &text)?.as_slice(), b"d|ef".as_slice());
     assert!(rt; text.try_copy_to_slice(&mut [0; 4]).is_err());
-    assert_eq!(rt; text.chunk(), b"d".as_slice());
+    assert_same!(rt; text.chunk(), b"d".as_slice());
     Ok(())
 }
 
@@ -234,7 +241,7 @@ fn a_destination_is_filled_across_pieces(rt: HostRuntime) -> Result<(), Fail> {
 fn a_text_is_copied_and_cut(rt: HostRuntime) -> Result<(), Fail> {
     let alloc = rt.alloc();
     let mut text = pieces(alloc, 3)?;
-    assert_eq!(rt; text.to_vec(alloc)?.as_slice(), b"abcdef".as_slice());
+    assert_same!(rt; text.to_vec(alloc)?.as_slice(), b"abcdef".as_slice());
     for (len, left) in [
         (9usize, b"ab|cd|ef".as_slice()),
         (6, b"ab|cd|ef".as_slice()),
@@ -262,7 +269,7 @@ fn a_text_is_sliced_between_any_places(rt: HostRuntime) -> Result<(), Fail> {
             assert!(rt; shown(alloc, &slice)? == cut_up(alloc, from, to)?);
         }
     }
-    assert_eq!(rt; text.len(), 6);
+    assert_same!(rt; text.len(), 6);
     Ok(())
 }
 
@@ -276,9 +283,9 @@ fn a_long_slice_of_two_pieces(rt: HostRuntime) -> Result<(), Fail> {
         return Err(Fail::new("too short"));
     }
     let slice = text.slice(alloc, 500..5500)?;
-    assert_eq!(rt; slice.chunk_count(), 2);
-    assert_eq!(rt; slice.chunk_at(0), Some([7; 2500].as_slice()));
-    assert_eq!(rt; slice.chunk_at(1), Some([9; 2500].as_slice()));
+    assert_same!(rt; slice.chunk_count(), 2);
+    assert_same!(rt; slice.chunk_at(0), Some([7; 2500].as_slice()));
+    assert_same!(rt; slice.chunk_at(1), Some([9; 2500].as_slice()));
     Ok(())
 }
 

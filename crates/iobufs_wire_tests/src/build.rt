@@ -1,5 +1,6 @@
 // Texts that are built of puts and pushes.
 use crate::chunks::assert_chunks;
+use crate::same::assert_same;
 use bytes::Bytes;
 use iobufs::builder::Builder;
 use iobufs_core::buf::IoBuf;
@@ -29,7 +30,7 @@ fn a_view_between_two_numbers(rt: HostRuntime) -> Result<(), Fail> {
     pushed(builder.push(IoBuf::from(b"S".as_slice())))?;
     pushed(builder.push(IoBuf::default()))?;
     builder.put_u32(7);
-    assert_eq!(rt; builder.remaining_mut(), 0);
+    assert_same!(rt; builder.remaining_mut(), 0);
     let text = builder.finish()?;
     assert_chunks(&rt, &text, &[b"\x00\x63", b"S", b"\x00\x00\x00\x07"]);
     Ok(())
@@ -55,8 +56,8 @@ fn nothing_is_built(rt: HostRuntime) -> Result<(), Fail> {
 
 #[test]
 fn builders_that_are_refused(rt: HostRuntime) {
-    assert_eq!(rt; refusal(rt.alloc(), usize::MAX), Some(BufError::BadLayout));
-    assert_eq!(rt;
+    assert_same!(rt; refusal(rt.alloc(), usize::MAX), Some(BufError::BadLayout));
+    assert_same!(rt;
         refusal(rt.alloc(), 4611686018427387904),
         Some(BufError::Memory)
     );

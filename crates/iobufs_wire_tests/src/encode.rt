@@ -1,5 +1,6 @@
 // Values that are encoded, into one buffer and into pieces.
 use crate::chunks::assert_chunks;
+use crate::same::assert_same;
 use crate::shard::Shard;
 use crate::zeros::Zeros;
 use iobufs::builder::EncodeExt;
@@ -49,11 +50,11 @@ fn a_value_of_three_fields(rt: HostRuntime) -> Result<(), Fail> {
         body: IoBuf::from(b"S".as_slice()),
         sum: 7,
     };
-    assert_eq!(rt;
+    assert_same!(rt;
         (shard.encode_size(), inline_size(&shard)),
         (Some(8), Some(7))
     );
-    assert_eq!(rt;
+    assert_same!(rt;
         written(rt.alloc(), &shard)?.as_ref(),
         b"\x00\x63\x01\x53\x00\x00\x00\x07".as_slice()
     );
@@ -83,7 +84,7 @@ fn what_is_not_encoded(rt: HostRuntime) {
         (1 << 63, 0, Error::BadLayout),
         (1 << 62, 0, Error::Memory),
     ] {
-        assert_eq!(rt;
+        assert_same!(rt;
             refusal(rt.alloc(), &Zeros { a, b }),
             Some(error),
             "{a} {b}"

@@ -1,4 +1,5 @@
 // Numbers out of a text whose pieces end within them.
+use crate::same::assert_same;
 use iobufs::bufs::IoBufs;
 use iobufs_core::buf::IoBuf;
 use iobufs_core::codec::Buf;
@@ -41,57 +42,76 @@ macro_rules! got {
     }};
 }
 
+// By the number of bytes: the highest byte first, and the lowest.
 #[test]
-fn the_highest_byte_first(rt: HostRuntime) -> Result<(), Fail> {
+fn one_byte(rt: HostRuntime) -> Result<(), Fail> {
     let alloc = rt.alloc();
-    assert_eq!(rt; got!(text(alloc, &BYTES, 0)?, get_u8, 1), 0x80);
-    assert_eq!(rt; got!(text(alloc, &BYTES, 0)?, get_i8, 1), -0x80);
-    assert_eq!(rt; got!(text(alloc, &BYTES, 0)?, get_u16, 2), 0x8001);
-    assert_eq!(rt; got!(text(alloc, &BYTES, 0)?, get_i16, 2), -0x7fff);
-    assert_eq!(rt; got!(text(alloc, &BYTES, 0)?, get_u32, 4), 0x8001_0203);
-    assert_eq!(rt; got!(text(alloc, &BYTES, 0)?, get_i32, 4), -0x7ffe_fdfd);
-    assert_eq!(rt;
-        got!(text(alloc, &BYTES, 0)?, get_u64, 8),
-        0x8001_0203_0405_0607
-    );
-    assert_eq!(rt;
-        got!(text(alloc, &BYTES, 0)?, get_i64, 8),
-        -0x7ffe_fdfc_fbfa_f9f9
-    );
-    assert_eq!(rt;
-        got!(text(alloc, &BYTES, 0)?, get_u128, 16),
-        0x8001_0203_0405_0607_0809_0a0b_0c0d_0e0f
-    );
-    assert_eq!(rt;
-        got!(text(alloc, &BYTES, 0)?, get_i128, 16),
-        -0x7ffe_fdfc_fbfa_f9f8_f7f6_f5f4_f3f2_f1f1
+    assert_same!(rt; got!(text(alloc, &BYTES, 0)?, get_u8, 1), 0x80);
+    assert_same!(rt; got!(text(alloc, &BYTES, 0)?, get_i8, 1), -0x80);
+    Ok(())
+}
+
+#[test]
+fn two_bytes(rt: HostRuntime) -> Result<(), Fail> {
+    let alloc = rt.alloc();
+    assert_same!(rt; got!(text(alloc, &BYTES, 0)?, get_u16, 2), 0x8001);
+    assert_same!(rt; got!(text(alloc, &BYTES, 0)?, get_i16, 2), -0x7fff);
+    assert_same!(rt; got!(text(alloc, &TURNED, 14)?, get_u16_le, 2), 0x8001);
+    assert_same!(rt; got!(text(alloc, &TURNED, 14)?, get_i16_le, 2), -0x7fff);
+    Ok(())
+}
+
+#[test]
+fn four_bytes(rt: HostRuntime) -> Result<(), Fail> {
+    let alloc = rt.alloc();
+    assert_same!(rt; got!(text(alloc, &BYTES, 0)?, get_u32, 4), 0x8001_0203);
+    assert_same!(rt; got!(text(alloc, &BYTES, 0)?, get_i32, 4), -0x7ffe_fdfd);
+    assert_same!(rt; got!(text(alloc, &TURNED, 12)?, get_u32_le, 4), 0x8001_0203);
+    assert_same!(rt;
+        got!(text(alloc, &TURNED, 12)?, get_i32_le, 4),
+        -0x7ffe_fdfd
     );
     Ok(())
 }
 
 #[test]
-fn the_lowest_byte_first(rt: HostRuntime) -> Result<(), Fail> {
+fn eight_bytes(rt: HostRuntime) -> Result<(), Fail> {
     let alloc = rt.alloc();
-    assert_eq!(rt; got!(text(alloc, &TURNED, 14)?, get_u16_le, 2), 0x8001);
-    assert_eq!(rt; got!(text(alloc, &TURNED, 14)?, get_i16_le, 2), -0x7fff);
-    assert_eq!(rt; got!(text(alloc, &TURNED, 12)?, get_u32_le, 4), 0x8001_0203);
-    assert_eq!(rt;
-        got!(text(alloc, &TURNED, 12)?, get_i32_le, 4),
-        -0x7ffe_fdfd
+    assert_same!(rt;
+        got!(text(alloc, &BYTES, 0)?, get_u64, 8),
+        0x8001_0203_0405_0607
     );
-    assert_eq!(rt;
+    assert_same!(rt;
+        got!(text(alloc, &BYTES, 0)?, get_i64, 8),
+        -0x7ffe_fdfc_fbfa_f9f9
+    );
+    assert_same!(rt;
         got!(text(alloc, &TURNED, 8)?, get_u64_le, 8),
         0x8001_0203_0405_0607
     );
-    assert_eq!(rt;
+    assert_same!(rt;
         got!(text(alloc, &TURNED, 8)?, get_i64_le, 8),
         -0x7ffe_fdfc_fbfa_f9f9
     );
-    assert_eq!(rt;
+    Ok(())
+}
+
+#[test]
+fn sixteen_bytes(rt: HostRuntime) -> Result<(), Fail> {
+    let alloc = rt.alloc();
+    assert_same!(rt;
+        got!(text(alloc, &BYTES, 0)?, get_u128, 16),
+        0x8001_0203_0405_0607_0809_0a0b_0c0d_0e0f
+    );
+    assert_same!(rt;
+        got!(text(alloc, &BYTES, 0)?, get_i128, 16),
+        -0x7ffe_fdfc_fbfa_f9f8_f7f6_f5f4_f3f2_f1f1
+    );
+    assert_same!(rt;
         got!(text(alloc, &TURNED, 0)?, get_u128_le, 16),
         0x8001_0203_0405_0607_0809_0a0b_0c0d_0e0f
     );
-    assert_eq!(rt;
+    assert_same!(rt;
         got!(text(alloc, &TURNED, 0)?, get_i128_le, 16),
         -0x7ffe_fdfc_fbfa_f9f8_f7f6_f5f4_f3f2_f1f1
     );

@@ -1,6 +1,7 @@
 // Lengths that lie and ranges at their ends: each text as one chunk of a view and of a text, and as a chunk a byte.
 use crate::made::bytewise;
 use crate::record::Record;
+use crate::same::assert_same;
 use iobufs::bufs::IoBufs;
 use iobufs_core::buf::{IoBuf, IoBufMut};
 use iobufs_core::codec::{Buf, BufMut, Encode, Error, OwnedBuf, RangeCfg, Read};
@@ -33,7 +34,7 @@ fn assert_length<B: OwnedBuf + Drop>(
     answer: Result<usize, Error>,
 ) -> Result<B, Fail> {
     let before = chunks(rt.alloc(), &buf)?;
-    assert_eq!(rt; usize::read_cfg(rt.alloc(), &mut buf, range), answer);
+    assert_same!(rt; usize::read_cfg(rt.alloc(), &mut buf, range), answer);
     if answer.is_err() {
         assert!(rt; chunks(rt.alloc(), &buf)? == before);
     }
@@ -48,9 +49,9 @@ fn assert_view<B: OwnedBuf + Drop>(
 ) -> Result<B, Fail> {
     let before = chunks(rt.alloc(), &buf)?;
     match (IoBuf::read_cfg(rt.alloc(), &mut buf, range), answer) {
-        (Ok(view), Ok(bytes)) => assert_eq!(rt; view.as_ref(), bytes),
+        (Ok(view), Ok(bytes)) => assert_same!(rt; view.as_ref(), bytes),
         (Err(error), Err(cause)) => {
-            assert_eq!(rt; error, cause);
+            assert_same!(rt; error, cause);
             assert!(rt; chunks(rt.alloc(), &buf)? == before);
         }
         (_, _) => assert!(rt; false, "one of the two is a refusal"),
@@ -140,12 +141,12 @@ fn views_that_span_chunks(rt: HostRuntime) -> Result<(), Fail> {
     text.append(alloc, IoBuf::from(b"wx".as_slice()))?;
     text.append(alloc, IoBuf::from(b"yz".as_slice()))?;
     let text = assert_view(&rt, text, &SOME, Ok(b"wxyz"))?;
-    assert_eq!(rt; (text.len(), text.chunk_count()), (0, 0));
+    assert_same!(rt; (text.len(), text.chunk_count()), (0, 0));
     let mut text = IoBufs::from(b"\x04".as_slice());
     text.append(alloc, IoBuf::from(b"wxyz".as_slice()))?;
     text.append(alloc, IoBuf::from(b"\xff".as_slice()))?;
     let text = assert_view(&rt, text, &SOME, Ok(b"wxyz"))?;
-    assert_eq!(rt; text.chunk_at(0), Some(b"\xff".as_slice()));
+    assert_same!(rt; text.chunk_at(0), Some(b"\xff".as_slice()));
     Ok(())
 }
 
@@ -159,10 +160,10 @@ fn a_read_view_keeps_its_mark(rt: HostRuntime) -> Result<(), Fail> {
     let read = IoBuf::read_cfg(alloc, &mut view, &SOME)?;
     assert!(rt; view.is_empty());
     drop(view);
-    assert_eq!(rt; recovered(&rt, read)?, 7);
+    assert_same!(rt; recovered(&rt, read)?, 7);
     let mut across = bytewise(alloc, &IoBuf::from(b"\x02ab".as_slice()))?;
     let read = IoBuf::read_cfg(alloc, &mut across, &SOME)?;
-    assert_eq!(rt; recovered(&rt, read)?, 2);
+    assert_same!(rt; recovered(&rt, read)?, 2);
     let mut view = IoBuf::from(b"\x02ab".as_slice());
     let read = IoBuf::read_cfg(alloc, &mut view, &SOME)?;
     assert!(rt; read.try_into_mut(alloc).is_err());
@@ -174,7 +175,7 @@ fn each_beginning_of_a_written_view_is_open(rt: HostRuntime) -> Result<(), Fail>
     let alloc = rt.alloc();
     let body = IoBuf::from_vec(vec![in alloc; 7u8; 300]?)?;
     let whole = body.encode(alloc)?;
-    assert_eq!(rt; whole.len(), 302);
+    assert_same!(rt; whole.len(), 302);
     for n in 0..302 {
         let front = IoBuf::copy_from_slice(alloc, whole.as_ref().get(..n).unwrap_or(&[]))?;
         drop(assert_view(&rt, front.clone()?, &SOME, Err(Error::EndOfBuffer))?);
@@ -192,16 +193,16 @@ fn each_beginning_of_a_record_is_open(rt: HostRuntime) -> Result<(), Fail> {
         place: 0x04050607,
     };
     let whole = b"\x01\x02\x03\x04\x05\x06\x07".as_slice();
-    assert_eq!(rt; record.encode(alloc)?.as_ref(), whole);
+    assert_same!(rt; record.encode(alloc)?.as_ref(), whole);
     for n in 0..7 {
         let mut front = bytewise(alloc, &IoBuf::from(&whole[..n]))?;
-        assert_eq!(rt;
+        assert_same!(rt;
             Record::read_cfg(alloc, &mut front, &()),
             Err(Error::EndOfBuffer)
         );
-        assert_eq!(rt; (front.len(), front.chunk_count()), (n, n));
+        assert_same!(rt; (front.len(), front.chunk_count()), (n, n));
     }
-    assert_eq!(rt;
+    assert_same!(rt;
         Record::read_cfg(alloc, &mut bytewise(alloc, &IoBuf::from(whole))?, &()),
         Ok(record)
     );

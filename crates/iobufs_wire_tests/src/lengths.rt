@@ -1,5 +1,6 @@
 // Lengths and views as they are written and read.
 use crate::encode::{inline_size, written};
+use crate::same::assert_same;
 use iobufs_core::buf::IoBuf;
 use iobufs_core::codec::{Buf, EncodeSize, Error, RangeCfg, Read};
 use std::process::Abort;
@@ -20,19 +21,19 @@ fn assert_refused(
     error: Error,
 ) {
     let mut view = IoBuf::from(text);
-    assert_eq!(rt;
+    assert_same!(rt;
         IoBuf::read_cfg(rt.alloc(), &mut view, range).err(),
         Some(error),
         "{text:?}"
     );
-    assert_eq!(rt; view.as_ref(), text);
+    assert_same!(rt; view.as_ref(), text);
 }
 
 #[test]
 fn views_are_read(rt: HostRuntime) -> Result<(), Fail> {
     let mut view = IoBuf::from(b"\x04wxyz".as_slice());
     let read = IoBuf::read_cfg(rt.alloc(), &mut view, &RANGE)?;
-    assert_eq!(rt; (read.as_ref(), view.len()), (b"wxyz".as_slice(), 0));
+    assert_same!(rt; (read.as_ref(), view.len()), (b"wxyz".as_slice(), 0));
     Ok(())
 }
 
@@ -71,11 +72,11 @@ fn lengths_are_read(rt: HostRuntime) -> Result<(), Fail> {
         (b"\xff\xff\xff\xff\xff\xff\xff\xff\xff\x01", usize::MAX),
     ] {
         let mut view = IoBuf::from(text);
-        assert_eq!(rt; usize::read_cfg(rt.alloc(), &mut view, &ANY)?, value);
+        assert_same!(rt; usize::read_cfg(rt.alloc(), &mut view, &ANY)?, value);
         assert!(rt; view.is_empty());
-        assert_eq!(rt; value.encode_size(), Some(text.len()));
+        assert_same!(rt; value.encode_size(), Some(text.len()));
     }
-    assert_eq!(rt;
+    assert_same!(rt;
         (127usize.encode_size(), 128usize.encode_size()),
         (Some(1), Some(2))
     );
@@ -86,25 +87,25 @@ fn lengths_are_read(rt: HostRuntime) -> Result<(), Fail> {
 fn views_are_written(rt: HostRuntime) -> Result<(), Fail> {
     let alloc = rt.alloc();
     let view = IoBuf::from(b"hello world".as_slice());
-    assert_eq!(rt;
+    assert_same!(rt;
         written(alloc, &view)?.as_ref(),
         b"\x0bhello world".as_slice()
     );
-    assert_eq!(rt;
+    assert_same!(rt;
         (view.encode_size(), inline_size(&view)),
         (Some(12), Some(1))
     );
-    assert_eq!(rt;
+    assert_same!(rt;
         written(alloc, &IoBuf::default())?.as_ref(),
         b"\x00".as_slice()
     );
     let long = IoBuf::copy_from_slice(alloc, &[9; 128])?;
     let part = written(alloc, &long)?;
-    assert_eq!(rt;
+    assert_same!(rt;
         (part.byte_at(0), part.byte_at(1), part.byte_at(2)),
         (Some(0x80), Some(1), Some(9))
     );
-    assert_eq!(rt;
+    assert_same!(rt;
         (long.encode_size(), inline_size(&long)),
         (Some(130), Some(2))
     );

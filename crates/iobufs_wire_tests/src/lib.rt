@@ -20,10 +20,14 @@ mod lists;
 mod made;
 mod message;
 mod note;
+#[cfg(test)]
+mod readers;
 mod record;
 mod request;
 #[cfg(test)]
 mod requests;
+#[cfg(test)]
+mod same;
 mod shard;
 #[cfg(test)]
 mod values;

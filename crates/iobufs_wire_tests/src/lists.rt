@@ -1,6 +1,7 @@
 // Lists, signed numbers, tuples of four to six and types that are read by their parts: worked values, cut short at each
 // byte and out of pieces, and counts that lie.
 use crate::note::{Letter, Note};
+use crate::same::assert_same;
 use crate::whole::{assert_refused, bytewise, view};
 use iobufs::EncodeExt;
 use iobufs::bufs::IoBufs;
@@ -61,7 +62,7 @@ fn signed_numbers_are_two_s_complement(rt: HostRuntime) -> Result<(), Fail> {
         Signed { value: -4i64 },
     );
     type All = (Signed<i8>, Signed<i16>, Signed<i32>, Signed<i64>);
-    assert_eq!(rt; all.encode(alloc)?.as_ref(), NEGATIVE);
+    assert_same!(rt; all.encode(alloc)?.as_ref(), NEGATIVE);
     let read = <All as Look>::read_whole(
         alloc,
         &mut bytewise(alloc, NEGATIVE)?,
@@ -77,13 +78,13 @@ fn lists_of_lists_go_there_and_back(rt: HostRuntime) -> Result<(), Fail> {
     type Lists = List<List<IoBuf>>;
     let cfg = (ANY, (ANY, ANY));
     let lists = <Lists as Look>::decode_cfg(alloc, &bytewise(alloc, LISTS)?, &cfg)?;
-    assert_eq!(rt; lists.values.len(), 2);
+    assert!(rt; lists.values.len() == 2);
     let (first, second) = (&lists.values[0].values, &lists.values[1].values);
     assert!(rt; first.len() == 2 && second.len() == 1);
-    assert_eq!(rt; first[0].as_ref(), b"ab".as_slice());
+    assert_same!(rt; first[0].as_ref(), b"ab".as_slice());
     assert!(rt; first[1].is_empty());
-    assert_eq!(rt; second[0].as_ref(), b"c".as_slice());
-    assert_eq!(rt; lists.encode(alloc)?.as_ref(), LISTS);
+    assert_same!(rt; second[0].as_ref(), b"c".as_slice());
+    assert_same!(rt; lists.encode(alloc)?.as_ref(), LISTS);
     let text = lists.encode_iobufs(alloc)?;
     assert!(rt; text.len() == 9 && text.chunk_count() == 4);
     assert_beginnings::<Lists>(&rt, LISTS, &cfg)
@@ -95,7 +96,7 @@ fn five_and_six_values_go_there_and_back(rt: HostRuntime) -> Result<(), Fail> {
     type Six = (u8, bool, u16, Option<u8>, [u8; 2], usize);
     let six = (1u8, true, 2u16, Some(3u8), [9u8; 2], 300usize);
     let cfg = ((), (), (), (), (), ANY);
-    assert_eq!(rt; six.encode(alloc)?.as_ref(), SIX);
+    assert_same!(rt; six.encode(alloc)?.as_ref(), SIX);
     let read = <Six as Look>::read_whole(alloc, &mut bytewise(alloc, SIX)?, &cfg)?;
     assert!(rt; read == six);
     assert_beginnings::<Six>(&rt, SIX, &cfg)?;
@@ -107,7 +108,7 @@ fn five_and_six_values_go_there_and_back(rt: HostRuntime) -> Result<(), Fail> {
         &((), (), (), (), ()),
     )?;
     assert!(rt; read == five);
-    assert_eq!(rt; five.encode(alloc)?.as_ref(), &SIX[..8]);
+    assert_same!(rt; five.encode(alloc)?.as_ref(), &SIX[..8]);
     Ok(())
 }
 
@@ -141,20 +142,20 @@ fn a_letter_is_read_by_its_parts(rt: HostRuntime) -> Result<(), Fail> {
     );
     for n in 0..LETTER.len() {
         let mut text = bytewise(alloc, &LETTER[..n])?;
-        assert_eq!(rt; Letter::read_whole(alloc, &mut text, &cfg).err(), Some(END));
+        assert_same!(rt; Letter::read_whole(alloc, &mut text, &cfg).err(), Some(END));
         assert!(rt; text.len() == n && text.chunk_count() == n);
     }
     let mut text = bytewise(alloc, LETTER)?;
     text.append(alloc, view(b"z"))?;
-    assert_eq!(rt;
+    assert_same!(rt;
         Letter::decode_cfg(alloc, &text, &cfg).err(),
         Some(Fault::ExtraData(1))
     );
     let letter = Letter::read_whole(alloc, &mut text, &cfg)?;
     assert!(rt; letter.sent == -1 && letter.note.number == 7 && letter.note.kind == 2);
-    assert_eq!(rt; letter.note.body.as_ref(), b"abc".as_slice());
-    assert_eq!(rt; letter.answers, vec![in alloc; 8u32, 9u32]?);
-    assert_eq!(rt; text.len(), 1);
+    assert_same!(rt; letter.note.body.as_ref(), b"abc".as_slice());
+    assert_same!(rt; letter.answers, vec![in alloc; 8u32, 9u32]?);
+    assert_same!(rt; text.len(), 1);
     let Letter { note, .. } = letter;
     let mut note = note.encode(alloc)?;
     assert!(rt; note.len() == 9 && note.chunk_count() == 2);

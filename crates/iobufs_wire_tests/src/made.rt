@@ -1,4 +1,5 @@
 // Ten thousand made texts, each read three ways, and the answers as the rules of spelling have them in plain code.
+use crate::same::assert_same;
 use iobufs::bufs::IoBufs;
 use iobufs_core::buf::IoBuf;
 use iobufs_core::codec::{Error, OwnedBuf, RangeCfg, Read};
@@ -108,10 +109,10 @@ fn assert_plain<B: OwnedBuf>(
         IoBuf::read_cfg(rt.alloc(), &mut buf, &range),
         plain(text, range),
     ) {
-        (Ok(view), Ok(bytes)) => assert_eq!(rt; view.as_ref(), bytes, "{text:?}"),
+        (Ok(view), Ok(bytes)) => assert_same!(rt; view.as_ref(), bytes, "{text:?}"),
         (Err(error), Err(cause)) => {
-            assert_eq!(rt; error, cause, "{text:?}");
-            assert_eq!(rt; buf.remaining(), text.len());
+            assert_same!(rt; error, cause, "{text:?}");
+            assert_same!(rt; buf.remaining(), text.len());
         }
         (_, _) => assert!(rt; false, "{text:?}"),
     }

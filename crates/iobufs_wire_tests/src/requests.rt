@@ -1,6 +1,7 @@
 // A value of one kind or another: known bytes, out of pieces, cut short at each byte, and behind a byte that tells no kind.
 use crate::lists::assert_beginnings;
 use crate::request::{Request, RequestParts};
+use crate::same::assert_same;
 use crate::whole::{assert_refused, bytewise, view};
 use iobufs::bufs::IoBufs;
 use iobufs_core::buf::IoBuf;
@@ -43,7 +44,7 @@ fn a_request_of_two_fields_goes_there_and_back(rt: HostRuntime) -> Result<(), Fa
         key: view(b"key"),
         limit: 7,
     };
-    assert_eq!(rt; get.encode(alloc)?.as_ref(), GET);
+    assert_same!(rt; get.encode(alloc)?.as_ref(), GET);
     let get = Request::Get {
         key: view(b"key"),
         limit: 7,
@@ -62,14 +63,14 @@ fn a_request_of_two_views_is_not_copied(rt: HostRuntime) -> Result<(), Fail> {
         key: view(b"key"),
         body: view(b"body"),
     };
-    assert_eq!(rt; put.into_parts().encode_size(), Some(10));
+    assert_same!(rt; put.into_parts().encode_size(), Some(10));
     let put = Request::Put {
         key: view(b"key"),
         body: view(b"body"),
     };
     let text: IoBufs = put.encode_iobufs(alloc)?;
     assert!(rt; text.len() == 10 && text.chunk_count() == 4);
-    assert_eq!(rt; text.to_vec(alloc)?.as_slice(), PUT);
+    assert_same!(rt; text.to_vec(alloc)?.as_slice(), PUT);
     let read = Request::decode_cfg(alloc, &bytewise(alloc, PUT)?, &CFG)?;
     assert!(rt; is_put(&read, b"key", b"body"));
     Ok(())
@@ -83,25 +84,25 @@ fn a_long_request_is_written(rt: HostRuntime) -> Result<(), Fail> {
         body: IoBuf::from_vec(vec![in alloc; 5u8; 2_000_000]?)?,
     };
     let written = put.encode(alloc)?;
-    assert_eq!(rt; written.len(), 2_000_008);
+    assert_same!(rt; written.len(), 2_000_008);
     let front = written.as_ref().get(..9).ok_or("too short")?;
-    assert_eq!(rt; front, b"\x01\x03key\x80\x89\x7a\x05".as_slice());
+    assert_same!(rt; front, b"\x01\x03key\x80\x89\x7a\x05".as_slice());
     Ok(())
 }
 
 #[test]
 fn the_third_kind_stands_behind_its_byte(rt: HostRuntime) -> Result<(), Fail> {
     let alloc = rt.alloc();
-    assert_eq!(rt; Request::Sync(300).encode(alloc)?.as_ref(), SYNC);
+    assert_same!(rt; Request::Sync(300).encode(alloc)?.as_ref(), SYNC);
     let mut text = bytewise(alloc, SYNC)?;
     text.append(alloc, view(b"z"))?;
     let extra = Request::decode_cfg(alloc, &text, &CFG).err();
-    assert_eq!(rt; extra, Some(Fault::ExtraData(1)));
+    assert_same!(rt; extra, Some(Fault::ExtraData(1)));
     match Request::read_whole(alloc, &mut text, &CFG)? {
-        Request::Sync(number) => assert_eq!(rt; number, 300),
+        Request::Sync(number) => assert_same!(rt; number, 300),
         _ => assert!(rt; false),
     }
-    assert_eq!(rt; text.len(), 1);
+    assert_same!(rt; text.len(), 1);
     Ok(())
 }
 
@@ -113,7 +114,7 @@ fn each_beginning_is_its_end(rt: HostRuntime) -> Result<(), Fail> {
     assert_beginnings::<RequestParts>(&rt, SYNC, &CFG)?;
     let mut cut = bytewise(alloc, &PUT[..9])?;
     let end = Request::read_whole(alloc, &mut cut, &CFG).err();
-    assert_eq!(rt; end, Some(Fault::Codec(Error::EndOfBuffer)));
+    assert_same!(rt; end, Some(Fault::Codec(Error::EndOfBuffer)));
     assert!(rt; cut.len() == 9 && cut.chunk_count() == 9);
     Ok(())
 }
@@ -140,7 +141,7 @@ fn where_a_byte_tells_both_it_is_the_first(rt: HostRuntime) -> Result<(), Fail> 
     let alloc = rt.alloc();
     let second: Alike = Either::Second(Kind { value: 0x0102 });
     let mut text = second.encode(alloc)?.freeze()?;
-    assert_eq!(rt; text.as_ref(), b"\x07\x01\x02".as_slice());
+    assert_same!(rt; text.as_ref(), b"\x07\x01\x02".as_slice());
     let read = <Alike as Look>::read_whole(alloc, &mut text, &((), ()))?;
     assert!(rt; read == Either::First(Kind { value: 1 }) && text.len() == 1);
     assert!(rt; RequestParts::is_tag(0) && RequestParts::is_tag(2) && !RequestParts::is_tag(3));
@@ -153,9 +154,9 @@ fn a_list_of_kinds_goes_there_and_back(rt: HostRuntime) -> Result<(), Fail> {
     type Mixed = List<Either<Kind<0, u8>, Kind<9, u16>>>;
     let text = bytewise(alloc, b"\x03\0\x05\x09\x01\x02\0\x06")?;
     let read = <Mixed as Look>::decode_cfg(alloc, &text, &(NINE, ((), ())))?;
-    assert_eq!(rt; read.values.len(), 3);
+    assert!(rt; read.values.len() == 3);
     assert!(rt; read.values[1] == Either::Second(Kind { value: 0x0102 }));
-    assert_eq!(rt;
+    assert_same!(rt;
         read.encode(alloc)?.as_ref(),
         b"\x03\0\x05\x09\x01\x02\0\x06".as_slice()
     );

@@ -1,5 +1,6 @@
 // Whole values: read out of pieces, cut short at each byte, and with counts and bytes that lie.
 use crate::message::Message;
+use crate::same::assert_same;
 use bytes::Bytes;
 use iobufs::EncodeExt;
 use iobufs::bufs::IoBufs;
@@ -50,7 +51,7 @@ pub fn assert_refused<T: Look + Drop, B: OwnedBuf>(
     fault: Fault,
 ) -> Result<(), Fail> {
     let before = chunks(rt.alloc(), buf)?;
-    assert_eq!(rt; T::read_whole(rt.alloc(), buf, cfg).err(), Some(fault));
+    assert_same!(rt; T::read_whole(rt.alloc(), buf, cfg).err(), Some(fault));
     assert!(rt; chunks(rt.alloc(), buf)? == before);
     Ok(())
 }
@@ -63,9 +64,9 @@ fn a_message_goes_there_and_back(rt: HostRuntime) -> Result<(), Fail> {
         kind: 2,
         body: view(ABC),
     };
-    assert_eq!(rt; message.encode(alloc)?.as_ref(), WHOLE);
+    assert_same!(rt; message.encode(alloc)?.as_ref(), WHOLE);
     let mut text = message.encode_iobufs(alloc)?;
-    assert_eq!(rt; text.chunk_count(), 2);
+    assert_same!(rt; text.chunk_count(), 2);
     let read = Message::read_whole(alloc, &mut text, &CFG)?;
     assert!(rt; read.number == 7 && read.kind == 2 && read.body.as_ref() == ABC);
     assert!(rt; text.is_empty());
@@ -83,12 +84,12 @@ fn each_beginning_is_refused_and_stays(rt: HostRuntime) -> Result<(), Fail> {
     let mut all = bytewise(alloc, WHOLE)?;
     all.append(alloc, view(b"z"))?;
     let extra = Message::decode_cfg(alloc, &all, &CFG).err();
-    assert_eq!(rt; extra, Some(Fault::ExtraData(1)));
+    assert_same!(rt; extra, Some(Fault::ExtraData(1)));
     let read = Message::read_whole(alloc, &mut all, &CFG)?;
     assert!(rt; read.number == 7 && read.kind == 2 && read.body.as_ref() == ABC);
-    assert_eq!(rt; all.len(), 1);
+    assert_same!(rt; all.len(), 1);
     let whole = Message::decode_cfg(alloc, &IoBuf::from(Bytes::from_static(WHOLE)), &CFG)?;
-    assert_eq!(rt; whole.body.as_ref(), ABC);
+    assert_same!(rt; whole.body.as_ref(), ABC);
     Ok(())
 }
 
@@ -118,7 +119,7 @@ fn each_kind_is_written_and_found(rt: HostRuntime) -> Result<(), Fail> {
     let alloc = rt.alloc();
     let some = ((true, Some(0x0102u16)), (*b"xyz", 300usize));
     let mut text = some.encode(alloc)?.freeze()?;
-    assert_eq!(rt; text.as_ref(), SOME);
+    assert_same!(rt; text.as_ref(), SOME);
     let cfg = (((), ()), ((), RangeCfg { lo: 0, hi: 300 }));
     type Both = ((bool, Option<u16>), ([u8; 3], usize));
     let read = <Both as Look>::read_whole(alloc, &mut text, &cfg)?;

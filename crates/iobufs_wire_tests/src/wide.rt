@@ -1,5 +1,6 @@
 // Numbers of sixteen bytes, worked: with a sign and without, cut short at each byte, and out of pieces.
 use crate::lists::assert_beginnings;
+use crate::same::assert_same;
 use crate::whole::bytewise;
 use iobufs_core::buf::IoBufMut;
 use iobufs_core::codec::{BufMut, Encode, EncodeSize, Read};
@@ -18,7 +19,7 @@ const NEGATIVE: &[u8] =
 #[test]
 fn sixteen_bytes_stand_highest_first(rt: HostRuntime) -> Result<(), Fail> {
     let alloc = rt.alloc();
-    assert_eq!(rt; WIDE.encode(alloc)?.as_ref(), TEXT);
+    assert_same!(rt; WIDE.encode(alloc)?.as_ref(), TEXT);
     assert!(rt; WIDE.encode_size() == Some(16) && WIDE.encode_inline_size() == 16);
     let read = <u128 as Look>::decode_cfg(alloc, &bytewise(alloc, TEXT)?, &())?;
     assert!(rt; read == WIDE);
@@ -27,7 +28,7 @@ fn sixteen_bytes_stand_highest_first(rt: HostRuntime) -> Result<(), Fail> {
     assert!(rt; read == WIDE && text.is_empty());
     let mut part = IoBufMut::with_capacity(alloc, 17)?;
     part.put_u128(1);
-    assert_eq!(rt;
+    assert_same!(rt;
         part.as_ref(),
         b"\0\0\0\0\0\0\0\0\0\0\0\0\0\0\0\x01".as_slice()
     );
@@ -39,7 +40,7 @@ fn a_sign_is_the_highest_of_128_bits(rt: HostRuntime) -> Result<(), Fail> {
     let alloc = rt.alloc();
     type Both = (Signed<i128>, Signed<i128>);
     let both = (Signed { value: -2i128 }, Signed { value: i128::MIN });
-    assert_eq!(rt; both.encode(alloc)?.as_ref(), NEGATIVE);
+    assert_same!(rt; both.encode(alloc)?.as_ref(), NEGATIVE);
     let read = <Both as Look>::decode_cfg(alloc, &bytewise(alloc, NEGATIVE)?, &((), ()))?;
     assert!(rt; read == both);
     let largest = Signed { value: i128::MAX }.encode(alloc)?.freeze()?;

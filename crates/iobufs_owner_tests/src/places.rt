@@ -1,12 +1,13 @@
 // Bases worked by hand: the last of each range, in whatever order they came. Room is made for all of them before the first.
-use crate::Places;
+use crate::same::assert_same;
+use iobufs_places::Places;
 use std::test::Fail;
 
 #[test]
 fn none_in_no_places(rt: HostRuntime) -> Result<(), Fail> {
     let places = Places::new(rt.alloc());
-    assert_eq!(rt; places.last(0, u64::MAX), None);
-    assert_eq!(rt; places.last(0, 0), None);
+    assert_same!(rt; places.last(0, u64::MAX), None);
+    assert_same!(rt; places.last(0, 0), None);
     Ok(())
 }
 
@@ -32,7 +33,7 @@ fn rising_bases(rt: HostRuntime) -> Result<(), Fail> {
         (4097, 4097, None),
         (4098, 5, None),
     ] {
-        assert_eq!(rt; places.last(low, end), found);
+        assert_same!(rt; places.last(low, end), found);
     }
     Ok(())
 }
@@ -55,7 +56,7 @@ fn falling_bases(rt: HostRuntime) -> Result<(), Fail> {
         (0, 65, Some(4)),
         (0, 64, None),
     ] {
-        assert_eq!(rt; places.last(low, end), found);
+        assert_same!(rt; places.last(low, end), found);
     }
     Ok(())
 }
@@ -82,7 +83,7 @@ fn mixed_bases_from_end_to_end(rt: HostRuntime) -> Result<(), Fail> {
         (0, u64::MAX, Some(4)),
         (u64::MAX, u64::MAX, None),
     ] {
-        assert_eq!(rt; places.last(low, end), found);
+        assert_same!(rt; places.last(low, end), found);
     }
     Ok(())
 }
