@@ -1,9 +1,7 @@
-// What no contract says of the buffers and of what stands on them: worked examples, calls that succeed, storage that is
-// shared, and a thousand times what an example has.
+// What no contract says of the buffers and of frames: worked examples, calls that succeed, storage that is shared, and
+// lengths above the limits that a call might have.
 #![tactic(auto)]
 
-#[cfg(test)]
-mod calls;
 #[cfg(test)]
 mod frames;
 #[cfg(test)]
@@ -13,23 +11,9 @@ mod limits;
 #[cfg(test)]
 mod located;
 #[cfg(test)]
-mod many;
-#[cfg(test)]
 mod parts;
 #[cfg(test)]
-mod pool;
-#[cfg(test)]
-mod printed;
-#[cfg(test)]
-mod records;
-#[cfg(test)]
-mod runs;
-#[cfg(test)]
 mod same;
-#[cfg(test)]
-mod scale;
-#[cfg(test)]
-mod streams;
 #[cfg(test)]
 mod strung;
 #[cfg(test)]
