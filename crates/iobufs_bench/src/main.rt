@@ -42,6 +42,11 @@ fn requested(rt: &HostRuntime) -> Result<Request, Stop> {
     Ok(Request { is_sums, names })
 }
 
+// The picoseconds of each of `ops` operations that took `nanos` nanoseconds together, and 0 of none.
+fn picoseconds_each(nanos: u64, ops: u64) -> u64 {
+    nanos.wrapping_mul(1000).checked_div(ops).unwrap_or(0)
+}
+
 // The picoseconds of an operation over as many runs as make 8 milliseconds of timed work, or 60 in all.
 fn repetition(rt: &HostRuntime, name: &str) -> Result<u64, Stop> {
     let mut nanos = 0u64;
@@ -55,7 +60,7 @@ fn repetition(rt: &HostRuntime, name: &str) -> Result<u64, Stop> {
             break;
         }
     }
-    Ok(nanos.wrapping_mul(1000).checked_div(ops).unwrap_or(0))
+    Ok(picoseconds_each(nanos, ops))
 }
 
 // The least of five repetitions.
