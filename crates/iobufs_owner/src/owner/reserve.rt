@@ -44,15 +44,9 @@ impl Machine {
         if self.has_room(blocks, handles, records) {
             return Ok(());
         }
-        let all_blocks = total(self.blocks.len(), blocks)?;
-        let handles = total(self.handles.len(), handles)?;
-        let records = total(self.records.len(), records)?;
-        let new_blocks = larger(&self.blocks, all_blocks)?;
-        let new_freed_blocks = larger(&self.freed_blocks, all_blocks)?;
-        let new_handles = larger(&self.handles, handles)?;
-        let new_borrows = larger(&self.borrows, handles)?;
-        let new_records = larger(&self.records, records)?;
-        let new_freed_records = larger(&self.freed_records, records)?;
+        let (new_blocks, new_freed_blocks) = grown(&self.blocks, &self.freed_blocks, blocks)?;
+        let (new_handles, new_borrows) = grown(&self.handles, &self.borrows, handles)?;
+        let (new_records, new_freed_records) = grown(&self.records, &self.freed_records, records)?;
         self.places.reserve(blocks)?;
         move_into(&mut self.blocks, new_blocks);
         move_into(&mut self.freed_blocks, new_freed_blocks);
@@ -64,12 +58,23 @@ impl Machine {
     }
 }
 
-// So many entries and so many more, where that is a number of entries at all.
-fn total(entries: usize, more: usize) -> Result<usize, AllocError>
-    ensures sum { IfOk result (λ all. all ≡ entries + more) }
-    ensures full { OnErr result (2 ^ 64 ≤ entries + more) }
+// Memory for so many entries more than the first table has, for it and for one beside it.
+fn grown<T: Copy, B: Copy>(
+    table: &Vec<T>,
+    beside: &Vec<B>,
+    more: usize,
+) -> Result<(Option<Vec<T>>, Option<Vec<B>>), AllocError>
+    ensures items { IfOk result (λ larger. IfSome larger.0 (λ new. new.items ≡ table.now.items)) }
+    ensures items_beside { IfOk result (λ larger. IfSome larger.1 (λ new. new.items ≡ beside.now.items)) }
+    ensures room { IfOk result (λ larger. IfSome larger.0 (λ new. length table.now.items + more ≤ vec_capacity new)) }
+    ensures room_beside { IfOk result (λ larger. IfSome larger.1 (λ new. length table.now.items + more ≤ vec_capacity new)) }
+    ensures more { IfOk result (λ larger. IfSome larger.0 (λ new. vec_capacity table.now < vec_capacity new)) }
+    ensures more_beside { IfOk result (λ larger. IfSome larger.1 (λ new. vec_capacity beside.now < vec_capacity new)) }
+    ensures enough { IfOk result (λ larger. larger.0 ≡ None → length table.now.items + more ≤ vec_capacity table.now) }
+    ensures enough_beside { IfOk result (λ larger. larger.1 ≡ None → length table.now.items + more ≤ vec_capacity beside.now) }
 {
-    entries.checked_add(more).ok_or(AllocError)
+    let entries = table.len().checked_add(more).ok_or(AllocError)?;
+    Ok((larger(table, entries)?, larger(beside, entries)?))
 }
 
 // The entries of a table with memory for so many in all, where the table has less: then for at least twice as many as
