@@ -4,7 +4,7 @@ use Rattle.std.specs.declared.ops.Bound.TheVariants.{Included, Excluded, Unbound
 use Rattle.std.proofs.Common.{◌≡◌, ℕ, ◌+◌, ◌-◌, ◌^◌, ◌<◌, ◌≤◌, Bool, true, false, ◌&&◌, List, [], ◌∷◌, length, drop, map, eqb, Option, Some, None, codes, refl, sym, ap, subst, ◌∙◌, arith}
 use Rattle.std.specs.Prelude.{if◌then◌else◌, nat_le, slice_range}
 use Rattle.std.specs.Fmt.{decimal}
-use Rattle.std.specs.Option.{option_and_then, option_map}
+use Rattle.std.specs.Option.{option_and_then, option_map, option_or}
 use Rattle.std.specs.Str.{bytes_eq}
 use Rattle.std.proofs.lemmas.List.{length-drop, length-take-le}
 use Rattle.std.proofs.lemmas.Bool.{eqb-true}
@@ -16,7 +16,7 @@ use Rattle.iobufs_lines.specs.Commands.{Item, Inline, Push, Command, NewMut, Zer
 use Rattle.iobufs_lines.specs.declared.line.Verb.{Verb}
 use Rattle.iobufs_lines.specs.declared.line.Verb.TheVariants as verb
 use Rattle.iobufs_lines.specs.Shapes.{alone, of_both, Three, three, four, one_of, two_of, three_of, four_of, lone_bytes_of, bytes_for_of, numbers_for_of, byte_and_one_of, fill_of, bounds_of, last_bound_of, bounds_for_of, bounds_for, slice_of, bound_of, item_of, items_of, items_for_of, build_of, letters, letters_of}
-use Rattle.iobufs_lines.specs.Said.{said_by, static_of, verb_of, command_by, command_of}
+use Rattle.iobufs_lines.specs.Said.{acting_of, making_of, said_by, static_of, verb_of, command_by, command_of}
 use Rattle.iobufs_lines.specs.Spelled.{Word, Verb as Named, Number, Byte, Digits, Spells, AreSpelled, written, bound_word, item_word, words_from, StandsAt, IsLineOf, first_letter, first_of, line_of_command, BoundFits, ItemsFit, Fits}
 use Rattle.iobufs_lines.proofs.Numerals.{number_is, number_back, bytes_are, bytes_back, lower_stays, same_word}
 
@@ -407,37 +407,48 @@ verb_step : (word text : List ℕ) (here v : Verb) (others : Option Verb) (t : B
 verb_step word text here v others true is same more e = let named : here ≡ v = cc in same_word word text is ∙ same ∙ ap verb_text named
 verb_step word text here v others false is same more e = more e
 
-verb_is : (word : List ℕ) (v : Verb) → verb_of word ≡ Some v → word ≡ verb_text v
-verb_is word v e =
+making_is : (word : List ℕ) (v : Verb) → making_of word ≡ Some v → word ≡ verb_text v
+making_is word v e =
     verb_step word (codes "new") verb.New v _ (bytes_eq word (codes "new")) refl refl (λ e.
     verb_step word (codes "zeroed") verb.Zeroed v _ (bytes_eq word (codes "zeroed")) refl refl (λ e.
     verb_step word (codes "adopt") verb.Adopt v _ (bytes_eq word (codes "adopt")) refl refl (λ e.
     verb_step word (codes "static") verb.Static v _ (bytes_eq word (codes "static")) refl refl (λ e.
     verb_step word (codes "bytes") verb.Bytes v _ (bytes_eq word (codes "bytes")) refl refl (λ e.
+    verb_step word (codes "freeze") verb.Freeze v _ (bytes_eq word (codes "freeze")) refl refl (λ e.
+    verb_step word (codes "recover") verb.Recover v _ (bytes_eq word (codes "recover")) refl refl (λ e.
+    verb_step word (codes "clone") verb.Clone v _ (bytes_eq word (codes "clone")) refl refl (λ e.
+    verb_step word (codes "slice") verb.Slice v _ (bytes_eq word (codes "slice")) refl refl (λ e.
+    verb_step word (codes "split") verb.Split v _ (bytes_eq word (codes "split")) refl refl (λ e.
+    verb_step word (codes "gather") verb.Gather v _ (bytes_eq word (codes "gather")) refl refl (λ e.
+    verb_step word (codes "gathermut") verb.GatherMut v _ (bytes_eq word (codes "gathermut")) refl refl (λ e.
+    verb_step word (codes "coalesce") verb.Coalesce v _ (bytes_eq word (codes "coalesce")) refl refl (λ e.
+    verb_step word (codes "build") verb.Build v _ (bytes_eq word (codes "build")) refl refl (λ e.
+    verb_step word (codes "encode") verb.Encode v _ (bytes_eq word (codes "encode")) refl refl (λ e.
+    verb_step word (codes "decode") verb.Decode v _ (bytes_eq word (codes "decode")) refl refl (λ e.
+    cc e) e) e) e) e) e) e) e) e) e) e) e) e) e) e) e) e
+
+acting_is : (word : List ℕ) (v : Verb) → acting_of word ≡ Some v → word ≡ verb_text v
+acting_is word v e =
     verb_step word (codes "put") verb.Put v _ (bytes_eq word (codes "put")) refl refl (λ e.
     verb_step word (codes "fill") verb.Fill v _ (bytes_eq word (codes "fill")) refl refl (λ e.
     verb_step word (codes "setlen") verb.SetLen v _ (bytes_eq word (codes "setlen")) refl refl (λ e.
     verb_step word (codes "truncate") verb.Truncate v _ (bytes_eq word (codes "truncate")) refl refl (λ e.
     verb_step word (codes "clear") verb.Clear v _ (bytes_eq word (codes "clear")) refl refl (λ e.
     verb_step word (codes "overwrite") verb.Overwrite v _ (bytes_eq word (codes "overwrite")) refl refl (λ e.
-    verb_step word (codes "freeze") verb.Freeze v _ (bytes_eq word (codes "freeze")) refl refl (λ e.
-    verb_step word (codes "recover") verb.Recover v _ (bytes_eq word (codes "recover")) refl refl (λ e.
-    verb_step word (codes "clone") verb.Clone v _ (bytes_eq word (codes "clone")) refl refl (λ e.
-    verb_step word (codes "slice") verb.Slice v _ (bytes_eq word (codes "slice")) refl refl (λ e.
-    verb_step word (codes "split") verb.Split v _ (bytes_eq word (codes "split")) refl refl (λ e.
     verb_step word (codes "advance") verb.Advance v _ (bytes_eq word (codes "advance")) refl refl (λ e.
     verb_step word (codes "take") verb.Take v _ (bytes_eq word (codes "take")) refl refl (λ e.
-    verb_step word (codes "gather") verb.Gather v _ (bytes_eq word (codes "gather")) refl refl (λ e.
-    verb_step word (codes "gathermut") verb.GatherMut v _ (bytes_eq word (codes "gathermut")) refl refl (λ e.
     verb_step word (codes "append") verb.Append v _ (bytes_eq word (codes "append")) refl refl (λ e.
     verb_step word (codes "prepend") verb.Prepend v _ (bytes_eq word (codes "prepend")) refl refl (λ e.
-    verb_step word (codes "coalesce") verb.Coalesce v _ (bytes_eq word (codes "coalesce")) refl refl (λ e.
-    verb_step word (codes "build") verb.Build v _ (bytes_eq word (codes "build")) refl refl (λ e.
-    verb_step word (codes "encode") verb.Encode v _ (bytes_eq word (codes "encode")) refl refl (λ e.
-    verb_step word (codes "decode") verb.Decode v _ (bytes_eq word (codes "decode")) refl refl (λ e.
     verb_step word (codes "drop") verb.Drop v _ (bytes_eq word (codes "drop")) refl refl (λ e.
     verb_step word (codes "show") verb.Show v _ (bytes_eq word (codes "show")) refl refl (λ e.
-    cc e) e) e) e) e) e) e) e) e) e) e) e) e) e) e) e) e) e) e) e) e) e) e) e) e) e) e) e) e
+    cc e) e) e) e) e) e) e) e) e) e) e) e) e
+
+either_is : (word : List ℕ) (v : Verb) (made : Option Verb) → making_of word ≡ made → option_or made (acting_of word) ≡ Some v → word ≡ verb_text v
+either_is word v (Some here) at e = making_is word v (at ∙ e)
+either_is word v None at e = acting_is word v e
+
+verb_is : (word : List ℕ) (v : Verb) → verb_of word ≡ Some v → word ≡ verb_text v
+verb_is word v e = either_is word v (making_of word) refl e
 
 verb_says : (v : Verb) (texts : List (List ℕ)) (command : Command) → said_by v texts ≡ Some command → Says command (verb_text v ∷ texts)
 verb_says verb.New texts command e =

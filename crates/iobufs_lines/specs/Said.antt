@@ -1,10 +1,11 @@
 -- The command that a line says: its first word names it, and the words behind say its numbers, bytes and lists.
 --     command_of,           the command that a line says, if any, and that its words say
 --     command_by
---     verb_of               what the first word asks for
+--     making_of, acting_of  what the first word asks for: to put something under a name, to act on what one holds;
+--     verb_of               either
 --     said_by, static_of    the command that the words behind it say; of `static`, where they name a run of letters
 use Rattle.std.specs.Prelude.{ℕ, if◌then◌else◌, List, [], ◌∷◌, codes, Option, Some, None}
-use Rattle.std.specs.Option.{option_map, option_and_then}
+use Rattle.std.specs.Option.{option_map, option_and_then, option_or}
 use Rattle.std.specs.Str.{bytes_eq}
 use Rattle.iobufs_words.specs.Words.{words_of}
 use Rattle.iobufs_lines.specs.declared.line.Verb.{Verb}
@@ -12,38 +13,47 @@ use Rattle.iobufs_lines.specs.declared.line.Verb.TheVariants as verb
 use Rattle.iobufs_lines.specs.Commands.{Command, NewMut, Zeroed, Adopt, Static, FromBytes, Put, SetLen, Truncate, Clear, Overwrite, Freeze, Recover, Clone, Split, Advance, Take, Gather, GatherMut, Append, Prepend, Coalesce, Encode, Decode, Drop, Show}
 use Rattle.iobufs_lines.specs.Shapes.{one_of, two_of, three_of, four_of, bytes_for_of, numbers_for_of, fill_of, slice_of, letters_of, build_of}
 
--- what a first word asks for
-abbrev pub verb_of : List ℕ → Option Verb
-verb_of word =
+-- of the words that put something under a name
+abbrev pub making_of : List ℕ → Option Verb
+making_of word =
     if bytes_eq word (codes "new") then Some verb.New
     else if bytes_eq word (codes "zeroed") then Some verb.Zeroed
     else if bytes_eq word (codes "adopt") then Some verb.Adopt
     else if bytes_eq word (codes "static") then Some verb.Static
     else if bytes_eq word (codes "bytes") then Some verb.Bytes
-    else if bytes_eq word (codes "put") then Some verb.Put
-    else if bytes_eq word (codes "fill") then Some verb.Fill
-    else if bytes_eq word (codes "setlen") then Some verb.SetLen
-    else if bytes_eq word (codes "truncate") then Some verb.Truncate
-    else if bytes_eq word (codes "clear") then Some verb.Clear
-    else if bytes_eq word (codes "overwrite") then Some verb.Overwrite
     else if bytes_eq word (codes "freeze") then Some verb.Freeze
     else if bytes_eq word (codes "recover") then Some verb.Recover
     else if bytes_eq word (codes "clone") then Some verb.Clone
     else if bytes_eq word (codes "slice") then Some verb.Slice
     else if bytes_eq word (codes "split") then Some verb.Split
-    else if bytes_eq word (codes "advance") then Some verb.Advance
-    else if bytes_eq word (codes "take") then Some verb.Take
     else if bytes_eq word (codes "gather") then Some verb.Gather
     else if bytes_eq word (codes "gathermut") then Some verb.GatherMut
-    else if bytes_eq word (codes "append") then Some verb.Append
-    else if bytes_eq word (codes "prepend") then Some verb.Prepend
     else if bytes_eq word (codes "coalesce") then Some verb.Coalesce
     else if bytes_eq word (codes "build") then Some verb.Build
     else if bytes_eq word (codes "encode") then Some verb.Encode
     else if bytes_eq word (codes "decode") then Some verb.Decode
+    else None
+
+-- of the words that act on what a name holds
+abbrev pub acting_of : List ℕ → Option Verb
+acting_of word =
+    if bytes_eq word (codes "put") then Some verb.Put
+    else if bytes_eq word (codes "fill") then Some verb.Fill
+    else if bytes_eq word (codes "setlen") then Some verb.SetLen
+    else if bytes_eq word (codes "truncate") then Some verb.Truncate
+    else if bytes_eq word (codes "clear") then Some verb.Clear
+    else if bytes_eq word (codes "overwrite") then Some verb.Overwrite
+    else if bytes_eq word (codes "advance") then Some verb.Advance
+    else if bytes_eq word (codes "take") then Some verb.Take
+    else if bytes_eq word (codes "append") then Some verb.Append
+    else if bytes_eq word (codes "prepend") then Some verb.Prepend
     else if bytes_eq word (codes "drop") then Some verb.Drop
     else if bytes_eq word (codes "show") then Some verb.Show
     else None
+
+-- what a first word asks for
+abbrev pub verb_of : List ℕ → Option Verb
+verb_of word = option_or (making_of word) (acting_of word)
 
 -- a view of some letters
 abbrev pub static_of : List (List ℕ) → Option Command

@@ -1,7 +1,7 @@
 // The command that a line says.
 ghost use Rattle.std.specs.Prelude.{◌≡◌, ◌⊎◌, ℕ, List, Some, None, IfOk, IfErr};
 ghost use Rattle.iobufs_lines.specs.Commands.{Command, plain};
-ghost use Rattle.iobufs_lines.specs.Said.{command_of, said_by, static_of, verb_of};
+ghost use Rattle.iobufs_lines.specs.Said.{acting_of, command_of, making_of, said_by, static_of, verb_of};
 ghost use Rattle.iobufs_lines.specs.Spelled.{Fits, IsLineOf, line_of_command};
 
 use crate::shapes::{build, bytes_for, fill, four, numbers_for, one, slice, three, two};
@@ -65,33 +65,49 @@ pub fn command(alloc: Global, line: &str) -> Result<Cmd, LineError>
 fn verb_named(word: &str) -> Option<Verb>
     ensures { result ≡ verb_of word.now }
 {
+    making_named(word).or_else(|| acting_named(word))
+}
+
+// Of the words that put something under a name.
+fn making_named(word: &str) -> Option<Verb>
+    ensures { result ≡ making_of word.now }
+{
     match word.as_bytes() {
         b"new" => Some(Verb::New),
         b"zeroed" => Some(Verb::Zeroed),
         b"adopt" => Some(Verb::Adopt),
         b"static" => Some(Verb::Static),
         b"bytes" => Some(Verb::Bytes),
+        b"freeze" => Some(Verb::Freeze),
+        b"recover" => Some(Verb::Recover),
+        b"clone" => Some(Verb::Clone),
+        b"slice" => Some(Verb::Slice),
+        b"split" => Some(Verb::Split),
+        b"gather" => Some(Verb::Gather),
+        b"gathermut" => Some(Verb::GatherMut),
+        b"coalesce" => Some(Verb::Coalesce),
+        b"build" => Some(Verb::Build),
+        b"encode" => Some(Verb::Encode),
+        b"decode" => Some(Verb::Decode),
+        _ => None,
+    }
+}
+
+// Of the words that act on what a name holds.
+fn acting_named(word: &str) -> Option<Verb>
+    ensures { result ≡ acting_of word.now }
+{
+    match word.as_bytes() {
         b"put" => Some(Verb::Put),
         b"fill" => Some(Verb::Fill),
         b"setlen" => Some(Verb::SetLen),
         b"truncate" => Some(Verb::Truncate),
         b"clear" => Some(Verb::Clear),
         b"overwrite" => Some(Verb::Overwrite),
-        b"freeze" => Some(Verb::Freeze),
-        b"recover" => Some(Verb::Recover),
-        b"clone" => Some(Verb::Clone),
-        b"slice" => Some(Verb::Slice),
-        b"split" => Some(Verb::Split),
         b"advance" => Some(Verb::Advance),
         b"take" => Some(Verb::Take),
-        b"gather" => Some(Verb::Gather),
-        b"gathermut" => Some(Verb::GatherMut),
         b"append" => Some(Verb::Append),
         b"prepend" => Some(Verb::Prepend),
-        b"coalesce" => Some(Verb::Coalesce),
-        b"build" => Some(Verb::Build),
-        b"encode" => Some(Verb::Encode),
-        b"decode" => Some(Verb::Decode),
         b"drop" => Some(Verb::Drop),
         b"show" => Some(Verb::Show),
         _ => None,

@@ -1,6 +1,6 @@
 use Rattle.std.proofs.Common.{◌≡◌, codes, refl, arith, sym, ◌∙◌}
 use Rattle.std.proofs.lemmas.Slice.Eq.{text_from_reads}
-use Rattle.iobufs_lines.proofs.line.verb_named.Goals as goal
+use Rattle.iobufs_lines.proofs.line.making_named.Goals as goal
 
 pub returns-in-adopt : goal.returns-in-adopt
 returns-in-adopt c =
@@ -18,12 +18,6 @@ pub returns-in-build : goal.returns-in-build
 returns-in-build c =
     let word : c.args.word.now ≡ codes "build" = sym c.as_bytes.ensures.value
     ∙ text_from_reads c.as_bytes.result.now (codes "build") (omega arith) (omega arith, (omega arith, (omega arith, (omega arith, (omega arith, tt))))) in
-    rw word refl
-
-pub returns-in-clear : goal.returns-in-clear
-returns-in-clear c =
-    let word : c.args.word.now ≡ codes "clear" = sym c.as_bytes.ensures.value
-    ∙ text_from_reads c.as_bytes.result.now (codes "clear") (omega arith) (omega arith, (omega arith, (omega arith, (omega arith, (omega arith, tt))))) in
     rw word refl
 
 pub returns-in-clone : goal.returns-in-clone
@@ -58,13 +52,6 @@ returns-in-static c =
     (omega arith, (omega arith, (omega arith, (omega arith, (omega arith, (omega arith, tt)))))) in
     rw word refl
 
-pub returns-in-setlen : goal.returns-in-setlen
-returns-in-setlen c =
-    let word : c.args.word.now ≡ codes "setlen" = sym c.as_bytes.ensures.value
-    ∙ text_from_reads c.as_bytes.result.now (codes "setlen") (omega arith)
-    (omega arith, (omega arith, (omega arith, (omega arith, (omega arith, (omega arith, tt)))))) in
-    rw word refl
-
 pub returns-in-freeze : goal.returns-in-freeze
 returns-in-freeze c =
     let word : c.args.word.now ≡ codes "freeze" = sym c.as_bytes.ensures.value
@@ -76,13 +63,6 @@ pub returns-in-gather : goal.returns-in-gather
 returns-in-gather c =
     let word : c.args.word.now ≡ codes "gather" = sym c.as_bytes.ensures.value
     ∙ text_from_reads c.as_bytes.result.now (codes "gather") (omega arith)
-    (omega arith, (omega arith, (omega arith, (omega arith, (omega arith, (omega arith, tt)))))) in
-    rw word refl
-
-pub returns-in-append : goal.returns-in-append
-returns-in-append c =
-    let word : c.args.word.now ≡ codes "append" = sym c.as_bytes.ensures.value
-    ∙ text_from_reads c.as_bytes.result.now (codes "append") (omega arith)
     (omega arith, (omega arith, (omega arith, (omega arith, (omega arith, (omega arith, tt)))))) in
     rw word refl
 
@@ -107,39 +87,11 @@ returns-in-recover c =
     (omega arith, (omega arith, (omega arith, (omega arith, (omega arith, (omega arith, (omega arith, tt))))))) in
     rw word refl
 
-pub returns-in-advance : goal.returns-in-advance
-returns-in-advance c =
-    let word : c.args.word.now ≡ codes "advance" = sym c.as_bytes.ensures.value
-    ∙ text_from_reads c.as_bytes.result.now (codes "advance") (omega arith)
-    (omega arith, (omega arith, (omega arith, (omega arith, (omega arith, (omega arith, (omega arith, tt))))))) in
-    rw word refl
-
-pub returns-in-prepend : goal.returns-in-prepend
-returns-in-prepend c =
-    let word : c.args.word.now ≡ codes "prepend" = sym c.as_bytes.ensures.value
-    ∙ text_from_reads c.as_bytes.result.now (codes "prepend") (omega arith)
-    (omega arith, (omega arith, (omega arith, (omega arith, (omega arith, (omega arith, (omega arith, tt))))))) in
-    rw word refl
-
-pub returns-in-truncate : goal.returns-in-truncate
-returns-in-truncate c =
-    let word : c.args.word.now ≡ codes "truncate" = sym c.as_bytes.ensures.value
-    ∙ text_from_reads c.as_bytes.result.now (codes "truncate") (omega arith)
-    (omega arith, (omega arith, (omega arith, (omega arith, (omega arith, (omega arith, (omega arith, (omega arith, tt)))))))) in
-    rw word refl
-
 pub returns-in-coalesce : goal.returns-in-coalesce
 returns-in-coalesce c =
     let word : c.args.word.now ≡ codes "coalesce" = sym c.as_bytes.ensures.value
     ∙ text_from_reads c.as_bytes.result.now (codes "coalesce") (omega arith)
     (omega arith, (omega arith, (omega arith, (omega arith, (omega arith, (omega arith, (omega arith, (omega arith, tt)))))))) in
-    rw word refl
-
-pub returns-in-overwrite : goal.returns-in-overwrite
-returns-in-overwrite c =
-    let word : c.args.word.now ≡ codes "overwrite" = sym c.as_bytes.ensures.value
-    ∙ text_from_reads c.as_bytes.result.now (codes "overwrite") (omega arith)
-    (omega arith, (omega arith, (omega arith, (omega arith, (omega arith, (omega arith, (omega arith, (omega arith, (omega arith, tt))))))))) in
     rw word refl
 
 pub returns-in-gathermut : goal.returns-in-gathermut
