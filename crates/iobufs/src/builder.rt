@@ -1,7 +1,6 @@
 // Encoded bytes and existing buffers, put together as one text.
-ghost use Rattle.std.specs.Prelude.{◌≡◌, ◌+◌, ◌<◌, ◌≤◌, ◌^◌, [], length, Err, IfErr, IsErrAnd, IfOk, IsOk, IsOkUnless, OnErr, OnOk};
+ghost use Rattle.std.specs.Prelude.{◌≡◌, ◌+◌, ◌<◌, ◌≤◌, ◌^◌, [], length, Err, IfErr, IsErrAnd, IfOk, IsOk, IsOkUnless, OnOk};
 ghost use Rattle.iobufs_core.specs.Items.{items_inline};
-ghost use Rattle.iobufs_core.specs.View.{View};
 ghost use Rattle.iobufs.specs.Building.{IsBuilding, building_items, building_room, building_after, empty_building, finished};
 
 use crate::bufs::IoBufs;

@@ -61,14 +61,14 @@ pub fn command(alloc: Global, line: &str) -> Result<Cmd, LineError>
     }
 }
 
-// What a first word asks for, if it is one of those that do.
+// What the first word of a line asks for, if it is a command.
 fn verb_named(word: &str) -> Option<Verb>
     ensures { result ≡ verb_of word.now }
 {
     making_named(word).or_else(|| acting_named(word))
 }
 
-// Of the words that put something under a name.
+// What a word asks for, if it is one of those that put something under a name.
 fn making_named(word: &str) -> Option<Verb>
     ensures { result ≡ making_of word.now }
 {
@@ -93,7 +93,7 @@ fn making_named(word: &str) -> Option<Verb>
     }
 }
 
-// Of the words that act on what a name holds.
+// What a word asks for, if it is one of those that act on what a name holds.
 fn acting_named(word: &str) -> Option<Verb>
     ensures { result ≡ acting_of word.now }
 {

@@ -1,5 +1,5 @@
 //! Sessions with the owner machine: each answer as it is written, and laws over lines.
-ghost use Rattle.std.specs.Prelude.{◌≡◌, ℕ, ◌<◌, ◌≤◌, ◌^◌, ◌++◌, List, map, codes, Some, IsOk, IfOk, IfErr, OnOk, IfSome};
+ghost use Rattle.std.specs.Prelude.{◌≡◌, ℕ, ◌<◌, ◌≤◌, ◌^◌, ◌++◌, List, map, Some, IsOk, IfOk, IfErr, OnOk, IfSome};
 ghost use Rattle.iobufs_core.specs.declared.codec.base.BufError.TheVariants.{Memory};
 ghost use Rattle.iobufs_owner.specs.State.{Seen};
 ghost use Rattle.iobufs_owner.specs.Promises.{Promises};

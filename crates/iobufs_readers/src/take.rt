@@ -1,5 +1,5 @@
 // The first bytes of a reader.
-ghost use Rattle.std.specs.Prelude.{◌≡◌, ◌≤◌, [], length, map, IfOk, IsOk, IsOkUnless};
+ghost use Rattle.std.specs.Prelude.{◌≡◌, [], length, map, IfOk, IsOk, IsOkUnless};
 ghost use Rattle.iobufs_readers.specs.Cut.{first_chunks};
 
 use bytes::Bytes;

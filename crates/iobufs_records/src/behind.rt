@@ -1,5 +1,5 @@
 // Records behind a place where none stands.
-ghost use Rattle.std.specs.Prelude.{◌≡◌, ℕ, ◌+◌, ◌^◌, ◌<◌, ◌≤◌, ◌++◌, ◌↔◌, nat_lt, length, take, IfNone, IfOk, IfSome, IsOkUnless, IsTrue, OnOk};
+ghost use Rattle.std.specs.Prelude.{◌≡◌, ◌+◌, ◌<◌, ◌≤◌, ◌++◌, ◌↔◌, nat_lt, length, take, IfNone, IfOk, IfSome, IsOkUnless, IsTrue, OnOk};
 ghost use Rattle.std.specs.Int.{w64, from_be_bytes};
 ghost use Rattle.iobufs_uses.specs.Journal.{record_written};
 ghost use Rattle.iobufs_records.specs.Behind.{ArePrinted, IsEnough, IsHeld, IsNear, IsSkipped, IsSought, StandsInFront};

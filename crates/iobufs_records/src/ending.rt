@@ -1,5 +1,5 @@
 // How a journal ends, read to its end.
-ghost use Rattle.std.specs.Prelude.{◌≡◌, ◌++◌, nat_lt, if◌then◌else◌, codes, IfOk, IfSome};
+ghost use Rattle.std.specs.Prelude.{◌≡◌, ◌++◌, nat_lt, if◌then◌else◌, IfOk, IfSome};
 ghost use Rattle.iobufs_uses.specs.declared.journal.End.TheVariants.{Damaged};
 ghost use Rattle.iobufs_records.specs.Ending.{AreFurtherPrinted, HasEnding, IsChecked, IsReplayed, end_words, repair_of, status_of};
 

@@ -1,6 +1,6 @@
 // Lines that become the records of a journal.
-ghost use Rattle.std.specs.Prelude.{◌≡◌, ℕ, ◌+◌, ◌^◌, ◌<◌, ◌≤◌, ◌++◌, List, [], ◌∷◌, length, IfErr, IfNone, IfOk, IfSome, OnOk};
-ghost use Rattle.std.specs.Io.KnownBytes.{Appends, Consumes, IsAtEnd};
+ghost use Rattle.std.specs.Prelude.{◌≡◌, ◌+◌, ◌^◌, ◌<◌, ◌≤◌, [], length, IfNone, IfOk, IfSome, OnOk};
+ghost use Rattle.std.specs.Io.KnownBytes.{Appends};
 ghost use Rattle.iobufs_core.specs.Part.{part_capacity, part_put};
 ghost use Rattle.iobufs_uses.specs.Journal.{record_written};
 ghost use Rattle.iobufs_records.specs.Lines.{HasNoEnd, IsAppended, IsEnded, IsFinished, IsLine, IsPut, TakesAll, TakesLines};

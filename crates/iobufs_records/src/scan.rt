@@ -1,10 +1,10 @@
 // A journal that is read from its front, piece by piece.
-ghost use Rattle.std.specs.Prelude.{◌≡◌, ◌≢◌, ℕ, ◌+◌, ◌^◌, ◌<◌, ◌≤◌, ◌++◌, List, [], ◌∷◌, length, take, IfErr, IfOk, IfSome, OnOk, vec_len};
+ghost use Rattle.std.specs.Prelude.{◌≡◌, ◌≢◌, ◌+◌, ◌^◌, ◌<◌, ◌≤◌, ◌++◌, [], ◌∷◌, length, take, IfErr, IfOk, IfSome, OnOk, vec_len};
 ghost use Rattle.std.specs.IoError.{error_kind};
 ghost use Rattle.std.specs.declared.io.ErrorKind.TheVariants.{FileTooLarge, Interrupted};
 ghost use Rattle.std.specs.Io.KnownBytes.{Appends, Consumes, IsAtEnd};
 ghost use Rattle.iobufs_uses.specs.Journal.{HasNoRecord, record_written};
-ghost use Rattle.iobufs_records.specs.Scan.{IsFilled, IsLeft, IsNext, IsPrinted, IsRead};
+ghost use Rattle.iobufs_records.specs.Scan.{IsFilled, IsLeft, IsNext, IsPrinted};
 
 use crate::front::{Found, front_record};
 use iobufs_core::buf::IoBuf;

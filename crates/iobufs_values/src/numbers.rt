@@ -1,5 +1,5 @@
 // Numbers of a fixed size, and lengths.
-ghost use Rattle.std.specs.Prelude.{◌≡◌, ◌^◌, ◌<◌, ℕ, [], ◌∷◌, drop, true, Ok, Err};
+ghost use Rattle.std.specs.Prelude.{◌≡◌, ◌^◌, ◌<◌, [], ◌∷◌, drop, true, Ok, Err};
 ghost use Rattle.std.specs.Int.{w16, w32, w64, w128, to_be_bytes};
 ghost use Rattle.iobufs_core.specs.Wire.{IsNumberRead};
 ghost use Rattle.iobufs_values.specs.Form.{IsCodecFault};

@@ -1,5 +1,5 @@
 // Signed numbers, as the number of their bits.
-ghost use Rattle.std.specs.Prelude.{◌≡◌, ℕ, [], ◌∷◌, drop, Err};
+ghost use Rattle.std.specs.Prelude.{◌≡◌, [], ◌∷◌, drop, Err};
 ghost use Rattle.std.specs.Int.{cast_unsigned, to_be_bytes, w8, w16, w32, w64, w128};
 ghost use Rattle.std.specs.Int.RustNames.{FitsSigned};
 ghost use Rattle.iobufs_core.specs.Wire.{IsNumberRead};

@@ -2,7 +2,6 @@
 ghost use Rattle.std.specs.Arc.{arc_value};
 ghost use Rattle.std.specs.Prelude.{◌≡◌, ◌≤◌, ◌+◌, ◌-◌, length, drop, vec_len, vec_capacity, IfOk, MatchOption, MatchResult};
 ghost use Rattle.iobufs_core.specs.Native.{native_advanced, native_cut};
-ghost use Rattle.iobufs_core.specs.Part.{Part};
 
 use super::IoBufMut;
 use bytes::Bytes;

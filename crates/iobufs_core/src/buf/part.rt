@@ -1,8 +1,7 @@
 // A buffer of fixed capacity, to be written.
-ghost use Rattle.std.specs.Prelude.{◌≡◌, ◌+◌, ◌-◌, ◌<◌, ◌≤◌, ◌==◌, [], ◌∷◌, length, take, drop, replicate, OnOk, OnErr, vec_len, vec_capacity, false, IfOk, IsOk, IsOkUnless, IsTrue, ◌↔◌, MatchResult};
+ghost use Rattle.std.specs.Prelude.{◌≡◌, ◌+◌, ◌-◌, ◌<◌, ◌≤◌, ◌==◌, [], ◌∷◌, length, drop, replicate, vec_len, vec_capacity, false, IfOk, IsOk, IsOkUnless, IsTrue, ◌↔◌};
 ghost use Rattle.std.specs.Align.{IsLayout};
-ghost use Rattle.iobufs_core.specs.Part.{empty_part, is_bad_layout as bad_layout, part_capacity, part_copied, part_drained, part_frozen, part_overwritten, part_put, part_with_len, part_truncated};
-ghost use Rattle.iobufs_core.specs.Recovery.{IsPartOf};
+ghost use Rattle.iobufs_core.specs.Part.{empty_part, is_bad_layout as bad_layout, part_capacity, part_copied, part_drained, part_overwritten, part_put, part_with_len, part_truncated};
 ghost use Rattle.std.specs.Borrow.{Lends, Array, sem, u8 as byte};
 ghost use Rattle.iobufs_core.specs.contracts.buf.part.IoBufMut.{the_row};
 

@@ -1,6 +1,6 @@
 // A text of one piece that is read and shared.
-ghost use Rattle.std.specs.Prelude.{◌≡◌, ◌≤◌, ◌-◌, ◌⊎◌, ◌==◌, if◌then◌else◌, [], ◌∷◌, length, take, IsTrue, IfOk, IfErr, OnOk, OnErr, IsOk, IsOkUnless, MatchResult};
-ghost use Rattle.iobufs_core.specs.View.{HasRoom, IsView, default_view, view_advanced, view_front, view_of_bytes, view_rest, view_slice, view_split_front, start_place, end_place, range_fits, static_mark, bytes_mark, native_mark};
+ghost use Rattle.std.specs.Prelude.{◌≡◌, ◌≤◌, ◌-◌, ◌==◌, if◌then◌else◌, [], ◌∷◌, length, take, IsTrue, IfOk, OnOk, OnErr, IsOk, IsOkUnless, MatchResult};
+ghost use Rattle.iobufs_core.specs.View.{IsView, default_view, view_advanced, view_front, view_of_bytes, view_rest, view_slice, view_split_front, start_place, end_place, range_fits, static_mark, bytes_mark, native_mark};
 ghost use Rattle.iobufs_core.specs.Recovery.{IsAdopted, IsRecovery};
 
 use super::IoBufMut;

@@ -1,5 +1,5 @@
 // The trait to read bytes from the front.
-ghost use Rattle.std.specs.Prelude.{◌≡◌, ℕ, ◌≤◌, ◌<◌, ◌↔◌, List, [], ◌∷◌, map, length, take, drop, slice_get, IsTrue, IfOk, IfErr, OnOk, OnErr, IsErr, IsOk, IsOkUnless};
+ghost use Rattle.std.specs.Prelude.{◌≡◌, ℕ, ◌≤◌, ◌<◌, ◌↔◌, List, [], map, length, take, drop, slice_get, IsTrue, IfOk, IfErr, OnOk, OnErr, IsErr, IsOk, IsOkUnless};
 ghost use Rattle.std.specs.List.{flat_map};
 ghost use Rattle.iobufs_core.specs.Chunks.{IsChunkOf, first_chunk, full_chunks};
 

@@ -1,5 +1,5 @@
 // Lengths, as they are spelled: seven bits a byte, lowest first.
-ghost use Rattle.std.specs.Prelude.{◌≡◌, ℕ, ◌+◌, ◌/◌, ◌%◌, ◌^◌, ◌<◌, ◌≤◌, ◌∷◌, ◌++◌, [], List, length, take, drop, slice_get, Some, Ok, Err, IfOk, IfErr};
+ghost use Rattle.std.specs.Prelude.{◌≡◌, ℕ, ◌+◌, ◌/◌, ◌%◌, ◌<◌, ◌≤◌, ◌∷◌, ◌++◌, [], List, length, take, drop, slice_get, Some, Ok, Err, IfOk, IfErr};
 ghost use Rattle.iobufs_core.specs.Spelling.{IsSpelledAt, spell};
 ghost use Rattle.iobufs_core.specs.Wire.{IsLengthRead, IsNoLength};
 

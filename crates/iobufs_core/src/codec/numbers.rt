@@ -1,5 +1,5 @@
 // Numbers as values of a fixed size, the highest byte first.
-ghost use Rattle.std.specs.Prelude.{◌≡◌, ◌^◌, ◌<◌, ℕ, [], ◌∷◌};
+ghost use Rattle.std.specs.Prelude.{◌≡◌, ◌^◌, ◌<◌, [], ◌∷◌};
 ghost use Rattle.std.specs.Int.{w16, w32, w64, w128, to_be_bytes};
 ghost use Rattle.iobufs_core.specs.Dropping.{by_advance};
 ghost use Rattle.iobufs_core.specs.Items.{put_item};

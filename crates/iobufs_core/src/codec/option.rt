@@ -1,5 +1,5 @@
 // A truth as one byte, and a value that is there or not, behind such a byte.
-ghost use Rattle.std.specs.Prelude.{◌≡◌, [], ◌∷◌};
+ghost use Rattle.std.specs.Prelude.{[], ◌∷◌};
 
 use super::{BufMut, BufsMut, EncodeSize, Error, Write};
 

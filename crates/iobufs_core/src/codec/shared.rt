@@ -97,7 +97,7 @@ impl Codec for Bytes {
 
     ghost use Rattle.iobufs_core.specs.CodecLaws.{bytes_one, bytes_front, one_drop};
     ghost use Rattle.iobufs_core.specs.Wire.{bytes_written};
-    ghost use Rattle.std.proofs.Common.{ap, refl};
+    ghost use Rattle.std.proofs.Common.{ap};
 
     ghost same_written = { λ x y e. ap bytes_written e };
 

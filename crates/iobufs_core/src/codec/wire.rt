@@ -209,7 +209,7 @@ impl Codec for usize {
 
     ghost use Rattle.iobufs_core.specs.CodecLaws.{length_front, one_drop};
     ghost use Rattle.iobufs_core.specs.Spelled.{spell_begins};
-    ghost use Rattle.std.proofs.Common.{ap, refl};
+    ghost use Rattle.std.proofs.Common.{ap};
 
     ghost same_written = { λ m n e. ap spell e };
 
@@ -304,7 +304,6 @@ impl Codec for IoBuf {
 
     ghost use Rattle.iobufs_core.specs.CodecLaws.{bytes_one, same_view, view_in_front, one_drop};
     ghost use Rattle.iobufs_core.specs.Wire.{view_written};
-    ghost use Rattle.std.proofs.Common.{refl};
 
     ghost same_written = { same_view };
 

@@ -1,5 +1,5 @@
 //! Calls that make blocks and handles.
-ghost use Rattle.std.specs.Prelude.{◌≡◌, ℕ, ◌+◌, ◌^◌, ◌<◌, ◌≤◌, ◌∷◌, [], ◌++◌, length, vec_len, vec_capacity, OnOk, All, true, false};
+ghost use Rattle.std.specs.Prelude.{◌≡◌, ◌+◌, ◌^◌, ◌<◌, [], All, true, false};
 ghost use Rattle.iobufs_owner.specs.declared.owner.types.Kind.TheVariants.{Mut};
 ghost use Rattle.iobufs_owner.specs.declared.owner.types.Word.TheVariants.{Record as Counted};
 ghost use Rattle.iobufs_owner.specs.Changes.{Outcome, made, detached_handle, next_record};
