@@ -1,4 +1,4 @@
-//! Buffers of several pieces: texts to be read, parts to be filled, and a builder of texts.
+//! Buffers of several chunks, and the builder.
 //!
 //! - `bufs`: `IoBufs`, with its traits. Its calls go through `pieces` (one piece or a row) to `row`, a deque that alone
 //!   knows where pieces end, by `search`.

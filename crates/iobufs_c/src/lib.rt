@@ -1,4 +1,4 @@
-//! The buffers for C and for Rust: a static library over `iobufs_core`, `iobufs` and `iobufs_frames`.
+//! The static library for C and Rust.
 //!
 //! A buffer lies in memory of the caller, and is reached by its place (`ViewAt`, `PartAt`, ..): a pointer, with the
 //! buffer's value as a ghost. `init` makes a buffer of memory, `get` lends the one at a place. What a call asks of ranges

@@ -1,4 +1,4 @@
-//! Where blocks lie: which of them is the last before an address, in a table that is asked for its memory beforehand.
+//! A search tree of block addresses, whose space is reserved before use.
 #![tactic(auto)]
 
 ghost use Rattle.std.specs.Prelude.{◌≡◌, ◌≢◌, ℕ, ◌+◌, ◌-◌, ◌<◌, ◌≤◌, ◌||◌, nat_lt, nat_le, [], ◌∷◌, ◌++◌, All, None, Some, length, OnOk, OnErr, IfSome, IsOk};

@@ -1,4 +1,4 @@
-// Each request for memory refused in turn. `tests/refuse` at the top of the repository runs these tests with the first
+// Tests in which each allocation fails in turn. `tests/refuse` at the top of the repository runs these tests with the first
 // request refused, then with the second, and so on. Each makes a fixture, makes one call, and prints which of the two
 // the refusal hit: `fixture`, `refused` or, where it hit neither, `whole`. A refused call has to answer want of memory,
 // to leave what it was lent as it was, and to give when it is made again what it gives without a refusal.

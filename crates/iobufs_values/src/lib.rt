@@ -1,4 +1,4 @@
-//! Whole values: what is made of several is read whole or not at all, since reading looks before it takes.
+//! Values of several fields that are read whole or not at all.
 //!
 //! - `gets`: numbers out of the front of any reader.
 //! - `look`: the trait `Look`, with `read_whole` and `decode_cfg` over it. `fault`: why a value is not found.

@@ -17,11 +17,13 @@ pub enum Request {
     Sync(u64),
 }
 
+// [docs: request_parts]
 /// What a request is made of: each kind stands behind its byte.
 pub type RequestParts = Either<
     Kind<0, (IoBuf, u32)>,
     Either<Kind<1, (IoBuf, IoBuf)>, Kind<2, u64>>,
 >;
+// [docs end]
 
 impl ByParts for Request {
     type Parts = RequestParts;

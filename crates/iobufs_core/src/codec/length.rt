@@ -153,7 +153,7 @@ pub(super) fn length_in<B: Buf>(buf: &B, range: &RangeCfg) -> Result<Spelled, Er
     length_behind(buf, 0, range)
 }
 
-/// The length that stands behind the first `skip` bytes, and how many bytes spell it.
+/// Reads the varint after the first `skip` bytes, and returns it with its number of bytes (own). All bytes stay.
 pub fn peek_length<B: Buf>(buf: &B, skip: usize, range: &RangeCfg) -> Result<(usize, usize), Error>
     requires { skip ≤ length (B.text buf.now) }
     ensures ok { IfOk result (λ s. IsLengthRead (drop skip (B.text buf.now)) range.now (Ok s.0)) }
@@ -165,9 +165,8 @@ pub fn peek_length<B: Buf>(buf: &B, skip: usize, range: &RangeCfg) -> Result<(us
     Ok((found.value, found.len))
 }
 
-/// Does nothing. Its contract is two laws of spelling. A length below 128 is spelled by itself, a larger one by its low
-/// seven bits with the top bit set, and then the rest. And the spelling of a length begins the spelling of no other, so
-/// what was written is read back whatever follows.
+/// Does nothing (own). Its contract is two laws of varints. A length below 128 is one byte; a larger one is its low
+/// seven bits with the top bit set, and then the rest. No varint is a prefix of another.
 pub fn spelling_law(n: usize, m: usize)
     ensures last { n < 128 → spell n ≡ n ∷ [] }
     ensures more { 128 ≤ n → spell n ≡ (128 + n % 128) ∷ spell (n / 128) }
