@@ -228,7 +228,7 @@ impl IoBufs {
         self.append_any(alloc, piece)
     }
 
-    // The same of any text and any buffer.
+    // Adds any buffer at the end of any `IoBufs`.
     #[inline(never)]
     fn append_any(&mut self, alloc: Global, piece: IoBuf) -> Result<(), Refused<IoBuf>>
         ensures done { OnOk result (self.new ≡ text_append self.old piece) }
@@ -283,7 +283,7 @@ impl IoBufs {
         self.prepend_any(alloc, piece)
     }
 
-    // The same of any text and any buffer.
+    // Adds any buffer at the start of any `IoBufs`.
     #[inline(never)]
     fn prepend_any(&mut self, alloc: Global, piece: IoBuf) -> Result<(), Refused<IoBuf>>
         ensures done { OnOk result (self.new ≡ text_prepend self.old piece) }
@@ -787,7 +787,7 @@ impl IoBufs {
         Ok(made)
     }
 
-    // The same, where the first piece doesn't hold all of them: apart, so that no view is moved for both.
+    // Takes bytes that the first chunk doesn't hold: a function of its own, so that no view is moved for both.
     #[inline(never)]
     fn take_behind<T: OwnedBytes>(
         &mut self,

@@ -30,7 +30,7 @@ impl Place {
         }
     }
 
-    /// The same place with a next one on the side of a base.
+    /// Returns the node with a next one on the side of a base.
     fn opened(self, base: u64, next: usize) -> Place
         ensures { result ≡ opened self base next }
     {

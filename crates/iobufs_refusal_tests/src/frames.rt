@@ -84,7 +84,7 @@ fn run(rt: HostRuntime) -> Result<(), Fail> {
     end(&rt, word, whole && run.stop == End::Open)
 }
 
-// The same frames behind lengths of two bytes.
+// Those frames with lengths of two bytes.
 const FIXED_PIECES: [&'static [u8]; 2] = [b"\0\x03ab", b"c\0\x01d"];
 
 const FIXED: Prefix = Prefix::Fixed(Width::U16, ByteOrder::Big);

@@ -28,7 +28,7 @@ macro_rules! lent {
     };
 }
 
-// The same for a call that consumes what the fixture makes, which is made once more then.
+// A call that consumes what the fixture makes; the fixture is then made once more.
 macro_rules! consumed {
     ($rt:expr, $made:expr => $name:ident, $call:expr, $memory:pat) => {{
         let $name = fixture!($rt, $made);

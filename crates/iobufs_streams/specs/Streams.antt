@@ -107,8 +107,8 @@ pub record TakesFrame (prefix : Prefix) (range : RangeCfg) (had has : Option (Li
   pub needed : IsNeeded prefix range old read
   pub front : IsFront prefix range has (old ++ read) result new
 
--- The same of the frames of the whole stream: the first is taken, and the others are left; where there is none, the answer
--- is by the end. What else is refused leaves all of them.
+-- Of the frames of the whole stream the first is taken, and the others are left; if there is none, the end determines the
+-- result. Any other error leaves all of them.
 abbrev pub IsFirstOf : Prefix → RangeCfg → List (List ℕ) → End → List ℕ → Result (Option View) FrameError → List ℕ → Type 0
 IsFirstOf prefix range frames stop rest (Ok (Some body)) left = FirstTakenWith prefix range frames stop rest body.bytes left
 IsFirstOf prefix range frames stop rest (Ok None) left = (frames ≡ []) × (rest ≡ []) × (left ≡ [])

@@ -9,7 +9,7 @@ use std::test::Fail;
 
 const BYTES: [u8; 16] = *b"\x80\x01\x02\x03\x04\x05\x06\x07\x08\x09\x0a\x0b\x0c\x0d\x0e\x0f";
 
-// The same from behind.
+// Those bytes in reverse order.
 const TURNED: [u8; 16] = *b"\x0f\x0e\x0d\x0c\x0b\x0a\x09\x08\x07\x06\x05\x04\x03\x02\x01\x80";
 
 // The bytes from a place on, in pieces of three.

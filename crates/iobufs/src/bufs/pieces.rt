@@ -191,7 +191,7 @@ impl Pieces {
         }
     }
 
-    /// The same in front of the others.
+    /// Adds a chunk at the start.
     pub(super) fn push_front(
         &mut self,
         alloc: Global,
@@ -243,7 +243,7 @@ impl Pieces {
         }
     }
 
-    // The same where the first piece goes: apart, since what it needs costs at entry.
+    // Drops bytes of several chunks: a function of its own, since its locals cost at entry.
     #[inline(never)]
     fn drop_pieces(&mut self, n: usize)
         requires some { 0 < n }

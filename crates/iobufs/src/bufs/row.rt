@@ -369,7 +369,7 @@ impl Row {
         }
     }
 
-    /// Takes the first bytes, up to a place. Room is made for the side with fewer pieces.
+    /// Takes the first bytes, up to an offset. It allocates for the side with fewer chunks.
     pub(super) fn split_front(
         &mut self,
         alloc: Global,
@@ -388,7 +388,7 @@ impl Row {
         self.split_right(place, at)
     }
 
-    // With room for the pieces in front of the place.
+    // Reserves space for the chunks before the offset, cuts, and then moves them.
     fn split_left(&mut self, alloc: Global, place: Located, at: usize) -> Result<Row, BufError>
         requires place { IsPlace self.old.views at place.index place.offset }
         requires fits { place.index + 1 < 2 ^ 64 }
@@ -415,7 +415,7 @@ impl Row {
         })
     }
 
-    // The same, with room for the pieces from the place on. The room is made first.
+    // Moves the chunks from the offset on into a deque of their own; they move back if the cut fails.
     fn split_right(&mut self, place: Located, at: usize) -> Result<Row, BufError>
         requires place { IsPlace self.old.views at place.index place.offset }
         ensures answer { IfOk result (λ front. front.views ≡ left_pieces self.old.views at) }

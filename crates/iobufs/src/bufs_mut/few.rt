@@ -52,7 +52,7 @@ fn put_share<'a>(part: &mut IoBufMut, src: &'a [u8]) -> &'a [u8]
     &src[n..]
 }
 
-// The same with `n` times one byte: answers how often it is left.
+// Puts one byte up to `n` times, and returns how often it remains.
 fn put_bytes_share(part: &mut IoBufMut, value: u8, n: usize) -> usize
     ensures put { part.new ≡ part_put part.old (take part.old.spare (replicate n value)) }
     ensures left { result ≡ n - part.old.spare }

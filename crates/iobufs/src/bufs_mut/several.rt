@@ -356,7 +356,7 @@ fn put(parts: &mut VecDeque<IoBufMut>, src: &[u8])
     }
 }
 
-// The same with `n` times one byte.
+// Puts one byte `n` times into the buffers in order.
 fn put_bytes(parts: &mut VecDeque<IoBufMut>, value: u8, n: usize)
     requires { n ≤ parts_spare parts.old.items }
     ensures { parts.new.items ≡ parts_fill parts.old.items (replicate n value) }

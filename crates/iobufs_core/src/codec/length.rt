@@ -88,7 +88,7 @@ fn length_at<B: Buf>(buf: &B, skip: usize) -> Result<Spelled, Error>
     long_length_at(buf, skip, byte)
 }
 
-// The same behind a first byte that says that others follow: apart, since most lengths have one byte.
+// Reads on after a first byte that says that others follow: a function of its own, since most lengths have one byte.
 #[inline(never)]
 fn long_length_at<B: Buf>(buf: &B, skip: usize, first: u8) -> Result<Spelled, Error>
     requires within { skip ≤ length (B.text buf.now) }

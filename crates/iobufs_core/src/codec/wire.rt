@@ -108,7 +108,7 @@ pub trait Read: Sized {
 
     ghost dropping: { Self → List Dropping };
 
-    // The same value, wherever its bytes are kept.
+    // Two values are equal, wherever their bytes are kept.
     ghost same: { Self → Self → Type 0 };
 
     /// Reads a value from the front (`Read::read_cfg`). If it fails, `buf` is unchanged.
@@ -131,7 +131,7 @@ pub trait Codec: Write + Read {
     ghost gives_back: { (value : Self) (cfg : Self.Cfg) (text : MarkedText) (rest : List ℕ) (answer : Result Self AnyError) → admits cfg value
         → text.bytes ≡ Self.written value ++ rest → Self.is_read text cfg answer → IsReadBack Self.same value answer };
 
-    // The same value is written as the same bytes, and the bytes of a value begin those of no other.
+    // Equal values have the same encoding, and no encoding is a prefix of another value's.
     ghost same_written: { (x y : Self) → Self.same x y → Self.written x ≡ Self.written y };
 
     ghost no_front: { (x y : Self) (cfg other : Self.Cfg) (u v : List ℕ) → admits cfg x → admits other y → Self.written x ++ u ≡ Self.written y ++ v

@@ -128,7 +128,7 @@ fn fill_gap(piece: &mut Piece, rest: &mut IoBuf) -> Result<(), BufError>
     Ok(())
 }
 
-// The same, and tells where the piece ends behind so many bytes.
+// Fills a gap, and returns the end of the chunk after `start` bytes.
 fn fill_piece(piece: &mut Piece, rest: &mut IoBuf, start: u64) -> Result<u64, BufError>
     requires within { gap_len (segment_of piece.old) ≤ length rest.old.bytes }
     requires fits { start + segment_len (segment_of piece.old) < 2 ^ 64 }
