@@ -12,12 +12,12 @@ RULES = [
     ("negation", r"\bnever (?:for|refused|of|within|before|where|at)\b|\bnor\b|\bbut (?:for|that)\b|\bnone (?:is|of|where)\b|\bno (?:such|more|other)\b", 3),
     ("riddle", r"(?:^|[.;:|] )(?:What|The same|Likewise|So is|So does|So do|Of)\b", 0),
     ("word of place", PLACE, 2),
-    ("figure in prose", r"(?<![\w`^.])\d+[.,]\d+(?![\w`.])", 4),
+    ("figure in prose", r"(?<![\w`^.\-])\d+[.,]\d+(?![\w`.])", 4),
 ]
 # Words that a sentence may have, and words of a page and of all pages.
 LONGEST, MOST = 40, {"README.md": 800, "all": 16000}
 # Comments of the crates that begin so, and words of place in a thousand of theirs.
-FIRST, FIRST_MOST, PLACE_MOST = r"^\s*(?://[/!]?|--) (?:The same|And|Likewise)\b", 0, 12
+FIRST, FIRST_MOST, PLACE_MOST = r"(?i)^\s*(?://[/!]?|--) (?:the same|and|likewise)\b", 0, 18
 
 
 def sentences(text):

@@ -95,7 +95,7 @@ pub batch_bytes : {A : Type 0} (bytes_of : A → List ℕ) (slices : List A) (te
     → flat_map bytes_of slices ≡ flat_map (λ chunk. chunk) (take most (text_chunks text))
 batch_bytes bytes_of slices text most is = sym (flat_map-map (λ (chunk : List ℕ). chunk) bytes_of slices) ∙ ap (λ chunks. flat_map (λ chunk. chunk) chunks) is
 
--- and a front of the text
+-- the first bytes of a batch are a prefix of the bytes
 pub front_of_chunks : {A : Type 0} (bytes_of : A → List ℕ) (slices : List A) (text : MarkedText) (most n : ℕ)
     → map bytes_of slices ≡ take most (text_chunks text)
     → n ≤ length (flat_map bytes_of slices) → (n ≤ length text.bytes) × (take n (flat_map bytes_of slices) ≡ take n text.bytes)
@@ -240,7 +240,7 @@ stored_done had has parts old new text cut is frozen done =
     ∙ ap (λ (w : List ℕ). length w) (bytes-parts_frozen new ∙ all.0) in
     elim done [ inl full ↦ inl (omega (arith, long, all.1, full)) | inr ended ↦ inr ended ]
 
--- and hold nothing where they have no capacity
+-- buffers without capacity hold nothing after a store
 pub stored_none : (had has : Option (List ℕ)) (parts old new : List Part) → old ≡ parts_with_len parts 0 → IsStored had has old new → parts_capacity parts ≡ 0
     → length (parts_filled new) ≡ 0
 stored_none had has parts old new cut is none =

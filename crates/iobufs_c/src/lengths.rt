@@ -80,8 +80,8 @@ pub extern "C" fn iobufs_builder_put_length(builder: &mut BuilderAt, n: usize) -
     Status::Done.code()
 }
 
-/// Reads the length in front of a text, from `lo` to `hi`, and drops its spelling. A length outside is told too; but it
-/// and each fault leave the text.
+/// Reads the varint length at the front, from `lo` to `hi`, and drops it. A length outside is written to `out`; then,
+/// as after each error, the text is unchanged.
 #[unsafe(no_mangle)]
 pub extern "C" fn iobufs_read_length(
     alloc: Global,

@@ -39,7 +39,7 @@ pub bytes-rest : (text : MarkedText) (n : ℕ) → n ≤ length text.bytes → (
 unfolding text_right
 bytes-rest text n h = grind (arith, nat_tests, common_steps, drop_all)
 
--- and so does an advance
+-- an advance over the first n bytes leaves the others
 pub bytes-advanced : (text : MarkedText) (n : ℕ) → n ≤ length text.bytes → (text_advanced text n).bytes ≡ drop n text.bytes
 unfolding text_right
 bytes-advanced text n h = grind (arith, nat_tests, common_steps, drop_all)
@@ -160,7 +160,7 @@ inline-view view = omega (arith, length-spell (length view.bytes))
 pub bytes-part_frozen : (part : Part) → (part_frozen part).bytes ≡ part.filled
 bytes-part_frozen part = grind (arith, nat_tests, common_steps, nil_from_length)
 
--- and those of a slice
+-- the bytes of a slice are those of its range
 pub bytes-view_between : (view : View) (from to : ℕ) → from ≤ to → to ≤ length view.bytes → (view_between view from to).bytes ≡ drop from (take to view.bytes)
 bytes-view_between view from to order within = grind (arith, nat_tests, common_steps, length-take, drop_all)
 

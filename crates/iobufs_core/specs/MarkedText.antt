@@ -107,8 +107,8 @@ taken_view text skip n =
 unfoldable pub text_glue : MarkedText → MarkedText → MarkedText
 text_glue x y = record { bytes = x.bytes ++ y.bytes; mark = x.mark; cuts = x.cuts ++ (text_len x, y.mark) ∷ map (moved_up (text_len x)) y.cuts }
 
--- what stands when a buffer is put behind a text, or a text behind a buffer: adding an empty buffer changes nothing,
--- and adding to an empty text gives the buffer
+-- a buffer added at the end of a text, or at its start: an empty buffer changes nothing, an empty text becomes the
+-- buffer
 abbrev pub text_append : MarkedText → View → MarkedText
 text_append text view = if length view.bytes == 0 then text else if text_len text == 0 then of_view view else text_glue text (of_view view)
 

@@ -100,7 +100,7 @@ read_off text k n within small is =
     let len : length (spell n) ≡ k = ap length same ∙ length-take-le k text within in
     ((small, ap (λ m. take m text) len ∙ sym same), sym len)
 
--- and the other way
+-- bytes that begin with a varint have its spelling as a prefix
 pub spelled_front : (text : List ℕ) (n : ℕ) → IsSpelledAt text n → IsSpelling (take (length (spell n)) text) n
 spelled_front text n at = subst (λ xs. IsSpelling xs n) (sym at.1) (spelled n at.0)
 

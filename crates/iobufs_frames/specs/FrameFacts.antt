@@ -196,7 +196,7 @@ written-append prefix [] gs = refl
 written-append prefix (f ∷ fs) gs = ap (λ xs. frame_written prefix f ++ xs) (written-append prefix fs gs)
     ∙ sym (append_assoc (frame_written prefix f) (all_written prefix fs) (all_written prefix gs))
 
--- and so is one more
+-- one more frame is written after the others
 pub written-push : (prefix : Prefix) (fs : List (List ℕ)) (body : List ℕ)
     → all_written prefix (fs ++ body ∷ []) ≡ all_written prefix fs ++ frame_written prefix body
 written-push prefix fs body = written-append prefix fs (body ∷ []) ∙ ap (λ xs. all_written prefix fs ++ xs) (append-nil (frame_written prefix body))

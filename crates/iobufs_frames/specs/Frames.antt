@@ -16,7 +16,7 @@
 --     AreAlike, HaveOneReadingWith two readings of a text are the same; and so are any two
 --     BeginningsAreOpenWith,       a beginning of a frame may go on; what can't be a frame stays so whatever follows
 --     BadStaysBadWith
--- and of spelled lengths
+-- Of varint lengths:
 --     HasNoFrame, HasBytes, IsFramed, HasFrames, IsBehindLength, IsTakenApart, IsNext, IsFirst, HaveOneReading,
 --     BeginningsAreOpen, BadStaysBad
 use Rattle.std.specs.Prelude.{◌≡◌, ◌⊎◌, ℕ, ◌+◌, ◌<◌, ◌≤◌, true, false, Option, None, Some, Result, Ok, Err, List, [], ◌∷◌, ◌++◌, map, flat_map, length}
@@ -46,7 +46,7 @@ pub record CanFollow (prefix : Prefix) (range : RangeCfg) (body : List ℕ) : Ty
   pub small : length body < prefix_limit prefix
   pub inside : in_range range (length body) ≡ true
 
--- the same of each body
+-- each length can be written so, and is in the range
 abbrev pub CanAllFollow : Prefix → RangeCfg → List (List ℕ) → Type 0
 CanAllFollow prefix range [] = Unit {0}
 CanAllFollow prefix range (body ∷ bodies) = CanFollow prefix range body × CanAllFollow prefix range bodies
@@ -120,7 +120,7 @@ pub record BeginsWithBytes (frames : List (List ℕ)) : Type 0 where
   pub first : frames ≡ body ∷ others
   pub some : 0 < length body
 
--- the same of the frames of the text: the first is taken; where there is none, the answer is by the end
+-- of the frames of the bytes the first is taken; if there is none, the end determines the result
 abbrev pub IsFirstWith : Prefix → RangeCfg → List (List ℕ) → End → List ℕ → Result (Option View) Error → List ℕ → Type 0
 IsFirstWith prefix range frames end rest (Ok (Some taken)) new = FirstTakenWith prefix range frames end rest taken.bytes new
 IsFirstWith prefix range frames end rest (Ok None) new = (frames ≡ []) × (end ≡ Open)
@@ -144,7 +144,7 @@ HaveOneReadingWith prefix =
     (range : RangeCfg) (text : List ℕ) (frames others : List (List ℕ)) (end stop : End) (rest left : List ℕ)
     → IsFramedWith prefix range text frames end rest → IsFramedWith prefix range text others stop left → AreAlike frames others end stop rest left
 
--- and it has one
+-- bytes have a list of frames, an end and a rest
 pub record HasFramesWith (prefix : Prefix) (range : RangeCfg) (text : List ℕ) : Type 0 where
   pub frames : List (List ℕ)
   pub end : End

@@ -55,7 +55,7 @@ number_long U16 Little n = refl
 number_long U32 Little n = refl
 number_long U64 Little n = refl
 
--- and no two of one size alike
+-- no two numbers of one size are written alike
 pub form_of : (width : Width) (order : ByteOrder) → IsNumberForm (prefix_written (Fixed width order)) (width_size width)
 form_of width order = record {
   long = number_long width order;

@@ -39,7 +39,7 @@ piece_text kind.Parts piece = codes " " ++ hex_text piece.bytes.items ++ codes "
 piece_text kind.View piece = codes " " ++ hex_text piece.bytes.items
 piece_text kind.Text piece = codes " " ++ hex_text piece.bytes.items
 
--- the same of a piece of what a name holds: its bytes, and the room behind them
+-- what is printed of a chunk that a name holds: its bytes, and its spare capacity
 abbrev pub held_text : Kind → List ℕ × ℕ → List ℕ
 held_text kind.Part piece = codes " " ++ hex_text piece.0 ++ codes "+" ++ decimal piece.1
 held_text kind.Parts piece = codes " " ++ hex_text piece.0 ++ codes "+" ++ decimal piece.1

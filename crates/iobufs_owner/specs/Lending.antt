@@ -45,7 +45,7 @@ abbrev pub lend_any_found : State → ℕ → Option Handle → Result Handle Re
 lend_any_found s h None = Err NoHandle
 lend_any_found s h (Some x) = if is_lent h s.calls then Err Borrowed else Ok x
 
--- the same where either kind may be given
+-- the handle of either kind, or the first cause against it
 abbrev pub lend_any_of : State → ℕ → Result Handle Refusal
 lend_any_of s h = lend_any_found s h (handle_at s h)
 
@@ -58,7 +58,7 @@ abbrev pub lend_owning_found : State → ℕ → Option Handle → Result Handle
 lend_owning_found s h None = Err NoHandle
 lend_owning_found s h (Some x) = if is_empty x.word then Err WrongKind else (if is_lent h s.calls then Err Borrowed else Ok x)
 
--- the same for a handle that has a block
+-- the handle that has a block, or the first cause against it
 abbrev pub lend_owning_of : State → ℕ → Result Handle Refusal
 lend_owning_of s h = lend_owning_found s h (handle_at s h)
 
@@ -66,7 +66,7 @@ abbrev pub lend_owning_view_found : State → ℕ → Option Handle → Result H
 lend_owning_view_found s h None = Err NoHandle
 lend_owning_view_found s h (Some x) = if same_kind x.kind View then lend_owning_found s h (Some x) else Err WrongKind
 
--- the same for a view that has a block
+-- the view that has a block, or the first cause against it
 abbrev pub lend_owning_view_of : State → ℕ → Result Handle Refusal
 lend_owning_view_of s h = lend_owning_view_found s h (handle_at s h)
 

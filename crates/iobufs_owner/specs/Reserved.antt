@@ -63,7 +63,7 @@ adds_block (Go memory) = false
 abbrev pub new_blocks : Act → ℕ
 new_blocks act = if adds_block act then 1 else 0
 
--- and a run
+-- how many blocks a run may add
 abbrev pub blocks_of : List Step → ℕ
 blocks_of [] = 0
 blocks_of (step ∷ steps) = new_blocks step.act + blocks_of steps

@@ -36,7 +36,7 @@ Runs m (step ∷ steps) (reply ∷ replies) next = (mid : Seen) × IsStep m step
 Runs m [] (reply ∷ replies) next = ⊥
 Runs m (step ∷ steps) [] next = ⊥
 
--- the same, where tables may get more room before each step
+-- a whole run, in which tables may get more capacity before each step
 abbrev pub GrowingRuns : Seen → List Step → List Reply → Seen → Type 0
 GrowingRuns m [] [] next = next ≡ m
 GrowingRuns m (step ∷ steps) (reply ∷ replies) next =

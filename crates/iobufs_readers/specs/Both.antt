@@ -115,7 +115,7 @@ drops_both text behind advanced after drops drops_after s t n l =
     ∙ ap (λ ys. drop n (text s) ++ ys) (second-drops behind after after drops_after drops_after t n (length (text s)) (behind-both n (text s) (behind t) l))
     ∙ sym (drop-two n (text s) (behind t))
 
--- and where they are taken out
+-- copying out of both texts leaves the rest of both
 pub copies_both : {S T : Type 0} (text : S → List ℕ) (behind : T → List ℕ) (advanced copied : S → ℕ → S) (after taken : T → ℕ → T)
     → ((s : S) (n : ℕ) → n ≤ length (text s) → text (advanced s n) ≡ drop n (text s))
     → ((s : S) (n : ℕ) → n ≤ length (text s) → text (copied s n) ≡ drop n (text s))
@@ -138,7 +138,7 @@ pub first_both : (chunks more : List (List ℕ)) → 0 < length (flat_map (λ ch
 first_both [] more some = absurd (omega (arith, some))
 first_both (chunk ∷ chunks) more some = refl
 
--- and where it has none
+-- the first chunk of two texts, if the first has no bytes
 pub second_both : (chunks more : List (List ℕ)) → full_chunks chunks ≡ chunks → length (flat_map (λ chunk. chunk) chunks) ≡ 0
     → first_chunk (chunks ++ more) ≡ first_chunk more
 second_both chunks more full none = ap (λ xs. first_chunk (xs ++ more)) (none-left chunks full none)

@@ -81,7 +81,7 @@ pub record TakesLines (held holds : Option (List ℕ)) (piece : List ℕ) (old n
   pub taken : AreTaken old.begun.items piece lines new.begun.items is_long
   pub put : ArePut held holds old.tail new.tail lines
 
--- the same where a line that was begun is the last, unless there is none
+-- a piece was taken, and a line that was begun is the last
 abbrev pub IsFinished : Option (List ℕ) → Option (List ℕ) → Lines → Lines → Bool → Type 0
 IsFinished held holds old new is_long =
     ((0 < length old.begun.items) × IsEnded held holds old new is_long) ⊎ ((old.begun.items ≡ []) × (new ≡ old) × Keeps held holds × (is_long ≡ false))

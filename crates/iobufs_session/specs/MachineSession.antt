@@ -60,7 +60,7 @@ ServesMachine input before written (Err (BadCommand number)) = (count : ℕ) × 
 ServesMachine input before written (Err (CannotContinue fault)) = Halts (MachineAnsweredFirst input before) input written fault
 ServesMachine input before written (Err OtherWords) = ⊥
 
--- the same by the status
+-- how a session with the machine ends, by its status
 abbrev pub HasMachineStatus : (input before : List ℕ) → (written : Option (List ℕ)) → (status : ℕ) → Type 0
 HasMachineStatus input before written status =
     (ended : Result (Unit {0}) Stop) × (status ≡ status_of ended) × ServesMachine input before written ended

@@ -60,7 +60,7 @@ Serves input before written (Err (BadCommand number)) = (count : ℕ) × (number
 Serves input before written (Err (CannotContinue fault)) = Halts (AnsweredFirst input before) input written fault
 Serves input before written (Err OtherWords) = ⊥
 
--- the same by the status
+-- how a session ends, by its status
 abbrev pub HasStatus : List ℕ → List ℕ → Option (List ℕ) → ℕ → Type 0
 HasStatus input before written status =
     (ended : Result (Unit {0}) Stop) × (status ≡ status_of ended) × Serves input before written ended

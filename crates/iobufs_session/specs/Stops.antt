@@ -12,7 +12,7 @@ stop_text (BadCommand number) = codes "line " ++ decimal number ++ codes ": bad 
 stop_text (CannotContinue fault) = codes "cannot continue"
 stop_text OtherWords = codes "usage: iobuf buf or iobuf owner"
 
--- the same as a line
+-- why a session stopped, as a line
 abbrev pub stop_line : Stop → List ℕ
 stop_line stop = stop_text stop ++ codes "\n"
 

@@ -48,7 +48,7 @@ pub record IsMore (had has : Option (List ℕ)) (old new : List ℕ) : Type 0 wh
   pub took : Consumes had has read
   pub grew : new ≡ old ++ read
 
--- and there are some, or the reader is at its end
+-- a read gave some bytes, or the reader is at its end
 pub record IsFilled (had has : Option (List ℕ)) (old new : List ℕ) (none : Bool) : Type 0 where
   pub is : IsMore had has old new
   pub empty : none ≡ nat_eq (length is.read) 0

@@ -81,7 +81,7 @@ found_record most number text left framed body found is rest e seal =
     read_and_left text left (up_to most) (Ok framed) is rest
     ∙ ap (λ w. bytes_written w ++ left.bytes) (subst (λ (o : Option View). IfSome o (λ b. framed.bytes ≡ sealed number b.bytes)) e seal)
 
--- and it is short enough
+-- a record that was found is short enough
 pub found_short : (most number : ℕ) (text : MarkedText) (framed body : View) (found : Option View) → IsViewRead text (up_to most) (Ok framed)
     → found ≡ Some body → IfSome found (λ b. framed.bytes ≡ sealed number b.bytes) → 12 + length body.bytes ≤ most
 found_short most number text framed body found is e seal =

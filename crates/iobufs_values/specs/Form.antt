@@ -29,7 +29,7 @@ no_memory = Codec Memory
 
 pub record IsForm (Value Cfg : Type 0) (written : Value → List ℕ) (same : Value → Value → Type 0) (admits : Cfg → Value → Type 0)
     (is_found : MarkedText → ℕ → Cfg → Value → Type 0) (is_fault : MarkedText → ℕ → Cfg → Fault → Type 0) : Type 0 where
-  -- the same value is written as the same bytes
+  -- equal values have one encoding
   pub same_written : (x y : Value) → same x y → written x ≡ written y
   -- the bytes of a value begin those of no other
   pub no_front : (x y : Value) (cfg other : Cfg) (u v : List ℕ) → admits cfg x → admits other y → written x ++ u ≡ written y ++ v → same x y

@@ -158,7 +158,7 @@ no_first_of d b more p e = let both : b ∷ more ≡ [] = sym p ∙ e in cc
 pub heads : (b c : ℕ) (u v : List ℕ) → b ∷ u ≡ c ∷ v → b ≡ c
 heads b c u v e = cc
 
--- and the same bytes behind it
+-- equal lists have equal rests after the first byte
 pub tails : (b c : ℕ) (u v : List ℕ) → b ∷ u ≡ c ∷ v → u ≡ v
 tails b c u v e = cc
 

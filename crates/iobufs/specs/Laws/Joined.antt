@@ -20,6 +20,6 @@ bytes-fold t (v ∷ vs) = bytes-fold (text_append t v) vs ∙ ap (λ w. w ++ pie
 pub bytes-joined : (vs : List View) → (joined vs).bytes ≡ pieces_bytes vs
 bytes-joined vs = bytes-fold default_text vs
 
--- and their length
+-- the length of joined views
 pub length-joined : (views : List View) (t : MarkedText) → t ≡ joined views → text_len t ≡ length (pieces_bytes views)
 length-joined views t e = ap text_len e ∙ ap length (bytes-joined views)
