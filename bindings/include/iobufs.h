@@ -10,9 +10,9 @@
  *     if (iobuf_copy_from_slice(bytes, n, &view) != IOBUFS_OK) ..
  *     iobuf_drop(&view);
  *
- * Every call but `.._size`, `.._align`, `.._len` and their like answers a status. What it asks of ranges, places in a text
- * and room is tested: where it doesn't hold, the status says so, and unless the comment says otherwise nothing has
- * changed. What is moved into another buffer leaves its own place empty; an empty place may be used, and dropped, again.
+ * A call that can fail returns a status (`iobufs_status`). Ranges, offsets and space are tested: if they don't fit, the
+ * status says so, and unless the comment says otherwise nothing has changed. A buffer that is moved into another leaves its
+ * own place empty; an empty place may be used, and dropped, again. What an `out` place held is dropped.
  *
  * The caller's duties, which nothing tests:
  *  1. A place names memory that an `.._init` made a buffer of. Memory is freed or given up only behind a `.._drop` (or

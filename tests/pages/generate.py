@@ -83,6 +83,7 @@ def errors(declared, comment):
         return "`None`"
     if "Result<" not in answer:
         return ""
+    declared = re.sub(r"End\.Bad Error\.\w+", "", declared)
     kinds = re.findall(r"\b(TooLong|BadLayout|InvalidVarint|InvalidLength|EndOfBuffer|Memory|ExtraData)\b", comment + declared)
     kind = re.search(r"\b(FrameError|TryGetError|AllocError|Fault|Refusal|Error)>", answer)
     said = ", ".join(sorted(set(kinds), key=kinds.index)) if not kind or kind[1] == "Error" else f"`{kind[1]}`"

@@ -110,8 +110,8 @@ impl Frames {
         found(IoBuf::read_cfg(alloc, &mut self.rest, range))
     }
 
-    /// Takes the first frame whose length is written as `prefix`; otherwise acts as `next`. Only varints fail with
-    /// `Error::InvalidVarint`.
+    /// Takes the first frame whose length is written as `prefix`, as `next` does. Fails with `Error::InvalidLength`,
+    /// `Error::Memory`, or for varints `Error::InvalidVarint`.
     pub fn next_with(
         &mut self,
         alloc: Global,
@@ -260,7 +260,8 @@ impl Frames {
         Frames::run_with(alloc, Prefix::Spelled, pieces, range)
     }
 
-    /// Acts as `run` for lengths that are written as `prefix`. Only varints end with `Error::InvalidVarint`.
+    /// Acts as `run` for lengths that are written as `prefix`. Fails with `BufError::TooLong` or `BufError::Memory` as
+    /// `run` does; only varints end with an invalid varint.
     pub fn run_with(
         alloc: Global,
         prefix: Prefix,
