@@ -1,17 +1,18 @@
--- Facts for callers of texts and parts, over bytes alone, and the rulesets that hand them to a proof.
---     joining                   what a text holds when a buffer or a text was put to it
---     sending                   a batch of chunks is a front of the text, and what several writes took is what they
---                               took one behind the other
---     storing                   what fills empty parts is their bytes, and those of the text that they freeze to
---     IsSent                    a front of a text went on to a writer, behind what that held, and the rest is left
---     IsStored                  bytes that a reader gave up fill the room of parts
---     length-advanced,          an advance by n drops n bytes; a batch of chunks is a front of the text
+-- Lemmas for callers of `IoBufs` and `IoBufsMut`, over bytes alone, and the rulesets that give them to a proof.
+--     joining                   the bytes after a buffer or an `IoBufs` was added
+--     sending                   a batch of chunks is a prefix of the bytes, and several writes took what each took,
+--                               in order
+--     storing                   the bytes that fill empty buffers are theirs, and those of the `IoBufs` that they
+--                               freeze to
+--     IsSent                    a writer took a prefix of the bytes, after what it held, and the rest is left
+--     IsStored                  bytes that a reader gave fill the spare capacity
+--     length-advanced,          an advance by n drops n bytes; a batch of chunks is a prefix of the bytes
 --     batch_bytes,
 --     front_of_chunks
---     written_front,            what a writer took of a batch it took of the text, and no more than there is
+--     written_front,            what a writer took of a batch it took of the bytes, and no more than there is
 --     written_within
---     stored_done,              emptied parts are full again or their reader is at its end; they hold nothing if they
---     stored_none, room_less    can't; n bytes use up n bytes of room
+--     stored_done,              emptied buffers are full again or their reader is at its end; they hold nothing if
+--     stored_none, room_less    they can't; n bytes take n of the spare capacity
 --     the rest                  what the rulesets cite
 use Rattle.std.specs.Prelude.{◌≡◌, ◌⊎◌, ℕ, ◌+◌, ◌-◌, ◌≤◌, min, Option, None, Some, Result, Ok, Err, List, [], ◌∷◌, ◌++◌, length, take, drop, map, refl}
 use Rattle.std.specs.List.{flat_map}

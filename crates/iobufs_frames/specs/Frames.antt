@@ -1,20 +1,20 @@
--- The frames of a text. A frame is its length, as a prefix says it is written, and behind it so many bytes, its body. What
--- ends in `With` is said of any prefix, and the same name without it is that of spelled lengths.
---     frame_written, all_written   a body behind its length; and several, one behind the other
+-- The frames of some bytes. A frame is a length, written as a prefix says, followed by that many bytes, its body.
+-- Names that end in `With` are for any prefix; without it they are for varint lengths.
+--     frame_written, all_written   a length followed by a body; and several in order
 --     bodies, joined_bytes         the bytes of bodies that are views: each by itself, and all in one
---     IsBehindPrefix,              a body is the view behind its length in front of a text, with its mark; and several
---     IsTakenApartWith             are so, each in what those before it left
+--     IsBehindPrefix,              a body is the view after its length at the front, with its mark; and several are
+--     IsTakenApartWith             so, each in what those before it left
 --     CanFollow, CanAllFollow      the length of a body can be written, and is in the range; and of each
---     LacksFrame                   no whole frame stands in front, and why: more bytes may complete it, or none can
---     HasBodyBytes                 a whole frame with bytes stands in front
---     IsFramedWith, HasFramesWith  a text is these frames and a rest in front of which none stands; and it has such
+--     LacksFrame                   no whole frame is at the front, and why: more bytes may complete it, or none can
+--     HasBodyBytes                 a whole frame with bytes is at the front
+--     IsFramedWith, HasFramesWith  bytes are these frames and a rest that no whole frame begins; and they have such
 --                                  frames
---     IsNextWith, found_of         what taking one frame answers and leaves; the answer told by that of reading a view
---     IsFirstWith, FirstTakenWith, the same told by the frames of the text: the first went, or has bytes that found no
---     BeginsWithBytes              memory
---     AreMoved                     frames went over from the front of a text to the end of a list
---     AreAlike, HaveOneReadingWith two readings of a text are the same; and so are any two
---     BeginningsAreOpenWith,       a beginning of a frame may go on; what can't be a frame stays so whatever follows
+--     IsNextWith, found_of         what taking one frame returns and leaves; the result by that of reading a view
+--     IsFirstWith, FirstTakenWith, the result by the frames of the bytes: the first went, or has bytes whose
+--     BeginsWithBytes              allocation failed
+--     AreMoved                     frames moved from the front of some bytes to the end of a list
+--     AreAlike, HaveOneReadingWith two readings of some bytes are equal; and so are any two
+--     BeginningsAreOpenWith,       a prefix of a frame may go on; what can't be a frame stays so whatever follows
 --     BadStaysBadWith
 -- Of varint lengths:
 --     HasNoFrame, HasBytes, IsFramed, HasFrames, IsBehindLength, IsTakenApart, IsNext, IsFirst, HaveOneReading,

@@ -1,7 +1,7 @@
--- How the length in front of a body is written: as it is spelled, or as a number of two, four or eight bytes.
+-- How the length before a body is written: as a varint, or as a number of two, four or eight bytes.
 --     int_width, width_size        the size of a number, in std's words, and in bytes
---     prefix_written, prefix_limit a length as it is written, and the number below which lengths can be
---     IsLengthAt, HasNoLengthAt    a text begins with this length; and with none
+--     prefix_written, prefix_limit the encoding of a length, and the number below which lengths have one
+--     IsLengthAt, HasNoLengthAt    bytes begin with this length; and with none
 --     IsOpenAt                     more bytes could still make one
 use Rattle.std.specs.Prelude.{◌≡◌, ℕ, ◌^◌, ◌<◌, List, length, take}
 use Rattle.std.specs.Int.{w16, w32, w64, byte_len, to_be_bytes, to_le_bytes, Width as IntWidth}

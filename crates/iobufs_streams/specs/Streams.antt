@@ -1,19 +1,19 @@
 -- Frames on a stream, of lengths that are written as a prefix says.
---     held_bytes           the bytes that were read from it and not taken
---     HasFrame             a whole frame stands in front
+--     held_bytes           the bytes that were read and not taken
+--     HasFrame             a whole frame is at the front
 --     IsMore, IsFilled     more bytes are held, which a reader gave; and there are some, or it is at its end
 --     WasNeeded,           before the last read no whole frame was held; or nothing was read
 --     IsNeeded
 --     fault_of_error,      an error of reading, or of holding what was read, as why no frame is taken
 --     fault_of_cause
---     IsHeldFront          what taking a frame answers of the bytes that are held, and what is left of them
---     IsEnd                what is answered of bytes that are no whole frame, where no more come
---     IsFront              what taking a frame answers where a reader has no more to give for it, and what is left
+--     IsHeldFront          what taking a frame returns of the held bytes, and what is left of them
+--     IsEnd                what is returned of bytes that are no whole frame, if no more come
+--     IsFront              what taking a frame returns if a reader has no more to give for it, and what is left
 --     TakesFrame           bytes were read, and a frame was taken
---     IsFirstOf            the same told by the frames of the stream: the first went
---     HasSent              a writer was sent a beginning of a text
---     SendsFrames,         a writer was sent a beginning of the frames of a text, written with another prefix; or all, and
---     SendsAllFrames       nothing is behind them
+--     IsFirstOf            the result by the frames of the stream: the first went
+--     HasSent              a writer was sent a prefix of some bytes
+--     SendsFrames,         a writer was sent a prefix of the frames of some bytes, written with another prefix; or
+--     SendsAllFrames       all, and nothing follows them
 use Rattle.std.specs.Prelude.{◌≡◌, ◌⊎◌, ℕ, ◌+◌, ◌^◌, ◌<◌, ◌≤◌, Bool, true, nat_eq, Option, None, Some, Result, Ok, Err, List, [], ◌++◌, length, take}
 use Rattle.std.specs.Io.KnownBytes.{Appends, Consumes, IsAtEnd}
 use Rattle.iobufs.specs.CallerFacts.{IsSent}

@@ -1,5 +1,5 @@
 -- The bytes of views joined in order.
---     bytes-append, bytes-joined, length-joined    bytes stand behind one another, and their number is the sum
+--     bytes-append, bytes-joined, length-joined    bytes are concatenated, and their number is the sum
 use Rattle.std.specs.Prelude.{◌≡◌, List, [], ◌∷◌, ◌++◌, length, fold}
 use Rattle.std.proofs.Common.{arith, sym, ap, ◌∙◌, append-nil, append_assoc}
 use Rattle.std.proofs.lemmas.Bool.Decides.{nat_tests}
