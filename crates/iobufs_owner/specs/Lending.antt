@@ -1,12 +1,14 @@
--- Which handle a call may have, or the lowest cause against it.
---     borrows_it, is_lent                     an unfinished clone or slice has the handle; one of the calls has
---     lend_of, lend_any_of                         a handle that a call must have alone: of a kind, and of any
---     lend_owning_of, lend_owning_view_of               the same of one that holds a block, and of such a view
---     lend_view_of                                 a view to be shared, which others may borrow meanwhile
---     is_empty                                the word of a handle without block
---     lend_found, lend_any_found, lend_owning_found,    the same of what stands under the number
+-- Which handle a call may have, or the first cause against it.
+--     borrows_it, is_lent                             an unfinished clone or slice has the handle; one of the calls
+--                                                     has
+--     lend_of, lend_any_of                            a handle that a call must have alone: of a kind, and of any
+--     lend_owning_of, lend_owning_view_of             a handle that holds a block and that a call must have alone;
+--                                                     and such a view
+--     lend_view_of                                    a view to be shared, which others may borrow meanwhile
+--     is_empty                                        the word of a handle without block
+--     lend_found, lend_any_found, lend_owning_found,  these, given what has the number
 --     lend_owning_view_found, lend_view_found
---     Lends                                   a handle that stands there, of that kind and borrowed by none
+--     Lends                                           a handle of that number and kind, borrowed by none
 use Rattle.std.specs.Prelude.{◌≡◌, ℕ, ◌==◌, Bool, true, false, List, Option, None, Some, Result, Ok, Err, if◌then◌else◌}
 use Rattle.std.specs.List.{list_any}
 use Rattle.iobufs_owner.specs.declared.owner.types.Handle.{Handle}

@@ -1,8 +1,8 @@
--- Two readers, of which the second is read behind the first.
---     dropped_second    the second once n bytes went, where the first had so many: as it was, or without the bytes that
---                       the first didn't have
---     copied_first      the first once n bytes were taken out: copied, or used up where bytes of the second go too
---     copied_second     the second then: as it was, copied where the first had none, or without what the first didn't have
+-- Two readers in order.
+--     dropped_second        the second once n bytes went: as it was, or without the bytes that the first didn't have
+--     copied_first          the first once n bytes were taken: copied, or drained if bytes of the second go too
+--     copied_second         the second then: as it was, copied if the first had none, or without what the first
+--                           didn't have
 --     and facts about them
 use Rattle.std.specs.Prelude.{◌≡◌, ℕ, ◌+◌, ◌-◌, ◌<◌, ◌≤◌, ◌==◌, nat_le, min, if◌then◌else◌, true, false, List, [], ◌∷◌, ◌++◌, length, take, drop}
 use Rattle.std.specs.List.{flat_map}

@@ -1,5 +1,5 @@
--- Two values that were written one behind the other.
---     AreReadInOrder    the first is read back, then the second, and what followed is left; or memory was wanting
+-- Two values that were written in order.
+--     AreReadInOrder    the first is read back, then the second, and what followed is left; or an allocation failed
 use Rattle.std.specs.Prelude.{◌≡◌, List, ℕ, Result, Ok, Err}
 use Rattle.iobufs_core.specs.declared.codec.base.Error.{Error}
 use Rattle.iobufs_core.specs.declared.codec.base.Error.TheVariants.{Memory}

@@ -1,5 +1,5 @@
--- What the laws of a value give where it was written in front.
---     behind_written    once a value is read, what stood behind its bytes is left
+-- What the laws of a value give if it was written at the front.
+--     behind_written    once a value is read, what followed its bytes is left
 use Rattle.std.proofs.Common.{◌≡◌, ℕ, List, ◌++◌, length, ap, ◌∙◌}
 use Rattle.iobufs_core.specs.CodecLaws.{left_behind}
 use Rattle.iobufs_core.specs.Dropping.{Dropping, dropped, dropped_len}

@@ -1,7 +1,6 @@
--- Reading a record doesn't depend on the cuts, and gives back what was written.
---     record_alike, record_back    the same is read whatever the cuts, and what was written is read back
---     record_one, record_front     no two records are written at the front of one text, and what is read is what
---                                  stands there
+-- Reading a record doesn't depend on the chunking, and gives back what was written.
+--     record_alike, record_back    the result is one for every chunking, and what was written is read back
+--     record_one, record_front     no two records are written at the front of equal bytes, and what is read is there
 use Rattle.std.proofs.Common.{◌≡◌, inl, Result, Ok, Err, List, ℕ, ◌++◌, ◌<◌, ◌≤◌, length, take, ap, sym, subst, ◌∙◌, refl, arith, length-append}
 use Rattle.std.proofs.lemmas.List.{take_at}
 use Rattle.std.specs.Bool.{⊤}
