@@ -377,7 +377,7 @@ impl Buf for IoBufsMut {
         }
     }
 
-    /// A part that is used up keeps its room; with two or more, those that can't hold a byte any more go.
+    /// Drops the first `n` bytes. A drained buffer keeps its spare capacity; of several, those without capacity go.
     #[tactic(auto, using(crate::proofs::Parts::FewLaws::keeping))]
     fn advance(&mut self, n: usize) {
         match &mut self.shape {
@@ -397,7 +397,7 @@ impl Buf for IoBufsMut {
         self.advance(dst.len());
     }
 
-    /// Leaves what `advance` leaves, of one part too.
+    /// Takes the first `n` bytes, and leaves what `advance` leaves.
     #[tactic(auto, using(crate::proofs::Parts::PartChunks::reading, crate::proofs::Parts::FewLaws::keeping))]
     fn copy_to_bytes(&mut self, alloc: Global, n: usize) -> Result<Bytes, BufError> {
         if n == 0 {

@@ -16,9 +16,9 @@ use std::{fmt, mem};
 /// sides of a split share their storage. In native storage:
 ///
 /// ```text
-/// block   | dropped |  len bytes  |  behind  |
+/// block   | dropped |  len bytes  |  after   |
 ///         0       start      start + len   limit
-///                   |--------- room ---------|
+///                   |------- capacity -------|
 /// ```
 ///
 /// A clone of native storage adds one to the count of its owners, and doesn't allocate.
@@ -264,7 +264,7 @@ impl IoBuf {
         }
     }
 
-    /// The bytes as `into_bytes` has them, and an empty view is left. A refusal leaves the view as it was.
+    /// Converts as `into_bytes` does, and leaves an empty view. If it fails, the view is unchanged.
     pub(crate) fn take_bytes(&mut self, alloc: Global) -> Result<Bytes, BufError>
         ensures ok { IfOk result (λ bytes. bytes ≡ self.old.bytes) }
         ensures taken { OnOk result (self.new ≡ default_view) }

@@ -56,7 +56,7 @@ pub(super) fn put_length<B: BufMut>(buf: &mut B, n: usize)
     buf.put_slice(&bytes[..len]);
 }
 
-/// The byte at a place behind the first `skip`.
+/// The byte at an offset after the first `skip`.
 #[inline(always)]
 fn byte_behind<B: Buf>(buf: &B, skip: usize, i: usize) -> Option<u8>
     requires { skip ≤ length (B.text buf.now) }

@@ -316,7 +316,7 @@ impl Codec for IoBuf {
     ghost drops_written = { λ view. one_drop (length (view_written view)) };
 }
 
-/// Reads the bytes behind a length, as what is made of a view.
+/// Reads the bytes after a length, as a type made of a view.
 #[inline(always)]
 pub(super) fn read_bytes<T: OwnedBytes, B: OwnedBuf>(
     alloc: Global,
