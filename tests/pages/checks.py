@@ -128,22 +128,45 @@ def faults_of_lemmas(files):
         yield from (f"no comment above `{name}` of crates/{path}" for name, above in lemmas if (path, name) in cited and not re.match(r"-- (?!----)", above))
 
 
-def paths_used(file, name, modules):
-    """The modules of a crate that a module's `use` items name."""
-    for tree in re.findall(r"^\s*(?:pub )?use ([^;]*);", file.read_text(), flags=re.M):
-        front, brace, inner = tree.partition("{")
-        for path in [front + part.strip() for part in re.split(r",(?![^{]*\})", inner.rstrip("} \n"))] if brace else [tree]:
-            first, *rest = re.sub(r"\{.*", "", path).strip(" :").split(" as ")[0].split("::")
-            own = name.split("::")
-            above = {"crate": [], "super": own[:-1], "self": own}.get(first)
-            if above is not None:
-                parts = [*above, *rest]
-                yield next(("::".join(parts[:n]) for n in range(len(parts), 0, -1) if "::".join(parts[:n]) in modules), "")
+def unfolded(tree):
+    """The paths of a `use`, without its braces."""
+    front, brace, inner = tree.partition("{")
+    if not brace:
+        return [tree.strip().split(" as ")[0]]
+    parts = re.findall(r"(?:[^,{}]|\{[^{}]*(?:\{[^{}]*\}[^{}]*)*\})+", inner.rsplit("}", 1)[0])
+    return [path for part in parts for path in unfolded(front.strip() + part.strip())]
+
+
+def paths_used(file, name, modules, visible=""):
+    """The paths of a module's `use` items, from the crate's root on."""
+    for path in (path for tree in re.findall(rf"^\s*{visible}use ([^;]*);", file.read_text(), flags=re.M) for path in unfolded(tree)):
+        first, *rest = path.split("::")
+        own = name.split("::") if name else []
+        above = {"crate": [], "super": own[:-1], "self": own}.get(first)
+        if above is None and "::".join([*own, first]) in modules:
+            above, rest = own, [first, *rest]
+        if above is not None:
+            yield "::".join([*above, *rest])
 
 
 def imports(folder):
-    modules = {"::".join(file.relative_to(folder / "src").with_suffix("").parts): file for file in folder.glob("src/**/*.rt")}
-    return {name: {*paths_used(file, name, modules)} - {"", name} for name, file in modules.items() if name not in ("lib", "main")}
+    """For each module of a crate those that it imports, also by way of a module that passes an item on."""
+    files = {"::".join(file.relative_to(folder / "src").with_suffix("").parts): file for file in folder.glob("src/**/*.rt")}
+    modules = {name: file for name, file in files.items() if name not in ("lib", "main")}
+    passed_on = {}
+    for name, file in [*modules.items(), *(("", files[root]) for root in ("lib", "main") if root in files)]:
+        for path in paths_used(file, name, modules, r"pub(?:\([a-z]+\))? "):
+            passed_on["::".join([*filter(None, [name]), path.split("::")[-1]])] = path
+
+    def module_of(path):
+        seen = set()
+        while path in passed_on and path not in seen:
+            seen.add(path)
+            path = passed_on[path]
+        parts = path.split("::")
+        return next(("::".join(parts[:n]) for n in range(len(parts), 0, -1) if "::".join(parts[:n]) in modules), "")
+
+    return {name: {module_of(path) for path in paths_used(file, name, modules)} - {"", name} for name, file in modules.items()}
 
 
 def faults_of_imports(found):

@@ -15,8 +15,8 @@ use std::alloc::{AllocError, Global};
 use std::marker::Model;
 use std::mem;
 
-/// Up to three buffers in place, in order. One that can't hold a byte counts as none: there are fewer, or it was drained
-/// and has no capacity.
+/// Up to three buffers in place, in order. One that can't hold a byte counts as none: there are fewer than three, or it
+/// was drained and has no capacity.
 #[derive(Drop)]
 pub(super) struct Few {
     alloc: Global,
