@@ -173,16 +173,17 @@ def crates():
 
 
 def picture():
-    """The crates as boxes, a row for each layer, each over the crates that it uses; tests and workloads are left out."""
+    """The crates as boxes, each in the row below its lowest user; tests and workloads are left out."""
     shown = [crate for crate in by_layer() if not crate.endswith(("_tests", "_bench"))]
-    rows = [[crate for crate in shown if layer(crate) == n] for n in range(layer(shown[-1]) + 1)]
+    row = lambda crate: min((row(user) for user in shown if crate in direct(user)), default=layer(crate) + 1) - 1
+    rows = [[crate for crate in shown if row(crate) == n] for n in range(layer(shown[-1]) + 1)]
     step, high, wide, tall = 170, 74, 150, 30
     width, height = step * max(map(len, rows)) + 20, high * len(rows) + 20
     at = {}
-    for n, row in enumerate(rows):
-        near = lambda crate: sum(at[dep][0] for dep in direct(crate)) / max(1, len(direct(crate)))
-        for i, crate in enumerate(sorted(row, key=near) if n else row):
-            at[crate] = (width / 2 + step * (i - (len(row) - 1) / 2), height - 40 - high * n)
+    for n, crates_of_row in enumerate(rows):
+        near = lambda crate: sum(at[dep][0] for dep in direct(crate)) / max(1, len(direct(crate))) or width
+        for i, crate in enumerate(sorted(crates_of_row, key=near) if n else crates_of_row):
+            at[crate] = (width / 2 + step * (i - (len(crates_of_row) - 1) / 2), height - 40 - high * n)
     out = [f'<svg xmlns="http://www.w3.org/2000/svg" viewBox="0 0 {width} {height}" width="{width}" height="{height}" font-family="sans-serif" font-size="12" text-anchor="middle">']
     out += ['<title>The crates: each uses those that its lines lead down to</title>', f'<rect width="{width}" height="{height}" fill="#fff"/>']
     for crate in shown:
