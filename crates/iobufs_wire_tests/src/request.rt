@@ -18,7 +18,7 @@ pub enum Request {
 }
 
 // [docs: request_parts]
-/// What a request is made of: each kind stands behind its byte.
+/// The parts of a request: each variant begins with its byte.
 pub type RequestParts = Either<
     Kind<0, (IoBuf, u32)>,
     Either<Kind<1, (IoBuf, IoBuf)>, Kind<2, u64>>,
