@@ -32,6 +32,8 @@ SHORT = [
     (r"items_inline \(Self\.items self\.now\)", "encode_inline_size"),
     (r"length \(B\.text src\)", "src.remaining"),
     (r"length (\w+)\.(?:now|old)", r"\1.len"),
+    (r"(?:self|to)\.old\.rest\.bytes ≡ \[\]", "is_sent"),
+    (r"n < prefix_limit self", "fits(n)"),
     (r" ≡ ", " == "),
     (r"≤", "<="),
 ]

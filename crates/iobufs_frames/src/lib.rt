@@ -95,7 +95,7 @@ impl Frames {
         self.rest.append(alloc, piece)
     }
 
-    /// Takes the first frame; `None` if it is not whole yet (`End::Open`). Fails with `Error::InvalidVarint` or
+    /// Takes the first frame; `None` if it is not whole yet. Fails with `Error::InvalidVarint` or
     /// `Error::InvalidLength` if no further bytes can make it whole, or with `Error::Memory`. Unless a frame is taken,
     /// the rest is unchanged.
     pub fn next(&mut self, alloc: Global, range: &RangeCfg) -> Result<Option<IoBuf>, Error>
