@@ -644,7 +644,7 @@ impl PartialEq for IoBufs {
 
     ghost laws = { Prim.search (comparing, rules) };
 
-    /// Whether the bytes are the same, however each is cut.
+    /// Returns whether the bytes are equal, for every chunking.
     fn eq(&self, other: &IoBufs) -> bool {
         if self.len() != other.len() {
             return false;
