@@ -17,7 +17,7 @@ RULES = [
 # Words that a sentence may have, and words of a page and of all pages.
 LONGEST, MOST = 40, {"README.md": 800, "all": 16000}
 # Comments of the crates that begin so, and words of place in a thousand of theirs.
-FIRST, FIRST_MOST, PLACE_MOST = r"(?i)^\s*(?://[/!]?|--) (?:the same|and|likewise)\b", 0, 15
+FIRST, FIRST_MOST, PLACE_MOST = r"(?i)^\s*(?://[/!]?|--) (?:the same|and|likewise)\b", 0, 5
 
 
 def sentences(text):

@@ -1,4 +1,4 @@
--- How long ways are: each place has fewer places behind it than the one before.
+-- How long ways are: each place has fewer places after it than the one before.
 use Rattle.std.proofs.Common.{◌≡◌, ◌≢◌, ◌∙◌, sym, ◌⊎◌, inl, inr, ℕ, zero, suc, ◌-◌, ◌^◌, ◌<◌, ◌≤◌, ◌==◌, nat_lt, Bool, true, false, List, [], ◌∷◌, Option, None, Some, All, if◌then◌else◌, length, map, refl, arith, subst}
 use Rattle.std.proofs.lemmas.Bool.Decides.{nat_tests, eqb_tells}
 use Rattle.iobufs_places.specs.declared.Place.{Place}

@@ -74,7 +74,7 @@ numbers-by a low high (suc r) l p h =
     let h' = rw (pow-succ' 2 (suc r)) at h in
     record { round = omega arith; above = omega (arith, p); below = omega (arith, p); first_part = omega (arith, l, h'); last_part = omega (arith, l, h') }
 
--- behind the first base
+-- after the first base
 behind-parts : (first n p a f h r k : ℕ) (s : Span) → first ≤ s.low → (a ≡ 0) ⊎ (2 ^ a ≤ s.low - first) → s.low - first < 2 * 2 ^ a →
     2 ^ f ≤ s.high - first → s.high - first < 2 * 2 ^ f → p ≡ 2 ^ k → h + suc r ≤ n → s.high < s.low + 2 ^ h → Numbers a f k r →
     AreEnough first s (first + p) (n - 1)
@@ -107,7 +107,7 @@ behind-parts first n p a f h r k s l nf nt ff ft e en sh m =
       },
     )
 
--- in front of it
+-- before it
 before-parts : (first n p a f h r k : ℕ) (s : Span) → s.low < s.high → s.high < first → (a ≡ 0) ⊎ (2 ^ a ≤ first - 1 - s.high) →
     first - 1 - s.high < 2 * 2 ^ a → 2 ^ f ≤ first - 1 - s.low → first - 1 - s.low < 2 * 2 ^ f → p ≡ 2 ^ k → h + suc r ≤ n → s.high < s.low + 2 ^ h →
     Numbers a f k r → AreEnough first s (first - p) (n - 1)
@@ -173,7 +173,7 @@ pub behind : (first n p : ℕ) (s : Span) → s.low < s.high → first ≤ s.low
     AreEnough first s (first + p) (n - 1)
 behind first n p s o l b e = behind-by first n p e.rounds s e refl o l b e.within
 
--- divided at the power of two between its ends, each part of a span that begins in front of the first base needs one place less
+-- divided at the power of two between its ends, each part of a span that begins before the first base needs one place less
 pub before : (first n p : ℕ) (s : Span) → s.low < s.high → s.low < first → IsBetween (first - 1 - s.high) (first - 1 - s.low) p → IsEnough first s n →
     AreEnough first s (first - p) (n - 1)
 before first n p s o l b e = before-by first n p e.rounds s e refl o l b e.within

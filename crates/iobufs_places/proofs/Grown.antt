@@ -1,4 +1,4 @@
--- One place more, behind the end of its base's way.
+-- One place more, after the end of its base's way.
 use Rattle.std.proofs.Common.{◌≡◌, ◌≢◌, ◌∙◌, sym, ◌⊎◌, inl, inr, ℕ, zero, suc, ◌+◌, ◌<◌, ◌≤◌, ◌==◌, nat_lt, Bool, true, false, List, [], ◌∷◌, ◌++◌, Option, None, Some, All, if◌then◌else◌, length, length-append, set, map, refl, arith, ap, subst}
 use Rattle.std.proofs.lemmas.Bool.Decides.{nat_tests, eqb_tells}
 use Rattle.std.proofs.lemmas.List.{get_or-set_same, get_or-set_other, get_or_append_left, get_or-map, length-map, map-append}
@@ -191,7 +191,7 @@ tree-grown ps p q m t pl o w all =
       complete = λ i l. rw long (complete-at ps p q m i t pl o w ne (below-or i (length ps) (rw long at l)));
     }
 
--- the bases are those from before, and behind them the new one
+-- the bases are those from before, and after them the new one
 pub bases-grown : (ps : List Place) (p q m : ℕ) → map (λ (x : Place). x.base) (grown ps p q m) ≡ map (λ (x : Place). x.base) ps ++ q ∷ []
 bases-grown ps p q m =
     map-append (λ (x : Place). x.base) (set ps p (opened (place_at ps p) q (length ps))) (leaf q m ∷ [])

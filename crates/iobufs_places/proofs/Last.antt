@@ -7,7 +7,7 @@ use Rattle.iobufs_places.specs.Inside.{IsLastFound, Reaches, LiesBehind, found, 
 no-some : {G : Type 0} (o : Option ℕ) → o ≡ None → IsSome o → G
 no-some o e s = let t = rw e at s in absurd (cc)
 
--- what is found behind a place is the place, or lies on the side of its base
+-- what is found after a place is the place, or lies on the side of its base
 at-most : (ps : List Place) (i f q m : ℕ) (x : Place) (u v : Bool) → (x.base == q) ≡ u → nat_lt q x.middle ≡ v → (x.base ≡ q → q ≤ m)
     → (x.middle ≤ q → IsSome (found ps f x.above q) → q ≤ m) → (q < x.middle → IsSome (found ps f x.below q) → q ≤ m)
     → IsSome (if u then Some i else found ps f (if v then x.below else x.above) q) → q ≤ m

@@ -7,7 +7,7 @@ side-by : (n i j : ℕ) (x : Place) (v : Bool) → LiesBehind n i x.below → Li
 side-by n i j x true b a e = rw e at b
 side-by n i j x false b a e = rw e at a
 
--- a side begins behind its place
+-- a side begins after its place
 pub side-behind : (ps : List Place) (i j q : ℕ) → AreRising ps → i < length ps → side (place_at ps i) q ≡ Some j → (i < j) × (j < length ps)
 side-behind ps i j q r l e = side-by (length ps) i j (place_at ps i) (nat_lt q (place_at ps i).middle) (r i l).0 (r i l).1 e
 

@@ -33,7 +33,7 @@ found ps f None base = None
 found ps zero (Some i) base = None
 found ps (suc f) (Some i) base = if (place_at ps i).base == base then Some i else found ps f (side (place_at ps i) base) base
 
--- so many places are enough, since each lies behind the one before
+-- so many places are enough, since each lies after the one before
 abbrev pub Reaches : ℕ → Option ℕ → ℕ → Type 0
 Reaches n None f = Unit {0}
 Reaches n (Some i) f = n ≤ i + f
@@ -41,7 +41,7 @@ Reaches n (Some i) f = n ≤ i + f
 abbrev pub LiesBehind : ℕ → ℕ → Option ℕ → Type 0
 LiesBehind n i next = IfSome next (λ j. (i < j) × (j < n))
 
--- each side of a place begins behind it
+-- each side of a place begins after it
 abbrev pub AreRising : List Place → Type 0
 AreRising ps = (i : ℕ) → i < length ps → LiesBehind (length ps) i (place_at ps i).below × LiesBehind (length ps) i (place_at ps i).above
 

@@ -16,7 +16,7 @@ unfoldable pub IsLow : List Place → ℕ → Option ℕ → Type 0
 IsLow ps zero next = next ≡ None
 IsLow ps (suc n) next = IfSome next (λ i. IsLow ps n (place_at ps i).below × IsLow ps n (place_at ps i).above)
 
--- as many as the tree may have: one for the first base, and 70 behind it
+-- as many as the tree may have: one for the first base, and 70 after it
 abbrev pub most_places : ℕ
 most_places = 71
 
@@ -65,7 +65,7 @@ pub record IsBetween (near far power : ℕ) : Type 0 where
   pub apart : low + 2 ≤ high
   pub is : power ≡ 2 ^ ((low + high) / 2 + 1)
 
--- the next place has this span, and fewer places behind it
+-- the next place has this span, and fewer places after it
 abbrev pub GoesOn : (ℕ → Span) → (ℕ → ℕ) → Span → ℕ → Option ℕ → Type 0
 GoesOn span most s n next = IfSome next (λ j. (span j ≡ s) × (most j < n))
 

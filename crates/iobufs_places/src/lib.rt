@@ -68,7 +68,7 @@ impl Place {
     }
 }
 
-/// The numbers that lie behind a place, both ends included.
+/// The numbers that lie after a place, both ends included.
 #[derive(Clone, Copy)]
 struct Span {
     low: u64,
@@ -127,7 +127,7 @@ fn leaf(base: u64, middle: u64) -> Place
 }
 
 /// The bases of blocks, which are numbered from 0 in the order of adding. It is a search tree: a place divides the
-/// numbers behind it, at the first base first, then by the number of bits of the distance from it, then in halves, so no
+/// numbers after it, at the first base first, then by the number of bits of the distance from it, then in halves, so no
 /// way has more than 71 places, whatever the bases are and in whatever order they come; near bases have few.
 #[derive(Drop)]
 pub struct Places {
@@ -147,7 +147,7 @@ impl Model for Places {
     ghost invariant = { λ places. IsTable places.table.items };
 }
 
-/// Where the way of a base ends, and the numbers that lie behind that place.
+/// Where the way of a base ends, and the numbers that lie after that place.
 #[derive(Clone, Copy)]
 struct WayEnd {
     at: usize,
@@ -193,7 +193,7 @@ fn later(places: &[Place], at: usize, found: Option<usize>, low: u64, end: u64) 
     }
 }
 
-/// The place of the greatest base in a range, of those at a place and behind it.
+/// The place of the greatest base in a range, of those at a place and after it.
 fn last_in(places: &[Place], at: Option<usize>, low: u64, end: u64) -> Option<usize>
     requires rising { AreRising places.now }
     requires at { IfSome at (λ i. i < length places.now) }

@@ -250,7 +250,7 @@ impl fmt::Display for Refusal {
     }
 }
 
-// A fault of reading, behind the number of its kind.
+// A fault of reading, after the number of its kind.
 fn write_codec<W: fmt::Write>(error: Error, f: &mut fmt::Formatter<W>) -> fmt::Result
     ensures { WritesOnOk W.write_str_gives f.old result (fault_text error) f.new }
 {

@@ -72,7 +72,7 @@ ends-small g b k m = (All-get_or (λ x. IsPlace x.base x.size x.align) g.blocks 
 
 -- ---- one block more
 
--- the bases of the blocks with one more are those bases with the new block's behind them
+-- the bases of the blocks with one more are those bases with the new block's after them
 pub bases-more : (places : List ℕ) (blocks : List Block) (b : Block) → places ≡ map (λ (b : Block). b.base) blocks
     → places ++ b.base ∷ [] ≡ map (λ (b : Block). b.base) (blocks ++ b ∷ [])
 bases-more places blocks b e = rw e (sym (map-append (λ (b : Block). b.base) blocks (b ∷ [])))
