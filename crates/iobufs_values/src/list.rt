@@ -8,7 +8,7 @@ ghost use Rattle.iobufs_values.specs.Listed.{AreFound, AreSame, IsListFault, IsL
 
 use crate::look::has_len;
 use crate::{Fault, Look};
-use iobufs_core::codec::{Buf, BufMut, BufsMut, EncodeSize, Error, OwnedBuf, RangeCfg, Write};
+use iobufs_core::codec::{Buf, BufMut, BufsMut, EncodeSize, Error, Peek, RangeCfg, Write};
 use std::alloc::Global;
 
 /// Values behind their count, which is spelled as a length is. The traits of writing stand in another crate, as `Vec`
@@ -69,7 +69,7 @@ impl<T: Look + Drop> Look for List<T> {
 
     ghost same = { λ x y. AreSame T.same x.values.items y.values.items };
 
-    fn look<B: OwnedBuf>(
+    fn look<B: Peek>(
         alloc: Global,
         buf: &B,
         skip: usize,
@@ -135,7 +135,7 @@ fn write_each_bufs<T: Write, B: BufsMut>(values: &[T], buf: &mut B) -> Result<()
 
 // So many values behind the first `skip` bytes, and how many bytes they have. Room is made for those that are found, one by
 // one: a count that lies takes none.
-fn look_each<T: Look + Drop, B: OwnedBuf>(
+fn look_each<T: Look + Drop, B: Peek>(
     alloc: Global,
     buf: &B,
     skip: usize,

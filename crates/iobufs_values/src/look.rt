@@ -7,7 +7,7 @@ ghost use Rattle.iobufs_values.specs.declared.fault.Fault.TheVariants.{ExtraData
 
 use crate::Fault;
 use iobufs_core::buf::IoBuf;
-use iobufs_core::codec::{EncodeSize, OwnedBuf};
+use iobufs_core::codec::{EncodeSize, Peek};
 use std::alloc::Global;
 
 /// A value that is found in a text without taking it, so that whatever is made of several is read whole or not at all
@@ -27,7 +27,7 @@ pub trait Look: EncodeSize + Sized {
     ghost same: { Self → Self → Type 0 };
 
     /// The value behind the first `skip` bytes, and how many bytes it has. All of them stay.
-    fn look<B: OwnedBuf>(
+    fn look<B: Peek>(
         alloc: Global,
         buf: &B,
         skip: usize,
@@ -43,11 +43,7 @@ pub trait Look: EncodeSize + Sized {
 
     /// Reads the value from the front, whole: it leaves what one copy of its bytes leaves. A refusal leaves the reader as
     /// it was.
-    final fn read_whole<B: OwnedBuf>(
-        alloc: Global,
-        buf: &mut B,
-        cfg: &Self::Cfg,
-    ) -> Result<Self, Fault>
+    final fn read_whole<B: Peek>(alloc: Global, buf: &mut B, cfg: &Self::Cfg) -> Result<Self, Fault>
         ensures found { IfOk result (is_found (B.marked buf.old) 0 cfg.now) }
         ensures left { IfOk result (λ value. buf.new ≡ B.copied buf.old (length (Self.written value))) }
         ensures bytes { IfOk result (λ value. B.text buf.old ≡ Self.written value ++ B.text buf.new) }
@@ -61,7 +57,7 @@ pub trait Look: EncodeSize + Sized {
 
     /// The value that a text is, from its first byte to its last (`decode_cfg`). `Fault::ExtraData` tells how many bytes
     /// are left behind it.
-    final fn decode_cfg<B: OwnedBuf>(alloc: Global, buf: &B, cfg: &Self::Cfg) -> Result<Self, Fault>
+    final fn decode_cfg<B: Peek>(alloc: Global, buf: &B, cfg: &Self::Cfg) -> Result<Self, Fault>
     where
         Self: Drop,
         ensures found { IfOk result (is_found (B.marked buf.now) 0 cfg.now) }
@@ -80,14 +76,14 @@ pub trait Look: EncodeSize + Sized {
 
 /// That a reader's bytes are as many as a `usize` says, and so a sum of places within them is one too. The prover knows it
 /// only of a length that was asked for, so this asks; nothing of the call is left in the program.
-pub(crate) fn has_len<B: OwnedBuf>(buf: &B)
+pub(crate) fn has_len<B: Peek>(buf: &B)
     ensures { length (B.text buf.now) < 2 ^ 64 }
 {
     let _ = buf.remaining();
 }
 
 // Drops the first bytes as a copy of them does.
-fn drop_copied<B: OwnedBuf>(alloc: Global, buf: &mut B, n: usize)
+fn drop_copied<B: Peek>(alloc: Global, buf: &mut B, n: usize)
     requires { n ≤ length (B.text buf.old) }
     ensures { buf.new ≡ B.copied buf.old n }
 {

@@ -9,7 +9,7 @@ use crate::{Fault, Look};
 use iobufs::EncodeExt;
 use iobufs::bufs::IoBufs;
 use iobufs_core::buf::IoBufMut;
-use iobufs_core::codec::{Encode, Error, OwnedBuf, Write};
+use iobufs_core::codec::{Encode, Error, Peek, Write};
 use std::alloc::Global;
 
 /// A type that is read as a tuple of its fields: whatever `Look` promises of the tuple holds of it. Of a field that is such a
@@ -26,7 +26,7 @@ pub trait ByParts: Sized {
 
     /// Reads the value from the front, whole: it leaves what one copy of its bytes leaves. A refusal leaves the reader as
     /// it was.
-    final fn read_whole<B: OwnedBuf>(
+    final fn read_whole<B: Peek>(
         alloc: Global,
         buf: &mut B,
         cfg: &<Self::Parts as Look>::Cfg,
@@ -43,7 +43,7 @@ pub trait ByParts: Sized {
 
     /// The value that a text is, from its first byte to its last. `Fault::ExtraData` tells how many bytes are left behind
     /// it.
-    final fn decode_cfg<B: OwnedBuf>(
+    final fn decode_cfg<B: Peek>(
         alloc: Global,
         buf: &B,
         cfg: &<Self::Parts as Look>::Cfg,

@@ -2,7 +2,7 @@ use Rattle.std.proofs.Common.{ap, length, ◌∙◌}
 use Rattle.iobufs_core.specs.View.{View}
 use Rattle.iobufs_core.specs.MarkedText.{taken_view}
 use Rattle.iobufs.proofs.Text.TakenLaws.{taken_view-none}
-use Rattle.iobufs.proofs.bufs.IoBufsOwnedBuf.peek_owned.Goals as goal
+use Rattle.iobufs.proofs.bufs.IoBufsPeek.peek_owned.Goals as goal
 
 pub returns-clause-nothing : goal.returns-clause-nothing
 returns-clause-nothing g c = λ none.
