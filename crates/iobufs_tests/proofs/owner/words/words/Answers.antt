@@ -1,5 +1,5 @@
 use Rattle.std.proofs.Common.{refl}
-use Rattle.iobufs_owner_tests.proofs.words.words.Goals as goal
+use Rattle.iobufs_tests.proofs.owner.words.words.Goals as goal
 
 pub pack-requires-2 : goal.pack-requires-2
 pack-requires-2 g c = (62, refl)
