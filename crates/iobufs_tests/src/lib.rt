@@ -13,6 +13,8 @@ mod limits;
 #[cfg(test)]
 mod located;
 #[cfg(test)]
+mod make;
+#[cfg(test)]
 mod owner;
 #[cfg(test)]
 mod parts;

@@ -10,6 +10,15 @@ use std::test::Fail;
 const WHOLE: &[u8] =
     b"\x0f\0\0\0\0\0\0\0\0one\xee\xaa\xee\x0f\x0c\0\0\0\0\0\0\0\x01\x12\x25\xef\xff";
 
+// The same with another first byte.
+const DAMAGED: &[u8] =
+    b"\x7f\0\0\0\0\0\0\0\0one\xee\xaa\xee\x0f\x0c\0\0\0\0\0\0\0\x01\x12\x25\xef\xff";
+
+const WHOLE_LINES: Appended = Appended {
+    records: 2,
+    is_long: false,
+};
+
 // A reader that gives a byte at a time.
 #[derive(Drop)]
 struct Drops<'a> {
@@ -42,52 +51,37 @@ impl Write for Full {
 }
 
 #[test]
-fn lines_come_and_go_in_small_pieces(rt: HostRuntime) -> Result<(), Fail> {
-    let alloc = rt.alloc();
-    let mut put = Vec::new(alloc);
-    let done = append(alloc, 0, &mut Drops { left: b"one\n\n" }, &mut put)?;
-    assert_same!(rt;
-        done,
-        Appended {
-            records: 2,
-            is_long: false
-        }
-    );
-    assert_same!(rt; put.as_slice(), WHOLE);
-    let mut printed = Vec::new(alloc);
-    let mut scan = Scan::new();
-    let end = scan.print(alloc, &mut Drops { left: WHOLE }, MOST, &mut printed)?;
-    assert_same!(rt; end, End::Whole);
-    assert_same!(rt; (scan.number, scan.taken), (2, 29));
-    assert_same!(rt; printed.as_slice(), b"one\n\n".as_slice());
+fn lines_are_appended_from_small_pieces(rt: HostRuntime) -> Result<(), Fail> {
+    let mut put = Vec::new(rt.alloc());
+    let done = append(rt.alloc(), 0, &mut Drops { left: b"one\n\n" }, &mut put)?;
+    assert_same!(rt; (done, put.as_slice()), (WHOLE_LINES, WHOLE));
+    Ok(())
+}
+
+// A journal, how it ends, how many of its records are printed, of how many bytes, how many are found after them, and the
+// lines that are printed.
+const JOURNALS: [(&'static [u8], End, u64, u64, u64, &'static [u8]); 2] = [
+    (WHOLE, End::Whole, 2, 29, 0, b"one\n\n"),
+    (DAMAGED, End::Torn, 0, 0, 1, b"\n"),
+];
+
+#[test]
+fn records_are_printed_from_small_pieces(rt: HostRuntime) -> Result<(), Fail> {
+    for (journal, end, records, bytes, behind, lines) in JOURNALS {
+        let mut printed = Vec::new(rt.alloc());
+        let mut scan = Scan::new();
+        let mut from = Drops { left: journal };
+        let found = scan.print(rt.alloc(), &mut from, MOST, &mut printed)?;
+        assert_same!(rt; (found, scan.number, scan.taken), (end, records, bytes));
+        let others = scan.print_behind(rt.alloc(), &mut from, MOST, &mut printed)?;
+        assert_same!(rt; (others, printed.as_slice()), (behind, lines), "{end:?}");
+    }
     Ok(())
 }
 
 #[test]
-fn records_behind_a_flipped_byte_are_found(rt: HostRuntime) -> Result<(), Fail> {
-    let alloc = rt.alloc();
-    let mut bad = Vec::from_slice(alloc, WHOLE)?;
-    bad[0] = 0x7f;
-    let mut printed = Vec::new(alloc);
-    let mut scan = Scan::new();
-    let mut from = Drops {
-        left: bad.as_slice(),
-    };
-    assert_same!(rt;
-        scan.print(alloc, &mut from, MOST, &mut printed)?,
-        End::Torn
-    );
-    assert_same!(rt; scan.print_behind(alloc, &mut from, MOST, &mut printed)?, 1);
-    assert_same!(rt; printed.as_slice(), b"\n".as_slice());
-    Ok(())
-}
-
-#[test]
-fn a_full_writer_is_an_error(rt: HostRuntime) -> Result<(), Fail> {
+fn a_full_writer_is_an_error(rt: HostRuntime) {
     let refused = append(rt.alloc(), 0, &mut Drops { left: b"one\n" }, &mut Full);
-    assert_same!(rt;
-        refused.map_err(|error| error.kind()).err(),
-        Some(ErrorKind::StorageFull)
-    );
-    Ok(())
+    let kind = refused.map_err(|error| error.kind()).err();
+    assert_same!(rt; kind, Some(ErrorKind::StorageFull));
 }

@@ -1,7 +1,8 @@
 // Frames over readers and writers that take and give as they like.
+use crate::make::text;
 use crate::same::assert_same;
 use iobufs::bufs::IoBufs;
-use iobufs_core::buf::{IoBuf, IoBufMut};
+use iobufs_core::buf::IoBufMut;
 use iobufs_core::codec::{Buf, BufError, Error, RangeCfg};
 use iobufs_frames::{ByteOrder, Prefix, Width};
 use iobufs_streams::adapters::{Reader, Writer};
@@ -9,33 +10,39 @@ use iobufs_streams::echo::echo;
 use iobufs_streams::error::FrameError;
 use iobufs_streams::reader::FrameReader;
 use iobufs_streams::writer::FrameWriter;
-use std::alloc::Global;
+use std::alloc::{AllocError, Global};
 use std::io::{self, ErrorKind, Read, Write};
+use std::process::Abort;
 use std::test::Fail;
 
 const RANGE: RangeCfg = RangeCfg { lo: 0, hi: 8 };
 
-// `abc`, nothing, and `hello`.
+const BIG_16: Prefix = Prefix::Fixed(Width::U16, ByteOrder::Big);
+
+const LITTLE_16: Prefix = Prefix::Fixed(Width::U16, ByteOrder::Little);
+
+const BIG_32: Prefix = Prefix::Fixed(Width::U32, ByteOrder::Big);
+
+const LITTLE_32: Prefix = Prefix::Fixed(Width::U32, ByteOrder::Little);
+
+// `abc`, nothing and `hello`, as each prefix writes them.
 const FRAMES: &[u8] = b"\x03abc\0\x05hello";
 
-// A reader that gives so many bytes at most, each time behind an interruption, and fails at its end where it is broken.
+const FRAMES_BIG_16: &[u8] = b"\0\x03abc\0\0\0\x05hello";
+
+const FRAMES_LITTLE_16: &[u8] = b"\x03\0abc\0\0\x05\0hello";
+
+const FRAMES_BIG_32: &[u8] = b"\0\0\0\x03abc\0\0\0\0\0\0\0\x05hello";
+
+const FRAMES_LITTLE_32: &[u8] = b"\x03\0\0\0abc\0\0\0\0\x05\0\0\0hello";
+
+// A reader that gives at most `most` bytes at a time, after an interruption each, and fails at its end if it is broken.
 #[derive(Drop)]
 struct Steps<'a> {
     left: &'a [u8],
     most: usize,
     was_interrupted: bool,
     is_broken: bool,
-}
-
-impl<'a> Steps<'a> {
-    fn new(left: &'a [u8], most: usize) -> Steps<'a> {
-        Steps {
-            left,
-            most,
-            was_interrupted: false,
-            is_broken: false,
-        }
-    }
 }
 
 impl Read for Steps<'_> {
@@ -54,7 +61,7 @@ impl Read for Steps<'_> {
     }
 }
 
-// A writer that takes so many bytes at most, each time behind an interruption, and only up to its room.
+// A writer that takes at most `most` bytes at a time, after an interruption each, and no more than it has room for.
 #[derive(Drop)]
 struct Narrow {
     taken: Vec<u8>,
@@ -94,267 +101,420 @@ impl Write for Narrow {
     }
 }
 
-// A body as it is wanted, and `None` at the end.
-fn takes(
+// Why no further frame comes.
+#[derive(Clone, Copy, Debug, PartialEq, Eq)]
+enum Ending {
+    End,
+    Cut,
+    Bad(Error),
+    Io(ErrorKind),
+    Other,
+}
+
+fn ending_by(error: FrameError) -> Ending {
+    match error {
+        FrameError::Cut => Ending::Cut,
+        FrameError::Bad(error) => Ending::Bad(error),
+        FrameError::Io(error) => Ending::Io(error.kind()),
+        FrameError::Memory | FrameError::TooLong => Ending::Other,
+    }
+}
+
+// A reader's bytes, whether it is broken, how many bytes it gives at most (each number in turn), its bodies with `|` after
+// each, and what comes after them.
+#[derive(Clone, Copy)]
+struct Reading {
+    name: &'static str,
+    prefix: Prefix,
+    bytes: &'static [u8],
+    is_broken: bool,
+    most: &'static [usize],
+    bodies: &'static [u8],
+    ending: Ending,
+}
+
+const READINGS: [Reading; 13] = [
+    Reading {
+        name: "whole frames",
+        prefix: Prefix::Spelled,
+        bytes: FRAMES,
+        is_broken: false,
+        most: &[1, 2, 3, 4, 7, 100],
+        bodies: b"abc||hello|",
+        ending: Ending::End,
+    },
+    Reading {
+        name: "frames that are held before the reader fails",
+        prefix: Prefix::Spelled,
+        bytes: FRAMES,
+        is_broken: true,
+        most: &[100],
+        bodies: b"abc||hello|",
+        ending: Ending::Io(ErrorKind::ConnectionReset),
+    },
+    Reading {
+        name: "the end inside a body",
+        prefix: Prefix::Spelled,
+        bytes: b"\x05hell",
+        is_broken: false,
+        most: &[3],
+        bodies: b"",
+        ending: Ending::Cut,
+    },
+    Reading {
+        name: "the end after a length",
+        prefix: Prefix::Spelled,
+        bytes: b"\x05",
+        is_broken: false,
+        most: &[3],
+        bodies: b"",
+        ending: Ending::Cut,
+    },
+    Reading {
+        name: "the end inside a length",
+        prefix: Prefix::Spelled,
+        bytes: b"\x88",
+        is_broken: false,
+        most: &[3],
+        bodies: b"",
+        ending: Ending::Cut,
+    },
+    Reading {
+        name: "a length outside the range",
+        prefix: Prefix::Spelled,
+        bytes: b"\0\x09aaaaaaaaa",
+        is_broken: false,
+        most: &[1],
+        bodies: b"|",
+        ending: Ending::Bad(Error::InvalidLength(9)),
+    },
+    Reading {
+        name: "a length that is not in the shortest form",
+        prefix: Prefix::Spelled,
+        bytes: b"\x80\0",
+        is_broken: false,
+        most: &[1],
+        bodies: b"",
+        ending: Ending::Bad(Error::InvalidVarint),
+    },
+    Reading {
+        name: "u16, big",
+        prefix: BIG_16,
+        bytes: FRAMES_BIG_16,
+        is_broken: false,
+        most: &[1, 2, 3, 5, 100],
+        bodies: b"abc||hello|",
+        ending: Ending::End,
+    },
+    Reading {
+        name: "u16, little",
+        prefix: LITTLE_16,
+        bytes: FRAMES_LITTLE_16,
+        is_broken: false,
+        most: &[1, 2, 3, 5, 100],
+        bodies: b"abc||hello|",
+        ending: Ending::End,
+    },
+    Reading {
+        name: "u32, big",
+        prefix: BIG_32,
+        bytes: FRAMES_BIG_32,
+        is_broken: false,
+        most: &[1, 2, 3, 5, 100],
+        bodies: b"abc||hello|",
+        ending: Ending::End,
+    },
+    Reading {
+        name: "u32, little",
+        prefix: LITTLE_32,
+        bytes: FRAMES_LITTLE_32,
+        is_broken: false,
+        most: &[1, 2, 3, 5, 100],
+        bodies: b"abc||hello|",
+        ending: Ending::End,
+    },
+    Reading {
+        name: "a u16 outside the range",
+        prefix: BIG_16,
+        bytes: b"\x01\x02a",
+        is_broken: false,
+        most: &[1],
+        bodies: b"",
+        ending: Ending::Bad(Error::InvalidLength(258)),
+    },
+    Reading {
+        name: "the end inside a u16",
+        prefix: BIG_16,
+        bytes: b"\0",
+        is_broken: false,
+        most: &[1],
+        bodies: b"",
+        ending: Ending::Cut,
+    },
+];
+
+fn frame_reader<'a>(
+    alloc: Global,
+    prefix: Prefix,
+    from: Steps<'a>,
+) -> Result<FrameReader<Steps<'a>>, AllocError> {
+    match prefix {
+        Prefix::Spelled => FrameReader::new(alloc, from, RANGE),
+        _ => FrameReader::with_prefix(alloc, from, prefix, RANGE),
+    }
+}
+
+// Takes all bodies, with `|` after each, and tells why no further one comes.
+fn take_bodies(
     alloc: Global,
     reader: &mut FrameReader<Steps<'_>>,
-    body: Option<&[u8]>,
-) -> Result<bool, Fail> {
-    match (reader.next(alloc), body) {
-        (Ok(Some(taken)), Some(body)) => Ok(taken.as_ref() == body),
-        (Ok(None), None) => Ok(true),
-        _ => Ok(false),
+    bodies: &mut Vec<u8>,
+) -> Result<Ending, AllocError> {
+    for _ in 0..9 {
+        match reader.next(alloc) {
+            Ok(Some(body)) => bodies.extend_from_slice(body.as_ref())?,
+            Ok(None) => return Ok(Ending::End),
+            Err(error) => return Ok(ending_by(error)),
+        }
+        bodies.push(b'|')?;
     }
+    Ok(Ending::Other)
+}
+
+// What comes after the bodies comes a second time.
+fn assert_reading(
+    rt: &(impl Abort + AllocGlobal),
+    case: &Reading,
+    most: usize,
+) -> Result<(), AllocError> {
+    let from = Steps {
+        left: case.bytes,
+        most,
+        was_interrupted: false,
+        is_broken: case.is_broken,
+    };
+    let mut reader = frame_reader(rt.alloc(), case.prefix, from)?;
+    let mut bodies = Vec::new(rt.alloc());
+    let first = take_bodies(rt.alloc(), &mut reader, &mut bodies)?;
+    let second = take_bodies(rt.alloc(), &mut reader, &mut bodies)?;
+    assert_same!(rt; bodies.as_slice(), case.bodies, "{} by {most}", case.name);
+    assert_same!(rt; (first, second), (case.ending, case.ending), "{} by {most}", case.name);
+    Ok(())
 }
 
 #[test]
-fn frames_come_whole_however_they_are_read(rt: HostRuntime) -> Result<(), Fail> {
-    let alloc = rt.alloc();
-    for most in [1usize, 2, 3, 4, 7, 100] {
-        let mut reader = FrameReader::new(alloc, Steps::new(FRAMES, most), RANGE)?;
-        assert!(rt; takes(alloc, &mut reader, Some(b"abc"))?, "{most}");
-        assert!(rt; takes(alloc, &mut reader, Some(b""))?, "{most}");
-        assert!(rt; takes(alloc, &mut reader, Some(b"hello"))?, "{most}");
-        assert!(rt; takes(alloc, &mut reader, None)?, "{most}");
-        assert!(rt; takes(alloc, &mut reader, None)?, "{most}");
+fn frames_are_read(rt: HostRuntime) -> Result<(), Fail> {
+    for case in &READINGS {
+        for most in case.most {
+            assert_reading(&rt, case, *most)?;
+        }
+    }
+    Ok(())
+}
+
+// The chunks of each body, how many bytes the writer takes at most (each number in turn), and what is written.
+#[derive(Clone, Copy)]
+struct Writing {
+    prefix: Prefix,
+    most: &'static [usize],
+    bodies: &'static [&'static [&'static [u8]]],
+    written: &'static [u8],
+}
+
+const WRITINGS: [Writing; 5] = [
+    Writing {
+        prefix: Prefix::Spelled,
+        most: &[1, 2, 3, 7, 100],
+        bodies: &[&[b"abc", b"def"], &[]],
+        written: b"\x06abcdef\0",
+    },
+    Writing {
+        prefix: BIG_16,
+        most: &[3],
+        bodies: &[&[b"abc"], &[], &[b"hello"]],
+        written: FRAMES_BIG_16,
+    },
+    Writing {
+        prefix: LITTLE_16,
+        most: &[3],
+        bodies: &[&[b"abc"], &[], &[b"hello"]],
+        written: FRAMES_LITTLE_16,
+    },
+    Writing {
+        prefix: BIG_32,
+        most: &[3],
+        bodies: &[&[b"abc"], &[], &[b"hello"]],
+        written: FRAMES_BIG_32,
+    },
+    Writing {
+        prefix: LITTLE_32,
+        most: &[3],
+        bodies: &[&[b"abc"], &[], &[b"hello"]],
+        written: FRAMES_LITTLE_32,
+    },
+];
+
+fn frame_writer(prefix: Prefix, to: Narrow) -> FrameWriter<Narrow> {
+    match prefix {
+        Prefix::Spelled => FrameWriter::new(to),
+        _ => FrameWriter::with_prefix(to, prefix),
+    }
+}
+
+// A frame is not sent when it is put, and sent when it is sent.
+fn send_body(
+    rt: &(impl Abort + AllocGlobal),
+    writer: &mut FrameWriter<Narrow>,
+    pieces: &[&'static [u8]],
+) -> Result<(), Fail> {
+    assert!(rt; writer.is_sent());
+    writer.put(rt.alloc(), text(rt.alloc(), pieces)?)?;
+    assert!(rt; !writer.is_sent());
+    writer.send(rt.alloc())?;
+    Ok(())
+}
+
+fn assert_writing(
+    rt: &(impl Abort + AllocGlobal),
+    case: &Writing,
+    most: usize,
+) -> Result<(), Fail> {
+    let mut writer = frame_writer(case.prefix, Narrow::new(rt.alloc(), most, 100));
+    for body in case.bodies {
+        send_body(rt, &mut writer, body)?;
+    }
+    assert!(rt; writer.is_sent());
+    assert_same!(rt; writer.to.taken.as_slice(), case.written, "{:?} by {most}", case.prefix);
+    Ok(())
+}
+
+#[test]
+fn frames_are_written(rt: HostRuntime) -> Result<(), Fail> {
+    for case in &WRITINGS {
+        for most in case.most {
+            assert_writing(&rt, case, *most)?;
+        }
     }
     Ok(())
 }
 
 #[test]
-fn frames_that_are_held_are_answered_before_a_reader_fails(rt: HostRuntime) -> Result<(), Fail> {
-    let alloc = rt.alloc();
-    let mut from = Steps::new(FRAMES, 100);
-    from.is_broken = true;
-    let mut reader = FrameReader::new(alloc, from, RANGE)?;
-    assert!(rt; takes(alloc, &mut reader, Some(b"abc"))?);
-    assert!(rt; takes(alloc, &mut reader, Some(b""))?);
-    assert!(rt; takes(alloc, &mut reader, Some(b"hello"))?);
-    for _ in 0..2u8 {
-        let kind = match reader.next(alloc) {
-            Err(FrameError::Io(error)) => Some(error.kind()),
-            _ => None,
-        };
-        assert_same!(rt; kind, Some(ErrorKind::ConnectionReset));
-    }
-    Ok(())
-}
-
-#[test]
-fn an_input_that_ends_inside_a_frame_is_cut(rt: HostRuntime) -> Result<(), Fail> {
-    let alloc = rt.alloc();
-    for text in [
-        b"\x05hell".as_slice(),
-        b"\x05".as_slice(),
-        b"\x88".as_slice(),
-    ] {
-        let mut reader = FrameReader::new(alloc, Steps::new(text, 3), RANGE)?;
-        assert!(rt; matches!(reader.next(alloc), Err(FrameError::Cut)));
-        assert!(rt; matches!(reader.next(alloc), Err(FrameError::Cut)));
-    }
-    Ok(())
-}
-
-#[test]
-fn bad_frames_are_told_by_their_error(rt: HostRuntime) -> Result<(), Fail> {
-    let alloc = rt.alloc();
-    let mut reader = FrameReader::new(alloc, Steps::new(b"\0\x09aaaaaaaaa", 1), RANGE)?;
-    assert!(rt; takes(alloc, &mut reader, Some(b""))?);
-    for _ in 0..2u8 {
-        let bad = reader.next(alloc);
-        assert!(rt; matches!(bad, Err(FrameError::Bad(Error::InvalidLength(9)))));
-    }
-    let mut reader = FrameReader::new(alloc, Steps::new(b"\x80\0", 1), RANGE)?;
-    let bad = reader.next(alloc);
-    assert!(rt; matches!(bad, Err(FrameError::Bad(Error::InvalidVarint))));
-    Ok(())
-}
-
-// `abc` and `def` as two pieces.
-fn pieces(alloc: Global) -> Result<IoBufs, Fail> {
-    let mut text = IoBufs::from(IoBuf::from(b"abc".as_slice()));
-    match text.append(alloc, IoBuf::from(b"def".as_slice())) {
-        Ok(()) => Ok(text),
-        Err(_) => Err(Fail::new("refused")),
-    }
-}
-
-#[test]
-fn frames_go_off_however_they_are_taken(rt: HostRuntime) -> Result<(), Fail> {
-    let alloc = rt.alloc();
-    for most in [1usize, 2, 3, 7, 100] {
-        let mut writer = FrameWriter::new(Narrow::new(alloc, most, 100));
-        assert!(rt; writer.put(alloc, pieces(alloc)?).is_ok());
-        assert!(rt; !writer.is_sent());
-        writer.send(alloc)?;
-        assert!(rt; writer.is_sent());
-        assert!(rt; writer.put(alloc, IoBufs::default()).is_ok());
-        writer.send(alloc)?;
-        assert_same!(rt;
-            writer.to.taken.as_slice(),
-            b"\x06abcdef\0".as_slice(),
-            "{most}"
-        );
-    }
-    Ok(())
-}
-
-#[test]
-fn what_a_full_writer_left_goes_off_later(rt: HostRuntime) -> Result<(), Fail> {
+fn the_rest_of_a_frame_is_written_later(rt: HostRuntime) -> Result<(), Fail> {
     let alloc = rt.alloc();
     let mut writer = FrameWriter::new(Narrow::new(alloc, 2, 5));
-    assert!(rt; writer.put(alloc, pieces(alloc)?).is_ok());
-    let refused = writer.send(alloc);
-    assert_same!(rt;
-        refused.map_err(|error| error.kind()).err(),
-        Some(ErrorKind::StorageFull)
-    );
+    writer.put(alloc, text(alloc, &[b"abc", b"def"])?)?;
+    let refused = writer.send(alloc).map_err(|error| error.kind()).err();
+    assert_same!(rt; (refused, writer.rest.len()), (Some(ErrorKind::StorageFull), 2));
     assert_same!(rt; writer.to.taken.as_slice(), b"\x06abcd".as_slice());
-    assert_same!(rt; writer.rest.len(), 2);
     writer.to.room = 5;
     writer.send(alloc)?;
     assert_same!(rt; writer.to.taken.as_slice(), b"\x06abcdef".as_slice());
     Ok(())
 }
 
-#[test]
-fn frames_are_echoed(rt: HostRuntime) -> Result<(), Fail> {
-    let alloc = rt.alloc();
-    let mut from = FrameReader::new(alloc, Steps::new(FRAMES, 2), RANGE)?;
-    let mut to = FrameWriter::new(Narrow::new(alloc, 3, 100));
-    assert!(rt; echo(alloc, &mut from, &mut to).is_ok());
-    assert_same!(rt; to.to.taken.as_slice(), FRAMES);
-    let mut from = FrameReader::new(alloc, Steps::new(b"\x01a\x02b", 2), RANGE)?;
-    let mut to = FrameWriter::new(Narrow::new(alloc, 3, 100));
-    assert!(rt; matches!(echo(alloc, &mut from, &mut to), Err(FrameError::Cut)));
-    assert_same!(rt; to.to.taken.as_slice(), b"\x01a".as_slice());
-    Ok(())
-}
-
-// `abc`, nothing and `hello`, as each kind of fixed length of two or four bytes writes them.
-const FIXED: [(Prefix, &'static [u8]); 4] = [
+// A prefix and the bytes that are read, a prefix and the bytes that are written, and why no further frame is echoed.
+const ECHOES: [(Prefix, &'static [u8], Prefix, &'static [u8], Ending); 10] = [
     (
-        Prefix::Fixed(Width::U16, ByteOrder::Big),
-        b"\0\x03abc\0\0\0\x05hello",
+        Prefix::Spelled,
+        FRAMES,
+        Prefix::Spelled,
+        FRAMES,
+        Ending::End,
     ),
     (
-        Prefix::Fixed(Width::U16, ByteOrder::Little),
-        b"\x03\0abc\0\0\x05\0hello",
+        Prefix::Spelled,
+        b"\x01a\x02b",
+        Prefix::Spelled,
+        b"\x01a",
+        Ending::Cut,
+    ),
+    (BIG_16, FRAMES_BIG_16, BIG_16, FRAMES_BIG_16, Ending::End),
+    (BIG_16, FRAMES_BIG_16, Prefix::Spelled, FRAMES, Ending::End),
+    (
+        LITTLE_16,
+        FRAMES_LITTLE_16,
+        LITTLE_16,
+        FRAMES_LITTLE_16,
+        Ending::End,
     ),
     (
-        Prefix::Fixed(Width::U32, ByteOrder::Big),
-        b"\0\0\0\x03abc\0\0\0\0\0\0\0\x05hello",
+        LITTLE_16,
+        FRAMES_LITTLE_16,
+        Prefix::Spelled,
+        FRAMES,
+        Ending::End,
+    ),
+    (BIG_32, FRAMES_BIG_32, BIG_32, FRAMES_BIG_32, Ending::End),
+    (BIG_32, FRAMES_BIG_32, Prefix::Spelled, FRAMES, Ending::End),
+    (
+        LITTLE_32,
+        FRAMES_LITTLE_32,
+        LITTLE_32,
+        FRAMES_LITTLE_32,
+        Ending::End,
     ),
     (
-        Prefix::Fixed(Width::U32, ByteOrder::Little),
-        b"\x03\0\0\0abc\0\0\0\0\x05\0\0\0hello",
+        LITTLE_32,
+        FRAMES_LITTLE_32,
+        Prefix::Spelled,
+        FRAMES,
+        Ending::End,
     ),
 ];
 
 #[test]
-fn frames_behind_fixed_lengths_come_whole(rt: HostRuntime) -> Result<(), Fail> {
-    let alloc = rt.alloc();
-    for (prefix, text) in FIXED {
-        for most in [1usize, 2, 3, 5, 100] {
-            let from = Steps::new(text, most);
-            let mut reader = FrameReader::with_prefix(alloc, from, prefix, RANGE)?;
-            assert!(rt; takes(alloc, &mut reader, Some(b"abc"))?, "{most}");
-            assert!(rt; takes(alloc, &mut reader, Some(b""))?, "{most}");
-            assert!(rt; takes(alloc, &mut reader, Some(b"hello"))?, "{most}");
-            assert!(rt; takes(alloc, &mut reader, None)?, "{most}");
-        }
+fn frames_are_echoed(rt: HostRuntime) -> Result<(), Fail> {
+    for (prefix, bytes, other, written, wanted) in ECHOES {
+        let from = Steps {
+            left: bytes,
+            most: 2,
+            was_interrupted: false,
+            is_broken: false,
+        };
+        let mut from = frame_reader(rt.alloc(), prefix, from)?;
+        let mut to = frame_writer(other, Narrow::new(rt.alloc(), 3, 100));
+        assert!(rt; to.is_sent());
+        let found = match echo(rt.alloc(), &mut from, &mut to) {
+            Ok(()) => Ending::End,
+            Err(error) => ending_by(error),
+        };
+        assert_same!(rt; (to.to.taken.as_slice(), found), (written, wanted), "{prefix:?} to {other:?}");
     }
-    Ok(())
-}
-
-#[test]
-fn frames_go_off_behind_fixed_lengths(rt: HostRuntime) -> Result<(), Fail> {
-    let alloc = rt.alloc();
-    for (prefix, text) in FIXED {
-        let mut writer = FrameWriter::with_prefix(Narrow::new(alloc, 3, 100), prefix);
-        assert!(rt; writer.put(alloc, IoBufs::from(b"abc".as_slice())).is_ok());
-        writer.send(alloc)?;
-        assert!(rt; writer.put(alloc, IoBufs::default()).is_ok());
-        writer.send(alloc)?;
-        assert!(rt; writer.put(alloc, IoBufs::from(b"hello".as_slice())).is_ok());
-        writer.send(alloc)?;
-        assert_same!(rt; writer.to.taken.as_slice(), text);
-    }
-    Ok(())
-}
-
-#[test]
-fn fixed_lengths_are_echoed_and_written_anew(rt: HostRuntime) -> Result<(), Fail> {
-    let alloc = rt.alloc();
-    for (prefix, text) in FIXED {
-        let mut from = FrameReader::with_prefix(alloc, Steps::new(text, 2), prefix, RANGE)?;
-        let mut to = FrameWriter::with_prefix(Narrow::new(alloc, 3, 100), prefix);
-        assert!(rt; echo(alloc, &mut from, &mut to).is_ok());
-        assert_same!(rt; to.to.taken.as_slice(), text);
-        let mut from = FrameReader::with_prefix(alloc, Steps::new(text, 2), prefix, RANGE)?;
-        let mut to = FrameWriter::new(Narrow::new(alloc, 3, 100));
-        assert!(rt; echo(alloc, &mut from, &mut to).is_ok());
-        assert_same!(rt; to.to.taken.as_slice(), FRAMES);
-    }
-    Ok(())
-}
-
-#[test]
-fn a_fixed_length_outside_the_range_is_bad(rt: HostRuntime) -> Result<(), Fail> {
-    let alloc = rt.alloc();
-    let big = Prefix::Fixed(Width::U16, ByteOrder::Big);
-    let mut reader = FrameReader::with_prefix(alloc, Steps::new(b"\x01\x02a", 1), big, RANGE)?;
-    for _ in 0..2u8 {
-        let bad = reader.next(alloc);
-        assert!(rt; matches!(bad, Err(FrameError::Bad(Error::InvalidLength(258)))));
-    }
-    let mut reader = FrameReader::with_prefix(alloc, Steps::new(b"\0", 1), big, RANGE)?;
-    assert!(rt; matches!(reader.next(alloc), Err(FrameError::Cut)));
     Ok(())
 }
 
 // A body of so many bytes.
-fn long(alloc: Global, len: usize) -> Result<IoBufs, Fail> {
+fn long(alloc: Global, len: usize) -> Result<IoBufs, BufError> {
     let mut bytes = Vec::new(alloc);
     bytes.resize(len, 7)?;
-    Ok(IoBufs::from_vec(bytes)?)
+    IoBufs::from_vec(bytes)
 }
 
 #[test]
 fn a_body_above_its_length_is_refused(rt: HostRuntime) -> Result<(), Fail> {
     let alloc = rt.alloc();
-    let big = Prefix::Fixed(Width::U16, ByteOrder::Big);
-    let mut writer = FrameWriter::with_prefix(Narrow::new(alloc, 100, 100), big);
-    match writer.put(alloc, long(alloc, 65536)?) {
-        Ok(()) => return Err(Fail::new("taken")),
-        Err(refused) => {
-            assert_same!(rt; refused.cause, BufError::TooLong);
-            assert_same!(rt; refused.value.len(), 65536);
-        }
-    }
+    let mut writer = FrameWriter::with_prefix(Narrow::new(alloc, 100, 100), BIG_16);
+    let refused = writer.put(alloc, long(alloc, 65536)?).err();
+    let refused = refused.map(|refused| (refused.cause, refused.value.len()));
+    assert_same!(rt; refused, Some((BufError::TooLong, 65536)));
     assert!(rt; writer.is_sent());
-    assert!(rt; writer.put(alloc, long(alloc, 65535)?).is_ok());
-    assert_same!(rt; writer.rest.len(), 65537);
-    assert_same!(rt; writer.rest.byte_at(0), Some(255));
-    assert_same!(rt; writer.rest.byte_at(1), Some(255));
+    writer.put(alloc, long(alloc, 65535)?)?;
+    let rest = &writer.rest;
+    let found = (rest.len(), rest.byte_at(0), rest.byte_at(1));
+    assert_same!(rt; found, (65537, Some(255), Some(255)));
     Ok(())
 }
 
 #[test]
 fn a_text_is_read_by_std(rt: HostRuntime) -> Result<(), Fail> {
-    let alloc = rt.alloc();
-    let mut text = IoBufs::from(b"ab".as_slice());
-    if text.append(alloc, IoBuf::from(b"cde".as_slice())).is_err() {
-        return Err(Fail::new("refused"));
-    }
-    let mut reader = Reader { buf: text };
+    let mut reader = Reader {
+        buf: text(rt.alloc(), &[b"ab", b"cde"])?,
+    };
     let mut four = [0; 4];
-    assert_same!(rt; reader.read(&mut four).ok(), Some(4));
-    assert_same!(rt; four, *b"abcd");
-    let mut rest = Vec::new(alloc);
+    assert_same!(rt; (reader.read(&mut four).ok(), four), (Some(4), *b"abcd"));
+    let mut rest = Vec::new(rt.alloc());
     assert_same!(rt; reader.read_to_end(&mut rest).ok(), Some(1));
-    assert_same!(rt; rest.as_slice(), b"e".as_slice());
-    assert_same!(rt; reader.read(&mut four).ok(), Some(0));
+    assert_same!(rt; (rest.as_slice(), reader.read(&mut four).ok()), (b"e".as_slice(), Some(0)));
     Ok(())
 }
 
@@ -363,13 +523,11 @@ fn a_part_is_written_by_std(rt: HostRuntime) -> Result<(), Fail> {
     let mut writer = Writer {
         buf: IoBufMut::with_capacity(rt.alloc(), 4)?,
     };
-    assert!(rt; writer.write_all(b"abc").is_ok());
-    assert_same!(rt; writer.write(b"de").ok(), Some(1));
-    assert_same!(rt;
-        writer.write_all(b"e").err().map(|error| error.kind()),
-        Some(ErrorKind::WriteZero)
-    );
-    assert!(rt; writer.flush().is_ok());
+    writer.write_all(b"abc")?;
+    let short = writer.write(b"de").ok();
+    let refused = writer.write_all(b"e").err().map(|error| error.kind());
+    assert_same!(rt; (short, refused), (Some(1), Some(ErrorKind::WriteZero)));
+    writer.flush()?;
     assert_same!(rt; writer.buf.as_ref(), b"abcd".as_slice());
     Ok(())
 }
