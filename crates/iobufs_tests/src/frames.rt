@@ -1,5 +1,5 @@
 // Worked texts of frames, in chunks of every length.
-use crate::make::text;
+use crate::make::{cut, text};
 use crate::same::assert_same;
 use iobufs::bufs::IoBufs;
 use iobufs_core::buf::IoBuf;
@@ -348,25 +348,14 @@ fn frames(rt: HostRuntime) -> Result<(), Fail> {
     Ok(())
 }
 
-// The bytes up to a place, those up to another, and the rest.
-fn cut(bytes: &'static [u8], first: usize, second: usize) -> Option<[&'static [u8]; 3]> {
-    Some([
-        bytes.get(..first)?,
-        bytes.get(first..second)?,
-        bytes.get(second..)?,
-    ])
-}
-
 fn assert_cuts(
     rt: &(impl Abort + AllocGlobal),
     case: &Case,
     bytes: &'static [u8],
 ) -> Result<(), BufError> {
-    for first in 0..=bytes.len() {
-        for second in first..=bytes.len() {
-            if let Some(chunks) = cut(bytes, first, second) {
-                assert_case(rt, case, &chunks)?;
-            }
+    for first in 0..bytes.len() + 1 {
+        for second in first..bytes.len() + 1 {
+            assert_case(rt, case, &cut(bytes, first, second))?;
         }
     }
     Ok(())
@@ -409,8 +398,18 @@ fn push_frame(
 fn frames_are_written(rt: HostRuntime) -> Result<(), Fail> {
     for (prefix, wanted) in WRITTEN {
         let mut written = Vec::new(rt.alloc());
-        push_frame(rt.alloc(), prefix, text(rt.alloc(), &[b"ab"])?, &mut written)?;
-        push_frame(rt.alloc(), prefix, text(rt.alloc(), &[b"cde"])?, &mut written)?;
+        push_frame(
+            rt.alloc(),
+            prefix,
+            text(rt.alloc(), &[b"ab"])?,
+            &mut written,
+        )?;
+        push_frame(
+            rt.alloc(),
+            prefix,
+            text(rt.alloc(), &[b"cde"])?,
+            &mut written,
+        )?;
         assert_same!(rt; written.as_slice(), wanted, "{prefix:?}");
     }
     Ok(())
@@ -435,11 +434,7 @@ const LENGTHS: [(Prefix, usize, Option<&'static [u8]>); 10] = [
         18446744073709551615,
         Some(b"\xff\xff\xff\xff\xff\xff\xff\xff"),
     ),
-    (
-        LITTLE_64,
-        1099511627777,
-        Some(b"\x01\0\0\0\0\x01\0\0"),
-    ),
+    (LITTLE_64, 1099511627777, Some(b"\x01\0\0\0\0\x01\0\0")),
 ];
 
 // A length as it is written, if it can be.

@@ -19,6 +19,8 @@ mod owner;
 #[cfg(test)]
 mod parts;
 #[cfg(test)]
+mod reads;
+#[cfg(test)]
 mod same;
 #[cfg(test)]
 mod strung;

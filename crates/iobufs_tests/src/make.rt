@@ -1,4 +1,6 @@
 // Buffers as tests make them, and what they hold as tests compare it.
+ghost use Rattle.std.specs.Prelude.{◌≤◌, length};
+
 use bytes::Bytes;
 use iobufs::bufs::IoBufs;
 use iobufs::bufs_mut::IoBufsMut;
@@ -66,4 +68,12 @@ pub fn chunks(alloc: Global, text: &IoBufs) -> Result<Vec<u8>, AllocError> {
         }
     }
     Ok(shown)
+}
+
+// The bytes up to a place, those up to another, and the rest.
+pub fn cut(bytes: &'static [u8], first: usize, second: usize) -> [&'static [u8]; 3]
+    requires order { first ≤ second }
+    requires inside { second ≤ length bytes.now }
+{
+    [&bytes[..first], &bytes[first..second], &bytes[second..]]
 }

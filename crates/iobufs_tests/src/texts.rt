@@ -1,12 +1,12 @@
 // Texts of several chunks.
-use crate::make::{Kind, chunks, text, view};
+use crate::make::{Kind, chunks, cut, part, text, view};
 use crate::reads::{Read, answer};
 use crate::same::assert_same;
 use bytes::Bytes;
 use iobufs::bufs::IoBufs;
 use iobufs_core::buf::{IoBuf, IoBufMut};
 use iobufs_core::codec::{Buf, BufError, BufMut};
-use std::alloc::Global;
+use std::alloc::{AllocError, Global};
 use std::mem;
 use std::process::Abort;
 use std::test::Fail;
@@ -22,9 +22,9 @@ enum Ask {
     Count,
     // The chunk at an index, or `none`.
     ChunkAt(usize),
-    // The chunks that `for_each_chunk` visits, with `|` after each.
+    // The last eight bytes that `for_each_chunk` visits.
     Visit,
-    // The chunks that `chunks` yields in so many calls, with `|` after each, or `none` after the last.
+    // What the iterator `chunks` yields in so many calls, `none` after the last chunk, with `|` after each.
     Iterate(usize),
     // `single` or `several`.
     Single,
@@ -48,8 +48,6 @@ struct Case {
     asks: &'static [(Ask, &'static [u8])],
 }
 
-const TWO: &[(Kind, &'static [u8])] = &[(Kind::Static, b"ab"), (Kind::Static, b"cd")];
-
 const THREE: &[(Kind, &'static [u8])] = &[
     (Kind::Static, b"ab"),
     (Kind::Static, b"cd"),
@@ -63,7 +61,7 @@ const FOUR: &[(Kind, &'static [u8])] = &[
     (Kind::Static, b"gh"),
 ];
 
-const CASES: [Case; 9] = [
+const CASES: [Case; 7] = [
     Case {
         name: "an emptied chunk is recovered",
         chunks: &[(Kind::Native(4), b"abcd")],
@@ -90,18 +88,18 @@ const CASES: [Case; 9] = [
             (Ask::Reads(Read::Chunks(0)), b""),
             (Ask::Reads(Read::Byte(5)), b"f"),
             (Ask::Reads(Read::Byte(8)), b"none"),
-            (Ask::Visit, b"ab|cd|ef|gh|"),
+            (Ask::Visit, b"abcdefgh"),
         ],
     },
     Case {
         name: "chunks come in order",
         chunks: THREE,
-        asks: &[(Ask::Iterate(5), b"ab|cd|ef|nonenone")],
+        asks: &[(Ask::Iterate(5), b"ab|cd|ef|none|none|")],
     },
     Case {
         name: "no chunk",
         chunks: &[],
-        asks: &[(Ask::Iterate(1), b"none")],
+        asks: &[(Ask::Iterate(1), b"none|")],
     },
     Case {
         name: "a destination is filled across chunks",
@@ -126,16 +124,6 @@ const CASES: [Case; 9] = [
             (Ask::ToVec, b""),
         ],
     },
-    Case {
-        name: "one chunk",
-        chunks: &[(Kind::Bytes, b"ef")],
-        asks: &[(Ask::Show, b"ef"), (Ask::Single, b"single")],
-    },
-    Case {
-        name: "two chunks",
-        chunks: TWO,
-        asks: &[(Ask::Single, b"several"), (Ask::Reads(Read::Take(4)), b"abcd")],
-    },
 ];
 
 // Views, one after the other.
@@ -145,4 +133,289 @@ fn chunked(alloc: Global, chunks: &[(Kind, &'static [u8])]) -> Result<IoBufs, Bu
         text.append(alloc, view(alloc, chunk.0, chunk.1)?)?;
     }
     Ok(text)
+}
+
+// A copy of some bytes, or `none`.
+fn copied(alloc: Global, bytes: Option<&[u8]>) -> Result<Vec<u8>, BufError> {
+    Ok(Vec::from_slice(alloc, bytes.unwrap_or(b"none"))?)
+}
+
+// The last eight bytes that `for_each_chunk` visits.
+fn visited(text: &IoBufs) -> [u8; 8] {
+    let mut seen = 0u64;
+    text.for_each_chunk(|chunk: &[u8]| {
+        for byte in chunk {
+            seen = seen.wrapping_mul(256).wrapping_add(u64::from(*byte));
+        }
+    });
+    seen.to_be_bytes()
+}
+
+fn iterated(alloc: Global, text: &IoBufs, calls: usize) -> Result<Vec<u8>, BufError> {
+    let mut shown = Vec::new(alloc);
+    let mut chunks = text.chunks();
+    for _ in 0..calls {
+        shown.extend_from_slice(chunks.next().unwrap_or(b"none"))?;
+        shown.push(b'|')?;
+    }
+    Ok(shown)
+}
+
+fn split(alloc: Global, text: &mut IoBufs, at: usize) -> Result<Vec<u8>, BufError> {
+    if at > text.len() {
+        return copied(alloc, Some(b"short"));
+    }
+    Ok(chunks(alloc, &text.split_to(alloc, at)?)?)
+}
+
+fn sliced(alloc: Global, text: &IoBufs, from: usize, to: usize) -> Result<Vec<u8>, BufError> {
+    if from > to || to > text.len() {
+        return copied(alloc, Some(b"short"));
+    }
+    Ok(chunks(alloc, &text.slice(alloc, from..to)?)?)
+}
+
+fn truncated(alloc: Global, text: &mut IoBufs, len: usize) -> Result<Vec<u8>, BufError> {
+    text.truncate(alloc, len)?;
+    Ok(chunks(alloc, text)?)
+}
+
+fn recovered(alloc: Global, text: &mut IoBufs) -> Result<Vec<u8>, BufError> {
+    let Ok(view) = mem::replace(text, IoBufs::default()).try_into_single() else {
+        return copied(alloc, Some(b"several"));
+    };
+    match view.try_into_mut(alloc) {
+        Ok(part) => Ok(format!(in alloc; "{}", part.capacity())?.into_bytes()),
+        Err(_) => copied(alloc, Some(b"declined")),
+    }
+}
+
+// What is answered.
+fn told(alloc: Global, text: &mut IoBufs, ask: Ask) -> Result<Vec<u8>, BufError> {
+    match ask {
+        Ask::Reads(read) => answer(alloc, text, read),
+        Ask::Show => Ok(chunks(alloc, text)?),
+        Ask::Count => Ok(format!(in alloc; "{}", text.chunk_count())?.into_bytes()),
+        Ask::ChunkAt(index) => copied(alloc, text.chunk_at(index)),
+        Ask::Visit => copied(alloc, Some(&visited(text))),
+        Ask::Iterate(calls) => iterated(alloc, text, calls),
+        Ask::Single if text.as_single().is_some() => copied(alloc, Some(b"single")),
+        Ask::Single => copied(alloc, Some(b"several")),
+        Ask::ToVec => text.to_vec(alloc),
+        Ask::Truncate(len) => truncated(alloc, text, len),
+        Ask::SplitTo(at) => split(alloc, text, at),
+        Ask::Slice(from, to) => sliced(alloc, text, from, to),
+        Ask::Recover => recovered(alloc, text),
+    }
+}
+
+// Asks one after the other, and compares the answers.
+fn assert_told(
+    rt: &(impl Abort + AllocGlobal),
+    name: &str,
+    text: &mut IoBufs,
+    asks: &[(Ask, &[u8])],
+) -> Result<(), BufError> {
+    for (ask, wanted) in asks.iter() {
+        let found = told(rt.alloc(), text, *ask)?;
+        assert_same!(rt; found.as_slice(), *wanted, "{name}: {ask:?}");
+    }
+    Ok(())
+}
+
+#[test]
+fn texts(rt: HostRuntime) -> Result<(), Fail> {
+    for case in &CASES {
+        let mut text = chunked(rt.alloc(), case.chunks)?;
+        assert_told(&rt, case.name, &mut text, case.asks)?;
+    }
+    Ok(())
+}
+
+const IN_TWO: [(Ask, &'static [u8]); 4] = [
+    (Ask::Show, b"ab|c"),
+    (Ask::Single, b"several"),
+    (Ask::Reads(Read::Take(3)), b"abc"),
+    (Ask::Reads(Read::Remaining), b"0"),
+];
+
+#[test]
+fn a_text_of_chunks_is_copied_out(rt: HostRuntime) -> Result<(), Fail> {
+    let mut views = Vec::new(rt.alloc());
+    for bytes in [b"ab".as_slice(), b"", b"c"] {
+        views.push(IoBuf::from(bytes))?;
+    }
+    let mut text = IoBufs::from_chunks(rt.alloc(), views.into_iter())?;
+    assert_told(&rt, "of chunks", &mut text, &IN_TWO)?;
+    Ok(())
+}
+
+#[test]
+fn texts_of_one_buffer(rt: HostRuntime) -> Result<(), Fail> {
+    let alloc = rt.alloc();
+    let texts = [
+        IoBufs::from_mut(part(alloc, b"ab", 2)?)?,
+        IoBufs::from_vec(Vec::from_slice(alloc, b"cd")?)?,
+        IoBufs::from(Bytes::copy_from_slice(alloc, b"ef")?),
+    ];
+    for (text, wanted) in texts.iter().zip([b"ab".as_slice(), b"cd", b"ef"]) {
+        assert!(rt; text.as_single().is_some(), "{text:?}");
+        assert_same!(rt; chunks(alloc, text)?.as_slice(), wanted);
+    }
+    Ok(())
+}
+
+#[test]
+fn a_part_is_filled_from_two_chunks(rt: HostRuntime) -> Result<(), Fail> {
+    let text = text(rt.alloc(), &[b"hel", b"lo"])?;
+    let mut part = IoBufMut::with_capacity(rt.alloc(), 8)?;
+    assert!(rt; part.remaining_mut() >= text.remaining());
+    part.put(text);
+    assert_same!(rt; (part.as_ref(), part.remaining_mut()), (b"hello".as_slice(), 3));
+    Ok(())
+}
+
+const PIECES: [&'static [u8]; 6] = [b"ab", b"cd", b"ef", b"gh", b"ij", b"kl"];
+
+// The first chunks of these.
+fn first(alloc: Global, count: usize) -> Result<IoBufs, BufError> {
+    let mut text = IoBufs::default();
+    for piece in PIECES.iter().take(count) {
+        text.append(alloc, IoBuf::from(*piece))?;
+    }
+    Ok(text)
+}
+
+// The bytes from one place to another, cut at each even place.
+fn cut_up(alloc: Global, from: usize, to: usize) -> Result<Vec<u8>, AllocError> {
+    let mut bytes = Vec::new(alloc);
+    for (i, byte) in b"abcdefghijkl".iter().enumerate() {
+        if i < from || i >= to {
+            continue;
+        }
+        if i > from && i % 2 == 0 {
+            bytes.push(b'|')?;
+        }
+        bytes.push(*byte)?;
+    }
+    Ok(bytes)
+}
+
+// What `split_to` takes, what it leaves, and what `advance` leaves.
+fn assert_cut(rt: &(impl Abort + AllocGlobal), count: usize, at: usize) -> Result<(), BufError> {
+    let alloc = rt.alloc();
+    let (mut text, mut advanced) = (first(alloc, count)?, first(alloc, count)?);
+    let front = split(alloc, &mut text, at)?;
+    assert_same!(rt; front, cut_up(alloc, 0, at)?, "{count} at {at}");
+    drop(answer(alloc, &mut advanced, Read::Advance(at))?);
+    let left = (chunks(alloc, &text)?, chunks(alloc, &advanced)?);
+    let end = count.saturating_mul(2);
+    let wanted = (cut_up(alloc, at, end)?, cut_up(alloc, at, end)?);
+    assert_same!(rt; left, wanted, "{count} at {at}");
+    Ok(())
+}
+
+#[test]
+fn every_shape_is_cut_at_every_place(rt: HostRuntime) -> Result<(), Fail> {
+    for count in 0..7usize {
+        for at in 0..2 * count + 1 {
+            assert_cut(&rt, count, at)?;
+        }
+    }
+    Ok(())
+}
+
+#[test]
+fn a_text_is_sliced_between_any_places(rt: HostRuntime) -> Result<(), Fail> {
+    let text = first(rt.alloc(), 3)?;
+    for from in 0..7usize {
+        for to in from..7usize {
+            let found = sliced(rt.alloc(), &text, from, to)?;
+            assert_same!(rt; found, cut_up(rt.alloc(), from, to)?, "{from} to {to}");
+        }
+    }
+    assert_same!(rt; text.len(), 6);
+    Ok(())
+}
+
+#[test]
+fn a_long_slice_of_two_chunks(rt: HostRuntime) -> Result<(), Fail> {
+    let alloc = rt.alloc();
+    let mut text = IoBufs::from_vec(Vec::from_slice(alloc, &[7; 3000])?)?;
+    text.append(alloc, IoBuf::from_vec(Vec::from_slice(alloc, &[9; 3000])?)?)?;
+    assert!(rt; text.len() == 6000);
+    let slice = text.slice(alloc, 500..5500)?;
+    assert_same!(rt; slice.chunk_count(), 2);
+    assert_same!(rt; slice.chunk_at(0), Some([7; 2500].as_slice()));
+    assert_same!(rt; slice.chunk_at(1), Some([9; 2500].as_slice()));
+    Ok(())
+}
+
+// Bytes, and whether they are those of `abcdef`.
+const SAME_AS_THREE: [(&'static [u8], bool); 4] = [
+    (b"abcdef", true),
+    (b"xbcdef", false),
+    (b"abxdef", false),
+    (b"abcdex", false),
+];
+
+// Compares a text of `abcdef` with these bytes in three chunks.
+fn assert_compared(
+    rt: &(impl Abort + AllocGlobal),
+    three: &IoBufs,
+    chunks: &[&'static [u8]],
+    bytes: &[u8],
+    same: bool,
+) -> Result<(), BufError> {
+    let other = text(rt.alloc(), chunks)?;
+    let found = (
+        (other == *three, *three == other),
+        (other.eq_bytes(b"abcdef"), three.eq_bytes(bytes)),
+    );
+    assert_same!(rt; found, ((same, same), (same, same)), "{chunks:?}");
+    Ok(())
+}
+
+#[test]
+fn texts_are_the_same_by_their_bytes(rt: HostRuntime) -> Result<(), Fail> {
+    let three = first(rt.alloc(), 3)?;
+    for from in 0..7usize {
+        for to in from..7usize {
+            for (bytes, same) in SAME_AS_THREE {
+                assert!(rt; bytes.len() == 6);
+                assert_compared(&rt, &three, &cut(bytes, from, to), bytes, same)?;
+            }
+        }
+    }
+    Ok(())
+}
+
+// How many chunks two texts have, and whether they are the same.
+const PAIRS: [(usize, usize, bool); 4] = [
+    (2, 3, false),
+    (3, 2, false),
+    (0, 0, true),
+    (0, 2, false),
+];
+
+// How many chunks a text has, and whether its bytes are these.
+const BYTES: [(usize, &'static [u8], bool); 5] = [
+    (2, b"abcd", true),
+    (2, b"abc", false),
+    (2, b"abcdef", false),
+    (0, b"", true),
+    (0, b"a", false),
+];
+
+#[test]
+fn texts_of_other_lengths_differ(rt: HostRuntime) -> Result<(), Fail> {
+    for (one, other, same) in PAIRS {
+        let found = first(rt.alloc(), one)? == first(rt.alloc(), other)?;
+        assert_same!(rt; found, same, "{one} and {other}");
+    }
+    for (count, bytes, same) in BYTES {
+        let found = first(rt.alloc(), count)?.eq_bytes(bytes);
+        assert_same!(rt; found, same, "{count} and {bytes:?}");
+    }
+    Ok(())
 }

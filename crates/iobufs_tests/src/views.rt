@@ -19,7 +19,12 @@ fn adopted_buffers_keep_what_they_have(rt: HostRuntime) -> Result<(), Fail> {
 }
 
 // The bytes of a view, the bounds of a range, and the bytes in it, if it fits.
-const RANGES: [(&'static [u8], Bound<usize>, Bound<usize>, Option<&'static [u8]>); 10] = [
+const RANGES: [(
+    &'static [u8],
+    Bound<usize>,
+    Bound<usize>,
+    Option<&'static [u8]>,
+); 10] = [
     (b"hello", Excluded(0), Unbounded, Some(b"ello")),
     (b"hello", Excluded(4), Unbounded, Some(b"")),
     (b"hello", Included(5), Included(4), Some(b"")),
