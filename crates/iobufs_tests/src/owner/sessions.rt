@@ -95,7 +95,7 @@ const NO_CEILING: u64 = 9223372036854775807;
 const SESSIONS: [Session; 7] = [
     // Two promotions race, and three drops: the loser's record is freed, and the block once.
     Session {
-        name: "race and drops",
+        name: "race_and_drops",
         parties: 3,
         ceiling: NO_CEILING,
         lines: &[
@@ -127,7 +127,7 @@ const SESSIONS: [Session; 7] = [
     },
     // Once the clones are dropped the first handle is written again.
     Session {
-        name: "recovery after a race",
+        name: "recovery_after_a_race",
         parties: 3,
         ceiling: NO_CEILING,
         lines: &[
@@ -151,7 +151,7 @@ const SESSIONS: [Session; 7] = [
     },
     // A ceiling of one, a borrowed handle, and a drop that `IsUnique` counts until it lets go.
     Session {
-        name: "ceiling and borrowing",
+        name: "ceiling_and_borrowing",
         parties: 2,
         ceiling: 1,
         lines: &[
@@ -200,7 +200,7 @@ const SESSIONS: [Session; 7] = [
     },
     // A tail that doesn't fit the word makes a record, whose allocation may be denied; and calls that no other session has.
     Session {
-        name: "tails and other calls",
+        name: "tails_and_other_calls",
         parties: 1,
         ceiling: 9,
         lines: &[
@@ -238,7 +238,7 @@ const SESSIONS: [Session; 7] = [
     // No step lacks a reserved entry: splits at both ends and inside, with and without a block, and a slice that makes the
     // first record.
     Session {
-        name: "no step fails by allocation",
+        name: "ample_memory",
         parties: 1,
         ceiling: 9,
         lines: &[
@@ -279,7 +279,7 @@ const SESSIONS: [Session; 7] = [
     // A step that adds an entry is refused if none is reserved. A reservation changes no table, and as many steps are
     // executed as entries are reserved.
     Session {
-        name: "reserved entries",
+        name: "reserved_room",
         parties: 1,
         ceiling: 9,
         lines: &[
