@@ -1,7 +1,7 @@
 // Schedules as one list, and step by step.
-use crate::ledger::{Begun, Ledger};
+use crate::owner::ledger::{Begun, Ledger};
+use crate::owner::schedules::{FIRST, PARTIES, SCHEDULES, Schedule};
 use crate::same::assert_same;
-use crate::schedules::{FIRST, PARTIES, SCHEDULES, Schedule};
 use iobufs_owner::format::FORMAT_64;
 use iobufs_owner::owner::{Block, Freed, Machine, Pending, Step, Word};
 use std::process::Abort;

@@ -1,5 +1,5 @@
 // A plain count of live handles and unfinished calls, kept by the replies alone.
-use crate::schedules::PARTIES;
+use crate::owner::schedules::PARTIES;
 use iobufs_owner::owner::{Act, Call, Reply, Step};
 use std::process::Abort;
 
