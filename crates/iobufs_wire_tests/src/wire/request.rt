@@ -7,7 +7,7 @@ use iobufs_core::buf::IoBuf;
 use iobufs_values::{ByParts, Either, IntoParts, Kind};
 
 /// What is asked of a store.
-#[derive(Drop)]
+#[derive(PartialEq, Drop)]
 pub enum Request {
     /// Give what stands under the key, at most so many bytes of it.
     Get { key: IoBuf, limit: u32 },
@@ -32,7 +32,7 @@ impl ByParts for Request {
       | Sync last ↦ Second (Second (record { value = last }))
     ] };
 
-    ghost use Rattle.iobufs_wire_tests.specs.declared.request.Request.TheVariants.{Get, Put, Sync};
+    ghost use Rattle.iobufs_wire_tests.specs.declared.wire.request.Request.TheVariants.{Get, Put, Sync};
 
     fn from_parts(all: RequestParts) -> Request {
         match all {

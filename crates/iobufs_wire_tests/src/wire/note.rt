@@ -11,7 +11,7 @@ use iobufs_values::{ByParts, List, Signed};
 use std::alloc::Global;
 
 /// A number, a byte and a body.
-#[derive(Drop)]
+#[derive(PartialEq, Drop)]
 pub struct Note {
     pub number: u32,
     pub kind: u8,
@@ -39,7 +39,7 @@ impl Note {
 }
 
 /// When it was sent, its note, and which it answers.
-#[derive(Drop)]
+#[derive(PartialEq, Drop)]
 pub struct Letter {
     pub sent: i64,
     pub note: Note,

@@ -8,7 +8,7 @@ use iobufs_values::{Fault, Look};
 use std::alloc::Global;
 
 /// A number, a byte and a body.
-#[derive(Drop)]
+#[derive(PartialEq, Drop)]
 pub struct Message {
     pub number: u32,
     pub kind: u8,
