@@ -7,19 +7,19 @@ use std::process::Abort;
 
 // A call of a reader, and what it gives.
 #[derive(Clone, Copy)]
-enum Call {
+enum Call<'a> {
     Remaining(usize),
     HasRemaining(bool),
     ByteAt(usize, Option<u8>),
-    Chunk(&'static [u8]),
+    Chunk(&'a [u8]),
     // At most so many chunks.
-    Chunks(usize, &'static [&'static [u8]]),
+    Chunks(usize, &'a [&'a [u8]]),
     // Drops bytes.
     Advance(usize),
     // Takes bytes as `Bytes`.
-    Take(&'static [u8]),
+    Take(&'a [u8]),
     // Copies bytes into a slice.
-    Copy(&'static [u8]),
+    Copy(&'a [u8]),
     // Copies into a slice that is longer than what is left.
     CopyTooMany(TryGetError),
 }
@@ -36,6 +36,25 @@ fn two() -> Chain<IoBuf, IoBuf> {
 fn three() -> Chain<Chain<IoBuf, IoBuf>, IoBuf> {
     let first = Chain::new(IoBuf::from(b"ab".as_slice()), IoBuf::from(b"cd".as_slice()));
     Chain::new(first, IoBuf::from(b"ef".as_slice()))
+}
+
+fn assert_shown<R: Buf>(
+    rt: &(impl Abort + AllocGlobal),
+    what: &str,
+    reader: &R,
+    most: usize,
+    chunks: &[&[u8]],
+) {
+    let shown = reader.chunks_vectored(rt.alloc(), most).expect(rt, what);
+    assert_same!(rt; shown.as_slice(), chunks, "{what}");
+}
+
+fn assert_taken<R: Buf>(rt: &(impl Abort + AllocGlobal), what: &str, reader: &mut R, bytes: &[u8]) {
+    assert!(rt; bytes.len() <= reader.remaining(), "{what}");
+    let taken = reader
+        .copy_to_bytes(rt.alloc(), bytes.len())
+        .expect(rt, what);
+    assert_same!(rt; taken.as_slice(), bytes, "{what}");
 }
 
 // A slice of the length of these bytes is filled with them.
@@ -68,21 +87,12 @@ fn assert_call<R: Buf>(rt: &(impl Abort + AllocGlobal), what: &str, reader: &mut
         Call::HasRemaining(holds) => assert_same!(rt; reader.has_remaining(), holds, "{what}"),
         Call::ByteAt(place, byte) => assert_same!(rt; reader.byte_at(place), byte, "{what}"),
         Call::Chunk(bytes) => assert_same!(rt; reader.chunk(), bytes, "{what}"),
-        Call::Chunks(most, chunks) => {
-            let shown = reader.chunks_vectored(rt.alloc(), most).expect(rt, what);
-            assert_same!(rt; shown.as_slice(), chunks, "{what}");
-        }
+        Call::Chunks(most, chunks) => assert_shown(rt, what, reader, most, chunks),
         Call::Advance(n) => {
             assert!(rt; n <= reader.remaining(), "{what}");
             reader.advance(n);
         }
-        Call::Take(bytes) => {
-            assert!(rt; bytes.len() <= reader.remaining(), "{what}");
-            let taken = reader
-                .copy_to_bytes(rt.alloc(), bytes.len())
-                .expect(rt, what);
-            assert_same!(rt; taken.as_slice(), bytes, "{what}");
-        }
+        Call::Take(bytes) => assert_taken(rt, what, reader, bytes),
         Call::Copy(bytes) => assert_copied(rt, what, reader, bytes),
         Call::CopyTooMany(error) => assert_not_copied(rt, what, reader, error),
     }
@@ -93,7 +103,7 @@ fn assert_calls<R: Buf>(
     rt: &(impl Abort + AllocGlobal),
     what: &str,
     reader: &mut R,
-    calls: &[Call],
+    calls: &[Call<'_>],
 ) {
     for call in calls {
         assert_call(rt, what, reader, *call);
@@ -101,16 +111,16 @@ fn assert_calls<R: Buf>(
 }
 
 // A reader with a limit: what is called on it, the limit that is left, and the first chunk after what was read.
-struct Case {
-    name: &'static str,
+struct Case<'a> {
+    name: &'a str,
     limit: usize,
-    calls: &'static [Call],
+    calls: &'a [Call<'a>],
     limit_left: usize,
-    next: &'static [u8],
+    next: &'a [u8],
 }
 
 // Of the six bytes in three pieces.
-const TAKES: [Case; 3] = [
+const TAKES: [Case<'static>; 3] = [
     Case {
         name: "the first bytes are shown",
         limit: 5,
@@ -168,7 +178,7 @@ fn the_first_bytes_of_a_reader(rt: HostRuntime) {
 }
 
 // Of two bytes, and then three.
-const CHAINS: [Case; 15] = [
+const CHAINS: [Case<'static>; 15] = [
     Case {
         name: "one reader and then another",
         limit: usize::MAX,
@@ -323,7 +333,7 @@ fn one_reader_and_then_another(rt: HostRuntime) {
     }
 }
 
-const NO_BYTES: [Call; 4] = [
+const NO_BYTES: [Call<'static>; 4] = [
     Call::Chunk(b""),
     Call::ByteAt(0, None),
     Call::Chunks(9, &[]),
@@ -346,7 +356,7 @@ fn a_limit_of_no_bytes(rt: HostRuntime) {
     );
 }
 
-const SECOND_ALONE: [Call; 5] = [
+const SECOND_ALONE: [Call<'static>; 5] = [
     Call::Chunk(b"ab"),
     Call::Chunks(1, &[b"ab"]),
     Call::Take(b"ab"),
