@@ -14,10 +14,10 @@ use std::process::Abort;
 enum From {
     List,
     Bytes,
-    // Of which there is a clone.
+    // With a clone that lives on.
     SharedBytes,
     Block,
-    // The first two of four bytes, of which the others are in another block.
+    // The first two of four bytes, whose rest is another block.
     SharedBlock,
     Part,
 }

@@ -10,7 +10,7 @@ use std::mem;
 use std::ops::Bound::{Excluded, Included};
 use std::process::Abort;
 
-// What each of them shows.
+// The bytes of each of them.
 const TEXT: &'static [u8] = b"abcd";
 
 fn push_shared(views: &mut Vec<IoBuf>, view: IoBuf) -> Result<(), BufError> {
@@ -24,7 +24,7 @@ fn bytes(alloc: Global) -> Result<IoBuf, BufError> {
     Ok(IoBuf::from(Bytes::copy_from_slice(alloc, TEXT)?))
 }
 
-// Static bytes, static `Bytes`, `Bytes` alone and shared, and a native block alone and shared, which has room behind.
+// Static bytes, static `Bytes`, `Bytes` alone and shared, and a native block alone and shared, which has spare capacity.
 fn views(alloc: Global) -> Result<Vec<IoBuf>, BufError> {
     let mut views = Vec::with_capacity(alloc, 8)?;
     views.push(IoBuf::from(TEXT))?;
@@ -58,7 +58,7 @@ fn pairs(alloc: Global) -> Result<Vec<Pair>, BufError> {
     Ok(pairs)
 }
 
-// The first of two, or the second where a refused call consumed the first.
+// The first of two, or the second if a call that failed consumed the first.
 fn next_of(pair: &mut Pair) -> IoBuf {
     let first = mem::take(&mut pair.0);
     if first.is_empty() {
@@ -79,7 +79,7 @@ fn has_second(pair: &Pair) -> bool {
     pair.1.as_ref() == TEXT
 }
 
-// What a call of a reader that is refused for want of memory answers.
+// The error of a reader, as that of a buffer.
 fn memory<T: Drop>(read: Result<T, Error>) -> Result<T, BufError> {
     read.map_err(|error| match error {
         Error::Memory => BufError::Memory,
@@ -312,7 +312,7 @@ fn copies_of_emptied_views(rt: HostRuntime) {
     );
 }
 
-// A part, and the room that it had at first.
+// A writable buffer, and the spare capacity that it had at first.
 type Roomy = (IoBufMut, usize);
 
 fn push_part(parts: &mut Vec<Roomy>, part: IoBufMut) -> Result<(), BufError> {
@@ -329,7 +329,7 @@ fn aligned(alloc: Global) -> Result<IoBufMut, BufError> {
     Ok(part)
 }
 
-// The second of two halves of a block, of which the first is let go.
+// The rest of a block whose first bytes are dropped.
 fn half(alloc: Global) -> Result<BytesMut, BufError> {
     let mut front = BytesMut::copy_from_slice(alloc, b"zzabcd")?;
     if front.len() < 2 {
@@ -338,7 +338,7 @@ fn half(alloc: Global) -> Result<BytesMut, BufError> {
     Ok(front.split_off(2)?)
 }
 
-// Blocks of their own with room behind, aligned or not, a list that is full, and what was `Bytes` or `BytesMut`.
+// Blocks of their own with spare capacity, aligned or not, a list that is full, and what was `Bytes` or `BytesMut`.
 fn parts(alloc: Global) -> Result<Vec<Roomy>, BufError> {
     let mut parts = Vec::with_capacity(alloc, 6)?;
     push_part(&mut parts, part(alloc, 8, TEXT)?)?;
@@ -383,10 +383,10 @@ fn parts_shown(rt: HostRuntime) {
     })
 }
 
-// A part, and another that shows the same, for a call that consumes one.
+// A writable buffer, and another of the same bytes, for a call that consumes one.
 type Spared = (IoBufMut, IoBufMut);
 
-// A part of each kind, and a spare one.
+// A buffer of each kind, and a spare one.
 fn spared(alloc: Global) -> Result<Vec<Spared>, BufError> {
     let mut pairs = Vec::with_capacity(alloc, 6)?;
     for (part, _room) in parts(alloc)? {
@@ -399,7 +399,7 @@ fn has_spare(pair: &Spared) -> bool {
     pair.1.as_ref() == TEXT
 }
 
-// The part, or the spare one where a refused call consumed the part.
+// The buffer, or the spare one if a call that failed consumed it.
 fn next_part(alloc: Global, pair: &mut Spared) -> IoBufMut {
     let part = mem::replace(&mut pair.0, IoBufMut::default(alloc));
     if part.is_empty() {

@@ -1,10 +1,10 @@
-// The owner machine, whose tables are refused each growth in turn: room is made before each step, and where that is refused
-// the step is taken or wants it. Another machine, which had room for all from the beginning, takes the same steps, so that
-// what a refusal left can be compared with what was there before.
+// The owner machine, with each growth of its tables failing in turn. Capacity is reserved before each step; if that fails,
+// the step is executed or reports that it needs it. Another machine, which reserved enough at first, executes the same
+// steps, so that the state after a failure can be compared with the state before.
 //
-// Where a step wants room, and the tests in which there is none:
+// Where a step needs capacity, and the tests in which there is none:
 //
-// | function | room for | tests |
+// | function | capacity for | tests |
 // |---|---|---|
 // | `add_described` | a block, its place, a handle | `a_new_block` |
 // | `add_recorded` | a block, its place, a record, a handle | `an_external_block`, `a_block_with_a_record` |
@@ -27,7 +27,7 @@ use iobufs_owner::owner::{Call, Machine, Refusal, Reply, Step};
 use std::alloc::Global;
 use std::process::Abort;
 
-// A step of a party that is granted all memory it asks for.
+// A step of a party whose allocations are granted.
 type Row = (usize, Act);
 
 // How many parties there are.
@@ -70,8 +70,8 @@ fn is_same(one: &Machine, other: &Machine) -> bool {
         && one.freed_records() == other.freed_records()
 }
 
-// Makes room for a step and takes it, and whether that room was refused. A step that wants it then has left all as in a
-// machine that is like this one, and is taken once it is there.
+// Reserves capacity for a step and executes it, and whether the reservation failed. A step that needs it then has changed
+// nothing, which another machine in the same state shows, and is executed once the capacity is there.
 fn stepped(rt: &impl Abort, machine: &mut Machine, like: &Machine, step: Step) -> (Reply, bool) {
     let made = machine.reserve(1, 1, 1);
     assert!(rt; is_same(machine, like), "changed by room");
@@ -87,7 +87,7 @@ fn stepped(rt: &impl Abort, machine: &mut Machine, like: &Machine, step: Step) -
     (machine.step(step), true)
 }
 
-// A new machine, and another one that has room for all steps.
+// A new machine, and another one with capacity for all steps.
 fn two_machines(alloc: Global) -> Result<(Machine, Machine), BufError> {
     let one = new_machine(alloc)?;
     let mut other = new_machine(alloc)?;
@@ -95,7 +95,7 @@ fn two_machines(alloc: Global) -> Result<(Machine, Machine), BufError> {
     Ok((one, other))
 }
 
-// Takes steps on a machine in which room is made for each, and on one that has room.
+// Executes steps on a machine that reserves before each, and on one that has the capacity.
 fn lockstep(rt: &(impl Print + Abort + AllocGlobal), first: &[Row], then: &[Row]) {
     let (mut one, mut other) = fixture!(*rt, two_machines(rt.alloc()));
     let mut word = Word::Whole;
@@ -171,7 +171,7 @@ fn a_block_with_a_record(rt: HostRuntime) {
     lockstep(&rt, &[], &A_BLOCK_WITH_A_RECORD);
 }
 
-// What lies behind the one byte is too long for a word: the record is made when the handle is frozen.
+// The rest after the one byte is too long for a word: the record is made when the handle is frozen.
 const A_FREEZE_WITH_A_RECORD: [Row; 3] = [
     (0, Begin(Call::New(4096, 131_073, 1), true)),
     (0, Begin(Call::Put(0, 1), true)),
@@ -183,7 +183,7 @@ fn a_freeze_with_a_record(rt: HostRuntime) {
     lockstep(&rt, &[], &A_FREEZE_WITH_A_RECORD);
 }
 
-// A record is made, and a handle beyond the fourth.
+// A record is made, and a fifth handle.
 const A_SPLIT: [Row; 1] = [(0, Begin(Call::SplitTo(0, 3), true))];
 
 #[test]

@@ -1,4 +1,4 @@
-// How writable buffers are made, by calls that no line of the program says; those on each kind of storage are in `kinds`.
+// How writable buffers are made, by calls that the program has no line for; those on each kind of storage are in `kinds`.
 use crate::made::{part, shows_part};
 use crate::word::{Word, end, say};
 use iobufs_core::buf::IoBufMut;

@@ -1,4 +1,4 @@
-// Calls of `IoBufsMut` that no line of the program says.
+// Calls of `IoBufsMut` that the program has no line for.
 use crate::made::{shows_part, shows_parts, strung};
 use crate::word::{Word, end, say};
 use iobufs::bufs_mut::IoBufsMut;
@@ -6,10 +6,10 @@ use iobufs_core::codec::{Buf, BufError, BufMut};
 use std::alloc::Global;
 use std::process::Abort;
 
-// What three of the parts show.
+// The bytes of three writable buffers, and their spare capacities.
 const THREE: [(&'static [u8], usize); 3] = [(b"ab", 2), (b"cd", 2), (b"ef", 2)];
 
-// How many of at most so many chunks there are.
+// The number of chunks, at most `max`.
 fn counted(alloc: Global, parts: &IoBufsMut, max: usize) -> Result<usize, BufError> {
     Ok(parts.chunks_vectored(alloc, max)?.len())
 }

@@ -1,4 +1,4 @@
-// A table of names, and a run of commands. `tests/sessions` have each command with each request refused.
+// A table of names, and a run of commands. `tests/sessions` have each command with each allocation failing.
 use crate::made::shows;
 use crate::word::{Word, end, say};
 use iobufs_core::codec::BufError;
@@ -44,7 +44,7 @@ fn run(rt: HostRuntime) {
     end(&rt, word, replies.as_slice() == done.as_slice());
 }
 
-// Three views under the names 0 to 2, and of the first two of them a text under the name 3.
+// Three views under the names 0 to 2, and `IoBufs` of the first two of them under the name 3.
 fn filled(alloc: Global) -> Result<Table, BufError> {
     let mut table = Table::new(alloc, 4)?;
     let mut sources = Vec::with_capacity(alloc, 2)?;
@@ -86,7 +86,7 @@ fn is_piece(piece: &Piece, bytes: &[u8]) -> bool {
     piece.bytes.as_slice() == bytes && piece.spare == 0
 }
 
-// Whether this shows it.
+// Whether the reply shows it.
 fn is_told(reply: &Reply, target: usize) -> bool {
     match reply {
         Reply::Shown {

@@ -1,4 +1,4 @@
-// Calls of `IoBufs` that no line of the program says, and those that hand back what they were given.
+// Calls of `IoBufs` that the program has no line for, and those that hand back their argument.
 use crate::each::on_each;
 use crate::given::Given;
 use crate::made::{PIECES, native, natives, pieces, shows, shows_pieces};
@@ -10,10 +10,10 @@ use iobufs_core::codec::{Buf, BufError, Error, OwnedBuf, OwnedBytes};
 use std::alloc::Global;
 use std::process::Abort;
 
-// A text of so many of the pieces.
+// `IoBufs` of the first of the chunks, and how many.
 type Counted = (IoBufs, usize);
 
-// Texts of no piece, of one to four, and of eight.
+// Of no chunk, of one to four, and of eight.
 fn texts(alloc: Global) -> Result<Vec<Counted>, BufError> {
     let mut texts = Vec::with_capacity(alloc, 6)?;
     for count in [0, 1, 2, 3, 4, 8] {
@@ -26,7 +26,7 @@ fn is_counted(counted: &Counted) -> bool {
     shows_pieces(&counted.0, counted.1)
 }
 
-// The pieces of a text, without the first where that is skipped.
+// Whether a chunk comes first, and then `count` of the chunks.
 fn shows_behind(text: &IoBufs, first: &[u8], count: usize) -> bool {
     let mut behind = PIECES.iter().take(count);
     let mut is_same = text.chunk_at(0) == Some(first);
@@ -79,7 +79,7 @@ fn into_single(rt: HostRuntime) {
     end(&rt, Word::Whole, view.as_ref() == b"abc".as_slice());
 }
 
-// How many of at most so many chunks there are.
+// The number of chunks, at most `max`.
 fn counted(alloc: Global, text: &IoBufs, max: usize) -> Result<usize, BufError> {
     Ok(text.chunks_vectored(alloc, max)?.len())
 }
@@ -97,7 +97,7 @@ fn chunks(rt: HostRuntime) {
     end(&rt, word, none == 0 && two == 2);
 }
 
-// Two native pieces, and four static ones: what is taken lies within a piece, and across three of them.
+// Two native chunks, and four static ones: what is taken lies within a chunk, and across three of them.
 fn taken<T: OwnedBytes>(
     alloc: Global,
     text: &mut IoBufs,
@@ -122,7 +122,7 @@ fn is_cut(text: &IoBufs) -> bool {
     shows(text, &[b"abc", b"def"]) || shows_pieces(text, 4)
 }
 
-// A call on a text.
+// A call on `IoBufs`.
 #[derive(Clone, Copy)]
 enum Call {
     // Bytes after others, which are dropped.
@@ -147,7 +147,7 @@ fn make_call(alloc: Global, text: &mut IoBufs, call: Call) -> Result<Given, BufE
 // The bytes that a call gives, and the chunks that it leaves.
 type Expected = (&'static [u8], &'static [&'static [u8]]);
 
-// The call gives so on the two native pieces, and so on the four static ones.
+// What the call gives and leaves of the two native chunks, and of the four static ones.
 fn on_cut(
     rt: &(impl Print + Abort + AllocGlobal),
     what: Call,

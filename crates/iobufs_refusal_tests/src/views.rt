@@ -1,4 +1,4 @@
-// How views are made, by calls that no line of the program says; those on each kind of storage are in `kinds`.
+// How views are made, by calls that the program has no line for; those on each kind of storage are in `kinds`.
 use crate::word::{Word, end, say};
 use bytes::Bytes;
 use iobufs_core::buf::IoBuf;

@@ -1,4 +1,4 @@
-// What the laws of reading give to code that knows neither the value nor the reader.
+// The laws of reading, in code that is generic in the value and in the reader.
 ghost use Rattle.std.specs.Prelude.{◌≡◌, ◌++◌, List, ℕ, IfOk};
 ghost use Rattle.iobufs_core.specs.ReadBack.{IsReadAlike};
 ghost use Rattle.iobufs_wire_tests.specs.InOrder.{AreReadInOrder};
@@ -6,7 +6,7 @@ ghost use Rattle.iobufs_wire_tests.specs.InOrder.{AreReadInOrder};
 use iobufs_core::codec::{Codec, Encode, Error, OwnedBuf, Read};
 use std::alloc::Global;
 
-/// Reads a value from two readers of the same text: the answers are the same, but that either may want memory.
+/// Reads a value from two readers of the same bytes. The results are the same, except that either allocation may fail.
 pub fn read_twice<T: Read + Drop, A: OwnedBuf, B: OwnedBuf>(
     alloc: Global,
     one: &mut A,
@@ -28,7 +28,7 @@ pub fn there_and_back<T: Codec + Drop>(alloc: Global, value: &T, cfg: &T::Cfg) -
     T::read_cfg(alloc, &mut view, cfg)
 }
 
-/// Reads two values, the second behind the first.
+/// Reads two values, one after the other.
 pub fn read_in_order<T: Codec + Drop, U: Codec + Drop, B: OwnedBuf>(
     alloc: Global,
     buf: &mut B,

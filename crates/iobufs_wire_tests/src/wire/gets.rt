@@ -63,7 +63,7 @@ const LE_NUMBERS: [(usize, GetLe); 8] = [
     (0, GetLe::I128(-0x7ffe_fdfc_fbfa_f9f8_f7f6_f5f4_f3f2_f1f1)),
 ];
 
-// The call gives this number, where so many bytes are left.
+// The call gives this number, which has `bytes` bytes.
 macro_rules! assert_got {
     ($rt:expr; $bufs:ident.$call:ident(), $bytes:literal, $number:expr) => {{
         assert!($rt; $bytes <= $bufs.remaining(), "too few bytes");

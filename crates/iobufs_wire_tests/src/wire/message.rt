@@ -1,4 +1,4 @@
-// A message of three values, and a message of one kind or another: each is written and found as the tuple of its parts.
+// A message of three values, written and peeked as the tuple of its parts.
 ghost use Rattle.std.specs.Prelude.{◌≡◌, ◌++◌, [], ◌∷◌};
 ghost use Rattle.std.specs.Int.{w32, to_be_bytes};
 

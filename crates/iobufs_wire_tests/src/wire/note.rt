@@ -30,7 +30,7 @@ impl ByParts for Note {
 }
 
 impl Note {
-    /// The note as a text. Its body is not copied.
+    /// Encodes the note. Its body is not copied.
     pub fn encode(self, alloc: Global) -> Result<IoBufs, Error>
         ensures { IfOk result (λ text. text.bytes ≡ to_be_bytes w32 self.number ++ ((self.kind ∷ []) ++ view_written self.body)) }
     {

@@ -12,7 +12,7 @@ enum Call<'a> {
     HasRemaining(bool),
     ByteAt(usize, Option<u8>),
     Chunk(&'a [u8]),
-    // At most so many chunks.
+    // At most this many chunks.
     Chunks(usize, &'a [&'a [u8]]),
     // Drops bytes.
     Advance(usize),
@@ -32,7 +32,7 @@ fn two() -> Chain<IoBuf, IoBuf> {
     )
 }
 
-// Six bytes in three pieces.
+// Six bytes in three chunks.
 fn three() -> Chain<Chain<IoBuf, IoBuf>, IoBuf> {
     let first = Chain::new(IoBuf::from(b"ab".as_slice()), IoBuf::from(b"cd".as_slice()));
     Chain::new(first, IoBuf::from(b"ef".as_slice()))
@@ -119,7 +119,7 @@ struct Case<'a> {
     next: &'a [u8],
 }
 
-// Of the six bytes in three pieces.
+// Of the six bytes in three chunks.
 const TAKES: [Case<'static>; 3] = [
     Case {
         name: "the first bytes are shown",

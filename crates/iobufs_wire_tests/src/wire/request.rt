@@ -1,23 +1,22 @@
-// A request of one of three kinds: it is read and written as a value of one kind or another, behind the byte that tells
-// which.
+// A request of one of three kinds, read and written as a value of one kind or another after the byte of its kind.
 ghost use Rattle.std.specs.Prelude.{◌≡◌};
 ghost use Rattle.iobufs_values.specs.declared.kinds.Either.TheVariants.{First, Second};
 
 use iobufs_core::buf::IoBuf;
 use iobufs_values::{ByParts, Either, IntoParts, Kind};
 
-/// What is asked of a store.
+/// A request to a store.
 #[derive(PartialEq, Drop)]
 pub enum Request {
-    /// Give what stands under the key, at most so many bytes of it.
+    /// Get at most `limit` bytes of the value of a key.
     Get { key: IoBuf, limit: u32 },
-    /// Keep the body under the key.
+    /// Store the body as the value of a key.
     Put { key: IoBuf, body: IoBuf },
-    /// Keep all that was put, up to this number.
+    /// Store all that was put, up to this number.
     Sync(u64),
 }
 
-/// What a request is made of: each kind stands behind its byte.
+/// The parts of a request: each kind after its byte.
 pub type RequestParts = Either<
     Kind<0, (IoBuf, u32)>,
     Either<Kind<1, (IoBuf, IoBuf)>, Kind<2, u64>>,

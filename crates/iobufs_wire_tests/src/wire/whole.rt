@@ -14,7 +14,7 @@ use std::process::Abort;
 
 pub const END: Fault = Fault::Codec(Error::EndOfBuffer);
 
-// Reading the value fails so, and leaves each chunk.
+// Reading a value fails with this fault, and leaves each chunk.
 pub fn assert_refused<T: Look + Drop, B: OwnedBuf>(
     rt: &(impl Abort + AllocGlobal),
     what: &str,
@@ -42,7 +42,7 @@ pub fn assert_prefixes<T: Look + Drop>(
     }
 }
 
-// The value is read, and so many bytes are left.
+// The value is read, and `left` bytes are left.
 pub fn assert_front<T: Look + PartialEq + Drop, B: OwnedBuf>(
     rt: &(impl Abort + AllocGlobal),
     what: &str,
