@@ -1,8 +1,8 @@
 /*
  * iobufs: the byte buffers of commonware-runtime (src/iobuf), proved in Rattle, for C99 and C++.
  *
- * A buffer lies in memory of the caller: a `struct iobuf`, `struct iobufs`, .. of the size and the alignment that stand
- * here. `.._init` makes a buffer of such memory, and a place (`struct iobuf_at`, ..) names it to every other call:
+ * A buffer is memory of the caller: a `struct iobuf`, `struct iobufs`, .. of the size and the alignment below.
+ * `.._init` makes a buffer of such memory, and a place (`struct iobuf_at`, ..) names it to every other call:
  *
  *     struct iobuf memory;
  *     struct iobuf_at view = { &memory };
@@ -10,28 +10,28 @@
  *     if (iobuf_copy_from_slice(bytes, n, &view) != IOBUFS_OK) ..
  *     iobuf_drop(&view);
  *
- * Every call but `.._size`, `.._align`, `.._len` and their like answers a status. What it asks of ranges, places in a text
- * and room is tested: where it doesn't hold, the status says so, and unless the comment says otherwise nothing has
- * changed. What is moved into another buffer leaves its own place empty; an empty place may be used, and dropped, again.
+ * A call that can fail returns a status (`iobufs_status`). Ranges, offsets and space are tested: if they don't fit, the
+ * status says so, and unless the comment says otherwise nothing has changed. A buffer that is moved into another leaves its
+ * own place empty; an empty place may be used, and dropped, again. What an `out` place held is dropped.
  *
  * The caller's duties, which nothing tests:
- *  1. A place names memory that an `.._init` made a buffer of. Memory is freed or given up only behind a `.._drop` (or
+ *  1. A place names memory that an `.._init` made a buffer of. Memory is freed only after a `.._drop` (or
  *     what the buffer holds is leaked). It may be moved (memcpy), and the buffer with it; never two copies may be used.
  *  2. The places and other pointers of one call don't overlap: `iobuf_clone(&a, &a)` is not allowed.
  *  3. One call at a time uses a buffer. Another thread may use it after what orders the two (a lock, a thread's start or
  *     join, a SEQ_CST atomic); buffers that share a block may be used by several threads at once. Calls that only look
- *     (`.._len`, `.._chunk`, `.._clone`, `iobuf_slice`, ..) may be several at once on one buffer: that is read off the code
- *     and tested, not proved.
+ *     (`.._len`, `.._chunk`, `.._clone`, `iobuf_slice`, ..) may be several at once on one buffer: that is tested,
+ *     not proved.
  *  4. Pointers to bytes are not NULL, also for 0 bytes, and outlive the call; those of `iobuf_from_static` outlive every
  *     buffer that is made of it, and the bytes never change.
- *  5. What `.._chunk` and its like answer may be read until the next call that changes or drops that buffer. Only the
- *     bytes of a buffer to write (`iobufmut`, `iobufsmut`) may be written over there.
+ *  5. The pointer of `.._chunk` and its like may be read until the next call that changes or drops that buffer. Only the
+ *     bytes of a writable buffer (`iobufmut`, `iobufsmut`) may be overwritten there.
  *  6. malloc, realloc and free are one allocator's; no call comes from a signal handler, or from the forked child of a
  *     process with threads.
  *
- * "memory" in a comment: the call may ask malloc for some, and answers IOBUFS_MEMORY where that is refused; where a comment
- * says nothing of it the call asks for none. "Memory none today": it asks for none as it is, but no contract promises that.
- * The name in brackets is the original's; "own" stands where it has none.
+ * "memory" in a comment: the call may allocate, and returns IOBUFS_MEMORY if that fails; if a comment says nothing of it,
+ * the call doesn't allocate. "Memory none today": it doesn't allocate as it is, but no contract promises that.
+ * The name in brackets is the original's; "own" if it has none.
  */
 #ifndef IOBUFS_H
 #define IOBUFS_H
@@ -44,17 +44,17 @@
 extern "C" {
 #endif
 
-/* What a call answers. */
+/* Statuses. */
 enum iobufs_code {
     IOBUFS_OK = 0,             /* done */
-    IOBUFS_MEMORY = 1,         /* a request for memory was refused */
+    IOBUFS_MEMORY = 1,         /* an allocation failed */
     IOBUFS_BAD_LAYOUT = 2,     /* the alignment is no power of two, or the capacity above SSIZE_MAX */
     IOBUFS_TOO_LONG = 3,       /* a sum of lengths or capacities would pass SIZE_MAX */
-    IOBUFS_OUT_OF_RANGE = 4,   /* a range or a place is outside the bytes, or bytes outside the room */
-    IOBUFS_END_OF_BUFFER = 5,  /* more bytes are asked for than are left */
-    IOBUFS_INVALID_VARINT = 6, /* the bytes spell no length */
+    IOBUFS_OUT_OF_RANGE = 4,   /* a range or an offset is outside the bytes, or bytes don't fit */
+    IOBUFS_END_OF_BUFFER = 5,  /* fewer bytes remain than the call needs */
+    IOBUFS_INVALID_VARINT = 6, /* the bytes are no varint */
     IOBUFS_INVALID_LENGTH = 7, /* the length is outside the range */
-    IOBUFS_DECLINED = 8        /* the buffer can't become what was asked for, and stays */
+    IOBUFS_DECLINED = 8        /* the buffer can't be converted, and stays */
 };
 typedef uint8_t iobufs_status;
 
@@ -67,12 +67,12 @@ typedef uint8_t iobufs_status;
 #define IOBUFS_FRAMES_SIZE 56
 #define IOBUFS_ALIGN 8
 
-struct iobuf { uint64_t room[IOBUF_SIZE / 8]; };                   /* IoBuf: bytes to read, in one piece */
+struct iobuf { uint64_t room[IOBUF_SIZE / 8]; };                   /* IoBuf: bytes to read, in one chunk */
 struct iobufmut { uint64_t room[IOBUFMUT_SIZE / 8]; };             /* IoBufMut: a buffer to write, or none */
-struct iobufs { uint64_t room[IOBUFS_SIZE / 8]; };                 /* IoBufs: a text in pieces */
+struct iobufs { uint64_t room[IOBUFS_SIZE / 8]; };                 /* IoBufs: bytes in several chunks */
 struct iobufsmut { uint64_t room[IOBUFSMUT_SIZE / 8]; };           /* IoBufsMut: parts to write, or none */
-struct iobufs_builder { uint64_t room[IOBUFS_BUILDER_SIZE / 8]; }; /* Builder: a text that is put together, or none */
-struct iobufs_frames { uint64_t room[IOBUFS_FRAMES_SIZE / 8]; };   /* Frames: frames out of a text that comes in pieces */
+struct iobufs_builder { uint64_t room[IOBUFS_BUILDER_SIZE / 8]; }; /* Builder: an iobufs in the making, or none */
+struct iobufs_frames { uint64_t room[IOBUFS_FRAMES_SIZE / 8]; };   /* Frames: frames of bytes that come in chunks */
 
 /* Places. */
 struct iobuf_at { struct iobuf *at; };
@@ -96,39 +96,39 @@ size_t iobuf_size(void);
 size_t iobuf_align(void);
 /* Makes the empty view of memory. No memory. (IoBuf::default) */
 void iobuf_init(struct iobuf *at);
-/* Gives the bytes up; the empty view is left. (Drop) */
+/* Drops the bytes; the empty view is left. (Drop) */
 void iobuf_drop(struct iobuf_at *src);
-/* A copy of n bytes; memory but for 0 bytes. (IoBuf::copy_from_slice) */
+/* A copy of n bytes; memory except for 0 bytes. (IoBuf::copy_from_slice) */
 iobufs_status iobuf_copy_from_slice(const uint8_t *src, size_t n, struct iobuf_at *out);
-/* A view of n bytes that stay where they are for good (duty 4). No memory. (From<&'static [u8]>) */
+/* A view of n static bytes (duty 4). No memory. (From<&'static [u8]>) */
 void iobuf_from_static(const uint8_t *text, size_t n, struct iobuf_at *out);
 /* The number of bytes. (IoBuf::len) */
 size_t iobuf_len(struct iobuf_at *src);
 /* Whether there are none. (IoBuf::is_empty) */
 bool iobuf_is_empty(struct iobuf_at *src);
-/* Writes where the bytes lie, if there are any, and answers how many there are. (AsRef, Buf::chunk) */
+/* Writes a pointer to the bytes, if there are any, and returns how many there are. (AsRef, Buf::chunk) */
 size_t iobuf_chunk(struct iobuf_at *src, const uint8_t **out);
-/* Writes the byte at place i, and answers whether there is one. (own) */
+/* Writes the byte at offset i, and returns whether there is one. (own) */
 bool iobuf_byte_at(struct iobuf_at *src, size_t i, uint8_t *out);
 /* Whether two views hold the same bytes. (PartialEq) */
 bool iobuf_eq(struct iobuf_at *src, struct iobuf_at *other);
 /* Another view of the same bytes, in their storage: no byte is copied. Memory none today. (Clone) */
 iobufs_status iobuf_clone(struct iobuf_at *src, struct iobuf_at *out);
-/* Drops the first n bytes; IOBUFS_OUT_OF_RANGE where there are fewer. (Buf::advance) */
+/* Drops the first n bytes; IOBUFS_OUT_OF_RANGE if there are fewer. (Buf::advance) */
 iobufs_status iobuf_advance(struct iobuf_at *src, size_t n);
-/* Takes the first `at` bytes away, in the same storage; IOBUFS_OUT_OF_RANGE where there are fewer. Memory none today.
+/* Takes the first `at` bytes, in the same storage; IOBUFS_OUT_OF_RANGE if there are fewer. Memory none today.
  * (IoBuf::split_to) */
 iobufs_status iobuf_split_to(struct iobuf_at *src, size_t at, struct iobuf_at *out);
-/* Takes the first n bytes out, in the same storage; IOBUFS_END_OF_BUFFER where there are fewer. Memory none today.
+/* Takes the first n bytes, in the same storage; IOBUFS_END_OF_BUFFER if there are fewer. Memory none today.
  * (take_owned, Buf::copy_to_bytes) */
 iobufs_status iobuf_take(struct iobuf_at *src, size_t n, struct iobuf_at *out);
-/* Copies the first n bytes out and drops them; IOBUFS_END_OF_BUFFER where there are fewer. (Buf::copy_to_slice) */
+/* Copies the first n bytes out and drops them; IOBUFS_END_OF_BUFFER if there are fewer. (Buf::copy_to_slice) */
 iobufs_status iobuf_copy_to_slice(struct iobuf_at *src, uint8_t *dst, size_t n);
-/* The bytes of a range, in the same storage; bounds are `enum iobufs_bound`. IOBUFS_OUT_OF_RANGE where the range doesn't
- * lie within the bytes. Memory none today. (IoBuf::slice) */
+/* The bytes of a range, in the same storage; bounds are `enum iobufs_bound`. IOBUFS_OUT_OF_RANGE if the range isn't
+ * within the bytes. Memory none today. (IoBuf::slice) */
 iobufs_status iobuf_slice(struct iobuf_at *src, uint8_t lo_kind, size_t lo, uint8_t hi_kind, size_t hi, struct iobuf_at *out);
-/* The same bytes as a buffer to write, with the room behind them, if no other view shares their storage; the empty view is
- * left. Else IOBUFS_DECLINED, and the view stays. No memory. (IoBuf::try_into_mut) */
+/* Recovers the storage as a writable buffer, and leaves the empty view; or IOBUFS_DECLINED, and the view stays. It recovers
+ * native storage that no other view shares: tested, not proved. No memory. (IoBuf::try_into_mut) */
 iobufs_status iobuf_try_into_mut(struct iobuf_at *src, struct iobufmut_at *out);
 
 /* ---- iobufmut (IoBufMut): a buffer to write, of a fixed capacity. None reads as one of capacity 0 ---- */
@@ -139,21 +139,21 @@ size_t iobufmut_size(void);
 size_t iobufmut_align(void);
 /* Makes a place with no buffer of memory. No memory. */
 void iobufmut_init(struct iobufmut *at);
-/* Gives the buffer up; none is left. (Drop) */
+/* Drops the buffer; none is left. (Drop) */
 void iobufmut_drop(struct iobufmut_at *part);
-/* An empty buffer of capacity n: memory but for 0; IOBUFS_BAD_LAYOUT above SSIZE_MAX. (IoBufMut::with_capacity) */
+/* An empty buffer of capacity n: memory except for 0; IOBUFS_BAD_LAYOUT above SSIZE_MAX. (IoBufMut::with_capacity) */
 iobufs_status iobufmut_with_capacity(size_t n, struct iobufmut_at *out);
-/* The same for a caller who asks for an alignment, a power of two (else IOBUFS_BAD_LAYOUT, but for 0 bytes); addresses are
- * not promised. Memory but for 0. (with_alignment) */
+/* An empty buffer of capacity n, after testing the alignment, a power of two (otherwise IOBUFS_BAD_LAYOUT, except for 0
+ * bytes); addresses are not promised. Memory except for 0. (with_alignment) */
 iobufs_status iobufmut_with_alignment(size_t n, size_t align, struct iobufmut_at *out);
-/* A buffer of n bytes, all zero: memory but for 0; IOBUFS_BAD_LAYOUT above SSIZE_MAX. (IoBufMut::zeroed) */
+/* A buffer of n bytes, all zero: memory except for 0; IOBUFS_BAD_LAYOUT above SSIZE_MAX. (IoBufMut::zeroed) */
 iobufs_status iobufmut_zeroed(size_t n, struct iobufmut_at *out);
-/* The same for a caller who asks for an alignment, as above. Memory but for 0. (zeroed_with_alignment) */
+/* A buffer of n zeros, after testing the alignment, as above. Memory except for 0. (zeroed_with_alignment) */
 iobufs_status iobufmut_zeroed_with_alignment(size_t n, size_t align, struct iobufmut_at *out);
-/* A copy of n bytes, with no room behind them; memory but for 0 bytes. (From<&[u8]>) */
+/* A copy of n bytes, without spare capacity; memory except for 0 bytes. (From<&[u8]>) */
 iobufs_status iobufmut_copy_from_slice(const uint8_t *src, size_t n, struct iobufmut_at *out);
-/* The bytes of a view: recovered as by iobuf_try_into_mut, else copied (memory); the empty view is left, but where memory
- * is refused both stay. (From<IoBuf>) */
+/* The bytes of a view: recovered as by iobuf_try_into_mut, else copied (memory); the empty view is left. If the
+ * allocation fails, both stay. (From<IoBuf>) */
 iobufs_status iobufmut_from_view(struct iobuf_at *src, struct iobufmut_at *out);
 /* The number of readable bytes. (len) */
 size_t iobufmut_len(struct iobufmut_at *part);
@@ -163,99 +163,99 @@ bool iobufmut_is_empty(struct iobufmut_at *part);
 size_t iobufmut_capacity(struct iobufmut_at *part);
 /* How many bytes may still be put. (BufMut::remaining_mut) */
 size_t iobufmut_remaining_mut(struct iobufmut_at *part);
-/* Writes where the readable bytes lie, if there are any, and answers how many there are; they may be written over there.
+/* Writes a pointer to the readable bytes, if there are any, and returns how many there are; they may be overwritten there.
  * (AsRef, AsMut) */
 size_t iobufmut_chunk(struct iobufmut_at *part, uint8_t **out);
-/* Puts bytes behind those that are readable; IOBUFS_OUT_OF_RANGE where they don't fit. No memory. (BufMut::put_slice) */
+/* Appends bytes; IOBUFS_OUT_OF_RANGE if they don't fit. No memory. (BufMut::put_slice) */
 iobufs_status iobufmut_put_slice(struct iobufmut_at *part, const uint8_t *src, size_t n);
-/* Puts a byte n times; IOBUFS_OUT_OF_RANGE where they don't fit. No memory. (BufMut::put_bytes) */
+/* Puts a byte n times; IOBUFS_OUT_OF_RANGE if they don't fit. No memory. (BufMut::put_bytes) */
 iobufs_status iobufmut_put_bytes(struct iobufmut_at *part, uint8_t value, size_t n);
-/* Puts one byte; IOBUFS_OUT_OF_RANGE where it doesn't fit. No memory. (BufMut::put_u8) */
+/* Puts one byte; IOBUFS_OUT_OF_RANGE if it doesn't fit. No memory. (BufMut::put_u8) */
 iobufs_status iobufmut_put_u8(struct iobufmut_at *part, uint8_t n);
-/* Puts a number of two bytes, the highest first; IOBUFS_OUT_OF_RANGE where it doesn't fit. No memory. (BufMut::put_u16) */
+/* Appends a big-endian number of two bytes; IOBUFS_OUT_OF_RANGE if it doesn't fit. No memory. (BufMut::put_u16) */
 iobufs_status iobufmut_put_u16(struct iobufmut_at *part, uint16_t n);
-/* The same of four bytes. (BufMut::put_u32) */
+/* Appends a big-endian number of four bytes; IOBUFS_OUT_OF_RANGE if it doesn't fit. (BufMut::put_u32) */
 iobufs_status iobufmut_put_u32(struct iobufmut_at *part, uint32_t n);
-/* The same of eight bytes. (BufMut::put_u64) */
+/* Appends a big-endian number of eight bytes; IOBUFS_OUT_OF_RANGE if it doesn't fit. (BufMut::put_u64) */
 iobufs_status iobufmut_put_u64(struct iobufmut_at *part, uint64_t n);
-/* Puts the spelling of a length (see iobufs_length_size); IOBUFS_OUT_OF_RANGE where it doesn't fit. No memory.
+/* Appends a varint length (see iobufs_length_size); IOBUFS_OUT_OF_RANGE if it doesn't fit. No memory.
  * (usize::write) */
 iobufs_status iobufmut_put_length(struct iobufmut_at *part, size_t n);
-/* Writes over n readable bytes from `at` on; IOBUFS_OUT_OF_RANGE where they pass the readable bytes. No memory. (AsMut) */
+/* Writes over n readable bytes from `at` on; IOBUFS_OUT_OF_RANGE if they pass the readable bytes. No memory. (AsMut) */
 iobufs_status iobufmut_write_at(struct iobufmut_at *part, size_t at, const uint8_t *src, size_t n);
 /* Makes n bytes readable; those that were not are zero. IOBUFS_OUT_OF_RANGE above the capacity. No memory. (set_len) */
 iobufs_status iobufmut_set_len(struct iobufmut_at *part, size_t n);
 /* Keeps at most the first n bytes. (truncate) */
 void iobufmut_truncate(struct iobufmut_at *part, size_t n);
-/* Keeps no byte, and the room of all. (clear) */
+/* Keeps no byte, and the capacity. (clear) */
 void iobufmut_clear(struct iobufmut_at *part);
-/* Drops the first n readable bytes; IOBUFS_OUT_OF_RANGE where there are fewer. (Buf::advance) */
+/* Drops the first n readable bytes; IOBUFS_OUT_OF_RANGE if there are fewer. (Buf::advance) */
 iobufs_status iobufmut_advance(struct iobufmut_at *part, size_t n);
-/* Copies the first n bytes out and drops them; IOBUFS_END_OF_BUFFER where there are fewer. (Buf::copy_to_slice) */
+/* Copies the first n bytes out and drops them; IOBUFS_END_OF_BUFFER if there are fewer. (Buf::copy_to_slice) */
 iobufs_status iobufmut_copy_to_slice(struct iobufmut_at *part, uint8_t *dst, size_t n);
-/* The bytes as a view, not copied; no buffer is left. Memory none today; on IOBUFS_MEMORY the buffer is given up. (freeze) */
+/* The bytes as a view, not copied; no buffer is left. Memory none today; on IOBUFS_MEMORY the buffer is dropped. (freeze) */
 iobufs_status iobufmut_freeze(struct iobufmut_at *part, struct iobuf_at *out);
 
-/* ---- iobufs (IoBufs): a text in pieces, none of which is copied ---- */
+/* ---- iobufs (IoBufs): bytes in several chunks, none of which is copied ---- */
 
 /* The library's size of a `struct iobufs`. */
 size_t iobufs_size(void);
 /* The library's alignment of a `struct iobufs`. */
 size_t iobufs_align(void);
-/* Makes the empty text of memory. No memory. (IoBufs::default) */
+/* Makes memory an empty iobufs. No memory. (IoBufs::default) */
 void iobufs_init(struct iobufs *at);
-/* Gives the bytes up; the empty text is left. (Drop) */
+/* Drops the bytes; it is empty then. (Drop) */
 void iobufs_drop(struct iobufs_at *text);
-/* The text of one view, which is left empty. No memory. (From<IoBuf>) */
+/* An iobufs of one view, which is left empty. No memory. (From<IoBuf>) */
 void iobufs_from_view(struct iobuf_at *src, struct iobufs_at *out);
-/* The text of a buffer; none is left. Memory none today; on IOBUFS_MEMORY the buffer is given up. (From<IoBufMut>) */
+/* An iobufs of a writable buffer; none is left. Memory none today; IOBUFS_MEMORY drops the buffer. (From<IoBufMut>) */
 iobufs_status iobufs_from_mut(struct iobufmut_at *part, struct iobufs_at *out);
-/* Another text of the same bytes, in their storage; memory for the row of pieces. (Clone) */
+/* The same bytes once more, in their storage; memory for the deque of chunks. (Clone) */
 iobufs_status iobufs_clone(struct iobufs_at *text, struct iobufs_at *out);
 /* The number of bytes. (IoBufs::len) */
 size_t iobufs_len(struct iobufs_at *text);
 /* Whether there are none. (IoBufs::is_empty) */
 bool iobufs_is_empty(struct iobufs_at *text);
-/* Whether all bytes are in one piece. (is_single) */
+/* Whether all bytes are in one chunk. (is_single) */
 bool iobufs_is_single(struct iobufs_at *text);
-/* The number of pieces that hold bytes. (chunk_count) */
+/* The number of chunks that hold bytes. (chunk_count) */
 size_t iobufs_chunk_count(struct iobufs_at *text);
-/* Writes where the first piece lies, if there are bytes, and answers its length. (Buf::chunk) */
+/* Writes a pointer to the first chunk, if there are bytes, and returns its length. (Buf::chunk) */
 size_t iobufs_chunk(struct iobufs_at *text, const uint8_t **out);
-/* Writes where piece i lies, counted from 0, and answers its length; 0 where there is none. (own) */
+/* Writes a pointer to chunk i, counted from 0, and returns its length; 0 if there is none. (chunk_at) */
 size_t iobufs_chunk_at(struct iobufs_at *text, size_t i, const uint8_t **out);
-/* Fills a list of n for writev with where the first pieces lie, and answers how many it filled. No memory.
- * iobufs_advance then takes the count that writev answers. (Buf::chunks_vectored) */
+/* Fills a list of n for writev with the first chunks, and returns how many it filled. No memory.
+ * iobufs_advance then takes the count that writev returns. (Buf::chunks_vectored) */
 size_t iobufs_chunks(struct iobufs_at *text, struct iobufs_chunk *out, size_t n);
-/* Writes the byte at place i, and answers whether there is one. (own) */
+/* Writes the byte at offset i, and returns whether there is one. (own) */
 bool iobufs_byte_at(struct iobufs_at *text, size_t i, uint8_t *out);
-/* Writes the number of the piece that holds a place, and the bytes before it there; IOBUFS_OUT_OF_RANGE at the end. No
- * memory. (own) */
+/* Writes the index of the chunk that contains an offset, and the distance from its start; IOBUFS_OUT_OF_RANGE at the end.
+ * No memory. (own) */
 iobufs_status iobufs_locate(struct iobufs_at *text, size_t at, size_t *index, size_t *offset);
-/* Puts a view behind the text, and leaves its place empty; at times memory for the row of pieces. IOBUFS_TOO_LONG where the
- * length would pass SIZE_MAX. A refusal leaves both. (append) */
+/* Adds a view at the end, and leaves its place empty; at times memory for the deque of chunks. IOBUFS_TOO_LONG if the
+ * length would pass SIZE_MAX. After an error both are unchanged. (append) */
 iobufs_status iobufs_append(struct iobufs_at *text, struct iobuf_at *piece);
-/* The same in front of the text; IOBUFS_TOO_LONG too. (prepend) */
+/* Adds a view at the start, and leaves its place empty; at times memory; IOBUFS_TOO_LONG as above. (prepend) */
 iobufs_status iobufs_prepend(struct iobufs_at *text, struct iobuf_at *piece);
-/* Takes the first `at` bytes away; IOBUFS_OUT_OF_RANGE where there are fewer; at times memory. (IoBufs::split_to) */
+/* Takes the first `at` bytes; IOBUFS_OUT_OF_RANGE if there are fewer; at times memory. (IoBufs::split_to) */
 iobufs_status iobufs_split_to(struct iobufs_at *text, size_t at, struct iobufs_at *out);
-/* Drops the first n bytes; IOBUFS_OUT_OF_RANGE where there are fewer. No memory. (Buf::advance) */
+/* Drops the first n bytes; IOBUFS_OUT_OF_RANGE if there are fewer. No memory. (Buf::advance) */
 iobufs_status iobufs_advance(struct iobufs_at *text, size_t n);
-/* Copies the first n bytes out and drops them; IOBUFS_END_OF_BUFFER where there are fewer. (Buf::copy_to_slice) */
+/* Copies the first n bytes out and drops them; IOBUFS_END_OF_BUFFER if there are fewer. (Buf::copy_to_slice) */
 iobufs_status iobufs_copy_to_slice(struct iobufs_at *text, uint8_t *dst, size_t n);
-/* Takes the first n bytes out as one view: shared within a piece, a copy (memory) across pieces; IOBUFS_END_OF_BUFFER
- * where there are fewer. (take_owned, Buf::copy_to_bytes) */
+/* Takes the first n bytes as one view: shared within a chunk, a copy (memory) across chunks; IOBUFS_END_OF_BUFFER
+ * if there are fewer. (take_owned, Buf::copy_to_bytes) */
 iobufs_status iobufs_take(struct iobufs_at *text, size_t n, struct iobuf_at *out);
-/* The same behind the first `skip` bytes, which are dropped too. (own) */
+/* Takes the n bytes after the first `skip`, which are dropped too, as one view, as iobufs_take does. (own) */
 iobufs_status iobufs_take_after(struct iobufs_at *text, size_t skip, size_t n, struct iobuf_at *out);
-/* The text as one view, with a copy (memory) of several pieces; the empty text is left, also where that is refused:
- * clone it first to keep it. (coalesce) */
+/* All bytes as one view, with a copy (memory) of several chunks; it is left empty, also after an error: clone it first to
+ * keep it. (coalesce) */
 iobufs_status iobufs_coalesce(struct iobufs_at *text, struct iobuf_at *out);
-/* The only piece as a view; the empty text is left. IOBUFS_DECLINED where there are more, and the text stays. No memory.
+/* The only chunk as a view; it is left empty. IOBUFS_DECLINED if there are more, and it stays. No memory.
  * (try_into_single) */
 iobufs_status iobufs_try_into_single(struct iobufs_at *text, struct iobuf_at *out);
 
-/* ---- iobufsmut (IoBufsMut): buffers to write, strung together. None reads as one part of capacity 0 ---- */
+/* ---- iobufsmut (IoBufsMut): several writable buffers as one. None reads as one part of capacity 0 ---- */
 
 /* The library's size of a `struct iobufsmut`. */
 size_t iobufsmut_size(void);
@@ -263,12 +263,12 @@ size_t iobufsmut_size(void);
 size_t iobufsmut_align(void);
 /* Makes a place with no parts of memory. No memory. */
 void iobufsmut_init(struct iobufsmut *at);
-/* Gives the parts up; none are left. (Drop) */
+/* Drops the buffers; none are left. (Drop) */
 void iobufsmut_drop(struct iobufsmut_at *parts);
 /* The one part of a buffer; none is left. No memory. (From<IoBufMut>) */
 void iobufsmut_from_mut(struct iobufmut_at *part, struct iobufsmut_at *out);
-/* The buffers of n places in order, without those that can hold no byte; none are left there. Memory; where that is
- * refused, or IOBUFS_TOO_LONG, the buffers may be given up. (FromIterator) */
+/* The buffers of n places in order, without those that can hold no byte; none are left there. Memory; on
+ * IOBUFS_MEMORY or IOBUFS_TOO_LONG the buffers may be dropped. (FromIterator) */
 iobufs_status iobufsmut_from_parts(struct iobufmut_at *places, size_t n, struct iobufsmut_at *out);
 /* The number of readable bytes. (len) */
 size_t iobufsmut_len(struct iobufsmut_at *parts);
@@ -282,51 +282,51 @@ size_t iobufsmut_remaining_mut(struct iobufsmut_at *parts);
 size_t iobufsmut_part_count(struct iobufsmut_at *parts);
 /* Whether there is just one. (is_single) */
 bool iobufsmut_is_single(struct iobufsmut_at *parts);
-/* Writes where the first piece of the readable bytes lies, if there are any, and answers its length; it may be written
- * over there. (Buf::chunk) */
+/* Writes a pointer to the first chunk of the readable bytes, if there are any, and returns its length; it may be
+ * overwritten there. (Buf::chunk) */
 size_t iobufsmut_chunk(struct iobufsmut_at *parts, uint8_t **out);
-/* Writes where the readable bytes of part i lie, if it has some, and its capacity (0 where there is no such part), and
- * answers how many they are. (own) */
+/* Writes a pointer to the readable bytes of part i, if it has some, and its capacity (0 if there is no part i), and
+ * returns how many they are. (own) */
 size_t iobufsmut_part_at(struct iobufsmut_at *parts, size_t i, uint8_t **out, size_t *capacity);
-/* Fills a list of n for readv (or writev) with where the first pieces of the readable bytes lie, and answers how many it
+/* Fills a list of n for readv (or writev) with the first chunks of the readable bytes, and returns how many it
  * filled. No memory. To read into parts, set their length first. (Buf::chunks_vectored) */
 size_t iobufsmut_chunks(struct iobufsmut_at *parts, struct iobufs_chunk *out, size_t n);
-/* Writes the readable byte at place i, and answers whether there is one. (own) */
+/* Writes the readable byte at offset i, and returns whether there is one. (own) */
 bool iobufsmut_byte_at(struct iobufsmut_at *parts, size_t i, uint8_t *out);
-/* Puts bytes, part after part; IOBUFS_OUT_OF_RANGE where they don't fit. No memory. (BufMut::put_slice) */
+/* Puts bytes, part after part; IOBUFS_OUT_OF_RANGE if they don't fit. No memory. (BufMut::put_slice) */
 iobufs_status iobufsmut_put_slice(struct iobufsmut_at *parts, const uint8_t *src, size_t n);
-/* Puts a byte n times; IOBUFS_OUT_OF_RANGE where they don't fit. No memory. (BufMut::put_bytes) */
+/* Puts a byte n times; IOBUFS_OUT_OF_RANGE if they don't fit. No memory. (BufMut::put_bytes) */
 iobufs_status iobufsmut_put_bytes(struct iobufsmut_at *parts, uint8_t value, size_t n);
-/* Puts one byte; IOBUFS_OUT_OF_RANGE where it doesn't fit. No memory. (BufMut::put_u8) */
+/* Puts one byte; IOBUFS_OUT_OF_RANGE if it doesn't fit. No memory. (BufMut::put_u8) */
 iobufs_status iobufsmut_put_u8(struct iobufsmut_at *parts, uint8_t n);
-/* Puts a number of two bytes, the highest first; IOBUFS_OUT_OF_RANGE where it doesn't fit. No memory. (BufMut::put_u16) */
+/* Appends a big-endian number of two bytes; IOBUFS_OUT_OF_RANGE if it doesn't fit. No memory. (BufMut::put_u16) */
 iobufs_status iobufsmut_put_u16(struct iobufsmut_at *parts, uint16_t n);
-/* The same of four bytes. (BufMut::put_u32) */
+/* Appends a big-endian number of four bytes; IOBUFS_OUT_OF_RANGE if it doesn't fit. (BufMut::put_u32) */
 iobufs_status iobufsmut_put_u32(struct iobufsmut_at *parts, uint32_t n);
-/* The same of eight bytes. (BufMut::put_u64) */
+/* Appends a big-endian number of eight bytes; IOBUFS_OUT_OF_RANGE if it doesn't fit. (BufMut::put_u64) */
 iobufs_status iobufsmut_put_u64(struct iobufsmut_at *parts, uint64_t n);
-/* Puts the spelling of a length; IOBUFS_OUT_OF_RANGE where it doesn't fit. No memory. (usize::write) */
+/* Appends a varint length; IOBUFS_OUT_OF_RANGE if it doesn't fit. No memory. (usize::write) */
 iobufs_status iobufsmut_put_length(struct iobufsmut_at *parts, size_t n);
 /* Makes n bytes readable, the parts filled in order; those that were not are zero. IOBUFS_OUT_OF_RANGE above the capacity.
  * No memory. (set_len) */
 iobufs_status iobufsmut_set_len(struct iobufsmut_at *parts, size_t n);
-/* Drops the first n readable bytes; a part that is used up keeps its room. IOBUFS_OUT_OF_RANGE where there are fewer. No
+/* Drops the first n readable bytes; a drained part keeps its spare capacity. IOBUFS_OUT_OF_RANGE if there are fewer. No
  * memory. (Buf::advance) */
 iobufs_status iobufsmut_advance(struct iobufsmut_at *parts, size_t n);
-/* Copies the first n bytes out and drops them; IOBUFS_END_OF_BUFFER where there are fewer. (Buf::copy_to_slice) */
+/* Copies the first n bytes out and drops them; IOBUFS_END_OF_BUFFER if there are fewer. (Buf::copy_to_slice) */
 iobufs_status iobufsmut_copy_to_slice(struct iobufsmut_at *parts, uint8_t *dst, size_t n);
-/* Writes over the readable bytes, of which there have to be n: else IOBUFS_OUT_OF_RANGE. (copy_from_slice) */
+/* Overwrites the readable bytes, of which there have to be n: otherwise IOBUFS_OUT_OF_RANGE. (copy_from_slice) */
 iobufs_status iobufsmut_copy_from_slice(struct iobufsmut_at *parts, const uint8_t *src, size_t n);
-/* The parts that hold bytes as the pieces of one text, not copied; none are left. Memory for the row; where that is
- * refused, the parts are given up. (freeze) */
+/* The parts that hold bytes as the chunks of one iobufs, not copied; none are left. Memory for the deque; on
+ * IOBUFS_MEMORY the parts are dropped. (freeze) */
 iobufs_status iobufsmut_freeze(struct iobufsmut_at *parts, struct iobufs_at *out);
-/* The parts as one buffer, with a copy (memory) of several; none are left, also where that is refused. (coalesce) */
+/* The parts as one buffer, with a copy (memory) of several; none are left, also after an error. (coalesce) */
 iobufs_status iobufsmut_coalesce(struct iobufsmut_at *parts, struct iobufmut_at *out);
-/* The only part as a buffer; none are left. IOBUFS_DECLINED where there are more, and they stay. No memory.
+/* The only part as a buffer; none are left. IOBUFS_DECLINED if there are more, and they stay. No memory.
  * (try_into_single) */
 iobufs_status iobufsmut_try_into_single(struct iobufsmut_at *parts, struct iobufmut_at *out);
 
-/* ---- iobufs_builder (Builder): bytes that are put, and views that are pushed, as one text ---- */
+/* ---- iobufs_builder (Builder): bytes that are put, and views that are pushed, as one iobufs ---- */
 
 /* The library's size of a `struct iobufs_builder`. */
 size_t iobufs_builder_size(void);
@@ -334,70 +334,71 @@ size_t iobufs_builder_size(void);
 size_t iobufs_builder_align(void);
 /* Makes a place with no builder of memory. No memory. */
 void iobufs_builder_init(struct iobufs_builder *at);
-/* Gives the builder up; none is left. (Drop) */
+/* Drops the builder; none is left. (Drop) */
 void iobufs_builder_drop(struct iobufs_builder_at *builder);
-/* A builder for so many bytes that are put: memory but for 0; IOBUFS_BAD_LAYOUT above SSIZE_MAX. (Builder::new) */
+/* A builder for this many bytes that are put: memory except for 0; IOBUFS_BAD_LAYOUT above SSIZE_MAX. (Builder::new) */
 iobufs_status iobufs_builder_new(size_t capacity, struct iobufs_builder_at *out);
 /* How many bytes may still be put. (BufMut::remaining_mut) */
 size_t iobufs_builder_remaining_mut(struct iobufs_builder_at *builder);
-/* Puts bytes; IOBUFS_OUT_OF_RANGE where they don't fit. No memory. (BufMut::put_slice) */
+/* Puts bytes; IOBUFS_OUT_OF_RANGE if they don't fit. No memory. (BufMut::put_slice) */
 iobufs_status iobufs_builder_put_slice(struct iobufs_builder_at *builder, const uint8_t *src, size_t n);
-/* Puts a byte n times; IOBUFS_OUT_OF_RANGE where they don't fit. No memory. (BufMut::put_bytes) */
+/* Puts a byte n times; IOBUFS_OUT_OF_RANGE if they don't fit. No memory. (BufMut::put_bytes) */
 iobufs_status iobufs_builder_put_bytes(struct iobufs_builder_at *builder, uint8_t value, size_t n);
-/* Puts one byte; IOBUFS_OUT_OF_RANGE where it doesn't fit. No memory. (BufMut::put_u8) */
+/* Puts one byte; IOBUFS_OUT_OF_RANGE if it doesn't fit. No memory. (BufMut::put_u8) */
 iobufs_status iobufs_builder_put_u8(struct iobufs_builder_at *builder, uint8_t n);
-/* Puts a number of two bytes, the highest first; IOBUFS_OUT_OF_RANGE where it doesn't fit. No memory. (BufMut::put_u16) */
+/* Appends a big-endian number of two bytes; IOBUFS_OUT_OF_RANGE if it doesn't fit. No memory. (BufMut::put_u16) */
 iobufs_status iobufs_builder_put_u16(struct iobufs_builder_at *builder, uint16_t n);
-/* The same of four bytes. (BufMut::put_u32) */
+/* Appends a big-endian number of four bytes; IOBUFS_OUT_OF_RANGE if it doesn't fit. (BufMut::put_u32) */
 iobufs_status iobufs_builder_put_u32(struct iobufs_builder_at *builder, uint32_t n);
-/* The same of eight bytes. (BufMut::put_u64) */
+/* Appends a big-endian number of eight bytes; IOBUFS_OUT_OF_RANGE if it doesn't fit. (BufMut::put_u64) */
 iobufs_status iobufs_builder_put_u64(struct iobufs_builder_at *builder, uint64_t n);
-/* Puts the spelling of a length; IOBUFS_OUT_OF_RANGE where it doesn't fit. No memory. (usize::write) */
+/* Appends a varint length; IOBUFS_OUT_OF_RANGE if it doesn't fit. No memory. (usize::write) */
 iobufs_status iobufs_builder_put_length(struct iobufs_builder_at *builder, size_t n);
-/* Pushes a view, not copied, and leaves its place empty; memory for the row. IOBUFS_DECLINED where there is no builder,
- * IOBUFS_TOO_LONG where the text would pass SIZE_MAX. A refusal leaves both. (Builder::push) */
+/* Pushes a view, not copied, and leaves its place empty; memory for the deque. IOBUFS_DECLINED if there is no builder,
+ * IOBUFS_TOO_LONG if the bytes would pass SIZE_MAX. After an error both are unchanged. (Builder::push) */
 iobufs_status iobufs_builder_push(struct iobufs_builder_at *builder, struct iobuf_at *piece);
-/* All that was put and pushed as a text; no builder is left. No memory is asked for. (Builder::finish) */
+/* All that was put and pushed as an iobufs; no builder is left. No memory is asked for. (Builder::finish) */
 iobufs_status iobufs_builder_finish(struct iobufs_builder_at *builder, struct iobufs_at *out);
 
-/* ---- lengths, as they are spelled: seven bits a byte, lowest first, in the shortest form ---- */
+/* ---- varint lengths: seven bits a byte, lowest first, in the shortest form ---- */
 
-/* How many bytes spell a length: at most ten. No memory. (usize::encode_size) */
+/* The number of bytes of a varint length: at most ten. No memory. (usize::encode_size) */
 size_t iobufs_length_size(size_t n);
-/* Reads the length in front, from lo to hi, and drops its spelling. IOBUFS_END_OF_BUFFER where the spelling may go on
- * behind the end, IOBUFS_INVALID_VARINT, or IOBUFS_INVALID_LENGTH, which writes the length that is outside; each leaves the
- * text. No memory. (usize::read_cfg) */
+/* Reads the length at the front, from lo to hi, and drops it. IOBUFS_END_OF_BUFFER if it may continue after the end,
+ * IOBUFS_INVALID_VARINT, or IOBUFS_INVALID_LENGTH, which writes the length that is outside; after each the bytes are
+ * unchanged. No memory. (usize::read_cfg) */
 iobufs_status iobufs_read_length(struct iobufs_at *text, size_t lo, size_t hi, size_t *out);
-/* The same of a view. (Read) */
+/* Reads the length at the front of a view, as iobufs_read_length does. (Read) */
 iobufs_status iobuf_read_length(struct iobuf_at *src, size_t lo, size_t hi, size_t *out);
-/* Reads the bytes behind a length from lo to hi, as one view: shared within a piece, a copy (memory) across pieces. The
- * statuses of iobufs_read_length, and IOBUFS_END_OF_BUFFER where fewer bytes follow; each leaves both. (IoBuf::read_cfg) */
+/* Reads a length from lo to hi and the bytes after it, as one view: shared within a chunk, a copy (memory) across chunks.
+ * The statuses of iobufs_read_length, and IOBUFS_END_OF_BUFFER if fewer bytes follow; after each both are unchanged.
+ * (IoBuf::read_cfg) */
 iobufs_status iobufs_read_view(struct iobufs_at *text, size_t lo, size_t hi, struct iobuf_at *out);
-/* The same of a view, in its storage. Memory none today. (IoBuf::read_cfg) */
+/* Reads a length and the bytes after it from a view, in its storage. Memory none today. (IoBuf::read_cfg) */
 iobufs_status iobuf_read_view(struct iobuf_at *src, size_t lo, size_t hi, struct iobuf_at *out);
 
-/* ---- numbers of a fixed size, the highest byte first ---- */
+/* ---- big-endian numbers of a fixed size ---- */
 
-/* Reads the byte in front, and drops it; IOBUFS_END_OF_BUFFER where there is none, which leaves both. No memory.
+/* Reads the byte at the front, and drops it; IOBUFS_END_OF_BUFFER if there is none; then both are unchanged. No memory.
  * (u8::read_cfg, Buf::get_u8) */
 iobufs_status iobuf_get_u8(struct iobuf_at *src, uint8_t *out);
-/* The same of two bytes. (u16::read_cfg, Buf::get_u16) */
+/* Reads a big-endian number of two bytes, as iobuf_get_u8 reads a byte. (u16::read_cfg, Buf::get_u16) */
 iobufs_status iobuf_get_u16(struct iobuf_at *src, uint16_t *out);
-/* The same of four bytes. (u32::read_cfg, Buf::get_u32) */
+/* Reads a big-endian number of four bytes, as iobuf_get_u8 reads a byte. (u32::read_cfg, Buf::get_u32) */
 iobufs_status iobuf_get_u32(struct iobuf_at *src, uint32_t *out);
-/* The same of eight bytes. (u64::read_cfg, Buf::get_u64) */
+/* Reads a big-endian number of eight bytes, as iobuf_get_u8 reads a byte. (u64::read_cfg, Buf::get_u64) */
 iobufs_status iobuf_get_u64(struct iobuf_at *src, uint64_t *out);
-/* Reads the byte in front of a text, and drops it; IOBUFS_END_OF_BUFFER where there is none, which leaves both. No memory.
+/* Reads the byte at the front, and drops it; IOBUFS_END_OF_BUFFER if there is none; then both are unchanged. No memory.
  * (u8::read_cfg, Buf::get_u8) */
 iobufs_status iobufs_get_u8(struct iobufs_at *text, uint8_t *out);
-/* The same of two bytes, also across pieces. (u16::read_cfg, Buf::get_u16) */
+/* Reads a big-endian number of two bytes, as iobufs_get_u8 reads a byte. (u16::read_cfg, Buf::get_u16) */
 iobufs_status iobufs_get_u16(struct iobufs_at *text, uint16_t *out);
-/* The same of four bytes. (u32::read_cfg, Buf::get_u32) */
+/* Reads a big-endian number of four bytes, as iobufs_get_u8 reads a byte. (u32::read_cfg, Buf::get_u32) */
 iobufs_status iobufs_get_u32(struct iobufs_at *text, uint32_t *out);
-/* The same of eight bytes. (u64::read_cfg, Buf::get_u64) */
+/* Reads a big-endian number of eight bytes, as iobufs_get_u8 reads a byte. (u64::read_cfg, Buf::get_u64) */
 iobufs_status iobufs_get_u64(struct iobufs_at *text, uint64_t *out);
 
-/* ---- iobufs_frames (Frames): bytes behind their length, out of a text that comes in pieces ---- */
+/* ---- iobufs_frames (Frames): frames, each a varint length and a body, of bytes that come in chunks ---- */
 
 /* The library's size of a `struct iobufs_frames`. */
 size_t iobufs_frames_size(void);
@@ -405,18 +406,18 @@ size_t iobufs_frames_size(void);
 size_t iobufs_frames_align(void);
 /* Makes frames of memory, to which nothing was fed. No memory. (own) */
 void iobufs_frames_init(struct iobufs_frames *at);
-/* Gives what was fed up; nothing is left. (Drop) */
+/* Drops what was fed; nothing is left. (Drop) */
 void iobufs_frames_drop(struct iobufs_frames_at *frames);
 /* How many bytes were fed and not taken. (own) */
 size_t iobufs_frames_len(struct iobufs_frames_at *frames);
-/* What was fed and not taken, as a text that shares its storage; memory for the row. (own) */
+/* The bytes that were fed and not taken, in their storage; memory for the deque. (own) */
 iobufs_status iobufs_frames_rest(struct iobufs_frames_at *frames, struct iobufs_at *out);
-/* Puts a view behind what was fed, and leaves its place empty; at times memory. IOBUFS_TOO_LONG where that would pass
- * SIZE_MAX. A refusal leaves both. (own) */
+/* Adds a view at the end, and leaves its place empty; at times memory. IOBUFS_TOO_LONG if that would pass SIZE_MAX. After
+ * an error both are unchanged. (own) */
 iobufs_status iobufs_frames_feed(struct iobufs_frames_at *frames, struct iobuf_at *piece);
-/* Takes the frame in front, whose length is from lo to hi: shared within a piece, a copy (memory) across pieces.
- * IOBUFS_END_OF_BUFFER where it is not whole yet, IOBUFS_INVALID_VARINT or IOBUFS_INVALID_LENGTH where no bytes behind will
- * make it so; each leaves both. A loop of iobufs_frames_feed and this call is `Frames::run`. (own) */
+/* Takes the first frame, whose length is from lo to hi: shared within a chunk, a copy (memory) across chunks.
+ * IOBUFS_END_OF_BUFFER if it is not whole yet, IOBUFS_INVALID_VARINT or IOBUFS_INVALID_LENGTH if no further bytes make it
+ * whole; after each both are unchanged. A loop of iobufs_frames_feed and this call is `Frames::run`. (own) */
 iobufs_status iobufs_frames_next(struct iobufs_frames_at *frames, size_t lo, size_t hi, struct iobuf_at *out);
 
 #ifdef __cplusplus

@@ -1,4 +1,4 @@
-// Reads commands on named buffers, or steps of the owner machine, a line each, and prints a reply to each.
+// The program: a session over the standard streams.
 #![tactic(auto)]
 
 #[cfg(test)]

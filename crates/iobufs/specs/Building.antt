@@ -1,16 +1,16 @@
--- What has been written to a builder: inline bytes and views, in order.
---     Building, building_items                          what is there; no inline text is empty, and no two are
---                                                       neighbours
---     empty_building, inline_run                        a builder with room for so many inline bytes; inline bytes as
---                                                       an item, or as none
---     IsBuilding, AreInTurn                             what each builder keeps true of it: the room is kept to, and
---                                                       items up to the last view take turns
+-- The value of a builder: inline bytes and pushed views, in order.
+--     Building, building_items                          the items of a builder: no inline run is empty, and no two
+--                                                       are neighbours
+--     empty_building, inline_run                        a builder with space for n inline bytes; inline bytes as an
+--                                                       item, or as none
+--     IsBuilding, AreInTurn                             what holds of each builder: inline bytes fit the capacity,
+--                                                       and items up to the last view alternate
 --     building_put, building_push                       what a put and a push add
 --     building_with, building_after                     what an item adds, and a list of them
 --     building_bytes, building_room, room_for_pushes    all bytes, and how many puts and pushes may still add
---     views_from                                        items as views, the inline ones over native storage of so
---                                                       much room
---     finished                                          the text that is made of it
+--     views_from                                        items as views; the inline ones have native storage of this
+--                                                       capacity
+--     finished                                          the `IoBufs` that is made of it
 use Rattle.std.specs.Prelude.{ℕ, ◌+◌, ◌-◌, ◌^◌, ◌<◌, ◌≤◌, ◌==◌, if◌then◌else◌, List, [], ◌∷◌, ◌++◌, length}
 use Rattle.iobufs_core.specs.View.{View, native_mark}
 use Rattle.iobufs_core.specs.MarkedText.{MarkedText, joined}

@@ -1,17 +1,18 @@
--- Facts for callers of texts and parts, over bytes alone, and the rulesets that hand them to a proof.
---     joining                   what a text holds when a buffer or a text was put to it
---     sending                   a batch of chunks is a front of the text, and what several writes took is what they
---                               took one behind the other
---     storing                   what fills empty parts is their bytes, and those of the text that they freeze to
---     IsSent                    a front of a text went on to a writer, behind what that held, and the rest is left
---     IsStored                  bytes that a reader gave up fill the room of parts
---     length-advanced,          an advance by n drops n bytes; a batch of chunks is a front of the text
+-- Lemmas for callers of `IoBufs` and `IoBufsMut`, over bytes alone, and the rulesets that give them to a proof.
+--     joining                   the bytes after a buffer or an `IoBufs` was added
+--     sending                   a batch of chunks is a prefix of the bytes, and several writes took what each took,
+--                               in order
+--     storing                   the bytes that fill empty buffers are theirs, and those of the `IoBufs` that they
+--                               freeze to
+--     IsSent                    a writer took a prefix of the bytes, after what it held, and the rest is left
+--     IsStored                  bytes that a reader gave fill the spare capacity
+--     length-advanced,          an advance by n drops n bytes; a batch of chunks is a prefix of the bytes
 --     batch_bytes,
 --     front_of_chunks
---     written_front,            what a writer took of a batch it took of the text, and no more than there is
+--     written_front,            what a writer took of a batch it took of the bytes, and no more than there is
 --     written_within
---     stored_done,              emptied parts are full again or their reader is at its end; they hold nothing if they
---     stored_none, room_less    can't; n bytes use up n bytes of room
+--     stored_done,              emptied buffers are full again or their reader is at its end; they hold nothing if
+--     stored_none, room_less    they can't; n bytes take n of the spare capacity
 --     the rest                  what the rulesets cite
 use Rattle.std.specs.Prelude.{◌≡◌, ◌⊎◌, ℕ, ◌+◌, ◌-◌, ◌≤◌, min, Option, None, Some, Result, Ok, Err, List, [], ◌∷◌, ◌++◌, length, take, drop, map, refl}
 use Rattle.std.specs.List.{flat_map}
@@ -95,7 +96,7 @@ pub batch_bytes : {A : Type 0} (bytes_of : A → List ℕ) (slices : List A) (te
     → flat_map bytes_of slices ≡ flat_map (λ chunk. chunk) (take most (text_chunks text))
 batch_bytes bytes_of slices text most is = sym (flat_map-map (λ (chunk : List ℕ). chunk) bytes_of slices) ∙ ap (λ chunks. flat_map (λ chunk. chunk) chunks) is
 
--- and a front of the text
+-- the first bytes of a batch are a prefix of the bytes
 pub front_of_chunks : {A : Type 0} (bytes_of : A → List ℕ) (slices : List A) (text : MarkedText) (most n : ℕ)
     → map bytes_of slices ≡ take most (text_chunks text)
     → n ≤ length (flat_map bytes_of slices) → (n ≤ length text.bytes) × (take n (flat_map bytes_of slices) ≡ take n text.bytes)
@@ -240,7 +241,7 @@ stored_done had has parts old new text cut is frozen done =
     ∙ ap (λ (w : List ℕ). length w) (bytes-parts_frozen new ∙ all.0) in
     elim done [ inl full ↦ inl (omega (arith, long, all.1, full)) | inr ended ↦ inr ended ]
 
--- and hold nothing where they have no capacity
+-- buffers without capacity hold nothing after a store
 pub stored_none : (had has : Option (List ℕ)) (parts old new : List Part) → old ≡ parts_with_len parts 0 → IsStored had has old new → parts_capacity parts ≡ 0
     → length (parts_filled new) ≡ 0
 stored_none had has parts old new cut is none =

@@ -1,6 +1,7 @@
--- Where a place stands among the keys of a text: 0 and its cuts.
---     keys                       the places where pieces begin
---     keys_upto, greatest_key    how many of them are at most p, and the last of these: the piece that p is in
+-- Where an offset is among the keys of a marked text: 0 and its cuts.
+--     keys                       the offsets where chunks begin
+--     keys_upto, greatest_key    how many of them are at most p, and the last of these: the start of the chunk that
+--                                contains p
 use Rattle.std.specs.Prelude.{ℕ, nat_le, List, ◌∷◌, length, map, filter}
 use Rattle.iobufs_core.specs.MarkedText.{MarkedText, key_upto}
 

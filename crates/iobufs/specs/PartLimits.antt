@@ -1,6 +1,6 @@
--- Why a row of parts was not made.
---     IsRowRefusedAt    with the last part, the capacity is more than a number holds (`TooLong`), or there was no
---                       memory for a fourth part or one behind it
+-- Why an `IoBufsMut` was not made.
+--     IsRowRefusedAt    with the last buffer, the capacity is more than a number holds (`TooLong`), or the allocation
+--                       for a fourth or later buffer failed
 use Rattle.std.specs.Prelude.{◌≡◌, ◌<◌, ◌^◌, nat_lt, if◌then◌else◌, List, [], ◌∷◌, ◌++◌, length}
 use Rattle.iobufs_core.specs.Part.{Part, part_capacity}
 use Rattle.iobufs_core.specs.declared.codec.base.BufError.{BufError}

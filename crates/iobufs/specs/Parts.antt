@@ -1,13 +1,14 @@
--- Writable parts strung together: what the contracts of `IoBufsMut` speak of.
---     IsParts, HaveCapacity                          what is kept true of them: at least one, and of several each can
---                                                    hold a byte
---     parts_filled, parts_spare, parts_capacity      the bytes of all, the room of all, and both
---     parts_or_default, with_capacity, kept_parts    never no part; those that can hold a byte; and both of these
---     parts_fill                                     bytes written into the room, in order
---     parts_drained, parts_shared_out                what stays when bytes are dropped or copied out; the same with
---                                                    each part kept
---     parts_with_len, parts_overwritten              so many bytes filled; other bytes written over them
---     parts_chunks, parts_frozen                     the pieces that a reader sees, and the text that they freeze to
+-- The value of an `IoBufsMut`: a list of parts.
+--     IsParts, HaveCapacity                          what holds of them: at least one, and of several each can hold a
+--                                                    byte
+--     parts_filled, parts_spare, parts_capacity      the bytes of all, the spare capacity of all, and the sum of both
+--     parts_or_default, with_capacity, kept_parts    at least one part; those that can hold a byte; and both of these
+--     parts_fill                                     bytes written into the spare capacity, in order
+--     parts_drained, parts_shared_out                what remains when bytes are dropped or copied out; and if each
+--                                                    part is kept
+--     parts_with_len, parts_overwritten              n bytes filled; other bytes written over them
+--     parts_chunks, parts_frozen                     the chunks that a reader sees, and the `IoBufs` that they freeze
+--                                                    to
 --     single_part, parts_coalesced                   the only part, and all as one part
 use Rattle.std.specs.Prelude.{ℕ, Option, None, Some, ◌-◌, ◌^◌, ◌<◌, min, ◌==◌, nat_lt, if◌then◌else◌, List, [], ◌∷◌, length, take, drop, map, filter, flat_map}
 use Rattle.std.specs.List.{sum_by}

@@ -30,8 +30,8 @@ use std::marker::Model;
 use std::ops::{Bound, Range};
 use std::{fmt, mem};
 
-/// A read-only text in pieces (the original's `IoBufs`). Two or more pieces are never empty, and stand in a deque, each
-/// with the place where it ends:
+/// A read-only buffer of several chunks (`IoBufs`). Two or more chunks are never empty, and are in a deque, each with
+/// the offset of its end:
 ///
 /// ```text
 /// text     | a b c | d e | f g h i |
@@ -39,8 +39,8 @@ use std::{fmt, mem};
 /// end          3      5       9       less the base: how many bytes there are up to there
 /// ```
 ///
-/// To join and to split texts moves pieces and copies none of their bytes; the text shares their storage with whoever
-/// else has it. A place is found by a search among the ends, and a split then moves the pieces of the smaller side.
+/// Joining and splitting move chunks and copy none of their bytes. An offset is found by a search among the ends, and a
+/// split then moves the chunks of the smaller side.
 pub struct IoBufs {
     pieces: Pieces,
 }
@@ -76,7 +76,7 @@ impl IoBufs {
         }
     }
 
-    /// The text of a writable buffer (`From<IoBufMut>` of the original).
+    /// Converts a writable buffer (`From<IoBufMut>`).
     pub fn from_mut(part: IoBufMut) -> Result<IoBufs, BufError>
         ensures ok { IfOk result (λ text. text ≡ of_view (part_frozen part)) }
         ensures memory { IsOkUnless result BufError.Memory }
@@ -85,7 +85,7 @@ impl IoBufs {
         Ok(IoBufs::from(part.freeze()?))
     }
 
-    /// The bytes of a vector, in its storage (`From<Vec<u8>>` of the original).
+    /// Takes a `Vec` over without copying (`From<Vec<u8>>`).
     pub fn from_vec(bytes: Vec<u8>) -> Result<IoBufs, BufError>
         ensures ok { IfOk result (λ text. (view : View) × IsAdopted bytes.items view × (text ≡ of_view view)) }
         ensures memory { IsOkUnless result BufError.Memory }
@@ -94,8 +94,8 @@ impl IoBufs {
         Ok(IoBufs::from(IoBuf::from_vec(bytes)?))
     }
 
-    /// Joins buffers in order, and leaves the empty ones out (`FromIterator` of the original). `BufError::TooLong` where
-    /// the bytes of a buffer and those before it together pass `usize::MAX`.
+    /// Joins buffers in order, and leaves out empty ones (`FromIterator`). Fails with `BufError::TooLong` if the bytes
+    /// up to some buffer are more than `usize::MAX`, or with `BufError::Memory`.
     pub fn from_chunks<I: Iterator<Item = IoBuf>>(
         alloc: Global,
         mut chunks: I,
@@ -112,7 +112,7 @@ impl IoBufs {
         Ok(text)
     }
 
-    /// The number of bytes (`IoBufs::len`).
+    /// Returns the number of bytes (`IoBufs::len`).
     pub fn len(&self) -> usize
         ensures value { result ≡ text_len self.now }
         ensures marked { IsMarked self.now }
@@ -120,21 +120,21 @@ impl IoBufs {
         self.pieces.len()
     }
 
-    /// Whether there are no bytes (`IoBufs::is_empty`).
+    /// Returns whether there are no bytes (`IoBufs::is_empty`).
     pub fn is_empty(&self) -> bool
         ensures { result ≡ (text_len self.now == 0) }
     {
         self.len() == 0
     }
 
-    /// Whether all bytes are in one piece.
+    /// Returns whether all bytes are in one chunk (`IoBufs::is_single`).
     pub fn is_single(&self) -> bool
         ensures { result ≡ is_single self.now }
     {
         self.pieces.count() == 1
     }
 
-    /// The number of pieces that hold bytes.
+    /// Returns the number of chunks that hold bytes (`IoBufs::chunk_count`).
     pub fn chunk_count(&self) -> usize
         ensures keys { result ≡ count_of self.now }
         ensures chunks { result ≡ length (text_chunks self.now) }
@@ -146,7 +146,7 @@ impl IoBufs {
         self.pieces.count()
     }
 
-    /// The bytes of a piece, counted from 0.
+    /// Borrows the bytes of a chunk by its index (`IoBufs::chunk_at`).
     pub fn chunk_at(&self, i: usize) -> Option<&[u8]>
         ensures { option_copied result ≡ slice_get (text_chunks self.now) i }
     {
@@ -159,7 +159,7 @@ impl IoBufs {
         }
     }
 
-    /// The only piece, if there are no more.
+    /// Borrows the only chunk, if there is one (`IoBufs::as_single`).
     pub fn as_single(&self) -> Option<&IoBuf>
         ensures { MatchOption result (is_single self.now ≡ false) (λ piece. self.now ≡ of_view piece.now) }
     {
@@ -170,7 +170,7 @@ impl IoBufs {
         }
     }
 
-    /// Its chunks, in order (the original has `for_each_chunk` alone).
+    /// Iterates over the chunks in order (own). The original has `for_each_chunk` alone.
     pub fn chunks(&self) -> Chunks<'_>
         ensures { result ≡ text_chunks self.now }
     {
@@ -180,7 +180,7 @@ impl IoBufs {
         }
     }
 
-    /// Shows each piece that holds bytes, in order.
+    /// Calls `visit` for each chunk that holds bytes, in order (`IoBufs::for_each_chunk`).
     pub fn for_each_chunk<F: FnMut(&[u8])>(&self, mut visit: F)
         requires { F.IsAlwaysCallable visit }
         ensures { (last : F)
@@ -196,7 +196,7 @@ impl IoBufs {
         }
     }
 
-    /// The only piece; the text itself where there are more.
+    /// Returns the only chunk; several come back (`IoBufs::try_into_single`).
     pub fn try_into_single(self) -> Result<IoBuf, IoBufs>
         ensures { MatchResult result (λ piece. self ≡ of_view piece) (λ text. (text ≡ self) × (is_single self ≡ false)) }
     {
@@ -207,7 +207,7 @@ impl IoBufs {
         }
     }
 
-    /// Puts a buffer behind the text. An empty one changes nothing, and an empty text is replaced.
+    /// Adds a buffer at the end (`IoBufs::append`). An empty one changes nothing, and empty bytes are replaced.
     #[inline(always)]
     pub fn append(&mut self, alloc: Global, piece: IoBuf) -> Result<(), Refused<IoBuf>>
         ensures done { OnOk result (self.new ≡ text_append self.old piece) }
@@ -228,7 +228,7 @@ impl IoBufs {
         self.append_any(alloc, piece)
     }
 
-    // The same of any text and any buffer.
+    // Adds any buffer at the end of any `IoBufs`.
     #[inline(never)]
     fn append_any(&mut self, alloc: Global, piece: IoBuf) -> Result<(), Refused<IoBuf>>
         ensures done { OnOk result (self.new ≡ text_append self.old piece) }
@@ -262,7 +262,7 @@ impl IoBufs {
         Ok(())
     }
 
-    /// Puts a buffer in front of the text. An empty one changes nothing, and an empty text is replaced.
+    /// Adds a buffer at the start (`IoBufs::prepend`). An empty one changes nothing, and empty bytes are replaced.
     #[inline(always)]
     pub fn prepend(&mut self, alloc: Global, piece: IoBuf) -> Result<(), Refused<IoBuf>>
         ensures done { OnOk result (self.new ≡ text_prepend self.old piece) }
@@ -283,7 +283,7 @@ impl IoBufs {
         self.prepend_any(alloc, piece)
     }
 
-    // The same of any text and any buffer.
+    // Adds any buffer at the start of any `IoBufs`.
     #[inline(never)]
     fn prepend_any(&mut self, alloc: Global, piece: IoBuf) -> Result<(), Refused<IoBuf>>
         ensures done { OnOk result (self.new ≡ text_prepend self.old piece) }
@@ -317,7 +317,8 @@ impl IoBufs {
         Ok(())
     }
 
-    /// Takes the first `at` bytes away. Whole pieces move, and a piece that holds the place is split.
+    /// Takes the first `at` bytes: moves whole chunks, and splits the one that contains the offset
+    /// (`IoBufs::split_to`).
     pub fn split_to(&mut self, alloc: Global, at: usize) -> Result<IoBufs, BufError>
         requires { at ≤ text_len self.old }
         ensures front { IfOk result (λ front. front ≡ text_split_front self.old at) }
@@ -341,8 +342,7 @@ impl IoBufs {
         Ok(IoBufs { pieces })
     }
 
-    /// Keeps the first `len` bytes, and gives up those behind them as `split_to` does. A text of no more bytes stays as
-    /// it is (`BytesMut::truncate`; the original's texts have no such call).
+    /// Keeps at most the first `len` bytes (own; `BytesMut::truncate`). It drops the rest as `split_to` does.
     pub fn truncate(&mut self, alloc: Global, len: usize) -> Result<(), BufError>
         ensures kept { OnOk result (len < text_len self.old → self.new ≡ text_split_front self.old len) }
         ensures longer { text_len self.old ≤ len → (self.new ≡ self.old) × IsOk result }
@@ -362,8 +362,8 @@ impl IoBufs {
         Ok(())
     }
 
-    /// The bytes of a range as a text of their own, which shares their storage: clones of the pieces that hold them, which
-    /// are found by two searches, cut at both ends (`IoBuf::slice`; the original's texts have no such call).
+    /// Returns the bytes of a range, sharing their storage (own; `IoBuf::slice`). Two searches find the chunks, which
+    /// are cloned and cut at both ends.
     pub fn slice(&self, alloc: Global, range: Range<usize>) -> Result<IoBufs, BufError>
         requires order { range.start ≤ range.end }
         requires inside { range.end ≤ text_len self.now }
@@ -386,15 +386,14 @@ impl IoBufs {
         Ok(text)
     }
 
-    /// Whether its bytes are these, however it is cut (the original's users call `coalesce` first).
+    /// Returns whether the bytes are equal to a slice, for every chunking (own).
     pub fn eq_bytes(&self, bytes: &[u8]) -> bool
         ensures { result ≡ pointwise nat_eq self.now.bytes bytes.now }
     {
         self.len() == bytes.len() && self.pieces.matched(START, bytes).is_some()
     }
 
-    /// The piece that holds a place, and the bytes before it there, by a search among the ends (the original has no
-    /// such call).
+    /// Finds the chunk that contains an offset, by a search among the ends (own).
     pub fn locate(&self, at: usize) -> Located
         requires { at < text_len self.now }
         ensures index { result.index + 1 ≡ keys_upto self.now at }
@@ -406,7 +405,7 @@ impl IoBufs {
         self.pieces.locate(at)
     }
 
-    /// A copy of the bytes, in one vector (the original's users call `coalesce` first).
+    /// Copies the bytes into one vector (own).
     pub fn to_vec(&self, alloc: Global) -> Result<Vec<u8>, BufError>
         ensures ok { IfOk result (λ copy. copy.items ≡ self.now.bytes) }
         ensures memory { IsOkUnless result BufError.Memory }
@@ -419,8 +418,8 @@ impl IoBufs {
         Ok(self.pieces.copy_front(alloc, len)?)
     }
 
-    /// The text as one piece, with a copy where there are several. `BufError::BadLayout` exactly where these hold over
-    /// `isize::MAX` bytes.
+    /// Joins all chunks into one; several are copied (`IoBufs::coalesce`). Fails with `BufError::BadLayout` exactly if
+    /// several hold more than `isize::MAX` bytes.
     pub fn coalesce(self, alloc: Global) -> Result<IoBuf, BufError>
         ensures ok { IfOk result (λ view. of_view view ≡ text_coalesced self) }
         ensures single { is_single self ≡ true → IsOk result }
@@ -649,7 +648,7 @@ impl PartialEq for IoBufs {
 
     ghost laws = { Prim.search (comparing, rules) };
 
-    /// Whether the bytes are the same, however each is cut.
+    /// Returns whether the bytes are equal, for every chunking.
     fn eq(&self, other: &IoBufs) -> bool {
         if self.len() != other.len() {
             return false;
@@ -689,7 +688,7 @@ impl fmt::Debug for IoBufs {
     }
 }
 
-/// The chunks of a text that are left to give, in order; made by `IoBufs::chunks`. Its value is the list of these.
+/// The remaining chunks of an `IoBufs`, in order; made by `IoBufs::chunks`. Its value is the list of these.
 #[derive(Drop)]
 pub struct Chunks<'a> {
     text: &'a IoBufs,
@@ -792,7 +791,7 @@ impl IoBufs {
         Ok(made)
     }
 
-    // The same, where the first piece doesn't hold all of them: apart, so that no view is moved for both.
+    // Takes bytes that the first chunk doesn't hold: a function of its own, so that no view is moved for both.
     #[inline(never)]
     fn take_behind<T: OwnedBytes>(
         &mut self,

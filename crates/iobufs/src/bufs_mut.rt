@@ -21,8 +21,7 @@ use several::Several;
 use std::alloc::Global;
 use std::marker::Model;
 
-/// Writable buffers in a row, read from the front and filled in order (`IoBufsMut`). With two or more, each can hold
-/// a byte:
+/// Writable buffers, read in order and filled in order (`IoBufsMut`). If there are two or more, each can hold a byte:
 ///
 /// ```text
 /// parts    | a b c | . . | d . |
@@ -30,8 +29,8 @@ use std::marker::Model;
 ///                   spare     spare  the next put fills . . and then .
 /// ```
 ///
-/// It shares its storage with nobody. Puts, `set_len` and `advance` ask for no memory; to freeze it asks for the row of
-/// pieces, and for the shared counts of the parts that have none.
+/// It shares its storage with no other buffer. Puts, `set_len` and `advance` don't allocate; `freeze` allocates the
+/// deque of chunks, and the counts of owners that adopted buffers lack.
 pub struct IoBufsMut {
     shape: Shape,
 }
@@ -131,16 +130,16 @@ impl Model for IoBufsMut {
 impl IoBufsMut {
     ghost use Rattle.iobufs.specs.contracts.bufs_mut.IoBufsMut.{the_row};
 
-    /// One part of capacity 0.
+    /// Returns one buffer of capacity 0 (`Default`).
     pub fn default(alloc: Global) -> IoBufsMut
         ensures { result ≡ empty_part 0 ∷ [] }
     {
         IoBufsMut::from(IoBufMut::default(alloc))
     }
 
-    /// The parts of an iterator that can hold a byte; where there are none, one of capacity 0. `BufError::TooLong` where
-    /// a part's capacity and those before it together pass `usize::MAX`, tested before memory is asked for. The first
-    /// three parts that can hold a byte ask for none.
+    /// Collects the buffers that can hold a byte; if there are none, one of capacity 0 (`FromIterator`). Fails with
+    /// `BufError::TooLong` if the capacities up to some buffer are more than `usize::MAX`, before it allocates, or with
+    /// `BufError::Memory`. The first three buffers don't allocate.
     pub fn from_parts<I: Iterator<Item = IoBufMut>>(
         alloc: Global,
         mut items: I,
@@ -165,7 +164,7 @@ impl IoBufsMut {
         Ok(IoBufsMut { shape })
     }
 
-    /// The number of readable bytes.
+    /// Returns the number of readable bytes (`IoBufsMut::len`).
     #[tactic(auto, using(crate::proofs::Parts::PartLaws::sums, crate::proofs::Parts::FewLaws::keeping))]
     pub fn len(&self) -> usize
         ensures { result ≡ length (parts_filled self.now) }
@@ -177,14 +176,14 @@ impl IoBufsMut {
         }
     }
 
-    /// Whether no byte is readable (`IoBufsMut::is_empty`).
+    /// Returns whether no byte is readable (`IoBufsMut::is_empty`).
     pub fn is_empty(&self) -> bool
         ensures { result ≡ (length (parts_filled self.now) == 0) }
     {
         self.len() == 0
     }
 
-    /// How many bytes fit, counted from the first readable one.
+    /// Returns how many bytes fit, counted from the first readable one (`IoBufsMut::capacity`).
     #[tactic(auto, using(crate::proofs::Parts::FewLaws::keeping))]
     pub fn capacity(&self) -> usize
         ensures sum { result ≡ parts_capacity self.now }
@@ -197,8 +196,8 @@ impl IoBufsMut {
         }
     }
 
-    /// Makes `n` bytes readable, the parts filled in order (`IoBufsMut::set_len`, which is unsafe there). Bytes that
-    /// were not are zero.
+    /// Makes `n` bytes readable, filling the buffers in order; bytes that were not are zero (`IoBufsMut::set_len`,
+    /// which is unsafe there).
     #[tactic(auto, using(crate::proofs::Parts::FewLaws::keeping))]
     pub fn set_len(&mut self, n: usize)
         requires { n ≤ parts_capacity self.old }
@@ -211,7 +210,7 @@ impl IoBufsMut {
         }
     }
 
-    /// Writes over the readable bytes.
+    /// Overwrites all readable bytes (`IoBufsMut::copy_from_slice`).
     #[tactic(auto, using(crate::proofs::Parts::FewLaws::keeping))]
     pub fn copy_from_slice(&mut self, src: &[u8])
         requires { length src.now ≡ length (parts_filled self.old) }
@@ -224,7 +223,7 @@ impl IoBufsMut {
         }
     }
 
-    /// The number of parts (the original has no such call).
+    /// Returns the number of buffers (own).
     pub fn part_count(&self) -> usize
         ensures { result ≡ length self.now }
     {
@@ -235,7 +234,7 @@ impl IoBufsMut {
         }
     }
 
-    /// The part at a place, if there is one (the original has no such call).
+    /// Borrows a buffer by its index (own).
     pub fn part_at(&self, i: usize) -> Option<&IoBufMut>
         ensures { option_copied result ≡ slice_get self.now i }
     {
@@ -249,14 +248,14 @@ impl IoBufsMut {
         }
     }
 
-    /// Whether there is just one part.
+    /// Returns whether there is exactly one buffer (`IoBufsMut::is_single`).
     pub fn is_single(&self) -> bool
         ensures { result ≡ (length self.now == 1) }
     {
         self.part_count() == 1
     }
 
-    /// The only part, if there is just one.
+    /// Borrows the only buffer (`IoBufsMut::as_single`).
     pub fn as_single(&self) -> Option<&IoBufMut>
         ensures { option_copied result ≡ single_part self.now }
     {
@@ -267,7 +266,7 @@ impl IoBufsMut {
         }
     }
 
-    /// The only part, to be written: what is written is the new part.
+    /// Borrows the only buffer for writing (`IoBufsMut::as_single_mut`).
     pub fn as_single_mut(&mut self) -> Option<&mut IoBufMut>
         ensures* writes_back { sem 𝓛 (LendsIf the_row part_row self.entry result (λ part. part ∷ []) self.old) }
         ensures value { option_map (λ part. part.now) result ≡ single_part self.old }
@@ -276,7 +275,7 @@ impl IoBufsMut {
         self.shape.single_mut()
     }
 
-    /// The parts that hold bytes, as the pieces of one text.
+    /// Converts the buffers that hold bytes into the chunks of an `IoBufs` (`IoBufsMut::freeze`).
     #[tactic(auto, using(crate::proofs::Parts::Frozen::freezing, crate::proofs::Parts::FewLaws::freezing_few))]
     pub fn freeze(self, alloc: Global) -> Result<IoBufs, BufError>
         ensures ok { IfOk result (λ text. text ≡ parts_frozen self) }
@@ -291,8 +290,8 @@ impl IoBufsMut {
         }
     }
 
-    /// One part as it is; more as a copy of the readable bytes with no room behind them. `BufError::BadLayout` exactly
-    /// where two or more hold over `isize::MAX` bytes.
+    /// Returns one buffer; several are copied, without spare capacity (`IoBufsMut::coalesce`). Fails with
+    /// `BufError::BadLayout` exactly if two or more hold more than `isize::MAX` bytes.
     #[tactic(auto, using(crate::proofs::Parts::Coalesced::coalescing, crate::proofs::Parts::FewLaws::freezing_few))]
     pub fn coalesce(mut self, alloc: Global) -> Result<IoBufMut, BufError>
         ensures ok { IfOk result (λ part. part ≡ parts_coalesced self) }
@@ -310,7 +309,7 @@ impl IoBufsMut {
         }
     }
 
-    /// The only part, if there is just one; several parts come back (`IoBufsMut::try_into_single`).
+    /// Returns the only buffer; several come back (`IoBufsMut::try_into_single`).
     pub fn try_into_single(mut self) -> Result<IoBufMut, IoBufsMut>
         ensures { MatchResult result (λ part. self ≡ part ∷ []) (λ parts. (parts ≡ self) × (single_part self ≡ None)) }
     {
@@ -378,7 +377,7 @@ impl Buf for IoBufsMut {
         }
     }
 
-    /// A part that is used up keeps its room; with two or more, those that can't hold a byte any more go.
+    /// Drops the first `n` bytes. A drained buffer keeps its spare capacity; of several, those without capacity go.
     #[tactic(auto, using(crate::proofs::Parts::FewLaws::keeping))]
     fn advance(&mut self, n: usize) {
         match &mut self.shape {
@@ -398,7 +397,7 @@ impl Buf for IoBufsMut {
         self.advance(dst.len());
     }
 
-    /// Leaves what `advance` leaves, of one part too.
+    /// Takes the first `n` bytes, and leaves what `advance` leaves.
     #[tactic(auto, using(crate::proofs::Parts::PartChunks::reading, crate::proofs::Parts::FewLaws::keeping))]
     fn copy_to_bytes(&mut self, alloc: Global, n: usize) -> Result<Bytes, BufError> {
         if n == 0 {

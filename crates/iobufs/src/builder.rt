@@ -11,15 +11,15 @@ use iobufs_core::codec::{BufError, BufMut, BufsMut, Error, Refused, Write};
 use std::alloc::Global;
 use std::marker::Model;
 
-/// Puts and pushes on their way to one text (`Builder`). All puts share one buffer of a fixed capacity; what is
-/// pushed is not copied:
+/// Puts and pushes that become one `IoBufs` (`Builder`). All puts share one buffer of a fixed capacity; pushed views
+/// are not copied:
 ///
 /// ```text
-/// inline   | a b | c | d e . . |      pushes   X behind a b, Y behind c
+/// inline   | a b | c | d e . . |      pushes   X after a b, Y after c
 /// finished | a b | X | c | Y | d e |
 /// ```
 ///
-/// A put asks for no memory. Finishing splits the inline buffer where views stand, and copies no byte.
+/// A put doesn't allocate. `finish` splits the inline buffer between pushed views, and copies no byte.
 pub struct Builder {
     inline: IoBufMut,
     // What was pushed, behind gaps for the inline bytes.
@@ -70,7 +70,8 @@ fn make_room(pushes: &mut Gapped, pushable: usize, len: usize) -> Result<(), Buf
 }
 
 impl Builder {
-    /// A builder for so many inline bytes and no more. `BufError::BadLayout` above `isize::MAX`.
+    /// Allocates a builder for this many inline bytes (`Builder::new`). Fails with `BufError::BadLayout` above
+    /// `isize::MAX`.
     #[tactic(auto, using(crate::proofs::Building::BuildLaws::building))]
     pub fn new(alloc: Global, capacity: usize) -> Result<Builder, BufError>
         ensures ok { IfOk result (λ b. b ≡ empty_building capacity) }
@@ -87,8 +88,8 @@ impl Builder {
         })
     }
 
-    /// All that was put and pushed, in order. The inline bytes are split where views stand, and not copied. The pushes
-    /// have made the room for all pieces.
+    /// Returns all that was put and pushed, in order, without copying (`Builder::finish`). The pushes have made space
+    /// for all chunks.
     #[tactic(auto, using(crate::proofs::Building::FinishLaws::finishing))]
     pub fn finish(self) -> Result<IoBufs, BufError>
         ensures ok { IfOk result (λ text. text ≡ finished self) }
@@ -205,11 +206,11 @@ impl BufsMut for Builder {
     ghost spends = { built_spends };
 }
 
-/// Encoding into pieces (`EncodeExt`).
+/// Encoding into chunks (`EncodeExt`).
 pub trait EncodeExt: Write {
-    /// The written value as a text: what `write_bufs` puts in one buffer of exactly that size, and what it pushes,
-    /// not copied. `Error::TooLong` where `encode_size` is none, then `Error::BadLayout` where more than
-    /// `isize::MAX` bytes are inline.
+    /// Encodes into chunks: inline bytes in one buffer of exactly their size, pushed views not copied
+    /// (`EncodeExt::encode_iobufs`). Fails with `Error::TooLong` if `encode_size` is `None`, then with
+    /// `Error::BadLayout` if more than `isize::MAX` bytes are inline.
     final fn encode_iobufs(&self, alloc: Global) -> Result<IoBufs, Error>
     where
         Self: Sized,

@@ -1,11 +1,11 @@
-//! Buffers of several pieces: texts to be read, parts to be filled, and a builder of texts.
+//! Buffers of several chunks, and the builder.
 //!
-//! - `bufs`: `IoBufs`, with its traits. Its calls go through `pieces` (one piece or a row) to `row`, a deque that alone
-//!   knows where pieces end, by `search`.
-//! - `bufs_mut`: `IoBufsMut` and its traits; `few` keeps up to three parts in place, `several` a row of them with their
-//!   sums.
+//! - `bufs`: `IoBufs`, with its traits. Its calls go through `pieces` (one chunk or a row) to `row`, a deque that alone
+//!   knows where chunks end, by `search`.
+//! - `bufs_mut`: `IoBufsMut` and its traits; `few` keeps up to three buffers in place, `several` a deque of them with
+//!   their sums.
 //! - `builder`: `Builder`, and `EncodeExt` for every value that can be written.
-//! - `specs/`: the words of public contracts; in `Inside/` how private fields are read, in `Laws/` what impls cite.
+//! - `specs/`: the definitions of public contracts; in `Inside/` how private fields are read, in `Laws/` what impls cite.
 #![tactic(auto)]
 
 pub mod bufs;

@@ -1,4 +1,6 @@
-// iobufs_bench [--sums] [NAME..]: times the workloads, all or those named; with `--sums` what one run of each saw.
+// Times the workloads.
+//
+// iobufs_bench [--sums] [NAME..]: all or those named; with `--sums` prints what one run of each saw.
 #![tactic(auto)]
 
 mod codec;

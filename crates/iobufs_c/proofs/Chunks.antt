@@ -22,7 +22,7 @@ filled_more f g xs zs i x z inside at same so =
     ap (map f) (take_more_set xs i x inside) ∙ map-append f (take i xs) (x ∷ []) ∙ ap (λ ys. ys ++ f x ∷ []) so ∙ ap (λ y. map g (take i zs) ++ y ∷ []) same
     ∙ sym (map-append g (take i zs) (z ∷ [])) ∙ ap (map g) (sym (next_item zs i z at))
 
--- and the places behind it are as they were
+-- the entries after the filled ones are unchanged
 pub rest_more : {X : Type 0} (xs old : List X) (i : ℕ) (x : X) → i < i + 1 → drop i xs ≡ drop i old → drop (i + 1) (slice_set xs i x) ≡ drop (i + 1) old
 rest_more xs old i x less so = drop-set-lt (i + 1) xs i x less ∙ sym (drop-drop 1 i xs) ∙ ap (drop 1) so ∙ drop-drop 1 i old
 

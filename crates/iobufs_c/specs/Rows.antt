@@ -1,12 +1,12 @@
--- What lies at a place, and how a place that holds no buffer reads.
---     part_row, parts_row,     what lies at a place: a buffer of this kind, or none
+-- What a handle's memory holds, and how a handle without a buffer reads.
+--     part_row, parts_row,     what the memory holds: a buffer of this kind, or none
 --     builder_row
---     part_of, parts_of,       what a place shows: none reads as one that holds nothing and takes nothing
+--     part_of, parts_of,       what a handle shows: none reads as one that holds nothing and takes nothing
 --     building_of
---     part_written_at          other bytes written over those that are filled, from a place on
---     chunk_len                the length of a piece that may be there
---     held_parts               the buffers at places, in order
---     bound_of                 a bound as C says it
+--     part_written_at          other bytes written over those that are filled, from an offset on
+--     chunk_len                the length of a chunk that may be there
+--     held_parts               the buffers of handles, in order
+--     bound_of                 a bound in C's form
 use denote.RattleType.{RattleType}
 use Rattle.std.specs.Prelude.{ℕ, ◌+◌, Option, Some, None, List, [], ◌∷◌, ◌++◌, length, take, drop, ◌==◌, if◌then◌else◌}
 use Rattle.iobufs_core.specs.Part.{Part, empty_part, part_overwritten}

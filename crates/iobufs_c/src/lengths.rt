@@ -46,7 +46,7 @@ pub extern "C" fn iobufmut_put_length(part: &mut PartAt, n: usize) -> u8
     Status::Done.code()
 }
 
-/// The same of parts.
+/// Puts a varint length into an `IoBufsMut`.
 #[unsafe(no_mangle)]
 pub extern "C" fn iobufsmut_put_length(parts: &mut PartsAt, n: usize) -> u8
     ensures at { parts.new.at ≡ parts.old.at }
@@ -63,7 +63,7 @@ pub extern "C" fn iobufsmut_put_length(parts: &mut PartsAt, n: usize) -> u8
     Status::Done.code()
 }
 
-/// The same of a builder.
+/// Puts a varint length into a builder.
 #[unsafe(no_mangle)]
 pub extern "C" fn iobufs_builder_put_length(builder: &mut BuilderAt, n: usize) -> u8
     ensures at { builder.new.at ≡ builder.old.at }
@@ -80,8 +80,8 @@ pub extern "C" fn iobufs_builder_put_length(builder: &mut BuilderAt, n: usize) -
     Status::Done.code()
 }
 
-/// Reads the length in front of a text, from `lo` to `hi`, and drops its spelling. A length outside is told too; but it
-/// and each fault leave the text.
+/// Reads the varint length at the front, from `lo` to `hi`, and drops it. A length outside is written to `out`; then,
+/// as after each error, the text is unchanged.
 #[unsafe(no_mangle)]
 pub extern "C" fn iobufs_read_length(
     alloc: Global,
@@ -114,7 +114,7 @@ pub extern "C" fn iobufs_read_length(
     }
 }
 
-/// The same of a view.
+/// Reads the varint length at the front of a view.
 #[unsafe(no_mangle)]
 pub extern "C" fn iobuf_read_length(
     alloc: Global,
@@ -176,7 +176,7 @@ pub extern "C" fn iobufs_read_view(
     }
 }
 
-/// The same of a view: the bytes behind the length, in the same storage.
+/// Reads a length and the bytes after it from a view, in its storage.
 #[unsafe(no_mangle)]
 pub extern "C" fn iobuf_read_view(
     alloc: Global,

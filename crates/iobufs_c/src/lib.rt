@@ -1,9 +1,9 @@
-//! The buffers for C and for Rust: a static library over `iobufs_core`, `iobufs` and `iobufs_frames`.
+//! The static library for C and Rust.
 //!
-//! A buffer lies in memory of the caller, and is reached by its place (`ViewAt`, `PartAt`, ..): a pointer, with the
-//! buffer's value as a ghost. `init` makes a buffer of memory, `get` lends the one at a place. What a call asks of ranges
-//! and room is tested here and answered by a status (`Status`); that places are alive and don't overlap is the caller's
-//! duty, as the header `bindings/include/iobufs.h` says.
+//! A buffer is memory of the caller, reached by its handle (`ViewAt`, `PartAt`, ..): a pointer, with the buffer's value
+//! as a ghost. `init` makes a buffer of memory, `get` borrows the one of a handle. Ranges and space are tested here, and
+//! a status (`Status`) is returned. That handles are alive and don't overlap is the caller's duty, as the header
+//! `bindings/include/iobufs.h` says.
 #![tactic(auto)]
 
 pub mod builder;

@@ -37,7 +37,7 @@ pub extern "C" fn iobufmut_put_u16(part: &mut PartAt, n: u16) -> u8
     Status::Done.code()
 }
 
-/// The same of four bytes.
+/// Puts a big-endian number of four bytes into an `IoBufMut`.
 #[unsafe(no_mangle)]
 pub extern "C" fn iobufmut_put_u32(part: &mut PartAt, n: u32) -> u8
     ensures at { part.new.at ≡ part.old.at }
@@ -54,7 +54,7 @@ pub extern "C" fn iobufmut_put_u32(part: &mut PartAt, n: u32) -> u8
     Status::Done.code()
 }
 
-/// The same of eight bytes.
+/// Puts a big-endian number of eight bytes into an `IoBufMut`.
 #[unsafe(no_mangle)]
 pub extern "C" fn iobufmut_put_u64(part: &mut PartAt, n: u64) -> u8
     ensures at { part.new.at ≡ part.old.at }
@@ -71,7 +71,7 @@ pub extern "C" fn iobufmut_put_u64(part: &mut PartAt, n: u64) -> u8
     Status::Done.code()
 }
 
-/// The same of two bytes, into parts.
+/// Puts a big-endian number of two bytes into an `IoBufsMut`.
 #[unsafe(no_mangle)]
 pub extern "C" fn iobufsmut_put_u16(parts: &mut PartsAt, n: u16) -> u8
     ensures at { parts.new.at ≡ parts.old.at }
@@ -88,7 +88,7 @@ pub extern "C" fn iobufsmut_put_u16(parts: &mut PartsAt, n: u16) -> u8
     Status::Done.code()
 }
 
-/// The same of four bytes, into parts.
+/// Puts a big-endian number of four bytes into an `IoBufsMut`.
 #[unsafe(no_mangle)]
 pub extern "C" fn iobufsmut_put_u32(parts: &mut PartsAt, n: u32) -> u8
     ensures at { parts.new.at ≡ parts.old.at }
@@ -105,7 +105,7 @@ pub extern "C" fn iobufsmut_put_u32(parts: &mut PartsAt, n: u32) -> u8
     Status::Done.code()
 }
 
-/// The same of eight bytes, into parts.
+/// Puts a big-endian number of eight bytes into an `IoBufsMut`.
 #[unsafe(no_mangle)]
 pub extern "C" fn iobufsmut_put_u64(parts: &mut PartsAt, n: u64) -> u8
     ensures at { parts.new.at ≡ parts.old.at }
@@ -122,7 +122,7 @@ pub extern "C" fn iobufsmut_put_u64(parts: &mut PartsAt, n: u64) -> u8
     Status::Done.code()
 }
 
-/// The same of two bytes, into a builder.
+/// Puts a big-endian number of two bytes into a builder.
 #[unsafe(no_mangle)]
 pub extern "C" fn iobufs_builder_put_u16(builder: &mut BuilderAt, n: u16) -> u8
     ensures at { builder.new.at ≡ builder.old.at }
@@ -139,7 +139,7 @@ pub extern "C" fn iobufs_builder_put_u16(builder: &mut BuilderAt, n: u16) -> u8
     Status::Done.code()
 }
 
-/// The same of four bytes, into a builder.
+/// Puts a big-endian number of four bytes into a builder.
 #[unsafe(no_mangle)]
 pub extern "C" fn iobufs_builder_put_u32(builder: &mut BuilderAt, n: u32) -> u8
     ensures at { builder.new.at ≡ builder.old.at }
@@ -156,7 +156,7 @@ pub extern "C" fn iobufs_builder_put_u32(builder: &mut BuilderAt, n: u32) -> u8
     Status::Done.code()
 }
 
-/// The same of eight bytes, into a builder.
+/// Puts a big-endian number of eight bytes into a builder.
 #[unsafe(no_mangle)]
 pub extern "C" fn iobufs_builder_put_u64(builder: &mut BuilderAt, n: u64) -> u8
     ensures at { builder.new.at ≡ builder.old.at }
@@ -194,7 +194,7 @@ pub extern "C" fn iobuf_get_u8(alloc: Global, src: &mut ViewAt, out: &mut u8) ->
     }
 }
 
-/// The same of two bytes.
+/// Takes a big-endian number of two bytes from the front of a view.
 #[unsafe(no_mangle)]
 #[tactic(auto, using(iobufs_core::specs::CallerFacts::reading))]
 pub extern "C" fn iobuf_get_u16(alloc: Global, src: &mut ViewAt, out: &mut u16) -> u8
@@ -214,7 +214,7 @@ pub extern "C" fn iobuf_get_u16(alloc: Global, src: &mut ViewAt, out: &mut u16) 
     }
 }
 
-/// The same of four bytes.
+/// Takes a big-endian number of four bytes from the front of a view.
 #[unsafe(no_mangle)]
 #[tactic(auto, using(iobufs_core::specs::CallerFacts::reading))]
 pub extern "C" fn iobuf_get_u32(alloc: Global, src: &mut ViewAt, out: &mut u32) -> u8
@@ -234,7 +234,7 @@ pub extern "C" fn iobuf_get_u32(alloc: Global, src: &mut ViewAt, out: &mut u32) 
     }
 }
 
-/// The same of eight bytes.
+/// Takes a big-endian number of eight bytes from the front of a view.
 #[unsafe(no_mangle)]
 #[tactic(auto, using(iobufs_core::specs::CallerFacts::reading))]
 pub extern "C" fn iobuf_get_u64(alloc: Global, src: &mut ViewAt, out: &mut u64) -> u8
@@ -254,7 +254,7 @@ pub extern "C" fn iobuf_get_u64(alloc: Global, src: &mut ViewAt, out: &mut u64) 
     }
 }
 
-/// The same of one byte, in front of a text.
+/// Takes a big-endian number of one byte from the front of an `IoBufs`.
 #[unsafe(no_mangle)]
 #[tactic(auto, using(iobufs_core::specs::CallerFacts::reading))]
 pub extern "C" fn iobufs_get_u8(alloc: Global, text: &mut TextAt, out: &mut u8) -> u8
@@ -274,7 +274,7 @@ pub extern "C" fn iobufs_get_u8(alloc: Global, text: &mut TextAt, out: &mut u8) 
     }
 }
 
-/// The same of two bytes, in front of a text.
+/// Takes a big-endian number of two bytes from the front of an `IoBufs`.
 #[unsafe(no_mangle)]
 #[tactic(auto, using(iobufs_core::specs::CallerFacts::reading))]
 pub extern "C" fn iobufs_get_u16(alloc: Global, text: &mut TextAt, out: &mut u16) -> u8
@@ -294,7 +294,7 @@ pub extern "C" fn iobufs_get_u16(alloc: Global, text: &mut TextAt, out: &mut u16
     }
 }
 
-/// The same of four bytes, in front of a text.
+/// Takes a big-endian number of four bytes from the front of an `IoBufs`.
 #[unsafe(no_mangle)]
 #[tactic(auto, using(iobufs_core::specs::CallerFacts::reading))]
 pub extern "C" fn iobufs_get_u32(alloc: Global, text: &mut TextAt, out: &mut u32) -> u8
@@ -314,7 +314,7 @@ pub extern "C" fn iobufs_get_u32(alloc: Global, text: &mut TextAt, out: &mut u32
     }
 }
 
-/// The same of eight bytes, in front of a text.
+/// Takes a big-endian number of eight bytes from the front of an `IoBufs`.
 #[unsafe(no_mangle)]
 #[tactic(auto, using(iobufs_core::specs::CallerFacts::reading))]
 pub extern "C" fn iobufs_get_u64(alloc: Global, text: &mut TextAt, out: &mut u64) -> u8

@@ -101,7 +101,7 @@ pub extern "C" fn iobufmut_with_capacity(alloc: Global, n: usize, out: &mut Part
     }
 }
 
-/// The same, for a caller who asks for an alignment.
+/// Allocates an empty buffer, after testing the alignment.
 #[unsafe(no_mangle)]
 pub extern "C" fn iobufmut_with_alignment(
     alloc: Global,
@@ -142,7 +142,7 @@ pub extern "C" fn iobufmut_zeroed(alloc: Global, n: usize, out: &mut PartAt) -> 
     }
 }
 
-/// The same, for a caller who asks for an alignment.
+/// Allocates a buffer of zeros, after testing the alignment.
 #[unsafe(no_mangle)]
 pub extern "C" fn iobufmut_zeroed_with_alignment(
     alloc: Global,

@@ -364,7 +364,7 @@ pub extern "C" fn iobufs_take(alloc: Global, text: &mut TextAt, n: usize, out: &
     }
 }
 
-/// The same behind the first `skip` bytes, which are dropped too.
+/// Takes the `n` bytes after the first `skip`, which are dropped too.
 #[unsafe(no_mangle)]
 pub extern "C" fn iobufs_take_after(
     alloc: Global,

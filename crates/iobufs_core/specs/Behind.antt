@@ -1,4 +1,4 @@
--- Bytes behind the first of a text.
+-- Bytes after the first of an input.
 use Rattle.std.proofs.Common.{◌≡◌, ℕ, zero, suc, ◌+◌, ◌-◌, ◌<◌, ◌≤◌, List, [], ◌∷◌, length, drop, slice_get, Some, None, ap, sym, refl, ◌∙◌, arith, length-drop}
 use Rattle.std.proofs.lemmas.List.{get_or-drop}
 use Rattle.std.proofs.lemmas.Option.{slice_get-get_or, slice_get_past}

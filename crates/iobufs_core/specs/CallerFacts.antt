@@ -1,13 +1,14 @@
--- Facts for callers, over bytes alone, and the rulesets that hand them to a proof.
---     reading                        bytes behind their length: what is read and what is left are the text, and what
---                                    was written is read back; what a copy or an advance leaves, and a split's front
+-- Lemmas for callers, over bytes alone, and the rulesets that give them to a proof.
+--     reading                        bytes after their length: what is read and what is left are the input, and what
+--                                    was written is read back; what a copy or an advance leaves, and the front of a
+--                                    split
 --     writing                        how long what is written is, and how many of its bytes are inline
---     several_writes                 one write behind another, and a refusal in their middle
---     IsThere                        a view of n bytes stands behind its spelled length in front of a text
---     AreReadBack                    bytes that were written are read back and what stood behind them is left, or
---                                    memory was wanting
---     view_there, one_front          where a view stands; two texts that begin with a body each, and are alike, have
---                                    the same body
+--     several_writes                 several writes in order, and an error in their middle
+--     IsThere                        a view of n bytes follows its varint length at the front
+--     AreReadBack                    bytes that were written are read back and what followed them is left, or an
+--                                    allocation failed
+--     view_there, one_front          where a view is; two inputs that begin with a body each, and are equal, have the
+--                                    same body
 --     read_in_range, read_at_most    the length of what was read is in the range, and no more than its end
 --     the rest                       what the rulesets cite
 use Rattle.std.specs.Prelude.{◌≡◌, ℕ, ◌+◌, ◌^◌, ◌<◌, ◌≤◌, true, Result, Ok, Err, IfOk, IsOkUnless, OnErr, List, [], ◌∷◌, ◌++◌, length, take, drop}
@@ -39,7 +40,7 @@ pub bytes-rest : (text : MarkedText) (n : ℕ) → n ≤ length text.bytes → (
 unfolding text_right
 bytes-rest text n h = grind (arith, nat_tests, common_steps, drop_all)
 
--- and so does an advance
+-- an advance over the first n bytes leaves the others
 pub bytes-advanced : (text : MarkedText) (n : ℕ) → n ≤ length text.bytes → (text_advanced text n).bytes ≡ drop n text.bytes
 unfolding text_right
 bytes-advanced text n h = grind (arith, nat_tests, common_steps, drop_all)
@@ -160,7 +161,7 @@ inline-view view = omega (arith, length-spell (length view.bytes))
 pub bytes-part_frozen : (part : Part) → (part_frozen part).bytes ≡ part.filled
 bytes-part_frozen part = grind (arith, nat_tests, common_steps, nil_from_length)
 
--- and those of a slice
+-- the bytes of a slice are those of its range
 pub bytes-view_between : (view : View) (from to : ℕ) → from ≤ to → to ≤ length view.bytes → (view_between view from to).bytes ≡ drop from (take to view.bytes)
 bytes-view_between view from to order within = grind (arith, nat_tests, common_steps, length-take, drop_all)
 

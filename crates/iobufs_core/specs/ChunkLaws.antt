@@ -1,8 +1,7 @@
 -- The laws of chunks.
---     joined-full_chunks, full_chunks-twice         without its empty chunks a text is the same, and leaving them out
+--     joined-full_chunks, full_chunks-twice         without empty chunks the bytes are equal, and leaving them out
 --                                                   again changes nothing
---     joined-one, full-one, first_one, chunk_one    the same of a text of one chunk: it is the first, and a chunk of
---                                                   its own text
+--     joined-one, full-one, first_one, chunk_one    bytes of one chunk: it is the first, and they join to it
 use Rattle.std.specs.Prelude.{◌≡◌, ℕ, List, [], ◌∷◌, ◌++◌, length, refl}
 use Rattle.std.specs.List.{flat_map}
 use Rattle.std.proofs.Common.{ap, sym, arith, take_all, append-nil}

@@ -1,11 +1,10 @@
--- What is written and what the same value is: the written bytes of a value begin those of no other, and what is read
--- stands in front as it would be written.
---     bytes_one, number_one                     no two bodies, and no two numbers, are written at the front of the
---                                               same text
---     bytes_front, view_in_front,               what was read, written again, is what stands in front
+-- No encoding of a value is a prefix of another's, and what is read is at the front as it would be written.
+--     bytes_one, number_one                     no two bodies, and no two numbers, are written at the front of equal
+--                                               bytes
+--     bytes_front, view_in_front,               what was read, written again, is at the front
 --     length_front, number_front
---     same_view                                 views of the same bytes are written alike, whatever their storage
---     one_drop, bytes-dropped, left_behind      what stays behind written bytes once they are dropped
+--     same_view                                 views of equal bytes have one encoding, whatever their storage
+--     one_drop, bytes-dropped, left_behind      what remains after written bytes once they are dropped
 use Rattle.std.proofs.Common.{◌≡◌, ℕ, ◌+◌, ◌^◌, ◌<◌, ◌≤◌, true, Ok, List, [], ◌∷◌, ◌++◌, length, take, drop, ap, sym, subst, ◌∙◌, refl, arith, append_assoc, length-append, length-drop}
 use Rattle.std.proofs.Math.Seq.{take-append_seam}
 use Rattle.std.proofs.lemmas.List.{take_at, append_cancel_left, drop-drop, drop_at}

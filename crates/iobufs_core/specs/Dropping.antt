@@ -1,7 +1,7 @@
--- How bytes in front of a reader are dropped.
---     Dropping       so many bytes dropped, `by_advance`, which keeps the mark of an only piece that is used up, or
+-- How bytes at the front of a reader are dropped.
+--     Dropping       n bytes dropped, `by_advance`, which keeps the mark of an only chunk that is drained, or
 --                    `by_copy`
---     dropped        the reader behind a list of these
+--     dropped        the reader after a list of these
 --     dropped_len    how many bytes they take away
 use Rattle.std.specs.Prelude.{ℕ, ◌+◌, List, [], ◌∷◌}
 

@@ -1,5 +1,5 @@
--- How an error of a buffer is told by a reader or a writer.
---     error_of    the error of a codec that stands for an error of a buffer: each of the three under its own name
+-- How an error of a buffer is reported by a reader or a writer.
+--     error_of    the codec error for an error of a buffer: each of the three has its own name
 use Rattle.iobufs_core.specs.declared.codec.base.BufError.{BufError}
 use Rattle.iobufs_core.specs.declared.codec.base.BufError.TheVariants as cause
 use Rattle.iobufs_core.specs.declared.codec.base.Error.{Error}

@@ -1,10 +1,10 @@
--- What a value is written as, in order: bytes that are put inline, and views that are pushed.
---     Item, put_item, push_item    bytes that are copied inline, or a view that is handed over as it is
---     item_bytes, items_bytes      what a reader will see of an item, and of a list in order
+-- The encoding of a value, in order: bytes that are put inline, and views that are pushed.
+--     Item, put_item, push_item    bytes that are copied inline, or a view that is pushed as it is
+--     item_bytes, items_bytes      the bytes that a reader will see of an item, and of a list in order
 --     item_inline, items_inline    how many of these bytes are copied
---     item_pushed, items_pushed    how many are handed over
---     IsBegun                      a write that was refused on its way: a beginning of the bytes was written behind
---                                  the old text
+--     item_pushed, items_pushed    how many are pushed
+--     IsBegun                      a write that failed on its way: a prefix of the bytes was written after the old
+--                                  ones
 use Rattle.std.specs.Prelude.{◌≡◌, ℕ, ◌+◌, List, [], ◌∷◌, ◌++◌, length}
 use Rattle.iobufs_core.specs.View.{View}
 

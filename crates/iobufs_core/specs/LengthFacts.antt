@@ -1,11 +1,10 @@
--- Lengths at the front of a text, for laws about formats: whether one is spelled there is decided, what is read of it
--- stays where more bytes follow, and a beginning of what is written may go on.
---     has_length, opened, less         a length is spelled or none is; a spelling may go on or can't; one number is
---                                      less or not
---     HasAnswer, some_answer           reading a length has an answer, whatever the text
---     spelled_later,                   a length, or that there can be none, stays with more bytes behind
+-- Varints at the front of bytes, for laws about formats: whether there is one is decided, a result stays if more bytes
+-- follow, and a prefix of what is written may go on.
+--     has_length, opened, less         there is a varint or none; it may go on or can't; one number is less or not
+--     HasAnswer, some_answer           reading a length has a result, whatever the bytes
+--     spelled_later,                   a length, or that there can be none, stays with more bytes after it
 --     no_length_later, still_closed
---     begun_open                       of what is written each beginning that isn't all may go on
+--     begun_open                       each proper prefix of what is written may go on
 use Rattle.std.specs.Prelude.{◌≡◌, ◌⊎◌, ℕ, zero, suc, ◌+◌, ◌-◌, ◌*◌, ◌^◌, ◌<◌, ◌≤◌, Bool, true, false, nat_lt, Result, Ok, Err, List, [], ◌∷◌, ◌++◌, length, take, drop, refl}
 use Rattle.std.proofs.Common.{arith, inl, inr, ap, sym, subst, ◌∙◌, length-append, length-drop, length-take, take-append-drop}
 use Rattle.std.proofs.Math.Seq.{take-append-add}

@@ -1,21 +1,21 @@
--- Marked texts: the bytes of a chunked text, with a mark at place 0 and at each cut.
---     MarkedText, IsMarked              a finite map from places to marks; the cuts rise, and lie strictly inside
---     IsCut, AreCuts                    one cut, and all from a place on: they rise below the end, and each piece has
---                                       its room
---     of_view, default_text             a view as a text of one piece, and the empty text
---     text_len, is_single               how many bytes; whether they are one piece
---     key_upto, mark_past               the last place up to p that has a mark, with it; and that mark moved on to p
---     mark_at, text_left, text_right    a text seen from a place, and the two sides of it
---     moved_up, moved_down              a cut with bytes put in front of its text, and with bytes taken from there
---     text_split_front, text_rest       what a split answers and leaves
+-- The value of an `IoBufs`: bytes, with a mark at offset 0 and at each cut.
+--     MarkedText, IsMarked              a finite map from offsets to marks; the cuts rise, and are strictly inside
+--     IsCut, AreCuts                    one cut, and all from an offset on: they rise below the end, and each chunk
+--                                       has its capacity
+--     of_view, default_text             a view as an `IoBufs` of one chunk, and the empty one
+--     text_len, is_single               how many bytes; whether they are one chunk
+--     key_upto, mark_past               the last offset up to p that has a mark, with it; and that mark moved on to p
+--     mark_at, text_left, text_right    the mark at an offset, and the two sides of it
+--     moved_up, moved_down              a cut with bytes added before it, and with bytes taken from there
+--     text_split_front, text_rest       what a split returns and leaves
 --     text_advanced, taken_view         what `advance` leaves, and what is taken as one view
---     has_cut_between                   whether bytes span pieces, so that a view of them has to be a copy
---     text_glue                         two texts that aren't empty, one behind the other, with a cut at the seam
---     text_append, text_prepend,        a view behind a text, one in front of it, and several in order
+--     has_cut_between                   whether bytes span chunks, so that a view of them has to be a copy
+--     text_glue                         two that aren't empty, concatenated, with a cut between
+--     text_append, text_prepend,        a view added at the end, one at the start, and several in order
 --     joined
---     text_coalesced                    a text as one piece
---     chunk_count, cut_up,              how many chunks a reader sees, bytes cut up at places, and the chunks of a
---     text_chunks                       text
+--     text_coalesced                    all bytes as one chunk
+--     chunk_count, cut_up,              how many chunks a reader sees, bytes cut at offsets, and the chunks
+--     text_chunks
 use Rattle.std.specs.Prelude.{ℕ, ◌+◌, ◌-◌, ◌<◌, Bool, ◌==◌, ◌&&◌, nat_lt, nat_le, if◌then◌else◌, List, [], ◌∷◌, ◌++◌, length, take, drop, map, filter, fold}
 use Rattle.std.specs.List.{list_any}
 use Rattle.iobufs_core.specs.Chunks.{full_chunks}
@@ -107,8 +107,8 @@ taken_view text skip n =
 unfoldable pub text_glue : MarkedText → MarkedText → MarkedText
 text_glue x y = record { bytes = x.bytes ++ y.bytes; mark = x.mark; cuts = x.cuts ++ (text_len x, y.mark) ∷ map (moved_up (text_len x)) y.cuts }
 
--- what stands when a buffer is put behind a text, or a text behind a buffer: adding an empty buffer changes nothing,
--- and adding to an empty text gives the buffer
+-- a buffer added at the end of a text, or at its start: an empty buffer changes nothing, an empty text becomes the
+-- buffer
 abbrev pub text_append : MarkedText → View → MarkedText
 text_append text view = if length view.bytes == 0 then text else if text_len text == 0 then of_view view else text_glue text (of_view view)
 

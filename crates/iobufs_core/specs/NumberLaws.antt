@@ -1,5 +1,5 @@
--- The written forms of numbers: so many bytes, and no two numbers alike.
---     form_8, form_16, form_32, form_64,    each width is written in its number of bytes, highest first
+-- The encodings of numbers: n bytes, and no two numbers alike.
+--     form_8, form_16, form_32, form_64,    each width is written in its number of bytes, big-endian
 --     form_128
 --     be_bytes_16                           a number that is read of sixteen bytes is written as these
 use Rattle.std.proofs.Common.{◌≡◌, ℕ, zero, suc, ◌+◌, ◌*◌, ◌/◌, ◌%◌, ◌^◌, ◌<◌, List, [], ◌∷◌, ◌++◌, length, take, drop, refl, ap, sym, subst, ◌∙◌, arith}

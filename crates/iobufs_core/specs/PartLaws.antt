@@ -1,7 +1,7 @@
--- Puts into a part compose, and each lessens the room by its length.
---     IsPut                          these bytes fit, and the part became what it is with them put
---     put_nothing, put_unchanged,    no bytes change nothing, two puts are one, and each uses up its bytes of room
---     put_composes, put_lessens
+-- Puts compose, and each takes its length of the spare capacity.
+--     IsPut                          these bytes fit, and the buffer became what it is with them put
+--     put_nothing, put_unchanged,    no bytes change nothing, two puts are one, and each takes its bytes of the spare
+--     put_composes, put_lessens      capacity
 --     part_copied-filled             a copy leaves the other bytes
 use Rattle.std.specs.Prelude.{◌≡◌, ℕ, ◌+◌, ◌-◌, ◌≤◌, List, [], ◌++◌, length, drop}
 use Rattle.std.proofs.Common.{arith, append-nil, append_assoc, length-append, ap, refl, sym, ◌∙◌}

@@ -1,6 +1,6 @@
--- What reading answers of what was written, and of texts that differ in their cuts alone.
---     IsReadBack     the value itself is read back, or memory was wanting
---     IsReadAlike    two readers get the same value or the same refusal, unless memory was wanting to one of them
+-- What reading returns of what was written, and of bytes that differ in their chunking alone.
+--     IsReadBack     the value itself is read back, or an allocation failed
+--     IsReadAlike    two readers get the same value or the same error, unless an allocation failed for one of them
 use Rattle.std.specs.Prelude.{◌≡◌, ◌⊎◌, Result, Ok, Err}
 use Rattle.iobufs_core.specs.declared.codec.base.Error.{Error}
 use Rattle.iobufs_core.specs.declared.codec.base.Error.TheVariants.{Memory}

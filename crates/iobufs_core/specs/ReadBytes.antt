@@ -1,6 +1,6 @@
--- What is left of a reader when bytes behind their length were read.
+-- What is left of a reader when bytes after their length were read.
 --     bytes-taken_view, length-taken_view    what is taken as one view is these bytes, and as many as were asked for
---     left_by_copy, rest_by_copy             a value made of the bytes behind a length is dropped by one copy of
+--     left_by_copy, rest_by_copy             a value made of the bytes after a length is dropped by one copy of
 --                                            length and bytes
 use Rattle.std.proofs.Common.{◌≡◌, ℕ, ◌+◌, ◌≤◌, List, length, take, drop, arith, ap, ◌∙◌, Result, Ok, Err, IfOk, length-append}
 use Rattle.std.proofs.lemmas.Bool.Decides.{nat_tests}

@@ -1,11 +1,11 @@
--- The laws of reading: it doesn't depend on the cuts of a text, and what was written is read back whatever follows.
---     IsOutside                              a length is spelled that the range doesn't admit, and the error tells it
---     IsNumberForm                           how numbers of a width are written: in so many bytes, and no two alike
---     not_both, one_outside, number_fault    a length isn't in the range and outside it too; one error tells it; a
---                                            number only lacks bytes
---     length_alike, bytes_alike,             the cuts of a text change nothing that is read
+-- The laws of reading: it doesn't depend on the chunking, and what was written is read back whatever follows.
+--     IsOutside                              there is a varint that the range doesn't admit, and the error has it
+--     IsNumberForm                           how numbers of a width are written: in n bytes, and no two alike
+--     not_both, one_outside, number_fault    a length isn't both in the range and outside; one error has it; a number
+--                                            only lacks bytes
+--     length_alike, bytes_alike,             the chunking changes nothing that is read
 --     views_alike, number_alike
---     length_back, bytes_back, view_back,    what was written is read back, whatever stands behind it
+--     length_back, bytes_back, view_back,    what was written is read back, whatever follows
 --     number_back
 use Rattle.std.proofs.Common.{◌≡◌, ◌⊎◌, inl, inr, ℕ, ◌+◌, ◌^◌, ◌<◌, ◌≤◌, true, false, Result, Ok, Err, List, ◌++◌, length, take, drop, ap, sym, subst, ◌∙◌, refl, arith, append_assoc, length-append}
 use Rattle.std.proofs.Math.Seq.{take-append_seam}

@@ -1,9 +1,9 @@
--- What values are written as, one behind the other, and a value that is there or not.
+-- The encodings of several values in order, and of a value that may be missing.
 --     joins_two                         the items of both join to what is written of both
 --     inline_append, pushed_append,     of two lists of items, as many bytes are inline, and pushed, as of each; and
 --     inline_few                        no more inline than there are
---     joins-option                      the items of a value behind its tag join to what is written of it
---     begun_first, begun_second         a write that was refused in the first value, or in the second
+--     joins-option                      the items of a tag and a value join to what is written of them
+--     begun_first, begun_second         a write that failed in the first value, or in the second
 use Rattle.std.proofs.Common.{◌≡◌, ℕ, ◌+◌, ◌≤◌, List, [], ◌∷◌, ◌++◌, length, ap, sym, ◌∙◌, refl, arith, append_assoc, length-append}
 use Rattle.std.proofs.Common.{Option, Some, None}
 use Rattle.iobufs_core.specs.WireLaws.{joins-put}

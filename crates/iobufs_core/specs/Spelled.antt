@@ -1,11 +1,11 @@
--- Spelled lengths: one form for each number, and none begins another.
---     grow, spelled, spell-more, spell-last          the spelling of each number, byte after byte
---     one_form, same_form, spell_begins,             one spelling for each number, none of which begins that of
---     spelled_as_one                                 another
---     length-spell, read_off, spelled_front,         at most ten bytes; a spelling read off the front of a text, and
---     spelled_before                                 the other way
---     none_high, none_long, none_zero, none_large    bytes that spell no length: all high, ten of them, a 0 at the
---                                                    end, a number too large
+-- Varints: one form for each number, and none is a prefix of another.
+--     grow, spelled, spell-more, spell-last          the varint of each number, byte after byte
+--     one_form, same_form, spell_begins,             one varint for each number, none of which is a prefix of
+--     spelled_as_one                                 another's
+--     length-spell, read_off, spelled_front,         at most ten bytes; a varint read from the front, and the
+--     spelled_before                                 converse
+--     none_high, none_long, none_zero, none_large    bytes that are no varint: all high, ten of them, a 0 at the end,
+--                                                    a number too large
 --     AreHigh-take, AreHigh-append                   bytes with the top bit set, cut and joined
 use Rattle.std.proofs.Common.{◌≡◌, ℕ, zero, suc, ◌+◌, ◌*◌, ◌/◌, ◌%◌, ◌^◌, ◌<◌, ◌≤◌, Bool, true, false, if◌then◌else◌, List, [], ◌∷◌, ◌++◌, length, take, drop, arith, ap, sym, refl, subst, ◌∙◌, length-take-le, take-append-drop}
 use Rattle.std.specs.Prelude.{nat_lt}
@@ -100,7 +100,7 @@ read_off text k n within small is =
     let len : length (spell n) ≡ k = ap length same ∙ length-take-le k text within in
     ((small, ap (λ m. take m text) len ∙ sym same), sym len)
 
--- and the other way
+-- bytes that begin with a varint have its spelling as a prefix
 pub spelled_front : (text : List ℕ) (n : ℕ) → IsSpelledAt text n → IsSpelling (take (length (spell n)) text) n
 spelled_front text n at = subst (λ xs. IsSpelling xs n) (sym at.1) (spelled n at.0)
 

@@ -1,10 +1,9 @@
--- Spelled lengths: seven bits a byte, lowest first, the top bit set on all bytes but the last.
---     spell, spell_within    the bytes of a length, as they are written; with so many bytes in front of the last at
---                            most
---     IsSpelledAt            a text begins with the spelling of this length
---     IsSpelling, GoesOn     bytes stand for a number, told from their first byte on: it ends there, or goes on
+-- Varints: seven bits a byte, lowest first, the top bit set on all bytes but the last (unsigned LEB128).
+--     spell, spell_within    the bytes of a length; with at most n bytes before the last
+--     IsSpelledAt            bytes begin with the varint of this length
+--     IsSpelling, GoesOn     bytes are the varint of a number, by their first byte: it ends there, or goes on
 --     AreHigh                bytes of which each says that another follows
---     HasNoLength, IsOpen    no length stands in front; more bytes could still make one
+--     HasNoLength, IsOpen    no varint is at the front; more bytes could still make one
 use Rattle.std.specs.Prelude.{◌≡◌, ℕ, zero, suc, ◌+◌, ◌/◌, ◌%◌, ◌*◌, ◌^◌, ◌<◌, ◌≤◌, nat_lt, if◌then◌else◌, List, [], ◌∷◌, length, take}
 
 -- the spelling of a number, with so many bytes in front of the last at most

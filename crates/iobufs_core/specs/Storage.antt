@@ -1,5 +1,5 @@
--- What the storage of a view stands for.
---     stored_view    the bytes that a storage keeps, under the mark of its kind
+-- What the storage of a view represents.
+--     stored_view    the bytes that a storage keeps, with the mark of its kind
 use Rattle.iobufs_core.specs.View.{View, static_mark, bytes_mark, native_mark}
 use Rattle.iobufs_core.specs.declared.buf.view.Storage.{Storage}
 use Rattle.iobufs_core.specs.declared.buf.view.Storage.TheVariants.{Static, Shared, Native}

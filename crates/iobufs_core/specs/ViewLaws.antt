@@ -1,7 +1,7 @@
 -- Views as marked texts without cuts.
---     view_rest-bytes, marked_view        what a split leaves are the other bytes; a view makes a text that is well
---                                         marked
---     text_rest-of_view,                  a view's rest, advance and chunk are those of its text
+--     view_rest-bytes, marked_view        what a split leaves are the other bytes; a view is a well-formed marked
+--                                         text
+--     text_rest-of_view,                  a view's rest, advance and chunk are those of its marked text
 --     advanced-of_view, chunks-of_view
 --     taken_of_view, taken-whole          bytes taken from a view are a slice of it, and all of them the view itself
 use Rattle.std.specs.Prelude.{◌≡◌, ◌≢◌, ℕ, ◌+◌, ◌-◌, ◌≤◌, length, drop, refl, [], ◌∷◌}

@@ -1,18 +1,18 @@
 -- How lengths, numbers and views are written and read.
---     bytes_written, view_written    bytes behind their spelled length, as a reader will see them
---     bytes_items, view_items        the same with the bytes handed over as a view, and just their length copied
---     flag                           the byte of a truth: 1 or 0
---     option_written,                a value that is there behind the byte 1, and the byte 0 where none is; the same in
---     option_items                   items
---     IsLengthRead, IsNoLength       what reading a length answers, and why none is read: the text ends inside it, or
+--     bytes_written, view_written    a varint length and then the bytes, as a reader will see them
+--     bytes_items, view_items        the encoding in items: the length inline, the bytes as a pushed view
+--     flag                           the byte of a `bool`: 1 or 0
+--     option_written,                the byte 1 and a value, or the byte 0; and in items
+--     option_items
+--     IsLengthRead, IsNoLength       what reading a length returns, and why none is read: the bytes end inside it, or
 --                                    it isn't one
---     IsNumberRead, IsInFront        what reading a number of so many bytes answers, and that it stands in front
---     HasView, HasStaticView         a length in the range, and as many bytes behind it; static ones
---     IsViewRead, IsBytesRead,       what reading a view, or a copy of its bytes, answers; and why it is refused
+--     IsNumberRead, IsInFront        what reading a number of n bytes returns, and that it is at the front
+--     HasView, HasStaticView         a length in the range, and as many bytes after it; static ones
+--     IsViewRead, IsBytesRead,       what reading a view, or a copy of its bytes, returns; and why it fails
 --     IsViewFault
---     IsTaken                        a value was made of the bytes behind a length, and one copy took both from the
+--     IsTaken                        a value was made of the bytes after a length, and one copy took both from the
 --                                    reader
---     view_left                      the text once a view and its length are read
+--     view_left                      what is left once a view and its length are read
 use Rattle.std.specs.Prelude.{◌≡◌, ◌⊎◌, ℕ, ◌+◌, ◌^◌, ◌<◌, ◌≤◌, Bool, true, false, if◌then◌else◌, Option, Some, None, Result, Ok, Err, List, [], ◌∷◌, ◌++◌, length, take, drop}
 use Rattle.iobufs_core.specs.Ranges.{in_range}
 use Rattle.iobufs_core.specs.Spelling.{spell, IsSpelledAt, HasNoLength, IsOpen}

@@ -1,4 +1,4 @@
--- What is written is joined of its items.
+-- What is written is what its items join to.
 --     joins-put, joins-view,    the items of bytes, of a view and of a `Bytes` join to what is written of them
 --     joins-bytes
 --     view_of_bytes-bytes       the view of a `Bytes` has its bytes

@@ -1,4 +1,4 @@
-// Sends the frames of the standard input back to the standard output, each as soon as it came.
+// Sends the frames of the standard input to the standard output.
 #![tactic(auto)]
 
 ghost use Rattle.std.specs.Prelude.{◌≡◌};
@@ -28,6 +28,7 @@ fn status(ended: &Result<(), FrameError>) -> u8
     }
 }
 
+// [docs: echo_run]
 fn run(rt: &HostRuntime) -> io::Result<u8> {
     let alloc = rt.alloc();
     let range = RangeCfg { lo: 0, hi: MOST };
@@ -39,6 +40,7 @@ fn run(rt: &HostRuntime) -> io::Result<u8> {
     }
     Ok(status(&ended))
 }
+// [docs end]
 
 fn main(rt: HostRuntime) -> ExitCode {
     match run(&rt) {

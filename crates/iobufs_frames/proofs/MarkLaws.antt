@@ -283,7 +283,7 @@ fed_marks prefix views bodies piece rest new is apart =
     (subst (IsTakenApartWith prefix (text_append (joined views) piece) bodies) (sym is)
     (apart-append prefix (joined views) bodies rest piece (inside-joined views) apart))
 
--- and the frames that it makes whole too
+-- a chunk that is fed, and the frames that it makes whole
 pub fed_on : {Value Refusal : Type 0} (prefix : Prefix) (bodies more : List View) (piece : View) (old fed_to new : MarkedText) (result : Result Value Refusal)
     → fed_to ≡ text_append old piece
     → OnOk result ((text : MarkedText) → IsTakenApartWith prefix text bodies fed_to → IsTakenApartWith prefix text more new)

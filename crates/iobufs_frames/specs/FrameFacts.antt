@@ -1,12 +1,12 @@
--- Facts about frames, for callers.
---     one_end          no frame stands in front for one reason alone
---     stands           a frame stands in front of its bytes: that none does is false
---     none_in_front    a text in front of which no frame stands has none
---     first_is         a frame in front is the first of the text's
---     begins_open,     a beginning of a frame may go on, as nothing may, and what can't be one stays so with more bytes
---     nothing_is_open, behind
+-- Lemmas about frames, for callers.
+--     one_end          there is one reason alone that no frame is at the front
+--     stands           a frame is at the front of its bytes, so it isn't true that none is
+--     none_in_front    bytes without a frame at the front have no frames
+--     first_is         a frame at the front is the first of the frames
+--     begins_open,     a prefix of a frame may go on, as the empty one, and what can't be a frame stays so with more
+--     nothing_is_open, bytes
 --     stays_bad
---     written-append,  frames are written one behind the other, and so is one more; which can follow where its length can
+--     written-append,  frames are written in order, and so is one more, which can follow if its length can
 --     written-push,
 --     one_more
 use Rattle.std.proofs.Common.{◌≡◌, ◌⊎◌, inl, inr, ℕ, ◌+◌, true, false, List, [], ◌∷◌, ◌++◌, length, ap, sym, subst, ◌∙◌, refl, arith, append_assoc, length-append}
@@ -196,7 +196,7 @@ written-append prefix [] gs = refl
 written-append prefix (f ∷ fs) gs = ap (λ xs. frame_written prefix f ++ xs) (written-append prefix fs gs)
     ∙ sym (append_assoc (frame_written prefix f) (all_written prefix fs) (all_written prefix gs))
 
--- and so is one more
+-- one more frame is written after the others
 pub written-push : (prefix : Prefix) (fs : List (List ℕ)) (body : List ℕ)
     → all_written prefix (fs ++ body ∷ []) ≡ all_written prefix fs ++ frame_written prefix body
 written-push prefix fs body = written-append prefix fs (body ∷ []) ∙ ap (λ xs. all_written prefix fs ++ xs) (append-nil (frame_written prefix body))

@@ -1,22 +1,22 @@
--- The frames of a text. A frame is its length, as a prefix says it is written, and behind it so many bytes, its body. What
--- ends in `With` is said of any prefix, and the same name without it is that of spelled lengths.
---     frame_written, all_written   a body behind its length; and several, one behind the other
+-- The frames of some bytes. A frame is a length, written as a prefix says, followed by that many bytes, its body.
+-- Names that end in `With` are for any prefix; without it they are for varint lengths.
+--     frame_written, all_written   a length followed by a body; and several in order
 --     bodies, joined_bytes         the bytes of bodies that are views: each by itself, and all in one
---     IsBehindPrefix,              a body is the view behind its length in front of a text, with its mark; and several
---     IsTakenApartWith             are so, each in what those before it left
+--     IsBehindPrefix,              a body is the view after its length at the front, with its mark; and several are
+--     IsTakenApartWith             so, each in what those before it left
 --     CanFollow, CanAllFollow      the length of a body can be written, and is in the range; and of each
---     LacksFrame                   no whole frame stands in front, and why: more bytes may complete it, or none can
---     HasBodyBytes                 a whole frame with bytes stands in front
---     IsFramedWith, HasFramesWith  a text is these frames and a rest in front of which none stands; and it has such
+--     LacksFrame                   no whole frame is at the front, and why: more bytes may complete it, or none can
+--     HasBodyBytes                 a whole frame with bytes is at the front
+--     IsFramedWith, HasFramesWith  bytes are these frames and a rest that no whole frame begins; and they have such
 --                                  frames
---     IsNextWith, found_of         what taking one frame answers and leaves; the answer told by that of reading a view
---     IsFirstWith, FirstTakenWith, the same told by the frames of the text: the first went, or has bytes that found no
---     BeginsWithBytes              memory
---     AreMoved                     frames went over from the front of a text to the end of a list
---     AreAlike, HaveOneReadingWith two readings of a text are the same; and so are any two
---     BeginningsAreOpenWith,       a beginning of a frame may go on; what can't be a frame stays so whatever follows
+--     IsNextWith, found_of         what taking one frame returns and leaves; the result by that of reading a view
+--     IsFirstWith, FirstTakenWith, the result by the frames of the bytes: the first went, or has bytes whose
+--     BeginsWithBytes              allocation failed
+--     AreMoved                     frames moved from the front of some bytes to the end of a list
+--     AreAlike, HaveOneReadingWith two readings of some bytes are equal; and so are any two
+--     BeginningsAreOpenWith,       a prefix of a frame may go on; what can't be a frame stays so whatever follows
 --     BadStaysBadWith
--- and of spelled lengths
+-- Of varint lengths:
 --     HasNoFrame, HasBytes, IsFramed, HasFrames, IsBehindLength, IsTakenApart, IsNext, IsFirst, HaveOneReading,
 --     BeginningsAreOpen, BadStaysBad
 use Rattle.std.specs.Prelude.{◌≡◌, ◌⊎◌, ℕ, ◌+◌, ◌<◌, ◌≤◌, true, false, Option, None, Some, Result, Ok, Err, List, [], ◌∷◌, ◌++◌, map, flat_map, length}
@@ -46,7 +46,7 @@ pub record CanFollow (prefix : Prefix) (range : RangeCfg) (body : List ℕ) : Ty
   pub small : length body < prefix_limit prefix
   pub inside : in_range range (length body) ≡ true
 
--- the same of each body
+-- each length can be written so, and is in the range
 abbrev pub CanAllFollow : Prefix → RangeCfg → List (List ℕ) → Type 0
 CanAllFollow prefix range [] = Unit {0}
 CanAllFollow prefix range (body ∷ bodies) = CanFollow prefix range body × CanAllFollow prefix range bodies
@@ -120,7 +120,7 @@ pub record BeginsWithBytes (frames : List (List ℕ)) : Type 0 where
   pub first : frames ≡ body ∷ others
   pub some : 0 < length body
 
--- the same of the frames of the text: the first is taken; where there is none, the answer is by the end
+-- of the frames of the bytes the first is taken; if there is none, the end determines the result
 abbrev pub IsFirstWith : Prefix → RangeCfg → List (List ℕ) → End → List ℕ → Result (Option View) Error → List ℕ → Type 0
 IsFirstWith prefix range frames end rest (Ok (Some taken)) new = FirstTakenWith prefix range frames end rest taken.bytes new
 IsFirstWith prefix range frames end rest (Ok None) new = (frames ≡ []) × (end ≡ Open)
@@ -144,7 +144,7 @@ HaveOneReadingWith prefix =
     (range : RangeCfg) (text : List ℕ) (frames others : List (List ℕ)) (end stop : End) (rest left : List ℕ)
     → IsFramedWith prefix range text frames end rest → IsFramedWith prefix range text others stop left → AreAlike frames others end stop rest left
 
--- and it has one
+-- bytes have a list of frames, an end and a rest
 pub record HasFramesWith (prefix : Prefix) (range : RangeCfg) (text : List ℕ) : Type 0 where
   pub frames : List (List ℕ)
   pub end : End

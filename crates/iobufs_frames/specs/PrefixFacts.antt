@@ -1,14 +1,14 @@
--- Facts about lengths in front of a text, for callers.
---     form_of              numbers of one size are written in so many bytes, and no two alike
---     one_length           a text begins with one length
---     length-there,        a length stands in front only where its bytes are there, so none where there are fewer than
---     too_few              a number has
---     length-before,       a length that was written stands in front, also that of a body; and stays whatever follows,
---     length-in_front,     or where less does
+-- Lemmas about lengths at the front of some bytes, for callers.
+--     form_of              numbers of one size are written in that many bytes, and no two alike
+--     one_length           bytes begin with one length
+--     length-there,        a length is at the front only if its bytes are there, so none if there are fewer than a
+--     too_few              number has
+--     length-before,       a length that was written is at the front, also that of a body; and stays whatever
+--     length-in_front,     follows, or where less does
 --     length-later,
 --     length-sooner
---     one_front            one body stands in front, and one text behind it
---     some_length          a length stands in front, or none does
+--     one_front            one body is at the front, and one rest after it
+--     some_length          a length is at the front, or none is
 --     may_be_open          more bytes could make one, or can't
 use Rattle.std.proofs.Common.{◌≡◌, ◌⊎◌, inl, inr, ℕ, ◌<◌, ◌≤◌, Bool, true, false, List, ◌++◌, length, take, refl, ap, sym, subst, ◌∙◌, arith, append_assoc, length-take}
 use Rattle.std.proofs.lemmas.Bool.{false≢true}
@@ -55,7 +55,7 @@ number_long U16 Little n = refl
 number_long U32 Little n = refl
 number_long U64 Little n = refl
 
--- and no two of one size alike
+-- no two numbers of one size are written alike
 pub form_of : (width : Width) (order : ByteOrder) → IsNumberForm (prefix_written (Fixed width order)) (width_size width)
 form_of width order = record {
   long = number_long width order;

@@ -1,8 +1,8 @@
--- How the length in front of a body is written: as it is spelled, or as a number of two, four or eight bytes.
+-- How the length before a body is written: as a varint, or as a number of two, four or eight bytes.
 --     int_width, width_size        the size of a number, in std's words, and in bytes
---     prefix_written, prefix_limit a length as it is written, and the number below which lengths can be
---     prefix_view                  a written length in a block of its own
---     IsLengthAt, HasNoLengthAt    a text begins with this length; and with none
+--     prefix_written, prefix_limit the encoding of a length, and the number below which lengths have one
+--     prefix_view                  an encoded length in a block of its own
+--     IsLengthAt, HasNoLengthAt    bytes begin with this length; and with none
 --     IsOpenAt                     more bytes could still make one
 use Rattle.std.specs.Prelude.{◌≡◌, ℕ, ◌^◌, ◌<◌, List, length, take}
 use Rattle.std.specs.Int.{w16, w32, w64, byte_len, to_be_bytes, to_le_bytes, Width as IntWidth}
@@ -28,7 +28,7 @@ prefix_written Spelled n = spell n
 prefix_written (Fixed width Big) n = to_be_bytes (int_width width) n
 prefix_written (Fixed width Little) n = to_le_bytes (int_width width) n
 
--- a written length in a block of its own, of exactly its size
+-- an encoded length in a block of its own, of exactly its size
 abbrev pub prefix_view : Prefix → ℕ → View
 prefix_view prefix n = record { bytes = prefix_written prefix n; mark = native_mark (length (prefix_written prefix n)) }
 

@@ -1,4 +1,4 @@
-// How the length in front of a body is written, and lengths of a fixed size in front of a text.
+// How the length before a body is written, and lengths of a fixed size.
 ghost use Rattle.std.specs.Prelude.{◌≡◌, ◌≤◌, ◌<◌, ◌+◌, ◌^◌, length, nat_lt, take, MatchOption, SomeIff, IfOk, IfErr, IsErrAnd, IsOkUnless};
 ghost use Rattle.iobufs_core.specs.MarkedText.{text_prepend};
 ghost use Rattle.iobufs_frames.specs.Frames.{frame_written};
@@ -26,7 +26,7 @@ pub enum ByteOrder {
     Little,
 }
 
-/// How the length in front of a body is written.
+/// How the length before a body is written.
 #[derive(Clone, Copy, Debug, PartialEq, Eq)]
 pub enum Prefix {
     /// Seven bits a byte, the lowest first, the top bit set on all bytes but the last (unsigned LEB128).
@@ -36,7 +36,7 @@ pub enum Prefix {
 }
 
 impl Width {
-    /// How many bytes it has.
+    /// Returns how many bytes it has.
     pub fn size(self) -> usize
         ensures { result ≡ width_size self }
     {
@@ -60,7 +60,7 @@ fn front<const N: usize>(text: &IoBufs) -> Option<[u8; N]>
     Some(bytes)
 }
 
-// The number in front, its highest byte first.
+// The big-endian number at the front.
 fn big_in(text: &IoBufs, width: Width) -> Option<usize>
     ensures { MatchOption result (IsOpenAt (Prefix.Fixed width ByteOrder.Big) text.now.bytes) (IsLengthAt (Prefix.Fixed width ByteOrder.Big) text.now.bytes) }
 {
@@ -71,7 +71,7 @@ fn big_in(text: &IoBufs, width: Width) -> Option<usize>
     }
 }
 
-// The number in front, its lowest byte first.
+// The little-endian number at the front.
 fn little_in(text: &IoBufs, width: Width) -> Option<usize>
     ensures { MatchOption result (IsOpenAt (Prefix.Fixed width ByteOrder.Little) text.now.bytes)
         (IsLengthAt (Prefix.Fixed width ByteOrder.Little) text.now.bytes) }
@@ -83,7 +83,7 @@ fn little_in(text: &IoBufs, width: Width) -> Option<usize>
     }
 }
 
-/// The length in front, if all its bytes are there.
+/// Returns the length at the front, if all its bytes are there.
 pub(crate) fn length_in(text: &IoBufs, width: Width, order: ByteOrder) -> Option<usize>
     ensures { MatchOption result (IsOpenAt (Prefix.Fixed width order) text.now.bytes) (IsLengthAt (Prefix.Fixed width order) text.now.bytes) }
 {
@@ -93,7 +93,7 @@ pub(crate) fn length_in(text: &IoBufs, width: Width, order: ByteOrder) -> Option
     }
 }
 
-// A length as it is spelled.
+// A length as a varint.
 fn spelled(alloc: Global, n: usize) -> Result<IoBuf, BufError>
     ensures view { IfOk result (λ view. view ≡ prefix_view Prefix.Spelled n) }
     ensures memory { IsOkUnless result BufError.Memory }
@@ -105,7 +105,7 @@ fn spelled(alloc: Global, n: usize) -> Result<IoBuf, BufError>
 }
 
 impl Prefix {
-    /// Whether a length can be written so.
+    /// Returns whether a length can be written so.
     pub fn fits(self, n: usize) -> bool
         ensures { result ≡ nat_lt n (prefix_limit self) }
     {
@@ -116,7 +116,7 @@ impl Prefix {
         }
     }
 
-    /// A length as it is written.
+    /// Encodes a length.
     pub fn written(self, alloc: Global, n: usize) -> Result<IoBuf, BufError>
         requires { n < prefix_limit self }
         ensures view { IfOk result (λ view. view ≡ prefix_view self n) }
@@ -146,7 +146,7 @@ impl Prefix {
     }
 }
 
-// How many bytes a body of so many is together with its length; none where that passes `usize::MAX`.
+// The size of a frame with a body of `len` bytes; `None` above `usize::MAX`.
 fn framed_size(prefix: Prefix, len: usize) -> Option<usize>
     ensures { SomeIff result (length (prefix_written prefix len) + len < 2 ^ 64) (length (prefix_written prefix len) + len) }
 {
@@ -157,8 +157,8 @@ fn framed_size(prefix: Prefix, len: usize) -> Option<usize>
     size.checked_add(len)
 }
 
-/// A body behind its length; its chunks aren't copied. `BufError::TooLong` where the length can't be written so (see
-/// `Prefix::fits`), or both are longer than `usize::MAX`, tested before memory is asked for.
+/// Prepends its length to a body, whose chunks aren't copied. Fails with `BufError::TooLong` if the length can't be
+/// written so (see `Prefix::fits`) or only if both are longer than `usize::MAX`, before it allocates.
 pub fn framed_with(
     alloc: Global,
     prefix: Prefix,

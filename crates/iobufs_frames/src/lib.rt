@@ -1,4 +1,4 @@
-// Frames on a text that comes in pieces: a body behind its length, one behind the other.
+// Frames of bytes that come in chunks: each is a length followed by a body.
 #![tactic(auto)]
 
 ghost use Rattle.std.specs.Prelude.{◌≡◌, ◌≢◌, ◌⊎◌, ℕ, ◌+◌, ◌^◌, ◌<◌, ◌≤◌, List, [], ◌∷◌, ◌++◌, length, OnOk, OnErr, IfOk, IfErr, IsOk, IsErrAnd, IsOkUnless, IfNone, IfSome};
@@ -18,19 +18,18 @@ pub use lengths::{ByteOrder, Prefix, Width, framed_with};
 use std::alloc::Global;
 use std::marker::Model;
 
-/// Why no further frame stands behind the frames of a text.
+/// Why no further frame follows the frames of some bytes.
 #[derive(Clone, Copy, Debug, PartialEq, Eq)]
 pub enum End {
-    /// A length may go on, or fewer bytes stand behind a length in the range than it says. That more
-    /// bytes make a frame whole is not said: each length that begins with `80 80 80` is above 1024, and yet these bytes
-    /// are open in 0 to 1024.
+    /// The length may continue, or fewer bytes follow a length in the range than it says. More bytes need not make a
+    /// frame whole: each length that begins with `80 80 80` is above 1024, and yet these bytes are open in 0 to 1024.
     Open,
-    /// No bytes behind will: `Error::InvalidVarint`, or `Error::InvalidLength`.
+    /// No further bytes make a frame: `Error::InvalidVarint`, or `Error::InvalidLength`.
     Bad(Error),
 }
 
-/// A text that is fed at its end, and of which whole frames are taken from the front. A frame is a body behind its
-/// length: that is spelled, as `IoBuf::write` puts a view, or a number (`Prefix`).
+/// Bytes that are fed at the end, and whole frames that are taken from the front. A frame is a length followed by a
+/// body; the length is a varint, as `IoBuf::write` puts it, or a number (`Prefix`).
 pub struct Frames {
     rest: IoBufs,
 }
@@ -63,7 +62,7 @@ impl Default for Frames {
     }
 }
 
-// A frame that ends behind the text isn't there yet.
+// Turns a frame that isn't whole yet into `None`.
 fn found(read: Result<IoBuf, Error>) -> Result<Option<IoBuf>, Error>
     ensures { result ≡ found_of read }
 {
@@ -75,14 +74,14 @@ fn found(read: Result<IoBuf, Error>) -> Result<Option<IoBuf>, Error>
 }
 
 impl Frames {
-    /// The bytes that were fed and not taken.
+    /// Borrows the bytes that were fed and not taken.
     pub fn rest(&self) -> &IoBufs
         ensures { result.now ≡ self.now }
     {
         &self.rest
     }
 
-    /// Puts bytes behind the rest, as `IoBufs::append` does.
+    /// Adds bytes at the end, as `IoBufs::append` does.
     pub fn feed(&mut self, alloc: Global, piece: IoBuf) -> Result<(), Refused<IoBuf>>
         ensures done { OnOk result (self.new ≡ text_append self.old piece) }
         ensures bytes { OnOk result (self.new.bytes ≡ self.old.bytes ++ piece.bytes) }
@@ -96,9 +95,9 @@ impl Frames {
         self.rest.append(alloc, piece)
     }
 
-    /// Takes the whole frame in front; none where the front is open (`End::Open`). `Error::InvalidVarint` and
-    /// `Error::InvalidLength` where no bytes behind will, `Error::Memory` where there is no memory to take it. All
-    /// but a taken frame leave the rest as it was.
+    /// Takes the first frame; `None` if it is not whole yet. Fails with `Error::InvalidVarint` or
+    /// `Error::InvalidLength` if no further bytes can make it whole, or with `Error::Memory`. Unless a frame is taken,
+    /// the rest is unchanged.
     pub fn next(&mut self, alloc: Global, range: &RangeCfg) -> Result<Option<IoBuf>, Error>
         ensures next { IsNext range.now self.old.bytes result self.new.bytes }
         ensures body { IfOk result (λ found. IfSome found (λ body. IsBehindLength self.old body)) }
@@ -111,7 +110,8 @@ impl Frames {
         found(IoBuf::read_cfg(alloc, &mut self.rest, range))
     }
 
-    /// As `next`, of frames whose lengths are written in another way. `Error::InvalidVarint` is of spelled ones alone.
+    /// Takes the first frame whose length is written as `prefix`, as `next` does. Fails with `Error::InvalidLength`,
+    /// `Error::Memory`, or for varints `Error::InvalidVarint`.
     pub fn next_with(
         &mut self,
         alloc: Global,
@@ -133,7 +133,7 @@ impl Frames {
         }
     }
 
-    // The same of lengths of a fixed size.
+    // Takes the first frame whose length is a number of a fixed size.
     fn next_fixed(
         &mut self,
         alloc: Global,
@@ -171,7 +171,7 @@ impl Frames {
         rest
     }
 
-    // Moves the frame in front behind those that were found; where there is none, says why.
+    // Moves the first frame to the end of those that were found; if there is none, returns why.
     fn move_frame(
         &mut self,
         alloc: Global,
@@ -200,7 +200,7 @@ impl Frames {
         }
     }
 
-    // Moves all whole frames in front behind those that were found, and says why there is no further one.
+    // Moves all whole frames to the end of those that were found, and returns why there is no further one.
     fn move_frames(
         &mut self,
         alloc: Global,
@@ -222,7 +222,7 @@ impl Frames {
         }
     }
 
-    // Puts a piece behind the rest, and moves the frames that it makes whole, unless the front was bad before.
+    // Adds a chunk to the rest, and moves the frames that it makes whole, unless the rest was bad before.
     fn feed_and_move(
         &mut self,
         alloc: Global,
@@ -248,8 +248,8 @@ impl Frames {
         }
     }
 
-    /// The frames of a text that comes in pieces, taken as soon as each is whole. `BufError::TooLong` only where the
-    /// text is longer than `usize::MAX`. A refusal gives the pieces up.
+    /// Takes all frames of bytes that come in chunks, each as soon as it is whole. Fails with `BufError::TooLong` only
+    /// if the bytes are more than `usize::MAX`. An error drops the chunks.
     pub fn run(alloc: Global, pieces: Vec<IoBuf>, range: &RangeCfg) -> Result<Run, BufError>
         ensures framed { IfOk result (λ run. IsFramed range.now (joined_bytes pieces.items) (bodies run.frames.items) run.stop run.rest.bytes) }
         ensures marks { IfOk result (λ run. IsTakenApart (joined pieces.items) run.frames.items run.rest) }
@@ -260,8 +260,8 @@ impl Frames {
         Frames::run_with(alloc, Prefix::Spelled, pieces, range)
     }
 
-    /// As `run`, of frames whose lengths are written in another way. An end of `Error::InvalidVarint` is of spelled ones
-    /// alone.
+    /// Acts as `run` for lengths that are written as `prefix`. Fails with `BufError::TooLong` or `BufError::Memory` as
+    /// `run` does; only varints end with an invalid varint.
     pub fn run_with(
         alloc: Global,
         prefix: Prefix,
@@ -289,20 +289,19 @@ impl Frames {
     }
 }
 
-/// What stands in a text that came in pieces.
+/// The frames of bytes that came in chunks.
 #[derive(Drop)]
 pub struct Run {
     /// The bodies of its frames, in order.
     pub frames: Vec<IoBuf>,
-    /// Why no further one stands behind them.
+    /// Why no further one follows.
     pub stop: End,
-    /// What is behind them.
+    /// The bytes after them.
     pub rest: IoBufs,
 }
 
-/// Does nothing. Its contract is a law: a text has one list of frames, one end and one rest in a range, and no other. So
-/// what `Frames::run` answers depends on the joined text alone, however it was cut. A beginning of a frame is open, and
-/// what is bad stays bad.
+/// Does nothing. Its contract is a law: bytes have exactly one list of frames, one end and one rest in a range. So
+/// `Frames::run` returns the same for every chunking. A prefix of a frame is open, and a bad rest stays bad.
 pub fn frames_law()
     ensures one { HaveOneReading }
     ensures some { (range : RangeCfg) (text : List ℕ) → HasFrames range text }
@@ -310,8 +309,8 @@ pub fn frames_law()
     ensures bad { BadStaysBad }
 {}
 
-/// Does nothing. Its contract is the same law of lengths in any form: what `Frames::run_with` answers, or `next_with`, one
-/// call behind the other, depends on the joined text alone, however it was cut.
+/// Does nothing. Its contract is `frames_law` for lengths of any form, and so holds of `Frames::run_with`, and of
+/// `next_with` called in order.
 pub fn prefixes_law()
     ensures one { (prefix : AnyPrefix) → HaveOneReadingWith prefix }
     ensures some { (prefix : AnyPrefix) (range : RangeCfg) (text : List ℕ) → HasFramesWith prefix range text }

@@ -1,4 +1,4 @@
-// A journal in a file: puts lines behind it as records, prints its records, says how it ends, and cuts off a torn end.
+// A program: a journal of lines in a file.
 #![tactic(auto)]
 
 mod commands;

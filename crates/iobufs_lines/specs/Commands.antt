@@ -1,4 +1,4 @@
--- Commands as plain values: what a command says, wherever its bytes and lists lie.
+-- Commands as plain values: what a command says, wherever its bytes and lists are.
 --     Command, Item        every command with what it says, and an item of a text that is built: bytes, or the name
 --                          of a view
 --     plain, plain_item    such a value for a command as the program keeps it, and for an item

@@ -1,13 +1,13 @@
--- Replies as lines of text.
+-- Replies as lines.
 --     reply_text, line_of                             a reply as it is printed, and its line
---     kind_text, piece_text                           the first word of what is shown; each piece in hexadecimal
---                                                     digits, of a part with the room behind it
---     held_text                                       the same of a piece of what a name holds
+--     kind_text, piece_text                           the first word of what is shown; each chunk in hexadecimal
+--                                                     digits, of a writable buffer with its spare capacity
+--     held_text                                       what is printed of a chunk that a name holds
 --     IsPrinted                                       a command is answered by one step, and the line of its reply is
---                                                     put behind a text
+--                                                     appended
 --     ReplyFits, PieceFits, PiecesFit, RefusalFits    what the program replies: bytes are bytes, lengths fit a
---                                                     `usize`, and only parts have room
---     OneReplyALine                                   replies that print the same line say the same
+--                                                     `usize`, and only writable buffers have spare capacity
+--     OneReplyALine                                   replies that print one line are equal
 use Rattle.std.specs.Prelude.{◌≡◌, ℕ, ◌<◌, ◌^◌, List, [], ◌∷◌, ◌++◌, codes, flat_map}
 use Rattle.std.specs.Fmt.{decimal}
 use Rattle.iobufs_core.specs.declared.codec.base.Error.TheVariants as fault
@@ -39,7 +39,7 @@ piece_text kind.Parts piece = codes " " ++ hex_text piece.bytes.items ++ codes "
 piece_text kind.View piece = codes " " ++ hex_text piece.bytes.items
 piece_text kind.Text piece = codes " " ++ hex_text piece.bytes.items
 
--- the same of a piece of what a name holds: its bytes, and the room behind them
+-- what is printed of a chunk that a name holds: its bytes, and its spare capacity
 abbrev pub held_text : Kind → List ℕ × ℕ → List ℕ
 held_text kind.Part piece = codes " " ++ hex_text piece.0 ++ codes "+" ++ decimal piece.1
 held_text kind.Parts piece = codes " " ++ hex_text piece.0 ++ codes "+" ++ decimal piece.1

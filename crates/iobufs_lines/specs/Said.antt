@@ -1,9 +1,9 @@
--- The command that a line says: its first word names it, and the words behind say its numbers, bytes and lists.
+-- The command that a line says: its first word names it, and the words after it say its numbers, bytes and lists.
 --     command_of,           the command that a line says, if any, and that its words say
 --     command_by
 --     making_of, acting_of  what the first word asks for: to put something under a name, to act on what one holds;
 --     verb_of               either
---     said_by, static_of    the command that the words behind it say; of `static`, where they name a run of letters
+--     said_by, static_of    the command that the words after it say; of `static`, if they name a run of letters
 use Rattle.std.specs.Prelude.{ℕ, if◌then◌else◌, List, [], ◌∷◌, codes, Option, Some, None}
 use Rattle.std.specs.Option.{option_map, option_and_then, option_or}
 use Rattle.std.specs.Str.{bytes_eq}

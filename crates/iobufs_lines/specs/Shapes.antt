@@ -1,18 +1,18 @@
 -- What words say that follow one another to the end of a line.
---     alone, of_both                       a word and none behind it; a value made of two words, where both say one
+--     alone, of_both                       a last word; a value made of two words, if both say one
 --     Three, three, Four, four             three numbers, and four
---     one_of, two_of, three_of, four_of    so many words, each a number
---     lone_bytes_of, bytes_for_of          bytes, and bytes behind a number
---     numbers_for_of                       any number of numbers behind one
---     byte_and_one_of, fill_of             a byte and a number; behind a name they say `fill`
---     bound_of, first_bound                the end of a range: `i3` with the place, `e3` without it, `u` for none;
+--     one_of, two_of, three_of, four_of    one to four words, each a number
+--     lone_bytes_of, bytes_for_of          bytes, and a number followed by bytes
+--     numbers_for_of                       a number followed by any number of numbers
+--     byte_and_one_of, fill_of             a byte and a number; after a name they say `fill`
+--     bound_of, first_bound                the end of a range: `i3` with the offset, `e3` without it, `u` for none;
 --                                          and such a first word
 --     last_bound_of, bounds_of             one end, and both
---     BoundsFor, bounds_for,               a name and both ends; behind another name they say `slice`
+--     BoundsFor, bounds_for,               a name and both ends; after another name they say `slice`
 --     bounds_for_of, slice_of
 --     letters, letters_of                  the alphabet, and a run of it, of which static views are made
---     item_of, items_of                    bytes behind an `i` or a name behind a `p`, and any number of these
---     items_for_of, build_of               a number and items; behind a name they say `build`
+--     item_of, items_of                    an `i` and bytes, or a `p` and a name, and any number of these
+--     items_for_of, build_of               a number and items; after a name they say `build`
 use Rattle.std.specs.declared.ops.Bound.{Bound}
 use Rattle.std.specs.declared.ops.Bound.TheVariants.{Included, Excluded, Unbounded}
 use Rattle.std.specs.Prelude.{ℕ, ◌==◌, ◌&&◌, nat_le, if◌then◌else◌, List, [], ◌∷◌, codes, slice_range, Option, Some, None}

@@ -1,12 +1,12 @@
 -- How the words of a line may be written, and the lines of a command.
 --     Word                         what a word says
---     IsNumber, AreDigits          how a number and bytes may be written: zeros in front, digits of either case
+--     IsNumber, AreDigits          how a number and bytes may be written: leading zeros, digits of either case
 --     lower_digit                  a letter of a digit in lower case
---     Spells, AreSpelled, written  the words that say it; a list of them; the one that stands in a command's own line
+--     Spells, AreSpelled, written  the words that say it; a list of them; the one in a command's own line
 --     bound_word, item_word        the word of a range's end, and of an item
 --     words_from, StandsAt         the words of each command; where the bytes of a static view may begin
---     IsLineOf                     a line is one of a command: its words spell the command's
---     first_letter, first_of       where in the alphabet the bytes of a static view first stand
+--     IsLineOf                     a line is one of a command: its words are the command's
+--     first_letter, first_of       where in the alphabet the bytes of a static view first occur
 --     line_of_command              a command's own line
 --     Fits, BoundFits, ItemsFit    the commands that have a line: numbers fit a `usize`, bytes are bytes, static
 --                                  bytes a run of letters

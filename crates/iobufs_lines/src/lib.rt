@@ -1,4 +1,4 @@
-//! Lines of text as commands on named buffers, and replies as lines.
+//! Lines as commands on named buffers, and replies as lines.
 //!
 //! - `line`: the command that a line says, by its first word; a file for each file of `iobufs_run`'s `table` that does
 //!   commands, but `slots`.

@@ -33,7 +33,7 @@ fn push_digits(bytes: &[u8], text: &mut String) -> Result<(), AllocError>
     Ok(())
 }
 
-// The same of few bytes, at once.
+// Prints at most 32 bytes by one write.
 fn push_few(bytes: &[u8], text: &mut String) -> Result<(), AllocError>
     requires { length bytes.now ≤ 32 }
     ensures { OnOk result (string_bytes text.new ≡ string_bytes text.old ++ flat_map two_digits bytes.now) }
@@ -79,7 +79,7 @@ fn push_bytes(bytes: &[u8], text: &mut String) -> Result<(), AllocError>
     push_hex(bytes, text)
 }
 
-// The same of a part, with the room behind its bytes.
+// Prints the bytes and the spare capacity of a writable buffer.
 fn push_part(bytes: &[u8], spare: usize, text: &mut String) -> Result<(), AllocError>
     ensures { OnOk result (string_bytes text.new ≡ string_bytes text.old ++ (codes " " ++ hex_text bytes.now ++ codes "+" ++ decimal spare)) }
 {

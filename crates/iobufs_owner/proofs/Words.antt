@@ -92,7 +92,7 @@ pub shifted-one : (align log : ℕ) → align < 2 ^ 64 → align ≡ 2 ^ log →
 shifted-one align log fits is =
     rw (zeros-of align log fits is, is) (one_shl log 64 (log-below align log fits is))
 
--- the same answer to an equivalent question
+-- an optional answer to an equivalent question
 pub some-iff : (P Q : Type 0) (o : Option ℕ) (v : ℕ) → SomeIff o P v → (P → Q) → (Q → P) → SomeIff o Q v
 some-iff P Q None v s f g = λ q. s (g q)
 some-iff P Q (Some x) v s f g = (f s.0, s.1)

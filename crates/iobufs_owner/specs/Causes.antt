@@ -1,17 +1,16 @@
--- Why a step is refused: the lowest cause that stands against it. Denied memory and want of room are told apart from
--- these.
---     cause_if, cause_or                   a cause where a test holds; the cause against a handle, or else against
---                                          what is asked of it
+-- Why a step is refused: the first cause that holds. Denied memory and a full table are told apart from these.
+--     cause_if, cause_or                   a cause if a test holds; the cause against a handle, or else against what
+--                                          is asked of it
 --     is_power_below                       an alignment is one of the first powers of two
---     is_place, is_taken, is_good_place    a range where a block may lie; one that touches a block; and a block may
---                                          lie there and touches none
+--     is_place, is_taken, is_good_place    a range where a block may be; one that touches a block; and a block may be
+--                                          there and touches none
 --     is_over, is_over_at                  a block, or a handle's block, has as many holders as there may be
---     split_cause                          against a split at a place of a view
+--     split_cause                          against a split at an offset of a view
 --     cause_begun, cause_gone              against a call that begins, and against one that goes on
---     cause_at, cause_of                   against an act where a call stands or doesn't, and against a step
+--     cause_at, cause_of                   against an act with or without an unfinished call, and against a step
 --     may_take                             the step is granted memory, if it needs some
---     IsBeside, IsCaused                   a refusal for denied memory or for want of room; the answer is the cause
---                                          that stands, or where none does at most one of these
+--     IsBeside, IsCaused                   a refusal for denied memory or a full table; the reply is the cause that
+--                                          holds, or if none does at most one of these
 use Rattle.std.specs.Prelude.{◌≡◌, ◌⊎◌, ℕ, ◌+◌, ◌-◌, ◌%◌, ◌^◌, ◌&&◌, ◌||◌, not, nat_lt, nat_eq, zero, suc, Bool, false, List, [], ◌∷◌, length, Option, None, Some, Result, Ok, Err, if◌then◌else◌}
 use Rattle.std.specs.Int.{next_multiple_of}
 use Rattle.iobufs_owner.specs.declared.owner.types.Block.{Block}

@@ -1,13 +1,13 @@
--- The small changes of a state, and the answers that stand before it.
---     Outcome, refused, done                   an answer and the state behind it; a refusal and a plain success
+-- The small changes of a state, with their replies.
+--     Outcome, refused, done                   a reply and the state after it; a refusal and a plain success
 --     edited, state_without, replaced          another handle under a number, none, or either
---     with_handle, made                        one handle more, and its number as the answer
---     called, unfinished_call                  a party's call from now on; the same, with `More` as the answer
+--     with_handle, made                        one handle more, and its number as the reply
+--     called, unfinished_call                  a thread's call from now on; and with `More` as the reply
 --     with_block, with_record, next_record     one block more, one record more, and the number that this gets
 --     counted, with_count, tables_without      another count for a record, in the tables and in the state; a record
 --                                              that is dead
 --     block_freed, record_freed, both_freed    an entry in the log of freed blocks, of freed records, in both
---     detached_handle, part                           a view that holds no block, and a view of a range of another one
+--     detached_handle, part                    a view that holds no block, and a view of a range of another one
 use Rattle.std.specs.Prelude.{ℕ, ◌+◌, ◌-◌, true, false, [], ◌∷◌, ◌++◌, length, Option, None, Some, slice_set}
 use Rattle.iobufs_owner.specs.declared.owner.types.Block.{Block}
 use Rattle.iobufs_owner.specs.declared.owner.types.Freed.{Freed}

@@ -1,12 +1,14 @@
--- Which handle a call may have, or the lowest cause against it.
---     borrows_it, is_lent                     an unfinished clone or slice has the handle; one of the calls has
---     lend_of, lend_any_of                         a handle that a call must have alone: of a kind, and of any
---     lend_owning_of, lend_owning_view_of               the same of one that holds a block, and of such a view
---     lend_view_of                                 a view to be shared, which others may borrow meanwhile
---     is_empty                                the word of a handle without block
---     lend_found, lend_any_found, lend_owning_found,    the same of what stands under the number
+-- Which handle a call may have, or the first cause against it.
+--     borrows_it, is_lent                             an unfinished clone or slice has the handle; one of the calls
+--                                                     has
+--     lend_of, lend_any_of                            a handle that a call must have alone: of a kind, and of any
+--     lend_owning_of, lend_owning_view_of             a handle that holds a block and that a call must have alone;
+--                                                     and such a view
+--     lend_view_of                                    a view to be shared, which others may borrow meanwhile
+--     is_empty                                        the word of a handle without block
+--     lend_found, lend_any_found, lend_owning_found,  these, given what has the number
 --     lend_owning_view_found, lend_view_found
---     Lends                                   a handle that stands there, of that kind and borrowed by none
+--     Lends                                           a handle of that number and kind, borrowed by none
 use Rattle.std.specs.Prelude.{◌≡◌, ℕ, ◌==◌, Bool, true, false, List, Option, None, Some, Result, Ok, Err, if◌then◌else◌}
 use Rattle.std.specs.List.{list_any}
 use Rattle.iobufs_owner.specs.declared.owner.types.Handle.{Handle}
@@ -45,7 +47,7 @@ abbrev pub lend_any_found : State → ℕ → Option Handle → Result Handle Re
 lend_any_found s h None = Err NoHandle
 lend_any_found s h (Some x) = if is_lent h s.calls then Err Borrowed else Ok x
 
--- the same where either kind may be given
+-- the handle of either kind, or the first cause against it
 abbrev pub lend_any_of : State → ℕ → Result Handle Refusal
 lend_any_of s h = lend_any_found s h (handle_at s h)
 
@@ -58,7 +60,7 @@ abbrev pub lend_owning_found : State → ℕ → Option Handle → Result Handle
 lend_owning_found s h None = Err NoHandle
 lend_owning_found s h (Some x) = if is_empty x.word then Err WrongKind else (if is_lent h s.calls then Err Borrowed else Ok x)
 
--- the same for a handle that has a block
+-- the handle that has a block, or the first cause against it
 abbrev pub lend_owning_of : State → ℕ → Result Handle Refusal
 lend_owning_of s h = lend_owning_found s h (handle_at s h)
 
@@ -66,7 +68,7 @@ abbrev pub lend_owning_view_found : State → ℕ → Option Handle → Result H
 lend_owning_view_found s h None = Err NoHandle
 lend_owning_view_found s h (Some x) = if same_kind x.kind View then lend_owning_found s h (Some x) else Err WrongKind
 
--- the same for a view that has a block
+-- the view that has a block, or the first cause against it
 abbrev pub lend_owning_view_of : State → ℕ → Result Handle Refusal
 lend_owning_view_of s h = lend_owning_view_found s h (handle_at s h)
 

@@ -1,16 +1,16 @@
 -- What each step of a clone, a slice and a drop makes of a state: the calls that may take several.
---     clone_of, clone_lent            how a clone begins; the same of the view, or of the cause against it
---     slice_of, slice_lent            how a slice begins, where an empty one needs no block
+--     clone_of, clone_lent            how a clone begins; with the view, or with the cause against it
+--     slice_of, slice_lent            how a slice begins; an empty one needs no block
 --     share_by                        what the loaded word makes of a clone or slice: a view at once, or a call with
 --                                     steps to come
 --     drop_of, drop_lent, drop_by,    how a drop begins: of a number, a handle, its word, a record
 --     drop_counted
---     after_count                     what a drop still has to do that has read the count
+--     after_count                     what a drop that has read the count still has to do
 --     ended, shared                   a call that ends without a view, and with one
 --     loaded_block, loaded_found      the block that the loaded descriptor speaks of
---     ready_of                        the second step: a record is made that counts two, or the call ends for want of
+--     ready_of                        the second step: a record is made that counts two, or the call ends for lack of
 --                                     memory
---     race_of, race_found, race_by    the compare-exchange: the record is shown, or another one has come first
+--     race_of, race_found, race_by    the compare-exchange: the record is shown, or another one came first
 --     add_of, add_found               a holder is counted, unless there are too many
 --     subtract_of, release_of         a holder less, and block and record freed
 use Rattle.std.specs.Prelude.{ℕ, ◌+◌, ◌-◌, ◌==◌, nat_lt, nat_eq, Bool, Option, None, Some, Result, Ok, Err, ◌||◌, if◌then◌else◌}

@@ -3,7 +3,7 @@
 --     IsPublished    a live record that its block goes by, and not one that a clone has just made
 --     IsFreed        the log says that the block was given back
 --     IsExclusive    a handle that has to be the only holder of its block
---     IsOnce         a log in which nothing stands twice
+--     IsOnce         a log without repeats
 --     IsOver         all handles are gone, and no call is unfinished
 use Rattle.std.specs.Prelude.{◌≡◌, ◌≢◌, ℕ, ◌+◌, ◌<◌, ◌≤◌, ◌||◌, true, false, List, None, Some, length, All, AllPairs}
 use Rattle.iobufs_owner.specs.declared.owner.types.Handle.{Handle}

@@ -1,5 +1,5 @@
 -- How the machine's tables are read as a world.
---     reading                              the world that a state stands for
+--     reading                              the world that a state represents
 --     read_held, read_handle, read_call    a handle and a call, as its users see them
 --     same_freed, is_freed                 an entry of the log is of this block; one of them is
 --     has_let_go                           the drop that frees the record has lowered its count before

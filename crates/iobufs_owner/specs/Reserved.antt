@@ -1,11 +1,11 @@
--- When a step isn't refused for want of room.
---     HasMemory                  the tables have memory for so many blocks, handles and records more
---     IsFew                      so many blocks more, and so many steps, leave each table within 2 ^ 32 entries
---     IsReserved                 memory for so many blocks more and for so many steps, within the 2 ^ 32 entries of
---                                each table
+-- When a step isn't refused for a full table.
+--     HasMemory                  the tables have space for this many blocks, handles and records more
+--     IsFew                      this many blocks more, and this many steps, leave each table within 2 ^ 32 entries
+--     IsReserved                 space for this many blocks more and for this many steps, within the 2 ^ 32 entries
+--                                of each table
 --     makes_block, adds_block    a call, and a step, that adds a block if it succeeds
 --     new_blocks, blocks_of      how many blocks a step adds at most, and a run
---     FindsRoom                  the answer isn't want of room
+--     FindsRoom                  the reply isn't `Room`
 use Rattle.std.specs.Prelude.{◌≢◌, ℕ, ◌+◌, ◌^◌, ◌<◌, ◌≤◌, Bool, true, false, if◌then◌else◌, List, [], ◌∷◌, length}
 use Rattle.iobufs_owner.specs.declared.owner.types.Call.{Call}
 use Rattle.iobufs_owner.specs.declared.owner.types.Call.TheVariants.{New, External, Static, Put, Advance, Freeze, TryIntoMut, SplitTo, IsUnique, Demote, Clone, Slice, Drop}
@@ -63,7 +63,7 @@ adds_block (Go memory) = false
 abbrev pub new_blocks : Act → ℕ
 new_blocks act = if adds_block act then 1 else 0
 
--- and a run
+-- how many blocks a run may add
 abbrev pub blocks_of : List Step → ℕ
 blocks_of [] = 0
 blocks_of (step ∷ steps) = new_blocks step.act + blocks_of steps

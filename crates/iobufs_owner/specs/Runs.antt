@@ -1,10 +1,9 @@
 -- Whole runs.
---     IsStep                   a move of the machine, what its users see of it, and what holds behind it
---     Runs                     a list of steps with its answers, from one machine to another
---     GrowingRuns              the same, where tables may get more room between the steps
+--     IsStep                   a move of the machine, what its users see of it, and what holds after it
+--     Runs                     a list of steps with its replies, from one machine to another
+--     GrowingRuns              a run in which tables may get more capacity between the steps
 --     ends_call                a refusal that ends the call that it meets
---     taken_after, taken_of    how many steps of its call a party has taken: told from an answer, and at most, from
---                              the call as it stands
+--     taken_after, taken_of    how many steps of its call a thread has executed: by a reply, and at most, by the call
 --     EndsInFour               no call of the party is unfinished after four steps
 use Rattle.std.specs.Prelude.{◌≡◌, ℕ, ◌+◌, ◌-◌, ◌<◌, ◌==◌, Bool, true, false, List, [], ◌∷◌, Option, None, Some, if◌then◌else◌, MatchBool}
 use Rattle.iobufs_owner.specs.declared.owner.types.Step.{Step}
@@ -36,7 +35,7 @@ Runs m (step ∷ steps) (reply ∷ replies) next = (mid : Seen) × IsStep m step
 Runs m [] (reply ∷ replies) next = ⊥
 Runs m (step ∷ steps) [] next = ⊥
 
--- the same, where tables may get more room before each step
+-- a whole run, in which tables may get more capacity before each step
 abbrev pub GrowingRuns : Seen → List Step → List Reply → Seen → Type 0
 GrowingRuns m [] [] next = next ≡ m
 GrowingRuns m (step ∷ steps) (reply ∷ replies) next =

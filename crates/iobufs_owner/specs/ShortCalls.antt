@@ -1,24 +1,24 @@
 -- What a call that ends with its first step makes of a state: each call but clones, slices and drops.
 --     made_block, first_handle, whole_view           a block, and the first handle on it: writable and empty, or a
---                                                   view of all
---     described_of, recorded_of                     a new block under a descriptor, and under a record
---     CanDescribe, fits_in, placed                  a block that a word can tell; whether the fields suffice; and the
---                                                   new block under a word or else a record
---     IsAllocated, IsExternal, external_of                native storage, and adopted one; the same at a good place
---     static_of                                     a view of static bytes
---     put_of, put_lent                              bytes put behind those of a writable handle
---     advance_of, advance_lent, advanced            the first bytes given up
---     IsLoose                                       a handle that is gone, or holds nothing
---     freed_with                                    what a sole holder owns is given back
---     freeze_of, freeze_lent, freeze_by, frozen     a writable handle becomes a view; an empty one gives its block
---                                                   back
---     promoted                                      a record in place of a descriptor
---     recover_of, recover_lent, recover_by,         a view becomes writable again, or stays since it isn't the sole
---     thawed, declined                              holder of native storage
---     split_of, split_lent, split_by, split_with    the front of a view becomes another one, and both hold the block
---     unique_of, unique_lent, is_unique             whether a handle is the sole holder
---     IsDemoted, IsDemotedBy, demote_counted,       a sole view gives up its record for a descriptor, which tells how
---     may_demote, described, tail_of                many bytes of the block are behind the view
+--                                                    view of all
+--     described_of, recorded_of                      a new block under a descriptor, and under a record
+--     CanDescribe, fits_in, placed                   a block that a word can describe; whether the fields suffice;
+--                                                    and the new block under a word or else a record
+--     IsAllocated, IsExternal, external_of           native storage, and adopted one; and at a good address
+--     static_of                                      a view of static bytes
+--     put_of, put_lent                               bytes put after those of a writable handle
+--     advance_of, advance_lent, advanced             the first bytes dropped
+--     IsLoose                                        a handle that is gone, or holds nothing
+--     freed_with                                     what a sole holder owns is freed
+--     freeze_of, freeze_lent, freeze_by, frozen      a writable handle becomes a view; an empty one frees its block
+--     promoted                                       a record in place of a descriptor
+--     recover_of, recover_lent, recover_by,          a view becomes writable again, or stays since it isn't the sole
+--     thawed, declined                               holder of native storage
+--     split_of, split_lent, split_by, split_with     the first bytes of a view become another one, and both hold the
+--                                                    block
+--     unique_of, unique_lent, is_unique              whether a handle is the sole holder
+--     IsDemoted, IsDemotedBy, demote_counted,        a sole view gives up its record for a descriptor, which has the
+--     may_demote, described, tail_of                 number of bytes of the block after the view
 use Rattle.std.specs.Prelude.{◌≡◌, ◌⊎◌, ℕ, ◌+◌, ◌-◌, ◌^◌, nat_lt, nat_eq, Bool, true, false, length, Option, None, Some, Result, Ok, Err, ◌&&◌, ◌||◌, not, if◌then◌else◌, MatchBool}
 use Rattle.iobufs_owner.specs.declared.owner.types.Block.{Block}
 use Rattle.iobufs_owner.specs.declared.owner.types.Handle.{Handle}

@@ -138,7 +138,7 @@ impl Format {
         }
     }
 
-    /// The same word with another tail, or `None` where it has no room.
+    /// Returns the word with another tail, or `None` if that doesn't fit.
     pub fn with_tail(&self, word: u64, tail: u64) -> Option<u64>
         requires { IsWord self.now.align_bits self.now.tail_bits self.now.size_bits word }
         ensures sum { (size log old : ℕ)

@@ -1,12 +1,12 @@
 -- What a line asks of the machine.
---     ask_of, ask_in, ask_by                  what a line behind the first asks, if anything; its words; its first
+--     ask_of, ask_in, ask_by                  what a line after the first asks, if anything; its words; its first
 --                                             word and the others
---     freed_of, last_number_of                nothing stands behind the question for the logs; only a number does
---                                             behind another one
---     step_of, act_of, act_by                 a party and what it does; that alone: it goes on, or begins a call
---     call_of, call_on_of                     a call, and one that only names a handle, with the words behind it
+--     freed_of, last_number_of                nothing follows the question for the logs; only a number follows
+--                                             another one
+--     step_of, act_of, act_by                 a thread and what it does; that alone: it goes on, or begins a call
+--     call_of, call_on_of                     a call, and one that only names a handle, with the words after it
 --     grant_of                                memory is granted, or `deny` denies it
---     one_of, Two, two_of, Three, three_of    so many numbers in front, and the words behind them
+--     one_of, Two, two_of, Three, three_of    one to three numbers, and the words after them
 --     setup_of, setup_in, setup_by            the machine that a first line asks for; its words; its numbers, which
 --                                             have limits
 --     width_of                                whether descriptors have 64 bits or 32

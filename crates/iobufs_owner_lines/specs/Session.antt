@@ -1,11 +1,11 @@
 -- What a session with the machine answers.
 --     machine_of                    the machine that a first line asks for, in which nothing has happened yet
---     MakesRoom                     before a step the tables get room for an entry each, or that is refused
---     Answers, AreAnswered          a step is taken and its reply told, a question changes nothing; and a list of
---                                   these
+--     MakesRoom                     before a step the tables get space for an entry each, or that fails
+--     Answers, AreAnswered          a step is executed and its reply printed, a question changes nothing; and a list
+--                                   of these
 --     line_of                       a text as a line
---     Answered                      the first lines, so many, made a machine and asked it something, and `ok` and the
---                                   answers are written
+--     Answered                      the first n lines made a machine and asked it something, and `ok` and the answers
+--                                   are written
 --     IsEmpty, AsksForNone          there is no line, or the first makes no machine: nothing is written
 --     AllAnswered, AnsweredUpTo     all lines were answered, or all up to the first that asks nothing
 --     steps_of, answers_to_steps    what was asked without its questions, and the answers to these steps

@@ -1,10 +1,10 @@
 -- The lines that ask something of the machine.
 --     line_of_ask, first_word_of,          the line that asks a step or a question, and its words
 --     other_words_of
---     verb_of_act, words_behind, denial    the words of what a party does: the verb, the numbers, `deny` where memory
+--     verb_of_act, words_behind, denial    the words of what a thread does: the verb, the numbers, `deny` if memory
 --                                          is denied
 --     verb_of, numbers_in                  the verb of a call, and its numbers in order
---     Fits, FitsAct                        what has a line, since its numbers have 64 bits; the same of an act
+--     Fits, FitsAct                        what has a line, since its numbers have 64 bits; and of an act
 --     line_of_setup, FitsSetup             the first line, and the machines that have one
 use Rattle.std.specs.Prelude.{ℕ, ◌^◌, ◌<◌, ◌≤◌, Bool, if◌then◌else◌, List, [], ◌∷◌, ◌++◌, map, codes}
 use Rattle.std.specs.Fmt.{decimal}

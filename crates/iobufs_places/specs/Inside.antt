@@ -1,13 +1,13 @@
 -- The search tree in the table.
 --     seen_of                  the bases in the tree, and for how many there is memory
---     place_at, side           what stands under a number; the half of the tree below or above its middle that a base
---                              belongs to
---     found, Reaches           the place of a base, by a search of so many steps; and so many are enough
---     LiesBehind, AreRising    places that are reached stand later in the table, so a search ends
---     IsTree                   each place in the table is found by its base
---     leaf, opened             a place with nothing below it, and one that got a next place on the side of a base
+--     place_at, side           what has a number; the half of the tree below or above its middle that a base belongs
+--                              to
+--     found, Reaches           the node of a base, by a search of n steps; and n are enough
+--     LiesBehind, AreRising    nodes that are reached come later in the table, so a search ends
+--     IsTree                   each node in the table is found by its base
+--     leaf, opened             a node with nothing below it, and one that got a next node on the side of a base
 --     way                      where a search ends that finds nothing: there a new base is added
---     latest, later            the greater of two bases, and the same of those in a range
+--     latest, later            the greater of two bases, and of those in a range
 --     IsLastFound              the greatest base in a range that a search finds, if it finds any
 use Rattle.std.specs.Prelude.{◌≡◌, ℕ, zero, suc, ◌+◌, ◌<◌, ◌≤◌, ◌==◌, ◌||◌, nat_lt, nat_le, List, Option, None, Some, IfSome, IsSome, if◌then◌else◌, slice_index_or, length, map, vec_capacity}
 use Rattle.iobufs_places.specs.Places.{Seen}

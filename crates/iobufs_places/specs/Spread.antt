@@ -1,10 +1,10 @@
 -- How the tree spreads over the numbers: why no way is long.
---     IsLow, most_places            no way through the tree has more than so many places: 71
+--     IsLow, most_places            no way through the tree has more than this many nodes: 71
 --     numbers, lower, upper, part   the span of all bases, and its parts below and above a place's middle
 --     LiesWithin                    a span on one side of the first base, between two distances from it
---     IsEnough, AreEnough           so many places are enough for a way through a span, and for each of its parts
---     IsBetween                     a middle by powers of two, where the ends of a span lie far apart
---     GoesOn, IsSpreadAt, IsSpread  each place lies in its span, and so many places are enough from there on
+--     IsEnough, AreEnough           this many nodes are enough for a way through a span, and for each of its parts
+--     IsBetween                     a middle by powers of two, if the ends of a span are far apart
+--     GoesOn, IsSpreadAt, IsSpread  each node is in its span, and this many nodes are enough from there on
 --     IsTable                       a table of places whose tree is spread so
 use Rattle.std.specs.Prelude.{◌≡◌, ◌⊎◌, ℕ, zero, suc, ◌+◌, ◌-◌, ◌^◌, ◌<◌, ◌≤◌, ◌*◌, ◌/◌, List, Option, None, Some, IfSome, if◌then◌else◌, nat_lt, length}
 use Rattle.iobufs_places.specs.declared.Place.{Place}

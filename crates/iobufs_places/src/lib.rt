@@ -1,4 +1,4 @@
-//! Where blocks lie: which of them is the last before an address, in a table that is asked for its memory beforehand.
+//! A search tree of block addresses, whose space is reserved before use.
 #![tactic(auto)]
 
 ghost use Rattle.std.specs.Prelude.{◌≡◌, ◌≢◌, ℕ, ◌+◌, ◌-◌, ◌<◌, ◌≤◌, ◌||◌, nat_lt, nat_le, [], ◌∷◌, ◌++◌, All, None, Some, length, OnOk, OnErr, IfSome, IsOk};
@@ -30,7 +30,7 @@ impl Place {
         }
     }
 
-    /// The same place with a next one on the side of a base.
+    /// Returns the node with a next one on the side of a base.
     fn opened(self, base: u64, next: usize) -> Place
         ensures { result ≡ opened self base next }
     {

@@ -1,8 +1,8 @@
--- Two readers, of which the second is read behind the first.
---     dropped_second    the second once n bytes went, where the first had so many: as it was, or without the bytes that
---                       the first didn't have
---     copied_first      the first once n bytes were taken out: copied, or used up where bytes of the second go too
---     copied_second     the second then: as it was, copied where the first had none, or without what the first didn't have
+-- Two readers in order.
+--     dropped_second        the second once n bytes went: as it was, or without the bytes that the first didn't have
+--     copied_first          the first once n bytes were taken: copied, or drained if bytes of the second go too
+--     copied_second         the second then: as it was, copied if the first had none, or without what the first
+--                           didn't have
 --     and facts about them
 use Rattle.std.specs.Prelude.{◌≡◌, ℕ, ◌+◌, ◌-◌, ◌<◌, ◌≤◌, ◌==◌, nat_le, min, if◌then◌else◌, true, false, List, [], ◌∷◌, ◌++◌, length, take, drop}
 use Rattle.std.specs.List.{flat_map}
@@ -115,7 +115,7 @@ drops_both text behind advanced after drops drops_after s t n l =
     ∙ ap (λ ys. drop n (text s) ++ ys) (second-drops behind after after drops_after drops_after t n (length (text s)) (behind-both n (text s) (behind t) l))
     ∙ sym (drop-two n (text s) (behind t))
 
--- and where they are taken out
+-- copying out of both texts leaves the rest of both
 pub copies_both : {S T : Type 0} (text : S → List ℕ) (behind : T → List ℕ) (advanced copied : S → ℕ → S) (after taken : T → ℕ → T)
     → ((s : S) (n : ℕ) → n ≤ length (text s) → text (advanced s n) ≡ drop n (text s))
     → ((s : S) (n : ℕ) → n ≤ length (text s) → text (copied s n) ≡ drop n (text s))
@@ -138,7 +138,7 @@ pub first_both : (chunks more : List (List ℕ)) → 0 < length (flat_map (λ ch
 first_both [] more some = absurd (omega (arith, some))
 first_both (chunk ∷ chunks) more some = refl
 
--- and where it has none
+-- the first chunk of two texts, if the first has no bytes
 pub second_both : (chunks more : List (List ℕ)) → full_chunks chunks ≡ chunks → length (flat_map (λ chunk. chunk) chunks) ≡ 0
     → first_chunk (chunks ++ more) ≡ first_chunk more
 second_both chunks more full none = ap (λ xs. first_chunk (xs ++ more)) (none-left chunks full none)

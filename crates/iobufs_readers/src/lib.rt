@@ -1,4 +1,4 @@
-//! Readers over readers (`bytes::buf`): `Take`, the first bytes of one, and `Chain`, one and then another.
+//! Readers over readers: `Take` and `Chain`.
 #![tactic(auto)]
 
 mod chain;

@@ -1,13 +1,13 @@
--- Records that stand behind a place where the journal is torn or damaged.
+-- Records after an offset where the journal is torn or damaged.
 --     IsNear                 a number that is taken for one of a later record: the next one, or up to 2 ^ 32 above it
---     StandsInFront,         a whole record with a near number stands in front of a text; none stands at any byte of
---     AreNone                a gap
---     StandsBehind,          a record stands behind a gap; and it is the first of the text
+--     StandsInFront,         a whole record with a near number is at the front; none is at any byte of a gap
+--     AreNone
+--     StandsBehind,          a record follows a gap; and it is the first
 --     IsFirst
---     AreBehind              all of them, one behind the other
---     IsHeld, IsEnough       more was read behind what is held; as much as the longest record takes, or all there is
+--     AreBehind              all of them, in order
+--     IsHeld, IsEnough       more was read after what is held; as much as the longest record takes, or all there is
 --     IsSkipped, IsSought    the search went on by one byte; it took the first record, or there is none
---     ArePrinted             all records that stand in a text were printed and counted
+--     ArePrinted             all records of some bytes were printed and counted
 use Rattle.std.specs.Prelude.{◌≡◌, ◌⊎◌, ℕ, ◌+◌, ◌^◌, ◌<◌, ◌≤◌, Option, None, Some, IfSome, List, [], ◌∷◌, ◌++◌, length, drop}
 use Rattle.std.specs.Io.KnownBytes.{Appends, Consumes, IsAtEnd}
 use Rattle.iobufs_core.specs.View.{View}

@@ -1,10 +1,10 @@
 -- How a journal ends, and how that is printed.
---     HasEnding                 a text has these records, ends so behind them, and has so many whole ones further on
---     AreFurther,               the records further on, where the journal doesn't end well; they were printed
+--     HasEnding                 bytes have these records, end so after them, and have n whole ones further on
+--     AreFurther,               the records further on, if the journal doesn't end well; they were printed
 --     AreFurtherPrinted
 --     end_words, ending_text    how a journal ends, in words, and with its counts
---     status_of, IsChecked      the exit status: 0 where nothing is behind the records, else 1; that was printed of
---                               it, with this status
+--     status_of, IsChecked      the exit status: 0 if nothing follows the records, else 1; that was printed of it,
+--                               with this status
 --     AreWanted, IsReplayed     those further on if they are wanted; a journal's records were printed, and these
 --     repair_of                 what a repair does to a journal that ends so: nothing, a cut, or a refusal
 use Rattle.std.specs.Prelude.{◌≡◌, ℕ, ◌<◌, ◌==◌, if◌then◌else◌, Bool, true, false, Option, List, [], ◌∷◌, ◌++◌, length, codes}

@@ -1,8 +1,8 @@
--- Lines that are put behind a journal.
+-- Lines that are appended to a journal.
 --     Grew              a whole journal was continued by lines as records, and is one journal with them
---     Ends              a text is a journal that ends so
---     HasOutcome        lines were put behind it, or nothing was put, since the journal isn't whole
---     outcome_status    the exit status of a program that put them
+--     Ends              bytes are a journal that ends so
+--     HasOutcome        lines were appended, or nothing was, since the journal isn't whole
+--     outcome_status    the exit status of a program that appended them
 use Rattle.std.specs.Prelude.{◌≡◌, ℕ, if◌then◌else◌, Option, List, [], ◌++◌, length}
 use Rattle.std.specs.Io.KnownBytes.{Appends, Keeps}
 use Rattle.iobufs_uses.specs.Journal.{IsJournal, records_written}

@@ -1,15 +1,15 @@
 -- Lines that become the records of a journal.
---     lines_of, with_first    the lines of a text; the same with a byte more in front
---     HasNoEnd, IsLine        no line ends in these bytes; a line ends at this place and not before
---     most_bytes              how long a record may be behind its length
---     IsPut                   a writer took some of the bytes that are held and of those put behind them, and the
---                             rest is held
+--     lines_of, with_first    the lines of some bytes; and with a byte more at the front
+--     HasNoEnd, IsLine        no line ends in these bytes; a line ends at this offset and not before
+--     most_bytes              how many bytes a record may have after its length
+--     IsPut                   a writer took some of the bytes that are held and of those put after them, and the rest
+--                             is held
 --     IsOpen, AreTaken        the line that was begun last may go on, or is too long; a piece became lines and such a
 --                             one
 --     ArePut                  these lines went as records, numbered on
---     IsEnded, IsFinished     the line that was begun went as a record; the same at the end of the text, where there
---                             may be none
---     TakesLines, TakesAll    the lines of a piece went as records, and those of a text
+--     IsEnded, IsFinished     the line that was begun went as a record; and at the end of the input, where there may
+--                             be none
+--     TakesLines, TakesAll    the lines of a piece went as records, and those of all bytes
 --     HasLongLine, IsLast     a line is too long for a record; why no more lines were taken
 --     IsAppended              these lines went to a writer as records, and why no more of them
 use Rattle.std.specs.Prelude.{◌≡◌, ◌⊎◌, ℕ, ◌+◌, ◌<◌, ◌≤◌, ◌==◌, if◌then◌else◌, Bool, true, false, Option, List, [], ◌∷◌, ◌++◌, length, take, drop}
@@ -81,7 +81,7 @@ pub record TakesLines (held holds : Option (List ℕ)) (piece : List ℕ) (old n
   pub taken : AreTaken old.begun.items piece lines new.begun.items is_long
   pub put : ArePut held holds old.tail new.tail lines
 
--- the same where a line that was begun is the last, unless there is none
+-- a piece was taken, and a line that was begun is the last
 abbrev pub IsFinished : Option (List ℕ) → Option (List ℕ) → Lines → Lines → Bool → Type 0
 IsFinished held holds old new is_long =
     ((0 < length old.begun.items) × IsEnded held holds old new is_long) ⊎ ((old.begun.items ≡ []) × (new ≡ old) × Keeps held holds × (is_long ≡ false))

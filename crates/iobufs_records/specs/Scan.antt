@@ -3,8 +3,8 @@
 --     IsFilled           more bytes are held, or the reader is at its end
 --     IsNext, IsFront    one step: more may have been read, and a record went from what is held, or there is none
 --     printed            the bodies of records, a line each
---     IsPrinted          the records of a journal were printed and counted, and it ends so behind them
---     IsLeft             what is behind them is held, or still to be read
+--     IsPrinted          the records of the journal were printed and counted, and it ends so after them
+--     IsLeft             what follows them is held, or still to be read
 use Rattle.std.specs.Prelude.{◌≡◌, ℕ, ◌+◌, ◌^◌, ◌<◌, ◌≤◌, Bool, false, nat_lt, IfSome, Option, None, Some, Result, Ok, Err, List, [], ◌∷◌, ◌++◌, length, drop}
 use Rattle.std.specs.Io.KnownBytes.{Appends, Consumes, IsAtEnd}
 use Rattle.iobufs_core.specs.View.{View}

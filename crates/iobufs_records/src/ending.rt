@@ -29,7 +29,7 @@ pub enum Repair {
     Nothing,
     /// What is behind its records is cut off.
     Cut,
-    /// The same, if it is forced.
+    /// The journal is damaged: cut if that is forced.
     Refused,
 }
 

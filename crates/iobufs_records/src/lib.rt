@@ -1,4 +1,4 @@
-//! Journals that are read and written piece by piece.
+//! Journals over any reader and writer.
 //!
 //! - `front`: the record that stands in front of a text. `scan`: a journal that is read from its front, of which no more
 //!   is held than a record takes. `lines`: lines that become records. `growth`: those that go behind a whole

@@ -36,7 +36,7 @@ fn views(alloc: Global) -> Result<Vec<IoBuf>, BufError> {
     Ok(views)
 }
 
-// The same, of which nothing is left.
+// Views of each kind, drained.
 fn emptied(alloc: Global) -> Result<Vec<IoBuf>, BufError> {
     let mut views = views(alloc)?;
     for view in &mut views {

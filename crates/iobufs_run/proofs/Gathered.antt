@@ -89,7 +89,7 @@ freed_more old now xs i emptied is inside e =
     ap (λ (f : Slot). slice_set now (get_or xs i 0) f) e ∙ ap (λ (ss : List Slot). slice_set ss (get_or xs i 0) Free) is
     ∙ sym (all_freed-append old (take i xs) (get_or xs i 0)) ∙ ap (all_freed old) (sym (take_more xs i 0 inside))
 
--- and the text of one view more
+-- the concatenation with one view more
 pub text_more : (f : ℕ → View) (xs : List ℕ) (i : ℕ) (text new : MarkedText) (view : View) → text ≡ joined (map f (take i xs))
     → new ≡ text_append text view → view ≡ f (get_or xs i 0) → i < length xs
     → new ≡ joined (map f (take (i + 1) xs))

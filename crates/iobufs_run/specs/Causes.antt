@@ -1,15 +1,15 @@
 -- Why a command is refused.
---     Cause                             a refusal, with whether it stands
---     is_no_name, is_in_use_beside      a name that there isn't; a destination in use that isn't the source either
---     is_listed, has_twice              a name stands in a list; one stands there twice
+--     Cause                             a refusal, with whether it holds
+--     is_no_name, is_in_use_beside      a name that isn't there; a destination in use that isn't the source either
+--     is_listed, has_twice              a name is in a list; one is there twice
 --     is_too_long                       more bytes than a length can say
 --     free_name, one_of, lent, moved    the causes that several commands have in common, each with further ones
---     gathered, gather_causes           those of commands that put several sources together, and all of a gathering
+--     gathered, gather_causes           those of commands that join several sources, and all of a gathering
 --     total_extent                      how much the sources count together
 --     pushed_names, inline_len          the names that the items of a built text push, and how many bytes they put
---     build_causes, join_causes         those of building a text, and of putting a view to a text
+--     build_causes, join_causes         those of building an `IoBufs`, and of adding a view to one
 --     any_kind                          the four kinds of buffers
---     causes, refusal_for,              the causes of each command, the first that stands, and the first of any list
+--     causes, refusal_for,              the causes of each command, the first that holds, and the first of any list
 --     first_cause
 use Rattle.std.specs.Prelude.{ℕ, ◌+◌, ◌^◌, ◌==◌, Bool, false, ◌&&◌, ◌||◌, not, nat_lt, nat_le, if◌then◌else◌, sum_by, List, [], ◌∷◌, length, Option, Some, None}
 use Rattle.std.specs.List.{list_any, list_all}

@@ -1,16 +1,15 @@
--- What a command leaves open, and nothing else: whether it is refused for want of memory, and which of the consumed
--- names are then free; how much room is behind adopted bytes; and whether a native view, whose storage may be shared,
--- is recovered. And what a refusal leaves.
---     is_want_of_memory,       a reply is refused for want of memory, or for another cause
+-- What a command leaves open, and nothing else: whether it is refused with `Memory`, and which of the consumed names
+-- are then free; the capacity after adopted bytes; and whether a native view, whose storage may be shared, is
+-- recovered. And what a refusal leaves.
+--     is_want_of_memory,       a reply is refused with `Memory`, or for another cause
 --     is_other_refusal
---     SameReply                two replies say the same, and show the same pieces
---     SameOutcome,             two outcomes differ at most in that room, or in whether the view was recovered or
+--     SameReply                two replies are equal, and show the same chunks
+--     SameOutcome,             two outcomes differ at most in that capacity, or in whether the view was recovered or
 --     IsRecoveredOrDeclined    declined
---     NoOtherChoices           a command that isn't refused for want of memory has one outcome, up to these
---     OnlyWants                want of memory is told only where no cause stands and memory may be wanted; else the
+--     NoOtherChoices           a command that isn't refused with `Memory` has one outcome, up to these
+--     OnlyWants                `Memory` is the reply only if no cause holds and the command may allocate; else the
 --                              command is done
---     RefusalsKeep             a refused command leaves each name its buffer, unless want of memory costs what is
---                              consumed
+--     RefusalsKeep             a refused command leaves each name its buffer, unless `Memory` costs what is consumed
 use Rattle.std.specs.Prelude.{◌≡◌, ◌⊎◌, ℕ, Bool, true, false, List, length, map, None, IsTrue}
 use Rattle.iobufs_run.specs.declared.table.Slot.{Slot}
 use Rattle.iobufs_run.specs.declared.table.Slot.TheVariants.{Free}

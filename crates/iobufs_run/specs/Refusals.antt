@@ -1,6 +1,6 @@
--- How an error of a buffer or of reading is told by a command.
+-- How an error of a buffer or of reading is reported by a command.
 --     refusal_of       a buffer's error, as the refusal of the same name
---     codec_refusal    a fault of reading, as that fault; but want of memory as any want of memory
+--     codec_refusal    a fault of reading, as that fault; but a failed allocation as `Memory`
 use Rattle.iobufs_core.specs.declared.codec.base.BufError.{BufError}
 use Rattle.iobufs_core.specs.declared.codec.base.BufError.TheVariants as cause
 use Rattle.iobufs_core.specs.declared.codec.base.Error.{Error}

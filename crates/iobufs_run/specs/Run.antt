@@ -1,15 +1,16 @@
--- Runs of commands over named buffers. A state gives each name what it holds.
---     MayFail, IsFault                what a command may be refused for where no cause of `Causes` stands; a fault of
+-- Runs of commands on named buffers. A state gives each name what it holds.
+--     MayFail, IsFault                what a command may be refused for if no cause of `Causes` holds; a fault of
 --                                     reading a view
---     MayWantMemory                   the commands that may be refused for want of memory
+--     MayWantMemory                   the commands that may be refused with `Memory`
 --     consumed, MayFree, all_freed    the names that such a refusal may cost; that it costs no others; and all of
 --                                     them free
 --     moved_to, with_bytes            a source gone and its destination filled; a name with a part of these bytes
---     item_held                       what an item of a built text stands for, with the views that the names hold
+--     item_held                       the item of a `Builder` for an item of a command, with the views that the names
+--                                     hold
 --     Gives                           a reply and the names that are left, and no other
 --     Does                            what a command that is done leaves, and its reply
 --     Step, Run                       one command; any list of them
---     joining                         the command that puts a view at this end of a text
+--     joining                         the command that adds a view at this end of an `IoBufs`
 --     reply_of                        the reply of a command that is done, or refused
 use Rattle.std.specs.Prelude.{◌≡◌, ◌⊎◌, ℕ, ◌==◌, ◌&&◌, not, List, [], ◌∷◌, map, length, take, replicate, slice_set, None, Some, IsTrue, Result, Ok, Err}
 use Rattle.iobufs_core.specs.Part.{empty_part}

@@ -1,5 +1,5 @@
 -- A run goes on.
---     run_more    a run and one step more behind it are a run
+--     run_more    a run and one more step are a run
 use Rattle.std.proofs.Common.{List, [], ◌∷◌, ◌++◌, refl, subst}
 use Rattle.iobufs_run.specs.declared.table.Slot.{Slot}
 use Rattle.iobufs_run.specs.declared.command.Cmd.{Cmd}

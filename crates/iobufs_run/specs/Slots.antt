@@ -1,31 +1,31 @@
 -- What names hold, and what a command makes of it.
---     slot_named                                    what a name holds, which is nothing where there is no such name
---     IsSlot, AreSlots                              what is held is well formed, and so with each name
+--     slot_named                                    what a name holds, which is nothing if there is no such name
+--     IsSlot, AreSlots                              what is held is well formed, and so is each name
 --     is_free, is_part, is_view, is_text,           nothing is held, or which of the four kinds
 --     is_parts, is_of, is_one_of, kind_of
 --     is_static_view, is_native_view,               a view of static bytes, of native storage, and one that never
 --     is_fixed_view                                 becomes a part
---     is_static_mark, is_native_mark,               the same of marks
+--     is_static_mark, is_native_mark,               such marks
 --     is_fixed_mark
 --     bytes_held, readable, writable,               the bytes that can be read, their number, how many can be put,
 --     slot_capacity                                 and both numbers together
 --     slot_put, slot_overwritten, slot_with_len,    with bytes put, with bytes written over, filled to a length, cut
 --     slot_truncated                                to one
---     slot_frozen, slot_recovered,                  made read-only; made writable again, with the room behind the
+--     slot_frozen, slot_recovered,                  made read-only; made writable again, with the capacity after the
 --     recovered_spare                               bytes
 --     slot_sliced, is_empty_range                   a range of a view; whether it has no bytes
---     slot_split_front, slot_rest                   what a split answers and leaves
+--     slot_split_front, slot_rest                   what a split returns and leaves
 --     slot_advanced, slot_copied                    without the first n bytes: skipped, and copied out
 --     view_held, text_held, part_held,              what is held as one kind, or the empty one; and a view or a text
 --     marked_held                                   as a marked text
---     slot_read                                     what is left where a view was read
---     slot_joined                                   a text with a view put at one end
---     slot_coalesced, is_in_pieces, is_too_large    all as one piece; whether that has to copy, and whether no
---                                                   storage has room for the copy
---     extent                                        how much a buffer counts among those that it is put together with
---     shown_piece, pieces_of, Shows, IsShown        what a reply shows: the kind, and each piece with its bytes and
---                                                   the room behind them
---     view_encoded                                  a text of a view's length and the view behind it
+--     slot_read                                     what is left after a view was read
+--     slot_joined                                   an `IoBufs` with a view added at one end
+--     slot_coalesced, is_in_pieces, is_too_large    all as one chunk; whether that has to copy, and whether no
+--                                                   storage can hold the copy
+--     extent                                        how much a buffer counts among those that it is joined with
+--     shown_piece, pieces_of, Shows, IsShown        what a reply shows: the kind, and each chunk with its bytes and
+--                                                   their spare capacity
+--     view_encoded                                  an `IoBufs` of a view's length followed by the view
 use Rattle.std.specs.Prelude.{◌≡◌, ℕ, Bool, true, false, ◌-◌, ◌<◌, ◌^◌, ◌==◌, ◌&&◌, not, nat_le, nat_lt, Option, Some, None, List, [], ◌∷◌, length, map, slice_index_or, unwrap_or}
 use Rattle.std.specs.List.{list_any}
 use Rattle.iobufs_core.specs.Part.{Part as PartValue, empty_part, part_capacity, part_copied, part_drained, part_frozen, part_put, part_overwritten, part_truncated, part_with_len}

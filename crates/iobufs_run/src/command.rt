@@ -79,7 +79,7 @@ pub enum Cmd {
         src: usize,
         dst: usize,
     },
-    /// The same view or text again.
+    /// A second handle of a view or an `IoBufs`.
     Clone {
         src: usize,
         dst: usize,

@@ -1,4 +1,4 @@
-//! Commands over named buffers, and the theorem over every list of them.
+//! Commands on named buffers, and the theorem over every list of them.
 //!
 //! - `command`: what is asked and answered (`Cmd`, `Reply`, `Refusal`).
 //! - `table`: `Table`, with a function for each command, and one for `Append` and `Prepend`, in the file of what it works

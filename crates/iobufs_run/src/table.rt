@@ -39,7 +39,7 @@ pub enum Slot {
 }
 
 impl Slot {
-    /// The kind of what is held, if anything is.
+    /// Returns the kind of the buffer, if there is one.
     pub fn kind(&self) -> Option<Kind>
         ensures { result ≡ kind_of self.now }
     {
@@ -157,7 +157,7 @@ fn are_well_formed(slots: &[Slot]) -> bool
 }
 
 impl Table {
-    /// The names 0 to `n - 1`, which hold nothing.
+    /// Makes the names 0 to `n - 1`, which hold nothing.
     pub fn new(alloc: Global, n: usize) -> Result<Table, BufError>
         ensures ok { IfOk result (λ table. table ≡ replicate n Slot.Free) }
         ensures slots { IfOk result AreSlots }
@@ -171,7 +171,7 @@ impl Table {
         Ok(Table { slots })
     }
 
-    /// What the command `Show` shows of a name, or why it is refused. Nothing is copied.
+    /// Borrows what the command `Show` prints of a name, or returns why it is refused. Nothing is copied.
     pub fn shown(&self, target: usize) -> Result<&Slot, Refusal>
         ensures ok { IfOk result (λ slot. (refusal_for self.now (Cmd.Show target) ≡ None) × (slot.now ≡ slot_named self.now target)) }
         ensures held { IfOk result (λ slot. slot.now ≢ Slot.Free) }
@@ -182,7 +182,7 @@ impl Table {
         Ok(&slots[target])
     }
 
-    /// Does one command.
+    /// Executes one command.
     pub fn apply(&mut self, cmd: &Cmd) -> Reply
         ensures step { Step self.old cmd.now result self.new }
         ensures slots { AreSlots self.new }
@@ -196,7 +196,7 @@ impl Table {
         }
     }
 
-    /// Does commands in order, and gives a reply for each. `BufError::Memory` comes before the first.
+    /// Executes commands in order, with a reply for each. Fails with `BufError::Memory` before the first.
     pub fn run(&mut self, cmds: &[Cmd]) -> Result<Vec<Reply>, BufError>
         ensures run { IfOk result (λ replies. Run self.old cmds.now replies.items self.new) }
         ensures unchanged { OnErr result (self.new ≡ self.old) }
@@ -214,16 +214,16 @@ impl Table {
     }
 }
 
-/// Does nothing. Its contract is a law of all commands: two steps of the same command on the same names, neither of
-/// them refused for want of memory, have the same outcome, but for the room behind adopted bytes, and whether a native
-/// view is recovered; and a step is refused for want of memory only where the command may want it and is else done.
+/// Does nothing. Its contract is a law: two steps of the same command on the same names, neither refused with `Memory`,
+/// have the same outcome, except for the capacity after adopted bytes and whether a native view is recovered. A step is
+/// refused with `Memory` only if the command may be and is otherwise executed.
 pub fn choices_law()
     ensures same { NoOtherChoices }
     ensures memory { OnlyWants }
 {}
 
-/// Does nothing. Its contract is a law: a refused command leaves what each name holds, but for names that it consumes,
-/// which want of memory may free.
+/// Does nothing. Its contract is a law: a refused command leaves what each name holds, except for names that it
+/// consumes, which `Memory` may free.
 pub fn refusal_law()
     ensures { RefusalsKeep }
 {}

@@ -47,7 +47,7 @@ machine_first input before written count first =
       | inr (left, a) ↦ whole (MachineAnsweredFirst input before) input written _ count a.prints (inr (left, a))
     ]
 
--- the same with the machine
+-- what a session with the machine has answered so far
 machine_so_far : (input before : List ℕ) (written : Option (List ℕ)) (served : Result (Unit {0}) Stop) → ServesMachine input before written served
     → Halts (MachineAnsweredFirst input before) input written Writing
 machine_so_far input before written (Ok done) s =

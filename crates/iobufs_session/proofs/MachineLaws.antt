@@ -49,7 +49,7 @@ pub record ReadFirst (input before line : List ℕ) (left written : Option (List
   pub split : lines input ≡ line ∷ lines rest
   pub written_is : written ≡ Some before
 
--- the same, where the reader tells its bytes and the writer its contents
+-- a session goes on, if the reader determines its bytes and the writer its contents
 abbrev pub Going : (read told left written : Option (List ℕ)) → ℕ → Seen → Type 0
 Going read told left written number m = IfSome read (λ input. IfSome told (λ before. GoesOn input before left written number m))
 
@@ -64,7 +64,7 @@ Ended read told written result = IfSome read (λ input. IfSome told (λ before. 
 
 -- ---- answers
 
--- the same answers, where something else is known of what is written, or of what the others ask
+-- these answers, if something else is known of the output or of the other questions
 rewritten : (input before : List ℕ) (left more : List (Option Ask)) (written new : Option (List ℕ)) (count : ℕ)
     → (a : Answered input before left written count) → left ≡ more → new ≡ Some (before ++ line_of (codes "ok") ++ flat_map line_of a.texts)
     → (b : Answered input before more new count) × (b.end ≡ a.end) × (b.texts ≡ a.texts)
@@ -436,7 +436,7 @@ not_written (Some input) (Some before) left mid new line reply number m after fa
 not_written (Some input) None left mid new line reply number m after fault r said takes = tt
 not_written None told left mid new line reply number m after fault r said takes = tt
 
--- the same line under another name
+-- a line that was read, under another name
 pub reads_as : (read told left mid : Option (List ℕ)) (line text : List ℕ) (number : ℕ) (m : Seen)
     → text ≡ line → Reads read told line left mid number m → Reads read told text left mid number m
 reads_as read told left mid line text number m e r = subst (λ (l : List ℕ). Reads read told l left mid number m) (sym e) r

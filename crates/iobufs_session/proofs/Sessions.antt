@@ -33,11 +33,11 @@ pub record GoesOn (input before : List ℕ) (left written : Option (List ℕ)) (
   pub front_counts : length front ≡ count
   pub answered : Answered input before (commands_of rest) written count names
 
--- the same, where the reader tells its bytes and the writer its contents
+-- a session goes on, if the reader determines its bytes and the writer its contents
 abbrev pub Going : Option (List ℕ) → Option (List ℕ) → Option (List ℕ) → Option (List ℕ) → ℕ → List Slot → Type 0
 Going read told left written number names = IfSome read (λ input. IfSome told (λ before. GoesOn input before left written number names))
 
--- the same of a session that has ended
+-- a session has ended, if the reader determines its bytes and the writer its contents
 abbrev pub Ended : Option (List ℕ) → Option (List ℕ) → Option (List ℕ) → Result (Unit {0}) Stop → Type 0
 Ended read told written result = IfSome read (λ input. IfSome told (λ before. Serves input before written result))
 
@@ -85,7 +85,7 @@ map_more : (cs : List Cmd) (c : Cmd) (left : List (Option Command))
 map_more [] c left = refl
 map_more (first ∷ cs) c left = ap (λ l. Some (plain first) ∷ l) (map_more cs c left)
 
--- the same answers, where something else is known of what is written
+-- these answers, if something else is known of the output
 rewritten : (input before : List ℕ) (left : List (Option Command)) (written new : Option (List ℕ)) (count : ℕ) (names : List Slot)
     → (a : Answered input before left written count names) → new ≡ Some (before ++ flat_map line_of a.replies) → Answered input before left new count names
 rewritten input before left written new count names a e = record {
@@ -322,7 +322,7 @@ pub one_answered : (line text : List ℕ) (names after : List Slot) (c : Cmd) (r
     → command_of line ≡ Some (plain c) → Step names c r after → text ≡ line_of r → AnswersLine line names after text (Ok tt)
 one_answered line text names after c r e step f = record { command = c; reply = r; says = e; step = step; prints = f }
 
--- the same line under another name
+-- a line that was read, under another name
 pub reads_as : (read told left mid : Option (List ℕ)) (line text : List ℕ) (number : ℕ) (names : List Slot)
     → text ≡ line → Reads read told line left mid number names → Reads read told text left mid number names
 reads_as read told left mid line text number names e r = subst (λ (l : List ℕ). Reads read told l left mid number names) (sym e) r

@@ -1,14 +1,14 @@
--- What may fail in a session, and what stands where it does.
---     ReadFails,               the faults that reading, writing and sending off can meet, by which of the two ends
---     WriteFails, SendFails    may fail
+-- What may fail in a session, and what is so if it does.
+--     ReadFails,               the faults that reading, writing and flushing can meet, by which of the two ends may
+--     WriteFails, SendFails    fail
 --     MayFail                  the faults that a whole session can meet
---     Takes                    what a writer has got of a text: all of it, a front where it failed, nothing for want
---                              of memory
+--     Takes                    what a writer has got of some bytes: all of them, a prefix if it failed, nothing if an
+--                              allocation failed
 --     LineAt, IsTextAt         a line of the input by its number, and that it is UTF-8
---     IsFrontOf                what is known to be written is a front of these bytes
+--     IsFrontOf                what is known to be written is a prefix of these bytes
 --     most_lines               the most lines that a session counts: a longer input can't be served to its end
---     Halts                    where a session stood when it met a fault: the lines answered, and what of their
---                              replies is written
+--     Halts                    where a session was when it met a fault: the lines answered, and what of their replies
+--                              is written
 use Rattle.std.specs.Prelude.{◌≡◌, ℕ, ◌-◌, ◌^◌, Bool, true, take, length, List, ◌∷◌, ◌++◌, Option, Some, Result, Ok, Err, IsUtf8, ⊤}
 use Rattle.std.specs.Io.KnownBytes.{Appends, Keeps}
 use Rattle.std.specs.Str.Lines.{lines}

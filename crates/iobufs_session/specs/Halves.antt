@@ -1,7 +1,7 @@
 -- The halves of the program.
---     word_of        the word behind the program's name that asks for the buffers or for the machine
+--     word_of        the argument that asks for the buffers or for the machine
 --     ServesHalf     what the half that was asked for makes of its input
---     MayEnd         a session stops by a fault only where an end of it may meet that fault
+--     MayEnd         a session stops by a fault only if an end of it may meet that fault
 --     IsSentAtEnd    no reply is kept back at the end, unless the writer failed
 use Rattle.std.specs.Prelude.{◌≡◌, ℕ, Bool, true, List, codes, Option, Result, Ok, Err, ⊤}
 use Rattle.iobufs_session.specs.Faults.{MayFail}

@@ -2,9 +2,9 @@
 --     Begins, Begun           the first line makes the machine that it asks for, or asks for none
 --     AnswersMachineLine,     what one further line makes of the machine, and the line that it prints
 --     AskAnswered
---     MachineAnsweredFirst    so many lines of the input were answered, whatever is in the others
+--     MachineAnsweredFirst    the first n lines of the input were answered, whatever is in the others
 --     ServesMachine           what a session has read and written when it ends, by how it ends
---     HasMachineStatus        the same by the program's status
+--     HasMachineStatus        how it ends, by the program's status
 use Rattle.std.specs.Prelude.{◌≡◌, ◌⊎◌, ℕ, ◌+◌, List, Option, Some, None, Result, Ok, Err, ⊤}
 use Rattle.iobufs_owner.specs.Promises.{Promises}
 use Rattle.iobufs_owner.specs.State.{Seen}
@@ -60,7 +60,7 @@ ServesMachine input before written (Err (BadCommand number)) = (count : ℕ) × 
 ServesMachine input before written (Err (CannotContinue fault)) = Halts (MachineAnsweredFirst input before) input written fault
 ServesMachine input before written (Err OtherWords) = ⊥
 
--- the same by the status
+-- how a session with the machine ends, by its status
 abbrev pub HasMachineStatus : (input before : List ℕ) → (written : Option (List ℕ)) → (status : ℕ) → Type 0
 HasMachineStatus input before written status =
     (ended : Result (Unit {0}) Stop) × (status ≡ status_of ended) × ServesMachine input before written ended

@@ -1,8 +1,9 @@
 -- A session with named buffers: what it reads, and what it prints.
 --     commands_of                                 the command of each line of an input, if it says one
---     Answered                                    the first lines, so many, ran from the empty table of 16 names, and
---                                                 their replies are written
---     AllAnswered, AnsweredUpTo, AnsweredFirst    all lines, those up to the first that says no command, and so many
+--     Answered                                    the first n lines ran from the empty table of 16 names, and their
+--                                                 replies are written
+--     AllAnswered, AnsweredUpTo, AnsweredFirst    all lines, those up to the first that says no command, and the
+--                                                 first n
 --     Serves, HasStatus                           what a session has read and written when it ends, by how it ends
 --                                                 and by the program's status
 --     AnswersLine, CommandAnswered                what one line makes of the names, and the line that it prints
@@ -60,7 +61,7 @@ Serves input before written (Err (BadCommand number)) = (count : ℕ) × (number
 Serves input before written (Err (CannotContinue fault)) = Halts (AnsweredFirst input before) input written fault
 Serves input before written (Err OtherWords) = ⊥
 
--- the same by the status
+-- how a session ends, by its status
 abbrev pub HasStatus : List ℕ → List ℕ → Option (List ℕ) → ℕ → Type 0
 HasStatus input before written status =
     (ended : Result (Unit {0}) Stop) × (status ≡ status_of ended) × Serves input before written ended

@@ -1,5 +1,5 @@
--- Why a session ends, as it is told and by its status.
---     stop_text, stop_line    what the program says where it stops early, and this as a line
+-- Why a session ends, as it is reported and by its status.
+--     stop_text, stop_line    what the program says if it stops early, and this as a line
 --     status_of, IsStatus     the status that it ends with, and that it is one of 0, 2 and 3
 use Rattle.std.specs.Prelude.{◌≡◌, ◌⊎◌, ℕ, List, ◌++◌, codes, Result, Ok, Err}
 use Rattle.std.specs.Fmt.{decimal}
@@ -12,7 +12,7 @@ stop_text (BadCommand number) = codes "line " ++ decimal number ++ codes ": bad 
 stop_text (CannotContinue fault) = codes "cannot continue"
 stop_text OtherWords = codes "usage: iobuf buf or iobuf owner"
 
--- the same as a line
+-- why a session stopped, as a line
 abbrev pub stop_line : Stop → List ℕ
 stop_line stop = stop_text stop ++ codes "\n"
 

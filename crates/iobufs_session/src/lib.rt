@@ -1,4 +1,4 @@
-//! Sessions: commands on named buffers, or steps of the owner machine, a line each, and a reply to each.
+//! Sessions of commands or of owner steps, line by line.
 //!
 //! - `serve`: a session of either half, over any reader and writers, or over bytes in memory.
 //! - `input`: the lines of an input, one by one. `output`: where replies go. `fault`: why a session ends early.

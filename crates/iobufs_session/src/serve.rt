@@ -61,7 +61,7 @@ pub fn run<I: Source, O: Sink>(
     served
 }
 
-// The same over a reader.
+// Answers each line of a reader, and flushes the last replies.
 fn over_reader<R: Read + Drop, O: Sink>(
     alloc: Global,
     half: Half,

@@ -44,7 +44,7 @@ pub record Resent (prefix to : Prefix) (range : RangeCfg) (text left : List ℕ)
   pub fits : CanAllFollow prefix range done
   pub sent : Appends held holds (all_written to done)
 
--- and what is held and what the reader has left is still to be
+-- the frames so far are sent; the held bytes and the reader's rest are still to come
 abbrev pub Echoes : Prefix → Prefix → RangeCfg → Option (List ℕ) → Option (List ℕ) → List ℕ → List ℕ → Option (List ℕ) → Option (List ℕ) → Type 0
 Echoes prefix to range None has old now held holds = Unit {0}
 Echoes prefix to range (Some text) None old now held holds = ⊥
@@ -142,7 +142,7 @@ begun prefix to range (Some text) None old now held holds so_far one = absurd so
 begun prefix to range (Some text) (Some left) old now held holds so_far one =
     (now ++ left, alike prefix to range (old ++ text) (now ++ left) held holds one so_far)
 
--- and with it some of one more frame
+-- some bytes of one more frame are sent
 pub begun_more : (prefix now_prefix to now_to : Prefix) (range now_range : RangeCfg) (a b c : Option (List ℕ)) (old now new : List ℕ)
     (held mid holds : Option (List ℕ)) (found : Option View) (body : View)
     → AreSame prefix now_prefix to now_to range now_range → Echoes prefix to range a b old now held mid → found ≡ Some body
@@ -237,7 +237,7 @@ frames_begun prefix to range (Some text) None old now held holds so_far = absurd
 frames_begun prefix to range (Some text) (Some left) old now held holds so_far =
     sent_so_far prefix to range (old ++ text) (now ++ left) held holds so_far
 
--- and with it some of one more frame
+-- some bytes of one more frame are sent, as the writer writes it
 pub frames_begun_more : (prefix now_prefix to now_to : Prefix) (range now_range : RangeCfg) (a b c : Option (List ℕ)) (old now new : List ℕ)
     (held mid holds : Option (List ℕ)) (found : Option View) (body : View)
     → AreSame prefix now_prefix to now_to range now_range → Echoes prefix to range a b old now held mid → found ≡ Some body

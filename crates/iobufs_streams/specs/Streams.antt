@@ -1,19 +1,19 @@
 -- Frames on a stream, of lengths that are written as a prefix says.
---     held_bytes           the bytes that were read from it and not taken
---     HasFrame             a whole frame stands in front
+--     held_bytes           the bytes that were read and not taken
+--     HasFrame             a whole frame is at the front
 --     IsMore, IsFilled     more bytes are held, which a reader gave; and there are some, or it is at its end
 --     WasNeeded,           before the last read no whole frame was held; or nothing was read
 --     IsNeeded
 --     fault_of_error,      an error of reading, or of holding what was read, as why no frame is taken
 --     fault_of_cause
---     IsHeldFront          what taking a frame answers of the bytes that are held, and what is left of them
---     IsEnd                what is answered of bytes that are no whole frame, where no more come
---     IsFront              what taking a frame answers where a reader has no more to give for it, and what is left
+--     IsHeldFront          what taking a frame returns of the held bytes, and what is left of them
+--     IsEnd                what is returned of bytes that are no whole frame, if no more come
+--     IsFront              what taking a frame returns if a reader has no more to give for it, and what is left
 --     TakesFrame           bytes were read, and a frame was taken
---     IsFirstOf            the same told by the frames of the stream: the first went
---     HasSent              a writer was sent a beginning of a text
---     SendsFrames,         a writer was sent a beginning of the frames of a text, written with another prefix; or all, and
---     SendsAllFrames       nothing is behind them
+--     IsFirstOf            the result by the frames of the stream: the first went
+--     HasSent              a writer was sent a prefix of some bytes
+--     SendsFrames,         a writer was sent a prefix of the frames of some bytes, written with another prefix; or
+--     SendsAllFrames       all, and nothing follows them
 use Rattle.std.specs.Prelude.{◌≡◌, ◌⊎◌, ℕ, ◌+◌, ◌^◌, ◌<◌, ◌≤◌, Bool, true, nat_eq, Option, None, Some, Result, Ok, Err, List, [], ◌++◌, length, take}
 use Rattle.std.specs.Io.KnownBytes.{Appends, Consumes, IsAtEnd}
 use Rattle.iobufs.specs.CallerFacts.{IsSent}
@@ -48,7 +48,7 @@ pub record IsMore (had has : Option (List ℕ)) (old new : List ℕ) : Type 0 wh
   pub took : Consumes had has read
   pub grew : new ≡ old ++ read
 
--- and there are some, or the reader is at its end
+-- a read gave some bytes, or the reader is at its end
 pub record IsFilled (had has : Option (List ℕ)) (old new : List ℕ) (none : Bool) : Type 0 where
   pub is : IsMore had has old new
   pub empty : none ≡ nat_eq (length is.read) 0
@@ -107,8 +107,8 @@ pub record TakesFrame (prefix : Prefix) (range : RangeCfg) (had has : Option (Li
   pub needed : IsNeeded prefix range old read
   pub front : IsFront prefix range has (old ++ read) result new
 
--- The same of the frames of the whole stream: the first is taken, and the others are left; where there is none, the answer
--- is by the end. What else is refused leaves all of them.
+-- Of the frames of the whole stream the first is taken, and the others are left; if there is none, the end determines the
+-- result. Any other error leaves all of them.
 abbrev pub IsFirstOf : Prefix → RangeCfg → List (List ℕ) → End → List ℕ → Result (Option View) FrameError → List ℕ → Type 0
 IsFirstOf prefix range frames stop rest (Ok (Some body)) left = FirstTakenWith prefix range frames stop rest body.bytes left
 IsFirstOf prefix range frames stop rest (Ok None) left = (frames ≡ []) × (rest ≡ []) × (left ≡ [])

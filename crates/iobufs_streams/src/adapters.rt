@@ -6,17 +6,17 @@ ghost use Rattle.std.specs.Io.KnownBytes.{Keeps, ReadConsumes, WriteAppends};
 use iobufs_core::codec::{Buf, BufMut};
 use std::io::{self, Read, Write};
 
-/// Any bytes to read as one of std's readers (`bytes::Buf::reader`): a view, a text, or several parts.
+/// Makes any buffer one of std's readers (`bytes::Buf::reader`).
 #[derive(Drop)]
 pub struct Reader<B> {
-    /// What is left to read.
+    /// The remaining bytes.
     pub buf: B,
 }
 
 impl<B: Buf> Read for Reader<B> {
     ghost remaining = { λ r. Some (B.text r.buf) };
 
-    /// Gives as many bytes as there are and fit, whatever the chunks are. It is never refused.
+    /// Returns as many bytes as there are and fit. Cannot fail.
     fn read(&mut self, dst: &mut [u8]) -> io::Result<usize>
         ensures bound { ReadsAtMost result dst.new }
         ensures bytes { ReadConsumes (Some (B.text self.old.buf)) (Some (B.text self.new.buf)) result dst.new }
@@ -30,16 +30,16 @@ impl<B: Buf> Read for Reader<B> {
     }
 }
 
-/// Any room as one of std's writers (`bytes::BufMut::writer`): a part, or several.
+/// Makes any writable buffer one of std's writers (`bytes::BufMut::writer`).
 #[derive(Drop)]
 pub struct Writer<B> {
-    /// The room that is left, and what was written.
+    /// The remaining space, and what was written.
     pub buf: B,
 }
 
 impl<B: BufMut> Write for Writer<B> {
-    /// Takes as many bytes as fit: none where there is no room, which `write_all` answers by `ErrorKind::WriteZero`. It is
-    /// never refused.
+    /// Takes as many bytes as fit: 0 if there is no space, which `write_all` turns into `ErrorKind::WriteZero`. Cannot
+    /// fail.
     fn write(&mut self, src: &[u8]) -> io::Result<usize>
         ensures bound { WritesAtMost result src.now }
         ensures bytes { WriteAppends None None result src.now }

@@ -13,7 +13,7 @@ use iobufs_core::codec::BufError;
 use std::alloc::Global;
 use std::io::{Read, Write};
 
-// Sends one frame off.
+// Sends one frame.
 #[tactic(auto, using(crate::proofs::EchoLaws::sending))]
 fn send_frame<W: Write + Drop>(
     alloc: Global,
@@ -36,9 +36,9 @@ fn send_frame<W: Write + Drop>(
     to.to.flush().map_err(FrameError::Io)
 }
 
-/// Sends each frame back as soon as it came, behind its length as the writer writes it, until the input ends between two
-/// frames. What was sent is a beginning of these frames, whatever the answer; where both write lengths alike, it is a
-/// beginning of what came.
+/// Sends each frame back as soon as it is whole, with its length as the writer writes it, until the input ends between
+/// two frames. After an error, the sent bytes are a prefix of these frames; if both write lengths alike, a prefix of
+/// the input.
 pub fn echo<R: Read + Drop, W: Write + Drop>(
     alloc: Global,
     from: &mut FrameReader<R>,

@@ -1,4 +1,4 @@
-//! What a reader of frames holds. Its calls stand in `reader`, whose contracts name it.
+//! What a reader of frames holds. Its calls are in `reader`, whose contracts name it.
 ghost use Rattle.std.specs.Prelude.{◌<◌, ◌≤◌, vec_len};
 
 use iobufs_frames::Frames;

@@ -1,4 +1,4 @@
-//! Whole frames out of whatever a read gives.
+//! Whole frames from reads of any size.
 ghost use Rattle.std.specs.Prelude.{◌≡◌, ◌≢◌, ℕ, ◌+◌, ◌^◌, ◌<◌, ◌≤◌, ◌++◌, List, [], length, IsTrue, IfErr, IfOk, IfSome, IfNone, OnErr, OnOk};
 ghost use Rattle.std.specs.IoError.{error_kind};
 ghost use Rattle.std.specs.declared.io.ErrorKind.TheVariants.{Interrupted};
@@ -19,7 +19,7 @@ use std::io::{self, ErrorKind, Read};
 // How many bytes are read at most at a time.
 const PIECE: usize = 1 << 16;
 
-// Reads once, and again where a signal interrupts it.
+// Reads once, and again if a signal interrupts it.
 #[tactic(auto, using(crate::proofs::StreamLaws::again))]
 fn read_again<R: Read>(from: &mut R, piece: &mut [u8]) -> io::Result<usize>
     ensures bound { ReadsAtMost result piece.new }
@@ -45,7 +45,7 @@ fn fault_of(error: Error) -> FrameError
     }
 }
 
-// The same where bytes can't be held.
+// Why no frame is taken if bytes can't be held.
 fn fault_of_holding(cause: BufError) -> FrameError
     ensures { result ≡ fault_of_cause cause }
 {
@@ -84,7 +84,7 @@ impl Held {
         Ok(())
     }
 
-    // Takes the whole frame in front of all that was read.
+    // Takes the first whole frame of all that was read.
     fn next(
         &mut self,
         alloc: Global,
@@ -102,7 +102,7 @@ impl Held {
         }
     }
 
-    // Reads once behind what is held, and says whether no byte came.
+    // Reads once, after what is held, and returns whether no byte came.
     fn fill<R: Read>(&mut self, from: &mut R) -> io::Result<bool>
         requires { self.old.read ≡ 0 }
         ensures filled { IfOk result (IsFilled (R.remaining from.old) (R.remaining from.new) (held_bytes self.old) (held_bytes self.new)) }
@@ -114,7 +114,7 @@ impl Held {
         Ok(self.read == 0)
     }
 
-    // What is answered at the end of the input, where all that was read was fed.
+    // What is returned at the end of the input, if all that was read was fed.
     fn end(&self) -> Result<Option<IoBuf>, FrameError>
         requires { self.now.read ≡ 0 }
         ensures { IsEnd (held_bytes self.now) result }
@@ -126,7 +126,7 @@ impl Held {
         }
     }
 
-    // Takes the frame that comes next out of what is held and what a reader gives.
+    // Takes the next frame from what is held and what a reader gives.
     fn take<R: Read>(
         &mut self,
         alloc: Global,
@@ -156,7 +156,7 @@ impl Held {
     }
 }
 
-/// A reader out of which whole frames are taken, of lengths in a range.
+/// A reader from which whole frames are taken, of lengths in a range.
 #[derive(Drop)]
 pub struct FrameReader<R> {
     /// The reader.
@@ -170,7 +170,7 @@ pub struct FrameReader<R> {
 }
 
 impl<R: Read + Drop> FrameReader<R> {
-    /// Frames behind spelled lengths out of this reader, of which nothing was read.
+    /// Makes a reader of frames with varint lengths, and allocates space for one read. Fails with `AllocError`.
     pub fn new(alloc: Global, from: R, range: RangeCfg) -> Result<FrameReader<R>, AllocError>
         ensures from { IfOk result (λ reader. reader.from ≡ from) }
         ensures prefix { IfOk result (λ reader. reader.prefix ≡ Prefix.Spelled) }
@@ -180,7 +180,7 @@ impl<R: Read + Drop> FrameReader<R> {
         FrameReader::with_prefix(alloc, from, Prefix::Spelled, range)
     }
 
-    /// The same of lengths that are written in another way.
+    /// Makes a reader of frames whose lengths are written as `prefix`. Fails with `AllocError`.
     pub fn with_prefix(
         alloc: Global,
         from: R,
@@ -201,9 +201,8 @@ impl<R: Read + Drop> FrameReader<R> {
         })
     }
 
-    /// Takes the frame that comes next; none at the end of the input. It is answered as soon as it is held whole: no read
-    /// is begun that it doesn't need. Whatever is refused, no byte is lost: what was read is held, and it may be called
-    /// again.
+    /// Takes the next frame; `None` at the end of the input. It starts no read while a whole frame is held. After an
+    /// error no byte is lost: all that was read is held, and `next` may be called again.
     pub fn next(&mut self, alloc: Global) -> Result<Option<IoBuf>, FrameError>
         ensures next { TakesFrame self.old.prefix self.old.range (R.remaining self.old.from) (R.remaining self.new.from) (held_bytes self.old.held)
             (held_bytes self.new.held) result }

@@ -1,4 +1,4 @@
-//! Frames as lists of chunks, whatever a write takes.
+//! Frames as lists of chunks, for writes of any size.
 ghost use Rattle.std.specs.Prelude.{◌≡◌, ◌≢◌, ◌+◌, ◌^◌, ◌<◌, ◌≤◌, [], length, map, nat_eq, take, IfErr, IfOk, IsErrAnd, OnErr, OnOk};
 ghost use Rattle.std.specs.IoError.{error_kind};
 ghost use Rattle.std.specs.declared.io.ErrorKind.TheVariants.{Interrupted, OutOfMemory};
@@ -17,11 +17,11 @@ use iobufs_frames::{Prefix, framed_with};
 use std::alloc::Global;
 use std::io::{self, ErrorKind, IoSlice, Write};
 
-// How many chunks are handed over at a time.
+// How many chunks are written at a time.
 const BATCH: usize = 64;
 
-/// A body behind its spelled length; its chunks aren't copied. `BufError::TooLong` only where both are longer than
-/// `usize::MAX`.
+/// Prepends a varint length to a body, whose chunks aren't copied. Fails with `BufError::TooLong` only if both are
+/// longer than `usize::MAX`.
 pub fn framed(alloc: Global, body: IoBufs) -> Result<IoBufs, Refused<IoBufs>>
     ensures bytes { IfOk result (λ text. text.bytes ≡ bytes_written body.bytes) }
     ensures handed_back { IfErr result (λ refused. refused.value ≡ body) }
@@ -45,7 +45,7 @@ fn batch(alloc: Global, text: &IoBufs) -> io::Result<Vec<IoSlice<'_>>>
     Ok(slices)
 }
 
-// Writes once, and again where a signal interrupts it.
+// Writes once, and again if a signal interrupts it.
 #[tactic(auto, using(crate::proofs::StreamLaws::again))]
 fn write_again<W: Write>(to: &mut W, slices: &[IoSlice<'_>]) -> io::Result<usize>
     ensures bound { WritesAtMost result (io_slices_bytes slices.now) }
@@ -61,7 +61,7 @@ fn write_again<W: Write>(to: &mut W, slices: &[IoSlice<'_>]) -> io::Result<usize
     Err(io::Error::from(ErrorKind::TimedOut))
 }
 
-// Hands the first chunks of a text to the writer, and says how many bytes it took.
+// Writes the first chunks, and returns how many bytes the writer took.
 #[tactic(auto, using(iobufs::specs::CallerFacts::sending))]
 fn write_batch<W: Write>(alloc: Global, to: &mut W, text: &IoBufs) -> io::Result<usize>
     ensures within { IfOk result (λ n. n ≤ length text.now.bytes) }
@@ -72,7 +72,7 @@ fn write_batch<W: Write>(alloc: Global, to: &mut W, text: &IoBufs) -> io::Result
     write_again(to, &slices)
 }
 
-// The same, and drops from the front what was taken.
+// Writes the first chunks, and drops from the front what was taken.
 #[tactic(auto, using(iobufs::specs::CallerFacts::sending))]
 fn send_batch<W: Write>(alloc: Global, to: &mut W, text: &mut IoBufs) -> io::Result<usize>
     ensures sent { IsSent (W.contents to.old) (W.contents to.new) text.old.bytes text.new.bytes }
@@ -92,12 +92,12 @@ pub struct FrameWriter<W> {
     pub to: W,
     /// How the lengths are written.
     pub prefix: Prefix,
-    /// What it didn't take yet of the frame that was put last.
+    /// The unsent rest of the frame that was put last.
     pub rest: IoBufs,
 }
 
 impl<W: Write + Drop> FrameWriter<W> {
-    /// Frames behind spelled lengths to this writer.
+    /// Makes a writer of frames with varint lengths.
     pub fn new(to: W) -> FrameWriter<W>
         ensures to { result.to ≡ to }
         ensures prefix { result.prefix ≡ Prefix.Spelled }
@@ -106,7 +106,7 @@ impl<W: Write + Drop> FrameWriter<W> {
         FrameWriter::with_prefix(to, Prefix::Spelled)
     }
 
-    /// The same of lengths that are written in another way.
+    /// Makes a writer of frames whose lengths are written as `prefix`.
     pub fn with_prefix(to: W, prefix: Prefix) -> FrameWriter<W>
         ensures to { result.to ≡ to }
         ensures prefix { result.prefix ≡ prefix }
@@ -119,15 +119,15 @@ impl<W: Write + Drop> FrameWriter<W> {
         }
     }
 
-    /// Whether all that was put was sent.
+    /// Returns whether all that was put is sent.
     pub fn is_sent(&self) -> bool
         ensures { result ≡ nat_eq (length self.now.rest.bytes) 0 }
     {
         self.rest.is_empty()
     }
 
-    /// Begins a frame of this body, none of which is sent yet. `BufError::TooLong` where its length can't be written so
-    /// (see `Prefix::fits`), or both are longer than `usize::MAX`.
+    /// Begins a frame of this body; nothing is sent yet. Fails with `BufError::TooLong` if its length can't be written
+    /// so (see `Prefix::fits`) or both are longer than `usize::MAX`.
     pub fn put(&mut self, alloc: Global, body: IoBufs) -> Result<(), Refused<IoBufs>>
         requires { self.old.rest.bytes ≡ [] }
         ensures put { OnOk result (self.new.rest.bytes ≡ frame_written self.old.prefix body.bytes) }
@@ -145,9 +145,9 @@ impl<W: Write + Drop> FrameWriter<W> {
         Ok(())
     }
 
-    /// Sends what is left of the frame that was put, in as many writes as the writer makes of them. Whatever is refused, no
-    /// byte is lost or sent twice: what the writer didn't take is left, and it may be called again. An error is the
-    /// writer's (never `ErrorKind::Interrupted`), `ErrorKind::WriteZero` where it takes none, or `ErrorKind::OutOfMemory`.
+    /// Sends the rest of the frame, in as many writes as the writer needs. After an error no byte is lost or sent
+    /// twice: the rest is in `rest`, and `send` may be called again. An error is the writer's (never
+    /// `ErrorKind::Interrupted`), `ErrorKind::WriteZero` if it takes none, or `ErrorKind::OutOfMemory`.
     #[tactic(auto, using(iobufs::specs::CallerFacts::sending))]
     pub fn send(&mut self, alloc: Global) -> io::Result<()>
         ensures sent { IsSent (W.contents self.old.to) (W.contents self.new.to) self.old.rest.bytes self.new.rest.bytes }

@@ -27,7 +27,7 @@ unfolding turned
 bit_above h c =
     ap (λ r. turned (r == 1) (bit_xor (h * 2) c / 2)) (even_xor h c) ∙ ap (turned (c % 2 == 1)) (half_xor h c) ∙ turned_above (c % 2 == 1) h (c / 2)
 
--- and above several bits
+-- higher bits only move down over several bits
 bits_above : (n h c : ℕ) → crc_bits n (bit_xor (h * 2 ^ n) c) ≡ bit_xor h (crc_bits n c)
 bits_above zero h c = ap (λ x. bit_xor x c) (let e : h * 1 ≡ h = omega arith in e)
 bits_above (suc n) h c =

@@ -1,6 +1,6 @@
 -- CRC-32 as zip, Ethernet and others have it: the polynomial with its bits turned round is 0xEDB88320.
 --     crc32                          the checksum of bytes
---     crc_bit, crc_bits, crc_over    the register after one bit, after so many, and after these bytes
+--     crc_bit, crc_bits, crc_over    the register after one bit, after n, and after these bytes
 use Rattle.std.specs.Prelude.{ℕ, zero, suc, ◌-◌, ◌/◌, ◌%◌, ◌^◌, ◌==◌, if◌then◌else◌, List, [], ◌∷◌}
 use Rattle.std.specs.Int.Bits.{bit_xor}
 

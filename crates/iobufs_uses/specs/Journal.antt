@@ -1,17 +1,16 @@
--- Journals: records one behind the other, numbered from 0.
+-- Journals: records in order, numbered from 0.
 --     sealed, summed                     a number, a body, and the CRC-32 of both; any bytes with theirs
---     record_written, records_written    a sealed body behind its length; several, numbered from one on
+--     record_written, records_written    a length and a sealed body; several, numbered from one on
 --     up_to                              the range of lengths that a record may have
---     HasNoRecord                        why no record stands in front: the text is at its end, it is cut off, or
---                                        what stands there is damaged
+--     HasNoRecord                        why no record is at the front: the bytes are at their end, they are cut off,
+--                                        or damaged
 --     IsCut, HasBadLength, IsUnsealed    fewer bytes than the length says, no length or too large a one, and bytes
 --                                        that aren't sealed with the number
---     AreShort                           each record has at most so many bytes behind its length
+--     AreShort                           each record has at most this many bytes after its length
 --     bodies                             the bytes of records that were read as views
---     IsJournal                          a text is these records, each short enough, and a rest in front of which
---                                        none stands
---     HasOneJournal, AreAlike            a text has one list of records, one end and one rest, and no other; two of
---                                        these are the same
+--     IsJournal                          bytes are these records, each short enough, and a rest that no record begins
+--     HasOneJournal, AreAlike            bytes have exactly one list of records, one end and one rest; two of these
+--                                        are equal
 use Rattle.std.specs.Prelude.{◌≤◌, ◌≡◌, ◌⊎◌, ℕ, suc, ◌+◌, ◌^◌, ◌<◌, Ok, Err, List, [], ◌∷◌, ◌++◌, length, map}
 use Rattle.std.specs.Int.{w32, w64, to_be_bytes}
 use Rattle.iobufs_core.specs.View.{View}

@@ -1,8 +1,8 @@
--- The laws of journals: a record is sealed by its bytes alone, and a text of records is that journal and no other.
---     IsSealed                               bytes are a sealed record, told by their first eight and their last four
+-- The laws of journals: a record is sealed by its bytes alone, and bytes of records are that journal and no other.
+--     IsSealed                               bytes are a sealed record, by their first eight and their last four
 --     length-sealed, record_small,           how long a record is: 12 bytes more than its body, and at most 10 for
 --     record_fits                            its length
---     sealed_is, is_sealed, unsealed_body    such bytes are sealed, and the other way; their body is a slice of them
+--     sealed_is, is_sealed, unsealed_body    such bytes are sealed, and the converse; their body is a slice of them
 --     found_record, found_short,             a frame that was taken is a record, short enough, or there is none
 --     no_record
 --     IsReadSoFar, one_more, ended           the first records of a journal were read; one more; and no more
@@ -81,7 +81,7 @@ found_record most number text left framed body found is rest e seal =
     read_and_left text left (up_to most) (Ok framed) is rest
     ∙ ap (λ w. bytes_written w ++ left.bytes) (subst (λ (o : Option View). IfSome o (λ b. framed.bytes ≡ sealed number b.bytes)) e seal)
 
--- and it is short enough
+-- a record that was found is short enough
 pub found_short : (most number : ℕ) (text : MarkedText) (framed body : View) (found : Option View) → IsViewRead text (up_to most) (Ok framed)
     → found ≡ Some body → IfSome found (λ b. framed.bytes ≡ sealed number b.bytes) → 12 + length body.bytes ≤ most
 found_short most number text framed body found is e seal =

@@ -1,5 +1,5 @@
--- A text has one reading: its records, its end and its rest. So what was appended is replayed.
---     read_alike, replayed    two readings of a text are the same; records that were written are what is read
+-- Bytes have one reading: their records, their end and their rest. So what was appended is replayed.
+--     read_alike, replayed    two readings are equal; records that were written are what is read
 use Rattle.std.specs.Prelude.{◌≡◌, ℕ, suc, ◌+◌, ◌^◌, ◌<◌, ◌≤◌, true, Err, List, [], ◌∷◌, ◌++◌, length, take, refl}
 use Rattle.std.specs.Int.{w32, w64, to_be_bytes}
 use Rattle.std.proofs.Common.{append-nil, arith, inl, inr, ap, sym, subst, ◌∙◌, append_assoc, length-append}

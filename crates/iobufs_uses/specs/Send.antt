@@ -1,5 +1,5 @@
 -- A batch of chunks.
---     first_chunks    the bytes that one vectored write of so many chunks is given
+--     first_chunks    the bytes that one vectored write of n chunks is given
 use Rattle.std.specs.Prelude.{ℕ, List, take}
 use Rattle.std.specs.List.{flat_map}
 use Rattle.iobufs_core.specs.MarkedText.{MarkedText, text_chunks}

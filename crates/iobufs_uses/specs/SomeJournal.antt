@@ -1,4 +1,4 @@
--- Each text has a reading: what stands in front of it is decided, record by record.
+-- All bytes have a reading: it is decided record by record.
 --     one_journal    it has a reading, which is the only one
 use Rattle.std.specs.Prelude.{◌≡◌, ◌⊎◌, ℕ, zero, suc, ◌+◌, ◌-◌, ◌^◌, ◌<◌, ◌≤◌, Bool, true, false, List, [], ◌∷◌, ◌++◌, length, take, drop, refl}
 use Rattle.std.proofs.Common.{arith, inl, inr, ap, sym, subst, ◌∙◌, append_assoc, length-append, length-take, take-append-drop}

@@ -1,4 +1,4 @@
-// Frames: a body behind its length, one behind the other.
+// Frames: a length followed by a body, in order.
 ghost use Rattle.std.specs.Prelude.{◌≡◌, ◌^◌, ◌<◌, ◌≤◌, ◌++◌, List, ℕ, length, IfOk, IsOkUnless, OnErr};
 ghost use Rattle.iobufs_core.specs.CallerFacts.{AreReadBack};
 ghost use Rattle.iobufs_core.specs.Wire.{bytes_written};
@@ -9,7 +9,8 @@ use iobufs_core::buf::IoBuf;
 use iobufs_core::codec::{Error, RangeCfg, Read};
 use std::alloc::Global;
 
-/// A body as a frame, which shares its bytes.
+// [docs: frame]
+/// Encodes a body as a frame that shares its bytes.
 #[tactic(auto, using(iobufs_core::specs::CallerFacts::writing))]
 pub fn frame(alloc: Global, body: &IoBuf) -> Result<IoBufs, Error>
     ensures bytes { IfOk result (λ text. text.bytes ≡ bytes_written body.now.bytes) }
@@ -17,8 +18,10 @@ pub fn frame(alloc: Global, body: &IoBuf) -> Result<IoBufs, Error>
 {
     body.encode_iobufs(alloc)
 }
+// [docs end]
 
-/// Takes the body of a frame of at most `most` bytes from the front. A refusal leaves the text as it was.
+// [docs: read_frame]
+/// Takes a frame's body of at most `most` bytes from the front. If it fails, `text` is unchanged.
 #[tactic(auto, using(iobufs_core::specs::CallerFacts::reading))]
 pub fn read_frame(alloc: Global, text: &mut IoBufs, most: usize) -> Result<IoBuf, Error>
     ensures framed { IfOk result (λ body. text.old.bytes ≡ bytes_written body.bytes ++ text.new.bytes) }
@@ -28,8 +31,9 @@ pub fn read_frame(alloc: Global, text: &mut IoBufs, most: usize) -> Result<IoBuf
 {
     IoBuf::read_cfg(alloc, text, &RangeCfg { lo: 0, hi: most })
 }
+// [docs end]
 
-/// What was framed is read back, and nothing is left.
+/// Encodes a body as a frame and reads it back; nothing is left.
 pub fn echo(alloc: Global, body: &IoBuf) -> Result<IoBuf, Error>
     ensures bytes { IfOk result (λ read. read.bytes ≡ body.now.bytes) }
     ensures memory { length body.now.bytes < 2 ^ 63 → IsOkUnless result Error.Memory }

@@ -49,7 +49,7 @@ fn seal(alloc: Global, number: u64, body: &[u8]) -> Result<IoBuf, Error>
     Ok(part.freeze()?)
 }
 
-// The same behind its length.
+// A record: its length, then a number, a body and their sum.
 #[tactic(auto, using(iobufs_core::specs::CallerFacts::writing, crate::specs::JournalLaws::record_fits))]
 fn record_of(alloc: Global, number: u64, body: &[u8]) -> Result<IoBuf, Error>
     ensures record { IfOk result (λ view. view.bytes ≡ record_written number body.now) }

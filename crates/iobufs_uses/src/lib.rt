@@ -1,4 +1,4 @@
-//! Callers of the buffers, each proved: what they promise speaks of bytes alone.
+//! Proved callers: frames, senders, stores, journals, a pool.
 //!
 //! - `frame`: a frame codec. `send`: a sender of chunk lists. `store`: parts filled from a reader. `journal`, over
 //!   `crc`: records with their sums. `pool`, a caller of the machine: the memory of freed blocks.

@@ -37,7 +37,7 @@ fn write_batch<W: Write>(alloc: Global, to: &mut W, text: &IoBufs, most: usize) 
     to.write_vectored(&slices)
 }
 
-// The same, and drops from the front what was taken.
+// Writes one batch, and drops from the front what was taken.
 #[tactic(auto, using(iobufs::specs::CallerFacts::sending))]
 fn send_batch<W: Write>(
     alloc: Global,

@@ -10,8 +10,8 @@ use iobufs_core::codec::BufMut;
 use std::alloc::Global;
 use std::io::{self, ErrorKind, Read};
 
-// Reads once into the room of the parts, and says how many bytes came. They are copied once: room that was not written
-// can't be lent, and one of several parts neither.
+// [docs: fill_once]
+// Reads once into the spare capacity of the buffers, and returns how many bytes came.
 #[tactic(auto, using(iobufs::specs::CallerFacts::storing))]
 fn fill_once<R: Read>(from: &mut R, parts: &mut IoBufsMut) -> io::Result<usize>
     ensures stored { IsStored (R.remaining from.old) (R.remaining from.new) parts.old parts.new }
@@ -29,6 +29,7 @@ fn fill_once<R: Read>(from: &mut R, parts: &mut IoBufsMut) -> io::Result<usize>
     parts.put_slice(&bytes[..n]);
     Ok(n)
 }
+// [docs end]
 
 /// Reads into the room of the parts until it is full, or the reader has no more. What was read is in the parts,
 /// whatever the answer: it may be called again. An error is the reader's, and comes only while there is room.

@@ -1,18 +1,19 @@
--- What a value that is looked for has to meet, and what is found of bytes, truths and values that are there or not.
---     IsForm            how a value is written and found: what is found is admitted and stands there as it is written,
---                       the bytes of a value begin those of no other, and where one stands only memory can be wanting
---     no_memory         the fault of a request for memory that was refused
---     IsCodecFault      a fault is one of these errors
---     behind            a text whose bytes are those behind the first of another
---     IsMadeThere       a length stands behind the first bytes, and a value was made of a view of as many bytes
---     HasStaticViewThere    such a length stands there, and static bytes behind it
---     IsShortThere      fewer bytes than these stand behind the first
---     IsByteAt          this byte stands behind the first
---     IsBoolFault       no byte is there, or one that is neither 0 nor 1
---     IsOptionFound,    a value that is there or not behind its byte, and why none is found
---     IsOptionFault
---     IsSameOption, IsOptionAdmitted    the same where both or neither are there; admitted where it is there
---     IsPairFault       the first value has a fault, or it is found and what is behind it has one
+-- What a value that is decoded has to meet, and how bytes, `bool` and optional values are decoded.
+--     IsForm                            how a value is written and decoded: what is decoded is admitted and is there as it
+--                                       is written, no encoding is a prefix of another's, and if one is there only an
+--                                       allocation can fail
+--     no_memory                         the fault of a failed allocation
+--     IsCodecFault                      a fault is one of these errors
+--     behind                            the bytes after the first of an input
+--     IsMadeThere                       a length follows the first bytes, and a value was made of a view of that many
+--                                       bytes
+--     HasStaticViewThere                such a length is there, followed by static bytes
+--     IsShortThere                      fewer bytes than these follow the first
+--     IsByteAt                          this byte follows the first
+--     IsBoolFault                       no byte is there, or one that is neither 0 nor 1
+--     IsOptionFound, IsOptionFault      a tag and a value if there is one, and why none is decoded
+--     IsSameOption, IsOptionAdmitted    equal if both or neither are there; admitted if it is there
+--     IsPairFault                       the first value has a fault, or it is decoded and the second has one
 use Rattle.std.specs.Prelude.{◌≡◌, ◌⊎◌, ℕ, ◌+◌, ◌<◌, ◌≤◌, Option, Some, None, List, [], ◌∷◌, ◌++◌, length, take, drop, Ok}
 use Rattle.iobufs_core.specs.MarkedText.{MarkedText, taken_view}
 use Rattle.iobufs_core.specs.Spelling.{spell}
@@ -29,7 +30,7 @@ no_memory = Codec Memory
 
 pub record IsForm (Value Cfg : Type 0) (written : Value → List ℕ) (same : Value → Value → Type 0) (admits : Cfg → Value → Type 0)
     (is_found : MarkedText → ℕ → Cfg → Value → Type 0) (is_fault : MarkedText → ℕ → Cfg → Fault → Type 0) : Type 0 where
-  -- the same value is written as the same bytes
+  -- equal values have one encoding
   pub same_written : (x y : Value) → same x y → written x ≡ written y
   -- the bytes of a value begin those of no other
   pub no_front : (x y : Value) (cfg other : Cfg) (u v : List ℕ) → admits cfg x → admits other y → written x ++ u ≡ written y ++ v → same x y

@@ -1,15 +1,16 @@
--- The forms of numbers, lengths, bytes, truths and pairs, and what follows from a form.
+-- The forms of numbers, lengths, bytes, `bool` and pairs, and what follows from a form.
 --     number_form, length_form, bytes_form,    the form of each kind of value
 --     array_form, bool_form, option_form
---     pair_form                                of two values, one behind the other
---     form_as                                  of a value that is written and found as its parts
---     found_same, found_or_memory              looks at the same bytes find the same value, and refuse it for memory alone
---     read_back                                what was written is what is found
---     two_bytes, behind_first, behind_byte     the bytes of two values, and what stands behind the first of them; behind
---                                              a byte
---     first_of, two_firsts, no_first,          the first byte of bytes is one; equal bytes have an equal first, and equal
---     heads, tails                             bytes behind it
---     whole_by                                 a text is the bytes that it begins with, and what is behind them
+--     pair_form                                of two values in order
+--     form_as                                  of a value that is written and decoded as its fields
+--     found_same, found_or_memory              decoding the same bytes gives the same value, and fails for memory
+--                                              alone
+--     read_back                                what was written is what is decoded
+--     two_bytes, behind_first, behind_byte     the bytes of two values, and what follows the first of them; what
+--                                              follows a byte
+--     first_of, two_firsts, no_first,          the first byte of bytes is one; equal bytes have an equal first, and
+--     heads, tails                             equal rests
+--     whole_by                                 an input is the bytes that it begins with, and what follows them
 use Rattle.std.proofs.Common.{◌≡◌, ◌⊎◌, inl, inr, ℕ, ◌+◌, ◌^◌, ◌<◌, ◌≤◌, Bool, true, false, Option, Some, None, Ok, Err, List, [], ◌∷◌, ◌++◌, length, take, drop, ap, sym, subst, ◌∙◌, refl, arith, append_assoc, length-append, take-append-drop}
 use Rattle.std.proofs.Math.Seq.{take-append-add, drop-append_seam}
 use Rattle.std.proofs.lemmas.List.{take_at, append_cancel_left, drop-drop}
@@ -158,7 +159,7 @@ no_first_of d b more p e = let both : b ∷ more ≡ [] = sym p ∙ e in cc
 pub heads : (b c : ℕ) (u v : List ℕ) → b ∷ u ≡ c ∷ v → b ≡ c
 heads b c u v e = cc
 
--- and the same bytes behind it
+-- equal lists have equal rests after the first byte
 pub tails : (b c : ℕ) (u v : List ℕ) → b ∷ u ≡ c ∷ v → u ≡ v
 tails b c u v e = cc
 

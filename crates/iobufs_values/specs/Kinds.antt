@@ -1,14 +1,14 @@
--- A value behind a byte that tells its kind, and a value of one kind or another: the first byte tells which.
---     IsFirst                                the first of these bytes tells the kind, or tells that it is another
---     IsEnd                                  no byte stands there
---     IsKindFound, IsKindFault               the byte of a kind and a value behind it; why it isn't found
---     either_written, either_items,          what a value of one kind or another is written as, and which are the
---     IsSameEither                           same
---     IsEitherAdmitted, IsEitherFound,       which are admitted and found: one of the second kind only where its byte
---     IsEitherFault                          doesn't tell the first; and why none is found
+-- A byte for the kind followed by a value, and a value of one of two kinds: the first byte determines which.
+--     IsFirst                                the first of these bytes is of the kind, or of another
+--     IsEnd                                  no byte is there
+--     IsKindFound, IsKindFault               the byte of a kind followed by a value; why it isn't decoded
+--     either_written, either_items,          the encoding of a value of one of two kinds, and which are equal
+--     IsSameEither
+--     IsEitherAdmitted, IsEitherFound,       which are admitted and decoded: one of the second kind only if its byte
+--     IsEitherFault                          isn't of the first; and why none is decoded
 --     kind_form, either_form                 their forms, from the forms of the values
---     kind_first, either_first               the first byte of what is written tells the kind
---     joins_either                           the items of a value of one kind or another join to what is written of it
+--     kind_first, either_first               the first byte of an encoding determines the kind
+--     joins_either                           the items of a value of one of two kinds join to what is written of it
 use Rattle.std.proofs.Common.{◌≡◌, ◌⊎◌, inl, inr, ℕ, ◌+◌, Bool, true, false, ◌||◌, nat_eq, List, [], ◌∷◌, ◌++◌, length, take, drop, ap, sym, ◌∙◌, refl, arith}
 use Rattle.std.proofs.lemmas.Bool.Decides.{nat_tests}
 use Rattle.std.proofs.lemmas.Grind.{common_steps}

@@ -1,11 +1,11 @@
--- Lists of values: a count, spelled, and then each value behind the one before it.
---     list_written, list_items             what a list is written as: its count and then each value; the same in items
---     AreFound                             these values stand behind the first bytes, one behind the other
---     IsListFound                          a count in the range stands there, and so many values behind it
---     IsOneFault                           of so many values, all before one stand there, and it has this fault
---     IsListFault                          why no list is found: no count in the range, a fault of a value, or want of
---                                          memory
---     AreSame                              as many values, and each is the same
+-- Lists of values: a varint count, and then each value in order.
+--     list_written, list_items             the encoding of a list: its count and then each value; and in items
+--     AreFound                             these values follow the first bytes, in order
+--     IsListFound                          a count in the range is there, followed by that many values
+--     IsOneFault                           of n values, all before one are there, and it has this fault
+--     IsListFault                          why no list is decoded: no count in the range, a fault of a value, or a
+--                                          failed allocation
+--     AreSame                              as many values, and each is equal
 --     list_form                            the form of a list, from the form of its values
 use Rattle.std.proofs.Common.{◌≡◌, ◌⊎◌, inl, inr, ℕ, zero, suc, ◌+◌, ◌^◌, ◌<◌, true, Ok, Err, List, [], ◌∷◌, ◌++◌, length, take, drop, ap, sym, subst, ◌∙◌, refl, arith, append_assoc}
 use Rattle.std.specs.List.{All, flat_map}

@@ -1,5 +1,5 @@
 -- Signed numbers: each is written as the number of its bits (two's complement).
---     IsSignedFound    the bits of this number stand behind the first bytes of a text
+--     IsSignedFound    the bits of this number follow the first bytes
 --     signed_form      the form of a signed number, from the form of its bits
 use Rattle.std.proofs.Common.{◌≡◌, ℕ, ℤ, ◌^◌, ◌<◌, Ok, Err, List, drop, ap, sym, ◌∙◌, arith}
 use Rattle.std.proofs.lemmas.Int.{ints, to_z-of_z}

@@ -1,4 +1,4 @@
-// Why a value is not found.
+// Why a value is not decoded.
 ghost use Rattle.std.specs.Prelude.{◌≡◌};
 ghost use Rattle.iobufs_core.specs.Errors.{error_of};
 ghost use Rattle.iobufs_values.specs.declared.fault.Fault.TheVariants.{Codec};
@@ -6,19 +6,19 @@ ghost use Rattle.iobufs_values.specs.declared.fault.Fault.TheVariants.{Codec};
 use iobufs_core::codec::{BufError, Error};
 use std::alloc::AllocFailed;
 
-/// Why a value is not found (the codec's `Error`, of which iobufs_core has the part that lengths and bytes need).
+/// Why a value is not decoded (the codec's `Error`, of which `iobufs_core` has the variants for lengths and bytes).
 #[derive(Clone, Copy, Debug, PartialEq, Eq, thiserror::Error)]
 pub enum Fault {
-    /// A number, a length or bytes aren't there, or memory was refused.
+    /// A number, a length or bytes are missing or invalid, or an allocation failed.
     #[error("{0}")]
     Codec(Error),
-    /// A byte that tells yes or no is neither 0 nor 1.
+    /// The byte of a `bool` or an `Option` is neither 0 nor 1.
     #[error("InvalidBool")]
     InvalidBool,
-    /// This byte names no kind of the value.
+    /// This byte is of no kind of the value.
     #[error("InvalidEnum")]
     InvalidEnum(u8),
-    /// So many bytes stand behind the value, where it was to be all.
+    /// This number of bytes follows a value that should be all.
     #[error("ExtraData")]
     ExtraData(usize),
 }

@@ -1,12 +1,12 @@
-// Numbers out of the front of any reader.
+// Numbers from the front of any reader.
 ghost use Rattle.std.specs.Prelude.{◌≡◌, ◌≤◌, length, take};
 ghost use Rattle.std.specs.Int.{w8, w16, w32, w64, w128, cast_signed, from_be_bytes, from_le_bytes};
 
 use iobufs_core::codec::Buf;
 
-/// The numbers of `bytes::Buf`, on every reader: each takes its bytes from the front, and asks that so many are there.
+/// The number reads of `bytes::Buf`, on every reader. Each takes its bytes from the front, and requires that they are there.
 pub trait GetNumbers: Buf + Sized {
-    /// A byte.
+    /// Takes an unsigned number of one byte (`Buf::get_u8`).
     final fn get_u8(&mut self) -> u8
         requires { 1 ≤ length (Self.text self.old) }
         ensures value { result ≡ from_be_bytes w8 (take 1 (Self.text self.old)) }
@@ -15,7 +15,7 @@ pub trait GetNumbers: Buf + Sized {
         u8::from_be_bytes(front(self))
     }
 
-    /// A byte, as a signed number.
+    /// Takes a signed number of one byte (`Buf::get_i8`).
     final fn get_i8(&mut self) -> i8
         requires { 1 ≤ length (Self.text self.old) }
         ensures value { result ≡ cast_signed w8 (from_be_bytes w8 (take 1 (Self.text self.old))) }
@@ -24,7 +24,7 @@ pub trait GetNumbers: Buf + Sized {
         i8::from_be_bytes(front(self))
     }
 
-    /// 2 bytes, the highest first.
+    /// Takes an unsigned number of two bytes, big-endian (`Buf::get_u16`).
     final fn get_u16(&mut self) -> u16
         requires { 2 ≤ length (Self.text self.old) }
         ensures value { result ≡ from_be_bytes w16 (take 2 (Self.text self.old)) }
@@ -33,7 +33,7 @@ pub trait GetNumbers: Buf + Sized {
         u16::from_be_bytes(front(self))
     }
 
-    /// 2 bytes, the lowest first.
+    /// Takes an unsigned number of two bytes, little-endian (`Buf::get_u16_le`).
     final fn get_u16_le(&mut self) -> u16
         requires { 2 ≤ length (Self.text self.old) }
         ensures value { result ≡ from_le_bytes w16 (take 2 (Self.text self.old)) }
@@ -42,7 +42,7 @@ pub trait GetNumbers: Buf + Sized {
         u16::from_le_bytes(front(self))
     }
 
-    /// 2 bytes, the highest first, as a signed number.
+    /// Takes a signed number of two bytes, big-endian (`Buf::get_i16`).
     final fn get_i16(&mut self) -> i16
         requires { 2 ≤ length (Self.text self.old) }
         ensures value { result ≡ cast_signed w16 (from_be_bytes w16 (take 2 (Self.text self.old))) }
@@ -51,7 +51,7 @@ pub trait GetNumbers: Buf + Sized {
         i16::from_be_bytes(front(self))
     }
 
-    /// 2 bytes, the lowest first, as a signed number.
+    /// Takes a signed number of two bytes, little-endian (`Buf::get_i16_le`).
     final fn get_i16_le(&mut self) -> i16
         requires { 2 ≤ length (Self.text self.old) }
         ensures value { result ≡ cast_signed w16 (from_le_bytes w16 (take 2 (Self.text self.old))) }
@@ -60,7 +60,7 @@ pub trait GetNumbers: Buf + Sized {
         i16::from_le_bytes(front(self))
     }
 
-    /// 4 bytes, the highest first.
+    /// Takes an unsigned number of four bytes, big-endian (`Buf::get_u32`).
     final fn get_u32(&mut self) -> u32
         requires { 4 ≤ length (Self.text self.old) }
         ensures value { result ≡ from_be_bytes w32 (take 4 (Self.text self.old)) }
@@ -69,7 +69,7 @@ pub trait GetNumbers: Buf + Sized {
         u32::from_be_bytes(front(self))
     }
 
-    /// 4 bytes, the lowest first.
+    /// Takes an unsigned number of four bytes, little-endian (`Buf::get_u32_le`).
     final fn get_u32_le(&mut self) -> u32
         requires { 4 ≤ length (Self.text self.old) }
         ensures value { result ≡ from_le_bytes w32 (take 4 (Self.text self.old)) }
@@ -78,7 +78,7 @@ pub trait GetNumbers: Buf + Sized {
         u32::from_le_bytes(front(self))
     }
 
-    /// 4 bytes, the highest first, as a signed number.
+    /// Takes a signed number of four bytes, big-endian (`Buf::get_i32`).
     final fn get_i32(&mut self) -> i32
         requires { 4 ≤ length (Self.text self.old) }
         ensures value { result ≡ cast_signed w32 (from_be_bytes w32 (take 4 (Self.text self.old))) }
@@ -87,7 +87,7 @@ pub trait GetNumbers: Buf + Sized {
         i32::from_be_bytes(front(self))
     }
 
-    /// 4 bytes, the lowest first, as a signed number.
+    /// Takes a signed number of four bytes, little-endian (`Buf::get_i32_le`).
     final fn get_i32_le(&mut self) -> i32
         requires { 4 ≤ length (Self.text self.old) }
         ensures value { result ≡ cast_signed w32 (from_le_bytes w32 (take 4 (Self.text self.old))) }
@@ -96,7 +96,7 @@ pub trait GetNumbers: Buf + Sized {
         i32::from_le_bytes(front(self))
     }
 
-    /// 8 bytes, the highest first.
+    /// Takes an unsigned number of eight bytes, big-endian (`Buf::get_u64`).
     final fn get_u64(&mut self) -> u64
         requires { 8 ≤ length (Self.text self.old) }
         ensures value { result ≡ from_be_bytes w64 (take 8 (Self.text self.old)) }
@@ -105,7 +105,7 @@ pub trait GetNumbers: Buf + Sized {
         u64::from_be_bytes(front(self))
     }
 
-    /// 8 bytes, the lowest first.
+    /// Takes an unsigned number of eight bytes, little-endian (`Buf::get_u64_le`).
     final fn get_u64_le(&mut self) -> u64
         requires { 8 ≤ length (Self.text self.old) }
         ensures value { result ≡ from_le_bytes w64 (take 8 (Self.text self.old)) }
@@ -114,7 +114,7 @@ pub trait GetNumbers: Buf + Sized {
         u64::from_le_bytes(front(self))
     }
 
-    /// 8 bytes, the highest first, as a signed number.
+    /// Takes a signed number of eight bytes, big-endian (`Buf::get_i64`).
     final fn get_i64(&mut self) -> i64
         requires { 8 ≤ length (Self.text self.old) }
         ensures value { result ≡ cast_signed w64 (from_be_bytes w64 (take 8 (Self.text self.old))) }
@@ -123,7 +123,7 @@ pub trait GetNumbers: Buf + Sized {
         i64::from_be_bytes(front(self))
     }
 
-    /// 8 bytes, the lowest first, as a signed number.
+    /// Takes a signed number of eight bytes, little-endian (`Buf::get_i64_le`).
     final fn get_i64_le(&mut self) -> i64
         requires { 8 ≤ length (Self.text self.old) }
         ensures value { result ≡ cast_signed w64 (from_le_bytes w64 (take 8 (Self.text self.old))) }
@@ -132,7 +132,7 @@ pub trait GetNumbers: Buf + Sized {
         i64::from_le_bytes(front(self))
     }
 
-    /// 16 bytes, the highest first.
+    /// Takes an unsigned number of sixteen bytes, big-endian (`Buf::get_u128`).
     final fn get_u128(&mut self) -> u128
         requires { 16 ≤ length (Self.text self.old) }
         ensures value { result ≡ from_be_bytes w128 (take 16 (Self.text self.old)) }
@@ -141,7 +141,7 @@ pub trait GetNumbers: Buf + Sized {
         u128::from_be_bytes(front(self))
     }
 
-    /// 16 bytes, the lowest first.
+    /// Takes an unsigned number of sixteen bytes, little-endian (`Buf::get_u128_le`).
     final fn get_u128_le(&mut self) -> u128
         requires { 16 ≤ length (Self.text self.old) }
         ensures value { result ≡ from_le_bytes w128 (take 16 (Self.text self.old)) }
@@ -150,7 +150,7 @@ pub trait GetNumbers: Buf + Sized {
         u128::from_le_bytes(front(self))
     }
 
-    /// 16 bytes, the highest first, as a signed number.
+    /// Takes a signed number of sixteen bytes, big-endian (`Buf::get_i128`).
     final fn get_i128(&mut self) -> i128
         requires { 16 ≤ length (Self.text self.old) }
         ensures value { result ≡ cast_signed w128 (from_be_bytes w128 (take 16 (Self.text self.old))) }
@@ -159,7 +159,7 @@ pub trait GetNumbers: Buf + Sized {
         i128::from_be_bytes(front(self))
     }
 
-    /// 16 bytes, the lowest first, as a signed number.
+    /// Takes a signed number of sixteen bytes, little-endian (`Buf::get_i128_le`).
     final fn get_i128_le(&mut self) -> i128
         requires { 16 ≤ length (Self.text self.old) }
         ensures value { result ≡ cast_signed w128 (from_le_bytes w128 (take 16 (Self.text self.old))) }

@@ -1,4 +1,4 @@
-// A value behind a byte that tells its kind, and a value of one kind or another.
+// A byte for the kind followed by a value, and a value of one of two kinds.
 ghost use Rattle.std.specs.Prelude.{◌≡◌, ℕ, Bool, true, ◌||◌, nat_eq, [], ◌∷◌};
 ghost use Rattle.iobufs_core.specs.Items.{put_item};
 ghost use Rattle.iobufs_values.specs.Kinds.{IsEitherAdmitted, IsEitherFault, IsEitherFound, IsFirst, IsKindFault, IsKindFound, IsSameEither, either_items, either_written};
@@ -9,12 +9,12 @@ use crate::{Fault, Look};
 use iobufs_core::codec::{BufMut, BufsMut, EncodeSize, Error, Peek, Write};
 use std::alloc::Global;
 
-/// A value whose first byte tells its kind.
+/// A value whose first byte determines its kind (own).
 pub trait Tagged: Look {
     // The bytes that tell this kind.
     ghost is_tag: { ℕ → Bool };
 
-    /// Whether this byte tells the kind.
+    /// Returns whether this byte is of the kind.
     fn is_tag(byte: u8) -> bool
         ensures { result ≡ is_tag byte };
 
@@ -22,14 +22,14 @@ pub trait Tagged: Look {
     ghost begins: { (value : Self) → IsFirst is_tag true (Self.written value) };
 }
 
-/// A value behind the byte `TAG`.
+/// The byte `TAG` followed by a value (own).
 #[derive(Debug, PartialEq, Eq, Drop)]
 pub struct Kind<const TAG: u8, T> {
     pub value: T,
 }
 
-/// A value of one kind or another: its first byte tells which. Several kinds stand one in the other, as
-/// `Either<A, Either<B, C>>`, each behind one byte. Where a byte tells both, the value is of the first kind.
+/// A value of one of two kinds, by its first byte (own). Nest it for more, as `Either<A, Either<B, C>>`; one byte is
+/// written. If a byte is of both, the value is of the first kind.
 #[derive(Debug, PartialEq, Eq, Drop)]
 pub enum Either<A, B> {
     First(A),

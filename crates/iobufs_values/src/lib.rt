@@ -1,10 +1,10 @@
-//! Whole values: what is made of several is read whole or not at all, since reading looks before it takes.
+//! Values of several fields that are read whole or not at all.
 //!
-//! - `gets`: numbers out of the front of any reader.
-//! - `look`: the trait `Look`, with `read_whole` and `decode_cfg` over it. `fault`: why a value is not found.
-//! - `numbers`, `views`, `option`, `several`: numbers and lengths; views, `Bytes` and arrays; truths and `Option`; tuples.
-//! - `kinds`: a value behind a byte that tells its kind, and a value of one kind or another.
-//! - `specs/`: `Form` has what a value has to meet, in one record, and what is found of each kind; `Forms` that each kind
+//! - `gets`: numbers from the front of any reader.
+//! - `look`: the trait `Look`, with `read_whole` and `decode_cfg` over it. `fault`: why a value is not decoded.
+//! - `numbers`, `views`, `option`, `several`: numbers and lengths; views, `Bytes` and arrays; `bool` and `Option`; tuples.
+//! - `kinds`: a byte for the kind followed by a value, and a value of one of two kinds.
+//! - `specs/`: `Form` is what a value has to meet, in one record, and how each kind is decoded; `Forms` that each kind
 //!   meets it.
 #![tactic(auto)]
 

@@ -1,4 +1,4 @@
-// A list of values, behind their count.
+// A count followed by a list of values.
 ghost use Rattle.std.specs.Prelude.{◌≡◌, ◌⊎◌, ◌+◌, ◌^◌, ◌<◌, ◌≤◌, length, true, SomeIff, OnOk, OnErr, IfOk, IfErr, IsOk};
 ghost use Rattle.std.specs.List.{All, flat_map};
 ghost use Rattle.iobufs_core.specs.Items.{IsBegun, items_inline, items_pushed};
@@ -11,8 +11,7 @@ use crate::{Fault, Look};
 use iobufs_core::codec::{Buf, BufMut, BufsMut, EncodeSize, Error, Peek, RangeCfg, Write};
 use std::alloc::Global;
 
-/// Values behind their count, which is spelled as a length is. The traits of writing stand in another crate, as `Vec`
-/// does: hence a type of this one around it.
+/// A varint count followed by the values (`Vec`). It wraps `Vec` because the traits of writing are another crate's.
 #[derive(Debug, PartialEq, Eq, Drop)]
 pub struct List<T> {
     pub values: Vec<T>,
@@ -85,7 +84,7 @@ impl<T: Look + Drop> Look for List<T> {
         (list_form T.form) };
 }
 
-// How many bytes are written of the values, one behind the other; none where that passes `usize::MAX`.
+// The encoded size of the values in order; `None` above `usize::MAX`.
 fn each_size<T: EncodeSize>(values: &[T]) -> Option<usize>
     ensures { SomeIff result (length (flat_map T.written values.now) < 2 ^ 64) (length (flat_map T.written values.now)) }
 {
@@ -118,7 +117,7 @@ fn write_each<T: Write, B: BufMut>(values: &[T], buf: &mut B)
     }
 }
 
-// Puts and pushes it. A refusal leaves what was written before it.
+// Puts and pushes the values. If it fails, `buf` keeps what was written before.
 fn write_each_bufs<T: Write, B: BufsMut>(values: &[T], buf: &mut B) -> Result<(), Error>
     requires { items_inline (flat_map T.items values.now) ≤ B.room buf.old }
     ensures ok { OnOk result (B.done buf.old (flat_map T.items values.now) buf.new) }
@@ -133,8 +132,8 @@ fn write_each_bufs<T: Write, B: BufsMut>(values: &[T], buf: &mut B) -> Result<()
     Ok(())
 }
 
-// So many values behind the first `skip` bytes, and how many bytes they have. Room is made for those that are found, one by
-// one: a count that lies takes none.
+// Decodes `count` values after the first `skip` bytes, and returns their number of bytes. Space is allocated for values
+// that are decoded, one by one: a count that is too large allocates nothing.
 fn look_each<T: Look + Drop, B: Peek>(
     alloc: Global,
     buf: &B,

@@ -1,4 +1,4 @@
-// The trait of values that are found without taking them.
+// The trait of values that are decoded without consuming.
 ghost use Rattle.std.specs.Prelude.{◌≡◌, ◌⊎◌, ℕ, ◌+◌, ◌<◌, ◌≤◌, ◌^◌, ◌++◌, length, IfOk, IfErr, OnErr};
 ghost use Rattle.iobufs_core.specs.MarkedText.{MarkedText};
 ghost use Rattle.iobufs_values.specs.Form.{IsForm};
@@ -10,13 +10,13 @@ use iobufs_core::buf::IoBuf;
 use iobufs_core::codec::{EncodeSize, Peek};
 use std::alloc::Global;
 
-/// A value that is found in a text without taking it, so that whatever is made of several is read whole or not at all
-/// (the codec's `Read` takes as it goes).
+/// A value that is decoded without consuming, so that a value of several parts is read whole or not at all (own). The
+/// codec's `Read` consumes part by part.
 pub trait Look: EncodeSize + Sized {
-    /// What is asked of the value.
+    /// The configuration: what is required of the value.
     type Cfg;
 
-    // A value stands behind the first bytes of a text; or why none does.
+    // A value follows the first bytes; or why none does.
     ghost is_found: { MarkedText → ℕ → Self.Cfg → Self → Type 0 };
 
     ghost is_fault: { MarkedText → ℕ → Self.Cfg → AnyFault → Type 0 };
@@ -26,7 +26,7 @@ pub trait Look: EncodeSize + Sized {
 
     ghost same: { Self → Self → Type 0 };
 
-    /// The value behind the first `skip` bytes, and how many bytes it has. All of them stay.
+    /// Decodes the value after the first `skip` bytes, and returns it with its number of bytes. All of them stay.
     fn look<B: Peek>(
         alloc: Global,
         buf: &B,
@@ -41,9 +41,12 @@ pub trait Look: EncodeSize + Sized {
 
     ghost form: { IsForm Self Self.Cfg Self.written same admits is_found is_fault };
 
-    /// Reads the value from the front, whole: it leaves what one copy of its bytes leaves. A refusal leaves the reader as
-    /// it was.
-    final fn read_whole<B: Peek>(alloc: Global, buf: &mut B, cfg: &Self::Cfg) -> Result<Self, Fault>
+    /// Reads the value from the front, whole. If it fails, `buf` is unchanged.
+    final fn read_whole<B: Peek>(
+        alloc: Global,
+        buf: &mut B,
+        cfg: &Self::Cfg,
+    ) -> Result<Self, Fault>
         ensures found { IfOk result (is_found (B.marked buf.old) 0 cfg.now) }
         ensures left { IfOk result (λ value. buf.new ≡ B.copied buf.old (length (Self.written value))) }
         ensures bytes { IfOk result (λ value. B.text buf.old ≡ Self.written value ++ B.text buf.new) }
@@ -55,8 +58,8 @@ pub trait Look: EncodeSize + Sized {
         Ok(value)
     }
 
-    /// The value that a text is, from its first byte to its last (`decode_cfg`). `Fault::ExtraData` tells how many bytes
-    /// are left behind it.
+    /// Decodes all bytes as one value (`decode_cfg`). Fails with `Fault::ExtraData`, which has the number of bytes, if
+    /// some remain.
     final fn decode_cfg<B: Peek>(alloc: Global, buf: &B, cfg: &Self::Cfg) -> Result<Self, Fault>
     where
         Self: Drop,

@@ -1,4 +1,4 @@
-// A type of one's own, read and written as the tuple of its fields.
+// Types that are read and written as the tuple of their fields.
 ghost use Rattle.std.specs.Prelude.{◌≡◌, ◌⊎◌, ℕ, ◌+◌, ◌^◌, ◌<◌, ◌≤◌, ◌++◌, length, Err, IfOk, IfErr, OnErr, IsOk, IsOkUnless};
 ghost use Rattle.iobufs.specs.Building.{building_after, empty_building, finished};
 ghost use Rattle.iobufs_core.specs.Items.{items_inline};
@@ -12,20 +12,19 @@ use iobufs_core::buf::IoBufMut;
 use iobufs_core::codec::{Encode, Error, Peek, Write};
 use std::alloc::Global;
 
-/// A type that is read as a tuple of its fields: whatever `Look` promises of the tuple holds of it. Of a field that is such a
-/// type itself the parts stand in the tuple.
+/// A type that is read as a tuple of its fields; all that `Look` promises of the tuple holds of it (own). For a field
+/// that is itself such a type, put its tuple into the tuple.
 pub trait ByParts: Sized {
-    /// What it is made of: a tuple, or one value.
+    /// Its fields: a tuple, or one value.
     type Parts: Look + Drop;
 
     ghost parts: { Self → Self.Parts };
 
-    /// The value that is made of these.
+    /// Makes the value of its fields.
     fn from_parts(all: Self::Parts) -> Self
         ensures { parts result ≡ all };
 
-    /// Reads the value from the front, whole: it leaves what one copy of its bytes leaves. A refusal leaves the reader as
-    /// it was.
+    /// Reads the value from the front, whole. If it fails, `buf` is unchanged.
     final fn read_whole<B: Peek>(
         alloc: Global,
         buf: &mut B,
@@ -41,8 +40,8 @@ pub trait ByParts: Sized {
         Ok(Self::from_parts(all))
     }
 
-    /// The value that a text is, from its first byte to its last. `Fault::ExtraData` tells how many bytes are left behind
-    /// it.
+    /// Decodes all bytes as one value (`decode_cfg`). Fails with `Fault::ExtraData`, which has the number of bytes, if
+    /// some remain.
     final fn decode_cfg<B: Peek>(
         alloc: Global,
         buf: &B,
@@ -59,12 +58,12 @@ pub trait ByParts: Sized {
     }
 }
 
-/// What a text is handed over as: `IoBufs`. It stands in for `IoBufs` where a value with several views is written, since
-/// no call at such a type can be proved whose signature names a view.
+/// The result type of `IntoParts::encode_iobufs`: `IoBufs`. The borrow checker refuses a call at a tuple of several
+/// views if the signature names a view.
 pub trait FromText: Sized {
     ghost as_text: { Self → MarkedText };
 
-    /// The text itself.
+    /// Returns the `IoBufs` itself.
     fn from_text(text: IoBufs) -> Self
         ensures { as_text result ≡ text };
 }
@@ -77,17 +76,16 @@ impl FromText for IoBufs {
     }
 }
 
-/// A type that is written as its parts too.
+/// A type that is also written as its fields (own).
 pub trait IntoParts: ByParts
 where
     Self::Parts: Write,
 {
-    /// What the value is made of.
+    /// Returns the fields.
     fn into_parts(self) -> Self::Parts
         ensures { result ≡ Self.parts self };
 
-    /// The written value as a text, as `EncodeExt` makes it of the parts: views are pushed and not copied. `X` is
-    /// `IoBufs`.
+    /// Encodes into chunks as `EncodeExt` does with the fields; views are pushed and not copied. `X` is `IoBufs`.
     final fn encode_iobufs<X: FromText>(self, alloc: Global) -> Result<X, Error>
         ensures pieces { IfOk result (λ made. X.as_text made ≡ finished (building_after (empty_building (items_inline (Self.Parts.items (Self.parts self))))
             (Self.Parts.items (Self.parts self)))) }
@@ -103,7 +101,7 @@ where
         Ok(X::from_text(text))
     }
 
-    /// The written value in one buffer of exactly its size, as `Encode` makes it of the parts.
+    /// Encodes into one buffer of exactly the value's size, as `Encode` does with the fields.
     final fn encode(self, alloc: Global) -> Result<IoBufMut, Error>
         ensures ok { IfOk result (λ part. part ≡ record { filled = Self.Parts.written (Self.parts self); spare = 0 }) }
         ensures too_long { 2 ^ 64 ≤ length (Self.Parts.written (Self.parts self)) → result ≡ Err Error.TooLong }

@@ -10,8 +10,8 @@ use crate::{Fault, Look};
 use iobufs_core::codec::{BufMut, BufsMut, EncodeSize, Error, Peek, Write};
 use std::alloc::Global;
 
-/// A signed number. It is written as the number of its bits (two's complement), the highest byte first. The traits of
-/// writing stand in another crate, as do the types of numbers: hence a type of this one around them.
+/// A signed number, written big-endian in two's complement. It wraps the number because the traits of writing are
+/// another crate's.
 #[derive(Clone, Copy, Debug, PartialEq, Eq)]
 pub struct Signed<N> {
     pub value: N,

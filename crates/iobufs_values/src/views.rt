@@ -9,10 +9,10 @@ ghost use Rattle.iobufs_values.specs.Form.{HasStaticViewThere, IsCodecFault, IsM
 use crate::{Fault, Look};
 use bytes::Bytes;
 use iobufs_core::buf::IoBuf;
-use iobufs_core::codec::{Error, OwnedBytes, Peek, RangeCfg, peek_length};
+use iobufs_core::codec::{Error, Peek, OwnedBytes, RangeCfg, peek_length};
 use std::alloc::Global;
 
-/// What is made of the bytes behind a length, which stay.
+/// Decodes the bytes after a length, which stay.
 fn look_bytes<T: OwnedBytes, B: Peek>(
     alloc: Global,
     buf: &B,
@@ -37,7 +37,7 @@ fn look_bytes<T: OwnedBytes, B: Peek>(
     Ok((made, len + n))
 }
 
-/// The `N` bytes behind the first `skip`.
+/// The `N` bytes after the first `skip`.
 pub(crate) fn bytes_at<const N: usize, B: Peek>(buf: &B, skip: usize) -> Result<[u8; N], Fault>
     requires { skip ≤ length (B.text buf.now) }
     ensures bytes { IfOk result (λ bytes. take N (drop skip (B.text buf.now)) ≡ bytes) }
@@ -67,7 +67,7 @@ impl Look for IoBuf {
 
     ghost same = { λ x y. x.bytes ≡ y.bytes };
 
-    /// Static bytes are never refused.
+    /// Cannot fail with `Error::Memory` if the bytes are static.
     fn look<B: Peek>(
         alloc: Global,
         buf: &B,
@@ -101,7 +101,7 @@ impl Look for Bytes {
 
     ghost same = { λ x y. x ≡ y };
 
-    /// Static bytes are never refused.
+    /// Cannot fail with `Error::Memory` if the bytes are static.
     fn look<B: Peek>(
         alloc: Global,
         buf: &B,

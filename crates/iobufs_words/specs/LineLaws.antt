@@ -1,5 +1,5 @@
--- The lines of a text, taken one by one: the first, and those behind it.
---     lines_step    the lines of a text that isn't empty are its first one and those behind the first LF
+-- The lines of an input, taken one by one: the first, and those after it.
+--     lines_step    the lines of an input that isn't empty are its first one and those after the first LF
 use Rattle.std.proofs.Common.{◌≡◌, ℕ, ◌-◌, ◌<◌, Bool, true, false, cond, List, [], ◌∷◌, ◌++◌, take, length, length-append, get_or, suc, nat_lt, eqb, refl, sym, ap, subst, ◌∙◌, arith}
 use Rattle.std.proofs.Math.Seq.{take-append_seam}
 use Rattle.std.proofs.lemmas.Bool.Decides.{nat_tests}

@@ -2,8 +2,8 @@
 --     words_of                   a line cut at each space, so that two spaces have an empty word between them
 --     number_of, byte_of,        a word of decimal digits as a number: of a `usize`, of a byte, and below any end
 --     number_below
---     bytes_of, decoded          a word of hexadecimal digits as bytes, and the answer of their reader as an option
---     first_number,              the same of a first word, which may be wanting
+--     bytes_of, decoded          a word of hexadecimal digits as bytes, and the result of their reader as an option
+--     first_number,              what a first word says, which may be missing
 --     first_byte, first_bytes
 --     both, put_first,           two values where both are said, a first one with others, and a number of each word
 --     numbers_of

@@ -1,4 +1,4 @@
-//! Lines of text as words, and the words that say numbers and bytes.
+//! The words of a line, and the numbers and bytes that they say.
 //!
 //! - `words`: `Words`, which takes words off the front of a line.
 //! - `specs/`: `Words` (what a line's words are and say), `Spelled` and `WordLaws` (what is written is read again),

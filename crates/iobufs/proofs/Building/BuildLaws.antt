@@ -131,7 +131,7 @@ put-kept part after ss placed b bytes counted within is fits put =
     ∙ put-building part ss placed bytes counted within (omega arith)
     ∙ ap (λ (x : Building). building_put x bytes) is
 
--- and so is a push
+-- a push keeps that the fields read as the builder
 pub push-kept : (part : Part) (ss after : List Segment) (placed end : ℕ) (b : Building) (run : ℕ) (view : View) → gaps_len ss ≡ placed
     → placed ≤ length part.filled → building_from part ss placed ≡ b → run ≡ length part.filled - placed → 0 < length view.bytes
     → after ≡ ss ++ segments_pushed run view → end ≡ placed + run → building_from part after end ≡ building_push b view

@@ -106,7 +106,7 @@ filling-next all done next waiting p q rest left end after h fill len less moved
       fits = omega arith;
     }
 
--- the same in a deque, at the place of a loop that goes up
+-- filling a gap of a deque, at the index of a loop that counts up
 pub filling-set : (all : List View) (ps : List Piece) (i : ℕ) (p q : Piece) (rest left : View) (end after : ℕ) → i < length ps
     → p ≡ slice_index_or ps i p → IsFilling all (take i ps) (drop i ps) rest end
     → ((segments : List Segment) → filled rest (segment_of p ∷ segments) ≡ q.view ∷ filled left segments) → view_len q.view ≡ segment_len (segment_of p)

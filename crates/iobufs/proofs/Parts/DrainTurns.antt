@@ -54,7 +54,7 @@ first_of : (others : List Part) (n : ℕ) → 0 < n → n ≤ length (parts_fill
 first_of [] n more some = absurd (omega arith)
 first_of (p ∷ rest) n more some = (p, rest, refl)
 
--- and where the first part of the row holds bytes
+-- if the first entry of the deque holds bytes, some buffer is not drained
 first_behind : (others behind : List Part) (n : ℕ) → length (parts_filled behind) ≡ 0 → n < length (get_or (others ++ behind) 0 (empty_part 0)).filled
     → (p : Part) × (rest : List Part) × (others ≡ p ∷ rest)
 first_behind [] behind n none less = absurd (omega (arith, first-filled behind, none, less))

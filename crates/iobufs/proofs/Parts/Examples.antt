@@ -19,7 +19,7 @@ four_drained = refl
 four_drained-spare : parts_spare (parts_drained (ab 2 ∷ ab 2 ∷ ab 2 ∷ ab 2 ∷ []) 2) ≡ 8
 four_drained-spare = refl
 
--- and of three
+-- draining the first of three buffers
 three_drained : parts_drained (ab 2 ∷ ab 2 ∷ ab 2 ∷ []) 2 ≡ empty_part 2 ∷ ab 2 ∷ ab 2 ∷ []
 three_drained = refl
 

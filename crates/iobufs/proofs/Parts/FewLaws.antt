@@ -63,7 +63,7 @@ walk-or_default f g h w [] s =
     w.step (empty_part 0) [] s ∙ (λ i. one i ∷ w.nothing (h (empty_part 0) s) i) ∙ sym (ap parts_or_default (w.nothing s))
 walk-or_default f g h w (p ∷ parts) s = w.step p parts s ∙ sym (ap parts_or_default (w.step p parts s))
 
--- the same of those that are kept
+-- a walk of the buffers that are kept
 walk-kept : {S : Type 0} (f : List Part → S → List Part) (g : Part → S → Part) (h : Part → S → S) → Walks f g h
     → (parts : List Part) (s : S) → f (kept_parts parts) s ≡ kept_parts (f parts s)
 walk-kept f g h w parts s = walk-or_default f g h w (with_capacity parts) s ∙ ap parts_or_default (walk-with_capacity f g h w parts s)
@@ -226,7 +226,7 @@ capacity-put p w = sym (same-fill (p ∷ []) w).0
 pub capacity-with_len : (p : Part) (n : ℕ) → part_capacity (part_with_len p (min n (part_capacity p))) ≡ part_capacity p
 capacity-with_len p n = sym (same-with_len (p ∷ []) n).0
 
--- and one whose bytes are written over
+-- overwriting keeps the capacity
 pub capacity-overwritten : (p : Part) (w : List ℕ) → part_capacity (part_overwritten p (take (length p.filled) w)) ≡ part_capacity p
 capacity-overwritten p w = sym (same-overwritten (p ∷ []) w).0
 

@@ -77,7 +77,7 @@ share-turn all before bytes rest k n e h =
     (cases_lt k (length bytes)) in
     h ∙ ap (λ w. before ++ w) (both ∙ (λ i. share i ++ take (less i) rest)) ∙ sym (append_assoc before (take n bytes) (take (k - n) rest))
 
--- the same where they are written into a destination of length len
+-- a turn of reading into a destination of length len
 pub read-turn : (all dst new bytes rest : List ℕ) (len at n : ℕ) → at ≤ len → n ≡ min (length bytes) (len - at)
     → take (at + n) new ≡ take at dst ++ take n bytes
     → take len all ≡ take at dst ++ take (len - at) (bytes ++ rest) → take len all ≡ take (at + n) new ++ take (len - (at + n)) rest

@@ -131,7 +131,7 @@ put-step ps i item copy more target d s m =
     let rest = pieces_bytes (views_in (drop (i + 1) ps)) in
     ap (λ xs. xs ++ rest) m ∙ append_assoc copy item.view.bytes rest ∙ ap (λ (qs : List Piece). copy ++ pieces_bytes (views_in qs)) (sym d) ∙ s
 
--- and there is room for it where there is for all that are to come
+-- a chunk fits if all chunks to come fit
 pub put-fits : (ps : List Piece) (i : ℕ) (item : Piece) (copy target : List ℕ) (spare : ℕ) → drop i ps ≡ item ∷ drop (i + 1) ps
     → copy ++ pieces_bytes (views_in (drop i ps)) ≡ target → length target ≤ length copy + spare → length item.view.bytes ≤ spare
 put-fits ps i item copy target spare d s l =

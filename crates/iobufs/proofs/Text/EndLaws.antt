@@ -41,7 +41,7 @@ ends-up b start n (q ∷ ps) p l (end, others) =
           (ends-up b (start + view_len q.view) n ps p (omega arith) others),
     )
 
--- and come
+-- the ends after bytes are added at the front
 pub ends-down : (b start n : ℕ) (ps : List Piece) → b < 2 ^ 64 → n < 2 ^ 64 → start + length (pieces_bytes (views_in ps)) + n < 2 ^ 64
     → AreEnds b start ps → AreEnds ((b + (2 ^ 64 - n)) % 2 ^ 64) (start + n) ps
 ends-down b start n [] p r l h = tt

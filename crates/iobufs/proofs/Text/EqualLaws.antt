@@ -63,7 +63,7 @@ matched-differs start bytes left rest chunk behind m stands l differs =
     let front = shorter-front left chunk behind more (length left) refl l (sym stands ∙ is) in
     true≢false (sym ((bytes_decides left (take (length left) chunk)).1 (sym front)) ∙ untrue _ differs))
 
--- and begins so
+-- equal bytes within a chunk: the text begins with them
 pub matched-within : (start bytes left rest chunk behind : List ℕ) → IsMatched start bytes left rest → rest ≡ chunk ++ behind
     → false ≡ not (pointwise nat_eq left (take (length left) chunk)) → start ≡ bytes ++ (drop (length left) chunk ++ behind)
 matched-within start bytes left rest chunk behind m stands same =
@@ -81,7 +81,7 @@ matched-past-not start bytes left rest chunk behind m stands l differs =
     let front = shorter-front chunk left more behind (length chunk) refl l (sym is ∙ stands) in
     true≢false (sym ((bytes_decides (take (length chunk) left) chunk).1 front) ∙ differs))
 
--- and is
+-- equal bytes past a chunk: the match continues after it
 pub matched-past : (start bytes left rest chunk behind more : List ℕ) → IsMatched start bytes left rest → rest ≡ chunk ++ behind
     → pointwise nat_eq (take (length chunk) left) chunk ≡ true → more ≡ drop (length chunk) left → IsMatched start bytes more behind
 matched-past start bytes left rest chunk behind more m stands same is =

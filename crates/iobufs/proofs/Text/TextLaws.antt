@@ -89,7 +89,7 @@ prepend-pieces (v ∷ vs) w t e p q =
 pub views-push : (vs ws : List View) (w : View) → ws ≡ vs ++ w ∷ [] → AreViews vs → IsView w → AreViews ws
 views-push vs ws w is h v = subst AreViews (sym is) (AreViews-append vs (w ∷ []) h (v, tt))
 
--- the same in front of them
+-- a chunk before others, with capacity for its bytes, keeps that all have
 pub views-cons : (vs ws : List View) (w : View) → ws ≡ w ∷ vs → AreViews vs → IsView w → AreViews ws
 views-cons vs ws w is h v = subst AreViews (sym is) (v, h)
 
@@ -107,11 +107,11 @@ rest-kept vs ws t at e p l is = ap of_pieces is ∙ sym (rest-of_pieces at vs p 
 pub views-right : (vs ws : List View) (at : ℕ) → ws ≡ right_pieces vs at → AreViews vs → AreViews ws
 views-right vs ws at is h = subst AreViews (sym is) (AreViews-right at vs h)
 
--- and so has the side in front
+-- the left side of an offset keeps that all have capacity for their bytes
 pub views-left : (vs ws : List View) (at : ℕ) → ws ≡ left_pieces vs at → AreViews vs → AreViews ws
 views-left vs ws at is h = subst AreViews (sym is) (AreViews-left at vs h)
 
--- and what is left without the first bytes
+-- dropping the first bytes keeps that all have capacity for theirs
 pub views-rest : (vs ws : List View) (n : ℕ) → ws ≡ rest_pieces vs n → AreViews vs → AreViews ws
 views-rest vs ws n is h = subst AreViews (sym is) (AreViews-rest n vs h)
 

@@ -1,11 +1,11 @@
--- Pieces with stored end places. An end means nothing by itself: less the base of its row, modulo 2 ^ 64, it is the
--- number of bytes up to the piece's end. So bytes that come or go in front change the base alone.
---     from_base, ends_from    how many bytes stand up to an end, told from the base; the same of each piece
---     views_in                the pieces without their ends
---     IsEnd, AreEnds          each piece ends where the bytes before it and its own say
---     IsRow                   what a row of several pieces keeps true: its ends, and that none is empty
---     IsSearch                what a search asks for: ends that rise, and a place below the last
---     shortened, cut_piece    the first piece less n bytes; what stays in front of a cut inside a piece, if anything
+-- Chunks with stored ends. An end, less the base of its row, modulo 2 ^ 64, is the number of bytes up to the chunk's
+-- end. So bytes that come or go at the front change the base alone.
+--     from_base, ends_from    how many bytes there are up to an end, by the base; and up to each chunk's end
+--     views_in                the chunks without their ends
+--     IsEnd, AreEnds          each chunk ends where the bytes before it and its own determine
+--     IsRow                   the invariant of several chunks: their ends, and that none is empty
+--     IsSearch                what a search requires: rising ends, and an offset below the last
+--     shortened, cut_piece    the first chunk less n bytes; the part of a chunk before a cut, if any
 use Rattle.std.specs.Prelude.{◌≡◌, ℕ, ◌+◌, ◌-◌, ◌%◌, ◌^◌, ◌<◌, ◌==◌, if◌then◌else◌, List, [], ◌∷◌, length, map, get_or}
 use Rattle.iobufs_core.specs.View.{View, view_advanced}
 use Rattle.iobufs.specs.Inside.Pieces.{view_len, AreFull}

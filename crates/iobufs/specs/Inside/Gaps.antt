@@ -1,11 +1,11 @@
--- A row in the making: views that stand in order, and gaps before them for bytes that are to come.
---     segment_of, segments_in   how pieces are read: one without bytes is a gap, and its end says how many
---                               are to come
+-- A row in the making: views in order, and gaps before them for bytes that are to come.
+--     segment_of, segments_in   how chunks are read: one without bytes is a gap, and its end says how many are to
+--                               come
 --     gap_len, gaps_len         how many bytes are to come, at a segment and in all
---     standing_len, stood_len,  how many stand, at a segment and in all; and both of a segment
+--     standing_len, stood_len,  how many bytes are there, at a segment and in all; and both of a segment
 --     segment_len
---     AreSegments               no segment is empty, and behind each gap stands a view
---     segments_pushed           a view behind a gap
+--     AreSegments               no segment is empty, and each gap comes before a view
+--     segments_pushed           a gap, then a view
 --     filled                    the views, once the bytes of one view have filled the gaps
 use Rattle.std.specs.Prelude.{ℕ, ◌+◌, ◌<◌, ◌==◌, if◌then◌else◌, List, [], ◌∷◌, ◌++◌, length, map}
 use Rattle.iobufs_core.specs.View.{View, view_rest, view_split_front}

@@ -1,6 +1,6 @@
--- What a text in several pieces keeps true of its fields.
---     text_of    the marked text that the fields stand for
---     IsKept     native storage reaches to each piece's end
+-- The invariant of the fields of an `IoBufs`.
+--     text_of    the marked text that the fields represent
+--     IsKept     native storage reaches to each chunk's end
 use Rattle.iobufs_core.specs.MarkedText.{MarkedText}
 use Rattle.iobufs.specs.Inside.Pieces.{of_pieces, AreViews}
 use Rattle.iobufs.specs.declared.bufs.IoBufs.TheInside.{Inside}

@@ -1,9 +1,8 @@
--- Where parts stand that are used up: behind the others in the row, and in front of them in the order of the bytes, so
--- that whoever reads begins with the first part that can hold a byte to be read.
---     in_order         the parts of a row, of which so many at the back are used up, in order
---     first_drained    the row without the first bytes of its first part
---     AreBehind        so many stand at the back, and hold no bytes
---     AreKept          and the parts in order are parts, with the sums of all beside the row
+-- Drained buffers are last in the deque, and first in the order of bytes, so that reading begins with the first entry.
+--     in_order         the buffers of a deque in order, of which n at its end are drained
+--     first_drained    the deque without the first bytes of its first buffer
+--     AreBehind        n buffers at the end hold no bytes
+--     AreKept          the buffers in order are parts, with the sums of all
 use Rattle.std.specs.Prelude.{◌≡◌, ℕ, ◌-◌, ◌≤◌, List, [], ◌∷◌, ◌++◌, length, drop, take}
 use Rattle.iobufs_core.specs.Part.{Part, part_drained}
 use Rattle.iobufs.specs.Inside.PartSums.{AreSummed}

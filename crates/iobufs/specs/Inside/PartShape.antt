@@ -1,7 +1,7 @@
--- How the code keeps parts, as a list of parts.
---     shape_parts, shape_single    one part, a few in place or a row of them, as a list; and the only part, if one is
+-- How the code keeps buffers, as a list of parts.
+--     shape_parts, shape_single    one buffer, up to three in place or a deque, as a list; and the only one, if it is
 --                                  kept by itself
---     IsBuilt                      a row has more parts than stand in place, as where no bytes were taken yet
+--     IsBuilt                      a deque has more buffers than there are places, if no bytes were taken
 use Rattle.std.specs.Prelude.{◌<◌, Option, None, Some, List, [], ◌∷◌, length}
 use Rattle.iobufs_core.specs.Part.{Part}
 use Rattle.iobufs.specs.Parts.{kept_parts}

@@ -1,15 +1,15 @@
--- How a list of views, as the code keeps them, is read as a marked text.
---     of_pieces                 one view as it is; more, one behind the other
---     IsPieces, AreFull         what the code keeps true: at least one piece, and where there are more, none is empty
---     AreViews                  native storage reaches to the end of each piece
---     view_len, pieces_bytes    how many bytes a piece has, and the bytes of all
---     piece_at, piece_start     the i-th piece, and how many bytes stand before it
---     IsPlace                   a place, told as a piece and how far in it
---     left_pieces,              the pieces of the two sides of a place
+-- How a list of views is read as a marked text.
+--     of_pieces                 one view as it is; several concatenated
+--     IsPieces, AreFull         the invariant: at least one chunk, and if there are more, none is empty
+--     AreViews                  native storage reaches to the end of each chunk
+--     view_len, pieces_bytes    how many bytes a chunk has, and the bytes of all
+--     piece_at, piece_start     the i-th chunk, and how many bytes come before it
+--     IsPlace                   an offset, as a chunk and a distance in it
+--     left_pieces,              the chunks of the two sides of an offset
 --     right_pieces
---     rest_pieces               what is left without the first bytes; the empty view where all go
---     bytes_behind              the bytes from a place on, told as a piece and how far in it
---     behind_first              the pieces but the first; the empty view where it was the only one
+--     rest_pieces               the rest without the first bytes; the empty view if all go
+--     bytes_behind              the bytes from an offset on, given as a chunk and a distance in it
+--     behind_first              the chunks after the first; the empty view if it is the only one
 use Rattle.std.specs.Prelude.{◌≡◌, ℕ, ◌+◌, ◌-◌, ◌<◌, get_or, nat_lt, ◌==◌, if◌then◌else◌, List, [], ◌∷◌, length, take, drop, flat_map}
 use Rattle.iobufs_core.specs.View.{View, IsView, default_view, view_front, view_advanced}
 use Rattle.iobufs_core.specs.MarkedText.{MarkedText, of_view, default_text, text_glue}

@@ -1,9 +1,9 @@
--- How the fields of a builder are read: inline bytes, and views that stand between them.
---     items_front                   inline bytes shared out to the gaps between the views pushed, as items in order
---     building_from, building_of    what has been written, read off the bytes, the segments and how many bytes have
---                                   their place; and off a builder
---     IsBuilder                     what a builder keeps true of its fields: how many bytes have their place, a free
---                                   place in the row for those behind the last view, how much may still be pushed
+-- How the fields of a builder are read: inline bytes, and views between them.
+--     items_front                   inline bytes distributed to the gaps between the pushed views, as items in order
+--     building_from, building_of    what has been written, read from the bytes, the segments and how many bytes have
+--                                   their gap; and from a builder
+--     IsBuilder                     the invariant of a builder's fields: how many bytes have their gap, a free entry
+--                                   for those after the last view, how much may still be pushed
 use Rattle.std.specs.Prelude.{◌≡◌, ◌≤◌, ◌<◌, ℕ, ◌+◌, ◌^◌, List, [], ◌∷◌, ◌++◌, length, take, drop}
 use Rattle.iobufs_core.specs.Items.{Item, push_item}
 use Rattle.iobufs_core.specs.Part.{Part, part_capacity}

@@ -1,8 +1,9 @@
--- The laws of draining several parts, which hold for all parts.
---     filled-drained                the bytes behind the first n are left
+-- The laws of draining several buffers.
+--     filled-drained                the bytes after the first n remain
 --     joined-part_chunks,           the chunks join to the bytes, and none is empty
 --     full-part_chunks
---     the rest                      the same of parts that are dropped for want of capacity, or share out n bytes
+--     the rest                      lemmas about buffers that are dropped for lack of capacity, or that share n bytes
+--                                   out
 use Rattle.std.specs.Prelude.{◌≡◌, ℕ, ◌-◌, ◌==◌, List, [], ◌∷◌, ◌++◌, length, drop, map, refl, nat_lt}
 use Rattle.std.specs.List.{flat_map}
 use Rattle.std.proofs.Common.{sym, ap, ◌∙◌, arith, append-nil}

@@ -1,10 +1,10 @@
--- The laws of filling the room of several parts, which hold for all parts and bytes.
---     AreFilled                                     bytes that fit were written into the room of parts, from the
---                                                   first on
---     drop_past, take_past, drop_both, take_both    a front and a rest of two lists, one behind the other
---     same_part                                     parts with the same bytes and room are the same
---     fill-nil, fill-append, spare-fill,            filling twice is filling once, with nothing changes nothing, and
---     filled_nothing, filled_unchanged,             uses up as many bytes of room
+-- The laws of filling several buffers.
+--     AreFilled                                     bytes that fit were written into the spare capacity, from the
+--                                                   first buffer on
+--     drop_past, take_past, drop_both, take_both    the first items and the rest of two concatenated lists
+--     same_part                                     parts with equal bytes and capacity are equal
+--     fill-nil, fill-append, spare-fill,            filling twice is filling once, filling with nothing changes
+--     filled_nothing, filled_unchanged,             nothing, and takes as much of the spare capacity
 --     filled_lessens, filled_composes
 use Rattle.std.specs.Prelude.{◌≡◌, ℕ, ◌+◌, ◌-◌, ◌<◌, ◌≤◌, List, [], ◌∷◌, ◌++◌, length, take, drop, refl}
 use Rattle.std.proofs.Common.{sym, ap, ◌∙◌, arith, append_assoc, append-nil, length-append, length-drop, length-take, ⊎_elim, take_all}

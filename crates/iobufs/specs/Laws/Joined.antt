@@ -1,5 +1,5 @@
 -- The bytes of views joined in order.
---     bytes-append, bytes-joined, length-joined    bytes stand behind one another, and their number is the sum
+--     bytes-append, bytes-joined, length-joined    bytes are concatenated, and their number is the sum
 use Rattle.std.specs.Prelude.{◌≡◌, List, [], ◌∷◌, ◌++◌, length, fold}
 use Rattle.std.proofs.Common.{arith, sym, ap, ◌∙◌, append-nil, append_assoc}
 use Rattle.std.proofs.lemmas.Bool.Decides.{nat_tests}
@@ -20,6 +20,6 @@ bytes-fold t (v ∷ vs) = bytes-fold (text_append t v) vs ∙ ap (λ w. w ++ pie
 pub bytes-joined : (vs : List View) → (joined vs).bytes ≡ pieces_bytes vs
 bytes-joined vs = bytes-fold default_text vs
 
--- and their length
+-- the length of joined views
 pub length-joined : (views : List View) (t : MarkedText) → t ≡ joined views → text_len t ≡ length (pieces_bytes views)
 length-joined views t e = ap text_len e ∙ ap length (bytes-joined views)

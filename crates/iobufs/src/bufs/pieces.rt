@@ -46,7 +46,7 @@ impl Model for Pieces {
     ghost invariant = { λ p. IsPieced p.form };
 }
 
-/// The place in front of all bytes.
+/// The offset before all bytes.
 pub(super) const START: Located = Located {
     index: 0,
     offset: 0,
@@ -161,7 +161,7 @@ impl Pieces {
         }
     }
 
-    /// Puts a piece behind the others, which makes them so long. Where there was one piece, a row is made, with room for
+    /// Adds a chunk at the end, which gives this length. If there was one chunk, a row is made, with space for
     /// four.
     pub(super) fn push_back(
         &mut self,
@@ -191,7 +191,7 @@ impl Pieces {
         }
     }
 
-    /// The same in front of the others.
+    /// Adds a chunk at the start.
     pub(super) fn push_front(
         &mut self,
         alloc: Global,
@@ -220,7 +220,7 @@ impl Pieces {
         }
     }
 
-    /// Drops the first `n` bytes, at least one. Where all go, an empty piece is left.
+    /// Drops the first `n` bytes, at least one. If all go, an empty chunk is left.
     #[inline(always)]
     pub(super) fn drop_front(&mut self, n: usize)
         requires some { 0 < n }
@@ -243,7 +243,7 @@ impl Pieces {
         }
     }
 
-    // The same where the first piece goes: apart, since what it needs costs at entry.
+    // Drops bytes of several chunks: a function of its own, since its locals cost at entry.
     #[inline(never)]
     fn drop_pieces(&mut self, n: usize)
         requires some { 0 < n }
@@ -279,7 +279,7 @@ impl Pieces {
         }
     }
 
-    /// Takes the first `at` bytes, some but not all. A side of one piece asks for no row.
+    /// Takes the first `at` bytes, some but not all. A side of one chunk needs no row.
     pub(super) fn split_front(&mut self, alloc: Global, at: usize) -> Result<Pieces, BufError>
         requires some { 0 < at }
         requires inside { at < length (pieces_bytes self.old) }
@@ -314,7 +314,7 @@ impl Pieces {
         }
     }
 
-    /// Clones of a piece and of so many behind it.
+    /// Clones of a chunk and of those after it, as many as asked.
     pub(super) fn run(
         &self,
         alloc: Global,
@@ -464,7 +464,7 @@ impl Pieces {
         copy.freeze()
     }
 
-    /// Puts all bytes behind those of a buffer that has room for them.
+    /// Puts all bytes into a buffer that has space for them.
     pub(super) fn copy_to(&self, copy: &mut IoBufMut)
         requires { length (pieces_bytes self.now) ≤ copy.old.spare }
         ensures put { copy.new ≡ part_put copy.old (pieces_bytes self.now) }

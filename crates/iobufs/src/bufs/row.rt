@@ -39,12 +39,12 @@ impl Clone for Piece {
     }
 }
 
-/// Pieces that hold bytes, in a deque. What comes or goes in front changes the base and no end:
+/// Chunks that hold bytes, in a deque. Bytes that come or go at the front change the base and no end:
 ///
 /// ```text
 /// base 0   | a b c | d e |   ends 3, 5
 /// base 3           | d e |   ends 5      the first is gone
-/// base 2       | x | d e |   ends 3, 5   another came in front
+/// base 2       | x | d e |   ends 3, 5   another came at the front
 /// ```
 pub(crate) struct Row {
     base: u64,
@@ -72,7 +72,7 @@ impl Model for Row {
 }
 
 impl Row {
-    /// No pieces yet, and room for so many.
+    /// No chunks yet, and space for `n`.
     pub(crate) fn with_room(alloc: Global, room: usize) -> Result<Row, AllocError>
         ensures views { IfOk result (λ row. row.views ≡ []) }
         ensures room { IfOk result (λ row. room ≤ row.room) }
@@ -117,7 +117,7 @@ impl Row {
         self.get(i).unwrap()
     }
 
-    /// Puts a piece behind the others, which makes them so long.
+    /// Adds a chunk at the end, which gives this length.
     pub(super) fn push_back(&mut self, piece: IoBuf, len: usize) -> Result<(), AllocFailed<IoBuf>>
         requires some { 0 < length piece.bytes }
         requires total { len ≡ length (pieces_bytes self.old.views) + length piece.bytes }
@@ -132,7 +132,7 @@ impl Row {
         Ok(())
     }
 
-    /// Whether one more piece asks for no memory.
+    /// Whether one more chunk doesn't allocate.
     #[inline(always)]
     pub(super) fn has_room(&self) -> bool
         ensures { result ≡ nat_lt (length self.now.views) self.now.room }
@@ -151,7 +151,7 @@ impl Row {
         show(behind, visit);
     }
 
-    /// Puts the bytes of all pieces behind those of a buffer that has room for them.
+    /// Puts the bytes of all chunks into a buffer that has space for them.
     pub(super) fn copy_to(&self, copy: &mut IoBufMut)
         requires { length (pieces_bytes self.now.views) ≤ copy.old.spare }
         ensures { copy.new ≡ part_put copy.old (pieces_bytes self.now.views) }
@@ -161,7 +161,7 @@ impl Row {
         put_all(behind, copy);
     }
 
-    /// Puts a piece behind the others; an empty one changes nothing.
+    /// Adds a chunk at the end; an empty one changes nothing.
     #[inline(always)]
     pub(crate) fn add(&mut self, piece: IoBuf)
         requires fits { length (pieces_bytes self.old.views) + length piece.bytes < 2 ^ 64 }
@@ -177,7 +177,7 @@ impl Row {
         }
     }
 
-    /// As `push_back`, within the row's room.
+    /// As `push_back`, within the reserved space.
     pub(crate) fn push_back_reserved(&mut self, piece: IoBuf, len: usize)
         requires some { 0 < length piece.bytes }
         requires total { len ≡ length (pieces_bytes self.old.views) + length piece.bytes }
@@ -189,7 +189,7 @@ impl Row {
         self.pieces.push_back_reserved(Piece { view: piece, end });
     }
 
-    /// Puts a piece in front of the others.
+    /// Adds a chunk at the start.
     pub(super) fn push_front(&mut self, piece: IoBuf) -> Result<(), AllocFailed<IoBuf>>
         requires some { 0 < length piece.bytes }
         requires fits { length (pieces_bytes self.old.views) + length piece.bytes < 2 ^ 64 }
@@ -205,7 +205,7 @@ impl Row {
         Ok(())
     }
 
-    /// As `push_front`, within the row's room, a piece of so many bytes.
+    /// As `push_front`, within the reserved space, a chunk of `ahead` bytes.
     #[inline(always)]
     pub(super) fn push_front_reserved(&mut self, piece: IoBuf, ahead: usize)
         requires some { 0 < length piece.bytes }
@@ -299,7 +299,7 @@ impl Row {
         }
     }
 
-    /// Clones of a piece and of so many behind it.
+    /// Clones of a chunk and of those after it, as many as asked.
     pub(super) fn run(&self, alloc: Global, first: usize, behind: usize) -> Result<Row, AllocError>
         requires { first + behind < length self.now.views }
         ensures { IfOk result (λ run. run.views ≡ take (behind + 1) (drop first self.now.views)) }
@@ -369,7 +369,7 @@ impl Row {
         }
     }
 
-    /// Takes the first bytes, up to a place. Room is made for the side with fewer pieces.
+    /// Takes the first bytes, up to an offset. It allocates for the side with fewer chunks.
     pub(super) fn split_front(
         &mut self,
         alloc: Global,
@@ -388,7 +388,7 @@ impl Row {
         self.split_right(place, at)
     }
 
-    // With room for the pieces in front of the place.
+    // Reserves space for the chunks before the offset, cuts, and then moves them.
     fn split_left(&mut self, alloc: Global, place: Located, at: usize) -> Result<Row, BufError>
         requires place { IsPlace self.old.views at place.index place.offset }
         requires fits { place.index + 1 < 2 ^ 64 }
@@ -415,7 +415,7 @@ impl Row {
         })
     }
 
-    // The same, with room for the pieces from the place on. The room is made first.
+    // Moves the chunks from the offset on into a deque of their own; they move back if the cut fails.
     fn split_right(&mut self, place: Located, at: usize) -> Result<Row, BufError>
         requires place { IsPlace self.old.views at place.index place.offset }
         ensures answer { IfOk result (λ front. front.views ≡ left_pieces self.old.views at) }

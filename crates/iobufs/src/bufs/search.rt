@@ -2,8 +2,8 @@
 ghost use Rattle.std.specs.Prelude.{◌≡◌, ℕ, ◌+◌, ◌-◌, ◌*◌, ◌^◌, ◌<◌, ◌≤◌, nat_lt, List, length, get_or};
 ghost use Rattle.iobufs.specs.Search.{IsFirstPast, IsRising};
 
-/// A place in a text: the piece that holds it, the number of bytes before it there, and how many ends it was compared
-/// with.
+/// An offset in an `IoBufs`: the chunk that contains it, the number of bytes before it in that chunk, and how many ends
+/// it was compared with (own).
 #[derive(Clone, Copy)]
 pub struct Located {
     pub index: usize,
@@ -11,7 +11,8 @@ pub struct Located {
     pub probes: u32,
 }
 
-/// Rising end places, a place below the last of them, and a number of probes. A probe compares the place with one end.
+/// Rising ends, an offset below the last of them, and a count of probes (own). A probe compares the offset with one
+/// end.
 pub trait Ends {
     ghost ends: { Self → List ℕ };
 
@@ -19,14 +20,14 @@ pub trait Ends {
 
     ghost probed: { Self → ℕ };
 
-    /// How many ends there are, at least one.
+    /// Returns how many ends there are, at least one (own).
     fn count(&self) -> usize
         ensures count { result ≡ length (ends self.now) }
         ensures some { 0 < result }
         ensures rising { IsRising (ends self.now) }
         ensures inside { place self.now < get_or (ends self.now) (result - 1) 0 };
 
-    /// Whether an end is above the place: one probe more.
+    /// Returns whether an end is above the offset, and counts a probe (own).
     fn past(&mut self, i: usize) -> bool
         requires inside { i < length (ends self.old) }
         requires more { probed self.old < 2 ^ 32 - 1 }
@@ -35,12 +36,13 @@ pub trait Ends {
         ensures same_place { place self.new ≡ place self.old }
         ensures probed { probed self.new ≡ probed self.old + 1 };
 
-    /// The number of probes up to now.
+    /// Returns the number of probes so far (own).
     fn probes(&self) -> u32
         ensures { result ≡ probed self.now };
 }
 
-/// The first end above the place, by halves: as many probes as the number of ends has binary digits, or one fewer.
+/// Finds the first end above the offset by bisection (own). It takes as many probes as the number of ends has binary
+/// digits, or one fewer.
 pub fn find_end<E: Ends>(ends: &mut E) -> usize
     requires { E.probed ends.old ≡ 0 }
     ensures found { IsFirstPast (E.ends ends.old) (E.place ends.old) result }

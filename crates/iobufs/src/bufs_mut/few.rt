@@ -15,8 +15,8 @@ use std::alloc::{AllocError, Global};
 use std::marker::Model;
 use std::mem;
 
-/// Up to three parts in place, in order. One that can't hold a byte is none: it stands where there are fewer, and where
-/// a part was used up that has no room.
+/// Up to three buffers in place, in order. One that can't hold a byte counts as none: there are fewer than three, or it
+/// was drained and has no capacity.
 #[derive(Drop)]
 pub(super) struct Few {
     alloc: Global,
@@ -52,7 +52,7 @@ fn put_share<'a>(part: &mut IoBufMut, src: &'a [u8]) -> &'a [u8]
     &src[n..]
 }
 
-// The same with `n` times one byte: answers how often it is left.
+// Puts one byte up to `n` times, and returns how often it remains.
 fn put_bytes_share(part: &mut IoBufMut, value: u8, n: usize) -> usize
     ensures put { part.new ≡ part_put part.old (take part.old.spare (replicate n value)) }
     ensures left { result ≡ n - part.old.spare }
@@ -196,7 +196,7 @@ impl Few {
         }
     }
 
-    /// Puts a part behind the others; it comes back where there are three already.
+    /// Adds a buffer at the end; it comes back if there are three already.
     pub(super) fn push(&mut self, part: IoBufMut) -> Option<IoBufMut>
         requires { parts_capacity self.old + part_capacity part < 2 ^ 64 }
         ensures pushed { IfNone result (kept_parts self.new ≡ kept_parts (self.old ++ part ∷ [])) }
@@ -352,7 +352,7 @@ impl Few {
         copy_share(&mut self.third, rest);
     }
 
-    /// Drops the first `n` bytes. The storage of a part that is used up is freed once another part can hold a byte.
+    /// Drops the first `n` bytes. The storage of a drained buffer without capacity is freed once another can hold a byte.
     #[tactic(auto, using(crate::proofs::Parts::FewLaws::capacities))]
     pub(super) fn advance(&mut self, n: usize)
         ensures { self.new ≡ parts_shared_out self.old n }
@@ -461,7 +461,7 @@ impl Few {
         push_chunk(chunks, &self.third, max)
     }
 
-    /// The parts that hold bytes, one piece behind the other; no bytes are left. No room is made for a single piece.
+    /// Freezes the buffers that hold bytes, in order; no bytes are left. A single chunk needs no deque.
     #[inline(never)]
     pub(super) fn freeze(&mut self, alloc: Global) -> Result<IoBufs, BufError>
         ensures ok { IfOk result (λ text. text ≡ parts_frozen self.old) }
@@ -485,7 +485,7 @@ impl Few {
         Ok(IoBufs::from_row(row))
     }
 
-    /// All bytes in one part, with no room behind them.
+    /// All bytes in one buffer, without spare capacity.
     #[tactic(auto, using(crate::proofs::Parts::Coalesced::coalescing))]
     pub(super) fn coalesce(&self, alloc: Global) -> Result<IoBufMut, BufError>
         ensures ok { IfOk result (λ part. part ≡ record { filled = parts_filled self.now; spare = 0 }) }

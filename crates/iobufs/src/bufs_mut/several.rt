@@ -17,7 +17,7 @@ use std::marker::Model;
 use std::mem;
 
 /// One part or more in a deque, and beside it how many bytes they hold and how many fit, so that neither asks for a
-/// walk. With two or more, each can hold a byte. Parts that were used up stand behind the others, so that no call walks
+/// walk. With two or more, each can hold a byte. Drained ones are after the others, so that no call walks
 /// over them again before bytes are put into them:
 ///
 /// ```text
@@ -293,7 +293,7 @@ impl Several {
         Ok(chunks)
     }
 
-    /// The parts that hold bytes, one piece behind the other. No room is made for a single piece.
+    /// Freezes the buffers that hold bytes, in order. A single chunk needs no deque.
     #[inline(never)]
     #[tactic(auto, using(crate::proofs::Parts::Frozen::freezing))]
     pub(super) fn freeze(self, alloc: Global) -> Result<IoBufs, BufError>
@@ -319,7 +319,7 @@ impl Several {
         Ok(IoBufs::default())
     }
 
-    /// All bytes in one part, with no room behind them.
+    /// All bytes in one buffer, without spare capacity.
     #[tactic(auto, using(crate::proofs::Parts::PartChunks::reading, crate::proofs::Parts::Coalesced::coalescing))]
     pub(super) fn coalesce(&self, alloc: Global) -> Result<IoBufMut, BufError>
         ensures ok { IfOk result (λ part. part ≡ record { filled = parts_filled self.now; spare = 0 }) }
@@ -356,7 +356,7 @@ fn put(parts: &mut VecDeque<IoBufMut>, src: &[u8])
     }
 }
 
-// The same with `n` times one byte.
+// Puts one byte `n` times into the buffers in order.
 fn put_bytes(parts: &mut VecDeque<IoBufMut>, value: u8, n: usize)
     requires { n ≤ parts_spare parts.old.items }
     ensures { parts.new.items ≡ parts_fill parts.old.items (replicate n value) }

@@ -9,8 +9,8 @@ use crate::codec::BufError;
 use std::alloc::Global;
 
 impl IoBufMut {
-    /// The bytes of a view (`From<IoBuf>`): recovered where `IoBuf::try_into_mut` does, else copied. `Err` for
-    /// want of memory alone, with the view.
+    /// Recovers the storage of a view as `IoBuf::try_into_mut` does, or copies it (`From<IoBuf>`). If allocation fails,
+    /// the view comes back.
     pub fn from_view(alloc: Global, view: IoBuf) -> Result<IoBufMut, IoBuf>
         ensures same { MatchResult result (IsPartOf view) (λ other. other ≡ view) }
         ensures nothing { length view.bytes ≡ 0 → IsOk result }
@@ -24,7 +24,7 @@ impl IoBufMut {
         }
     }
 
-    /// The bytes as a read-only view (`IoBufMut::freeze`), with no copy. The default view where there are none.
+    /// Converts into a read-only view without copying; the default view if there are no bytes (`IoBufMut::freeze`).
     #[inline(always)]
     pub fn freeze(self) -> Result<IoBuf, BufError>
         ensures ok { IfOk result (λ b. b ≡ part_frozen self) }

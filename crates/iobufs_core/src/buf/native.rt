@@ -10,7 +10,7 @@ use std::marker::Model;
 use std::mem;
 use std::sync::Arc;
 
-/// A part of a block, which is kept as long as a text in it lives. The block may have more room than `limit`,
+/// A range of a block, which lives as long as a range of it does. The block may have more capacity than `limit`,
 /// which is never used.
 #[derive(Drop)]
 pub(super) struct Native {

@@ -12,8 +12,8 @@ use std::fmt;
 use std::marker::Model;
 use std::sync::Arc;
 
-/// One piece of storage to write (`IoBufMut`): bytes that are filled, and room behind them. The capacity is fixed
-/// when the buffer is made, and counted from the first readable byte:
+/// A writable buffer of one block (`IoBufMut`): filled bytes, then spare capacity. The capacity is fixed when the
+/// buffer is made, and counts from the first readable byte:
 ///
 /// ```text
 /// storage | dropped |   filled   |   spare   |
@@ -21,7 +21,7 @@ use std::sync::Arc;
 ///                   |------ capacity --------|
 /// ```
 ///
-/// It shares its storage with nobody. No put asks for memory.
+/// It shares its storage with no other buffer. No put allocates.
 pub struct IoBufMut {
     // It may have more room than up to `limit`, which is never used.
     storage: Vec<u8>,
@@ -63,14 +63,14 @@ fn is_bad_layout(n: usize, align: usize) -> bool
 }
 
 impl IoBufMut {
-    /// An empty buffer of capacity 0.
+    /// Returns an empty buffer of capacity 0 (`Default`).
     pub fn default(alloc: Global) -> IoBufMut
         ensures { result ≡ empty_part 0 }
     {
         IoBufMut::from_storage(Vec::new(alloc), 0, 0)
     }
 
-    /// An empty buffer of exactly this capacity (`IoBufMut::with_capacity`).
+    /// Allocates an empty buffer of exactly this capacity (`IoBufMut::with_capacity`).
     pub fn with_capacity(alloc: Global, n: usize) -> Result<IoBufMut, BufError>
         ensures ok { IfOk result (λ b. b ≡ empty_part n) }
         ensures bad_layout { IsTrue (bad_layout n 1) → result ≡ Err BufError.BadLayout }
@@ -80,7 +80,7 @@ impl IoBufMut {
         IoBufMut::with_alignment(alloc, n, 1)
     }
 
-    /// The same, for a caller who asks for an alignment (`IoBufMut::with_alignment`). Addresses are not promised.
+    /// Allocates an empty buffer, after testing the alignment (`IoBufMut::with_alignment`). Addresses are not promised.
     pub fn with_alignment(alloc: Global, n: usize, align: usize) -> Result<IoBufMut, BufError>
         ensures ok { IfOk result (λ b. b ≡ empty_part n) }
         ensures bad_layout { IsTrue (bad_layout n align) → result ≡ Err BufError.BadLayout }
@@ -98,7 +98,7 @@ impl IoBufMut {
         IoBufMut::with_shell(storage, n)
     }
 
-    /// A buffer of exactly this capacity, filled with zeros (`IoBufMut::zeroed`).
+    /// Allocates a buffer of exactly this capacity, filled with zeros (`IoBufMut::zeroed`).
     pub fn zeroed(alloc: Global, n: usize) -> Result<IoBufMut, BufError>
         ensures ok { IfOk result (λ b. b ≡ record { filled = replicate n 0; spare = 0 }) }
         ensures bad_layout { IsTrue (bad_layout n 1) → result ≡ Err BufError.BadLayout }
@@ -108,7 +108,7 @@ impl IoBufMut {
         IoBufMut::zeroed_with_alignment(alloc, n, 1)
     }
 
-    /// The same, for a caller who asks for an alignment (`IoBufMut::zeroed_with_alignment`).
+    /// Allocates a buffer filled with zeros, after testing the alignment (`IoBufMut::zeroed_with_alignment`).
     pub fn zeroed_with_alignment(
         alloc: Global,
         n: usize,
@@ -130,7 +130,7 @@ impl IoBufMut {
         IoBufMut::with_shell(storage, n)
     }
 
-    /// A copy of these bytes, with no room behind them (`From<&[u8]>`).
+    /// Copies the bytes, without spare capacity (`From<&[u8]>`).
     pub fn copy_from_slice(alloc: Global, src: &[u8]) -> Result<IoBufMut, BufError>
         ensures ok { IfOk result (λ b. b ≡ record { filled = src.now; spare = 0 }) }
         ensures memory { IsOkUnless result BufError.Memory }
@@ -144,7 +144,7 @@ impl IoBufMut {
         IoBufMut::with_shell(storage, limit)
     }
 
-    /// The bytes of a `Bytes` (`From<Bytes>`), copied where others share them.
+    /// Takes a `Bytes` over, and copies it if it is shared (`From<Bytes>`).
     pub fn from_bytes(alloc: Global, bytes: Bytes) -> Result<IoBufMut, BufError>
         ensures ok { IfOk result (λ b. b.filled ≡ bytes) }
         ensures memory { IsOkUnless result BufError.Memory }
@@ -156,7 +156,7 @@ impl IoBufMut {
         }
     }
 
-    /// The bytes of a `BytesMut` (`From<BytesMut>`).
+    /// Takes a `BytesMut` over (`From<BytesMut>`).
     pub fn from_bytes_mut(bytes: BytesMut) -> Result<IoBufMut, BufError>
         ensures ok { IfOk result (λ b. b.filled ≡ bytes.items) }
         ensures memory { IsOkUnless result BufError.Memory }
@@ -221,35 +221,35 @@ impl IoBufMut {
         }
     }
 
-    /// The number of readable bytes.
+    /// Returns the number of readable bytes (`IoBufMut::len`).
     pub fn len(&self) -> usize
         ensures { result ≡ length self.now.filled }
     {
         self.storage.len() - self.start
     }
 
-    /// Whether no byte is readable (`IoBufMut::is_empty`).
+    /// Returns whether no byte is readable (`IoBufMut::is_empty`).
     pub fn is_empty(&self) -> bool
         ensures { result ≡ (length self.now.filled == 0) }
     {
         self.len() == 0
     }
 
-    /// How many bytes fit, counted from the first readable one.
+    /// Returns how many bytes fit, counted from the first readable one (`IoBufMut::capacity`).
     pub fn capacity(&self) -> usize
         ensures { result ≡ part_capacity self.now }
     {
         self.limit - self.start
     }
 
-    /// The readable bytes (`AsRef`).
+    /// Borrows the readable bytes (`AsRef`).
     pub fn as_ref(&self) -> &[u8]
         ensures { result.now ≡ self.now.filled }
     {
         &self.storage.as_slice()[self.start..]
     }
 
-    /// The readable bytes, to be written over.
+    /// Borrows the readable bytes for overwriting (`AsMut`).
     pub fn as_mut(&mut self) -> &mut [u8]
         ensures* writes_back { sem 𝓛 (Lends the_row (Array byte 0) self.entry result (part_overwritten self.old)) }
         ensures value { result.now ≡ self.old.filled }
@@ -258,7 +258,7 @@ impl IoBufMut {
         self.storage.slice_mut(start..)
     }
 
-    /// Makes `n` bytes readable (`IoBufMut::set_len`, which is unsafe there). Bytes that were not are zero.
+    /// Makes `n` bytes readable; bytes that were not are zero (`IoBufMut::set_len`, which is unsafe there).
     pub fn set_len(&mut self, n: usize)
         requires { n ≤ part_capacity self.old }
         ensures { self.new ≡ part_with_len self.old n }
@@ -266,7 +266,7 @@ impl IoBufMut {
         self.storage.resize(self.start + n, 0).unwrap();
     }
 
-    /// Keeps at most the first `n` bytes.
+    /// Keeps at most the first `n` bytes, and the capacity (`IoBufMut::truncate`).
     pub fn truncate(&mut self, n: usize)
         ensures { self.new ≡ part_truncated self.old n }
     {
@@ -275,7 +275,7 @@ impl IoBufMut {
         }
     }
 
-    /// Keeps no byte, and the room of all (`IoBufMut::clear`).
+    /// Keeps no byte, and the capacity (`IoBufMut::clear`).
     pub fn clear(&mut self)
         ensures { self.new ≡ part_truncated self.old 0 }
     {

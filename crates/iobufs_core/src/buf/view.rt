@@ -12,16 +12,16 @@ use std::marker::Model;
 use std::ops::Bound;
 use std::{fmt, mem};
 
-/// A read-only text of one piece (`IoBuf`): in a static slice, in a `Bytes`, or in native storage. Clones, slices
-/// and both sides of a split share their storage; none of these copies a byte. A view in native storage:
+/// A read-only buffer of one chunk (`IoBuf`): a static slice, a `Bytes`, or native storage. Clones, slices and both
+/// sides of a split share their storage. In native storage:
 ///
 /// ```text
-/// block   | dropped |  len bytes  |  behind  |
+/// block   | dropped |  len bytes  |  after   |
 ///         0       start      start + len   limit
-///                   |--------- room ---------|
+///                   |------- capacity -------|
 /// ```
 ///
-/// To clone such a view is to count one more holder of its block, and asks for no memory.
+/// A clone of native storage adds one to the count of its owners, and doesn't allocate.
 pub struct IoBuf {
     storage: Storage,
 }
@@ -69,7 +69,7 @@ impl IoBuf {
         }
     }
 
-    /// A copy of these bytes in native storage (`IoBuf::copy_from_slice`).
+    /// Copies the bytes into native storage (`IoBuf::copy_from_slice`).
     pub fn copy_from_slice(alloc: Global, src: &[u8]) -> Result<IoBuf, BufError>
         ensures ok { IfOk result (λ b. b ≡ (if length src.now == 0 then default_view else record { bytes = src.now; mark = native_mark (length src.now) })) }
         ensures memory { IsOkUnless result BufError.Memory }
@@ -81,7 +81,7 @@ impl IoBuf {
         IoBufMut::copy_from_slice(alloc, src)?.freeze()
     }
 
-    /// The bytes of a `Vec`, with no copy (`From<Vec<u8>>`).
+    /// Takes a `Vec` over without copying (`From<Vec<u8>>`).
     pub fn from_vec(bytes: Vec<u8>) -> Result<IoBuf, BufError>
         ensures ok { IfOk result (IsAdopted bytes.items) }
         ensures memory { IsOkUnless result BufError.Memory }
@@ -90,7 +90,7 @@ impl IoBuf {
         IoBufMut::from(bytes).freeze()
     }
 
-    /// The bytes of a `BytesMut` (`From<BytesMut>`).
+    /// Takes a `BytesMut` over (`From<BytesMut>`).
     pub fn from_bytes_mut(bytes: BytesMut) -> Result<IoBuf, BufError>
         ensures ok { IfOk result (IsAdopted bytes.items) }
         ensures memory { IsOkUnless result BufError.Memory }
@@ -99,7 +99,7 @@ impl IoBuf {
         Ok(IoBuf::from(bytes.freeze()?))
     }
 
-    /// The number of bytes (`IoBuf::len`).
+    /// Returns the number of bytes (`IoBuf::len`).
     pub fn len(&self) -> usize
         ensures value { result ≡ length self.now.bytes }
         ensures room { IsView self.now }
@@ -111,14 +111,14 @@ impl IoBuf {
         }
     }
 
-    /// Whether there are no bytes (`IoBuf::is_empty`).
+    /// Returns whether there are no bytes (`IoBuf::is_empty`).
     pub fn is_empty(&self) -> bool
         ensures { result ≡ (length self.now.bytes == 0) }
     {
         self.len() == 0
     }
 
-    /// The bytes (`AsRef`).
+    /// Borrows the bytes (`AsRef`).
     pub fn as_ref(&self) -> &[u8]
         ensures { result.now ≡ self.now.bytes }
     {
@@ -160,8 +160,8 @@ impl IoBuf {
         self.advance(n);
     }
 
-    /// Whether a range lies within the bytes: its start at most its end, this at most the length, and no bound
-    /// past `usize::MAX` (the original's `slice` panics where it doesn't).
+    /// Returns whether a range is within the bytes: start at most end, end at most the length, and no bound above
+    /// `usize::MAX` (own). The original's `slice` panics otherwise.
     pub fn fits_range(&self, lo: Bound<usize>, hi: Bound<usize>) -> bool
         ensures { result ≡ range_fits lo hi (length self.now.bytes) }
     {
@@ -171,7 +171,7 @@ impl IoBuf {
         }
     }
 
-    /// The bytes of a range, in the same storage (`IoBuf::slice`). Test a range by `fits_range`.
+    /// Returns the bytes of a range, in the same storage (`IoBuf::slice`). Test the range by `fits_range`.
     #[inline(always)]
     pub fn slice(&self, lo: Bound<usize>, hi: Bound<usize>) -> Result<IoBuf, BufError>
         requires { IsTrue (range_fits lo hi (length self.now.bytes)) }
@@ -191,7 +191,7 @@ impl IoBuf {
         Ok(slice)
     }
 
-    /// Takes the first `at` bytes away, in the same storage (`IoBuf::split_to`).
+    /// Takes the first `at` bytes, in the same storage (`IoBuf::split_to`).
     #[inline(always)]
     pub fn split_to(&mut self, at: usize) -> Result<IoBuf, BufError>
         requires { at ≤ length self.old.bytes }
@@ -214,8 +214,8 @@ impl IoBuf {
         Ok(front)
     }
 
-    /// The same bytes as a buffer to write, with the room behind them, if no other view shares their storage
-    /// (`IoBuf::try_into_mut`).
+    /// Recovers the storage for writing, or returns the view (`IoBuf::try_into_mut`). It recovers native storage that
+    /// no other buffer shares: tested, not proved.
     pub fn try_into_mut(self, alloc: Global) -> Result<IoBufMut, IoBuf>
         ensures { IsRecovery self result }
     {
@@ -230,7 +230,7 @@ impl IoBuf {
         }
     }
 
-    /// A copy of the bytes (`Vec::from`).
+    /// Copies the bytes (`Vec::from`).
     pub fn to_vec(&self, alloc: Global) -> Result<Vec<u8>, BufError>
         ensures ok { IfOk result (λ v. v.items ≡ self.now.bytes) }
         ensures memory { IsOkUnless result BufError.Memory }
@@ -242,8 +242,8 @@ impl IoBuf {
         Ok(Vec::from_slice(alloc, self.as_ref())?)
     }
 
-    /// The bytes as a `Bytes` (`Bytes::from`): those in native storage are copied, but where nobody shares it and its
-    /// room ends with them; else the same. `Err` for want of memory alone, with the view.
+    /// Converts into a `Bytes` (`Bytes::from`). It copies native storage that is shared or has spare capacity after the
+    /// view. If allocation fails, the view comes back.
     pub fn into_bytes(self, alloc: Global) -> Result<Bytes, IoBuf>
         ensures same { MatchResult result (λ bytes. bytes ≡ self.bytes) (λ view. view ≡ self) }
         ensures static_text { self.mark ≡ static_mark → IsOk result }
@@ -264,7 +264,7 @@ impl IoBuf {
         }
     }
 
-    /// The bytes as `into_bytes` has them, and an empty view is left. A refusal leaves the view as it was.
+    /// Converts as `into_bytes` does, and leaves an empty view. If it fails, the view is unchanged.
     pub(crate) fn take_bytes(&mut self, alloc: Global) -> Result<Bytes, BufError>
         ensures ok { IfOk result (λ bytes. bytes ≡ self.old.bytes) }
         ensures taken { OnOk result (self.new ≡ default_view) }

@@ -20,31 +20,31 @@ pub trait Buf {
     // The pieces that hold bytes, in order.
     ghost pieces: { Self → List (List ℕ) };
 
-    /// How many bytes are left.
+    /// Returns how many bytes remain (`Buf::remaining`).
     fn remaining(&self) -> usize
         ensures { result ≡ length (text self.now) };
 
-    /// The first piece that holds bytes.
+    /// Borrows the first chunk that holds bytes (`Buf::chunk`).
     fn chunk(&self) -> &[u8]
         ensures first { result.now ≡ first_chunk (pieces self.now) }
         ensures front { IsChunkOf result.now (text self.now) };
 
-    /// The byte at a place, if there is one (the original has no such call).
+    /// Returns the byte at an offset (own).
     fn byte_at(&self, i: usize) -> Option<u8>
         ensures { result ≡ slice_get (text self.now) i };
 
-    /// Drops the first `n` bytes.
+    /// Drops the first `n` bytes (`Buf::advance`).
     fn advance(&mut self, n: usize)
         requires { n ≤ length (text self.old) }
         ensures { self.new ≡ advanced self.old n };
 
-    /// Fills `dst` with the first bytes, and drops these as one `advance` does.
+    /// Fills `dst` with the first bytes, and drops them as one `advance` does (`Buf::copy_to_slice`).
     fn copy_to_slice(&mut self, dst: &mut [u8])
         requires { length dst.old ≤ length (text self.old) }
         ensures bytes { dst.new ≡ take (length dst.old) (text self.old) }
         ensures rest { self.new ≡ advanced self.old (length dst.old) };
 
-    /// Takes the first `n` bytes out. It shares them where the piece is a `Bytes`.
+    /// Takes the first `n` bytes (`Buf::copy_to_bytes`). It shares them if the chunk is a `Bytes`.
     fn copy_to_bytes(&mut self, alloc: Global, n: usize) -> Result<Bytes, BufError>
         requires { n ≤ length (text self.old) }
         ensures ok { IfOk result (λ bytes. bytes ≡ take n (text self.old)) }
@@ -53,7 +53,7 @@ pub trait Buf {
         ensures memory { IsOkUnless result BufError.Memory }
         ensures nothing { n ≡ 0 → IsOk result };
 
-    /// The first pieces that hold bytes, at most `max` (the original fills `IoSlice`s).
+    /// Lists the first chunks that hold bytes, at most `max` (`Buf::chunks_vectored`, which fills `IoSlice`s).
     fn chunks_vectored(&self, alloc: Global, max: usize) -> Result<Vec<&[u8]>, BufError>
         ensures ok { IfOk result (λ chunks. map (λ chunk. chunk.now) chunks.items ≡ take max (pieces self.now)) }
         ensures memory { IsOkUnless result BufError.Memory }
@@ -69,7 +69,7 @@ pub trait Buf {
 
     ghost full: { (s : Self) → full_chunks (pieces s) ≡ pieces s };
 
-    /// Whether bytes are left.
+    /// Returns whether bytes remain (`Buf::has_remaining`).
     final fn has_remaining(&self) -> bool
     where
         Self: Sized,
@@ -78,7 +78,8 @@ pub trait Buf {
         self.remaining() != 0
     }
 
-    /// As `copy_to_slice`, where there are enough bytes; else nothing changes, and both lengths are told.
+    /// Acts as `copy_to_slice` if there are enough bytes; otherwise nothing changes, and the error has both lengths
+    /// (`Buf::try_copy_to_slice`).
     final fn try_copy_to_slice(&mut self, dst: &mut [u8]) -> Result<(), TryGetError>
     where
         Self: Sized,

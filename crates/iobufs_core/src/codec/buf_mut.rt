@@ -4,28 +4,28 @@ ghost use Rattle.std.specs.Int.{w16, w32, w64, w128, to_be_bytes};
 
 use super::Buf;
 
-/// Room that is filled in order (`bytes::BufMut`). No put takes memory.
+/// Space that is filled in order (`bytes::BufMut`). No put allocates.
 pub trait BufMut {
     ghost room: { Self → ℕ };
 
     // From one value to another by filling these bytes in, which fit.
     ghost filled: { Self → List ℕ → Self → Type 0 };
 
-    /// How many bytes fit.
+    /// Returns how many bytes fit (`BufMut::remaining_mut`).
     fn remaining_mut(&self) -> usize
         ensures { result ≡ room self.now };
 
-    /// Fills these bytes in.
+    /// Appends the bytes (`BufMut::put_slice`).
     fn put_slice(&mut self, src: &[u8])
         requires { length src.now ≤ room self.old }
         ensures { filled self.old src.now self.new };
 
-    /// Fills `n` times the byte `value` in.
+    /// Appends the byte `value` `n` times (`BufMut::put_bytes`).
     fn put_bytes(&mut self, value: u8, n: usize)
         requires { n ≤ room self.old }
         ensures { filled self.old (replicate n value) self.new };
 
-    /// Fills one byte in.
+    /// Appends one byte (`BufMut::put_u8`).
     fn put_u8(&mut self, n: u8)
     where
         Self: Sized,
@@ -44,7 +44,7 @@ pub trait BufMut {
 
     ghost lessens: { (a b : Self) (w : List ℕ) → filled a w b → room a ≡ room b + length w };
 
-    /// Fills two bytes in, the highest of the number first.
+    /// Appends a big-endian number of two bytes (`BufMut::put_u16`).
     final fn put_u16(&mut self, n: u16)
     where
         Self: Sized,
@@ -54,7 +54,7 @@ pub trait BufMut {
         self.put_slice(&u16::to_be_bytes(n));
     }
 
-    /// Fills four bytes in, the highest of the number first.
+    /// Appends a big-endian number of four bytes (`BufMut::put_u32`).
     final fn put_u32(&mut self, n: u32)
     where
         Self: Sized,
@@ -64,7 +64,7 @@ pub trait BufMut {
         self.put_slice(&u32::to_be_bytes(n));
     }
 
-    /// Fills eight bytes in, the highest of the number first.
+    /// Appends a big-endian number of eight bytes (`BufMut::put_u64`).
     final fn put_u64(&mut self, n: u64)
     where
         Self: Sized,
@@ -74,7 +74,7 @@ pub trait BufMut {
         self.put_slice(&u64::to_be_bytes(n));
     }
 
-    /// Fills sixteen bytes in, the highest of the number first.
+    /// Appends a big-endian number of sixteen bytes (`BufMut::put_u128`).
     final fn put_u128(&mut self, n: u128)
     where
         Self: Sized,
@@ -84,7 +84,7 @@ pub trait BufMut {
         self.put_slice(&u128::to_be_bytes(n));
     }
 
-    /// Fills all bytes of a reader in, one copy for each of its chunks.
+    /// Appends all bytes of a reader, one copy for each of its chunks (`BufMut::put`).
     final fn put<B: Buf + Drop>(&mut self, mut src: B)
     where
         Self: Sized,

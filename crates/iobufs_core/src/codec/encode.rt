@@ -7,8 +7,8 @@ use std::alloc::Global;
 
 /// Encoding into one buffer (the codec's `Encode`).
 pub trait Encode: Write {
-    /// The written value in one buffer of exactly its size, with no room behind it. `Error::TooLong` where
-    /// `encode_size` is none, then `Error::BadLayout` above `isize::MAX` bytes.
+    /// Encodes into one buffer of exactly the value's size (`Encode::encode`). Fails with `Error::TooLong` if
+    /// `encode_size` is `None`, then with `Error::BadLayout` above `isize::MAX` bytes.
     #[tactic(auto, using(crate::specs::LayoutLaws::good_layout, crate::specs::LayoutLaws::large_layout))]
     final fn encode(&self, alloc: Global) -> Result<IoBufMut, Error>
     where

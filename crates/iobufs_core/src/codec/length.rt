@@ -56,7 +56,7 @@ pub(super) fn put_length<B: BufMut>(buf: &mut B, n: usize)
     buf.put_slice(&bytes[..len]);
 }
 
-/// The byte at a place behind the first `skip`.
+/// The byte at an offset after the first `skip`.
 #[inline(always)]
 fn byte_behind<B: Buf>(buf: &B, skip: usize, i: usize) -> Option<u8>
     requires { skip ≤ length (B.text buf.now) }
@@ -88,7 +88,7 @@ fn length_at<B: Buf>(buf: &B, skip: usize) -> Result<Spelled, Error>
     long_length_at(buf, skip, byte)
 }
 
-// The same behind a first byte that says that others follow: apart, since most lengths have one byte.
+// Reads on after a first byte that says that others follow: a function of its own, since most lengths have one byte.
 #[inline(never)]
 fn long_length_at<B: Buf>(buf: &B, skip: usize, first: u8) -> Result<Spelled, Error>
     requires within { skip ≤ length (B.text buf.now) }
@@ -153,7 +153,7 @@ pub(super) fn length_in<B: Buf>(buf: &B, range: &RangeCfg) -> Result<Spelled, Er
     length_behind(buf, 0, range)
 }
 
-/// The length that stands behind the first `skip` bytes, and how many bytes spell it.
+/// Reads the varint after the first `skip` bytes, and returns it with its number of bytes (own). All bytes stay.
 pub fn peek_length<B: Buf>(buf: &B, skip: usize, range: &RangeCfg) -> Result<(usize, usize), Error>
     requires { skip ≤ length (B.text buf.now) }
     ensures ok { IfOk result (λ s. IsLengthRead (drop skip (B.text buf.now)) range.now (Ok s.0)) }
@@ -165,9 +165,8 @@ pub fn peek_length<B: Buf>(buf: &B, skip: usize, range: &RangeCfg) -> Result<(us
     Ok((found.value, found.len))
 }
 
-/// Does nothing. Its contract is two laws of spelling. A length below 128 is spelled by itself, a larger one by its low
-/// seven bits with the top bit set, and then the rest. And the spelling of a length begins the spelling of no other, so
-/// what was written is read back whatever follows.
+/// Does nothing (own). Its contract is two laws of varints. A length below 128 is one byte; a larger one is its low
+/// seven bits with the top bit set, and then the rest. No varint is a prefix of another.
 pub fn spelling_law(n: usize, m: usize)
     ensures last { n < 128 → spell n ≡ n ∷ [] }
     ensures more { 128 ≤ n → spell n ≡ (128 + n % 128) ∷ spell (n / 128) }

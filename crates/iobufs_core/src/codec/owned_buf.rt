@@ -11,7 +11,7 @@ use std::alloc::Global;
 use std::mem;
 use std::ops::Bound;
 
-/// What is made of bytes that were taken out (the codec's `OwnedBytes`; `from_view` stands for its `claim`).
+/// A type made of bytes that were taken (the codec's `OwnedBytes`).
 pub trait OwnedBytes: Sized {
     ghost bytes_of: { Self → List ℕ };
 
@@ -21,19 +21,19 @@ pub trait OwnedBytes: Sized {
     // It is made of such a view without being refused.
     ghost is_free: { View → Type 0 };
 
-    /// The same bytes.
+    /// Converts a `Bytes` (`From`).
     fn from_bytes(bytes: Bytes) -> Result<Self, BufError>
         ensures ok { IfOk result (λ made. bytes_of made ≡ bytes) }
         ensures memory { IsOkUnless result BufError.Memory };
 
-    /// The same bytes, sharing the view's storage where the type can.
+    /// Converts a view, and shares its storage if the type can (the codec's `claim`).
     fn from_view(alloc: Global, view: IoBuf) -> Result<Self, BufError>
         ensures ok { IfOk result (makes view) }
         ensures memory { IsOkUnless result BufError.Memory }
         ensures nothing { length view.bytes ≡ 0 → IsOk result }
         ensures free { is_free view → IsOk result };
 
-    /// What `from_view` makes of a view, which is then empty. A refusal leaves it (the original has no such call).
+    /// Converts a view and leaves it empty; if it fails, the view is unchanged (own).
     fn take_view(alloc: Global, view: &mut IoBuf) -> Result<Self, BufError>
         ensures ok { IfOk result (makes view.old) }
         ensures taken { OnOk result (view.new ≡ default_view) }
@@ -45,12 +45,11 @@ pub trait OwnedBytes: Sized {
     ghost same_bytes: { (view : View) (made : Self) → makes view made → bytes_of made ≡ view.bytes };
 }
 
-/// A text in pieces that can be taken out and kept (the codec's `Buf`).
+/// Bytes in chunks that can be taken and kept (the codec's `Buf`).
 pub trait OwnedBuf: Buf {
     ghost marked: { Self → MarkedText };
 
-    /// Takes the `n` bytes behind the first `skip` out, and drops all of them. The whole first piece is handed over as it
-    /// is.
+    /// Takes the `n` bytes after the first `skip`, and drops all of them (own). The whole first chunk is moved.
     fn take_owned_after<T: OwnedBytes>(
         &mut self,
         alloc: Global,
@@ -74,7 +73,7 @@ pub trait OwnedBuf: Buf {
 
     ghost copies_marked: { (s : Self) (n : ℕ) → n ≤ length (Self.text s) → marked (Self.copied s n) ≡ text_rest (marked s) n };
 
-    /// Takes the first `n` bytes out.
+    /// Takes the first `n` bytes (`take_owned`).
     #[inline(always)]
     final fn take_owned<T: OwnedBytes>(&mut self, alloc: Global, n: usize) -> Result<T, BufError>
     where
@@ -91,7 +90,7 @@ pub trait OwnedBuf: Buf {
         self.take_owned_after(alloc, 0, n)
     }
 
-    /// As `take_owned`, where there are enough bytes; else `Error::EndOfBuffer`.
+    /// Acts as `take_owned` if there are enough bytes; otherwise returns `Error::EndOfBuffer` (`try_take_owned`).
     final fn try_take_owned<T: OwnedBytes>(&mut self, alloc: Global, n: usize) -> Result<T, Error>
     where
         Self: Sized,

@@ -8,14 +8,14 @@ use crate::buf::IoBuf;
 use std::alloc::Global;
 use std::ops::Bound;
 
-/// A buffer whose bytes can be decoded without consuming them (the original has no such trait).
+/// A buffer whose bytes can be decoded without consuming them (own).
 pub trait Peek: OwnedBuf {
-    /// Counts the chunks that hold bytes.
+    /// Returns the number of chunks that hold bytes (own).
     fn chunk_count(&self) -> usize
         ensures count { result ≡ count_of (Self.marked self.now) }
         ensures marked { IsMarked (Self.marked self.now) };
 
-    /// Makes a value of the `n` bytes after the first `skip`, without consuming them.
+    /// Returns the `n` bytes after the first `skip`, which stay (own).
     fn peek_owned<T: OwnedBytes>(&self, alloc: Global, skip: usize, n: usize) -> Result<T, BufError>
         requires { skip + n ≤ length (Self.text self.now) }
         ensures ok { IfOk result (T.makes (taken_view (Self.marked self.now) skip n)) }
@@ -23,7 +23,7 @@ pub trait Peek: OwnedBuf {
         ensures nothing { n ≡ 0 → IsOk result }
         ensures static_text { (taken_view (Self.marked self.now) skip n).mark ≡ static_mark → T.is_free (taken_view (Self.marked self.now) skip n) → IsOk result };
 
-    /// Fills `dst` with the bytes after the first `skip`, without consuming them.
+    /// Fills `dst` with the bytes after the first `skip`, which stay (own).
     fn peek_slice(&self, skip: usize, dst: &mut [u8])
         requires { skip + length dst.old ≤ length (Self.text self.now) }
         ensures { dst.new ≡ take (length dst.old) (drop skip (Self.text self.now)) };
@@ -45,7 +45,7 @@ impl Peek for IoBuf {
         skip: usize,
         n: usize,
     ) -> Result<T, BufError> {
-        // A view's value has no bound of its length, so that the sum fits is known only of a length that was asked for.
+        // A view's value doesn't bound its length, so only a requested length shows that the sum fits.
         let _len = self.len();
         let end = skip + n;
         let view = self.slice(Bound::Included(skip), Bound::Excluded(end))?;

@@ -38,7 +38,7 @@ impl Write for Bytes {
         buf.put_slice(self.as_slice());
     }
 
-    /// The bytes are shared before their length is put: a refusal leaves the target as it was, or with the length alone.
+    /// Shares the bytes before it puts the length. If it fails, `buf` is unchanged, or keeps the length alone.
     fn write_bufs<B: BufsMut>(&self, buf: &mut B) -> Result<(), Error>
         requires { items_inline (bytes_items self.now) ≤ B.room buf.old }
         ensures ok { OnOk result (B.done buf.old (bytes_items self.now) buf.new) }
@@ -71,7 +71,7 @@ impl Read for Bytes {
 
     ghost same = { λ x y. x ≡ y };
 
-    /// Static bytes are never refused.
+    /// Cannot fail with `Error::Memory` if the bytes are static.
     fn read_cfg<B: OwnedBuf>(alloc: Global, buf: &mut B, range: &RangeCfg) -> Result<Bytes, Error>
         ensures answer { IsBytesRead (B.marked buf.old) range.now result }
         ensures left { IfOk result (λ bytes. buf.new ≡ dropped B.advanced B.copied buf.old (by_copy (length (bytes_written bytes)) ∷ [])) }

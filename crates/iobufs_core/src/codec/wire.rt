@@ -16,7 +16,7 @@ use crate::buf::IoBuf;
 use bytes::Bytes;
 use std::alloc::Global;
 
-/// Room that also takes whole views, with no copy (the codec's `BufsMut`).
+/// Space that also takes whole views without copying (the codec's `BufsMut`).
 pub trait BufsMut: BufMut {
     // All bytes, in order.
     ghost joined: { Self → List ℕ };
@@ -27,7 +27,8 @@ pub trait BufsMut: BufMut {
     // From one value to another by these puts and pushes, all of which fit.
     ghost done: { Self → List Item → Self → Type 0 };
 
-    /// Takes a view. `BufError::TooLong` exactly where it is longer than pushes may still add.
+    /// Appends a view (`BufsMut::push`). Fails with `BufError::TooLong` exactly if it is longer than pushes may still
+    /// add.
     fn push(&mut self, view: IoBuf) -> Result<(), Refused<IoBuf>>
         ensures ok { OnOk result (done self.old (push_item view ∷ []) self.new) }
         ensures unchanged { OnErr result (self.new ≡ self.old) }
@@ -36,7 +37,8 @@ pub trait BufsMut: BufMut {
         ensures memory { length view.bytes ≤ pushable self.old → IfErr result (λ refused. refused.cause ≡ BufError.Memory) }
         ensures nothing { length view.bytes ≡ 0 → IsOk result };
 
-    /// The same with a `Bytes`.
+    /// Appends a `Bytes` (`BufsMut::push`). Fails with `BufError::TooLong` exactly if it is longer than pushes may
+    /// still add.
     fn push_bytes(&mut self, bytes: Bytes) -> Result<(), Refused<Bytes>>
         ensures ok { OnOk result (done self.old (push_item (view_of_bytes bytes) ∷ []) self.new) }
         ensures unchanged { OnErr result (self.new ≡ self.old) }
@@ -60,18 +62,18 @@ pub trait BufsMut: BufMut {
     ghost spends: { (a b : Self) (items : List Item) → done a items b → pushable a ≡ pushable b + items_pushed items };
 }
 
-/// A value whose written size is known (the codec's `EncodeSize`).
+/// A value whose encoded size is known (the codec's `EncodeSize`).
 pub trait EncodeSize {
     // The text that is written, and the puts and pushes that write it.
     ghost written: { Self → List ℕ };
 
     ghost items: { Self → List Item };
 
-    /// How many bytes are written; none where that passes `usize::MAX`.
+    /// Returns how many bytes are written; `None` above `usize::MAX` (`EncodeSize::encode_size`).
     fn encode_size(&self) -> Option<usize>
         ensures { SomeIff result (length (written self.now) < 2 ^ 64) (length (written self.now)) };
 
-    /// How many of them are put inline by `write_bufs`.
+    /// Returns how many of them `write_bufs` puts inline (`EncodeSize::encode_inline_size`).
     fn encode_inline_size(&self) -> usize
         requires { length (written self.now) < 2 ^ 64 }
         ensures { result ≡ items_inline (items self.now) };
@@ -81,13 +83,13 @@ pub trait EncodeSize {
 
 /// A value that can be written (the codec's `Write`).
 pub trait Write: EncodeSize {
-    /// Puts the written text.
+    /// Puts the encoded bytes (`Write::write`).
     fn write<B: BufMut>(&self, buf: &mut B)
         requires { length (Self.written self.now) ≤ B.room buf.old }
         ensures { B.filled buf.old (Self.written self.now) buf.new };
 
-    /// Puts and pushes the written text. A refusal leaves what was written before it; where no byte is pushed, there is
-    /// none.
+    /// Puts and pushes the encoded bytes (`Write::write_bufs`). If it fails, `buf` keeps what was written before.
+    /// Cannot fail if no byte is pushed.
     fn write_bufs<B: BufsMut>(&self, buf: &mut B) -> Result<(), Error>
         requires { items_inline (Self.items self.now) ≤ B.room buf.old }
         ensures ok { OnOk result (B.done buf.old (Self.items self.now) buf.new) }
@@ -98,7 +100,7 @@ pub trait Write: EncodeSize {
 
 /// A value that can be read (the codec's `Read`).
 pub trait Read: Sized {
-    /// What is asked of the value.
+    /// The configuration of a read: what is required of the value.
     type Cfg;
 
     // What reading answers on a text, and how a value that was read is dropped from its front.
@@ -106,10 +108,10 @@ pub trait Read: Sized {
 
     ghost dropping: { Self → List Dropping };
 
-    // The same value, wherever its bytes are kept.
+    // Two values are equal, wherever their bytes are kept.
     ghost same: { Self → Self → Type 0 };
 
-    /// Reads a value from the front. A refusal leaves the reader as it was.
+    /// Reads a value from the front (`Read::read_cfg`). If it fails, `buf` is unchanged.
     fn read_cfg<B: OwnedBuf>(alloc: Global, buf: &mut B, cfg: &Self::Cfg) -> Result<Self, Error>
         ensures answer { is_read (B.marked buf.old) cfg.now result }
         ensures left { IfOk result (λ value. buf.new ≡ dropped B.advanced B.copied buf.old (dropping value)) }
@@ -129,7 +131,7 @@ pub trait Codec: Write + Read {
     ghost gives_back: { (value : Self) (cfg : Self.Cfg) (text : MarkedText) (rest : List ℕ) (answer : Result Self AnyError) → admits cfg value
         → text.bytes ≡ Self.written value ++ rest → Self.is_read text cfg answer → IsReadBack Self.same value answer };
 
-    // The same value is written as the same bytes, and the bytes of a value begin those of no other.
+    // Equal values have the same encoding, and no encoding is a prefix of another value's.
     ghost same_written: { (x y : Self) → Self.same x y → Self.written x ≡ Self.written y };
 
     ghost no_front: { (x y : Self) (cfg other : Self.Cfg) (u v : List ℕ) → admits cfg x → admits other y → Self.written x ++ u ≡ Self.written y ++ v
@@ -246,7 +248,7 @@ impl Write for IoBuf {
         buf.put_slice(self.as_ref());
     }
 
-    /// The view is shared before its length is put: a refusal leaves the target as it was, or with the length alone.
+    /// Shares the view before it puts the length. If it fails, `buf` is unchanged, or keeps the length alone.
     fn write_bufs<B: BufsMut>(&self, buf: &mut B) -> Result<(), Error>
         requires { items_inline (view_items self.now) ≤ B.room buf.old }
         ensures ok { OnOk result (B.done buf.old (view_items self.now) buf.new) }
@@ -278,7 +280,7 @@ impl Read for IoBuf {
 
     ghost same = { λ x y. x.bytes ≡ y.bytes };
 
-    /// Static bytes are never refused.
+    /// Cannot fail with `Error::Memory` if the bytes are static.
     #[inline(always)]
     fn read_cfg<B: OwnedBuf>(alloc: Global, buf: &mut B, range: &RangeCfg) -> Result<IoBuf, Error>
         ensures answer { IsViewRead (B.marked buf.old) range.now result }
@@ -314,7 +316,7 @@ impl Codec for IoBuf {
     ghost drops_written = { λ view. one_drop (length (view_written view)) };
 }
 
-/// Reads the bytes behind a length, as what is made of a view.
+/// Reads the bytes after a length, as a type made of a view.
 #[inline(always)]
 pub(super) fn read_bytes<T: OwnedBytes, B: OwnedBuf>(
     alloc: Global,

@@ -50,7 +50,7 @@ pub owner-described : (g : Tables) (x : Handle) (w : ℕ) → x.word ≡ Descrip
 unfolding owner_of
 owner-described g x w e = rw e refl
 
--- the same base under another descriptor
+-- a handle with another descriptor of one base holds one block
 pub owner-redescribed : (g : Tables) (x y : Handle) (w v : ℕ) → x.word ≡ Descriptor w → y.word ≡ Descriptor v → base_by g y v ≡ base_by g x w
     → owner_of g y ≡ owner_of g x
 owner-redescribed g x y w v ex ey e =
@@ -64,7 +64,7 @@ size-says g x w b log tail d = word-size g.align_bits g.tail_bits g.size_bits w 
 pub tail-says : (g : Tables) (x : Handle) (w b log tail : ℕ) → IsDescribed g x w b log tail → tail_in g w ≡ tail
 tail-says g x w b log tail d = word-tail g.align_bits g.tail_bits g.size_bits w (block_at g b).size log tail d.room d.word
 
--- the same descriptor with another tail
+-- a descriptor with another tail fits its block
 pub room-again : (g : Tables) (x : Handle) (w b log tail n : ℕ) → IsDescribed g x w b log tail → n < 2 ^ g.tail_bits
     → HasRoom g.align_bits g.tail_bits g.size_bits (block_at g b).size log n
 room-again g x w b log tail n d l = record { some = d.room.some; log_fits = d.room.log_fits; tail_fits = l; size_fits = d.room.size_fits }

@@ -196,7 +196,7 @@ calls-fit-kept s t same e live at fit inside a n f p d h =
       holders = λ r i. n p d r h i;
     }) (f p d h)
 
--- the same where holders of blocks stay
+-- calls fit if the holders of blocks stay
 pub calls-kept : (s t : State) → t.calls ≡ s.calls → Keeps s.tables t.tables
     → ((r : ℕ) → (record_at s.tables r).live ≡ true → (record_at t.tables r).live ≡ true)
     → ((i : ℕ) (x : Handle) → is_lent i s.calls ≡ true → handle_at s i ≡ Some x → handle_at t i ≡ Some x) → All (Fits s.tables s.calls) s.handles

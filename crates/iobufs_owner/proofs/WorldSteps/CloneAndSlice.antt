@@ -53,7 +53,7 @@ reply-taken s u t w answer reply n r (inr l) = absurd (grows-never s u n l.grows
 called-reads : (s : State) (p : ℕ) (c : Option Pending) → reading (called s p c) ≡ call_set (reading s) p (read_call s.tables c)
 called-reads s p c = rw (map-set (read_call s.tables) s.calls p c) refl
 
--- the same where the tables change and keep what is spoken of
+-- a call that goes on or ends, if the tables change and keep what the world shows
 called-kept : (s : State) (g : Tables) (p : ℕ) (c : Option Pending) → IsSound s → Keeps s.tables g → All (KeepsLetGo s.tables g) s.calls
     → g.blocks ≡ s.tables.blocks → reading (called (record s { tables = g }) p c) ≡ call_set (reading s) p (read_call g c)
 called-kept s g p c k e a b =

@@ -44,7 +44,7 @@ pub freed-reads : (s : State) (h b : ℕ) (o : Option Handle) → IsSound s → 
     ≡ record (free_in (reading s) b) { handles = set (reading s).handles h (read_handle s.tables o) }
 freed-reads s h b o k l = rw (freed-more s.tables s.freed_blocks b k.blocks l, map-set (read_handle s.tables) s.handles h o) refl
 
--- the same with the record
+-- the handle is replaced, and a block and its record are freed
 pub both-reads : (s : State) (h r : ℕ) (o : Option Handle) → IsSound s → (record_at s.tables r).live ≡ true
     → reading (replaced (both_freed s r) h o) ≡ record (free_in (reading s) (record_at s.tables r).block)
     { handles = set (reading s).handles h (read_handle (tables_without s.tables r) o) }

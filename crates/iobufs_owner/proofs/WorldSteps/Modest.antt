@@ -112,7 +112,7 @@ same s u e f reply block n h r b = record {
   logs = rw (e, f) (logs-same s);
 }
 
--- the same, where something is freed
+-- no entry more, in a step that frees
 frees : (s u : State) (reply : Reply) → KeepsLogs s u → (reply ≡ Refused Room → ⊥) → length u.handles ≡ length s.handles
     → length u.tables.records ≡ length s.tables.records → length u.tables.blocks ≡ length s.tables.blocks
     → IsModest s false (record { reply = reply; state = u })

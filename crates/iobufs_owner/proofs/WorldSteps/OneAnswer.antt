@@ -97,7 +97,7 @@ one-outcome s step o u e f = one-party s step o u (nat_lt step.party (length s.c
 
 -- ---- one answer
 
--- the same answer, and the same state
+-- equal replies, and equal states
 abbrev AreAlike : (reply answer : Reply) (next other : State) → Type 0
 AreAlike reply answer next other = (answer ≡ reply) × (other ≡ next)
 

@@ -43,7 +43,7 @@ pub shared-reads : (g : Tables) (h : ℕ) (cs : List (Option Pending)) → is_sh
 shared-reads g h [] = refl
 shared-reads g h (c ∷ cs) = rw (borrow-reads g h c, shared-reads g h cs) refl
 
--- the same result, read
+-- the result of borrowing, as users see it
 abbrev pub read_lent : Tables → Result Handle Refusal → Result Held Refusal
 read_lent g (Err why) = Err why
 read_lent g (Ok x) = Ok (read_held g x)

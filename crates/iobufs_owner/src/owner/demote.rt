@@ -29,7 +29,7 @@ impl Machine {
         }
     }
 
-    /// The same for a view with a record.
+    /// Demotes a view with a record.
     fn demote_counted(&mut self, h: usize, x: Handle, r: usize) -> Reply
         requires lent { Lends self.old.state h View x }
         requires word { x.word ≡ Counted r }

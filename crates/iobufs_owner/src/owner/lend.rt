@@ -48,7 +48,7 @@ impl Machine {
         Ok(x)
     }
 
-    /// The same where either kind may be given.
+    /// Borrows a handle of either kind.
     pub(super) fn lend_any(&self, h: usize) -> Result<Handle, Refusal>
         ensures value { result ≡ lend_any_of self.now.state h }
         ensures sound { IsSound self.now.state }
@@ -63,7 +63,7 @@ impl Machine {
         Ok(x)
     }
 
-    /// The same for a handle that has a block.
+    /// Borrows a handle that has a block.
     pub(super) fn lend_owning(&self, h: usize) -> Result<Handle, Refusal>
         ensures value { result ≡ lend_owning_of self.now.state h }
         ensures sound { IsSound self.now.state }
@@ -81,7 +81,7 @@ impl Machine {
         Ok(x)
     }
 
-    /// The same for a view that has a block.
+    /// Borrows a view that has a block.
     pub(super) fn lend_owning_view(&self, h: usize) -> Result<Handle, Refusal>
         ensures value { result ≡ lend_owning_view_of self.now.state h }
         ensures sound { IsSound self.now.state }

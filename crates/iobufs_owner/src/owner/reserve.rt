@@ -26,8 +26,9 @@ impl Machine {
             && records <= self.freed_records.capacity() - all_records
     }
 
-    /// Room for so many entries more in each table, their logs too. Refused, nothing has changed, room included. A table
-    /// that has to grow becomes at least twice as large, so room for one entry before each step costs little.
+    /// Makes space for this many entries more in each table and its log. If it fails, nothing has changed, capacities
+    /// included. A table that grows becomes at least twice as large, so space for one entry before each step costs
+    /// little.
     pub fn reserve(&mut self, blocks: usize, handles: usize, records: usize) -> Result<(), BufError>
         ensures state { self.new.state ≡ self.old.state }
         ensures room { KeepsRoom self.old.room self.new.room }

@@ -15,7 +15,7 @@ const BLOCK: Block = Block {
     external: false,
 };
 
-// The same block in the log.
+// That block in the log.
 const FREED: Freed = Freed {
     base: 64,
     size: 12,

@@ -42,7 +42,7 @@ impl Model for Gapped {
 }
 
 impl Gapped {
-    /// Nothing yet, and no room.
+    /// Nothing yet, and no space.
     pub(crate) fn new(alloc: Global) -> Gapped
         ensures { result.segments ≡ [] }
     {
@@ -57,7 +57,7 @@ impl Gapped {
         self.pieces.is_empty()
     }
 
-    /// Room for a gap and a piece, and for the bytes behind them; the first room is for two of each.
+    /// Reserves a gap, a chunk and the bytes after them; the first time, two of each.
     pub(crate) fn make_room(&mut self) -> Result<(), AllocError>
         ensures same { self.new.segments ≡ self.old.segments }
         ensures more { self.old.room ≤ self.new.room }
@@ -69,7 +69,7 @@ impl Gapped {
         self.pieces.try_reserve(3)
     }
 
-    /// Puts a piece behind a gap; there is none where it is for no bytes.
+    /// Adds a gap and a chunk; no gap if it is for no bytes.
     pub(crate) fn push(&mut self, run: usize, view: IoBuf)
         requires some { 0 < length view.bytes }
         requires room { length self.old.segments + 3 ≤ self.old.room }
@@ -85,7 +85,7 @@ impl Gapped {
         self.pieces.push_back_reserved(Piece { view, end: 0 });
     }
 
-    /// Fills each gap by the next bytes of a buffer. What none got stands behind.
+    /// Fills each gap by the next bytes of a buffer. The remaining bytes come last.
     pub(crate) fn fill(self, rest: IoBuf) -> Result<Row, BufError>
         requires segments { AreSegments self.segments }
         requires within { gaps_len self.segments ≤ length rest.bytes }
@@ -128,7 +128,7 @@ fn fill_gap(piece: &mut Piece, rest: &mut IoBuf) -> Result<(), BufError>
     Ok(())
 }
 
-// The same, and tells where the piece ends behind so many bytes.
+// Fills a gap, and returns the end of the chunk after `start` bytes.
 fn fill_piece(piece: &mut Piece, rest: &mut IoBuf, start: u64) -> Result<u64, BufError>
     requires within { gap_len (segment_of piece.old) ≤ length rest.old.bytes }
     requires fits { start + segment_len (segment_of piece.old) < 2 ^ 64 }

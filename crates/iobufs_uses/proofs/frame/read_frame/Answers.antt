@@ -4,8 +4,11 @@ use Rattle.iobufs_core.specs.CallerFacts.{read_and_left, written_read_back}
 use Rattle.iobufs_core.specs.Ranges.{in_range}
 use Rattle.iobufs_uses.proofs.frame.read_frame.Goals as goal
 
+-- [docs: framed_answer]
 pub returns-clause-framed : goal.returns-clause-framed
 returns-clause-framed c = read_and_left _ _ _ c.read_cfg.result c.read_cfg.ensures.answer c.read_cfg.ensures.rest
+
+-- [docs end]
 
 fits : (most n : ℕ) → n ≤ most → in_range (record { lo = 0; hi = most }) n ≡ true
 fits most n h = grind (arith, nat_tests)
