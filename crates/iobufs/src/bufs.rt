@@ -21,7 +21,7 @@ mod search;
 
 use bytes::Bytes;
 use iobufs_core::buf::{IoBuf, IoBufMut};
-use iobufs_core::codec::{Buf, BufError, OwnedBuf, OwnedBytes, Refused};
+use iobufs_core::codec::{Buf, BufError, OwnedBuf, OwnedBytes, Peek, Refused};
 use pieces::{Form, Pieces, START};
 use row::Row;
 pub use search::{Ends, Located, find_end};
@@ -351,6 +351,8 @@ impl IoBufs {
         ensures nothing { len ≡ 0 → IsOk result }
         ensures first { len ≡ length (first_chunk (text_chunks self.old)) → IsOk result }
         ensures static_text { len ≤ length (first_chunk (text_chunks self.old)) → (taken_view self.old 0 len).mark ≡ static_mark → IsOk result }
+        ensures last { (front : List (List ℕ)) (chunk : List ℕ) → text_chunks self.old ≡ front ++ chunk ∷ [] → len + length chunk ≡ text_len self.old
+            → IsOk result }
     {
         if len >= self.len() {
             return Ok(());
@@ -573,10 +575,6 @@ impl OwnedBuf for IoBufs {
 
     ghost marked = { λ t. t };
 
-    fn chunk_count(&self) -> usize {
-        IoBufs::chunk_count(self)
-    }
-
     #[inline(always)]
     fn take_owned_after<T: OwnedBytes>(
         &mut self,
@@ -592,6 +590,20 @@ impl OwnedBuf for IoBufs {
             return self.take_first(alloc, n);
         }
         self.take_inside(alloc, skip, n)
+    }
+
+    ghost same_text = { Prim.search rules };
+
+    ghost same_pieces = { Prim.search rules };
+
+    ghost advances_marked = { Prim.search rules };
+
+    ghost copies_marked = { Prim.search rules };
+}
+
+impl Peek for IoBufs {
+    fn chunk_count(&self) -> usize {
+        IoBufs::chunk_count(self)
     }
 
     fn peek_owned<T: OwnedBytes>(
@@ -611,14 +623,6 @@ impl OwnedBuf for IoBufs {
             _ => self.peek_behind(skip, dst),
         }
     }
-
-    ghost same_text = { Prim.search rules };
-
-    ghost same_pieces = { Prim.search rules };
-
-    ghost advances_marked = { Prim.search rules };
-
-    ghost copies_marked = { Prim.search rules };
 }
 
 impl Clone for IoBufs {

@@ -3,6 +3,7 @@
 --     of_buf_error, of_error   the status of a refusal, and of an error of reading
 --     IsDoneUnless             done, unless there is this cause
 --     IsReadCode               what reading a length answers
+--     IsViewReadCode           what reading a view answers
 use Rattle.std.specs.Prelude.{◌≡◌, ◌⊎◌, ℕ}
 use Rattle.iobufs_c.specs.declared.status.Status.{Status}
 use Rattle.iobufs_c.specs.declared.status.Status.TheVariants.{Done, Memory, BadLayout, TooLong, OutOfRange, EndOfBuffer, InvalidVarint, InvalidLength, Declined}
@@ -45,3 +46,7 @@ IsDoneUnless code status = (code ≡ 0) ⊎ (code ≡ code_of status)
 -- what reading a length answers: it asks for no memory
 abbrev pub IsReadCode : ℕ → Type 0
 IsReadCode code = (code ≡ 0) ⊎ (code ≡ code_of EndOfBuffer) ⊎ (code ≡ code_of InvalidVarint) ⊎ (code ≡ code_of InvalidLength)
+
+-- what reading a view answers: it may allocate
+abbrev pub IsViewReadCode : ℕ → Type 0
+IsViewReadCode code = IsReadCode code ⊎ (code ≡ code_of Memory)

@@ -7,7 +7,7 @@ ghost use Rattle.iobufs_core.specs.View.{default_view};
 ghost use Rattle.iobufs_core.specs.Wire.{view_written};
 ghost use Rattle.iobufs_frames.specs.Frames.{HasBytes, HasNoFrame, IsNext};
 ghost use Rattle.iobufs_frames.specs.contracts.Frames.{the_row as frames_row};
-ghost use Rattle.iobufs_c.specs.Codes.{IsDoneUnless, code_of};
+ghost use Rattle.iobufs_c.specs.Codes.{IsDoneUnless, IsViewReadCode, code_of};
 
 use crate::status::{Status, fault, refusal};
 use crate::text::TextAt;
@@ -150,6 +150,7 @@ pub extern "C" fn iobufs_frames_next(
     ensures outside { result ≡ code_of Status.InvalidLength → (n : ℕ)
         × HasNoFrame (record { lo = lo; hi = hi }) frames.old.value.bytes (End.Bad (Error.InvalidLength n)) }
     ensures memory { result ≡ code_of Status.Memory → HasBytes (record { lo = lo; hi = hi }) frames.old.value.bytes }
+    ensures causes { IsViewReadCode result }
 {
     let range = RangeCfg { lo, hi };
     match frames.get().next(alloc, &range) {

@@ -8,7 +8,7 @@ ghost use Rattle.iobufs_core.specs.Part.{part_put};
 ghost use Rattle.iobufs_core.specs.Spelling.{spell};
 ghost use Rattle.iobufs_core.specs.View.{view_advanced, view_rest};
 ghost use Rattle.iobufs_core.specs.Wire.{IsLengthRead, IsViewFault, IsViewRead, view_written};
-ghost use Rattle.iobufs_c.specs.Codes.{IsReadCode, code_of};
+ghost use Rattle.iobufs_c.specs.Codes.{IsReadCode, IsViewReadCode, code_of};
 ghost use Rattle.iobufs_c.specs.Rows.{building_of, part_of, parts_of};
 
 use crate::builder::BuilderAt;
@@ -164,6 +164,7 @@ pub extern "C" fn iobufs_read_view(
     ensures invalid { result ≡ code_of Status.InvalidVarint → IsViewFault text.old.value (record { lo = lo; hi = hi }) Error.InvalidVarint }
     ensures outside { result ≡ code_of Status.InvalidLength → (n : ℕ) × IsViewFault text.old.value (record { lo = lo; hi = hi }) (Error.InvalidLength n) }
     ensures memory { result ≡ code_of Status.Memory → IsViewFault text.old.value (record { lo = lo; hi = hi }) Error.Memory }
+    ensures causes { IsViewReadCode result }
 {
     let range = RangeCfg { lo, hi };
     match IoBuf::read_cfg(alloc, text.get(), &range) {
@@ -193,6 +194,7 @@ pub extern "C" fn iobuf_read_view(
     ensures outside { result ≡ code_of Status.InvalidLength
         → (n : ℕ) × IsViewFault (of_view src.old.value) (record { lo = lo; hi = hi }) (Error.InvalidLength n) }
     ensures memory { result ≡ code_of Status.Memory → IsViewFault (of_view src.old.value) (record { lo = lo; hi = hi }) Error.Memory }
+    ensures causes { IsViewReadCode result }
 {
     let range = RangeCfg { lo, hi };
     match IoBuf::read_cfg(alloc, src.get(), &range) {

@@ -1,11 +1,13 @@
 -- How the length before a body is written: as a varint, or as a number of two, four or eight bytes.
 --     int_width, width_size        the size of a number, in std's words, and in bytes
 --     prefix_written, prefix_limit the encoding of a length, and the number below which lengths have one
+--     prefix_view                  an encoded length in a block of its own
 --     IsLengthAt, HasNoLengthAt    bytes begin with this length; and with none
 --     IsOpenAt                     more bytes could still make one
 use Rattle.std.specs.Prelude.{◌≡◌, ℕ, ◌^◌, ◌<◌, List, length, take}
 use Rattle.std.specs.Int.{w16, w32, w64, byte_len, to_be_bytes, to_le_bytes, Width as IntWidth}
 use Rattle.iobufs_core.specs.Spelling.{spell, IsOpen}
+use Rattle.iobufs_core.specs.View.{View, native_mark}
 use Rattle.iobufs_frames.specs.declared.lengths.Prefix.{Prefix}
 use Rattle.iobufs_frames.specs.declared.lengths.Prefix.TheVariants.{Spelled, Fixed}
 use Rattle.iobufs_frames.specs.declared.lengths.ByteOrder.TheVariants.{Big, Little}
@@ -25,6 +27,10 @@ abbrev pub prefix_written : Prefix → ℕ → List ℕ
 prefix_written Spelled n = spell n
 prefix_written (Fixed width Big) n = to_be_bytes (int_width width) n
 prefix_written (Fixed width Little) n = to_le_bytes (int_width width) n
+
+-- an encoded length in a block of its own, of exactly its size
+abbrev pub prefix_view : Prefix → ℕ → View
+prefix_view prefix n = record { bytes = prefix_written prefix n; mark = native_mark (length (prefix_written prefix n)) }
 
 -- below what number a length can be
 abbrev pub prefix_limit : Prefix → ℕ

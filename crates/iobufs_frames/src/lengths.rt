@@ -1,12 +1,12 @@
 // How the length before a body is written, and lengths of a fixed size.
 ghost use Rattle.std.specs.Prelude.{◌≡◌, ◌≤◌, ◌<◌, ◌+◌, ◌^◌, length, nat_lt, take, MatchOption, SomeIff, IfOk, IfErr, IsErrAnd, IsOkUnless};
-ghost use Rattle.iobufs_core.specs.Spelling.{spell};
+ghost use Rattle.iobufs_core.specs.MarkedText.{text_prepend};
 ghost use Rattle.iobufs_frames.specs.Frames.{frame_written};
-ghost use Rattle.iobufs_frames.specs.Prefixes.{IsLengthAt, IsOpenAt, prefix_limit, prefix_written, width_size};
+ghost use Rattle.iobufs_frames.specs.Prefixes.{IsLengthAt, IsOpenAt, prefix_limit, prefix_view, prefix_written, width_size};
 
 use iobufs::bufs::IoBufs;
 use iobufs_core::buf::IoBuf;
-use iobufs_core::codec::{BufError, Encode, EncodeSize, OwnedBuf, Refused};
+use iobufs_core::codec::{BufError, Encode, EncodeSize, Peek, Refused};
 use std::alloc::Global;
 
 /// The size of a length that is written as a number.
@@ -95,7 +95,7 @@ pub(crate) fn length_in(text: &IoBufs, width: Width, order: ByteOrder) -> Option
 
 // A length as a varint.
 fn spelled(alloc: Global, n: usize) -> Result<IoBuf, BufError>
-    ensures bytes { IfOk result (λ view. view.bytes ≡ spell n) }
+    ensures view { IfOk result (λ view. view ≡ prefix_view Prefix.Spelled n) }
     ensures memory { IsOkUnless result BufError.Memory }
 {
     match n.encode(alloc) {
@@ -119,7 +119,7 @@ impl Prefix {
     /// Encodes a length.
     pub fn written(self, alloc: Global, n: usize) -> Result<IoBuf, BufError>
         requires { n < prefix_limit self }
-        ensures bytes { IfOk result (λ view. view.bytes ≡ prefix_written self n) }
+        ensures view { IfOk result (λ view. view ≡ prefix_view self n) }
         ensures memory { IsOkUnless result BufError.Memory }
     {
         match self {
@@ -164,6 +164,7 @@ pub fn framed_with(
     prefix: Prefix,
     mut body: IoBufs,
 ) -> Result<IoBufs, Refused<IoBufs>>
+    ensures chunks { IfOk result (λ text. text ≡ text_prepend body (prefix_view prefix (length body.bytes))) }
     ensures bytes { IfOk result (λ text. text.bytes ≡ frame_written prefix body.bytes) }
     ensures handed_back { IfErr result (λ refused. refused.value ≡ body) }
     ensures too_long { prefix_limit prefix ≤ length body.bytes → IsErrAnd result (λ refused. refused.cause ≡ BufError.TooLong) }

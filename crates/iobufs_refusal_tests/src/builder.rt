@@ -1,12 +1,12 @@
-// Pushes to a `Builder`, which hand back what they were given, and values that are encoded into pieces.
+// Pushes to a `Builder`, which hand back what they were given, and values that are encoded into chunks.
 use crate::made::shows;
-use crate::word::{Word, end, ensure, say};
+use crate::word::{Word, end, say};
 use bytes::Bytes;
 use iobufs::builder::{Builder, EncodeExt};
 use iobufs_core::buf::IoBuf;
 use iobufs_core::codec::{BufError, BufMut, BufsMut, Error, Write};
 use std::alloc::Global;
-use std::test::Fail;
+use std::process::Abort;
 
 fn put(builder: &mut Builder, bytes: &[u8]) -> Result<(), BufError> {
     if builder.remaining_mut() < bytes.len() {
@@ -16,78 +16,79 @@ fn put(builder: &mut Builder, bytes: &[u8]) -> Result<(), BufError> {
     Ok(())
 }
 
-// A push, which where it is refused has to hand back what was pushed.
-fn push(builder: &mut Builder, text: &'static [u8]) -> Result<(), BufError> {
-    match builder.push(IoBuf::from(text)) {
+// A push that fails has to hand back what was pushed.
+fn push(builder: &mut Builder, bytes: &'static [u8]) -> Result<(), BufError> {
+    match builder.push(IoBuf::from(bytes)) {
         Ok(()) => Ok(()),
-        Err(refused) if refused.value.as_ref() == text => Err(refused.cause),
+        Err(refused) if refused.value.as_ref() == bytes => Err(refused.cause),
         Err(_) => Err(BufError::TooLong),
     }
 }
 
-fn push_bytes(builder: &mut Builder, text: &'static [u8]) -> Result<(), BufError> {
-    match builder.push_bytes(Bytes::from_static(text)) {
+fn push_bytes(builder: &mut Builder, bytes: &'static [u8]) -> Result<(), BufError> {
+    match builder.push_bytes(Bytes::from_static(bytes)) {
         Ok(()) => Ok(()),
-        Err(refused) if refused.value.as_slice() == text => Err(refused.cause),
+        Err(refused) if refused.value.as_slice() == bytes => Err(refused.cause),
         Err(_) => Err(BufError::TooLong),
     }
 }
 
-// A builder with room for eight bytes, to which two were put.
+// A builder for eight bytes, to which two were put.
 fn begun(alloc: Global) -> Result<Builder, BufError> {
     let mut builder = Builder::new(alloc, 8)?;
     put(&mut builder, b"ab")?;
     Ok(builder)
 }
 
-// Whether a builder has these pieces, which it is finished to find out.
-fn builds(builder: Builder, chunks: &[&[u8]]) -> Result<bool, Fail> {
-    Ok(shows(&builder.finish()?, chunks))
+// Whether a builder builds these two chunks.
+fn is_built(rt: &impl Abort, builder: Builder) -> bool {
+    shows(
+        &builder.finish().expect(rt, "the builder is finished"),
+        &[b"ab", b"cd"],
+    )
 }
 
 #[test]
-fn push_of_a_view(rt: HostRuntime) -> Result<(), Fail> {
+fn push_of_a_view(rt: HostRuntime) {
     let mut builder = fixture!(rt, begun(rt.alloc()));
     let ((), word) = lent!(
+        rt,
         push(&mut builder, b"cd"),
         BufError::Memory,
         builder.remaining_mut() == 6
     );
-    end(&rt, word, builds(builder, &[b"ab", b"cd"])?)
+    end(&rt, word, is_built(&rt, builder));
 }
 
 #[test]
-fn push_of_bytes(rt: HostRuntime) -> Result<(), Fail> {
+fn push_of_bytes(rt: HostRuntime) {
     let mut builder = fixture!(rt, begun(rt.alloc()));
     let ((), word) = lent!(
+        rt,
         push_bytes(&mut builder, b"cd"),
         BufError::Memory,
         builder.remaining_mut() == 6
     );
-    end(&rt, word, builds(builder, &[b"ab", b"cd"])?)
+    end(&rt, word, is_built(&rt, builder));
 }
 
-// A value is encoded into these pieces.
-fn encoded<T: Write>(
-    rt: &(impl Print + AllocGlobal),
-    value: &T,
-    chunks: &[&[u8]],
-) -> Result<(), Fail> {
-    let (text, word) = lent!(value.encode_iobufs(rt.alloc()), Error::Memory, true);
-    end(rt, word, shows(&text, chunks))
+// A value is encoded into these chunks.
+fn encoded<T: Write>(rt: &(impl Print + Abort + AllocGlobal), value: &T, chunks: &[&[u8]]) {
+    let (bufs, word) = lent!(*rt, value.encode_iobufs(rt.alloc()), Error::Memory, true);
+    end(rt, word, shows(&bufs, chunks));
 }
 
 #[test]
-fn bytes_are_encoded(rt: HostRuntime) -> Result<(), Fail> {
-    encoded(&rt, &Bytes::from_static(b"abc"), &[b"\x03", b"abc"])
+fn bytes_are_encoded(rt: HostRuntime) {
+    encoded(&rt, &Bytes::from_static(b"abc"), &[b"\x03", b"abc"]);
 }
 
 #[test]
-fn a_length_is_encoded(rt: HostRuntime) -> Result<(), Fail> {
-    encoded(&rt, &300usize, &[b"\xac\x02"])
+fn a_length_is_encoded(rt: HostRuntime) {
+    encoded(&rt, &300usize, &[b"\xac\x02"]);
 }
 
 #[test]
-fn a_number_is_encoded(rt: HostRuntime) -> Result<(), Fail> {
-    encoded(&rt, &258u32, &[b"\x00\x00\x01\x02"])
+fn a_number_is_encoded(rt: HostRuntime) {
+    encoded(&rt, &258u32, &[b"\x00\x00\x01\x02"]);
 }

@@ -1,16 +1,16 @@
 // One call on each of a list of buffers.
-use crate::word::{Word, ensure, say};
+use crate::word::{Word, say};
 use iobufs_core::codec::BufError;
-use std::test::Fail;
+use std::process::Abort;
 
-// Calls on each of these, one after the other. A refusal leaves what it was called on the same, and the call again gives
-// what it gives without a refusal.
+// Makes a call on each of these, one after the other. A call whose allocation fails leaves what it was made on the same,
+// and gives the second time what it gives without a failure.
 pub fn on_each<B: Drop, S: Fn(&B) -> bool, F: FnMut(&mut B) -> Result<bool, BufError>>(
-    rt: &(impl Print + AllocGlobal),
+    rt: &(impl Print + Abort),
     made: Result<Vec<B>, BufError>,
     is_same: S,
     mut call: F,
-) -> Result<(), Fail>
+)
     requires same { S.IsAlwaysCallable is_same }
     requires call { (state : F) (x : _) → F.pre state x }
 {
@@ -21,11 +21,11 @@ pub fn on_each<B: Drop, S: Fn(&B) -> bool, F: FnMut(&mut B) -> Result<bool, BufE
     for mut buffer in buffers {
         let mut answer = call(&mut buffer);
         if let Err(BufError::Memory) = answer {
-            ensure(is_same(&buffer), "changed by a refusal")?;
+            assert!(rt; is_same(&buffer), "changed by a failure");
             answer = call(&mut buffer);
             word = Word::Refused;
         }
-        ensure(answer?, "another answer")?;
+        assert!(rt; matches!(answer, Ok(true)), "another answer");
     }
     say(rt, word)
 }

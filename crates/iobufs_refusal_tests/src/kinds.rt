@@ -1,5 +1,6 @@
-// Each call on a view or a part, on each kind of storage.
+// Each call on a view or a writable buffer, on each kind of storage.
 use crate::each::on_each;
+use crate::given::Given;
 use crate::made::{native, part, twin_of};
 use bytes::{Bytes, BytesMut};
 use iobufs_core::buf::{IoBuf, IoBufMut};
@@ -7,9 +8,9 @@ use iobufs_core::codec::{Buf, BufError, BufMut, Error, OwnedBuf, OwnedBytes};
 use std::alloc::Global;
 use std::mem;
 use std::ops::Bound::{Excluded, Included};
-use std::test::Fail;
+use std::process::Abort;
 
-// What each of them shows.
+// The bytes of each of them.
 const TEXT: &'static [u8] = b"abcd";
 
 fn push_shared(views: &mut Vec<IoBuf>, view: IoBuf) -> Result<(), BufError> {
@@ -23,7 +24,7 @@ fn bytes(alloc: Global) -> Result<IoBuf, BufError> {
     Ok(IoBuf::from(Bytes::copy_from_slice(alloc, TEXT)?))
 }
 
-// Static bytes, static `Bytes`, `Bytes` alone and shared, and a native block alone and shared, which has room behind.
+// Static bytes, static `Bytes`, `Bytes` alone and shared, and a native block alone and shared, which has spare capacity.
 fn views(alloc: Global) -> Result<Vec<IoBuf>, BufError> {
     let mut views = Vec::with_capacity(alloc, 8)?;
     views.push(IoBuf::from(TEXT))?;
@@ -57,7 +58,7 @@ fn pairs(alloc: Global) -> Result<Vec<Pair>, BufError> {
     Ok(pairs)
 }
 
-// The first of two, or the second where a refused call consumed the first.
+// The first of two, or the second if a call that failed consumed the first.
 fn next_of(pair: &mut Pair) -> IoBuf {
     let first = mem::take(&mut pair.0);
     if first.is_empty() {
@@ -78,7 +79,7 @@ fn has_second(pair: &Pair) -> bool {
     pair.1.as_ref() == TEXT
 }
 
-// What a call of a reader that is refused for want of memory answers.
+// The error of a reader, as that of a buffer.
 fn memory<T: Drop>(read: Result<T, Error>) -> Result<T, BufError> {
     read.map_err(|error| match error {
         Error::Memory => BufError::Memory,
@@ -120,59 +121,138 @@ fn taken<T: OwnedBytes>(
     view.take_owned_after(alloc, skip, n)
 }
 
-#[test]
-fn clone(rt: HostRuntime) -> Result<(), Fail> {
-    on_each(&rt, views(rt.alloc()), is_text, |view: &mut IoBuf| {
-        let twin = twin_of(view)?;
-        Ok(is_text(&twin) && is_text(view))
-    })
+// A view is made into `Bytes`, and handed back where that fails.
+fn into_bytes(alloc: Global, view: &mut IoBuf) -> Result<Bytes, BufError> {
+    match mem::take(view).into_bytes(alloc) {
+        Ok(bytes) => Ok(bytes),
+        Err(back) => {
+            *view = back;
+            Err(BufError::Memory)
+        }
+    }
 }
 
-#[test]
-fn slices(rt: HostRuntime) -> Result<(), Fail> {
-    on_each(&rt, views(rt.alloc()), is_text, |view: &mut IoBuf| {
-        let part = slice(view, 1, 3)?;
-        Ok(part.as_ref() == b"bc".as_slice() && is_text(view))
-    })
+fn into_part(alloc: Global, view: &mut IoBuf) -> Result<IoBufMut, BufError> {
+    match IoBufMut::from_view(alloc, mem::take(view)) {
+        Ok(part) => Ok(part),
+        Err(back) => {
+            *view = back;
+            Err(BufError::Memory)
+        }
+    }
 }
 
-#[test]
-fn splits(rt: HostRuntime) -> Result<(), Fail> {
-    on_each(&rt, views(rt.alloc()), is_text, |view: &mut IoBuf| {
-        let front = split(view, 1)?;
-        Ok(front.as_ref() == b"a".as_slice() && view.as_ref() == b"bcd".as_slice())
-    })
+// A call on a view.
+#[derive(Clone, Copy)]
+enum Call {
+    Clone,
+    Slice(usize, usize),
+    SplitTo(usize),
+    ToVec,
+    CopyToBytes(usize),
+    // Bytes after others, which are dropped.
+    TakeView(usize, usize),
+    TakeBytes(usize, usize),
+    TryTakeBytes(usize),
+    TakeWholeView,
+    TakeWholeBytes,
+    IntoBytes,
+    IntoPart,
 }
 
-#[test]
-fn copied_to_a_list(rt: HostRuntime) -> Result<(), Fail> {
+fn make_call(alloc: Global, view: &mut IoBuf, call: Call) -> Result<Given, BufError> {
+    match call {
+        Call::Clone => Ok(Given::View(twin_of(view)?)),
+        Call::Slice(lo, hi) => Ok(Given::View(slice(view, lo, hi)?)),
+        Call::SplitTo(at) => Ok(Given::View(split(view, at)?)),
+        Call::ToVec => Ok(Given::List(view.to_vec(alloc)?)),
+        Call::CopyToBytes(n) => Ok(Given::Bytes(copied(alloc, view, n)?)),
+        Call::TakeView(skip, n) => Ok(Given::View(taken(alloc, view, skip, n)?)),
+        Call::TakeBytes(skip, n) => Ok(Given::Bytes(taken(alloc, view, skip, n)?)),
+        Call::TryTakeBytes(n) => Ok(Given::Bytes(memory(view.try_take_owned(alloc, n))?)),
+        Call::TakeWholeView => Ok(Given::View(OwnedBytes::take_view(alloc, view)?)),
+        Call::TakeWholeBytes => Ok(Given::Bytes(OwnedBytes::take_view(alloc, view)?)),
+        Call::IntoBytes => Ok(Given::Bytes(into_bytes(alloc, view)?)),
+        Call::IntoPart => Ok(Given::Part(into_part(alloc, view)?)),
+    }
+}
+
+// The call on a view that shows `abcd` gives these bytes, and leaves those.
+fn on_views(rt: &(impl Print + Abort + AllocGlobal), what: Call, given: &[u8], left: &[u8]) {
     let alloc = rt.alloc();
-    on_each(&rt, views(alloc), is_text, |view: &mut IoBuf| {
-        let list = view.to_vec(alloc)?;
-        Ok(list.as_slice() == TEXT && is_text(view))
+    on_each(rt, views(alloc), is_text, |view: &mut IoBuf| {
+        let gives = make_call(alloc, view, what)?;
+        Ok(gives.shows(given) && view.as_ref() == left)
     })
 }
 
 #[test]
-fn copied_to_bytes(rt: HostRuntime) -> Result<(), Fail> {
-    let alloc = rt.alloc();
-    on_each(&rt, views(alloc), is_text, |view: &mut IoBuf| {
-        let front = copied(alloc, view, 3)?;
-        Ok(front.as_slice() == b"abc".as_slice() && view.as_ref() == b"d".as_slice())
-    })
+fn clone(rt: HostRuntime) {
+    on_views(&rt, Call::Clone, TEXT, TEXT);
 }
 
 #[test]
-fn all_copied_to_bytes(rt: HostRuntime) -> Result<(), Fail> {
-    let alloc = rt.alloc();
-    on_each(&rt, views(alloc), is_text, |view: &mut IoBuf| {
-        let all = copied(alloc, view, 4)?;
-        Ok(all.as_slice() == TEXT && view.is_empty())
-    })
+fn slices(rt: HostRuntime) {
+    on_views(&rt, Call::Slice(1, 3), b"bc", TEXT);
 }
 
 #[test]
-fn chunks(rt: HostRuntime) -> Result<(), Fail> {
+fn splits(rt: HostRuntime) {
+    on_views(&rt, Call::SplitTo(1), b"a", b"bcd");
+}
+
+#[test]
+fn copied_to_a_list(rt: HostRuntime) {
+    on_views(&rt, Call::ToVec, TEXT, TEXT);
+}
+
+#[test]
+fn copied_to_bytes(rt: HostRuntime) {
+    on_views(&rt, Call::CopyToBytes(3), b"abc", b"d");
+}
+
+#[test]
+fn all_copied_to_bytes(rt: HostRuntime) {
+    on_views(&rt, Call::CopyToBytes(4), TEXT, b"");
+}
+
+#[test]
+fn taken_as_views(rt: HostRuntime) {
+    on_views(&rt, Call::TakeView(1, 2), b"bc", b"d");
+}
+
+#[test]
+fn taken_as_bytes(rt: HostRuntime) {
+    on_views(&rt, Call::TakeBytes(1, 2), b"bc", b"d");
+}
+
+#[test]
+fn tried_to_take(rt: HostRuntime) {
+    on_views(&rt, Call::TryTakeBytes(2), b"ab", b"cd");
+}
+
+#[test]
+fn taken_whole_as_views(rt: HostRuntime) {
+    on_views(&rt, Call::TakeWholeView, TEXT, b"");
+}
+
+#[test]
+fn taken_whole_as_bytes(rt: HostRuntime) {
+    on_views(&rt, Call::TakeWholeBytes, TEXT, b"");
+}
+
+#[test]
+fn made_into_bytes(rt: HostRuntime) {
+    on_views(&rt, Call::IntoBytes, TEXT, b"");
+}
+
+#[test]
+fn made_into_parts(rt: HostRuntime) {
+    on_views(&rt, Call::IntoPart, TEXT, b"");
+}
+
+#[test]
+fn chunks(rt: HostRuntime) {
     let alloc = rt.alloc();
     on_each(&rt, views(alloc), is_text, |view: &mut IoBuf| {
         let chunks = view.chunks_vectored(alloc, 2)?.len();
@@ -181,82 +261,7 @@ fn chunks(rt: HostRuntime) -> Result<(), Fail> {
 }
 
 #[test]
-fn taken_as_views(rt: HostRuntime) -> Result<(), Fail> {
-    let alloc = rt.alloc();
-    on_each(&rt, views(alloc), is_text, |view: &mut IoBuf| {
-        let part = taken::<IoBuf>(alloc, view, 1, 2)?;
-        Ok(part.as_ref() == b"bc".as_slice() && view.as_ref() == b"d".as_slice())
-    })
-}
-
-#[test]
-fn taken_as_bytes(rt: HostRuntime) -> Result<(), Fail> {
-    let alloc = rt.alloc();
-    on_each(&rt, views(alloc), is_text, |view: &mut IoBuf| {
-        let part = taken::<Bytes>(alloc, view, 1, 2)?;
-        Ok(part.as_slice() == b"bc".as_slice() && view.as_ref() == b"d".as_slice())
-    })
-}
-
-#[test]
-fn tried_to_take(rt: HostRuntime) -> Result<(), Fail> {
-    let alloc = rt.alloc();
-    on_each(&rt, views(alloc), is_text, |view: &mut IoBuf| {
-        let part = memory(view.try_take_owned::<Bytes>(alloc, 2))?;
-        Ok(part.as_slice() == b"ab".as_slice() && view.as_ref() == b"cd".as_slice())
-    })
-}
-
-#[test]
-fn taken_whole_as_views(rt: HostRuntime) -> Result<(), Fail> {
-    let alloc = rt.alloc();
-    on_each(&rt, views(alloc), is_text, |view: &mut IoBuf| {
-        let whole = <IoBuf as OwnedBytes>::take_view(alloc, view)?;
-        Ok(is_text(&whole) && view.is_empty())
-    })
-}
-
-#[test]
-fn taken_whole_as_bytes(rt: HostRuntime) -> Result<(), Fail> {
-    let alloc = rt.alloc();
-    on_each(&rt, views(alloc), is_text, |view: &mut IoBuf| {
-        let whole = <Bytes as OwnedBytes>::take_view(alloc, view)?;
-        Ok(whole.as_slice() == TEXT && view.is_empty())
-    })
-}
-
-// A refusal hands the view back.
-#[test]
-fn made_into_bytes(rt: HostRuntime) -> Result<(), Fail> {
-    let alloc = rt.alloc();
-    on_each(&rt, views(alloc), is_text, |view: &mut IoBuf| {
-        match mem::take(view).into_bytes(alloc) {
-            Ok(bytes) => Ok(bytes.as_slice() == TEXT),
-            Err(back) => {
-                *view = back;
-                Err(BufError::Memory)
-            }
-        }
-    })
-}
-
-// A refusal hands the view back.
-#[test]
-fn made_into_parts(rt: HostRuntime) -> Result<(), Fail> {
-    let alloc = rt.alloc();
-    on_each(&rt, views(alloc), is_text, |view: &mut IoBuf| {
-        match IoBufMut::from_view(alloc, mem::take(view)) {
-            Ok(part) => Ok(part.as_ref() == TEXT),
-            Err(back) => {
-                *view = back;
-                Err(BufError::Memory)
-            }
-        }
-    })
-}
-
-#[test]
-fn views_as_bytes(rt: HostRuntime) -> Result<(), Fail> {
+fn views_as_bytes(rt: HostRuntime) {
     let alloc = rt.alloc();
     on_each(&rt, pairs(alloc), has_second, |pair: &mut Pair| {
         let bytes = <Bytes as OwnedBytes>::from_view(alloc, next_of(pair))?;
@@ -265,7 +270,7 @@ fn views_as_bytes(rt: HostRuntime) -> Result<(), Fail> {
 }
 
 #[test]
-fn views_as_views(rt: HostRuntime) -> Result<(), Fail> {
+fn views_as_views(rt: HostRuntime) {
     let alloc = rt.alloc();
     on_each(&rt, pairs(alloc), has_second, |pair: &mut Pair| {
         let view = <IoBuf as OwnedBytes>::from_view(alloc, next_of(pair))?;
@@ -273,31 +278,41 @@ fn views_as_views(rt: HostRuntime) -> Result<(), Fail> {
     })
 }
 
-// What shows no byte asks for nothing, whatever holds it.
-#[test]
-fn emptied_views(rt: HostRuntime) -> Result<(), Fail> {
+// Whether each of these calls on a view gives no byte, and then the view has no chunk.
+fn give_nothing(alloc: Global, view: &mut IoBuf, calls: &[Call]) -> Result<bool, BufError> {
+    for what in calls {
+        if !make_call(alloc, view, *what)?.shows(b"") {
+            return Ok(false);
+        }
+    }
+    Ok(view.chunks_vectored(alloc, 2)?.is_empty())
+}
+
+// A view without bytes allocates nothing, whatever holds it.
+fn on_emptied(rt: &(impl Print + Abort + AllocGlobal), calls: &[Call]) {
     let alloc = rt.alloc();
-    on_each(&rt, emptied(alloc), is_empty, |view: &mut IoBuf| {
-        let twin = twin_of(view)?;
-        let part = slice(view, 0, 0)?;
-        let front = split(view, 0)?;
-        let chunks = view.chunks_vectored(alloc, 2)?.len();
-        Ok(twin.is_empty() && part.is_empty() && front.is_empty() && chunks == 0)
-    })
+    on_each(
+        rt,
+        emptied(alloc),
+        is_empty,
+        |view: &mut IoBuf| give_nothing(alloc, view, calls),
+    )
 }
 
 #[test]
-fn copies_of_emptied_views(rt: HostRuntime) -> Result<(), Fail> {
-    let alloc = rt.alloc();
-    on_each(&rt, emptied(alloc), is_empty, |view: &mut IoBuf| {
-        let list = view.to_vec(alloc)?;
-        let bytes = copied(alloc, view, 0)?;
-        let whole = <Bytes as OwnedBytes>::take_view(alloc, view)?;
-        Ok(list.is_empty() && bytes.is_empty() && whole.is_empty())
-    })
+fn emptied_views(rt: HostRuntime) {
+    on_emptied(&rt, &[Call::Clone, Call::Slice(0, 0), Call::SplitTo(0)]);
 }
 
-// A part, and the room that it had at first.
+#[test]
+fn copies_of_emptied_views(rt: HostRuntime) {
+    on_emptied(
+        &rt,
+        &[Call::ToVec, Call::CopyToBytes(0), Call::TakeWholeBytes],
+    );
+}
+
+// A writable buffer, and the spare capacity that it had at first.
 type Roomy = (IoBufMut, usize);
 
 fn push_part(parts: &mut Vec<Roomy>, part: IoBufMut) -> Result<(), BufError> {
@@ -314,7 +329,7 @@ fn aligned(alloc: Global) -> Result<IoBufMut, BufError> {
     Ok(part)
 }
 
-// The second of two halves of a block, of which the first is let go.
+// The rest of a block whose first bytes are dropped.
 fn half(alloc: Global) -> Result<BytesMut, BufError> {
     let mut front = BytesMut::copy_from_slice(alloc, b"zzabcd")?;
     if front.len() < 2 {
@@ -323,7 +338,7 @@ fn half(alloc: Global) -> Result<BytesMut, BufError> {
     Ok(front.split_off(2)?)
 }
 
-// Blocks of their own with room behind, aligned or not, a list that is full, and what was `Bytes` or `BytesMut`.
+// Blocks of their own with spare capacity, aligned or not, a list that is full, and what was `Bytes` or `BytesMut`.
 fn parts(alloc: Global) -> Result<Vec<Roomy>, BufError> {
     let mut parts = Vec::with_capacity(alloc, 6)?;
     push_part(&mut parts, part(alloc, 8, TEXT)?)?;
@@ -350,7 +365,7 @@ fn copied_part(alloc: Global, part: &mut IoBufMut, n: usize) -> Result<Bytes, Bu
 }
 
 #[test]
-fn parts_copied_to_bytes(rt: HostRuntime) -> Result<(), Fail> {
+fn parts_copied_to_bytes(rt: HostRuntime) {
     let alloc = rt.alloc();
     on_each(&rt, parts(alloc), is_full_text, |part: &mut Roomy| {
         let front = copied_part(alloc, &mut part.0, 3)?;
@@ -360,7 +375,7 @@ fn parts_copied_to_bytes(rt: HostRuntime) -> Result<(), Fail> {
 }
 
 #[test]
-fn parts_shown(rt: HostRuntime) -> Result<(), Fail> {
+fn parts_shown(rt: HostRuntime) {
     let alloc = rt.alloc();
     on_each(&rt, parts(alloc), is_full_text, |part: &mut Roomy| {
         let chunks = part.0.chunks_vectored(alloc, 2)?.len();
@@ -368,10 +383,10 @@ fn parts_shown(rt: HostRuntime) -> Result<(), Fail> {
     })
 }
 
-// A part, and another that shows the same, for a call that consumes one.
+// A writable buffer, and another of the same bytes, for a call that consumes one.
 type Spared = (IoBufMut, IoBufMut);
 
-// A part of each kind, and a spare one.
+// A buffer of each kind, and a spare one.
 fn spared(alloc: Global) -> Result<Vec<Spared>, BufError> {
     let mut pairs = Vec::with_capacity(alloc, 6)?;
     for (part, _room) in parts(alloc)? {
@@ -384,7 +399,7 @@ fn has_spare(pair: &Spared) -> bool {
     pair.1.as_ref() == TEXT
 }
 
-// The part, or the spare one where a refused call consumed the part.
+// The buffer, or the spare one if a call that failed consumed it.
 fn next_part(alloc: Global, pair: &mut Spared) -> IoBufMut {
     let part = mem::replace(&mut pair.0, IoBufMut::default(alloc));
     if part.is_empty() {
@@ -394,7 +409,7 @@ fn next_part(alloc: Global, pair: &mut Spared) -> IoBufMut {
 }
 
 #[test]
-fn parts_frozen(rt: HostRuntime) -> Result<(), Fail> {
+fn parts_frozen(rt: HostRuntime) {
     let alloc = rt.alloc();
     on_each(&rt, spared(alloc), has_spare, |pair: &mut Spared| {
         let view = next_part(alloc, pair).freeze()?;

@@ -1,10 +1,10 @@
-// Tests in which each allocation fails in turn. `tests/refuse` at the top of the repository runs these tests with the first
-// request refused, then with the second, and so on. Each makes a fixture, makes one call, and prints which of the two
-// the refusal hit: `fixture`, `refused` or, where it hit neither, `whole`. A refused call has to answer want of memory,
-// to leave what it was lent as it was, and to give when it is made again what it gives without a refusal.
+// Each allocation fails in turn. `tests/refuse` at the top of the repository runs these tests with the first allocation
+// failing, then with the second, and so on. Each test makes a fixture, makes one call, and prints which of the two the
+// failure hit: `fixture`, `refused` or, if it hit neither, `whole`. A call whose allocation fails has to report that, to
+// leave what it borrowed as it was, and to give the second time what it gives without a failure.
 #![tactic(auto)]
 
-// What the fixture makes. Where it is refused, the test says so and ends.
+// What the fixture makes. If an allocation of it fails, the test says so and ends.
 macro_rules! fixture {
     ($rt:expr, $made:expr) => {
         match $made {
@@ -14,41 +14,30 @@ macro_rules! fixture {
     };
 }
 
-// What a call answers, and whether it was refused first. A refusal is this want of memory, and leaves this so.
+// What a call gives, and whether an allocation of it failed first. Such a failure is this error, and leaves this so.
 macro_rules! lent {
-    ($call:expr, $memory:pat, $same:expr) => {
+    ($rt:expr, $call:expr, $memory:pat, $same:expr) => {
         match $call {
             Ok(answer) => (answer, Word::Whole),
             Err($memory) => {
-                ensure($same, "changed by a refusal")?;
-                ($call?, Word::Refused)
+                assert!($rt; $same, "changed by a failure");
+                ($call.expect(&$rt, "the second call"), Word::Refused)
             }
-            Err(_) => return Err(Fail::new("refused for another reason")),
+            Err(_) => panic!($rt; "another error"),
         }
     };
-}
-
-// A call that consumes what the fixture makes; the fixture is then made once more.
-macro_rules! consumed {
-    ($rt:expr, $made:expr => $name:ident, $call:expr, $memory:pat) => {{
-        let $name = fixture!($rt, $made);
-        match $call {
-            Ok(answer) => (answer, Word::Whole),
-            Err($memory) => {
-                let $name = $made?;
-                ($call?, Word::Refused)
-            }
-            Err(_) => return Err(Fail::new("refused for another reason")),
-        }
-    }};
 }
 
 #[cfg(test)]
 mod builder;
 #[cfg(test)]
+mod conversions;
+#[cfg(test)]
 mod each;
 #[cfg(test)]
 mod frames;
+#[cfg(test)]
+mod given;
 #[cfg(test)]
 mod kinds;
 #[cfg(test)]
@@ -59,8 +48,6 @@ mod made;
 mod parts;
 #[cfg(test)]
 mod several;
-#[cfg(test)]
-mod shared;
 #[cfg(test)]
 mod table;
 #[cfg(test)]

@@ -1,10 +1,10 @@
-// The owner machine, whose tables are refused each growth in turn: room is made before each step, and where that is refused
-// the step is taken or wants it. Another machine, which had room for all from the beginning, takes the same steps, so that
-// what a refusal left can be compared with what was there before.
+// The owner machine, with each growth of its tables failing in turn. Capacity is reserved before each step; if that fails,
+// the step is executed or reports that it needs it. Another machine, which reserved enough at first, executes the same
+// steps, so that the state after a failure can be compared with the state before.
 //
-// Where a step wants room, and the tests in which there is none:
+// Where a step needs capacity, and the tests in which there is none:
 //
-// | function | room for | tests |
+// | function | capacity for | tests |
 // |---|---|---|
 // | `add_described` | a block, its place, a handle | `a_new_block` |
 // | `add_recorded` | a block, its place, a record, a handle | `an_external_block`, `a_block_with_a_record` |
@@ -19,15 +19,15 @@
 // | `win` | a handle | `a_clone`, `a_slice` |
 // | `add_holder` | a handle | `a_clone_of_a_shared_view` |
 // | `reserve` | each table and what grows beside it | `a_reservation` |
-use crate::word::{Word, ensure, say};
+use crate::word::{Word, end, say};
 use iobufs_core::codec::BufError;
 use iobufs_owner::format::FORMAT_64;
 use iobufs_owner::owner::Act::{self, Begin, Go};
 use iobufs_owner::owner::{Call, Machine, Refusal, Reply, Step};
 use std::alloc::Global;
-use std::test::Fail;
+use std::process::Abort;
 
-// A step of a party that is granted all memory it asks for.
+// A step of a party whose allocations are granted.
 type Row = (usize, Act);
 
 // How many parties there are.
@@ -70,220 +70,236 @@ fn is_same(one: &Machine, other: &Machine) -> bool {
         && one.freed_records() == other.freed_records()
 }
 
-// Makes room for a step and takes it, and whether that room was refused. A step that wants it then has left all as in a
-// machine that is like this one, and is taken once it is there.
-fn stepped(machine: &mut Machine, like: &Machine, step: Step) -> Result<(Reply, bool), Fail> {
+// Reserves capacity for a step and executes it, and whether the reservation failed. A step that needs it then has changed
+// nothing, which another machine in the same state shows, and is executed once the capacity is there.
+fn stepped(rt: &impl Abort, machine: &mut Machine, like: &Machine, step: Step) -> (Reply, bool) {
     let made = machine.reserve(1, 1, 1);
-    ensure(is_same(machine, like), "changed by room")?;
+    assert!(rt; is_same(machine, like), "changed by room");
     let reply = machine.step(step);
     if made.is_ok() {
-        return Ok((reply, false));
+        return (reply, false);
     }
     if reply != Reply::Refused(Refusal::Room) {
-        return Ok((reply, true));
+        return (reply, true);
     }
-    ensure(is_same(machine, like), "changed by a refusal")?;
-    machine.reserve(1, 1, 1)?;
-    Ok((machine.step(step), true))
+    assert!(rt; is_same(machine, like), "changed by a failure");
+    machine.reserve(1, 1, 1).expect(rt, "room");
+    (machine.step(step), true)
 }
 
-// Takes steps on a machine in which room is made for each, and on one that has room.
-fn lockstep(rt: &(impl Print + AllocGlobal), steps: &[&[Row]]) -> Result<(), Fail> {
-    let (mut one, mut other) = match (new_machine(rt.alloc()), new_machine(rt.alloc())) {
-        (Ok(one), Ok(other)) => (one, other),
-        _ => return say(rt, Word::Fixture),
-    };
-    if other.reserve(MOST, MOST, MOST).is_err() {
-        return say(rt, Word::Fixture);
-    }
+// A new machine, and another one with capacity for all steps.
+fn two_machines(alloc: Global) -> Result<(Machine, Machine), BufError> {
+    let one = new_machine(alloc)?;
+    let mut other = new_machine(alloc)?;
+    other.reserve(MOST, MOST, MOST)?;
+    Ok((one, other))
+}
+
+// Executes steps on a machine that reserves before each, and on one that has the capacity.
+fn lockstep(rt: &(impl Print + Abort + AllocGlobal), first: &[Row], then: &[Row]) {
+    let (mut one, mut other) = fixture!(*rt, two_machines(rt.alloc()));
     let mut word = Word::Whole;
-    for (party, act) in steps.iter().copied().flatten() {
+    for (party, act) in first.iter().chain(then) {
         let step = Step {
             party: *party,
             act: *act,
         };
-        let (reply, refused) = stepped(&mut one, &other, step)?;
+        let (reply, refused) = stepped(rt, &mut one, &other, step);
         if refused {
             word = Word::Refused;
         }
-        ensure(reply == other.step(step), "another reply")?;
-        ensure(is_same(&one, &other), "another state")?;
+        assert!(rt; reply == other.step(step), "another reply");
+        assert!(rt; is_same(&one, &other), "another state");
     }
     say(rt, word)
 }
 
 #[test]
-fn new(rt: HostRuntime) -> Result<(), Fail> {
-    let (machine, word) = lent!(new_machine(rt.alloc()), BufError::Memory, true);
-    ensure(machine.blocks().is_empty(), "a new machine has a block")?;
-    say(&rt, word)
+fn new(rt: HostRuntime) {
+    let (machine, word) = lent!(rt, new_machine(rt.alloc()), BufError::Memory, true);
+    end(&rt, word, machine.blocks().is_empty());
 }
 
+const IDLE: [Step; 1] = [Step {
+    party: 0,
+    act: Go(true),
+}];
+
 #[test]
-fn run(rt: HostRuntime) -> Result<(), Fail> {
+fn run(rt: HostRuntime) {
     let mut machine = fixture!(rt, new_machine(rt.alloc()));
-    let steps = [Step {
-        party: 0,
-        act: Go(true),
-    }];
     let (replies, word) = lent!(
-        machine.run(rt.alloc(), &steps),
+        rt,
+        machine.run(rt.alloc(), &IDLE),
         BufError::Memory,
         machine.blocks().is_empty()
     );
-    let idle = [Reply::Refused(Refusal::Idle)];
-    ensure(replies.as_slice() == idle.as_slice(), "other replies")?;
-    say(&rt, word)
+    end(
+        &rt,
+        word,
+        replies.as_slice() == [Reply::Refused(Refusal::Idle)].as_slice(),
+    );
 }
 
 // Tables of blocks, places, handles and their borrows, and the log of freed blocks.
-#[test]
-fn a_new_block(rt: HostRuntime) -> Result<(), Fail> {
-    lockstep(&rt, &[&[(0, Begin(Call::New(64, 12, 1), true))]])
-}
+const A_NEW_BLOCK: [Row; 1] = [(0, Begin(Call::New(64, 12, 1), true))];
 
 #[test]
-fn an_external_block(rt: HostRuntime) -> Result<(), Fail> {
-    lockstep(&rt, &[&[(0, Begin(Call::External(64, 12), true))]])
+fn a_new_block(rt: HostRuntime) {
+    lockstep(&rt, &[], &A_NEW_BLOCK);
 }
 
+const AN_EXTERNAL_BLOCK: [Row; 1] = [(0, Begin(Call::External(64, 12), true))];
+
 #[test]
-fn a_static_view(rt: HostRuntime) -> Result<(), Fail> {
-    lockstep(&rt, &[&[(0, Begin(Call::Static(3), true))]])
+fn an_external_block(rt: HostRuntime) {
+    lockstep(&rt, &[], &AN_EXTERNAL_BLOCK);
+}
+
+const A_STATIC_VIEW: [Row; 1] = [(0, Begin(Call::Static(3), true))];
+
+#[test]
+fn a_static_view(rt: HostRuntime) {
+    lockstep(&rt, &[], &A_STATIC_VIEW);
 }
 
 // A block that is too long for a word: it comes with a record.
-#[test]
-fn a_block_with_a_record(rt: HostRuntime) -> Result<(), Fail> {
-    lockstep(&rt, &[&[(0, Begin(Call::New(64, 1 << 40, 1), true))]])
-}
-
-// What lies behind the one byte is too long for a word: the record is made when the handle is frozen.
-#[test]
-fn a_freeze_with_a_record(rt: HostRuntime) -> Result<(), Fail> {
-    lockstep(
-        &rt,
-        &[&[
-            (0, Begin(Call::New(4096, 131_073, 1), true)),
-            (0, Begin(Call::Put(0, 1), true)),
-            (0, Begin(Call::Freeze(0), true)),
-        ]],
-    )
-}
-
-// A record is made, and a handle beyond the fourth.
-#[test]
-fn a_split(rt: HostRuntime) -> Result<(), Fail> {
-    lockstep(&rt, &[&FOUR, &[(0, Begin(Call::SplitTo(0, 3), true))]])
-}
+const A_BLOCK_WITH_A_RECORD: [Row; 1] = [(0, Begin(Call::New(64, 1 << 40, 1), true))];
 
 #[test]
-fn a_split_at_the_front(rt: HostRuntime) -> Result<(), Fail> {
-    lockstep(&rt, &[&FOUR, &[(0, Begin(Call::SplitTo(0, 0), true))]])
+fn a_block_with_a_record(rt: HostRuntime) {
+    lockstep(&rt, &[], &A_BLOCK_WITH_A_RECORD);
 }
 
-#[test]
-fn a_split_at_the_end(rt: HostRuntime) -> Result<(), Fail> {
-    lockstep(&rt, &[&FOUR, &[(0, Begin(Call::SplitTo(0, 8), true))]])
-}
+// The rest after the one byte is too long for a word: the record is made when the handle is frozen.
+const A_FREEZE_WITH_A_RECORD: [Row; 3] = [
+    (0, Begin(Call::New(4096, 131_073, 1), true)),
+    (0, Begin(Call::Put(0, 1), true)),
+    (0, Begin(Call::Freeze(0), true)),
+];
 
 #[test]
-fn a_split_without_block(rt: HostRuntime) -> Result<(), Fail> {
-    lockstep(&rt, &[&FOUR, &[(0, Begin(Call::SplitTo(1, 2), true))]])
+fn a_freeze_with_a_record(rt: HostRuntime) {
+    lockstep(&rt, &[], &A_FREEZE_WITH_A_RECORD);
 }
 
-#[test]
-fn a_split_of_a_shared_view(rt: HostRuntime) -> Result<(), Fail> {
-    lockstep(&rt, &[&SHARED, &[(0, Begin(Call::SplitTo(0, 2), true))]])
-}
+// A record is made, and a fifth handle.
+const A_SPLIT: [Row; 1] = [(0, Begin(Call::SplitTo(0, 3), true))];
 
 #[test]
-fn a_fifth_static_view(rt: HostRuntime) -> Result<(), Fail> {
-    lockstep(&rt, &[&FOUR, &[(0, Begin(Call::Static(3), true))]])
+fn a_split(rt: HostRuntime) {
+    lockstep(&rt, &FOUR, &A_SPLIT);
 }
 
-#[test]
-fn an_empty_slice(rt: HostRuntime) -> Result<(), Fail> {
-    lockstep(&rt, &[&FOUR, &[(0, Begin(Call::Slice(0, 2, 2), true))]])
-}
+const A_SPLIT_AT_THE_FRONT: [Row; 1] = [(0, Begin(Call::SplitTo(0, 0), true))];
 
 #[test]
-fn a_clone_of_a_shared_view(rt: HostRuntime) -> Result<(), Fail> {
-    lockstep(
-        &rt,
-        &[&SHARED, &[(0, Begin(Call::Clone(0), true)), (0, Go(true))]],
-    )
+fn a_split_at_the_front(rt: HostRuntime) {
+    lockstep(&rt, &FOUR, &A_SPLIT_AT_THE_FRONT);
 }
 
-#[test]
-fn a_clone(rt: HostRuntime) -> Result<(), Fail> {
-    lockstep(
-        &rt,
-        &[
-            &FOUR,
-            &[
-                (0, Begin(Call::Clone(0), true)),
-                (0, Go(true)),
-                (0, Go(true)),
-            ],
-        ],
-    )
-}
+const A_SPLIT_AT_THE_END: [Row; 1] = [(0, Begin(Call::SplitTo(0, 8), true))];
 
 #[test]
-fn a_clone_without_block(rt: HostRuntime) -> Result<(), Fail> {
-    lockstep(&rt, &[&FOUR, &[(0, Begin(Call::Clone(1), true))]])
+fn a_split_at_the_end(rt: HostRuntime) {
+    lockstep(&rt, &FOUR, &A_SPLIT_AT_THE_END);
 }
 
+const A_SPLIT_WITHOUT_BLOCK: [Row; 1] = [(0, Begin(Call::SplitTo(1, 2), true))];
+
 #[test]
-fn a_slice(rt: HostRuntime) -> Result<(), Fail> {
-    lockstep(
-        &rt,
-        &[
-            &FOUR,
-            &[
-                (0, Begin(Call::Slice(0, 1, 3), true)),
-                (0, Go(true)),
-                (0, Go(true)),
-            ],
-        ],
-    )
+fn a_split_without_block(rt: HostRuntime) {
+    lockstep(&rt, &FOUR, &A_SPLIT_WITHOUT_BLOCK);
+}
+
+const A_SPLIT_OF_A_SHARED_VIEW: [Row; 1] = [(0, Begin(Call::SplitTo(0, 2), true))];
+
+#[test]
+fn a_split_of_a_shared_view(rt: HostRuntime) {
+    lockstep(&rt, &SHARED, &A_SPLIT_OF_A_SHARED_VIEW);
+}
+
+const A_FIFTH_STATIC_VIEW: [Row; 1] = [(0, Begin(Call::Static(3), true))];
+
+#[test]
+fn a_fifth_static_view(rt: HostRuntime) {
+    lockstep(&rt, &FOUR, &A_FIFTH_STATIC_VIEW);
+}
+
+const AN_EMPTY_SLICE: [Row; 1] = [(0, Begin(Call::Slice(0, 2, 2), true))];
+
+#[test]
+fn an_empty_slice(rt: HostRuntime) {
+    lockstep(&rt, &FOUR, &AN_EMPTY_SLICE);
+}
+
+const A_CLONE_OF_A_SHARED_VIEW: [Row; 2] = [(0, Begin(Call::Clone(0), true)), (0, Go(true))];
+
+#[test]
+fn a_clone_of_a_shared_view(rt: HostRuntime) {
+    lockstep(&rt, &SHARED, &A_CLONE_OF_A_SHARED_VIEW);
+}
+
+const A_CLONE: [Row; 3] = [
+    (0, Begin(Call::Clone(0), true)),
+    (0, Go(true)),
+    (0, Go(true)),
+];
+
+#[test]
+fn a_clone(rt: HostRuntime) {
+    lockstep(&rt, &FOUR, &A_CLONE);
+}
+
+const A_CLONE_WITHOUT_BLOCK: [Row; 1] = [(0, Begin(Call::Clone(1), true))];
+
+#[test]
+fn a_clone_without_block(rt: HostRuntime) {
+    lockstep(&rt, &FOUR, &A_CLONE_WITHOUT_BLOCK);
+}
+
+const A_SLICE: [Row; 3] = [
+    (0, Begin(Call::Slice(0, 1, 3), true)),
+    (0, Go(true)),
+    (0, Go(true)),
+];
+
+#[test]
+fn a_slice(rt: HostRuntime) {
+    lockstep(&rt, &FOUR, &A_SLICE);
 }
 
 // Two promotions of which one is late, and frees its record. The drops free the other and the block.
+const TWO_CLONES_AND_THREE_DROPS: [Row; 13] = [
+    (0, Begin(Call::Clone(0), true)),
+    (1, Begin(Call::Clone(0), true)),
+    (0, Go(true)),
+    (1, Go(true)),
+    (1, Go(true)),
+    (0, Go(true)),
+    (0, Go(true)),
+    (2, Begin(Call::Drop(0), true)),
+    (2, Go(true)),
+    (1, Begin(Call::Drop(4), true)),
+    (1, Go(true)),
+    (0, Begin(Call::Drop(5), true)),
+    (0, Go(true)),
+];
+
 #[test]
-fn two_clones_and_three_drops(rt: HostRuntime) -> Result<(), Fail> {
-    lockstep(
-        &rt,
-        &[
-            &FOUR,
-            &[
-                (0, Begin(Call::Clone(0), true)),
-                (1, Begin(Call::Clone(0), true)),
-                (0, Go(true)),
-                (1, Go(true)),
-                (1, Go(true)),
-                (0, Go(true)),
-                (0, Go(true)),
-                (2, Begin(Call::Drop(0), true)),
-                (2, Go(true)),
-                (1, Begin(Call::Drop(4), true)),
-                (1, Go(true)),
-                (0, Begin(Call::Drop(5), true)),
-                (0, Go(true)),
-            ],
-        ],
-    )
+fn two_clones_and_three_drops(rt: HostRuntime) {
+    lockstep(&rt, &FOUR, &TWO_CLONES_AND_THREE_DROPS);
 }
 
-// A reservation that is refused leaves what the machine shows; each of its seven tables asks for room once.
+// Each of the seven tables is reserved once. A reservation that fails leaves what the machine shows.
 #[test]
-fn a_reservation(rt: HostRuntime) -> Result<(), Fail> {
+fn a_reservation(rt: HostRuntime) {
     let mut machine = fixture!(rt, new_machine(rt.alloc()));
     let ((), word) = lent!(
+        rt,
         machine.reserve(8, 8, 8),
         BufError::Memory,
         machine.handles().is_empty()
     );
-    say(&rt, word)
+    say(&rt, word);
 }

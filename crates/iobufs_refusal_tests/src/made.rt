@@ -9,7 +9,7 @@ pub const PIECES: [&'static [u8]; 9] = [
     b"ab", b"cd", b"ef", b"gh", b"ij", b"kl", b"mn", b"op", b"qr",
 ];
 
-// A part of this capacity with these bytes.
+// A writable buffer of this capacity with these bytes.
 pub fn part(alloc: Global, capacity: usize, bytes: &[u8]) -> Result<IoBufMut, BufError> {
     let mut part = IoBufMut::with_capacity(alloc, capacity)?;
     if part.remaining_mut() < bytes.len() {
@@ -19,7 +19,7 @@ pub fn part(alloc: Global, capacity: usize, bytes: &[u8]) -> Result<IoBufMut, Bu
     Ok(part)
 }
 
-// A writable buffer, frozen.
+// The same, frozen.
 pub fn native(alloc: Global, capacity: usize, bytes: &[u8]) -> Result<IoBuf, BufError> {
     part(alloc, capacity, bytes)?.freeze()
 }
@@ -29,7 +29,7 @@ pub fn twin_of(view: &IoBuf) -> Result<IoBuf, BufError> {
     Ok(view.clone()?)
 }
 
-// The first of the pieces as a text of static views.
+// The first of the chunks as static views.
 pub fn pieces(alloc: Global, count: usize) -> Result<IoBufs, BufError> {
     let mut text = IoBufs::default();
     for piece in PIECES.iter().take(count) {
@@ -38,7 +38,7 @@ pub fn pieces(alloc: Global, count: usize) -> Result<IoBufs, BufError> {
     Ok(text)
 }
 
-// A text of two native views of three bytes.
+// Two native views of three bytes.
 pub fn natives(alloc: Global) -> Result<IoBufs, BufError> {
     let mut text = IoBufs::from(native(alloc, 4, b"abc")?);
     append(alloc, &mut text, native(alloc, 4, b"def")?)?;
@@ -49,7 +49,7 @@ pub fn append(alloc: Global, text: &mut IoBufs, piece: IoBuf) -> Result<(), BufE
     Ok(text.append(alloc, piece)?)
 }
 
-// So many parts of capacity 4 with two bytes.
+// Writable buffers of capacity 4 with two bytes.
 pub fn parts(alloc: Global, count: usize) -> Result<Vec<IoBufMut>, BufError> {
     let mut parts = Vec::with_capacity(alloc, count)?;
     for piece in PIECES.iter().take(count) {
@@ -58,12 +58,12 @@ pub fn parts(alloc: Global, count: usize) -> Result<Vec<IoBufMut>, BufError> {
     Ok(parts)
 }
 
-// Writable buffers as one `IoBufsMut`.
+// The same, concatenated.
 pub fn strung(alloc: Global, count: usize) -> Result<IoBufsMut, BufError> {
     IoBufsMut::from_parts(alloc, parts(alloc, count)?.into_iter())
 }
 
-// Whether a text has these pieces.
+// Whether these are the chunks.
 pub fn shows(text: &IoBufs, chunks: &[&[u8]]) -> bool {
     if text.chunk_count() != chunks.len() {
         return false;
@@ -76,7 +76,7 @@ pub fn shows(text: &IoBufs, chunks: &[&[u8]]) -> bool {
     true
 }
 
-// Whether a text has the first of the pieces.
+// Whether these are the first of the chunks.
 pub fn shows_pieces(text: &IoBufs, count: usize) -> bool {
     match PIECES.get(..count) {
         Some(chunks) => shows(text, chunks),
@@ -84,7 +84,7 @@ pub fn shows_pieces(text: &IoBufs, count: usize) -> bool {
     }
 }
 
-// Whether these are the parts, by their bytes and the room behind them.
+// Whether these are the buffers, by their bytes and their spare capacities.
 pub fn shows_parts(parts: &IoBufsMut, shown: &[(&[u8], usize)]) -> bool {
     if parts.part_count() != shown.len() {
         return false;
@@ -98,7 +98,7 @@ pub fn shows_parts(parts: &IoBufsMut, shown: &[(&[u8], usize)]) -> bool {
     true
 }
 
-// Whether a part has these bytes, and so much room behind them.
+// Whether a buffer has these bytes, and this spare capacity.
 pub fn shows_part(part: &IoBufMut, bytes: &[u8], spare: usize) -> bool {
     part.as_ref() == bytes && part.remaining_mut() == spare
 }

@@ -1,62 +1,54 @@
-// Calls of `IoBufsMut` that no line of the program says.
+// Calls of `IoBufsMut` that the program has no line for.
 use crate::made::{shows_part, shows_parts, strung};
-use crate::word::{Word, end, ensure, say};
+use crate::word::{Word, end, say};
 use iobufs::bufs_mut::IoBufsMut;
 use iobufs_core::codec::{Buf, BufError, BufMut};
 use std::alloc::Global;
-use std::test::Fail;
+use std::process::Abort;
 
-// What three of the parts show.
+// The bytes of three writable buffers, and their spare capacities.
 const THREE: [(&'static [u8], usize); 3] = [(b"ab", 2), (b"cd", 2), (b"ef", 2)];
 
-// How many of at most so many chunks there are.
+// The number of chunks, at most `max`.
 fn counted(alloc: Global, parts: &IoBufsMut, max: usize) -> Result<usize, BufError> {
     Ok(parts.chunks_vectored(alloc, max)?.len())
 }
 
 #[test]
-fn into_single(rt: HostRuntime) -> Result<(), Fail> {
+fn into_single(rt: HostRuntime) {
     let parts = fixture!(rt, strung(rt.alloc(), 1));
-    let part = parts.try_into_single().ok().ok_or("several parts")?;
-    end(&rt, Word::Whole, shows_part(&part, b"ab", 2))
+    let part = parts.try_into_single().ok().expect(&rt, "one buffer");
+    end(&rt, Word::Whole, shows_part(&part, b"ab", 2));
 }
 
 #[test]
-fn chunks_vectored(rt: HostRuntime) -> Result<(), Fail> {
+fn chunks_vectored(rt: HostRuntime) {
     let parts = fixture!(rt, strung(rt.alloc(), 3));
     let (chunks, word) = lent!(
+        rt,
         counted(rt.alloc(), &parts, 2),
         BufError::Memory,
         shows_parts(&parts, &THREE)
     );
-    end(&rt, word, chunks == 2)
+    end(&rt, word, chunks == 2);
 }
 
 #[test]
-fn what_asks_for_nothing(rt: HostRuntime) -> Result<(), Fail> {
+fn calls_that_allocate_nothing(rt: HostRuntime) {
     let mut parts = fixture!(rt, strung(rt.alloc(), 3));
-    if parts.remaining() < 3 || parts.remaining_mut() < 3 {
-        return Err(Fail::new("too short"));
-    }
+    assert!(rt;
+        parts.remaining() >= 3 && parts.remaining_mut() >= 3,
+        "too short"
+    );
     parts.put_slice(b"xyz");
     let mut two = [0; 2];
-    let read = parts.try_copy_to_slice(&mut two).is_ok();
-    if parts.remaining() < 1 {
-        return Err(Fail::new("too short"));
-    }
+    assert!(rt; parts.try_copy_to_slice(&mut two).is_ok(), "too short");
+    assert!(rt; parts.remaining() >= 1, "too short");
     parts.advance(1);
-    if parts.capacity() < 2 {
-        return Err(Fail::new("too short"));
-    }
+    assert!(rt; parts.capacity() >= 2, "too short");
     parts.set_len(2);
-    if parts.len() != 2 {
-        return Err(Fail::new("another length"));
-    }
+    assert!(rt; parts.len() == 2, "another length");
     parts.copy_from_slice(b"uv");
     let rest = parts.byte_at(0) == Some(b'u') && parts.byte_at(1) == Some(b'v');
-    end(
-        &rt,
-        Word::Whole,
-        read && rest && two.as_slice() == b"ab".as_slice(),
-    )
+    end(&rt, Word::Whole, rest && two.as_slice() == b"ab".as_slice());
 }

@@ -1,11 +1,11 @@
-// A table of names, and a run of commands. `tests/sessions` have each command with each request refused.
+// A table of names, and a run of commands. `tests/sessions` have each command with each allocation failing.
 use crate::made::shows;
-use crate::word::{Word, end, ensure, say};
+use crate::word::{Word, end, say};
 use iobufs_core::codec::BufError;
 use iobufs_run::command::{Cmd, Kind, Piece, Refusal, Reply};
 use iobufs_run::table::{Slot, Table};
 use std::alloc::Global;
-use std::test::Fail;
+use std::process::Abort;
 
 const FREE: Reply = Reply::Refused(Refusal::WrongKind);
 
@@ -14,29 +14,37 @@ fn shown(table: &mut Table, target: usize) -> Reply {
 }
 
 #[test]
-fn new(rt: HostRuntime) -> Result<(), Fail> {
-    let (mut table, word) = lent!(Table::new(rt.alloc(), 6), BufError::Memory, true);
-    ensure(shown(&mut table, 0) == FREE, "a name is not free")?;
-    say(&rt, word)
+fn new(rt: HostRuntime) {
+    let (mut table, word) = lent!(rt, Table::new(rt.alloc(), 6), BufError::Memory, true);
+    end(&rt, word, shown(&mut table, 0) == FREE);
 }
 
-// Refused before the first command, a run changes no name.
+const STATICS: [Cmd; 2] = [
+    Cmd::Static {
+        dst: 0,
+        text: b"abc",
+    },
+    Cmd::Static {
+        dst: 1,
+        text: b"abc",
+    },
+];
+
+// A run whose first allocation fails changes no name.
 #[test]
-fn run(rt: HostRuntime) -> Result<(), Fail> {
-    let text = b"abc".as_slice();
-    let cmds = [Cmd::Static { dst: 0, text }, Cmd::Static { dst: 1, text }];
+fn run(rt: HostRuntime) {
     let mut table = fixture!(rt, Table::new(rt.alloc(), 6));
     let (replies, word) = lent!(
-        table.run(&cmds),
+        rt,
+        table.run(&STATICS),
         BufError::Memory,
         shown(&mut table, 0) == FREE
     );
     let done = [Reply::Done, Reply::Done];
-    ensure(replies.as_slice() == done.as_slice(), "other replies")?;
-    say(&rt, word)
+    end(&rt, word, replies.as_slice() == done.as_slice());
 }
 
-// Three views under the names 0 to 2, and of the first two of them a text under the name 3.
+// Three views under the names 0 to 2, and `IoBufs` of the first two of them under the name 3.
 fn filled(alloc: Global) -> Result<Table, BufError> {
     let mut table = Table::new(alloc, 4)?;
     let mut sources = Vec::with_capacity(alloc, 2)?;
@@ -78,7 +86,7 @@ fn is_piece(piece: &Piece, bytes: &[u8]) -> bool {
     piece.bytes.as_slice() == bytes && piece.spare == 0
 }
 
-// Whether this shows it.
+// Whether the reply shows it.
 fn is_told(reply: &Reply, target: usize) -> bool {
     match reply {
         Reply::Shown {
@@ -98,28 +106,25 @@ fn is_told(reply: &Reply, target: usize) -> bool {
     }
 }
 
-// Shows a name. Refused, it answers want of memory, and the name holds what it held.
-fn told(rt: &(impl Print + AllocGlobal), target: usize) -> Result<(), Fail> {
-    let Ok(mut table) = filled(rt.alloc()) else {
-        return say(rt, Word::Fixture);
-    };
+// Shows a name. If an allocation fails, the reply says so, and the name holds what it held.
+fn told(rt: &(impl Print + Abort + AllocGlobal), target: usize) {
+    let mut table = fixture!(*rt, filled(rt.alloc()));
     let mut word = Word::Whole;
     let mut reply = shown(&mut table, target);
     if reply == Reply::Refused(Refusal::Memory) {
-        ensure(stays(&table, target), "changed by a refusal")?;
+        assert!(rt; stays(&table, target), "changed by a failure");
         word = Word::Refused;
         reply = shown(&mut table, target);
     }
-    ensure(is_told(&reply, target), "another reply")?;
-    end(rt, word, stays(&table, target))
+    end(rt, word, is_told(&reply, target) && stays(&table, target));
 }
 
 #[test]
-fn a_view_is_shown(rt: HostRuntime) -> Result<(), Fail> {
-    told(&rt, 2)
+fn a_view_is_shown(rt: HostRuntime) {
+    told(&rt, 2);
 }
 
 #[test]
-fn a_text_of_two_pieces_is_shown(rt: HostRuntime) -> Result<(), Fail> {
-    told(&rt, 3)
+fn a_text_of_two_pieces_is_shown(rt: HostRuntime) {
+    told(&rt, 3);
 }

@@ -1,18 +1,19 @@
-// Calls of `IoBufs` that no line of the program says, and those that hand back what they were given.
+// Calls of `IoBufs` that the program has no line for, and those that hand back their argument.
 use crate::each::on_each;
-use crate::made::{PIECES, native, natives, part, pieces, shows, shows_pieces};
-use crate::word::{Word, end, ensure, say};
+use crate::given::Given;
+use crate::made::{PIECES, native, natives, pieces, shows, shows_pieces};
+use crate::word::{Word, end, say};
 use bytes::Bytes;
 use iobufs::bufs::IoBufs;
 use iobufs_core::buf::IoBuf;
 use iobufs_core::codec::{Buf, BufError, Error, OwnedBuf, OwnedBytes};
 use std::alloc::Global;
-use std::test::Fail;
+use std::process::Abort;
 
-// A text of so many of the pieces.
+// `IoBufs` of the first of the chunks, and how many.
 type Counted = (IoBufs, usize);
 
-// Texts of no piece, of one to four, and of eight.
+// Of no chunk, of one to four, and of eight.
 fn texts(alloc: Global) -> Result<Vec<Counted>, BufError> {
     let mut texts = Vec::with_capacity(alloc, 6)?;
     for count in [0, 1, 2, 3, 4, 8] {
@@ -25,7 +26,7 @@ fn is_counted(counted: &Counted) -> bool {
     shows_pieces(&counted.0, counted.1)
 }
 
-// The pieces of a text, without the first where that is skipped.
+// Whether a chunk comes first, and then `count` of the chunks.
 fn shows_behind(text: &IoBufs, first: &[u8], count: usize) -> bool {
     let mut behind = PIECES.iter().take(count);
     let mut is_same = text.chunk_at(0) == Some(first);
@@ -36,7 +37,7 @@ fn shows_behind(text: &IoBufs, first: &[u8], count: usize) -> bool {
 }
 
 #[test]
-fn appended(rt: HostRuntime) -> Result<(), Fail> {
+fn appended(rt: HostRuntime) {
     on_each(
         &rt,
         texts(rt.alloc()),
@@ -54,7 +55,7 @@ fn appended(rt: HostRuntime) -> Result<(), Fail> {
 }
 
 #[test]
-fn prepended(rt: HostRuntime) -> Result<(), Fail> {
+fn prepended(rt: HostRuntime) {
     on_each(
         &rt,
         texts(rt.alloc()),
@@ -72,51 +73,31 @@ fn prepended(rt: HostRuntime) -> Result<(), Fail> {
 }
 
 #[test]
-fn from_mut(rt: HostRuntime) -> Result<(), Fail> {
-    let (text, word) = consumed!(
-        rt, part(rt.alloc(), 8, b"abc") => buffer,
-        IoBufs::from_mut(buffer),
-        BufError::Memory
-    );
-    end(&rt, word, shows(&text, &[b"abc"]))
-}
-
-#[test]
-fn from_vec(rt: HostRuntime) -> Result<(), Fail> {
-    let (text, word) = consumed!(
-        rt, Vec::from_slice(rt.alloc(), b"abc") => bytes,
-        IoBufs::from_vec(bytes),
-        BufError::Memory
-    );
-    end(&rt, word, shows(&text, &[b"abc"]))
-}
-
-#[test]
-fn into_single(rt: HostRuntime) -> Result<(), Fail> {
+fn into_single(rt: HostRuntime) {
     let text = IoBufs::from(fixture!(rt, native(rt.alloc(), 8, b"abc")));
-    let view = text.try_into_single().ok().ok_or("several pieces")?;
-    end(&rt, Word::Whole, view.as_ref() == b"abc".as_slice())
+    let view = text.try_into_single().ok().expect(&rt, "one piece");
+    end(&rt, Word::Whole, view.as_ref() == b"abc".as_slice());
 }
 
-// How many of at most so many chunks there are.
+// The number of chunks, at most `max`.
 fn counted(alloc: Global, text: &IoBufs, max: usize) -> Result<usize, BufError> {
     Ok(text.chunks_vectored(alloc, max)?.len())
 }
 
 #[test]
-fn chunks(rt: HostRuntime) -> Result<(), Fail> {
+fn chunks(rt: HostRuntime) {
     let text = fixture!(rt, pieces(rt.alloc(), 4));
-    let (none, _) = lent!(counted(rt.alloc(), &text, 0), BufError::Memory, false);
-    ensure(none == 0, "chunks where none are wanted")?;
-    let (chunks, word) = lent!(
+    let (none, _) = lent!(rt, counted(rt.alloc(), &text, 0), BufError::Memory, false);
+    let (two, word) = lent!(
+        rt,
         counted(rt.alloc(), &text, 2),
         BufError::Memory,
         shows_pieces(&text, 4)
     );
-    end(&rt, word, chunks == 2)
+    end(&rt, word, none == 0 && two == 2);
 }
 
-// Two native pieces, and four static ones: what is taken lies within a piece, and across three of them.
+// Two native chunks, and four static ones: what is taken lies within a chunk, and across three of them.
 fn taken<T: OwnedBytes>(
     alloc: Global,
     text: &mut IoBufs,
@@ -141,96 +122,137 @@ fn is_cut(text: &IoBufs) -> bool {
     shows(text, &[b"abc", b"def"]) || shows_pieces(text, 4)
 }
 
-// Whether a text shows what is left of the one or the other behind so many bytes.
-fn shows_rest(text: &IoBufs, natives: &[&[u8]], pieces: &[&[u8]]) -> bool {
-    shows(text, natives) || shows(text, pieces)
+// A call on `IoBufs`.
+#[derive(Clone, Copy)]
+enum Call {
+    // Bytes after others, which are dropped.
+    TakeView(usize, usize),
+    TakeBytes(usize, usize),
+    ToVec,
+    Truncate(usize),
 }
 
-#[test]
-fn taken_as_views(rt: HostRuntime) -> Result<(), Fail> {
-    on_each(&rt, cut(rt.alloc()), is_cut, |text: &mut IoBufs| {
-        let part = taken::<IoBuf>(rt.alloc(), text, 0, 2)?;
-        let rest = shows_rest(text, &[b"c", b"def"], &[b"cd", b"ef", b"gh"]);
-        Ok(part.as_ref() == b"ab".as_slice() && rest)
+fn make_call(alloc: Global, text: &mut IoBufs, call: Call) -> Result<Given, BufError> {
+    match call {
+        Call::TakeView(skip, n) => Ok(Given::View(taken(alloc, text, skip, n)?)),
+        Call::TakeBytes(skip, n) => Ok(Given::Bytes(taken(alloc, text, skip, n)?)),
+        Call::ToVec => Ok(Given::List(text.to_vec(alloc)?)),
+        Call::Truncate(len) => {
+            text.truncate(alloc, len)?;
+            Ok(Given::Nothing)
+        }
+    }
+}
+
+// The bytes that a call gives, and the chunks that it leaves.
+type Expected = (&'static [u8], &'static [&'static [u8]]);
+
+// What the call gives and leaves of the two native chunks, and of the four static ones.
+fn on_cut(
+    rt: &(impl Print + Abort + AllocGlobal),
+    what: Call,
+    of_natives: Expected,
+    of_pieces: Expected,
+) {
+    let alloc = rt.alloc();
+    on_each(rt, cut(alloc), is_cut, |text: &mut IoBufs| {
+        let given = make_call(alloc, text, what)?;
+        Ok(
+            (given.shows(of_natives.0) && shows(text, of_natives.1))
+                || (given.shows(of_pieces.0) && shows(text, of_pieces.1)),
+        )
     })
 }
 
 #[test]
-fn taken_across_pieces_as_views(rt: HostRuntime) -> Result<(), Fail> {
-    on_each(&rt, cut(rt.alloc()), is_cut, |text: &mut IoBufs| {
-        let part = taken::<IoBuf>(rt.alloc(), text, 1, 4)?;
-        let rest = shows_rest(text, &[b"f"], &[b"f", b"gh"]);
-        Ok(part.as_ref() == b"bcde".as_slice() && rest)
-    })
+fn taken_as_views(rt: HostRuntime) {
+    on_cut(
+        &rt,
+        Call::TakeView(0, 2),
+        (b"ab", &[b"c", b"def"]),
+        (b"ab", &[b"cd", b"ef", b"gh"]),
+    );
 }
 
 #[test]
-fn taken_across_pieces_as_bytes(rt: HostRuntime) -> Result<(), Fail> {
-    on_each(&rt, cut(rt.alloc()), is_cut, |text: &mut IoBufs| {
-        let part = taken::<Bytes>(rt.alloc(), text, 1, 4)?;
-        let rest = shows_rest(text, &[b"f"], &[b"f", b"gh"]);
-        Ok(part.as_slice() == b"bcde".as_slice() && rest)
-    })
+fn taken_across_pieces_as_views(rt: HostRuntime) {
+    on_cut(
+        &rt,
+        Call::TakeView(1, 4),
+        (b"bcde", &[b"f"]),
+        (b"bcde", &[b"f", b"gh"]),
+    );
 }
 
 #[test]
-fn copied_to_a_list(rt: HostRuntime) -> Result<(), Fail> {
-    on_each(&rt, cut(rt.alloc()), is_cut, |text: &mut IoBufs| {
-        let copy = text.to_vec(rt.alloc())?;
-        Ok(copy.as_slice() == b"abcdef".as_slice() || copy.as_slice() == b"abcdefgh".as_slice())
-    })
+fn taken_across_pieces_as_bytes(rt: HostRuntime) {
+    on_cut(
+        &rt,
+        Call::TakeBytes(1, 4),
+        (b"bcde", &[b"f"]),
+        (b"bcde", &[b"f", b"gh"]),
+    );
 }
 
 #[test]
-fn truncated(rt: HostRuntime) -> Result<(), Fail> {
-    on_each(&rt, cut(rt.alloc()), is_cut, |text: &mut IoBufs| {
-        text.truncate(rt.alloc(), 4)?;
-        Ok(shows_rest(text, &[b"abc", b"d"], &[b"ab", b"cd"]))
-    })
+fn copied_to_a_list(rt: HostRuntime) {
+    on_cut(
+        &rt,
+        Call::ToVec,
+        (b"abcdef", &[b"abc", b"def"]),
+        (b"abcdefgh", &[b"ab", b"cd", b"ef", b"gh"]),
+    );
 }
 
 #[test]
-fn sliced(rt: HostRuntime) -> Result<(), Fail> {
+fn truncated(rt: HostRuntime) {
+    on_cut(
+        &rt,
+        Call::Truncate(4),
+        (b"", &[b"abc", b"d"]),
+        (b"", &[b"ab", b"cd"]),
+    );
+}
+
+#[test]
+fn sliced(rt: HostRuntime) {
     on_each(&rt, cut(rt.alloc()), is_cut, |text: &mut IoBufs| {
         if text.len() < 5 {
             return Err(BufError::TooLong);
         }
         let slice = text.slice(rt.alloc(), 1..5)?;
-        let is_whole = shows(text, &[b"abc", b"def"]) || shows_pieces(text, 4);
-        Ok(is_whole && shows_rest(&slice, &[b"bc", b"de"], &[b"b", b"cd", b"e"]))
+        let is_right = shows(&slice, &[b"bc", b"de"]) || shows(&slice, &[b"b", b"cd", b"e"]);
+        Ok(is_right && is_cut(text))
     })
 }
 
 #[test]
-fn tried_to_take(rt: HostRuntime) -> Result<(), Fail> {
+fn tried_to_take(rt: HostRuntime) {
     let mut text = fixture!(rt, pieces(rt.alloc(), 4));
     let (part, word) = lent!(
+        rt,
         text.try_take_owned::<IoBuf>(rt.alloc(), 3),
         Error::Memory,
         shows_pieces(&text, 4)
     );
-    let rest = shows(&text, &[b"d", b"ef", b"gh"]);
-    end(&rt, word, part.as_ref() == b"abc".as_slice() && rest)
+    let is_abc = part.as_ref() == b"abc".as_slice();
+    end(&rt, word, is_abc && shows(&text, &[b"d", b"ef", b"gh"]));
 }
 
 #[test]
-fn what_asks_for_nothing(rt: HostRuntime) -> Result<(), Fail> {
+fn calls_that_allocate_nothing(rt: HostRuntime) {
     let mut text = fixture!(rt, pieces(rt.alloc(), 4));
     let mut three = [0; 3];
-    let read = text.try_copy_to_slice(&mut three).is_ok();
-    if text.remaining() < 3 {
-        return Err(Fail::new("too short"));
-    }
+    assert!(rt; text.try_copy_to_slice(&mut three).is_ok(), "too short");
+    assert!(rt; text.remaining() >= 3, "too short");
     text.copy_to_slice(&mut three);
-    if text.remaining() < 1 {
-        return Err(Fail::new("too short"));
-    }
+    assert!(rt; text.remaining() >= 1, "too short");
     text.advance(1);
+    let is_def = three.as_slice() == b"def".as_slice();
     let rest = shows(&text, &[b"h"]) && IoBufs::default().is_empty();
-    let single = shows(&IoBufs::from(b"ab".as_slice()), &[b"ab"]);
     end(
         &rt,
         Word::Whole,
-        read && rest && single && three.as_slice() == b"def".as_slice(),
-    )
+        is_def && rest && shows(&IoBufs::from(b"ab".as_slice()), &[b"ab"]),
+    );
 }

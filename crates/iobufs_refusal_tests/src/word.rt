@@ -1,15 +1,15 @@
 // What a test prints.
 use std::fmt;
-use std::test::Fail;
+use std::process::Abort;
 
-// Which request for memory was refused.
+// Which allocation failed.
 #[derive(Clone, Copy)]
 pub enum Word {
     // One of the fixture's.
     Fixture,
     // One of the call's.
     Refused,
-    // None of both.
+    // Neither.
     Whole,
 }
 
@@ -23,17 +23,12 @@ impl fmt::Display for Word {
     }
 }
 
-pub fn say(rt: &impl Print, word: Word) -> Result<(), Fail> {
-    println!(rt; "{word}")?;
-    Ok(())
-}
-
-pub fn ensure(holds: bool, fault: &'static str) -> Result<(), Fail> {
-    if holds { Ok(()) } else { Err(Fail::new(fault)) }
+pub fn say(rt: &(impl Print + Abort), word: Word) {
+    println!(rt; "{word}").expect(rt, "the word is printed");
 }
 
 // The word, if the call gave what it should.
-pub fn end(rt: &impl Print, word: Word, holds: bool) -> Result<(), Fail> {
-    ensure(holds, "another answer")?;
-    say(rt, word)
+pub fn end(rt: &(impl Print + Abort), word: Word, holds: bool) {
+    assert!(rt; holds, "another answer");
+    say(rt, word);
 }

@@ -1,10 +1,11 @@
-// Texts of frames, and where they are cut.
+// Worked texts of frames, in chunks of every length.
+use crate::make::{cut, text};
 use crate::same::assert_same;
 use iobufs::bufs::IoBufs;
 use iobufs_core::buf::IoBuf;
-use iobufs_core::codec::{Buf, Error, RangeCfg};
-use iobufs_frames::{ByteOrder, End, Frames, Prefix, Run, Width, framed_with};
-use std::alloc::Global;
+use iobufs_core::codec::{BufError, Error, RangeCfg};
+use iobufs_frames::{ByteOrder, End, Frames, Prefix, Width, framed_with};
+use std::alloc::{AllocError, Global};
 use std::process::Abort;
 use std::test::Fail;
 
@@ -12,327 +13,460 @@ const ANY: RangeCfg = RangeCfg { lo: 0, hi: 1024 };
 
 const SHORT: RangeCfg = RangeCfg { lo: 0, hi: 2 };
 
-// Two frames, and behind them bytes that spell no length.
-const TEXT: &[u8] = b"\x02ab\x03cde\x84\x00";
+const LONG: RangeCfg = RangeCfg { lo: 0, hi: 5000 };
 
-fn views(alloc: Global, pieces: &[&'static [u8]]) -> Result<Vec<IoBuf>, Fail> {
-    let mut views = Vec::with_capacity(alloc, pieces.len())?;
-    for piece in pieces {
-        views.push(IoBuf::from(*piece))?;
+const BIG_16: Prefix = Prefix::Fixed(Width::U16, ByteOrder::Big);
+
+const LITTLE_16: Prefix = Prefix::Fixed(Width::U16, ByteOrder::Little);
+
+const BIG_32: Prefix = Prefix::Fixed(Width::U32, ByteOrder::Big);
+
+const LITTLE_32: Prefix = Prefix::Fixed(Width::U32, ByteOrder::Little);
+
+const BIG_64: Prefix = Prefix::Fixed(Width::U64, ByteOrder::Big);
+
+const LITTLE_64: Prefix = Prefix::Fixed(Width::U64, ByteOrder::Little);
+
+// How frames are taken out of their chunks.
+#[derive(Clone, Copy, Debug)]
+enum Way {
+    // All at once, behind varints.
+    Run,
+    // All at once, by their prefix.
+    RunWith,
+    // One by one as chunks are fed, behind varints.
+    Next,
+    // One by one as chunks are fed, by their prefix.
+    NextWith,
+}
+
+// What is fed, the bodies with `|` after each and then the rest, and why there is no further frame.
+#[derive(Clone, Copy)]
+struct Case {
+    name: &'static str,
+    prefix: Prefix,
+    range: RangeCfg,
+    chunks: &'static [&'static [u8]],
+    found: &'static [u8],
+    end: End,
+}
+
+const CASES: [Case; 14] = [
+    Case {
+        name: "no chunk",
+        prefix: Prefix::Spelled,
+        range: ANY,
+        chunks: &[],
+        found: b"",
+        end: End::Open,
+    },
+    Case {
+        name: "two empty frames",
+        prefix: Prefix::Spelled,
+        range: ANY,
+        chunks: &[b"\0\0"],
+        found: b"||",
+        end: End::Open,
+    },
+    Case {
+        name: "frames across chunks, and then no length",
+        prefix: Prefix::Spelled,
+        range: ANY,
+        chunks: &[b"\x02", b"ab\x03", b"c", b"de\x84", b"\x00"],
+        found: b"ab|cde|\x84\x00",
+        end: End::Bad(Error::InvalidVarint),
+    },
+    Case {
+        name: "the same in one chunk",
+        prefix: Prefix::Spelled,
+        range: ANY,
+        chunks: &[b"\x02ab\x03cde\x84\x00"],
+        found: b"ab|cde|\x84\x00",
+        end: End::Bad(Error::InvalidVarint),
+    },
+    Case {
+        name: "a length outside the range",
+        prefix: Prefix::Spelled,
+        range: SHORT,
+        chunks: &[b"\x02ab\x03cde\x84\x00"],
+        found: b"ab|\x03cde\x84\x00",
+        end: End::Bad(Error::InvalidLength(3)),
+    },
+    Case {
+        name: "a length that goes on",
+        prefix: Prefix::Spelled,
+        range: ANY,
+        chunks: &[b"\x02a", b"b\x84"],
+        found: b"ab|\x84",
+        end: End::Open,
+    },
+    Case {
+        name: "an open frame",
+        prefix: Prefix::Spelled,
+        range: ANY,
+        chunks: &[b"\x01a\x02b"],
+        found: b"a|\x02b",
+        end: End::Open,
+    },
+    Case {
+        name: "an open frame that becomes whole",
+        prefix: Prefix::Spelled,
+        range: ANY,
+        chunks: &[b"\x01a\x02b", b"c"],
+        found: b"a|bc|",
+        end: End::Open,
+    },
+    Case {
+        name: "a u16 outside the range after a frame",
+        prefix: BIG_16,
+        range: SHORT,
+        chunks: &[b"\0\x02a", b"b\0\x03", b"cde"],
+        found: b"ab|\0\x03cde",
+        end: End::Bad(Error::InvalidLength(3)),
+    },
+    Case {
+        name: "an open u32 after a frame",
+        prefix: LITTLE_32,
+        range: ANY,
+        chunks: &[b"\x01\0\0\0a\x01\0", b"\0"],
+        found: b"a|\x01\0\0",
+        end: End::Open,
+    },
+    Case {
+        name: "a u16 outside the range after an empty frame",
+        prefix: BIG_16,
+        range: SHORT,
+        chunks: &[b"\0\0\x02\x01", b"aaa"],
+        found: b"|\x02\x01aaa",
+        end: End::Bad(Error::InvalidLength(513)),
+    },
+    Case {
+        name: "a u16 outside the range, big",
+        prefix: BIG_16,
+        range: SHORT,
+        chunks: &[b"\x01\x02ab"],
+        found: b"\x01\x02ab",
+        end: End::Bad(Error::InvalidLength(258)),
+    },
+    Case {
+        name: "a u16 outside the range, little",
+        prefix: LITTLE_16,
+        range: SHORT,
+        chunks: &[b"\x01\x02ab"],
+        found: b"\x01\x02ab",
+        end: End::Bad(Error::InvalidLength(513)),
+    },
+    Case {
+        name: "an open u16",
+        prefix: BIG_16,
+        range: ANY,
+        chunks: &[b"\x01\x02ab"],
+        found: b"\x01\x02ab",
+        end: End::Open,
+    },
+];
+
+// Frames that are cut in every way into three chunks.
+const CUT: [Case; 8] = [
+    Case {
+        name: "frames, and then no length",
+        prefix: Prefix::Spelled,
+        range: ANY,
+        chunks: &[b"\x02ab\x03cde\x84\x00"],
+        found: b"ab|cde|\x84\x00",
+        end: End::Bad(Error::InvalidVarint),
+    },
+    Case {
+        name: "two frames behind varints",
+        prefix: Prefix::Spelled,
+        range: ANY,
+        chunks: &[b"\x02ab\x03cde"],
+        found: b"ab|cde|",
+        end: End::Open,
+    },
+    Case {
+        name: "u16, big",
+        prefix: BIG_16,
+        range: ANY,
+        chunks: &[b"\0\x02ab\0\x03cde"],
+        found: b"ab|cde|",
+        end: End::Open,
+    },
+    Case {
+        name: "u16, little",
+        prefix: LITTLE_16,
+        range: ANY,
+        chunks: &[b"\x02\0ab\x03\0cde"],
+        found: b"ab|cde|",
+        end: End::Open,
+    },
+    Case {
+        name: "u32, big",
+        prefix: BIG_32,
+        range: ANY,
+        chunks: &[b"\0\0\0\x02ab\0\0\0\x03cde"],
+        found: b"ab|cde|",
+        end: End::Open,
+    },
+    Case {
+        name: "u32, little",
+        prefix: LITTLE_32,
+        range: ANY,
+        chunks: &[b"\x02\0\0\0ab\x03\0\0\0cde"],
+        found: b"ab|cde|",
+        end: End::Open,
+    },
+    Case {
+        name: "u64, big",
+        prefix: BIG_64,
+        range: ANY,
+        chunks: &[b"\0\0\0\0\0\0\0\x02ab\0\0\0\0\0\0\0\x03cde"],
+        found: b"ab|cde|",
+        end: End::Open,
+    },
+    Case {
+        name: "u64, little",
+        prefix: LITTLE_64,
+        range: ANY,
+        chunks: &[b"\x02\0\0\0\0\0\0\0ab\x03\0\0\0\0\0\0\0cde"],
+        found: b"ab|cde|",
+        end: End::Open,
+    },
+];
+
+// Puts a body there, and `|` after it.
+fn push_body(found: &mut Vec<u8>, body: &IoBuf) -> Result<(), AllocError> {
+    found.extend_from_slice(body.as_ref())?;
+    found.push(b'|')?;
+    Ok(())
+}
+
+fn views(alloc: Global, chunks: &[&'static [u8]]) -> Result<Vec<IoBuf>, AllocError> {
+    let mut views = Vec::with_capacity(alloc, chunks.len())?;
+    for chunk in chunks {
+        views.push(IoBuf::from(*chunk))?;
     }
     Ok(views)
 }
 
-// The run has these frames, this end and this rest.
-fn assert_run(rt: &impl Abort, run: &Run, frames: &[&[u8]], stop: End, rest: &[u8], at: usize) {
-    assert_same!(rt; run.frames.len(), frames.len(), "at {at}");
-    for (found, wanted) in run.frames.iter().zip(frames) {
-        assert_same!(rt; found.as_ref(), *wanted, "at {at}");
+// Takes all frames at once.
+fn run(
+    alloc: Global,
+    way: Way,
+    case: &Case,
+    chunks: &[&'static [u8]],
+    found: &mut Vec<u8>,
+) -> Result<End, BufError> {
+    let views = views(alloc, chunks)?;
+    let run = match way {
+        Way::Run => Frames::run(alloc, views, &case.range)?,
+        _ => Frames::run_with(alloc, case.prefix, views, &case.range)?,
+    };
+    for body in run.frames.iter() {
+        push_body(found, body)?;
     }
-    assert_same!(rt; run.stop, stop, "at {at}");
-    assert_same!(rt; run.rest.len(), rest.len(), "at {at}");
-    for (i, byte) in rest.iter().enumerate() {
-        assert_same!(rt; run.rest.byte_at(i), Some(*byte), "at {at}");
-    }
+    found.extend_from_slice(run.rest.to_vec(alloc)?.as_slice())?;
+    Ok(run.stop)
 }
 
-// A text in pieces has these frames, this end and this rest.
-fn assert_frames(
+// Takes the frames that are whole.
+fn take_whole(
+    alloc: Global,
+    way: Way,
+    case: &Case,
+    frames: &mut Frames,
+    found: &mut Vec<u8>,
+) -> Result<End, AllocError> {
+    for _ in 0..9 {
+        let next = match way {
+            Way::Next => frames.next(alloc, &case.range),
+            _ => frames.next_with(alloc, case.prefix, &case.range),
+        };
+        match next {
+            Ok(Some(body)) => push_body(found, &body)?,
+            Ok(None) => return Ok(End::Open),
+            Err(error) => return Ok(End::Bad(error)),
+        }
+    }
+    Ok(End::Bad(Error::TooLong))
+}
+
+// Takes frames as chunks are fed.
+fn feed(
+    alloc: Global,
+    way: Way,
+    case: &Case,
+    chunks: &[&'static [u8]],
+    found: &mut Vec<u8>,
+) -> Result<End, BufError> {
+    let mut frames = Frames::default();
+    let mut end = End::Open;
+    for chunk in chunks {
+        frames.feed(alloc, IoBuf::from(*chunk))?;
+        end = take_whole(alloc, way, case, &mut frames, found)?;
+    }
+    found.extend_from_slice(frames.rest().to_vec(alloc)?.as_slice())?;
+    Ok(end)
+}
+
+fn assert_way(
     rt: &(impl Abort + AllocGlobal),
-    pieces: &[&'static [u8]],
-    range: &RangeCfg,
-    frames: &[&[u8]],
-    stop: End,
-    rest: &[u8],
-) -> Result<(), Fail> {
-    let run = Frames::run(rt.alloc(), views(rt.alloc(), pieces)?, range)?;
-    assert_run(rt, &run, frames, stop, rest, 0);
+    way: Way,
+    case: &Case,
+    chunks: &[&'static [u8]],
+) -> Result<(), BufError> {
+    let mut found = Vec::new(rt.alloc());
+    let end = match way {
+        Way::Run | Way::RunWith => run(rt.alloc(), way, case, chunks, &mut found)?,
+        Way::Next | Way::NextWith => feed(rt.alloc(), way, case, chunks, &mut found)?,
+    };
+    assert_same!(rt; (found.as_slice(), end), (case.found, case.end), "{} by {way:?}: {chunks:?}", case.name);
+    Ok(())
+}
+
+// Takes the frames in each way that fits the prefix.
+fn assert_case(
+    rt: &(impl Abort + AllocGlobal),
+    case: &Case,
+    chunks: &[&'static [u8]],
+) -> Result<(), BufError> {
+    let ways: &[Way] = match case.prefix {
+        Prefix::Spelled => &[Way::RunWith, Way::NextWith, Way::Run, Way::Next],
+        Prefix::Fixed(_, _) => &[Way::RunWith, Way::NextWith],
+    };
+    for way in ways {
+        assert_way(rt, *way, case, chunks)?;
+    }
     Ok(())
 }
 
 #[test]
-fn no_piece(rt: HostRuntime) -> Result<(), Fail> {
-    assert_frames(&rt, &[], &ANY, &[], End::Open, b"")
+fn frames(rt: HostRuntime) -> Result<(), Fail> {
+    for case in &CASES {
+        assert_case(&rt, case, case.chunks)?;
+    }
+    Ok(())
 }
 
-#[test]
-fn two_empty_frames(rt: HostRuntime) -> Result<(), Fail> {
-    assert_frames(&rt, &[b"\0\0"], &ANY, &[b"", b""], End::Open, b"")
-}
-
-#[test]
-fn frames_that_lie_across_pieces(rt: HostRuntime) -> Result<(), Fail> {
-    let pieces = [b"\x02".as_slice(), b"ab\x03", b"c", b"de\x84", b"\x00"];
-    let bad = End::Bad(Error::InvalidVarint);
-    assert_frames(&rt, &pieces, &ANY, &[b"ab", b"cde"], bad, b"\x84\x00")
-}
-
-#[test]
-fn the_same_in_one_piece(rt: HostRuntime) -> Result<(), Fail> {
-    let bad = End::Bad(Error::InvalidVarint);
-    assert_frames(&rt, &[TEXT], &ANY, &[b"ab", b"cde"], bad, b"\x84\x00")
-}
-
-#[test]
-fn a_length_outside_the_range(rt: HostRuntime) -> Result<(), Fail> {
-    let bad = End::Bad(Error::InvalidLength(3));
-    assert_frames(&rt, &[TEXT], &SHORT, &[b"ab"], bad, b"\x03cde\x84\x00")
-}
-
-#[test]
-fn a_length_that_goes_on(rt: HostRuntime) -> Result<(), Fail> {
-    let pieces = [b"\x02a".as_slice(), b"b\x84"];
-    assert_frames(&rt, &pieces, &ANY, &[b"ab"], End::Open, b"\x84")
-}
-
-#[test]
-fn every_cut_into_two_and_three_pieces(rt: HostRuntime) -> Result<(), Fail> {
-    let bad = End::Bad(Error::InvalidVarint);
-    for first in 0..TEXT.len() + 1 {
-        for second in first..TEXT.len() + 1 {
-            let pieces = [&TEXT[..first], &TEXT[first..second], &TEXT[second..]];
-            let run = Frames::run(rt.alloc(), views(rt.alloc(), &pieces)?, &ANY)?;
-            let at = first * 100 + second;
-            assert_run(&rt, &run, &[b"ab", b"cde"], bad, b"\x84\x00", at);
+fn assert_cuts(
+    rt: &(impl Abort + AllocGlobal),
+    case: &Case,
+    bytes: &'static [u8],
+) -> Result<(), BufError> {
+    for first in 0..bytes.len() + 1 {
+        for second in first..bytes.len() + 1 {
+            assert_case(rt, case, &cut(bytes, first, second))?;
         }
     }
     Ok(())
 }
 
-// Frames are there one by one, and what is open is there when it is whole.
 #[test]
-fn frame_by_frame(rt: HostRuntime) -> Result<(), Fail> {
-    let alloc = rt.alloc();
-    let mut frames = Frames::default();
-    assert!(rt;
-        frames
-            .feed(alloc, IoBuf::from(b"\x01a\x02b".as_slice()))
-            .is_ok()
-    );
-    match frames.next(alloc, &ANY)? {
-        Some(body) => assert_same!(rt; body.as_ref(), b"a".as_slice()),
-        None => return Err(Fail::new("no frame")),
+fn frames_cut_in_every_way(rt: HostRuntime) -> Result<(), Fail> {
+    for case in &CUT {
+        for bytes in case.chunks {
+            assert_cuts(&rt, case, bytes)?;
+        }
     }
-    assert!(rt; frames.next(alloc, &ANY)?.is_none());
-    assert_same!(rt; frames.rest().len(), 2);
-    assert!(rt; frames.feed(alloc, IoBuf::from(b"c".as_slice())).is_ok());
-    match frames.next(alloc, &ANY)? {
-        Some(body) => assert_same!(rt; body.as_ref(), b"bc".as_slice()),
-        None => return Err(Fail::new("no frame")),
-    }
-    assert!(rt; frames.rest().is_empty());
     Ok(())
 }
 
-// Two frames as each kind of length writes them.
-const KINDS: [(Prefix, &'static [u8]); 7] = [
+// `ab` and `cde`, as each prefix writes them.
+const WRITTEN: [(Prefix, &'static [u8]); 7] = [
     (Prefix::Spelled, b"\x02ab\x03cde"),
-    (
-        Prefix::Fixed(Width::U16, ByteOrder::Big),
-        b"\0\x02ab\0\x03cde",
-    ),
-    (
-        Prefix::Fixed(Width::U16, ByteOrder::Little),
-        b"\x02\0ab\x03\0cde",
-    ),
-    (
-        Prefix::Fixed(Width::U32, ByteOrder::Big),
-        b"\0\0\0\x02ab\0\0\0\x03cde",
-    ),
-    (
-        Prefix::Fixed(Width::U32, ByteOrder::Little),
-        b"\x02\0\0\0ab\x03\0\0\0cde",
-    ),
-    (
-        Prefix::Fixed(Width::U64, ByteOrder::Big),
-        b"\0\0\0\0\0\0\0\x02ab\0\0\0\0\0\0\0\x03cde",
-    ),
-    (
-        Prefix::Fixed(Width::U64, ByteOrder::Little),
-        b"\x02\0\0\0\0\0\0\0ab\x03\0\0\0\0\0\0\0cde",
-    ),
+    (BIG_16, b"\0\x02ab\0\x03cde"),
+    (LITTLE_16, b"\x02\0ab\x03\0cde"),
+    (BIG_32, b"\0\0\0\x02ab\0\0\0\x03cde"),
+    (LITTLE_32, b"\x02\0\0\0ab\x03\0\0\0cde"),
+    (BIG_64, b"\0\0\0\0\0\0\0\x02ab\0\0\0\0\0\0\0\x03cde"),
+    (LITTLE_64, b"\x02\0\0\0\0\0\0\0ab\x03\0\0\0\0\0\0\0cde"),
 ];
 
-// Feeds a piece, and puts the frames that are then whole behind others, each with `|` behind it.
-fn feed_with(
+// Puts the frame of a body there.
+fn push_frame(
     alloc: Global,
     prefix: Prefix,
-    frames: &mut Frames,
-    piece: &'static [u8],
-    shown: &mut Vec<u8>,
-) -> Result<(), Fail> {
-    if frames.feed(alloc, IoBuf::from(piece)).is_err() {
-        return Err(Fail::new("refused"));
-    }
-    for _ in 0..3 {
-        let Some(body) = frames.next_with(alloc, prefix, &ANY)? else {
-            return Ok(());
-        };
-        shown.extend_from_slice(body.as_ref())?;
-        shown.push(b'|')?;
-    }
-    Err(Fail::new("too many frames"))
-}
-
-#[test]
-fn each_kind_of_length_in_every_cut(rt: HostRuntime) -> Result<(), Fail> {
-    let alloc = rt.alloc();
-    for (prefix, text) in KINDS {
-        for at in 0..text.len() + 1 {
-            let mut frames = Frames::default();
-            let mut shown = Vec::new(alloc);
-            for piece in [text.get(..at), text.get(at..)] {
-                let piece = piece.ok_or("out of range")?;
-                feed_with(alloc, prefix, &mut frames, piece, &mut shown)?;
-            }
-            assert_same!(rt; shown.as_slice(), b"ab|cde|".as_slice(), "at {at}");
-            assert!(rt; frames.rest().is_empty());
-        }
-    }
+    body: IoBufs,
+    written: &mut Vec<u8>,
+) -> Result<(), BufError> {
+    let frame = framed_with(alloc, prefix, body)?;
+    written.extend_from_slice(frame.to_vec(alloc)?.as_slice())?;
     Ok(())
 }
 
 #[test]
-fn a_run_of_each_kind_of_length_in_every_cut(rt: HostRuntime) -> Result<(), Fail> {
-    let alloc = rt.alloc();
-    for (prefix, text) in KINDS {
-        for at in 0..text.len() + 1 {
-            let front = text.get(..at).ok_or("out of range")?;
-            let back = text.get(at..).ok_or("out of range")?;
-            let pieces = views(alloc, &[front, back])?;
-            let run = Frames::run_with(alloc, prefix, pieces, &ANY)?;
-            assert_run(&rt, &run, &[b"ab", b"cde"], End::Open, b"", at);
-        }
+fn frames_are_written(rt: HostRuntime) -> Result<(), Fail> {
+    for (prefix, wanted) in WRITTEN {
+        let mut written = Vec::new(rt.alloc());
+        push_frame(
+            rt.alloc(),
+            prefix,
+            text(rt.alloc(), &[b"ab"])?,
+            &mut written,
+        )?;
+        push_frame(
+            rt.alloc(),
+            prefix,
+            text(rt.alloc(), &[b"cde"])?,
+            &mut written,
+        )?;
+        assert_same!(rt; written.as_slice(), wanted, "{prefix:?}");
     }
     Ok(())
 }
 
-// Runs of lengths of two and four bytes, with their frames, their ends and their rests.
-#[test]
-fn runs_of_fixed_lengths_and_their_ends(rt: HostRuntime) -> Result<(), Fail> {
-    let alloc = rt.alloc();
-    let big = Prefix::Fixed(Width::U16, ByteOrder::Big);
-    let little = Prefix::Fixed(Width::U32, ByteOrder::Little);
-    let bad = End::Bad(Error::InvalidLength(3));
-    let pieces = [b"\0\x02a".as_slice(), b"b\0\x03", b"cde"];
-    let run = Frames::run_with(alloc, big, views(alloc, &pieces)?, &SHORT)?;
-    assert_run(&rt, &run, &[b"ab"], bad, b"\0\x03cde", 0);
-    let pieces = [b"\x01\0\0\0a\x01\0".as_slice(), b"\0"];
-    let run = Frames::run_with(alloc, little, views(alloc, &pieces)?, &ANY)?;
-    assert_run(&rt, &run, &[b"a"], End::Open, b"\x01\0\0", 1);
-    let bad = End::Bad(Error::InvalidLength(513));
-    let pieces = [b"\0\0\x02\x01".as_slice(), b"aaa"];
-    let run = Frames::run_with(alloc, big, views(alloc, &pieces)?, &SHORT)?;
-    assert_run(&rt, &run, &[b""], bad, b"\x02\x01aaa", 2);
-    Ok(())
-}
-
-#[test]
-fn each_kind_of_length_is_written(rt: HostRuntime) -> Result<(), Fail> {
-    let alloc = rt.alloc();
-    for (prefix, text) in KINDS {
-        let mut written = Vec::new(alloc);
-        for body in [b"ab".as_slice(), b"cde"] {
-            let body = IoBufs::from(body);
-            let frame = framed_with(alloc, prefix, body).map_err(|refused| refused.cause)?;
-            written.extend_from_slice(frame.to_vec(alloc)?.as_slice())?;
-        }
-        assert_same!(rt; written.as_slice(), text);
-    }
-    Ok(())
-}
-
-// Lengths of long bodies, as each kind of length writes them.
-const LONG: [(Prefix, usize, &'static [u8]); 8] = [
+// Lengths as each prefix writes them, if it can.
+const LENGTHS: [(Prefix, usize, Option<&'static [u8]>); 10] = [
     (
         Prefix::Spelled,
         18446744073709551615,
-        b"\xff\xff\xff\xff\xff\xff\xff\xff\xff\x01",
+        Some(b"\xff\xff\xff\xff\xff\xff\xff\xff\xff\x01"),
     ),
-    (Prefix::Spelled, 16384, b"\x80\x80\x01"),
+    (Prefix::Spelled, 16384, Some(b"\x80\x80\x01")),
+    (Prefix::Spelled, 65536, Some(b"\x80\x80\x04")),
+    (BIG_16, 65535, Some(b"\xff\xff")),
+    (BIG_16, 65536, None),
+    (LITTLE_16, 258, Some(b"\x02\x01")),
+    (BIG_32, 4294967295, Some(b"\xff\xff\xff\xff")),
+    (LITTLE_32, 16909060, Some(b"\x04\x03\x02\x01")),
     (
-        Prefix::Fixed(Width::U16, ByteOrder::Big),
-        65535,
-        b"\xff\xff",
-    ),
-    (
-        Prefix::Fixed(Width::U16, ByteOrder::Little),
-        258,
-        b"\x02\x01",
-    ),
-    (
-        Prefix::Fixed(Width::U32, ByteOrder::Big),
-        4294967295,
-        b"\xff\xff\xff\xff",
-    ),
-    (
-        Prefix::Fixed(Width::U32, ByteOrder::Little),
-        16909060,
-        b"\x04\x03\x02\x01",
-    ),
-    (
-        Prefix::Fixed(Width::U64, ByteOrder::Big),
+        BIG_64,
         18446744073709551615,
-        b"\xff\xff\xff\xff\xff\xff\xff\xff",
+        Some(b"\xff\xff\xff\xff\xff\xff\xff\xff"),
     ),
-    (
-        Prefix::Fixed(Width::U64, ByteOrder::Little),
-        1099511627777,
-        b"\x01\0\0\0\0\x01\0\0",
-    ),
+    (LITTLE_64, 1099511627777, Some(b"\x01\0\0\0\0\x01\0\0")),
 ];
 
+// A length as it is written, if it can be.
+fn written(alloc: Global, prefix: Prefix, n: usize) -> Result<Option<IoBuf>, BufError> {
+    if !prefix.fits(n) {
+        return Ok(None);
+    }
+    Ok(Some(prefix.written(alloc, n)?))
+}
+
 #[test]
-fn lengths_of_long_bodies_are_written(rt: HostRuntime) -> Result<(), Fail> {
-    for (prefix, n, bytes) in LONG {
-        if !prefix.fits(n) {
-            return Err(Fail::new("doesn't fit"));
-        }
-        assert_same!(rt; prefix.written(rt.alloc(), n)?.as_ref(), bytes);
+fn lengths_are_written(rt: HostRuntime) -> Result<(), Fail> {
+    for (prefix, n, wanted) in LENGTHS {
+        let found = written(rt.alloc(), prefix, n)?;
+        let found = found.as_ref().map(|length| length.as_ref());
+        assert_same!(rt; found, wanted, "{n} as {prefix:?}");
     }
     Ok(())
 }
 
 #[test]
-fn a_long_body_comes_back_behind_each_kind_of_length(rt: HostRuntime) -> Result<(), Fail> {
+fn a_long_body_comes_back(rt: HostRuntime) -> Result<(), Fail> {
     let alloc = rt.alloc();
-    let range = RangeCfg { lo: 0, hi: 5000 };
-    for (prefix, _) in KINDS {
+    for (prefix, _) in WRITTEN {
         let body = IoBufs::from_vec(Vec::from_slice(alloc, &[7; 5000])?)?;
-        let text = framed_with(alloc, prefix, body).map_err(|refused| refused.cause)?;
+        let mut written = Vec::new(alloc);
+        push_frame(alloc, prefix, body, &mut written)?;
         let mut frames = Frames::default();
-        let frame = IoBuf::from_vec(text.to_vec(alloc)?)?;
-        assert!(rt; frames.feed(alloc, frame).is_ok());
-        let Some(body) = frames.next_with(alloc, prefix, &range)? else {
-            return Err(Fail::new("no frame"));
-        };
-        assert_same!(rt; body.as_ref(), [7; 5000].as_slice());
-        assert!(rt; frames.rest().is_empty());
+        frames.feed(alloc, IoBuf::from_vec(written)?)?;
+        let body = frames.next_with(alloc, prefix, &LONG)?.ok_or("no frame")?;
+        let found = (body.as_ref(), frames.rest().is_empty());
+        assert_same!(rt; found, ([7; 5000].as_slice(), true), "{prefix:?}");
     }
-    Ok(())
-}
-
-#[test]
-fn fixed_lengths_outside_the_range(rt: HostRuntime) -> Result<(), Fail> {
-    let alloc = rt.alloc();
-    let mut frames = Frames::default();
-    let big = Prefix::Fixed(Width::U16, ByteOrder::Big);
-    let little = Prefix::Fixed(Width::U16, ByteOrder::Little);
-    assert!(rt;
-        frames
-            .feed(alloc, IoBuf::from(b"\x01\x02ab".as_slice()))
-            .is_ok()
-    );
-    assert_same!(rt;
-        frames.next_with(alloc, big, &SHORT).err(),
-        Some(Error::InvalidLength(258))
-    );
-    assert_same!(rt;
-        frames.next_with(alloc, little, &SHORT).err(),
-        Some(Error::InvalidLength(513))
-    );
-    assert!(rt; frames.next_with(alloc, big, &ANY)?.is_none());
-    assert_same!(rt; frames.rest().len(), 4);
-    assert!(rt; big.fits(65535) && !big.fits(65536) && Prefix::Spelled.fits(65536));
     Ok(())
 }

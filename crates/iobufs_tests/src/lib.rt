@@ -1,7 +1,9 @@
-// What no contract says of the buffers and of frames: worked examples, calls that succeed, storage that is shared, and
-// lengths above the limits that a call might have.
+// What no contract says: worked examples, calls that succeed, storage that is shared, printed text, and lengths above the
+// limits that a call might have. `callers` tests the crates over the buffers, `owner` the owner machine.
 #![tactic(auto)]
 
+#[cfg(test)]
+mod callers;
 #[cfg(test)]
 mod frames;
 #[cfg(test)]
@@ -11,7 +13,13 @@ mod limits;
 #[cfg(test)]
 mod located;
 #[cfg(test)]
+mod make;
+#[cfg(test)]
+mod owner;
+#[cfg(test)]
 mod parts;
+#[cfg(test)]
+mod reads;
 #[cfg(test)]
 mod same;
 #[cfg(test)]

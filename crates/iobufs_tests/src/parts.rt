@@ -1,21 +1,27 @@
-// Writable buffers of one piece.
+// Writable buffers.
 use crate::same::assert_same;
 use iobufs_core::buf::IoBufMut;
 use iobufs_core::codec::{BufError, BufMut};
 use std::test::Fail;
 
+// A capacity and an alignment, and the error of a buffer of these, if any.
+const LAYOUTS: [(usize, usize, Option<BufError>); 4] = [
+    (0, 3, None),
+    (64, 3, Some(BufError::BadLayout)),
+    (64, 0, Some(BufError::BadLayout)),
+    (9223372036854775807, 64, Some(BufError::BadLayout)),
+];
+
 #[test]
 fn bad_layouts(rt: HostRuntime) {
     let alloc = rt.alloc();
-    assert!(rt; IoBufMut::with_alignment(alloc, 0, 3).is_ok());
-    for (n, align) in [(64, 3), (64, 0), (9223372036854775807, 64)] {
+    for (n, align, wanted) in LAYOUTS {
         let refused = IoBufMut::with_alignment(alloc, n, align).err();
-        assert_same!(rt; refused, Some(BufError::BadLayout));
+        assert_same!(rt; refused, wanted, "{n} aligned to {align}");
     }
-    let refused = IoBufMut::zeroed(alloc, 9223372036854775808).err();
-    assert_same!(rt; refused, Some(BufError::BadLayout));
-    let refused = IoBufMut::with_capacity(alloc, 4611686018427387904).err();
-    assert_same!(rt; refused, Some(BufError::Memory));
+    let zeroed = IoBufMut::zeroed(alloc, 9223372036854775808).err();
+    let empty = IoBufMut::with_capacity(alloc, 4611686018427387904).err();
+    assert_same!(rt; (zeroed, empty), (Some(BufError::BadLayout), Some(BufError::Memory)));
 }
 
 #[test]

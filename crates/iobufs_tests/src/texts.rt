@@ -1,166 +1,293 @@
-// Texts of several pieces.
+// Texts of several chunks.
+use crate::make::{Kind, chunks, cut, part, text, view};
+use crate::reads::{Read, answer};
 use crate::same::assert_same;
 use bytes::Bytes;
 use iobufs::bufs::IoBufs;
 use iobufs_core::buf::{IoBuf, IoBufMut};
-use iobufs_core::codec::{Buf, BufMut};
-use std::alloc::Global;
+use iobufs_core::codec::{Buf, BufError, BufMut};
+use std::alloc::{AllocError, Global};
+use std::mem;
 use std::process::Abort;
 use std::test::Fail;
 
-const PIECES: [&'static [u8]; 6] = [b"ab", b"cd", b"ef", b"gh", b"ij", b"kl"];
+// A call on a text.
+#[derive(Clone, Copy, Debug)]
+enum Ask {
+    // A call of `Buf`.
+    Reads(Read),
+    // The chunks, with `|` between them.
+    Show,
+    // The number of chunks, in decimal digits.
+    Count,
+    // The chunk at an index, or `none`.
+    ChunkAt(usize),
+    // The last eight bytes that `for_each_chunk` visits.
+    Visit,
+    // What the iterator `chunks` yields in so many calls, `none` after the last chunk, with `|` after each.
+    Iterate(usize),
+    // `single` or `several`.
+    Single,
+    // A copy of the bytes.
+    ToVec,
+    // The chunks that are left, with `|` between them.
+    Truncate(usize),
+    // The chunks of the first bytes, with `|` between them.
+    SplitTo(usize),
+    // The chunks of a range of bytes, with `|` between them.
+    Slice(usize, usize),
+    // The capacity of the writable buffer that the text becomes, in decimal digits, or why it doesn't become one.
+    Recover,
+}
 
-// The first of these pieces.
-fn pieces(alloc: Global, count: usize) -> Result<IoBufs, Fail> {
+// The chunks of a text, calls on it, and their answers.
+#[derive(Clone, Copy)]
+struct Case {
+    name: &'static str,
+    chunks: &'static [(Kind, &'static [u8])],
+    asks: &'static [(Ask, &'static [u8])],
+}
+
+const THREE: &[(Kind, &'static [u8])] = &[
+    (Kind::Static, b"ab"),
+    (Kind::Static, b"cd"),
+    (Kind::Static, b"ef"),
+];
+
+const FOUR: &[(Kind, &'static [u8])] = &[
+    (Kind::Static, b"ab"),
+    (Kind::Static, b"cd"),
+    (Kind::Static, b"ef"),
+    (Kind::Static, b"gh"),
+];
+
+const CASES: [Case; 7] = [
+    Case {
+        name: "an emptied chunk is recovered",
+        chunks: &[(Kind::Native(4), b"abcd")],
+        asks: &[
+            (Ask::Reads(Read::Advance(4)), b""),
+            (Ask::Count, b"0"),
+            (Ask::Single, b"single"),
+            (Ask::Recover, b"4"),
+        ],
+    },
+    Case {
+        name: "two emptied chunks are not recovered",
+        chunks: &[(Kind::Native(6), b"ab"), (Kind::Native(6), b"cd")],
+        asks: &[(Ask::Reads(Read::Advance(4)), b""), (Ask::Recover, b"0")],
+    },
+    Case {
+        name: "chunks of four",
+        chunks: FOUR,
+        asks: &[
+            (Ask::Count, b"4"),
+            (Ask::ChunkAt(3), b"gh"),
+            (Ask::ChunkAt(4), b"none"),
+            (Ask::Reads(Read::Chunks(2)), b"ab|cd|"),
+            (Ask::Reads(Read::Chunks(0)), b""),
+            (Ask::Reads(Read::Byte(5)), b"f"),
+            (Ask::Reads(Read::Byte(8)), b"none"),
+            (Ask::Visit, b"abcdefgh"),
+        ],
+    },
+    Case {
+        name: "chunks come in order",
+        chunks: THREE,
+        asks: &[(Ask::Iterate(5), b"ab|cd|ef|none|none|")],
+    },
+    Case {
+        name: "no chunk",
+        chunks: &[],
+        asks: &[(Ask::Iterate(1), b"none|")],
+    },
+    Case {
+        name: "a destination is filled across chunks",
+        chunks: THREE,
+        asks: &[
+            (Ask::Reads(Read::Copy(3)), b"abc"),
+            (Ask::Show, b"d|ef"),
+            (Ask::Reads(Read::Copy(4)), b"3 of 4: ...."),
+            (Ask::Reads(Read::Chunk), b"d"),
+        ],
+    },
+    Case {
+        name: "a text is copied and cut",
+        chunks: THREE,
+        asks: &[
+            (Ask::ToVec, b"abcdef"),
+            (Ask::Truncate(9), b"ab|cd|ef"),
+            (Ask::Truncate(6), b"ab|cd|ef"),
+            (Ask::Truncate(3), b"ab|c"),
+            (Ask::Truncate(2), b"ab"),
+            (Ask::Truncate(0), b""),
+            (Ask::ToVec, b""),
+        ],
+    },
+];
+
+// Views, one after the other.
+fn chunked(alloc: Global, chunks: &[(Kind, &'static [u8])]) -> Result<IoBufs, BufError> {
     let mut text = IoBufs::default();
-    for piece in PIECES.iter().take(count) {
-        joined(text.append(alloc, IoBuf::from(*piece)).is_ok())?;
+    for chunk in chunks {
+        text.append(alloc, view(alloc, chunk.0, chunk.1)?)?;
     }
     Ok(text)
 }
 
-fn joined(done: bool) -> Result<(), Fail> {
-    if done {
-        Ok(())
-    } else {
-        Err(Fail::new("refused"))
-    }
+// A copy of some bytes, or `none`.
+fn copied(alloc: Global, bytes: Option<&[u8]>) -> Result<Vec<u8>, BufError> {
+    Ok(Vec::from_slice(alloc, bytes.unwrap_or(b"none"))?)
 }
 
-// The pieces, with `|` between them.
-fn shown(alloc: Global, text: &IoBufs) -> Result<Vec<u8>, Fail> {
-    let mut shown = Vec::new(alloc);
-    for i in 0..text.chunk_count() {
-        if i > 0 {
-            shown.push(b'|')?;
-        }
-        if let Some(chunk) = text.chunk_at(i) {
-            shown.extend_from_slice(chunk)?;
-        }
-    }
-    Ok(shown)
-}
-
-// A part of this capacity, filled and frozen.
-fn native(alloc: Global, capacity: usize, bytes: &[u8]) -> Result<IoBuf, Fail> {
-    let mut part = IoBufMut::with_capacity(alloc, capacity)?;
-    if part.remaining_mut() < bytes.len() {
-        return Err(Fail::new("no room"));
-    }
-    part.put_slice(bytes);
-    Ok(part.freeze()?)
-}
-
-// The capacity that the view has as a part.
-fn recovered(rt: &(impl Abort + AllocGlobal), view: IoBuf) -> Result<usize, Fail> {
-    match view.try_into_mut(rt.alloc()) {
-        Ok(part) => Ok(part.capacity()),
-        Err(_) => Err(Fail::new("declined")),
-    }
-}
-
-fn split(alloc: Global, text: &mut IoBufs, at: usize) -> Result<IoBufs, Fail> {
-    if text.len() < at {
-        return Err(Fail::new("too short"));
-    }
-    Ok(text.split_to(alloc, at)?)
-}
-
-fn advanced(text: &mut IoBufs, n: usize) -> Result<(), Fail> {
-    if text.len() < n {
-        return Err(Fail::new("too short"));
-    }
-    text.advance(n);
-    Ok(())
-}
-
-#[test]
-fn emptied_pieces(rt: HostRuntime) -> Result<(), Fail> {
-    let alloc = rt.alloc();
-    let mut text = IoBufs::from(native(alloc, 8, b"abcd")?);
-    advanced(&mut text, 4)?;
-    assert_same!(rt; (text.chunk_count(), text.is_single()), (0, true));
-    match text.try_into_single() {
-        Ok(view) => assert_same!(rt; recovered(&rt, view)?, 4),
-        Err(_) => return Err(Fail::new("several pieces")),
-    }
-    let mut text = IoBufs::from(native(alloc, 8, b"ab")?);
-    joined(text.append(alloc, native(alloc, 8, b"cd")?).is_ok())?;
-    advanced(&mut text, 4)?;
-    match text.try_into_single() {
-        Ok(view) => assert_same!(rt; recovered(&rt, view)?, 0),
-        Err(_) => return Err(Fail::new("several pieces")),
-    }
-    Ok(())
-}
-
-#[test]
-fn chunks_of_four_pieces(rt: HostRuntime) -> Result<(), Fail> {
-    let alloc = rt.alloc();
-    let text = pieces(alloc, 4)?;
-    assert_same!(rt; text.chunk_count(), 4);
-    assert_same!(rt; text.chunk_at(3), Some(b"gh".as_slice()));
-    assert_same!(rt; text.chunk_at(4), None);
-    let two = text.chunks_vectored(alloc, 2)?;
-    assert_same!(rt;
-        two.as_slice(),
-        [b"ab".as_slice(), b"cd".as_slice()].as_slice()
-    );
-    assert!(rt; text.chunks_vectored(alloc, 0)?.is_empty());
-    assert_same!(rt; (text.byte_at(5), text.byte_at(8)), (Some(b'f'), None));
+// The last eight bytes that `for_each_chunk` visits.
+fn visited(text: &IoBufs) -> [u8; 8] {
     let mut seen = 0u64;
     text.for_each_chunk(|chunk: &[u8]| {
         for byte in chunk {
             seen = seen.wrapping_mul(256).wrapping_add(u64::from(*byte));
         }
     });
-    assert_same!(rt; seen, u64::from_be_bytes(*b"abcdefgh"));
-    Ok(())
+    seen.to_be_bytes()
 }
 
-#[test]
-fn chunks_come_in_order(rt: HostRuntime) -> Result<(), Fail> {
-    let text = pieces(rt.alloc(), 3)?;
+fn iterated(alloc: Global, text: &IoBufs, calls: usize) -> Result<Vec<u8>, BufError> {
+    let mut shown = Vec::new(alloc);
     let mut chunks = text.chunks();
-    assert_same!(rt; chunks.next(), Some(b"ab".as_slice()));
-    assert_same!(rt; chunks.next(), Some(b"cd".as_slice()));
-    assert_same!(rt; chunks.next(), Some(b"ef".as_slice()));
-    assert_same!(rt; chunks.next(), None);
-    assert_same!(rt; chunks.next(), None);
-    assert_same!(rt; IoBufs::default().chunks().next(), None);
+    for _ in 0..calls {
+        shown.extend_from_slice(chunks.next().unwrap_or(b"none"))?;
+        shown.push(b'|')?;
+    }
+    Ok(shown)
+}
+
+fn split(alloc: Global, text: &mut IoBufs, at: usize) -> Result<Vec<u8>, BufError> {
+    if at > text.len() {
+        return copied(alloc, Some(b"short"));
+    }
+    Ok(chunks(alloc, &text.split_to(alloc, at)?)?)
+}
+
+fn sliced(alloc: Global, text: &IoBufs, from: usize, to: usize) -> Result<Vec<u8>, BufError> {
+    if from > to || to > text.len() {
+        return copied(alloc, Some(b"short"));
+    }
+    Ok(chunks(alloc, &text.slice(alloc, from..to)?)?)
+}
+
+fn truncated(alloc: Global, text: &mut IoBufs, len: usize) -> Result<Vec<u8>, BufError> {
+    text.truncate(alloc, len)?;
+    Ok(chunks(alloc, text)?)
+}
+
+fn recovered(alloc: Global, text: &mut IoBufs) -> Result<Vec<u8>, BufError> {
+    let Ok(view) = mem::replace(text, IoBufs::default()).try_into_single() else {
+        return copied(alloc, Some(b"several"));
+    };
+    match view.try_into_mut(alloc) {
+        Ok(part) => Ok(format!(in alloc; "{}", part.capacity())?.into_bytes()),
+        Err(_) => copied(alloc, Some(b"declined")),
+    }
+}
+
+// What is answered.
+fn told(alloc: Global, text: &mut IoBufs, ask: Ask) -> Result<Vec<u8>, BufError> {
+    match ask {
+        Ask::Reads(read) => answer(alloc, text, read),
+        Ask::Show => Ok(chunks(alloc, text)?),
+        Ask::Count => Ok(format!(in alloc; "{}", text.chunk_count())?.into_bytes()),
+        Ask::ChunkAt(index) => copied(alloc, text.chunk_at(index)),
+        Ask::Visit => copied(alloc, Some(&visited(text))),
+        Ask::Iterate(calls) => iterated(alloc, text, calls),
+        Ask::Single if text.as_single().is_some() => copied(alloc, Some(b"single")),
+        Ask::Single => copied(alloc, Some(b"several")),
+        Ask::ToVec => text.to_vec(alloc),
+        Ask::Truncate(len) => truncated(alloc, text, len),
+        Ask::SplitTo(at) => split(alloc, text, at),
+        Ask::Slice(from, to) => sliced(alloc, text, from, to),
+        Ask::Recover => recovered(alloc, text),
+    }
+}
+
+// Asks one after the other, and compares the answers.
+fn assert_told(
+    rt: &(impl Abort + AllocGlobal),
+    name: &str,
+    text: &mut IoBufs,
+    asks: &[(Ask, &[u8])],
+) -> Result<(), BufError> {
+    for (ask, wanted) in asks.iter() {
+        let found = told(rt.alloc(), text, *ask)?;
+        assert_same!(rt; found.as_slice(), *wanted, "{name}: {ask:?}");
+    }
     Ok(())
 }
 
 #[test]
-fn a_part_is_filled_from_two_pieces(rt: HostRuntime) -> Result<(), Fail> {
-    let alloc = rt.alloc();
-    let mut text = IoBufs::from(b"hel".as_slice());
-    joined(text.append(alloc, IoBuf::from(b"lo".as_slice())).is_ok())?;
-    let mut part = IoBufMut::with_capacity(alloc, 8)?;
-    if part.remaining_mut() < text.remaining() {
-        return Err(Fail::new("no room"));
+fn texts(rt: HostRuntime) -> Result<(), Fail> {
+    for case in &CASES {
+        let mut text = chunked(rt.alloc(), case.chunks)?;
+        assert_told(&rt, case.name, &mut text, case.asks)?;
     }
-    part.put(text);
-    assert_same!(rt; part.as_ref(), b"hello".as_slice());
-    assert_same!(rt; part.remaining_mut(), 3);
     Ok(())
 }
 
-// The two sides of so many pieces, split at a place, and what an advance leaves of them.
-fn sides(alloc: Global, count: usize, at: usize) -> Result<(Vec<u8>, Vec<u8>), Fail> {
-    let mut text = pieces(alloc, count)?;
-    let front = split(alloc, &mut text, at)?;
-    Ok((shown(alloc, &front)?, shown(alloc, &text)?))
+const IN_TWO: [(Ask, &'static [u8]); 4] = [
+    (Ask::Show, b"ab|c"),
+    (Ask::Single, b"several"),
+    (Ask::Reads(Read::Take(3)), b"abc"),
+    (Ask::Reads(Read::Remaining), b"0"),
+];
+
+#[test]
+fn a_text_of_chunks_is_copied_out(rt: HostRuntime) -> Result<(), Fail> {
+    let mut views = Vec::new(rt.alloc());
+    for bytes in [b"ab".as_slice(), b"", b"c"] {
+        views.push(IoBuf::from(bytes))?;
+    }
+    let mut text = IoBufs::from_chunks(rt.alloc(), views.into_iter())?;
+    assert_told(&rt, "of chunks", &mut text, &IN_TWO)?;
+    Ok(())
 }
 
-fn left(alloc: Global, count: usize, at: usize) -> Result<Vec<u8>, Fail> {
-    let mut text = pieces(alloc, count)?;
-    advanced(&mut text, at)?;
-    shown(alloc, &text)
+#[test]
+fn texts_of_one_buffer(rt: HostRuntime) -> Result<(), Fail> {
+    let alloc = rt.alloc();
+    let texts = [
+        IoBufs::from_mut(part(alloc, b"ab", 2)?)?,
+        IoBufs::from_vec(Vec::from_slice(alloc, b"cd")?)?,
+        IoBufs::from(Bytes::copy_from_slice(alloc, b"ef")?),
+    ];
+    for (text, wanted) in texts.iter().zip([b"ab".as_slice(), b"cd", b"ef"]) {
+        assert!(rt; text.as_single().is_some(), "{text:?}");
+        assert_same!(rt; chunks(alloc, text)?.as_slice(), wanted);
+    }
+    Ok(())
 }
 
-// The bytes from one place to another, cut up at each even place.
-fn cut_up(alloc: Global, from: usize, to: usize) -> Result<Vec<u8>, Fail> {
+#[test]
+fn a_part_is_filled_from_two_chunks(rt: HostRuntime) -> Result<(), Fail> {
+    let text = text(rt.alloc(), &[b"hel", b"lo"])?;
+    let mut part = IoBufMut::with_capacity(rt.alloc(), 8)?;
+    assert!(rt; part.remaining_mut() >= text.remaining());
+    part.put(text);
+    assert_same!(rt; (part.as_ref(), part.remaining_mut()), (b"hello".as_slice(), 3));
+    Ok(())
+}
+
+const PIECES: [&'static [u8]; 6] = [b"ab", b"cd", b"ef", b"gh", b"ij", b"kl"];
+
+// The first chunks of these.
+fn first(alloc: Global, count: usize) -> Result<IoBufs, BufError> {
+    let mut text = IoBufs::default();
+    for piece in PIECES.iter().take(count) {
+        text.append(alloc, IoBuf::from(*piece))?;
+    }
+    Ok(text)
+}
+
+// The bytes from one place to another, cut at each even place.
+fn cut_up(alloc: Global, from: usize, to: usize) -> Result<Vec<u8>, AllocError> {
     let mut bytes = Vec::new(alloc);
     for (i, byte) in b"abcdefghijkl".iter().enumerate() {
         if i < from || i >= to {
@@ -174,99 +301,37 @@ fn cut_up(alloc: Global, from: usize, to: usize) -> Result<Vec<u8>, Fail> {
     Ok(bytes)
 }
 
+// What `split_to` takes, what it leaves, and what `advance` leaves.
+fn assert_cut(rt: &(impl Abort + AllocGlobal), count: usize, at: usize) -> Result<(), BufError> {
+    let alloc = rt.alloc();
+    let (mut text, mut advanced) = (first(alloc, count)?, first(alloc, count)?);
+    let front = split(alloc, &mut text, at)?;
+    assert_same!(rt; front, cut_up(alloc, 0, at)?, "{count} at {at}");
+    drop(answer(alloc, &mut advanced, Read::Advance(at))?);
+    let left = (chunks(alloc, &text)?, chunks(alloc, &advanced)?);
+    let end = count.saturating_mul(2);
+    let wanted = (cut_up(alloc, at, end)?, cut_up(alloc, at, end)?);
+    assert_same!(rt; left, wanted, "{count} at {at}");
+    Ok(())
+}
+
 #[test]
 fn every_shape_is_cut_at_every_place(rt: HostRuntime) -> Result<(), Fail> {
-    let alloc = rt.alloc();
     for count in 0..7usize {
         for at in 0..2 * count + 1 {
-            let (front, rest) = sides(alloc, count, at)?;
-            assert!(rt; front == cut_up(alloc, 0, at)?);
-            assert!(rt; rest == cut_up(alloc, at, 2 * count)?);
-            assert!(rt; left(alloc, count, at)? == rest);
+            assert_cut(&rt, count, at)?;
         }
     }
     Ok(())
 }
 
 #[test]
-fn texts_of_one_buffer(rt: HostRuntime) -> Result<(), Fail> {
-    let alloc = rt.alloc();
-    let mut part = IoBufMut::with_capacity(alloc, 4)?;
-    if part.remaining_mut() < 2 {
-        return Err(Fail::new("no room"));
-    }
-    part.put_slice(b"ab");
-    let text = IoBufs::from_mut(part)?;
-    assert_same!(rt; shown(alloc, &text)?.as_slice(), b"ab".as_slice());
-    assert!(rt; text.as_single().is_some());
-    let text = IoBufs::from_vec(Vec::from_slice(alloc, b"cd")?)?;
-    assert_same!(rt; shown(alloc, &text)?.as_slice(), b"cd".as_slice());
-    let text = IoBufs::from(Bytes::copy_from_slice(alloc, b"ef")?);
-    assert_same!(rt; shown(alloc, &text)?.as_slice(), b"ef".as_slice());
-    Ok(())
-}
-
-#[test]
-fn a_text_of_chunks_is_copied_out(rt: HostRuntime) -> Result<(), Fail> {
-    let alloc = rt.alloc();
-    let mut views = Vec::new(alloc);
-    for bytes in [b"ab".as_slice(), b"".as_slice(), b"c".as_slice()] {
-        views.push(IoBuf::from(bytes))?;
-    }
-    let mut text = IoBufs::from_chunks(alloc, views.into_iter())?;
-    assert_same!(rt; shown(alloc, &text)?.as_slice(), b"ab|c".as_slice());
-    assert!(rt; text.as_single().is_none());
-    if text.remaining() < 3 {
-        return Err(Fail::new("too short"));
-    }
-    assert_same!(rt; text.copy_to_bytes(alloc, 3)?.as_slice(), b"abc".as_slice());
-    assert!(rt; text.is_empty());
-    Ok(())
-}
-
-#[test]
-fn a_destination_is_filled_across_pieces(rt: HostRuntime) -> Result<(), Fail> {
-    let alloc = rt.alloc();
-    let mut text = pieces(alloc, 3)?;
-    let mut bytes = [0; 3];
-    assert!(rt; text.try_copy_to_slice(&mut bytes).is_ok());
-    assert_same!(rt; bytes, *b"abc");
-    assert_same!(rt; shown(alloc, &text)?.as_slice(), b"d|ef".as_slice());
-    assert!(rt; text.try_copy_to_slice(&mut [0; 4]).is_err());
-    assert_same!(rt; text.chunk(), b"d".as_slice());
-    Ok(())
-}
-
-#[test]
-fn a_text_is_copied_and_cut(rt: HostRuntime) -> Result<(), Fail> {
-    let alloc = rt.alloc();
-    let mut text = pieces(alloc, 3)?;
-    assert_same!(rt; text.to_vec(alloc)?.as_slice(), b"abcdef".as_slice());
-    for (len, left) in [
-        (9usize, b"ab|cd|ef".as_slice()),
-        (6, b"ab|cd|ef".as_slice()),
-        (3, b"ab|c".as_slice()),
-        (2, b"ab".as_slice()),
-        (0, b"".as_slice()),
-    ] {
-        text.truncate(alloc, len)?;
-        assert!(rt; shown(alloc, &text)?.as_slice() == left, "{len}");
-    }
-    assert!(rt; text.to_vec(alloc)?.is_empty());
-    Ok(())
-}
-
-#[test]
 fn a_text_is_sliced_between_any_places(rt: HostRuntime) -> Result<(), Fail> {
-    let alloc = rt.alloc();
-    let text = pieces(alloc, 3)?;
+    let text = first(rt.alloc(), 3)?;
     for from in 0..7usize {
         for to in from..7usize {
-            if text.len() < to {
-                return Err(Fail::new("too short"));
-            }
-            let slice = text.slice(alloc, from..to)?;
-            assert!(rt; shown(alloc, &slice)? == cut_up(alloc, from, to)?);
+            let found = sliced(rt.alloc(), &text, from, to)?;
+            assert_same!(rt; found, cut_up(rt.alloc(), from, to)?, "{from} to {to}");
         }
     }
     assert_same!(rt; text.len(), 6);
@@ -274,14 +339,11 @@ fn a_text_is_sliced_between_any_places(rt: HostRuntime) -> Result<(), Fail> {
 }
 
 #[test]
-fn a_long_slice_of_two_pieces(rt: HostRuntime) -> Result<(), Fail> {
+fn a_long_slice_of_two_chunks(rt: HostRuntime) -> Result<(), Fail> {
     let alloc = rt.alloc();
     let mut text = IoBufs::from_vec(Vec::from_slice(alloc, &[7; 3000])?)?;
-    let behind = IoBuf::from_vec(Vec::from_slice(alloc, &[9; 3000])?)?;
-    joined(text.append(alloc, behind).is_ok())?;
-    if text.len() < 5500 {
-        return Err(Fail::new("too short"));
-    }
+    text.append(alloc, IoBuf::from_vec(Vec::from_slice(alloc, &[9; 3000])?)?)?;
+    assert!(rt; text.len() == 6000);
     let slice = text.slice(alloc, 500..5500)?;
     assert_same!(rt; slice.chunk_count(), 2);
     assert_same!(rt; slice.chunk_at(0), Some([7; 2500].as_slice()));
@@ -289,41 +351,71 @@ fn a_long_slice_of_two_pieces(rt: HostRuntime) -> Result<(), Fail> {
     Ok(())
 }
 
-// Bytes in three pieces, that end at these places.
-fn in_three(alloc: Global, bytes: &'static [u8], from: usize, to: usize) -> Result<IoBufs, Fail> {
-    let mut text = IoBufs::default();
-    for piece in [bytes.get(..from), bytes.get(from..to), bytes.get(to..)] {
-        let piece = piece.ok_or("out of range")?;
-        joined(text.append(alloc, IoBuf::from(piece)).is_ok())?;
-    }
-    Ok(text)
+// Bytes, and whether they are those of `abcdef`.
+const SAME_AS_THREE: [(&'static [u8], bool); 4] = [
+    (b"abcdef", true),
+    (b"xbcdef", false),
+    (b"abxdef", false),
+    (b"abcdex", false),
+];
+
+// Compares a text of `abcdef` with these bytes in three chunks.
+fn assert_compared(
+    rt: &(impl Abort + AllocGlobal),
+    three: &IoBufs,
+    chunks: &[&'static [u8]],
+    bytes: &[u8],
+    same: bool,
+) -> Result<(), BufError> {
+    let other = text(rt.alloc(), chunks)?;
+    let found = (
+        (other == *three, *three == other),
+        (other.eq_bytes(b"abcdef"), three.eq_bytes(bytes)),
+    );
+    assert_same!(rt; found, ((same, same), (same, same)), "{chunks:?}");
+    Ok(())
 }
 
 #[test]
 fn texts_are_the_same_by_their_bytes(rt: HostRuntime) -> Result<(), Fail> {
-    let alloc = rt.alloc();
-    let text = pieces(alloc, 3)?;
+    let three = first(rt.alloc(), 3)?;
     for from in 0..7usize {
         for to in from..7usize {
-            let same = in_three(alloc, b"abcdef", from, to)?;
-            assert!(rt; same == text && text == same && same.eq_bytes(b"abcdef"));
-            for bytes in [b"xbcdef", b"abxdef", b"abcdex"] {
-                let other = in_three(alloc, bytes, from, to)?;
-                assert!(rt; other != text && text != other);
-                assert!(rt; !other.eq_bytes(b"abcdef") && !text.eq_bytes(bytes));
+            for (bytes, same) in SAME_AS_THREE {
+                assert!(rt; bytes.len() == 6);
+                assert_compared(&rt, &three, &cut(bytes, from, to), bytes, same)?;
             }
         }
     }
     Ok(())
 }
 
+// How many chunks two texts have, and whether they are the same.
+const PAIRS: [(usize, usize, bool); 4] = [
+    (2, 3, false),
+    (3, 2, false),
+    (0, 0, true),
+    (0, 2, false),
+];
+
+// How many chunks a text has, and whether its bytes are these.
+const BYTES: [(usize, &'static [u8], bool); 5] = [
+    (2, b"abcd", true),
+    (2, b"abc", false),
+    (2, b"abcdef", false),
+    (0, b"", true),
+    (0, b"a", false),
+];
+
 #[test]
 fn texts_of_other_lengths_differ(rt: HostRuntime) -> Result<(), Fail> {
-    let alloc = rt.alloc();
-    let (four, six) = (pieces(alloc, 2)?, pieces(alloc, 3)?);
-    assert!(rt; four != six && six != four);
-    assert!(rt; four.eq_bytes(b"abcd") && !four.eq_bytes(b"abc") && !four.eq_bytes(b"abcdef"));
-    assert!(rt; IoBufs::default() == IoBufs::default() && IoBufs::default().eq_bytes(b""));
-    assert!(rt; IoBufs::default() != four && !IoBufs::default().eq_bytes(b"a"));
+    for (one, other, same) in PAIRS {
+        let found = first(rt.alloc(), one)? == first(rt.alloc(), other)?;
+        assert_same!(rt; found, same, "{one} and {other}");
+    }
+    for (count, bytes, same) in BYTES {
+        let found = first(rt.alloc(), count)?.eq_bytes(bytes);
+        assert_same!(rt; found, same, "{count} and {bytes:?}");
+    }
     Ok(())
 }

@@ -1,70 +1,76 @@
-// Views of one piece.
+// Views.
+use crate::reads::{Read, answer};
 use crate::same::assert_same;
 use bytes::BytesMut;
 use iobufs_core::buf::{IoBuf, IoBufMut};
-use iobufs_core::codec::{Buf, Error, TryGetError};
-use std::ops::Bound::{Excluded, Included, Unbounded};
-use std::process::Abort;
+use iobufs_core::codec::{BufError, Error};
+use std::ops::Bound::{self, Excluded, Included, Unbounded};
 use std::test::Fail;
-
-// The view does not become a part, and is given back.
-fn declined(rt: &(impl Abort + AllocGlobal), view: IoBuf) -> Result<IoBuf, Fail> {
-    match view.try_into_mut(rt.alloc()) {
-        Ok(_) => Err(Fail::new("recovered")),
-        Err(view) => Ok(view),
-    }
-}
 
 #[test]
 fn adopted_buffers_keep_what_they_have(rt: HostRuntime) -> Result<(), Fail> {
     let empty = BytesMut::with_capacity(rt.alloc(), 16)?;
     assert!(rt; IoBufMut::from_bytes_mut(empty)?.capacity() >= 16);
     let view = IoBuf::from_bytes_mut(BytesMut::copy_from_slice(rt.alloc(), b"abc")?)?;
-    assert_same!(rt; declined(&rt, view)?.as_ref(), b"abc".as_slice());
+    let declined = view.try_into_mut(rt.alloc()).err();
+    let bytes = declined.as_ref().map(|view| view.as_ref());
+    assert_same!(rt; bytes, Some(b"abc".as_slice()));
     Ok(())
+}
+
+// The bytes of a view, the bounds of a range, and the bytes in it, if it fits.
+const RANGES: [(
+    &'static [u8],
+    Bound<usize>,
+    Bound<usize>,
+    Option<&'static [u8]>,
+); 10] = [
+    (b"hello", Excluded(0), Unbounded, Some(b"ello")),
+    (b"hello", Excluded(4), Unbounded, Some(b"")),
+    (b"hello", Included(5), Included(4), Some(b"")),
+    (b"", Unbounded, Unbounded, Some(b"")),
+    (b"", Unbounded, Included(0), None),
+    (b"hello", Excluded(5), Unbounded, None),
+    (b"hello", Unbounded, Excluded(6), None),
+    (b"hello", Included(3), Excluded(1), None),
+    (b"hello", Included(0), Included(usize::MAX), None),
+    (b"hello", Excluded(usize::MAX), Unbounded, None),
+];
+
+// The part of a view in a range, if it fits.
+fn sliced(view: &IoBuf, lo: Bound<usize>, hi: Bound<usize>) -> Result<Option<IoBuf>, BufError> {
+    if !view.fits_range(lo, hi) {
+        return Ok(None);
+    }
+    Ok(Some(view.slice(lo, hi)?))
 }
 
 #[test]
 fn ranges(rt: HostRuntime) -> Result<(), Fail> {
-    let view = IoBuf::from(b"hello".as_slice());
-    assert_same!(rt;
-        view.slice(Excluded(0), Unbounded)?.as_ref(),
-        b"ello".as_slice()
-    );
-    assert!(rt; view.slice(Excluded(4), Unbounded)?.is_empty());
-    assert!(rt; view.slice(Included(5), Included(4))?.is_empty());
-    let empty = IoBuf::default();
-    assert!(rt; empty.fits_range(Unbounded, Unbounded));
-    assert!(rt; !empty.fits_range(Unbounded, Included(0)));
-    for (lo, hi) in [
-        (Excluded(5), Unbounded),
-        (Unbounded, Excluded(6)),
-        (Included(3), Excluded(1)),
-        (Included(0), Included(usize::MAX)),
-        (Excluded(usize::MAX), Unbounded),
-    ] {
-        assert!(rt; !view.fits_range(lo, hi));
+    for (bytes, lo, hi, wanted) in RANGES {
+        let found = sliced(&IoBuf::from(bytes), lo, hi)?;
+        let found = found.as_ref().map(|view| view.as_ref());
+        assert_same!(rt; found, wanted, "{lo:?} to {hi:?} of {bytes:?}");
     }
     Ok(())
 }
 
+// Calls on a view of `abc`, and their answers.
+const READS: [(Read, &'static [u8]); 4] = [
+    (Read::Copy(4), b"3 of 4: ...."),
+    (Read::Chunk, b"abc"),
+    (Read::Copy(3), b"abc"),
+    (Read::Remaining, b"0"),
+];
+
 #[test]
-fn a_destination_that_is_too_long(rt: HostRuntime) {
+fn a_destination_that_is_too_long(rt: HostRuntime) -> Result<(), Fail> {
     let mut view = IoBuf::from(b"abc".as_slice());
-    let mut dst = [9u8; 4];
-    assert_same!(rt;
-        view.try_copy_to_slice(&mut dst),
-        Err(TryGetError {
-            requested: 4,
-            available: 3
-        })
-    );
-    assert_same!(rt;
-        (view.as_ref(), dst.as_slice()),
-        (b"abc".as_slice(), [9; 4].as_slice())
-    );
-    assert_same!(rt; view.try_copy_to_slice(&mut dst[..3]), Ok(()));
-    assert_same!(rt; dst.as_slice(), b"abc\x09".as_slice());
+    for (read, wanted) in READS {
+        let found = answer(rt.alloc(), &mut view, read)?;
+        assert_same!(rt; found.as_slice(), wanted, "{read:?}");
+    }
+    Ok(())
 }
 
 #[test]

@@ -6,7 +6,7 @@ ghost use Rattle.iobufs_values.specs.Kinds.{IsEitherAdmitted, IsEitherFault, IsE
 use crate::look::has_len;
 use crate::views::bytes_at;
 use crate::{Fault, Look};
-use iobufs_core::codec::{BufMut, BufsMut, EncodeSize, Error, OwnedBuf, Write};
+use iobufs_core::codec::{BufMut, BufsMut, EncodeSize, Error, Peek, Write};
 use std::alloc::Global;
 
 /// A value whose first byte determines its kind (own).
@@ -81,7 +81,7 @@ impl<const TAG: u8, T: Look + Drop> Look for Kind<TAG, T> {
 
     ghost same = { λ x y. T.same x.value y.value };
 
-    fn look<B: OwnedBuf>(
+    fn look<B: Peek>(
         alloc: Global,
         buf: &B,
         skip: usize,
@@ -164,7 +164,7 @@ impl<A: Tagged + Drop, B: Tagged + Drop> Look for Either<A, B> {
 
     ghost same = { IsSameEither A.same B.same };
 
-    fn look<R: OwnedBuf>(
+    fn look<R: Peek>(
         alloc: Global,
         buf: &R,
         skip: usize,

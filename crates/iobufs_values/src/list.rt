@@ -8,7 +8,7 @@ ghost use Rattle.iobufs_values.specs.Listed.{AreFound, AreSame, IsListFault, IsL
 
 use crate::look::has_len;
 use crate::{Fault, Look};
-use iobufs_core::codec::{Buf, BufMut, BufsMut, EncodeSize, Error, OwnedBuf, RangeCfg, Write};
+use iobufs_core::codec::{Buf, BufMut, BufsMut, EncodeSize, Error, Peek, RangeCfg, Write};
 use std::alloc::Global;
 
 /// A varint count followed by the values (`Vec`). It wraps `Vec` because the traits of writing are another crate's.
@@ -68,7 +68,7 @@ impl<T: Look + Drop> Look for List<T> {
 
     ghost same = { λ x y. AreSame T.same x.values.items y.values.items };
 
-    fn look<B: OwnedBuf>(
+    fn look<B: Peek>(
         alloc: Global,
         buf: &B,
         skip: usize,
@@ -134,7 +134,7 @@ fn write_each_bufs<T: Write, B: BufsMut>(values: &[T], buf: &mut B) -> Result<()
 
 // Decodes `count` values after the first `skip` bytes, and returns their number of bytes. Space is allocated for values
 // that are decoded, one by one: a count that is too large allocates nothing.
-fn look_each<T: Look + Drop, B: OwnedBuf>(
+fn look_each<T: Look + Drop, B: Peek>(
     alloc: Global,
     buf: &B,
     skip: usize,

@@ -7,7 +7,7 @@ ghost use Rattle.iobufs_values.specs.declared.fault.Fault.TheVariants.{ExtraData
 
 use crate::Fault;
 use iobufs_core::buf::IoBuf;
-use iobufs_core::codec::{EncodeSize, OwnedBuf};
+use iobufs_core::codec::{EncodeSize, Peek};
 use std::alloc::Global;
 
 /// A value that is decoded without consuming, so that a value of several parts is read whole or not at all (own). The
@@ -27,7 +27,7 @@ pub trait Look: EncodeSize + Sized {
     ghost same: { Self → Self → Type 0 };
 
     /// Decodes the value after the first `skip` bytes, and returns it with its number of bytes. All of them stay.
-    fn look<B: OwnedBuf>(
+    fn look<B: Peek>(
         alloc: Global,
         buf: &B,
         skip: usize,
@@ -42,7 +42,7 @@ pub trait Look: EncodeSize + Sized {
     ghost form: { IsForm Self Self.Cfg Self.written same admits is_found is_fault };
 
     /// Reads the value from the front, whole. If it fails, `buf` is unchanged.
-    final fn read_whole<B: OwnedBuf>(
+    final fn read_whole<B: Peek>(
         alloc: Global,
         buf: &mut B,
         cfg: &Self::Cfg,
@@ -60,7 +60,7 @@ pub trait Look: EncodeSize + Sized {
 
     /// Decodes all bytes as one value (`decode_cfg`). Fails with `Fault::ExtraData`, which has the number of bytes, if
     /// some remain.
-    final fn decode_cfg<B: OwnedBuf>(alloc: Global, buf: &B, cfg: &Self::Cfg) -> Result<Self, Fault>
+    final fn decode_cfg<B: Peek>(alloc: Global, buf: &B, cfg: &Self::Cfg) -> Result<Self, Fault>
     where
         Self: Drop,
         ensures found { IfOk result (is_found (B.marked buf.now) 0 cfg.now) }
@@ -79,14 +79,14 @@ pub trait Look: EncodeSize + Sized {
 
 /// That a reader's bytes are as many as a `usize` says, and so a sum of places within them is one too. The prover knows it
 /// only of a length that was asked for, so this asks; nothing of the call is left in the program.
-pub(crate) fn has_len<B: OwnedBuf>(buf: &B)
+pub(crate) fn has_len<B: Peek>(buf: &B)
     ensures { length (B.text buf.now) < 2 ^ 64 }
 {
     let _ = buf.remaining();
 }
 
 // Drops the first bytes as a copy of them does.
-fn drop_copied<B: OwnedBuf>(alloc: Global, buf: &mut B, n: usize)
+fn drop_copied<B: Peek>(alloc: Global, buf: &mut B, n: usize)
     requires { n ≤ length (B.text buf.old) }
     ensures { buf.new ≡ B.copied buf.old n }
 {

@@ -6,7 +6,7 @@ ghost use Rattle.iobufs_values.specs.Form.{IsCodecFault};
 
 use crate::views::bytes_at;
 use crate::{Fault, Look};
-use iobufs_core::codec::{OwnedBuf, RangeCfg, peek_length};
+use iobufs_core::codec::{Peek, RangeCfg, peek_length};
 use std::alloc::Global;
 
 impl Look for u8 {
@@ -23,7 +23,7 @@ impl Look for u8 {
 
     ghost same = { λ m n. m ≡ n };
 
-    fn look<B: OwnedBuf>(
+    fn look<B: Peek>(
         _alloc: Global,
         buf: &B,
         skip: usize,
@@ -51,7 +51,7 @@ impl Look for u16 {
 
     ghost same = { λ m n. m ≡ n };
 
-    fn look<B: OwnedBuf>(
+    fn look<B: Peek>(
         _alloc: Global,
         buf: &B,
         skip: usize,
@@ -77,7 +77,7 @@ impl Look for u32 {
 
     ghost same = { λ m n. m ≡ n };
 
-    fn look<B: OwnedBuf>(
+    fn look<B: Peek>(
         _alloc: Global,
         buf: &B,
         skip: usize,
@@ -103,7 +103,7 @@ impl Look for u64 {
 
     ghost same = { λ m n. m ≡ n };
 
-    fn look<B: OwnedBuf>(
+    fn look<B: Peek>(
         _alloc: Global,
         buf: &B,
         skip: usize,
@@ -129,7 +129,7 @@ impl Look for u128 {
 
     ghost same = { λ m n. m ≡ n };
 
-    fn look<B: OwnedBuf>(
+    fn look<B: Peek>(
         _alloc: Global,
         buf: &B,
         skip: usize,
@@ -156,7 +156,7 @@ impl Look for usize {
 
     ghost same = { λ m n. m ≡ n };
 
-    fn look<B: OwnedBuf>(
+    fn look<B: Peek>(
         _alloc: Global,
         buf: &B,
         skip: usize,

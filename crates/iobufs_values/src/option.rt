@@ -6,7 +6,7 @@ ghost use Rattle.iobufs_values.specs.Form.{IsBoolFault, IsByteAt};
 use crate::look::has_len;
 use crate::views::bytes_at;
 use crate::{Fault, Look};
-use iobufs_core::codec::{Buf, OwnedBuf};
+use iobufs_core::codec::{Buf, Peek};
 use std::alloc::Global;
 
 impl Look for bool {
@@ -22,7 +22,7 @@ impl Look for bool {
 
     ghost same = { λ x y. x ≡ y };
 
-    fn look<B: OwnedBuf>(
+    fn look<B: Peek>(
         _alloc: Global,
         buf: &B,
         skip: usize,
@@ -53,7 +53,7 @@ impl<T: Look + Drop> Look for Option<T> {
 
     ghost same = { IsSameOption T.same };
 
-    fn look<B: OwnedBuf>(
+    fn look<B: Peek>(
         alloc: Global,
         buf: &B,
         skip: usize,

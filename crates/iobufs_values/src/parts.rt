@@ -9,7 +9,7 @@ use crate::{Fault, Look};
 use iobufs::EncodeExt;
 use iobufs::bufs::IoBufs;
 use iobufs_core::buf::IoBufMut;
-use iobufs_core::codec::{Encode, Error, OwnedBuf, Write};
+use iobufs_core::codec::{Encode, Error, Peek, Write};
 use std::alloc::Global;
 
 /// A type that is read as a tuple of its fields; all that `Look` promises of the tuple holds of it (own). For a field
@@ -25,7 +25,7 @@ pub trait ByParts: Sized {
         ensures { parts result ≡ all };
 
     /// Reads the value from the front, whole. If it fails, `buf` is unchanged.
-    final fn read_whole<B: OwnedBuf>(
+    final fn read_whole<B: Peek>(
         alloc: Global,
         buf: &mut B,
         cfg: &<Self::Parts as Look>::Cfg,
@@ -42,7 +42,7 @@ pub trait ByParts: Sized {
 
     /// Decodes all bytes as one value (`decode_cfg`). Fails with `Fault::ExtraData`, which has the number of bytes, if
     /// some remain.
-    final fn decode_cfg<B: OwnedBuf>(
+    final fn decode_cfg<B: Peek>(
         alloc: Global,
         buf: &B,
         cfg: &<Self::Parts as Look>::Cfg,

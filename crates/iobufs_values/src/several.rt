@@ -4,7 +4,7 @@ ghost use Rattle.iobufs_values.specs.Form.{IsPairFault};
 
 use crate::look::has_len;
 use crate::{Fault, Look};
-use iobufs_core::codec::{Buf, OwnedBuf};
+use iobufs_core::codec::{Buf, Peek};
 use std::alloc::Global;
 
 impl<A: Look + Drop, B: Look + Drop> Look for (A, B) {
@@ -20,7 +20,7 @@ impl<A: Look + Drop, B: Look + Drop> Look for (A, B) {
 
     ghost same = { λ p q. A.same p.0 q.0 × B.same p.1 q.1 };
 
-    fn look<R: OwnedBuf>(
+    fn look<R: Peek>(
         alloc: Global,
         buf: &R,
         skip: usize,
@@ -51,7 +51,7 @@ impl<A: Look + Drop, B: Look + Drop, C: Look + Drop> Look for (A, B, C) {
 
     ghost same = { λ p q. A.same p.0 q.0 × (B.same p.1 q.1 × C.same p.2 q.2) };
 
-    fn look<R: OwnedBuf>(
+    fn look<R: Peek>(
         alloc: Global,
         buf: &R,
         skip: usize,
@@ -86,7 +86,7 @@ impl<A: Look + Drop, B: Look + Drop, C: Look + Drop, D: Look + Drop> Look for (A
 
     ghost same = { λ p q. A.same p.0 q.0 × (B.same p.1 q.1 × (C.same p.2 q.2 × D.same p.3 q.3)) };
 
-    fn look<R: OwnedBuf>(
+    fn look<R: Peek>(
         alloc: Global,
         buf: &R,
         skip: usize,
@@ -124,7 +124,7 @@ impl<A: Look + Drop, B: Look + Drop, C: Look + Drop, D: Look + Drop, E: Look + D
 
     ghost same = { λ p q. A.same p.0 q.0 × (B.same p.1 q.1 × (C.same p.2 q.2 × (D.same p.3 q.3 × E.same p.4 q.4))) };
 
-    fn look<R: OwnedBuf>(
+    fn look<R: Peek>(
         alloc: Global,
         buf: &R,
         skip: usize,
@@ -172,7 +172,7 @@ impl<
 
     ghost same = { λ p q. A.same p.0 q.0 × (B.same p.1 q.1 × (C.same p.2 q.2 × (D.same p.3 q.3 × (E.same p.4 q.4 × F.same p.5 q.5)))) };
 
-    fn look<R: OwnedBuf>(
+    fn look<R: Peek>(
         alloc: Global,
         buf: &R,
         skip: usize,
@@ -189,7 +189,7 @@ impl<
 }
 
 // The values after the first `skip` bytes, and how many bytes they have.
-fn look_two<A: Look + Drop, B: Look + Drop, R: OwnedBuf>(
+fn look_two<A: Look + Drop, B: Look + Drop, R: Peek>(
     alloc: Global,
     buf: &R,
     skip: usize,
@@ -211,7 +211,7 @@ fn look_two<A: Look + Drop, B: Look + Drop, R: OwnedBuf>(
 }
 
 // The values after the first `skip` bytes, and how many bytes they have.
-fn look_three<A: Look + Drop, B: Look + Drop, C: Look + Drop, R: OwnedBuf>(
+fn look_three<A: Look + Drop, B: Look + Drop, C: Look + Drop, R: Peek>(
     alloc: Global,
     buf: &R,
     skip: usize,
@@ -237,7 +237,7 @@ fn look_three<A: Look + Drop, B: Look + Drop, C: Look + Drop, R: OwnedBuf>(
 }
 
 // The values after the first `skip` bytes, and how many bytes they have.
-fn look_four<A: Look + Drop, B: Look + Drop, C: Look + Drop, D: Look + Drop, R: OwnedBuf>(
+fn look_four<A: Look + Drop, B: Look + Drop, C: Look + Drop, D: Look + Drop, R: Peek>(
     alloc: Global,
     buf: &R,
     skip: usize,
@@ -273,7 +273,7 @@ fn look_five<
     C: Look + Drop,
     D: Look + Drop,
     E: Look + Drop,
-    R: OwnedBuf,
+    R: Peek,
 >(
     alloc: Global,
     buf: &R,
@@ -324,7 +324,7 @@ fn look_six<
     D: Look + Drop,
     E: Look + Drop,
     F: Look + Drop,
-    R: OwnedBuf,
+    R: Peek,
 >(
     alloc: Global,
     buf: &R,

@@ -7,7 +7,7 @@ ghost use Rattle.iobufs_values.specs.Form.{IsCodecFault};
 ghost use Rattle.iobufs_values.specs.Signed.{IsSignedFound};
 
 use crate::{Fault, Look};
-use iobufs_core::codec::{BufMut, BufsMut, EncodeSize, Error, OwnedBuf, Write};
+use iobufs_core::codec::{BufMut, BufsMut, EncodeSize, Error, Peek, Write};
 use std::alloc::Global;
 
 /// A signed number, written big-endian in two's complement. It wraps the number because the traits of writing are
@@ -62,7 +62,7 @@ impl Look for Signed<i8> {
 
     ghost same = { λ m n. m.value ≡ n.value };
 
-    fn look<B: OwnedBuf>(
+    fn look<B: Peek>(
         alloc: Global,
         buf: &B,
         skip: usize,
@@ -122,7 +122,7 @@ impl Look for Signed<i16> {
 
     ghost same = { λ m n. m.value ≡ n.value };
 
-    fn look<B: OwnedBuf>(
+    fn look<B: Peek>(
         alloc: Global,
         buf: &B,
         skip: usize,
@@ -182,7 +182,7 @@ impl Look for Signed<i32> {
 
     ghost same = { λ m n. m.value ≡ n.value };
 
-    fn look<B: OwnedBuf>(
+    fn look<B: Peek>(
         alloc: Global,
         buf: &B,
         skip: usize,
@@ -242,7 +242,7 @@ impl Look for Signed<i64> {
 
     ghost same = { λ m n. m.value ≡ n.value };
 
-    fn look<B: OwnedBuf>(
+    fn look<B: Peek>(
         alloc: Global,
         buf: &B,
         skip: usize,
@@ -302,7 +302,7 @@ impl Look for Signed<i128> {
 
     ghost same = { λ m n. m.value ≡ n.value };
 
-    fn look<B: OwnedBuf>(
+    fn look<B: Peek>(
         alloc: Global,
         buf: &B,
         skip: usize,

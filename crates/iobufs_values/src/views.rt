@@ -9,11 +9,11 @@ ghost use Rattle.iobufs_values.specs.Form.{HasStaticViewThere, IsCodecFault, IsM
 use crate::{Fault, Look};
 use bytes::Bytes;
 use iobufs_core::buf::IoBuf;
-use iobufs_core::codec::{Error, OwnedBuf, OwnedBytes, RangeCfg, peek_length};
+use iobufs_core::codec::{Error, Peek, OwnedBytes, RangeCfg, peek_length};
 use std::alloc::Global;
 
 /// Decodes the bytes after a length, which stay.
-fn look_bytes<T: OwnedBytes, B: OwnedBuf>(
+fn look_bytes<T: OwnedBytes, B: Peek>(
     alloc: Global,
     buf: &B,
     skip: usize,
@@ -38,7 +38,7 @@ fn look_bytes<T: OwnedBytes, B: OwnedBuf>(
 }
 
 /// The `N` bytes after the first `skip`.
-pub(crate) fn bytes_at<const N: usize, B: OwnedBuf>(buf: &B, skip: usize) -> Result<[u8; N], Fault>
+pub(crate) fn bytes_at<const N: usize, B: Peek>(buf: &B, skip: usize) -> Result<[u8; N], Fault>
     requires { skip ≤ length (B.text buf.now) }
     ensures bytes { IfOk result (λ bytes. take N (drop skip (B.text buf.now)) ≡ bytes) }
     ensures within { IfOk result (λ _. skip + N ≤ length (B.text buf.now)) }
@@ -68,7 +68,7 @@ impl Look for IoBuf {
     ghost same = { λ x y. x.bytes ≡ y.bytes };
 
     /// Cannot fail with `Error::Memory` if the bytes are static.
-    fn look<B: OwnedBuf>(
+    fn look<B: Peek>(
         alloc: Global,
         buf: &B,
         skip: usize,
@@ -102,7 +102,7 @@ impl Look for Bytes {
     ghost same = { λ x y. x ≡ y };
 
     /// Cannot fail with `Error::Memory` if the bytes are static.
-    fn look<B: OwnedBuf>(
+    fn look<B: Peek>(
         alloc: Global,
         buf: &B,
         skip: usize,
@@ -134,7 +134,7 @@ impl<const N: usize> Look for [u8; N] {
 
     ghost same = { λ x y. x ≡ y };
 
-    fn look<B: OwnedBuf>(
+    fn look<B: Peek>(
         _alloc: Global,
         buf: &B,
         skip: usize,

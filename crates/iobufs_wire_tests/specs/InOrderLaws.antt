@@ -1,11 +1,11 @@
--- What the laws of a value give if it was written at the front.
---     behind_written    once a value is read, what followed its bytes is left
+-- What the laws of a value give for bytes that begin with it.
+--     behind_written    once a value is read, the bytes after it are left
 use Rattle.std.proofs.Common.{◌≡◌, ℕ, List, ◌++◌, length, ap, ◌∙◌}
 use Rattle.iobufs_core.specs.CodecLaws.{left_behind}
 use Rattle.iobufs_core.specs.Dropping.{Dropping, dropped, dropped_len}
 use Rattle.iobufs_core.specs.MarkedText.{MarkedText, text_advanced, text_rest}
 
--- the value that was read leaves what is behind the one that was written
+-- reading leaves the bytes after the value that was written
 pub behind_written : {Value : Type 0} (written : Value → List ℕ) (dropping : Value → List Dropping) (text left : MarkedText) (value read : Value)
     (rest : List ℕ)
     → text.bytes ≡ written value ++ rest

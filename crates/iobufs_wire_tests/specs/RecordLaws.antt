@@ -1,6 +1,7 @@
--- Reading a record doesn't depend on the chunking, and gives back what was written.
---     record_alike, record_back    the result is one for every chunking, and what was written is read back
---     record_one, record_front     no two records are written at the front of equal bytes, and what is read is there
+-- Reading a record is the same for every chunking, and gives back what was written.
+--     record_alike, record_back    the same is read for every chunking, and what was written is read back
+--     record_one, record_front     no two records are prefixes of the same bytes, and what is read is written as the
+--                                  prefix
 use Rattle.std.proofs.Common.{◌≡◌, inl, Result, Ok, Err, List, ℕ, ◌++◌, ◌<◌, ◌≤◌, length, take, ap, sym, subst, ◌∙◌, refl, arith, length-append}
 use Rattle.std.proofs.lemmas.List.{take_at}
 use Rattle.std.specs.Bool.{⊤}
@@ -8,7 +9,7 @@ use Rattle.iobufs_core.specs.MarkedText.{MarkedText}
 use Rattle.iobufs_core.specs.ReadBack.{IsReadAlike, IsReadBack}
 use Rattle.iobufs_core.specs.declared.codec.base.Error.{Error}
 use Rattle.iobufs_core.specs.declared.codec.base.Error.TheVariants.{EndOfBuffer, InvalidVarint, InvalidLength, Memory, BadLayout, TooLong}
-use Rattle.iobufs_wire_tests.specs.declared.record.Record.{Record}
+use Rattle.iobufs_wire_tests.specs.declared.wire.record.Record.{Record}
 use Rattle.iobufs_wire_tests.specs.Record.{record_written, IsRecordRead}
 
 fault : (bytes : List ℕ) (error : Error) → IsRecordRead bytes (Err error) → (error ≡ EndOfBuffer) × (length bytes < 7)

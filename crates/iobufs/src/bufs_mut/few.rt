@@ -399,6 +399,7 @@ impl Few {
         if self.capacity() > 0 {
             free_used(self.alloc, &mut self.first);
             free_used(self.alloc, &mut self.second);
+            free_used(self.alloc, &mut self.third);
         }
     }
 

@@ -1,8 +1,8 @@
 // The traits to take pieces of a text out and keep them.
-ghost use Rattle.std.specs.Prelude.{◌≡◌, ◌⊎◌, ⊤, ℕ, ◌+◌, ◌≤◌, ◌<◌, List, length, take, drop, Err, IfOk, IsOk, OnOk, OnErr, IsOkUnless};
+ghost use Rattle.std.specs.Prelude.{◌≡◌, ◌⊎◌, ⊤, ℕ, ◌+◌, ◌≤◌, ◌<◌, List, length, Err, IfOk, IsOk, OnOk, OnErr, IsOkUnless};
 ghost use Rattle.iobufs_core.specs.Chunks.{first_chunk};
 ghost use Rattle.iobufs_core.specs.View.{View, static_mark, bytes_mark, default_view};
-ghost use Rattle.iobufs_core.specs.MarkedText.{MarkedText, IsMarked, chunk_count as count_of, taken_view, text_advanced, text_rest, text_chunks};
+ghost use Rattle.iobufs_core.specs.MarkedText.{MarkedText, taken_view, text_advanced, text_rest, text_chunks};
 
 use super::{Buf, BufError, Error};
 use crate::buf::IoBuf;
@@ -49,11 +49,6 @@ pub trait OwnedBytes: Sized {
 pub trait OwnedBuf: Buf {
     ghost marked: { Self → MarkedText };
 
-    /// Returns the number of chunks that hold bytes (own).
-    fn chunk_count(&self) -> usize
-        ensures count { result ≡ count_of (marked self.now) }
-        ensures marked { IsMarked (marked self.now) };
-
     /// Takes the `n` bytes after the first `skip`, and drops all of them (own). The whole first chunk is moved.
     fn take_owned_after<T: OwnedBytes>(
         &mut self,
@@ -69,19 +64,6 @@ pub trait OwnedBuf: Buf {
         ensures nothing { n ≡ 0 → IsOk result }
         ensures static_text { (taken_view (marked self.old) skip n).mark ≡ static_mark → T.is_free (taken_view (marked self.old) skip n) → IsOk result }
         ensures whole { skip ≡ 0 → n ≡ length (first_chunk (Self.pieces self.old)) → T.is_free (taken_view (marked self.old) skip n) → IsOk result };
-
-    /// Returns the `n` bytes after the first `skip`, which stay (own).
-    fn peek_owned<T: OwnedBytes>(&self, alloc: Global, skip: usize, n: usize) -> Result<T, BufError>
-        requires { skip + n ≤ length (Self.text self.now) }
-        ensures ok { IfOk result (T.makes (taken_view (marked self.now) skip n)) }
-        ensures memory { IsOkUnless result BufError.Memory }
-        ensures nothing { n ≡ 0 → IsOk result }
-        ensures static_text { (taken_view (marked self.now) skip n).mark ≡ static_mark → T.is_free (taken_view (marked self.now) skip n) → IsOk result };
-
-    /// Fills `dst` with the bytes after the first `skip`, which stay (own).
-    fn peek_slice(&self, skip: usize, dst: &mut [u8])
-        requires { skip + length dst.old ≤ length (Self.text self.now) }
-        ensures { dst.new ≡ take (length dst.old) (drop skip (Self.text self.now)) };
 
     ghost same_text: { (s : Self) → (marked s).bytes ≡ Self.text s };
 
@@ -197,14 +179,6 @@ impl OwnedBuf for IoBuf {
 
     ghost marked = { of_view };
 
-    #[tactic(auto, using(crate::specs::ViewLaws::marked_view))]
-    fn chunk_count(&self) -> usize {
-        match self.len() {
-            0 => 0,
-            _ => 1,
-        }
-    }
-
     #[tactic(auto, using(crate::specs::ViewLaws::taken_of_view))]
     fn take_owned_after<T: OwnedBytes>(
         &mut self,
@@ -221,24 +195,6 @@ impl OwnedBuf for IoBuf {
         let made = T::from_view(alloc, view)?;
         self.drop_front(end);
         Ok(made)
-    }
-
-    #[tactic(auto, using(crate::specs::ViewLaws::taken_of_view))]
-    fn peek_owned<T: OwnedBytes>(
-        &self,
-        alloc: Global,
-        skip: usize,
-        n: usize,
-    ) -> Result<T, BufError> {
-        // A view's value has no bound of its length, so that the sum fits is known only of a length that was asked for.
-        let _len = self.len();
-        let end = skip + n;
-        let view = self.slice(Bound::Included(skip), Bound::Excluded(end))?;
-        T::from_view(alloc, view)
-    }
-
-    fn peek_slice(&self, skip: usize, dst: &mut [u8]) {
-        dst.copy_from_slice(&self.as_ref()[skip..skip + dst.len()]);
     }
 
     ghost same_text = { Prim.search rules };

@@ -1,8 +1,0 @@
-use Rattle.std.proofs.Common.{refl}
-use Rattle.iobufs_owner_tests.proofs.words.words.Goals as goal
-
-pub pack-requires-2 : goal.pack-requires-2
-pack-requires-2 g c = (62, refl)
-
-pub pack-most-requires : goal.pack-most-requires
-pack-most-requires g c = (30, refl)

@@ -1,0 +1,209 @@
+// Calls that consume what they make a buffer of.
+use crate::given::Given;
+use crate::made::part;
+use crate::word::{Word, end, say};
+use bytes::{Bytes, BytesMut};
+use iobufs::bufs::IoBufs;
+use iobufs_core::buf::{IoBuf, IoBufMut};
+use iobufs_core::codec::{BufError, OwnedBytes};
+use std::alloc::Global;
+use std::process::Abort;
+
+// What a buffer is made of.
+#[derive(Clone, Copy)]
+enum From {
+    List,
+    Bytes,
+    // With a clone that lives on.
+    SharedBytes,
+    Block,
+    // The first two of four bytes, whose rest is another block.
+    SharedBlock,
+    Part,
+}
+
+#[derive(Clone, Copy)]
+enum To {
+    View,
+    Bytes,
+    Part,
+    Bufs,
+}
+
+// What is consumed.
+#[derive(Drop)]
+enum Source {
+    List(Vec<u8>),
+    Bytes(Bytes),
+    Block(BytesMut),
+    Part(IoBufMut),
+}
+
+// What shares the bytes.
+#[derive(Drop)]
+enum Sharer {
+    None,
+    Bytes(Bytes),
+    Block(BytesMut),
+}
+
+impl Sharer {
+    fn is_same(&self) -> bool {
+        match self {
+            Sharer::None => true,
+            Sharer::Bytes(bytes) => bytes.as_slice() == b"abcd".as_slice(),
+            Sharer::Block(block) => block.as_slice() == b"cd".as_slice(),
+        }
+    }
+}
+
+fn bytes(alloc: Global, is_shared: bool) -> Result<(Source, Sharer), BufError> {
+    if !is_shared {
+        let bytes = Bytes::copy_from_slice(alloc, b"abc")?;
+        return Ok((Source::Bytes(bytes), Sharer::None));
+    }
+    let bytes = Bytes::copy_from_slice(alloc, b"abcd")?;
+    let twin = bytes.clone()?;
+    Ok((Source::Bytes(twin), Sharer::Bytes(bytes)))
+}
+
+fn block(alloc: Global, is_shared: bool) -> Result<(Source, Sharer), BufError> {
+    if !is_shared {
+        let block = BytesMut::copy_from_slice(alloc, b"abc")?;
+        return Ok((Source::Block(block), Sharer::None));
+    }
+    let mut first = BytesMut::copy_from_slice(alloc, b"abcd")?;
+    if first.len() < 2 {
+        return Err(BufError::TooLong);
+    }
+    let rest = first.split_off(2)?;
+    Ok((Source::Block(first), Sharer::Block(rest)))
+}
+
+fn made(alloc: Global, from: From) -> Result<(Source, Sharer), BufError> {
+    match from {
+        From::List => Ok((Source::List(Vec::from_slice(alloc, b"abc")?), Sharer::None)),
+        From::Bytes => bytes(alloc, false),
+        From::SharedBytes => bytes(alloc, true),
+        From::Block => block(alloc, false),
+        From::SharedBlock => block(alloc, true),
+        From::Part => Ok((Source::Part(part(alloc, 8, b"abc")?), Sharer::None)),
+    }
+}
+
+fn view_of(source: Source) -> Result<IoBuf, BufError> {
+    match source {
+        Source::List(list) => IoBuf::from_vec(list),
+        Source::Bytes(bytes) => <IoBuf as OwnedBytes>::from_bytes(bytes),
+        Source::Block(block) => IoBuf::from_bytes_mut(block),
+        Source::Part(part) => part.freeze(),
+    }
+}
+
+fn part_of(alloc: Global, source: Source) -> Result<IoBufMut, BufError> {
+    match source {
+        Source::List(list) => Ok(IoBufMut::from(list)),
+        Source::Bytes(bytes) => IoBufMut::from_bytes(alloc, bytes),
+        Source::Block(block) => IoBufMut::from_bytes_mut(block),
+        Source::Part(part) => Ok(part),
+    }
+}
+
+fn bufs_of(source: Source) -> Result<IoBufs, BufError> {
+    match source {
+        Source::List(list) => IoBufs::from_vec(list),
+        Source::Part(part) => IoBufs::from_mut(part),
+        other => Ok(IoBufs::from(view_of(other)?)),
+    }
+}
+
+fn bytes_of(alloc: Global, source: Source) -> Result<Bytes, BufError> {
+    match source {
+        Source::Bytes(bytes) => <Bytes as OwnedBytes>::from_bytes(bytes),
+        other => <Bytes as OwnedBytes>::from_view(alloc, view_of(other)?),
+    }
+}
+
+fn convert(alloc: Global, source: Source, to: To) -> Result<Given, BufError> {
+    match to {
+        To::View => Ok(Given::View(view_of(source)?)),
+        To::Bytes => Ok(Given::Bytes(bytes_of(alloc, source)?)),
+        To::Part => Ok(Given::Part(part_of(alloc, source)?)),
+        To::Bufs => Ok(Given::Bufs(bufs_of(source)?)),
+    }
+}
+
+// A conversion that fails consumes its argument, so another one is made for the second call.
+fn converted(rt: &(impl Print + Abort + AllocGlobal), from: From, to: To, bytes: &[u8]) {
+    let (source, sharer) = fixture!(*rt, made(rt.alloc(), from));
+    let (given, word) = match convert(rt.alloc(), source, to) {
+        Ok(given) => (given, Word::Whole),
+        Err(BufError::Memory) => {
+            let (again, _sharer) = made(rt.alloc(), from).expect(rt, "the second fixture");
+            let given = convert(rt.alloc(), again, to).expect(rt, "the second call");
+            (given, Word::Refused)
+        }
+        Err(_) => panic!(rt; "another error"),
+    };
+    end(rt, word, given.shows(bytes) && sharer.is_same());
+}
+
+#[test]
+fn list_to_view(rt: HostRuntime) {
+    converted(&rt, From::List, To::View, b"abc");
+}
+
+#[test]
+fn bytes_to_view(rt: HostRuntime) {
+    converted(&rt, From::Bytes, To::View, b"abc");
+}
+
+#[test]
+fn block_to_view(rt: HostRuntime) {
+    converted(&rt, From::Block, To::View, b"abc");
+}
+
+#[test]
+fn shared_block_to_view(rt: HostRuntime) {
+    converted(&rt, From::SharedBlock, To::View, b"ab");
+}
+
+#[test]
+fn bytes_to_bytes(rt: HostRuntime) {
+    converted(&rt, From::Bytes, To::Bytes, b"abc");
+}
+
+#[test]
+fn list_to_part(rt: HostRuntime) {
+    converted(&rt, From::List, To::Part, b"abc");
+}
+
+#[test]
+fn bytes_to_part(rt: HostRuntime) {
+    converted(&rt, From::Bytes, To::Part, b"abc");
+}
+
+#[test]
+fn shared_bytes_to_part(rt: HostRuntime) {
+    converted(&rt, From::SharedBytes, To::Part, b"abcd");
+}
+
+#[test]
+fn block_to_part(rt: HostRuntime) {
+    converted(&rt, From::Block, To::Part, b"abc");
+}
+
+#[test]
+fn shared_block_to_part(rt: HostRuntime) {
+    converted(&rt, From::SharedBlock, To::Part, b"ab");
+}
+
+#[test]
+fn part_to_bufs(rt: HostRuntime) {
+    converted(&rt, From::Part, To::Bufs, b"abc");
+}
+
+#[test]
+fn list_to_bufs(rt: HostRuntime) {
+    converted(&rt, From::List, To::Bufs, b"abc");
+}

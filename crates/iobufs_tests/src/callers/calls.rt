@@ -1,0 +1,166 @@
+// Each caller once, without allocation failure.
+use crate::make::{chunks, parts, text};
+use crate::same::assert_same;
+use iobufs::bufs::IoBufs;
+use iobufs_core::buf::IoBuf;
+use iobufs_core::codec::{BufError, Error};
+use iobufs_uses::crc::crc32;
+use iobufs_uses::frame::{echo, frame, read_frame};
+use iobufs_uses::journal::{End, append_record, replay};
+use iobufs_uses::send::send;
+use iobufs_uses::store::store;
+use std::alloc::Global;
+use std::io::{self, ErrorKind, Write};
+use std::test::Fail;
+
+const PIECES: [&'static [u8]; 3] = [b"ab", b"cd", b"ef"];
+
+#[test]
+fn frames_are_lengths_and_bodies(rt: HostRuntime) -> Result<(), Fail> {
+    let alloc = rt.alloc();
+    let mut text = frame(alloc, &IoBuf::from(b"abc".as_slice()))?;
+    assert_same!(rt; text.to_vec(alloc)?.as_slice(), b"\x03abc".as_slice());
+    text.append(alloc, IoBuf::from(b"\x00".as_slice()))?;
+    let body = read_frame(alloc, &mut text, 3)?;
+    let echoed = echo(alloc, &body)?;
+    assert_same!(rt; (body.as_ref(), echoed.as_ref()), (b"abc".as_slice(), b"abc".as_slice()));
+    assert_same!(rt; text.to_vec(alloc)?.as_slice(), b"\x00".as_slice());
+    Ok(())
+}
+
+#[test]
+fn chunks_are_sent_two_at_a_time(rt: HostRuntime) -> Result<(), Fail> {
+    let alloc = rt.alloc();
+    let mut text = text(alloc, &PIECES)?;
+    let mut to = Vec::from_slice(alloc, b">")?;
+    send(alloc, &mut to, &mut text, 2)?;
+    assert_same!(rt; (to.as_slice(), text.is_empty()), (b">abcdef".as_slice(), true));
+    Ok(())
+}
+
+// A writer that takes everything, except one write after so many.
+#[derive(Drop)]
+struct Refuses {
+    before: usize,
+}
+
+impl Write for Refuses {
+    fn write(&mut self, buf: &[u8]) -> io::Result<usize> {
+        if self.before == 0 {
+            self.before = usize::MAX;
+            return Err(io::Error::from(ErrorKind::StorageFull));
+        }
+        self.before -= 1;
+        Ok(buf.len())
+    }
+
+    fn flush(&mut self) -> io::Result<()> {
+        Ok(())
+    }
+}
+
+// What is left of three chunks if the write after so many is refused, or `None` if all are sent.
+fn left_behind(alloc: Global, most: usize, before: usize) -> Result<Option<usize>, BufError> {
+    let mut text = text(alloc, &PIECES)?;
+    let sent = send(alloc, &mut Refuses { before }, &mut text, most);
+    Ok(sent.is_err().then_some(text.len()))
+}
+
+// How many chunks are sent at a time, how many writes come before the one that is refused, and what is left. Each chunk is
+// a write. If the first write of a batch is refused, `send` returns the error; if another one is, the writer returns how
+// many bytes it took, and the next batch begins there. No chunk at a time is an error.
+const BATCHES: [(usize, usize, Option<usize>); 10] = [
+    (1, 0, Some(6)),
+    (1, 1, Some(4)),
+    (1, 2, Some(2)),
+    (2, 0, Some(6)),
+    (2, 1, None),
+    (2, 2, Some(2)),
+    (3, 1, None),
+    (3, 2, None),
+    (3, 3, None),
+    (0, usize::MAX, Some(6)),
+];
+
+#[test]
+fn batches_begin_where_they_should(rt: HostRuntime) -> Result<(), Fail> {
+    for (most, before, left) in BATCHES {
+        assert_same!(rt; left_behind(rt.alloc(), most, before)?, left, "{most} {before}");
+    }
+    Ok(())
+}
+
+#[test]
+fn parts_are_filled_from_a_reader(rt: HostRuntime) -> Result<(), Fail> {
+    let alloc = rt.alloc();
+    let mut from = b"abcdefgh".as_slice();
+    let full = store(alloc, &mut from, parts(alloc, &[(b"", 2), (b"", 3)])?)?;
+    assert_same!(rt; chunks(alloc, &full)?.as_slice(), b"ab|cde".as_slice());
+    let rest = store(alloc, &mut from, parts(alloc, &[(b"", 2), (b"", 3)])?)?;
+    assert_same!(rt; rest.to_vec(alloc)?.as_slice(), b"fgh".as_slice());
+    Ok(())
+}
+
+#[test]
+fn the_sum_of_nine_digits(rt: HostRuntime) {
+    assert_same!(rt; (crc32(b"123456789"), crc32(b"")), (0xcbf4_3926, 0));
+}
+
+// Records by their numbers, the length of their journal, how many of its bytes are kept, how many records are found in
+// them, and how they end.
+#[derive(Clone, Copy)]
+struct Journal {
+    records: &'static [(u64, &'static [u8])],
+    len: usize,
+    kept: usize,
+    found: usize,
+    end: End,
+}
+
+const JOURNALS: [Journal; 3] = [
+    Journal {
+        records: &[(0, b"ab"), (1, b"")],
+        len: 28,
+        kept: 28,
+        found: 2,
+        end: End::Whole,
+    },
+    Journal {
+        records: &[(0, b"ab"), (1, b"")],
+        len: 28,
+        kept: 20,
+        found: 1,
+        end: End::Torn,
+    },
+    Journal {
+        records: &[(0, b"ab"), (1, b""), (3, b"cd")],
+        len: 43,
+        kept: 43,
+        found: 2,
+        end: End::Damaged,
+    },
+];
+
+// The records, one after the other.
+fn recorded(alloc: Global, records: &[(u64, &[u8])]) -> Result<IoBufs, Error> {
+    let mut journal = IoBufs::default();
+    for (number, body) in records.iter() {
+        append_record(alloc, &mut journal, *number, body)?;
+    }
+    Ok(journal)
+}
+
+#[test]
+fn records_are_replayed(rt: HostRuntime) -> Result<(), Fail> {
+    let alloc = rt.alloc();
+    for case in &JOURNALS {
+        let mut journal = recorded(alloc, case.records)?;
+        assert_same!(rt; journal.len(), case.len, "{:?}", case.end);
+        journal.truncate(alloc, case.kept)?;
+        let replayed = replay(alloc, journal, 100)?;
+        let first = replayed.found.get(0).map(|body| body.len());
+        let told = (replayed.found.len(), replayed.end, first);
+        assert_same!(rt; told, (case.found, case.end, Some(2)), "{:?}", case.end);
+    }
+    Ok(())
+}

@@ -1,0 +1,81 @@
+// Each text that an error prints, and a command as it is printed and compared.
+use crate::make::text;
+use crate::same::assert_same;
+use iobufs_core::buf::IoBuf;
+use iobufs_core::codec::{BufError, Error, RangeCfg, Refused, TryGetError};
+use iobufs_run::command::Cmd;
+use std::fmt::Display;
+use std::process::Abort;
+use std::test::Fail;
+
+const BUFFER_ERRORS: [(BufError, &'static str); 3] = [
+    (BufError::Memory, "Memory"),
+    (BufError::BadLayout, "BadLayout"),
+    (BufError::TooLong, "TooLong"),
+];
+
+const ERRORS: [(Error, &'static str); 6] = [
+    (Error::EndOfBuffer, "EndOfBuffer"),
+    (Error::InvalidVarint, "InvalidVarint"),
+    (Error::InvalidLength(7), "InvalidLength"),
+    (Error::Memory, "Memory"),
+    (Error::BadLayout, "BadLayout"),
+    (Error::TooLong, "TooLong"),
+];
+
+const SHORT: TryGetError = TryGetError {
+    requested: 3,
+    available: 2,
+};
+
+fn assert_printed<C: Display>(
+    rt: &(impl Abort + AllocGlobal),
+    cause: &C,
+    wanted: &str,
+) -> Result<(), Fail> {
+    assert_same!(rt; format!(in rt.alloc(); "{cause}")?.as_str(), wanted);
+    Ok(())
+}
+
+#[test]
+fn errors_print_their_names(rt: HostRuntime) -> Result<(), Fail> {
+    for (cause, wanted) in BUFFER_ERRORS {
+        assert_printed(&rt, &cause, wanted)?;
+        let value = IoBuf::default();
+        assert_printed(&rt, &Refused { cause, value }, wanted)?;
+    }
+    for (cause, wanted) in ERRORS {
+        assert_printed(&rt, &cause, wanted)?;
+    }
+    assert_printed(&rt, &SHORT, "TryGetError")
+}
+
+#[test]
+fn a_command_is_printed_copied_and_compared(rt: HostRuntime) -> Result<(), Fail> {
+    let put = Cmd::Put {
+        target: 1,
+        bytes: Vec::from_slice(rt.alloc(), &[7, 8])?,
+    };
+    let decode = Cmd::Decode {
+        src: 0,
+        dst: 1,
+        range: RangeCfg { lo: 0, hi: 9 },
+    };
+    let text = format!(in rt.alloc(); "{put:?}")?;
+    assert_same!(rt; text.as_str(), "Put { target: 1, bytes: [7, 8] }");
+    let same = (
+        put.clone()? == put,
+        decode.clone()? == decode,
+        put == decode,
+    );
+    assert_same!(rt; same, (true, true, false));
+    Ok(())
+}
+
+#[test]
+fn a_text_prints_its_length_and_its_chunks(rt: HostRuntime) -> Result<(), Fail> {
+    let text = text(rt.alloc(), &[b"ab", b"cde"])?;
+    let printed = format!(in rt.alloc(); "{text:?}")?;
+    assert_same!(rt; printed.as_str(), "IoBufs { len: 5, chunks: 2 }");
+    Ok(())
+}

@@ -1,0 +1,211 @@
+// A thousand times what an example has.
+use crate::same::assert_same;
+use bytes::Bytes;
+use iobufs::bufs::IoBufs;
+use iobufs::bufs_mut::IoBufsMut;
+use iobufs_core::buf::{IoBuf, IoBufMut};
+use iobufs_core::codec::{Buf, BufError, BufMut, OwnedBuf};
+use iobufs_uses::store::store;
+use std::alloc::Global;
+use std::process::Abort;
+use std::test::Fail;
+
+const PIECES: u16 = 5000;
+
+const MEBIBYTE: usize = 1048576;
+
+const HALF: usize = 524288;
+
+// A part with the two bytes of a number.
+fn number(alloc: Global, capacity: usize, number: u16) -> Result<IoBufMut, BufError> {
+    let mut part = IoBufMut::with_capacity(alloc, capacity)?;
+    if part.remaining_mut() >= 2 {
+        part.put_u16(number);
+    }
+    Ok(part)
+}
+
+// Chunks of two bytes, each with its number.
+fn numbered(alloc: Global) -> Result<IoBufs, BufError> {
+    let mut text = IoBufs::default();
+    for i in 0..PIECES {
+        text.append(alloc, number(alloc, 2, i)?.freeze()?)?;
+    }
+    Ok(text)
+}
+
+// Compares the chunks of a text with the numbers from one to another.
+fn assert_numbered(rt: &impl Abort, text: &IoBufs, from: u16, to: u16) {
+    let mut wanted = from;
+    text.for_each_chunk(|chunk: &[u8]| {
+        if chunk == wanted.to_be_bytes().as_slice() {
+            wanted = wanted.saturating_add(1);
+        }
+    });
+    let count = to.saturating_sub(from) as usize;
+    assert_same!(rt; (wanted, text.chunk_count()), (to, count), "{from} to {to}");
+}
+
+// The bytes of a text from one place to another.
+fn sliced(alloc: Global, text: &IoBufs, from: usize, to: usize) -> Result<IoBufs, BufError> {
+    if from > to || to > text.len() {
+        return Err(BufError::TooLong);
+    }
+    text.slice(alloc, from..to)
+}
+
+// A range of bytes, and the numbers in it.
+const SLICES: [(usize, usize, u16, u16); 3] = [
+    (0, 10000, 0, PIECES),
+    (2, 9998, 1, 4999),
+    (6000, 6002, 3000, 3001),
+];
+
+#[test]
+fn a_text_is_sliced(rt: HostRuntime) -> Result<(), Fail> {
+    let text = numbered(rt.alloc())?;
+    assert_same!(rt; text.len(), 10000);
+    for (from, to, first, end) in SLICES {
+        assert_numbered(&rt, &sliced(rt.alloc(), &text, from, to)?, first, end);
+    }
+    let inside = sliced(rt.alloc(), &text, 4999, 5003)?;
+    assert_same!(rt; inside.chunk_count(), 3);
+    let bytes = [0xc3, 0x09, 0xc4, 0x09];
+    assert_same!(rt; inside.to_vec(rt.alloc())?.as_slice(), bytes.as_slice());
+    assert_numbered(&rt, &text.clone()?, 0, PIECES);
+    assert_numbered(&rt, &text, 0, PIECES);
+    Ok(())
+}
+
+#[test]
+fn a_text_is_split(rt: HostRuntime) -> Result<(), Fail> {
+    let mut rest = numbered(rt.alloc())?;
+    assert!(rt; rest.len() == 10000);
+    let front = rest.split_to(rt.alloc(), 9998)?;
+    assert_numbered(&rt, &front, 0, 4999);
+    assert_numbered(&rt, &rest, 4999, PIECES);
+    Ok(())
+}
+
+#[test]
+fn a_text_is_coalesced(rt: HostRuntime) -> Result<(), Fail> {
+    let whole = numbered(rt.alloc())?.coalesce(rt.alloc())?;
+    assert_same!(rt; whole.len(), 10000);
+    for i in 0..PIECES {
+        let [high, low] = i.to_be_bytes();
+        let at = 2 * i as usize;
+        let found = (whole.byte_at(at), whole.byte_at(at + 1));
+        assert_same!(rt; found, (Some(high), Some(low)), "{i}");
+    }
+    Ok(())
+}
+
+// A view of a mebibyte.
+fn mebibyte(alloc: Global, byte: u8) -> Result<IoBuf, BufError> {
+    IoBuf::from_vec(vec![in alloc; byte; MEBIBYTE]?)
+}
+
+#[test]
+fn a_mebibyte_is_taken(rt: HostRuntime) -> Result<(), Fail> {
+    let mut text = IoBufs::from(mebibyte(rt.alloc(), 1)?);
+    text.append(rt.alloc(), mebibyte(rt.alloc(), 2)?)?;
+    assert_same!(rt; text.len(), 2 * MEBIBYTE);
+    let across = text.try_take_owned::<Bytes>(rt.alloc(), MEBIBYTE + 1)?;
+    let found = (across.len(), across.as_slice().get(MEBIBYTE - 1..));
+    assert_same!(rt; found, (MEBIBYTE + 1, Some([1, 2].as_slice())));
+    assert_same!(rt; (text.len(), text.chunk_count()), (MEBIBYTE - 1, 1));
+    Ok(())
+}
+
+// Two parts of half a mebibyte.
+fn halves(alloc: Global) -> Result<IoBufsMut, BufError> {
+    let mut parts = Vec::new(alloc);
+    parts.push(IoBufMut::with_capacity(alloc, HALF)?)?;
+    parts.push(IoBufMut::with_capacity(alloc, HALF)?)?;
+    IoBufsMut::from_parts(alloc, parts.into_iter())
+}
+
+// The low two bytes of each number below half a mebibyte, and then `!`.
+fn low_bytes(alloc: Global) -> Result<Vec<u8>, BufError> {
+    let mut bytes = Vec::with_capacity(alloc, 2 * HALF)?;
+    for i in 0..HALF as u32 {
+        bytes.extend_from_slice(&i.to_be_bytes()[2..])?;
+    }
+    bytes.push(b'!')?;
+    Ok(bytes)
+}
+
+#[test]
+fn a_mebibyte_is_stored(rt: HostRuntime) -> Result<(), Fail> {
+    let bytes = low_bytes(rt.alloc())?;
+    let mut from = bytes.as_slice();
+    let text = store(rt.alloc(), &mut from, halves(rt.alloc())?)?;
+    assert_same!(rt; (from, text.len(), text.chunk_count()), (b"!".as_slice(), MEBIBYTE, 2));
+    assert!(rt; text.chunk_at(0) == bytes.as_slice().get(..HALF));
+    assert!(rt; text.chunk_at(1) == bytes.as_slice().get(HALF..MEBIBYTE));
+    Ok(())
+}
+
+// Parts of two bytes, each with its number; every other one, from the first on, has two spare bytes.
+fn numbered_parts(alloc: Global) -> Result<IoBufsMut, BufError> {
+    let mut parts = Vec::with_capacity(alloc, PIECES as usize)?;
+    for i in 0..PIECES {
+        let capacity = if i % 2 == 0 { 4 } else { 2 };
+        parts.push(number(alloc, capacity, i)?)?;
+    }
+    IoBufsMut::from_parts(alloc, parts.into_iter())
+}
+
+// The parts once the first numbers are read, which are compared.
+fn read_to(rt: &(impl Abort + AllocGlobal), to: u16) -> Result<IoBufsMut, BufError> {
+    let mut parts = numbered_parts(rt.alloc())?;
+    for i in 0..to {
+        let mut bytes = [0; 2];
+        assert!(rt; parts.len() >= bytes.len());
+        parts.copy_to_slice(&mut bytes);
+        assert_same!(rt; bytes, i.to_be_bytes());
+    }
+    Ok(parts)
+}
+
+// The parts that are used up come before the others.
+const PLACES: [(usize, Option<&'static [u8]>); 5] = [
+    (0, Some(b"")),
+    (1, Some(b"")),
+    (2, Some(&[0, 4])),
+    (4997, Some(&[0x13, 0x87])),
+    (4998, None),
+];
+
+#[test]
+fn parts_that_are_used_up_come_first(rt: HostRuntime) -> Result<(), Fail> {
+    let parts = read_to(&rt, 4)?;
+    assert_same!(rt; (parts.part_count(), parts.len()), (4998, 9992));
+    for (place, wanted) in PLACES {
+        let bytes = parts.part_at(place).map(|part| part.as_ref());
+        assert!(rt; bytes == wanted, "{place}");
+    }
+    Ok(())
+}
+
+#[test]
+fn parts_that_are_used_up_are_filled_again(rt: HostRuntime) -> Result<(), Fail> {
+    let mut parts = read_to(&rt, PIECES)?;
+    let left = (parts.part_count(), parts.len(), parts.capacity());
+    assert_same!(rt; left, (2500, 0, 5000));
+    assert!(rt; parts.remaining_mut() >= 3);
+    parts.put_slice(b"abc");
+    assert_same!(rt; parts.chunk(), b"ab".as_slice());
+    let bytes = parts.part_at(1).map(|part| part.as_ref());
+    assert!(rt; bytes == Some(b"c".as_slice()));
+    Ok(())
+}
+
+#[test]
+fn parts_are_joined_after_those_that_are_used_up(rt: HostRuntime) -> Result<(), Fail> {
+    let frozen = read_to(&rt, 2500)?.freeze(rt.alloc())?;
+    assert_numbered(&rt, &frozen, 2500, PIECES);
+    let last = read_to(&rt, 4999)?.coalesce(rt.alloc())?;
+    assert_same!(rt; last.as_ref(), [0x13, 0x87].as_slice());
+    Ok(())
+}

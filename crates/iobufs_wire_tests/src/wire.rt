@@ -1,0 +1,33 @@
+// What no contract says of encoding: worked examples of lengths, views, types of several fields and the builder.
+#[cfg(test)]
+mod alike;
+#[cfg(test)]
+mod build;
+#[cfg(test)]
+mod chunks;
+#[cfg(test)]
+mod encode;
+#[cfg(test)]
+mod gets;
+#[cfg(test)]
+mod lengths;
+#[cfg(test)]
+mod made;
+#[cfg(test)]
+mod message;
+#[cfg(test)]
+mod note;
+#[cfg(test)]
+mod parts;
+#[cfg(test)]
+mod readers;
+#[cfg(test)]
+mod record;
+mod request;
+#[cfg(test)]
+mod shard;
+#[cfg(test)]
+mod values;
+#[cfg(test)]
+mod whole;
+mod zeros;

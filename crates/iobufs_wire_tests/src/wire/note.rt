@@ -1,0 +1,130 @@
+// A note of three fields, a letter that contains a note, and an entry of four fields: each is read as the tuple of its fields.
+ghost use Rattle.std.specs.Prelude.{◌≡◌, ◌++◌, [], ◌∷◌, IfOk};
+ghost use Rattle.std.specs.Int.{w32, to_be_bytes};
+ghost use Rattle.iobufs_core.specs.Wire.{view_written};
+
+use iobufs::EncodeExt;
+use iobufs::bufs::IoBufs;
+use iobufs_core::buf::IoBuf;
+use iobufs_core::codec::Error;
+use iobufs_values::{ByParts, IntoParts, List, Signed};
+use std::alloc::Global;
+
+/// A number, a byte and a body.
+#[derive(PartialEq, Drop)]
+pub struct Note {
+    pub number: u32,
+    pub kind: u8,
+    pub body: IoBuf,
+}
+
+impl ByParts for Note {
+    type Parts = (u32, u8, IoBuf);
+
+    ghost parts = { λ note. (note.number, note.kind, note.body) };
+
+    fn from_parts(all: (u32, u8, IoBuf)) -> Note {
+        let (number, kind, body) = all;
+        Note { number, kind, body }
+    }
+}
+
+impl Note {
+    /// Encodes the note. Its body is not copied.
+    pub fn encode(self, alloc: Global) -> Result<IoBufs, Error>
+        ensures { IfOk result (λ text. text.bytes ≡ to_be_bytes w32 self.number ++ ((self.kind ∷ []) ++ view_written self.body)) }
+    {
+        (self.number, self.kind, self.body).encode_iobufs(alloc)
+    }
+}
+
+/// When it was sent, its note, and which it answers.
+#[derive(PartialEq, Drop)]
+pub struct Letter {
+    pub sent: i64,
+    pub note: Note,
+    pub answers: Vec<u32>,
+}
+
+impl ByParts for Letter {
+    type Parts = (Signed<i64>, (u32, u8, IoBuf), List<u32>);
+
+    ghost parts = { λ letter. (
+      record { value = letter.sent },
+      (letter.note.number, letter.note.kind, letter.note.body),
+      record { values = letter.answers },
+    ) };
+
+    fn from_parts(all: (Signed<i64>, (u32, u8, IoBuf), List<u32>)) -> Letter {
+        let (sent, note, answers) = all;
+        Letter {
+            sent: sent.value,
+            note: Note::from_parts(note),
+            answers: answers.values,
+        }
+    }
+}
+
+// [docs: entry]
+/// An entry of a log.
+#[derive(Drop)]
+pub struct Entry {
+    pub number: u64,
+    pub flags: u8,
+    pub key: IoBuf,
+    pub value: IoBuf,
+}
+
+impl ByParts for Entry {
+    type Parts = (u64, u8, IoBuf, IoBuf);
+
+    ghost parts = { λ entry. (entry.number, entry.flags, entry.key, entry.value) };
+
+    fn from_parts(all: (u64, u8, IoBuf, IoBuf)) -> Entry {
+        let (number, flags, key, value) = all;
+        Entry {
+            number,
+            flags,
+            key,
+            value,
+        }
+    }
+}
+
+impl IntoParts for Entry {
+    fn into_parts(self) -> (u64, u8, IoBuf, IoBuf) {
+        (self.number, self.flags, self.key, self.value)
+    }
+}
+// [docs end]
+
+#[cfg(test)]
+mod tests {
+    use super::*;
+    use iobufs_core::codec::RangeCfg;
+    use std::test::Fail;
+
+    const ANY: RangeCfg = RangeCfg { lo: 0, hi: 9 };
+
+    #[test]
+    fn an_entry_is_read_back(rt: HostRuntime) -> Result<(), Fail> {
+        let alloc = rt.alloc();
+        let key = IoBuf::from(b"k".as_slice());
+        let value = IoBuf::from(b"value".as_slice());
+        let entry = Entry {
+            number: 7,
+            flags: 1,
+            key,
+            value,
+        };
+        let mut text: IoBufs = entry.encode_iobufs(alloc)?;
+        assert_eq!(rt; text.len(), 17);
+        let read = Entry::read_whole(alloc, &mut text, &((), (), ANY, ANY))?;
+        assert_eq!(rt; read.number, 7);
+        assert_eq!(rt; read.flags, 1);
+        assert_eq!(rt; read.key.as_ref(), b"k".as_slice());
+        assert_eq!(rt; read.value.as_ref(), b"value".as_slice());
+        assert!(rt; text.is_empty());
+        Ok(())
+    }
+}

@@ -1,0 +1,211 @@
+// Types that are read by their parts, out of a chunk for each byte: a letter of several fields, and a request of one kind
+// or another.
+use crate::same::assert_same;
+use crate::wire::chunks::{ANY, UP_TO_9, assert_chunks, concatenated, copied_bytewise, view};
+use crate::wire::encode::assert_written;
+use crate::wire::note::{Letter, Note};
+use crate::wire::request::{Request, RequestParts};
+use crate::wire::whole::{END, assert_front, assert_prefixes, assert_refused, assert_whole};
+use iobufs::bufs::IoBufs;
+use iobufs_core::buf::IoBuf;
+use iobufs_core::codec::{EncodeSize, Error, RangeCfg};
+use iobufs_values::{ByParts, Either, Fault, IntoParts, Kind, List, Look, Tagged};
+use std::process::Abort;
+
+// Each prefix ends too early and is left as it was, and a byte after the value is too much.
+fn assert_by_parts<T: ByParts + PartialEq + Drop>(
+    rt: &(impl Abort + AllocGlobal),
+    what: &str,
+    bytes: &[u8],
+    cfg: &<T::Parts as Look>::Cfg,
+    value: &T,
+) {
+    for n in 0..bytes.len() {
+        let mut prefix = copied_bytewise(rt, &bytes[..n]);
+        assert_same!(rt; T::read_whole(rt.alloc(), &mut prefix, cfg).err(), Some(END), "{what}");
+        assert_same!(rt; (prefix.len(), prefix.chunk_count()), (n, n), "{what}");
+    }
+    let mut longer = copied_bytewise(rt, bytes);
+    let decoded = T::decode_cfg(rt.alloc(), &longer, cfg).expect(rt, what);
+    assert!(rt; decoded == *value, "{what}: another value");
+    longer.append(rt.alloc(), view(b"z")).expect(rt, what);
+    let extra = T::decode_cfg(rt.alloc(), &longer, cfg).err();
+    assert_same!(rt; extra, Some(Fault::ExtraData(1)), "{what}");
+    let read = T::read_whole(rt.alloc(), &mut longer, cfg).expect(rt, what);
+    assert!(rt; read == *value, "{what}: another value");
+    assert_same!(rt; longer.len(), 1, "{what}");
+}
+
+fn note() -> Note {
+    Note {
+        number: 7,
+        kind: 2,
+        body: view(b"abc"),
+    }
+}
+
+// Sent at -1, the note 7 of the kind 2 with the body `abc`, and the answers 8 and 9.
+const LETTER: &[u8] =
+    b"\xff\xff\xff\xff\xff\xff\xff\xff\0\0\0\x07\x02\x03abc\x02\0\0\0\x08\0\0\0\x09";
+
+#[test]
+fn a_letter(rt: HostRuntime) {
+    let letter = Letter {
+        sent: -1,
+        note: note(),
+        answers: vec![in rt.alloc(); 8u32, 9u32].expect(&rt, "answers"),
+    };
+    let cfg = ((), ((), (), UP_TO_9), (RangeCfg { lo: 0, hi: 2 }, ()));
+    assert_by_parts(&rt, "a letter", LETTER, &cfg, &letter);
+}
+
+#[test]
+fn a_note(rt: HostRuntime) {
+    let mut encoded = note().encode(rt.alloc()).expect(&rt, "a note");
+    assert_chunks(&rt, "a note", &encoded, &[b"\0\0\0\x07\x02\x03", b"abc"]);
+    let read = Note::read_whole(rt.alloc(), &mut encoded, &((), (), UP_TO_9));
+    assert!(rt; read.expect(&rt, "a note") == note(), "another note");
+}
+
+// A request, with bytes for views.
+#[derive(Clone, Copy)]
+enum Asked {
+    Get(&'static [u8], u32),
+    Put(&'static [u8], &'static [u8]),
+    Sync(u64),
+}
+
+fn request(asked: Asked) -> Request {
+    match asked {
+        Asked::Get(key, limit) => Request::Get {
+            key: view(key),
+            limit,
+        },
+        Asked::Put(key, body) => Request::Put {
+            key: view(key),
+            body: view(body),
+        },
+        Asked::Sync(last) => Request::Sync(last),
+    }
+}
+
+// A request, and the chunks that it is written as.
+struct Case {
+    name: &'static str,
+    asked: Asked,
+    chunks: &'static [&'static [u8]],
+}
+
+const REQUESTS: [Case; 3] = [
+    Case {
+        name: "a get",
+        asked: Asked::Get(b"key", 7),
+        chunks: &[b"\0\x03", b"key", b"\0\0\0\x07"],
+    },
+    Case {
+        name: "a put",
+        asked: Asked::Put(b"key", b"body"),
+        chunks: &[b"\x01\x03", b"key", b"\x04", b"body"],
+    },
+    Case {
+        name: "a sync",
+        asked: Asked::Sync(300),
+        chunks: &[b"\x02\0\0\0\0\0\0\x01\x2c"],
+    },
+];
+
+const CFG: <RequestParts as Look>::Cfg = ((UP_TO_9, ()), ((UP_TO_9, UP_TO_9), ()));
+
+// A request is written as these chunks, and read from them and from their bytes.
+fn assert_request(rt: &(impl Abort + AllocGlobal), case: &Case) {
+    let (what, asked) = (case.name, case.asked);
+    let bytes = concatenated(rt, case.chunks);
+    let parts = request(asked).into_parts();
+    assert_same!(rt; parts.encode_size(), Some(bytes.len()), "{what}");
+    let encoded = request(asked).encode(rt.alloc()).expect(rt, what);
+    assert_same!(rt; encoded.as_ref(), bytes.as_slice(), "{what}");
+    let mut pieces: IoBufs = request(asked).encode_iobufs(rt.alloc()).expect(rt, what);
+    assert_chunks(rt, what, &pieces, case.chunks);
+    let read = Request::read_whole(rt.alloc(), &mut pieces, &CFG).expect(rt, what);
+    assert!(rt;
+        read == request(asked) && pieces.is_empty(),
+        "{what}: another value"
+    );
+    assert_by_parts(rt, what, &bytes, &CFG, &read);
+    assert_prefixes::<RequestParts>(rt, what, &bytes, &CFG);
+}
+
+#[test]
+fn requests(rt: HostRuntime) {
+    for case in &REQUESTS {
+        assert_request(&rt, case);
+    }
+}
+
+#[test]
+fn a_long_request(rt: HostRuntime) {
+    let body = vec![in rt.alloc(); 5u8; 2_000_000].expect(&rt, "two million bytes");
+    let put = Request::Put {
+        key: view(b"key"),
+        body: IoBuf::from_vec(body).expect(&rt, "a long body"),
+    };
+    let written = put.encode(rt.alloc()).expect(&rt, "a long request");
+    assert_same!(rt; written.len(), 2_000_008);
+    let first = written.as_ref().get(..9);
+    assert_same!(rt; first, Some(b"\x01\x03key\x80\x89\x7a\x05".as_slice()));
+}
+
+#[test]
+fn bytes_that_are_no_request(rt: HostRuntime) {
+    let fault = Fault::InvalidEnum;
+    let mut third = copied_bytewise(&rt, b"\x03\x03key\0\0\0\x07");
+    assert_refused::<RequestParts, IoBufs>(&rt, "a fourth kind", &mut third, &CFG, fault(3));
+    let mut last = view(b"\xff");
+    assert_refused::<RequestParts, IoBuf>(&rt, "the last kind", &mut last, &CFG, fault(255));
+    assert_same!(rt; Request::read_whole(rt.alloc(), &mut last, &CFG).err(), Some(fault(255)));
+    assert_same!(rt; last.len(), 1);
+    let mut long = view(b"\x01\x0aabcdefghij\0");
+    let too_long = Fault::Codec(Error::InvalidLength(10));
+    assert_refused::<RequestParts, IoBuf>(&rt, "a long key", &mut long, &CFG, too_long);
+    let mut other = view(b"\x01\x05");
+    assert_refused::<Kind<2, u8>, IoBuf>(&rt, "another kind", &mut other, &(), fault(1));
+}
+
+// Both kinds have the byte 7, so the first is read.
+type Alike = Either<Kind<7, u8>, Kind<7, u16>>;
+
+#[test]
+fn kinds_with_one_byte(rt: HostRuntime) {
+    let second: Alike = Either::Second(Kind { value: 0x0102 });
+    assert_written(&rt, "the second kind", &second, 3, &[b"\x07\x01\x02"]);
+    let first: Alike = Either::First(Kind { value: 1 });
+    assert_front(
+        &rt,
+        "the first kind",
+        &mut view(b"\x07\x01\x02"),
+        &((), ()),
+        &first,
+        1,
+    );
+    let which = [0, 2, 3].map(|byte| RequestParts::is_tag(byte));
+    assert_same!(rt; which, [true, true, false]);
+}
+
+type Mixed = List<Either<Kind<0, u8>, Kind<9, u16>>>;
+
+#[test]
+fn a_list_of_kinds(rt: HostRuntime) {
+    let three = vec![in rt.alloc();
+        Either::First(Kind { value: 5 }),
+        Either::Second(Kind { value: 0x0102 }),
+        Either::First(Kind { value: 6 }),
+    ];
+    let mixed: Mixed = List {
+        values: three.expect(&rt, "three values"),
+    };
+    let bytes: &[u8] = b"\x03\0\x05\x09\x01\x02\0\x06";
+    let cfg = (UP_TO_9, ((), ()));
+    assert_whole(&rt, "three of two kinds", &mixed, &cfg, 8, &[bytes]);
+    let mut wrong = view(b"\x02\0\x05\x01");
+    assert_refused::<Mixed, IoBuf>(&rt, "a third kind", &mut wrong, &cfg, Fault::InvalidEnum(1));
+}
