@@ -42,11 +42,7 @@ pub trait Look: EncodeSize + Sized {
     ghost form: { IsForm Self Self.Cfg Self.written same admits is_found is_fault };
 
     /// Reads the value from the front, whole. If it fails, `buf` is unchanged.
-    final fn read_whole<B: Peek>(
-        alloc: Global,
-        buf: &mut B,
-        cfg: &Self::Cfg,
-    ) -> Result<Self, Fault>
+    final fn read_whole<B: Peek>(alloc: Global, buf: &mut B, cfg: &Self::Cfg) -> Result<Self, Fault>
         ensures found { IfOk result (is_found (B.marked buf.old) 0 cfg.now) }
         ensures left { IfOk result (λ value. buf.new ≡ B.copied buf.old (length (Self.written value))) }
         ensures bytes { IfOk result (λ value. B.text buf.old ≡ Self.written value ++ B.text buf.new) }

@@ -9,7 +9,7 @@ ghost use Rattle.iobufs_values.specs.Form.{HasStaticViewThere, IsCodecFault, IsM
 use crate::{Fault, Look};
 use bytes::Bytes;
 use iobufs_core::buf::IoBuf;
-use iobufs_core::codec::{Error, Peek, OwnedBytes, RangeCfg, peek_length};
+use iobufs_core::codec::{Error, OwnedBytes, Peek, RangeCfg, peek_length};
 use std::alloc::Global;
 
 /// Decodes the bytes after a length, which stay.
