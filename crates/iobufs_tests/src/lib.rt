@@ -1,5 +1,6 @@
 // What no contract says: worked examples, calls that succeed, storage that is shared, printed text, and lengths above the
-// limits that a call might have. `callers` tests the crates over the buffers, `owner` the owner machine.
+// limits that a call might have. `callers` tests the crates over the buffers, `owner` the owner machine, and
+// `wire` encoded values.
 #![tactic(auto)]
 
 #[cfg(test)]
@@ -28,3 +29,4 @@ mod strung;
 mod texts;
 #[cfg(test)]
 mod views;
+mod wire;

@@ -8,7 +8,7 @@ use iobufs::bufs_mut::IoBufsMut;
 use iobufs::builder::Builder;
 use iobufs_core::buf::{IoBuf, IoBufMut};
 use iobufs_core::codec::{
-    Buf, BufError, BufMut, BufsMut, Encode, Error, OwnedBuf, OwnedBytes, RangeCfg,
+    Buf, BufError, BufMut, BufsMut, Encode, Error, OwnedBytes, Peek, RangeCfg,
 };
 use iobufs_frames::{End, Frames};
 use std::alloc::Global;
@@ -74,7 +74,7 @@ fn in_a_row(alloc: Global, count: usize, len: usize) -> Result<IoBufsMut, BufErr
 }
 
 // Bytes after the first one are peeked at, and then taken out.
-fn taken<T: OwnedBytes + Drop, B: OwnedBuf>(
+fn taken<T: OwnedBytes + Drop, B: Peek>(
     alloc: Global,
     buf: &mut B,
     n: usize,
@@ -97,7 +97,7 @@ fn copied<B: Buf>(alloc: Global, buf: &mut B, n: usize) -> Result<usize, BufErro
 }
 
 // All of these, of so many bytes each.
-fn read<B: OwnedBuf>(alloc: Global, buf: &mut B, n: usize) -> Result<usize, BufError> {
+fn read<B: Peek>(alloc: Global, buf: &mut B, n: usize) -> Result<usize, BufError> {
     taken::<IoBuf, B>(alloc, buf, n)?;
     taken::<Bytes, B>(alloc, buf, n)?;
     copied(alloc, buf, n)

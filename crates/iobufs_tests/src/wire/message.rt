@@ -3,7 +3,7 @@ ghost use Rattle.std.specs.Prelude.{◌≡◌, ◌++◌, [], ◌∷◌};
 ghost use Rattle.std.specs.Int.{w32, to_be_bytes};
 
 use iobufs_core::buf::IoBuf;
-use iobufs_core::codec::{BufMut, BufsMut, EncodeSize, Error, OwnedBuf, RangeCfg, Write};
+use iobufs_core::codec::{BufMut, BufsMut, EncodeSize, Error, Peek, RangeCfg, Write};
 use iobufs_values::{Fault, Look};
 use std::alloc::Global;
 
@@ -63,7 +63,7 @@ impl Look for Message {
 
     ghost same = { λ x y. ⟦<(u32, u8, IoBuf) as Look>⟧.same (x.number, x.kind, x.body) (y.number, y.kind, y.body) };
 
-    fn look<B: OwnedBuf>(
+    fn look<B: Peek>(
         alloc: Global,
         buf: &B,
         skip: usize,

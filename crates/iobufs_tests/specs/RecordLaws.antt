@@ -9,8 +9,8 @@ use Rattle.iobufs_core.specs.MarkedText.{MarkedText}
 use Rattle.iobufs_core.specs.ReadBack.{IsReadAlike, IsReadBack}
 use Rattle.iobufs_core.specs.declared.codec.base.Error.{Error}
 use Rattle.iobufs_core.specs.declared.codec.base.Error.TheVariants.{EndOfBuffer, InvalidVarint, InvalidLength, Memory, BadLayout, TooLong}
-use Rattle.iobufs_wire_tests.specs.declared.wire.record.Record.{Record}
-use Rattle.iobufs_wire_tests.specs.Record.{record_written, IsRecordRead}
+use Rattle.iobufs_tests.specs.declared.wire.record.Record.{Record}
+use Rattle.iobufs_tests.specs.Record.{record_written, IsRecordRead}
 
 fault : (bytes : List ℕ) (error : Error) → IsRecordRead bytes (Err error) → (error ≡ EndOfBuffer) × (length bytes < 7)
 fault bytes EndOfBuffer h = (refl, h)

@@ -5,7 +5,7 @@ use Rattle.std.specs.Prelude.{◌≡◌, ℕ, ◌<◌, ◌≤◌, Result, Ok, Er
 use Rattle.std.specs.Int.{w16, w32, to_be_bytes}
 use Rattle.iobufs_core.specs.declared.codec.base.Error.{Error}
 use Rattle.iobufs_core.specs.declared.codec.base.Error.TheVariants.{EndOfBuffer}
-use Rattle.iobufs_wire_tests.specs.declared.wire.record.Record.{Record}
+use Rattle.iobufs_tests.specs.declared.wire.record.Record.{Record}
 
 abbrev pub record_written : Record → List ℕ
 record_written r = r.kind ∷ to_be_bytes w16 r.number ++ to_be_bytes w32 r.place

@@ -8,14 +8,14 @@ use bytes::Bytes;
 use iobufs::EncodeExt;
 use iobufs::bufs::IoBufs;
 use iobufs_core::buf::IoBuf;
-use iobufs_core::codec::{Encode, Error, OwnedBuf, RangeCfg, Write};
+use iobufs_core::codec::{Encode, Error, Peek, RangeCfg, Write};
 use iobufs_values::{Fault, List, Look, Signed};
 use std::process::Abort;
 
 pub const END: Fault = Fault::Codec(Error::EndOfBuffer);
 
 // Reading a value fails with this fault, and leaves each chunk.
-pub fn assert_refused<T: Look + Drop, B: OwnedBuf>(
+pub fn assert_refused<T: Look + Drop, B: Peek>(
     rt: &(impl Abort + AllocGlobal),
     what: &str,
     buf: &mut B,
@@ -43,7 +43,7 @@ pub fn assert_prefixes<T: Look + Drop>(
 }
 
 // The value is read, and `left` bytes are left.
-pub fn assert_front<T: Look + PartialEq + Drop, B: OwnedBuf>(
+pub fn assert_front<T: Look + PartialEq + Drop, B: Peek>(
     rt: &(impl Abort + AllocGlobal),
     what: &str,
     buf: &mut B,
@@ -57,7 +57,7 @@ pub fn assert_front<T: Look + PartialEq + Drop, B: OwnedBuf>(
 }
 
 // The value is all that a reader has.
-pub fn assert_read<T: Look + PartialEq + Drop, B: OwnedBuf>(
+pub fn assert_read<T: Look + PartialEq + Drop, B: Peek>(
     rt: &(impl Abort + AllocGlobal),
     what: &str,
     buf: &mut B,

@@ -16,7 +16,7 @@ pub struct Record {
 
 impl EncodeSize for Record {
     ghost use Rattle.iobufs_core.specs.WireLaws.{joins-put};
-    ghost use Rattle.iobufs_wire_tests.specs.Record.{record_written};
+    ghost use Rattle.iobufs_tests.specs.Record.{record_written};
 
     ghost written = { record_written };
 
@@ -62,8 +62,8 @@ fn place_of(a: u8, b: u8, c: u8, d: u8) -> u32
 impl Read for Record {
     type Cfg = ();
 
-    ghost use Rattle.iobufs_wire_tests.specs.Record.{record_written, IsRecordRead};
-    ghost use Rattle.iobufs_wire_tests.specs.RecordLaws.{record_alike};
+    ghost use Rattle.iobufs_tests.specs.Record.{record_written, IsRecordRead};
+    ghost use Rattle.iobufs_tests.specs.RecordLaws.{record_alike};
 
     ghost is_read = { λ text _ answer. IsRecordRead text.bytes answer };
 
@@ -88,13 +88,13 @@ impl Read for Record {
 }
 
 impl Codec for Record {
-    ghost use Rattle.iobufs_wire_tests.specs.RecordLaws.{record_back};
+    ghost use Rattle.iobufs_tests.specs.RecordLaws.{record_back};
 
     ghost admits = { λ _ _. ⊤ };
 
     ghost gives_back = { λ r _ text rest answer _ e h. record_back r text.bytes rest answer e h };
 
-    ghost use Rattle.iobufs_wire_tests.specs.RecordLaws.{record_front, record_one};
+    ghost use Rattle.iobufs_tests.specs.RecordLaws.{record_front, record_one};
     ghost use Rattle.std.proofs.Common.{refl};
 
     ghost same_written = { λ x y e. e };
