@@ -1,4 +1,5 @@
 // Tests of what no contract says: worked examples, success, sharing, printed text, and lengths above likely limits.
+// `callers` tests the crates over the buffers, `owner` the owner machine, and `wire` encoded values.
 #![tactic(auto)]
 
 #[cfg(test)]
