@@ -11,7 +11,7 @@ API = {
     "IoBufs": "iobufs/src/bufs.rt",
     "IoBufsMut": "iobufs/src/bufs_mut.rt",
     "Builder, EncodeExt": "iobufs/src/builder.rt",
-    "Buf, OwnedBuf, OwnedBytes": "iobufs_core/src/codec/buf.rt iobufs_core/src/codec/owned_buf.rt",
+    "Buf, OwnedBuf, Peek, OwnedBytes": "iobufs_core/src/codec/buf.rt iobufs_core/src/codec/owned_buf.rt iobufs_core/src/codec/peek.rt",
     "BufMut": "iobufs_core/src/codec/buf_mut.rt",
     "BufsMut, EncodeSize, Write, Read, Encode": "iobufs_core/src/codec/wire.rt iobufs_core/src/codec/encode.rt",
     "RangeCfg, lengths, find_end": "iobufs_core/src/codec/base.rt iobufs_core/src/codec/length.rt iobufs/src/bufs/search.rt",
@@ -220,7 +220,7 @@ def code(name):
         if found:
             path = file.relative_to(ROOT)
             return f"[{path}](PATH{path}):\n\n```{'rust' if file.suffix == '.rt' else ''}\n{found[1].strip()}\n```"
-    raise SystemExit(f"no source has `// [docs: {name}]`")
+    raise LookupError(f"no source has `// [docs: {name}]`")
 
 
 PARTS = {"api": api, "own calls": own, "matrix": matrix, "crates": crates, "promises": promises}

@@ -17,7 +17,7 @@ RULES = [
 # Words that a sentence may have, and words of a page and of all pages.
 LONGEST, MOST = 40, {"README.md": 800, "all": 16000}
 # Comments of the crates that begin so, and words of place in a thousand of theirs.
-FIRST, FIRST_MOST, PLACE_MOST = r"(?i)^\s*(?://[/!]?|--) (?:the same|and|likewise)\b", 0, 15
+FIRST, FIRST_MOST, PLACE_MOST = r"(?i)(?:\A|^(?!\s*(?://|--)).*\n)\s*((?://[/!]?|--) (?:the same|and|likewise)\b)", 0, 5
 
 
 def sentences(text):
@@ -47,7 +47,7 @@ def faults_of_length():
 def faults_of_comments():
     """Comments that begin with a word that refers to the one before, and words of place in them all."""
     texts = {file: file.read_text() for crate in sorted(CRATES.iterdir()) for file in sources(crate)}
-    first = [f"{file.relative_to(CRATES)}: {m[0].strip()}" for file, text in texts.items() for m in re.finditer(FIRST, text, flags=re.M)]
+    first = [f"{file.relative_to(CRATES)}: {m[1]}" for file, text in texts.items() for m in re.finditer(FIRST, text, flags=re.M)]
     said = "\n".join(m[1] for text in texts.values() for m in re.finditer(r"^\s*(?://[/!]?|--) ?(.*)$", text, flags=re.M))
     hits = len(re.findall(PLACE, said, flags=re.I))
     if len(first) > FIRST_MOST:

@@ -16,7 +16,7 @@ use Rattle.iobufs_core.specs.View.{View, native_mark}
 use Rattle.iobufs_core.specs.MarkedText.{MarkedText, joined}
 use Rattle.iobufs_core.specs.Items.{Item, put_item, push_item, items_bytes, items_inline, items_pushed}
 
--- room for so many inline bytes, the items up to the last view, and the inline bytes behind it
+-- room for so many inline bytes, the items up to the last view, and the inline bytes after it
 pub record Building : Type 0 where
   pub capacity : ℕ
   pub front : List Item
@@ -33,7 +33,7 @@ inline_run (byte ∷ bytes) = put_item (byte ∷ bytes) ∷ []
 abbrev pub building_items : Building → List Item
 building_items b = b.front ++ inline_run b.last
 
--- no item is empty, and behind each inline text stands a view
+-- no item is empty, and after each inline text stands a view
 abbrev pub AreInTurn : List Item → Type 0
 AreInTurn [] = Unit {0}
 AreInTurn (push_item view ∷ items) = (0 < length view.bytes) × AreInTurn items
@@ -75,7 +75,7 @@ building_room b = b.capacity - (items_inline b.front + length b.last)
 abbrev pub room_for_pushes : Building → ℕ
 room_for_pushes b = 2 ^ 64 - 1 - b.capacity - items_pushed b.front
 
--- the views of items: an inline text is native, with the room behind its place
+-- the views of items: an inline text is native, with the room after its place
 abbrev pub views_from : ℕ → List Item → List View
 views_from room [] = []
 views_from room (put_item bytes ∷ items) = record { bytes = bytes; mark = native_mark room } ∷ views_from (room - length bytes) items

@@ -35,7 +35,7 @@ use Rattle.iobufs.specs.Laws.Reading.{joined-chunks}
 
 -- ---- sending
 
--- a front went from a text to a writer, behind what that held, and the rest is left
+-- a front went from a text to a writer, after what that held, and the rest is left
 pub record IsSent (held holds : Option (List ℕ)) (text rest : List ℕ) : Type 0 where
   pub front : List ℕ
   pub whole : text ≡ front ++ rest
@@ -63,7 +63,7 @@ sent_kept held holds text h = record { front = []; whole = refl; grew = kept hel
 pub sent_nothing : (held : Option (List ℕ)) (text : List ℕ) → IsSent held held text text
 sent_nothing held text = sent_kept held held text (stays held)
 
--- one front went off behind another
+-- one front went off after another
 pub sent_on : (a b c : Option (List ℕ)) (text middle rest : List ℕ) → IsSent a b text middle → IsSent b c middle rest → IsSent a c text rest
 sent_on a b c text middle rest p q = record {
   front = p.front ++ q.front;
@@ -82,7 +82,7 @@ sent_none held holds text rest is same =
     let none : is.front ≡ [] = nil_from_length is.front (omega (arith, same, ap (λ (w : List ℕ). length w) is.whole, length-append is.front rest)) in
     sym (is.whole ∙ ap (λ w. w ++ rest) none)
 
--- all of a text that went off stands behind what the writer held
+-- all of a text that went off follows what the writer held
 pub sent_all : (held holds : Option (List ℕ)) (text rest : List ℕ) → IsSent held holds text rest → rest ≡ [] → Appends held holds text
 sent_all held holds text rest is none = subst (Appends held holds) (sym (is.whole ∙ ap (λ w. is.front ++ w) none ∙ append-nil is.front)) is.grew
 

@@ -82,7 +82,7 @@ parts_overwritten (part ∷ parts) bytes =
 abbrev pub parts_chunks : List Part → List (List ℕ)
 parts_chunks parts = full_chunks (map (λ part. part.filled) parts)
 
--- the parts that hold bytes as native pieces, one behind the other
+-- the parts that hold bytes as native pieces, in order
 abbrev pub parts_frozen : List Part → MarkedText
 parts_frozen parts = joined (map part_frozen parts)
 
@@ -91,7 +91,7 @@ abbrev pub single_part : List Part → Option Part
 single_part (part ∷ []) = Some part
 single_part parts = None
 
--- one part as it is, more as a copy with no room behind it
+-- one part as it is, more as a copy with no room after it
 abbrev pub parts_coalesced : List Part → Part
 parts_coalesced [] = empty_part 0
 parts_coalesced (part ∷ []) = part

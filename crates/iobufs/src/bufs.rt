@@ -742,7 +742,7 @@ impl IoBufs {
         }
     }
 
-    // A byte behind the first piece.
+    // A byte after the first piece.
     #[inline(never)]
     fn byte_behind(&self, i: usize) -> Option<u8>
         ensures { result ≡ slice_get self.now.bytes i }
@@ -767,7 +767,7 @@ impl IoBufs {
         self.advance(n);
     }
 
-    // Takes bytes of the first piece out, and drops those in front too.
+    // Takes bytes of the first piece out, and drops those at the front too.
     #[inline(always)]
     fn take_inside<T: OwnedBytes>(
         &mut self,
@@ -839,7 +839,7 @@ impl IoBufs {
         }
     }
 
-    // Copies bytes that lie behind the first piece, or span pieces.
+    // Copies bytes that lie after the first piece, or span pieces.
     #[inline(never)]
     fn peek_behind(&self, skip: usize, dst: &mut [u8])
         requires { skip + length dst.old ≤ text_len self.now }

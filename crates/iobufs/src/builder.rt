@@ -22,7 +22,7 @@ use std::marker::Model;
 /// A put doesn't allocate. `finish` splits the inline buffer between pushed views, and copies no byte.
 pub struct Builder {
     inline: IoBufMut,
-    // What was pushed, behind gaps for the inline bytes.
+    // What was pushed, after gaps for the inline bytes.
     pushes: Gapped,
     // How many inline bytes stand before the last push.
     placed: usize,

@@ -105,7 +105,7 @@ held_more f xs i x inside =
     ap (λ ys. held_parts (map f ys)) (take_more xs i x inside) ∙ ap held_parts (map-append f (take i xs) (slice_index_or xs i x ∷ []))
     ∙ held-append (map f (take i xs)) (f (slice_index_or xs i x) ∷ [])
 
--- a place behind those that changed is as it was
+-- a place after those that changed is as it was
 pub place_kept : {X : Type 0} (xs old : List X) (i : ℕ) (d : X) → drop i xs ≡ drop i old → slice_index_or xs i d ≡ slice_index_or old i d
 place_kept xs old i d so =
     let same : i + 0 ≡ i = omega arith in

@@ -110,7 +110,7 @@ pub extern "C" fn iobufs_frames_rest(frames: &mut FramesAt, out: &mut TextAt) ->
     }
 }
 
-/// Puts a view behind what was fed, and leaves its place empty. Where that is refused, both are as before.
+/// Puts a view after what was fed, and leaves its place empty. Where that is refused, both are as before.
 #[unsafe(no_mangle)]
 pub extern "C" fn iobufs_frames_feed(alloc: Global, frames: &mut FramesAt, piece: &mut ViewAt) -> u8
     ensures at { (frames.new.at ≡ frames.old.at) × (piece.new.at ≡ piece.old.at) }
@@ -130,8 +130,8 @@ pub extern "C" fn iobufs_frames_feed(alloc: Global, frames: &mut FramesAt, piece
     }
 }
 
-/// Takes the frame in front, whose length is from `lo` to `hi`. `Status::EndOfBuffer` where it is not whole yet,
-/// `Status::InvalidVarint` and `Status::InvalidLength` where no bytes behind will make it so. All but a taken frame leave
+/// Takes the frame at the front, whose length is from `lo` to `hi`. `Status::EndOfBuffer` where it is not whole yet,
+/// `Status::InvalidVarint` and `Status::InvalidLength` where no bytes after will make it so. All but a taken frame leave
 /// both as before.
 #[unsafe(no_mangle)]
 pub extern "C" fn iobufs_frames_next(

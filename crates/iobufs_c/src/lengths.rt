@@ -1,4 +1,4 @@
-// Lengths as they are spelled, and bytes behind their length.
+// Lengths as they are spelled, and bytes after their length.
 ghost use Rattle.std.specs.Prelude.{◌≡◌, ℕ, ◌==◌, if◌then◌else◌, length, nat_le, false, Ok, Err};
 ghost use Rattle.std.specs.Option.{option_map};
 ghost use Rattle.iobufs.specs.Building.{building_put, building_room};
@@ -147,7 +147,7 @@ pub extern "C" fn iobuf_read_length(
     }
 }
 
-/// Reads the bytes behind a length from `lo` to `hi` in front of a text, as a view. Each fault leaves both.
+/// Reads the bytes after a length from `lo` to `hi` before a text, as a view. Each fault leaves both.
 #[unsafe(no_mangle)]
 pub extern "C" fn iobufs_read_view(
     alloc: Global,

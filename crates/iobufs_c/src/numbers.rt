@@ -173,7 +173,7 @@ pub extern "C" fn iobufs_builder_put_u64(builder: &mut BuilderAt, n: u64) -> u8
     Status::Done.code()
 }
 
-/// Reads the number of one byte in front of a view, and drops it. `Status::EndOfBuffer` where there are fewer bytes, and then nothing
+/// Reads the number of one byte before a view, and drops it. `Status::EndOfBuffer` where there are fewer bytes, and then nothing
 /// changes.
 #[unsafe(no_mangle)]
 #[tactic(auto, using(iobufs_core::specs::CallerFacts::reading))]

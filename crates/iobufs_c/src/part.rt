@@ -165,7 +165,7 @@ pub extern "C" fn iobufmut_zeroed_with_alignment(
     }
 }
 
-/// A copy of bytes, with no room behind them.
+/// A copy of bytes, with no room after them.
 #[unsafe(no_mangle)]
 pub extern "C" fn iobufmut_copy_from_slice(alloc: Global, src: &[u8], out: &mut PartAt) -> u8
     ensures at { out.new.at ≡ out.old.at }
@@ -291,7 +291,7 @@ pub extern "C" fn iobufmut_chunk(part: &mut PartAt, out: &mut *mut u8) -> usize
     chunk.len()
 }
 
-/// Puts bytes behind those that are readable. `Status::OutOfRange` where they don't fit, and then nothing changes.
+/// Puts bytes after those that are readable. `Status::OutOfRange` where they don't fit, and then nothing changes.
 #[unsafe(no_mangle)]
 pub extern "C" fn iobufmut_put_slice(part: &mut PartAt, src: &[u8]) -> u8
     ensures at { part.new.at ≡ part.old.at }

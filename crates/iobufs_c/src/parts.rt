@@ -314,7 +314,7 @@ pub extern "C" fn iobufsmut_byte_at(parts: &mut PartsAt, i: usize, out: &mut u8)
     true
 }
 
-/// Puts bytes behind those that are readable. `Status::OutOfRange` where they don't fit, and then nothing changes.
+/// Puts bytes after those that are readable. `Status::OutOfRange` where they don't fit, and then nothing changes.
 #[unsafe(no_mangle)]
 pub extern "C" fn iobufsmut_put_slice(parts: &mut PartsAt, src: &[u8]) -> u8
     ensures at { parts.new.at ≡ parts.old.at }

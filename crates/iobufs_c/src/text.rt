@@ -238,7 +238,7 @@ pub extern "C" fn iobufs_locate(
     Status::Done.code()
 }
 
-/// Puts a view behind the text, and leaves its place empty. Where that is refused, both are as before.
+/// Puts a view after the text, and leaves its place empty. Where that is refused, both are as before.
 #[unsafe(no_mangle)]
 pub extern "C" fn iobufs_append(alloc: Global, text: &mut TextAt, piece: &mut ViewAt) -> u8
     ensures at { (text.new.at ≡ text.old.at) × (piece.new.at ≡ piece.old.at) }
@@ -259,7 +259,7 @@ pub extern "C" fn iobufs_append(alloc: Global, text: &mut TextAt, piece: &mut Vi
     }
 }
 
-/// Puts a view in front of the text, and leaves its place empty. Where that is refused, both are as before.
+/// Puts a view before the text, and leaves its place empty. Where that is refused, both are as before.
 #[unsafe(no_mangle)]
 pub extern "C" fn iobufs_prepend(alloc: Global, text: &mut TextAt, piece: &mut ViewAt) -> u8
     ensures at { (text.new.at ≡ text.old.at) × (piece.new.at ≡ piece.old.at) }

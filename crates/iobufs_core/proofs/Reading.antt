@@ -17,7 +17,7 @@ pub record IsSoFar (text : List ℕ) (i value place : ℕ) : Type 0 where
   pub below : value < place
   pub completes : (tail : List ℕ) (rest : ℕ) → IsSpelling tail rest → (i ≡ 0) ⊎ (0 < rest) → IsSpelling (take i text ++ tail) (value + place * rest)
 
--- the byte behind those that were read
+-- the byte after those that were read
 pub next_byte : (text : List ℕ) (i b : ℕ) → slice_get text i ≡ Some b → take (i + 1) text ≡ take i text ++ b ∷ []
 next_byte text i b e = take_more text i b (slice_get_within text i b e) ∙ ap (λ x. take i text ++ x ∷ []) (get_or_from_slice_get text i b b e)
 
@@ -30,7 +30,7 @@ pow_more i = ap (λ k. 128 ^ k) (add-one i) ∙ pow-suc 128 i
 regroup : (value place low rest : ℕ) → value + place * (low + 128 * rest) ≡ value + place * low + place * 128 * rest
 regroup value place low rest = omega arith
 
--- where a byte with the top bit set is read behind others, its low seven bits count above theirs, and one byte more is read
+-- where a byte with the top bit set is read after others, its low seven bits count above theirs, and one byte more is read
 pub more_so_far : (text : List ℕ) (i value place b : ℕ) → IsSoFar text i value place → slice_get text i ≡ Some b → 128 ≤ b → b < 256
     → IsSoFar text (i + 1) (value + place * (b - 128)) (place * 128)
 more_so_far text i value place b so e low top =
@@ -100,7 +100,7 @@ not_high [] i b e low high = cc
 not_high (x ∷ xs) zero b e low high = let same : x ≡ b = cc in let up = high.0 in absurd (omega arith)
 not_high (x ∷ xs) (suc i) b e low high = not_high xs i b e low high.1
 
--- a 0 behind such bytes
+-- a 0 after such bytes
 pub zero_behind : (text : List ℕ) (i value place : ℕ) → IsSoFar text i value place → 0 < i → slice_get text i ≡ Some 0 → HasNoLength text × (IsOpen text → ⊥)
 zero_behind text i value place so some e =
     let within = slice_get_within text i 0 e in

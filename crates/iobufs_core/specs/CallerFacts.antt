@@ -50,7 +50,7 @@ pub bytes-split_front : (text : MarkedText) (at : ℕ) → at ≤ length text.by
 unfolding text_left
 bytes-split_front text at h = grind (arith, nat_tests, common_steps, take_all)
 
--- a view with n bytes stands behind its length in front of a text
+-- a view with n bytes follows its length before a text
 pub record IsThere (text : MarkedText) (n : ℕ) (view : View) : Type 0 where
   pub long : length view.bytes ≡ n
   pub within : length (view_written view) ≤ length text.bytes
@@ -100,7 +100,7 @@ pub read_at_most : (text : MarkedText) (range : RangeCfg) (result : Result View 
 read_at_most text range (Ok view) is = high_end range (length view.bytes) (read_in_range text range (Ok view) is).1
 read_at_most text range (Err error) is = tt
 
--- bytes that were written, in the range, are read back and go, or are refused for want of memory alone
+-- bytes that were written, in the range, are read back and go, or are refused for a failed allocation alone
 abbrev pub AreReadBack : List ℕ → List ℕ → List ℕ → Result View Error → Type 0
 AreReadBack body rest left (Ok view) = (view.bytes ≡ body) × (left ≡ rest)
 AreReadBack body rest left (Err error) = error ≡ Memory
@@ -123,7 +123,7 @@ pub read_back_unless : (body rest left : List ℕ) (result : Result View Error) 
 read_back_unless body rest left (Ok view) is = tt
 read_back_unless body rest left (Err error) is = is
 
--- one body stands in front, and one text behind it
+-- one body is at the front, and one text after it
 pub one_front : (a b x y : List ℕ) → length a < 2 ^ 64 → length b < 2 ^ 64 → bytes_written a ++ x ≡ bytes_written b ++ y → (a ≡ b) × (x ≡ y)
 one_front a b x y small least e =
     let whole : spell (length a) ++ (a ++ x) ≡ spell (length b) ++ (b ++ y) =
@@ -143,7 +143,7 @@ number_and_left written size text rest (Err error) is left = tt
 
 -- ---- writing
 
--- bytes behind their length are at most ten more
+-- bytes after their length are at most ten more
 pub length-bytes_written : (bytes : List ℕ) → length (bytes_written bytes) ≤ 10 + length bytes
 length-bytes_written bytes = omega (arith, length-spell (length bytes), length-append (spell (length bytes)) bytes)
 
@@ -165,7 +165,7 @@ bytes-part_frozen part = grind (arith, nat_tests, common_steps, nil_from_length)
 pub bytes-view_between : (view : View) (from to : ℕ) → from ≤ to → to ≤ length view.bytes → (view_between view from to).bytes ≡ drop from (take to view.bytes)
 bytes-view_between view from to order within = grind (arith, nat_tests, common_steps, length-take, drop_all)
 
--- behind a first text, a beginning of a second one is a beginning of both and of all that follows
+-- after a first text, a beginning of a second one is a beginning of both and of all that follows
 pub begun_behind : (old first second behind middle new : List ℕ) → middle ≡ old ++ first → IsBegun middle second new
     → IsBegun old (first ++ (second ++ behind)) new
 begun_behind old first second behind middle new put begun =

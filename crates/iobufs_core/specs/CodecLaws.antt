@@ -20,7 +20,7 @@ use Rattle.iobufs_core.specs.View.{View}
 use Rattle.iobufs_core.specs.Wire.{IsLengthRead, IsViewRead, IsBytesRead, IsNumberRead, bytes_written, view_written}
 use Rattle.iobufs_core.specs.declared.codec.base.RangeCfg.{RangeCfg}
 
--- ---- bytes behind their length
+-- ---- bytes after their length
 
 pub bytes_one : (xs ys u v : List ℕ) → length xs < 2 ^ 64 → length ys < 2 ^ 64 → bytes_written xs ++ u ≡ bytes_written ys ++ v → xs ≡ ys
 bytes_one xs ys u v p q e =

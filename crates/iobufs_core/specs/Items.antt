@@ -37,7 +37,7 @@ abbrev pub items_pushed : List Item → ℕ
 items_pushed [] = 0
 items_pushed (item ∷ items) = item_pushed item + items_pushed items
 
--- a text behind which a beginning of some bytes was written
+-- a text after which a beginning of some bytes was written
 pub record IsBegun (old bytes new : List ℕ) : Type 0 where
   pub front : List ℕ
   pub back : List ℕ

@@ -119,7 +119,7 @@ some_answer bytes range = elim (has_length bytes) [
 
 -- ---- a text that grows
 
--- what is in front of a spelling's last byte has the top bit set
+-- what is before a spelling's last byte has the top bit set
 before_last : (front : List ℕ) (c : ℕ) (behind : List ℕ) (n : ℕ) → IsSpelling (front ++ c ∷ behind) n → AreHigh front
 before_last [] c behind n is = tt
 before_last (b ∷ []) c behind n is = (is.top, tt)
@@ -141,13 +141,13 @@ high_front (b ∷ bs) ys high = (high.0, high_front bs ys high.1)
 take_whole_length : (k : ℕ) (xs : List ℕ) → length (take k xs) ≡ k → k ≤ length xs
 take_whole_length k xs e = omega (arith, length-take k xs)
 
--- a length that is spelled in front still is where more bytes follow
+-- a length that is spelled at the front still is where more bytes follow
 pub spelled_later : (bytes more : List ℕ) (n : ℕ) → IsSpelledAt bytes n → IsSpelledAt (bytes ++ more) n
 spelled_later bytes more n at =
     let long : length (spell n) ≤ length bytes = take_whole_length (length (spell n)) bytes (ap (λ (xs : List ℕ). length xs) at.1) in
     (at.0, take-append-le (length (spell n)) bytes more long ∙ at.1)
 
--- where no length is spelled, nor may one have begun, more bytes behind spell none
+-- where no length is spelled, nor may one have begun, more bytes after spell none
 pub no_length_later : (bytes more : List ℕ) → HasNoLength bytes → (IsOpen bytes → ⊥) → HasNoLength (bytes ++ more)
 no_length_later bytes more none closed n at =
     let k = length (spell n) in
@@ -185,7 +185,7 @@ begun_length n front small is few =
     let high = before_end front rest n some (subst (λ (xs : List ℕ). IsSpelling xs n) is (spelled n small)) in
     (none_high front high, (omega (arith, length-spell n), high))
 
--- a beginning of what is written may go on: its length may, or bytes are wanting behind it
+-- a beginning of what is written may go on: its length may, or bytes are wanting after it
 pub begun_open : (range : RangeCfg) (body front back : List ℕ) → length body < 2 ^ 64 → in_range range (length body) ≡ true
     → bytes_written body ≡ front ++ back → 0 < length back
     → IsLengthRead front range (Err EndOfBuffer) ⊎ ((n : ℕ) × IsLengthRead front range (Ok n) × (length front < length (spell n) + n))

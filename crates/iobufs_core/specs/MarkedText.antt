@@ -27,7 +27,7 @@ pub record MarkedText : Type 0 where
   pub mark : Mark
   pub cuts : List (ℕ × Mark)
 
--- a cut lies behind a key and below the end, and the piece between them has room
+-- a cut lies after a key and below the end, and the piece between them has room
 pub record IsCut (key : ℕ) (mark : Mark) (cut : ℕ × Mark) (end : ℕ) : Type 0 where
   pub rises : key < cut.0
   pub below : cut.0 < end
@@ -89,7 +89,7 @@ text_rest text at = if at == 0 then text else if at == text_len text then defaul
 abbrev pub is_single : MarkedText → Bool
 is_single text = length text.cuts == 0
 
--- what `advance` leaves: one piece that is used up keeps its mark
+-- what `advance` leaves: one piece that is drained keeps its mark
 abbrev pub text_advanced : MarkedText → ℕ → MarkedText
 text_advanced text n = if is_single text && (n == text_len text) then text_right text n else text_rest text n
 
@@ -103,7 +103,7 @@ taken_view text skip n =
     if n == 0 then default_view
     else record { bytes = take n (drop skip text.bytes); mark = if has_cut_between text skip (skip + n) then native_mark n else mark_at text skip }
 
--- one behind the other, neither of them empty
+-- in order, neither of them empty
 unfoldable pub text_glue : MarkedText → MarkedText → MarkedText
 text_glue x y = record { bytes = x.bytes ++ y.bytes; mark = x.mark; cuts = x.cuts ++ (text_len x, y.mark) ∷ map (moved_up (text_len x)) y.cuts }
 
@@ -115,7 +115,7 @@ text_append text view = if length view.bytes == 0 then text else if text_len tex
 abbrev pub text_prepend : MarkedText → View → MarkedText
 text_prepend text view = if length view.bytes == 0 then text else if text_len text == 0 then of_view view else text_glue (of_view view) text
 
--- the views in order, each put behind those before it
+-- the views in order, each put after those before it
 abbrev pub joined : List View → MarkedText
 joined views = fold text_append default_text views
 

@@ -65,7 +65,7 @@ one_pair m n p q e =
 pub form_128 : IsNumberForm (to_be_bytes w128) 16
 form_128 = record { long = λ n. refl; one = λ m n p q e. one_pair m n p q e }
 
--- a number of sixteen bytes is that of the first eight, and that of the other eight behind it
+-- a number of sixteen bytes is that of the first eight, and that of the other eight after it
 of_halves : (bs : List ℕ) → from_be_bytes w128 bs ≡ from_be_bytes w64 (take 8 bs) * 2 ^ 64 + from_be_bytes w64 (drop 8 bs)
 of_halves bs =
     omega (

@@ -54,7 +54,7 @@ not_both bytes range n error at inside out =
 pub one_outside : (bytes : List ℕ) (range : RangeCfg) (a b : Error) → IsOutside bytes range a → IsOutside bytes range b → a ≡ b
 one_outside bytes range a b out other = out.told ∙ ap InvalidLength (spelled_as_one bytes out.n other.n out.at other.at) ∙ sym other.told
 
--- a length that stands in front in the range is not refused
+-- a length that is at the front in the range is not refused
 pub no_fault : (bytes : List ℕ) (range : RangeCfg) (n : ℕ) (error : Error) → IsLengthRead bytes range (Ok n) → IsLengthRead bytes range (Err error) → ⊥
 unfolding LengthFault
 no_fault bytes range n error found fault =
@@ -103,9 +103,9 @@ length_back n range bytes rest answer small inside e read =
     let found : IsLengthRead bytes range (Ok n) = (subst (λ (xs : List ℕ). IsSpelledAt xs n) (sym e) (spelled_before n rest small), inside) in
     back n bytes range answer found read
 
--- ---- views, and bytes behind their length
+-- ---- views, and bytes after their length
 
--- a length in the range is spelled, and fewer bytes stand behind it than it says
+-- a length in the range is spelled, and fewer bytes follow it than it says
 record IsShort (bytes : List ℕ) (range : RangeCfg) : Type 0 where
   n : ℕ
   read : IsLengthRead bytes range (Ok n)

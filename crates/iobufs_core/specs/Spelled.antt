@@ -17,7 +17,7 @@ use Rattle.iobufs_core.specs.Spelling.{spell_within, spell, IsSpelledAt, IsSpell
 
 -- ---- each number has a spelling
 
--- a byte with the top bit in front of a spelling
+-- a byte with the top bit before a spelling
 pub grow : (b high n : ℕ) (xs : List ℕ) → 128 ≤ b → b < 256 → 0 < high → n + 128 ≡ b + 128 * high → IsSpelling xs high → IsSpelling (b ∷ xs) n
 grow b high n [] top byte some sum is = elim is [ ]
 grow b high n (c ∷ bs) top byte some sum is = record { top = top; byte = byte; high = high; some = some; sum = sum; rest = is }
@@ -121,7 +121,7 @@ pub AreHigh-append : (xs ys : List ℕ) → AreHigh xs → AreHigh ys → AreHig
 AreHigh-append [] ys p q = q
 AreHigh-append (b ∷ bs) ys p q = (p.0, AreHigh-append bs ys p.1 q)
 
--- a 0 behind bytes with the top bit set ends no spelling
+-- a 0 after bytes with the top bit set ends no spelling
 zero_end : (k : ℕ) (h : ℕ) (hs more : List ℕ) (n : ℕ) → AreHigh (h ∷ hs) → IsSpelling (take k ((h ∷ hs) ++ 0 ∷ more)) n → ⊥
 zero_end zero h hs more n high is = is
 zero_end (suc zero) h hs more n high is = let low = is.0 in let up = high.0 in absurd (omega arith)
@@ -130,7 +130,7 @@ zero_end (suc (suc (suc k))) h [] [] n high is = let (low, none) = is.rest in ab
 zero_end (suc (suc (suc k))) h [] (m ∷ ms) n high is = let more = is.rest in absurd (omega (arith, more.top))
 zero_end (suc (suc k)) h (g ∷ gs) more n high is = zero_end (suc k) g gs more is.high high.1 is.rest
 
--- bytes with the top bit set spell no length, though more may follow behind the tenth
+-- bytes with the top bit set spell no length, though more may follow after the tenth
 pub none_high : (text : List ℕ) → AreHigh text → HasNoLength text
 none_high text high n at = no_end (take (length (spell n)) text) n (AreHigh-take (length (spell n)) text high) (spelled_front text n at)
 

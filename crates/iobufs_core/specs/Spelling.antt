@@ -6,12 +6,12 @@
 --     HasNoLength, IsOpen    no varint is at the front; more bytes could still make one
 use Rattle.std.specs.Prelude.{◌≡◌, ℕ, zero, suc, ◌+◌, ◌/◌, ◌%◌, ◌*◌, ◌^◌, ◌<◌, ◌≤◌, nat_lt, if◌then◌else◌, List, [], ◌∷◌, length, take}
 
--- the spelling of a number, with so many bytes in front of the last at most
+-- the spelling of a number, with so many bytes before the last at most
 abbrev pub spell_within : ℕ → ℕ → List ℕ
 spell_within zero n = n ∷ []
 spell_within (suc more) n = if nat_lt n 128 then n ∷ [] else (128 + n % 128) ∷ spell_within more (n / 128)
 
--- the spelling of a length: a number below 2 ^ 64 needs nine bytes in front of the last at most
+-- the spelling of a length: a number below 2 ^ 64 needs nine bytes before the last at most
 unfoldable pub spell : ℕ → List ℕ
 spell n = spell_within 9 n
 
@@ -19,7 +19,7 @@ spell n = spell_within 9 n
 abbrev pub IsSpelledAt : List ℕ → ℕ → Type 0
 IsSpelledAt bytes n = (n < 2 ^ 64) × (take (length (spell n)) bytes ≡ spell n)
 
--- a byte from 128 on has the low seven bits of a number, and what is behind it stands for the rest, which isn't 0
+-- a byte from 128 on has the low seven bits of a number, and what is after it represents the rest, which isn't 0
 pub record GoesOn (b n : ℕ) (IsOfRest : ℕ → Type 0) : Type 0 where
   pub top : 128 ≤ b
   pub byte : b < 256
@@ -28,7 +28,7 @@ pub record GoesOn (b n : ℕ) (IsOfRest : ℕ → Type 0) : Type 0 where
   pub sum : n + 128 ≡ b + 128 * high
   pub rest : IsOfRest high
 
--- bytes spell a number, by cases: a byte below 128 is the last, and stands for itself; with one from 128 on they go on
+-- bytes spell a number, by cases: a byte below 128 is the last, and represents itself; with one from 128 on they go on
 abbrev pub IsSpelling : List ℕ → ℕ → Type 0
 IsSpelling [] n = ⊥
 IsSpelling (b ∷ []) n = (b < 128) × (n ≡ b)

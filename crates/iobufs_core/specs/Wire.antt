@@ -23,7 +23,7 @@ use Rattle.iobufs_core.specs.declared.codec.base.Error.{Error}
 use Rattle.iobufs_core.specs.declared.codec.base.Error.TheVariants.{EndOfBuffer, InvalidVarint, InvalidLength, Memory}
 use Rattle.iobufs_core.specs.declared.codec.base.RangeCfg.{RangeCfg}
 
--- bytes are written behind their length; of a view the length is put, and the view pushed
+-- bytes are written after their length; of a view the length is put, and the view pushed
 abbrev pub bytes_written : List ℕ → List ℕ
 bytes_written bytes = spell (length bytes) ++ bytes
 
@@ -36,11 +36,11 @@ view_items view = put_item (spell (length view.bytes)) ∷ push_item view ∷ []
 abbrev pub bytes_items : List ℕ → List Item
 bytes_items bytes = put_item (spell (length bytes)) ∷ push_item (view_of_bytes bytes) ∷ []
 
--- a truth is one byte
+-- a `bool` is one byte
 abbrev pub flag : Bool → ℕ
 flag truth = if truth then 1 else 0
 
--- a byte tells whether a value stands behind it
+-- a byte tells whether a value follows it
 abbrev pub option_written : {Value : Type 0} → (Value → List ℕ) → Option Value → List ℕ
 option_written written None = 0 ∷ []
 option_written written (Some value) = 1 ∷ written value
@@ -49,41 +49,41 @@ abbrev pub option_items : {Value : Type 0} → (Value → List Item) → Option 
 option_items items None = put_item (0 ∷ []) ∷ []
 option_items items (Some value) = put_item (1 ∷ []) ∷ items value
 
--- why no length is spelled in front: the end of the buffer if a spelling may go on behind it, else it is invalid
+-- why no length is spelled at the front: the end of the buffer if a spelling may go on after it, else it is invalid
 abbrev pub IsNoLength : List ℕ → Error → Type 0
 IsNoLength bytes EndOfBuffer = HasNoLength bytes × IsOpen bytes
 IsNoLength bytes InvalidVarint = HasNoLength bytes × (IsOpen bytes → ⊥)
 IsNoLength bytes _ = ⊥
 
--- What reading a length answers: the length that is spelled in front, if it is in the range
+-- What reading a length answers: the length that is spelled at the front, if it is in the range
 abbrev pub IsLengthRead : List ℕ → RangeCfg → Result ℕ Error → Type 0
 IsLengthRead bytes range (Ok n) = IsSpelledAt bytes n × (in_range range n ≡ true)
 IsLengthRead bytes range (Err (InvalidLength n)) = IsSpelledAt bytes n × (in_range range n ≡ false)
 IsLengthRead bytes range (Err error) = IsNoLength bytes error
 
--- a number stands in front, written as so many bytes
+-- a number is at the front, written as so many bytes
 pub record IsInFront (written : ℕ → List ℕ) (size : ℕ) (bytes : List ℕ) (n : ℕ) : Type 0 where
   pub small : n < 256 ^ size
   pub long : size ≤ length bytes
   pub is : written n ≡ take size bytes
 
--- what reading a number of so many bytes answers: the number whose written bytes stand in front; the end of the buffer where there are fewer bytes
+-- what reading a number of so many bytes answers: the number whose written bytes are at the front; the end of the buffer where there are fewer bytes
 abbrev pub IsNumberRead : (ℕ → List ℕ) → ℕ → List ℕ → Result ℕ Error → Type 0
 IsNumberRead written size bytes (Ok n) = IsInFront written size bytes n
 IsNumberRead written size bytes (Err EndOfBuffer) = length bytes < size
 IsNumberRead written size bytes (Err error) = ⊥
 
--- a length in the range is spelled in front, and so many bytes are behind it
+-- a length in the range is spelled at the front, and so many bytes are after it
 abbrev pub HasView : MarkedText → RangeCfg → ℕ → Type 0
 HasView text range n = IsLengthRead text.bytes range (Ok n) × (length (spell n) + n ≤ length text.bytes)
 
--- the bytes behind such a length are static
+-- the bytes after such a length are static
 pub record HasStaticView (text : MarkedText) (range : RangeCfg) : Type 0 where
   pub n : ℕ
   pub there : HasView text range n
   pub static : (taken_view text (length (spell n)) n).mark ≡ static_mark
 
--- the bytes behind a length were read as this value, which is made of a view of them, and dropped with it
+-- the bytes after a length were read as this value, which is made of a view of them, and dropped with it
 pub record IsTaken {Value Reader : Type 0} (makes : View → Value → Type 0) (copied : Reader → ℕ → Reader) (text : MarkedText) (range : RangeCfg)
     (old new : Reader) (value : Value) : Type 0 where
   pub n : ℕ
@@ -91,14 +91,14 @@ pub record IsTaken {Value Reader : Type 0} (makes : View → Value → Type 0) (
   pub made : makes (taken_view text (length (spell n)) n) value
   pub left : new ≡ copied old (length (spell n) + n)
 
--- why no view is read: the fault of its length, fewer bytes behind it than it says, or bytes that find no memory
+-- why no view is read: the fault of its length, fewer bytes after it than it says, or bytes that find no memory
 abbrev pub IsViewFault : MarkedText → RangeCfg → Error → Type 0
 IsViewFault text range Memory = (n : ℕ) × HasView text range n × (0 < n)
 IsViewFault text range EndOfBuffer =
     IsLengthRead text.bytes range (Err EndOfBuffer) ⊎ ((n : ℕ) × IsLengthRead text.bytes range (Ok n) × (length text.bytes < length (spell n) + n))
 IsViewFault text range error = IsLengthRead text.bytes range (Err error)
 
--- what reading a view answers: the bytes behind its length as one view, or a fault; and the same of these bytes alone
+-- what reading a view answers: the bytes after its length as one view, or a fault; and the same of these bytes alone
 abbrev pub IsViewRead : MarkedText → RangeCfg → Result View Error → Type 0
 IsViewRead text range (Ok view) = (n : ℕ) × HasView text range n × (view ≡ taken_view text (length (spell n)) n)
 IsViewRead text range (Err error) = IsViewFault text range error

@@ -81,7 +81,7 @@ shorter prefix body old new small e =
 
 -- ---- each text has its frames
 
--- a frame in front, or why there is none
+-- a frame at the front, or why there is none
 record HasFront (prefix : Prefix) (range : RangeCfg) (text : List ℕ) : Type 0 where
   body : List ℕ
   more : List ℕ
@@ -175,7 +175,7 @@ next_by_reading range t new (Err Memory) (n, there, some) left = wanted range t 
 next_by_reading range t new (Err BadLayout) h left = h
 next_by_reading range t new (Err TooLong) h left = h
 
--- a view that is read off a text is its next frame, and leaves what is behind it; where reading ends with the text there is none
+-- a view that is read off a text is its next frame, and leaves what is after it; where reading ends with the text there is none
 pub next_is : (range : RangeCfg) (t new : MarkedText) (read : Result View Error) (result : Result (Option View) Error) → result ≡ found_of read
     → IsViewRead t range read
     → IfOk read (λ view. new ≡ text_rest t (length (view_written view))) → IsNextWith Spelled range t.bytes result new.bytes
@@ -184,7 +184,7 @@ next_is range t new read result e h left = subst (λ r. IsNextWith Spelled range
 HasRest : MarkedText → MarkedText → Result (Option View) Error → Type 0
 HasRest old new result = IfOk result (λ found. IfSome found (λ view. new ≡ text_rest old (length (view_written view))))
 
--- a taken frame leaves the text behind it, with its marks
+-- a taken frame leaves the text after it, with its marks
 pub taken_rest : (old new : MarkedText) (read : Result View Error) (result : Result (Option View) Error) → result ≡ found_of read
     → IfOk read (λ view. new ≡ text_rest old (length (view_written view)))
     → IfOk result (λ found. IfSome found (λ view. new ≡ text_rest old (length (view_written view))))
@@ -205,7 +205,7 @@ behind_length range text view (n, (((small, at), inside), long), is) =
     let there = view_there text n view at long is in
     record { fits = there.within; is = subst (λ m. view ≡ taken_view text (length (spell m)) m) (sym there.long) is }
 
--- a taken frame's body is the view behind its length
+-- a taken frame's body is the view after its length
 pub taken_body : (range : RangeCfg) (text : MarkedText) (read : Result View Error) (result : Result (Option View) Error) → result ≡ found_of read
     → IsViewRead text range read
     → IfOk result (λ found. IfSome found (λ body. IsBehindPrefix Spelled text body))
@@ -238,15 +238,15 @@ first_of_next prefix range old new (Err Memory) h frames end rest is = first_wan
 first_of_next prefix range old new (Err BadLayout) h frames end rest is = none_in_front prefix range old end (Bad BadLayout) frames rest h is
 first_of_next prefix range old new (Err TooLong) h frames end rest is = none_in_front prefix range old end (Bad TooLong) frames rest h is
 
--- ---- bytes put behind
+-- ---- bytes put after
 
--- where a piece was appended to a text, its bytes stand behind those of the text
+-- where a piece was appended to a text, its bytes follow those of the text
 pub fed : {Nothing Refusal : Type 0} (old new : MarkedText) (piece : View) (result : Result Nothing Refusal)
     → OnOk result (new ≡ text_append old piece) → OnOk result (new.bytes ≡ old.bytes ++ piece.bytes)
 fed old new piece (Ok done) is = ap (λ (t : MarkedText). t.bytes) is ∙ bytes-append old piece
 fed old new piece (Err refused) is = tt
 
--- ---- frames found one behind the other
+-- ---- frames found in order
 
 moved_body : (prefix : Prefix) (range : RangeCfg) (old new : List ℕ) (body : View) (views more : List View)
     → IsNextWith prefix range old (Ok (Some body)) new → more ≡ views ++ body ∷ []
@@ -263,7 +263,7 @@ moved_body prefix range old new body views more (admitted, whole) e =
       shorter prefix body.bytes old new admitted.small whole,
     )
 
--- a frame that is taken from the front of a text stands behind those that went before it, and the text is shorter
+-- a frame that is taken from the front of a text follows those that went before it, and the text is shorter
 pub moved_one : (prefix : Prefix) (range : RangeCfg) (old new : List ℕ) (body : View) (found : Option View) (views more : List View) → found ≡ Some body
     → IsNextWith prefix range old (Ok found) new → more ≡ views ++ body ∷ []
     → AreMoved prefix range (bodies views) old (bodies more) new × (length new < length old)
@@ -287,7 +287,7 @@ start prefix range views rest none empty =
       ends = subst (λ (xs : List ℕ). LacksFrame prefix range xs Open) (sym empty) (nothing_is_open prefix range);
     }
 
--- a piece behind a bad front changes the rest alone
+-- a piece after a bad front changes the rest alone
 pub fed_bad : (prefix : Prefix) (range : RangeCfg) (text piece rest new : List ℕ) (frames : List (List ℕ)) (end : End) (error : Error)
     → IsFramedWith prefix range text frames end rest → end ≡ Bad error
     → new ≡ rest ++ piece → IsFramedWith prefix range (text ++ piece) frames end new

@@ -1,4 +1,4 @@
--- The marks of frames: what stands in front of a text stands there too where a piece was put behind it.
+-- The marks of frames: what is at the front of a text stands there too where a piece was put after it.
 use Rattle.std.proofs.Common.{◌≡◌, inl, inr, ℕ, ◌+◌, ◌-◌, ◌<◌, ◌≤◌, ◌==◌, ◌&&◌, nat_lt, nat_le, Bool, if◌then◌else◌, Option, Some, IfSome, Result, Ok, Err, OnOk, List, [], ◌∷◌, ◌++◌, length, take, drop, map, filter, fold, ap, sym, subst, ◌∙◌, refl, arith, length-append, length-drop}
 use Rattle.std.specs.List.{list_any}
 use Rattle.std.proofs.lemmas.Bool.{cond_both, ltb-true}
@@ -15,7 +15,7 @@ use Rattle.iobufs_frames.specs.Frames.{IsBehindPrefix, IsTakenApartWith, frame_w
 use Rattle.iobufs_frames.specs.Prefixes.{prefix_written}
 use Rattle.iobufs_frames.specs.declared.lengths.Prefix.{Prefix}
 
--- ---- a text with a piece behind it, neither of them empty
+-- ---- a text with a piece after it, neither of them empty
 
 abbrev glued : MarkedText → View → MarkedText
 glued t v = record { bytes = t.bytes ++ v.bytes; mark = t.mark; cuts = t.cuts ++ (text_len t, v.mark) ∷ [] }
@@ -30,7 +30,7 @@ append-none t v none = rw none refl
 append-onto_none : (t : MarkedText) (v : View) → text_len t ≡ 0 → 0 < length v.bytes → text_append t v ≡ of_view v
 append-onto_none t v none some = grind (arith, nat_tests, common_steps)
 
--- ---- marks in front
+-- ---- marks at the front
 
 upto-before : (key : ℕ × Mark) (cuts : List (ℕ × Mark)) (end : ℕ) (mark : Mark) (p : ℕ) → p < end
     → key_upto key (cuts ++ (end, mark) ∷ []) p ≡ key_upto key cuts p
@@ -59,7 +59,7 @@ cut-before : (cuts : List (ℕ × Mark)) (end : ℕ) (mark : Mark) (from to : �
 cut-before [] end mark from to l = grind (arith, nat_tests, common_steps)
 cut-before (cut ∷ cuts) end mark from to l = rw (cut-before cuts end mark from to l) refl
 
--- ---- what is taken in front
+-- ---- what is taken at the front
 
 abbrev view_by : ℕ → List ℕ → Bool → Mark → View
 view_by n bytes is_cut mark = if n == 0 then default_view else record { bytes = bytes; mark = if is_cut then native_mark n else mark }
@@ -146,7 +146,7 @@ inside-rest t k l inside = elim (less 0 k) [
   ]
 ]
 
--- ---- what is left behind the front
+-- ---- what is left after the front
 
 none-past : (cuts : List (ℕ × Mark)) (end : ℕ) (mark : Mark) → AreBelow end cuts → filter (λ cut. nat_lt end cut.0) (cuts ++ (end, mark) ∷ []) ≡ []
 none-past [] end mark below = grind (arith, nat_tests, common_steps)
@@ -212,7 +212,7 @@ rest-behind t v k some l more inside =
           ∙ sym (ap (text_right (glued t v)) whole ∙ right-all t v inside) ∙ sym right
     ]
 
--- what is left of a text, with a piece put behind it, is what is left of the two
+-- what is left of a text, with a piece put after it, is what is left of the two
 rest-append : (t : MarkedText) (v : View) (k : ℕ) → k ≤ text_len t → HasCutsInside t → text_append (text_rest t k) v ≡ text_rest (text_append t v) k
 rest-append t v k l inside = elim (less 0 (length v.bytes)) [
   | inr empty ↦ append-none (text_rest t k) v (omega (arith, empty)) ∙ sym (ap (λ (x : MarkedText). text_rest x k) (append-none t v (omega (arith, empty))))
@@ -224,7 +224,7 @@ rest-append t v k l inside = elim (less 0 (length v.bytes)) [
   ]
 ]
 
--- ---- bodies behind their lengths
+-- ---- bodies after their lengths
 
 longer : (t : MarkedText) (v : View) → text_len t ≤ text_len (text_append t v)
 longer t v = elim (less 0 (length v.bytes)) [
@@ -242,7 +242,7 @@ behind-append prefix t v body is =
       is = is.is ∙ sym (taken-append t v k (length body.bytes) (omega (arith, is.fits, length-append (prefix_written prefix (length body.bytes)) body.bytes)));
     }
 
--- a piece behind a text stands behind what is left of it
+-- a piece after a text follows what is left of it
 pub apart-append : (prefix : Prefix) (t : MarkedText) (bodies : List View) (rest : MarkedText) (v : View) → HasCutsInside t
     → IsTakenApartWith prefix t bodies rest
     → IsTakenApartWith prefix (text_append t v) bodies (text_append rest v)
@@ -274,7 +274,7 @@ inside-joined views = inside-fold default_text views tt
 joined-push : (views : List View) (v : View) → joined (views ++ v ∷ []) ≡ text_append (joined views) v
 joined-push views v = fold-append text_append default_text views (v ∷ [])
 
--- a piece that is fed stands behind what was left of those before it
+-- a piece that is fed follows what was left of those before it
 pub fed_marks : (prefix : Prefix) (views bodies : List View) (piece : View) (rest new : MarkedText) → new ≡ text_append rest piece
     → IsTakenApartWith prefix (joined views) bodies rest
     → IsTakenApartWith prefix (joined (views ++ piece ∷ [])) bodies new
@@ -299,7 +299,7 @@ moved_body prefix old new body views more here left listed text apart =
     subst (λ (vs : List View). IsTakenApartWith prefix text vs new) (sym listed)
     (subst (IsTakenApartWith prefix text (views ++ body ∷ [])) (sym left) (apart-more prefix text views old body apart here))
 
--- a frame that is taken is one body more, and leaves what is behind it
+-- a frame that is taken is one body more, and leaves what is after it
 pub moved_marks : (prefix : Prefix) (old new : MarkedText) (body : View) (found : Option View) (views more : List View) → found ≡ Some body
     → IfSome found (λ b. IsBehindPrefix prefix old b) → IfSome found (λ b. new ≡ text_rest old (length (frame_written prefix b.bytes)))
     → more ≡ views ++ body ∷ []

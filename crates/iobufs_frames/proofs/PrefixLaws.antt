@@ -1,4 +1,4 @@
--- Frames behind lengths that are written in one of several ways.
+-- Frames after lengths that are written in one of several ways.
 use Rattle.std.proofs.Common.{◌≡◌, ℕ, ◌+◌, ◌-◌, ◌<◌, ◌≤◌, true, List, ◌++◌, length, take, drop, refl, ap, sym, ◌∙◌, arith, append_assoc, drop-drop, length-append, take-append-drop}
 use Rattle.std.proofs.lemmas.Bool.Decides.{nat_tests}
 use Rattle.std.proofs.lemmas.Grind.{common_steps}
@@ -17,14 +17,14 @@ use Rattle.iobufs_frames.specs.declared.lengths.Prefix.{Prefix}
 use Rattle.iobufs_frames.specs.declared.lengths.Prefix.TheVariants.{Fixed}
 use Rattle.iobufs_frames.specs.declared.lengths.Width.{Width}
 
--- a view of n bytes stands behind its length in front of a text
+-- a view of n bytes follows its length before a text
 pub record IsThereWith (prefix : Prefix) (text : MarkedText) (n : ℕ) (view : View) : Type 0 where
   pub long : length view.bytes ≡ n
   pub sized : length (frame_written prefix view.bytes) ≡ length (prefix_written prefix n) + n
   pub within : length (frame_written prefix view.bytes) ≤ text_len text
   pub whole : text.bytes ≡ frame_written prefix view.bytes ++ drop (length (frame_written prefix view.bytes)) text.bytes
 
--- the view of the bytes behind a length stands there
+-- the view of the bytes after a length stands there
 pub there-with : (prefix : Prefix) (text : MarkedText) (n : ℕ) (view : View) → IsLengthAt prefix text.bytes n
     → length (prefix_written prefix n) + n ≤ text_len text → view ≡ taken_view text (length (prefix_written prefix n)) n
     → IsThereWith prefix text n view
@@ -50,14 +50,14 @@ there-with prefix text n view (small, at) within is =
           ∙ ap (λ m. prefix_written prefix n ++ (body ++ drop m text.bytes)) long ∙ whole);
     }
 
--- a view was taken: it is a frame's body, and what is behind it is left
+-- a view was taken: it is a frame's body, and what is after it is left
 pub record IsTakenWith (prefix : Prefix) (range : RangeCfg) (old new : MarkedText) (view : View) : Type 0 where
   pub follows : CanFollow prefix range view.bytes
   pub whole : old.bytes ≡ frame_written prefix view.bytes ++ new.bytes
   pub behind : IsBehindPrefix prefix old view
   pub left : new ≡ text_rest old (length (frame_written prefix view.bytes))
 
--- a view that is taken from behind its length, in the range, is a frame's body, and leaves what is behind it
+-- a view that is taken from after its length, in the range, is a frame's body, and leaves what is after it
 pub taken-with : (prefix : Prefix) (range : RangeCfg) (old new : MarkedText) (n k : ℕ) (view : View) → IsLengthAt prefix old.bytes n
     → in_range range n ≡ true → k ≡ length (prefix_written prefix n) → k + n ≤ text_len old → view ≡ taken_view old k n → new ≡ text_rest old (k + n)
     → IsTakenWith prefix range old new view
@@ -88,14 +88,14 @@ wanted-with prefix range old n k at inside size within some =
       some = omega (arith, there.long, some);
     }
 
--- as many bytes as a length says stand behind it, by the numbers that were compared
+-- as many bytes as a length says follow it, by the numbers that were compared
 pub within-with : (width : Width) (order : ByteOrder) (bytes : List ℕ) (n len size again : ℕ) → IsLengthAt (Fixed width order) bytes n
     → len ≡ length bytes → size ≡ width_size width → again ≡ width_size width → n ≤ len - size → again + n ≤ length bytes
 within-with width order bytes n len size again at whole one two l =
     let there = length-there (Fixed width order) bytes n at in
     omega (arith, there, (form_of width order).long n, whole, one, two, l)
 
--- the bytes of a text with a view in front are the bytes of the view and then those of the text
+-- the bytes of a text with a view at the front are the bytes of the view and then those of the text
 pub bytes-prepend : (t : MarkedText) (v : View) → (text_prepend t v).bytes ≡ v.bytes ++ t.bytes
 unfolding text_glue
 bytes-prepend t v = grind (arith, nat_tests, common_steps, append-nil, nil_from_length)

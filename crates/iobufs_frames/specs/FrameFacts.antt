@@ -27,9 +27,9 @@ use Rattle.iobufs_frames.specs.declared.lengths.Prefix.{Prefix}
 use Rattle.iobufs_frames.specs.declared.lengths.Prefix.TheVariants.{Spelled, Fixed}
 use Rattle.iobufs_frames.specs.declared.lengths.Width.TheVariants.{U16, U32, U64}
 
--- ---- why no frame stands in front
+-- ---- why no frame is at the front
 
--- no length stands in front, nor may one have begun
+-- no length is at the front, nor may one have begun
 record IsNone (prefix : Prefix) (bytes : List ℕ) (error : Error) : Type 0 where
   told : error ≡ InvalidVarint
   never : HasNoLengthAt prefix bytes
@@ -84,14 +84,14 @@ one_bad prefix range bytes a b p q =
       ]
     ]
 
--- no frame stands in front for one reason alone
+-- no frame is at the front for one reason alone
 pub one_end : (prefix : Prefix) (range : RangeCfg) (bytes : List ℕ) (a b : End) → LacksFrame prefix range bytes a → LacksFrame prefix range bytes b → a ≡ b
 one_end prefix range bytes Open Open p q = refl
 one_end prefix range bytes Open (Bad b) p q = absurd (open_or_bad prefix range bytes b p q)
 one_end prefix range bytes (Bad a) Open p q = absurd (open_or_bad prefix range bytes a q p)
 one_end prefix range bytes (Bad a) (Bad b) p q = ap Bad (one_bad prefix range bytes a b p q)
 
--- a frame stands in front of its bytes: that none does is false
+-- a frame is at the front of its bytes, so it is false that none is
 pub stands : (prefix : Prefix) (range : RangeCfg) (body more : List ℕ) (end : End) → CanFollow prefix range body
     → LacksFrame prefix range (frame_written prefix body ++ more) end → ⊥
 unfolding IsBad
@@ -114,9 +114,9 @@ stands prefix range body more (Bad error) admitted h =
       | inr out ↦ in_and_out prefix range (frame_written prefix body ++ more) (length body) error here admitted.inside out
     ]
 
--- ---- the frames of a text, and what stands in front
+-- ---- the frames of a text, and what is at the front
 
--- a text without a frame in front has none
+-- a text without a frame at the front has none
 pub none_in_front : (prefix : Prefix) (range : RangeCfg) (old : List ℕ) (end now : End) (frames : List (List ℕ)) (rest : List ℕ)
     → LacksFrame prefix range old now → IsFramedWith prefix range old frames end rest → (frames ≡ []) × (end ≡ now)
 none_in_front prefix range old end now [] rest h is =
@@ -127,7 +127,7 @@ none_in_front prefix range old end now (f ∷ fs) rest h is =
     let (admitted, others) = is.admitted in
     absurd (stands prefix range f (all_written prefix fs ++ rest) now admitted (subst (λ (xs : List ℕ). LacksFrame prefix range xs now) front h))
 
--- a frame in front is the first
+-- a frame at the front is the first
 pub first_is : (prefix : Prefix) (range : RangeCfg) (old new body : List ℕ) (end : End) (frames : List (List ℕ)) (rest : List ℕ)
     → CanFollow prefix range body → old ≡ frame_written prefix body ++ new → IsFramedWith prefix range old frames end rest
     → FirstTakenWith prefix range frames end rest body new
@@ -188,9 +188,9 @@ nothing_is_open (Fixed U16 order) range = inl (too_few U16 order [] (omega arith
 nothing_is_open (Fixed U32 order) range = inl (too_few U32 order [] (omega arith), omega arith)
 nothing_is_open (Fixed U64 order) range = inl (too_few U64 order [] (omega arith), omega arith)
 
--- ---- frames one behind the other
+-- ---- frames in order
 
--- lists of frames are written one behind the other
+-- lists of frames are written in order
 pub written-append : (prefix : Prefix) (fs gs : List (List ℕ)) → all_written prefix (fs ++ gs) ≡ all_written prefix fs ++ all_written prefix gs
 written-append prefix [] gs = refl
 written-append prefix (f ∷ fs) gs = ap (λ xs. frame_written prefix f ++ xs) (written-append prefix fs gs)

@@ -32,11 +32,11 @@ use Rattle.iobufs_frames.specs.declared.End.TheVariants.{Open, Bad}
 use Rattle.iobufs_frames.specs.declared.lengths.Prefix.{Prefix}
 use Rattle.iobufs_frames.specs.declared.lengths.Prefix.TheVariants.{Spelled}
 
--- a body behind its length
+-- a body after its length
 abbrev pub frame_written : Prefix → List ℕ → List ℕ
 frame_written prefix body = prefix_written prefix (length body) ++ body
 
--- bodies behind their lengths, in order
+-- bodies after their lengths, in order
 abbrev pub all_written : Prefix → List (List ℕ) → List ℕ
 all_written prefix [] = []
 all_written prefix (body ∷ bodies) = frame_written prefix body ++ all_written prefix bodies
@@ -51,7 +51,7 @@ abbrev pub CanAllFollow : Prefix → RangeCfg → List (List ℕ) → Type 0
 CanAllFollow prefix range [] = Unit {0}
 CanAllFollow prefix range (body ∷ bodies) = CanFollow prefix range body × CanAllFollow prefix range bodies
 
--- No whole frame stands in front. It is open where its length may go on, or where there are fewer bytes behind the length
+-- No whole frame is at the front. It is open where its length may go on, or where there are fewer bytes after the length
 -- than it says; it is bad where no length stands there, or one outside the range.
 abbrev pub LacksFrame : Prefix → RangeCfg → List ℕ → End → Type 0
 LacksFrame prefix range bytes Open =
@@ -61,7 +61,7 @@ LacksFrame prefix range bytes (Bad InvalidVarint) = HasNoLengthAt prefix bytes �
 LacksFrame prefix range bytes (Bad (InvalidLength n)) = IsLengthAt prefix bytes n × (in_range range n ≡ false)
 LacksFrame prefix range bytes (Bad error) = ⊥
 
--- a whole frame with bytes stands in front
+-- a whole frame with bytes is at the front
 pub record HasBodyBytes (prefix : Prefix) (range : RangeCfg) (bytes : List ℕ) : Type 0 where
   pub body : List ℕ
   pub more : List ℕ
@@ -69,7 +69,7 @@ pub record HasBodyBytes (prefix : Prefix) (range : RangeCfg) (bytes : List ℕ) 
   pub whole : bytes ≡ frame_written prefix body ++ more
   pub some : 0 < length body
 
--- the frames of a text, why no further one stands behind them, and what is behind them
+-- the frames of a text, why no further one follows them, and what is after them
 pub record IsFramedWith (prefix : Prefix) (range : RangeCfg) (text : List ℕ) (frames : List (List ℕ)) (end : End) (rest : List ℕ) : Type 0 where
   pub whole : text ≡ all_written prefix frames ++ rest
   pub admitted : CanAllFollow prefix range frames
@@ -83,12 +83,12 @@ bodies views = map (λ view. view.bytes) views
 abbrev pub joined_bytes : List View → List ℕ
 joined_bytes views = flat_map (λ view. view.bytes) views
 
--- a body is the view behind its length in front of a text: of its piece, or native where it spans pieces
+-- a body is the view after its length before a text: of its piece, or native where it spans pieces
 pub record IsBehindPrefix (prefix : Prefix) (text : MarkedText) (body : View) : Type 0 where
   pub fits : length (frame_written prefix body.bytes) ≤ text_len text
   pub is : body ≡ taken_view text (length (prefix_written prefix (length body.bytes))) (length body.bytes)
 
--- bodies are so one behind the other, each in what those before it left, and this is left behind them
+-- bodies are so in order, each in what those before it left, and this is left after them
 abbrev pub IsTakenApartWith : Prefix → MarkedText → List View → MarkedText → Type 0
 IsTakenApartWith prefix text [] rest = rest ≡ text
 IsTakenApartWith prefix text (body ∷ bodies) rest =
@@ -127,7 +127,7 @@ IsFirstWith prefix range frames end rest (Ok None) new = (frames ≡ []) × (end
 IsFirstWith prefix range frames end rest (Err Memory) new = BeginsWithBytes frames
 IsFirstWith prefix range frames end rest (Err error) new = (frames ≡ []) × (end ≡ Bad error)
 
--- frames went over from the front of a text behind others
+-- frames went over from the front of a text after others
 abbrev pub AreMoved : Prefix → RangeCfg → List (List ℕ) → List ℕ → List (List ℕ) → List ℕ → Type 0
 AreMoved prefix range frames text more rest =
     (all_written prefix frames ++ text ≡ all_written prefix more ++ rest) × (CanAllFollow prefix range frames → CanAllFollow prefix range more)

@@ -62,7 +62,7 @@ form_of width order = record {
   one = λ m n p q e. sym (number_back width order m p) ∙ ap (number_of width order) e ∙ number_back width order n q;
 }
 
--- a length stands in front only where its bytes are there
+-- a length is at the front only where its bytes are there
 pub length-there : (prefix : Prefix) (bytes : List ℕ) (n : ℕ) → IsLengthAt prefix bytes n → length (prefix_written prefix n) ≤ length bytes
 length-there prefix bytes n (small, is) =
     let k = length (prefix_written prefix n) in
@@ -81,7 +81,7 @@ one_length (Fixed width order) bytes m n (small, p) (least, q) =
     let form = form_of width order in
     form.one m n small least (sym p ∙ ap (λ k. take k bytes) (form.long m ∙ sym (form.long n)) ∙ q)
 
--- a length that was written stands in front
+-- a length that was written is at the front
 pub length-before : (prefix : Prefix) (n : ℕ) (rest : List ℕ) → n < prefix_limit prefix → IsLengthAt prefix (prefix_written prefix n ++ rest) n
 length-before prefix n rest small = (small, take-append_seam (prefix_written prefix n) rest)
 
@@ -91,7 +91,7 @@ length-in_front prefix body more small =
     subst (λ (xs : List ℕ). IsLengthAt prefix xs (length body)) (sym (append_assoc (prefix_written prefix (length body)) body more))
     (length-before prefix (length body) (body ++ more) small)
 
--- one body stands in front, and one text behind it
+-- one body is at the front, and one text after it
 pub one_front : (prefix : Prefix) (a b x y : List ℕ) → length a < prefix_limit prefix → length b < prefix_limit prefix
     → frame_written prefix a ++ x ≡ frame_written prefix b ++ y → (a ≡ b) × (x ≡ y)
 one_front prefix a b x y small least e =
@@ -103,7 +103,7 @@ one_front prefix a b x y small least e =
     let same : a ≡ b = sym (take-append_seam a x) ∙ ap (take (length a)) tail ∙ ap (λ n. take n (b ++ y)) long ∙ take-append_seam b y in
     (same, append_cancel_left a x y (tail ∙ ap (λ w. w ++ y) (sym same)))
 
--- a length stays in front whatever follows
+-- a length stays at the front whatever follows
 pub length-later : (prefix : Prefix) (bytes more : List ℕ) (n : ℕ) → IsLengthAt prefix bytes n → IsLengthAt prefix (bytes ++ more) n
 length-later prefix bytes more n at =
     (at.0, take-append-le (length (prefix_written prefix n)) bytes more (length-there prefix bytes n at) ∙ at.1)
@@ -112,7 +112,7 @@ pub length-sooner : (prefix : Prefix) (bytes more : List ℕ) (n : ℕ) → leng
     → IsLengthAt prefix bytes n
 length-sooner prefix bytes more n l at = (at.0, sym (take-append-le (length (prefix_written prefix n)) bytes more l) ∙ at.1)
 
--- ---- whether a length stands in front
+-- ---- whether a length is at the front
 
 -- only the number that the front is read as can stand there
 only_number : (width : Width) (order : ByteOrder) (bytes : List ℕ) (n : ℕ) → IsLengthAt (Fixed width order) bytes n
@@ -137,7 +137,7 @@ written_there width order bytes n false small is same =
     ap (λ k. take k bytes) (sym ((form_of width order).long m)) ∙ at.1 ∙ ap (prefix_written prefix) equal in
     false≢true (same ∙ (bytes_eq-Decides front (prefix_written prefix n)).1 there))
 
--- a length stands in front, or none does
+-- a length is at the front, or none is
 pub some_length : (prefix : Prefix) (bytes : List ℕ) → ((n : ℕ) × IsLengthAt prefix bytes n) ⊎ HasNoLengthAt prefix bytes
 some_length Spelled bytes = has_length bytes
 some_length (Fixed width order) bytes =

@@ -46,6 +46,6 @@ abbrev pub IsOpenAt : Prefix → List ℕ → Type 0
 IsOpenAt Spelled bytes = IsOpen bytes
 IsOpenAt (Fixed width order) bytes = length bytes < width_size width
 
--- no length stands in front
+-- no length is at the front
 abbrev pub HasNoLengthAt : Prefix → List ℕ → Type 0
 HasNoLengthAt prefix bytes = (n : ℕ) → IsLengthAt prefix bytes n → ⊥

@@ -64,7 +64,7 @@ fn first_line<R: Read>(alloc: Global, from: &mut R) -> io::Result<Vec<u8>> {
     Ok(ahead)
 }
 
-// Whether no line of at most the length that is allowed stands in front.
+// Whether no line of at most the length that is allowed is at the front.
 fn is_long(ahead: &[u8]) -> bool {
     ahead.len() > MOST_LINE && !ahead[..MOST_LINE + 1].contains(&b'\n')
 }
@@ -79,7 +79,7 @@ fn say_long(rt: &HostRuntime, name: &str, done: Appended) {
     );
 }
 
-// Says what became of lines that not all went behind a journal.
+// Says what became of lines that not all went after a journal.
 fn say_outcome(rt: &HostRuntime, name: &str, outcome: Outcome) {
     match outcome {
         Outcome::Put(done) => {
@@ -100,7 +100,7 @@ fn say_outcome(rt: &HostRuntime, name: &str, outcome: Outcome) {
     }
 }
 
-// Puts lines behind a journal that is locked, if it is whole.
+// Puts lines after a journal that is locked, if it is whole.
 fn append_locked<R: Read>(
     rt: &HostRuntime,
     name: &str,
@@ -146,7 +146,7 @@ fn append_to(rt: &HostRuntime, name: &str, sync: bool) -> io::Result<u8> {
     Ok(status)
 }
 
-/// Puts the lines of the standard input behind a journal. They are kept where this answers 0.
+/// Puts the lines of the standard input after a journal. They are kept where this answers 0.
 pub fn append(rt: &HostRuntime, name: &str, sync: bool) -> u8 {
     status(rt, name, append_to(rt, name, sync))
 }
@@ -165,7 +165,7 @@ fn replay_from(rt: &HostRuntime, name: &str, all: bool) -> io::Result<u8> {
     Ok(ending::status(end))
 }
 
-/// Prints the records of a journal, a line each, and where all are wanted those behind damage too.
+/// Prints the records of a journal, a line each, and where all are wanted those after damage too.
 pub fn replay(rt: &HostRuntime, name: &str, all: bool) -> u8 {
     status(rt, name, replay_from(rt, name, all))
 }
@@ -185,7 +185,7 @@ pub fn check(rt: &HostRuntime, names: &[&str]) -> u8 {
     worst
 }
 
-// What is behind the records, in a file beside the journal.
+// What is after the records, in a file beside the journal.
 fn copy_rest(journal: &mut File, copy: &mut File, taken: u64) -> io::Result<u64> {
     journal.seek(SeekFrom::Start(taken))?;
     let len = io::copy(journal, copy)?;
@@ -193,7 +193,7 @@ fn copy_rest(journal: &mut File, copy: &mut File, taken: u64) -> io::Result<u64>
     Ok(len)
 }
 
-// What is behind the records goes to a file beside the journal, which isn't there yet, and then from the journal. A copy
+// What is after the records goes to a file beside the journal, which isn't there yet, and then from the journal. A copy
 // that fails goes away, and the journal stays.
 fn cut(rt: &HostRuntime, name: &str, journal: &mut File, taken: u64) -> io::Result<u64> {
     let beside = format!(in rt.alloc(); "{name}.cut")?;
@@ -250,7 +250,7 @@ fn repair_file(rt: &HostRuntime, name: &str, force: bool) -> io::Result<u8> {
     Ok(0)
 }
 
-/// Cuts off what is torn behind the records of a journal, or damaged where that is forced. It is copied first.
+/// Cuts off what is torn after the records of a journal, or damaged where that is forced. It is copied first.
 pub fn repair(rt: &HostRuntime, name: &str, force: bool) -> u8 {
     status(rt, name, repair_file(rt, name, force))
 }

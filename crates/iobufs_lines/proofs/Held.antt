@@ -117,7 +117,7 @@ short_from k (piece ∷ pieces) low =
     let both = length-append (held_text k piece) (flat_map (held_text k) pieces) in
     (omega (arith, one, both, low), short_from k pieces (omega (arith, both, low)))
 
--- where no cause stands against `Show`, and behind a text stands the kind of what is held, its pieces and an end of a line, the line of a reply
+-- where no cause holds against `Show`, and after a text stands the kind of what is held, its pieces and an end of a line, the line of a reply
 -- is printed
 pub is_printed : (names : List Slot) (target : ℕ) (k : Kind) (v : Vec ℕ Global) (before named all after : List ℕ)
     → refusal_for names (Show target) ≡ None → kind_of (slot_named names target) ≡ Some k

@@ -31,7 +31,7 @@ behind_by c d ds true e all small more =
 behind_by c d ds false e all small more =
     (0, sym (decimal-digits_value own (c ∷ d ∷ ds) all (omega arith) (λ is. absurd (grind (arith, nat_tests, e, is))) small))
 
--- digits are zeros and, behind them, what is printed of their value
+-- digits are zeros and, after them, what is printed of their value
 behind_zeros : (ds : List ℕ) → all_ascii_digits ds ≡ true → 0 < length ds → digits_value 10 ds < 2 ^ 64 → IsNumber (digits_value 10 ds) ds
 behind_zeros [] all some small = absurd (omega arith)
 behind_zeros (c ∷ []) all some small = (0, sym (decimal-digits_value own (c ∷ []) all some (λ _. refl) small))

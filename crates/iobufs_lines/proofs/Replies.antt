@@ -48,7 +48,7 @@ plusless_hex : (bytes : List ℕ) → plusless (hex_text bytes) ≡ true
 plusless_hex [] = refl
 plusless_hex (b ∷ bytes) = plusless_digits (b ∷ bytes)
 
--- what is before the first plus, and behind it
+-- what is before the first plus, and after it
 abbrev before_plus : List ℕ → List ℕ
 before_plus [] = []
 before_plus (c ∷ cs) = if eqb c 43 then [] else c ∷ before_plus cs
@@ -69,7 +69,7 @@ seam : (xs ys : List ℕ) → plusless xs ≡ true → Seam xs ys
 seam [] ys h = record { before = refl; behind = refl }
 seam (c ∷ cs) ys h = seam_by c cs ys (eqb c 43) refl h (λ h. seam cs ys h)
 
--- a piece without the space in front
+-- a piece without the space at the front
 abbrev piece_word : Kind → Piece → List ℕ
 piece_word kind.Part piece = hex_text piece.bytes.items ++ 43 ∷ decimal piece.spare
 piece_word kind.Parts piece = hex_text piece.bytes.items ++ 43 ∷ decimal piece.spare
@@ -214,7 +214,7 @@ text_same (Refused r) (Refused q) f g s e = ap (λ (r : Refusal). Refused r) (re
 text_same (Shown k ps) (Shown l qs) f g s e = shown_same k l ps.items qs.items f g e
 text_same a b f g s e = absurd (omega (arith, s))
 
--- a text without the byte behind it
+-- a text without the byte after it
 abbrev without_last : List ℕ → List ℕ
 without_last [] = []
 without_last (c ∷ []) = []

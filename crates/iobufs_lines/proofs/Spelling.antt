@@ -107,7 +107,7 @@ alone_is read word reads text [] a (Some x) at e = (reads.is text a (at ∙ e), 
 alone_is read word reads text (more ∷ texts) a (Some x) at e = cc e
 alone_is read word reads text texts a None at e = cc e
 
--- one word, and none behind it
+-- one word, and none after it
 lone : {A : Type 0} (read : List ℕ → Option A) (word : A → Word) (whole : List (List ℕ) → Option A) → Reads read word → whole [] ≡ None
     → ((text : List ℕ) (texts : List (List ℕ)) → whole (text ∷ texts) ≡ alone (read text) texts) → Shape whole (λ a. word a ∷ [])
 lone {A} read word whole reads none some = record { is = is; back = back }
@@ -121,7 +121,7 @@ lone {A} read word whole reads none some = record { is = is; back = back }
     back (text ∷ []) a s = some text [] ∙ rw (reads.back text a s.0) refl
     back (text ∷ more ∷ texts) a s = absurd s.1
 
--- a word, and a shape behind it
+-- a word, and a shape after it
 record Led {A B C : Type 0} (make : A → B → C) (words : A → B → List Word) (text : List ℕ) (texts : List (List ℕ)) (c : C) : Type 0 where
   first : A
   behind : B
@@ -268,7 +268,7 @@ items_for =
     led number_of Number items_of (map item_word) (λ a b. (a, b)) (λ n. n.0) (λ n. n.1) items_for_of number items (λ a b. refl) (λ a b. refl) (λ n. refl) refl
     (λ text texts. both_is (number_of text) (items_of texts))
 
--- ---- what words say behind a verb
+-- ---- what words say after a verb
 
 -- texts that spell a command
 abbrev Says : Command → List (List ℕ) → Type 0
@@ -293,7 +293,7 @@ said_back : {A : Type 0} (read : List (List ℕ) → Option A) (words : A → Li
 said_back read words make name shape by [] a s = absurd s
 said_back read words make name shape by (text ∷ texts) a s = rw s.0 (by texts ∙ rw (shape.back texts a s.1) refl)
 
--- of a command that is read as a number and what is behind it
+-- of a command that is read as a number and what is after it
 whole_is : {B : Type 0} (behind : List (List ℕ) → Option B) (words : B → List Word) (make : ℕ → B → Command) (name : List ℕ) → Shape behind words
     → ((n : ℕ) (b : B) → StandsAt 0 (make n b))
     → ((n : ℕ) (b : B) → words_from 0 (make n b) ≡ Named name ∷ Number n ∷ words b) → (text : List ℕ) (texts : List (List ℕ)) (command : Command)

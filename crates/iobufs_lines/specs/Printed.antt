@@ -32,7 +32,7 @@ kind_text kind.View = codes "view"
 kind_text kind.Text = codes "text"
 kind_text kind.Parts = codes "parts"
 
--- one piece of what is shown; of a part with the room behind it
+-- one piece of what is shown; of a part with the room after it
 abbrev pub piece_text : Kind → Piece → List ℕ
 piece_text kind.Part piece = codes " " ++ hex_text piece.bytes.items ++ codes "+" ++ decimal piece.spare
 piece_text kind.Parts piece = codes " " ++ hex_text piece.bytes.items ++ codes "+" ++ decimal piece.spare
@@ -57,7 +57,7 @@ reply_text (Shown kind pieces) = kind_text kind ++ flat_map (piece_text kind) pi
 abbrev pub line_of : Reply → List ℕ
 line_of reply = reply_text reply ++ codes "\n"
 
--- a command makes these names of those, by one step, and behind a text stands the line of its reply
+-- a command makes these names of those, by one step, and after a text stands the line of its reply
 abbrev pub IsPrinted : (old : List Slot) → Cmd → (new : List Slot) → (before after : List ℕ) → Type 0
 IsPrinted old command new before after = (reply : Reply) × Step old command reply new × (after ≡ before ++ line_of reply)
 

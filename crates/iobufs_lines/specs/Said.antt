@@ -59,7 +59,7 @@ verb_of word = option_or (making_of word) (acting_of word)
 abbrev pub static_of : List (List ℕ) → Option Command
 static_of words = option_and_then (λ n. option_map (Static n.first) (letters_of n.second n.third)) (three_of words)
 
--- the command that the words behind the first say
+-- the command that the words after the first say
 abbrev pub said_by : Verb → List (List ℕ) → Option Command
 said_by verb.New words = option_map (λ n. NewMut n.first n.second n.third) (three_of words)
 said_by verb.Zeroed words = option_map (λ n. Zeroed n.first n.second n.third) (three_of words)

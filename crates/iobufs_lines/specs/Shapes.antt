@@ -27,7 +27,7 @@ alone None words = None
 alone (Some x) [] = Some x
 alone (Some x) (word ∷ words) = None
 
--- what is made of the first and of what is behind it, where both are there
+-- what is made of the first and of what is after it, where both are there
 abbrev pub of_both : {A B C : Type 0} → (A → B → C) → Option A → Option B → Option C
 of_both make (Some a) (Some b) = Some (make a b)
 of_both make (Some a) None = None
@@ -52,7 +52,7 @@ pub record Four : Type 0 where
 abbrev pub four : ℕ → ℕ → ℕ → ℕ → Four
 four a b c d = record { first = a; second = b; third = c; fourth = d }
 
--- so many numbers, and no word behind them
+-- so many numbers, and no word after them
 abbrev pub one_of : List (List ℕ) → Option ℕ
 one_of [] = None
 one_of (a ∷ words) = alone (number_of a) words
@@ -69,7 +69,7 @@ abbrev pub four_of : List (List ℕ) → Option Four
 four_of [] = None
 four_of (a ∷ words) = of_both (λ first n. four first n.first n.second n.third) (number_of a) (three_of words)
 
--- bytes, and no word behind them
+-- bytes, and no word after them
 abbrev pub lone_bytes_of : List (List ℕ) → Option (List ℕ)
 lone_bytes_of [] = None
 lone_bytes_of (a ∷ words) = alone (bytes_of a) words
@@ -108,7 +108,7 @@ abbrev pub first_bound : List (List ℕ) → Option (Bound ℕ)
 first_bound [] = None
 first_bound (word ∷ words) = bound_of word
 
--- one bound or two, and no word behind them
+-- one bound or two, and no word after them
 abbrev pub last_bound_of : List (List ℕ) → Option (Bound ℕ)
 last_bound_of [] = None
 last_bound_of (a ∷ words) = alone (bound_of a) words
@@ -143,7 +143,7 @@ letters = codes "abcdefghijklmnopqrstuvwxyz"
 abbrev pub letters_of : ℕ → ℕ → Option (List ℕ)
 letters_of lo hi = if nat_le lo hi && nat_le hi 26 then Some (slice_range letters lo hi) else None
 
--- bytes behind an `i`, or the name of a view behind a `p`
+-- bytes after an `i`, or the name of a view after a `p`
 abbrev pub item_of : List ℕ → Option Item
 item_of [] = None
 item_of (c ∷ word) =

@@ -19,7 +19,7 @@ use Rattle.iobufs_words.specs.Words.{words_of}
 use Rattle.iobufs_lines.specs.Commands.{Item, Inline, Push, Command, NewMut, Zeroed, Adopt, Static, FromBytes, Put, Fill, SetLen, Truncate, Clear, Overwrite, Freeze, Recover, Clone, Slice, Split, Advance, Take, Gather, GatherMut, Append, Prepend, Coalesce, Build, Encode, Decode, Drop, Show}
 use Rattle.iobufs_lines.specs.Shapes.{letters_of}
 
--- what a word says: itself, a number, a number that is a byte, bytes, or such a thing behind a letter
+-- what a word says: itself, a number, a number that is a byte, bytes, or such a thing after a letter
 pub data Word : Type 0 where
   Verb : (name : List ℕ) → Word
   Number : (n : ℕ) → Word
@@ -27,7 +27,7 @@ pub data Word : Type 0 where
   Digits : (bytes : List ℕ) → Word
   Behind : (letter : List ℕ) → (word : Word) → Word
 
--- a number in decimal digits, behind any number of zeros
+-- a number in decimal digits, after any number of zeros
 abbrev pub IsNumber : ℕ → List ℕ → Type 0
 IsNumber n text = (zeros : ℕ) × (text ≡ replicate zeros 48 ++ decimal n)
 
@@ -51,7 +51,7 @@ AreSpelled [] [] = Unit {0}
 AreSpelled (word ∷ words) (text ∷ texts) = Spells word text × AreSpelled words texts
 AreSpelled words texts = ⊥
 
--- no zeros in front, and digits in lower case
+-- no zeros at the front, and digits in lower case
 abbrev pub written : Word → List ℕ
 written (Verb name) = name
 written (Number n) = decimal n

@@ -114,7 +114,7 @@ fn acting_named(word: &str) -> Option<Verb>
     }
 }
 
-// The command of a line that asks for this, with these words behind the first.
+// The command of a line that asks for this, with these words after the first.
 fn said(alloc: Global, verb: Verb, words: &mut Words<'_>) -> Result<Cmd, LineError>
     ensures ok { IfOk result (λ cmd. said_by verb words.old ≡ Some (plain cmd)) }
     ensures err { IfErr result (λ error. (error ≡ LineError.Memory) ⊎ (said_by verb words.old ≡ None)) }

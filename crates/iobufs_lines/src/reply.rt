@@ -20,7 +20,7 @@ use std::str;
 // How many bytes are put into digits at once.
 const FEW: usize = 32;
 
-// Puts two digits for each byte behind a text.
+// Puts two digits for each byte after a text.
 fn push_digits(bytes: &[u8], text: &mut String) -> Result<(), AllocError>
     ensures { OnOk result (string_bytes text.new ≡ string_bytes text.old ++ flat_map two_digits bytes.now) }
 {
@@ -49,7 +49,7 @@ fn push_few(bytes: &[u8], text: &mut String) -> Result<(), AllocError>
     text.push_str(digits)
 }
 
-// Puts bytes behind a text as hexadecimal digits, or a dash where there are none.
+// Puts bytes after a text as hexadecimal digits, or a dash where there are none.
 fn push_hex(bytes: &[u8], text: &mut String) -> Result<(), AllocError>
     ensures { OnOk result (string_bytes text.new ≡ string_bytes text.old ++ hex_text bytes.now) }
 {
@@ -87,7 +87,7 @@ fn push_part(bytes: &[u8], spare: usize, text: &mut String) -> Result<(), AllocE
     write!(text, "+{spare}").map_err(|_| AllocError)
 }
 
-// Puts one piece of what is shown behind a text and a space.
+// Puts one piece of what is shown after a text and a space.
 fn push_piece(kind: Kind, piece: &Piece, text: &mut String) -> Result<(), AllocError>
     ensures { OnOk result (string_bytes text.new ≡ string_bytes text.old ++ piece_text kind piece.now) }
 {
@@ -132,7 +132,7 @@ fn push_end(text: &mut String) -> Result<(), AllocError>
     text.push_str("\n")
 }
 
-/// Puts the line of a reply behind a text.
+/// Puts the line of a reply after a text.
 pub fn push_line(reply: &Reply, text: &mut String) -> Result<(), AllocError>
     ensures { OnOk result (string_bytes text.new ≡ string_bytes text.old ++ line_of reply.now) }
 {
@@ -180,7 +180,7 @@ fn push_held(slot: &Slot, text: &mut String) -> Result<(), AllocError>
     }
 }
 
-/// Puts the line that answers `Show` behind a text, with no copy of the bytes in between.
+/// Puts the line that answers `Show` after a text, with no copy of the bytes in between.
 pub fn push_shown(table: &Table, target: usize, text: &mut String) -> Result<(), AllocError>
     ensures { OnOk result (IsPrinted table.now (Cmd.Show target) table.now (string_bytes text.old) (string_bytes text.new)) }
 {

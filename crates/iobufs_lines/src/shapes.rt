@@ -8,7 +8,7 @@ use iobufs_words::words::{LineError, Words, bytes, number};
 use std::alloc::Global;
 use std::ops::Bound;
 
-/// One number, and no word behind it.
+/// One number, and no word after it.
 pub fn one(words: &mut Words<'_>) -> Result<usize, LineError>
     ensures ok { IfOk result (λ n. one_of words.old ≡ Some n) }
     ensures err { IfErr result (λ error. (error ≡ LineError.NoCommand) × (one_of words.old ≡ None)) }
@@ -18,7 +18,7 @@ pub fn one(words: &mut Words<'_>) -> Result<usize, LineError>
     Ok(a)
 }
 
-/// Two numbers, and no word behind them.
+/// Two numbers, and no word after them.
 pub fn two(words: &mut Words<'_>) -> Result<(usize, usize), LineError>
     ensures ok { IfOk result (λ n. two_of words.old ≡ Some (n.0, n.1)) }
     ensures err { IfErr result (λ error. (error ≡ LineError.NoCommand) × (two_of words.old ≡ None)) }
@@ -28,7 +28,7 @@ pub fn two(words: &mut Words<'_>) -> Result<(usize, usize), LineError>
     Ok((a, b))
 }
 
-/// Three numbers, and no word behind them.
+/// Three numbers, and no word after them.
 pub fn three(words: &mut Words<'_>) -> Result<(usize, usize, usize), LineError>
     ensures ok { IfOk result (λ n. three_of words.old ≡ Some (three n.0 n.1 n.2)) }
     ensures err { IfErr result (λ error. (error ≡ LineError.NoCommand) × (three_of words.old ≡ None)) }
@@ -38,7 +38,7 @@ pub fn three(words: &mut Words<'_>) -> Result<(usize, usize, usize), LineError>
     Ok((a, b, c))
 }
 
-/// Four numbers, and no word behind them.
+/// Four numbers, and no word after them.
 pub fn four(words: &mut Words<'_>) -> Result<(usize, usize, usize, usize), LineError>
     ensures ok { IfOk result (λ n. four_of words.old ≡ Some (four n.0 n.1 n.2 n.3)) }
     ensures err { IfErr result (λ error. (error ≡ LineError.NoCommand) × (four_of words.old ≡ None)) }
@@ -108,7 +108,7 @@ fn next_bound(words: &mut Words<'_>) -> Result<Bound<usize>, LineError>
     }
 }
 
-/// Two numbers and two bounds, and no word behind them.
+/// Two numbers and two bounds, and no word after them.
 pub fn slice(words: &mut Words<'_>) -> Result<(usize, usize, Bound<usize>, Bound<usize>), LineError>
     ensures ok { IfOk result (λ n. slice_of words.old ≡ Some (Slice n.0 n.1 n.2 n.3)) }
     ensures err { IfErr result (λ error. (error ≡ LineError.NoCommand) × (slice_of words.old ≡ None)) }
@@ -121,7 +121,7 @@ pub fn slice(words: &mut Words<'_>) -> Result<(usize, usize, Bound<usize>, Bound
     Ok((src, dst, lo, hi))
 }
 
-// Bytes behind an `i`, or the name of a view behind a `p`.
+// Bytes after an `i`, or the name of a view after a `p`.
 fn item(alloc: Global, word: &str) -> Result<Item, LineError>
     ensures ok { IfOk result (λ item. item_of word.now ≡ Some (plain_item item)) }
     ensures err { IfErr result (λ error. (error ≡ LineError.Memory) ⊎ (item_of word.now ≡ None)) }

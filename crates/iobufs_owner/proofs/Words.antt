@@ -59,11 +59,11 @@ unpack-high a t size log tail h =
       shr_high ((size * 2 ^ t + tail) * 2 ^ a + log) 1 1 (omega arith),
     ) (shr_high (size * 2 ^ t + tail) a log h)
 
--- a word shifted behind the logarithm and masked by the bits of a tail is the tail, where both have room
+-- a word shifted after the logarithm and masked by the bits of a tail is the tail, where both have room
 pub unpack-tail : (a t size log tail : ℕ) → log < 2 ^ a → tail < 2 ^ t → bit_and (word_of a t size log tail / 2 ^ (1 + a)) (2 ^ t - 1) ≡ tail
 unpack-tail a t size log tail h k = rw (unpack-high a t size log tail h, and_mask) (mod_low size t tail k)
 
--- a word shifted behind the tail is the size, where logarithm and tail have room
+-- a word shifted after the tail is the size, where logarithm and tail have room
 pub unpack-size : (a t size log tail : ℕ) → log < 2 ^ a → tail < 2 ^ t → word_of a t size log tail / 2 ^ (1 + a + t) ≡ size
 unpack-size a t size log tail h k =
     rw (← shr-shr (word_of a t size log tail) (1 + a) t, unpack-high a t size log tail h) (shr_high size t tail k)

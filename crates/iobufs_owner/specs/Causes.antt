@@ -104,7 +104,7 @@ may_take (Go memory) = memory
 abbrev pub IsBeside : Bool → Refusal → Type 0
 IsBeside memory why = ((why ≡ Memory) × (memory ≡ false)) ⊎ (why ≡ Room)
 
--- a step is refused by the cause that stands; where none stands, only for memory that it is denied or for want of room
+-- a step is refused by the cause that holds; where none stands, only for memory that it is denied or for want of room
 abbrev pub IsCaused : Bool → Option Refusal → Reply → Type 0
 IsCaused memory (Some cause) reply = reply ≡ Refused cause
 IsCaused memory None reply = (why : Refusal) → reply ≡ Refused why → IsBeside memory why

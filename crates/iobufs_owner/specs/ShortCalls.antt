@@ -173,7 +173,7 @@ recover_of s h = recover_lent s h (lend_of s h View)
 
 -- ---- SplitTo
 
--- the handle keeps what is behind the place, and the part before it is a new view; both with this word
+-- the handle keeps what is after the place, and the part before it is a new view; both with this word
 abbrev pub split_with : State → ℕ → ℕ → Handle → Word → Outcome
 split_with s h at x w = made (edited s h (part x at x.len w)) (part x 0 at w)
 
@@ -214,7 +214,7 @@ unique_of s h = unique_lent s (lend_owning_of s h)
 
 -- ---- Demote
 
--- the bytes of a block behind a view
+-- the bytes of a block after a view
 abbrev pub tail_of : Block → Handle → ℕ
 tail_of b x = b.base + b.size - x.ptr - x.len
 

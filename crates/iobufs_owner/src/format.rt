@@ -13,21 +13,21 @@ ghost use Rattle.iobufs_owner.specs.Word.{IsPowerOfTwo, fits, word_of, HasRoom, 
 pub struct Format {
     /// Bits for the logarithm of the alignment.
     pub align_bits: u32,
-    /// Bits for the number of bytes of the block behind a view.
+    /// Bits for the number of bytes of the block after a view.
     pub tail_bits: u32,
     /// Bits for the size of the block, in bytes.
     pub size_bits: u32,
     pub ghost in_a_word: { 1 + align_bits + tail_bits + size_bits ≤ 64 },
 }
 
-/// What a word holds: size and tail in bytes, the alignment as a power of two.
+/// The fields of a word: size and tail in bytes, the alignment as a power of two.
 #[derive(Clone, Copy, Debug, PartialEq, Eq, Drop)]
 pub struct Fields {
     /// The size of the block.
     pub size: u64,
     /// The alignment of the block.
     pub align: u64,
-    /// The bytes of the block behind the view; 0 in a writable handle.
+    /// The bytes of the block after the view; 0 in a writable handle.
     pub tail: u64,
 }
 
@@ -45,7 +45,7 @@ pub const FORMAT_32: Format = Format {
     size_bits: 24,
 };
 
-/// Whether a number has no more than so many bits.
+/// Whether a number has at most this many bits.
 fn fits(x: u64, bits: u32) -> bool
     requires { bits < 64 }
     ensures { IsTrue result ↔ (x < 2 ^ bits) }
@@ -54,7 +54,7 @@ fn fits(x: u64, bits: u32) -> bool
 }
 
 impl Format {
-    /// The format with these numbers of bits, `None` where they and the lowest bit don't fit a word.
+    /// Returns the format with these numbers of bits; `None` if they and the lowest bit don't fit a word.
     pub fn new(align_bits: u32, tail_bits: u32, size_bits: u32) -> Option<Format>
         ensures { MatchOption result (64 < 1 + align_bits + tail_bits + size_bits)
             (λ f. (f.align_bits ≡ align_bits) × (f.tail_bits ≡ tail_bits) × (f.size_bits ≡ size_bits)) }
@@ -72,14 +72,14 @@ impl Format {
         })
     }
 
-    /// How many bits a word of this format has.
+    /// Returns how many bits a word of this format has.
     pub fn bits(&self) -> u32
         ensures { result ≡ 1 + self.now.align_bits + self.now.tail_bits + self.now.size_bits }
     {
         1 + self.align_bits + self.tail_bits + self.size_bits
     }
 
-    /// Whether the fields have room; the alignment is given by its logarithm.
+    /// Whether the fields fit; the alignment is given by its logarithm.
     fn has_room(&self, size: u64, log: u32, tail: u64) -> bool
         ensures { IsTrue result
             ↔ HasRoom self.now.align_bits self.now.tail_bits self.now.size_bits size log tail }
@@ -90,7 +90,7 @@ impl Format {
             && fits(size, self.size_bits)
     }
 
-    /// Whether there is a word of these fields: where `pack` gives one.
+    /// Returns whether there is a word of these fields, as `pack` gives it.
     pub fn fits(&self, size: u64, align: u64, tail: u64) -> bool
         requires { IsPowerOfTwo align }
         ensures value { (log : ℕ) → align ≡ 2 ^ log → result
@@ -101,7 +101,7 @@ impl Format {
         self.has_room(size, align.trailing_zeros(), tail)
     }
 
-    /// The word of these fields, or `None` where one has no room or the size is 0.
+    /// Returns the word of these fields, or `None` if one doesn't fit or the size is 0.
     pub fn pack(&self, size: u64, align: u64, tail: u64) -> Option<u64>
         requires { IsPowerOfTwo align }
         ensures sum { (log : ℕ) → align ≡ 2 ^ log → SomeIff result
@@ -119,7 +119,7 @@ impl Format {
         Some(size << (1 + self.align_bits + self.tail_bits) | low)
     }
 
-    /// The fields of a word of this format.
+    /// Returns the fields of a word of this format.
     pub fn unpack(&self, word: u64) -> Fields
         requires { IsWord self.now.align_bits self.now.tail_bits self.now.size_bits word }
         ensures inverse { (size log tail : ℕ)

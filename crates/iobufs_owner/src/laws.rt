@@ -1,4 +1,4 @@
-//! What follows of runs.
+//! Laws of runs.
 ghost use Rattle.std.specs.Prelude.{◌≡◌, ◌≢◌, ℕ, List, All, length};
 ghost use Rattle.iobufs_owner.specs.declared.owner.types.Reply.{Reply};
 ghost use Rattle.iobufs_owner.specs.declared.owner.types.Step.{Step};
@@ -13,19 +13,19 @@ ghost use Rattle.iobufs_owner.specs.Steps.{Steps};
 ghost use Rattle.iobufs_owner.specs.Tells.{TellsUnique};
 ghost use Rattle.iobufs_owner.specs.World.{World, going_at};
 
-/// A machine answers a step in one way, and comes to one state: its value and the step say all.
+/// State and step determine the reply and the next state.
 pub fn answer_law()
     ensures { (m next other : Seen) → (step : Step) → (reply answer : Reply) → IsMove m step reply next → IsMove m step answer other
         → (answer ≡ reply) × (other ≡ next) }
 {}
 
-/// Steps one by one, before each of which tables may get more room, are a run.
+/// Steps in order, before each of which tables may get more capacity, are a run.
 pub fn growing_law()
     ensures { (m next : Seen) → (steps : List Step) → (replies : List Reply) → GrowingRuns m steps replies next
         → Runs m.state steps replies next.state }
 {}
 
-/// A run of a machine that has room for what its steps may add is nowhere refused for want of room.
+/// No step is refused with `Room` in a run of a machine that has space for what the steps may add.
 pub fn room_law()
     ensures { (m next : Seen) → (steps : List Step) → (replies : List Reply) → GrowingRuns m steps replies next
         → RoomFor m.room m.state (blocks_of steps) (length steps) (length steps)
@@ -33,24 +33,24 @@ pub fn room_law()
         → All (λ reply. reply ≢ Refused Room) replies }
 {}
 
-/// A step is refused by the cause that stands against it, and otherwise only for memory that it is denied or for want of room.
+/// A step is refused by the cause that holds, and otherwise only for memory that it is denied or for a full table.
 pub fn cause_law()
     ensures { (w next : World) → (step : Step) → (reply : Reply) → Steps w step reply next
         → IsCaused (may_take step.act) (cause_of w step) reply }
 {}
 
-/// `IsUnique` answers true exactly where no other handle and no unfinished drop holds the block.
+/// `IsUnique` returns true exactly if no other handle and no unfinished drop holds the block.
 pub fn unique_law()
     ensures { (w next : World) → (step : Step) → (reply : Reply) → Steps w step reply next → TellsUnique w step reply }
 {}
 
-/// A call ends with its fourth taken step at the latest.
+/// A call ends with its fourth executed step at the latest.
 pub fn ends_law()
     ensures { (s next : State) → (steps : List Step) → (replies : List Reply) → Runs s steps replies next
         → (p : ℕ) → EndsInFour p (taken_of (going_at (reading s) p)) steps replies }
 {}
 
-/// What is freed in a run is logged behind what was freed before.
+/// A run adds what it frees at the end of the logs.
 pub fn logs_law()
     ensures { (s next : State) → (steps : List Step) → (replies : List Reply) → Runs s steps replies next → KeepsLogs s next }
 {}

@@ -58,7 +58,7 @@ pub promised_after : (m next : Seen) (ask : Ask) (text : List ℕ) → Answers m
 promised_after m next (Take step) text (grown, reply, has, one, says) p = one.seen.promises
 promised_after m next (Look question) text (same, says) p = subst (λ (s : Seen). Promises s.state) (sym same) p
 
--- where what is asked was answered, what was promised of the machine before is promised of it behind
+-- where what is asked was answered, what was promised of the machine before is promised of it after
 pub promised : (m next : Seen) (asks : List Ask) (texts : List (List ℕ)) → AreAnswered m asks texts next → Promises m.state → Promises next.state
 promised m next [] [] h p = subst (λ (s : Seen). Promises s.state) (sym h) p
 promised m next [] (text ∷ texts) h p = elim h [ ]

@@ -24,13 +24,13 @@ use Rattle.iobufs_owner_lines.specs.declared.line.Question.TheVariants.{Handle, 
 use Rattle.iobufs_owner_lines.specs.declared.line.Setup.{Setup}
 use Rattle.iobufs_words.specs.Words.{words_of, number_of, both}
 
--- ---- numbers in front, and the words behind them
+-- ---- numbers at the front, and the words after them
 
 abbrev pub one_of : List (List ℕ) → Option (ℕ × List (List ℕ))
 one_of [] = None
 one_of (word ∷ words) = option_map (λ n. (n, words)) (number_of word)
 
--- two numbers, and the words behind them
+-- two numbers, and the words after them
 pub record Two : Type 0 where
   pub first : ℕ
   pub second : ℕ
@@ -39,7 +39,7 @@ pub record Two : Type 0 where
 abbrev pub two_of : List (List ℕ) → Option Two
 two_of words = option_and_then (λ a. option_map (λ b. record { first = a.0; second = b.0; rest = b.1 }) (one_of a.1)) (one_of words)
 
--- three numbers, and the words behind them
+-- three numbers, and the words after them
 pub record Three : Type 0 where
   pub first : ℕ
   pub second : ℕ
@@ -52,7 +52,7 @@ three_of words =
 
 -- ---- steps
 
--- a call that says a handle and nothing else, and the words behind it
+-- a call that says a handle and nothing else, and the words after it
 abbrev pub call_on_of : List ℕ → List (List ℕ) → Option (Call × List (List ℕ))
 call_on_of verb words =
     if bytes_eq verb (codes "freeze") then option_map (λ n. (Freeze n.0, n.1)) (one_of words)
@@ -63,7 +63,7 @@ call_on_of verb words =
     else if bytes_eq verb (codes "drop") then option_map (λ n. (Drop n.0, n.1)) (one_of words)
     else None
 
--- a call by its verb and its numbers, and the words behind it
+-- a call by its verb and its numbers, and the words after it
 abbrev pub call_of : List ℕ → List (List ℕ) → Option (Call × List (List ℕ))
 call_of verb words =
     if bytes_eq verb (codes "new") then option_map (λ n. (New n.first n.second n.third, n.rest)) (three_of words)
@@ -97,7 +97,7 @@ step_of party words = option_map (λ s. record { party = s.0; act = s.1 }) (both
 
 -- ---- lines
 
--- a number, and nothing behind it
+-- a number, and nothing after it
 abbrev pub last_number_of : List (List ℕ) → Option ℕ
 last_number_of [] = None
 last_number_of (word ∷ []) = number_of word
@@ -119,7 +119,7 @@ abbrev pub ask_in : List (List ℕ) → Option Ask
 ask_in [] = None
 ask_in (first ∷ words) = ask_by first words
 
--- what a line behind the first asks, if it asks anything
+-- what a line after the first asks, if it asks anything
 abbrev pub ask_of : List ℕ → Option Ask
 ask_of line = ask_in (words_of line)
 

@@ -49,7 +49,7 @@ AreAnswered m (ask ∷ asks) [] next = ⊥
 abbrev pub line_of : List ℕ → List ℕ
 line_of text = text ++ codes "\n"
 
--- So many lines of the input are answered: the first asks for a machine, those behind it ask something of it, and `left` is
+-- So many lines of the input are answered: the first asks for a machine, those after it ask something of it, and `left` is
 -- what the others ask. What is written is what was there before, `ok`, and the answers, a line each; and at its end the
 -- machine is as promised.
 pub record Answered (input before : List ℕ) (left : List (Option Ask)) (written : Option (List ℕ)) (count : ℕ) : Type 0 where

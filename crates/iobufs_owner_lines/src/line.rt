@@ -205,7 +205,7 @@ fn three(words: &mut Words) -> Result<(usize, usize, usize), LineError>
     Ok((first, second, third))
 }
 
-// A number, and nothing behind it.
+// A number, and nothing after it.
 fn last_number(words: &mut Words) -> Result<usize, LineError>
     ensures ok { IfOk result (λ n. last_number_of words.old ≡ Some n) }
     ensures err { IfErr result (λ error. (error ≡ LineError.NoCommand) × (last_number_of words.old ≡ None)) }

@@ -4,7 +4,7 @@ use Rattle.std.proofs.lemmas.List.{drop-map, take_min}
 use Rattle.std.specs.Prelude.{Result, Ok, Err, IfOk}
 use Rattle.iobufs_readers.specs.Cut.{first_chunks, some-first}
 
--- a chunk more behind those that were cut
+-- a chunk more after those that were cut
 pub cut-more : (shown more xs target : List (List ℕ)) (chunk : List ℕ) (i left some : ℕ) → drop i xs ≡ chunk ∷ drop (i + 1) xs → 0 < left
     → some ≡ min (length chunk) left → more ≡ shown ++ take some chunk ∷ [] → shown ++ first_chunks (drop i xs) left ≡ target
     → more ++ first_chunks (drop (i + 1) xs) (left - some) ≡ target
@@ -22,7 +22,7 @@ pub cut-end : (shown xs target : List (List ℕ)) (i left : ℕ) → first_chunk
     → shown ≡ target
 cut-end shown xs target i left none so_far = sym (append-nil shown) ∙ ap (λ ys. shown ++ ys) (sym none) ∙ so_far
 
--- from an element on stand it and those behind it, seen by what each shows
+-- from an element on stand it and those after it, seen by what each shows
 pub shown-behind : {X : Type 0} (show : X → List ℕ) (items : List X) (i : ℕ) (item : X) → i < length items → item ≡ get_or items i item
     → drop i (map show items) ≡ show item ∷ drop (i + 1) (map show items)
 shown-behind show items i item l is =

@@ -5,7 +5,7 @@ use Rattle.std.specs.List.{flat_map}
 use Rattle.iobufs_core.specs.Chunks.{full_chunks}
 use Rattle.iobufs_readers.specs.Cut.{behind-full, empty_first, take-two}
 
--- from a place on stand its element and those behind it, seen by what each shows
+-- from a place on stand its element and those after it, seen by what each shows
 pub shown-at : {X : Type 0} (show : X → List ℕ) (items : List X) (i : ℕ) (otherwise : X) → i < length items
     → drop i (map show items) ≡ show (get_or items i otherwise) ∷ drop (i + 1) (map show items)
 shown-at show items i otherwise l =
@@ -13,7 +13,7 @@ shown-at show items i otherwise l =
     drop-map show i items ∙ ap (map show) (drop-cons items i otherwise l) ∙ ap (λ xs. shown ∷ xs) (sym (drop-map show (suc i) items))
     ∙ ap (λ k. shown ∷ drop k (map show items)) (sym (add-one i))
 
--- a chunk more behind those that were copied
+-- a chunk more after those that were copied
 pub gathered-more : (xs : List (List ℕ)) (copy more chunk target : List ℕ) (i left some : ℕ) → drop i xs ≡ chunk ∷ drop (i + 1) xs
     → some ≡ min (length chunk) left → more ≡ copy ++ take some chunk → copy ++ take left (flat_map (λ chunk. chunk) (drop i xs)) ≡ target
     → more ++ take (left - some) (flat_map (λ chunk. chunk) (drop (i + 1) xs)) ≡ target

@@ -65,7 +65,7 @@ full-short ((byte ∷ bytes) ∷ chunks) = let l = full-short chunks in omega (a
 pub empty_first : (chunks : List (List ℕ)) → full_chunks chunks ≡ [] ∷ chunks → ⊥
 empty_first chunks full = absurd (omega (arith, full-short chunks, ap (λ (xs : List (List ℕ)). length xs) full))
 
--- behind a full chunk of some full ones are full ones
+-- after a full chunk of some full ones are full ones
 pub behind-full : (byte : ℕ) (bytes : List ℕ) (chunks : List (List ℕ)) → full_chunks ((byte ∷ bytes) ∷ chunks) ≡ (byte ∷ bytes) ∷ chunks
     → full_chunks chunks ≡ chunks
 behind-full byte bytes chunks full = ap (drop 1) full
@@ -112,7 +112,7 @@ first_take (chunk ∷ chunks) (suc max) n =
     (λ (h : n ≤ 0). let none : n ≡ 0 = omega (arith, h) in rw none refl)
     (cases_lt 0 n)
 
--- where no byte lies behind the first, they are all there are
+-- where no byte lies after the first, they are all there are
 pub first_all : (chunks : List (List ℕ)) (n : ℕ) → full_chunks chunks ≡ chunks → length (flat_map (λ chunk. chunk) chunks) ≤ n → first_chunks chunks n ≡ chunks
 first_all [] n full l = refl
 first_all ([] ∷ chunks) n full l = absurd (empty_first chunks full)

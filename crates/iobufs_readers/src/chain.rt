@@ -12,7 +12,7 @@ use std::alloc::{AllocError, Global};
 pub struct Chain<A, B> {
     /// The reader whose bytes come first.
     pub first: A,
-    /// The reader whose bytes come behind them.
+    /// The reader whose bytes come after them.
     pub second: B,
     /// How many bytes of both may still be read: at first `usize::MAX`, since readers that are longer together have more
     /// bytes left than a `usize` counts.
@@ -20,7 +20,7 @@ pub struct Chain<A, B> {
 }
 
 impl<A, B> Chain<A, B> {
-    /// Both readers. Where they are longer together than `usize::MAX`, the bytes behind so many are never read.
+    /// Both readers. Where they are longer together than `usize::MAX`, the bytes after so many are never read.
     pub fn new(first: A, second: B) -> Chain<A, B>
         ensures first { result.first ≡ first }
         ensures second { result.second ≡ second }
@@ -52,7 +52,7 @@ fn gathered(alloc: Global, chunks: &[&[u8]], n: usize) -> Result<Vec<u8>, AllocE
 }
 
 impl<A: Buf, B: Buf> Chain<A, B> {
-    // Whether no byte lies behind the limit.
+    // Whether no byte lies after the limit.
     fn is_whole(&self) -> bool
         ensures { result ≡ nat_le (length (A.text self.now.first) + length (B.text self.now.second)) self.now.limit }
     {

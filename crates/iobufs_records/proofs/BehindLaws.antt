@@ -1,4 +1,4 @@
--- Records behind damage, which are looked for byte by byte, and printed and counted.
+-- Records after damage, which are looked for byte by byte, and printed and counted.
 use Rattle.std.specs.Prelude.{◌≡◌, ℕ, ◌+◌, ◌^◌, ◌<◌, ◌≤◌, ◌==◌, Bool, true, Option, None, Some, IfNone, IfSome, List, [], ◌∷◌, ◌++◌, length, take, drop, refl}
 use Rattle.std.specs.Io.KnownBytes.{Appends, Consumes, IsAtEnd}
 use Rattle.std.proofs.Common.{arith, inl, inr, ap, sym, subst, ◌∙◌, append_assoc, append-nil, length-append, take-append-drop}
@@ -23,7 +23,7 @@ none_more most least (b ∷ gap) byte text none here = (
   none_more most least gap byte text none.1 here,
 )
 
--- where enough is held, a record that stands in front of all stands in front of what is held
+-- where enough is held, a record that is at the front of all is at the front of what is held
 in_held : (most least : ℕ) (held left : List ℕ) → most + 10 ≤ length held → StandsInFront most least (held ++ left) → StandsInFront most least held
 in_held most least held left enough there =
     let record_bytes = record_written there.number there.body in
@@ -122,7 +122,7 @@ passed most least (Some text) (Some left) gap [] rest e none here =
 passed most least (Some text) (Some left) gap (byte ∷ held) rest e none here =
     subst (AreNone most least (gap ++ byte ∷ [])) (ap (λ w. w ++ left) (sym e)) (none_more most least gap byte (held ++ left) none here)
 
--- where enough is held and no record stands in front of it, the search has gone over one byte more, which stood there
+-- where enough is held and no record is at the front of it, the search has gone over one byte more, which stood there
 pub seeking_on : (most : ℕ) (a b c : Option (List ℕ)) (old before middle new : Scan) (found : Option Numbered) → IsSeeking most a b old before
     → IsHeld b c before middle → IsEnough most c middle
     → found ≡ None → IfNone found (StandsInFront most middle.number middle.window.bytes → ⊥) → IsSkipped middle new → IsSeeking most a c old new
@@ -160,7 +160,7 @@ first_so most least number (Some text) (Some left) read old gap held body behind
       short = short;
     }
 
--- a record that stands in front of what is held, short enough and with a near number, is the one that the search takes
+-- a record that is at the front of what is held, short enough and with a near number, is the one that the search takes
 pub sought : (most : ℕ) (a b c : Option (List ℕ)) (old before middle new : Scan) (found : Option Numbered) (f : Numbered)
     → IsSeeking most a b old before → IsHeld b c before middle → found ≡ Some f
     → IfSome found (λ f. middle.window.bytes ≡ record_written f.number f.body.bytes ++ f.rest.bytes)
@@ -209,7 +209,7 @@ none_sought most a b c old before middle empty before_so held enough test so =
     let at = at_end most c middle enough none in
     (at, all_none most old.number a c so_far.read old.window.bytes so_far.gap middle.window.bytes so_far.took so_far.whole none at so_far.none)
 
--- ---- one behind the other
+-- ---- in order
 
 pub record IsPrintingBehind (most : ℕ) (had has held holds : Option (List ℕ)) (old new : Scan) (count : ℕ) : Type 0 where
   pub found : List (List ℕ)
@@ -238,7 +238,7 @@ none_behind most had held scan = record {
   are = nothing_yet most had scan;
 }
 
--- one more record stands behind those that were found
+-- one more record follows those that were found
 one_further : (most start least number next : ℕ) (a b c : Option (List ℕ)) (front read origin now new body : List ℕ) (found : List (List ℕ))
     → Consumes a b front → Consumes b c read → next ≡ number + 1
     → IfSome a (λ text. IfSome b (λ left. (later : List (List ℕ)) → AreBehind most least (now ++ left) later

@@ -21,13 +21,13 @@ followed : (behind : ℕ) (end first : End) → end ≡ (if nat_lt 0 behind then
 followed zero end first e some = absurd (omega (arith, some))
 followed (suc n) end first e some = let t : nat_lt 0 (suc n) ≡ true = grind (arith, nat_tests) in e ∙ ap (λ t. if t then Damaged else first) t
 
--- what is held and left is the rest behind the records
+-- what is held and left is the rest after the records
 rest_so : (most : ℕ) (text found_bytes rest behind : List ℕ) (taken : ℕ) → text ≡ found_bytes ++ rest → taken ≡ length found_bytes
     → drop taken text ≡ behind → rest ≡ behind
 rest_so most text found_bytes rest behind taken whole summed left =
     sym (ap (λ k. drop k text) summed ∙ ap (drop (length found_bytes)) whole ∙ drop-append_seam found_bytes rest) ∙ left
 
--- the printed records, why none stands behind them, and the printed ones further on are a journal's ending, which is damaged where there are any further on
+-- the printed records, why none follows them, and the printed ones further on are a journal's ending, which is damaged where there are any further on
 pub ending_so : (most : ℕ) (a c held holds put puts : Option (List ℕ)) (scan : Scan) (first : End) (behind : ℕ) (ending : Ending)
     → IfSome a (λ text. IsPrinted most text held holds scan.number scan.taken first) → IfSome a (λ text. IsLeft scan text c)
     → IfSome c (λ left. AreFurtherPrinted most scan.number (scan.window.bytes ++ left) first put puts behind)
@@ -56,7 +56,7 @@ ending_so most (Some text) (Some more) held holds put puts scan first behind end
 pub in_turn : (name colon text end : List ℕ) → name ++ (colon ++ (text ++ end)) ≡ ((name ++ colon) ++ text) ++ end
 in_turn name colon text end = sym (append_assoc (name ++ colon) text end ∙ append_assoc name colon (text ++ end))
 
--- a journal whose ending was printed behind its name is checked, with the status of how it ends
+-- a journal whose ending was printed after its name is checked, with the status of how it ends
 pub checked : (most : ℕ) (a held holds : Option (List ℕ)) (name bytes : List ℕ) (ending : Ending) (status : ℕ) → IfSome a (λ text. HasEnding most text ending)
     → Appends held holds bytes → bytes ≡ name ++ codes ": " ++ ending_text ending ++ codes "\n" → status ≡ status_of ending.end
     → IfSome a (λ text. IsChecked most name text held holds status)

@@ -1,4 +1,4 @@
--- What a frame that was read off a copy of a text says of the record in front of the text: that it stands there, or that none does.
+-- What a frame that was read off a copy of a text says of the record before the text: that it stands there, or that none does.
 use Rattle.std.specs.Prelude.{Bool, false, true, ◌==◌, Option, None, Some, IfSome, IfNone, IfOk, IsTrue, ◌↔◌, Result, Ok, Err, ◌≡◌, ℕ, ◌^◌, ◌<◌, ◌≤◌, List, ◌++◌, length, take}
 use Rattle.std.specs.Int.{w64, from_be_bytes}
 use Rattle.std.proofs.Common.{arith, ap, subst, sym, ◌∙◌}
@@ -36,7 +36,7 @@ none_at most number text copy left framed found empty same is rest e none test m
 
 -- ---- a record with a near number
 
--- what is read where a record stands in front
+-- what is read where a record is at the front
 read_there : (most least : ℕ) (text left : MarkedText) (result : Result View Error) (there : StandsInFront most least text.bytes) → most < 2 ^ 64
     → IsViewRead text (up_to most) result
     → IfOk result (λ view. left ≡ text_rest text (length (view_written view))) → AreReadBack (sealed there.number there.body) there.behind left.bytes result
@@ -58,7 +58,7 @@ not_read most least text copy error large same is other there =
     other (read_there most least (of_view copy) (of_view copy) (Err error)
     (subst (StandsInFront most least) (sym (ap (λ (v : View). v.bytes) same)) there) large is tt)
 
--- the frame in front is the record that stands there
+-- the frame at the front is the record that stands there
 framed_is : (most least : ℕ) (text copy left framed : View) → most < 2 ^ 64 → copy ≡ text → IsViewRead (of_view copy) (up_to most) (Ok framed)
     → of_view left ≡ text_rest (of_view copy) (length (view_written framed))
     → (there : StandsInFront most least text.bytes) → framed.bytes ≡ sealed there.number there.body
@@ -76,11 +76,11 @@ framed_is most least text copy left framed large same is rest there =
     })
     large is rest).0
 
--- its number stands in front of it
+-- its number is at the front of it
 front_number : (number : ℕ) (body framed : List ℕ) → number < 2 ^ 64 → framed ≡ sealed number body → from_be_bytes w64 (take 8 framed) ≡ number
 front_number number body framed small e = ap (from_be_bytes w64) ((is_sealed number framed body e).number_is) ∙ from_be_bytes-to_be_bytes_8 number small
 
--- where the frame that was read off a copy of a text is shorter than 12 bytes, or its number isn't near, no record with a near number stands in front
+-- where the frame that was read off a copy of a text is shorter than 12 bytes, or its number isn't near, no record with a near number is at the front
 pub not_near : (most least : ℕ) (text copy left framed : View) (shown : List ℕ) → most < 2 ^ 64 → copy ≡ text
     → IsViewRead (of_view copy) (up_to most) (Ok framed) → of_view left ≡ text_rest (of_view copy) (length (view_written framed))
     → shown ≡ framed.bytes → (12 ≤ length shown → IsNear least (from_be_bytes w64 (take 8 shown)) → ⊥) → StandsInFront most least text.bytes → ⊥
@@ -89,7 +89,7 @@ not_near most least text copy left framed shown large same is rest e never there
     let number = front_number there.number there.body shown there.small sealed_so in
     never (is_sealed there.number shown there.body sealed_so).long (subst (IsNear least) (sym number) there.near)
 
--- where the frame that was read off a copy of a text isn't sealed under its own number, no record stands in front
+-- where the frame that was read off a copy of a text isn't sealed under its own number, no record is at the front
 pub not_sealed : (most least number : ℕ) (text copy left framed : View) (shown : List ℕ) (found : Option View) → most < 2 ^ 64 → copy ≡ text
     → IsViewRead (of_view copy) (up_to most) (Ok framed) → of_view left ≡ text_rest (of_view copy) (length (view_written framed))
     → shown ≡ framed.bytes → number ≡ from_be_bytes w64 (take 8 shown) → found ≡ None → IfNone found (IsSealed number framed.bytes → ⊥)

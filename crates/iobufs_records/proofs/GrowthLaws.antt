@@ -1,4 +1,4 @@
--- A whole journal with lines put behind it as records has grown.
+-- A whole journal with lines put after it as records has grown.
 use Rattle.std.specs.Prelude.{◌≡◌, ℕ, ◌+◌, Option, None, Some, IfSome, List, [], ◌++◌, length, refl}
 use Rattle.std.specs.Io.KnownBytes.{Appends}
 use Rattle.std.proofs.Common.{arith, ap, sym, subst, ◌∙◌, append-nil}

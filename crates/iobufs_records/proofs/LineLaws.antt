@@ -54,7 +54,7 @@ record_put out a b c d number len sum at body text long room first place second 
 
 -- ---- what goes off
 
--- where some of what is held went off, bytes behind the rest are put there
+-- where some of what is held went off, bytes after the rest are put there
 pub put_behind : (a b : Option (List ℕ)) (old middle bytes : List ℕ) → IsPut a b old middle [] → IsPut a b old (middle ++ bytes) bytes
 put_behind a b old middle bytes put = record {
   went = put.went;
@@ -69,7 +69,7 @@ put_nothing a held = record { went = []; grew = appends_none a; whole = append-n
 pub put_all : (a b : Option (List ℕ)) (held left : List ℕ) → Appends a b held → left ≡ [] → IsPut a b held left []
 put_all a b held left grew none = record { went = held; grew = grew; whole = ap (λ w. held ++ w) (sym none) }
 
--- what is put in two steps is put, the one behind the other
+-- what is put in two steps is put, in order
 pub put_on : (a b c : Option (List ℕ)) (old middle new u v : List ℕ) → IsPut a b old middle u → IsPut b c middle new v → IsPut a c old new (u ++ v)
 put_on a b c old middle new u v p q = record {
   went = p.went ++ q.went;
@@ -79,7 +79,7 @@ put_on a b c old middle new u v p q = record {
       ∙ sym (append_assoc p.went q.went new);
 }
 
--- a record behind what is held, once there is room
+-- a record after what is held, once there is room
 pub put_record : (a b : Option (List ℕ)) (old middle new : Part) (number same : ℕ) (body : List ℕ) → IsPut a b old.filled middle.filled []
     → new ≡ part_put middle (record_written same body) → same ≡ number
     → IsPut a b old.filled new.filled (record_written number body)

@@ -14,7 +14,7 @@ use Rattle.iobufs_records.specs.declared.front.Found.{Found}
 use Rattle.iobufs_records.specs.declared.scan.Scan.{Scan}
 use Rattle.iobufs_records.proofs.StaysLaws.{stays_damaged}
 
--- what a reader gives in two steps it gives, the one behind the other
+-- what a reader gives in two steps it gives, in order
 pub consumes_on : (a b c : Option (List ℕ)) (u v : List ℕ) → Consumes a b u → Consumes b c v → Consumes a c (u ++ v)
 consumes_on None b c u v p q = tt
 consumes_on (Some xs) None c u v p q = absurd p
@@ -26,7 +26,7 @@ pub consumes_none : (a : Option (List ℕ)) → Consumes a a []
 consumes_none None = tt
 consumes_none (Some xs) = refl
 
--- what a writer takes in two steps it takes, the one behind the other
+-- what a writer takes in two steps it takes, in order
 pub appends_on : (a b c : Option (List ℕ)) (u v : List ℕ) → Appends a b u → Appends b c v → Appends a c (u ++ v)
 appends_on None b c u v p q = tt
 appends_on (Some xs) None c u v p q = absurd p
@@ -117,7 +117,7 @@ ended_so most had has old new end grown none = record {
   );
 }
 
--- where what is held is damaged in front, the step ends so, whatever the reader has left
+-- where what is held is damaged at the front, the step ends so, whatever the reader has left
 pub next_damaged : (most : ℕ) (had has : Option (List ℕ)) (old new : Scan) (found : Result Found End) → IsGrown had has old new → found ≡ Err Damaged
     → IfErr found (λ end. HasNoRecord most new.number new.window.bytes end) → IsNext most had has old new (Err Damaged)
 next_damaged most had has old new found grown e h =
@@ -159,7 +159,7 @@ pub short_more : (most : ℕ) (fs : List (List ℕ)) (body : List ℕ) → AreSh
 short_more most [] body short fits = (fits, tt)
 short_more most (f ∷ fs) body short fits = (short.0, short_more most fs body short.1 fits)
 
--- one record more is written behind the others, with the number behind theirs
+-- one record more is written after the others, with the number after theirs
 pub written_more : (k : ℕ) (fs : List (List ℕ)) (body : List ℕ)
     → records_written k (fs ++ body ∷ []) ≡ records_written k fs ++ record_written (k + length fs) body
 written_more k [] body = append-nil (record_written k body) ∙ ap (λ n. record_written n body) (let z : k ≡ k + 0 = omega arith in z)
@@ -168,7 +168,7 @@ written_more k (f ∷ fs) body =
     ap (λ w. record_written k f ++ w) (written_more (suc k) fs body ∙ ap (λ n. records_written (suc k) fs ++ record_written n body) next)
     ∙ sym (append_assoc (record_written k f) (records_written (suc k) fs) (record_written (k + suc (length fs)) body))
 
--- one record more is printed behind the others, a line of its own
+-- one record more is printed after the others, a line of its own
 pub printed_more : (fs : List (List ℕ)) (body : List ℕ) → printed (fs ++ body ∷ []) ≡ printed fs ++ (body ++ 10 ∷ [])
 printed_more [] body = append-nil (body ++ 10 ∷ [])
 printed_more (f ∷ fs) body = ap (λ w. (f ++ 10 ∷ []) ++ w) (printed_more fs body) ∙ sym (append_assoc (f ++ 10 ∷ []) (printed fs) (body ++ 10 ∷ []))
@@ -225,7 +225,7 @@ pub smaller : (most : ℕ) (b c : Option (List ℕ)) (old new : Scan) (body : Vi
 smaller most b c old new body next e step small = let (whole, short, number, taken) =
     (subst (IsNext most b c old new) e step).front in omega (arith, number, small)
 
--- where no record is next, all records of the text are printed and counted, and it ends so behind them
+-- where no record is next, all records of the text are printed and counted, and it ends so after them
 pub all_printed : (most : ℕ) (a b c held holds : Option (List ℕ)) (old new : Scan) (end : End) (next : Result View End) → IsPrinting most a b held holds old
     → next ≡ Err end → IsNext most b c old new next → IfSome a (λ text. IsPrinted most text held holds new.number new.taken end)
 all_printed most None b c held holds old new end next so_far e step = tt
@@ -251,7 +251,7 @@ all_printed most (Some text) (Some middle) (Some left) held holds old new end ne
       summed = taken ∙ so_far.read.summed;
     }
 
--- what is held and what is left stand behind the records
+-- what is held and what is left follow the records
 pub all_left : (most : ℕ) (a b c held holds : Option (List ℕ)) (old new : Scan) (end : End) (next : Result View End) → IsPrinting most a b held holds old
     → next ≡ Err end → IsNext most b c old new next → IfSome a (λ text. IsLeft new text c)
 all_left most None b c held holds old new end next so_far e step = tt

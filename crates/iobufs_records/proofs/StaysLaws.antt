@@ -5,7 +5,7 @@ use Rattle.iobufs_core.specs.Wire.{bytes_written}
 use Rattle.iobufs_uses.specs.Journal.{HasNoRecord}
 use Rattle.iobufs_uses.specs.declared.journal.End.TheVariants.{Damaged}
 
--- where a text is damaged in front, so it is with more bytes behind it
+-- where a text is damaged at the front, so it is with more bytes after it
 pub stays_damaged : (most number : ℕ) (bytes more : List ℕ) → HasNoRecord most number bytes Damaged → HasNoRecord most number (bytes ++ more) Damaged
 stays_damaged most number bytes more none =
     let some : 0 < length (bytes ++ more) = let had = none.0 in omega (arith, had, length-append bytes more) in

@@ -1,4 +1,4 @@
--- The lines of a text, taken piece by piece, go as records one behind the other; one that is too long ends that.
+-- The lines of a text, taken piece by piece, go as records in order; one that is too long ends that.
 use Rattle.std.specs.Prelude.{◌≡◌, ℕ, suc, ◌+◌, ◌-◌, ◌<◌, ◌==◌, nat_lt, if◌then◌else◌, Bool, true, false, Option, None, Some, IfSome, Result, Ok, Err, IfOk, List, [], ◌∷◌, ◌++◌, length, take, drop, refl}
 use Rattle.std.specs.Io.KnownBytes.{Appends, Consumes, IsAtEnd, Keeps}
 use Rattle.std.proofs.Common.{arith, inl, inr, ap, sym, subst, ◌∙◌, append_assoc, append-nil, length-append, slice_index_or}
@@ -56,7 +56,7 @@ goes_on (b ∷ c ∷ bs) more free some =
       first = ap (λ t. if t then [] ∷ lines_of (c ∷ (bs ++ more)) else with_first b (lines_of (c ∷ (bs ++ more)))) free.0 ∙ ap (with_first b) others.first;
     }
 
--- ---- records behind each other
+-- ---- records after each other
 
 pub puts_on : (a b c : Option (List ℕ)) (old middle new : Tail) (lines : List (List ℕ)) (line : List ℕ) → ArePut a b old middle lines
     → ArePut b c middle new (line ∷ [])
@@ -102,7 +102,7 @@ puts_kept a b c old new same lines p q e =
     subst (λ (t : Tail). ArePut a c old t lines) (sym e)
     (record { put = record { went = p.put.went; grew = kept_on a b c p.put.went p.put.grew q; whole = p.put.whole }; counted = p.counted; room = p.room })
 
--- what stands behind a line that was begun, where one ends
+-- what follows a line that was begun, where one ends
 ends_so : (begun rest behind : List ℕ) (at : ℕ) → IsLine rest at → begun ++ (rest ++ behind) ≡ (begun ++ take at rest) ++ 10 ∷ (drop (at + 1) rest ++ behind)
 ends_so begun rest behind at line =
     ap (λ w. begun ++ (w ++ behind)) line.whole ∙ ap (λ w. begun ++ w) (append_assoc (take at rest) (10 ∷ drop (at + 1) rest) behind)
@@ -197,12 +197,12 @@ nothing_read had held lines none = record {
   whole = λ behind. ap (λ w. lines_of (w ++ behind)) (sym none);
 }
 
--- where records are short enough and so are those behind them, all of them are
+-- where records are short enough and so are those after them, all of them are
 pub short_on : (most : ℕ) (fs gs : List (List ℕ)) → AreShort most fs → AreShort most gs → AreShort most (fs ++ gs)
 short_on most [] gs p q = q
 short_on most (f ∷ fs) gs p q = (p.0, short_on most fs gs p.1 q)
 
--- records are written behind others with the numbers behind theirs
+-- records are written after others with the numbers after theirs
 pub written_on : (k : ℕ) (fs gs : List (List ℕ)) → records_written k (fs ++ gs) ≡ records_written k fs ++ records_written (k + length fs) gs
 written_on k [] gs = ap (λ n. records_written n gs) (let z : k ≡ k + 0 = omega arith in z)
 written_on k (f ∷ fs) gs =

@@ -19,7 +19,7 @@ use Rattle.iobufs_records.specs.declared.scan.Scan.{Scan}
 abbrev pub IsNear : ℕ → ℕ → Type 0
 IsNear least number = (least ≤ number) × (number ≤ least + 2 ^ 32)
 
--- a whole record with a near number stands in front of a text
+-- a whole record with a near number is at the front of a text
 pub record StandsInFront (most least : ℕ) (text : List ℕ) : Type 0 where
   pub number : ℕ
   pub body : List ℕ
@@ -29,19 +29,19 @@ pub record StandsInFront (most least : ℕ) (text : List ℕ) : Type 0 where
   pub near : IsNear least number
   pub short : 12 + length body ≤ most
 
--- none stands at any byte of a gap that is in front of a text
+-- none stands at any byte of a gap that is before a text
 abbrev pub AreNone : ℕ → ℕ → List ℕ → List ℕ → Type 0
 AreNone most least [] text = Unit {0}
 AreNone most least (byte ∷ gap) text = (StandsInFront most least ((byte ∷ gap) ++ text) → ⊥) × AreNone most least gap text
 
--- a whole record stands behind some bytes, and has at least this number
+-- a whole record follows some bytes, and has at least this number
 pub record StandsBehind (most least : ℕ) (text body : List ℕ) (number : ℕ) (behind : List ℕ) : Type 0 where
   pub gap : List ℕ
   pub whole : text ≡ gap ++ (record_written number body ++ behind)
   pub least_so : least ≤ number
   pub short : 12 + length body ≤ most
 
--- the first record of a text: none stands in front of it
+-- the first record of a text: none is at the front of it
 pub record IsFirst (most least : ℕ) (text body : List ℕ) (number : ℕ) (behind : List ℕ) : Type 0 where
   pub gap : List ℕ
   pub whole : text ≡ gap ++ (record_written number body ++ behind)
@@ -49,20 +49,20 @@ pub record IsFirst (most least : ℕ) (text body : List ℕ) (number : ℕ) (beh
   pub near : IsNear least number
   pub short : 12 + length body ≤ most
 
--- these are all records that stand in a text, one behind the other, each with a number near the next one
+-- these are all records that stand in a text, in order, each with a number near the next one
 abbrev pub AreBehind : ℕ → ℕ → List ℕ → List (List ℕ) → Type 0
 AreBehind most least text [] = AreNone most least text []
 AreBehind most least text (body ∷ bodies) =
     (number : ℕ) × (behind : List ℕ) × IsFirst most least text body number behind × AreBehind most (number + 1) behind bodies
 
--- more bytes were read behind those that are held
+-- more bytes were read after those that are held
 pub record IsHeld (had has : Option (List ℕ)) (old new : Scan) : Type 0 where
   pub read : List ℕ
   pub took : Consumes had has read
   pub grew : new.window.bytes ≡ old.window.bytes ++ read
   pub number_same : new.number ≡ old.number
 
--- a record of any size that stands in front is held, or all is
+-- a record of any size that is at the front is held, or all is
 abbrev pub IsEnough : ℕ → Option (List ℕ) → Scan → Type 0
 IsEnough most has scan = (most + 10 ≤ length scan.window.bytes) ⊎ IsAtEnd has
 
@@ -71,7 +71,7 @@ pub record IsSkipped (old new : Scan) : Type 0 where
   pub window : new.window.bytes ≡ drop 1 old.window.bytes
   pub number_same : new.number ≡ old.number
 
--- the first of them is taken from what is held and what is read behind it, or none stands there
+-- the first of them is taken from what is held and what is read after it, or none stands there
 abbrev pub IsSought : ℕ → Option (List ℕ) → Option (List ℕ) → Scan → Scan → Option View → Type 0
 IsSought most had has old new None = IsAtEnd has × IfSome had (λ text. AreNone most old.number (old.window.bytes ++ text) [])
 IsSought most had has old new (Some body) =

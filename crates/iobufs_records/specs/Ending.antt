@@ -32,7 +32,7 @@ pub record AreFurtherPrinted (most next : ℕ) (rest : List ℕ) (first : End) (
   pub put : Appends held holds (printed further)
   pub counted : count ≡ length further
 
--- The records in front of a text, and why no further one stands behind them; where whole records do further on, it is
+-- The records before a text, and why no further one follows them; where whole records do further on, it is
 -- damaged
 pub record HasEnding (most : ℕ) (text : List ℕ) (ending : Ending) : Type 0 where
   pub records : List (List ℕ)
@@ -65,7 +65,7 @@ status_of Whole = 0
 status_of Torn = 1
 status_of Damaged = 1
 
--- how a journal ends was printed behind its name
+-- how a journal ends was printed after its name
 pub record IsChecked (most : ℕ) (name text : List ℕ) (held holds : Option (List ℕ)) (status : ℕ) : Type 0 where
   pub ending : Ending
   pub is : HasEnding most text ending
@@ -77,7 +77,7 @@ abbrev pub AreWanted : Bool → ℕ → ℕ → List ℕ → End → List (List 
 AreWanted false most next rest end further = further ≡ []
 AreWanted true most next rest end further = AreFurther most next rest end further
 
--- the records of a journal were printed, and it ends so behind them
+-- the records of a journal were printed, and it ends so after them
 pub record IsReplayed (most : ℕ) (all : Bool) (text : List ℕ) (held holds : Option (List ℕ)) (end : End) : Type 0 where
   pub found : List (List ℕ)
   pub rest : List ℕ

@@ -13,7 +13,7 @@ use Rattle.iobufs_records.specs.declared.growth.Outcome.{Outcome}
 use Rattle.iobufs_records.specs.declared.growth.Outcome.TheVariants.{Put, NotWhole}
 use Rattle.iobufs_records.specs.declared.lines.Appended.{Appended}
 
--- A text is a whole journal; lines went behind it, numbered on, and both are one whole journal; so many, and all of them but
+-- A text is a whole journal; lines went after it, numbered on, and both are one whole journal; so many, and all of them but
 -- where one is too long
 pub record Grew (text lines : List ℕ) (held holds : Option (List ℕ)) (done : Appended) : Type 0 where
   pub found : List (List ℕ)

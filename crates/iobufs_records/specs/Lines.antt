@@ -19,7 +19,7 @@ use Rattle.iobufs_uses.specs.Journal.{AreShort, records_written}
 use Rattle.iobufs_records.specs.declared.lines.Lines.{Lines}
 use Rattle.iobufs_records.specs.declared.lines.Tail.{Tail}
 
--- a byte in front of the first line, or a line of its own
+-- a byte before the first line, or a line of its own
 abbrev pub with_first : ℕ → List (List ℕ) → List (List ℕ)
 with_first byte [] = (byte ∷ []) ∷ []
 with_first byte (line ∷ lines) = (byte ∷ line) ∷ lines
@@ -40,11 +40,11 @@ pub record IsLine (bytes : List ℕ) (at : ℕ) : Type 0 where
   pub free : HasNoEnd (take at bytes)
   pub whole : bytes ≡ take at bytes ++ 10 ∷ drop (at + 1) bytes
 
--- how many bytes a record may have behind its length
+-- how many bytes a record may have after its length
 abbrev pub most_bytes : ℕ
 most_bytes = 1048576
 
--- some bytes went from those that are held to a writer, and these were put behind them
+-- some bytes went from those that are held to a writer, and these were put after them
 pub record IsPut (held holds : Option (List ℕ)) (old new bytes : List ℕ) : Type 0 where
   pub went : List ℕ
   pub grew : Appends held holds went
@@ -55,7 +55,7 @@ abbrev pub IsOpen : List ℕ → List ℕ → Bool → Type 0
 IsOpen line left true = most_bytes < 12 + length line
 IsOpen line left false = (left ≡ []) × (12 + length line ≤ most_bytes)
 
--- Lines were taken from a piece behind a line that was begun, and then a line was begun, whatever is behind the piece
+-- Lines were taken from a piece after a line that was begun, and then a line was begun, whatever is after the piece
 pub record AreTaken (old piece : List ℕ) (lines : List (List ℕ)) (new : List ℕ) (is_long : Bool) : Type 0 where
   pub left : List ℕ
   pub whole : (behind : List ℕ) → lines_of (old ++ (piece ++ behind)) ≡ lines ++ lines_of (new ++ (left ++ behind))
@@ -63,7 +63,7 @@ pub record AreTaken (old piece : List ℕ) (lines : List (List ℕ)) (new : List
   pub open_so : IsOpen new left is_long
   pub short : AreShort most_bytes lines
 
--- records went behind those that are held, as many as a number grew
+-- records went after those that are held, as many as a number grew
 pub record ArePut (held holds : Option (List ℕ)) (old new : Tail) (lines : List (List ℕ)) : Type 0 where
   pub put : IsPut held holds old.out.filled new.out.filled (records_written old.number lines)
   pub counted : new.number ≡ old.number + length lines
@@ -86,7 +86,7 @@ abbrev pub IsFinished : Option (List ℕ) → Option (List ℕ) → Lines → Li
 IsFinished held holds old new is_long =
     ((0 < length old.begun.items) × IsEnded held holds old new is_long) ⊎ ((old.begun.items ≡ []) × (new ≡ old) × Keeps held holds × (is_long ≡ false))
 
--- a line that is too long stands behind those that were taken
+-- a line that is too long follows those that were taken
 pub record HasLongLine (text : List ℕ) (taken : List (List ℕ)) : Type 0 where
   pub line : List ℕ
   pub more : List (List ℕ)

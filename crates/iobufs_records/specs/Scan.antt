@@ -12,14 +12,14 @@ use Rattle.iobufs_uses.specs.Journal.{AreShort, HasNoRecord, IsJournal, record_w
 use Rattle.iobufs_uses.specs.declared.journal.End.{End}
 use Rattle.iobufs_records.specs.declared.scan.Scan.{Scan}
 
--- records were taken from a reader, and behind them the bytes that are held
+-- records were taken from a reader, and after them the bytes that are held
 pub record IsRead (most : ℕ) (had has : Option (List ℕ)) (scan : Scan) (found : List (List ℕ)) : Type 0 where
   pub took : Consumes had has (records_written 0 found ++ scan.window.bytes)
   pub short : AreShort most found
   pub counted : scan.number ≡ length found
   pub summed : scan.taken ≡ length (records_written 0 found)
 
--- bytes were read behind those that are held: some, or the reader is at its end
+-- bytes were read after those that are held: some, or the reader is at its end
 pub record IsFilled (had has : Option (List ℕ)) (old new : List ℕ) (more : Bool) : Type 0 where
   pub read : List ℕ
   pub took : Consumes had has read
@@ -36,7 +36,7 @@ IsFront most has old held new (Ok body) =
 IsFront most has old held new (Err end) =
     (held ≡ new.window.bytes) × (new.number ≡ old.number) × (new.taken ≡ old.taken) × IfSome has (λ left. HasNoRecord most old.number (held ++ left) end)
 
--- what is held, and what was read behind it
+-- what is held, and what was read after it
 pub record IsNext (most : ℕ) (had has : Option (List ℕ)) (old new : Scan) (next : Result View End) : Type 0 where
   pub read : List ℕ
   pub took : Consumes had has read
@@ -47,7 +47,7 @@ abbrev pub printed : List (List ℕ) → List ℕ
 printed [] = []
 printed (body ∷ bodies) = (body ++ 10 ∷ []) ++ printed bodies
 
--- The records of a text were printed behind what a writer held, it ends so behind them, and they and their bytes were
+-- The records of a text were printed after what a writer held, it ends so after them, and they and their bytes were
 -- counted
 pub record IsPrinted (most : ℕ) (text : List ℕ) (held holds : Option (List ℕ)) (records bytes : ℕ) (end : End) : Type 0 where
   pub found : List (List ℕ)
@@ -57,7 +57,7 @@ pub record IsPrinted (most : ℕ) (text : List ℕ) (held holds : Option (List �
   pub counted : records ≡ length found
   pub summed : bytes ≡ length (records_written 0 found)
 
--- what is behind the records of a text is held, or still to be read
+-- what is after the records of a text is held, or still to be read
 abbrev pub IsLeft : Scan → List ℕ → Option (List ℕ) → Type 0
 IsLeft scan text None = ⊥
 IsLeft scan text (Some left) = drop scan.taken text ≡ scan.window.bytes ++ left

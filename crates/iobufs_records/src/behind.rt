@@ -1,4 +1,4 @@
-// Records behind a place where none stands.
+// Records after a place where none stands.
 ghost use Rattle.std.specs.Prelude.{◌≡◌, ◌+◌, ◌<◌, ◌≤◌, ◌++◌, ◌↔◌, nat_lt, length, take, IfNone, IfOk, IfSome, IsOkUnless, IsTrue, OnOk};
 ghost use Rattle.std.specs.Int.{w64, from_be_bytes};
 ghost use Rattle.iobufs_uses.specs.Journal.{record_written};
@@ -52,7 +52,7 @@ fn is_memory(error: Error) -> bool
     matches!(error, Error::Memory)
 }
 
-// The record in front of a text, if its number is near enough.
+// The record before a text, if its number is near enough.
 fn numbered_front(
     alloc: Global,
     text: &IoBuf,
@@ -87,7 +87,7 @@ fn numbered_front(
 }
 
 impl Scan {
-    // The record in front of what is held, if its number is near enough.
+    // The record before what is held, if its number is near enough.
     fn sealed_front(&self, alloc: Global, most: usize) -> io::Result<Option<Numbered>>
         ensures found { IfOk result (λ found. IfSome found (λ f. self.now.window.bytes ≡ record_written f.number f.body.bytes ++ f.rest.bytes)) }
         ensures short { IfOk result (λ found. IfSome found (λ f. 12 + length f.body.bytes ≤ most)) }
@@ -121,7 +121,7 @@ impl Scan {
         Ok(())
     }
 
-    // Whether a record of any size that stands in front may not be held.
+    // Whether a record of any size that is at the front may not be held.
     fn is_short(&self, most: usize) -> bool
         ensures { result ≡ nat_lt (length self.now.window.bytes) (most + 10) }
     {
@@ -129,7 +129,7 @@ impl Scan {
         len < most || len - most < 10
     }
 
-    // Reads until a record of any size that stands in front is held, or all.
+    // Reads until a record of any size that is at the front is held, or all.
     fn hold<R: Read>(&mut self, alloc: Global, from: &mut R, most: usize) -> io::Result<()>
         ensures held { OnOk result (IsHeld (R.remaining from.old) (R.remaining from.new) self.old self.new) }
         ensures enough { OnOk result (IsEnough most (R.remaining from.new) self.new) }
@@ -165,7 +165,7 @@ impl Scan {
         Err(too_large())
     }
 
-    /// Prints the whole records that stand behind the place, wherever they stand, a line each, and says how many.
+    /// Prints the whole records that follow the place, wherever they stand, a line each, and says how many.
     pub fn print_behind<R: Read, W: Write>(
         &mut self,
         alloc: Global,

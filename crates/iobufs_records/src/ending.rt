@@ -9,16 +9,16 @@ use std::alloc::Global;
 use std::fmt;
 use std::io::{self, Read, Write};
 
-/// How many records a journal has, and how it ends behind them. It is damaged where whole records stand further on.
+/// How many records a journal has, and how it ends after them. It is damaged where whole records stand further on.
 #[derive(Clone, Copy, Debug, PartialEq, Eq)]
 pub struct Ending {
     /// How many records there are.
     pub found: u64,
     /// How many bytes they take.
     pub taken: u64,
-    /// Why no further one stands behind them.
+    /// Why no further one follows them.
     pub end: End,
-    /// How many whole records stand behind that place.
+    /// How many whole records follow that place.
     pub behind: u64,
 }
 
@@ -27,13 +27,13 @@ pub struct Ending {
 pub enum Repair {
     /// It is.
     Nothing,
-    /// What is behind its records is cut off.
+    /// What is after its records is cut off.
     Cut,
     /// The journal is damaged: cut if that is forced.
     Refused,
 }
 
-// Prints the records that stand behind a place where a journal isn't at its end, and says how many.
+// Prints the records that follow a place where a journal isn't at its end, and says how many.
 fn print_further<R: Read, W: Write>(
     alloc: Global,
     scan: &mut Scan,
@@ -59,7 +59,7 @@ fn end_before(first: End, behind: u64) -> End
 }
 
 impl Ending {
-    /// Reads a journal of records of at most `most` bytes behind their lengths, from its front.
+    /// Reads a journal of records of at most `most` bytes after their lengths, from its front.
     pub fn read<R: Read>(alloc: Global, from: &mut R, most: usize) -> io::Result<Ending>
         ensures { IfOk result (λ ending. IfSome (R.remaining from.old) (λ text. HasEnding most text ending)) }
     {
@@ -76,7 +76,7 @@ impl Ending {
         })
     }
 
-    /// What makes the journal whole: its records stay, and what is torn behind them is cut off, or damaged where that is
+    /// What makes the journal whole: its records stay, and what is torn after them is cut off, or damaged where that is
     /// forced.
     pub fn repair(self, force: bool) -> Repair
         ensures { result ≡ repair_of self.end force }
@@ -99,7 +99,7 @@ pub fn status(end: End) -> u8
     }
 }
 
-/// Prints how a journal ends, a line behind its name, and answers the status.
+/// Prints how a journal ends, a line after its name, and answers the status.
 pub fn check<R: Read, W: Write>(
     alloc: Global,
     name: &str,
@@ -114,8 +114,8 @@ pub fn check<R: Read, W: Write>(
     Ok(status(ending.end))
 }
 
-/// Prints the records of a journal, a line each, and where all are wanted those that stand behind damage too. Answers how
-/// it ends behind those in front.
+/// Prints the records of a journal, a line each, and where all are wanted those that follow damage too. Answers how
+/// it ends after those at the front.
 pub fn replay<R: Read, W: Write>(
     alloc: Global,
     from: &mut R,
@@ -134,7 +134,7 @@ pub fn replay<R: Read, W: Write>(
     Ok(end)
 }
 
-// What stands behind the records.
+// What follows the records.
 fn words_of(end: End) -> &'static str
     ensures { result.now ≡ end_words end }
 {

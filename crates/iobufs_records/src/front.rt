@@ -1,4 +1,4 @@
-// The record that stands in front of a text.
+// The record that is at the front of a text.
 ghost use Rattle.std.specs.Prelude.{◌≡◌, ◌+◌, ◌≤◌, ◌++◌, length, IfErr, IfOk, IsOkUnless};
 ghost use Rattle.iobufs_uses.specs.Journal.{HasNoRecord, record_written};
 
@@ -7,16 +7,16 @@ use iobufs_core::codec::{BufError, Error, RangeCfg, Read};
 use iobufs_uses::journal::{End, unsealed};
 use std::alloc::Global;
 
-/// A record in front of a text.
+/// A record before a text.
 #[derive(Drop)]
 pub struct Found {
     /// Its body.
     pub body: IoBuf,
-    /// What is behind it.
+    /// What is after it.
     pub rest: IoBuf,
 }
 
-/// The record with this number in front of a text, or why none stands there.
+/// The record with this number before a text, or why none stands there.
 pub fn front_record(
     alloc: Global,
     text: &IoBuf,

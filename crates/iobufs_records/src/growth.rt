@@ -1,4 +1,4 @@
-// Lines that are put behind a whole journal.
+// Lines that are put after a whole journal.
 ghost use Rattle.std.specs.Prelude.{◌≡◌, IfOk, IfSome};
 ghost use Rattle.iobufs_records.specs.Growth.{HasOutcome, outcome_status};
 
@@ -8,10 +8,10 @@ use iobufs_uses::journal::End;
 use std::alloc::Global;
 use std::io::{self, Read, Write};
 
-/// What became of lines that were to be put behind a journal.
+/// What became of lines that were to be put after a journal.
 #[derive(Clone, Copy, Debug, PartialEq, Eq)]
 pub enum Outcome {
-    /// So many were put behind it.
+    /// So many were put after it.
     Put(Appended),
     /// None were, since it isn't whole.
     NotWhole(End),
@@ -30,8 +30,8 @@ impl Outcome {
     }
 }
 
-/// Reads a journal of records of at most [`MOST`] bytes behind their lengths from its front, and puts the lines of a reader
-/// behind it, where it is whole. All that were put were written and flushed when this answers.
+/// Reads a journal of records of at most [`MOST`] bytes after their lengths from its front, and puts the lines of a reader
+/// after it, where it is whole. All that were put were written and flushed when this answers.
 pub fn put_behind<J: Read, R: Read, W: Write>(
     alloc: Global,
     journal: &mut J,

@@ -1,8 +1,8 @@
 //! Journals over any reader and writer.
 //!
-//! - `front`: the record that stands in front of a text. `scan`: a journal that is read from its front, of which no more
-//!   is held than a record takes. `lines`: lines that become records. `growth`: those that go behind a whole
-//!   journal. `behind`: records behind a place where none stands. `ending`: how a journal ends, and what mends it.
+//! - `front`: the record that is at the front of a text. `scan`: a journal that is read from its front, of which no more
+//!   is held than a record takes. `lines`: lines that become records. `growth`: those that go after a whole
+//!   journal. `behind`: records after a place where none stands. `ending`: how a journal ends, and what mends it.
 #![tactic(auto)]
 
 pub mod behind;

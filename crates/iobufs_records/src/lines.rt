@@ -12,7 +12,7 @@ use iobufs_uses::crc::crc32;
 use std::alloc::Global;
 use std::io::{self, Read, Write};
 
-/// How many bytes a record may have behind its length.
+/// How many bytes a record may have after its length.
 pub const MOST: usize = 1 << 20;
 
 /// How many a line may have.
@@ -24,7 +24,7 @@ pub const MOST_APPENDED: u64 = 1 << 40;
 // How many a record may have with its length.
 const ROOM: usize = MOST + 10;
 
-// A record behind what was put.
+// A record after what was put.
 #[tactic(auto, using(iobufs_core::specs::CallerFacts::writing))]
 fn put_record(out: &mut IoBufMut, number: u64, body: &[u8])
     requires { length body.now + 22 ≤ out.old.spare }
@@ -123,7 +123,7 @@ impl Lines {
         Ok(false)
     }
 
-    // The lines of a piece behind the line that was begun, until one is too long.
+    // The lines of a piece after the line that was begun, until one is too long.
     fn take_lines<W: Write>(&mut self, piece: &[u8], to: &mut W) -> io::Result<bool>
         requires room { 1048586 ≤ part_capacity self.old.tail.out }
         requires free { HasNoEnd self.old.begun.items }
@@ -186,7 +186,7 @@ impl Lines {
 pub struct Appended {
     /// How many records.
     pub records: u64,
-    /// Whether the line behind them is too long.
+    /// Whether the line after them is too long.
     pub is_long: bool,
 }
 

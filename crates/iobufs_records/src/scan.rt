@@ -19,9 +19,9 @@ const PIECE: usize = 1 << 16;
 /// A place in a journal.
 #[derive(Drop)]
 pub struct Scan {
-    /// The bytes that were read behind it.
+    /// The bytes that were read after it.
     pub window: IoBuf,
-    /// How many records are in front of it.
+    /// How many records are before it.
     pub number: u64,
     /// How many bytes they take.
     pub taken: u64,
@@ -76,7 +76,7 @@ pub fn read_piece<R: Read>(alloc: Global, from: &mut R) -> io::Result<Vec<u8>>
     Ok(piece)
 }
 
-// Reads once behind the bytes that are held, and says whether any came.
+// Reads once after the bytes that are held, and says whether any came.
 pub(crate) fn fill<R: Read>(alloc: Global, window: &mut IoBuf, from: &mut R) -> io::Result<bool>
     ensures { IfOk result (λ more. IsFilled (R.remaining from.old) (R.remaining from.new) window.old.bytes window.new.bytes more) }
 {
@@ -108,7 +108,7 @@ pub(crate) fn print_line<W: Write>(body: &[u8], to: &mut W) -> io::Result<()>
 }
 
 impl Scan {
-    // The record in front of what is held, or why none stands there.
+    // The record before what is held, or why none stands there.
     fn front(&self, alloc: Global, most: usize) -> io::Result<Result<Found, End>>
         ensures found { IfOk result (λ found. IfOk found (λ f. self.now.window.bytes ≡ record_written self.now.number f.body.bytes ++ f.rest.bytes)) }
         ensures short { IfOk result (λ found. IfOk found (λ f. 12 + length f.body.bytes ≤ most)) }
@@ -134,7 +134,7 @@ impl Scan {
         Ok(())
     }
 
-    /// Takes the record that comes next, of at most `most` bytes behind its length, or says how the journal ends. No more
+    /// Takes the record that comes next, of at most `most` bytes after its length, or says how the journal ends. No more
     /// is held than a record and a piece.
     pub fn next<R: Read>(
         &mut self,
@@ -161,8 +161,8 @@ impl Scan {
         }
     }
 
-    /// Prints the records of a journal that is read from its front, a line each, and says how it ends behind them. What
-    /// is behind them is held, or still to be read.
+    /// Prints the records of a journal that is read from its front, a line each, and says how it ends after them. What
+    /// is after them is held, or still to be read.
     pub fn print<R: Read, W: Write>(
         &mut self,
         alloc: Global,

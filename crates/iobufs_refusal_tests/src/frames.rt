@@ -13,7 +13,7 @@ const RANGE: RangeCfg = RangeCfg { lo: 0, hi: 1024 };
 // Two frames, the first in two pieces.
 const PIECES: [&'static [u8]; 2] = [b"\x03ab", b"c\x01d"];
 
-// The same frames with lengths of two bytes.
+// Those frames with lengths of two bytes.
 const FIXED_PIECES: [&'static [u8]; 2] = [b"\0\x03ab", b"c\0\x01d"];
 
 const FIXED: Prefix = Prefix::Fixed(Width::U16, ByteOrder::Big);

@@ -19,7 +19,7 @@ pub fn part(alloc: Global, capacity: usize, bytes: &[u8]) -> Result<IoBufMut, Bu
     Ok(part)
 }
 
-// The same, frozen.
+// A writable buffer, frozen.
 pub fn native(alloc: Global, capacity: usize, bytes: &[u8]) -> Result<IoBuf, BufError> {
     part(alloc, capacity, bytes)?.freeze()
 }
@@ -58,7 +58,7 @@ pub fn parts(alloc: Global, count: usize) -> Result<Vec<IoBufMut>, BufError> {
     Ok(parts)
 }
 
-// The same, concatenated.
+// Writable buffers as one `IoBufsMut`.
 pub fn strung(alloc: Global, count: usize) -> Result<IoBufsMut, BufError> {
     IoBufsMut::from_parts(alloc, parts(alloc, count)?.into_iter())
 }

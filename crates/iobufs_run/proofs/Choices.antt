@@ -193,7 +193,7 @@ two_same old command reply other new another (inr (inr a)) (inr (inl b)) =
     rw (b.told, b.kept) (fails_not_done old command b.refusal reply new b.may a.does).1
 two_same old command reply other new another (inr (inr a)) (inr (inr b)) = does_same old command reply other new another a.does b.does
 
--- two steps of one command on the same names, neither of them want of memory, have the same outcome, but for the room behind
+-- two steps of one command on the same names, neither of them want of memory, have the same outcome, but for the room after
 -- adopted bytes and for whether a native view is recovered
 pub no_other_choices : NoOtherChoices
 no_other_choices old command reply other new another one two wanted wanted' =
@@ -214,7 +214,7 @@ done_where_wanted old command Done another none wants step = refl
 done_where_wanted old command (Bytes bytes) another none wants step = refl
 done_where_wanted old command (Shown kind pieces) another none wants step = refl
 
--- a command that is refused for want of memory may want it, has no cause against it, costs at most what it consumes, and is never refused for anything else
+-- a command that is refused for a failed allocation may want it, has no cause against it, costs at most what it consumes, and is never refused for anything else
 pub only_wants : OnlyWants
 only_wants old command new (none, wants, freed) = (none, wants, freed, λ other another step. done_where_wanted old command other another none wants step)
 

@@ -1,4 +1,4 @@
--- Names that may be free after a refusal for want of memory, and those that are.
+-- Names that may be free after a refusal for a failed allocation, and those that are.
 use Rattle.std.proofs.Common.{◌≡◌, ◌≢◌, ℕ, zero, suc, ◌⊎◌, inl, inr, true, false, List, [], ◌∷◌, ◌++◌, take, arith, refl, ◌∙◌, get_or-set_other}
 use Rattle.std.specs.Prelude.{slice_set, ◌==◌, IsTrue, Bool}
 use Rattle.std.proofs.Math.Bool.{or-true}

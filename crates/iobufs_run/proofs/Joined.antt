@@ -1,4 +1,4 @@
--- A view that is taken from its name to be put behind or in front of a text, and comes back.
+-- A view that is taken from its name to be put after or before a text, and comes back.
 use Rattle.std.proofs.Common.{◌≡◌, ◌≢◌, ℕ, ◌⊎◌, inl, inr, ◌<◌, true, false, List, [], ◌∷◌, length, arith, ap, sym, subst, ◌∙◌, None, get_or-set_other}
 use Rattle.std.specs.Prelude.{slice_set, slice_index_or, IsTrue, not, ◌==◌, ◌&&◌}
 use Rattle.std.proofs.lemmas.Bool.Decides.{nat_tests}
@@ -84,7 +84,7 @@ back_again names target src view back free kept d e new none took stays refused 
 
 -- ---- the command, by its end
 
--- an append or prepend of a view with bytes to a text with bytes, against which no cause stands, may be refused for want of
+-- an append or prepend of a view with bytes to a text with bytes, against which no cause holds, may be refused for want of
 -- memory, and each name holds what it held
 pub joined_memory : (end : End) (old new : List Slot) (target src : ℕ) → first_cause (join_causes old target src) ≡ None
     → IsTrue (not (readable (slot_named old src) == 0) && not (readable (slot_named old target) == 0)) → new ≡ old

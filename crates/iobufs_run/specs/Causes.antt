@@ -111,7 +111,7 @@ build_causes names dst capacity items =
     ∷ (nat_le (2 ^ 63) capacity, BadLayout)
     ∷ (is_too_long (capacity + total_extent names (pushed_names items)), TooLong) ∷ [])
 
--- the causes to refuse to put a view behind or in front of a text
+-- the causes to refuse to put a view after or before a text
 abbrev pub join_causes : List Slot → ℕ → ℕ → List Cause
 join_causes names target src =
     (is_no_name names target || is_no_name names src, NoName)
@@ -160,12 +160,12 @@ causes names (Decode src dst range) = lent (View ∷ Text ∷ []) names src dst 
 causes names (Drop target) = one_of any_kind names target []
 causes names (Show target) = one_of any_kind names target []
 
--- the first cause that stands
+-- the first cause that holds
 abbrev pub first_cause : List Cause → Option Refusal
 first_cause [] = None
 first_cause (cause ∷ others) = if cause.0 then Some cause.1 else first_cause others
 
--- the command is refused for this; where there is none, only for want of memory, for a fault of what it reads, or as
+-- the command is refused for this; where there is none, only for a failed allocation, for a fault of what it reads, or as
 -- declined by a view that may be shared
 abbrev pub refusal_for : List Slot → Cmd → Option Refusal
 refusal_for names command = first_cause (causes names command)

@@ -44,7 +44,7 @@ IsRecoveredOrDeclined old src dst Done new = new ≡ moved_to old src dst (slot_
 IsRecoveredOrDeclined old src dst (Refused Declined) new = new ≡ old
 IsRecoveredOrDeclined old src dst reply new = ⊥
 
--- two outcomes of a command, neither of them want of memory, are the same, but for the room behind adopted bytes, and for
+-- two outcomes of a command, neither of them want of memory, are the same, but for the room after adopted bytes, and for
 -- whether a native view is recovered
 abbrev pub SameOutcome : List Slot → Cmd → (reply other : Reply) → (new another : List Slot) → Type 0
 SameOutcome old (Adopt dst bytes) reply other new another =
@@ -59,7 +59,7 @@ NoOtherChoices =
     (old : List Slot) (command : Cmd) (reply other : Reply) (new another : List Slot) → Step old command reply new → Step old command other another
     → is_want_of_memory reply ≡ false → is_want_of_memory other ≡ false → SameOutcome old command reply other new another
 
--- a command is refused for want of memory only where it may want it and no cause stands; this costs at most what it
+-- a command is refused for a failed allocation only where it may want it and no cause holds; this costs at most what it
 -- consumes; and where it isn't refused so, it is done
 abbrev pub OnlyWants : Type 0
 OnlyWants =

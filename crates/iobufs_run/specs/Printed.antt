@@ -8,7 +8,7 @@ use Rattle.iobufs_core.specs.declared.codec.base.Error.TheVariants as fault
 use Rattle.iobufs_run.specs.declared.command.Refusal.{Refusal}
 use Rattle.iobufs_run.specs.declared.command.Refusal.TheVariants.{NoName, WrongKind, InUse, OutOfRange, BadLayout, TooLong, Declined, Codec, Memory}
 
--- a fault of reading, behind the number of its kind
+-- a fault of reading, after the number of its kind
 abbrev pub fault_text : Error → List ℕ
 fault_text fault.EndOfBuffer = codes "N8 C1 EndOfBuffer"
 fault_text fault.InvalidVarint = codes "N8 C2 InvalidVarint"

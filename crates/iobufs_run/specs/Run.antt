@@ -43,7 +43,7 @@ IsFault text range (Codec fault.Memory) = ⊥
 IsFault text range (Codec error) = IsViewRead text range (Err error)
 IsFault text range _ = ⊥
 
--- where no cause stands, a command may be refused for this: a view that may be shared is declined, or what is read has
+-- where no cause holds, a command may be refused for this: a view that may be shared is declined, or what is read has
 -- a fault
 abbrev pub MayFail : List Slot → Cmd → Refusal → Type 0
 MayFail names (NewMut dst capacity align) refusal = ⊥
@@ -75,7 +75,7 @@ MayFail names (Decode src dst range) refusal = IsFault (marked_held (slot_named 
 MayFail names (Drop target) refusal = ⊥
 MayFail names (Show target) refusal = ⊥
 
--- where no cause stands and nothing fails, the command may be refused for want of memory
+-- where no cause holds and nothing fails, the command may be refused for a failed allocation
 abbrev pub MayWantMemory : List Slot → Cmd → Type 0
 MayWantMemory names (NewMut dst capacity align) = IsTrue (not (capacity == 0))
 MayWantMemory names (Zeroed dst len align) = IsTrue (not (len == 0))
@@ -154,7 +154,7 @@ all_freed names (src ∷ sources) = all_freed (slice_set names src Free) sources
 abbrev pub moved_to : List Slot → ℕ → ℕ → Slot → List Slot
 moved_to names src dst slot = slice_set (slice_set names src Free) dst slot
 
--- the names with a part of these bytes, and so much room behind them
+-- the names with a part of these bytes, and so much room after them
 abbrev pub with_bytes : List Slot → ℕ → List ℕ → ℕ → List Slot
 with_bytes names dst bytes spare = slice_set names dst (Part (record { filled = bytes; spare = spare }))
 
@@ -167,7 +167,7 @@ item_held names (Push name) = push_item (view_held (slot_named names name))
 abbrev pub Gives : Reply → List Slot → Reply → List Slot → Type 0
 Gives answer left reply new = (reply ≡ answer) × (new ≡ left)
 
--- what a command that is done answers and leaves. How much room is behind adopted bytes is open, and a view is read as
+-- what a command that is done answers and leaves. How much room is after adopted bytes is open, and a view is read as
 -- `IsViewRead` says
 abbrev pub Does : List Slot → Cmd → Reply → List Slot → Type 0
 Does old (NewMut dst capacity align) = Gives Done (slice_set old dst (Part (empty_part capacity)))
@@ -206,8 +206,8 @@ Does old (Decode src dst range) =
 Does old (Drop target) = Gives Done (slice_set old target Free)
 Does old (Show target) = λ reply new. IsShown (slot_named old target) reply × (new ≡ old)
 
--- One command. Refused for want of memory, where it may be; refused for the first cause that stands, or where none
--- stands for what may fail; or done
+-- One command. Refused for a failed allocation, where it may be; refused for the first cause that holds, or where none
+-- represents what may fail; or done
 abbrev pub Step : List Slot → Cmd → Reply → List Slot → Type 0
 Step old command (Refused Memory) new =
     (refusal_for old command ≡ None) × MayWantMemory old command × MayFree (consumed command) old new

@@ -162,7 +162,7 @@ slot_frozen (Part part) = View (part_frozen part)
 slot_frozen (Parts parts) = Text (parts_frozen parts)
 slot_frozen slot = slot
 
--- the part that a view recovers to: its bytes, and the room behind them
+-- the part that a view recovers to: its bytes, and the room after them
 abbrev pub recovered_spare : Mark → ℕ → ℕ
 recovered_spare (native_mark room) len = room - len
 recovered_spare _ len = 0
@@ -265,7 +265,7 @@ abbrev pub extent : Slot → ℕ
 extent (Part part) = part_capacity part
 extent slot = readable slot
 
--- a piece that is shown: its bytes, and the room behind them
+-- a piece that is shown: its bytes, and the room after them
 abbrev pub shown_piece : Piece → List ℕ × ℕ
 shown_piece piece = (piece.bytes.items, piece.spare)
 
@@ -293,6 +293,6 @@ abbrev pub IsShown : Slot → Reply → Type 0
 IsShown slot (Shown kind pieces) = Shows slot kind (map shown_piece pieces.items)
 IsShown slot _ = ⊥
 
--- a view as it is encoded: its length in room of exactly that size, and the view behind it
+-- a view as it is encoded: its length in room of exactly that size, and the view after it
 abbrev pub view_encoded : ViewValue → MarkedText
 view_encoded view = finished (building_after (empty_building (length (spell (length view.bytes)))) (view_items view))

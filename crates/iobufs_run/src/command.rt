@@ -8,90 +8,90 @@ use std::alloc::AllocError;
 use std::fmt;
 use std::ops::Bound;
 
-/// A command on the named buffers of a table. `dst` is a name that becomes used, `src` a source, `target` a buffer
-/// that is changed or shown in place.
+/// A command on named buffers. `dst` is a destination, `src` a source, `target` a buffer that is changed or shown in
+/// place.
 #[derive(Debug, Clone, PartialEq, Eq, Drop)]
 pub enum Cmd {
-    /// An empty part of this capacity and alignment.
+    /// Makes an empty `IoBufMut` of this capacity and alignment.
     NewMut {
         dst: usize,
         capacity: usize,
         align: usize,
     },
-    /// A part of so many zeros, with no room behind them.
+    /// Makes an `IoBufMut` of `len` zeros, without spare capacity.
     Zeroed {
         dst: usize,
         len: usize,
         align: usize,
     },
-    /// A part made of a copy of these bytes.
+    /// Makes an `IoBufMut` of a copy of these bytes.
     Adopt {
         dst: usize,
         bytes: Vec<u8>,
     },
-    /// A view of a static slice.
+    /// Makes an `IoBuf` of a static slice.
     Static {
         dst: usize,
         text: &'static [u8],
     },
-    /// A view of a `Bytes` that is a copy of these bytes.
+    /// Makes an `IoBuf` of a `Bytes` that is a copy of these bytes.
     FromBytes {
         dst: usize,
         bytes: Vec<u8>,
     },
-    /// Puts bytes into a part or parts.
+    /// Appends bytes to a writable buffer.
     Put {
         target: usize,
         bytes: Vec<u8>,
     },
-    /// Puts one byte `n` times into a part or parts.
+    /// Appends one byte `n` times to a writable buffer.
     Fill {
         target: usize,
         byte: u8,
         n: usize,
     },
-    /// Makes `n` bytes of a part or parts readable; those that were not are zero.
+    /// Makes `n` bytes of a writable buffer readable; those that were not are zero.
     SetLen {
         target: usize,
         n: usize,
     },
-    /// Keeps at most the first `n` bytes of a part.
+    /// Keeps at most the first `n` bytes of an `IoBufMut`.
     Truncate {
         target: usize,
         n: usize,
     },
-    /// Keeps none of the bytes of a part.
+    /// Keeps none of the bytes of an `IoBufMut`.
     Clear {
         target: usize,
     },
-    /// Writes over all readable bytes of a part or parts.
+    /// Overwrites all readable bytes of a writable buffer.
     Overwrite {
         target: usize,
         bytes: Vec<u8>,
     },
-    /// A part becomes a view, parts a text.
+    /// Converts an `IoBufMut` into an `IoBuf`, or an `IoBufsMut` into an `IoBufs`.
     Freeze {
         src: usize,
         dst: usize,
     },
-    /// A view becomes a part, if no other buffer shares its storage.
+    /// Converts an `IoBuf` into an `IoBufMut`, or declines.
     Recover {
         src: usize,
         dst: usize,
     },
-    /// A second handle of a view or an `IoBufs`.
+    /// Clones an `IoBuf` or an `IoBufs`.
     Clone {
         src: usize,
         dst: usize,
     },
-    /// The bytes of a view in a range.
+    /// Takes a range of an `IoBuf`, which stays.
     Slice {
         src: usize,
         dst: usize,
         lo: Bound<usize>,
         hi: Bound<usize>,
     },
-    /// The first `at` bytes of a view or a text go to `dst`.
+    /// Moves the first `at` bytes of an `IoBuf` or an `IoBufs` to `dst`.
     Split {
         src: usize,
         dst: usize,
@@ -102,54 +102,54 @@ pub enum Cmd {
         target: usize,
         n: usize,
     },
-    /// Takes the first `n` bytes out; they are the reply.
+    /// Takes the first `n` bytes; they are the reply.
     Take {
         target: usize,
         n: usize,
     },
-    /// Views become a text, in this order.
+    /// Concatenates views into an `IoBufs`, in this order.
     Gather {
         dst: usize,
         sources: Vec<usize>,
     },
-    /// Single parts become parts strung together, in this order.
+    /// Collects `IoBufMut`s into an `IoBufsMut`, in this order.
     GatherMut {
         dst: usize,
         sources: Vec<usize>,
     },
-    /// Puts a view behind a text.
+    /// Adds a view at the end of an `IoBufs`.
     Append {
         target: usize,
         src: usize,
     },
-    /// Puts a view in front of a text.
+    /// Adds a view at the start of an `IoBufs`.
     Prepend {
         target: usize,
         src: usize,
     },
-    /// A text becomes a view, parts a part.
+    /// Converts an `IoBufs` into an `IoBuf`, or an `IoBufsMut` into an `IoBufMut`.
     Coalesce {
         src: usize,
         dst: usize,
     },
-    /// Bytes that are put, into room for `capacity`, and views that are pushed become a text, in this order.
+    /// Builds an `IoBufs` of inline bytes, with space for `capacity`, and of pushed views, in this order.
     Build {
         dst: usize,
         capacity: usize,
         items: Vec<Item>,
     },
-    /// A view as it is written, behind its length, as a text.
+    /// Encodes a view: a varint length and its bytes.
     Encode {
         src: usize,
         dst: usize,
     },
-    /// Reads a view from the front of a view or a text, its length in this range.
+    /// Reads a view from the front of an `IoBuf` or an `IoBufs`, of a length in this range.
     Decode {
         src: usize,
         dst: usize,
         range: RangeCfg,
     },
-    /// The name is free.
+    /// Frees the name.
     Drop {
         target: usize,
     },
@@ -159,25 +159,25 @@ pub enum Cmd {
     },
 }
 
-/// An item of a text that is built.
+/// An item of an `IoBufs` that is built.
 #[derive(Debug, Clone, PartialEq, Eq, Drop)]
 pub enum Item {
-    /// Bytes that are put.
+    /// Inline bytes.
     Inline(Vec<u8>),
     /// The name of a view that is pushed, and consumed.
     Push(usize),
 }
 
-/// The answer to a command.
+/// The reply to a command.
 #[derive(Debug, PartialEq, Eq, Drop)]
 pub enum Reply {
     /// The command is done.
     Done,
-    /// The bytes that were taken out.
+    /// The bytes that were taken.
     Bytes(Bytes),
-    /// What a name holds, piece by piece.
+    /// What a name holds, chunk by chunk.
     Shown { kind: Kind, pieces: Vec<Piece> },
-    /// The command wasn't done.
+    /// The command was not executed.
     Refused(Refusal),
 }
 
@@ -194,35 +194,35 @@ pub enum Kind {
     Parts,
 }
 
-/// One piece of what is shown: its bytes, and the room behind them.
+/// One chunk of what is shown: its bytes, and its spare capacity.
 #[derive(Debug, PartialEq, Eq, Drop)]
 pub struct Piece {
     /// Its readable bytes.
     pub bytes: Vec<u8>,
-    /// How many more fit behind them; 0 in a view or a text.
+    /// How many more fit; 0 in an `IoBuf` or an `IoBufs`.
     pub spare: usize,
 }
 
-/// Why a command is refused. Of the causes that stand the first in this order is told.
+/// Why a command is refused: the first cause that holds, in this order.
 #[derive(Clone, Copy, Debug, PartialEq, Eq)]
 pub enum Refusal {
-    /// There is no such name.
+    /// A name is not in the table.
     NoName,
-    /// A source is free, or of another kind than the command takes.
+    /// A source holds nothing, or another kind than the command takes.
     WrongKind,
     /// A destination is in use, or a source is listed twice.
     InUse,
-    /// A number or a length is more than the buffer allows.
+    /// A length, range or offset doesn't fit the buffer.
     OutOfRange,
     /// As `BufError::BadLayout`.
     BadLayout,
     /// As `BufError::TooLong`.
     TooLong,
-    /// The view can't be written: its storage is shared, static, or that of a `Bytes`. It stays under its name.
+    /// The view can't become writable: its storage is shared, static, or that of a `Bytes`. It stays.
     Declined,
-    /// No view was read, for this reason; never `Error::Memory`.
+    /// No view was read, for this reason, which is not `Error::Memory`.
     Codec(Error),
-    /// A request for memory was refused.
+    /// An allocation failed.
     Memory,
 }
 
@@ -250,7 +250,7 @@ impl fmt::Display for Refusal {
     }
 }
 
-// A fault of reading, behind the number of its kind.
+// A fault of reading, after the number of its kind.
 fn write_codec<W: fmt::Write>(error: Error, f: &mut fmt::Formatter<W>) -> fmt::Result
     ensures { WritesOnOk W.write_str_gives f.old result (fault_text error) f.new }
 {

@@ -5,7 +5,7 @@
 //!   on (`parts`, `made`, `views`, `texts`, `gather`, `build`, `shown`, `slots`); `causes` has the tests that several
 //!   commands share.
 //! - `specs/`: `Slots` and `Causes` (what names hold, and why a command is refused), `Refusals` and `Printed` (how a
-//!   refusal is told), `Run` and `RunLaws` (`Step`, `Run`), `Choices`.
+//!   refusal is reported), `Run` and `RunLaws` (`Step`, `Run`), `Choices`.
 #![tactic(auto)]
 
 pub mod command;

@@ -10,7 +10,7 @@ kept bs old new e k = kept_at new (subst (λ (o : Option (List ℕ)). Keeps o ne
     kept_at (Some ys) k = ap Some k
     kept_at None k = elim k [ ]
 
--- a line behind what is known
+-- a line after what is known
 pub line_more : (bs line : List ℕ) (old new : Option (List ℕ)) → old ≡ Some bs → Appends old new line → new ≡ Some (bs ++ line)
 line_more bs line old new e a = more_at new (subst (λ (o : Option (List ℕ)). Appends o new line) e a)
   where

@@ -109,7 +109,7 @@ unsent half (Some input) (Some before) written new served s keeps = unsent_at ha
 unsent half (Some input) None written new served s keeps = tt
 unsent half None told written new served s keeps = tt
 
--- nothing was read, for want of memory
+-- nothing was read, for a failed allocation
 pub not_begun : (half : Half) (read told : Option (List ℕ))
     → IfSome read (λ input. IfSome told (λ before. ServesHalf half input before told (Err (CannotContinue Memory))))
 not_begun Buffers (Some input) (Some before) = (0, (replicate 16 Free, commands_of input, none_answered input before))

@@ -307,7 +307,7 @@ goes_on input before line reply left mid new number m after r said e =
       ends = refl;
     }
 
--- a line that was read and answered, and whose answer is written, is one more answered line, and the machine goes on behind it
+-- a line that was read and answered, and whose answer is written, is one more answered line, and the machine goes on after it
 pub line_answered : (read told left mid new : Option (List ℕ)) (line reply : List ℕ) (number : ℕ) (m after : Seen)
     → Reads read told line left mid number m → AnswersMachineLine line m after reply (Ok tt) → Appends mid new reply
     → Going read told left new (number + 1) after

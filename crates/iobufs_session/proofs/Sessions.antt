@@ -166,7 +166,7 @@ goes_on input before line reply left mid new number names after read a e = recor
       a.step (subst (λ (l : List ℕ). Appends mid new l) a.prints e);
 }
 
--- a line that was read and says a command that is done and whose reply is written is one more answered line, with the names behind it
+-- a line that was read and says a command that is done and whose reply is written is one more answered line, with the names after it
 pub line_answered : (read told left mid new : Option (List ℕ)) (line reply : List ℕ) (number : ℕ) (names after : List Slot)
     → Reads read told line left mid number names → AnswersLine line names after reply (Ok tt) → Appends mid new reply
     → Going read told left new (number + 1) after

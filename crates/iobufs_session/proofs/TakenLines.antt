@@ -35,7 +35,7 @@ record Parted (bytes behind : List ℕ) (place : ℕ) : Type 0 where
   through : take_through 10 (bytes ++ behind) ≡ take (place + 1) bytes
   rest : drop_through 10 (bytes ++ behind) ≡ drop (place + 1) (bytes ++ behind)
 
--- a text is parted behind its first line break
+-- a text is parted after its first line break
 parted_at : (bytes behind : List ℕ) (place : ℕ) → place < length bytes → eqb (slice_index bytes place) 10 ≡ true
     → ((k : ℕ) → k < place → eqb (slice_index bytes k) 10 ≡ true → ⊥) → Parted bytes behind place
 parted_at [] behind place inside here before = absurd (omega arith)

@@ -48,7 +48,7 @@ same_sent old mid new text rest s e = record { front = s.front; split = s.split;
 pub all_sent : (old new : Option (List ℕ)) (text rest : List ℕ) → Sent old new text rest → rest ≡ [] → Appends old new text
 all_sent old new text rest s e = subst (λ (l : List ℕ). Appends old new l) (sym (s.split ∙ (ap (λ l. s.front ++ l) e ∙ append-nil s.front))) s.appends
 
--- the bytes behind the first n, as a slice has them
+-- the bytes after the first n, as a slice has them
 pub whole_rest : (n : ℕ) (rest : List ℕ) → take (length rest - n) (drop n rest) ≡ drop n rest
 whole_rest n rest = ap (λ k. take k (drop n rest)) (sym (length-drop n rest)) ∙ take-length (drop n rest)
 

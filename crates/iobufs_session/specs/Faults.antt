@@ -15,7 +15,7 @@ use Rattle.std.specs.Str.Lines.{lines}
 use Rattle.iobufs_session.specs.declared.fault.Fault.{Fault}
 use Rattle.iobufs_session.specs.declared.fault.Fault.TheVariants.{Reading, Writing, Memory, NotText, TooManyLines}
 
--- reading may fail for want of memory, or where the reader may fail, or a writer to which something is sent before
+-- reading may fail for a failed allocation, or where the reader may fail, or a writer to which something is sent before
 abbrev pub ReadFails : (reads writes : Bool) → Fault → Type 0
 ReadFails reads writes Reading = reads ≡ true
 ReadFails reads writes Writing = writes ≡ true
@@ -23,7 +23,7 @@ ReadFails reads writes Memory = ⊤
 ReadFails reads writes NotText = ⊥
 ReadFails reads writes TooManyLines = ⊥
 
--- writing may fail for want of memory, or where the writer may fail
+-- writing may fail for a failed allocation, or where the writer may fail
 abbrev pub WriteFails : (writes : Bool) → Fault → Type 0
 WriteFails writes Reading = ⊥
 WriteFails writes Writing = writes ≡ true
@@ -43,7 +43,7 @@ MayFail reads writes Memory = ⊤
 MayFail reads writes NotText = ⊤
 MayFail reads writes TooManyLines = ⊤
 
--- a writer takes a text: all of it, or a front of it where it fails, and nothing for want of memory
+-- a writer takes a text: all of it, or a front of it where it fails, and nothing for a failed allocation
 abbrev pub Takes : (old new : Option (List ℕ)) → List ℕ → Result (Unit {0}) Fault → Type 0
 Takes old new text (Ok done) = Appends old new text
 Takes old new text (Err Reading) = ⊥
@@ -52,14 +52,14 @@ Takes old new text (Err Memory) = Keeps old new
 Takes old new text (Err NotText) = ⊥
 Takes old new text (Err TooManyLines) = ⊥
 
--- the line behind so many others
+-- the line after so many others
 pub record LineAt (input : List ℕ) (count : ℕ) (line : List ℕ) : Type 0 where
   pub front : List (List ℕ)
   pub behind : List (List ℕ)
   pub split : lines input ≡ front ++ line ∷ behind
   pub counts : length front ≡ count
 
--- the line behind so many others is text
+-- the line after so many others is text
 abbrev pub IsTextAt : (input : List ℕ) → (count : ℕ) → Type 0
 IsTextAt input count = (line : List ℕ) × LineAt input count line × IsUtf8 line
 

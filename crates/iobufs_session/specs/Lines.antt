@@ -9,7 +9,7 @@ use Rattle.std.specs.Io.BufRead.{ends_with_byte, strip_last}
 abbrev pub line_text : List ℕ → List ℕ
 line_text line = if ends_with_byte 10 line then strip_last 13 (strip_last 10 line) else strip_last 10 line
 
--- the first line was taken, and what is behind it is left
+-- the first line was taken, and what is after it is left
 pub record TookLine (bytes line : List ℕ) (new : Option (List ℕ)) : Type 0 where
   pub rest : List ℕ
   pub left_is : new ≡ Some rest

@@ -30,7 +30,7 @@ pub enum Stop {
     BadCommand(u64),
     /// It couldn't go on.
     CannotContinue(Fault),
-    /// The words behind the program's name ask for no session.
+    /// The words after the program's name ask for no session.
     OtherWords,
 }
 

@@ -80,7 +80,7 @@ fn over_reader<R: Read + Drop, O: Sink>(
     run(alloc, half, &mut input, output)
 }
 
-// The half that the words behind the program's name ask for.
+// The half that the words after the program's name ask for.
 fn half_of(args: &[&str]) -> Option<Half>
     ensures asks { IfSome result (λ half. map (λ arg. arg.now) args.now ≡ word_of half ∷ []) }
     ensures none { IfNone result ((map (λ arg. arg.now) args.now ≢ codes "buf" ∷ []) × (map (λ arg. arg.now) args.now ≢ codes "owner" ∷ [])) }
@@ -92,7 +92,7 @@ fn half_of(args: &[&str]) -> Option<Half>
     }
 }
 
-/// Runs the program on the words behind its name, and tells `errors` why it ends before the end of the input. Beside
+/// Runs the program on the words after its name, and tells `errors` why it ends before the end of the input. Beside
 /// the reason stands whether `errors` took what it was told.
 pub fn session<R: Read + Drop, O: Sink, E: Write>(
     alloc: Global,

@@ -36,7 +36,7 @@ flushed (Some xs) (Some ys) (Some zs) text p q = q ∙ p
 
 pub ruleset sending = (has_not_sent, has_sent, has_flushed, flushed)
 
--- ---- frames that came were sent, each behind its length as the writer writes it
+-- ---- frames that came were sent, each after its length as the writer writes it
 
 pub record Resent (prefix to : Prefix) (range : RangeCfg) (text left : List ℕ) (held holds : Option (List ℕ)) : Type 0 where
   pub done : List (List ℕ)
@@ -98,7 +98,7 @@ taken_as : (p q : Prefix) (r s : RangeCfg) (had has : Option (List ℕ)) (now ne
 taken_as p q r s had has now new found sought same range is h =
     subst (λ (w : Prefix × (RangeCfg × Option View)). TakesFrame w.0 w.1.0 had has now new (Ok w.1.1)) (λ i. (same i, (range i, is i))) h
 
--- a frame more that is taken and written is echoed behind those before it
+-- a frame more that is taken and written is echoed after those before it
 pub echoes_on : (prefix now_prefix to now_to : Prefix) (range now_range : RangeCfg) (a b c : Option (List ℕ)) (old now new : List ℕ)
     (held mid holds : Option (List ℕ)) (found : Option View) (body : View)
     → AreSame prefix now_prefix to now_to range now_range → Echoes prefix to range a b old now held mid → found ≡ Some body
@@ -168,7 +168,7 @@ begun_more prefix now_prefix to now_to range now_range (Some text) (Some left) (
 
 -- ---- the frames of what came
 
--- frames that stand in front of a text are the first of its frames, and the others are those of what is behind them
+-- frames that are at the front of a text are the first of its frames, and the others are those of what is after them
 record Others (prefix : Prefix) (range : RangeCfg) (done frames : List (List ℕ)) (stop : End) (rest left : List ℕ) : Type 0 where
   others : List (List ℕ)
   listed : frames ≡ done ++ others

@@ -87,7 +87,7 @@ filled_by had has fed was is m n zero fits room (took, last) =
       last = λ none. last (zero_of n none) room;
     }
 
--- what a read put over the first bytes of a piece, where none of the earlier ones were left, is held behind what was fed; no byte is the end
+-- what a read put over the first bytes of a piece, where none of the earlier ones were left, is held after what was fed; no byte is the end
 pub filled_so : (had has : Option (List ℕ)) (fed was is items : List ℕ) (m n : ℕ) → items ≡ is → m ≡ 0 → n ≤ length is → 0 < length is
     → Consumes had has (take n is) × (n ≡ 0 → 0 < length is → IsAtEnd has) → IsFilled had has (fed ++ take m was) (fed ++ take n items) (nat_eq n 0)
 filled_so had has fed was is items m n same zero fits room both =
@@ -117,7 +117,7 @@ not_waited prefix range from had old = record {
   ready = λ _. refl;
 }
 
--- a frame that was held stands in front still
+-- a frame that was held is at the front still
 pub not_ready : (prefix : Prefix) (range : RangeCfg) (old read now : List ℕ) → now ≡ old ++ read → LacksFrame prefix range now end.Open
     → HasFrame prefix range old → ⊥
 not_ready prefix range old read now grew none has =
@@ -169,7 +169,7 @@ front_some prefix range has bytes left (Io error) h = absurd h
 front_some prefix range has bytes left Memory h = h
 front_some prefix range has bytes left TooLong h = (h.0, omega (arith, h.1))
 
--- a reader that waited holds a frame in front and takes it
+-- a reader that waited holds a frame at the front and takes it
 pub took_some : {Reader : Type 0} (prefix : Prefix) (range : RangeCfg) (from now_from : Reader) (had has : Option (List ℕ)) (old now left : List ℕ) (count : ℕ)
     (found : Option View) (body : View)
     → IsWaiting prefix range from now_from had has old now count → found ≡ Some body → IsHeldFront prefix range now (Ok found) left
@@ -253,7 +253,7 @@ took_long prefix range from now_from a b old now count so_far enough = record {
 nothing_framed : (prefix : Prefix) (range : RangeCfg) (text : List ℕ) → text ≡ [] → LacksFrame prefix range text end.Open
 nothing_framed prefix range text e = subst (λ (xs : List ℕ). LacksFrame prefix range xs end.Open) (sym e) (nothing_is_open prefix range)
 
--- where a text has no frames, all of it is behind them
+-- where a text has no frames, all of it is after them
 all_behind : (prefix : Prefix) (range : RangeCfg) (text : List ℕ) (frames : List (List ℕ)) (stop : End) (rest : List ℕ)
     → IsFramedWith prefix range text frames stop rest → frames ≡ []
     → text ≡ rest

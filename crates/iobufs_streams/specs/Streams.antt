@@ -35,14 +35,14 @@ use Rattle.iobufs_streams.specs.declared.held.Held.{Held}
 abbrev pub held_bytes : Held → List ℕ
 held_bytes held = held.frames.bytes ++ take held.read held.piece.items
 
--- a whole frame stands in front
+-- a whole frame is at the front
 pub record HasFrame (prefix : Prefix) (range : RangeCfg) (bytes : List ℕ) : Type 0 where
   pub body : List ℕ
   pub more : List ℕ
   pub admitted : CanFollow prefix range body
   pub whole : bytes ≡ frame_written prefix body ++ more
 
--- bytes that a reader gave are held behind the others
+-- bytes that a reader gave are held after the others
 pub record IsMore (had has : Option (List ℕ)) (old new : List ℕ) : Type 0 where
   pub read : List ℕ
   pub took : Consumes had has read
@@ -99,7 +99,7 @@ IsFront prefix range has bytes (Err (Bad error)) left = (left ≡ bytes) × Lack
 IsFront prefix range has bytes (Err TooLong) left = (left ≡ bytes) × (2 ^ 64 ≤ length bytes + 1)
 IsFront prefix range has bytes (Err error) left = left ≡ bytes
 
--- bytes were read, none more than a frame needs, and the frame in front was taken
+-- bytes were read, none more than a frame needs, and the frame at the front was taken
 pub record TakesFrame (prefix : Prefix) (range : RangeCfg) (had has : Option (List ℕ)) (old new : List ℕ) (result : Result
     (Option View) FrameError) : Type 0 where
   pub read : List ℕ
@@ -125,7 +125,7 @@ abbrev pub SendsFrames : Prefix → Prefix → RangeCfg → List ℕ → Option 
 SendsFrames prefix to range text held holds = (frames : List (List ℕ)) (stop : End) (rest : List ℕ) → IsFramedWith prefix range text frames stop rest
     → HasSent held holds (all_written to frames)
 
--- all of them, and nothing is behind them
+-- all of them, and nothing is after them
 abbrev pub SendsAllFrames : Prefix → Prefix → RangeCfg → List ℕ → Option (List ℕ) → Option (List ℕ) → Type 0
 SendsAllFrames prefix to range text held holds = (frames : List (List ℕ)) (stop : End) (rest : List ℕ) → IsFramedWith prefix range text frames stop rest
     → (rest ≡ []) × Appends held holds (all_written to frames)

@@ -1,6 +1,4 @@
-// What no contract says: worked examples, calls that succeed, storage that is shared, printed text, and lengths above the
-// limits that a call might have. `callers` tests the crates over the buffers, `owner` the owner machine, and
-// `wire` encoded values.
+// Tests of what no contract says: worked examples, success, sharing, printed text, and lengths above likely limits.
 #![tactic(auto)]
 
 #[cfg(test)]

@@ -41,16 +41,16 @@ records_written number (body ∷ bodies) = record_written number body ++ records
 abbrev pub up_to : ℕ → RangeCfg
 up_to most = record { lo = 0; hi = most }
 
--- the length in front may go on, or fewer bytes stand behind it than it says
+-- the length at the front may go on, or fewer bytes follow it than it says
 abbrev pub IsCut : ℕ → List ℕ → Type 0
 IsCut most bytes =
     IsLengthRead bytes (up_to most) (Err EndOfBuffer) ⊎ ((n : ℕ) × IsLengthRead bytes (up_to most) (Ok n) × (length bytes < length (spell n) + n))
 
--- no length stands in front, or one that is too large
+-- no length is at the front, or one that is too large
 abbrev pub HasBadLength : ℕ → List ℕ → Type 0
 HasBadLength most bytes = IsLengthRead bytes (up_to most) (Err InvalidVarint) ⊎ ((n : ℕ) × IsLengthRead bytes (up_to most) (Err (InvalidLength n)))
 
--- so many bytes stand behind the length, and aren't a body sealed with this number
+-- so many bytes follow the length, and aren't a body sealed with this number
 abbrev pub IsUnsealed : ℕ → List ℕ → Type 0
 IsUnsealed number bytes = (framed : List ℕ) × (behind : List ℕ) × (length framed < 2 ^ 64) × (bytes ≡ bytes_written framed ++ behind)
     × ((body : List ℕ) → framed ≡ sealed number body → ⊥)
@@ -60,7 +60,7 @@ HasNoRecord most number rest Whole = rest ≡ []
 HasNoRecord most number rest Torn = (0 < length rest) × IsCut most rest
 HasNoRecord most number rest Damaged = (0 < length rest) × (HasBadLength most rest ⊎ IsUnsealed number rest)
 
--- each record has at most so many bytes behind its length
+-- each record has at most so many bytes after its length
 abbrev pub AreShort : ℕ → List (List ℕ) → Type 0
 AreShort most [] = Unit {0}
 AreShort most (body ∷ bodies) = (12 + length body ≤ most) × AreShort most bodies
@@ -69,7 +69,7 @@ AreShort most (body ∷ bodies) = (12 + length body ≤ most) × AreShort most b
 abbrev pub bodies : List View → List (List ℕ)
 bodies views = map (λ view. view.bytes) views
 
--- the records of a text from a number on, how it ends, and what is behind them
+-- the records of a text from a number on, how it ends, and what is after them
 pub record IsJournal (most number : ℕ) (text : List ℕ) (found : List (List ℕ)) (end : End) (rest : List ℕ) : Type 0 where
   pub whole : text ≡ records_written number found ++ rest
   pub admitted : AreShort most found

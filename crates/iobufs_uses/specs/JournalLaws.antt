@@ -152,7 +152,7 @@ one_more most journal rest left views more body number count found m n so_far pu
       short = subst (AreShort most) (sym listed) (short_more most (bodies views) body.bytes so_far.short small);
     }
 
--- there is no further one: what is left stands behind the records
+-- there is no further one: what is left follows the records
 pub ended : (most : ℕ) (journal rest : List ℕ) (views : List View) (end : End) (number count len left : ℕ) (found : Result View End) → number ≡ count
     → count ≡ length views
     → IsReadSoFar most journal views rest → len ≡ length journal → left ≡ length rest → found ≡ Err end → IfErr found (HasNoRecord most number rest)

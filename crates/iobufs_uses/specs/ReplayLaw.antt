@@ -37,7 +37,7 @@ one_body number a b e =
 fits : (most : ℕ) (n : ℕ) → n ≤ most → in_range (up_to most) n ≡ true
 fits most n h = grind (arith, nat_tests)
 
--- where a record stands in front, reading is refused for want of memory alone
+-- where a record is at the front, reading is refused for a failed allocation alone
 no_fault : (most number : ℕ) (text body behind : List ℕ) (error : Error) → most < 2 ^ 64 → 12 + length body ≤ most → text ≡ record_written number body ++ behind
     → IsViewFault (plain text) (up_to most) error → (error ≡ Memory → ⊥) → ⊥
 unfolding plain

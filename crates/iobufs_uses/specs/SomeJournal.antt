@@ -39,12 +39,12 @@ same_list (x ∷ xs) (y ∷ ys) = elim (same_number x y) [
   | inr other ↦ inr (λ e. other (ap first_of e))
 ]
 
--- ---- what stands in front
+-- ---- what is at the front
 
 inside_least : (most n : ℕ) → in_range (up_to most) n ≡ true → n ≤ most
 inside_least most n e = grind (arith, nat_tests)
 
--- a record, and what is behind it
+-- a record, and what is after it
 record HasRecord (most number : ℕ) (bytes : List ℕ) : Type 0 where
   body : List ℕ
   behind : List ℕ
@@ -54,7 +54,7 @@ record HasRecord (most number : ℕ) (bytes : List ℕ) : Type 0 where
 Front : ℕ → ℕ → List ℕ → Type 0
 Front most number bytes = HasRecord most number bytes ⊎ ((end : End) × HasNoRecord most number bytes end)
 
--- so many bytes behind a length, where there are as many
+-- so many bytes after a length, where there are as many
 framed_front : (most number n : ℕ) (bytes : List ℕ) → 0 < length bytes → IsSpelledAt bytes n → n ≤ most → length (spell n) + n ≤ length bytes
     → Front most number bytes
 unfolding Front
@@ -107,7 +107,7 @@ record HasReading (most number : ℕ) (text : List ℕ) : Type 0 where
   rest : List ℕ
   is : IsJournal most number text found end rest
 
--- a first record, and the reading of what is behind it
+-- a first record, and the reading of what is after it
 behind_first : (most number : ℕ) (text : List ℕ) (first : HasRecord most number text) → HasReading most (suc number) first.behind → HasReading most number text
 behind_first most number text first others =
     let written = record_written number first.body in

@@ -1,4 +1,4 @@
-// A journal: numbered records with a CRC-32, one behind the other.
+// A journal: numbered records with a CRC-32, in order.
 ghost use Rattle.std.specs.Prelude.{◌≡◌, ℕ, ◌+◌, ◌^◌, ◌<◌, ◌≤◌, List, [], ◌++◌, drop, length, Err, Ok, IfErr, IfNone, IfOk, IfSome, IsOk, IsOkUnless, IsTrue, ◌↔◌, OnErr, OnOk};
 ghost use Rattle.iobufs_uses.specs.Journal.{AreShort, HasNoRecord, HasOneJournal, IsJournal, bodies, record_written, records_written, sealed};
 ghost use Rattle.iobufs_uses.specs.JournalLaws.{IsSealed};
@@ -10,7 +10,7 @@ use iobufs_core::codec::{BufError, BufMut, Encode, Error, RangeCfg, Read};
 use std::alloc::Global;
 use std::ops::Bound;
 
-/// How a journal ends behind its last whole record.
+/// How a journal ends after its last whole record.
 #[derive(Clone, Copy, Debug, PartialEq, Eq)]
 pub enum End {
     /// Nothing stands there.
@@ -28,7 +28,7 @@ pub struct Records {
     pub found: Vec<IoBuf>,
     /// How many bytes of the journal they take.
     pub whole: usize,
-    /// How the journal ends behind them.
+    /// How the journal ends after them.
     pub end: End,
 }
 
@@ -60,7 +60,7 @@ fn record_of(alloc: Global, number: u64, body: &[u8]) -> Result<IoBuf, Error>
     Ok(record.freeze()?)
 }
 
-/// Puts a record behind a journal: a length, a number of eight bytes, a body, and the CRC-32 of number and body. A
+/// Puts a record after a journal: a length, a number of eight bytes, a body, and the CRC-32 of number and body. A
 /// refusal leaves the journal as it was.
 #[tactic(auto, using(crate::specs::JournalLaws::record_small))]
 pub fn append_record(
@@ -104,7 +104,7 @@ pub fn unsealed(framed: &IoBuf, number: u64) -> Result<Option<IoBuf>, BufError>
     Ok(Some(framed.slice(Bound::Included(8), Bound::Excluded(end))?))
 }
 
-// What is found in front: a body, or why there is none.
+// What is found at the front: a body, or why there is none.
 fn next_record(
     alloc: Global,
     rest: &mut IoBufs,
@@ -131,8 +131,8 @@ fn next_record(
     }
 }
 
-/// The records of a journal of which none has more than `most` bytes behind its length, numbered from 0: those of its
-/// longest whole prefix, and how it ends behind them. Behind that nothing is read.
+/// The records of a journal of which none has more than `most` bytes after its length, numbered from 0: those of its
+/// longest whole prefix, and how it ends after them. After that nothing is read.
 pub fn replay(alloc: Global, journal: IoBufs, most: usize) -> Result<Records, BufError>
     ensures journal { IfOk result (λ records. IsJournal most 0 journal.bytes (bodies records.found.items) records.end (drop records.whole journal.bytes)) }
     ensures within { IfOk result (λ records. records.whole ≤ length journal.bytes) }

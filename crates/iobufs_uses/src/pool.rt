@@ -8,7 +8,7 @@ ghost use Rattle.iobufs_owner.specs.World.{holders};
 
 use iobufs_owner::owner::{Freed, Machine};
 
-/// A pool behind a machine. It hands out the memory of each block again once that is freed, in the order of freeing, and
+/// A pool after a machine. It hands out the memory of each block again once that is freed, in the order of freeing, and
 /// none twice.
 #[derive(Debug, Drop)]
 pub struct Pool {

@@ -1,4 +1,4 @@
--- A refusal behind values that are found.
+-- A refusal after values that are found.
 --     refused_so        an answer that is this error meets what the error meets
 --     behind_refused    it is a fault of a pair, whatever fault it is behind the first value
 --     fault_behind      it is a fault of a list, of one value behind those that are found
@@ -16,7 +16,7 @@ pub refused_so : {T E : Type 0} (P : E → Type 0) (r : Result T E) (e : E) → 
 refused_so P (Ok x) e h p = tt
 refused_so P (Err x) e h p = subst P (sym h) p
 
--- a value is found, it has so many bytes, and behind them is a fault, which is answered: the pair is refused so
+-- a value is found, it has so many bytes, and after them is a fault, which is answered: the pair is refused so
 pub behind_refused : {T Value Cfg : Type 0} (written : Value → List ℕ) (is_found : MarkedText → ℕ → Cfg → Value → Type 0)
     (is_fault : MarkedText → ℕ → Cfg → Fault → Type 0) (behind_fault : MarkedText → ℕ → Fault → Type 0) (text : MarkedText) (skip len : ℕ) (cfg : Cfg)
     (x : Value) (r : Result T Fault) (f : Fault) → is_found text skip cfg x → len ≡ length (written x) → behind_fault text (skip + len) f
@@ -28,7 +28,7 @@ behind_refused written is_found is_fault behind_fault text skip len cfg x r f fo
 further : (skip m n all : ℕ) → all ≡ m + n → skip + all ≡ skip + m + n
 further skip m n all e = omega (arith, e)
 
--- the values are found, fewer than there are to be, and what is behind them has a fault
+-- the values are found, fewer than there are to be, and what is after them has a fault
 pub fault_behind : {Value Cfg : Type 0} (written : Value → List ℕ) (is_found : MarkedText → ℕ → Cfg → Value → Type 0)
     (is_fault : MarkedText → ℕ → Cfg → Fault → Type 0) (text : MarkedText) (cfg : Cfg) (f : Fault) (xs : List Value) (n skip : ℕ) → length xs < n
     → AreFound written is_found text skip cfg xs → is_fault text (skip + length (flat_map written xs)) cfg f
@@ -46,7 +46,7 @@ fault_behind written is_found is_fault text cfg f (x ∷ xs) (suc n) skip few fo
           (subst (λ k. is_fault text k cfg f) there fault),
     )
 
--- the values are found, and one behind them
+-- the values are found, and one after them
 pub found_more : {Value Cfg : Type 0} (written : Value → List ℕ) (is_found : MarkedText → ℕ → Cfg → Value → Type 0) (text : MarkedText) (cfg : Cfg)
     (x : Value) (xs : List Value) (skip : ℕ) → AreFound written is_found text skip cfg xs → is_found text (skip + length (flat_map written xs)) cfg x
     → AreFound written is_found text skip cfg (xs ++ x ∷ [])

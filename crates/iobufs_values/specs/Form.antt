@@ -51,14 +51,14 @@ IsCodecFault is other = ⊥
 abbrev pub behind : MarkedText → ℕ → MarkedText
 behind text skip = record { bytes = drop skip text.bytes; mark = text.mark; cuts = [] }
 
--- a length in the range stands behind the first bytes, and the value is made of the bytes behind it
+-- a length in the range follows the first bytes, and the value is made of the bytes after it
 pub record IsMadeThere {Value : Type 0} (makes : View → Value → Type 0) (text : MarkedText) (skip : ℕ) (range : RangeCfg) (value : Value) : Type 0 where
   pub n : ℕ
   pub read : IsLengthRead (drop skip text.bytes) range (Ok n)
   pub within : length (spell n) + n ≤ length (drop skip text.bytes)
   pub made : makes (taken_view text (skip + length (spell n)) n) value
 
--- static bytes stand behind a length in the range there
+-- static bytes follow a length in the range there
 pub record HasStaticViewThere (text : MarkedText) (skip : ℕ) (range : RangeCfg) : Type 0 where
   pub n : ℕ
   pub there : HasView (behind text skip) range n

@@ -84,7 +84,7 @@ length_form = record {
       (λ x y is other. length_alike (behind s skip) (behind t skip) range (Err x) (Err y) (ap (drop skip) e) is other) a b p q;
 }
 
--- ---- bytes behind their length
+-- ---- bytes after their length
 
 -- the bytes of what was made, and how many they are with their length
 pub made_bytes : {Value : Type 0} (bytes_of : Value → List ℕ) (makes : View → Value → Type 0)
@@ -138,7 +138,7 @@ array_form Cfg n = record {
   one_fault = λ s t skip _ a b e p q. one_of (IsShortThere s skip n) (IsShortThere t skip n) (λ x y is other. inl (is.0 ∙ sym other.0)) a b p q;
 }
 
--- ---- a truth
+-- ---- a `bool`
 
 -- a first byte, and the head of the same bytes, are one
 pub first_of : (d : List ℕ) (b c : ℕ) (more : List ℕ) → take 1 d ≡ b ∷ [] → d ≡ c ∷ more → b ≡ c
@@ -173,7 +173,7 @@ flag_one true false e = absurd (omega (arith, e))
 flag_one false true e = absurd (omega (arith, e))
 flag_one false false e = refl
 
--- where a byte of at most 1 stands, a truth is found
+-- where a byte of at most 1 stands, a `bool` is found
 no_bool_fault : (text : MarkedText) (skip byte : ℕ) (fault : Fault) → byte ≤ 1 → IsByteAt text skip byte → IsBoolFault text skip fault → ⊥
 no_bool_fault text skip byte fault small at h =
     elim h [
@@ -205,7 +205,7 @@ bool_form Cfg = record {
   one_fault = λ s t skip _ a b e p q. inl (one_bool_fault s t skip a b e p q);
 }
 
--- ---- two values, one behind the other
+-- ---- two values, in order
 
 -- what a pair of values is
 pub two_bytes : (d u v : List ℕ) → take (length u) d ≡ u → take (length v) (drop (length u) d) ≡ v → take (length (u ++ v)) d ≡ u ++ v
@@ -214,11 +214,11 @@ two_bytes d u v p q =
     ap (λ n. take n d) (length-append u v) ∙ ap (take (length u + length v)) (sym whole) ∙ take-append-add u (drop (length u) d) (length v)
     ∙ ap (λ xs. u ++ xs) q
 
--- a text that begins with these bytes is these, and what is behind them
+-- a text that begins with these bytes is these, and what is after them
 pub whole_by : (u d : List ℕ) → take (length u) d ≡ u → d ≡ u ++ drop (length u) d
 whole_by u d front = sym (take-append-drop (length u) d) ∙ ap (λ xs. xs ++ drop (length u) d) front
 
--- where the first value of two is found, the other is behind it
+-- where the first value of two is found, the other is after it
 pub behind_first : {A C : Type 0} {written : A → List ℕ} {same : A → A → Type 0} {admits : C → A → Type 0} {is_found : MarkedText → ℕ → C → A → Type 0}
     {is_fault : MarkedText → ℕ → C → Fault → Type 0} → IsForm A C written same admits is_found is_fault
     → (x y : A) (cfg : C) (text : MarkedText) (skip : ℕ) (more : List ℕ)
@@ -329,7 +329,7 @@ form_as {w = w} parts config written is form = record {
 
 -- ---- a value that is there or not
 
--- what stands behind a byte stands one place further on
+-- what follows a byte stands one place further on
 pub behind_byte : (text : MarkedText) (skip b : ℕ) (more : List ℕ) → drop skip text.bytes ≡ b ∷ more → drop (skip + 1) text.bytes ≡ more
 behind_byte text skip b more e = sym (drop-drop 1 skip text.bytes) ∙ ap (drop 1) e
 

@@ -77,7 +77,7 @@ begins_on : (xs ys : List ℕ) (b : ℕ) → take 1 xs ≡ b ∷ [] → take 1 (
 begins_on [] ys b e = absurd (no_first [] b e refl)
 begins_on (x ∷ xs) ys b e = e
 
--- what stands behind bytes leaves what their first tells
+-- what follows bytes leaves what their first tells
 first_on : (is_tag : ℕ → Bool) (told : Bool) (xs ys : List ℕ) → IsFirst is_tag told xs → IsFirst is_tag told (xs ++ ys)
 first_on is_tag told xs ys f = record { tag = f.tag; at = begins_on xs ys f.tag f.at; tells = f.tells }
 
@@ -97,9 +97,9 @@ or_true false = refl
 not_end : (is_tag : ℕ → Bool) (told : Bool) (xs : List ℕ) → IsFirst is_tag told xs → xs ≡ [] → ⊥
 not_end is_tag told xs f e = no_first xs f.tag f.at e
 
--- ---- a value behind the byte of its kind
+-- ---- a value after the byte of its kind
 
--- what is written behind a tag begins with it
+-- what is written after a tag begins with it
 pub kind_first : (tag : ℕ) (bytes : List ℕ) → IsFirst (λ byte. nat_eq byte tag) true (tag ∷ bytes)
 kind_first tag bytes = record { tag = tag; at = refl; tells = eq_self tag }
 
@@ -210,7 +210,7 @@ either_front {p = p} {wa = wa} {wb = wb} a begins b (Second x) (First y) cfg oth
     absurd (one_kind p (wa y ++ v) (wb x ++ u) (sym e) (first_on p true (wa y) v (begins y)) (first_on p false (wb x) u ok.1))
 either_front a begins b (Second x) (Second y) cfg other u v ok ok' e = b.no_front x y cfg.1 other.1 u v ok.0 ok'.0 e
 
--- the byte in front of a text is the first of the value that stands there
+-- the byte before a text is the first of the value that stands there
 first_there : (p q : ℕ → Bool) (d w : List ℕ) → take (length w) d ≡ w → IsFirst q true w → IsFirst p false d → IsFirst p false w
 first_there p q d w front begins f =
     let whole : d ≡ w ++ drop (length w) d = whole_by w d front in

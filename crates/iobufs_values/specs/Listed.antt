@@ -68,7 +68,7 @@ pub joins_list : {Value : Type 0} (written : Value → List ℕ) (items : Value 
     → (values : List Value) → items_bytes (list_items items values) ≡ list_written written values
 joins_list written items joins values = ap (λ zs. spell (length values) ++ zs) (joins_each written items joins values)
 
--- ---- values one behind the other
+-- ---- values in order
 
 same_count : {A : Type 0} (s : A → A → Type 0) (xs ys : List A) → AreSame s xs ys → length xs ≡ length ys
 same_count s [] [] h = refl
@@ -143,7 +143,7 @@ each_faults {w = w} {found = found} {fault = fault} form (suc n) t u skip cfg e 
       ]
     ]
 
--- ---- behind their count
+-- ---- after their count
 
 list_refused : {A C : Type 0} {w : A → List ℕ} {s : A → A → Type 0} {ok : C → A → Type 0} {found : MarkedText → ℕ → C → A → Type 0}
     {fault : MarkedText → ℕ → C → Fault → Type 0} → IsForm A C w s ok found fault

@@ -1,4 +1,4 @@
-// A truth, and a value that is there or not, behind a byte that tells it.
+// A `bool`, and a value that is there or not, after a byte that tells it.
 ghost use Rattle.std.specs.Prelude.{◌≡◌, ⊤};
 ghost use Rattle.iobufs_core.specs.Wire.{flag};
 ghost use Rattle.iobufs_values.specs.Form.{IsBoolFault, IsByteAt};

@@ -1,4 +1,4 @@
-// Several values, one behind the other.
+// Several values, in order.
 ghost use Rattle.std.specs.Prelude.{◌≡◌, ◌+◌, ◌++◌, ◌≤◌, length, IfOk, IfErr};
 ghost use Rattle.iobufs_values.specs.Form.{IsPairFault};
 
@@ -188,7 +188,7 @@ impl<
         (pair_form A.form (pair_form B.form (pair_form C.form (pair_form D.form (pair_form E.form F.form))))) };
 }
 
-// The values behind the first `skip` bytes, and how many bytes they have.
+// The values after the first `skip` bytes, and how many bytes they have.
 fn look_two<A: Look + Drop, B: Look + Drop, R: Peek>(
     alloc: Global,
     buf: &R,
@@ -210,7 +210,7 @@ fn look_two<A: Look + Drop, B: Look + Drop, R: Peek>(
     Ok(((one, two), len + more))
 }
 
-// The values behind the first `skip` bytes, and how many bytes they have.
+// The values after the first `skip` bytes, and how many bytes they have.
 fn look_three<A: Look + Drop, B: Look + Drop, C: Look + Drop, R: Peek>(
     alloc: Global,
     buf: &R,
@@ -236,7 +236,7 @@ fn look_three<A: Look + Drop, B: Look + Drop, C: Look + Drop, R: Peek>(
     Ok(((one, two, three), len + more))
 }
 
-// The values behind the first `skip` bytes, and how many bytes they have.
+// The values after the first `skip` bytes, and how many bytes they have.
 fn look_four<A: Look + Drop, B: Look + Drop, C: Look + Drop, D: Look + Drop, R: Peek>(
     alloc: Global,
     buf: &R,
@@ -266,7 +266,7 @@ fn look_four<A: Look + Drop, B: Look + Drop, C: Look + Drop, D: Look + Drop, R: 
     Ok(((one, two, three, four), len + more))
 }
 
-// The values behind the first `skip` bytes, and how many bytes they have.
+// The values after the first `skip` bytes, and how many bytes they have.
 fn look_five<
     A: Look + Drop,
     B: Look + Drop,
@@ -316,7 +316,7 @@ fn look_five<
     Ok(((one, two, three, four, five), len + more))
 }
 
-// The values behind the first `skip` bytes, and how many bytes they have.
+// The values after the first `skip` bytes, and how many bytes they have.
 fn look_six<
     A: Look + Drop,
     B: Look + Drop,

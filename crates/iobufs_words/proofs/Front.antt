@@ -1,4 +1,4 @@
--- The number in front of a line, digit by digit.
+-- The number before a line, digit by digit.
 use Rattle.std.proofs.Common.{◌≡◌, ◌≢◌, ◌⊎◌, inl, inr, ℕ, zero, suc, ◌+◌, ◌*◌, ◌^◌, ◌<◌, ◌≤◌, Bool, true, false, eqb, ne_eqb, nat_lt, ◌&&◌, List, [], ◌∷◌, ◌++◌, length, take, drop, get_or, Some, None, refl, sym, ap, subst, ◌∙◌, arith}
 use Rattle.std.specs.Prelude.{if◌then◌else◌}
 use Rattle.std.proofs.lemmas.Bool.Decides.{nat_tests}
@@ -34,7 +34,7 @@ digits_say word n some digits value low =
     let all = own.from word digits in
     grind (arith, nat_tests, all, value, some, low)
 
--- a line is what stands before a place, what stands there, and what stands behind it
+-- a line is what stands before a place, what stands there, and what follows it
 cut_at : (line : List ℕ) (place : ℕ) → place < length line → line ≡ take place line ++ get_or line place 0 ∷ drop (place + 1) line
 cut_at [] place inside = absurd (omega arith)
 cut_at (b ∷ bs) zero inside = refl
@@ -47,7 +47,7 @@ length_take [] place inside = absurd (omega arith)
 length_take (b ∷ bs) zero inside = refl
 length_take (b ∷ bs) (suc place) inside = ap suc (length_take bs place (omega arith))
 
--- what a word and what is behind it say of a line
+-- what a word and what is after it say of a line
 pub record Front (line rest : List ℕ) (n : ℕ) : Type 0 where
   pub word : List ℕ
   pub is : words_of line ≡ word ∷ words_of rest
@@ -143,7 +143,7 @@ none_first : (line : List ℕ) → get_or line 0 0 ≡ 32 → first_number (word
 none_first [] e = refl
 none_first (b ∷ bs) e = subst (λ (c : ℕ). first_number (words_of (c ∷ bs)) ≡ None) (sym e) refl
 
--- a byte that is no digit, nor the space behind one, or digits that say too much
+-- a byte that is no digit, nor the space after one, or digits that say too much
 pub none_there : (line : List ℕ) (place n : ℕ) → place < length line → Shown line place n → (get_or line place 0 ≡ 32 → place ≡ 0)
     → Bad n (get_or line place 0) → first_number (words_of line) ≡ None
 none_there line place n inside s at_start bad = by (eqb (get_or line place 0) 32) refl

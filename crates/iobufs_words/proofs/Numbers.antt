@@ -17,10 +17,10 @@ first_byte (b ∷ bs) = refl
 plain : (bs : List ℕ) → unwrap_or (slice_get bs 0) 0 ≢ 43 → get_or bs 0 0 ≢ 43
 plain bs h e = h (rw (first_byte bs) e)
 
--- a word without a plus sign in front that parses as a number of 64 bits says that number
+-- a word without a plus sign at the front that parses as a number of 64 bits says that number
 pub number_ok : (bs : List ℕ) (n : ℕ) → ParsesUnsigned {E = ℕ} 64 10 bs (Ok n) → unwrap_or (slice_get bs 0) 0 ≢ 43 → number_of bs ≡ Some n
 number_ok bs n h p = let k = parse_plain own {E = ℕ} 64 bs (Ok n) h (plain bs p) in grind (arith, nat_tests, k)
 
--- a word without a plus sign in front that doesn't parse as a number of 64 bits says none
+-- a word without a plus sign at the front that doesn't parse as a number of 64 bits says none
 pub number_err : (bs : List ℕ) → ParsesUnsigned {E = ℕ} 64 10 bs (Err 0) → unwrap_or (slice_get bs 0) 0 ≢ 43 → number_of bs ≡ None
 number_err bs h p = let k = parse_plain own {E = ℕ} 64 bs (Err 0) h (plain bs p) in grind (arith, nat_tests, k)

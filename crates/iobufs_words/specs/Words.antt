@@ -62,7 +62,7 @@ both (Some a) (Some b) = Some (a, b)
 both (Some a) None = None
 both None b = None
 
--- the first, and the others behind it
+-- the first, and the others after it
 abbrev pub put_first : {A : Type 0} → Option A → Option (List A) → Option (List A)
 put_first (Some x) (Some xs) = Some (x ∷ xs)
 put_first (Some x) None = None

@@ -139,7 +139,7 @@ impl<'a> Words<'a> {
     }
 }
 
-// The number in front of a line, up to its first space, and what stands behind that space, if there is one.
+// The number before a line, up to its first space, and what follows that space, if there is one.
 fn front_number(line: &str) -> Result<(usize, Option<&str>), LineError>
     ensures ok { IfOk result (λ n. (word : List ℕ) × (words_of line.now ≡ word ∷ words_left n.1) × (number_of word ≡ Some n.0)) }
     ensures err { IfErr result (λ error. (error ≡ LineError.NoCommand) × (first_number (words_of line.now) ≡ None)) }
@@ -161,7 +161,7 @@ fn front_number(line: &str) -> Result<(usize, Option<&str>), LineError>
     Ok((n, None))
 }
 
-// A number with one more digit behind it, if it is a digit and the number is not too large.
+// A number with one more digit after it, if it is a digit and the number is not too large.
 fn with_digit(n: usize, digit: u8) -> Option<usize>
     ensures { MatchOption result ((10 ≤ digit_value digit) ⊎ (2 ^ 64 ≤ n * 10 + digit_value digit))
         (λ more. (digit_value digit < 10) × (more ≡ n * 10 + digit_value digit) × (more < 2 ^ 64)) }

@@ -1,4 +1,4 @@
--- A view put behind others; an empty one changes nothing.
+-- A view put after others; an empty one changes nothing.
 use Rattle.std.proofs.Common.{◌≡◌, ◌+◌, ◌<◌, ◌≤◌, ◌==◌, if◌then◌else◌, List, [], ◌∷◌, ◌++◌, length, fold, refl, sym, ap, ◌∙◌, arith, append_assoc, length-append, append-nil, subst, ⊎_elim}
 use Rattle.std.proofs.lemmas.Bool.{cases_lt}
 use Rattle.std.proofs.lemmas.List.Concat.{flat_map-append}
@@ -15,7 +15,7 @@ pub of_pieces-none : of_pieces [] ≡ default_text
 unfolding of_pieces
 of_pieces-none = refl
 
--- a view behind full views
+-- a view after full views
 pub add-full : (vs ws : List View) (v : View) → ws ≡ (if length v.bytes == 0 then vs else vs ++ v ∷ []) → AreFull vs → AreFull ws
 add-full vs ws v is full =
     ⊎_elim
@@ -23,7 +23,7 @@ add-full vs ws v is full =
     (λ (h : length v.bytes ≤ 0). subst AreFull (sym (is ∙ rw (same_eq (length v.bytes) 0 (omega arith)) refl)) full)
     (cases_lt 0 (length v.bytes))
 
--- where views have room for their bytes and so has one more, they have it with that one behind them, or without it where it is empty
+-- where views have room for their bytes and so has one more, they have it with that one after them, or without it where it is empty
 pub add-views : (vs ws : List View) (v : View) → ws ≡ (if length v.bytes == 0 then vs else vs ++ v ∷ []) → AreViews vs → IsView v → AreViews ws
 add-views vs ws v is all view =
     ⊎_elim
@@ -31,7 +31,7 @@ add-views vs ws v is all view =
     (λ (h : length v.bytes ≤ 0). subst AreViews (sym (is ∙ rw (same_eq (length v.bytes) 0 (omega arith)) refl)) all)
     (cases_lt 0 (length v.bytes))
 
--- full pieces with a view behind them, but without it where it is empty, make their text with the view appended
+-- full pieces with a view after them, but without it where it is empty, make their text with the view appended
 pub add-text : (vs ws : List View) (v : View) → ws ≡ (if length v.bytes == 0 then vs else vs ++ v ∷ []) → AreFull vs
     → of_pieces ws ≡ text_append (of_pieces vs) v
 add-text vs ws v is full =
@@ -52,13 +52,13 @@ add-text vs ws v is full =
         let n = length-bytes w ws in
         sym (append-push w ws v (omega (arith, full.0)) some)
 
--- how many views there are with this one behind others, and how many bytes
+-- how many views there are with this one after others, and how many bytes
 pub record IsAdded (vs ws : List View) (v : View) : Type 0 where
   pub at_least : length vs ≤ length ws
   pub at_most : length ws ≤ length vs + 1
   pub bytes : length (pieces_bytes ws) ≡ length (pieces_bytes vs) + length v.bytes
 
--- a view behind others, but not where it is empty, adds its bytes to theirs, and at most one to their number
+-- a view after others, but not where it is empty, adds its bytes to theirs, and at most one to their number
 pub add-length : (vs ws : List View) (v : View) → ws ≡ (if length v.bytes == 0 then vs else vs ++ v ∷ []) → IsAdded vs ws v
 add-length vs ws v is =
     ⊎_elim

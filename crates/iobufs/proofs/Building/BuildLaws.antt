@@ -16,7 +16,7 @@ use Rattle.iobufs.specs.Inside.RowValues.{Segment, gap, standing}
 use Rattle.iobufs.proofs.Building.GapLaws.{gaps-push, stood-push, segments-push}
 use Rattle.iobufs.proofs.Text.Sides.{not_zero}
 
--- bytes behind the gaps change nothing before them
+-- bytes after the gaps change nothing before them
 front-put : (bytes more : List ℕ) (ss : List Segment) → gaps_len ss ≤ length bytes → items_front (bytes ++ more) ss ≡ items_front bytes ss
 front-put bytes more [] fits = refl
 front-put bytes more (standing view ∷ ss) fits = ap (λ items. push_item view ∷ items) (front-put bytes more ss (omega arith))
@@ -47,7 +47,7 @@ front-pushed bytes (gap n ∷ ss) =
     let a = items_pushed-append (inline_run (take n bytes)) (items_front (drop n bytes) ss) in
     omega arith
 
--- segments behind others get the bytes that no gap had
+-- segments after others get the bytes that no gap had
 front-append : (bytes : List ℕ) (ss ts : List Segment) → items_front bytes (ss ++ ts) ≡ items_front bytes ss ++ items_front (drop (gaps_len ss) bytes) ts
 front-append bytes [] ts = refl
 front-append bytes (standing view ∷ ss) ts =

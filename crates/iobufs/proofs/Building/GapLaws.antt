@@ -39,7 +39,7 @@ segments-append (gap n ∷ standing v ∷ ss) ts (some, stands, others) g = (som
 pushed-some : (n : ℕ) (v : View) → 0 < n → segments_pushed n v ≡ gap n ∷ standing v ∷ []
 pushed-some n v some = rw (not_zero n some) refl
 
--- a view pushed behind n bytes adds n to those that are to come
+-- a view pushed after n bytes adds n to those that are to come
 pub gaps-push : (ss : List Segment) (n : ℕ) (v : View) → gaps_len (ss ++ segments_pushed n v) ≡ gaps_len ss + n
 gaps-push ss zero v = gaps-append ss (segments_pushed 0 v)
 gaps-push ss (suc n) v = gaps-append ss (segments_pushed (suc n) v) ∙ ap (λ ts. gaps_len ss + gaps_len ts) (pushed-some (suc n) v (omega arith)) ∙ (omega arith)
@@ -50,7 +50,7 @@ stood-push ss zero v = stood-append ss (segments_pushed 0 v) ∙ (omega arith)
 stood-push ss (suc n) v = stood-append ss (segments_pushed (suc n) v) ∙ ap (λ ts. stood_len ss + stood_len ts) (pushed-some (suc n) v (omega arith))
     ∙ (omega arith)
 
--- where no segment is empty, none is with a view with bytes pushed behind them
+-- where no segment is empty, none is with a view with bytes pushed after them
 pub segments-push : (ss : List Segment) (n : ℕ) (v : View) → AreSegments ss → 0 < length v.bytes → AreSegments (ss ++ segments_pushed n v)
 segments-push ss zero v h some = segments-append ss (segments_pushed 0 v) h (some, tt)
 segments-push ss (suc n) v h some =
@@ -132,7 +132,7 @@ filling-first all ps i p rest end inside at h =
     let within = g.within in
     let fits = g.fits in (omega arith, omega arith)
 
--- what is left stands behind
+-- what is left follows
 pub filled-last : (all vs ws : List View) (rest : View) → vs ++ filled rest [] ≡ all → ws ≡ (if length rest.bytes == 0 then vs else vs ++ rest ∷ []) → ws ≡ all
 filled-last all vs ws rest so_far is =
     ⊎_elim

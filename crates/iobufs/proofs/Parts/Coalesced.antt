@@ -6,7 +6,7 @@ use Rattle.iobufs_core.specs.Part.{Part, empty_part, part_put}
 use Rattle.iobufs.specs.Laws.Filling.{same_part}
 use Rattle.iobufs.specs.Parts.{parts_coalesced, parts_filled, single_part}
 
--- where no part is the only one, they become one of their bytes, with no room behind them
+-- where no part is the only one, they become one of their bytes, with no room after them
 pub coalesced-several : (parts : List Part) → single_part parts ≡ None → parts_coalesced parts ≡ record { filled = parts_filled parts; spare = 0 }
 coalesced-several [] h = refl
 coalesced-several (p ∷ []) h = absurd (none-some p (sym h))

@@ -66,7 +66,7 @@ capacity-shared_out (p ∷ parts) n =
     let d = length-drop n p.filled in
     omega (arith, sum_by-cons part_capacity p parts, sum_by-cons part_capacity (part_drained p n) (parts_shared_out parts (n - length p.filled)))
 
--- a part more behind others
+-- a part more after others
 pub with_capacity-push : (parts : List Part) (p : Part) → 0 < part_capacity p → with_capacity (parts ++ p ∷ []) ≡ with_capacity parts ++ p ∷ []
 with_capacity-push parts p more =
     filter-append (λ q. nat_lt 0 (part_capacity q)) parts (p ∷ []) ∙ ap (λ ps. with_capacity parts ++ ps) (with_capacity-all (p ∷ []) (more, tt))
@@ -85,7 +85,7 @@ drained-empty p n none =
     let nil = nil_from_length p.filled none in
     same_part (part_drained p n) p (ap (drop n) nil ∙ drop-nil n ∙ sym nil) refl
 
--- parts without bytes in front of others lose none, and the others lose their share
+-- parts without bytes before others lose none, and the others lose their share
 pub shared_out-behind : (empty parts : List Part) (n : ℕ) → length (parts_filled empty) ≡ 0
     → parts_shared_out (empty ++ parts) n ≡ empty ++ parts_shared_out parts n
 shared_out-behind [] parts n none = refl

@@ -11,7 +11,7 @@ use Rattle.iobufs.proofs.Parts.OrderLaws.{behind-both, filled-length, filled-ord
 use Rattle.iobufs.proofs.Parts.PartRuns.{parts-push}
 use Rattle.iobufs.proofs.Parts.SumLaws.{summed-drained}
 
--- n more bytes are to go from a row of which so many parts are used up; what is left then
+-- n more bytes are to go from a row of which so many parts are drained; what is left then
 pub record IsDraining (row : List Part) (used n : ℕ) (left : List Part) : Type 0 where
   pub others : List Part
   pub behind : List Part
@@ -41,7 +41,7 @@ draining-begins row used n behind parts some =
       left_is = ap kept_parts (sym (shared_out-behind (drop k row) (take k row) n behind.empty)) ∙ sym (drained-parts (in_order row used) n parts);
     }
 
--- where no bytes are to go any more, the parts in order are those that were to be left, and those that are used up stand at the back
+-- where no bytes are to go any more, the parts in order are those that were to be left, and those that are drained stand at the back
 pub draining-ends : (row : List Part) (used n : ℕ) (left : List Part) → n ≡ 0 → IsDraining row used n left → (in_order row used ≡ left) × AreBehind row used
 draining-ends row used n left none d =
     let placed = ap (λ ps. in_order ps used) d.row_is ∙ order-both d.others d.behind used d.used_is in
@@ -49,7 +49,7 @@ draining-ends row used n left none d =
     let all = kept-same (d.behind ++ d.others) d.one d.have_capacity ∙ ap (λ ps. kept_parts (d.behind ++ ps)) (sym same) ∙ d.left_is in
     (placed ∙ all, subst (λ ps. AreBehind ps used) (sym d.row_is) (behind-both d.others d.behind used d.used_is d.empty))
 
--- where bytes are to go there is a part that isn't used up
+-- where bytes are to go there is a part that isn't drained
 first_of : (others : List Part) (n : ℕ) → 0 < n → n ≤ length (parts_filled others) → (p : Part) × (rest : List Part) × (others ≡ p ∷ rest)
 first_of [] n more some = absurd (omega arith)
 first_of (p ∷ rest) n more some = (p, rest, refl)
@@ -87,7 +87,7 @@ draining-stops row new used n left d less drained =
           (shared_out-none (part_drained p n ∷ rest) ∙ sym (shared_out-first p rest n inside) ∙ ap (λ ps. parts_shared_out ps n) (sym are)) ∙ d.left_is;
     }
 
--- the first part, of so many bytes, is used up: it goes behind the others
+-- the first part, of so many bytes, is drained: it goes after the others
 module _ (row rest : List Part) (p q : Part) (used n len : ℕ) (left : List Part) (d : IsDraining row used n left) (more : 0 < n) (front : row ≡ p ∷ rest)
     (len_is : len ≡ length p.filled) (most : len ≤ n) (is : q ≡ part_drained p len) where
   -- what the first part and the others are
@@ -186,7 +186,7 @@ kept-drained-row row new used behind n len capacity kept some is are =
       parts = subst IsParts (sym left) (parts-kept (parts_shared_out all n) fits);
     }
 
--- a part that can hold a byte, put behind two or more in order, is kept with their sums
+-- a part that can hold a byte, put after two or more in order, is kept with their sums
 pub kept-pushed : (row new : List Part) (used none : ℕ) (p : Part) (len capacity n m : ℕ) → AreKept row used len capacity → new ≡ in_order row used ++ p ∷ []
     → none ≡ 0 → 1 < length (in_order row used) → 0 < part_capacity p → parts_capacity (in_order row used) + part_capacity p < 2 ^ 64
     → n ≡ length p.filled → m ≡ part_capacity p → AreKept new none (len + n) (capacity + m)

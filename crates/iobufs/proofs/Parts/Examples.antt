@@ -5,14 +5,14 @@ use Rattle.iobufs_core.specs.View.{native_mark}
 use Rattle.iobufs_core.specs.Part.{Part, empty_part}
 use Rattle.iobufs.specs.Parts.{kept_parts, parts_coalesced, parts_drained, parts_fill, parts_frozen, parts_overwritten, parts_spare, parts_with_len}
 
--- the bytes `ab` with so much room behind them
+-- the bytes `ab` with so much room after them
 abbrev ab : ℕ → Part
 ab spare = record { filled = 97 ∷ 98 ∷ []; spare = spare }
 
 abbrev of : List ℕ → ℕ → Part
 of bytes spare = record { filled = bytes; spare = spare }
 
--- of four parts, one that is used up keeps its room
+-- of four parts, one that is drained keeps its room
 four_drained : parts_drained (ab 2 ∷ ab 2 ∷ ab 2 ∷ ab 2 ∷ []) 2 ≡ empty_part 2 ∷ ab 2 ∷ ab 2 ∷ ab 2 ∷ []
 four_drained = refl
 

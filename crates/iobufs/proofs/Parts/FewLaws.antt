@@ -23,11 +23,11 @@ use Rattle.iobufs.proofs.Parts.PartRuns.{capacity-kept, kept-all, kept-more}
 pub spent-empty : (p : Part) → part_capacity p ≡ 0 → p ≡ empty_part 0
 spent-empty p none = same_part p (empty_part 0) (nil_from_length p.filled (omega arith)) (omega arith)
 
--- in front of others, a part that can hold a byte is kept
+-- before others, a part that can hold a byte is kept
 pub with_capacity-able : (p : Part) (parts : List Part) → 0 < part_capacity p → with_capacity (p ∷ parts) ≡ p ∷ with_capacity parts
 with_capacity-able p parts more = cond-true (nat_lt 0 (part_capacity p)) (p ∷ with_capacity parts) (with_capacity parts) (lt-ltb 0 (part_capacity p) more)
 
--- in front of others, a part that can't hold a byte goes
+-- before others, a part that can't hold a byte goes
 pub with_capacity-none : (p : Part) (parts : List Part) → part_capacity p ≡ 0 → with_capacity (p ∷ parts) ≡ with_capacity parts
 with_capacity-none p parts none =
     cond-false (nat_lt 0 (part_capacity p)) (p ∷ with_capacity parts) (with_capacity parts) (le-ltb 0 (part_capacity p) (omega arith))
@@ -261,7 +261,7 @@ taken-three f s t n a b first second =
     ∙ ap (λ w. take n f ++ (take a s ++ take b w)) (append-nil t)
     ∙ sym (append_assoc (take n f) (take a s) (take b t))
 
--- the chunks of a part and of those behind it
+-- the chunks of a part and of those after it
 pub chunks-cons : (p : Part) (parts : List Part) → parts_chunks (p ∷ parts) ≡ parts_chunks (p ∷ []) ++ parts_chunks parts
 chunks-cons p parts =
     ⊎_elim
@@ -270,7 +270,7 @@ chunks-cons p parts =
     chunks-empty p parts (omega arith) ∙ ap (λ texts. texts ++ parts_chunks parts) (sym (chunks-empty p [] (omega arith))))
     (cases_lt 0 (length p.filled))
 
--- the first of what was the first before more came behind it
+-- the first of what was the first before more came after it
 pub taken-again : {A : Type 0} (n : ℕ) (u v : List A) → take n (take n u ++ v) ≡ take n (u ++ v)
 taken-again n u v =
     ⊎_elim
@@ -298,7 +298,7 @@ read-three dst one two all f s t first second third l m n a b c u v w fits =
     ∙ ap (λ x. x ++ take (length two - second) t) (v ∙ ap (λ x. x ++ take (length one - first) s) (u ∙ ap (λ k. take k f) whole))
     ∙ sym (taken-three f s t (length dst) (length one - first) (length two - second) behind last)
 
--- three parts that are put as pieces one behind the other, but for those that hold no bytes
+-- three parts that are put as pieces in order, but for those that hold no bytes
 pub frozen-three : (p q r : Part) (none one two all : List View) → none ≡ []
     → one ≡ (if length (part_frozen p).bytes == 0 then none else none ++ part_frozen p ∷ [])
     → two ≡ (if length (part_frozen q).bytes == 0 then one else one ++ part_frozen q ∷ [])

@@ -32,7 +32,7 @@ frozen-none text (p ∷ ps) none =
     let same : text_append text (part_frozen p) ≡ text = rw z refl in
     ap (λ (t : MarkedText). fold text_append t (map part_frozen ps)) same ∙ frozen-none text ps (omega arith)
 
--- where no part behind the first holds bytes, the parts freeze to the view of the first
+-- where no part after the first holds bytes, the parts freeze to the view of the first
 pub frozen-whole : (p : Part) (parts : List Part) → length (parts_filled parts) ≡ 0 → parts_frozen (p ∷ parts) ≡ of_view (part_frozen p)
 frozen-whole p parts none = frozen-none (text_append default_text (part_frozen p)) parts none ∙ frozen-one p
 
@@ -59,7 +59,7 @@ row-one old new v none is some view =
       len = omega (arith, length-append v.bytes []);
     })
 
--- a row under way to which a view is added: its text has the view behind it, and it has at most one view more
+-- a row under way to which a view is added: its text has the view after it, and it has at most one view more
 pub row-more : (old new : List View) (v : View) (text : MarkedText) (most bytes : ℕ)
     → new ≡ (if length v.bytes == 0 then old else old ++ v ∷ []) → IsView v → IsRowOf old text most bytes
     → IsRowOf new (text_append text v) (most + 1) (bytes + length v.bytes)

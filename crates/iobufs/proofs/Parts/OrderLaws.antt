@@ -1,4 +1,4 @@
--- Parts in order, and as they stand in their row, those that are used up behind the others.
+-- Parts in order, and as they stand in their row, those that are drained after the others.
 use Rattle.std.proofs.Common.{◌≡◌, ℕ, ◌+◌, ◌-◌, ◌<◌, ◌≤◌, List, [], ◌∷◌, ◌++◌, length, take, drop, fold, map, refl, sym, subst, ap, ◌∙◌, arith, append-nil, length-append, length-drop, length-take, take-append-drop, take_all, drop-drop, get_or, set, ⊎_elim}
 use Rattle.std.proofs.lemmas.Bool.{cases_lt}
 use Rattle.std.proofs.lemmas.List.{drop_all, drop_at, take_at, nil_from_length}
@@ -13,13 +13,13 @@ use Rattle.iobufs.specs.Parts.{IsParts, parts_capacity, parts_chunks, parts_fill
 use Rattle.iobufs.proofs.Parts.Frozen.{frozen-none}
 use Rattle.iobufs.proofs.Parts.PartChunks.{chunks-empty, chunks-full, chunks-none}
 
--- a row of which none is used up
+-- a row of which none is drained
 pub order-none : (row : List Part) (used : ℕ) → used ≡ 0 → in_order row used ≡ row
 order-none row used none =
     let all : length row - used ≡ length row = omega arith in
     ap (λ k. drop k row ++ take k row) all ∙ (λ i. drop_all (length row) row (omega arith) i ++ take_all (length row) row (omega arith) i)
 
--- a row of which no part is used up is kept, where the sums beside it are its own
+-- a row of which no part is drained is kept, where the sums beside it are its own
 pub kept-none : (row : List Part) (used len capacity : ℕ) → used ≡ 0 → AreSummed row len capacity → IsParts row → AreKept row used len capacity
 kept-none row used len capacity none sums parts = record {
   behind = record {
@@ -30,7 +30,7 @@ kept-none row used len capacity none sums parts = record {
   parts = subst IsParts (sym (order-none row used none)) parts;
 }
 
--- those at the back stand in front of the others
+-- those at the back are at the front of the others
 pub order-both : (others behind : List Part) (used : ℕ) → used ≡ length behind → in_order (others ++ behind) used ≡ behind ++ others
 order-both others behind used e =
     let sum = length-append others behind in
@@ -38,7 +38,7 @@ order-both others behind used e =
     ap (λ n. drop n (others ++ behind) ++ take n (others ++ behind)) k
     ∙ (λ i. drop_at others behind (length others) refl i ++ take_at others behind (length others) refl i)
 
--- parts without bytes at the back of a row are those that are used up
+-- parts without bytes at the back of a row are those that are drained
 pub behind-both : (others behind : List Part) (used : ℕ) → used ≡ length behind → length (parts_filled behind) ≡ 0 → AreBehind (others ++ behind) used
 behind-both others behind used e none =
     let sum = length-append others behind in
@@ -148,7 +148,7 @@ overwritten-empty (p ∷ ps) w none =
     let rest : parts_overwritten ps (drop (length p.filled) w) ≡ ps = overwritten-empty ps (drop (length p.filled) w) (omega (arith, both, none)) in
     λ i. same i ∷ rest i
 
--- bytes written over the parts of a row are written over the parts in order, and those that are used up stay at the back
+-- bytes written over the parts of a row are written over the parts in order, and those that are drained stay at the back
 pub overwritten-order : (row new : List Part) (used : ℕ) (w : List ℕ) → AreBehind row used → new ≡ parts_overwritten row w
     → (in_order new used ≡ parts_overwritten (in_order row used) w) × AreBehind new used
 overwritten-order row new used w behind is =

@@ -21,7 +21,7 @@ full_first : (bytes : List ℕ) (texts : List (List ℕ)) → 0 < length bytes �
 full_first [] texts h = absurd (omega arith)
 full_first (byte ∷ bytes) texts h = refl
 
--- the bytes of a first part that has some are the first chunk, and the others' chunks stand behind it
+-- the bytes of a first part that has some are the first chunk, and the others' chunks follow it
 pub chunks-full : (p : Part) (parts : List Part) → 0 < length p.filled → parts_chunks (p ∷ parts) ≡ p.filled ∷ parts_chunks parts
 chunks-full p parts h = full_first p.filled (map (λ q. q.filled) parts) h
 
@@ -51,13 +51,13 @@ first_chunk-front (p ∷ parts) =
     (λ (h : length p.filled ≤ 0). let none : p.filled ≡ [] = nil_from_length p.filled (omega arith) in rw none (first_chunk-front parts))
     (cases_lt 0 (length p.filled))
 
--- the byte at a place, in a part or behind it
+-- the byte at a place, in a part or after it
 pub byte_in : (bytes rest : List ℕ) (at : ℕ) → at < length bytes → slice_get (bytes ++ rest) at ≡ slice_get bytes at
 byte_in [] rest at h = absurd (omega arith)
 byte_in (byte ∷ bytes) rest zero h = refl
 byte_in (byte ∷ bytes) rest (suc at) h = byte_in bytes rest at (omega arith)
 
--- at a place behind the first bytes stands a byte of the others, so much nearer to their front
+-- at a place after the first bytes stands a byte of the others, so much nearer to their front
 pub byte_behind : (bytes rest : List ℕ) (at : ℕ) → length bytes ≤ at → slice_get (bytes ++ rest) at ≡ slice_get rest (at - length bytes)
 byte_behind [] rest at h = let same : at ≡ at - 0 = omega arith in ap (slice_get rest) same
 byte_behind (byte ∷ bytes) rest zero h = absurd (omega arith)

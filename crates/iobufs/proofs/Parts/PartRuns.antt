@@ -8,7 +8,7 @@ use Rattle.iobufs.specs.PartLimits.{IsRowRefusedAt}
 use Rattle.iobufs.specs.Parts.{HaveCapacity, IsParts, kept_parts, parts_capacity, parts_or_default, with_capacity}
 use Rattle.iobufs.proofs.Parts.DrainShapes.{able-with_capacity, capacity-with_capacity, with_capacity-all, with_capacity-push}
 
--- where there is a part, no other has to stand for them
+-- where there is a part, no other has to represent them
 pub default-some : (parts : List Part) → 0 < length parts → parts_or_default parts ≡ parts
 default-some [] some = absurd (omega arith)
 default-some (p ∷ parts) some = refl
@@ -91,7 +91,7 @@ refused-long front last fits last_fits long =
       several = λ short. absurd (omega arith);
     }
 
--- a last part with capacity, behind three others with some or more, was refused for want of memory where the capacity of all fits a number
+-- a last part with capacity, after three others with some or more, was refused for a failed allocation where the capacity of all fits a number
 pub refused-short : (front : List Part) (last : Part) → 0 < parts_capacity front → 0 < part_capacity last
     → parts_capacity front + part_capacity last < 2 ^ 64 → 3 ≤ length (with_capacity front) → IsRowRefusedAt (front ++ last ∷ []) Memory
 refused-short front last some more short several =

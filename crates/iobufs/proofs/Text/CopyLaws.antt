@@ -75,7 +75,7 @@ pub record IsFilled (ps : List View) (i filled : ℕ) (dst target : List ℕ) : 
   pub left : length dst - filled ≤ length (pieces_bytes (drop i ps))
   pub so_far : take filled dst ++ take (length dst - filled) (pieces_bytes (drop i ps)) ≡ target
 
--- a destination that is filled up to a piece, with as much of that piece as fits put behind, is filled up to the next piece
+-- a destination that is filled up to a piece, with as much of that piece as fits put after, is filled up to the next piece
 pub filled-step : (ps : List View) (i o f k : ℕ) (dst now bytes target : List ℕ) → i < length ps → o ≤ view_len (piece_at ps i)
     → bytes ≡ drop o (piece_at ps i).bytes → f ≤ length dst → length dst - f + o ≤ length (pieces_bytes (drop i ps))
     → take f dst ++ take (length dst - f) (drop o (pieces_bytes (drop i ps))) ≡ target → k ≡ min (length bytes) (length dst - f) → length now ≡ length dst
@@ -124,7 +124,7 @@ pub only-cause : {A E : Type 0} (result : Result A E) (e cause : E) → IsErrAnd
 only-cause (Ok a) e cause h same = absurd h
 only-cause (Err x) e cause h same = h ∙ same
 
--- a piece is put behind what is copied, before those from the next one on
+-- a piece is put after what is copied, before those from the next one on
 pub put-step : (ps : List Piece) (i : ℕ) (item : Piece) (copy more target : List ℕ) → drop i ps ≡ item ∷ drop (i + 1) ps
     → copy ++ pieces_bytes (views_in (drop i ps)) ≡ target → more ≡ copy ++ item.view.bytes → more ++ pieces_bytes (views_in (drop (i + 1) ps)) ≡ target
 put-step ps i item copy more target d s m =

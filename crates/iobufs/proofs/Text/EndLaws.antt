@@ -55,7 +55,7 @@ ends-down b start n (q ∷ ps) p r l (end, others) =
           (ends-down b (start + view_len q.view) n ps p r (omega arith) others),
     )
 
--- one piece more behind the others, and several
+-- one piece more after the others, and several
 pub ends-append : (b start : ℕ) (ps qs : List Piece) → AreEnds b start ps → AreEnds b (start + length (pieces_bytes (views_in ps))) qs
     → AreEnds b start (ps ++ qs)
 ends-append b start [] qs h g = let z : start + 0 ≡ start = omega arith in subst (λ m. AreEnds b m qs) z g
@@ -126,7 +126,7 @@ rising-ends b ps h f i j l m =
     let r = starts-below (views_in ps) (suc i) (suc j) f (omega arith) (omega arith) in
     omega arith
 
--- the last end is behind all bytes
+-- the last end is after all bytes
 pub last-end : (b : ℕ) (ps : List Piece) → 0 < length ps → AreEnds b 0 ps → get_or (ends_from b ps) (length ps - 1) 0 ≡ length (pieces_bytes (views_in ps))
 last-end b ps l h =
     let k = length-map ps (λ (p : Piece). p.view) in
@@ -159,11 +159,11 @@ place-first b ps at i start h first is =
 full-push : (vs : List View) (v : View) → AreFull vs → 0 < view_len v → AreFull (vs ++ v ∷ [])
 full-push vs v f p = AreFull-append vs (v ∷ []) f (p, tt)
 
--- the views of pieces with one more are those of the pieces, and behind them its own
+-- the views of pieces with one more are those of the pieces, and after them its own
 pub views-push : (ps : List Piece) (p : Piece) → views_in (ps ++ p ∷ []) ≡ views_in ps ++ p.view ∷ []
 views-push ps p = map-append (λ (q : Piece). q.view) ps (p ∷ [])
 
--- a row with one more piece behind it, which has bytes and whose end is stored, is a row, where all bytes fit a number
+-- a row with one more piece after it, which has bytes and whose end is stored, is a row, where all bytes fit a number
 pub row-push : (b e : ℕ) (ps qs : List Piece) (v : View) → IsRow b ps → 0 < view_len v → length (pieces_bytes (views_in ps)) + view_len v < 2 ^ 64
     → e ≡ (b + (length (pieces_bytes (views_in ps)) + view_len v)) % 2 ^ 64 → qs ≡ ps ++ record { view = v; end = e } ∷ [] → IsRow b qs
 row-push b e ps qs v h some fits ends is =
@@ -177,7 +177,7 @@ row-push b e ps qs v h some fits ends is =
       full = subst AreFull (sym (views-push ps (record { view = v; end = e }))) (full-push (views_in ps) v h.full some);
     })
 
--- a row with one more piece in front, which has bytes and ends at the base, is a row from the base moved down by them, where all bytes fit a number
+-- a row with one more piece at the front, which has bytes and ends at the base, is a row from the base moved down by them, where all bytes fit a number
 pub row-cons : (b c : ℕ) (ps qs : List Piece) (v : View) → IsRow b ps → 0 < view_len v → length (pieces_bytes (views_in ps)) + view_len v < 2 ^ 64
     → c ≡ (b + (2 ^ 64 - view_len v)) % 2 ^ 64 → qs ≡ record { view = v; end = b } ∷ ps → IsRow c qs
 row-cons b c ps qs v h some fits base is =

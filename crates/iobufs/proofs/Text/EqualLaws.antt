@@ -99,13 +99,13 @@ matched-end start bytes left rest m none enough =
     (omega (arith, b, s, enough, ap length m.compared, ap length m.stands, ap length none)) in
     matched-all start bytes left rest rest m (sym (ap (λ xs. xs ++ rest) left_none))
 
--- behind the last piece no bytes stand
+-- after the last piece no bytes stand
 pub none-behind : (vs : List View) (i o : ℕ) → length vs ≤ i → bytes_behind vs i o ≡ []
 none-behind vs i o l =
     let none : length (pieces_bytes (drop i vs)) ≡ 0 = ap (λ (ws : List View). length (pieces_bytes ws)) (drop_all i vs l) in
     nil_from_length (bytes_behind vs i o) (omega (arith, length-drop o (pieces_bytes (drop i vs)), none))
 
--- from inside a piece on stands what is left of it, and the pieces behind it
+-- from inside a piece on stands what is left of it, and the pieces after it
 pub chunk-stands : (vs : List View) (i o : ℕ) (all : List ℕ) → i < length vs → o ≤ view_len (piece_at vs i) → all ≡ (piece_at vs i).bytes
     → bytes_behind vs i o ≡ take (length all - o) (drop o all) ++ pieces_bytes (drop (i + 1) vs)
 chunk-stands vs i o all l inside is =

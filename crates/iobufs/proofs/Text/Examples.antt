@@ -47,7 +47,7 @@ left_three : text_rest four 3 ≡ joined (native (100 ∷ []) 7 ∷ fixed ef ∷
 unfolding text_right text_glue
 left_three = refl
 
--- one chunk used up keeps its mark; two leave the default
+-- one chunk drained keeps its mark; two leave the default
 emptied : text_advanced (of_view (native (97 ∷ 98 ∷ 99 ∷ 100 ∷ []) 8)) 4 ≡ of_view (native [] 4)
 unfolding text_right
 emptied = refl
@@ -93,7 +93,7 @@ counted : chunk_count four ≡ 4
 unfolding text_glue
 counted = refl
 
--- in front, and behind
+-- at the front, and after
 in_front : text_prepend four (fixed (120 ∷ 121 ∷ [])) ≡ joined (fixed (120 ∷ 121 ∷ []) ∷ fixed ab ∷ native cd 8 ∷ fixed ef ∷ fixed gh ∷ [])
 unfolding text_glue
 in_front = refl
@@ -101,7 +101,7 @@ in_front = refl
 behind : text_append four default_view ≡ four
 behind = refl
 
--- an empty buffer in front of an emptied text changes nothing
+-- an empty buffer before an emptied text changes nothing
 nothing_in_front : text_prepend (of_view (native [] 4)) default_view ≡ of_view (native [] 4)
 nothing_in_front = refl
 

@@ -13,20 +13,20 @@ append-both t v p q = rw (not_zero (view_len v) q, not_zero (text_len t) p)
 prepend-both : (t : MarkedText) (v : View) → 0 < text_len t → 0 < view_len v → text_prepend t v ≡ text_glue (of_view v) t
 prepend-both t v p q = rw (not_zero (view_len v) q, not_zero (text_len t) p)
 
--- a view that has bytes, behind and in front of pieces that have some
+-- a view that has bytes, after and before pieces that have some
 pub append-push : (v : View) (vs : List View) (w : View) → 0 < length (pieces_bytes (v ∷ vs)) → 0 < view_len w
     → text_append (of_pieces (v ∷ vs)) w ≡ of_pieces ((v ∷ vs) ++ w ∷ [])
 append-push v vs w p q =
     let s = len-of_pieces (v ∷ vs) in
     rw (of_pieces-append v w vs [], of_pieces-one w) (append-both _ _ (omega arith) q)
 
--- a view with bytes prepended to the text of pieces with bytes is one piece more in front
+-- a view with bytes prepended to the text of pieces with bytes is one piece more at the front
 pub prepend-cons : (v : View) (w : View) (vs : List View) → 0 < length (pieces_bytes (w ∷ vs)) → 0 < view_len v
     → text_prepend (of_pieces (w ∷ vs)) v ≡ of_pieces (v ∷ w ∷ vs)
 prepend-cons v w vs p q =
     let s = len-of_pieces (w ∷ vs) in
     rw (of_pieces-cons v w vs) (prepend-both _ _ (omega arith) q)
 
--- one more buffer behind those joined so far
+-- one more buffer after those joined so far
 pub joined-push : (vs : List View) (v : View) → joined (vs ++ v ∷ []) ≡ text_append (joined vs) v
 joined-push vs v = fold-append text_append default_text vs (v ∷ [])

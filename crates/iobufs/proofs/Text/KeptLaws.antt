@@ -48,7 +48,7 @@ pub IsView-front : (at : ℕ) (v : View) → IsView v → IsView (view_front v a
 IsView-front at v h = let n : length (take at v.bytes) ≤ view_len v =
     (let t = length-take at v.bytes in omega arith) in HasRoom-less v.mark (view_len v) (length (take at v.bytes)) n h
 
--- where pieces have room for their bytes and so have those behind them, all have
+-- where pieces have room for their bytes and so have those after them, all have
 pub AreViews-append : (vs ws : List View) → AreViews vs → AreViews ws → AreViews (vs ++ ws)
 AreViews-append [] ws f g = g
 AreViews-append (v ∷ vs) ws f g = (f.0, AreViews-append vs ws f.1 g)

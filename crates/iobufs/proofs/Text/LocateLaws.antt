@@ -77,7 +77,7 @@ index-located vs t at i o e place =
     let c = ap (λ (x : MarkedText). cuts_upto x.cuts at) e in
     omega arith
 
--- a place lies as far behind the greatest key at most there as it lies in its piece
+-- a place lies as far after the greatest key at most there as it lies in its piece
 pub offset-located : (vs : List View) (t : MarkedText) (at i o : ℕ) → of_pieces vs ≡ t → IsPlace vs at i o → greatest_key t at + o ≡ at
 offset-located vs t at i o e place =
     let h = (located vs at i o place.sum place.inside).1 in

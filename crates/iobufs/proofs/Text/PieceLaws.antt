@@ -7,7 +7,7 @@ use Rattle.iobufs_core.specs.MarkedText.{MarkedText, of_view, default_text, text
 use Rattle.iobufs.specs.Inside.Pieces.{view_len, pieces_bytes, of_pieces, AreFull, IsPieces, left_pieces, rest_pieces, right_pieces}
 use Rattle.iobufs.proofs.Text.Sides.{glue_assoc, right-of_view, left-of_view, is_lt, not_zero, not_lt, right-glue_within, right-glue_past, left-glue_within, left-glue_past, same_eq, not_eq, same_view, mark_after-zero}
 
--- a piece in front of others makes its view's text with theirs behind it
+-- a piece before others makes its view's text with theirs after it
 pub of_pieces-cons : (v w : View) (vs : List View) → of_pieces (v ∷ w ∷ vs) ≡ text_glue (of_view v) (of_pieces (w ∷ vs))
 unfolding of_pieces
 of_pieces-cons v w vs = refl
@@ -30,7 +30,7 @@ unfolding of_pieces text_glue
 cuts-of_pieces v [] = refl
 cuts-of_pieces v (w ∷ vs) = ap suc (length-map (of_pieces (w ∷ vs)).cuts (moved_up (view_len v)) ∙ cuts-of_pieces w vs)
 
--- pieces in front of others make their text with that of the others behind it
+-- pieces before others make their text with that of the others after it
 pub of_pieces-append : (v w : View) (vs ws : List View) → of_pieces ((v ∷ vs) ++ (w ∷ ws)) ≡ text_glue (of_pieces (v ∷ vs)) (of_pieces (w ∷ ws))
 unfolding of_pieces
 of_pieces-append v w [] ws = refl
@@ -41,7 +41,7 @@ of_pieces-append v w (u ∷ us) ws = ap (text_glue (of_view v)) (of_pieces-appen
 pub right_pieces-within : (at : ℕ) (v : View) (vs : List View) → at < view_len v → right_pieces (v ∷ vs) at ≡ view_advanced v at ∷ vs
 right_pieces-within at v vs l = rw (is_lt at (view_len v) l)
 
--- from a place behind the bytes of the first piece on stands what the others have from there on
+-- from a place after the bytes of the first piece on stands what the others have from there on
 pub right_pieces-past : (at : ℕ) (v : View) (vs : List View) → view_len v ≤ at → right_pieces (v ∷ vs) at ≡ right_pieces vs (at - view_len v)
 right_pieces-past at v vs l = rw (not_lt at (view_len v) l)
 
@@ -54,7 +54,7 @@ left_pieces-none (v ∷ vs) = refl
 pub left_pieces-within : (at : ℕ) (v : View) (vs : List View) → 0 < at → at < view_len v → left_pieces (v ∷ vs) at ≡ view_front v at ∷ []
 left_pieces-within at v vs p l = rw (not_zero at p, is_lt at (view_len v) l)
 
--- up to the end of the first piece, or a place behind it, stand that piece and what the others have up to there
+-- up to the end of the first piece, or a place after it, stand that piece and what the others have up to there
 pub left_pieces-past : (at : ℕ) (v : View) (vs : List View) → 0 < at → view_len v ≤ at → left_pieces (v ∷ vs) at ≡ v ∷ left_pieces vs (at - view_len v)
 left_pieces-past at v vs p l = rw (not_zero at p, not_lt at (view_len v) l)
 
@@ -64,7 +64,7 @@ left_pieces-first at v vs p e =
     let z : at - view_len v ≡ 0 = omega arith in
     left_pieces-past at v vs p (omega arith) ∙ ap (λ m. v ∷ left_pieces vs m) z ∙ ap (λ x. v ∷ x) (left_pieces-none vs)
 
--- the front of a view up to its end, or behind it, is the view
+-- the front of a view up to its end, or after it, is the view
 pub front-all : (at : ℕ) (v : View) → view_len v ≤ at → view_front v at ≡ v
 front-all at v l = same_view _ _ (take_all at v.bytes l) refl
 
@@ -89,7 +89,7 @@ right-of_pieces at (v ∷ w ∷ vs) l =
     (right-glue_past at v (of_pieces (w ∷ vs)) h ∙ right-of_pieces (at - view_len v) (w ∷ vs) (omega arith)))
     (cases_lt at (view_len v)))
 
--- a first view, and others behind it
+-- a first view, and others after it
 pub record HasFirst (vs : List View) : Type 0 where
   pub first : View
   pub others : List View
@@ -146,7 +146,7 @@ pub IsPieces-from_full : (v : View) (vs : List View) → AreFull (v ∷ vs) → 
 IsPieces-from_full v [] f = tt
 IsPieces-from_full v (w ∷ vs) f = f
 
--- where no piece is empty, nor one of those behind them, none of all is
+-- where no piece is empty, nor one of those after them, none of all is
 pub AreFull-append : (vs ws : List View) → AreFull vs → AreFull ws → AreFull (vs ++ ws)
 AreFull-append [] ws f g = g
 AreFull-append (v ∷ vs) ws f g = (f.0, AreFull-append vs ws f.1 g)
@@ -201,7 +201,7 @@ pub split_front-of_pieces : (at : ℕ) (vs : List View) → 0 < at → at < leng
     → text_split_front (of_pieces vs) at ≡ of_pieces (left_pieces vs at)
 split_front-of_pieces at vs p l = let s = len-of_pieces vs in split_front-inside at (of_pieces vs) p (omega arith) ∙ left-of_pieces at vs p (omega arith)
 
--- the text of pieces is single exactly where there is none behind the first
+-- the text of pieces is single exactly where there is none after the first
 pub is_single-of_pieces : (v : View) (vs : List View) → is_single (of_pieces (v ∷ vs)) ≡ nat_eq (length vs) 0
 is_single-of_pieces v vs = ap (λ n. nat_eq n 0) (cuts-of_pieces v vs)
 
@@ -227,7 +227,7 @@ pub right_pieces-none : (vs : List View) → AreFull vs → right_pieces vs 0 �
 right_pieces-none [] f = refl
 right_pieces-none (v ∷ vs) f = right_pieces-within 0 v vs f.0 ∙ ap (λ w. w ∷ vs) (advanced_view-none v)
 
--- the one view of a text without cuts, also where it is used up
+-- the one view of a text without cuts, also where it is drained
 pub advanced-of_view : (n : ℕ) (v : View) → n ≤ view_len v → text_advanced (of_view v) n ≡ of_view (view_advanced v n)
 advanced-of_view n v l =
     ⊎_elim

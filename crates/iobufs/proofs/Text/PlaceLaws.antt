@@ -73,7 +73,7 @@ left-at_place vs at i o h p =
     let d : at - piece_start vs i ≡ o = omega arith in
     left_pieces-at i at vs default_view n (omega arith) (omega arith) ∙ ap (λ m. take i vs ++ view_front (piece_at vs i) m ∷ []) d
 
--- from a place in a piece on stand that piece advanced, and those behind it
+-- from a place in a piece on stand that piece advanced, and those after it
 pub right-at_place : (vs : List View) (at i o : ℕ) → IsPlace vs at i o → right_pieces vs at ≡ view_advanced (piece_at vs i) o ∷ drop (suc i) vs
 right-at_place vs at i o h =
     let n = index-of_place vs at i o h in
@@ -89,7 +89,7 @@ left-at_edge vs at i o f h z =
     let e : at ≡ piece_start vs i = omega arith in
     ap (λ m. left_pieces vs m) e ∙ left_pieces-seam i vs f
 
--- where no piece is empty, from the first byte of one on stand that one and those behind it
+-- where no piece is empty, from the first byte of one on stand that one and those after it
 pub right-at_edge : (vs : List View) (at i o : ℕ) → AreFull vs → IsPlace vs at i o → o ≡ 0 → right_pieces vs at ≡ drop i vs
 right-at_edge vs at i o f h z =
     let s = h.sum in

@@ -139,7 +139,7 @@ pub first-whole : (vs : List View) (t : MarkedText) (n : ℕ) → of_pieces vs �
 first-whole [] t n e p w = absurd (omega arith)
 first-whole (v ∷ vs) t n e p w = sym (ap (λ (x : MarkedText). taken_view x 0 n) e) ∙ taken_view-within n v vs p (omega arith) ∙ front-all n v (omega arith)
 
--- a text whose first piece goes, as many bytes as that has, leaves the pieces behind it, or the default view where it was the only one
+-- a text whose first piece goes, as many bytes as that has, leaves the pieces after it, or the default view where it was the only one
 pub first-rest : (vs ws : List View) (t : MarkedText) (n : ℕ) → of_pieces vs ≡ t → AreFull vs → 0 < n → n ≡ view_len (piece_at vs 0)
     → ws ≡ behind_first vs → of_pieces ws ≡ text_rest t n
 first-rest [] ws t n e f p w is = absurd (omega arith)
@@ -164,7 +164,7 @@ dropped-rest vs ws t n e p l is =
     ap of_pieces (is ∙ rest_pieces-all n vs (omega arith)) ∙ of_pieces-one default_view ∙ sym (rest-all n t p whole))
     (cases_lt n (length (pieces_bytes vs)))
 
--- all bytes are as many as those of the first piece and of the pieces behind it
+-- all bytes are as many as those of the first piece and of the pieces after it
 pub length-behind : (vs : List View) → length (pieces_bytes vs) ≡ view_len (piece_at vs 0) + length (pieces_bytes (behind_first vs))
 length-behind [] = refl
 length-behind (v ∷ []) = ap length (append-nil v.bytes) ∙ (omega arith)
@@ -175,7 +175,7 @@ AreViews-behind [] h = tt
 AreViews-behind (v ∷ []) h = (tt, tt)
 AreViews-behind (v ∷ w ∷ vs) h = h.1
 
--- where pieces have room for their bytes, so have those behind the first
+-- where pieces have room for their bytes, so have those after the first
 pub views-behind : (vs ws : List View) → ws ≡ behind_first vs → AreViews vs → AreViews ws
 views-behind vs ws is h = subst AreViews (sym is) (AreViews-behind vs h)
 

@@ -18,7 +18,7 @@ module _ (vs : List View) (t : MarkedText) (pieced : (1 < length vs) × AreFull 
   some : 0 < text_len t
   some = omega (arith, length-row, bytes-several vs pieced.0 pieced.1)
 
-  -- one more piece behind the others, or in front of them
+  -- one more piece after the others, or before them
   module _ (ws : List View) (w : View) (more : 0 < view_len w) where
     pub behind-row : ws ≡ vs ++ w ∷ [] → of_pieces ws ≡ text_append t w
     behind-row pushed = ap of_pieces pushed ∙ append-pieces vs w t text some more

@@ -20,7 +20,7 @@ abbrev pub run_to_item : {S A : Type 0} (steps : S → Option A → S → Type 0
     → steps t (Some x) u → Run steps
 run_to_item steps s xs {t} {u} ran x e = run steps s (xs ++ x ∷ []) false (to_item steps s u xs x (t, ran, e))
 
--- one more view behind those joined so far
+-- one more view after those joined so far
 pub joined-more : (views : List View) (view : View) (t u : MarkedText) → t ≡ joined views → u ≡ text_append t view → u ≡ joined (views ++ view ∷ [])
 joined-more views view t u e a = a ∙ ap (λ (x : MarkedText). text_append x view) e ∙ sym (joined-push views view)
 
@@ -37,7 +37,7 @@ told total cause long short =
     (λ (h : 2 ^ 64 ≤ total). rw (not_lt total (2 ^ 64) h) (long h))
     (cases_lt total (2 ^ 64))
 
--- a view with bytes behind views with bytes, joined so far, is refused as too long where all don't fit a number, else for want of memory
+-- a view with bytes after views with bytes, joined so far, is refused as too long where all don't fit a number, else for a failed allocation
 pub refused-at : (views : List View) (view : View) (t : MarkedText) (cause : BufError) → t ≡ joined views → text_len t < 2 ^ 64 → 0 < text_len t
     → 0 < length view.bytes → (2 ^ 64 ≤ text_len t + length view.bytes → cause ≡ TooLong)
     → (text_len t + length view.bytes < 2 ^ 64 → cause ≡ Memory) → IsRefusedAt (views ++ view ∷ []) cause

@@ -1,4 +1,4 @@
--- How many pieces stand on a side of a place or behind a push: at least one, or two or more, and none is empty; and where the last one stands.
+-- How many pieces stand on a side of a place or after a push: at least one, or two or more, and none is empty; and where the last one stands.
 use Rattle.std.proofs.lemmas.List.Concat.{flat_map-append}
 use Rattle.std.proofs.Math.Seq.{take-append_seam}
 use Rattle.std.proofs.lemmas.Bool.{cases_lt}
@@ -45,7 +45,7 @@ left-some vs at p l = some (left_pieces vs at) (length-left at vs p l)
     some [] e = absurd (omega arith)
     some (w ∷ ws) e = omega arith
 
--- behind the first piece
+-- after the first piece
 pub left-two : (vs ws : List View) (at : ℕ) → AreFull vs → view_len (piece_at vs 0) < at → at < length (pieces_bytes vs) → ws ≡ left_pieces vs at
     → (1 < length ws) × AreFull ws
 left-two vs ws at f past l is =

@@ -1,4 +1,4 @@
--- A text behind a view: its sides, and the mark at a place.
+-- A text after a view: its sides, and the mark at a place.
 use Rattle.std.proofs.Common.{◌≡◌, ℕ, ◌+◌, ◌-◌, ◌<◌, ◌≤◌, Bool, true, false, cond, nat_lt, nat_le, List, [], ◌∷◌, ◌++◌, length, drop, map, filter, refl, sym, ap, ◌∙◌, arith, tests, append_assoc, length-append, length-drop, nat_eq}
 use Rattle.std.proofs.lemmas.List.{map-append, take-append-le, drop-append-le}
 use Rattle.iobufs_core.specs.View.{View, Mark, mark_after, native_mark, static_mark, bytes_mark, view_front, view_advanced}
@@ -10,7 +10,7 @@ pub up_up : (m n : ℕ) (es : List (ℕ × Mark)) → map (moved_up m) (map (mov
 up_up m n [] = refl
 up_up m n (e ∷ es) = let h = up_up m n es in let k : m + (n + e.0) ≡ m + n + e.0 = omega arith in cc
 
--- of three texts one behind the other the first two, or the last two, may be joined first
+-- of three texts in order the first two, or the last two, may be joined first
 pub glue_assoc : (x y z : MarkedText) → text_glue (text_glue x y) z ≡ text_glue x (text_glue y z)
 unfolding text_glue
 glue_assoc x y z =
@@ -39,7 +39,7 @@ abbrev pub FromOn : ℕ → List (ℕ × Mark) → Type 0
 FromOn n [] = Unit {0}
 FromOn n (e ∷ es) = (n ≤ e.0) × FromOn n es
 
--- cuts moved up by n stand at n or behind it
+-- cuts moved up by n stand at n or after it
 pub from_on-up : (n : ℕ) (es : List (ℕ × Mark)) → FromOn n (map (moved_up n) es)
 from_on-up n [] = tt
 from_on-up n (e ∷ es) = (omega arith, from_on-up n es)
@@ -52,7 +52,7 @@ pub above_all : (at n : ℕ) (es : List (ℕ × Mark)) → FromOn n es → at < 
 above_all at n [] h l = refl
 above_all at n (e ∷ es) h l = let ih = above_all at n es h.1 l in grind (arith, tests)
 
--- at a place in front of all cuts the last key is the one before them
+-- at a place before all cuts the last key is the one before them
 pub upto_none : (at n : ℕ) (k : ℕ × Mark) (es : List (ℕ × Mark)) → FromOn n es → at < n → key_upto k es at ≡ k
 upto_none at n k [] h l = refl
 upto_none at n k (e ∷ es) h l = let ih = upto_none at n k es h.1 l in grind (arith, tests)
@@ -126,7 +126,7 @@ is_le m n l = grind (arith, tests)
 pub not_le : (m n : ℕ) → n < m → nat_le m n ≡ false
 not_le m n l = grind (arith, tests)
 
--- a view, with more behind it
+-- a view, with more after it
 pub right-glue_within : (at : ℕ) (v : View) (y : MarkedText) → at < view_len v
     → text_right (text_glue (of_view v) y) at ≡ text_glue (of_view (view_advanced v at)) y
 unfolding text_right text_glue
@@ -141,7 +141,7 @@ right-glue_within at v y l =
     (rw (not_le (view_len v) at l, u, no_sub at))
     (rw (is_lt at (view_len v) l, a, d, n))
 
--- from a place behind a view's bytes on stands what the text behind the view has from there on
+-- from a place after a view's bytes on stands what the text after the view has from there on
 pub right-glue_past : (at : ℕ) (v : View) (y : MarkedText) → view_len v ≤ at → text_right (text_glue (of_view v) y) at ≡ text_right y (at - view_len v)
 unfolding text_right text_glue
 right-glue_past at v y l =
@@ -161,7 +161,7 @@ left-glue_within at v y l =
     refl
     (rw (not_lt (view_len v) at l) (below_all at (view_len v) _ (from_on-up (view_len v) y.cuts) l))
 
--- up to a place behind a view's end stand the view and what the text behind it has up to there
+-- up to a place after a view's end stand the view and what the text after it has up to there
 pub left-glue_past : (at : ℕ) (v : View) (y : MarkedText) → view_len v < at
     → text_left (text_glue (of_view v) y) at ≡ text_glue (of_view v) (text_left y (at - view_len v))
 unfolding text_left text_glue

@@ -18,7 +18,7 @@ use Rattle.iobufs.proofs.Text.ReadLaws.{first-of}
 use Rattle.iobufs.proofs.Text.TakenLaws.{taken_view-within}
 use Rattle.iobufs.proofs.Text.PlaceLaws.{index-of_place, left_pieces-seam, right-at_place}
 
--- a clone of the next piece behind clones of those from one on
+-- a clone of the next piece after clones of those from one on
 pub run-more : (ps begun run more : List Piece) (first i : ℕ) (piece clone : Piece) → first + i < length ps → piece ≡ get_or ps (first + i) piece
     → clone ≡ piece → run ≡ begun ++ take i (drop first ps) → more ≡ run ++ clone ∷ [] → more ≡ begun ++ take (i + 1) (drop first ps)
 run-more ps begun run more first i piece clone l is same so_far put =
@@ -43,14 +43,14 @@ left_pieces-take (suc m) n (v ∷ vs) l =
     (λ (h : n ≤ 0). let none : n ≡ 0 = omega (arith, h) in rw none (left_pieces-none (take (suc m) (v ∷ vs)) ∙ sym (left_pieces-none (v ∷ vs))))
     (cases_lt 0 n)
 
--- how many bytes stand before the pieces behind a run
+-- how many bytes stand before the pieces after a run
 start-run : (vs : List View) (i m : ℕ) → piece_start vs (i + m) ≡ piece_start vs i + length (pieces_bytes (take m (drop i vs)))
 start-run vs i m =
     ap (λ (ws : List View). length (pieces_bytes ws)) (take-add i m vs)
     ∙ ap length (flat_map-append (λ (v : View). v.bytes) (take i vs) (take m (drop i vs)))
     ∙ length-append (pieces_bytes (take i vs)) (pieces_bytes (take m (drop i vs)))
 
--- pieces that hold n bytes from within the first on, and others behind them, have the same n bytes from there on
+-- pieces that hold n bytes from within the first on, and others after them, have the same n bytes from there on
 within-run : (v : View) (vs : List View) (k o n : ℕ) → o < view_len v → o + n ≤ length (pieces_bytes (take (suc k) (v ∷ vs)))
     → left_pieces (right_pieces (take (suc k) (v ∷ vs)) o) n ≡ left_pieces (view_advanced v o ∷ vs) n
 within-run v vs k o n inside l =
@@ -109,7 +109,7 @@ length-right at (v ∷ vs) l =
     ))
     (cases_lt at (view_len v))
 
--- n bytes of full pieces from a place on are what stands up to n behind the place
+-- n bytes of full pieces from a place on are what stands up to n after the place
 cut-of_pieces : (vs : List View) (at n : ℕ) → AreFull vs → 0 < n → at + n ≤ length (pieces_bytes vs)
     → text_split_front (text_rest (of_pieces vs) at) n ≡ of_pieces (left_pieces (right_pieces vs at) n)
 cut-of_pieces vs at n full some l =
@@ -117,7 +117,7 @@ cut-of_pieces vs at n full some l =
     ap (λ (t : MarkedText). text_split_front t n) (rest-from vs at full (omega (arith, l, some)))
     ∙ front-of_pieces (right_pieces vs at) n right.0 some (omega (arith, l, some, length-right at vs (omega (arith, l, some))))
 
--- behind a place inside stand as many bytes as are left of the text
+-- after a place inside stand as many bytes as are left of the text
 pub rest-len : (t : MarkedText) (at : ℕ) → at ≤ text_len t → at + text_len (text_rest t at) ≡ text_len t
 rest-len t at l = omega (arith, l, ap length (bytes-rest t at l), length-drop at t.bytes)
 
@@ -137,7 +137,7 @@ cut-run vs run t u start n i o k text run_text full run_full is place some l hel
     ap (λ x. ranged x o) (sym run_text) ∙ cut-of_pieces run o n run_full some held ∙ ap of_pieces pieces
     ∙ sym (cut-of_pieces vs start n full some l) ∙ ap (λ x. ranged x start) text
 
--- of full pieces the one that holds a place stands no further on than that of a place behind it
+-- of full pieces the one that holds a place stands no further on than that of a place after it
 pub places-rise : (vs : List View) (from to i j o p : ℕ) → AreFull vs → IsPlace vs from i o → IsPlace vs to j p → from ≤ to → i ≤ j
 places-rise vs from to i j o p full here there l =
     ⊎_elim
@@ -151,7 +151,7 @@ places-rise vs from to i j o p full here there l =
     (λ (h : i ≤ j). h)
     (cases_lt j i)
 
--- the pieces from that of a place to that of a place behind it hold what lies between, with the byte there
+-- the pieces from that of a place to that of a place after it hold what lies between, with the byte there
 pub held-between : (vs run : List View) (from to i j o p : ℕ) → IsPlace vs from i o → IsPlace vs to j p → i ≤ j → from ≤ to
     → run ≡ take (j - i + 1) (drop i vs) → o + (to - from) < length (pieces_bytes run)
 held-between vs run from to i j o p here there rise l is =
@@ -160,7 +160,7 @@ held-between vs run from to i j o p here there rise l is =
     let last : piece_start vs (i + (j - i + 1)) ≡ piece_start vs (suc j) = (let e : i + (j - i + 1) ≡ suc j = omega (arith, rise) in ap (piece_start vs) e) in
     omega (arith, next, sum, last, here.sum, there.sum, there.inside, l, ap (λ (ws : List View). length (pieces_bytes ws)) is)
 
--- a piece that holds all bytes from a place to one behind it holds that one too
+-- a piece that holds all bytes from a place to one after it holds that one too
 pub places-meet : (vs : List View) (from to i j o p : ℕ) → AreFull vs → IsPlace vs from i o → IsPlace vs to j p → from ≤ to
     → o + (to - from) < view_len (piece_at vs i) → j - i ≡ 0
 places-meet vs from to i j o p full here there l within =
@@ -180,7 +180,7 @@ only-run : (vs run : List View) (i k : ℕ) → i < length vs → run ≡ take (
 only-run vs run i k index is none =
     is ∙ ap (λ m. take (m + 1) (drop i vs)) none ∙ ap (take 1) (drop-cons vs i default_view index)
 
--- what stands behind a place of a static piece alone, which has n bytes there: its first chunk has them, and is static
+-- what follows a place of a static piece alone, which has n bytes there: its first chunk has them, and is static
 pub static-run : (vs run : List View) (t : MarkedText) (from n i o k : ℕ) → AreFull vs → IsPlace vs from i o → run ≡ take (k + 1) (drop i vs) → k ≡ 0
     → 0 < n → o + n ≤ view_len (piece_at vs i) → (piece_at vs i).mark ≡ static_mark → t ≡ text_rest (of_pieces run) o
     → (n ≤ length (first_chunk (text_chunks t))) × ((taken_view t 0 n).mark ≡ static_mark)

@@ -57,7 +57,7 @@ any_from_on at n (e ∷ es) f l =
     let ih = any_from_on at n es f.1 l in
     let h : nat_lt e.0 n ≡ false = not_lt e.0 n (omega arith) in rw (h, and-false (nat_lt 0 e.0)) ih
 
--- all cuts in a text of pieces stand at the end of the first or behind it
+-- all cuts in a text of pieces stand at the end of the first or after it
 pub from_on-of_pieces : (v : View) (vs : List View) → FromOn (view_len v) (of_pieces (v ∷ vs)).cuts
 unfolding of_pieces text_glue
 from_on-of_pieces v [] = tt

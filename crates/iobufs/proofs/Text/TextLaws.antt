@@ -68,7 +68,7 @@ pub chunks-kept : (vs : List View) (t : MarkedText) → of_pieces vs ≡ t → 0
 chunks-kept [] t e l f = absurd (omega arith)
 chunks-kept (v ∷ vs) t e l f = sym (ap text_chunks e) ∙ chunks-of_pieces v vs f
 
--- behind and in front
+-- after and at the front
 pub append-pieces : (vs : List View) (w : View) (t : MarkedText) → of_pieces vs ≡ t → 0 < text_len t → 0 < view_len w
     → of_pieces (vs ++ w ∷ []) ≡ text_append t w
 append-pieces [] w t e p q = let s = len-of_pieces [] in let z : text_len (of_pieces []) ≡ text_len t = ap text_len e in absurd (omega arith)
@@ -77,7 +77,7 @@ append-pieces (v ∷ vs) w t e p q =
     let z : text_len (of_pieces (v ∷ vs)) ≡ text_len t = ap text_len e in
     sym (append-push v vs w (omega arith) q) ∙ ap (λ (x : MarkedText). text_append x w) e
 
--- a piece with bytes in front of those of a text with bytes makes the text with it prepended
+-- a piece with bytes before those of a text with bytes makes the text with it prepended
 pub prepend-pieces : (vs : List View) (w : View) (t : MarkedText) → of_pieces vs ≡ t → 0 < text_len t → 0 < view_len w → of_pieces (w ∷ vs) ≡ text_prepend t w
 prepend-pieces [] w t e p q = let s = len-of_pieces [] in let z : text_len (of_pieces []) ≡ text_len t = ap text_len e in absurd (omega arith)
 prepend-pieces (v ∷ vs) w t e p q =
@@ -85,7 +85,7 @@ prepend-pieces (v ∷ vs) w t e p q =
     let z : text_len (of_pieces (v ∷ vs)) ≡ text_len t = ap text_len e in
     sym (prepend-cons w v vs (omega arith) q) ∙ ap (λ (x : MarkedText). text_prepend x w) e
 
--- one more piece behind pieces with room for their bytes, which has room for its own
+-- one more piece after pieces with room for their bytes, which has room for its own
 pub views-push : (vs ws : List View) (w : View) → ws ≡ vs ++ w ∷ [] → AreViews vs → IsView w → AreViews ws
 views-push vs ws w is h v = subst AreViews (sym is) (AreViews-append vs (w ∷ []) h (v, tt))
 

@@ -39,18 +39,18 @@ abbrev pub stood_len : List Segment → ℕ
 stood_len [] = 0
 stood_len (segment ∷ segments) = standing_len segment + stood_len segments
 
--- no segment is empty, and behind each gap stands a view
+-- no segment is empty, and after each gap stands a view
 abbrev pub AreSegments : List Segment → Type 0
 AreSegments [] = Unit {0}
 AreSegments (standing view ∷ segments) = (0 < view_len view) × AreSegments segments
 AreSegments (gap n ∷ standing view ∷ segments) = (0 < n) × (0 < view_len view) × AreSegments segments
 AreSegments (gap n ∷ segments) = ⊥
 
--- a view behind a gap, and without one where it is for no bytes
+-- a view after a gap, and without one where it is for no bytes
 abbrev pub segments_pushed : ℕ → View → List Segment
 segments_pushed run view = (if run == 0 then [] else gap run ∷ []) ++ standing view ∷ []
 
--- a gap gets the first bytes of what is left of a view; what none got stands behind
+-- a gap gets the first bytes of what is left of a view; what none got follows
 abbrev pub filled : View → List Segment → List View
 filled rest [] = if length rest.bytes == 0 then [] else rest ∷ []
 filled rest (gap n ∷ segments) = view_split_front rest n ∷ filled (view_rest rest n) segments

@@ -59,7 +59,7 @@ right_pieces (v ∷ vs) at = if nat_lt at (view_len v) then view_advanced v at �
 abbrev pub rest_pieces : List View → ℕ → List View
 rest_pieces pieces n = if n == length (pieces_bytes pieces) then default_view ∷ [] else right_pieces pieces n
 
--- the pieces behind the first; an only one leaves the default view
+-- the pieces after the first; an only one leaves the default view
 abbrev pub behind_first : List View → List View
 behind_first [] = []
 behind_first (v ∷ []) = default_view ∷ []

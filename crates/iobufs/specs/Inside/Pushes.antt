@@ -18,7 +18,7 @@ items_front bytes [] = []
 items_front bytes (gap n ∷ segments) = inline_run (take n bytes) ++ items_front (drop n bytes) segments
 items_front bytes (standing view ∷ segments) = push_item view ∷ items_front bytes segments
 
--- the last of the inline bytes stand behind the last view
+-- the last of the inline bytes follow the last view
 abbrev pub building_from : Part → List Segment → ℕ → Building
 building_from part segments placed = record { capacity = part_capacity part; front = items_front part.filled segments; last = drop placed part.filled }
 

@@ -29,7 +29,7 @@ take_past n xs ys l =
     let k : n ≡ length xs + (n - length xs) = omega arith in
     ap (λ m. take m (xs ++ ys)) k ∙ take-append-add xs ys (n - length xs)
 
--- a front and a rest of two lists one behind the other
+-- a front and a rest of two lists in order
 pub take_both : {A : Type 0} (n : ℕ) (u v : List A) → take n (u ++ v) ≡ take n u ++ take (n - length u) v
 take_both n u v =
     ⊎_elim

@@ -474,7 +474,7 @@ fn show<F: FnMut(&[u8])>(pieces: &[Piece], mut visit: F) -> F
     visit
 }
 
-// Puts the bytes of each piece behind those of a buffer that has room for them.
+// Puts the bytes of each piece after those of a buffer that has room for them.
 fn put_all(pieces: &[Piece], copy: &mut IoBufMut)
     requires { length (pieces_bytes (views_in pieces.now)) ≤ copy.old.spare }
     ensures { copy.new ≡ part_put copy.old (pieces_bytes (views_in pieces.now)) }
@@ -511,7 +511,7 @@ fn split_first_inside(row: &mut VecDeque<Piece>, at: usize) -> Result<IoBuf, Buf
     }
 }
 
-// Cuts a piece in two: its first bytes go behind the front pieces, and the first of those behind keeps the others.
+// Cuts a piece in two: its first bytes go after the front pieces, and the first of those after keeps the others.
 fn cut(
     front: &mut VecDeque<Piece>,
     behind: &mut VecDeque<Piece>,
@@ -547,7 +547,7 @@ fn move_front(row: &mut VecDeque<Piece>, front: &mut VecDeque<Piece>, count: usi
     }
 }
 
-// Puts clones of the pieces from one on, so many, behind those of another row, which has room for them.
+// Puts clones of the pieces from one on, so many, after those of another row, which has room for them.
 fn clone_run(
     row: &VecDeque<Piece>,
     run: &mut VecDeque<Piece>,

@@ -114,7 +114,7 @@ fn count_of(part: &IoBufMut) -> usize
     0
 }
 
-// Copies the bytes of a part to a place of `dst`, as many as there is room for, and answers the place behind them.
+// Copies the bytes of a part to a place of `dst`, as many as there is room for, and answers the place after them.
 #[inline(always)]
 fn read_share(part: &IoBufMut, dst: &mut [u8], at: usize) -> usize
     requires { at ≤ length dst.old }
@@ -127,7 +127,7 @@ fn read_share(part: &IoBufMut, dst: &mut [u8], at: usize) -> usize
     at + n
 }
 
-// Puts the first `n` bytes of a part behind others, and answers how many are left.
+// Puts the first `n` bytes of a part after others, and answers how many are left.
 #[inline(always)]
 fn extend_share(bytes: &mut Vec<u8>, part: &IoBufMut, n: usize) -> Result<usize, AllocError>
     ensures put { IfOk result (λ left. bytes.new.items ≡ bytes.old.items ++ take n part.now.filled) }
@@ -139,7 +139,7 @@ fn extend_share(bytes: &mut Vec<u8>, part: &IoBufMut, n: usize) -> Result<usize,
     Ok(n - share)
 }
 
-// Chunks, and behind them that of a part, if it holds bytes and `max` isn't reached.
+// Chunks, and after them that of a part, if it holds bytes and `max` isn't reached.
 fn push_chunk<'a>(
     mut chunks: Vec<&'a [u8]>,
     part: &'a IoBufMut,
@@ -156,7 +156,7 @@ fn push_chunk<'a>(
     Ok(chunks)
 }
 
-// Puts a part as a piece behind others that end at a place, unless it holds no bytes, and answers where it ends.
+// Puts a part as a piece after others that end at a place, unless it holds no bytes, and answers where it ends.
 #[inline(always)]
 fn add_frozen(
     alloc: Global,

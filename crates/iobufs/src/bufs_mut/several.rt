@@ -404,7 +404,7 @@ fn copy_from_slice(parts: &mut VecDeque<IoBufMut>, src: &[u8])
     }
 }
 
-// Puts the parts that are used up, which stand behind the others, back in front of these.
+// Puts the parts that are drained, which follow the others, back before these.
 #[inline(always)]
 fn settle(row: &mut VecDeque<IoBufMut>, used: &mut usize)
     requires { used.old ≤ length row.old.items }
@@ -440,8 +440,8 @@ fn shorten(row: &mut VecDeque<IoBufMut>, n: usize) -> bool
     false
 }
 
-// Drops the first `n` bytes. A part that is used up goes behind the others, where `used` stand already, if it can still
-// hold a byte or none is left beside it. Answers how many stand there then. No part is looked at behind the last byte
+// Drops the first `n` bytes. A part that is drained goes after the others, where `used` stand already, if it can still
+// hold a byte or none is left beside it. Answers how many stand there then. No part is looked at after the last byte
 // that goes.
 #[inline(never)]
 fn drain(row: &mut VecDeque<IoBufMut>, n: usize, used: usize) -> usize
@@ -469,7 +469,7 @@ fn drain(row: &mut VecDeque<IoBufMut>, n: usize, used: usize) -> usize
     behind
 }
 
-// A piece, and behind it the parts that hold bytes. Room for all is made at once.
+// A piece, and after it the parts that hold bytes. Room for all is made at once.
 #[tactic(auto, using(crate::proofs::Parts::Frozen::freezing))]
 fn freeze_behind(
     alloc: Global,

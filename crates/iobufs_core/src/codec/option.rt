@@ -1,4 +1,4 @@
-// A truth as one byte, and a value that is there or not, behind such a byte.
+// A `bool` as one byte, and a value that is there or not, after such a byte.
 ghost use Rattle.std.specs.Prelude.{[], ◌∷◌};
 
 use super::{BufMut, BufsMut, EncodeSize, Error, Write};

@@ -1,4 +1,4 @@
-// Several values as one: each is written behind the one before it. And what is borrowed is written as it is.
+// Several values as one: each is written after the one before it. And what is borrowed is written as it is.
 ghost use Rattle.std.specs.Prelude.{◌++◌};
 
 use super::{BufMut, BufsMut, EncodeSize, Error, Write};

@@ -1,4 +1,4 @@
-// A `Bytes` as a value that is written and read behind its length.
+// A `Bytes` as a value that is written and read after its length.
 ghost use Rattle.std.specs.Prelude.{◌≡◌, ◌⊎◌, ◌^◌, ◌<◌, ◌≤◌, [], ◌∷◌, length, OnOk, OnErr, IfOk, IfErr, IsOk};
 ghost use Rattle.iobufs_core.specs.Dropping.{by_copy, dropped};
 ghost use Rattle.iobufs_core.specs.Items.{IsBegun, items_inline, items_pushed, put_item};

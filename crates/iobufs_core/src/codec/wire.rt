@@ -137,7 +137,7 @@ pub trait Codec: Write + Read {
     ghost no_front: { (x y : Self) (cfg other : Self.Cfg) (u v : List ℕ) → admits cfg x → admits other y → Self.written x ++ u ≡ Self.written y ++ v
         → Self.same x y };
 
-    // What is read is admitted, and stands in front as it is written; and as many bytes are dropped.
+    // What is read is admitted, and is at the front as it is written; and as many bytes are dropped.
     ghost read_written: { (value : Self) (cfg : Self.Cfg) (text : MarkedText) → Self.is_read text cfg (Ok value)
         → admits cfg value × (take (length (Self.written value)) text.bytes ≡ Self.written value) };
 

@@ -7,7 +7,7 @@ use Rattle.iobufs_owner.specs.State.{State}
 use Rattle.iobufs_owner.specs.Changes.{called}
 use Rattle.iobufs_owner.specs.Types.{Handle, Pending}
 
--- an element behind a list adds one to the count where it passes, else nothing
+-- an element after a list adds one to the count where it passes, else nothing
 pub count-append : {X : Type 0} (p : X → Bool) (xs : List X) (y : X) → tally p (xs ++ y ∷ []) ≡ tally p xs + cond (p y) 1 0
 count-append p [] y = omega arith
 count-append p (x ∷ xs) y = omega (arith, count-append p xs y)

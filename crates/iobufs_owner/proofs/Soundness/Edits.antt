@@ -169,7 +169,7 @@ sound-put s h x n k t l =
 
 -- ---- Advance
 
--- a test with false behind it is false
+-- a test with false after it is false
 pub and-no : (v : Bool) → (v && false) ≡ false
 and-no true = refl
 and-no false = refl
@@ -278,7 +278,7 @@ pub lies-still : (b : Block) (x : Handle) (v : Word) (kind : Kind) → LiesIn b 
 lies-still b x v View l = record { begins = l.begins; ends = l.ends; no_room = l.no_room }
 lies-still b x v Mut l = record { begins = l.begins; ends = l.ends; within = l.within }
 
--- behind a handle of this kind is left what this kind leaves
+-- after a handle of this kind is left what this kind leaves
 pub behind-as : (b : Block) (x : Handle) (tail : ℕ) (kind : Kind) → x.kind ≡ kind → LeavesBehind b x tail x.kind → LeavesBehind b x tail kind
 behind-as b x tail kind e l = subst (λ (q : Kind). LeavesBehind b x tail q) e l
 
@@ -443,7 +443,7 @@ pub word-at : (s : State) (h : ℕ) (x : Handle) (w : ℕ) → IsSound s → han
     → IsWord s.tables.align_bits s.tables.tail_bits s.tables.size_bits w
 word-at s h x w k at i = let d = described-at s h x w k at i in word-fits s x w d.block d.log d.tail k d.says
 
--- in a sound machine a view by a descriptor and the tail behind it are less than 2^64 bytes together
+-- in a sound machine a view by a descriptor and the tail after it are less than 2^64 bytes together
 pub tail-small : (s : State) (h : ℕ) (x : Handle) (w : ℕ) → IsSound s → Lends s h View x → x.word ≡ Descriptor w → x.len + tail_in s.tables w < 2 ^ 64
 tail-small s h x w k t i =
     let d = described-at s h x w k t.at i in

@@ -56,7 +56,7 @@ pub with-append : (base b : ℕ) (bs cs : List Block) → block_with base bs ≡
 with-append base b [] cs e = absurd (cc)
 with-append base b (x ∷ bs) cs e = found-step (x.base == base) (block_with base bs) (block_with base (bs ++ cs)) b (λ c i. with-append base c bs cs i) e
 
--- a block behind others, none of which has its base, is the first one with it
+-- a block after others, none of which has its base, is the first one with it
 pub with-fresh : (base : ℕ) (bs : List Block) (c : Block) → c.base ≡ base → All (λ (x : Block). x.base ≢ base) bs
     → block_with base (bs ++ c ∷ []) ≡ Some (length bs)
 with-fresh base [] c e h = rw (is-eqb c.base base e) refl

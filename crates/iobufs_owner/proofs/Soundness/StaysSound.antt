@@ -29,7 +29,7 @@ at-some [] i x e = absurd (cc)
 at-some (y ∷ xs) zero x e = omega arith
 at-some (y ∷ xs) (suc i) x e = omega (arith, at-some xs i x e)
 
--- what stands at a place stays there with one more behind the list
+-- what stands at a place stays there with one more after the list
 pub append-at : {X : Type 0} (xs : List (Option X)) (y : Option X) (i : ℕ) (x : X) → get_or xs i None ≡ Some x → get_or (xs ++ y ∷ []) i None ≡ Some x
 append-at xs y i x e = get_or_append_left xs (y ∷ []) None i (at-some xs i x e) ∙ e
 

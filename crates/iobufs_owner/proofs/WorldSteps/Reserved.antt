@@ -48,7 +48,7 @@ taken-logs : (m : Seen) (o : Outcome) (block : Bool) (reply : Reply) (next : Sta
 taken-logs m o block reply next n (inl (found, e, f)) = rw f n.logs
 taken-logs m o block reply next n (inr (w, e, f)) = rw f (logs-same m.state)
 
--- a step leaves in the logs what they have, and adds behind it
+-- a step leaves in the logs what they have, and adds after it
 pub keeps-logs : (m : Seen) (step : Step) (reply : Reply) (next : Seen) → Moves m step reply next → KeepsLogs m.state next.state
 keeps-logs m step reply next (o, moved, taken) = taken-logs m o (adds_block step.act) reply next.state (modest m.state step o moved) taken
 
@@ -129,7 +129,7 @@ find m steps replies next r memory few =
 begins-through : {X : Type 0} (a b c : List X) → IsBeginning a b → IsBeginning b c → IsBeginning a c
 begins-through a b c (m, e) (n, f) = (m ++ n, f ∙ ap (λ l. l ++ n) e ∙ append_assoc a m n)
 
--- a run leaves in the logs what they have, and adds behind it
+-- a run leaves in the logs what they have, and adds after it
 pub logs-run : (s : State) (steps : List Step) (replies : List Reply) (next : State) → Runs s steps replies next → KeepsLogs s next
 logs-run s [] [] next r = subst (λ (n : State). KeepsLogs s n) (sym r) (logs-same s)
 logs-run s [] (reply ∷ replies) next r = absurd r

@@ -12,7 +12,7 @@ use Rattle.iobufs_owner.specs.Lending.{lend_of, lend_found, is_lent, borrows_it}
 use Rattle.iobufs_owner.specs.Kinds.{same_kind}
 use Rattle.iobufs_owner.specs.Steps.{on_held, alone_of, any_of, view_of, capacity, capacity_in}
 
--- what a mapped list has at a place is what the list has there, mapped, and so behind its end
+-- what a mapped list has at a place is what the list has there, mapped, and so after its end
 pub get_or-read : {X Y : Type 0} (f : X → Y) (xs : List X) (i : ℕ) (d : X) → get_or (map f xs) i (f d) ≡ f (get_or xs i d)
 get_or-read f [] i d = refl
 get_or-read f (x ∷ xs) zero d = refl

@@ -62,7 +62,7 @@ answered m o reply t (inr (w, e, f)) = inr (record { grows = wants-grows m o.sta
 
 -- ---- a step finds room, or wants it
 
--- behind a step that was taken every table has memory for its entries: so those that it added had room
+-- after a step that was taken every table has memory for its entries: so those that it added had room
 found : (m next : Seen) (t : State) → next.state ≡ t → next.room ≡ m.room → IsSound next.state → HasMemory next → WantsRoom m t → ⊥
 found m next t e f sound held (inl (grows, full)) =
     let a = ap (λ (s : State). length s.handles) e in
@@ -98,7 +98,7 @@ pub moves-keep : (m : Seen) (step : Step) (result : Result Reply Full) (next : S
     → next.room ≡ m.room
 moves-keep m step result next (o, moved, took) = room-of m o result next took
 
--- what the code does is a move of the machine, with want of room for an error, where the state behind it is sound and the
+-- what the code does is a move of the machine, with want of room for an error, where the state after it is sound and the
 -- tables there have memory for their entries
 pub moves-of : (m : Seen) (step : Step) (result : Result Reply Full) (next : Seen) → IsSound next.state → HasMemory next → (o : Outcome)
     × IsMoved m.state step o × Took m o result next → Moves m step (result_unwrap_or result (Refused Room)) next

@@ -1,4 +1,4 @@
-//! What the machine holds, and what it is asked and answers.
+//! The types of the machine: its tables, steps and replies.
 
 /// A block of storage; the bytes `base` to `base + size` are its own. In the original what a `Storage` keeps alive, a
 /// `Storage::Native` or the `Bytes` of a `Storage::External`, or what a `Descriptor` describes.
@@ -67,7 +67,7 @@ pub struct Share {
     pub handle: usize,
     /// The first byte taken, counted from the view's.
     pub lo: u64,
-    /// The byte behind the last one taken.
+    /// The end of the bytes taken, exclusive.
     pub hi: u64,
 }
 
@@ -97,39 +97,39 @@ pub struct Freed {
     pub align: u64,
 }
 
-/// What a party may begin. Handles go by their numbers.
+/// What a thread may begin. Handles go by their numbers.
 #[derive(Clone, Copy, Debug, PartialEq, Eq, Drop)]
 pub enum Call {
-    /// A new block of this base, size and alignment, and a writable handle on it.
+    /// Makes a block of this base, size and alignment, and a writable handle on it.
     New(u64, u64, u64),
-    /// A block from outside of this base and size, and a view of it.
+    /// Adopts a block of this base and size, and makes a view of it.
     External(u64, u64),
-    /// A view of so many bytes, without block.
+    /// Makes a view of this many bytes, without a block.
     Static(u64),
-    /// A writable handle is filled by so many bytes.
+    /// Puts this many bytes into a writable handle.
     Put(usize, u64),
-    /// So many bytes go from the front of a handle.
+    /// Drops this many bytes from the front of a handle.
     Advance(usize, u64),
-    /// A writable handle becomes a view.
+    /// Makes a writable handle a view.
     Freeze(usize),
-    /// A view that holds its block alone becomes writable.
+    /// Makes a view writable that alone holds its native block.
     TryIntoMut(usize),
-    /// The first so many bytes of a view become a view of their own.
+    /// Moves this many first bytes of a view into a view of their own.
     SplitTo(usize, u64),
-    /// Whether a handle holds its block alone.
+    /// Tests whether a handle alone holds its block.
     IsUnique(usize),
-    /// A view that alone holds a block by a record holds it by a descriptor again, where the block is not from outside and
-    /// its fields have room in a word; the record is freed.
+    /// Turns the record of a view that alone holds a native block into a descriptor, if the block fits a word; the record
+    /// is freed.
     Demote(usize),
-    /// Another view of the same bytes, in several steps where the view has a block.
+    /// Clones a view, in several steps if it has a block.
     Clone(usize),
-    /// A view of the bytes from the first number to the second, in several steps where it has any and a block.
+    /// Makes a view of the bytes from the first number to the second, in several steps if it has some and a block.
     Slice(usize, u64, u64),
-    /// The handle is gone, and its block is freed where no other handle holds it; in several steps for a shared view.
+    /// Drops the handle, and frees its block if no other handle holds it; in several steps for a shared view.
     Drop(usize),
 }
 
-/// A party begins a call, or goes on with its unfinished one. The flag says whether memory may be taken.
+/// A thread begins a call, or goes on with its unfinished one. The flag says whether the step may take memory.
 #[derive(Clone, Copy, Debug, PartialEq, Eq, Drop)]
 pub enum Act {
     /// The first step of a call.
@@ -138,38 +138,38 @@ pub enum Act {
     Go(bool),
 }
 
-/// One step of one party, which goes by its number. It stands for at most one atomic access to a word or a
-/// count of the original.
+/// One step of one thread, which goes by its number. It represents at most one atomic access to a word or a count of
+/// the original.
 #[derive(Clone, Copy, Debug, PartialEq, Eq, Drop)]
 pub struct Step {
-    /// The party.
+    /// The thread.
     pub party: usize,
     /// What it does.
     pub act: Act,
 }
 
-/// Why a step isn't taken; of several causes the first one here is told.
+/// Why a step isn't executed: the first cause that holds, in this order.
 #[derive(Clone, Copy, Debug, PartialEq, Eq, Drop)]
 pub enum Refusal {
-    /// The party has an unfinished call.
+    /// The thread has an unfinished call.
     Busy,
-    /// The party has none to go on with, or there is no such party.
+    /// The thread has none to go on with, or doesn't exist.
     Idle,
     /// The number was never given, or the handle is gone.
     NoHandle,
-    /// A view where a writable handle is asked, or the other way; no block where one is asked.
+    /// The handle is a view and has to be writable, or the reverse, or it has no block.
     WrongKind,
     /// An exclusive call on a handle with an unfinished clone or slice.
     Borrowed,
-    /// A number of bytes or a range that doesn't fit the handle.
+    /// A length or range doesn't fit the handle.
     OutOfRange,
-    /// No block may lie there.
+    /// No block may be there.
     BadPlace,
     /// The step needs memory, and its flag denies it. An unfinished call is ended.
     Memory,
-    /// A holder more, where the count is above the ceiling. An unfinished call is ended.
+    /// One holder more, if the count is above the ceiling. An unfinished call is ended.
     Ceiling,
-    /// A table that the step adds to has no room for an entry more, or has 2^32 entries.
+    /// A table that the step adds an entry to is full, or has 2^32 entries.
     Room,
 }
 
@@ -177,7 +177,7 @@ pub enum Refusal {
 #[derive(Clone, Copy, Debug, PartialEq, Eq, Drop)]
 pub(super) struct Full;
 
-/// The answer to a step.
+/// The reply to a step.
 #[derive(Clone, Copy, Debug, PartialEq, Eq, Drop)]
 pub enum Reply {
     /// The handle of this number is new.

@@ -17,7 +17,7 @@ use std::alloc::{AllocError, Global};
 // How many names there are.
 const NAMES: usize = 16;
 
-// Does a command, and puts the line of its reply behind a text.
+// Does a command, and puts the line of its reply after a text.
 fn push_answer(table: &mut Table, cmd: &Cmd, text: &mut String) -> Result<(), AllocError>
     ensures { OnOk result (IsPrinted table.old cmd.now table.new (string_bytes text.old) (string_bytes text.new)) }
 {

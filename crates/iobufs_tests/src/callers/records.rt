@@ -10,7 +10,7 @@ use std::test::Fail;
 const WHOLE: &[u8] =
     b"\x0f\0\0\0\0\0\0\0\0one\xee\xaa\xee\x0f\x0c\0\0\0\0\0\0\0\x01\x12\x25\xef\xff";
 
-// The same with another first byte.
+// Those bytes with another first byte.
 const DAMAGED: &[u8] =
     b"\x7f\0\0\0\0\0\0\0\0one\xee\xaa\xee\x0f\x0c\0\0\0\0\0\0\0\x01\x12\x25\xef\xff";
 

@@ -16,11 +16,13 @@ pub enum Request {
     Sync(u64),
 }
 
+// [docs: request_parts]
 /// The parts of a request: each kind after its byte.
 pub type RequestParts = Either<
     Kind<0, (IoBuf, u32)>,
     Either<Kind<1, (IoBuf, IoBuf)>, Kind<2, u64>>,
 >;
+// [docs end]
 
 impl ByParts for Request {
     type Parts = RequestParts;

@@ -3,7 +3,7 @@ use Rattle.iobufs_core.specs.MarkedText.{MarkedText}
 use Rattle.iobufs_frames.specs.Frames.{AreMoved, IsTakenApartWith, bodies}
 use Rattle.iobufs_frames.proofs.Frames.move_frames.Given as goal
 
--- the frames that went over so far stand behind those of before, and so do they with their marks
+-- the frames that went over so far follow those of before, and so do they with their marks
 abbrev pub invariant-loop-end : goal.invariant-loop-end
 invariant-loop-end l = record {
   moved : AreMoved l.prefix l.range (bodies l.fn.found.items) l.fn.self.bytes (bodies l.found.items) l.self.bytes;

@@ -2,7 +2,7 @@ use Rattle.std.proofs.Common.{◌≡◌, ◌++◌, List, ℕ, flat_map, length, 
 use Rattle.iobufs_words.specs.Spelled.{two_digits}
 use Rattle.iobufs_lines.proofs.reply.push_digits.Given as goal
 
--- the digits of the bytes before those that are left stand behind the text
+-- the digits of the bytes before those that are left follow the text
 abbrev pub invariant-loop-rest : goal.invariant-loop-rest
 invariant-loop-rest l =
     record {

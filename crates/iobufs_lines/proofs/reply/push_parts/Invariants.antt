@@ -4,7 +4,7 @@ use Rattle.iobufs_run.specs.declared.command.Kind.TheVariants as kind
 use Rattle.iobufs_lines.specs.Printed.{held_text}
 use Rattle.iobufs_lines.proofs.reply.push_parts.Given as goal
 
--- the parts so far stand behind the text
+-- the parts so far follow the text
 abbrev pub invariant-loop-place : goal.invariant-loop-place
 invariant-loop-place l =
     string_bytes l.text ≡ string_bytes l.fn.text ++ flat_map (λ (part : Part). held_text kind.Parts (part.filled, part.spare)) (take l.place l.fn.parts)

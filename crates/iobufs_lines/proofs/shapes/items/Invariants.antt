@@ -4,7 +4,7 @@ use Rattle.iobufs_lines.specs.Commands.{plain_item}
 use Rattle.iobufs_lines.specs.Shapes.{items_of}
 use Rattle.iobufs_lines.proofs.shapes.items.Given as goal
 
--- what all words say is the items so far, and behind them what the words that are left say
+-- what all words say is the items so far, and after them what the words that are left say
 abbrev pub invariant-loop-word : goal.invariant-loop-word
 invariant-loop-word l = items_of l.fn.words ≡ option_map (λ items. map plain_item l.items.items ++ items) (items_of l.words)
 

@@ -17,7 +17,7 @@ loop-part-init c =
       bytes = ap length (filled-order s.row.items s.used behind) ∙ sym c.self.invariant.sums.len_is;
     }
 
--- where a part holds all bytes, those behind it hold none
+-- where a part holds all bytes, those after it hold none
 pub returns-then-len-clause-ok : goal.returns-then-len-clause-ok
 returns-then-len-clause-ok c =
     let l = c.loop-part in
