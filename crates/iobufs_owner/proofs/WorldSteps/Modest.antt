@@ -25,6 +25,7 @@ abbrev pub adds_block : Act → Bool
 adds_block (Begin call memory) = makes_block call
 adds_block (Go memory) = false
 
+-- how many blocks a step adds, by whether it adds one
 pub blocks-made : (act : Act) → new_blocks act ≡ cond (adds_block act) 1 0
 blocks-made (Begin (New base size align) memory) = refl
 blocks-made (Begin (External base size) memory) = refl

@@ -18,6 +18,7 @@ pub record HasMemory (m : Seen) : Type 0 where
   pub handles : length m.state.handles ≤ m.room.handles
   pub records : length m.state.tables.records ≤ m.room.records
 
+-- no table loses capacity if none changes
 pub keeps-room : (r : Space) → KeepsRoom r r
 keeps-room r = (omega arith, omega arith, omega arith)
 
