@@ -2,6 +2,7 @@
 import re
 
 from tree import CRATES, MARKED, ROOT, by_layer, declarations, direct, layer, purpose, uses
+from trusted import contracts
 
 # ---- docs/API.md
 
@@ -223,7 +224,13 @@ def code(name):
     raise LookupError(f"no source has `// [docs: {name}]`")
 
 
-PARTS = {"api": api, "own calls": own, "matrix": matrix, "crates": crates, "promises": promises}
+def trusted():
+    """How many definitions the main contracts rest on."""
+    yield "|contract|definitions|lines|\n|---|--:|--:|"
+    yield from (f"|`{name}`|{number}|{lines}|" for name, number, lines in contracts())
+
+
+PARTS = {"trusted": trusted, "api": api, "own calls": own, "matrix": matrix, "crates": crates, "promises": promises}
 
 
 def generated(page, text):

@@ -6,7 +6,6 @@ pub mod StaysSound
 pub mod Edits
 pub mod Logs
 pub mod Holders
-pub mod Borrows
 pub mod New
 pub mod NewRecord
 pub mod AddHolder
@@ -26,4 +25,3 @@ pub mod Release
 pub mod Subtract
 pub mod Drop
 pub mod Promises
-pub mod Finds

@@ -13,17 +13,7 @@
 --                                          holds, or if none does at most one of these
 use Rattle.std.specs.Prelude.{◌≡◌, ◌⊎◌, ℕ, ◌+◌, ◌-◌, ◌%◌, ◌^◌, ◌&&◌, ◌||◌, not, nat_lt, nat_eq, zero, suc, Bool, false, List, [], ◌∷◌, length, Option, None, Some, Result, Ok, Err, if◌then◌else◌}
 use Rattle.std.specs.Int.{next_multiple_of}
-use Rattle.iobufs_owner.specs.declared.owner.types.Block.{Block}
-use Rattle.iobufs_owner.specs.declared.owner.types.Kind.TheVariants.{View, Mut}
-use Rattle.iobufs_owner.specs.declared.owner.types.Call.{Call}
-use Rattle.iobufs_owner.specs.declared.owner.types.Call.TheVariants.{New, External, Static, Put, Advance, Freeze, TryIntoMut, SplitTo, IsUnique, Demote, Clone, Slice, Drop}
-use Rattle.iobufs_owner.specs.declared.owner.types.Act.{Act}
-use Rattle.iobufs_owner.specs.declared.owner.types.Act.TheVariants.{Begin, Go}
-use Rattle.iobufs_owner.specs.declared.owner.types.Step.{Step}
-use Rattle.iobufs_owner.specs.declared.owner.types.Refusal.{Refusal}
-use Rattle.iobufs_owner.specs.declared.owner.types.Refusal.TheVariants.{Busy, Idle, OutOfRange, BadPlace, Memory, Ceiling, Room}
-use Rattle.iobufs_owner.specs.declared.owner.types.Reply.{Reply}
-use Rattle.iobufs_owner.specs.declared.owner.types.Reply.TheVariants.{Refused}
+use Rattle.iobufs_owner.specs.Types.{Block, View, Mut, Call, New, External, Static, Put, Advance, Freeze, TryIntoMut, SplitTo, IsUnique, Demote, Clone, Slice, Drop, Act, Begin, Go, Step, Refusal, Busy, Idle, OutOfRange, BadPlace, Memory, Ceiling, Room, Reply, Refused}
 use Rattle.iobufs_owner.specs.World.{World, Held, Unfinished, Sharing, Dropping, held_at, going_at, holders}
 use Rattle.iobufs_owner.specs.Steps.{capacity, alone_of, any_of, block_of, view_block_of, view_of}
 

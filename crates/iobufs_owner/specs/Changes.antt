@@ -9,16 +9,7 @@
 --     block_freed, record_freed, both_freed    an entry in the log of freed blocks, of freed records, in both
 --     detached_handle, part                    a view that holds no block, and a view of a range of another one
 use Rattle.std.specs.Prelude.{ℕ, ◌+◌, ◌-◌, true, false, [], ◌∷◌, ◌++◌, length, Option, None, Some, slice_set}
-use Rattle.iobufs_owner.specs.declared.owner.types.Block.{Block}
-use Rattle.iobufs_owner.specs.declared.owner.types.Freed.{Freed}
-use Rattle.iobufs_owner.specs.declared.owner.types.Handle.{Handle}
-use Rattle.iobufs_owner.specs.declared.owner.types.Kind.TheVariants.{View}
-use Rattle.iobufs_owner.specs.declared.owner.types.Word.{Word}
-use Rattle.iobufs_owner.specs.declared.owner.types.Word.TheVariants.{Empty}
-use Rattle.iobufs_owner.specs.declared.owner.types.Pending.{Pending}
-use Rattle.iobufs_owner.specs.declared.owner.types.Refusal.{Refusal}
-use Rattle.iobufs_owner.specs.declared.owner.types.Reply.{Reply}
-use Rattle.iobufs_owner.specs.declared.owner.types.Reply.TheVariants.{Made, More, Done, Refused}
+use Rattle.iobufs_owner.specs.Types.{Block, Freed, Handle, View, Word, Empty, Pending, Refusal, Reply, Made, More, Done, Refused}
 use Rattle.iobufs_owner.specs.State.{State, Tables, block_at, record_at, triple}
 
 -- a reply, and what stands after it

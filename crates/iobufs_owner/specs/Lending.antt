@@ -11,15 +11,7 @@
 --     Lends                                           a handle of that number and kind, borrowed by none
 use Rattle.std.specs.Prelude.{◌≡◌, ℕ, ◌==◌, Bool, true, false, List, Option, None, Some, Result, Ok, Err, if◌then◌else◌}
 use Rattle.std.specs.List.{list_any}
-use Rattle.iobufs_owner.specs.declared.owner.types.Handle.{Handle}
-use Rattle.iobufs_owner.specs.declared.owner.types.Kind.{Kind}
-use Rattle.iobufs_owner.specs.declared.owner.types.Kind.TheVariants.{View}
-use Rattle.iobufs_owner.specs.declared.owner.types.Word.{Word}
-use Rattle.iobufs_owner.specs.declared.owner.types.Word.TheVariants.{Empty, Descriptor, Record as Counted}
-use Rattle.iobufs_owner.specs.declared.owner.types.Pending.{Pending}
-use Rattle.iobufs_owner.specs.declared.owner.types.Pending.TheVariants.{Loaded, Ready, Add, Subtract, Release}
-use Rattle.iobufs_owner.specs.declared.owner.types.Refusal.{Refusal}
-use Rattle.iobufs_owner.specs.declared.owner.types.Refusal.TheVariants.{NoHandle, WrongKind, Borrowed}
+use Rattle.iobufs_owner.specs.Types.{Handle, Kind, View, Word, Empty, Descriptor, Counted, Pending, Loaded, Ready, Add, Subtract, Release, Refusal, NoHandle, WrongKind, Borrowed}
 use Rattle.iobufs_owner.specs.Kinds.{same_kind}
 use Rattle.iobufs_owner.specs.State.{State, handle_at}
 

@@ -14,17 +14,7 @@
 --     add_of, add_found               a holder is counted, unless there are too many
 --     subtract_of, release_of         a holder less, and block and record freed
 use Rattle.std.specs.Prelude.{ℕ, ◌+◌, ◌-◌, ◌==◌, nat_lt, nat_eq, Bool, Option, None, Some, Result, Ok, Err, ◌||◌, if◌then◌else◌}
-use Rattle.iobufs_owner.specs.declared.owner.types.Handle.{Handle}
-use Rattle.iobufs_owner.specs.declared.owner.types.Kind.{Kind}
-use Rattle.iobufs_owner.specs.declared.owner.types.Kind.TheVariants.{View, Mut}
-use Rattle.iobufs_owner.specs.declared.owner.types.Word.{Word}
-use Rattle.iobufs_owner.specs.declared.owner.types.Word.TheVariants.{Empty, Descriptor, Record as Counted}
-use Rattle.iobufs_owner.specs.declared.owner.types.Share.{Share}
-use Rattle.iobufs_owner.specs.declared.owner.types.Pending.{Pending}
-use Rattle.iobufs_owner.specs.declared.owner.types.Pending.TheVariants.{Loaded, Ready, Add, Subtract, Release}
-use Rattle.iobufs_owner.specs.declared.owner.types.Refusal.{Refusal}
-use Rattle.iobufs_owner.specs.declared.owner.types.Refusal.TheVariants.{Idle, OutOfRange, Memory, Ceiling}
-use Rattle.iobufs_owner.specs.declared.owner.types.Reply.TheVariants.{Refused}
+use Rattle.iobufs_owner.specs.Types.{Handle, Kind, View, Mut, Word, Empty, Descriptor, Counted, Share, Pending, Loaded, Ready, Add, Subtract, Release, Refusal, Idle, OutOfRange, Memory, Ceiling, Refused}
 use Rattle.iobufs_owner.specs.State.{State, handle_at, record_at, recovered, owned_by}
 use Rattle.iobufs_owner.specs.Changes.{Outcome, refused, done, edited, state_without, made, called, unfinished_call, with_record, next_record, with_count, block_freed, record_freed, both_freed, detached_handle, part}
 use Rattle.iobufs_owner.specs.Lending.{lend_any_of, lend_view_of}

@@ -6,8 +6,7 @@
 --     IsOnce         a log without repeats
 --     IsOver         all handles are gone, and no call is unfinished
 use Rattle.std.specs.Prelude.{◌≡◌, ◌≢◌, ℕ, ◌+◌, ◌<◌, ◌≤◌, ◌||◌, true, false, List, None, Some, length, All, AllPairs}
-use Rattle.iobufs_owner.specs.declared.owner.types.Handle.{Handle}
-use Rattle.iobufs_owner.specs.declared.owner.types.Word.TheVariants.{Descriptor}
+use Rattle.iobufs_owner.specs.Types.{Handle, Descriptor}
 use Rattle.iobufs_owner.specs.State as state
 use Rattle.iobufs_owner.specs.State.{State, handle_at, record_at, block_at, owner_of, triple}
 use Rattle.iobufs_owner.specs.Sound.{IsTripleOf, hidden, is_descriptor, is_logged}

@@ -5,11 +5,7 @@
 --     has_let_go                           the drop that frees the record has lowered its count before
 use Rattle.std.specs.Prelude.{ℕ, ◌==◌, ◌&&◌, nat_eq, Bool, false, List, Option, None, Some, map}
 use Rattle.std.specs.List.{list_any}
-use Rattle.iobufs_owner.specs.declared.owner.types.Block.{Block}
-use Rattle.iobufs_owner.specs.declared.owner.types.Handle.{Handle}
-use Rattle.iobufs_owner.specs.declared.owner.types.Pending.{Pending}
-use Rattle.iobufs_owner.specs.declared.owner.types.Pending.TheVariants.{Loaded, Ready, Add, Subtract, Release}
-use Rattle.iobufs_owner.specs.declared.owner.types.Freed.{Freed}
+use Rattle.iobufs_owner.specs.Types.{Block, Handle, Pending, Loaded, Ready, Add, Subtract, Release, Freed}
 use Rattle.iobufs_owner.specs.State.{State, Tables, owner_of, record_at}
 use Rattle.iobufs_owner.specs.World.{World, Held, Unfinished, Sharing, Dropping}
 

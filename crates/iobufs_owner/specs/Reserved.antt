@@ -1,73 +1,29 @@
 -- When a step isn't refused for a full table.
---     HasMemory                  the tables have space for this many blocks, handles and records more
---     IsFew                      this many blocks more, and this many steps, leave each table within 2 ^ 32 entries
---     IsReserved                 space for this many blocks more and for this many steps, within the 2 ^ 32 entries
---                                of each table
---     makes_block, adds_block    a call, and a step, that adds a block if it succeeds
+--     RoomFor                    within these numbers of entries there is space for this many blocks, handles and records
+--                                more
+--     limit                      how many entries a table has at most
 --     new_blocks, blocks_of      how many blocks a step adds at most, and a run
---     FindsRoom                  the reply isn't `Room`
-use Rattle.std.specs.Prelude.{◌≢◌, ℕ, ◌+◌, ◌^◌, ◌<◌, ◌≤◌, Bool, true, false, if◌then◌else◌, List, [], ◌∷◌, length}
-use Rattle.iobufs_owner.specs.declared.owner.types.Call.{Call}
-use Rattle.iobufs_owner.specs.declared.owner.types.Call.TheVariants.{New, External, Static, Put, Advance, Freeze, TryIntoMut, SplitTo, IsUnique, Demote, Clone, Slice, Drop}
-use Rattle.iobufs_owner.specs.declared.owner.types.Act.{Act}
-use Rattle.iobufs_owner.specs.declared.owner.types.Act.TheVariants.{Begin, Go}
-use Rattle.iobufs_owner.specs.declared.owner.types.Step.{Step}
-use Rattle.iobufs_owner.specs.declared.owner.types.Refusal.TheVariants.{Room}
-use Rattle.iobufs_owner.specs.declared.owner.types.Reply.{Reply}
-use Rattle.iobufs_owner.specs.declared.owner.types.Reply.TheVariants.{Refused}
-use Rattle.iobufs_owner.specs.State.{State, Seen}
+use Rattle.std.specs.Prelude.{ℕ, ◌+◌, ◌^◌, ◌<◌, ◌≤◌, List, [], ◌∷◌, length}
+use Rattle.iobufs_owner.specs.Types.{New, External, Act, Begin, Step}
+use Rattle.iobufs_owner.specs.State.{State, Room}
 
--- the tables have memory for so many blocks, handles and records more
-pub record HasMemory (m : Seen) (more_blocks more_handles more_records : ℕ) : Type 0 where
-  pub blocks : length m.state.tables.blocks + more_blocks ≤ m.room.blocks
-  pub handles : length m.state.handles + more_handles ≤ m.room.handles
-  pub records : length m.state.tables.records + more_records ≤ m.room.records
+-- room for so many entries more in each table; where no block is added nothing is asked of theirs
+pub record RoomFor (room : Room) (s : State) (more_blocks more_handles more_records : ℕ) : Type 0 where
+  pub blocks : 0 < more_blocks → length s.tables.blocks + more_blocks ≤ room.blocks
+  pub handles : length s.handles + more_handles ≤ room.handles
+  pub records : length s.tables.records + more_records ≤ room.records
 
--- with so many blocks more, and a handle and a record more for each of so many steps, the tables come to no more than 2^32
--- entries; where no block is added nothing is asked of theirs
-pub record IsFew (s : State) (made steps : ℕ) : Type 0 where
-  pub few_blocks : 0 < made → length s.tables.blocks + made ≤ 2 ^ 32
-  pub few_handles : length s.handles + steps ≤ 2 ^ 32
-  pub few_records : length s.tables.records + steps ≤ 2 ^ 32
+-- a table has so many entries at most, whatever memory it has
+abbrev pub limit : Room
+limit = record { blocks = 2 ^ 32; handles = 2 ^ 32; records = 2 ^ 32 }
 
--- the tables have memory for so many blocks more, and for a handle and a record more for each of so many steps, and come to
--- no more than 2^32 entries; where no block is added nothing is asked of theirs
-pub record IsReserved (m : Seen) (made steps : ℕ) : Type 0 where
-  pub blocks : 0 < made → length m.state.tables.blocks + made ≤ m.room.blocks
-  pub handles : length m.state.handles + steps ≤ m.room.handles
-  pub records : length m.state.tables.records + steps ≤ m.room.records
-  pub few_blocks : 0 < made → length m.state.tables.blocks + made ≤ 2 ^ 32
-  pub few_handles : length m.state.handles + steps ≤ 2 ^ 32
-  pub few_records : length m.state.tables.records + steps ≤ 2 ^ 32
-
-abbrev pub makes_block : Call → Bool
-makes_block (New base size align) = true
-makes_block (External base size) = true
-makes_block (Static len) = false
-makes_block (Put h n) = false
-makes_block (Advance h n) = false
-makes_block (Freeze h) = false
-makes_block (TryIntoMut h) = false
-makes_block (SplitTo h at) = false
-makes_block (IsUnique h) = false
-makes_block (Demote h) = false
-makes_block (Clone h) = false
-makes_block (Slice h lo hi) = false
-makes_block (Drop h) = false
-
-abbrev pub adds_block : Act → Bool
-adds_block (Begin call memory) = makes_block call
-adds_block (Go memory) = false
-
--- how many blocks a step may add
+-- how many blocks a step adds, if it succeeds
 abbrev pub new_blocks : Act → ℕ
-new_blocks act = if adds_block act then 1 else 0
+new_blocks (Begin (New base size align) memory) = 1
+new_blocks (Begin (External base size) memory) = 1
+new_blocks act = 0
 
 -- how many blocks a run may add
 abbrev pub blocks_of : List Step → ℕ
 blocks_of [] = 0
 blocks_of (step ∷ steps) = new_blocks step.act + blocks_of steps
-
--- a step that isn't refused for want of room
-abbrev pub FindsRoom : Reply → Type 0
-FindsRoom reply = reply ≢ Refused Room

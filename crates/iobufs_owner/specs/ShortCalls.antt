@@ -20,14 +20,7 @@
 --     IsDemoted, IsDemotedBy, demote_counted,        a sole view gives up its record for a descriptor, which has the
 --     may_demote, described, tail_of                 number of bytes of the block after the view
 use Rattle.std.specs.Prelude.{◌≡◌, ◌⊎◌, ℕ, ◌+◌, ◌-◌, ◌^◌, nat_lt, nat_eq, Bool, true, false, length, Option, None, Some, Result, Ok, Err, ◌&&◌, ◌||◌, not, if◌then◌else◌, MatchBool}
-use Rattle.iobufs_owner.specs.declared.owner.types.Block.{Block}
-use Rattle.iobufs_owner.specs.declared.owner.types.Handle.{Handle}
-use Rattle.iobufs_owner.specs.declared.owner.types.Kind.TheVariants.{View, Mut}
-use Rattle.iobufs_owner.specs.declared.owner.types.Word.{Word}
-use Rattle.iobufs_owner.specs.declared.owner.types.Word.TheVariants.{Empty, Descriptor, Record as Counted}
-use Rattle.iobufs_owner.specs.declared.owner.types.Refusal.{Refusal}
-use Rattle.iobufs_owner.specs.declared.owner.types.Refusal.TheVariants.{OutOfRange, BadPlace, Memory, Ceiling}
-use Rattle.iobufs_owner.specs.declared.owner.types.Reply.TheVariants.{Declined, Unique}
+use Rattle.iobufs_owner.specs.Types.{Block, Handle, View, Mut, Word, Empty, Descriptor, Counted, Refusal, OutOfRange, BadPlace, Memory, Ceiling, Declined, Unique}
 use Rattle.iobufs_owner.specs.Kinds.{is_mut}
 use Rattle.iobufs_owner.specs.Places.{IsGoodPlace}
 use Rattle.iobufs_owner.specs.State.{State, Tables, block_at, record_at, tail_in, retailed, recovered, owned_by}

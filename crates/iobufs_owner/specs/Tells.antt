@@ -2,11 +2,7 @@
 --     IsSole, TellsUnique    no other handle and no drop holds the block; and `IsUnique` answers just that
 --     CountsTaken            a step leaves its party's call with fewer than four steps taken
 use Rattle.std.specs.Prelude.{◌≡◌, ◌≢◌, ◌↔◌, ℕ, ◌<◌, ◌≤◌, Bool, true, false, Some}
-use Rattle.iobufs_owner.specs.declared.owner.types.Call.TheVariants.{IsUnique}
-use Rattle.iobufs_owner.specs.declared.owner.types.Act.TheVariants.{Begin}
-use Rattle.iobufs_owner.specs.declared.owner.types.Step.{Step}
-use Rattle.iobufs_owner.specs.declared.owner.types.Reply.{Reply}
-use Rattle.iobufs_owner.specs.declared.owner.types.Reply.TheVariants.{Unique}
+use Rattle.iobufs_owner.specs.Types.{IsUnique, Begin, Step, Reply, Unique}
 use Rattle.iobufs_owner.specs.World.{World, Held, held_at, going_at, holds, still_holds}
 use Rattle.iobufs_owner.specs.Runs.{taken_after, taken_of}
 

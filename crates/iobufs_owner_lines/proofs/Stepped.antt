@@ -3,8 +3,8 @@ use Rattle.std.proofs.Common.{◌≡◌, inl, inr, ℕ, ◌+◌, ◌≤◌, leng
 use Rattle.iobufs_core.specs.declared.codec.base.BufError.{BufError}
 use Rattle.iobufs_owner.specs.declared.owner.types.Reply.{Reply}
 use Rattle.iobufs_owner.specs.Promises.{Promises}
-use Rattle.iobufs_owner.specs.Runs.{GrowingRuns}
-use Rattle.iobufs_owner.specs.State.{Seen, HasGrown, KeepsRoom}
+use Rattle.iobufs_owner.specs.Growing.{GrowingRuns}
+use Rattle.iobufs_owner.specs.State.{Seen, KeepsRoom}
 use Rattle.iobufs_owner_lines.specs.declared.line.Ask.{Ask}
 use Rattle.iobufs_owner_lines.specs.declared.line.Ask.TheVariants.{Take, Look}
 use Rattle.iobufs_owner_lines.specs.Printed.{reply_text}
@@ -15,12 +15,12 @@ pub room_made : (m grown : Seen) (result : Result (Unit {0}) BufError) → grown
     → OnOk result (length m.state.tables.blocks + 1 ≤ grown.room.blocks) → OnOk result (length m.state.handles + 1 ≤ grown.room.handles)
     → OnOk result (length m.state.tables.records + 1 ≤ grown.room.records) → OnErr result (grown ≡ m) → MakesRoom m grown
 room_made m grown (Ok done) e k blocks handles records same =
-    inl (record { state = e; room = k }, record { blocks = rw e blocks; handles = rw e handles; records = rw e records })
+    inl (e, k, record { blocks = λ p. rw e blocks; handles = rw e handles; records = rw e records })
 room_made m grown (Err why) e k blocks handles records same = inr same
 
-grown_by : (m grown : Seen) → MakesRoom m grown → HasGrown m grown
-grown_by m grown (inl (has, held)) = has
-grown_by m grown (inr same) = rw same (record { state = refl; room = (omega arith, omega arith, omega arith) })
+grown_by : (m grown : Seen) → MakesRoom m grown → (grown.state ≡ m.state) × KeepsRoom m.room grown.room
+grown_by m grown (inl (same, more, held)) = (same, more)
+grown_by m grown (inr same) = rw same (refl, (omega arith, omega arith, omega arith))
 
 -- the steps are a run, and the answers to them are its replies
 pub record AreSteps (m : Seen) (asks : List Ask) (texts : List (List ℕ)) (next : Seen) : Type 0 where
@@ -37,7 +37,7 @@ stepped m next (Take step ∷ asks) (text ∷ texts) (mid, (grown, reply, has, o
     let rest = stepped mid next asks texts others in
     record {
       replies = reply ∷ rest.replies;
-      runs = (grown, mid, grown_by m grown has, one, rest.runs);
+      runs = (let g = grown_by m grown has in (grown, mid, g.0, g.1, one, rest.runs));
       says = rw says (ap (λ l. reply_text reply ∷ l) rest.says);
     }
 stepped m next (Look question ∷ asks) (text ∷ texts) (mid, (same, says), others) =
@@ -55,7 +55,7 @@ answered_more m mid next (first ∷ asks) (t ∷ texts) ask text (between, one, 
 
 -- what is promised stays so
 pub promised_after : (m next : Seen) (ask : Ask) (text : List ℕ) → Answers m ask text next → Promises m.state → Promises next.state
-promised_after m next (Take step) text (grown, reply, has, one, says) p = one.promises
+promised_after m next (Take step) text (grown, reply, has, one, says) p = one.seen.promises
 promised_after m next (Look question) text (same, says) p = subst (λ (s : Seen). Promises s.state) (sym same) p
 
 -- where what is asked was answered, what was promised of the machine before is promised of it after

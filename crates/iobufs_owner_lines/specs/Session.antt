@@ -14,9 +14,9 @@ use Rattle.std.specs.Str.Lines.{lines}
 use Rattle.iobufs_owner.specs.declared.owner.types.Reply.{Reply}
 use Rattle.iobufs_owner.specs.declared.owner.types.Step.{Step}
 use Rattle.iobufs_owner.specs.Promises.{Promises}
-use Rattle.iobufs_owner.specs.Reserved.{HasMemory}
-use Rattle.iobufs_owner.specs.Runs.{IsStep}
-use Rattle.iobufs_owner.specs.State.{State, Seen, HasGrown, fresh}
+use Rattle.iobufs_owner.specs.Reserved.{RoomFor}
+use Rattle.iobufs_owner.specs.Growing.{IsMove}
+use Rattle.iobufs_owner.specs.State.{State, Seen, KeepsRoom, fresh}
 use Rattle.iobufs_owner_lines.specs.declared.line.Ask.{Ask}
 use Rattle.iobufs_owner_lines.specs.declared.line.Ask.TheVariants.{Take, Look}
 use Rattle.iobufs_owner_lines.specs.declared.line.Setup.{Setup}
@@ -30,12 +30,12 @@ machine_of setup =
 
 -- room is made for a block, a handle and a record more; or it is refused, and nothing has changed
 abbrev pub MakesRoom : (m grown : Seen) → Type 0
-MakesRoom m grown = (HasGrown m grown × HasMemory grown 1 1 1) ⊎ (grown ≡ m)
+MakesRoom m grown = ((grown.state ≡ m.state) × KeepsRoom m.room grown.room × RoomFor grown.room grown.state 1 1 1) ⊎ (grown ≡ m)
 
 -- a step of the machine, before which room is made, is answered by its reply; a question changes nothing, and is answered by
 -- what is looked at
 abbrev pub Answers : Seen → Ask → List ℕ → Seen → Type 0
-Answers m (Take step) text next = (grown : Seen) × (reply : Reply) × MakesRoom m grown × IsStep grown step reply next × (text ≡ reply_text reply)
+Answers m (Take step) text next = (grown : Seen) × (reply : Reply) × MakesRoom m grown × IsMove grown step reply next × (text ≡ reply_text reply)
 Answers m (Look question) text next = (next ≡ m) × (text ≡ answer_text m.state question)
 
 -- all of them, one after another: each begins where the one before it ended

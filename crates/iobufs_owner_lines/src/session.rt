@@ -4,7 +4,8 @@ ghost use Rattle.iobufs_core.specs.declared.codec.base.BufError.TheVariants.{Mem
 ghost use Rattle.iobufs_owner.specs.State.{Seen};
 ghost use Rattle.iobufs_owner.specs.Promises.{Promises};
 ghost use Rattle.iobufs_owner.specs.Reading.{reading};
-ghost use Rattle.iobufs_owner.specs.Runs.{GrowingRuns, EndsInFour, taken_of};
+ghost use Rattle.iobufs_owner.specs.Growing.{GrowingRuns};
+ghost use Rattle.iobufs_owner.specs.Runs.{EndsInFour, taken_of};
 ghost use Rattle.iobufs_owner.specs.World.{going_at};
 ghost use Rattle.iobufs_owner.specs.declared.owner.types.Reply.{Reply};
 ghost use Rattle.iobufs_owner_lines.specs.declared.line.Ask.{Ask as Asked};
@@ -85,5 +86,6 @@ pub fn ends_law()
         × (answers_to_steps asks texts ≡ map reply_text replies)
         × ((p : ℕ) → EndsInFour p (taken_of (going_at (reading m.state) p)) (steps_of asks) replies) }
 {
+    laws::growing_law();
     laws::ends_law();
 }

@@ -130,7 +130,7 @@ fn run(rt: HostRuntime) {
     let mut machine = fixture!(rt, new_machine(rt.alloc()));
     let (replies, word) = lent!(
         rt,
-        machine.run(rt.alloc(), &IDLE),
+        machine.run(&IDLE),
         BufError::Memory,
         machine.blocks().is_empty()
     );

@@ -1,6 +1,5 @@
 // The owner machine: worked words and sessions, and schedules with the state after every step.
 mod ledger;
-mod places;
 mod runs;
 mod scale;
 mod schedules;

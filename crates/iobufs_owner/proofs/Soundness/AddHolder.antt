@@ -9,14 +9,7 @@ use Rattle.iobufs_owner.specs.World.{holds, holders, users, still_holds, tally}
 use Rattle.iobufs_owner.specs.Reading.{reading, read_handle, read_call, has_let_go}
 use Rattle.iobufs_owner.specs.Sound.{IsSound, Fits, FitsWord, LiesIn, alone, describes}
 use Rattle.iobufs_owner.specs.Changes.{counted, with_count, with_handle}
-use Rattle.iobufs_owner.specs.declared.owner.types.Record.{Record}
-use Rattle.iobufs_owner.specs.declared.owner.types.Handle.{Handle}
-use Rattle.iobufs_owner.specs.declared.owner.types.Kind.{Kind}
-use Rattle.iobufs_owner.specs.declared.owner.types.Kind.TheVariants.{View}
-use Rattle.iobufs_owner.specs.declared.owner.types.Pending.{Pending}
-use Rattle.iobufs_owner.specs.declared.owner.types.Pending.TheVariants.{Release}
-use Rattle.iobufs_owner.specs.declared.owner.types.Word.{Word}
-use Rattle.iobufs_owner.specs.declared.owner.types.Word.TheVariants.{Record as Counted}
+use Rattle.iobufs_owner.specs.Types.{Record, Handle, Kind, View, Pending, Release, Word, Counted}
 use Rattle.iobufs_owner.proofs.Soundness.Counts.{count-append, count-some, count-map, count-less, holders-more, users-more}
 use Rattle.iobufs_owner.proofs.Soundness.Keeps.{Keeps, KeepsLetGo, all-fit-kept, calls-fit-kept, calls-read-kept, releases-kept}
 use Rattle.iobufs_owner.proofs.Soundness.StaysSound.{at-some, append-at, owner-counted}
@@ -152,7 +145,7 @@ sound-added s h r x y k at xv xw yv yw lies low few =
         few_handles = rw length-append (omega arith);
         few_calls = size.few_calls;
       };
-      blocks = (let p = k.blocks in record { places = p.places; apart = p.apart });
+      blocks = k.blocks;
       fit = All-push (Fits g' s.calls) s.handles (Some y) (all-fit-kept g g' s.calls s.handles e live k.fit)
           (subst (λ (v : Word). FitsWord g' s.calls y v) (sym yw) (record {
             live = live r fx.live;

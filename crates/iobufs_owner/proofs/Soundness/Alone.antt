@@ -7,10 +7,7 @@ use Rattle.iobufs_owner.specs.Reading.{reading, read_call, has_let_go}
 use Rattle.iobufs_owner.specs.Sound.{IsSound, Fits, FitsCall, hidden, readies}
 use Rattle.iobufs_owner.specs.Changes.{tables_without}
 use Rattle.iobufs_owner.specs.Lending.{is_lent}
-use Rattle.iobufs_owner.specs.declared.owner.types.Handle.{Handle}
-use Rattle.iobufs_owner.specs.declared.owner.types.Pending.{Pending}
-use Rattle.iobufs_owner.specs.declared.owner.types.Pending.TheVariants.{Loaded, Ready, Add, Subtract, Release}
-use Rattle.iobufs_owner.specs.declared.owner.types.Word.TheVariants.{Record as Counted}
+use Rattle.iobufs_owner.specs.Types.{Handle, Pending, Loaded, Ready, Add, Subtract, Release, Counted}
 use Rattle.iobufs_owner.proofs.Soundness.Counts.{count-some, count-two, count-find, count-sum}
 use Rattle.iobufs_owner.proofs.Soundness.Keeps.{lent-by, names, fits-kept, owner-kept, live-of}
 use Rattle.iobufs_owner.proofs.Soundness.StaysSound.{at-some, owner-counted}

@@ -2,8 +2,7 @@
 use Rattle.std.proofs.Common.{◌≡◌, ◌≢◌, inl, inr, ℕ, ◌+◌, ◌<◌, ◌≤◌, ◌==◌, true, false, cond, List, length, get_or, set, sym, ◌∙◌, ap, subst, refl, arith, Option, Some, None, nat_eq}
 use Rattle.std.proofs.Math.ListN.{length-set}
 use Rattle.std.proofs.lemmas.List.Elements.{All-set, All-from_get_or}
-use Rattle.std.proofs.lemmas.List.{get_or-set_same, get_or-set_other}
-use Rattle.std.proofs.lemmas.Bool.Decides.{eqb_tells}
+use Rattle.std.proofs.lemmas.List.{get_or-set_other}
 use Rattle.iobufs_owner.specs.State.{State, Tables, owner_of, record_at, block_at, handle_at, call_at, recovered, triple}
 use Rattle.iobufs_owner.specs.World.{holds, is_block, holders, users, tally}
 use Rattle.iobufs_owner.specs.Reading.{reading, read_handle, read_call, has_let_go}
@@ -11,19 +10,15 @@ use Rattle.iobufs_owner.specs.Sound.{IsSound, Fits, FitsCall, alone, describes}
 use Rattle.iobufs_owner.specs.Changes.{detached_handle, replaced, block_freed, both_freed, tables_without}
 use Rattle.iobufs_owner.specs.Lending.{is_lent}
 use Rattle.iobufs_owner.specs.ShortCalls.{IsLoose}
-use Rattle.iobufs_owner.specs.declared.owner.types.Freed.{Freed}
-use Rattle.iobufs_owner.specs.declared.owner.types.Handle.{Handle}
-use Rattle.iobufs_owner.specs.declared.owner.types.Kind.TheVariants.{Mut}
-use Rattle.iobufs_owner.specs.declared.owner.types.Pending.{Pending}
-use Rattle.iobufs_owner.specs.declared.owner.types.Word.TheVariants.{Empty, Descriptor, Record as Counted}
+use Rattle.iobufs_owner.specs.Types.{Freed, Handle, Mut, Pending, Empty, Descriptor, Counted}
 use Rattle.iobufs_owner.proofs.Soundness.Counts.{count-set, count-some, holders-changed, users-changed}
-use Rattle.iobufs_owner.proofs.Soundness.Keeps.{keeps-self, call-kept, lent-by, owner-kept, calls-read-kept, releases-kept}
+use Rattle.iobufs_owner.proofs.Soundness.Keeps.{keeps-self, call-kept, lent-by, owner-kept, calls-read-kept, releases-kept, handles-fit-set}
 use Rattle.iobufs_owner.proofs.Soundness.StaysSound.{at-some, block-log-kept, owner-empty, owner-counted}
 use Rattle.iobufs_owner.proofs.Soundness.Frames.{holders-alike, users-alike, not-eqb, is-eqb, handles-kept, alone-kept, describes-kept, holders-tables, users-tables}
 use Rattle.iobufs_owner.proofs.Soundness.Edits.{fits-at, alone-at, described-at, counted-at, live-inside, alone-described, describes-described, alone-written}
-use Rattle.iobufs_owner.proofs.Soundness.Holders.{alone-few}
+use Rattle.iobufs_owner.proofs.Soundness.Holders.{alone-few, fits-fewer}
 use Rattle.iobufs_owner.proofs.Soundness.Logs.{block-log-freed, record-log-dead, block-log-room, record-log-room}
-use Rattle.iobufs_owner.proofs.Soundness.RecordFreed.{dead-block, dead-count, dead-keeps, dead-let_go, dead-live}
+use Rattle.iobufs_owner.proofs.Soundness.RecordFreed.{dead-at, dead-block, dead-keeps, dead-let_go, dead-live}
 use Rattle.iobufs_owner.proofs.Soundness.Alone.{only, unready, undropped, named-once, calls-live, fit-dead}
 use Rattle.iobufs_owner.proofs.Soundness.Recovered.{recovered-is}
 
@@ -89,16 +84,8 @@ sound-freed_described s h x w o k at free xw is =
     (let m = rw (alone-described g b x w xw ∙ ap (is_block b) ox ∙ is-eqb b b refl) at (am b) in omega (arith, m, few, one)) in
     let apart : (q : ℕ) → (record_at g q).live ≡ true → (record_at g q).block ≢ b =
     λ q t e. (let z = unready s h b q k me free e in let u = rw e at ((k.counted q t).undescribed z) in omega (arith, u, some)) in
-    let size = k.size in
     subst (λ (f : Freed). IsSound (replaced (block_freed s f) h o)) (sym (recovered-is s h x w b k at xw ox)) (record {
-      size = record {
-        wide = size.wide;
-        ceiling = size.ceiling;
-        few_blocks = size.few_blocks;
-        few_records = size.few_records;
-        few_handles = rw length-set size.few_handles;
-        few_calls = size.few_calls;
-      };
+      size = rw length-set k.size;
       blocks = k.blocks;
       fit = All-set (Fits g s.calls) s.handles h o n.fits k.fit;
       calls_fit = All-from_get_or (FitsCall next) s.calls None (λ i li. call-kept s next (call_at s i) (record {
@@ -111,14 +98,8 @@ sound-freed_described s h x w o k at free xw is =
         holders = λ q e. hn (record_at g q).block (undropped s h b i q (has_let_go g q) 1 me li (ap (read_call g) e));
       }) (k.calls_fit i None li));
       one_release = k.one_release;
-      counted = λ q t. let c = k.counted q t in let ne = apart q t in record {
-        known = c.known;
-        one_maker = c.one_maker;
-        counts = λ z. rw (hn (record_at g q).block ne) (c.counts z);
-        fresh = c.fresh;
-        used = rw (un (record_at g q).block ne) c.used;
-        undescribed = λ z. omega (arith, dm (record_at g q).block, c.undescribed z);
-      };
+      counted = λ q t. let ne = apart q t in
+          rw (hn (record_at g q).block ne, un (record_at g q).block ne) (fits-fewer (k.counted q t) (dm (record_at g q).block));
       one_record = k.one_record;
       sole = λ c t. let ne : c ≢ b = λ e. (let z = rw e at t in omega (arith, z, lonely)) in hn c ne ∙ k.sole c (omega (arith, t, am c));
       capped = λ c. omega (arith, hm c, k.capped c);
@@ -190,21 +171,10 @@ sound-freed_counted s h x r o k at free xm xw is =
     (let m = rw (alone-written g' b x r xw xm ∙ ap (is_block b) ox' ∙ is-eqb b b refl) at (am b) in omega (arith, m, few, one)) in
     let apart : (q : ℕ) → (record_at g q).live ≡ true → q ≢ r → (record_at g q).block ≢ b =
     λ q t ne i. ne (k.one_record q r t f.live (unready s h b q k me free i) f.shown i) in
-    let size = k.size in
     record {
-      size = record {
-        wide = size.wide;
-        ceiling = size.ceiling;
-        few_blocks = size.few_blocks;
-        few_records = rw length-set size.few_records;
-        few_handles = rw length-set size.few_handles;
-        few_calls = size.few_calls;
-      };
-      blocks = (let p = k.blocks in record { places = p.places; apart = p.apart });
-      fit = All-from_get_or (Fits g' s.calls) (set s.handles h o) None (λ i li. elim (eqb_tells i h) [
-        | inl z ↦ rw (z.1, get_or-set_same s.handles h o None l) n.fits
-        | inr z ↦ rw (get_or-set_other s.handles h i o None z.1) (fit-dead s h r i (get_or s.handles i None) once z.1 refl (k.fit i None (rw length-set at li)))
-      ]);
+      size = rw (length-set, length-set) k.size;
+      blocks = k.blocks;
+      fit = handles-fit-set g' s.calls s.handles h o l n.fits (λ i ne li. fit-dead s h r i (get_or s.handles i None) once ne refl (k.fit i None li));
       calls_fit = All-from_get_or (FitsCall next) s.calls None (λ i li. call-kept s next (call_at s i) (record {
         tables = e;
         let_go = λ q j t. dead-let_go g r q;
@@ -217,16 +187,8 @@ sound-freed_counted s h x r o k at free xm xw is =
       one_release = λ c. rw (releases-kept s g' c s.calls e k.calls_fit) (k.one_release c);
       counted = λ q t.
           let d = dead-live g r q inside t in
-          let c = k.counted q d.0 in
           let ne = apart q d.0 d.1 in
-          record {
-            known = rw (dead-block g r q) c.known;
-            one_maker = c.one_maker;
-            counts = λ z. rw (dead-count g r q, dead-block g r q, hn (record_at g q).block ne) (c.counts z);
-            fresh = λ z. rw (dead-count g r q) (c.fresh z);
-            used = rw (dead-block g r q, un (record_at g q).block ne) c.used;
-            undescribed = λ z. rw (dead-block g r q) (omega (arith, dm (record_at g q).block, c.undescribed z));
-          };
+          rw (dead-at g r q d.1, hn (record_at g q).block ne, un (record_at g q).block ne) (fits-fewer (k.counted q d.0) (dm (record_at g q).block));
       one_record = λ p q tp tq hp hq i. k.one_record p q (dead-live g r p inside tp).0 (dead-live g r q inside tq).0 hp hq
           (sym (dead-block g r p) ∙ i ∙ dead-block g r q);
       sole = λ c t. let ne : c ≢ b = λ e. (let z = rw e at t in omega (arith, z, lonely)) in hn c ne ∙ k.sole c (omega (arith, t, am c));
@@ -255,16 +217,8 @@ sound-gone_empty s h x k at free xw =
     count-set (describes g c) s.handles h None None l in omega (arith, m) in
     let am : (c : ℕ) → tally (alone g c) (set s.handles h None) ≤ tally (alone g c) s.handles = λ c. let m =
     count-set (alone g c) s.handles h None None l in omega (arith, m) in
-    let size = k.size in
     record {
-      size = record {
-        wide = size.wide;
-        ceiling = size.ceiling;
-        few_blocks = size.few_blocks;
-        few_records = size.few_records;
-        few_handles = rw length-set size.few_handles;
-        few_calls = size.few_calls;
-      };
+      size = rw length-set k.size;
       blocks = k.blocks;
       fit = All-set (Fits g s.calls) s.handles h None tt k.fit;
       calls_fit = All-from_get_or (FitsCall next) s.calls None (λ i li. call-kept s next (call_at s i) (record {
@@ -277,14 +231,7 @@ sound-gone_empty s h x k at free xw =
         holders = λ q e. hm (record_at g q).block;
       }) (k.calls_fit i None li));
       one_release = k.one_release;
-      counted = λ q t. let c = k.counted q t in record {
-        known = c.known;
-        one_maker = c.one_maker;
-        counts = λ z. rw hm (c.counts z);
-        fresh = c.fresh;
-        used = rw um c.used;
-        undescribed = λ z. omega (arith, dm (record_at g q).block, c.undescribed z);
-      };
+      counted = λ q t. rw (hm, um) (fits-fewer (k.counted q t) (dm (record_at g q).block));
       one_record = k.one_record;
       sole = λ c t. rw hm (k.sole c (omega (arith, t, am c)));
       capped = λ c. rw hm (k.capped c);

@@ -1,20 +1,16 @@
 -- A party's call becomes another one; neither is a drop, and neither has made a record.
-use Rattle.std.proofs.Common.{◌≡◌, inl, inr, ℕ, ◌<◌, ◌≤◌, Bool, false, cond, List, length, get_or, set, map, sym, ◌∙◌, ap, refl, arith, Option, Some, None}
+use Rattle.std.proofs.Common.{◌≡◌, ℕ, ◌<◌, ◌≤◌, Bool, false, cond, List, length, get_or, set, map, sym, ◌∙◌, ap, refl, arith, Option, Some, None}
 use Rattle.std.proofs.Math.ListN.{length-set}
 use Rattle.std.proofs.lemmas.List.Elements.{All-from_get_or}
-use Rattle.std.proofs.lemmas.List.{get_or-set_same, get_or-set_other, map-set, length-map}
-use Rattle.std.proofs.lemmas.Bool.Decides.{eqb_tells}
+use Rattle.std.proofs.lemmas.List.{map-set, length-map}
 use Rattle.iobufs_owner.specs.State.{State, Tables, record_at, call_at}
 use Rattle.iobufs_owner.specs.World.{holders, users, still_holds, drops, tally}
 use Rattle.iobufs_owner.specs.Reading.{reading, read_call}
 use Rattle.iobufs_owner.specs.Sound.{IsSound, Fits, FitsCall, hidden, readies, releases}
 use Rattle.iobufs_owner.specs.Changes.{called}
-use Rattle.iobufs_owner.specs.declared.owner.types.Handle.{Handle}
-use Rattle.iobufs_owner.specs.declared.owner.types.Share.{Share}
-use Rattle.iobufs_owner.specs.declared.owner.types.Pending.{Pending}
-use Rattle.iobufs_owner.specs.declared.owner.types.Pending.TheVariants.{Loaded, Add}
+use Rattle.iobufs_owner.specs.Types.{Handle, Share, Pending, Loaded, Add}
 use Rattle.iobufs_owner.proofs.Soundness.Counts.{count-set}
-use Rattle.iobufs_owner.proofs.Soundness.Keeps.{keeps-self, call-kept, fits-calls}
+use Rattle.iobufs_owner.proofs.Soundness.Keeps.{keeps-self, call-kept, fits-calls, calls-fit-set, Leaves}
 use Rattle.iobufs_owner.proofs.Soundness.StaysSound.{block-log-kept}
 use Rattle.iobufs_owner.proofs.WorldSteps.Shown.{get_or-read}
 
@@ -73,43 +69,24 @@ sound-called s p c k l q r f =
     let hid : (n : ℕ) → hidden (set s.calls p c) n ≡ hidden s.calls n = λ n. count-calls (readies n) s.calls p c None l (q.readies n) (r.readies n) in
     let rel : (b : ℕ) → tally (releases g b) (set s.calls p c) ≡ tally (releases g b) s.calls =
     λ b. count-calls (releases g b) s.calls p c None l (q.releases b) (r.releases b) in
-    let leaves = λ (o : Option Pending). call-kept s next o (record {
-      tables = keeps-self g;
-      let_go = λ q j t. refl;
-      live = λ n _ t. t;
-      hidden = λ n _ _. hid n;
-      handle = λ i x _ a. a;
-      owner = λ i x a. refl;
-      holders = λ n _. hm (record_at g n).block;
-    }) in
-    let size = k.size in
     record {
-      size = record {
-        wide = size.wide;
-        ceiling = size.ceiling;
-        few_blocks = size.few_blocks;
-        few_records = size.few_records;
-        few_handles = size.few_handles;
-        few_calls = rw length-set size.few_calls;
-      };
+      size = rw length-set k.size;
       blocks = k.blocks;
       fit = All-from_get_or (Fits g (set s.calls p c)) s.handles None
           (λ i li. fit-called g s.calls (set s.calls p c) (λ n. omega (arith, hid n)) (get_or s.handles i None) (k.fit i None li));
-      calls_fit = All-from_get_or (FitsCall next) (set s.calls p c) None (λ i li.
-          let lo : i < length s.calls = (let z = rw length-set at li in z) in
-          elim (eqb_tells i p) [
-            | inl z ↦ rw (z.1, get_or-set_same s.calls p c None l) (leaves c f)
-            | inr z ↦ rw (get_or-set_other s.calls p i c None z.1) (leaves (call_at s i) (k.calls_fit i None lo))
-          ]);
+      calls_fit = (
+          let leaves : (o : Option Pending) → Leaves s next o = λ o. record {
+            tables = keeps-self g;
+            let_go = λ q j t. refl;
+            live = λ n _ t. t;
+            hidden = λ n _ _. hid n;
+            handle = λ i x _ a. a;
+            owner = λ i x a. refl;
+            holders = λ n _. hm (record_at g n).block;
+          } in
+          calls-fit-set s next p c l (call-kept s next c (leaves c) f) (λ i _ _. leaves (call_at s i)) k.calls_fit);
       one_release = λ b. rw rel (k.one_release b);
-      counted = λ n t. let v = k.counted n t in record {
-        known = v.known;
-        one_maker = rw (hid n) v.one_maker;
-        counts = λ z. rw hm (v.counts (sym (hid n) ∙ z));
-        fresh = λ z. v.fresh (sym (hid n) ∙ z);
-        used = rw um v.used;
-        undescribed = λ z. v.undescribed (sym (hid n) ∙ z);
-      };
+      counted = λ n t. rw (hid n, hm, um) (k.counted n t);
       one_record = λ n m a b u v e. k.one_record n m a b (sym (hid n) ∙ u) (sym (hid m) ∙ v) e;
       sole = λ b t. rw hm (k.sole b t);
       capped = λ b. rw hm (k.capped b);

@@ -2,9 +2,10 @@
 use Rattle.std.proofs.Common.{◌≡◌, ◌≢◌, ℕ, zero, suc, ◌+◌, ◌<◌, ◌≤◌, Bool, true, false, cond, List, [], ◌∷◌, ◌++◌, length, get_or, set, map, ap, refl, arith, Option, Some, None}
 use Rattle.std.proofs.lemmas.List.{map-append, map-set, get_or-map, length-map}
 use Rattle.iobufs_owner.specs.World.{World, Held, Unfinished, Sharing, Dropping, holds, holders, users, still_holds, drops, tally}
-use Rattle.iobufs_owner.specs.Reading.{reading, read_handle}
+use Rattle.iobufs_owner.specs.Reading.{reading, read_handle, read_call}
 use Rattle.iobufs_owner.specs.State.{State}
-use Rattle.iobufs_owner.specs.declared.owner.types.Handle.{Handle}
+use Rattle.iobufs_owner.specs.Changes.{called}
+use Rattle.iobufs_owner.specs.Types.{Handle, Pending}
 
 -- an element after a list adds one to the count where it passes, else nothing
 pub count-append : {X : Type 0} (p : X → Bool) (xs : List X) (y : X) → tally p (xs ++ y ∷ []) ≡ tally p xs + cond (p y) 1 0
@@ -109,6 +110,26 @@ users-changed s h x b l =
     let m = get_or-map (read_handle s.tables) s.handles h None None l in
     let e = users-set (reading s) h (read_handle s.tables x) b (rw length-map l) in
     rw (reading-set s h x, ← m) e
+
+-- with another call for a party a block loses one holder where the old one still held it, and gains one where the new one does
+pub holders-called : (s : State) (p : ℕ) (c : Option Pending) (b : ℕ) → p < length s.calls
+    → holders (reading (called s p c)) b + cond (still_holds b (read_call s.tables (get_or s.calls p None))) 1 0
+    ≡ holders (reading s) b + cond (still_holds b (read_call s.tables c)) 1 0
+unfolding holders
+holders-called s p c b l =
+    let m = get_or-map (read_call s.tables) s.calls p None None l in
+    let e = rw m at (count-set (still_holds b) (map (read_call s.tables) s.calls) p (read_call s.tables c) None (rw length-map l)) in
+    rw (map-set (read_call s.tables) s.calls p c) (omega (arith, e))
+
+-- with another call for a party a block loses one user where the old one was a drop of it, and gains one where the new one is
+pub users-called : (s : State) (p : ℕ) (c : Option Pending) (b : ℕ) → p < length s.calls
+    → users (reading (called s p c)) b + cond (drops b (read_call s.tables (get_or s.calls p None))) 1 0
+    ≡ users (reading s) b + cond (drops b (read_call s.tables c)) 1 0
+unfolding users
+users-called s p c b l =
+    let m = get_or-map (read_call s.tables) s.calls p None None l in
+    let e = rw m at (count-set (drops b) (map (read_call s.tables) s.calls) p (read_call s.tables c) None (rw length-map l)) in
+    rw (map-set (read_call s.tables) s.calls p c) (omega (arith, e))
 
 drops-more : (b : ℕ) (c : Option Unfinished) → still_holds b c ≡ true → drops b c ≡ true
 drops-more b None e = e

@@ -2,31 +2,26 @@
 use Rattle.std.proofs.Common.{◌≡◌, ◌≢◌, inl, inr, ℕ, zero, suc, ◌+◌, ◌^◌, ◌<◌, ◌≤◌, ◌==◌, ◌&&◌, Bool, true, false, not, cond, List, [], ◌∷◌, length, get_or, set, sym, ◌∙◌, ap, refl, arith, Option, Some, None, nat_eq}
 use Rattle.std.proofs.Math.ListN.{length-set}
 use Rattle.std.proofs.lemmas.List.Elements.{All-from_get_or}
-use Rattle.std.proofs.lemmas.List.{get_or-set_same, get_or-set_other}
+use Rattle.std.proofs.lemmas.List.{get_or-set_other}
 use Rattle.std.proofs.lemmas.Bool.Decides.{nat_tests, eqb_tells}
 use Rattle.iobufs_owner.specs.Word.{IsPowerOfTwo, HasRoom, word_of}
 use Rattle.iobufs_owner.specs.State.{State, Seen, Tables, owner_of, record_at, block_at, call_at, base_by, block_with}
 use Rattle.iobufs_owner.specs.World.{is_block, holders, users, tally}
 use Rattle.iobufs_owner.specs.Reading.{reading}
-use Rattle.iobufs_owner.specs.Sound.{IsSound, ArePlaced, Fits, FitsCall, IsDescribed, alone, describes}
+use Rattle.iobufs_owner.specs.Sound.{IsSound, ArePlaced, FitsCall, IsDescribed, alone, describes}
 use Rattle.iobufs_owner.specs.Changes.{Outcome, edited, tables_without, record_freed}
 use Rattle.iobufs_owner.specs.Lending.{Lends, lend_owning_view_of}
 use Rattle.iobufs_owner.specs.ShortCalls.{fits_in, tail_of, may_demote, described, demote_counted, declined, IsDemotedBy, IsDemoted}
-use Rattle.iobufs_owner.specs.declared.owner.types.Block.{Block}
-use Rattle.iobufs_owner.specs.declared.owner.types.Handle.{Handle}
-use Rattle.iobufs_owner.specs.declared.owner.types.Kind.TheVariants.{View}
-use Rattle.iobufs_owner.specs.declared.owner.types.Word.{Word}
-use Rattle.iobufs_owner.specs.declared.owner.types.Word.TheVariants.{Empty, Descriptor, Record as Counted}
-use Rattle.iobufs_owner.specs.declared.owner.types.Reply.{Reply}
-use Rattle.iobufs_owner.specs.declared.owner.types.Reply.TheVariants.{Declined, Done}
+use Rattle.iobufs_owner.specs.Types.{Block, Handle, View, Word, Empty, Descriptor, Counted, Reply, Declined, Done}
 use Rattle.iobufs_owner.proofs.Words.{word-size, word-tail, fits-room, fits-true}
 use Rattle.iobufs_owner.proofs.Soundness.Counts.{count-set, holders-changed, users-changed}
-use Rattle.iobufs_owner.proofs.Soundness.Keeps.{call-kept, lent-by, owner-kept, calls-read-kept, releases-kept}
+use Rattle.iobufs_owner.proofs.Soundness.Keeps.{call-kept, lent-by, owner-kept, calls-read-kept, releases-kept, handles-fit-set}
 use Rattle.iobufs_owner.proofs.Soundness.StaysSound.{at-some, block-log-kept, owner-counted}
 use Rattle.iobufs_owner.proofs.Soundness.Frames.{holders-alike, users-alike, not-eqb, is-eqb, handles-kept, alone-kept, describes-kept, holders-tables, users-tables}
 use Rattle.iobufs_owner.proofs.Soundness.Edits.{fits-at, counted-at, lies-as, live-inside, no_block, owner-described, alone-described, describes-described, describes-counted, alone-shared}
 use Rattle.iobufs_owner.proofs.Soundness.Logs.{bases, record-log-dead}
-use Rattle.iobufs_owner.proofs.Soundness.RecordFreed.{dead-block, dead-count, dead-keeps, dead-let_go, dead-live}
+use Rattle.iobufs_owner.proofs.Soundness.Holders.{fits-fewer}
+use Rattle.iobufs_owner.proofs.Soundness.RecordFreed.{dead-at, dead-block, dead-keeps, dead-let_go, dead-live}
 use Rattle.iobufs_owner.proofs.Soundness.Alone.{only, unready, named-once, calls-live, fit-dead}
 use Rattle.iobufs_owner.proofs.Soundness.BlockFreed.{counted-ends}
 
@@ -81,7 +76,7 @@ found-first (x ∷ bs) (suc b) l ne = rw (
 ) (ap Some (omega arith))
 
 -- a block is the one with its base
-found-by-base : (g : Tables) (b : ℕ) → ArePlaced g → b < length g.blocks → block_with (block_at g b).base g.blocks ≡ Some b
+found-by-base : (g : Tables) (b : ℕ) → ArePlaced g.blocks → b < length g.blocks → block_with (block_at g b).base g.blocks ≡ Some b
 found-by-base g b k l = found-first g.blocks b l (λ c m. bases g c b k (omega arith) l (omega arith))
 
 -- the handle goes by the descriptor, and holds what it held
@@ -174,27 +169,12 @@ sound-demoted s h r log x k t xw align may =
     omega (arith, n, nx, ny, alone-kept g g' s.calls c s.handles e k.fit) in
     let apart : (q : ℕ) → (record_at g q).live ≡ true → q ≢ r → (record_at g q).block ≢ b =
     λ q t ne i. ne (k.one_record q r t f.live (unready s h b q k me free i) f.shown i) in
-    let size = k.size in
     record {
-      size = record {
-        wide = size.wide;
-        ceiling = size.ceiling;
-        few_blocks = size.few_blocks;
-        few_records = rw length-set size.few_records;
-        few_handles = rw length-set size.few_handles;
-        few_calls = size.few_calls;
-      };
-      blocks = (let p = k.blocks in record { places = p.places; apart = p.apart });
-      fit = All-from_get_or (Fits g' s.calls) (set s.handles h (Some y)) None (λ i li. elim (eqb_tells i h) [
-        | inl z ↦ rw (z.1, get_or-set_same s.handles h (Some y) None l) (record {
-          block = b;
-          log = log;
-          tail = tail;
-          says = described-demoted s h r log x k t xw align may;
-        })
-        | inr z ↦ rw (get_or-set_other s.handles h i (Some y) None z.1)
-            (fit-dead s h r i (get_or s.handles i None) once z.1 refl (k.fit i None (rw length-set at li)))
-      ]);
+      size = rw (length-set, length-set) k.size;
+      blocks = k.blocks;
+      fit = handles-fit-set g' s.calls s.handles h (Some y) l
+          (record { block = b; log = log; tail = tail; says = described-demoted s h r log x k t xw align may })
+          (λ i ne li. fit-dead s h r i (get_or s.handles i None) once ne refl (k.fit i None li));
       calls_fit = All-from_get_or (FitsCall next) s.calls None (λ i li. call-kept s next (call_at s i) (record {
         tables = e;
         let_go = λ q j t. dead-let_go g r q;
@@ -207,17 +187,8 @@ sound-demoted s h r log x k t xw align may =
       one_release = λ c. rw (releases-kept s g' c s.calls e k.calls_fit) (k.one_release c);
       counted = λ q t.
           let d = dead-live g r q inside t in
-          let c = k.counted q d.0 in
-          let ne = apart q d.0 d.1 in
-          record {
-            known = rw (dead-block g r q) c.known;
-            one_maker = c.one_maker;
-            counts = λ z. rw (dead-count g r q, dead-block g r q, hm (record_at g q).block) (c.counts z);
-            fresh = λ z. rw (dead-count g r q) (c.fresh z);
-            used = rw (dead-block g r q, um (record_at g q).block) c.used;
-            undescribed = λ z. rw (dead-block g r q) (let n = rw (not-eqb (record_at g q).block b ne) at (dm (record_at g q).block) in
-                omega (arith, n, c.undescribed z));
-          };
+          let n = rw (not-eqb (record_at g q).block b (apart q d.0 d.1)) at (dm (record_at g q).block) in
+          rw (dead-at g r q d.1, hm, um) (fits-fewer (k.counted q d.0) (omega (arith, n)));
       one_record = λ p q tp tq hp hq i. k.one_record p q (dead-live g r p inside tp).0 (dead-live g r q inside tq).0 hp hq
           (sym (dead-block g r p) ∙ i ∙ dead-block g r q);
       sole = λ c t. elim (eqb_tells c b) [

@@ -1,25 +1,20 @@
 -- A drop begins: the handle of a counted block is gone, and its call holds in its place.
-use Rattle.std.proofs.Common.{◌≡◌, inl, inr, ℕ, ◌+◌, ◌<◌, ◌≤◌, ◌==◌, true, false, cond, length, get_or, set, map, sym, ◌∙◌, ap, refl, arith, Bool, nat_eq, Option, Some, None}
+use Rattle.std.proofs.Common.{◌≡◌, inl, inr, ℕ, ◌+◌, ◌<◌, ◌≤◌, true, false, cond, length, get_or, set, sym, ◌∙◌, ap, refl, arith, Bool, nat_eq, Option, Some, None}
 use Rattle.std.proofs.Math.ListN.{length-set}
-use Rattle.std.proofs.lemmas.List.Elements.{All-from_get_or}
-use Rattle.std.proofs.lemmas.List.{get_or-set_same, get_or-set_other, map-set, length-map}
+use Rattle.std.proofs.lemmas.List.{get_or-set_other}
 use Rattle.std.proofs.lemmas.Bool.Decides.{nat_tests, eqb_tells}
 use Rattle.iobufs_owner.specs.State.{State, Tables, owner_of, record_at, handle_at, call_at}
-use Rattle.iobufs_owner.specs.World.{Dropping, holds, holders, users, still_holds, drops, tally}
-use Rattle.iobufs_owner.specs.Reading.{reading, read_handle, read_call, has_let_go}
+use Rattle.iobufs_owner.specs.World.{Dropping, holders, users, tally}
+use Rattle.iobufs_owner.specs.Reading.{reading, read_call, has_let_go}
 use Rattle.iobufs_owner.specs.Changes.{state_without, called}
 use Rattle.iobufs_owner.specs.Lending.{is_lent}
 use Rattle.iobufs_owner.specs.Sound.{IsSound, Fits, FitsCall, alone, describes, hidden, readies, releases}
-use Rattle.iobufs_owner.specs.declared.owner.types.Handle.{Handle}
-use Rattle.iobufs_owner.specs.declared.owner.types.Kind.TheVariants.{View}
-use Rattle.iobufs_owner.specs.declared.owner.types.Pending.{Pending}
-use Rattle.iobufs_owner.specs.declared.owner.types.Pending.TheVariants.{Loaded, Ready, Add, Subtract, Release}
-use Rattle.iobufs_owner.specs.declared.owner.types.Word.TheVariants.{Record as Counted}
-use Rattle.iobufs_owner.proofs.Soundness.Counts.{count-set, count-find}
-use Rattle.iobufs_owner.proofs.Soundness.Keeps.{keeps-self, call-kept, fits-calls, lent-by}
+use Rattle.iobufs_owner.specs.Types.{Handle, View, Pending, Loaded, Ready, Add, Subtract, Release, Counted}
+use Rattle.iobufs_owner.proofs.Soundness.Counts.{count-set, count-find, holders-changed, users-changed, holders-called, users-called}
+use Rattle.iobufs_owner.proofs.Soundness.Keeps.{keeps-self, fits-calls, lent-by, calls-fit-set, handles-fit-set}
 use Rattle.iobufs_owner.proofs.Soundness.StaysSound.{at-some, owner-counted, block-log-kept}
 use Rattle.iobufs_owner.proofs.Soundness.Frames.{not-eqb, is-eqb}
-use Rattle.iobufs_owner.proofs.WorldSteps.Shown.{get_or-read}
+use Rattle.iobufs_owner.proofs.Soundness.Holders.{fits-fewer}
 use Rattle.iobufs_owner.proofs.Soundness.AddHolder.{release-elsewhere}
 
 abbrev pub dropping : State → ℕ → ℕ → Pending → State
@@ -34,27 +29,6 @@ pub record IsDrop (s : State) (r : ℕ) (c : Pending) : Type 0 where
       → holders (reading t) (record_at s.tables r).block ≡ holders (reading s) (record_at s.tables r).block → FitsCall t (Some c)
   pub first : (b : ℕ) → tally (releases s.tables b) s.calls + cond (releases s.tables b (Some c)) 1 0 ≤ 1
 
-moved : (s : State) (p h r : ℕ) (x : Handle) (c : Pending) (b : ℕ) → handle_at s h ≡ Some x → owner_of s.tables x ≡ Some (record_at s.tables r).block
-    → call_at s p ≡ None → p < length s.calls → IsDrop s r c → (holders (reading (dropping s p h c)) b ≡ holders (reading s) b)
-    × (users (reading (dropping s p h c)) b ≡ users (reading s) b)
-unfolding holders users
-moved s p h r x c b at o none lp d =
-    let l = at-some s.handles h x at in
-    let n = count-set (holds b) (map (read_handle s.tables) s.handles) h None None (rw length-map l) in
-    let nx : ◌≡◌ {A = ℕ} (cond (holds b (get_or (map (read_handle s.tables) s.handles) h None)) 1 0) (cond (b == (record_at s.tables r).block) 1 0) =
-    rw (get_or-read (read_handle s.tables) s.handles h None, at, o) refl in
-    let m = count-set (still_holds b) (map (read_call s.tables) s.calls) p (read_call s.tables (Some c)) None (rw length-map lp) in
-    let k = count-set (drops b) (map (read_call s.tables) s.calls) p (read_call s.tables (Some c)) None (rw length-map lp) in
-    let mx : ◌≡◌ {A = ℕ} (cond (still_holds b (get_or (map (read_call s.tables) s.calls) p None)) 1 0) 0 =
-    rw (get_or-read (read_call s.tables) s.calls p None, none) refl in
-    let kx : ◌≡◌ {A = ℕ} (cond (drops b (get_or (map (read_call s.tables) s.calls) p None)) 1 0) 0 =
-    rw (get_or-read (read_call s.tables) s.calls p None, none) refl in
-    let my : ◌≡◌ {A = ℕ} (cond (still_holds b (read_call s.tables (Some c))) 1 0) (cond (b == (record_at s.tables r).block) 1 0) = rw d.reads refl in
-    let ky : ◌≡◌ {A = ℕ} (cond (drops b (read_call s.tables (Some c))) 1 0) (cond (b == (record_at s.tables r).block) 1 0) = rw d.reads refl in (
-      rw (map-set (read_handle s.tables) s.handles h None, map-set (read_call s.tables) s.calls p (Some c)) (omega (arith, n, nx, m, mx, my)),
-      rw (map-set (read_handle s.tables) s.handles h None, map-set (read_call s.tables) s.calls p (Some c)) (omega (arith, n, nx, k, kx, ky)),
-    )
-
 fit-dropping : (s : State) (p : ℕ) (c : Pending) → ((q : ℕ) → hidden (set s.calls p (Some c)) q ≤ hidden s.calls q) → (o : Option Handle)
     → Fits s.tables s.calls o → Fits s.tables (set s.calls p (Some c)) o
 fit-dropping s p c less None f = tt
@@ -68,8 +42,10 @@ sound-dropping s p h r x c k at word view free none lp d =
     let next : State = dropping s p h c in
     let l = at-some s.handles h x at in
     let o = owner-counted g x r word in
-    let hm : (b : ℕ) → holders (reading next) b ≡ holders (reading s) b = λ b. (moved s p h r x c b at o none lp d).0 in
-    let um : (b : ℕ) → users (reading next) b ≡ users (reading s) b = λ b. (moved s p h r x c b at o none lp d).1 in
+    let hm : (b : ℕ) → holders (reading next) b ≡ holders (reading s) b = λ b. let m = rw (at, o) at (holders-changed s h None b l) in let n =
+    rw (none, d.reads) at (holders-called (state_without s h) p (Some c) b lp) in omega (arith, m, n) in
+    let um : (b : ℕ) → users (reading next) b ≡ users (reading s) b = λ b. let m = rw (at, o) at (users-changed s h None b l) in let n =
+    rw (none, d.reads) at (users-called (state_without s h) p (Some c) b lp) in omega (arith, m, n) in
     let hid : (q : ℕ) → hidden (set s.calls p (Some c)) q ≡ hidden s.calls q = λ q.
     let n = count-set (readies q) s.calls p (Some c) None lp in
     let nx : ◌≡◌ {A = ℕ} (cond (readies q (get_or s.calls p None)) 1 0) 0 = rw none refl in
@@ -79,45 +55,22 @@ sound-dropping s p h r x c k at word view free none lp d =
     λ b. omega (arith, count-set (alone g b) s.handles h None None l) in
     let dm : (b : ℕ) → tally (describes g b) (set s.handles h None) ≤ tally (describes g b) s.handles =
     λ b. omega (arith, count-set (describes g b) s.handles h None None l) in
-    let size = k.size in
     record {
-      size = record {
-        wide = size.wide;
-        ceiling = size.ceiling;
-        few_blocks = size.few_blocks;
-        few_records = size.few_records;
-        few_handles = rw length-set size.few_handles;
-        few_calls = rw length-set size.few_calls;
-      };
+      size = rw (length-set, length-set) k.size;
       blocks = k.blocks;
-      fit = All-from_get_or (Fits g (set s.calls p (Some c))) (set s.handles h None) None (λ i li. elim (eqb_tells i h) [
-        | inl z ↦ rw (z.1, get_or-set_same s.handles h None None l) tt
-        | inr z ↦ rw (get_or-set_other s.handles h i None None z.1)
-            (fit-dropping s p c (λ q. omega (arith, hid q)) (get_or s.handles i None) (k.fit i None (rw length-set at li)))
-      ]);
-      calls_fit = All-from_get_or (FitsCall next) (set s.calls p (Some c)) None (λ i li.
-          let lo : i < length s.calls = (let z = rw length-set at li in z) in
-          elim (eqb_tells i p) [
-            | inl z ↦ rw (z.1, get_or-set_same s.calls p (Some c) None lp) (d.fits next refl hid (hm (record_at g r).block))
-            | inr z ↦ rw (get_or-set_other s.calls p i (Some c) None z.1) (call-kept s next (call_at s i) (record {
-              tables = keeps-self g;
-              live = λ q _ t. t;
-              hidden = λ q _ _. hid q;
-              handle = λ j y b a. get_or-set_other s.handles h j None None (λ e. let q = rw e at (lent-by j s.calls i None lo b) in absurd (cc)) ∙ a;
-              owner = λ j y a. refl;
-              let_go = λ q j t. refl;
-              holders = λ q e. hm (record_at g q).block;
-            }) (k.calls_fit i None lo))
-          ]);
+      fit = handles-fit-set g (set s.calls p (Some c)) s.handles h None l tt
+          (λ i _ li. fit-dropping s p c (λ q. omega (arith, hid q)) (get_or s.handles i None) (k.fit i None li));
+      calls_fit = calls-fit-set s next p (Some c) lp (d.fits next refl hid (hm (record_at g r).block)) (λ i _ lo. record {
+        tables = keeps-self g;
+        live = λ q _ t. t;
+        hidden = λ q _ _. hid q;
+        handle = λ j y b a. get_or-set_other s.handles h j None None (λ e. let q = rw e at (lent-by j s.calls i None lo b) in absurd (cc)) ∙ a;
+        owner = λ j y a. refl;
+        let_go = λ q j t. refl;
+        holders = λ q e. hm (record_at g q).block;
+      }) k.calls_fit;
       one_release = λ b. let n = count-set (releases g b) s.calls p (Some c) None lp in omega (arith, n, d.first b);
-      counted = λ q live. let v = k.counted q live in record {
-        known = v.known;
-        one_maker = rw (hid q) v.one_maker;
-        counts = λ z. rw hm (v.counts (sym (hid q) ∙ z));
-        fresh = λ z. v.fresh (sym (hid q) ∙ z);
-        used = rw um v.used;
-        undescribed = λ z. omega (arith, dm (record_at g q).block, v.undescribed (sym (hid q) ∙ z));
-      };
+      counted = λ q live. rw (hid q, hm, um) (fits-fewer (k.counted q live) (dm (record_at g q).block));
       one_record = λ q q' a b u v e. k.one_record q q' a b (sym (hid q) ∙ u) (sym (hid q') ∙ v) e;
       sole = λ b t. rw hm (k.sole b (omega (arith, am b)));
       capped = λ b. rw hm (k.capped b);

@@ -2,14 +2,7 @@
 use Rattle.std.proofs.Common.{◌≡◌, inl, inr, ℕ, ◌+◌, ◌-◌, ◌%◌, ◌^◌, ◌<◌, ◌≤◌, ◌&&◌, ◌||◌, zero, suc, get_or, List, [], ◌∷◌, Bool, true, false, Option, Some, None, SomeIff, sym, ◌∙◌, ap, subst, refl, arith, length}
 use Rattle.std.proofs.lemmas.Bool.Decides.{leb_tells}
 use Rattle.std.proofs.Math.Nat.{mod-eq_of_lt}
-use Rattle.iobufs_owner.specs.declared.owner.types.Handle.{Handle}
-use Rattle.iobufs_owner.specs.declared.owner.types.Kind.TheVariants.{View, Mut}
-use Rattle.iobufs_owner.specs.declared.owner.types.Record.{Record}
-use Rattle.iobufs_owner.specs.declared.owner.types.Kind.{Kind}
-use Rattle.iobufs_owner.specs.declared.owner.types.Block.{Block}
-use Rattle.iobufs_owner.specs.declared.owner.types.Pending.{Pending}
-use Rattle.iobufs_owner.specs.declared.owner.types.Word.{Word}
-use Rattle.iobufs_owner.specs.declared.owner.types.Word.TheVariants.{Empty, Descriptor, Record as Counted}
+use Rattle.iobufs_owner.specs.Types.{Handle, View, Mut, Record, Kind, Block, Pending, Word, Empty, Descriptor, Counted}
 use Rattle.iobufs_owner.specs.Word.{HasRoom, IsWord, word_of}
 use Rattle.iobufs_owner.specs.State.{State, Tables, owner_of, base_by, block_with, handle_at, record_at, block_at, size_in, tail_in, retailed}
 use Rattle.iobufs_owner.specs.Changes.{edited, detached_handle}

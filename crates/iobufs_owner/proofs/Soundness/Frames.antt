@@ -7,9 +7,7 @@ use Rattle.iobufs_owner.specs.State.{State, Tables, block_with}
 use Rattle.iobufs_owner.specs.World.{World, holders, users, tally}
 use Rattle.iobufs_owner.specs.Reading.{reading, read_handle, read_call}
 use Rattle.iobufs_owner.specs.Sound.{Fits, alone, describes}
-use Rattle.iobufs_owner.specs.declared.owner.types.Block.{Block}
-use Rattle.iobufs_owner.specs.declared.owner.types.Handle.{Handle}
-use Rattle.iobufs_owner.specs.declared.owner.types.Pending.{Pending}
+use Rattle.iobufs_owner.specs.Types.{Block, Handle, Pending}
 use Rattle.iobufs_owner.proofs.Soundness.Keeps.{Keeps, owner-kept}
 
 pub read-kept : (g k : Tables) (calls : List (Option Pending)) (o : Option Handle) → Keeps g k → Fits g calls o → read_handle k o ≡ read_handle g o

@@ -3,11 +3,9 @@ use Rattle.std.proofs.Common.{◌≡◌, ℕ, ◌+◌, ◌<◌, ◌≤◌, ◌==
 use Rattle.iobufs_owner.specs.State.{State, Tables, owner_of, record_at, handle_at}
 use Rattle.iobufs_owner.specs.World.{Dropping, holds, holders, users, still_holds, drops, tally}
 use Rattle.iobufs_owner.specs.Reading.{reading, read_handle, read_call, has_let_go}
-use Rattle.iobufs_owner.specs.Sound.{alone, describes, is_descriptor, releases}
+use Rattle.iobufs_owner.specs.Sound.{FitsRecord, alone, describes, is_descriptor, releases}
 use Rattle.iobufs_owner.specs.Kinds.{is_mut}
-use Rattle.iobufs_owner.specs.declared.owner.types.Handle.{Handle}
-use Rattle.iobufs_owner.specs.declared.owner.types.Pending.{Pending}
-use Rattle.iobufs_owner.specs.declared.owner.types.Pending.TheVariants.{Loaded, Ready, Add, Subtract, Release}
+use Rattle.iobufs_owner.specs.Types.{Handle, Pending, Record, Loaded, Ready, Add, Subtract, Release}
 use Rattle.iobufs_owner.proofs.Soundness.Counts.{count-some, count-map, count-most}
 use Rattle.iobufs_owner.proofs.Soundness.StaysSound.{at-some}
 use Rattle.iobufs_owner.proofs.Soundness.Frames.{is-eqb}
@@ -97,3 +95,14 @@ go-releases g b (Some (Ready h w q)) e = e
 go-releases g b (Some (Add h q)) e = e
 go-releases g b (Some (Subtract q)) e = e
 go-releases g b (Some (Release q)) e = first-and (b == (record_at g q).block) (has_let_go g q) e
+
+-- a record that fits goes on to fit where fewer handles describe its block
+pub fits-fewer : {v : Record} {b m h u d e : ℕ} → FitsRecord v b m h u d → e ≤ d → FitsRecord v b m h u e
+fits-fewer k few = record {
+  known = k.known;
+  one_maker = k.one_maker;
+  counts = k.counts;
+  fresh = k.fresh;
+  used = k.used;
+  undescribed = λ z. let n = k.undescribed z in omega arith;
+}

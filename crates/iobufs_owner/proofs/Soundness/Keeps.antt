@@ -1,18 +1,15 @@
 -- Tables that keep what live handles and calls speak of (`Keeps`): handles and calls that fit go on to fit.
-use Rattle.std.proofs.Common.{◌≡◌, ℕ, zero, suc, ◌<◌, ◌≤◌, ◌==◌, ◌||◌, Bool, true, false, List, [], ◌∷◌, length, get_or, map, sym, ◌∙◌, ap, refl, arith, All, Option, Some, None}
-use Rattle.std.proofs.lemmas.List.Elements.{All-head, All-tail, All-weaker}
-use Rattle.std.proofs.lemmas.Bool.Decides.{nat_tests}
-use Rattle.iobufs_owner.specs.State.{State, Tables, owner_of, owner_by, base_by, record_at, block_at, handle_at, block_with}
+use Rattle.std.proofs.Common.{◌≡◌, ◌≢◌, inl, inr, set, ℕ, zero, suc, ◌<◌, ◌≤◌, ◌==◌, ◌||◌, Bool, true, false, List, [], ◌∷◌, length, get_or, map, sym, ◌∙◌, ap, refl, arith, All, Option, Some, None}
+use Rattle.std.proofs.Math.ListN.{length-set}
+use Rattle.std.proofs.lemmas.List.{get_or-set_same, get_or-set_other}
+use Rattle.std.proofs.lemmas.List.Elements.{All-from_get_or, All-head, All-tail, All-weaker}
+use Rattle.std.proofs.lemmas.Bool.Decides.{eqb_tells, nat_tests}
+use Rattle.iobufs_owner.specs.State.{State, Tables, owner_of, owner_by, base_by, record_at, block_at, handle_at, call_at, block_with}
 use Rattle.iobufs_owner.specs.World.{holders, tally}
 use Rattle.iobufs_owner.specs.Reading.{reading, read_call, has_let_go}
 use Rattle.iobufs_owner.specs.Lending.{borrows_it, is_lent}
 use Rattle.iobufs_owner.specs.Sound.{FitsWord, Fits, FitsCall, Shares, SpeaksOf, IsDescribed, hidden, releases}
-use Rattle.iobufs_owner.specs.declared.owner.types.Handle.{Handle}
-use Rattle.iobufs_owner.specs.declared.owner.types.Share.{Share}
-use Rattle.iobufs_owner.specs.declared.owner.types.Pending.{Pending}
-use Rattle.iobufs_owner.specs.declared.owner.types.Pending.TheVariants.{Loaded, Ready, Add, Subtract, Release}
-use Rattle.iobufs_owner.specs.declared.owner.types.Word.{Word}
-use Rattle.iobufs_owner.specs.declared.owner.types.Word.TheVariants.{Empty, Descriptor, Record as Counted}
+use Rattle.iobufs_owner.specs.Types.{Handle, Share, Pending, Loaded, Ready, Add, Subtract, Release, Word, Empty, Descriptor, Counted}
 
 -- tables that keep what live handles and calls speak of: the bits, each block, the block of each live record
 pub record Keeps (g k : Tables) : Type 0 where
@@ -252,3 +249,21 @@ fits-calls g cs ds x (Counted r) e f = record {
   lies = f.lies;
   native = f.native;
 }
+
+-- another call for a party: where it fits, and each other one has left to it what it relies on, all fit
+pub calls-fit-set : (s t : State) (p : ℕ) (c : Option Pending) → p < length s.calls → FitsCall t c
+    → ((i : ℕ) → i ≢ p → i < length s.calls → Leaves s t (call_at s i)) → All (FitsCall s) s.calls → All (FitsCall t) (set s.calls p c)
+calls-fit-set s t p c l f leaves k = All-from_get_or (FitsCall t) (set s.calls p c) None (λ i li.
+    let lo : i < length s.calls = (let z = rw length-set at li in z) in
+    elim (eqb_tells i p) [
+      | inl z ↦ rw (z.1, get_or-set_same s.calls p c None l) f
+      | inr z ↦ rw (get_or-set_other s.calls p i c None z.1) (call-kept s t (call_at s i) (leaves i z.1 lo) (k i None lo))
+    ])
+
+-- another handle under a number: where it fits, and each other one fits as it did, all fit
+pub handles-fit-set : (g : Tables) (calls : List (Option Pending)) (hs : List (Option Handle)) (h : ℕ) (o : Option Handle) → h < length hs → Fits g calls o
+    → ((i : ℕ) → i ≢ h → i < length hs → Fits g calls (get_or hs i None)) → All (Fits g calls) (set hs h o)
+handles-fit-set g calls hs h o l f others = All-from_get_or (Fits g calls) (set hs h o) None (λ i li. elim (eqb_tells i h) [
+  | inl z ↦ rw (z.1, get_or-set_same hs h o None l) f
+  | inr z ↦ rw (get_or-set_other hs h i o None z.1) (others i z.1 (rw length-set at li))
+])

@@ -9,9 +9,7 @@ use Rattle.iobufs_owner.specs.State.{Tables, block_at, triple}
 use Rattle.iobufs_owner.specs.World.{tally}
 use Rattle.iobufs_owner.specs.Reading.{is_freed, same_freed}
 use Rattle.iobufs_owner.specs.Sound.{ArePlaced, IsTripleOf, LogsBlocks, LogsRecords, is_logged, is_dead}
-use Rattle.iobufs_owner.specs.declared.owner.types.Block.{Block}
-use Rattle.iobufs_owner.specs.declared.owner.types.Freed.{Freed}
-use Rattle.iobufs_owner.specs.declared.owner.types.Record.{Record}
+use Rattle.iobufs_owner.specs.Types.{Block, Freed, Record}
 use Rattle.iobufs_owner.proofs.Soundness.Counts.{count-append, count-set, count-map}
 use Rattle.iobufs_owner.proofs.Soundness.Frames.{not-eqb, is-eqb}
 use Rattle.iobufs_owner.proofs.Soundness.Edits.{no_block}
@@ -146,7 +144,7 @@ not-logged b (f ∷ fs) zero d e l h = let z = rw (h, same-triple b) at e in cc
 not-logged b (f ∷ fs) (suc i) d e l h = not-logged b fs i d (or-right (same_freed b f) (is_freed b fs) e) (omega arith) h
 
 -- two blocks have two bases
-pub bases : (g : Tables) (b c : ℕ) → ArePlaced g → b < length g.blocks → c < length g.blocks → b ≢ c → (block_at g b).base ≢ (block_at g c).base
+pub bases : (g : Tables) (b c : ℕ) → ArePlaced g.blocks → b < length g.blocks → c < length g.blocks → b ≢ c → (block_at g b).base ≢ (block_at g c).base
 bases g b c k lb lc ne e =
     let pb = (k.places b no_block lb).some in
     let pc = (k.places c no_block lc).some in
@@ -155,7 +153,7 @@ bases g b c k lb lc ne e =
     grind (arith, one, two)
 
 -- one triple more in the log frees its block alone
-pub freed-more : (g : Tables) (log : List Freed) (b : ℕ) → ArePlaced g → b < length g.blocks
+pub freed-more : (g : Tables) (log : List Freed) (b : ℕ) → ArePlaced g.blocks → b < length g.blocks
     → map (λ (x : Block). is_freed x (log ++ triple (block_at g b) ∷ [])) g.blocks ≡ set (map (λ (x : Block). is_freed x log) g.blocks) b true
 freed-more g log b k l =
     let old : Block → Bool = λ (x : Block). is_freed x log in
@@ -170,7 +168,7 @@ freed-more g log b k l =
     ])
 
 -- the block that is freed had users and has none, and all others keep having some or none
-pub block-log-freed : (g : Tables) (log : List Freed) (b : ℕ) (used used' : ℕ → ℕ) → ArePlaced g → b < length g.blocks → 0 < used b → used' b ≡ 0
+pub block-log-freed : (g : Tables) (log : List Freed) (b : ℕ) (used used' : ℕ → ℕ) → ArePlaced g.blocks → b < length g.blocks → 0 < used b → used' b ≡ 0
     → ((c : ℕ) → c ≢ b → nat_eq (used' c) 0 ≡ nat_eq (used c) 0) → LogsBlocks g.blocks log used → LogsBlocks g.blocks (log ++ triple (block_at g b) ∷ []) used'
 block-log-freed g log b used used' p l some none others k =
     let before : is_freed (block_at g b) log ≡ false = k.freed b l ∙ not-eqb (used b) 0 (omega arith) in

@@ -1,27 +1,21 @@
 -- A clone or slice loses the race: its record is freed, and the call will add to the winner's.
-use Rattle.std.proofs.Common.{◌≡◌, ◌≢◌, inl, inr, ℕ, ◌+◌, ◌<◌, ◌≤◌, ◌==◌, true, false, cond, List, length, get_or, set, sym, ◌∙◌, ap, subst, refl, arith, Option, Some, None}
+use Rattle.std.proofs.Common.{◌≡◌, ◌≢◌, ℕ, ◌+◌, ◌<◌, ◌≤◌, ◌==◌, true, false, cond, List, length, get_or, set, sym, ◌∙◌, ap, subst, refl, arith, Option, Some, None}
 use Rattle.std.proofs.Math.ListN.{length-set}
 use Rattle.std.proofs.lemmas.List.Elements.{All-from_get_or}
-use Rattle.std.proofs.lemmas.List.{get_or-set_same, get_or-set_other}
-use Rattle.std.proofs.lemmas.Bool.Decides.{nat_tests, eqb_tells}
+use Rattle.std.proofs.lemmas.Bool.Decides.{nat_tests}
 use Rattle.iobufs_owner.specs.State.{State, Tables, record_at, handle_at, call_at}
 use Rattle.iobufs_owner.specs.World.{holders, users, still_holds, drops, tally}
 use Rattle.iobufs_owner.specs.Reading.{reading, read_call}
 use Rattle.iobufs_owner.specs.Sound.{IsSound, Fits, FitsWord, FitsCall, Shares, hidden, readies, releases}
 use Rattle.iobufs_owner.specs.Changes.{called, record_freed, tables_without, part}
-use Rattle.iobufs_owner.specs.declared.owner.types.Handle.{Handle}
-use Rattle.iobufs_owner.specs.declared.owner.types.Share.{Share}
-use Rattle.iobufs_owner.specs.declared.owner.types.Pending.{Pending}
-use Rattle.iobufs_owner.specs.declared.owner.types.Pending.TheVariants.{Loaded, Ready, Add, Subtract, Release}
-use Rattle.iobufs_owner.specs.declared.owner.types.Word.{Word}
-use Rattle.iobufs_owner.specs.declared.owner.types.Word.TheVariants.{Record as Counted}
+use Rattle.iobufs_owner.specs.Types.{Handle, Share, Pending, Loaded, Ready, Add, Subtract, Release, Word, Counted}
 use Rattle.iobufs_owner.proofs.Soundness.Counts.{count-set, count-some, count-two}
-use Rattle.iobufs_owner.proofs.Soundness.Keeps.{names, call-kept, calls-read-kept, releases-kept, owner-kept, fits-kept, fits-calls, live-of, shares-kept}
+use Rattle.iobufs_owner.proofs.Soundness.Keeps.{names, calls-read-kept, releases-kept, owner-kept, fits-kept, fits-calls, live-of, shares-kept, calls-fit-set}
 use Rattle.iobufs_owner.proofs.Soundness.StaysSound.{at-some, block-log-kept}
 use Rattle.iobufs_owner.proofs.Soundness.Frames.{holders-alike, users-alike, handles-kept, alone-kept, describes-kept, holders-tables, users-tables, not-eqb, is-eqb}
 use Rattle.iobufs_owner.proofs.Soundness.Edits.{fits-at, live-inside}
 use Rattle.iobufs_owner.proofs.Soundness.Logs.{record-log-dead}
-use Rattle.iobufs_owner.proofs.Soundness.RecordFreed.{dead-block, dead-count, dead-other, dead-keeps, dead-let_go, dead-live}
+use Rattle.iobufs_owner.proofs.Soundness.RecordFreed.{dead-at, dead-block, dead-other, dead-keeps, dead-let_go, dead-live}
 use Rattle.iobufs_owner.proofs.Soundness.Called.{count-calls, called-still}
 use Rattle.iobufs_owner.proofs.Soundness.Won.{some-same}
 
@@ -95,47 +89,26 @@ sound-lost s p r w winner part' x k at atx xw =
     let old : (q : ℕ) → q ≢ r → hidden (set s.calls p c) q ≡ hidden s.calls q = λ q ne. (let n = rw (not-eqb q r ne) at (hid q) in omega (arith, n)) in
     let rel : (d : ℕ) → tally (releases g' d) (set s.calls p c) ≡ tally (releases g d) s.calls =
     λ d. count-calls (releases g' d) s.calls p c None l (ap (releases g' d) at) refl ∙ releases-kept s g' d s.calls e k.calls_fit in
-    let size = k.size in
     record {
-      size = record {
-        wide = size.wide;
-        ceiling = size.ceiling;
-        few_blocks = size.few_blocks;
-        few_records = rw length-set size.few_records;
-        few_handles = size.few_handles;
-        few_calls = rw length-set size.few_calls;
-      };
-      blocks = (let q = k.blocks in record { places = q.places; apart = q.apart });
+      size = rw (length-set, length-set) k.size;
+      blocks = k.blocks;
       fit = All-from_get_or (Fits g' (set s.calls p c)) s.handles None
           (λ i li. fit-lost s r (set s.calls p c) hidr less (get_or s.handles i None) (k.fit i None li));
-      calls_fit = All-from_get_or (FitsCall next) (set s.calls p c) None (λ i li.
-          let lo : i < length s.calls = (let z = rw length-set at li in z) in
-          elim (eqb_tells i p) [
-            | inl z ↦ rw (z.1, get_or-set_same s.calls p c None l) (record { view = x; shares = shares-kept s next part' x (λ a. a) sh; word = xw })
-            | inr z ↦ (let never = not-mine s p r i part' w (call_at s i) k at z.1 lo refl (k.calls_fit i None lo) hidr in
-                rw (get_or-set_other s.calls p i c None z.1) (call-kept s next (call_at s i) (record {
-                  tables = e;
-                  live = λ q n t. dead-other g r q (λ y. never (rw y at n)) ∙ t;
-                  hidden = λ q n _. old q (λ y. never (rw y at n));
-                  handle = λ j y _ a. a;
-                  owner = λ j y a. owner-kept g g' s.calls y e (fits-at s j y k a);
-                  let_go = λ q j t. dead-let_go g r q;
-                  holders = λ q _. hm (record_at g q).block;
-                }) (k.calls_fit i None lo)))
-          ]);
+      calls_fit = calls-fit-set s next p c l (record { view = x; shares = shares-kept s next part' x (λ a. a) sh; word = xw }) (λ i ne lo.
+          let never = not-mine s p r i part' w (call_at s i) k at ne lo refl (k.calls_fit i None lo) hidr in
+          record {
+            tables = e;
+            live = λ q n t. dead-other g r q (λ y. never (rw y at n)) ∙ t;
+            hidden = λ q n _. old q (λ y. never (rw y at n));
+            handle = λ j y _ a. a;
+            owner = λ j y a. owner-kept g g' s.calls y e (fits-at s j y k a);
+            let_go = λ q j t. dead-let_go g r q;
+            holders = λ q _. hm (record_at g q).block;
+          }) k.calls_fit;
       one_release = λ d. rw rel (k.one_release d);
       counted = λ q t.
           let d = dead-live g r q inside t in
-          let v = k.counted q d.0 in
-          let h = old q d.1 in
-          record {
-            known = rw (dead-block g r q) v.known;
-            one_maker = rw h v.one_maker;
-            counts = λ z. rw (dead-count g r q, dead-block g r q, hm) (v.counts (sym h ∙ z));
-            fresh = λ z. rw (dead-count g r q) (v.fresh (sym h ∙ z));
-            used = rw (dead-block g r q, um) v.used;
-            undescribed = λ z. rw (dead-block g r q) (describes-kept g g' s.calls (record_at g q).block s.handles e k.fit ∙ v.undescribed (sym h ∙ z));
-          };
+          rw (dead-at g r q d.1, old q d.1, hm, um, describes-kept g g' s.calls (record_at g q).block s.handles e k.fit) (k.counted q d.0);
       one_record = λ q q' tq tq' hq hq' i.
           let d = dead-live g r q inside tq in
           let d' = dead-live g r q' inside tq' in

@@ -11,9 +11,7 @@ use Rattle.iobufs_owner.specs.Sound.{IsSound, ArePlaced, Fits, alone, describes}
 use Rattle.iobufs_owner.specs.Changes.{with_block, with_handle}
 use Rattle.iobufs_owner.specs.ShortCalls.{first_handle}
 use Rattle.iobufs_owner.specs.Places.{IsPlace, IsGoodPlace, Apart, ApartFrom}
-use Rattle.iobufs_owner.specs.declared.owner.types.Block.{Block}
-use Rattle.iobufs_owner.specs.declared.owner.types.Handle.{Handle}
-use Rattle.iobufs_owner.specs.declared.owner.types.Word.TheVariants.{Descriptor}
+use Rattle.iobufs_owner.specs.Types.{Block, Handle, Descriptor}
 use Rattle.iobufs_owner.proofs.Words.{unpack-size}
 use Rattle.iobufs_owner.proofs.Soundness.Keeps.{all-fit-kept, calls-kept}
 use Rattle.iobufs_owner.proofs.Soundness.StaysSound.{at-some, append-at}
@@ -61,7 +59,7 @@ made-apart g b old new c d h l =
     ]
 
 -- placed blocks with one more at a good place are placed
-pub placed-more : (g : Tables) (b : Block) → ArePlaced g → IsGoodPlace g.blocks b.base b.size b.align → ArePlaced (grown g b)
+pub placed-more : (g : Tables) (b : Block) → ArePlaced g.blocks → IsGoodPlace g.blocks b.base b.size b.align → ArePlaced (grown g b).blocks
 placed-more g b k good = record {
   places = All-push (λ (b : Block). IsPlace b.base b.size b.align) g.blocks b k.places good.place;
   apart = λ c d h l. made-apart g b k.apart good.apart c d h (rw length-append at l);

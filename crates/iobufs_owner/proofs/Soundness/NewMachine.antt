@@ -2,8 +2,7 @@
 use Rattle.std.proofs.Common.{◌≡◌, ℕ, zero, suc, ◌+◌, ◌≤◌, ◌<◌, ◌^◌, Bool, false, List, ◌∷◌, replicate, map, ap, refl, arith, Option, None}
 use Rattle.std.proofs.lemmas.List.{length-replicate}
 use Rattle.std.proofs.lemmas.List.Elements.{All-replicate, All-nil}
-use Rattle.iobufs_owner.specs.declared.owner.types.Block.{Block}
-use Rattle.iobufs_owner.specs.declared.owner.types.Freed.{Freed}
+use Rattle.iobufs_owner.specs.Types.{Block, Freed}
 use Rattle.iobufs_owner.specs.State.{State, Tables, fresh}
 use Rattle.iobufs_owner.proofs.Soundness.Counts.{holders-le-users}
 use Rattle.iobufs_owner.specs.World.{Unfinished, users, drops, tally}

@@ -8,26 +8,18 @@ use Rattle.std.proofs.lemmas.Bool.Decides.{nat_tests, eqb_tells}
 use Rattle.iobufs_owner.specs.State.{State, Tables, owner_of, record_at, block_at, handle_at}
 use Rattle.iobufs_owner.specs.World.{holders, users, is_block, tally}
 use Rattle.iobufs_owner.specs.Reading.{reading, has_let_go}
-use Rattle.iobufs_owner.specs.Sound.{IsSound, Fits, FitsWord, FitsCall, FitsRecord, LiesIn, alone, describes, hidden, readies}
+use Rattle.iobufs_owner.specs.Sound.{IsSound, Fits, FitsWord, FitsCall, LiesIn, alone, describes, hidden, readies}
 use Rattle.iobufs_owner.specs.Changes.{with_block, with_record, with_handle, edited, next_record}
 use Rattle.iobufs_owner.specs.Lending.{Lends, is_lent}
 use Rattle.iobufs_owner.specs.ShortCalls.{frozen}
 use Rattle.iobufs_owner.specs.Places.{IsGoodPlace}
-use Rattle.iobufs_owner.specs.declared.owner.types.Block.{Block}
-use Rattle.iobufs_owner.specs.declared.owner.types.Record.{Record}
-use Rattle.iobufs_owner.specs.declared.owner.types.Handle.{Handle}
-use Rattle.iobufs_owner.specs.declared.owner.types.Kind.{Kind}
-use Rattle.iobufs_owner.specs.declared.owner.types.Kind.TheVariants.{View, Mut}
-use Rattle.iobufs_owner.specs.declared.owner.types.Pending.{Pending}
-use Rattle.iobufs_owner.specs.declared.owner.types.Pending.TheVariants.{Loaded, Ready, Add, Subtract, Release}
-use Rattle.iobufs_owner.specs.declared.owner.types.Word.{Word}
-use Rattle.iobufs_owner.specs.declared.owner.types.Word.TheVariants.{Descriptor, Record as Counted}
+use Rattle.iobufs_owner.specs.Types.{Block, Record, Handle, Kind, View, Mut, Pending, Loaded, Ready, Add, Subtract, Release, Word, Descriptor, Counted}
 use Rattle.iobufs_owner.proofs.Soundness.Keeps.{Keeps, all-fit-kept, calls-kept, calls-read-kept, releases-kept, owner-kept}
 use Rattle.iobufs_owner.proofs.Soundness.StaysSound.{at-some, append-at, set-at, owner-counted, block-log-kept}
 use Rattle.iobufs_owner.proofs.Soundness.Counts.{count-append, count-set, count-find, holders-more, users-more, holders-changed, users-changed, holders-le-users}
 use Rattle.iobufs_owner.proofs.Soundness.Frames.{grown, grown-keeps, handles-kept, alone-kept, describes-kept, holders-tables, users-tables, not-eqb, is-eqb}
 use Rattle.iobufs_owner.proofs.Soundness.Edits.{lies-as, fits-at, live-inside, described-at, alone-at, alone-described, describes-described, describes-counted, alone-shared}
-use Rattle.iobufs_owner.proofs.Soundness.Holders.{describes-few}
+use Rattle.iobufs_owner.proofs.Soundness.Holders.{describes-few, fits-fewer}
 use Rattle.iobufs_owner.proofs.Soundness.Logs.{no_record, below-or, block-log-more, record-log-more}
 use Rattle.iobufs_owner.proofs.Soundness.New.{other-base, placed-more}
 
@@ -168,7 +160,7 @@ sound-recorded s b x k good xw lies native few few' fewer =
         | inl w ↦ (let c = k.counted q (ap (λ (v : Record). v.live) (sym w.1) ∙ t) in
             let known = c.known in
             let ne = not-eqb (record_at g q).block n (omega arith) in
-            subst (λ (v : Record). FitsRecord next q v) (sym w.1) (record {
+            rw w.1 (record {
               known = rw length-append (omega arith);
               one_maker = c.one_maker;
               counts = λ z. rw (hm, ne) (omega (arith, c.counts z));
@@ -176,14 +168,14 @@ sound-recorded s b x k good xw lies native few few' fewer =
               used = rw (um, ne) (omega (arith, c.used));
               undescribed = λ z. rw dm (c.undescribed z);
             }))
-        | inr i ↦ subst (λ (q : ℕ). FitsRecord next q (record_at g' q)) (sym i) (subst (λ (v : Record). FitsRecord next r v) (sym new) (record {
+        | inr i ↦ rw (i, new) (record {
           known = rw length-append (omega arith);
           one_maker = omega (arith, shown);
           counts = λ z. sym held;
           fresh = λ z. absurd (omega (arith, z, shown));
           used = omega (arith, one);
           undescribed = λ z. rw dm (omega (arith, describes-few s n, unheld));
-        }))
+        })
       ];
       one_record = λ p q tp tq hp hq i. elim (recorded-either (grown s.tables b) 1 n p tp) [
         | inl w ↦ elim (recorded-either (grown s.tables b) 1 n q tq) [
@@ -269,7 +261,7 @@ sound-promoted s h x y w b k at free xw ox kb yw yv lies few =
         few_handles = rw length-set size.few_handles;
         few_calls = size.few_calls;
       };
-      blocks = (let p = k.blocks in record { places = p.places; apart = p.apart });
+      blocks = k.blocks;
       fit = All-set (Fits g' s.calls) s.handles h (Some y) (subst (λ (v : Word). FitsWord g' s.calls y v) (sym yw) (record {
         live = ap (λ (v : Record). v.live) new;
         known = rw new-block kb;
@@ -281,23 +273,15 @@ sound-promoted s h x y w b k at free xw ox kb yw yv lies few =
           (λ i z a. at-some s.handles i z a) (λ i d l q j t. recorded-let_go g 1 b q t) (λ c _. hm c) (λ q t. (k.counted q t).known) k.calls_fit;
       one_release = λ c. rw (releases-kept s g' c s.calls e k.calls_fit) (k.one_release c);
       counted = λ q t. elim (recorded-either g 1 b q t) [
-        | inl v ↦ (let c = k.counted q (ap (λ (v : Record). v.live) (sym v.1) ∙ t) in
-            subst (λ (v : Record). FitsRecord next q v) (sym v.1) (record {
-              known = c.known;
-              one_maker = c.one_maker;
-              counts = λ z. rw hm (c.counts z);
-              fresh = c.fresh;
-              used = rw um c.used;
-              undescribed = λ z. omega (arith, dm (record_at g q).block, c.undescribed z);
-            }))
-        | inr i ↦ subst (λ (q : ℕ). FitsRecord next q (record_at g' q)) (sym i) (subst (λ (v : Record). FitsRecord next r v) (sym new) (record {
+        | inl v ↦ rw (v.1, hm, um) (fits-fewer (k.counted q (ap (λ (v : Record). v.live) (sym v.1) ∙ t)) (omega (arith, dm (record_at g q).block)))
+        | inr i ↦ rw (i, new) (record {
           known = kb;
           one_maker = omega (arith, shown);
           counts = λ z. rw hm (sym one);
           fresh = λ z. absurd (omega (arith, z, shown));
           used = rw um (omega (arith, one, holders-le-users (reading s) b));
           undescribed = λ z. gone;
-        }))
+        })
       ];
       one_record = λ p q tp tq hp hq i. elim (recorded-either g 1 b p tp) [
         | inl v ↦ elim (recorded-either g 1 b q tq) [

@@ -2,23 +2,15 @@
 use Rattle.std.proofs.Common.{◌≡◌, inl, inr, ℕ, ◌+◌, ◌^◌, ◌<◌, ◌==◌, true, cond, List, length, get_or, set, sym, ◌∙◌, ap, subst, refl, arith, Option, Some, None, unwrap_or, length-append}
 use Rattle.std.proofs.Math.ListN.{length-set}
 use Rattle.std.proofs.lemmas.List.Elements.{All-from_get_or}
-use Rattle.std.proofs.lemmas.List.{get_or-set_same, get_or-set_other}
-use Rattle.std.proofs.lemmas.Bool.Decides.{eqb_tells}
 use Rattle.iobufs_owner.specs.State.{State, Tables, record_at, call_at}
 use Rattle.iobufs_owner.specs.World.{holders, users, tally}
 use Rattle.iobufs_owner.specs.Reading.{reading}
-use Rattle.iobufs_owner.specs.Sound.{IsSound, Fits, FitsWord, FitsCall, FitsRecord, IsLoading, SpeaksOf, hidden, readies, releases}
+use Rattle.iobufs_owner.specs.Sound.{IsSound, Fits, FitsWord, FitsCall, IsLoading, SpeaksOf, hidden, readies, releases}
 use Rattle.iobufs_owner.specs.Changes.{called, with_record, part}
 use Rattle.iobufs_owner.specs.LongCalls.{loaded_found, loaded_block}
-use Rattle.iobufs_owner.specs.declared.owner.types.Record.{Record}
-use Rattle.iobufs_owner.specs.declared.owner.types.Handle.{Handle}
-use Rattle.iobufs_owner.specs.declared.owner.types.Share.{Share}
-use Rattle.iobufs_owner.specs.declared.owner.types.Pending.{Pending}
-use Rattle.iobufs_owner.specs.declared.owner.types.Pending.TheVariants.{Loaded, Ready}
-use Rattle.iobufs_owner.specs.declared.owner.types.Word.{Word}
-use Rattle.iobufs_owner.specs.declared.owner.types.Word.TheVariants.{Empty, Descriptor, Record as Counted}
+use Rattle.iobufs_owner.specs.Types.{Record, Handle, Share, Pending, Loaded, Ready, Word, Empty, Descriptor, Counted}
 use Rattle.iobufs_owner.proofs.Soundness.Counts.{count-set}
-use Rattle.iobufs_owner.proofs.Soundness.Keeps.{call-kept, calls-read-kept, releases-kept, owner-kept, fits-kept, live-of, shares-kept, promised-kept}
+use Rattle.iobufs_owner.proofs.Soundness.Keeps.{calls-read-kept, releases-kept, owner-kept, fits-kept, live-of, shares-kept, promised-kept, calls-fit-set}
 use Rattle.iobufs_owner.proofs.Soundness.StaysSound.{at-some, block-log-kept}
 use Rattle.iobufs_owner.proofs.Soundness.Frames.{handles-kept, alone-kept, describes-kept, holders-tables, users-tables, not-eqb, is-eqb}
 use Rattle.iobufs_owner.proofs.Soundness.Edits.{fits-at, live-inside}
@@ -91,15 +83,6 @@ sound-readied s p part w b k at ld same few =
     (let n = rw (is-eqb (length s.tables.records) (length s.tables.records) refl) at (hid r) in let z = unhidden-next s k in omega (arith, n, z)) in
     let rel : (d : ℕ) → tally (releases g' d) (set s.calls p c) ≡ tally (releases g d) s.calls =
     λ d. count-calls (releases g' d) s.calls p c None l (ap (releases g' d) at) refl ∙ releases-kept s g' d s.calls e k.calls_fit in
-    let leaves = λ (o : Option Pending). call-kept s next o (record {
-      tables = e;
-      let_go = λ q j t. recorded-let_go g 2 b q t;
-      live = λ n _ t. live n t;
-      hidden = λ n _ t. old n (live-inside g.records n t);
-      handle = λ i y _ a. a;
-      owner = λ i y a. owner-kept g g' s.calls y e (fits-at s i y k a);
-      holders = λ n _. hm (record_at g n).block;
-    }) in
     let size = k.size in
     record {
       size = record {
@@ -110,42 +93,37 @@ sound-readied s p part w b k at ld same few =
         few_handles = size.few_handles;
         few_calls = rw length-set size.few_calls;
       };
-      blocks = (let q = k.blocks in record { places = q.places; apart = q.apart });
+      blocks = k.blocks;
       fit = All-from_get_or (Fits g' (set s.calls p c)) s.handles None
           (λ i li. fit-readied s 2 b (set s.calls p c) old (get_or s.handles i None) (k.fit i None li));
-      calls_fit = All-from_get_or (FitsCall next) (set s.calls p c) None (λ i li.
-          let lo : i < length s.calls = (let z = rw length-set at li in z) in
-          elim (eqb_tells i p) [
-            | inl z ↦ rw (z.1, get_or-set_same s.calls p c None l) (record {
-              view = ld.view;
-              shares = shares-kept s next part ld.view (λ a. a) ld.shares;
-              block = b;
-              promised = promised-kept g g' ld.view w b e (owner-kept g g' s.calls ld.view e (fits-at s part.handle ld.view k ld.shares.at)) promised;
-              live = ap (λ (v : Record). v.live) new;
-              same = ap (λ (v : Record). v.block) new;
-            })
-            | inr z ↦ rw (get_or-set_other s.calls p i c None z.1) (leaves (call_at s i) (k.calls_fit i None lo))
-          ]);
+      calls_fit = calls-fit-set s next p c l (record {
+        view = ld.view;
+        shares = shares-kept s next part ld.view (λ a. a) ld.shares;
+        block = b;
+        promised = promised-kept g g' ld.view w b e (owner-kept g g' s.calls ld.view e (fits-at s part.handle ld.view k ld.shares.at)) promised;
+        live = ap (λ (v : Record). v.live) new;
+        same = ap (λ (v : Record). v.block) new;
+      }) (λ _ _ _. record {
+        tables = e;
+        let_go = λ q j t. recorded-let_go g 2 b q t;
+        live = λ n _ t. live n t;
+        hidden = λ n _ t. old n (live-inside g.records n t);
+        handle = λ i y _ a. a;
+        owner = λ i y a. owner-kept g g' s.calls y e (fits-at s i y k a);
+        holders = λ n _. hm (record_at g n).block;
+      }) k.calls_fit;
       one_release = λ d. rw rel (k.one_release d);
       counted = λ q t. elim (recorded-either g 2 b q t) [
-        | inl u ↦ (let v = k.counted q (ap (λ (v : Record). v.live) (sym u.1) ∙ t) in
-            let h = old q u.0 in
-            subst (λ (v : Record). FitsRecord next q v) (sym u.1) (record {
-              known = v.known;
-              one_maker = rw h v.one_maker;
-              counts = λ z. rw hm (v.counts (sym h ∙ z));
-              fresh = λ z. v.fresh (sym h ∙ z);
-              used = rw um v.used;
-              undescribed = λ z. describes-kept g g' s.calls (record_at g q).block s.handles e k.fit ∙ v.undescribed (sym h ∙ z);
-            }))
-        | inr i ↦ subst (λ (q : ℕ). FitsRecord next q (record_at g' q)) (sym i) (subst (λ (v : Record). FitsRecord next r v) (sym new) (record {
+        | inl u ↦ rw (u.1, old q u.0, hm, um, describes-kept g g' s.calls (record_at g q).block s.handles e k.fit)
+            (k.counted q (ap (λ (v : Record). v.live) (sym u.1) ∙ t))
+        | inr i ↦ rw (i, new) (record {
           known = known;
           one_maker = omega (arith, one);
           counts = λ z. absurd (omega (arith, z, one));
           fresh = λ z. refl;
           used = rw um (owner-used s part.handle ld.view b ld.shares.at promised.owner);
           undescribed = λ z. absurd (omega (arith, z, one));
-        }))
+        })
       ];
       one_record = λ q q' tq tq' hq hq' i. elim (recorded-either g 2 b q tq) [
         | inl u ↦ elim (recorded-either g 2 b q' tq') [

@@ -5,7 +5,7 @@ use Rattle.std.proofs.lemmas.Bool.Decides.{eqb_tells}
 use Rattle.iobufs_owner.specs.State.{Tables, record_at}
 use Rattle.iobufs_owner.specs.Reading.{has_let_go}
 use Rattle.iobufs_owner.specs.Changes.{tables_without}
-use Rattle.iobufs_owner.specs.declared.owner.types.Record.{Record}
+use Rattle.iobufs_owner.specs.Types.{Record}
 use Rattle.iobufs_owner.proofs.Soundness.Keeps.{Keeps}
 use Rattle.iobufs_owner.proofs.Soundness.AddHolder.{field-set}
 
@@ -50,3 +50,8 @@ dead-live g r q l e = elim (eqb_tells q r) [
   | inl i ↦ absurd (let z = rw i.1 at e in let y = dead-same g r l in cc)
   | inr i ↦ (sym (dead-other g r q i.1) ∙ e, i.1)
 ]
+
+-- a record that is freed leaves the others as they were
+pub dead-at : (g : Tables) (r q : ℕ) → q ≢ r → record_at (tables_without g r) q ≡ record_at g q
+dead-at g r q ne = get_or-set_other g.records r q (record { count = (record_at g r).count; block = (record_at g r).block; live = false })
+    (record { count = 0; block = 0; live = false }) ne

@@ -1,26 +1,22 @@
 -- The last step of a drop: record and block are freed.
-use Rattle.std.proofs.Common.{◌≡◌, ◌≢◌, inl, inr, ℕ, ◌+◌, ◌<◌, ◌==◌, Bool, true, false, cond, length, get_or, set, map, sym, ◌∙◌, ap, subst, refl, arith, Option, Some, None, nat_eq}
+use Rattle.std.proofs.Common.{◌≡◌, ◌≢◌, inl, inr, ℕ, ◌+◌, ◌<◌, ◌==◌, Bool, true, false, cond, length, get_or, set, sym, ◌∙◌, ap, subst, refl, arith, Option, Some, None, nat_eq}
 use Rattle.std.proofs.Math.ListN.{length-set}
 use Rattle.std.proofs.lemmas.List.Elements.{All-from_get_or}
-use Rattle.std.proofs.lemmas.List.{get_or-set_same, get_or-set_other, map-set, length-map}
 use Rattle.std.proofs.lemmas.Bool.Decides.{nat_tests, eqb_tells}
 use Rattle.iobufs_owner.specs.State.{State, Tables, owner_of, record_at, handle_at, call_at}
 use Rattle.iobufs_owner.specs.World.{holds, holders, users, Dropping, still_holds, drops, tally}
 use Rattle.iobufs_owner.specs.Reading.{reading, read_handle, read_call, has_let_go}
 use Rattle.iobufs_owner.specs.Changes.{tables_without, both_freed, called}
 use Rattle.iobufs_owner.specs.Sound.{IsSound, Fits, FitsCall, alone, describes, hidden, readies, releases}
-use Rattle.iobufs_owner.specs.declared.owner.types.Handle.{Handle}
-use Rattle.iobufs_owner.specs.declared.owner.types.Pending.{Pending}
-use Rattle.iobufs_owner.specs.declared.owner.types.Pending.TheVariants.{Loaded, Ready, Add, Subtract, Release}
-use Rattle.iobufs_owner.proofs.Soundness.Counts.{count-set, count-some, count-less, count-most, count-two, count-find, count-sum, holders-le-users}
-use Rattle.iobufs_owner.proofs.Soundness.Keeps.{names, call-kept, calls-read-kept, releases-kept, owner-kept, fits-kept, fits-calls, live-of}
-use Rattle.iobufs_owner.proofs.WorldSteps.Shown.{get_or-read}
+use Rattle.iobufs_owner.specs.Types.{Handle, Pending, Loaded, Ready, Add, Subtract, Release}
+use Rattle.iobufs_owner.proofs.Soundness.Counts.{count-set, count-some, count-less, count-most, count-two, count-find, count-sum, holders-le-users, holders-called, users-called}
+use Rattle.iobufs_owner.proofs.Soundness.Keeps.{names, calls-read-kept, releases-kept, owner-kept, fits-kept, fits-calls, live-of, calls-fit-set}
 use Rattle.iobufs_owner.proofs.Soundness.StaysSound.{at-some, owner-counted}
-use Rattle.iobufs_owner.proofs.Soundness.Frames.{handles-kept, alone-kept, describes-kept, not-eqb, is-eqb}
+use Rattle.iobufs_owner.proofs.Soundness.Frames.{handles-kept, alone-kept, describes-kept, not-eqb, is-eqb, holders-tables, users-tables, holders-alike, users-alike}
 use Rattle.iobufs_owner.proofs.Soundness.Edits.{fits-at, live-inside, and-no}
 use Rattle.iobufs_owner.proofs.Soundness.Holders.{held_by, still_by, drops_by, holders-as, users-as, alone-holds, lets_go, drops-split, go-releases}
 use Rattle.iobufs_owner.proofs.Soundness.Logs.{block-log-freed, record-log-dead}
-use Rattle.iobufs_owner.proofs.Soundness.RecordFreed.{dead-block, dead-count, dead-other, dead-keeps, dead-let_go, dead-live}
+use Rattle.iobufs_owner.proofs.Soundness.RecordFreed.{dead-at, dead-block, dead-other, dead-keeps, dead-let_go, dead-live}
 use Rattle.iobufs_owner.proofs.Soundness.Alone.{ready-borrows}
 
 abbrev pub released : State → ℕ → ℕ → State
@@ -77,27 +73,6 @@ still-other : (b c : ℕ) (v : Bool) → c ≢ b → still_holds c (Some (Droppi
 still-other b c true ne = refl
 still-other b c false ne = not-eqb c b ne
 
-users-released : (s : State) (p r c : ℕ) → call_at s p ≡ Some (Release r) → p < length s.calls
-    → map (read_handle (tables_without s.tables r)) s.handles ≡ map (read_handle s.tables) s.handles
-    → map (read_call (tables_without s.tables r)) s.calls ≡ map (read_call s.tables) s.calls
-    → users (reading (released s p r)) c + cond (c == (record_at s.tables r).block) 1 0 ≡ users (reading s) c
-unfolding users
-users-released s p r c at l hs cs =
-    let n = rw (get_or-read (read_call s.tables) s.calls p None, at) at
-    (count-set (drops c) (map (read_call s.tables) s.calls) p None None (rw length-map l)) in
-    rw (hs, map-set (read_call (tables_without s.tables r)) s.calls p None, cs) (omega (arith, n))
-
-holders-released : (s : State) (p r c : ℕ) → call_at s p ≡ Some (Release r) → p < length s.calls
-    → map (read_handle (tables_without s.tables r)) s.handles ≡ map (read_handle s.tables) s.handles
-    → map (read_call (tables_without s.tables r)) s.calls ≡ map (read_call s.tables) s.calls → c ≢ (record_at s.tables r).block
-    → holders (reading (released s p r)) c ≡ holders (reading s) c
-unfolding holders
-holders-released s p r c at l hs cs ne =
-    let n = rw (get_or-read (read_call s.tables) s.calls p None, at) at
-    (count-set (still_holds c) (map (read_call s.tables) s.calls) p None None (rw length-map l)) in
-    let m = rw (still-other (record_at s.tables r).block c (has_let_go s.tables r) ne) at n in
-    rw (hs, map-set (read_call (tables_without s.tables r)) s.calls p None, cs) (omega (arith, m))
-
 -- no other call counts on the record, or drops the block
 other-drops : (s : State) (p r i b : ℕ) → call_at s p ≡ Some (Release r) → (record_at s.tables r).block ≡ b → tally (drops_by s b) s.calls ≡ 1
     → i ≢ p → i < length s.calls → drops_by s b (call_at s i) ≡ true → ⊥
@@ -149,54 +124,39 @@ sound-released s p r k at =
     let cs = calls-read-kept s g' s.calls e (λ i d l q j t. dead-let_go g r q) k.calls_fit in
     let hid : (q : ℕ) → hidden (set s.calls p None) q ≡ hidden s.calls q = λ q. let c =
     rw at at (count-set (readies q) s.calls p None None l) in omega (arith, c) in
-    let um : (c : ℕ) → users (reading next) c + cond (c == b) 1 0 ≡ users (reading s) c = λ c. users-released s p r c at l hs cs in
-    let hm : (c : ℕ) → c ≢ b → holders (reading next) c ≡ holders (reading s) c = λ c ne. holders-released s p r c at l hs cs ne in
+    let mid : State = record s { tables = tables_without s.tables r } in
+    let um : (c : ℕ) → users (reading next) c + cond (c == b) 1 0 ≡ users (reading s) c = λ c. let n =
+    rw (at, dead-block g r r) at (users-called mid p None c l) in let a = users-alike (reading next) (reading (called mid p None)) c refl refl in let m =
+    users-tables s g' c hs cs in omega (arith, a, n, m) in
+    let hm : (c : ℕ) → c ≢ b → holders (reading next) c ≡ holders (reading s) c = λ c ne. let n =
+    rw (at, dead-block g r r, still-other b c (has_let_go g' r) ne) at (holders-called mid p None c l) in let a =
+    holders-alike (reading next) (reading (called mid p None)) c refl refl in let m = holders-tables s g' c hs cs in omega (arith, a, n, m) in
     let am : (c : ℕ) → tally (alone g' c) s.handles ≡ tally (alone g c) s.handles = λ c. alone-kept g g' s.calls c s.handles e k.fit in
     let dm : (c : ℕ) → tally (describes g' c) s.handles ≡ tally (describes g c) s.handles = λ c. describes-kept g g' s.calls c s.handles e k.fit in
     let none : users (reading next) b ≡ 0 = (let z = rw (is-eqb b b refl, last.users) at (um b) in omega (arith, z)) in
-    let size = k.size in
     record {
-      size = record {
-        wide = size.wide;
-        ceiling = size.ceiling;
-        few_blocks = size.few_blocks;
-        few_records = rw length-set size.few_records;
-        few_handles = size.few_handles;
-        few_calls = rw length-set size.few_calls;
-      };
-      blocks = (let q = k.blocks in record { places = q.places; apart = q.apart });
+      size = rw (length-set, length-set) k.size;
+      blocks = k.blocks;
       fit = All-from_get_or (Fits g' (set s.calls p None)) s.handles None
           (λ i li. fit-released s p r (get_or s.handles i None) hid last.none i refl (k.fit i None li));
-      calls_fit = All-from_get_or (FitsCall next) (set s.calls p None) None (λ i li.
-          let lo : i < length s.calls = (let z = rw length-set at li in z) in
-          elim (eqb_tells i p) [
-            | inl z ↦ rw (z.1, get_or-set_same s.calls p None None l) tt
-            | inr z ↦ rw (get_or-set_other s.calls p i None None z.1) (call-kept s next (call_at s i) (record {
-              tables = e;
-              live = λ q n t. dead-other g r q
-                  (λ y. other-names s r i (call_at s i) refl lo f.shown (other-drops s p r i b at refl last.one z.1 lo) (rw y at n)) ∙ t;
-              hidden = λ q _ _. hid q;
-              handle = λ j x y a. a;
-              owner = λ j x a. owner-kept g g' s.calls x e (fits-at s j x k a);
-              let_go = λ q j t. dead-let_go g r q;
-              holders = λ q y. hm (record_at g q).block (λ j. other-drops s p r i b at refl last.one z.1 lo (rw y (is-eqb b (record_at g q).block (sym j))));
-            }) (k.calls_fit i None lo))
-          ]);
+      calls_fit = calls-fit-set s next p None l tt (λ i ne lo. record {
+        tables = e;
+        live = λ q n t. dead-other g r q
+            (λ y. other-names s r i (call_at s i) refl lo f.shown (other-drops s p r i b at refl last.one ne lo) (rw y at n)) ∙ t;
+        hidden = λ q _ _. hid q;
+        handle = λ j x y a. a;
+        owner = λ j x a. owner-kept g g' s.calls x e (fits-at s j x k a);
+        let_go = λ q j t. dead-let_go g r q;
+        holders = λ q y. hm (record_at g q).block (λ j. other-drops s p r i b at refl last.one ne lo (rw y (is-eqb b (record_at g q).block (sym j))));
+      }) k.calls_fit;
       one_release = λ c. let n = count-set (releases g' c) s.calls p None None l in let m =
           releases-kept s g' c s.calls e k.calls_fit in omega (arith, n, m, k.one_release c);
       counted = λ q t.
           let d = dead-live g r q inside t in
-          let cq = k.counted q d.0 in
           let nb = other-block s r q k f.live f.shown last.none d.0 d.1 in
-          let same = rw (not-eqb (record_at g q).block b nb) at (um (record_at g q).block) in
-          record {
-            known = rw (dead-block g r q) cq.known;
-            one_maker = rw (hid q) cq.one_maker;
-            counts = λ z. rw (dead-count g r q, dead-block g r q, hm (record_at g q).block nb) (cq.counts (sym (hid q) ∙ z));
-            fresh = λ z. rw (dead-count g r q) (cq.fresh (sym (hid q) ∙ z));
-            used = rw (dead-block g r q) (omega (arith, same, cq.used));
-            undescribed = λ z. rw (dead-block g r q, dm) (cq.undescribed (sym (hid q) ∙ z));
-          };
+          let same : users (reading next) (record_at g q).block ≡ users (reading s) (record_at g q).block =
+          (let n = rw (not-eqb (record_at g q).block b nb) at (um (record_at g q).block) in omega (arith, n)) in
+          rw (dead-at g r q d.1, hid q, hm (record_at g q).block nb, same, dm) (k.counted q d.0);
       one_record = λ q q' tq tq' hq hq' i. k.one_record q q' (dead-live g r q inside tq).0 (dead-live g r q' inside tq').0 (sym (hid q) ∙ hq)
           (sym (hid q') ∙ hq') (sym (dead-block g r q) ∙ i ∙ dead-block g r q');
       sole = λ c t. let u = rw am at t in

@@ -3,13 +3,7 @@ use Rattle.std.proofs.Common.{◌≡◌, inl, ℕ, ◌+◌, ◌^◌, ◌<◌, �
 use Rattle.iobufs_owner.specs.State.{State, record_at, block_at, handle_at, call_at}
 use Rattle.iobufs_owner.specs.Sound.{IsSound, FitsCall, IsRacing, IsAdding, Shares, IsDescribed}
 use Rattle.iobufs_owner.specs.Changes.{with_count, called, with_handle, part}
-use Rattle.iobufs_owner.specs.declared.owner.types.Handle.{Handle}
-use Rattle.iobufs_owner.specs.declared.owner.types.Share.{Share}
-use Rattle.iobufs_owner.specs.declared.owner.types.Kind.TheVariants.{View}
-use Rattle.iobufs_owner.specs.declared.owner.types.Pending.{Pending}
-use Rattle.iobufs_owner.specs.declared.owner.types.Pending.TheVariants.{Loaded, Ready, Add}
-use Rattle.iobufs_owner.specs.declared.owner.types.Word.{Word}
-use Rattle.iobufs_owner.specs.declared.owner.types.Word.TheVariants.{Descriptor, Record as Counted}
+use Rattle.iobufs_owner.specs.Types.{Handle, Share, View, Pending, Loaded, Ready, Add, Word, Descriptor, Counted}
 use Rattle.iobufs_owner.proofs.Soundness.StaysSound.{at-some}
 use Rattle.iobufs_owner.proofs.Soundness.Edits.{described-at, counted-at, lies-as}
 use Rattle.iobufs_owner.proofs.Soundness.AddHolder.{sound-added}

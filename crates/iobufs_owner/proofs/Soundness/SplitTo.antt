@@ -9,10 +9,7 @@ use Rattle.iobufs_owner.specs.Reading.{reading}
 use Rattle.iobufs_owner.specs.Sound.{IsSound, Fits, LiesIn, alone, describes}
 use Rattle.iobufs_owner.specs.Changes.{counted, with_count, with_handle, with_record, edited, detached_handle, part, next_record}
 use Rattle.iobufs_owner.specs.Lending.{Lends}
-use Rattle.iobufs_owner.specs.declared.owner.types.Record.{Record}
-use Rattle.iobufs_owner.specs.declared.owner.types.Handle.{Handle}
-use Rattle.iobufs_owner.specs.declared.owner.types.Kind.TheVariants.{View}
-use Rattle.iobufs_owner.specs.declared.owner.types.Word.TheVariants.{Empty, Descriptor, Record as Counted}
+use Rattle.iobufs_owner.specs.Types.{Record, Handle, View, Empty, Descriptor, Counted}
 use Rattle.iobufs_owner.proofs.Soundness.Counts.{count-append, count-set, holders-more, users-more, holders-changed, users-changed}
 use Rattle.iobufs_owner.proofs.Soundness.Keeps.{keeps-self, calls-kept}
 use Rattle.iobufs_owner.proofs.Soundness.StaysSound.{at-some, append-at, set-at, sound-edited, sound-detached, owner-empty, owner-counted, block-log-kept}
@@ -198,14 +195,7 @@ sound-moved s h x k t few =
           (set-at s.handles h i (Some (detached_handle 0)) z (λ e. let q = rw e at b in let u = t.free in cc) a)) k.fit (λ i z a. at-some s.handles i z a)
           (λ i d l q j t. refl) (λ c _. hm c) (λ q t. (k.counted q t).known) k.calls_fit;
       one_release = k.one_release;
-      counted = λ r live. let c = k.counted r live in record {
-        known = c.known;
-        one_maker = c.one_maker;
-        counts = λ e. rw hm (c.counts e);
-        fresh = c.fresh;
-        used = rw um c.used;
-        undescribed = λ e. rw dm (c.undescribed e);
-      };
+      counted = λ r live. rw (hm, um, dm) (k.counted r live);
       one_record = k.one_record;
       sole = λ b p. rw hm (k.sole b (rw am at p));
       capped = λ b. rw hm (k.capped b);

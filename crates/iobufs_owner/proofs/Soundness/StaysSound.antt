@@ -10,10 +10,7 @@ use Rattle.iobufs_owner.specs.State.{State, Tables, owner_of, record_at, handle_
 use Rattle.iobufs_owner.specs.World.{holds, holders, users, tally}
 use Rattle.iobufs_owner.specs.Reading.{reading, read_handle}
 use Rattle.iobufs_owner.specs.Sound.{IsSound, FitsWord, Fits, alone, describes, LogsBlocks}
-use Rattle.iobufs_owner.specs.declared.owner.types.Block.{Block}
-use Rattle.iobufs_owner.specs.declared.owner.types.Freed.{Freed}
-use Rattle.iobufs_owner.specs.declared.owner.types.Handle.{Handle}
-use Rattle.iobufs_owner.specs.declared.owner.types.Word.TheVariants.{Empty, Record as Counted}
+use Rattle.iobufs_owner.specs.Types.{Block, Freed, Handle, Empty, Counted}
 use Rattle.iobufs_owner.proofs.Soundness.Counts.{count-append, count-set, holders-more, users-more, holders-changed, users-changed}
 
 -- a handle without block owns none
@@ -78,14 +75,7 @@ sound-detached s x k e f l =
       calls_fit = calls-kept s next refl (keeps-self s.tables) (λ r t. t) (λ i y b a. append-at s.handles (Some x) i y a) k.fit
           (λ i y a. at-some s.handles i y a) (λ i d l q j t. refl) (λ b l. n b) (λ r live. (k.counted r live).known) k.calls_fit;
       one_release = k.one_release;
-      counted = λ r live. let c = k.counted r live in record {
-        known = c.known;
-        one_maker = c.one_maker;
-        counts = λ h. rw n (c.counts h);
-        fresh = c.fresh;
-        used = rw u c.used;
-        undescribed = λ h. rw d (c.undescribed h);
-      };
+      counted = λ r live. rw (n, u, d) (k.counted r live);
       one_record = k.one_record;
       sole = λ b h. rw n (k.sole b (rw a at h));
       capped = λ b. rw n (k.capped b);
@@ -116,28 +106,14 @@ sound-edited s h x y k at free o same only f =
     rw (at, same b) at (count-set (describes s.tables b) s.handles h (Some y) None l) in omega (arith, e) in
     let size = k.size in
     record {
-      size = record {
-        wide = size.wide;
-        ceiling = size.ceiling;
-        few_blocks = size.few_blocks;
-        few_records = size.few_records;
-        few_handles = rw length-set size.few_handles;
-        few_calls = size.few_calls;
-      };
+      size = rw length-set k.size;
       blocks = k.blocks;
       fit = All-set (Fits s.tables s.calls) s.handles h (Some y) f k.fit;
       calls_fit = calls-kept s next refl (keeps-self s.tables) (λ r t. t)
           (λ i z b a. set-at s.handles h i (Some y) z (λ e. let q = rw e at b in absurd (cc)) a) k.fit (λ i z a. at-some s.handles i z a)
           (λ i d l q j t. refl) (λ b l. n b) (λ r live. (k.counted r live).known) k.calls_fit;
       one_release = k.one_release;
-      counted = λ r live. let c = k.counted r live in record {
-        known = c.known;
-        one_maker = c.one_maker;
-        counts = λ e. rw n (c.counts e);
-        fresh = c.fresh;
-        used = rw u c.used;
-        undescribed = λ e. rw d (c.undescribed e);
-      };
+      counted = λ r live. rw (n, u, d) (k.counted r live);
       one_record = k.one_record;
       sole = λ b p. rw n (alone-edited s.tables s.handles h y b l (k.sole b) (only b) p);
       capped = λ b. rw n (k.capped b);

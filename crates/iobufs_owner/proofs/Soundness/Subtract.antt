@@ -2,16 +2,15 @@
 use Rattle.std.proofs.Common.{◌≡◌, ◌≢◌, inl, inr, ℕ, ◌+◌, ◌-◌, ◌<◌, ◌≤◌, ◌==◌, Bool, true, false, cond, length, get_or, set, map, sym, ◌∙◌, ap, subst, refl, arith, All, Option, Some, None, nat_eq}
 use Rattle.std.proofs.Math.ListN.{length-set}
 use Rattle.std.proofs.lemmas.List.Elements.{All-from_get_or}
-use Rattle.std.proofs.lemmas.List.{get_or-set_same, get_or-set_other, map-set, length-map}
+use Rattle.std.proofs.lemmas.List.{get_or-set_same, map-set, length-map}
 use Rattle.std.proofs.lemmas.Bool.Decides.{nat_tests, eqb_tells}
 use Rattle.iobufs_owner.specs.State.{State, Tables, record_at, call_at}
 use Rattle.iobufs_owner.specs.World.{Unfinished, holders, users, still_holds, drops, tally}
 use Rattle.iobufs_owner.specs.Reading.{reading, read_handle, read_call, has_let_go}
 use Rattle.iobufs_owner.specs.Sound.{IsSound, Fits, FitsCall, alone, describes, hidden, readies, releases}
-use Rattle.iobufs_owner.specs.declared.owner.types.Pending.{Pending}
-use Rattle.iobufs_owner.specs.declared.owner.types.Pending.TheVariants.{Loaded, Ready, Add, Subtract, Release}
+use Rattle.iobufs_owner.specs.Types.{Pending, Loaded, Ready, Add, Subtract, Release}
 use Rattle.iobufs_owner.proofs.Soundness.Counts.{count-set, count-some, count-find, count-most, count-two, holders-le-users}
-use Rattle.iobufs_owner.proofs.Soundness.Keeps.{KeepsLetGo, call-kept, calls-read-kept, releases-kept, owner-kept}
+use Rattle.iobufs_owner.proofs.Soundness.Keeps.{KeepsLetGo, calls-read-kept, releases-kept, owner-kept, calls-fit-set}
 use Rattle.iobufs_owner.proofs.Soundness.StaysSound.{at-some}
 use Rattle.iobufs_owner.proofs.Soundness.Frames.{handles-kept, alone-kept, describes-kept, not-eqb, is-eqb}
 use Rattle.iobufs_owner.proofs.WorldSteps.Shown.{get_or-read}
@@ -211,34 +210,21 @@ sound-subtracted s p r k at =
     omega (arith, t, tx, ty) in
     let same : (c : ℕ) → c ≢ b → holders (reading next) c ≡ holders (reading s) c = λ c ne. (let t = rw (not-eqb c b ne) at (hm c) in omega (arith, t)) in
     let fewer : holders (reading next) b + 1 ≡ holders (reading s) b = (let t = rw (is-eqb b b refl) at (hm b) in omega (arith, t)) in
-    let size = k.size in
     record {
-      size = record {
-        wide = size.wide;
-        ceiling = size.ceiling;
-        few_blocks = size.few_blocks;
-        few_records = rw length-set size.few_records;
-        few_handles = size.few_handles;
-        few_calls = rw length-set size.few_calls;
-      };
-      blocks = (let q = k.blocks in record { places = q.places; apart = q.apart });
+      size = rw (length-set, length-set) k.size;
+      blocks = k.blocks;
       fit = All-from_get_or (Fits g' (set s.calls p y)) s.handles None
           (λ i li. fit-counted s r (n - 1) (set s.calls p y) (λ q. omega (arith, hid q)) (get_or s.handles i None) (k.fit i None li));
-      calls_fit = All-from_get_or (FitsCall next) (set s.calls p y) None (λ i li.
-          let lo : i < length s.calls = (let z = rw length-set at li in z) in
-          elim (eqb_tells i p) [
-            | inl z ↦ rw (z.1, get_or-set_same s.calls p y None lp) (fits-after s p r k f.0 f.1 hid fewer is)
-            | inr z ↦ rw (get_or-set_other s.calls p i y None z.1) (call-kept s next (call_at s i) (record {
-              tables = e;
-              live = λ q _ t. counted-live g r (n - 1) q ∙ t;
-              hidden = λ q _ _. hid q;
-              handle = λ j x b a. a;
-              owner = λ j x a. owner-kept g g' s.calls x e (fits-at s j x k a);
-              let_go = gone i None lo;
-              holders = λ q j. same (record_at g q).block
-                  (λ w. none-release s p r i (call_at s i) k at lo refl (k.calls_fit i None lo) (rw j (is-eqb b (record_at g q).block (sym w))));
-            }) (k.calls_fit i None lo))
-          ]);
+      calls_fit = calls-fit-set s next p y lp (fits-after s p r k f.0 f.1 hid fewer is) (λ i _ lo. record {
+        tables = e;
+        live = λ q _ t. counted-live g r (n - 1) q ∙ t;
+        hidden = λ q _ _. hid q;
+        handle = λ j x b a. a;
+        owner = λ j x a. owner-kept g g' s.calls x e (fits-at s j x k a);
+        let_go = gone i None lo;
+        holders = λ q j. same (record_at g q).block
+            (λ w. none-release s p r i (call_at s i) k at lo refl (k.calls_fit i None lo) (rw j (is-eqb b (record_at g q).block (sym w))));
+      }) k.calls_fit;
       one_release = λ c. one-after s p r c lp (releases-kept s g' c s.calls e k.calls_fit) (k.one_release c) none at;
       counted = λ q t.
           let lq : (record_at g q).live ≡ true = sym (counted-live g r (n - 1) q) ∙ t in

@@ -1,30 +1,23 @@
 -- A clone or slice wins the race: its record takes the descriptor's place, and counts the handle and the new view.
-use Rattle.std.proofs.Common.{◌≡◌, ◌≢◌, inl, inr, ℕ, zero, suc, ◌+◌, ◌^◌, ◌<◌, ◌≤◌, ◌==◌, Bool, true, cond, List, [], ◌∷◌, ◌++◌, length, get_or, set, map, sym, ◌∙◌, ap, subst, refl, arith, All, Option, Some, None, nat_eq}
+use Rattle.std.proofs.Common.{◌≡◌, ◌≢◌, inl, inr, ℕ, zero, suc, ◌+◌, ◌^◌, ◌<◌, ◌≤◌, ◌==◌, Bool, true, cond, List, [], ◌∷◌, ◌++◌, length, get_or, set, sym, ◌∙◌, ap, subst, refl, arith, All, Option, Some, None, nat_eq}
 use Rattle.std.proofs.Math.ListN.{length-set}
 use Rattle.std.proofs.lemmas.List.Elements.{All-from_get_or}
-use Rattle.std.proofs.lemmas.List.{get_or-set_same, get_or-set_other, map-set, length-map, set-set}
+use Rattle.std.proofs.lemmas.List.{get_or-set_same, get_or-set_other, set-set}
 use Rattle.std.proofs.lemmas.Bool.Decides.{eqb_tells}
 use Rattle.iobufs_owner.specs.State.{State, Tables, owner_of, record_at, block_at, handle_at, call_at}
-use Rattle.iobufs_owner.specs.World.{holds, holders, users, still_holds, drops, is_block, tally}
-use Rattle.iobufs_owner.specs.Reading.{reading, read_handle, read_call, has_let_go}
+use Rattle.iobufs_owner.specs.World.{holders, users, is_block, tally}
+use Rattle.iobufs_owner.specs.Reading.{reading, has_let_go}
 use Rattle.iobufs_owner.specs.Sound.{IsSound, Fits, FitsCall, Shares, SpeaksOf, LiesIn, alone, describes, hidden, readies, releases}
 use Rattle.iobufs_owner.specs.Changes.{counted, called, edited, with_handle, part}
-use Rattle.iobufs_owner.specs.declared.owner.types.Record.{Record}
-use Rattle.iobufs_owner.specs.declared.owner.types.Handle.{Handle}
-use Rattle.iobufs_owner.specs.declared.owner.types.Share.{Share}
-use Rattle.iobufs_owner.specs.declared.owner.types.Kind.TheVariants.{View}
-use Rattle.iobufs_owner.specs.declared.owner.types.Pending.{Pending}
-use Rattle.iobufs_owner.specs.declared.owner.types.Pending.TheVariants.{Loaded, Ready, Add, Subtract, Release}
-use Rattle.iobufs_owner.specs.declared.owner.types.Word.TheVariants.{Descriptor, Record as Counted}
-use Rattle.iobufs_owner.proofs.Soundness.Counts.{count-set, count-some}
-use Rattle.iobufs_owner.proofs.Soundness.Keeps.{calls-read-kept, releases-kept, owner-kept, fits-kept, fits-calls, live-of, shares-kept, promised-kept, described-kept}
+use Rattle.iobufs_owner.specs.Types.{Record, Handle, Share, View, Pending, Loaded, Ready, Add, Subtract, Release, Descriptor, Counted}
+use Rattle.iobufs_owner.proofs.Soundness.Counts.{count-set, count-some, holders-changed, users-changed, holders-called, users-called}
+use Rattle.iobufs_owner.proofs.Soundness.Keeps.{calls-read-kept, releases-kept, owner-kept, fits-kept, fits-calls, live-of, shares-kept, promised-kept, described-kept, handles-fit-set}
 use Rattle.iobufs_owner.proofs.Soundness.StaysSound.{at-some, owner-counted, block-log-kept}
-use Rattle.iobufs_owner.proofs.Soundness.Frames.{handles-kept, alone-kept, describes-kept, not-eqb, is-eqb}
+use Rattle.iobufs_owner.proofs.Soundness.Frames.{handles-kept, alone-kept, describes-kept, not-eqb, is-eqb, holders-tables, users-tables}
 use Rattle.iobufs_owner.proofs.Soundness.Edits.{fits-at, alone-at, live-inside, lies-as, lies-still, alone-described, describes-described, describes-counted, alone-shared}
 use Rattle.iobufs_owner.proofs.Soundness.Holders.{describes-few}
 use Rattle.iobufs_owner.proofs.Soundness.Logs.{no_record, record-log-counted}
 use Rattle.iobufs_owner.proofs.Soundness.AddHolder.{sound-added, counted-keeps, counted-let_go, counted-block, counted-live, counted-same, counted-other}
-use Rattle.iobufs_owner.proofs.WorldSteps.Shown.{get_or-read}
 
 -- ---- the record is published in the place of the descriptor, and counts the handle
 
@@ -123,46 +116,6 @@ call-shown s p h r i x b (Some (Release q)) at w word l fit o bl two hid n f =
       alone = rw (counted-block s.tables r 1 q, counted-let_go s.tables r 1 q (shown-let_go s.tables r two), n) f.alone;
     }
 
-holders-shown : (s : State) (p h r : ℕ) (x : Handle) (part : Share) (w b c : ℕ) → handle_at s h ≡ Some x → h < length s.handles
-    → call_at s p ≡ Some (Ready part w r) → p < length s.calls → owner_of s.tables x ≡ Some b
-    → owner_of (counted s.tables r 1) (by_record x r) ≡ Some b
-    → map (read_handle (counted s.tables r 1)) s.handles ≡ map (read_handle s.tables) s.handles
-    → map (read_call (counted s.tables r 1)) s.calls ≡ map (read_call s.tables) s.calls → holders (reading (shown s p h r x)) c ≡ holders (reading s) c
-unfolding holders
-holders-shown s p h r x part w b c at l ap' lp o o' hs cs =
-    let n = rw (get_or-read (read_call s.tables) s.calls p None, ap') at
-    (count-set (still_holds c) (map (read_call s.tables) s.calls) p None None (rw length-map lp)) in
-    let m = count-set (holds c) (map (read_handle s.tables) s.handles) h (read_handle (counted s.tables r 1) (Some (by_record x r))) None (rw length-map l) in
-    let hx : ◌≡◌ {A = ℕ} (cond (holds c (get_or (map (read_handle s.tables) s.handles) h None)) 1 0) (cond (c == b) 1 0) =
-    rw (get_or-read (read_handle s.tables) s.handles h None, at, o) refl in
-    let hy : ◌≡◌ {A = ℕ} (cond (holds c (read_handle (counted s.tables r 1) (Some (by_record x r)))) 1 0) (cond (c == b) 1 0) = rw o' refl in
-    rw (
-      map-set (read_handle (counted s.tables r 1)) s.handles h (Some (by_record x r)),
-      map-set (read_call (counted s.tables r 1)) s.calls p None,
-      hs,
-      cs,
-    ) (omega (arith, n, m, hx, hy))
-
-users-shown : (s : State) (p h r : ℕ) (x : Handle) (part : Share) (w b c : ℕ) → handle_at s h ≡ Some x → h < length s.handles
-    → call_at s p ≡ Some (Ready part w r) → p < length s.calls → owner_of s.tables x ≡ Some b
-    → owner_of (counted s.tables r 1) (by_record x r) ≡ Some b
-    → map (read_handle (counted s.tables r 1)) s.handles ≡ map (read_handle s.tables) s.handles
-    → map (read_call (counted s.tables r 1)) s.calls ≡ map (read_call s.tables) s.calls → users (reading (shown s p h r x)) c ≡ users (reading s) c
-unfolding users
-users-shown s p h r x part w b c at l ap' lp o o' hs cs =
-    let n = rw (get_or-read (read_call s.tables) s.calls p None, ap') at
-    (count-set (drops c) (map (read_call s.tables) s.calls) p None None (rw length-map lp)) in
-    let m = count-set (holds c) (map (read_handle s.tables) s.handles) h (read_handle (counted s.tables r 1) (Some (by_record x r))) None (rw length-map l) in
-    let hx : ◌≡◌ {A = ℕ} (cond (holds c (get_or (map (read_handle s.tables) s.handles) h None)) 1 0) (cond (c == b) 1 0) =
-    rw (get_or-read (read_handle s.tables) s.handles h None, at, o) refl in
-    let hy : ◌≡◌ {A = ℕ} (cond (holds c (read_handle (counted s.tables r 1) (Some (by_record x r)))) 1 0) (cond (c == b) 1 0) = rw o' refl in
-    rw (
-      map-set (read_handle (counted s.tables r 1)) s.handles h (Some (by_record x r)),
-      map-set (read_call (counted s.tables r 1)) s.calls p None,
-      hs,
-      cs,
-    ) (omega (arith, n, m, hx, hy))
-
 -- a handle that fits goes on to fit with another count for a record and calls that hide no more records
 pub fit-counted : (s : State) (r n : ℕ) (cs : List (Option Pending)) → ((q : ℕ) → hidden cs q ≤ hidden s.calls q) → (o : Option Handle)
     → Fits s.tables s.calls o → Fits (counted s.tables r n) cs o
@@ -197,8 +150,11 @@ sound-shown s p r w part x k atp at word =
     (let a = count-some (readies r) s.calls p None lp (ap (readies r) atp ∙ is-eqb r r refl) in let m =
     (k.counted r f.live).one_maker in (k.counted r f.live).fresh (omega (arith, a, m))) in
     let cs = calls-read-kept s g' s.calls e (λ i d l q j t. counted-let_go g r 1 q (shown-let_go g r two)) k.calls_fit in
-    let hm : (c : ℕ) → holders (reading next) c ≡ holders (reading s) c = λ c. holders-shown s p h r x part w b c at l atp lp o oy hs cs in
-    let um : (c : ℕ) → users (reading next) c ≡ users (reading s) c = λ c. users-shown s p h r x part w b c at l atp lp o oy hs cs in
+    let mid : State = record s { tables = counted s.tables r 1 } in
+    let hm : (c : ℕ) → holders (reading next) c ≡ holders (reading s) c = λ c. let a = holders-tables s g' c hs cs in let m =
+    rw (at, ox, oy) at (holders-changed mid h (Some y) c l) in let n = rw atp at (holders-called (edited mid h y) p None c lp) in omega (arith, a, m, n) in
+    let um : (c : ℕ) → users (reading next) c ≡ users (reading s) c = λ c. let a = users-tables s g' c hs cs in let m =
+    rw (at, ox, oy) at (users-changed mid h (Some y) c l) in let n = rw atp at (users-called (edited mid h y) p None c lp) in omega (arith, a, m, n) in
     let hid : (q : ℕ) → hidden (set s.calls p None) q + cond (q == r) 1 0 ≡ hidden s.calls q = λ q. let c =
     rw atp at (count-set (readies q) s.calls p None None lp) in omega (arith, c) in
     let less : (q : ℕ) → hidden (set s.calls p None) q ≤ hidden s.calls q = λ q. omega (arith, hid q) in
@@ -227,28 +183,16 @@ sound-shown s p r w part x k atp at word =
     λ q t z i. (let u = rw i at ((k.counted q t).undescribed z) in omega (arith, u, some)) in
     let old : (q : ℕ) → q ≢ r → hidden (set s.calls p None) q ≡ 0 → hidden s.calls q ≡ 0 =
     λ q ne z. (let u = rw (not-eqb q r ne) at (hid q) in omega (arith, u)) in
-    let size = k.size in
     record {
-      size = record {
-        wide = size.wide;
-        ceiling = size.ceiling;
-        few_blocks = size.few_blocks;
-        few_records = rw length-set size.few_records;
-        few_handles = rw length-set size.few_handles;
-        few_calls = rw length-set size.few_calls;
-      };
-      blocks = (let q = k.blocks in record { places = q.places; apart = q.apart });
-      fit = All-from_get_or (Fits g' (set s.calls p None)) (set s.handles h (Some y)) None (λ i li. elim (eqb_tells i h) [
-        | inl z ↦ rw (z.1, get_or-set_same s.handles h (Some y) None l) (record {
-          live = counted-live g r 1 r ∙ f.live;
-          known = rw (counted-block g r 1 r) me.known;
-          shown = mine;
-          lies = rw (counted-block g r 1 r, f.same) (lies-still (block_at g f.block) (record x { word = Descriptor w }) (Counted r) x.kind pr.says.lies);
-          native = λ m. absurd (let q = sym view ∙ m in cc);
-        })
-        | inr z ↦ rw (get_or-set_other s.handles h i (Some y) None z.1)
-            (fit-counted s r 1 (set s.calls p None) less (get_or s.handles i None) (k.fit i None (rw length-set at li)))
-      ]);
+      size = rw (length-set, length-set, length-set) k.size;
+      blocks = k.blocks;
+      fit = handles-fit-set g' (set s.calls p None) s.handles h (Some y) l (record {
+        live = counted-live g r 1 r ∙ f.live;
+        known = rw (counted-block g r 1 r) me.known;
+        shown = mine;
+        lies = rw (counted-block g r 1 r, f.same) (lies-still (block_at g f.block) (record x { word = Descriptor w }) (Counted r) x.kind pr.says.lies);
+        native = λ m. absurd (let q = sym view ∙ m in cc);
+      }) (λ i _ li. fit-counted s r 1 (set s.calls p None) less (get_or s.handles i None) (k.fit i None li));
       calls_fit = All-from_get_or (FitsCall next) (set s.calls p None) None (λ i li.
           let lo : i < length s.calls = (let z = rw length-set at li in z) in
           elim (eqb_tells i p) [

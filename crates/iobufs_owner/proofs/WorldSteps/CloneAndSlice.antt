@@ -2,17 +2,7 @@
 use Rattle.std.proofs.Common.{◌≡◌, ◌≢◌, ◌⊎◌, inl, inr, ℕ, ◌+◌, ◌-◌, ◌<◌, Bool, true, false, cond, nat_lt, nat_eq, get_or, map, ◌||◌, Option, Some, None, Result, Ok, Err, MatchOption, ap, sym, ◌∙◌, subst, refl, arith, All}
 use Rattle.std.proofs.Math.ListN.{length-set}
 use Rattle.std.proofs.lemmas.List.{length-map, map-set}
-use Rattle.iobufs_owner.specs.declared.owner.types.Handle.{Handle}
-use Rattle.iobufs_owner.specs.declared.owner.types.Share.{Share}
-use Rattle.iobufs_owner.specs.declared.owner.types.Kind.TheVariants.{View}
-use Rattle.iobufs_owner.specs.declared.owner.types.Pending.{Pending}
-use Rattle.iobufs_owner.specs.declared.owner.types.Pending.TheVariants.{Loaded, Ready, Add, Subtract, Release}
-use Rattle.iobufs_owner.specs.declared.owner.types.Word.{Word}
-use Rattle.iobufs_owner.specs.declared.owner.types.Word.TheVariants.{Empty, Descriptor, Record as Counted}
-use Rattle.iobufs_owner.specs.declared.owner.types.Refusal.{Refusal}
-use Rattle.iobufs_owner.specs.declared.owner.types.Refusal.TheVariants.{Idle, WrongKind, OutOfRange, Memory, Ceiling}
-use Rattle.iobufs_owner.specs.declared.owner.types.Reply.{Reply}
-use Rattle.iobufs_owner.specs.declared.owner.types.Reply.TheVariants.{More, Done, Refused}
+use Rattle.iobufs_owner.specs.Types.{Handle, Share, View, Pending, Loaded, Ready, Add, Subtract, Release, Word, Empty, Descriptor, Counted, Refusal, Idle, WrongKind, OutOfRange, Memory, Ceiling, Reply, More, Done, Refused}
 use Rattle.iobufs_owner.specs.State.{State, Tables, owner_of, handle_at, call_at, record_at}
 use Rattle.iobufs_owner.specs.World.{World, Held, Sharing, Dropping, holders, is_block}
 use Rattle.iobufs_owner.specs.Reading.{reading, read_held, read_handle, read_call, has_let_go}

@@ -2,13 +2,7 @@
 use Rattle.std.proofs.Common.{◌≡◌, inl, inr, ℕ, zero, suc, ◌<◌, List, [], ◌∷◌, get_or, arith, Bool, true, false, cond, length, set, map, Option, Some, None, Ok, Err, ap, sym, ◌∙◌, subst, refl}
 use Rattle.std.proofs.Math.ListN.{length-set}
 use Rattle.std.proofs.lemmas.List.{map-set, length-map}
-use Rattle.iobufs_owner.specs.declared.owner.types.Handle.{Handle}
-use Rattle.iobufs_owner.specs.declared.owner.types.Kind.TheVariants.{View}
-use Rattle.iobufs_owner.specs.declared.owner.types.Word.{Word}
-use Rattle.iobufs_owner.specs.declared.owner.types.Word.TheVariants.{Empty, Descriptor, Record as Counted}
-use Rattle.iobufs_owner.specs.declared.owner.types.Refusal.{Refusal}
-use Rattle.iobufs_owner.specs.declared.owner.types.Refusal.TheVariants.{NoHandle, WrongKind, Borrowed}
-use Rattle.iobufs_owner.specs.declared.owner.types.Reply.{Reply}
+use Rattle.iobufs_owner.specs.Types.{Handle, View, Word, Empty, Descriptor, Counted, Refusal, NoHandle, WrongKind, Borrowed, Reply}
 use Rattle.iobufs_owner.specs.State.{State, owner_of, handle_at, record_at}
 use Rattle.iobufs_owner.specs.Reading.{reading, read_held, read_handle}
 use Rattle.iobufs_owner.specs.Sound.{IsSound}
@@ -111,7 +105,7 @@ by-kind s t h x o reply false k at e d i = refuses s t WrongKind o reply d i
 
 by-handle : (s t : State) (h : ℕ) (o : Outcome) (reply : Reply) (found : Option Handle) → IsSound s → handle_at s h ≡ found
     → IsDemoted s h (lending.lend_owning_view_found s h found) o → IsAnswered s o reply t
-    → world.DemoteIs (reading s) (world.view_block_found (reading s) h (read_handle s.tables found)) reply (reading t)
+    → world.DemoteIs (reading s) (world.on_held (read_handle s.tables found) (λ x. cond (same_kind x.kind View) (world.unborrowed_block (reading s) h x.block) (Err WrongKind))) reply (reading t)
 by-handle s t h o reply None k at d i = refuses s t NoHandle o reply d i
 by-handle s t h o reply (Some x) k at d i = by-kind s t h x o reply (same_kind x.kind View) k at refl d i
 

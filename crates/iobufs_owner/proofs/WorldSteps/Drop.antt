@@ -3,17 +3,7 @@ use Rattle.std.proofs.Common.{◌≡◌, ◌⊎◌, inl, inr, ℕ, Bool, true, f
 use Rattle.std.proofs.lemmas.Bool.Decides.{nat_tests}
 use Rattle.std.proofs.Math.ListN.{length-set}
 use Rattle.std.proofs.lemmas.List.{map-set}
-use Rattle.iobufs_owner.specs.declared.owner.types.Handle.{Handle}
-use Rattle.iobufs_owner.specs.declared.owner.types.Freed.{Freed}
-use Rattle.iobufs_owner.specs.declared.owner.types.Kind.{Kind}
-use Rattle.iobufs_owner.specs.declared.owner.types.Kind.TheVariants.{View, Mut}
-use Rattle.iobufs_owner.specs.declared.owner.types.Pending.{Pending}
-use Rattle.iobufs_owner.specs.declared.owner.types.Pending.TheVariants.{Subtract, Release}
-use Rattle.iobufs_owner.specs.declared.owner.types.Word.{Word}
-use Rattle.iobufs_owner.specs.declared.owner.types.Word.TheVariants.{Empty, Descriptor, Record as Counted}
-use Rattle.iobufs_owner.specs.declared.owner.types.Refusal.{Refusal}
-use Rattle.iobufs_owner.specs.declared.owner.types.Reply.{Reply}
-use Rattle.iobufs_owner.specs.declared.owner.types.Reply.TheVariants.{More, Done}
+use Rattle.iobufs_owner.specs.Types.{Handle, Freed, Kind, View, Mut, Pending, Subtract, Release, Word, Empty, Descriptor, Counted, Refusal, Reply, More, Done}
 use Rattle.iobufs_owner.specs.State.{State, owner_of, handle_at, record_at, block_at, triple}
 use Rattle.iobufs_owner.specs.World.{World, Dropping, holders, is_block}
 use Rattle.iobufs_owner.specs.Reading.{reading, read_handle, read_call, has_let_go}

@@ -2,25 +2,13 @@
 use Rattle.std.proofs.Common.{◌≡◌, ◌≢◌, ◌⊎◌, inl, inr, ℕ, ◌+◌, ◌-◌, ◌<◌, ◌≤◌, ◌||◌, Bool, true, false, cond, nat_lt, nat_eq, List, [], ◌∷◌, length, get_or, set, Option, Some, None, Result, Ok, Err, ap, sym, ◌∙◌, subst, refl, arith, MatchBool, MatchOption}
 use Rattle.std.proofs.lemmas.Bool.Decides.{eqb_tells}
 use Rattle.std.proofs.lemmas.List.{get_or-set_same, get_or-set_other}
-use Rattle.iobufs_owner.specs.declared.owner.types.Call.{Call}
-use Rattle.iobufs_owner.specs.declared.owner.types.Call.TheVariants.{New, External, Static, Put, Advance, Freeze, TryIntoMut, SplitTo, IsUnique, Demote, Clone, Slice, Drop}
-use Rattle.iobufs_owner.specs.declared.owner.types.Act.{Act}
-use Rattle.iobufs_owner.specs.declared.owner.types.Act.TheVariants.{Begin, Go}
-use Rattle.iobufs_owner.specs.declared.owner.types.Block.{Block}
-use Rattle.iobufs_owner.specs.declared.owner.types.Kind.TheVariants.{View, Mut}
-use Rattle.iobufs_owner.specs.declared.owner.types.Step.{Step}
-use Rattle.iobufs_owner.specs.declared.owner.types.Refusal.{Refusal}
-use Rattle.iobufs_owner.specs.declared.owner.types.Refusal.TheVariants.{Busy, Idle, OutOfRange, BadPlace, Memory, Ceiling, Room}
-use Rattle.iobufs_owner.specs.declared.owner.types.Reply.{Reply}
-use Rattle.iobufs_owner.specs.declared.owner.types.Reply.TheVariants.{Made, More, Done, Declined, Unique, Refused}
-use Rattle.iobufs_owner.specs.declared.owner.types.Pending.{Pending}
-use Rattle.iobufs_owner.specs.declared.owner.types.Pending.TheVariants.{Loaded, Ready, Add, Subtract, Release}
+use Rattle.iobufs_owner.specs.Types.{Call, New, External, Static, Put, Advance, Freeze, TryIntoMut, SplitTo, IsUnique, Demote, Clone, Slice, Drop, Act, Begin, Go, Block, View, Mut, Step, Refusal, Busy, Idle, OutOfRange, BadPlace, Memory, Ceiling, Room, Reply, Made, More, Done, Declined, Unique, Refused, Pending, Loaded, Ready, Add, Subtract, Release}
 use Rattle.iobufs_owner.specs.World.{World, Held, Unfinished, Sharing, Dropping, going_at, held_at, holders}
 use Rattle.iobufs_owner.specs.Reading.{reading, read_call}
 use Rattle.iobufs_owner.specs.Steps as world
 use Rattle.iobufs_owner.specs.Steps.{ActsAt, Begins, Goes, SharesOn, GoesOn, GoesOnWithin, Steps}
-use Rattle.iobufs_owner.specs.State.{State, Seen, Tables, call_at}
-use Rattle.iobufs_owner.specs.Runs.{GrowingRuns, EndsInFour, ends_call, taken_after, taken_of}
+use Rattle.iobufs_owner.specs.State.{State, Tables, call_at}
+use Rattle.iobufs_owner.specs.Runs.{Runs, EndsInFour, ends_call, taken_after, taken_of}
 use Rattle.iobufs_owner.specs.Tells.{CountsTaken}
 use Rattle.iobufs_owner.proofs.WorldSteps.Shown.{get_or-read}
 use Rattle.iobufs_owner.proofs.WorldSteps.Taken.{lt-true}
@@ -366,23 +354,22 @@ counts-taken s next step reply m = λ n l.
     let r = own (reading s) next p n reply j c in
     (r.few, rw r.is r.taken)
 
--- in a run in which tables may grow no call of a party is unfinished after its fourth step, where the one that it has at first has taken n
-pub ends-in-four : (m next : Seen) (p n : ℕ) (steps : List Step) (replies : List Reply) → GrowingRuns m steps replies next
-    → IsNear (reading m.state) p n → EndsInFour p n steps replies
-ends-in-four m next p n [] replies r j = tt
-ends-in-four m next p n (step ∷ steps) [] r j = tt
-ends-in-four m next p n (step ∷ steps) (reply ∷ replies) (grown, mid, has, one, r) near =
-    let j = subst (λ (s : State). IsNear (reading s) p n) (sym has.state) near in
-    let c = changes-by (reading grown.state) (reading mid.state) step reply (nat_lt step.party (length (reading grown.state).calls)) refl one.steps in
+-- in a run no call of a party is unfinished after its fourth step, where the one that it has at first has taken n
+pub ends-in-four : (s next : State) (p n : ℕ) (steps : List Step) (replies : List Reply) → Runs s steps replies next
+    → IsNear (reading s) p n → EndsInFour p n steps replies
+ends-in-four s next p n [] replies r j = tt
+ends-in-four s next p n (step ∷ steps) [] r j = tt
+ends-in-four s next p n (step ∷ steps) (reply ∷ replies) (mid, one, r) j =
+    let c = changes-by (reading s) (reading mid) step reply (nat_lt step.party (length (reading s).calls)) refl one.steps in
     elim (eqb_tells step.party p) [
       | inl e ↦ (
-          let c' = subst (λ (q : ℕ). Changes (reading grown.state) q (going_at (reading grown.state) q) reply (reading mid.state)) e.1 c in
-          let f = own (reading grown.state) (reading mid.state) p n reply j
-          (subst (λ (o : Option Unfinished). Changes (reading grown.state) p o reply (reading mid.state)) j.is c') in
+          let c' = subst (λ (q : ℕ). Changes (reading s) q (going_at (reading s) q) reply (reading mid)) e.1 c in
+          let f = own (reading s) (reading mid) p n reply j
+          (subst (λ (o : Option Unfinished). Changes (reading s) p o reply (reading mid)) j.is c') in
           rw e.0 (f.few, ends-in-four mid next p (taken_after n reply) steps replies r f)
           )
       | inr e ↦ rw e.0 (ends-in-four mid next p n steps replies r
-          (others (reading grown.state) (reading mid.state) p step.party n (going_at (reading grown.state) step.party) reply (λ z. e.1 (sym z)) j c))
+          (others (reading s) (reading mid) p step.party n (going_at (reading s) step.party) reply (λ z. e.1 (sym z)) j c))
     ]
 
 -- a party's call in any machine has taken fewer than four steps and may take at most three more

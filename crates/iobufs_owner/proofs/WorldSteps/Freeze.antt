@@ -2,16 +2,7 @@
 use Rattle.std.proofs.Common.{◌≡◌, ◌⊎◌, inl, inr, ℕ, ◌-◌, ◌^◌, ◌<◌, Bool, true, false, cond, nat_lt, nat_eq, length, set, Option, Some, Result, Ok, Err, ap, sym, ◌∙◌, subst, refl, IsSome}
 use Rattle.std.proofs.Math.ListN.{length-set}
 use Rattle.std.proofs.lemmas.List.{map-set}
-use Rattle.iobufs_owner.specs.declared.owner.types.Handle.{Handle}
-use Rattle.iobufs_owner.specs.declared.owner.types.Freed.{Freed}
-use Rattle.iobufs_owner.specs.declared.owner.types.Record.{Record}
-use Rattle.iobufs_owner.specs.declared.owner.types.Kind.TheVariants.{View, Mut}
-use Rattle.iobufs_owner.specs.declared.owner.types.Word.{Word}
-use Rattle.iobufs_owner.specs.declared.owner.types.Word.TheVariants.{Empty, Descriptor, Record as Counted}
-use Rattle.iobufs_owner.specs.declared.owner.types.Refusal.{Refusal}
-use Rattle.iobufs_owner.specs.declared.owner.types.Refusal.TheVariants.{Memory}
-use Rattle.iobufs_owner.specs.declared.owner.types.Reply.{Reply}
-use Rattle.iobufs_owner.specs.declared.owner.types.Reply.TheVariants.{Done}
+use Rattle.iobufs_owner.specs.Types.{Handle, Freed, Record, View, Mut, Word, Empty, Descriptor, Counted, Refusal, Memory, Reply, Done}
 use Rattle.iobufs_owner.specs.State.{State, Tables, owner_of, owned_by, handle_at, record_at, block_at, triple, retailed}
 use Rattle.iobufs_owner.specs.World.{World, Held}
 use Rattle.iobufs_owner.specs.Reading.{reading, read_held, read_handle}

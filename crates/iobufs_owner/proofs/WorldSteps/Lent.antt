@@ -1,11 +1,6 @@
 -- What lending a handle tells, and when a changed handle holds what it held.
 use Rattle.std.proofs.Common.{◌≡◌, ℕ, ◌+◌, Bool, true, false, cond, Option, Some, None, Ok, Err, ap, sym, ◌∙◌, refl, arith}
-use Rattle.iobufs_owner.specs.declared.owner.types.Handle.{Handle}
-use Rattle.iobufs_owner.specs.declared.owner.types.Kind.{Kind}
-use Rattle.iobufs_owner.specs.declared.owner.types.Kind.TheVariants.{View, Mut}
-use Rattle.iobufs_owner.specs.declared.owner.types.Word.{Word}
-use Rattle.iobufs_owner.specs.declared.owner.types.Word.TheVariants.{Empty, Descriptor, Record as Counted}
-use Rattle.iobufs_owner.specs.declared.owner.types.Refusal.TheVariants.{WrongKind, Borrowed}
+use Rattle.iobufs_owner.specs.Types.{Handle, Kind, View, Mut, Word, Empty, Descriptor, Counted, WrongKind, Borrowed}
 use Rattle.iobufs_owner.specs.State.{State, Tables, owner_of, owner_by, base_by, block_with, handle_at}
 use Rattle.iobufs_owner.specs.Lending.{lend_of, lend_found, is_lent, Lends}
 use Rattle.iobufs_owner.specs.Kinds.{same_kind}

@@ -2,24 +2,7 @@
 use Rattle.std.proofs.Common.{◌≡◌, ℕ, ◌+◌, ◌-◌, ◌^◌, ◌≤◌, arith, Bool, true, false, cond, nat_lt, nat_eq, ◌==◌, [], ◌∷◌, length, length-append, Option, Some, None, Result, Ok, Err, inl, inr, refl, subst, sym, MatchBool}
 use Rattle.std.proofs.Math.ListN.{length-set}
 use Rattle.std.proofs.lemmas.List.{append-nil}
-use Rattle.iobufs_owner.specs.declared.owner.types.Freed.{Freed}
-use Rattle.iobufs_owner.specs.declared.owner.types.Handle.{Handle}
-use Rattle.iobufs_owner.specs.declared.owner.types.Kind.{Kind}
-use Rattle.iobufs_owner.specs.declared.owner.types.Kind.TheVariants.{View, Mut}
-use Rattle.iobufs_owner.specs.declared.owner.types.Word.{Word}
-use Rattle.iobufs_owner.specs.declared.owner.types.Word.TheVariants.{Empty, Descriptor, Record as Counted}
-use Rattle.iobufs_owner.specs.declared.owner.types.Share.{Share}
-use Rattle.iobufs_owner.specs.declared.owner.types.Call.{Call}
-use Rattle.iobufs_owner.specs.declared.owner.types.Call.TheVariants.{New, External, Static, Put, Advance, Freeze, TryIntoMut, SplitTo, IsUnique, Demote, Clone, Slice, Drop}
-use Rattle.iobufs_owner.specs.declared.owner.types.Act.{Act}
-use Rattle.iobufs_owner.specs.declared.owner.types.Act.TheVariants.{Begin, Go}
-use Rattle.iobufs_owner.specs.declared.owner.types.Step.{Step}
-use Rattle.iobufs_owner.specs.declared.owner.types.Pending.{Pending}
-use Rattle.iobufs_owner.specs.declared.owner.types.Pending.TheVariants.{Loaded, Ready, Add, Subtract, Release}
-use Rattle.iobufs_owner.specs.declared.owner.types.Refusal.{Refusal}
-use Rattle.iobufs_owner.specs.declared.owner.types.Refusal.TheVariants.{Busy, Idle, WrongKind, Borrowed, OutOfRange, BadPlace, Memory, Ceiling, Room}
-use Rattle.iobufs_owner.specs.declared.owner.types.Reply.{Reply}
-use Rattle.iobufs_owner.specs.declared.owner.types.Reply.TheVariants.{More, Done, Declined, Refused}
+use Rattle.iobufs_owner.specs.Types.{Freed, Handle, Kind, View, Mut, Word, Empty, Descriptor, Counted, Share, Call, New, External, Static, Put, Advance, Freeze, TryIntoMut, SplitTo, IsUnique, Demote, Clone, Slice, Drop, Act, Begin, Go, Step, Pending, Loaded, Ready, Add, Subtract, Release, Refusal, Busy, Idle, WrongKind, Borrowed, OutOfRange, BadPlace, Memory, Ceiling, Room, Reply, More, Done, Declined, Refused}
 use Rattle.iobufs_owner.specs.State.{State, KeepsLogs, handle_at, call_at, record_at, block_at, recovered, triple}
 use Rattle.iobufs_owner.specs.Changes as change
 use Rattle.iobufs_owner.specs.Changes.{Outcome, refused}
@@ -29,7 +12,24 @@ use Rattle.iobufs_owner.specs.Kinds.{same_kind}
 use Rattle.iobufs_owner.specs.ShortCalls as short
 use Rattle.iobufs_owner.specs.LongCalls as long
 use Rattle.iobufs_owner.specs.Moves.{IsBegun, IsMoved, IsMovedAt, gone_on}
-use Rattle.iobufs_owner.specs.Reserved.{makes_block, adds_block}
+use Rattle.iobufs_owner.specs.Reserved.{new_blocks}
+
+-- ---- steps that add a block
+
+abbrev pub makes_block : Call → Bool
+makes_block (New base size align) = true
+makes_block (External base size) = true
+makes_block call = false
+
+abbrev pub adds_block : Act → Bool
+adds_block (Begin call memory) = makes_block call
+adds_block (Go memory) = false
+
+-- how many blocks a step adds, by whether it adds one
+pub blocks-made : (act : Act) → new_blocks act ≡ cond (adds_block act) 1 0
+blocks-made (Begin (New base size align) memory) = refl
+blocks-made (Begin (External base size) memory) = refl
+blocks-made act = refl
 
 -- at most one entry more in the tables of handles and of records; a block more only where a step makes one; the logs are
 -- written on

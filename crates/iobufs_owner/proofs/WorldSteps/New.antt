@@ -1,13 +1,7 @@
 -- New and External, read as steps of the world.
 use Rattle.std.proofs.Common.{◌≡◌, ◌⊎◌, inl, inr, ℕ, ◌^◌, Bool, true, false, cond, [], ◌∷◌, ◌++◌, length, map, Option, Some, ap, sym, ◌∙◌, subst, refl, MatchBool}
 use Rattle.std.proofs.lemmas.List.{map-append}
-use Rattle.iobufs_owner.specs.declared.owner.types.Block.{Block}
-use Rattle.iobufs_owner.specs.declared.owner.types.Handle.{Handle}
-use Rattle.iobufs_owner.specs.declared.owner.types.Record.{Record}
-use Rattle.iobufs_owner.specs.declared.owner.types.Kind.TheVariants.{View, Mut}
-use Rattle.iobufs_owner.specs.declared.owner.types.Word.TheVariants.{Descriptor, Record as Counted}
-use Rattle.iobufs_owner.specs.declared.owner.types.Refusal.TheVariants.{BadPlace, Memory}
-use Rattle.iobufs_owner.specs.declared.owner.types.Reply.{Reply}
+use Rattle.iobufs_owner.specs.Types.{Block, Handle, Record, View, Mut, Descriptor, Counted, BadPlace, Memory, Reply}
 use Rattle.iobufs_owner.specs.State.{State, Tables, owner_of}
 use Rattle.iobufs_owner.specs.Reading.{reading, read_held, is_freed}
 use Rattle.iobufs_owner.specs.Sound.{IsSound}

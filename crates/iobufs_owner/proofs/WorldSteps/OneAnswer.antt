@@ -2,24 +2,14 @@
 use Rattle.std.proofs.Common.{◌≡◌, inl, inr, ℕ, ◌^◌, arith, Bool, true, false, nat_lt, length, Option, Some, None, Result, Ok, Err, sym, ◌∙◌, ap, subst, MatchBool}
 use Rattle.std.proofs.lemmas.Bool.{cases_order}
 use Rattle.std.proofs.lemmas.Nat.{pow_below}
-use Rattle.iobufs_owner.specs.declared.owner.types.Handle.{Handle}
-use Rattle.iobufs_owner.specs.declared.owner.types.Word.{Word}
-use Rattle.iobufs_owner.specs.declared.owner.types.Word.TheVariants.{Empty, Descriptor, Record as Counted}
-use Rattle.iobufs_owner.specs.declared.owner.types.Pending.{Pending}
-use Rattle.iobufs_owner.specs.declared.owner.types.Call.{Call}
-use Rattle.iobufs_owner.specs.declared.owner.types.Call.TheVariants.{New, External, Static, Put, Advance, Freeze, TryIntoMut, SplitTo, IsUnique, Demote, Clone, Slice, Drop}
-use Rattle.iobufs_owner.specs.declared.owner.types.Act.{Act}
-use Rattle.iobufs_owner.specs.declared.owner.types.Act.TheVariants.{Begin, Go}
-use Rattle.iobufs_owner.specs.declared.owner.types.Step.{Step}
-use Rattle.iobufs_owner.specs.declared.owner.types.Refusal.{Refusal}
-use Rattle.iobufs_owner.specs.declared.owner.types.Refusal.TheVariants.{Idle, Memory}
-use Rattle.iobufs_owner.specs.declared.owner.types.Reply.{Reply}
+use Rattle.iobufs_owner.specs.Types.{Handle, Word, Empty, Descriptor, Counted, Pending, Call, New, External, Static, Put, Advance, Freeze, TryIntoMut, SplitTo, IsUnique, Demote, Clone, Slice, Drop, Act, Begin, Go, Step, Refusal, Idle, Memory, Reply}
 use Rattle.iobufs_owner.specs.State.{State, Seen, Room as Space, call_at}
 use Rattle.iobufs_owner.specs.Changes.{Outcome, refused}
 use Rattle.iobufs_owner.specs.Lending.{lend_owning_view_of}
 use Rattle.iobufs_owner.specs.ShortCalls as short
-use Rattle.iobufs_owner.specs.Moves.{IsBegun, IsMoved, IsMovedAt, IsCarriedOut}
-use Rattle.iobufs_owner.specs.Runs.{IsStep}
+use Rattle.iobufs_owner.specs.Moves.{IsBegun, IsMoved, IsMovedAt}
+use Rattle.iobufs_owner.proofs.WorldSteps.Sizes.{IsCarriedOut}
+use Rattle.iobufs_owner.specs.Growing.{IsMove}
 
 -- ---- one outcome
 
@@ -116,7 +106,7 @@ unfolding with-room
 same-seen n m e f = ap (λ (s : State). with-room s n.room) e ∙ ap (λ (r : Space). with-room m.state r) f
 
 -- two outcomes of one step of one machine are the same answer and the same machine
-pub one-answer : (m next other : Seen) (step : Step) (reply answer : Reply) → IsStep m step reply next → IsStep m step answer other
+pub one-answer : (m next other : Seen) (step : Step) (reply answer : Reply) → IsMove m step reply next → IsMove m step answer other
     → (answer ≡ reply) × (other ≡ next)
 one-answer m next other step reply answer one two =
     let (o, moved, taken) = one.moves in

@@ -1,14 +1,6 @@
 -- What users see under a number is what the tables have there, read: a handle, its capacity, and the cause against it.
 use Rattle.std.proofs.Common.{◌≡◌, ℕ, zero, suc, Bool, true, false, cond, Option, Some, None, Result, Ok, Err, List, [], ◌∷◌, map, get_or, sym, refl, arith}
-use Rattle.iobufs_owner.specs.declared.owner.types.Handle.{Handle}
-use Rattle.iobufs_owner.specs.declared.owner.types.Kind.{Kind}
-use Rattle.iobufs_owner.specs.declared.owner.types.Kind.TheVariants.{View, Mut}
-use Rattle.iobufs_owner.specs.declared.owner.types.Pending.{Pending}
-use Rattle.iobufs_owner.specs.declared.owner.types.Pending.TheVariants.{Loaded, Ready, Add, Subtract, Release}
-use Rattle.iobufs_owner.specs.declared.owner.types.Word.{Word}
-use Rattle.iobufs_owner.specs.declared.owner.types.Word.TheVariants.{Empty, Descriptor, Record as Counted}
-use Rattle.iobufs_owner.specs.declared.owner.types.Refusal.{Refusal}
-use Rattle.iobufs_owner.specs.declared.owner.types.Refusal.TheVariants.{WrongKind, Borrowed}
+use Rattle.iobufs_owner.specs.Types.{Handle, Kind, View, Mut, Pending, Loaded, Ready, Add, Subtract, Release, Word, Empty, Descriptor, Counted, Refusal, WrongKind, Borrowed}
 use Rattle.iobufs_owner.specs.State.{State, Tables, owner_of, handle_at}
 use Rattle.iobufs_owner.specs.Sound.{IsSound, FitsWord}
 use Rattle.iobufs_owner.proofs.Soundness.StaysSound.{owner-empty, owner-counted}
@@ -18,7 +10,7 @@ use Rattle.iobufs_owner.specs.Reading.{reading, read_handle, read_held, read_cal
 use Rattle.iobufs_owner.specs.Lending as lending
 use Rattle.iobufs_owner.specs.Lending.{lend_of, lend_found, is_lent, borrows_it}
 use Rattle.iobufs_owner.specs.Kinds.{same_kind}
-use Rattle.iobufs_owner.specs.Steps.{alone_of, alone_found, any_of, any_found, view_of, view_found, capacity, capacity_in}
+use Rattle.iobufs_owner.specs.Steps.{on_held, alone_of, any_of, view_of, capacity, capacity_in}
 
 -- what a mapped list has at a place is what the list has there, mapped, and so after its end
 pub get_or-read : {X Y : Type 0} (f : X → Y) (xs : List X) (i : ℕ) (d : X) → get_or (map f xs) i (f d) ≡ f (get_or xs i d)
@@ -65,8 +57,8 @@ view-found-reads g x false = refl
 -- users see the handle of this kind that a call may have alone, or the same cause against it
 pub alone-reads : (s : State) (h : ℕ) (kind : Kind) → alone_of (reading s) h kind ≡ read_lent s.tables (lend_of s h kind)
 alone-reads s h kind =
-    let by : (o : Option Handle) → alone_found (reading s) h kind (read_handle s.tables o) ≡ read_lent s.tables (lend_found s h kind o) =
-    λ o. elim o as (λ o. alone_found (reading s) h kind (read_handle s.tables o) ≡ read_lent s.tables (lend_found s h kind o)) [
+    let by : (o : Option Handle) → on_held (read_handle s.tables o) (λ x. cond (same_kind x.kind kind) (cond (is_shared h (reading s).calls) (Err Borrowed) (Ok x)) (Err WrongKind)) ≡ read_lent s.tables (lend_found s h kind o) =
+    λ o. elim o as (λ o. on_held (read_handle s.tables o) (λ x. cond (same_kind x.kind kind) (cond (is_shared h (reading s).calls) (Err Borrowed) (Ok x)) (Err WrongKind)) ≡ read_lent s.tables (lend_found s h kind o)) [
       | None ↦ refl
       | Some x ↦ rw (shared-reads s.tables h s.calls) (found-reads s.tables x (same_kind x.kind kind) (is_lent h s.calls))
     ] in
@@ -75,8 +67,8 @@ alone-reads s h kind =
 -- users see the handle of either kind that a call may have alone, or the same cause against it
 pub any-reads : (s : State) (h : ℕ) → any_of (reading s) h ≡ read_lent s.tables (lending.lend_any_of s h)
 any-reads s h =
-    let by : (o : Option Handle) → any_found (reading s) h (read_handle s.tables o) ≡ read_lent s.tables (lending.lend_any_found s h o) =
-    λ o. elim o as (λ o. any_found (reading s) h (read_handle s.tables o) ≡ read_lent s.tables (lending.lend_any_found s h o)) [
+    let by : (o : Option Handle) → on_held (read_handle s.tables o) (λ x. cond (is_shared h (reading s).calls) (Err Borrowed) (Ok x)) ≡ read_lent s.tables (lending.lend_any_found s h o) =
+    λ o. elim o as (λ o. on_held (read_handle s.tables o) (λ x. cond (is_shared h (reading s).calls) (Err Borrowed) (Ok x)) ≡ read_lent s.tables (lending.lend_any_found s h o)) [
       | None ↦ refl
       | Some x ↦ rw (shared-reads s.tables h s.calls) (any-found-reads s.tables x (is_lent h s.calls))
     ] in
@@ -85,8 +77,8 @@ any-reads s h =
 -- users see the view that a call may share, or the same cause against it
 pub view-reads : (s : State) (h : ℕ) → view_of (reading s) h ≡ read_lent s.tables (lending.lend_view_of s h)
 view-reads s h =
-    let by : (o : Option Handle) → view_found (read_handle s.tables o) ≡ read_lent s.tables (lending.lend_view_found o) =
-    λ o. elim o as (λ o. view_found (read_handle s.tables o) ≡ read_lent s.tables (lending.lend_view_found o)) [
+    let by : (o : Option Handle) → on_held (read_handle s.tables o) (λ x. cond (same_kind x.kind View) (Ok x) (Err WrongKind)) ≡ read_lent s.tables (lending.lend_view_found o) =
+    λ o. elim o as (λ o. on_held (read_handle s.tables o) (λ x. cond (same_kind x.kind View) (Ok x) (Err WrongKind)) ≡ read_lent s.tables (lending.lend_view_found o)) [
       | None ↦ refl
       | Some x ↦ view-found-reads s.tables x (same_kind x.kind View)
     ] in

@@ -1,17 +1,24 @@
 -- Steps that add no entry want no room, and steps that are taken have found it.
-use Rattle.std.proofs.Common.{◌≡◌, ◌⊎◌, inl, inr, ℕ, ◌<◌, length, ap, refl, arith, Result, Ok, Err}
+use Rattle.std.proofs.Common.{◌≡◌, ◌⊎◌, inl, inr, ℕ, ◌<◌, ◌≤◌, length, ap, refl, arith, Result, Ok, Err}
 use Rattle.std.specs.Result.{result_unwrap_or}
-use Rattle.iobufs_owner.specs.declared.owner.types.Refusal.TheVariants.{Room}
-use Rattle.iobufs_owner.specs.declared.owner.types.Full.{Full}
-use Rattle.iobufs_owner.specs.declared.owner.types.Step.{Step}
-use Rattle.iobufs_owner.specs.declared.owner.types.Reply.{Reply}
-use Rattle.iobufs_owner.specs.declared.owner.types.Reply.TheVariants.{Refused}
+use Rattle.iobufs_owner.specs.Types.{Room, Full, Step, Reply, Refused}
 use Rattle.iobufs_owner.specs.State.{State, Seen, Room as Space, KeepsRoom}
 use Rattle.iobufs_owner.specs.Changes.{Outcome}
-use Rattle.iobufs_owner.specs.Reserved.{HasMemory}
-use Rattle.iobufs_owner.specs.Sound.{IsInSize, IsSound}
-use Rattle.iobufs_owner.specs.Moves.{WantsRoom, IsMoved, IsCarriedOut, Moves, Took}
+use Rattle.iobufs_owner.specs.Sound.{IsSound}
+use Rattle.iobufs_owner.specs.Moves.{WantsRoom, IsMoved, Moves, Took}
 
+-- the step is taken as its outcome says, or wants room and changes nothing
+abbrev pub IsCarriedOut : Seen → Outcome → Reply → State → Type 0
+IsCarriedOut m o reply next =
+    ((WantsRoom m o.state → ⊥) × (reply ≡ o.reply) × (next ≡ o.state)) ⊎ (WantsRoom m o.state × (reply ≡ Refused Room) × (next ≡ m.state))
+
+-- every table has memory for its entries
+pub record HasMemory (m : Seen) : Type 0 where
+  pub blocks : length m.state.tables.blocks ≤ m.room.blocks
+  pub handles : length m.state.handles ≤ m.room.handles
+  pub records : length m.state.tables.records ≤ m.room.records
+
+-- no table loses capacity if none changes
 pub keeps-room : (r : Space) → KeepsRoom r r
 keeps-room r = (omega arith, omega arith, omega arith)
 
@@ -57,28 +64,28 @@ answered m o reply t (inr (w, e, f)) = inr (record { grows = wants-grows m o.sta
 -- ---- a step finds room, or wants it
 
 -- after a step that was taken every table has memory for its entries: so those that it added had room
-found : (m next : Seen) (t : State) → next.state ≡ t → next.room ≡ m.room → IsInSize next.state → HasMemory next 0 0 0 → WantsRoom m t → ⊥
-found m next t e f size held (inl (grows, full)) =
+found : (m next : Seen) (t : State) → next.state ≡ t → next.room ≡ m.room → IsSound next.state → HasMemory next → WantsRoom m t → ⊥
+found m next t e f sound held (inl (grows, full)) =
     let a = ap (λ (s : State). length s.handles) e in
     let b = ap (λ (r : Space). r.handles) f in
     let l = held.handles in
-    let g = size.few_handles in
+    let g = sound.size.few_handles in
     elim full [ inl used ↦ omega (arith, a, b, l, grows, used) | inr many ↦ omega (arith, a, g, grows, many) ]
-found m next t e f size held (inr (inl (grows, full))) =
+found m next t e f sound held (inr (inl (grows, full))) =
     let a = ap (λ (s : State). length s.tables.blocks) e in
     let b = ap (λ (r : Space). r.blocks) f in
     let l = held.blocks in
-    let g = size.few_blocks in
+    let g = sound.size.few_blocks in
     elim full [ inl used ↦ omega (arith, a, b, l, grows, used) | inr many ↦ omega (arith, a, g, grows, many) ]
-found m next t e f size held (inr (inr (grows, full))) =
+found m next t e f sound held (inr (inr (grows, full))) =
     let a = ap (λ (s : State). length s.tables.records) e in
     let b = ap (λ (r : Space). r.records) f in
     let l = held.records in
-    let g = size.few_records in
+    let g = sound.size.few_records in
     elim full [ inl used ↦ omega (arith, a, b, l, grows, used) | inr many ↦ omega (arith, a, g, grows, many) ]
 
 -- a result as a reply
-taken-of : (m : Seen) (o : Outcome) (result : Result Reply Full) (next : Seen) → IsInSize next.state → HasMemory next 0 0 0 → Took m o result next
+taken-of : (m : Seen) (o : Outcome) (result : Result Reply Full) (next : Seen) → IsSound next.state → HasMemory next → Took m o result next
     → IsCarriedOut m o (result_unwrap_or result (Refused Room)) next.state
 taken-of m o (Ok reply) next size held (e, f, k) = inl (found m next o.state f k size held, e, f)
 taken-of m o (Err full) next size held (w, e) = inr (w, refl, ap (λ (n : Seen). n.state) e)
@@ -94,6 +101,6 @@ moves-keep m step result next (o, moved, took) = room-of m o result next took
 
 -- what the code does is a move of the machine, with want of room for an error, where the state after it is sound and the
 -- tables there have memory for their entries
-pub moves-of : (m : Seen) (step : Step) (result : Result Reply Full) (next : Seen) → IsSound next.state → HasMemory next 0 0 0 → (o : Outcome)
+pub moves-of : (m : Seen) (step : Step) (result : Result Reply Full) (next : Seen) → IsSound next.state → HasMemory next → (o : Outcome)
     × IsMoved m.state step o × Took m o result next → Moves m step (result_unwrap_or result (Refused Room)) next
-moves-of m step result next sound held (o, moved, took) = (o, moved, taken-of m o result next sound.size held took)
+moves-of m step result next sound held (o, moved, took) = (o, moved, taken-of m o result next sound held took)

@@ -2,13 +2,7 @@
 use Rattle.std.proofs.Common.{◌≡◌, ◌≢◌, ◌⊎◌, inl, inr, ℕ, ◌<◌, ◌≤◌, zero, suc, Bool, true, false, cond, nat_lt, nat_eq, List, [], ◌∷◌, length, get_or, set, Option, Some, None, Ok, Err, sym, ◌∙◌, subst, refl, arith, MatchBool}
 use Rattle.std.proofs.lemmas.Bool.Decides.{nat_tests, eqb_tells}
 use Rattle.std.proofs.lemmas.List.{get_or-set_same, get_or-set_other}
-use Rattle.iobufs_owner.specs.declared.owner.types.Call.TheVariants.{IsUnique}
-use Rattle.iobufs_owner.specs.declared.owner.types.Act.{Act}
-use Rattle.iobufs_owner.specs.declared.owner.types.Act.TheVariants.{Begin}
-use Rattle.iobufs_owner.specs.declared.owner.types.Step.{Step}
-use Rattle.iobufs_owner.specs.declared.owner.types.Refusal.TheVariants.{Borrowed, Idle}
-use Rattle.iobufs_owner.specs.declared.owner.types.Reply.{Reply}
-use Rattle.iobufs_owner.specs.declared.owner.types.Reply.TheVariants.{Unique}
+use Rattle.iobufs_owner.specs.Types.{IsUnique, Act, Begin, Step, Borrowed, Idle, Reply, Unique}
 use Rattle.iobufs_owner.specs.World.{World, Held, Unfinished, held_at, going_at, holders, holds, still_holds, tally, is_shared}
 use Rattle.iobufs_owner.specs.Steps as world
 use Rattle.iobufs_owner.specs.Steps.{Begins, ActsAt, Steps}
@@ -92,9 +86,9 @@ unique-block w next h b reply v o e m q =
     unique-free w next b reply v (is_shared h w.calls) (subst (λ (o : Option ℕ). world.UniqueIs w (world.unborrowed_block w h o) reply next) e m) q
 
 unique-at : (w next : World) (h b : ℕ) (x : Held) (reply : Reply) (v : Bool) (o : Option Held) → o ≡ Some x → x.block ≡ Some b
-    → world.UniqueIs w (world.block_found w h o) reply next → reply ≡ Unique v → v ≡ nat_eq (holders w b) 1
+    → world.UniqueIs w (world.on_held o (λ x. world.unborrowed_block w h x.block)) reply next → reply ≡ Unique v → v ≡ nat_eq (holders w b) 1
 unique-at w next h b x reply v o e f m q =
-    unique-block w next h b reply v x.block f (subst (λ (o : Option Held). world.UniqueIs w (world.block_found w h o) reply next) e m) q
+    unique-block w next h b reply v x.block f (subst (λ (o : Option Held). world.UniqueIs w (world.on_held o (λ x. world.unborrowed_block w h x.block)) reply next) e m) q
 
 unique-begun : (w next : World) (p h : ℕ) (memory : Bool) (reply : Reply) → Begins w p (IsUnique h) memory reply next
     → world.UniqueIs w (world.block_of w h) reply next

@@ -1,13 +1,7 @@
 -- SplitTo, read as a step of the world.
 use Rattle.std.proofs.Common.{◌≡◌, ◌⊎◌, inl, inr, ℕ, ◌+◌, ◌-◌, Bool, true, false, cond, nat_lt, nat_eq, length, Option, Some, Result, Ok, Err, ap, sym, ◌∙◌, subst, refl, arith, IsSome}
 use Rattle.std.proofs.lemmas.List.{map-set}
-use Rattle.iobufs_owner.specs.declared.owner.types.Handle.{Handle}
-use Rattle.iobufs_owner.specs.declared.owner.types.Kind.TheVariants.{View}
-use Rattle.iobufs_owner.specs.declared.owner.types.Word.{Word}
-use Rattle.iobufs_owner.specs.declared.owner.types.Word.TheVariants.{Empty, Descriptor, Record as Counted}
-use Rattle.iobufs_owner.specs.declared.owner.types.Refusal.{Refusal}
-use Rattle.iobufs_owner.specs.declared.owner.types.Refusal.TheVariants.{OutOfRange, Memory, Ceiling}
-use Rattle.iobufs_owner.specs.declared.owner.types.Reply.{Reply}
+use Rattle.iobufs_owner.specs.Types.{Handle, View, Word, Empty, Descriptor, Counted, Refusal, OutOfRange, Memory, Ceiling, Reply}
 use Rattle.iobufs_owner.specs.State.{State, Tables, owner_of, owned_by, record_at}
 use Rattle.iobufs_owner.specs.World.{World, Held, is_block}
 use Rattle.iobufs_owner.specs.Reading.{reading, read_held, read_handle, has_let_go}

@@ -1,16 +1,8 @@
 -- A step by the tables is a step of the world.
 use Rattle.std.proofs.Common.{◌≡◌, ℕ, ◌<◌, ◌≤◌, arith, Bool, true, false, nat_lt, length, Option, Some, None, subst, refl, MatchBool}
 use Rattle.std.proofs.lemmas.List.{length-map}
-use Rattle.iobufs_owner.specs.declared.owner.types.Call.{Call}
-use Rattle.iobufs_owner.specs.declared.owner.types.Call.TheVariants.{New, External, Static, Put, Advance, Freeze, TryIntoMut, SplitTo, IsUnique, Demote, Clone, Slice, Drop}
-use Rattle.iobufs_owner.specs.declared.owner.types.Act.{Act}
-use Rattle.iobufs_owner.specs.declared.owner.types.Act.TheVariants.{Begin, Go}
-use Rattle.iobufs_owner.specs.declared.owner.types.Pending.{Pending}
-use Rattle.iobufs_owner.specs.declared.owner.types.Pending.TheVariants.{Loaded, Ready, Add, Subtract, Release}
-use Rattle.iobufs_owner.specs.declared.owner.types.Step.{Step}
-use Rattle.iobufs_owner.specs.declared.owner.types.Refusal.TheVariants.{Busy, Idle}
+use Rattle.iobufs_owner.specs.Types.{Call, New, External, Static, Put, Advance, Freeze, TryIntoMut, SplitTo, IsUnique, Demote, Clone, Slice, Drop, Act, Begin, Go, Pending, Loaded, Ready, Add, Subtract, Release, Step, Busy, Idle, Reply}
 use Rattle.std.proofs.lemmas.Bool.Decides.{nat_tests}
-use Rattle.iobufs_owner.specs.declared.owner.types.Reply.{Reply}
 use Rattle.iobufs_owner.specs.State.{State, Seen, call_at}
 use Rattle.iobufs_owner.specs.Reading.{reading, read_call}
 use Rattle.iobufs_owner.specs.Sound.{IsSound}

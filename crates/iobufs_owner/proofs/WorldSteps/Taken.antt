@@ -3,13 +3,7 @@ use Rattle.std.proofs.Common.{◌≡◌, ◌⊎◌, inl, inr, ℕ, ◌+◌, ◌-
 use Rattle.std.proofs.Math.ListN.{length-set}
 use Rattle.std.proofs.lemmas.Bool.Decides.{nat_tests}
 use Rattle.std.proofs.lemmas.List.{length-map}
-use Rattle.iobufs_owner.specs.declared.owner.types.Handle.{Handle}
-use Rattle.iobufs_owner.specs.declared.owner.types.Kind.TheVariants.{Mut}
-use Rattle.iobufs_owner.specs.declared.owner.types.Word.TheVariants.{Empty}
-use Rattle.iobufs_owner.specs.declared.owner.types.Refusal.{Refusal}
-use Rattle.iobufs_owner.specs.declared.owner.types.Refusal.TheVariants.{Borrowed, OutOfRange}
-use Rattle.iobufs_owner.specs.declared.owner.types.Reply.{Reply}
-use Rattle.iobufs_owner.specs.declared.owner.types.Reply.TheVariants.{Made, Done}
+use Rattle.iobufs_owner.specs.Types.{Handle, Mut, Empty, Refusal, Borrowed, OutOfRange, Reply, Made, Done}
 use Rattle.iobufs_owner.specs.State.{State, Tables, owner_of, handle_at}
 use Rattle.iobufs_owner.specs.World.{World, Held}
 use Rattle.iobufs_owner.specs.Reading.{reading, read_held, read_handle}

@@ -1,14 +1,6 @@
 -- TryIntoMut and IsUnique, read as steps of the world.
 use Rattle.std.proofs.Common.{◌≡◌, ◌⊎◌, inl, inr, ℕ, ◌+◌, ◌-◌, Bool, true, false, cond, nat_eq, Option, Some, None, Result, Ok, Err, ap, sym, ◌∙◌, subst, refl}
-use Rattle.iobufs_owner.specs.declared.owner.types.Handle.{Handle}
-use Rattle.iobufs_owner.specs.declared.owner.types.Kind.{Kind}
-use Rattle.iobufs_owner.specs.declared.owner.types.Kind.TheVariants.{View, Mut}
-use Rattle.iobufs_owner.specs.declared.owner.types.Word.{Word}
-use Rattle.iobufs_owner.specs.declared.owner.types.Word.TheVariants.{Empty, Descriptor, Record as Counted}
-use Rattle.iobufs_owner.specs.declared.owner.types.Refusal.{Refusal}
-use Rattle.iobufs_owner.specs.declared.owner.types.Refusal.TheVariants.{NoHandle, WrongKind, Borrowed}
-use Rattle.iobufs_owner.specs.declared.owner.types.Reply.{Reply}
-use Rattle.iobufs_owner.specs.declared.owner.types.Reply.TheVariants.{Done, Unique}
+use Rattle.iobufs_owner.specs.Types.{Handle, Kind, View, Mut, Word, Empty, Descriptor, Counted, Refusal, NoHandle, WrongKind, Borrowed, Reply, Done, Unique}
 use Rattle.iobufs_owner.specs.State.{State, owner_of, handle_at, record_at, block_at, tail_in, retailed}
 use Rattle.iobufs_owner.specs.World.{World, holders, is_block}
 use Rattle.iobufs_owner.specs.Reading.{reading, read_held, read_handle}
@@ -134,7 +126,7 @@ unique-word s t h x reply (Counted r) k at w i =
 
 unique-found : (s t : State) (h : ℕ) (reply : Reply) (o : Option Handle) → IsSound s → handle_at s h ≡ o
     → IsAnswered s (short.unique_lent s (lending.lend_owning_found s h o)) reply t
-    → world.UniqueIs (reading s) (world.block_found (reading s) h (read_handle s.tables o)) reply (reading t)
+    → world.UniqueIs (reading s) (world.on_held (read_handle s.tables o) (λ x. world.unborrowed_block (reading s) h x.block)) reply (reading t)
 unique-found s t h reply None k at i = refused-taken s t NoHandle reply i
 unique-found s t h reply (Some x) k at i = unique-word s t h x reply x.word k at refl i
 

@@ -1,19 +1,33 @@
 //! Entries of the machine's tables: a record, a block, and the block that a handle's descriptor describes.
-ghost use Rattle.std.specs.Prelude.{◌≡◌, ◌-◌, ◌<◌, length, Some};
+ghost use Rattle.std.specs.Prelude.{◌≡◌, ◌-◌, ◌<◌, ◌≤◌, length, Some};
 ghost use Rattle.iobufs_owner.specs.declared.owner.types.Word.TheVariants.{Descriptor};
-ghost use Rattle.iobufs_owner.specs.Reserved.{HasMemory};
 ghost use Rattle.iobufs_owner.specs.Sound.{IsSound, DescribesBlock};
+ghost use Rattle.iobufs_owner.specs.State as state;
 ghost use Rattle.iobufs_owner.specs.State.{handle_at, record_at, block_at, owner_of, owned_by};
 
 use crate::owner::handle::end;
 use crate::owner::{Block, Handle, Machine, Record};
+
+// The first block with this base.
+fn block_with(blocks: &[Block], base: u64) -> Option<usize>
+    ensures { result ≡ state.block_with base blocks.now }
+{
+    for i in 0..blocks.len() {
+        if blocks[i].base == base {
+            return Some(i);
+        }
+    }
+    None
+}
 
 impl Machine {
     /// What the machine keeps true. The prover knows it of a machine that is lent only once a field of it is read, so this
     /// reads one; the call is gone when the program is built.
     pub(super) fn known(&self)
         ensures sound { IsSound self.now.state }
-        ensures held { HasMemory self.now 0 0 0 }
+        ensures blocks { length self.now.state.tables.blocks ≤ self.now.room.blocks }
+        ensures handles { length self.now.state.handles ≤ self.now.room.handles }
+        ensures records { length self.now.state.tables.records ≤ self.now.room.records }
     {
         let _ = &self.format;
     }
@@ -42,7 +56,7 @@ impl Machine {
     {
         let fields = self.format.unpack(word);
         let base = end(x, fields.tail) - fields.size;
-        match self.places.last(base, base + 1) {
+        match block_with(&self.blocks, base) {
             Some(number) => number,
             None => unreachable!(),
         }

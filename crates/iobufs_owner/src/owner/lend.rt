@@ -1,19 +1,33 @@
 //! Handles as a call asks for them: there, of the right kind, and not borrowed.
 ghost use Rattle.std.specs.Prelude.{◌≡◌, ◌+◌, ◌^◌, ◌<◌, length, IfOk, IfSome};
 ghost use Rattle.iobufs_owner.specs.declared.owner.types.Kind.TheVariants.{View};
+ghost use Rattle.iobufs_owner.specs.Lending as lending;
 ghost use Rattle.iobufs_owner.specs.Lending.{is_lent, lend_of, lend_any_of, lend_owning_of, lend_owning_view_of, Lends};
 ghost use Rattle.iobufs_owner.specs.Sound.{IsSound};
 ghost use Rattle.iobufs_owner.specs.State.{handle_at};
 
-use crate::owner::{Handle, Kind, Machine, Refusal, Word};
+use crate::owner::{Handle, Kind, Machine, Pending, Refusal, Word};
+
+// Whether a call borrows the handle.
+fn borrows_it(h: usize, call: Option<Pending>) -> bool
+    ensures { result ≡ lending.borrows_it h call }
+{
+    match call {
+        Some(Pending::Loaded(range, _)) => range.handle == h,
+        Some(Pending::Ready(range, _, _)) => range.handle == h,
+        Some(Pending::Add(range, _)) => range.handle == h,
+        Some(Pending::Subtract(_)) => false,
+        Some(Pending::Release(_)) => false,
+        None => false,
+    }
+}
 
 impl Machine {
     /// Whether an unfinished call borrows the handle.
     fn is_lent(&self, h: usize) -> bool
-        requires { h < length self.now.state.handles }
         ensures { result ≡ is_lent h self.now.state.calls }
     {
-        self.borrows[h] != 0
+        self.calls.iter().any(|call| borrows_it(h, *call))
     }
 
     /// The handle of this number, where it was given and isn't gone.

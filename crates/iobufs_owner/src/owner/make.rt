@@ -31,28 +31,40 @@ fn is_place(base: u64, size: u64, align: u64) -> bool
     }
 }
 
-impl Machine {
-    /// Whether a range touches none of the blocks. Of those that begin before its end only the last can reach into it.
-    fn is_apart(&self, base: u64, size: u64) -> bool
-        requires { base + size < 2 ^ 64 }
-        ensures yes { result ≡ true → All (λ b. ApartFrom b base size) self.now.state.tables.blocks }
-        ensures no { result ≡ false → All (λ b. ApartFrom b base size) self.now.state.tables.blocks → ⊥ }
-    {
-        match self.places.last(0, base + size) {
-            None => true,
-            Some(number) => {
-                let last = self.blocks[number];
-                last.base + last.size <= base
-            }
+// Whether a range touches no byte of a block.
+fn is_apart(block: &Block, base: u64, size: u64) -> bool
+    requires { 0 < size }
+    ensures yes { result ≡ true → ApartFrom block.now base size }
+    ensures no { result ≡ false → ApartFrom block.now base size → ⊥ }
+{
+    if block.base <= base {
+        block.size <= base - block.base
+    } else {
+        size <= block.base - base
+    }
+}
+
+// Whether a range touches none of the blocks.
+fn are_apart(blocks: &[Block], base: u64, size: u64) -> bool
+    requires { 0 < size }
+    ensures yes { result ≡ true → All (λ b. ApartFrom b base size) blocks.now }
+    ensures no { result ≡ false → All (λ b. ApartFrom b base size) blocks.now → ⊥ }
+{
+    for block in blocks {
+        if !is_apart(block, base, size) {
+            return false;
         }
     }
+    true
+}
 
+impl Machine {
     /// Whether a new block may lie here.
     fn is_good_place(&self, base: u64, size: u64, align: u64) -> bool
         ensures yes { result ≡ true → IsGoodPlace self.now.state.tables.blocks base size align }
         ensures no { result ≡ false → IsGoodPlace self.now.state.tables.blocks base size align → ⊥ }
     {
-        is_place(base, size, align) && self.is_apart(base, size)
+        is_place(base, size, align) && are_apart(&self.blocks, base, size)
     }
 
     /// A new block with a writable handle, which holds it by a descriptor where its fields fit, else by a record.
@@ -131,7 +143,7 @@ impl Machine {
     pub(super) fn add_detached(&mut self, len: u64) -> Result<Reply, Full>
         ensures { Took self.old (made self.old.state (detached_handle len)) result self.new }
     {
-        room_for_handle(&self.handles, &self.borrows)?;
+        room_for_handle(&self.handles)?;
         let h = self.handles.len();
         self.handles.push_reserved(Some(Handle {
             kind: Kind::View,
@@ -140,7 +152,6 @@ impl Machine {
             cap: 0,
             word: Word::Empty,
         }));
-        self.borrows.push_reserved(0);
         Ok(Reply::Made(h))
     }
 
@@ -149,9 +160,8 @@ impl Machine {
         requires { CanDescribe self.old.state block word }
         ensures { Took self.old (described_of self.old.state block word) result self.new }
     {
-        room_for_block(&self.blocks, &self.freed_blocks, &self.places)?;
-        room_for_handle(&self.handles, &self.borrows)?;
-        self.places.add(block.base);
+        room_for_block(&self.blocks, &self.freed_blocks)?;
+        room_for_handle(&self.handles)?;
         let h = self.handles.len();
         self.blocks.push_reserved(block);
         self.handles.push_reserved(Some(Handle {
@@ -161,7 +171,6 @@ impl Machine {
             cap: block.size,
             word: Word::Descriptor(word),
         }));
-        self.borrows.push_reserved(0);
         Ok(Reply::Made(h))
     }
 
@@ -173,11 +182,10 @@ impl Machine {
         requires native { x.kind ≡ Mut → block.external ≡ false }
         ensures { Took self.old (recorded_of self.old.state block x) result self.new }
     {
-        room_for_block(&self.blocks, &self.freed_blocks, &self.places)?;
+        room_for_block(&self.blocks, &self.freed_blocks)?;
         room_for_record(&self.records, &self.freed_records)?;
-        room_for_handle(&self.handles, &self.borrows)?;
+        room_for_handle(&self.handles)?;
         let number = self.blocks.len();
-        self.places.add(block.base);
         let h = self.handles.len();
         self.blocks.push_reserved(block);
         self.records.push_reserved(Record {
@@ -186,7 +194,6 @@ impl Machine {
             live: true,
         });
         self.handles.push_reserved(Some(x));
-        self.borrows.push_reserved(0);
         Ok(Reply::Made(h))
     }
 }

@@ -1,7 +1,7 @@
 //! Room in the machine's tables, as it is made: in all of them, or in none.
 ghost use Rattle.std.specs.Prelude.{◌≡◌, ◌⊎◌, ◌+◌, ◌*◌, ◌^◌, ◌<◌, ◌≤◌, length, vec_capacity, None, true, IfErr, IfOk, IfSome, IsOk, OnErr, OnOk};
 ghost use Rattle.iobufs_core.specs.declared.codec.base.BufError.TheVariants.{Memory};
-ghost use Rattle.iobufs_owner.specs.Reserved.{HasMemory};
+ghost use Rattle.iobufs_owner.specs.Reserved.{RoomFor};
 ghost use Rattle.iobufs_owner.specs.State.{KeepsRoom};
 
 use crate::owner::Machine;
@@ -11,17 +11,15 @@ use std::alloc::AllocError;
 impl Machine {
     // Whether each table has memory for so many entries more, and its log and what else grows with it.
     fn has_room(&self, blocks: usize, handles: usize, records: usize) -> bool
-        ensures yes { result ≡ true → HasMemory self.now blocks handles records }
-        ensures no { HasMemory self.now blocks handles records → result ≡ true }
+        ensures yes { result ≡ true → RoomFor self.now.room self.now.state blocks handles records }
+        ensures no { RoomFor self.now.room self.now.state blocks handles records → result ≡ true }
     {
         let all_blocks = self.blocks.len();
         let all_handles = self.handles.len();
         let all_records = self.records.len();
         blocks <= self.blocks.capacity() - all_blocks
             && blocks <= self.freed_blocks.capacity() - all_blocks
-            && self.places.has_room(blocks)
             && handles <= self.handles.capacity() - all_handles
-            && handles <= self.borrows.capacity() - all_handles
             && records <= self.records.capacity() - all_records
             && records <= self.freed_records.capacity() - all_records
     }
@@ -46,13 +44,14 @@ impl Machine {
             return Ok(());
         }
         let (new_blocks, new_freed_blocks) = grown(&self.blocks, &self.freed_blocks, blocks)?;
-        let (new_handles, new_borrows) = grown(&self.handles, &self.borrows, handles)?;
+        let new_handles = larger(
+            &self.handles,
+            self.handles.len().checked_add(handles).ok_or(AllocError)?,
+        )?;
         let (new_records, new_freed_records) = grown(&self.records, &self.freed_records, records)?;
-        self.places.reserve(blocks)?;
         move_into(&mut self.blocks, new_blocks);
         move_into(&mut self.freed_blocks, new_freed_blocks);
         move_into(&mut self.handles, new_handles);
-        move_into(&mut self.borrows, new_borrows);
         move_into(&mut self.records, new_records);
         move_into(&mut self.freed_records, new_freed_records);
         Ok(())

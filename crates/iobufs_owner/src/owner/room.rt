@@ -4,7 +4,6 @@ ghost use Rattle.iobufs_owner.specs.Reserved.{blocks_of, new_blocks};
 ghost use Rattle.iobufs_owner.specs.State.{IsFull};
 
 use crate::owner::types::{Act, Block, Call, Freed, Full, Handle, Record, Step};
-use iobufs_places::Places;
 
 /// A table may have this many entries.
 const MOST: usize = 1 << 32;
@@ -23,18 +22,12 @@ fn room_for_one<T>(table: &Vec<T>) -> Result<(), Full>
 }
 
 /// Whether there is room for one handle more.
-pub(super) fn room_for_handle(
-    handles: &Vec<Option<Handle>>,
-    borrows: &Vec<usize>,
-) -> Result<(), Full>
-    requires { length borrows.now.items ≡ length handles.now.items }
+pub(super) fn room_for_handle(handles: &Vec<Option<Handle>>) -> Result<(), Full>
     ensures room { OnOk result (vec_len handles.now < vec_capacity handles.now) }
-    ensures borrow_room { OnOk result (vec_len borrows.now < vec_capacity borrows.now) }
     ensures few { OnOk result (length handles.now.items < 2 ^ 32) }
-    ensures full { OnErr result (IsFull (min (vec_capacity handles.now) (vec_capacity borrows.now)) (length handles.now.items)) }
+    ensures full { OnErr result (IsFull (vec_capacity handles.now) (length handles.now.items)) }
 {
-    room_for_one(handles)?;
-    room_for_one(borrows)
+    room_for_one(handles)
 }
 
 /// Whether there is room for one record more, and for each record in the log of freed ones.
@@ -52,21 +45,15 @@ pub(super) fn room_for_record(records: &Vec<Record>, freed: &Vec<usize>) -> Resu
     }
 }
 
-/// Whether there is room for one block more and its place, and for each block in the log of freed ones.
-pub(super) fn room_for_block(
-    blocks: &Vec<Block>,
-    freed: &Vec<Freed>,
-    places: &Places,
-) -> Result<(), Full>
-    requires { length places.now.bases ≡ length blocks.now.items }
+/// Whether there is room for one block more, and for each block in the log of freed ones.
+pub(super) fn room_for_block(blocks: &Vec<Block>, freed: &Vec<Freed>) -> Result<(), Full>
     ensures room { OnOk result (vec_len blocks.now < vec_capacity blocks.now) }
     ensures few { OnOk result (length blocks.now.items < 2 ^ 32) }
     ensures freed_room { OnOk result (length blocks.now.items + 1 ≤ vec_capacity freed.now) }
-    ensures place_room { OnOk result (length places.now.bases < places.now.room) }
-    ensures full { OnErr result (IsFull (min (vec_capacity blocks.now) (min (vec_capacity freed.now) places.now.room)) (length blocks.now.items)) }
+    ensures full { OnErr result (IsFull (min (vec_capacity blocks.now) (vec_capacity freed.now)) (length blocks.now.items)) }
 {
     room_for_one(blocks)?;
-    if blocks.len() < freed.capacity() && places.has_room(1) {
+    if blocks.len() < freed.capacity() {
         Ok(())
     } else {
         Err(Full)

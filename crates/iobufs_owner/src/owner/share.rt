@@ -18,28 +18,6 @@ use crate::owner::handle::part;
 use crate::owner::room::{room_for_handle, room_for_record};
 use crate::owner::{Full, Handle, Kind, Machine, Pending, Record, Refusal, Reply, Share, Word};
 
-// One borrow more of a handle.
-fn borrow_more(borrows: &mut Vec<usize>, h: usize)
-    requires known { h < length borrows.old.items }
-    requires few { slice_index_or borrows.old.items h 0 < 2 ^ 63 }
-    ensures items { borrows.new.items
-        ≡ slice_set borrows.old.items h (slice_index_or borrows.old.items h 0 + 1) }
-    ensures capacity { vec_capacity borrows.new ≡ vec_capacity borrows.old }
-{
-    borrows[h] += 1;
-}
-
-// One borrow less of a handle.
-fn borrow_less(borrows: &mut Vec<usize>, h: usize)
-    requires known { h < length borrows.old.items }
-    requires some { 0 < slice_index_or borrows.old.items h 0 }
-    ensures items { borrows.new.items
-        ≡ slice_set borrows.old.items h (slice_index_or borrows.old.items h 0 - 1) }
-    ensures capacity { vec_capacity borrows.new ≡ vec_capacity borrows.old }
-{
-    borrows[h] -= 1;
-}
-
 impl Machine {
     /// The view, for a call that shares it.
     fn view(&self, h: usize) -> Result<Handle, Refusal>
@@ -121,11 +99,10 @@ impl Machine {
         requires word { x.word ≡ Empty }
         ensures { Took self.old (change.made self.old.state (change.part x range.lo range.hi Empty)) result self.new }
     {
-        room_for_handle(&self.handles, &self.borrows)?;
+        room_for_handle(&self.handles)?;
         let new = self.handles.len();
         self.handles
             .push_reserved(Some(part(x, range.lo, range.hi, Word::Empty)));
-        self.borrows.push_reserved(0);
         Ok(Reply::Made(new))
     }
 
@@ -139,7 +116,6 @@ impl Machine {
         ensures state { self.new.state ≡ called self.old.state party (Some (Loaded range word)) }
         ensures room { self.new.room ≡ self.old.room }
     {
-        borrow_more(&mut self.borrows, range.handle);
         self.calls[party] = Some(Pending::Loaded(range, word));
         Reply::More
     }
@@ -154,7 +130,6 @@ impl Machine {
         ensures state { self.new.state ≡ called self.old.state party (Some (Add range r)) }
         ensures room { self.new.room ≡ self.old.room }
     {
-        borrow_more(&mut self.borrows, range.handle);
         self.calls[party] = Some(Pending::Add(range, r));
         Reply::More
     }
@@ -186,7 +161,6 @@ impl Machine {
         ensures { Took self.old (ready_of self.old.state party range word memory) result self.new }
     {
         if !memory {
-            borrow_less(&mut self.borrows, range.handle);
             self.calls[party] = None;
             return Ok(Reply::Refused(Refusal::Memory));
         }
@@ -239,7 +213,7 @@ impl Machine {
             (shared (edited self.old.state range.handle (record x { word = Counted r })) party range x r)
             result self.new }
     {
-        room_for_handle(&self.handles, &self.borrows)?;
+        room_for_handle(&self.handles)?;
         let new = self.handles.len();
         self.handles[range.handle] = Some(Handle {
             word: Word::Record(r),
@@ -247,8 +221,6 @@ impl Machine {
         });
         self.handles
             .push_reserved(Some(part(x, range.lo, range.hi, Word::Record(r))));
-        self.borrows.push_reserved(0);
-        borrow_less(&mut self.borrows, range.handle);
         self.calls[party] = None;
         Ok(Reply::Made(new))
     }
@@ -290,7 +262,6 @@ impl Machine {
         };
         let record = self.record(r);
         if record.count > self.ceiling {
-            borrow_less(&mut self.borrows, range.handle);
             self.calls[party] = None;
             return Ok(Reply::Refused(Refusal::Ceiling));
         }
@@ -307,7 +278,7 @@ impl Machine {
             result self.new }
     {
         let record = self.record(r);
-        room_for_handle(&self.handles, &self.borrows)?;
+        room_for_handle(&self.handles)?;
         let new = self.handles.len();
         self.records[r] = Record {
             count: record.count + 1,
@@ -315,8 +286,6 @@ impl Machine {
         };
         self.handles
             .push_reserved(Some(part(x, range.lo, range.hi, Word::Record(r))));
-        self.borrows.push_reserved(0);
-        borrow_less(&mut self.borrows, range.handle);
         self.calls[party] = None;
         Ok(Reply::Made(new))
     }

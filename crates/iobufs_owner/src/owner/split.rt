@@ -44,11 +44,10 @@ impl Machine {
         ensures { Took self.old
             (made (edited self.old.state h (change.detached_handle 0)) x) result self.new }
     {
-        room_for_handle(&self.handles, &self.borrows)?;
+        room_for_handle(&self.handles)?;
         let new = self.handles.len();
         self.handles[h] = Some(detached());
         self.handles.push_reserved(Some(x));
-        self.borrows.push_reserved(0);
         Ok(Reply::Made(new))
     }
 
@@ -60,12 +59,11 @@ impl Machine {
         requires ends { x.ptr + x.len < 2 ^ 64 }
         ensures { Took self.old (short.split_with self.old.state h at x Empty) result self.new }
     {
-        room_for_handle(&self.handles, &self.borrows)?;
+        room_for_handle(&self.handles)?;
         let new = self.handles.len();
         self.handles[h] = Some(part(x, at, x.len, Word::Empty));
         self.handles
             .push_reserved(Some(part(x, 0, at, Word::Empty)));
-        self.borrows.push_reserved(0);
         Ok(Reply::Made(new))
     }
 
@@ -89,7 +87,7 @@ impl Machine {
         }
         let block = self.owned(h, x, word);
         room_for_record(&self.records, &self.freed_records)?;
-        room_for_handle(&self.handles, &self.borrows)?;
+        room_for_handle(&self.handles)?;
         let new = self.handles.len();
         let r = self.records.len();
         self.records.push_reserved(Record {
@@ -100,7 +98,6 @@ impl Machine {
         self.handles[h] = Some(part(x, at, x.len, Word::Record(r)));
         self.handles
             .push_reserved(Some(part(x, 0, at, Word::Record(r))));
-        self.borrows.push_reserved(0);
         Ok(Reply::Made(new))
     }
 
@@ -116,7 +113,7 @@ impl Machine {
         if record.count > self.ceiling {
             return Ok(Reply::Refused(Refusal::Ceiling));
         }
-        room_for_handle(&self.handles, &self.borrows)?;
+        room_for_handle(&self.handles)?;
         let new = self.handles.len();
         self.records[r] = Record {
             count: record.count + 1,
@@ -125,7 +122,6 @@ impl Machine {
         self.handles[h] = Some(part(x, at, x.len, Word::Record(r)));
         self.handles
             .push_reserved(Some(part(x, 0, at, Word::Record(r))));
-        self.borrows.push_reserved(0);
         Ok(Reply::Made(new))
     }
 }

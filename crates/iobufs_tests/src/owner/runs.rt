@@ -96,7 +96,7 @@ fn schedules_as_one_list(rt: HostRuntime) -> Result<(), Fail> {
             wanted.push(*reply)?;
         }
         let mut machine = machine_for(&rt, schedule)?;
-        let replies = machine.run(rt.alloc(), steps.as_slice())?;
+        let replies = machine.run(steps.as_slice())?;
         assert_same!(rt; replies.as_slice(), wanted.as_slice());
         assert_same!(rt; machine.freed_blocks(), [FREED].as_slice());
         assert_same!(rt; machine.freed_records(), schedule.freed_records);

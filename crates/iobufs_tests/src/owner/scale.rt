@@ -39,7 +39,7 @@ fn a_hundred_thousand_steps(rt: HostRuntime) -> Result<(), Fail> {
     for _ in 1..100000 {
         steps.push(begin(Call::IsUnique(0)))?;
     }
-    let replies = machine.run(rt.alloc(), steps.as_slice())?;
+    let replies = machine.run(steps.as_slice())?;
     assert_same!(rt; replies.len(), 100000);
     assert_same!(rt; replies.as_slice().first(), Some(&Reply::Made(0)));
     for reply in replies.iter().skip(1) {

@@ -352,7 +352,7 @@ fn assert_line(
         }
         Line::Statics(from, to) => assert_statics(rt, name, machine, from, to),
         Line::Run(steps, replies) => {
-            assert_same!(rt; machine.run(rt.alloc(), steps)?.as_slice(), replies, "{name}");
+            assert_same!(rt; machine.run(steps)?.as_slice(), replies, "{name}");
         }
         _ => assert_table(rt, name, machine, line),
     }
@@ -422,7 +422,7 @@ fn assert_alike(rt: &impl Abort, one: &Machine, other: &Machine) {
 fn long_run(rt: HostRuntime) -> Result<(), Fail> {
     let steps = lives(rt.alloc())?;
     let mut listed = Machine::new(rt.alloc(), 2, 9, FORMAT_64)?;
-    let replies = listed.run(rt.alloc(), &steps)?;
+    let replies = listed.run(&steps)?;
     let mut single = Machine::new(rt.alloc(), 2, 9, FORMAT_64)?;
     for (step, reply) in steps.iter().zip(&replies) {
         assert_step(&rt, "long run", &mut single, [1, 1, 1], *step, *reply);

@@ -2,4 +2,4 @@ use Rattle.iobufs_owner.proofs.WorldSteps.Reserved.{find}
 use Rattle.iobufs_owner.proofs.laws.room_law.Goals as goal
 
 pub returns : goal.returns
-returns c = λ m next steps replies r i. find m steps replies next r i
+returns c = λ m next steps replies r memory few. find m steps replies next r memory few

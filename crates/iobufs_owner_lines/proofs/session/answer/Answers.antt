@@ -16,10 +16,8 @@ returns-in-Take g c =
       grown,
       record {
         moves = s.moves;
-        steps = s.steps;
-        sound = s.sound;
-        promises = s.promises;
         room = s.room;
+        seen = record { steps = s.steps; promises = s.promises; logs = s.logs };
       },
       refl,
     )) c.writeln.ensures.bytes

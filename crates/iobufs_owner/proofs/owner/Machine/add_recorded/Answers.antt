@@ -1,15 +1,11 @@
 use Rattle.std.proofs.Common.{◌≡◌, length, arith, sym, subst, refl, length-append, ap, inl, inr}
-use Rattle.std.proofs.lemmas.List.{length-map}
 use Rattle.std.proofs.lemmas.Result.{err_from_is_err_and}
 use Rattle.iobufs_owner.specs.Inside.{state_of}
 use Rattle.iobufs_owner.specs.State.{IsFull, State, Seen}
 use Rattle.iobufs_owner.specs.Places.{IsGoodPlace}
 use Rattle.iobufs_owner.specs.Changes.{next_record}
-use Rattle.iobufs_owner.specs.declared.owner.types.Word.TheVariants.{Record as Counted}
+use Rattle.iobufs_owner.specs.Types.{Counted}
 use Rattle.iobufs_owner.proofs.Soundness.NewRecord.{sound-recorded}
-use Rattle.iobufs_owner.proofs.Soundness.Borrows.{kept-pushed, counts-pushed}
-use Rattle.iobufs_owner.proofs.Soundness.Finds.{bases-more, other-bases}
-use Rattle.iobufs_owner.proofs.Soundness.New.{other-base}
 use Rattle.iobufs_owner.proofs.owner.Machine.add_recorded.Goals as goal
 
 pub invariant_of-self : goal.invariant_of-self
@@ -19,7 +15,6 @@ invariant_of-self c =
     let good = subst (λ (s : State). IsGoodPlace s.tables.blocks c.args.block.base c.args.block.size c.args.block.align)
     (sym (ap (λ (m : Seen). m.state) c.self.view_is)) c.requires.place in
     let word = subst (λ (s : State). c.args.x.word ≡ Counted (next_record s)) (sym (ap (λ (m : Seen). m.state) c.self.view_is)) c.requires.word in
-    let e : length c.self.inside.places.bases ≡ length c.self.inside.blocks.items = rw (k.places, length-map) refl in
     let n : c.len-number.result ≡ length c.self.inside.blocks.items = omega (arith, c.len-number.ensures) in
     record {
       sound = rw (c.push_reserved-3.ensures.items, c.push_reserved-2.ensures.items, c.push_reserved.ensures.items, n)
@@ -28,20 +23,9 @@ invariant_of-self c =
           (omega (arith, c.in_ok-room_for_block.ensures.few, c.in_ok-room_for_handle.ensures.few, c.in_ok-room_for_record.ensures.few))
           (omega (arith, c.in_ok-room_for_block.ensures.few, c.in_ok-room_for_handle.ensures.few, c.in_ok-room_for_record.ensures.few)));
       block_room = rw (c.push_reserved.ensures.items, length-append)
-          (omega (arith, e, c.in_ok-room_for_block.ensures.freed_room, c.in_ok-room_for_block.ensures.place_room, c.add.ensures.room));
+          (omega (arith, c.in_ok-room_for_block.ensures.freed_room));
       record_room = rw (c.push_reserved-2.ensures.items, length-append) (omega (arith, c.in_ok-room_for_record.ensures.freed_room));
-      borrows_kept = rw (c.push_reserved-4.ensures.items, c.push_reserved-3.ensures.items) (kept-pushed _ _ _ k.borrows_kept);
-      places = rw (c.add.ensures.bases, c.push_reserved.ensures.items) (bases-more c.self.inside.places.bases c.self.inside.blocks.items c.args.block k.places);
-      borrowed = rw c.push_reserved-4.ensures.items (counts-pushed c.self.inside.borrows.items c.self.inside.calls.items k.borrowed);
     }
-
-pub add-requires-clause-new : goal.add-requires-clause-new
-add-requires-clause-new c =
-    let k = c.self.invariant in
-    let good = subst (λ (s : State). IsGoodPlace s.tables.blocks c.args.block.base c.args.block.size c.args.block.align)
-    (sym (ap (λ (m : Seen). m.state) c.self.view_is)) c.requires.place in
-    (other-bases c.self.inside.places.bases c.self.inside.blocks.items c.args.block k.places
-    (other-base c.self.inside.blocks.items c.args.block k.sound.blocks.places good))
 
 pub returns-in_err-room_for_record : goal.returns-in_err-room_for_record
 returns-in_err-room_for_record c =

@@ -1,5 +1,4 @@
 use Rattle.std.proofs.Common.{sym, subst, arith, ap}
-use Rattle.std.proofs.Math.ListN.{length-set}
 use Rattle.iobufs_owner.specs.Inside.{state_of}
 use Rattle.iobufs_owner.specs.Lending.{Lends}
 use Rattle.iobufs_owner.specs.State.{State, Seen}
@@ -22,7 +21,4 @@ invariant_of-self c =
       sound = rw c.saturating_sub.ensures (sound-advanced s c.args.h c.in-Ok.x c.args.n k.sound t.at t.free c.if-n-x.false);
       block_room = k.block_room;
       record_room = k.record_room;
-      borrows_kept = rw length-set k.borrows_kept;
-      places = k.places;
-      borrowed = k.borrowed;
     }

@@ -1,6 +1,5 @@
 use Rattle.std.proofs.Common.{Result, sym, ◌∙◌, subst, refl}
-use Rattle.iobufs_owner.specs.declared.owner.types.Handle.{Handle}
-use Rattle.iobufs_owner.specs.declared.owner.types.Refusal.{Refusal}
+use Rattle.iobufs_owner.specs.Types.{Handle, Refusal}
 use Rattle.iobufs_owner.specs.Changes.{refused}
 use Rattle.iobufs_owner.specs.ShortCalls.{IsDemoted, declined}
 use Rattle.iobufs_owner.specs.State.{State}

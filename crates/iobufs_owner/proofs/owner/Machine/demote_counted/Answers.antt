@@ -1,8 +1,6 @@
 use Rattle.std.proofs.Common.{◌≡◌, inl, inr, arith, ap, refl, sym, ◌∙◌, subst}
 use Rattle.std.proofs.Math.ListN.{length-set}
-use Rattle.iobufs_owner.specs.declared.owner.types.Block.{Block}
-use Rattle.iobufs_owner.specs.declared.owner.types.Record.{Record}
-use Rattle.iobufs_owner.specs.declared.owner.types.Kind.TheVariants.{View}
+use Rattle.iobufs_owner.specs.Types.{Block, Record, View}
 use Rattle.iobufs_owner.specs.Inside.{state_of}
 use Rattle.iobufs_owner.specs.Lending.{Lends}
 use Rattle.iobufs_owner.specs.Sound.{IsSound}
@@ -83,9 +81,6 @@ invariant_of-self c =
       sound = rw (c.push_reserved.ensures.items, e1, word) (sound-demoted s c.args.h c.args.r d.power.0 c.args.x k.sound t c.requires.word d.power.1 may);
       block_room = k.block_room;
       record_room = rw length-set (omega (arith, k.record_room, c.push_reserved.ensures.capacity));
-      borrows_kept = rw length-set k.borrows_kept;
-      places = k.places;
-      borrowed = k.borrowed;
     }
 
 pub returns : goal.returns

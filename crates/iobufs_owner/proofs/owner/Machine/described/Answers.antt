@@ -2,8 +2,8 @@ use Rattle.std.proofs.Common.{◌≡◌, ◌∙◌, ℕ, Some, None, sym, ap, su
 use Rattle.iobufs_owner.specs.Inside.{state_of}
 use Rattle.iobufs_owner.specs.Sound.{DescribesBlock}
 use Rattle.iobufs_owner.specs.State.{State, Seen, end_of, tail_in, owner_of}
+use Rattle.iobufs_owner.proofs.Soundness.Edits.{owner-described}
 use Rattle.iobufs_owner.proofs.Soundness.Recovered.{says-ends}
-use Rattle.iobufs_owner.proofs.Soundness.Finds.{finds}
 use Rattle.iobufs_owner.proofs.owner.Machine.described.Goals as goal
 
 pub unpack-fields-requires : goal.unpack-fields-requires
@@ -42,20 +42,16 @@ overflow_sub-base c =
 pub unreachable-requires : goal.unreachable-requires
 unreachable-requires c =
     let s : State = state_of c.self.inside in
-    let k = c.self.invariant in
     let d = subst (λ (s : State). DescribesBlock s.tables c.args.x c.args.word) (sym (ap (λ (m : Seen). m.state) c.self.view_is)) c.requires.says in
     let e : c.end.result ≡ end_of c.args.x (tail_in s.tables c.args.word) = c.end.ensures ∙ ap (λ (n : ℕ). end_of c.args.x n) c.unpack-fields.ensures.tail in
-    let h = rw (k.places, e, c.unpack-fields.ensures.size) at c.last.ensures in
-    let f = finds s.tables c.args.x c.args.word d.block d.log d.tail c.last.result k.sound.blocks c.requires.word d.says h in
-    let z : None ≡ Some d.block = sym c.in-None.is ∙ f in
+    let h = rw (e, c.unpack-fields.ensures.size, c.deref.ensures.value) at c.block_with.ensures in
+    let z : None ≡ Some d.block = sym c.in-None.is ∙ h ∙ sym (owner-described s.tables c.args.x c.args.word c.requires.word) ∙ d.says.owner in
     absurd (cc)
 
 pub returns : goal.returns
 returns c =
     let s : State = state_of c.self.inside in
-    let k = c.self.invariant in
-    let d = subst (λ (s : State). DescribesBlock s.tables c.args.x c.args.word) (sym (ap (λ (m : Seen). m.state) c.self.view_is)) c.requires.says in
     let e : c.end.result ≡ end_of c.args.x (tail_in s.tables c.args.word) = c.end.ensures ∙ ap (λ (n : ℕ). end_of c.args.x n) c.unpack-fields.ensures.tail in
-    let h = rw (k.places, e, c.unpack-fields.ensures.size) at c.last.ensures in
-    let f = finds s.tables c.args.x c.args.word d.block d.log d.tail c.last.result k.sound.blocks c.requires.word d.says h in
-    subst (λ (s : State). owner_of s.tables c.args.x ≡ Some c.in-Some.number) (ap (λ (m : Seen). m.state) c.self.view_is) (d.says.owner ∙ sym f ∙ c.in-Some.is)
+    let h = rw (e, c.unpack-fields.ensures.size, c.deref.ensures.value) at c.block_with.ensures in
+    subst (λ (s : State). owner_of s.tables c.args.x ≡ Some c.in-Some.number) (ap (λ (m : Seen). m.state) c.self.view_is)
+    (owner-described s.tables c.args.x c.args.word c.requires.word ∙ sym h ∙ c.in-Some.is)

@@ -1,5 +1,4 @@
 use Rattle.std.proofs.Common.{sym, subst, ap}
-use Rattle.std.proofs.Math.ListN.{length-set}
 use Rattle.iobufs_owner.specs.Inside.{state_of}
 use Rattle.iobufs_owner.specs.Lending.{Lends}
 use Rattle.iobufs_owner.specs.State.{State, Seen}
@@ -15,7 +14,4 @@ invariant_of-self c =
       sound = sound-gone_empty s c.args.h c.args.x k.sound t.at t.free c.requires.word;
       block_room = k.block_room;
       record_room = k.record_room;
-      borrows_kept = rw length-set k.borrows_kept;
-      places = k.places;
-      borrowed = k.borrowed;
     }

@@ -1,13 +1,11 @@
-use Rattle.std.proofs.Common.{◌≡◌, ◌<◌, None, length, nat_eq, sym, refl, subst, ap, Some, ◌∙◌}
-use Rattle.std.proofs.Math.ListN.{length-set}
-use Rattle.iobufs_owner.specs.declared.owner.types.Kind.TheVariants.{View}
+use Rattle.std.proofs.Common.{◌≡◌, ◌<◌, None, length, nat_eq, sym, refl, subst, ap}
+use Rattle.iobufs_owner.specs.Types.{View}
 use Rattle.iobufs_owner.specs.Inside.{state_of}
-use Rattle.iobufs_owner.specs.Lending.{borrows_it, Lends}
+use Rattle.iobufs_owner.specs.Lending.{Lends}
 use Rattle.iobufs_owner.specs.LongCalls.{after_count}
 use Rattle.iobufs_owner.specs.State.{State, Seen, call_at, record_at}
 use Rattle.iobufs_owner.proofs.Soundness.Edits.{counted-at}
 use Rattle.iobufs_owner.proofs.Soundness.Drop.{sound-dropping, drop-after}
-use Rattle.iobufs_owner.proofs.Soundness.Borrows.{counts-same, after-quiet}
 use Rattle.iobufs_owner.proofs.owner.Machine.drop_view.Goals as goal
 
 pub invariant_of-self : goal.invariant_of-self
@@ -27,9 +25,4 @@ invariant_of-self c =
           c.requires.word t.kind_is t.free idle there d);
       block_room = k.block_room;
       record_room = k.record_room;
-      borrows_kept = rw length-set k.borrows_kept;
-      places = k.places;
-      borrowed = rw c.after_count-next.ensures
-          (counts-same c.self.inside.borrows.items c.self.inside.calls.items c.args.party (Some (after_count c.record-record.result.count c.args.r))
-          there (λ h. ap (borrows_it h) idle ∙ sym (after-quiet h c.record-record.result.count c.args.r)) k.borrowed);
     }

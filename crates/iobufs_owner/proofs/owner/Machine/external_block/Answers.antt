@@ -1,6 +1,6 @@
 use Rattle.std.proofs.Common.{inl, inr, refl}
 use Rattle.iobufs_owner.specs.Changes.{refused}
-use Rattle.iobufs_owner.specs.declared.owner.types.Refusal.TheVariants.{BadPlace, Memory}
+use Rattle.iobufs_owner.specs.Types.{BadPlace, Memory}
 use Rattle.iobufs_owner.proofs.owner.Machine.external_block.Goals as goal
 
 pub returns-then-not-is_good_place : goal.returns-then-not-is_good_place

@@ -1,6 +1,6 @@
 use Rattle.std.proofs.Common.{◌≡◌, sym, subst, arith, ap}
 use Rattle.std.proofs.Math.ListN.{length-set}
-use Rattle.iobufs_owner.specs.declared.owner.types.Kind.TheVariants.{Mut}
+use Rattle.iobufs_owner.specs.Types.{Mut}
 use Rattle.iobufs_owner.specs.Inside.{state_of}
 use Rattle.iobufs_owner.specs.Lending.{Lends}
 use Rattle.iobufs_owner.specs.State.{State, Seen, record_at, block_at}
@@ -38,7 +38,4 @@ invariant_of-self c =
           (sound-freed_counted s c.args.h c.args.x c.args.r c.args.rest k.sound t.at t.free t.kind_is c.requires.word c.requires.rest);
       block_room = omega (arith, k.block_room, c.push_reserved.ensures.capacity);
       record_room = rw length-set (omega (arith, k.record_room, c.push_reserved-2.ensures.capacity));
-      borrows_kept = rw length-set k.borrows_kept;
-      places = k.places;
-      borrowed = k.borrowed;
     }

@@ -1,5 +1,4 @@
 use Rattle.std.proofs.Common.{◌≡◌, ℕ, ◌∙◌, sym, ap, subst, arith}
-use Rattle.std.proofs.Math.ListN.{length-set}
 use Rattle.iobufs_owner.specs.Inside.{state_of}
 use Rattle.iobufs_owner.specs.Lending.{Lends}
 use Rattle.iobufs_owner.specs.State.{State, Seen, end_of, tail_in}
@@ -55,7 +54,4 @@ invariant_of-self c =
           (sound-freed_described s c.args.h c.args.x c.args.word c.args.rest k.sound t.at t.free c.requires.word c.requires.rest);
       block_room = omega (arith, k.block_room, c.push_reserved.ensures.capacity);
       record_room = k.record_room;
-      borrows_kept = rw length-set k.borrows_kept;
-      places = k.places;
-      borrowed = k.borrowed;
     }

@@ -1,6 +1,5 @@
 use Rattle.std.proofs.Common.{◌≡◌, ◌∙◌, ℕ, Option, sym, subst, ap, unwrap_or}
-use Rattle.iobufs_owner.specs.declared.owner.types.Handle.{Handle}
-use Rattle.iobufs_owner.specs.declared.owner.types.Word.TheVariants.{Descriptor}
+use Rattle.iobufs_owner.specs.Types.{Handle, Descriptor}
 use Rattle.iobufs_owner.specs.LongCalls.{loaded_found}
 use Rattle.iobufs_owner.specs.Sound.{DescribesBlock}
 use Rattle.iobufs_owner.proofs.Soundness.Readied.{loading}

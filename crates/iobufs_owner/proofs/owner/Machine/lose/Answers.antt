@@ -1,14 +1,11 @@
 use Rattle.std.proofs.Common.{◌≡◌, Some, sym, subst, arith, ap}
 use Rattle.std.proofs.Math.ListN.{length-set}
-use Rattle.iobufs_owner.specs.declared.owner.types.Pending.TheVariants.{Ready, Add}
+use Rattle.iobufs_owner.specs.Types.{Ready}
 use Rattle.iobufs_owner.specs.Inside.{state_of}
 use Rattle.iobufs_owner.specs.State.{State, Seen, handle_at, call_at, record_at}
 use Rattle.iobufs_owner.proofs.Soundness.BlockFreed.{counted-ends}
 use Rattle.iobufs_owner.proofs.Soundness.Lost.{sound-lost}
 use Rattle.iobufs_owner.proofs.Soundness.Share.{racing}
-use Rattle.iobufs_owner.proofs.Soundness.Borrows.{counts-same}
-use Rattle.iobufs_owner.proofs.Soundness.StaysSound.{at-some}
-use Rattle.iobufs_owner.specs.Lending.{borrows_it}
 use Rattle.iobufs_owner.proofs.owner.Machine.lose.Goals as goal
 
 pub push_reserved-requires : goal.push_reserved-requires
@@ -34,8 +31,4 @@ invariant_of-self c =
           (sound-lost s c.args.party c.args.r c.args.word c.args.winner c.args.range c.args.x k.sound at found c.requires.word);
       block_room = k.block_room;
       record_room = rw length-set (omega (arith, k.record_room, c.push_reserved.ensures.capacity));
-      borrows_kept = k.borrows_kept;
-      places = k.places;
-      borrowed = counts-same c.self.inside.borrows.items c.self.inside.calls.items c.args.party (Some (Add c.args.range c.args.winner))
-          (at-some s.calls c.args.party (Ready c.args.range c.args.word c.args.r) at) (λ h. ap (borrows_it h) at) k.borrowed;
     }

@@ -1,17 +1,11 @@
-use Rattle.std.proofs.Common.{◌≡◌, Option, Some, None, length, length-append, sym, subst, arith, ap, refl}
-use Rattle.std.proofs.Math.ListN.{length-set}
-use Rattle.iobufs_owner.specs.declared.owner.types.Pending.{Pending}
-use Rattle.iobufs_owner.specs.declared.owner.types.Pending.TheVariants.{Loaded, Ready}
+use Rattle.std.proofs.Common.{◌≡◌, Option, Some, None, length, length-append, sym, subst, arith, ap}
+use Rattle.iobufs_owner.specs.Types.{Pending, Loaded}
 use Rattle.iobufs_owner.specs.Inside.{state_of}
-use Rattle.iobufs_owner.specs.Lending.{borrows_it}
 use Rattle.iobufs_owner.specs.LongCalls.{loaded_block}
 use Rattle.iobufs_owner.specs.State.{State, Seen, call_at}
 use Rattle.iobufs_owner.proofs.Soundness.StaysSound.{at-some}
 use Rattle.iobufs_owner.proofs.Soundness.Called.{IsQuiet, quiet-none, quiet-loaded, sound-called}
 use Rattle.iobufs_owner.proofs.Soundness.Readied.{loading, loading-block, sound-readied}
-use Rattle.iobufs_owner.proofs.Soundness.Frames.{is-eqb}
-use Rattle.iobufs_owner.proofs.Soundness.Borrows.{counts-less, some-borrowed}
-use Rattle.iobufs_owner.proofs.Soundness.Borrows.{counts-same}
 use Rattle.iobufs_owner.proofs.owner.Machine.make_ready.Goals as goal
 
 pub invariant_of-self : goal.invariant_of-self
@@ -25,13 +19,6 @@ invariant_of-self c =
           (subst (λ (o : Option Pending). IsQuiet s o) (sym at) (quiet-loaded s c.args.range c.args.word)) (quiet-none s) tt;
       block_room = k.block_room;
       record_room = k.record_room;
-      borrows_kept = rw (c.borrow_less.ensures.items, length-set) k.borrows_kept;
-      places = k.places;
-      borrowed = rw c.borrow_less.ensures.items
-          (counts-less c.self.inside.borrows.items c.self.inside.calls.items c.args.party c.args.range.handle
-          (Some (Loaded c.args.range c.args.word)) (let l =
-          at-some s.handles c.args.range.handle _ (loading s c.args.party c.args.range c.args.word k.sound at).shares.at in let q =
-          k.borrows_kept in omega (arith, l, q)) (at-some s.calls c.args.party (Loaded c.args.range c.args.word) at) at (λ j. refl) k.borrowed);
     }
 
 pub invariant_of-self-2 : goal.invariant_of-self-2
@@ -50,28 +37,4 @@ invariant_of-self-2 c =
           (loading-block s c.args.range c.args.word l) (omega (arith, c.in_ok-room_for_record.ensures.few)));
       block_room = k.block_room;
       record_room = rw (c.push_reserved.ensures.items, length-append) (omega (arith, c.in_ok-room_for_record.ensures.freed_room));
-      borrows_kept = k.borrows_kept;
-      places = k.places;
-      borrowed = counts-same c.self.inside.borrows.items c.self.inside.calls.items c.args.party
-          (Some (Ready c.args.range c.args.word c.len-r.result)) (at-some s.calls c.args.party (Loaded c.args.range c.args.word) at)
-          (λ h. ap (borrows_it h) at) k.borrowed;
     }
-
-pub borrow_less-requires-clause-some : goal.borrow_less-requires-clause-some
-borrow_less-requires-clause-some c =
-    let s : State = state_of c.self.inside in
-    let k = c.self.invariant in
-    let at = subst (λ (s : State). call_at s c.args.party ≡ Some (Loaded c.args.range c.args.word)) (sym (ap (λ (m : Seen). m.state) c.self.view_is))
-    c.requires in
-    some-borrowed c.self.inside.borrows.items c.self.inside.calls.items c.args.party c.args.range.handle (Some (Loaded c.args.range c.args.word))
-    (at-some s.calls c.args.party (Loaded c.args.range c.args.word) at) at (is-eqb c.args.range.handle c.args.range.handle refl) k.borrowed
-
-pub borrow_less-requires-clause-known : goal.borrow_less-requires-clause-known
-borrow_less-requires-clause-known c =
-    let s : State = state_of c.self.inside in
-    let k = c.self.invariant in
-    let at = subst (λ (s : State). call_at s c.args.party ≡ Some (Loaded c.args.range c.args.word)) (sym (ap (λ (m : Seen). m.state) c.self.view_is))
-    c.requires in
-    let l = at-some s.handles c.args.range.handle _ (loading s c.args.party c.args.range c.args.word k.sound at).shares.at in
-    let q = k.borrows_kept in
-    omega (arith, l, q)

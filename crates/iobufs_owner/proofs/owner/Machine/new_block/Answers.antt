@@ -4,7 +4,7 @@ use Rattle.iobufs_owner.specs.ShortCalls.{made_block, described_of, placed}
 use Rattle.iobufs_owner.specs.Inside.{state_of}
 use Rattle.iobufs_owner.specs.State.{State, Seen}
 use Rattle.iobufs_owner.proofs.WorldSteps.New.{described-placed}
-use Rattle.iobufs_owner.specs.declared.owner.types.Refusal.TheVariants.{BadPlace, Memory}
+use Rattle.iobufs_owner.specs.Types.{BadPlace, Memory}
 use Rattle.iobufs_owner.proofs.owner.Machine.new_block.Goals as goal
 
 pub returns-then-not-is_good_place : goal.returns-then-not-is_good_place

@@ -1,6 +1,5 @@
 use Rattle.std.proofs.Common.{◌≡◌, sym, subst, ap}
-use Rattle.std.proofs.Math.ListN.{length-set}
-use Rattle.iobufs_owner.specs.declared.owner.types.Kind.TheVariants.{View}
+use Rattle.iobufs_owner.specs.Types.{View}
 use Rattle.iobufs_owner.specs.Inside.{state_of}
 use Rattle.iobufs_owner.specs.Lending.{Lends}
 use Rattle.iobufs_owner.specs.State.{State, Seen, record_at, block_at}
@@ -22,7 +21,4 @@ invariant_of-self c =
       sound = rw (e2, e1) (sound-thawed_counted s c.args.h c.args.x c.args.r k.sound t c.requires.word native one);
       block_room = k.block_room;
       record_room = k.record_room;
-      borrows_kept = rw length-set k.borrows_kept;
-      places = k.places;
-      borrowed = k.borrowed;
     }

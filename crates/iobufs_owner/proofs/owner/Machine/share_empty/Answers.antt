@@ -5,8 +5,7 @@ use Rattle.iobufs_owner.specs.Sound.{Shares}
 use Rattle.iobufs_owner.specs.State.{State, Seen}
 use Rattle.iobufs_owner.proofs.Soundness.StaysSound.{sound-detached}
 use Rattle.iobufs_owner.proofs.Soundness.Edits.{empty-at}
-use Rattle.iobufs_owner.specs.declared.owner.types.Word.TheVariants.{Empty}
-use Rattle.iobufs_owner.proofs.Soundness.Borrows.{kept-pushed, counts-pushed}
+use Rattle.iobufs_owner.specs.Types.{Empty}
 use Rattle.iobufs_owner.proofs.owner.Machine.share_empty.Goals as goal
 
 pub invariant_of-self : goal.invariant_of-self
@@ -25,7 +24,4 @@ invariant_of-self c =
       }) (omega (arith, c.in_ok-room_for_handle.ensures.few)));
       block_room = k.block_room;
       record_room = k.record_room;
-      borrows_kept = rw (c.push_reserved-2.ensures.items, c.push_reserved.ensures.items) (kept-pushed _ _ _ k.borrows_kept);
-      places = k.places;
-      borrowed = rw c.push_reserved-2.ensures.items (counts-pushed c.self.inside.borrows.items c.self.inside.calls.items k.borrowed);
     }

@@ -1,12 +1,11 @@
 use Rattle.std.proofs.Common.{◌≡◌, sym, subst, arith, ap}
 use Rattle.std.proofs.Math.ListN.{length-set}
-use Rattle.iobufs_owner.specs.declared.owner.types.Kind.TheVariants.{View}
+use Rattle.iobufs_owner.specs.Types.{View}
 use Rattle.iobufs_owner.specs.Inside.{state_of}
 use Rattle.iobufs_owner.specs.Lending.{Lends}
 use Rattle.iobufs_owner.specs.State.{State, Seen, record_at}
 use Rattle.iobufs_owner.proofs.Soundness.Edits.{counted-at, count-small}
 use Rattle.iobufs_owner.proofs.Soundness.SplitTo.{sound-split_counted}
-use Rattle.iobufs_owner.proofs.Soundness.Borrows.{kept-set-pushed, counts-pushed}
 use Rattle.iobufs_owner.proofs.owner.Machine.split_counted.Goals as goal
 
 pub overflow_add-record : goal.overflow_add-record
@@ -34,7 +33,4 @@ invariant_of-self c =
           (omega (arith, c.in_ok-room_for_handle.ensures.few)));
       block_room = k.block_room;
       record_room = rw length-set k.record_room;
-      borrows_kept = rw (c.push_reserved-2.ensures.items, c.push_reserved.ensures.items) (kept-set-pushed _ _ _ _ _ k.borrows_kept);
-      places = k.places;
-      borrowed = rw c.push_reserved-2.ensures.items (counts-pushed c.self.inside.borrows.items c.self.inside.calls.items k.borrowed);
     }

@@ -1,10 +1,9 @@
 use Rattle.std.proofs.Common.{◌≡◌, Some, length, length-append, sym, subst, arith, ap}
-use Rattle.iobufs_owner.specs.declared.owner.types.Kind.TheVariants.{View}
+use Rattle.iobufs_owner.specs.Types.{View}
 use Rattle.iobufs_owner.specs.Inside.{state_of}
 use Rattle.iobufs_owner.specs.Lending.{Lends}
 use Rattle.iobufs_owner.specs.State.{State, Seen, owner_of}
 use Rattle.iobufs_owner.proofs.Soundness.SplitTo.{sound-split_described}
-use Rattle.iobufs_owner.proofs.Soundness.Borrows.{kept-set-pushed, counts-pushed}
 use Rattle.iobufs_owner.proofs.owner.Machine.split_described.Goals as goal
 
 pub invariant_of-self : goal.invariant_of-self
@@ -22,7 +21,4 @@ invariant_of-self c =
           (omega (arith, c.in_ok-room_for_handle.ensures.few, c.in_ok-room_for_record.ensures.few)));
       block_room = k.block_room;
       record_room = rw (c.push_reserved.ensures.items, length-append) (omega (arith, c.in_ok-room_for_record.ensures.freed_room));
-      borrows_kept = rw (c.push_reserved-3.ensures.items, c.push_reserved-2.ensures.items) (kept-set-pushed _ _ _ _ _ k.borrows_kept);
-      places = k.places;
-      borrowed = rw c.push_reserved-3.ensures.items (counts-pushed c.self.inside.borrows.items c.self.inside.calls.items k.borrowed);
     }

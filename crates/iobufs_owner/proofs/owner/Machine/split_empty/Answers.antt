@@ -1,10 +1,9 @@
 use Rattle.std.proofs.Common.{sym, subst, arith, ap}
-use Rattle.iobufs_owner.specs.declared.owner.types.Kind.TheVariants.{View}
+use Rattle.iobufs_owner.specs.Types.{View}
 use Rattle.iobufs_owner.specs.Inside.{state_of}
 use Rattle.iobufs_owner.specs.Lending.{Lends}
 use Rattle.iobufs_owner.specs.State.{State, Seen}
 use Rattle.iobufs_owner.proofs.Soundness.SplitTo.{sound-split_empty}
-use Rattle.iobufs_owner.proofs.Soundness.Borrows.{kept-set-pushed, counts-pushed}
 use Rattle.iobufs_owner.proofs.owner.Machine.split_empty.Goals as goal
 
 pub invariant_of-self : goal.invariant_of-self
@@ -17,7 +16,4 @@ invariant_of-self c =
           (sound-split_empty s c.args.h c.args.at c.args.x k.sound t c.requires.word c.requires.within (omega (arith, c.in_ok-room_for_handle.ensures.few)));
       block_room = k.block_room;
       record_room = k.record_room;
-      borrows_kept = rw (c.push_reserved-2.ensures.items, c.push_reserved.ensures.items) (kept-set-pushed _ _ _ _ _ k.borrows_kept);
-      places = k.places;
-      borrowed = rw c.push_reserved-2.ensures.items (counts-pushed c.self.inside.borrows.items c.self.inside.calls.items k.borrowed);
     }

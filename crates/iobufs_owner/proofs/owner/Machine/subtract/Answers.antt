@@ -1,15 +1,11 @@
-use Rattle.std.proofs.Common.{◌≡◌, ◌-◌, Option, Some, sym, subst, ap, None}
+use Rattle.std.proofs.Common.{◌≡◌, ◌-◌, Option, Some, sym, subst, ap}
 use Rattle.std.proofs.Math.ListN.{length-set}
-use Rattle.iobufs_owner.specs.declared.owner.types.Pending.{Pending}
-use Rattle.iobufs_owner.specs.declared.owner.types.Pending.TheVariants.{Subtract, Release}
+use Rattle.iobufs_owner.specs.Types.{Pending, Subtract}
 use Rattle.iobufs_owner.specs.Inside.{state_of}
 use Rattle.iobufs_owner.specs.State.{State, Seen, call_at, record_at}
 use Rattle.iobufs_owner.specs.Changes.{called, with_count}
-use Rattle.iobufs_owner.specs.Lending.{borrows_it}
 use Rattle.iobufs_owner.specs.Sound.{IsSound}
 use Rattle.iobufs_owner.proofs.Soundness.Subtract.{afterwards-one, afterwards-none, sound-subtracted, letting-go}
-use Rattle.iobufs_owner.proofs.Soundness.Borrows.{counts-same}
-use Rattle.iobufs_owner.proofs.Soundness.StaysSound.{at-some}
 use Rattle.iobufs_owner.proofs.owner.Machine.subtract.Goals as goal
 
 pub overflow_sub-record : goal.overflow_sub-record
@@ -35,10 +31,6 @@ invariant_of-self c =
           (afterwards-one c.args.r (record_at s.tables c.args.r).count one) (sound-subtracted s c.args.party c.args.r k.sound at));
       block_room = k.block_room;
       record_room = rw length-set k.record_room;
-      borrows_kept = k.borrows_kept;
-      places = k.places;
-      borrowed = counts-same c.self.inside.borrows.items c.self.inside.calls.items c.args.party (Some (Release c.args.r))
-          (at-some s.calls c.args.party (Subtract c.args.r) at) (λ h. ap (borrows_it h) at) k.borrowed;
     }
 
 pub invariant_of-self-2 : goal.invariant_of-self-2
@@ -54,8 +46,4 @@ invariant_of-self-2 c =
           (afterwards-none c.args.r (record_at s.tables c.args.r).count more) (sound-subtracted s c.args.party c.args.r k.sound at));
       block_room = k.block_room;
       record_room = rw length-set k.record_room;
-      borrows_kept = k.borrows_kept;
-      places = k.places;
-      borrowed = counts-same c.self.inside.borrows.items c.self.inside.calls.items c.args.party None
-          (at-some s.calls c.args.party (Subtract c.args.r) at) (λ h. ap (borrows_it h) at) k.borrowed;
     }

@@ -4,7 +4,7 @@ use Rattle.iobufs_owner.specs.Inside.{state_of}
 use Rattle.iobufs_owner.specs.State.{State, Seen}
 use Rattle.iobufs_owner.specs.Changes.{refused}
 use Rattle.iobufs_owner.specs.Moves.{IsMoved, gone_on}
-use Rattle.iobufs_owner.specs.declared.owner.types.Refusal.TheVariants.{Idle, Busy}
+use Rattle.iobufs_owner.specs.Types.{Idle, Busy}
 use Rattle.iobufs_owner.proofs.WorldSteps.Step.{moved-nobody, moved-idle, moved-goes, moved-busy}
 use Rattle.iobufs_owner.proofs.owner.Machine.take.Goals as goal
 

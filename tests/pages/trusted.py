@@ -1,0 +1,119 @@
+"""The definitions that a contract rests on: those that it names, and those that they name in turn, over all crates."""
+import re
+from functools import cache
+
+from tree import CRATES, uses
+
+TOKEN = re.compile(r"[^\s(){}\[\],;.|λ:=]+|[(){}\[\],;.|λ:=]")
+IMPORT = re.compile(r"(?:ghost |pub )?use (?:Rattle\.)?([\w.'\-]+?)(?:\.\{(.*)\})?(?: as (\w+))?;?$")
+HEAD = re.compile(r"(?:abbrev |unfoldable |pub )*(?:(?:record|data|ruleset) (\S+)|(\S+) : )")
+# The contracts whose definitions docs/ASSURANCE.md counts: the name there, the source, the function.
+CONTRACTS = [
+    ("Table::run", "iobufs_run/src/table.rt", "run"),
+    ("Machine::run", "iobufs_owner/src/owner.rt", "run"),
+    ("session", "iobufs_session/src/serve.rt", "session"),
+]
+
+
+def imported(lines):
+    """The names that lines of imports bring in: each with its module, and its name there, or None for a module."""
+    found = {}
+    for line in lines:
+        if not (m := IMPORT.match(line.strip())):
+            continue
+        module, names, alias = m.groups()
+        if names is None:
+            found[alias or module.split(".")[-1]] = (module, None)
+        for name in filter(None, map(str.strip, (names or "").split(","))):
+            there, _, here = name.partition(" as ")
+            found[here or there] = (module, there)
+    return found
+
+
+def declared(lines):
+    """The declarations of a file, each by its name: its lines without comments."""
+    found, name = {}, None
+    for line in lines:
+        if not line.strip() or line.startswith(("--", "use ", "pub use ", "mod ", "pub mod ")):
+            continue
+        head = HEAD.match(line) if line[0] not in " )" else None
+        if head and (head[1] or head[2]) != name:
+            name = head[1] or head[2]
+            found[name] = []
+        if name:
+            found[name].append(line)
+    return found
+
+
+@cache
+def module(path):
+    """A module's declarations and imports; a constructor stands for its type."""
+    file = CRATES / (path.replace(".", "/") + ".antt")
+    if not file.is_file():
+        return {}, {}
+    lines = file.read_text().splitlines()
+    own = declared(lines)
+    for name, text in list(own.items()):
+        if re.match(r"(?:pub )?data ", text[0]):
+            own.update({m[1]: text for line in text if (m := re.match(r"\s+(\S+) :", line)) and m[1] not in own})
+    return own, imported(it for it in lines if it.startswith(("use", "pub use")))
+
+
+def find(path, name):
+    """The declaration of a name that a module has or passes on: its module and its name."""
+    own, brought = module(path)
+    if name in own:
+        return path, name
+    there = brought.get(name)
+    return find(*there) if there and there[1] else None
+
+
+def named(text, brought, path=None):
+    """The declarations that a text names, by the imports of its file."""
+    tokens = TOKEN.findall(text)
+    for i, token in enumerate(tokens):
+        there = brought.get(token)
+        if path and token in module(path)[0]:
+            yield path, token
+        elif there and there[1] is None:
+            if tokens[i + 1 : i + 2] == ["."] and i + 2 < len(tokens):
+                yield find(there[0], tokens[i + 2])
+        elif there:
+            yield find(*there)
+
+
+def contract(source, function):
+    """The contract of a public function, and the imports of its source."""
+    text = source.read_text()
+    begin = re.search(rf"pub fn {function}\b", text).start()
+    end = re.compile(r"^ *\{$", re.M).search(text, begin).start()
+    return text[begin:end], imported(it for it in text.splitlines() if it.startswith("ghost use"))
+
+
+def trusted(source, function):
+    """The definitions that a contract rests on, each with its lines."""
+    found, left = {}, list(named(*contract(source, function)))
+    while left:
+        if (it := left.pop()) and it not in found:
+            own, brought = module(it[0])
+            found[it] = own[it[1]]
+            left += named("\n".join(own[it[1]]), brought, it[0])
+    return found
+
+
+def contracts():
+    """For each contract how many definitions it rests on, and how many lines they have."""
+    for name, source, function in CONTRACTS:
+        found = trusted(CRATES / source, function)
+        yield name, len(found), sum(map(len, found.values()))
+
+
+def kinds():
+    """For each crate the lines of its specs/ that are definitions, and those that are lemmas or rules."""
+    for crate in sorted(uses()):
+        counts = [0, 0]
+        for file in (CRATES / crate / "specs").rglob("*.antt"):
+            for text in declared(file.read_text().splitlines()).values():
+                is_definition = re.match(r"(?:abbrev|unfoldable|(?:pub )?(?:record|data)) ", text[0]) is not None
+                counts[not is_definition] += len(text)
+        yield crate, *counts
