@@ -65,6 +65,11 @@ impl IoBufs {
         }
     }
 
+    /// Returns the chunks that hold bytes, in order.
+    pub fn chunks(&self) -> impl Iterator<Item = &[u8]> {
+        (0..).map_while(|index| self.chunk_at(index))
+    }
+
     /// Shows each piece that holds bytes, in order.
     pub fn for_each_chunk(&self, mut visit: impl FnMut(&[u8])) {
         let mut chunks = [NO_CHUNK; 32];
@@ -266,12 +271,26 @@ impl fmt::Debug for IoBufs {
 /// Whether they hold the same bytes, however these are cut.
 impl PartialEq for IoBufs {
     fn eq(&self, other: &Self) -> bool {
-        let bytes = |text: &IoBufs| {
-            let mut all = Vec::with_capacity(text.len());
-            text.for_each_chunk(|chunk| all.extend_from_slice(chunk));
-            all
-        };
-        self.len() == other.len() && bytes(self) == bytes(other)
+        if self.len() != other.len() {
+            return false;
+        }
+        let (mut ours, mut theirs) = (self.chunks(), other.chunks());
+        let (mut a, mut b): (&[u8], &[u8]) = (&[], &[]);
+        loop {
+            if a.is_empty() {
+                let Some(chunk) = ours.next() else { return true };
+                a = chunk;
+            }
+            if b.is_empty() {
+                let Some(chunk) = theirs.next() else { return true };
+                b = chunk;
+            }
+            let n = a.len().min(b.len());
+            if a[..n] != b[..n] {
+                return false;
+            }
+            (a, b) = (&a[n..], &b[n..]);
+        }
     }
 }
 

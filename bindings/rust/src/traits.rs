@@ -5,25 +5,38 @@ use bytes::buf::UninitSlice;
 use bytes::{Buf, BufMut, Bytes, BytesMut};
 use std::io::IoSlice;
 
-/// Bytes that `chunk_mut` lends, of which `advance_mut` puts the first into the buffer. The library lends only room that is
-/// readable, so what is written by way of `chunk_mut` is copied once more; the other calls of `BufMut` aren't.
+/// Bytes that `chunk_mut` lends; `advance_mut` puts the first of them into the buffer, and a put drops as many as it writes.
+/// The library lends only room that is readable, so what is written by way of `chunk_mut` is copied once more; the other
+/// calls of `BufMut` aren't.
 #[derive(Default)]
-pub struct Scratch(Vec<u8>);
+pub struct Scratch {
+    bytes: Vec<u8>,
+    /// How many bytes fitted into the buffer when these were lent.
+    room: usize,
+}
 
 /// How many bytes are lent at a time.
 const LENT: usize = 4096;
 
 impl Scratch {
-    fn lend(&mut self, most: usize) -> &mut UninitSlice {
-        let n = most.min(LENT);
-        self.0.resize(n, 0);
+    /// How many of the bytes the buffer has got since, now that so many fit.
+    fn used(&self, room: usize) -> usize {
+        self.room.saturating_sub(room).min(self.bytes.len())
+    }
+
+    fn lend(&mut self, room: usize) -> &mut UninitSlice {
+        let (used, n) = (self.used(room), room.min(LENT));
+        self.bytes.drain(..used);
+        self.bytes.resize(n, 0);
+        self.room = room;
         // SAFETY: the bytes are borrowed for as long, and are initialized.
-        unsafe { UninitSlice::from_raw_parts_mut(self.0.as_mut_ptr(), n) }
+        unsafe { UninitSlice::from_raw_parts_mut(self.bytes.as_mut_ptr(), n) }
     }
 
     #[track_caller]
-    fn first(&self, n: usize) -> &[u8] {
-        self.0.get(..n).expect("cannot advance past end of buffer")
+    fn first(&self, n: usize, room: usize) -> &[u8] {
+        let left = &self.bytes[self.used(room)..];
+        left.get(..n).expect("cannot advance past end of buffer")
     }
 }
 
@@ -84,14 +97,15 @@ macro_rules! writes {
             }
 
             unsafe fn advance_mut(&mut self, n: usize) {
+                let room = <$buffer>::remaining_mut(self);
                 let scratch = std::mem::take(&mut self.1);
-                <$buffer>::put_slice(self, scratch.first(n));
+                <$buffer>::put_slice(self, scratch.first(n, room));
                 self.1 = scratch;
             }
 
             fn chunk_mut(&mut self) -> &mut UninitSlice {
-                let most = <$buffer>::remaining_mut(self);
-                self.1.lend(most)
+                let room = <$buffer>::remaining_mut(self);
+                self.1.lend(room)
             }
 
             fn put_slice(&mut self, src: &[u8]) {

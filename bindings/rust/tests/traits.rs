@@ -125,3 +125,94 @@ fn conversions_copy() {
     assert_eq!(IoBufMut::from(bytes), [1, 2, 3]);
     assert!(IoBuf::from(Bytes::new()).is_empty());
 }
+
+/// Random numbers, the same in every run.
+struct Random(u64);
+
+impl Random {
+    /// A number below `n`.
+    fn below(&mut self, n: usize) -> usize {
+        self.0 = self.0.wrapping_mul(6364136223846793005).wrapping_add(1442695040888963407);
+        (self.0 >> 33) as usize % n
+    }
+}
+
+/// How many bytes fit into the buffers that are compared.
+const ROOM: usize = 64;
+
+/// Bytes that are written by way of `chunk_mut`, and not advanced over yet.
+#[derive(Default)]
+struct Written(usize);
+
+/// One random call of `BufMut` on both buffers.
+fn write_both(random: &mut Random, written: &mut Written, ours: &mut impl BufMut, theirs: &mut BytesMut) {
+    let left = ours.remaining_mut();
+    let (n, byte) = (random.below(left.min(8) + 1), random.below(256) as u8);
+    match random.below(6) {
+        0 => {
+            let bytes: Vec<u8> = (0..n as u8).map(|i| byte.wrapping_add(i)).collect();
+            let most = n.min(ours.chunk_mut().len());
+            ours.chunk_mut()[..most].copy_from_slice(&bytes[..most]);
+            theirs.chunk_mut()[..most].copy_from_slice(&bytes[..most]);
+            written.0 = written.0.max(most);
+            return;
+        }
+        1 => {
+            let n = random.below(written.0 + 1);
+            // SAFETY: so many bytes were written behind those that are there.
+            unsafe { (ours.advance_mut(n), theirs.advance_mut(n)) };
+            written.0 -= n;
+            return;
+        }
+        2 => (ours.put_slice(&vec![byte; n]), theirs.put_slice(&vec![byte; n])),
+        3 => (ours.put_bytes(byte, n), theirs.put_bytes(byte, n)),
+        4 if left >= 2 => (ours.put_u16_le(byte.into()), theirs.put_u16_le(byte.into())),
+        5 => (ours.put((&b"ab"[..n.min(1)]).chain(&b"cd"[..n / 4])), theirs.put((&b"ab"[..n.min(1)]).chain(&b"cd"[..n / 4]))),
+        _ => return,
+    };
+    written.0 = written.0.saturating_sub(left - ours.remaining_mut());
+}
+
+/// One random call of `Buf` on both buffers.
+fn read_both(random: &mut Random, ours: &mut impl Buf, theirs: &mut BytesMut) {
+    let n = random.below(ours.remaining().min(8) + 1);
+    match random.below(4) {
+        0 => (ours.advance(n), theirs.advance(n)),
+        1 if n > 0 => {
+            assert_eq!(ours.get_u8(), theirs.get_u8());
+            ((), ())
+        }
+        2 => {
+            let (mut a, mut b) = (vec![0; n], vec![0; n]);
+            (ours.copy_to_slice(&mut a), theirs.copy_to_slice(&mut b));
+            assert_eq!(a, b);
+            ((), ())
+        }
+        _ => {
+            assert_eq!(ours.copy_to_bytes(n), theirs.copy_to_bytes(n));
+            ((), ())
+        }
+    };
+}
+
+/// Random calls on a buffer and on a `BytesMut`: after each both hold the same.
+fn compare<B: Buf + BufMut>(make: fn() -> B, clone: fn(&B) -> Vec<u8>) {
+    for seed in 0..500 {
+        let (mut random, mut written) = (Random(seed), Written::default());
+        let (mut ours, mut theirs) = (make(), BytesMut::with_capacity(2 * ROOM));
+        for _ in 0..40 {
+            if random.below(3) == 0 {
+                read_both(&mut random, &mut ours, &mut theirs);
+            } else {
+                write_both(&mut random, &mut written, &mut ours, &mut theirs);
+            }
+            assert_eq!(ours.remaining(), theirs.remaining(), "seed {seed}");
+            assert_eq!(clone(&ours), &theirs[..], "seed {seed}");
+        }
+    }
+}
+
+#[test]
+fn random_calls_as_on_bytes_mut() {
+    compare(|| IoBufMut::with_capacity(ROOM), |part| part.as_ref().to_vec());
+}
