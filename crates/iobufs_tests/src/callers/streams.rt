@@ -9,7 +9,7 @@ use iobufs_streams::adapters::{Reader, Writer};
 use iobufs_streams::echo::echo;
 use iobufs_streams::error::FrameError;
 use iobufs_streams::reader::FrameReader;
-use iobufs_streams::writer::FrameWriter;
+use iobufs_streams::writer::{FrameWriter, framed};
 use std::alloc::{AllocError, Global};
 use std::io::{self, ErrorKind, Read, Write};
 use std::process::Abort;
@@ -43,6 +43,14 @@ struct Steps<'a> {
     most: usize,
     was_interrupted: bool,
     is_broken: bool,
+}
+
+impl<'a> Steps<'a> {
+    // The bytes that it gives now.
+    fn resume(&mut self, bytes: &'a [u8]) {
+        self.left = bytes;
+        self.is_broken = false;
+    }
 }
 
 impl Read for Steps<'_> {
@@ -483,8 +491,7 @@ fn frames_are_echoed(rt: HostRuntime) -> Result<(), Fail> {
     Ok(())
 }
 
-// A writer that records what it takes, with `|` for each flush, and fails once, at its call `fails_at`, of writes and
-// flushes.
+// A writer that records what it takes, with `|` for each flush. It fails from its call `fails_at` on, of writes and flushes.
 #[derive(Drop)]
 struct Recorder {
     calls: Vec<u8>,
@@ -502,11 +509,10 @@ impl Recorder {
     }
 
     fn record(&mut self, call: &[u8]) -> io::Result<()> {
-        let is_failing = self.count == self.fails_at;
-        self.count = self.count.saturating_add(1);
-        if is_failing {
+        if self.count >= self.fails_at {
             return Err(io::Error::from(ErrorKind::BrokenPipe));
         }
+        self.count += 1;
         self.calls.extend_from_slice(call)?;
         Ok(())
     }
@@ -523,18 +529,20 @@ impl Write for Recorder {
     }
 }
 
-// `send` doesn't flush.
+// `send` doesn't flush, and sends what `framed` returns.
 #[test]
 fn a_frame_is_sent_without_a_flush(rt: HostRuntime) -> Result<(), Fail> {
     let alloc = rt.alloc();
-    let mut writer = FrameWriter::new(Recorder::new(alloc, 99));
+    let frame = framed(alloc, text(alloc, &[b"abc", b"def"])?)?;
+    assert_same!(rt; frame.to_vec(alloc)?.as_slice(), b"\x06abcdef".as_slice());
+    let mut writer = FrameWriter::new(Recorder::new(alloc, usize::MAX));
     writer.put(alloc, text(alloc, &[b"abc", b"def"])?)?;
     writer.send(alloc)?;
     assert_same!(rt; writer.to.calls.as_slice(), b"\x06abcdef".as_slice());
     Ok(())
 }
 
-// The prefix; a reader's bytes, whether it then fails, and the bytes that it gives later; the call of the writer that fails; how
+// The prefix; a reader's bytes, whether it then fails, and the bytes that it gives later; the call from which on the writer fails; how
 // `echo` ends, what the writer took until then, and how many bytes it holds; and all that it took after it was sent and
 // flushed, and `echo` called again.
 #[derive(Clone, Copy)]
@@ -562,7 +570,7 @@ const FAILINGS: [Failing; 10] = [
         bytes: FRAMES,
         is_broken: false,
         more: b"",
-        fails_at: 99,
+        fails_at: usize::MAX,
         ending: Ending::End,
         calls: b"\x03abc|\0|\x05hello|",
         rest: 0,
@@ -574,7 +582,7 @@ const FAILINGS: [Failing; 10] = [
         bytes: b"\x03abc",
         is_broken: true,
         more: b"\0\x05hello",
-        fails_at: 99,
+        fails_at: usize::MAX,
         ending: RESET,
         calls: b"\x03abc|",
         rest: 0,
@@ -586,7 +594,7 @@ const FAILINGS: [Failing; 10] = [
         bytes: b"\x03abc\0\x05he",
         is_broken: true,
         more: b"llo",
-        fails_at: 99,
+        fails_at: usize::MAX,
         ending: RESET,
         calls: b"\x03abc|\0|",
         rest: 0,
@@ -598,7 +606,7 @@ const FAILINGS: [Failing; 10] = [
         bytes: b"\0\0\0",
         is_broken: true,
         more: b"\x03abc",
-        fails_at: 99,
+        fails_at: usize::MAX,
         ending: RESET,
         calls: b"\0\0|",
         rest: 0,
@@ -702,8 +710,8 @@ fn assert_failing(rt: &(impl Abort + AllocGlobal), case: &Failing) -> Result<(),
     let mut to = FrameWriter::with_prefix(recorder, case.prefix);
     let first = echo_again(rt, &mut from, &mut to);
     assert_same!(rt; (first, to.to.calls.as_slice(), to.rest.len()), (case.ending, case.calls, case.rest), "{}", case.name);
-    from.from.left = case.more;
-    from.from.is_broken = false;
+    from.from.resume(case.more);
+    to.to.fails_at = usize::MAX;
     to.send(rt.alloc())?;
     to.to.flush()?;
     let second = echo_again(rt, &mut from, &mut to);

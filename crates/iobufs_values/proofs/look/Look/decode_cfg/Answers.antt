@@ -1,4 +1,4 @@
-use Rattle.std.proofs.Common.{◌≡◌, [], ◌++◌, length, ap, arith, sym, ◌∙◌}
+use Rattle.std.proofs.Common.{[], length, ap, arith, sym, ◌∙◌}
 use Rattle.std.proofs.lemmas.List.{append-nil}
 use Rattle.iobufs_values.proofs.DecodedBack.{none_decoded}
 use Rattle.iobufs_values.specs.Forms.{read_back}

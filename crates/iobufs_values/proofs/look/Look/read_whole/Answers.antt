@@ -1,4 +1,4 @@
-use Rattle.std.proofs.Common.{◌≡◌, ◌++◌, length, ap, arith, ◌∙◌}
+use Rattle.std.proofs.Common.{ap, arith, ◌∙◌}
 use Rattle.iobufs_values.proofs.DecodedBack.{none_read, rest_left}
 use Rattle.iobufs_values.specs.Forms.{read_back}
 use Rattle.iobufs_values.proofs.look.Look.read_whole.Goals as goal
