@@ -1,2 +1,3 @@
 mod Behind
+mod DecodedBack
 mod Turns

@@ -3,6 +3,8 @@
 --                                       is written, no encoding is a prefix of another's, and if one is there only an
 --                                       allocation can fail
 --     no_memory                         the fault of a failed allocation
+--     IsDecodedBack, IsReadBackWhole    a value that was encoded is decoded again, or an allocation fails; the second also
+--                                       says that the bytes after it are left
 --     IsCodecFault                      a fault is one of these errors
 --     behind                            the bytes after the first of an input
 --     IsMadeThere                       a length follows the first bytes, and a value was made of a view of that many
@@ -14,7 +16,7 @@
 --     IsOptionFound, IsOptionFault      a tag and a value if there is one, and why none is decoded
 --     IsSameOption, IsOptionAdmitted    equal if both or neither are there; admitted if it is there
 --     IsPairFault                       the first value has a fault, or it is decoded and the second has one
-use Rattle.std.specs.Prelude.{◌≡◌, ◌⊎◌, ℕ, ◌+◌, ◌<◌, ◌≤◌, Option, Some, None, List, [], ◌∷◌, ◌++◌, length, take, drop, Ok}
+use Rattle.std.specs.Prelude.{◌≡◌, ◌⊎◌, ℕ, ◌+◌, ◌<◌, ◌≤◌, Option, Some, None, List, [], ◌∷◌, ◌++◌, length, take, drop, Result, Ok, Err}
 use Rattle.iobufs_core.specs.MarkedText.{MarkedText, taken_view}
 use Rattle.iobufs_core.specs.Spelling.{spell}
 use Rattle.iobufs_core.specs.View.{View, static_mark}
@@ -27,6 +29,16 @@ use Rattle.iobufs_values.specs.declared.fault.Fault.TheVariants.{Codec, InvalidB
 
 abbrev pub no_memory : Fault
 no_memory = Codec Memory
+
+-- the result is a value that is the same, or the fault of a failed allocation
+abbrev pub IsDecodedBack : {Value : Type 0} → (Value → Value → Type 0) → Value → Result Value Fault → Type 0
+IsDecodedBack same value (Ok decoded) = same value decoded
+IsDecodedBack same value (Err fault) = fault ≡ no_memory
+
+-- the result is a value that is the same, and `rest` is left; or the fault of a failed allocation
+abbrev pub IsReadBackWhole : {Value : Type 0} → (Value → Value → Type 0) → Value → List ℕ → List ℕ → Result Value Fault → Type 0
+IsReadBackWhole same value rest left (Ok read) = same value read × (left ≡ rest)
+IsReadBackWhole same value rest left (Err fault) = fault ≡ no_memory
 
 pub record IsForm (Value Cfg : Type 0) (written : Value → List ℕ) (same : Value → Value → Type 0) (admits : Cfg → Value → Type 0)
     (is_found : MarkedText → ℕ → Cfg → Value → Type 0) (is_fault : MarkedText → ℕ → Cfg → Fault → Type 0) : Type 0 where

@@ -1,7 +1,7 @@
 // The trait of values that are decoded without consuming.
-ghost use Rattle.std.specs.Prelude.{◌≡◌, ◌⊎◌, ℕ, ◌+◌, ◌<◌, ◌≤◌, ◌^◌, ◌++◌, length, IfOk, IfErr, OnErr};
+ghost use Rattle.std.specs.Prelude.{◌≡◌, ◌⊎◌, ℕ, ◌+◌, ◌<◌, ◌≤◌, ◌^◌, ◌++◌, List, length, IfOk, IfErr, OnErr};
 ghost use Rattle.iobufs_core.specs.MarkedText.{MarkedText};
-ghost use Rattle.iobufs_values.specs.Form.{IsForm};
+ghost use Rattle.iobufs_values.specs.Form.{IsDecodedBack, IsForm, IsReadBackWhole};
 ghost use Rattle.iobufs_values.specs.declared.fault.Fault.{Fault as AnyFault};
 ghost use Rattle.iobufs_values.specs.declared.fault.Fault.TheVariants.{ExtraData};
 
@@ -46,6 +46,8 @@ pub trait Look: EncodeSize + Sized {
         ensures found { IfOk result (is_found (B.marked buf.old) 0 cfg.now) }
         ensures left { IfOk result (λ value. buf.new ≡ B.copied buf.old (length (Self.written value))) }
         ensures bytes { IfOk result (λ value. B.text buf.old ≡ Self.written value ++ B.text buf.new) }
+        ensures back { (value : Self) (rest : List ℕ) → admits cfg.now value → B.text buf.old ≡ Self.written value ++ rest
+            → IsReadBackWhole same value rest (B.text buf.new) result }
         ensures fault { IfErr result (is_fault (B.marked buf.old) 0 cfg.now) }
         ensures unchanged { OnErr result (buf.new ≡ buf.old) }
     {
@@ -61,6 +63,7 @@ pub trait Look: EncodeSize + Sized {
         Self: Drop,
         ensures found { IfOk result (is_found (B.marked buf.now) 0 cfg.now) }
         ensures whole { IfOk result (λ value. B.text buf.now ≡ Self.written value) }
+        ensures back { (value : Self) → admits cfg.now value → B.text buf.now ≡ Self.written value → IsDecodedBack same value result }
         ensures fault { IfErr result (λ fault. is_fault (B.marked buf.now) 0 cfg.now fault ⊎ ((value : Self) × (n : ℕ) × (fault ≡ ExtraData n)
             × (is_found (B.marked buf.now) 0 cfg.now value) × (0 < n) × (length (B.text buf.now) ≡ length (Self.written value) + n))) }
     {

@@ -1,8 +1,9 @@
 // Types that are read and written as the tuple of their fields.
-ghost use Rattle.std.specs.Prelude.{◌≡◌, ◌⊎◌, ℕ, ◌+◌, ◌^◌, ◌<◌, ◌≤◌, ◌++◌, length, Err, IfOk, IfErr, OnErr, IsOk, IsOkUnless};
+ghost use Rattle.std.specs.Prelude.{◌≡◌, ◌⊎◌, ℕ, ◌+◌, ◌^◌, ◌<◌, ◌≤◌, ◌++◌, List, length, Err, IfOk, IfErr, OnErr, IsOk, IsOkUnless};
 ghost use Rattle.iobufs.specs.Building.{building_after, empty_building, finished};
 ghost use Rattle.iobufs_core.specs.Items.{items_inline};
 ghost use Rattle.iobufs_core.specs.MarkedText.{MarkedText};
+ghost use Rattle.iobufs_values.specs.Form.{IsDecodedBack, IsReadBackWhole};
 ghost use Rattle.iobufs_values.specs.declared.fault.Fault.TheVariants.{ExtraData};
 
 use crate::{Fault, Look};
@@ -33,6 +34,9 @@ pub trait ByParts: Sized {
         ensures found { IfOk result (λ value. Self.Parts.is_found (B.marked buf.old) 0 cfg.now (parts value)) }
         ensures left { IfOk result (λ value. buf.new ≡ B.copied buf.old (length (Self.Parts.written (parts value)))) }
         ensures bytes { IfOk result (λ value. B.text buf.old ≡ Self.Parts.written (parts value) ++ B.text buf.new) }
+        ensures back { (value : Self) (rest : List ℕ) → Self.Parts.admits cfg.now (parts value)
+            → B.text buf.old ≡ Self.Parts.written (parts value) ++ rest
+            → IsReadBackWhole (λ x y. Self.Parts.same (parts x) (parts y)) value rest (B.text buf.new) result }
         ensures fault { IfErr result (Self.Parts.is_fault (B.marked buf.old) 0 cfg.now) }
         ensures unchanged { OnErr result (buf.new ≡ buf.old) }
     {
@@ -49,6 +53,8 @@ pub trait ByParts: Sized {
     ) -> Result<Self, Fault>
         ensures found { IfOk result (λ value. Self.Parts.is_found (B.marked buf.now) 0 cfg.now (parts value)) }
         ensures whole { IfOk result (λ value. B.text buf.now ≡ Self.Parts.written (parts value)) }
+        ensures back { (value : Self) → Self.Parts.admits cfg.now (parts value) → B.text buf.now ≡ Self.Parts.written (parts value)
+            → IsDecodedBack (λ x y. Self.Parts.same (parts x) (parts y)) value result }
         ensures fault { IfErr result (λ fault. Self.Parts.is_fault (B.marked buf.now) 0 cfg.now fault
             ⊎ ((all : Self.Parts) × (n : ℕ) × (fault ≡ ExtraData n) × (Self.Parts.is_found (B.marked buf.now) 0 cfg.now all) × (0 < n)
             × (length (B.text buf.now) ≡ length (Self.Parts.written all) + n))) }

@@ -79,6 +79,44 @@ fn records_are_printed_from_small_pieces(rt: HostRuntime) -> Result<(), Fail> {
     Ok(())
 }
 
+// A writer that takes everything, with `|` for each flush, and fails to flush if it is broken.
+#[derive(Drop)]
+struct Flushed {
+    taken: Vec<u8>,
+    is_broken: bool,
+}
+
+impl Write for Flushed {
+    fn write(&mut self, buf: &[u8]) -> io::Result<usize> {
+        self.taken.extend_from_slice(buf)?;
+        Ok(buf.len())
+    }
+
+    fn flush(&mut self) -> io::Result<()> {
+        if self.is_broken {
+            return Err(io::Error::from(ErrorKind::BrokenPipe));
+        }
+        self.taken.push(b'|')?;
+        Ok(())
+    }
+}
+
+// The records are flushed, and an error of the flush is the call's.
+#[test]
+fn lines_are_flushed(rt: HostRuntime) -> Result<(), Fail> {
+    for (is_broken, wanted, last) in [
+        (false, None, b'|'),
+        (true, Some(ErrorKind::BrokenPipe), 0xff),
+    ] {
+        let taken = Vec::new(rt.alloc());
+        let mut to = Flushed { taken, is_broken };
+        let found = append(rt.alloc(), 0, &mut Drops { left: b"one\n\n" }, &mut to);
+        let kind = found.map_err(|error| error.kind()).err();
+        assert_same!(rt; (kind, to.taken.last().copied()), (wanted, Some(last)), "{is_broken}");
+    }
+    Ok(())
+}
+
 #[test]
 fn a_full_writer_is_an_error(rt: HostRuntime) {
     let refused = append(rt.alloc(), 0, &mut Drops { left: b"one\n" }, &mut Full);

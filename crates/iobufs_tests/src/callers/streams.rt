@@ -9,7 +9,7 @@ use iobufs_streams::adapters::{Reader, Writer};
 use iobufs_streams::echo::echo;
 use iobufs_streams::error::FrameError;
 use iobufs_streams::reader::FrameReader;
-use iobufs_streams::writer::FrameWriter;
+use iobufs_streams::writer::{FrameWriter, framed};
 use std::alloc::{AllocError, Global};
 use std::io::{self, ErrorKind, Read, Write};
 use std::process::Abort;
@@ -43,6 +43,14 @@ struct Steps<'a> {
     most: usize,
     was_interrupted: bool,
     is_broken: bool,
+}
+
+impl<'a> Steps<'a> {
+    // The bytes that it gives now.
+    fn resume(&mut self, bytes: &'a [u8]) {
+        self.left = bytes;
+        self.is_broken = false;
+    }
 }
 
 impl Read for Steps<'_> {
@@ -479,6 +487,243 @@ fn frames_are_echoed(rt: HostRuntime) -> Result<(), Fail> {
             Err(error) => ending_by(error),
         };
         assert_same!(rt; (to.to.taken.as_slice(), found), (written, wanted), "{prefix:?} to {other:?}");
+    }
+    Ok(())
+}
+
+// A writer that records what it takes, with `|` for each flush. It fails from its call `fails_at` on, of writes and flushes.
+#[derive(Drop)]
+struct Recorder {
+    calls: Vec<u8>,
+    count: usize,
+    fails_at: usize,
+}
+
+impl Recorder {
+    fn new(alloc: Global, fails_at: usize) -> Recorder {
+        Recorder {
+            calls: Vec::new(alloc),
+            count: 0,
+            fails_at,
+        }
+    }
+
+    fn record(&mut self, call: &[u8]) -> io::Result<()> {
+        if self.count >= self.fails_at {
+            return Err(io::Error::from(ErrorKind::BrokenPipe));
+        }
+        self.count += 1;
+        self.calls.extend_from_slice(call)?;
+        Ok(())
+    }
+}
+
+impl Write for Recorder {
+    fn write(&mut self, buf: &[u8]) -> io::Result<usize> {
+        self.record(buf)?;
+        Ok(buf.len())
+    }
+
+    fn flush(&mut self) -> io::Result<()> {
+        self.record(b"|")
+    }
+}
+
+// `send` doesn't flush, and sends what `framed` returns.
+#[test]
+fn a_frame_is_sent_without_a_flush(rt: HostRuntime) -> Result<(), Fail> {
+    let alloc = rt.alloc();
+    let frame = framed(alloc, text(alloc, &[b"abc", b"def"])?)?;
+    assert_same!(rt; frame.to_vec(alloc)?.as_slice(), b"\x06abcdef".as_slice());
+    let mut writer = FrameWriter::new(Recorder::new(alloc, usize::MAX));
+    writer.put(alloc, text(alloc, &[b"abc", b"def"])?)?;
+    writer.send(alloc)?;
+    assert_same!(rt; writer.to.calls.as_slice(), b"\x06abcdef".as_slice());
+    Ok(())
+}
+
+// The prefix; a reader's bytes, whether it then fails, and the bytes that it gives later; the call from which on the writer fails; how
+// `echo` ends, what the writer took until then, and how many bytes it holds; and all that it took after it was sent and
+// flushed, and `echo` called again.
+#[derive(Clone, Copy)]
+struct Failing {
+    name: &'static str,
+    prefix: Prefix,
+    bytes: &'static [u8],
+    is_broken: bool,
+    more: &'static [u8],
+    fails_at: usize,
+    ending: Ending,
+    calls: &'static [u8],
+    rest: usize,
+    all: &'static [u8],
+}
+
+const PIPE: Ending = Ending::Io(ErrorKind::BrokenPipe);
+
+const RESET: Ending = Ending::Io(ErrorKind::ConnectionReset);
+
+const FAILINGS: [Failing; 10] = [
+    Failing {
+        name: "no failure",
+        prefix: Prefix::Spelled,
+        bytes: FRAMES,
+        is_broken: false,
+        more: b"",
+        fails_at: usize::MAX,
+        ending: Ending::End,
+        calls: b"\x03abc|\0|\x05hello|",
+        rest: 0,
+        all: b"\x03abc|\0|\x05hello||",
+    },
+    Failing {
+        name: "a read between two frames",
+        prefix: Prefix::Spelled,
+        bytes: b"\x03abc",
+        is_broken: true,
+        more: b"\0\x05hello",
+        fails_at: usize::MAX,
+        ending: RESET,
+        calls: b"\x03abc|",
+        rest: 0,
+        all: b"\x03abc||\0|\x05hello|",
+    },
+    Failing {
+        name: "a read inside a body",
+        prefix: Prefix::Spelled,
+        bytes: b"\x03abc\0\x05he",
+        is_broken: true,
+        more: b"llo",
+        fails_at: usize::MAX,
+        ending: RESET,
+        calls: b"\x03abc|\0|",
+        rest: 0,
+        all: b"\x03abc|\0||\x05hello|",
+    },
+    Failing {
+        name: "a read inside a length",
+        prefix: BIG_16,
+        bytes: b"\0\0\0",
+        is_broken: true,
+        more: b"\x03abc",
+        fails_at: usize::MAX,
+        ending: RESET,
+        calls: b"\0\0|",
+        rest: 0,
+        all: b"\0\0||\0\x03abc|",
+    },
+    Failing {
+        name: "the write of a length",
+        prefix: Prefix::Spelled,
+        bytes: FRAMES,
+        is_broken: false,
+        more: b"",
+        fails_at: 0,
+        ending: PIPE,
+        calls: b"",
+        rest: 4,
+        all: b"\x03abc|\0|\x05hello|",
+    },
+    Failing {
+        name: "the write of a body",
+        prefix: Prefix::Spelled,
+        bytes: FRAMES,
+        is_broken: false,
+        more: b"",
+        fails_at: 1,
+        ending: PIPE,
+        calls: b"\x03",
+        rest: 3,
+        all: b"\x03abc|\0|\x05hello|",
+    },
+    Failing {
+        name: "the first flush",
+        prefix: Prefix::Spelled,
+        bytes: FRAMES,
+        is_broken: false,
+        more: b"",
+        fails_at: 2,
+        ending: PIPE,
+        calls: b"\x03abc",
+        rest: 0,
+        all: b"\x03abc|\0|\x05hello|",
+    },
+    Failing {
+        name: "the flush of an empty frame",
+        prefix: Prefix::Spelled,
+        bytes: FRAMES,
+        is_broken: false,
+        more: b"",
+        fails_at: 4,
+        ending: PIPE,
+        calls: b"\x03abc|\0",
+        rest: 0,
+        all: b"\x03abc|\0|\x05hello|",
+    },
+    Failing {
+        name: "the write of the last body",
+        prefix: Prefix::Spelled,
+        bytes: FRAMES,
+        is_broken: false,
+        more: b"",
+        fails_at: 6,
+        ending: PIPE,
+        calls: b"\x03abc|\0|\x05",
+        rest: 5,
+        all: b"\x03abc|\0|\x05hello|",
+    },
+    Failing {
+        name: "the last flush",
+        prefix: Prefix::Spelled,
+        bytes: FRAMES,
+        is_broken: false,
+        more: b"",
+        fails_at: 7,
+        ending: PIPE,
+        calls: b"\x03abc|\0|\x05hello",
+        rest: 0,
+        all: b"\x03abc|\0|\x05hello|",
+    },
+];
+
+fn echo_again(
+    rt: &(impl Abort + AllocGlobal),
+    from: &mut FrameReader<Steps<'_>>,
+    to: &mut FrameWriter<Recorder>,
+) -> Ending {
+    assert!(rt; to.is_sent());
+    match echo(rt.alloc(), from, to) {
+        Ok(()) => Ending::End,
+        Err(error) => ending_by(error),
+    }
+}
+
+fn assert_failing(rt: &(impl Abort + AllocGlobal), case: &Failing) -> Result<(), Fail> {
+    let from = Steps {
+        left: case.bytes,
+        most: 100,
+        was_interrupted: false,
+        is_broken: case.is_broken,
+    };
+    let mut from = frame_reader(rt.alloc(), case.prefix, from)?;
+    let recorder = Recorder::new(rt.alloc(), case.fails_at);
+    let mut to = FrameWriter::with_prefix(recorder, case.prefix);
+    let first = echo_again(rt, &mut from, &mut to);
+    assert_same!(rt; (first, to.to.calls.as_slice(), to.rest.len()), (case.ending, case.calls, case.rest), "{}", case.name);
+    from.from.resume(case.more);
+    to.to.fails_at = usize::MAX;
+    to.send(rt.alloc())?;
+    to.to.flush()?;
+    let second = echo_again(rt, &mut from, &mut to);
+    assert_same!(rt; (second, to.to.calls.as_slice()), (Ending::End, case.all), "{}", case.name);
+    Ok(())
+}
+
+// Each frame is flushed before the next read. Nothing is lost or sent twice if a read, a write or a flush fails.
+#[test]
+fn frames_are_echoed_after_an_error(rt: HostRuntime) -> Result<(), Fail> {
+    for case in &FAILINGS {
+        assert_failing(&rt, case)?;
     }
     Ok(())
 }

@@ -3,7 +3,9 @@ ghost use Rattle.std.specs.Prelude.{◌≡◌, ◌++◌, List, ℕ, IfOk};
 ghost use Rattle.iobufs_core.specs.ReadBack.{IsReadAlike};
 ghost use Rattle.iobufs_tests.specs.InOrder.{AreReadInOrder};
 
-use iobufs_core::codec::{Codec, Encode, Error, OwnedBuf, Read};
+use iobufs::EncodeExt;
+use iobufs_core::codec::{Codec, Encode, Error, OwnedBuf, Read, Write};
+use iobufs_values::{Fault, Look};
 use std::alloc::Global;
 
 /// Reads a value from two readers of the same bytes. The results are the same, except that either allocation may fail.
@@ -26,6 +28,20 @@ pub fn there_and_back<T: Codec + Drop>(alloc: Global, value: &T, cfg: &T::Cfg) -
 {
     let mut view = value.encode(alloc)?.freeze()?;
     T::read_cfg(alloc, &mut view, cfg)
+}
+
+/// Encodes a value and decodes it. The same value comes back, unless it is too long or an allocation fails.
+pub fn decoded_again<T: Look + Write + Drop>(
+    alloc: Global,
+    value: &T,
+    cfg: &T::Cfg,
+) -> Result<T, Fault>
+    requires { T.admits cfg.now value.now }
+    ensures { IfOk result (T.same value.now) }
+{
+    let text = value.encode_iobufs(alloc)?;
+    let decoded = T::decode_cfg(alloc, &text, cfg)?;
+    Ok(decoded)
 }
 
 /// Reads two values, one after the other.

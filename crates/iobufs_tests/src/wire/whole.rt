@@ -108,6 +108,12 @@ fn a_message(rt: HostRuntime) {
     assert_read(&rt, "a message in bytes", &mut shared, &cfg, &message);
 }
 
+#[test]
+fn bytes_after_their_length(rt: HostRuntime) {
+    let bytes = Bytes::from_static(b"abc");
+    assert_whole(&rt, "bytes", &bytes, &UP_TO_9, 1, &[b"\x03", b"abc"]);
+}
+
 // Yes; 258 after its byte; `xyz`; and 300, as a varint.
 const SOME: &[u8] = b"\x01\x01\x01\x02xyz\xac\x02";
 
