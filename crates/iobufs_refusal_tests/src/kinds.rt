@@ -13,26 +13,44 @@ use std::process::Abort;
 // The bytes of each of them.
 const TEXT: &'static [u8] = b"abcd";
 
-fn push_shared(views: &mut Vec<IoBuf>, view: IoBuf) -> Result<(), BufError> {
-    let twin = twin_of(&view)?;
-    views.push(twin)?;
-    views.push(view)?;
-    Ok(())
+#[derive(Clone, Copy)]
+enum Storage {
+    Static,
+    StaticBytes,
+    Bytes,
+    // A block with spare capacity.
+    Native,
 }
 
-fn bytes(alloc: Global) -> Result<IoBuf, BufError> {
-    Ok(IoBuf::from(Bytes::copy_from_slice(alloc, TEXT)?))
+// The storage of each view, and whether another view shares it.
+const VIEWS: [(Storage, bool); 6] = [
+    (Storage::Static, false),
+    (Storage::StaticBytes, false),
+    (Storage::Bytes, false),
+    (Storage::Bytes, true),
+    (Storage::Native, false),
+    (Storage::Native, true),
+];
+
+fn view_in(alloc: Global, storage: Storage) -> Result<IoBuf, BufError> {
+    match storage {
+        Storage::Static => Ok(IoBuf::from(TEXT)),
+        Storage::StaticBytes => Ok(IoBuf::from(Bytes::from_static(TEXT))),
+        Storage::Bytes => Ok(IoBuf::from(Bytes::copy_from_slice(alloc, TEXT)?)),
+        Storage::Native => native(alloc, 8, TEXT),
+    }
 }
 
-// Static bytes, static `Bytes`, `Bytes` alone and shared, and a native block alone and shared, which has spare capacity.
+// Eight views: each of these, and those that share its storage.
 fn views(alloc: Global) -> Result<Vec<IoBuf>, BufError> {
     let mut views = Vec::with_capacity(alloc, 8)?;
-    views.push(IoBuf::from(TEXT))?;
-    views.push(IoBuf::from(Bytes::from_static(TEXT)))?;
-    views.push(bytes(alloc)?)?;
-    push_shared(&mut views, bytes(alloc)?)?;
-    views.push(native(alloc, 8, TEXT)?)?;
-    push_shared(&mut views, native(alloc, 8, TEXT)?)?;
+    for (storage, is_shared) in &VIEWS {
+        let view = view_in(alloc, *storage)?;
+        if *is_shared {
+            views.push(twin_of(&view)?)?;
+        }
+        views.push(view)?;
+    }
     Ok(views)
 }
 
@@ -315,12 +333,6 @@ fn copies_of_emptied_views(rt: HostRuntime) {
 // A writable buffer, and the spare capacity that it had at first.
 type Roomy = (IoBufMut, usize);
 
-fn push_part(parts: &mut Vec<Roomy>, part: IoBufMut) -> Result<(), BufError> {
-    let room = part.remaining_mut();
-    parts.push((part, room))?;
-    Ok(())
-}
-
 fn aligned(alloc: Global) -> Result<IoBufMut, BufError> {
     let mut part = IoBufMut::with_alignment(alloc, 8, 64)?;
     if part.remaining_mut() >= 4 {
@@ -338,18 +350,45 @@ fn half(alloc: Global) -> Result<BytesMut, BufError> {
     Ok(front.split_off(2)?)
 }
 
-// Blocks of their own with spare capacity, aligned or not, a list that is full, and what was `Bytes` or `BytesMut`.
+// How a writable buffer is made: as a block with spare capacity, aligned or not, as a copy, or of a list, of `Bytes` or of
+// `BytesMut`.
+#[derive(Clone, Copy)]
+enum Origin {
+    Block,
+    Aligned,
+    Copy,
+    List,
+    Bytes,
+    BytesMut,
+}
+
+const ORIGINS: [Origin; 6] = [
+    Origin::Block,
+    Origin::Aligned,
+    Origin::Copy,
+    Origin::List,
+    Origin::Bytes,
+    Origin::BytesMut,
+];
+
+fn part_from(alloc: Global, origin: Origin) -> Result<IoBufMut, BufError> {
+    match origin {
+        Origin::Block => part(alloc, 8, TEXT),
+        Origin::Aligned => aligned(alloc),
+        Origin::Copy => IoBufMut::copy_from_slice(alloc, TEXT),
+        Origin::List => Ok(IoBufMut::from(Vec::from_slice(alloc, TEXT)?)),
+        Origin::Bytes => IoBufMut::from_bytes(alloc, Bytes::copy_from_slice(alloc, TEXT)?),
+        Origin::BytesMut => IoBufMut::from_bytes_mut(half(alloc)?),
+    }
+}
+
 fn parts(alloc: Global) -> Result<Vec<Roomy>, BufError> {
     let mut parts = Vec::with_capacity(alloc, 6)?;
-    push_part(&mut parts, part(alloc, 8, TEXT)?)?;
-    push_part(&mut parts, aligned(alloc)?)?;
-    push_part(&mut parts, IoBufMut::copy_from_slice(alloc, TEXT)?)?;
-    push_part(&mut parts, IoBufMut::from(Vec::from_slice(alloc, TEXT)?))?;
-    push_part(
-        &mut parts,
-        IoBufMut::from_bytes(alloc, Bytes::copy_from_slice(alloc, TEXT)?)?,
-    )?;
-    push_part(&mut parts, IoBufMut::from_bytes_mut(half(alloc)?)?)?;
+    for origin in &ORIGINS {
+        let part = part_from(alloc, *origin)?;
+        let room = part.remaining_mut();
+        parts.push((part, room))?;
+    }
     Ok(parts)
 }
 

@@ -64,7 +64,7 @@ enum Adopted {
     Split(usize),
     // A view of native storage with so much spare capacity.
     View(usize),
-    // The same with a clone.
+    // Such a view with a clone.
     SharedView(usize),
     // A static view.
     StaticView,

@@ -21,7 +21,6 @@ mod note;
 mod parts;
 #[cfg(test)]
 mod readers;
-#[cfg(test)]
 mod record;
 mod request;
 #[cfg(test)]

@@ -63,13 +63,20 @@ last-right vs ws v at i o is last full place edge =
     let e : i ≡ length ws = omega (arith, ap length is) in
     sym (right-at_edge vs at i o full place edge ∙ ap (drop i) is ∙ drop-seam ws v i e)
 
+-- the last piece is the one at its place
+pub last-here : (vs ws : List View) (v : View) (i : ℕ) → vs ≡ ws ++ v ∷ [] → i + 1 ≡ length vs → piece_at vs i ≡ v
+last-here vs ws v i is last =
+    let n = length-append ws (v ∷ []) in
+    let e : i ≡ length ws = omega (arith, ap length is) in
+    ap (λ xs. piece_at xs i) is ∙ at-seam ws v i e
+
 -- the pieces but the last, and the front of that, are those up to a place inside it
 pub last-front : (vs ws : List View) (v front : View) (at i o : ℕ) → vs ≡ ws ++ v ∷ [] → i + 1 ≡ length vs → IsPlace vs at i o → 0 < o
     → front ≡ view_front v o → ws ++ front ∷ [] ≡ left_pieces vs at
 last-front vs ws v front at i o is last place some cut =
     let n = length-append ws (v ∷ []) in
     let e : i ≡ length ws = omega (arith, ap length is) in
-    let here : piece_at vs i ≡ v = ap (λ xs. piece_at xs i) is ∙ at-seam ws v i e in
+    let here = last-here vs ws v i is last in
     let before : take i vs ≡ ws = ap (take i) is ∙ take-seam ws v i e in
     sym (left-at_place vs at i o place some ∙ (λ k. before k ++ view_front (here k) o ∷ []) ∙ ap (λ x. ws ++ x ∷ []) (sym cut))
 
@@ -79,18 +86,13 @@ pub last-behind : (vs ws : List View) (v behind : View) (at i o : ℕ) → vs �
 last-behind vs ws v behind at i o is last place cut =
     let n = length-append ws (v ∷ []) in
     let e : i ≡ length ws = omega (arith, ap length is) in
-    let here : piece_at vs i ≡ v = ap (λ xs. piece_at xs i) is ∙ at-seam ws v i e in
+    let here = last-here vs ws v i is last in
     let none : drop (suc i) vs ≡ [] = ap (drop (suc i)) is ∙ drop-all ws v i e in
     sym (right-at_place vs at i o place ∙ (λ k. view_advanced (here k) o ∷ none k) ∙ ap (λ x. x ∷ []) (sym cut))
 
 -- a place in the last piece lies in it before its end
 pub last-inside : (vs ws : List View) (v : View) (at i o : ℕ) → vs ≡ ws ++ v ∷ [] → i + 1 ≡ length vs → IsPlace vs at i o → o < view_len v
-last-inside vs ws v at i o is last place =
-    let n = length-append ws (v ∷ []) in
-    let e : i ≡ length ws = omega (arith, ap length is) in
-    let here : piece_at vs i ≡ v = ap (λ xs. piece_at xs i) is ∙ at-seam ws v i e in
-    let h = place.inside in
-    omega (arith, ap (λ (x : View). view_len x) here)
+last-inside vs ws v at i o is last place = omega (arith, place.inside, ap (λ (x : View). view_len x) (last-here vs ws v i is last))
 
 -- what stands after the last piece is popped
 pub popped : (ps qs : List Piece) (last : Option Piece) (p : Piece) → ps ≡ qs ++ option_to_list last → last ≡ Some p → ps ≡ qs ++ p ∷ []

@@ -352,21 +352,16 @@ impl Row {
         ensures memory { IsOkUnless result BufError.Memory }
         ensures edge { place.offset ≡ 0 → IsOk result }
     {
-        let mut piece = self.pieces.pop_back().unwrap();
         if place.offset == 0 {
-            return Ok(piece.view);
+            let last = self.pieces.pop_back().unwrap();
+            return Ok(last.view);
         }
+        let view = front_of(&self.pieces, place.index, place.offset)?;
         let end = self.base.wrapping_add(at as u64);
-        match split_inside(&mut piece.view, place.offset) {
-            Ok(view) => {
-                self.pieces.push_back_reserved(Piece { view, end });
-                Ok(piece.view)
-            }
-            Err(error) => {
-                self.pieces.push_back_reserved(piece);
-                Err(error)
-            }
-        }
+        let mut piece = self.pieces.pop_back().unwrap();
+        piece.view.advance(place.offset);
+        self.pieces.push_back_reserved(Piece { view, end });
+        Ok(piece.view)
     }
 
     /// Takes the first bytes, up to an offset. It allocates for the side with fewer chunks.
@@ -415,7 +410,7 @@ impl Row {
         })
     }
 
-    // Moves the chunks from the offset on into a deque of their own; they move back if the cut fails.
+    // Cuts, and then moves the chunks from the offset on into a deque of their own.
     fn split_right(&mut self, place: Located, at: usize) -> Result<Row, BufError>
         requires place { IsPlace self.old.views at place.index place.offset }
         ensures answer { IfOk result (λ front. front.views ≡ left_pieces self.old.views at) }
@@ -423,15 +418,8 @@ impl Row {
         ensures unchanged { OnErr result (self.new.views ≡ self.old.views) }
         ensures memory { IsOkUnless result BufError.Memory }
     {
+        let inside = front_of(&self.pieces, place.index, place.offset)?;
         let mut pieces = self.pieces.split_off(place.index)?;
-        let inside = match front_of(&pieces, 0, place.offset) {
-            Ok(inside) => inside,
-            Err(refused) => {
-                // The row has kept its room.
-                self.pieces.append(&mut pieces).unwrap();
-                return Err(refused);
-            }
-        };
         let base = self.base.wrapping_add(at as u64);
         cut(&mut self.pieces, &mut pieces, inside, place.offset, base);
         Ok(mem::replace(self, Row { base, pieces }))

@@ -1,15 +1,9 @@
-use Rattle.std.proofs.Common.{◌<◌, refl, sym, subst, ap, ◌∙◌}
-use Rattle.iobufs_core.specs.View.{view_front}
+use Rattle.std.proofs.Common.{refl, sym, subst, ap, ◌∙◌}
 use Rattle.iobufs.specs.Inside.Ends.{IsRow}
 use Rattle.iobufs.specs.Inside.Pieces.{IsPlace, left_pieces, right_pieces}
 use Rattle.iobufs.specs.Inside.RowValues.{ViewRow}
-use Rattle.iobufs.proofs.Text.RowLaws.{inside-dropped, piece-dropped, left-row, right-row}
+use Rattle.iobufs.proofs.Text.RowLaws.{inside-dropped, left-row, right-row}
 use Rattle.iobufs.proofs.bufs.row.Row.split_right.Goals as goal
-
-pub front_of-requires : goal.front_of-requires
-front_of-requires c =
-    let place = subst (λ (r : ViewRow). IsPlace r.views c.args.at c.args.place.index c.args.place.offset) (sym c.self.view_is) c.requires.place in
-    inside-dropped _ _ _ _ _ place c.in_ok-pieces.ensures.tail
 
 pub cut-requires-clause-inside : goal.cut-requires-clause-inside
 cut-requires-clause-inside c =
@@ -26,10 +20,8 @@ invariant_of-self-2 c =
     let row = c.self.inside.pieces in
     let place = subst (λ (r : ViewRow). IsPlace r.views c.args.at c.args.place.index c.args.place.offset) (sym c.self.view_is) c.requires.place in
     let left = c.in_ok-pieces.ensures.items in
-    (left-row c.self.inside.base _ _ _ _ _ _ _ c.in-Ok.inside c.self.invariant place
-    (λ (some : 0 < c.args.place.offset). c.in-Ok.ensures.inside some
-    ∙ ap (λ piece. view_front piece c.args.place.offset)
-    (piece-dropped row.items c.in_ok-pieces.pieces.items c.args.place.index c.in_ok-pieces.ensures.tail)) c.ranges.at.fits refl left c.cut.ensures.front).0
+    (left-row c.self.inside.base _ _ _ _ _ _ _ c.in_ok-inside.inside c.self.invariant place
+    c.in_ok-inside.ensures.inside c.ranges.at.fits refl left c.cut.ensures.front).0
 
 pub invariant_of-replace : goal.invariant_of-replace
 invariant_of-replace c =
@@ -44,10 +36,8 @@ returns-clause-answer c =
     let place = subst (λ (r : ViewRow). IsPlace r.views c.args.at c.args.place.index c.args.place.offset) (sym c.self.view_is) c.requires.place in
     let left = c.in_ok-pieces.ensures.items in
     ap (λ (r : ViewRow). r.views) c.replace.ensures.value
-    ∙ (left-row c.self.inside.base _ _ _ _ _ _ _ c.in-Ok.inside c.self.invariant place
-    (λ (some : 0 < c.args.place.offset). c.in-Ok.ensures.inside some
-    ∙ ap (λ piece. view_front piece c.args.place.offset)
-    (piece-dropped row.items c.in_ok-pieces.pieces.items c.args.place.index c.in_ok-pieces.ensures.tail)) c.ranges.at.fits refl left c.cut.ensures.front).1
+    ∙ (left-row c.self.inside.base _ _ _ _ _ _ _ c.in_ok-inside.inside c.self.invariant place
+    c.in_ok-inside.ensures.inside c.ranges.at.fits refl left c.cut.ensures.front).1
     ∙ ap (λ (r : ViewRow). left_pieces r.views c.args.at) c.self.view_is
 
 pub returns-clause-left : goal.returns-clause-left
