@@ -5,7 +5,7 @@ use crate::same::assert_same;
 use bytes::Bytes;
 use iobufs::bufs::IoBufs;
 use iobufs_core::buf::{IoBuf, IoBufMut};
-use iobufs_core::codec::{Buf, BufError, BufMut};
+use iobufs_core::codec::{Buf, BufError, BufMut, OwnedBuf};
 use std::alloc::{AllocError, Global};
 use std::mem;
 use std::process::Abort;
@@ -38,6 +38,9 @@ enum Ask {
     Slice(usize, usize),
     // The capacity of the writable buffer that the text becomes, in decimal digits, or why it doesn't become one.
     Recover,
+    // The bytes after so many, so many of them, as a view, `|`, and the capacity of the writable buffer that this becomes,
+    // or `declined`.
+    Own(usize, usize),
 }
 
 // The chunks of a text, calls on it, and their answers.
@@ -61,7 +64,14 @@ const FOUR: &[(Kind, &'static [u8])] = &[
     (Kind::Static, b"gh"),
 ];
 
-const CASES: [Case; 7] = [
+const FOUR_NATIVE: &[(Kind, &'static [u8])] = &[
+    (Kind::Native(6), b"ab"),
+    (Kind::Native(6), b"cd"),
+    (Kind::Native(6), b"ef"),
+    (Kind::Native(6), b"gh"),
+];
+
+const CASES: [Case; 12] = [
     Case {
         name: "an emptied chunk is recovered",
         chunks: &[(Kind::Native(4), b"abcd")],
@@ -90,6 +100,35 @@ const CASES: [Case; 7] = [
             (Ask::Reads(Read::Byte(8)), b"none"),
             (Ask::Visit, b"abcdefgh"),
         ],
+    },
+    Case {
+        name: "bytes inside a chunk, and then across two",
+        chunks: &[(Kind::Static, b"ab"), (Kind::Static, b"cd")],
+        asks: &[
+            (Ask::Own(0, 1), b"a|declined"),
+            (Ask::Own(0, 2), b"bc|2"),
+            (Ask::Show, b"d"),
+        ],
+    },
+    Case {
+        name: "bytes across two of four chunks",
+        chunks: FOUR,
+        asks: &[(Ask::Own(1, 2), b"bc|2"), (Ask::Show, b"d|ef|gh")],
+    },
+    Case {
+        name: "bytes across two of four native chunks",
+        chunks: FOUR_NATIVE,
+        asks: &[(Ask::Own(1, 2), b"bc|2"), (Ask::Show, b"d|ef|gh")],
+    },
+    Case {
+        name: "a whole chunk of four",
+        chunks: FOUR,
+        asks: &[(Ask::Own(2, 2), b"cd|declined"), (Ask::Show, b"ef|gh")],
+    },
+    Case {
+        name: "a whole native chunk of four",
+        chunks: FOUR_NATIVE,
+        asks: &[(Ask::Own(2, 2), b"cd|8"), (Ask::Show, b"ef|gh")],
     },
     Case {
         name: "chunks come in order",
@@ -180,14 +219,30 @@ fn truncated(alloc: Global, text: &mut IoBufs, len: usize) -> Result<Vec<u8>, Bu
     Ok(chunks(alloc, text)?)
 }
 
-fn recovered(alloc: Global, text: &mut IoBufs) -> Result<Vec<u8>, BufError> {
-    let Ok(view) = mem::replace(text, IoBufs::default()).try_into_single() else {
-        return copied(alloc, Some(b"several"));
-    };
+// The capacity of the writable buffer that a view becomes.
+fn capacity(alloc: Global, view: IoBuf) -> Result<Vec<u8>, BufError> {
     match view.try_into_mut(alloc) {
         Ok(part) => Ok(format!(in alloc; "{}", part.capacity())?.into_bytes()),
         Err(_) => copied(alloc, Some(b"declined")),
     }
+}
+
+fn recovered(alloc: Global, text: &mut IoBufs) -> Result<Vec<u8>, BufError> {
+    let Ok(view) = mem::replace(text, IoBufs::default()).try_into_single() else {
+        return copied(alloc, Some(b"several"));
+    };
+    capacity(alloc, view)
+}
+
+fn owned(alloc: Global, text: &mut IoBufs, skip: usize, n: usize) -> Result<Vec<u8>, BufError> {
+    if skip > text.len() || n > text.len() - skip {
+        return copied(alloc, Some(b"short"));
+    }
+    let view = text.take_owned_after::<IoBuf>(alloc, skip, n)?;
+    let mut shown = Vec::from_slice(alloc, view.as_ref())?;
+    shown.push(b'|')?;
+    shown.extend_from_slice(capacity(alloc, view)?.as_slice())?;
+    Ok(shown)
 }
 
 // What is answered.
@@ -206,6 +261,7 @@ fn told(alloc: Global, text: &mut IoBufs, ask: Ask) -> Result<Vec<u8>, BufError>
         Ask::SplitTo(at) => split(alloc, text, at),
         Ask::Slice(from, to) => sliced(alloc, text, from, to),
         Ask::Recover => recovered(alloc, text),
+        Ask::Own(skip, n) => owned(alloc, text, skip, n),
     }
 }
 

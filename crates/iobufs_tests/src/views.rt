@@ -2,15 +2,13 @@
 use crate::reads::{Read, answer};
 use crate::same::assert_same;
 use bytes::BytesMut;
-use iobufs_core::buf::{IoBuf, IoBufMut};
+use iobufs_core::buf::IoBuf;
 use iobufs_core::codec::{BufError, Error};
 use std::ops::Bound::{self, Excluded, Included, Unbounded};
 use std::test::Fail;
 
 #[test]
-fn adopted_buffers_keep_what_they_have(rt: HostRuntime) -> Result<(), Fail> {
-    let empty = BytesMut::with_capacity(rt.alloc(), 16)?;
-    assert!(rt; IoBufMut::from_bytes_mut(empty)?.capacity() >= 16);
+fn an_adopted_block_is_kept(rt: HostRuntime) -> Result<(), Fail> {
     let view = IoBuf::from_bytes_mut(BytesMut::copy_from_slice(rt.alloc(), b"abc")?)?;
     let declined = view.try_into_mut(rt.alloc()).err();
     let bytes = declined.as_ref().map(|view| view.as_ref());
@@ -55,20 +53,46 @@ fn ranges(rt: HostRuntime) -> Result<(), Fail> {
     Ok(())
 }
 
-// Calls on a view of `abc`, and their answers.
-const READS: [(Read, &'static [u8]); 4] = [
-    (Read::Copy(4), b"3 of 4: ...."),
-    (Read::Chunk, b"abc"),
-    (Read::Copy(3), b"abc"),
-    (Read::Remaining, b"0"),
+// The bytes of a static view, calls on it, and their answers.
+#[derive(Clone, Copy)]
+struct Case {
+    name: &'static str,
+    bytes: &'static [u8],
+    reads: &'static [(Read, &'static [u8])],
+}
+
+const CASES: [Case; 2] = [
+    Case {
+        name: "a view is read to its end",
+        bytes: b"hello world",
+        reads: &[
+            (Read::Advance(6), b""),
+            (Read::Chunk, b"world"),
+            (Read::Take(2), b"wo"),
+            (Read::Take(3), b"rld"),
+            (Read::Remaining, b"0"),
+        ],
+    },
+    Case {
+        name: "a destination that is too long",
+        bytes: b"abc",
+        reads: &[
+            (Read::Copy(4), b"3 of 4: ...."),
+            (Read::Chunk, b"abc"),
+            (Read::Copy(3), b"abc"),
+            (Read::Remaining, b"0"),
+        ],
+    },
 ];
 
 #[test]
-fn a_destination_that_is_too_long(rt: HostRuntime) -> Result<(), Fail> {
-    let mut view = IoBuf::from(b"abc".as_slice());
-    for (read, wanted) in READS {
-        let found = answer(rt.alloc(), &mut view, read)?;
-        assert_same!(rt; found.as_slice(), wanted, "{read:?}");
+fn views(rt: HostRuntime) -> Result<(), Fail> {
+    for case in &CASES {
+        let mut view = IoBuf::from(case.bytes);
+        for (read, wanted) in case.reads {
+            let found = answer(rt.alloc(), &mut view, *read)?;
+            assert_same!(rt; found.as_slice(), *wanted, "{}: {read:?}", case.name);
+        }
     }
     Ok(())
 }

@@ -4,6 +4,7 @@ use crate::same::assert_same;
 use iobufs_core::buf::IoBuf;
 use iobufs_core::codec::{BufError, Error, RangeCfg, Refused, TryGetError};
 use iobufs_run::command::Cmd;
+use iobufs_values::Fault;
 use std::fmt::Display;
 use std::process::Abort;
 use std::test::Fail;
@@ -21,6 +22,14 @@ const ERRORS: [(Error, &'static str); 6] = [
     (Error::Memory, "Memory"),
     (Error::BadLayout, "BadLayout"),
     (Error::TooLong, "TooLong"),
+];
+
+const FAULTS: [(Fault, &'static str); 5] = [
+    (Fault::Codec(Error::EndOfBuffer), "EndOfBuffer"),
+    (Fault::Codec(Error::Memory), "Memory"),
+    (Fault::InvalidBool, "InvalidBool"),
+    (Fault::InvalidEnum(7), "InvalidEnum"),
+    (Fault::ExtraData(3), "ExtraData"),
 ];
 
 const SHORT: TryGetError = TryGetError {
@@ -45,6 +54,9 @@ fn errors_print_their_names(rt: HostRuntime) -> Result<(), Fail> {
         assert_printed(&rt, &Refused { cause, value }, wanted)?;
     }
     for (cause, wanted) in ERRORS {
+        assert_printed(&rt, &cause, wanted)?;
+    }
+    for (cause, wanted) in FAULTS {
         assert_printed(&rt, &cause, wanted)?;
     }
     assert_printed(&rt, &SHORT, "TryGetError")

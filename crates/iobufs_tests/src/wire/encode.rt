@@ -5,9 +5,10 @@ use crate::wire::record::Record;
 use crate::wire::shard::Shard;
 use crate::wire::zeros::Zeros;
 use bytes::Bytes;
+use iobufs::bufs::IoBufs;
 use iobufs::builder::EncodeExt;
 use iobufs_core::buf::{IoBuf, IoBufMut};
-use iobufs_core::codec::{BufMut, Encode, EncodeSize, Error, Write};
+use iobufs_core::codec::{Buf, BufMut, Encode, EncodeSize, Error, Write};
 use std::process::Abort;
 
 // The size of a value, and how many of its bytes are put inline.
@@ -70,6 +71,43 @@ fn values_with_views(rt: HostRuntime) {
     );
     let long = IoBuf::copy_from_slice(rt.alloc(), &NINES).expect(&rt, "a long view");
     assert_written(&rt, "a long view", &long, 2, &[b"\x80\x01", &NINES]);
+}
+
+// The capacity of the last chunk of some bytes, if that becomes a writable buffer.
+fn last_capacity(
+    rt: &(impl Abort + AllocGlobal),
+    mut bufs: IoBufs,
+    before: usize,
+) -> Option<usize> {
+    assert!(rt; bufs.len() >= before, "too few bytes");
+    bufs.advance(before);
+    let view = bufs.try_into_single().ok().expect(rt, "a last chunk");
+    Some(view.try_into_mut(rt.alloc()).ok()?.capacity())
+}
+
+// How many bytes come first and how many after them are kept: a chunk of an encoded shard, and its capacity.
+const CHUNKS: [(usize, usize, Option<usize>); 3] = [(0, 3, Some(7)), (3, 4, None), (4, 8, Some(4))];
+
+// The two runs of inline bytes lie in one buffer of exactly their length, and the view stays as it is.
+#[test]
+fn chunks_of_a_shard(rt: HostRuntime) {
+    for (before, end, capacity) in CHUNKS {
+        let shard = Shard {
+            id: 99,
+            body: view(b"S"),
+            sum: 7,
+        };
+        let mut bufs = shard.encode_iobufs(rt.alloc()).expect(&rt, "a shard");
+        bufs.truncate(rt.alloc(), end).expect(&rt, "a chunk");
+        assert_same!(rt; last_capacity(&rt, bufs, before), capacity, "{before} to {end}");
+    }
+}
+
+#[test]
+fn a_chunk_of_zeros(rt: HostRuntime) {
+    let zeros = Zeros { a: 2, b: 1 };
+    let bufs = zeros.encode_iobufs(rt.alloc()).expect(&rt, "zeros");
+    assert_same!(rt; last_capacity(&rt, bufs, 0), Some(3));
 }
 
 #[test]
