@@ -1,36 +1,49 @@
 // Loaded before the program: refuses one request for memory. REFUSE says which, from 1; 0 refuses none. The number of
-// requests goes to the file that REQUESTS names, if it does, when the program ends.
+// requests goes to the file that REQUESTS names, if it does, when the program ends. If COSTS is set, each write begins with
+// the number of requests since the write before it, and the number of their bytes.
 #define _GNU_SOURCE
 #include <errno.h>
 #include <stdio.h>
 #include <stdlib.h>
+#include <sys/syscall.h>
+#include <unistd.h>
 
-static unsigned long requests = 0;
+static unsigned long requests = 0, told = 0, bytes = 0;
 static long refused = -1;
 extern void *__libc_malloc(size_t);
 extern void *__libc_calloc(size_t, size_t);
 extern void *__libc_realloc(void *, size_t);
 extern void *__libc_memalign(size_t, size_t);
 
-static int refuse(void) {
+static int refuse(size_t n) {
     if (refused < 0) {
         const char *text = getenv("REFUSE");
         refused = text ? atol(text) : 0;
     }
     requests++;
+    bytes += n;
     if ((long)requests != refused) return 0;
     errno = ENOMEM;
     return 1;
 }
 
-void *malloc(size_t n) { return refuse() ? NULL : __libc_malloc(n); }
-void *calloc(size_t a, size_t b) { return refuse() ? NULL : __libc_calloc(a, b); }
-void *realloc(void *p, size_t n) { return refuse() ? NULL : __libc_realloc(p, n); }
-void *aligned_alloc(size_t a, size_t n) { return refuse() ? NULL : __libc_memalign(a, n); }
+void *malloc(size_t n) { return refuse(n) ? NULL : __libc_malloc(n); }
+void *calloc(size_t a, size_t b) { return refuse(a * b) ? NULL : __libc_calloc(a, b); }
+void *realloc(void *p, size_t n) { return refuse(n) ? NULL : __libc_realloc(p, n); }
+void *aligned_alloc(size_t a, size_t n) { return refuse(n) ? NULL : __libc_memalign(a, n); }
 int posix_memalign(void **p, size_t a, size_t n) {
-    if (refuse()) return ENOMEM;
+    if (refuse(n)) return ENOMEM;
     *p = __libc_memalign(a, n);
     return *p ? 0 : ENOMEM;
+}
+
+ssize_t write(int to, const void *from, size_t n) {
+    if (getenv("COSTS")) {
+        char text[64];
+        syscall(SYS_write, to, text, snprintf(text, sizeof text, "%lu %lu ", requests - told, bytes));
+        told = requests, bytes = 0;
+    }
+    return syscall(SYS_write, to, from, n);
 }
 
 __attribute__((destructor)) static void tell(void) {

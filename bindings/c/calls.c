@@ -38,6 +38,9 @@ static void views(void) {
     CHECK(iobuf_slice(&a, IOBUFS_INCLUDED, 4, IOBUFS_EXCLUDED, 2, &c) == IOBUFS_OUT_OF_RANGE);
     CHECK(iobuf_slice(&a, IOBUFS_INCLUDED, 4, IOBUFS_INCLUDED, 11, &c) == IOBUFS_OUT_OF_RANGE);
     CHECK(iobuf_slice(&a, IOBUFS_INCLUDED, 0, IOBUFS_INCLUDED, SIZE_MAX, &c) == IOBUFS_OUT_OF_RANGE);
+    CHECK(iobuf_slice(&a, 7, 1, 9, 3, &c) == IOBUFS_BAD_KIND);
+    CHECK(iobuf_slice(&a, IOBUFS_INCLUDED, 0, 3, 1, &c) == IOBUFS_BAD_KIND);
+    CHECK(iobuf_slice(&a, 255, 9, IOBUFS_EXCLUDED, 1, &c) == IOBUFS_BAD_KIND);
     CHECK(view_is(&c, "hello world"));
     CHECK(iobuf_take(&c, 12, &b) == IOBUFS_END_OF_BUFFER && view_is(&b, "world"));
     OK(iobuf_take(&c, 6, &b));
@@ -340,17 +343,18 @@ static void numbers(void) {
 
 static void frames(void) {
     FRAMES(f); VIEW(v); TEXT(t);
+    size_t wrong = 0;
     const char *pieces[] = { "\x05" "hel", "lo\x00" "x" };
-    CHECK(iobufs_frames_len(&f) == 0 && iobufs_frames_next(&f, 0, 9, &v) == IOBUFS_END_OF_BUFFER);
+    CHECK(iobufs_frames_len(&f) == 0 && iobufs_frames_next(&f, 0, 9, &v, &wrong) == IOBUFS_END_OF_BUFFER);
     OK(iobuf_copy_from_slice(bytes(pieces[0]), 4, &v));
     OK(iobufs_frames_feed(&f, &v));
-    CHECK(view_is(&v, "") && iobufs_frames_next(&f, 0, 9, &v) == IOBUFS_END_OF_BUFFER && iobufs_frames_len(&f) == 4);
-    CHECK(iobufs_frames_next(&f, 0, 4, &v) == IOBUFS_INVALID_LENGTH);
+    CHECK(view_is(&v, "") && iobufs_frames_next(&f, 0, 9, &v, &wrong) == IOBUFS_END_OF_BUFFER && iobufs_frames_len(&f) == 4);
+    CHECK(iobufs_frames_next(&f, 0, 4, &v, &wrong) == IOBUFS_INVALID_LENGTH && wrong == 5);
     OK(iobuf_copy_from_slice(bytes(pieces[1]), 4, &v));
     OK(iobufs_frames_feed(&f, &v));
-    OK(iobufs_frames_next(&f, 0, 9, &v));
+    OK(iobufs_frames_next(&f, 0, 9, &v, &wrong));
     CHECK(view_is(&v, "hello"));
-    OK(iobufs_frames_next(&f, 0, 9, &v));
+    OK(iobufs_frames_next(&f, 0, 9, &v, &wrong));
     CHECK(view_is(&v, "") && iobufs_frames_len(&f) == 1);
     OK(iobufs_frames_rest(&f, &t));
     CHECK(text_is(&t, "x"));
@@ -358,7 +362,34 @@ static void frames(void) {
     CHECK(iobufs_frames_len(&f) == 0);
 }
 
+/* A frame of each prefix: `abc` behind its length, and a length outside the range. */
+static void prefixes(void) {
+    static const struct { uint8_t prefix; const char *bytes; size_t n; } cases[] = {
+        { IOBUFS_VARINT, "\3abc", 4 }, { IOBUFS_U16_BE, "\0\3abc", 5 }, { IOBUFS_U32_BE, "\0\0\0\3abc", 7 },
+        { IOBUFS_U64_BE, "\0\0\0\0\0\0\0\3abc", 11 }, { IOBUFS_U16_LE, "\3\0abc", 5 }, { IOBUFS_U32_LE, "\3\0\0\0abc", 7 },
+        { IOBUFS_U64_LE, "\3\0\0\0\0\0\0\0abc", 11 },
+    };
+    FRAMES(f); VIEW(v);
+    size_t wrong = 0;
+    for (size_t i = 0; i < sizeof cases / sizeof *cases; i++, wrong = 0) {
+        OK(iobufs_frames_set_prefix(&f, cases[i].prefix));
+        OK(iobuf_copy_from_slice(bytes(cases[i].bytes), cases[i].n, &v));
+        OK(iobufs_frames_feed(&f, &v));
+        CHECK(iobufs_frames_next(&f, 0, 2, &v, &wrong) == IOBUFS_INVALID_LENGTH && wrong == 3);
+        OK(iobufs_frames_next(&f, 0, 3, &v, &wrong));
+        CHECK(view_is(&v, "abc") && iobufs_frames_len(&f) == 0);
+    }
+    CHECK(iobufs_frames_set_prefix(&f, 7) == IOBUFS_BAD_KIND && iobufs_frames_set_prefix(&f, 255) == IOBUFS_BAD_KIND);
+    iobufs_frames_drop(&f); iobuf_drop(&v);
+}
+
+static void statuses(void) {
+    CHECK(!strcmp(iobufs_strerror(IOBUFS_OK), "done") && !strcmp(iobufs_strerror(IOBUFS_BAD_KIND), "unknown kind"));
+    CHECK(!strcmp(iobufs_strerror(10), "no status") && !strcmp(iobufs_strerror(255), "no status"));
+}
+
 int main(void) {
-    sizes(); views(); moved(); buffers(); texts(); parts(); builders(); lengths(); numbers(); frames();
+    sizes(); views(); moved(); buffers(); texts(); parts(); builders(); lengths(); numbers(); frames(); prefixes();
+    statuses();
     return 0;
 }

@@ -530,7 +530,8 @@ static void frames_call(int k) {
         return;
     }
     bytes_of(&frames, all);
-    iobufs_status status = iobufs_frames_next(&frames_at, 0, 40, &view_at[k]);
+    size_t wrong;
+    iobufs_status status = iobufs_frames_next(&frames_at, 0, 40, &view_at[k], &wrong);
     size_t i = 0, shift = 0, body = 0;
     while (i < len && i < 9 && all[i] >= 128) { body += (size_t)(all[i] & 127) << shift; shift += 7; i++; }
     if (i == len) { CHECK(status == IOBUFS_END_OF_BUFFER); return; }

@@ -142,7 +142,8 @@ static uint64_t read_frames(int from, size_t count) {
         earlier = later; later = last;
         OK(iobufs_frames_feed(&f, &v));
         iobufs_status status;
-        while ((status = iobufs_frames_next(&f, 0, MOST, &v)) == IOBUFS_OK) {
+        size_t wrong;
+        while ((status = iobufs_frames_next(&f, 0, MOST, &v, &wrong)) == IOBUFS_OK) {
             CHECK(iobuf_chunk(&v, &at) == body);
             sum = sum_of(sum, at, body);
             seen++;

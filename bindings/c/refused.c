@@ -78,7 +78,7 @@ static iobufs_status builder_new(struct made *m) { return iobufs_builder_new(9, 
 static iobufs_status push(struct made *m) { return iobufs_builder_push(&m->builder, &m->view); }
 static iobufs_status finish(struct made *m) { return iobufs_builder_finish(&m->builder, &m->out_text); }
 static iobufs_status feed(struct made *m) { return iobufs_frames_feed(&m->frames, &m->view); }
-static iobufs_status next(struct made *m) { return iobufs_frames_next(&m->frames, 0, 99, &m->out_view); }
+static iobufs_status next(struct made *m) { size_t wrong; return iobufs_frames_next(&m->frames, 0, 99, &m->out_view, &wrong); }
 static iobufs_status rest(struct made *m) { return iobufs_frames_rest(&m->frames, &m->out_text); }
 static iobufs_status read_view(struct made *m) { return iobufs_read_view(&m->text, 0, 99, &m->out_view); }
 static iobufs_status view_read(struct made *m) { return iobuf_read_view(&m->view, 0, 99, &m->out_view); }

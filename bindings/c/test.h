@@ -7,12 +7,12 @@
 #define CHECK(x) do { if (!(x)) { fprintf(stderr, "%s:%d: %s\n", __FILE__, __LINE__, #x); exit(1); } } while (0)
 #define OK(x) CHECK((x) == IOBUFS_OK)
 
-#define VIEW(name) struct iobuf name##_memory; struct iobuf_at name = { &name##_memory }; iobuf_init(name.at)
-#define PART(name) struct iobufmut name##_memory; struct iobufmut_at name = { &name##_memory }; iobufmut_init(name.at)
-#define TEXT(name) struct iobufs name##_memory; struct iobufs_at name = { &name##_memory }; iobufs_init(name.at)
-#define PARTS(name) struct iobufsmut name##_memory; struct iobufsmut_at name = { &name##_memory }; iobufsmut_init(name.at)
-#define BUILDER(name) struct iobufs_builder name##_memory; struct iobufs_builder_at name = { &name##_memory }; iobufs_builder_init(name.at)
-#define FRAMES(name) struct iobufs_frames name##_memory; struct iobufs_frames_at name = { &name##_memory }; iobufs_frames_init(name.at)
+#define VIEW(name) struct iobuf_at name = IOBUF_INIT
+#define PART(name) struct iobufmut_at name = IOBUFMUT_INIT
+#define TEXT(name) struct iobufs_at name = IOBUFS_INIT
+#define PARTS(name) struct iobufsmut_at name = IOBUFSMUT_INIT
+#define BUILDER(name) struct iobufs_builder_at name = IOBUFS_BUILDER_INIT
+#define FRAMES(name) struct iobufs_frames_at name = IOBUFS_FRAMES_INIT
 
 static inline const uint8_t *bytes(const char *text) { return (const uint8_t *)text; }
 

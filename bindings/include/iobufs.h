@@ -6,11 +6,12 @@
  *
  *     struct iobuf memory;
  *     struct iobuf_at view = { &memory };
- *     iobuf_init(&memory);
+ *     iobuf_init(&memory);            // these three lines are `struct iobuf_at view = IOBUF_INIT;` in C
  *     if (iobuf_copy_from_slice(bytes, n, &view) != IOBUFS_OK) ..
  *     iobuf_drop(&view);
  *
- * A call that can fail returns a status (`iobufs_status`). Ranges, offsets and space are tested: if they don't fit, the
+ * A call that can fail returns a status (`iobufs_status`, named by `iobufs_strerror`), and the compiler warns if it isn't looked
+ * at. A call that cannot fail returns its answer or nothing. Ranges, offsets and space are tested: if they don't fit, the
  * status says so, and unless the comment says otherwise nothing has changed. A buffer that is moved into another leaves its
  * own place empty; an empty place may be used, and dropped, again. What an `out` place held is dropped.
  *
@@ -54,9 +55,27 @@ enum iobufs_code {
     IOBUFS_END_OF_BUFFER = 5,  /* fewer bytes remain than the call needs */
     IOBUFS_INVALID_VARINT = 6, /* the bytes are no varint */
     IOBUFS_INVALID_LENGTH = 7, /* the length is outside the range */
-    IOBUFS_DECLINED = 8        /* the buffer can't be converted, and stays */
+    IOBUFS_DECLINED = 8,       /* the buffer can't be converted, and stays */
+    IOBUFS_BAD_KIND = 9       /* the kind of a bound is unknown */
 };
 typedef uint8_t iobufs_status;
+
+/* What a status says, in English. Never NULL, also for a number that is no status. */
+static inline const char *iobufs_strerror(iobufs_status status) {
+    static const char *const texts[] = {
+        "done", "an allocation failed", "bad alignment or capacity", "lengths or capacities add up to too much",
+        "outside the bytes or the space", "fewer bytes remain", "no varint", "length outside the range",
+        "the buffer can't be converted", "unknown kind",
+    };
+    return status < sizeof texts / sizeof *texts ? texts[status] : "no status";
+}
+
+/* Has the compiler warn of a caller that doesn't look at a status. */
+#if defined(__GNUC__)
+#define IOBUFS_CHECKED __attribute__((warn_unused_result))
+#else
+#define IOBUFS_CHECKED
+#endif
 
 /* Sizes and alignments, of which a buffer's memory has to be; `iobuf_size()` .. say the library's. */
 #define IOBUF_SIZE 48
@@ -64,7 +83,7 @@ typedef uint8_t iobufs_status;
 #define IOBUFS_SIZE 56
 #define IOBUFSMUT_SIZE 184
 #define IOBUFS_BUILDER_SIZE 120
-#define IOBUFS_FRAMES_SIZE 56
+#define IOBUFS_FRAMES_SIZE 64
 #define IOBUFS_ALIGN 8
 
 struct iobuf { uint64_t room[IOBUF_SIZE / 8]; };                   /* IoBuf: bytes to read, in one chunk */
@@ -82,11 +101,30 @@ struct iobufsmut_at { struct iobufsmut *at; };
 struct iobufs_builder_at { struct iobufs_builder *at; };
 struct iobufs_frames_at { struct iobufs_frames *at; };
 
+/* `struct iobuf_at view = IOBUF_INIT;` makes an empty buffer, whose memory lives as long as the block around it (C alone):
+ * one line in place of the memory, the place and the call of `.._init`. */
+#ifndef __cplusplus
+#define IOBUF_INIT iobuf_made(&(struct iobuf){{0}})
+#define IOBUFMUT_INIT iobufmut_made(&(struct iobufmut){{0}})
+#define IOBUFS_INIT iobufs_made(&(struct iobufs){{0}})
+#define IOBUFSMUT_INIT iobufsmut_made(&(struct iobufsmut){{0}})
+#define IOBUFS_BUILDER_INIT iobufs_builder_made(&(struct iobufs_builder){{0}})
+#define IOBUFS_FRAMES_INIT iobufs_frames_made(&(struct iobufs_frames){{0}})
+#endif
+
 /* As `struct iovec` of <sys/uio.h>, which may be cast to it. */
 struct iobufs_chunk { const uint8_t *base; size_t len; };
 
 /* The bounds of a range. */
 enum iobufs_bound { IOBUFS_INCLUDED = 0, IOBUFS_EXCLUDED = 1, IOBUFS_UNBOUNDED = 2 };
+
+/* How the length before a frame is written: a varint, or a number of two, four or eight bytes, whose highest byte is the first
+ * (BE) or the last (LE). */
+enum iobufs_prefix {
+    IOBUFS_VARINT = 0,
+    IOBUFS_U16_BE = 1, IOBUFS_U32_BE = 2, IOBUFS_U64_BE = 3,
+    IOBUFS_U16_LE = 4, IOBUFS_U32_LE = 5, IOBUFS_U64_LE = 6
+};
 
 /* ---- iobuf (IoBuf): a view of bytes, which shares their storage with its clones and slices ---- */
 
@@ -99,7 +137,7 @@ void iobuf_init(struct iobuf *at);
 /* Drops the bytes; the empty view is left. (Drop) */
 void iobuf_drop(struct iobuf_at *src);
 /* A copy of n bytes; memory except for 0 bytes. (IoBuf::copy_from_slice) */
-iobufs_status iobuf_copy_from_slice(const uint8_t *src, size_t n, struct iobuf_at *out);
+IOBUFS_CHECKED iobufs_status iobuf_copy_from_slice(const uint8_t *src, size_t n, struct iobuf_at *out);
 /* A view of n static bytes (duty 4). No memory. (From<&'static [u8]>) */
 void iobuf_from_static(const uint8_t *text, size_t n, struct iobuf_at *out);
 /* The number of bytes. (IoBuf::len) */
@@ -113,23 +151,23 @@ bool iobuf_byte_at(struct iobuf_at *src, size_t i, uint8_t *out);
 /* Whether two views hold the same bytes. (PartialEq) */
 bool iobuf_eq(struct iobuf_at *src, struct iobuf_at *other);
 /* Another view of the same bytes, in their storage: no byte is copied. Memory none today. (Clone) */
-iobufs_status iobuf_clone(struct iobuf_at *src, struct iobuf_at *out);
+IOBUFS_CHECKED iobufs_status iobuf_clone(struct iobuf_at *src, struct iobuf_at *out);
 /* Drops the first n bytes; IOBUFS_OUT_OF_RANGE if there are fewer. (Buf::advance) */
-iobufs_status iobuf_advance(struct iobuf_at *src, size_t n);
+IOBUFS_CHECKED iobufs_status iobuf_advance(struct iobuf_at *src, size_t n);
 /* Takes the first `at` bytes, in the same storage; IOBUFS_OUT_OF_RANGE if there are fewer. Memory none today.
  * (IoBuf::split_to) */
-iobufs_status iobuf_split_to(struct iobuf_at *src, size_t at, struct iobuf_at *out);
+IOBUFS_CHECKED iobufs_status iobuf_split_to(struct iobuf_at *src, size_t at, struct iobuf_at *out);
 /* Takes the first n bytes, in the same storage; IOBUFS_END_OF_BUFFER if there are fewer. Memory none today.
  * (take_owned, Buf::copy_to_bytes) */
-iobufs_status iobuf_take(struct iobuf_at *src, size_t n, struct iobuf_at *out);
+IOBUFS_CHECKED iobufs_status iobuf_take(struct iobuf_at *src, size_t n, struct iobuf_at *out);
 /* Copies the first n bytes out and drops them; IOBUFS_END_OF_BUFFER if there are fewer. (Buf::copy_to_slice) */
-iobufs_status iobuf_copy_to_slice(struct iobuf_at *src, uint8_t *dst, size_t n);
-/* The bytes of a range, in the same storage; bounds are `enum iobufs_bound`. IOBUFS_OUT_OF_RANGE if the range isn't
- * within the bytes. Memory none today. (IoBuf::slice) */
-iobufs_status iobuf_slice(struct iobuf_at *src, uint8_t lo_kind, size_t lo, uint8_t hi_kind, size_t hi, struct iobuf_at *out);
+IOBUFS_CHECKED iobufs_status iobuf_copy_to_slice(struct iobuf_at *src, uint8_t *dst, size_t n);
+/* The bytes of a range, in the same storage; bounds are `enum iobufs_bound`. IOBUFS_BAD_KIND if a kind is none of these,
+ * IOBUFS_OUT_OF_RANGE if the range isn't within the bytes. Memory none today. (IoBuf::slice) */
+IOBUFS_CHECKED iobufs_status iobuf_slice(struct iobuf_at *src, uint8_t lo_kind, size_t lo, uint8_t hi_kind, size_t hi, struct iobuf_at *out);
 /* Recovers the storage as a writable buffer, and leaves the empty view; or IOBUFS_DECLINED, and the view stays. It recovers
  * native storage that no other view shares: tested, not proved. No memory. (IoBuf::try_into_mut) */
-iobufs_status iobuf_try_into_mut(struct iobuf_at *src, struct iobufmut_at *out);
+IOBUFS_CHECKED iobufs_status iobuf_try_into_mut(struct iobuf_at *src, struct iobufmut_at *out);
 
 /* ---- iobufmut (IoBufMut): a buffer to write, of a fixed capacity. None reads as one of capacity 0 ---- */
 
@@ -142,19 +180,19 @@ void iobufmut_init(struct iobufmut *at);
 /* Drops the buffer; none is left. (Drop) */
 void iobufmut_drop(struct iobufmut_at *part);
 /* An empty buffer of capacity n: memory except for 0; IOBUFS_BAD_LAYOUT above SSIZE_MAX. (IoBufMut::with_capacity) */
-iobufs_status iobufmut_with_capacity(size_t n, struct iobufmut_at *out);
+IOBUFS_CHECKED iobufs_status iobufmut_with_capacity(size_t n, struct iobufmut_at *out);
 /* An empty buffer of capacity n, after testing the alignment, a power of two (otherwise IOBUFS_BAD_LAYOUT, except for 0
  * bytes); addresses are not promised. Memory except for 0. (with_alignment) */
-iobufs_status iobufmut_with_alignment(size_t n, size_t align, struct iobufmut_at *out);
+IOBUFS_CHECKED iobufs_status iobufmut_with_alignment(size_t n, size_t align, struct iobufmut_at *out);
 /* A buffer of n bytes, all zero: memory except for 0; IOBUFS_BAD_LAYOUT above SSIZE_MAX. (IoBufMut::zeroed) */
-iobufs_status iobufmut_zeroed(size_t n, struct iobufmut_at *out);
+IOBUFS_CHECKED iobufs_status iobufmut_zeroed(size_t n, struct iobufmut_at *out);
 /* A buffer of n zeros, after testing the alignment, as above. Memory except for 0. (zeroed_with_alignment) */
-iobufs_status iobufmut_zeroed_with_alignment(size_t n, size_t align, struct iobufmut_at *out);
+IOBUFS_CHECKED iobufs_status iobufmut_zeroed_with_alignment(size_t n, size_t align, struct iobufmut_at *out);
 /* A copy of n bytes, without spare capacity; memory except for 0 bytes. (From<&[u8]>) */
-iobufs_status iobufmut_copy_from_slice(const uint8_t *src, size_t n, struct iobufmut_at *out);
+IOBUFS_CHECKED iobufs_status iobufmut_copy_from_slice(const uint8_t *src, size_t n, struct iobufmut_at *out);
 /* The bytes of a view: recovered as by iobuf_try_into_mut, else copied (memory); the empty view is left. If the
  * allocation fails, both stay. (From<IoBuf>) */
-iobufs_status iobufmut_from_view(struct iobuf_at *src, struct iobufmut_at *out);
+IOBUFS_CHECKED iobufs_status iobufmut_from_view(struct iobuf_at *src, struct iobufmut_at *out);
 /* The number of readable bytes. (len) */
 size_t iobufmut_len(struct iobufmut_at *part);
 /* Whether there are none. (is_empty) */
@@ -167,34 +205,34 @@ size_t iobufmut_remaining_mut(struct iobufmut_at *part);
  * (AsRef, AsMut) */
 size_t iobufmut_chunk(struct iobufmut_at *part, uint8_t **out);
 /* Appends bytes; IOBUFS_OUT_OF_RANGE if they don't fit. No memory. (BufMut::put_slice) */
-iobufs_status iobufmut_put_slice(struct iobufmut_at *part, const uint8_t *src, size_t n);
+IOBUFS_CHECKED iobufs_status iobufmut_put_slice(struct iobufmut_at *part, const uint8_t *src, size_t n);
 /* Puts a byte n times; IOBUFS_OUT_OF_RANGE if they don't fit. No memory. (BufMut::put_bytes) */
-iobufs_status iobufmut_put_bytes(struct iobufmut_at *part, uint8_t value, size_t n);
+IOBUFS_CHECKED iobufs_status iobufmut_put_bytes(struct iobufmut_at *part, uint8_t value, size_t n);
 /* Puts one byte; IOBUFS_OUT_OF_RANGE if it doesn't fit. No memory. (BufMut::put_u8) */
-iobufs_status iobufmut_put_u8(struct iobufmut_at *part, uint8_t n);
+IOBUFS_CHECKED iobufs_status iobufmut_put_u8(struct iobufmut_at *part, uint8_t n);
 /* Appends a big-endian number of two bytes; IOBUFS_OUT_OF_RANGE if it doesn't fit. No memory. (BufMut::put_u16) */
-iobufs_status iobufmut_put_u16(struct iobufmut_at *part, uint16_t n);
+IOBUFS_CHECKED iobufs_status iobufmut_put_u16(struct iobufmut_at *part, uint16_t n);
 /* Appends a big-endian number of four bytes; IOBUFS_OUT_OF_RANGE if it doesn't fit. (BufMut::put_u32) */
-iobufs_status iobufmut_put_u32(struct iobufmut_at *part, uint32_t n);
+IOBUFS_CHECKED iobufs_status iobufmut_put_u32(struct iobufmut_at *part, uint32_t n);
 /* Appends a big-endian number of eight bytes; IOBUFS_OUT_OF_RANGE if it doesn't fit. (BufMut::put_u64) */
-iobufs_status iobufmut_put_u64(struct iobufmut_at *part, uint64_t n);
+IOBUFS_CHECKED iobufs_status iobufmut_put_u64(struct iobufmut_at *part, uint64_t n);
 /* Appends a varint length (see iobufs_length_size); IOBUFS_OUT_OF_RANGE if it doesn't fit. No memory.
  * (usize::write) */
-iobufs_status iobufmut_put_length(struct iobufmut_at *part, size_t n);
+IOBUFS_CHECKED iobufs_status iobufmut_put_length(struct iobufmut_at *part, size_t n);
 /* Writes over n readable bytes from `at` on; IOBUFS_OUT_OF_RANGE if they pass the readable bytes. No memory. (AsMut) */
-iobufs_status iobufmut_write_at(struct iobufmut_at *part, size_t at, const uint8_t *src, size_t n);
+IOBUFS_CHECKED iobufs_status iobufmut_write_at(struct iobufmut_at *part, size_t at, const uint8_t *src, size_t n);
 /* Makes n bytes readable; those that were not are zero. IOBUFS_OUT_OF_RANGE above the capacity. No memory. (set_len) */
-iobufs_status iobufmut_set_len(struct iobufmut_at *part, size_t n);
+IOBUFS_CHECKED iobufs_status iobufmut_set_len(struct iobufmut_at *part, size_t n);
 /* Keeps at most the first n bytes. (truncate) */
 void iobufmut_truncate(struct iobufmut_at *part, size_t n);
 /* Keeps no byte, and the capacity. (clear) */
 void iobufmut_clear(struct iobufmut_at *part);
 /* Drops the first n readable bytes; IOBUFS_OUT_OF_RANGE if there are fewer. (Buf::advance) */
-iobufs_status iobufmut_advance(struct iobufmut_at *part, size_t n);
+IOBUFS_CHECKED iobufs_status iobufmut_advance(struct iobufmut_at *part, size_t n);
 /* Copies the first n bytes out and drops them; IOBUFS_END_OF_BUFFER if there are fewer. (Buf::copy_to_slice) */
-iobufs_status iobufmut_copy_to_slice(struct iobufmut_at *part, uint8_t *dst, size_t n);
+IOBUFS_CHECKED iobufs_status iobufmut_copy_to_slice(struct iobufmut_at *part, uint8_t *dst, size_t n);
 /* The bytes as a view, not copied; no buffer is left. Memory none today; on IOBUFS_MEMORY the buffer is dropped. (freeze) */
-iobufs_status iobufmut_freeze(struct iobufmut_at *part, struct iobuf_at *out);
+IOBUFS_CHECKED iobufs_status iobufmut_freeze(struct iobufmut_at *part, struct iobuf_at *out);
 
 /* ---- iobufs (IoBufs): bytes in several chunks, none of which is copied ---- */
 
@@ -209,9 +247,9 @@ void iobufs_drop(struct iobufs_at *text);
 /* An iobufs of one view, which is left empty. No memory. (From<IoBuf>) */
 void iobufs_from_view(struct iobuf_at *src, struct iobufs_at *out);
 /* An iobufs of a writable buffer; none is left. Memory none today; IOBUFS_MEMORY drops the buffer. (From<IoBufMut>) */
-iobufs_status iobufs_from_mut(struct iobufmut_at *part, struct iobufs_at *out);
+IOBUFS_CHECKED iobufs_status iobufs_from_mut(struct iobufmut_at *part, struct iobufs_at *out);
 /* The same bytes once more, in their storage; memory for the deque of chunks. (Clone) */
-iobufs_status iobufs_clone(struct iobufs_at *text, struct iobufs_at *out);
+IOBUFS_CHECKED iobufs_status iobufs_clone(struct iobufs_at *text, struct iobufs_at *out);
 /* The number of bytes. (IoBufs::len) */
 size_t iobufs_len(struct iobufs_at *text);
 /* Whether there are none. (IoBufs::is_empty) */
@@ -231,29 +269,29 @@ size_t iobufs_chunks(struct iobufs_at *text, struct iobufs_chunk *out, size_t n)
 bool iobufs_byte_at(struct iobufs_at *text, size_t i, uint8_t *out);
 /* Writes the index of the chunk that contains an offset, and the distance from its start; IOBUFS_OUT_OF_RANGE at the end.
  * No memory. (own) */
-iobufs_status iobufs_locate(struct iobufs_at *text, size_t at, size_t *index, size_t *offset);
+IOBUFS_CHECKED iobufs_status iobufs_locate(struct iobufs_at *text, size_t at, size_t *index, size_t *offset);
 /* Adds a view at the end, and leaves its place empty; at times memory for the deque of chunks. IOBUFS_TOO_LONG if the
  * length would pass SIZE_MAX. After an error both are unchanged. (append) */
-iobufs_status iobufs_append(struct iobufs_at *text, struct iobuf_at *piece);
+IOBUFS_CHECKED iobufs_status iobufs_append(struct iobufs_at *text, struct iobuf_at *piece);
 /* Adds a view at the start, and leaves its place empty; at times memory; IOBUFS_TOO_LONG as above. (prepend) */
-iobufs_status iobufs_prepend(struct iobufs_at *text, struct iobuf_at *piece);
+IOBUFS_CHECKED iobufs_status iobufs_prepend(struct iobufs_at *text, struct iobuf_at *piece);
 /* Takes the first `at` bytes; IOBUFS_OUT_OF_RANGE if there are fewer; at times memory. (IoBufs::split_to) */
-iobufs_status iobufs_split_to(struct iobufs_at *text, size_t at, struct iobufs_at *out);
+IOBUFS_CHECKED iobufs_status iobufs_split_to(struct iobufs_at *text, size_t at, struct iobufs_at *out);
 /* Drops the first n bytes; IOBUFS_OUT_OF_RANGE if there are fewer. No memory. (Buf::advance) */
-iobufs_status iobufs_advance(struct iobufs_at *text, size_t n);
+IOBUFS_CHECKED iobufs_status iobufs_advance(struct iobufs_at *text, size_t n);
 /* Copies the first n bytes out and drops them; IOBUFS_END_OF_BUFFER if there are fewer. (Buf::copy_to_slice) */
-iobufs_status iobufs_copy_to_slice(struct iobufs_at *text, uint8_t *dst, size_t n);
+IOBUFS_CHECKED iobufs_status iobufs_copy_to_slice(struct iobufs_at *text, uint8_t *dst, size_t n);
 /* Takes the first n bytes as one view: shared within a chunk, a copy (memory) across chunks; IOBUFS_END_OF_BUFFER
  * if there are fewer. (take_owned, Buf::copy_to_bytes) */
-iobufs_status iobufs_take(struct iobufs_at *text, size_t n, struct iobuf_at *out);
+IOBUFS_CHECKED iobufs_status iobufs_take(struct iobufs_at *text, size_t n, struct iobuf_at *out);
 /* Takes the n bytes after the first `skip`, which are dropped too, as one view, as iobufs_take does. (own) */
-iobufs_status iobufs_take_after(struct iobufs_at *text, size_t skip, size_t n, struct iobuf_at *out);
+IOBUFS_CHECKED iobufs_status iobufs_take_after(struct iobufs_at *text, size_t skip, size_t n, struct iobuf_at *out);
 /* All bytes as one view, with a copy (memory) of several chunks; it is left empty, also after an error: clone it first to
  * keep it. (coalesce) */
-iobufs_status iobufs_coalesce(struct iobufs_at *text, struct iobuf_at *out);
+IOBUFS_CHECKED iobufs_status iobufs_coalesce(struct iobufs_at *text, struct iobuf_at *out);
 /* The only chunk as a view; it is left empty. IOBUFS_DECLINED if there are more, and it stays. No memory.
  * (try_into_single) */
-iobufs_status iobufs_try_into_single(struct iobufs_at *text, struct iobuf_at *out);
+IOBUFS_CHECKED iobufs_status iobufs_try_into_single(struct iobufs_at *text, struct iobuf_at *out);
 
 /* ---- iobufsmut (IoBufsMut): several writable buffers as one. None reads as one part of capacity 0 ---- */
 
@@ -269,7 +307,7 @@ void iobufsmut_drop(struct iobufsmut_at *parts);
 void iobufsmut_from_mut(struct iobufmut_at *part, struct iobufsmut_at *out);
 /* The buffers of n places in order, without those that can hold no byte; none are left there. Memory; on
  * IOBUFS_MEMORY or IOBUFS_TOO_LONG the buffers may be dropped. (FromIterator) */
-iobufs_status iobufsmut_from_parts(struct iobufmut_at *places, size_t n, struct iobufsmut_at *out);
+IOBUFS_CHECKED iobufs_status iobufsmut_from_parts(struct iobufmut_at *places, size_t n, struct iobufsmut_at *out);
 /* The number of readable bytes. (len) */
 size_t iobufsmut_len(struct iobufsmut_at *parts);
 /* Whether there are none. (is_empty) */
@@ -294,37 +332,37 @@ size_t iobufsmut_chunks(struct iobufsmut_at *parts, struct iobufs_chunk *out, si
 /* Writes the readable byte at offset i, and returns whether there is one. (own) */
 bool iobufsmut_byte_at(struct iobufsmut_at *parts, size_t i, uint8_t *out);
 /* Puts bytes, part after part; IOBUFS_OUT_OF_RANGE if they don't fit. No memory. (BufMut::put_slice) */
-iobufs_status iobufsmut_put_slice(struct iobufsmut_at *parts, const uint8_t *src, size_t n);
+IOBUFS_CHECKED iobufs_status iobufsmut_put_slice(struct iobufsmut_at *parts, const uint8_t *src, size_t n);
 /* Puts a byte n times; IOBUFS_OUT_OF_RANGE if they don't fit. No memory. (BufMut::put_bytes) */
-iobufs_status iobufsmut_put_bytes(struct iobufsmut_at *parts, uint8_t value, size_t n);
+IOBUFS_CHECKED iobufs_status iobufsmut_put_bytes(struct iobufsmut_at *parts, uint8_t value, size_t n);
 /* Puts one byte; IOBUFS_OUT_OF_RANGE if it doesn't fit. No memory. (BufMut::put_u8) */
-iobufs_status iobufsmut_put_u8(struct iobufsmut_at *parts, uint8_t n);
+IOBUFS_CHECKED iobufs_status iobufsmut_put_u8(struct iobufsmut_at *parts, uint8_t n);
 /* Appends a big-endian number of two bytes; IOBUFS_OUT_OF_RANGE if it doesn't fit. No memory. (BufMut::put_u16) */
-iobufs_status iobufsmut_put_u16(struct iobufsmut_at *parts, uint16_t n);
+IOBUFS_CHECKED iobufs_status iobufsmut_put_u16(struct iobufsmut_at *parts, uint16_t n);
 /* Appends a big-endian number of four bytes; IOBUFS_OUT_OF_RANGE if it doesn't fit. (BufMut::put_u32) */
-iobufs_status iobufsmut_put_u32(struct iobufsmut_at *parts, uint32_t n);
+IOBUFS_CHECKED iobufs_status iobufsmut_put_u32(struct iobufsmut_at *parts, uint32_t n);
 /* Appends a big-endian number of eight bytes; IOBUFS_OUT_OF_RANGE if it doesn't fit. (BufMut::put_u64) */
-iobufs_status iobufsmut_put_u64(struct iobufsmut_at *parts, uint64_t n);
+IOBUFS_CHECKED iobufs_status iobufsmut_put_u64(struct iobufsmut_at *parts, uint64_t n);
 /* Appends a varint length; IOBUFS_OUT_OF_RANGE if it doesn't fit. No memory. (usize::write) */
-iobufs_status iobufsmut_put_length(struct iobufsmut_at *parts, size_t n);
+IOBUFS_CHECKED iobufs_status iobufsmut_put_length(struct iobufsmut_at *parts, size_t n);
 /* Makes n bytes readable, the parts filled in order; those that were not are zero. IOBUFS_OUT_OF_RANGE above the capacity.
  * No memory. (set_len) */
-iobufs_status iobufsmut_set_len(struct iobufsmut_at *parts, size_t n);
+IOBUFS_CHECKED iobufs_status iobufsmut_set_len(struct iobufsmut_at *parts, size_t n);
 /* Drops the first n readable bytes; a drained part keeps its spare capacity. IOBUFS_OUT_OF_RANGE if there are fewer. No
  * memory. (Buf::advance) */
-iobufs_status iobufsmut_advance(struct iobufsmut_at *parts, size_t n);
+IOBUFS_CHECKED iobufs_status iobufsmut_advance(struct iobufsmut_at *parts, size_t n);
 /* Copies the first n bytes out and drops them; IOBUFS_END_OF_BUFFER if there are fewer. (Buf::copy_to_slice) */
-iobufs_status iobufsmut_copy_to_slice(struct iobufsmut_at *parts, uint8_t *dst, size_t n);
+IOBUFS_CHECKED iobufs_status iobufsmut_copy_to_slice(struct iobufsmut_at *parts, uint8_t *dst, size_t n);
 /* Overwrites the readable bytes, of which there have to be n: otherwise IOBUFS_OUT_OF_RANGE. (copy_from_slice) */
-iobufs_status iobufsmut_copy_from_slice(struct iobufsmut_at *parts, const uint8_t *src, size_t n);
+IOBUFS_CHECKED iobufs_status iobufsmut_copy_from_slice(struct iobufsmut_at *parts, const uint8_t *src, size_t n);
 /* The parts that hold bytes as the chunks of one iobufs, not copied; none are left. Memory for the deque; on
  * IOBUFS_MEMORY the parts are dropped. (freeze) */
-iobufs_status iobufsmut_freeze(struct iobufsmut_at *parts, struct iobufs_at *out);
+IOBUFS_CHECKED iobufs_status iobufsmut_freeze(struct iobufsmut_at *parts, struct iobufs_at *out);
 /* The parts as one buffer, with a copy (memory) of several; none are left, also after an error. (coalesce) */
-iobufs_status iobufsmut_coalesce(struct iobufsmut_at *parts, struct iobufmut_at *out);
+IOBUFS_CHECKED iobufs_status iobufsmut_coalesce(struct iobufsmut_at *parts, struct iobufmut_at *out);
 /* The only part as a buffer; none are left. IOBUFS_DECLINED if there are more, and they stay. No memory.
  * (try_into_single) */
-iobufs_status iobufsmut_try_into_single(struct iobufsmut_at *parts, struct iobufmut_at *out);
+IOBUFS_CHECKED iobufs_status iobufsmut_try_into_single(struct iobufsmut_at *parts, struct iobufmut_at *out);
 
 /* ---- iobufs_builder (Builder): bytes that are put, and views that are pushed, as one iobufs ---- */
 
@@ -337,28 +375,28 @@ void iobufs_builder_init(struct iobufs_builder *at);
 /* Drops the builder; none is left. (Drop) */
 void iobufs_builder_drop(struct iobufs_builder_at *builder);
 /* A builder for this many bytes that are put: memory except for 0; IOBUFS_BAD_LAYOUT above SSIZE_MAX. (Builder::new) */
-iobufs_status iobufs_builder_new(size_t capacity, struct iobufs_builder_at *out);
+IOBUFS_CHECKED iobufs_status iobufs_builder_new(size_t capacity, struct iobufs_builder_at *out);
 /* How many bytes may still be put. (BufMut::remaining_mut) */
 size_t iobufs_builder_remaining_mut(struct iobufs_builder_at *builder);
 /* Puts bytes; IOBUFS_OUT_OF_RANGE if they don't fit. No memory. (BufMut::put_slice) */
-iobufs_status iobufs_builder_put_slice(struct iobufs_builder_at *builder, const uint8_t *src, size_t n);
+IOBUFS_CHECKED iobufs_status iobufs_builder_put_slice(struct iobufs_builder_at *builder, const uint8_t *src, size_t n);
 /* Puts a byte n times; IOBUFS_OUT_OF_RANGE if they don't fit. No memory. (BufMut::put_bytes) */
-iobufs_status iobufs_builder_put_bytes(struct iobufs_builder_at *builder, uint8_t value, size_t n);
+IOBUFS_CHECKED iobufs_status iobufs_builder_put_bytes(struct iobufs_builder_at *builder, uint8_t value, size_t n);
 /* Puts one byte; IOBUFS_OUT_OF_RANGE if it doesn't fit. No memory. (BufMut::put_u8) */
-iobufs_status iobufs_builder_put_u8(struct iobufs_builder_at *builder, uint8_t n);
+IOBUFS_CHECKED iobufs_status iobufs_builder_put_u8(struct iobufs_builder_at *builder, uint8_t n);
 /* Appends a big-endian number of two bytes; IOBUFS_OUT_OF_RANGE if it doesn't fit. No memory. (BufMut::put_u16) */
-iobufs_status iobufs_builder_put_u16(struct iobufs_builder_at *builder, uint16_t n);
+IOBUFS_CHECKED iobufs_status iobufs_builder_put_u16(struct iobufs_builder_at *builder, uint16_t n);
 /* Appends a big-endian number of four bytes; IOBUFS_OUT_OF_RANGE if it doesn't fit. (BufMut::put_u32) */
-iobufs_status iobufs_builder_put_u32(struct iobufs_builder_at *builder, uint32_t n);
+IOBUFS_CHECKED iobufs_status iobufs_builder_put_u32(struct iobufs_builder_at *builder, uint32_t n);
 /* Appends a big-endian number of eight bytes; IOBUFS_OUT_OF_RANGE if it doesn't fit. (BufMut::put_u64) */
-iobufs_status iobufs_builder_put_u64(struct iobufs_builder_at *builder, uint64_t n);
+IOBUFS_CHECKED iobufs_status iobufs_builder_put_u64(struct iobufs_builder_at *builder, uint64_t n);
 /* Appends a varint length; IOBUFS_OUT_OF_RANGE if it doesn't fit. No memory. (usize::write) */
-iobufs_status iobufs_builder_put_length(struct iobufs_builder_at *builder, size_t n);
+IOBUFS_CHECKED iobufs_status iobufs_builder_put_length(struct iobufs_builder_at *builder, size_t n);
 /* Pushes a view, not copied, and leaves its place empty; memory for the deque. IOBUFS_DECLINED if there is no builder,
  * IOBUFS_TOO_LONG if the bytes would pass SIZE_MAX. After an error both are unchanged. (Builder::push) */
-iobufs_status iobufs_builder_push(struct iobufs_builder_at *builder, struct iobuf_at *piece);
+IOBUFS_CHECKED iobufs_status iobufs_builder_push(struct iobufs_builder_at *builder, struct iobuf_at *piece);
 /* All that was put and pushed as an iobufs; no builder is left. No memory is asked for. (Builder::finish) */
-iobufs_status iobufs_builder_finish(struct iobufs_builder_at *builder, struct iobufs_at *out);
+IOBUFS_CHECKED iobufs_status iobufs_builder_finish(struct iobufs_builder_at *builder, struct iobufs_at *out);
 
 /* ---- varint lengths: seven bits a byte, lowest first, in the shortest form ---- */
 
@@ -367,58 +405,94 @@ size_t iobufs_length_size(size_t n);
 /* Reads the length at the front, from lo to hi, and drops it. IOBUFS_END_OF_BUFFER if it may continue after the end,
  * IOBUFS_INVALID_VARINT, or IOBUFS_INVALID_LENGTH, which writes the length that is outside; after each the bytes are
  * unchanged. No memory. (usize::read_cfg) */
-iobufs_status iobufs_read_length(struct iobufs_at *text, size_t lo, size_t hi, size_t *out);
+IOBUFS_CHECKED iobufs_status iobufs_read_length(struct iobufs_at *text, size_t lo, size_t hi, size_t *out);
 /* Reads the length at the front of a view, as iobufs_read_length does. (Read) */
-iobufs_status iobuf_read_length(struct iobuf_at *src, size_t lo, size_t hi, size_t *out);
+IOBUFS_CHECKED iobufs_status iobuf_read_length(struct iobuf_at *src, size_t lo, size_t hi, size_t *out);
 /* Reads a length from lo to hi and the bytes after it, as one view: shared within a chunk, a copy (memory) across chunks.
  * The statuses of iobufs_read_length, and IOBUFS_END_OF_BUFFER if fewer bytes follow; after each both are unchanged.
  * (IoBuf::read_cfg) */
-iobufs_status iobufs_read_view(struct iobufs_at *text, size_t lo, size_t hi, struct iobuf_at *out);
+IOBUFS_CHECKED iobufs_status iobufs_read_view(struct iobufs_at *text, size_t lo, size_t hi, struct iobuf_at *out);
 /* Reads a length and the bytes after it from a view, in its storage. Memory none today. (IoBuf::read_cfg) */
-iobufs_status iobuf_read_view(struct iobuf_at *src, size_t lo, size_t hi, struct iobuf_at *out);
+IOBUFS_CHECKED iobufs_status iobuf_read_view(struct iobuf_at *src, size_t lo, size_t hi, struct iobuf_at *out);
 
 /* ---- big-endian numbers of a fixed size ---- */
 
 /* Reads the byte at the front, and drops it; IOBUFS_END_OF_BUFFER if there is none; then both are unchanged. No memory.
  * (u8::read_cfg, Buf::get_u8) */
-iobufs_status iobuf_get_u8(struct iobuf_at *src, uint8_t *out);
+IOBUFS_CHECKED iobufs_status iobuf_get_u8(struct iobuf_at *src, uint8_t *out);
 /* Reads a big-endian number of two bytes, as iobuf_get_u8 reads a byte. (u16::read_cfg, Buf::get_u16) */
-iobufs_status iobuf_get_u16(struct iobuf_at *src, uint16_t *out);
+IOBUFS_CHECKED iobufs_status iobuf_get_u16(struct iobuf_at *src, uint16_t *out);
 /* Reads a big-endian number of four bytes, as iobuf_get_u8 reads a byte. (u32::read_cfg, Buf::get_u32) */
-iobufs_status iobuf_get_u32(struct iobuf_at *src, uint32_t *out);
+IOBUFS_CHECKED iobufs_status iobuf_get_u32(struct iobuf_at *src, uint32_t *out);
 /* Reads a big-endian number of eight bytes, as iobuf_get_u8 reads a byte. (u64::read_cfg, Buf::get_u64) */
-iobufs_status iobuf_get_u64(struct iobuf_at *src, uint64_t *out);
+IOBUFS_CHECKED iobufs_status iobuf_get_u64(struct iobuf_at *src, uint64_t *out);
 /* Reads the byte at the front, and drops it; IOBUFS_END_OF_BUFFER if there is none; then both are unchanged. No memory.
  * (u8::read_cfg, Buf::get_u8) */
-iobufs_status iobufs_get_u8(struct iobufs_at *text, uint8_t *out);
+IOBUFS_CHECKED iobufs_status iobufs_get_u8(struct iobufs_at *text, uint8_t *out);
 /* Reads a big-endian number of two bytes, as iobufs_get_u8 reads a byte. (u16::read_cfg, Buf::get_u16) */
-iobufs_status iobufs_get_u16(struct iobufs_at *text, uint16_t *out);
+IOBUFS_CHECKED iobufs_status iobufs_get_u16(struct iobufs_at *text, uint16_t *out);
 /* Reads a big-endian number of four bytes, as iobufs_get_u8 reads a byte. (u32::read_cfg, Buf::get_u32) */
-iobufs_status iobufs_get_u32(struct iobufs_at *text, uint32_t *out);
+IOBUFS_CHECKED iobufs_status iobufs_get_u32(struct iobufs_at *text, uint32_t *out);
 /* Reads a big-endian number of eight bytes, as iobufs_get_u8 reads a byte. (u64::read_cfg, Buf::get_u64) */
-iobufs_status iobufs_get_u64(struct iobufs_at *text, uint64_t *out);
+IOBUFS_CHECKED iobufs_status iobufs_get_u64(struct iobufs_at *text, uint64_t *out);
 
-/* ---- iobufs_frames (Frames): frames, each a varint length and a body, of bytes that come in chunks ---- */
+/* ---- iobufs_frames (Frames): frames, each a length and a body, of bytes that come in chunks ---- */
 
 /* The library's size of a `struct iobufs_frames`. */
 size_t iobufs_frames_size(void);
 /* The library's alignment of a `struct iobufs_frames`. */
 size_t iobufs_frames_align(void);
-/* Makes frames of memory, to which nothing was fed. No memory. (own) */
+/* Makes frames of memory, to which nothing was fed, with varint lengths. No memory. (own) */
 void iobufs_frames_init(struct iobufs_frames *at);
-/* Drops what was fed; nothing is left. (Drop) */
+/* Drops what was fed; nothing is left, and lengths are varints. (Drop) */
 void iobufs_frames_drop(struct iobufs_frames_at *frames);
+/* Says how lengths are written from the next frame on, by an `enum iobufs_prefix`; IOBUFS_BAD_KIND if it is none. (own) */
+IOBUFS_CHECKED iobufs_status iobufs_frames_set_prefix(struct iobufs_frames_at *frames, uint8_t prefix);
 /* How many bytes were fed and not taken. (own) */
 size_t iobufs_frames_len(struct iobufs_frames_at *frames);
 /* The bytes that were fed and not taken, in their storage; memory for the deque. (own) */
-iobufs_status iobufs_frames_rest(struct iobufs_frames_at *frames, struct iobufs_at *out);
+IOBUFS_CHECKED iobufs_status iobufs_frames_rest(struct iobufs_frames_at *frames, struct iobufs_at *out);
 /* Adds a view at the end, and leaves its place empty; at times memory. IOBUFS_TOO_LONG if that would pass SIZE_MAX. After
  * an error both are unchanged. (own) */
-iobufs_status iobufs_frames_feed(struct iobufs_frames_at *frames, struct iobuf_at *piece);
+IOBUFS_CHECKED iobufs_status iobufs_frames_feed(struct iobufs_frames_at *frames, struct iobuf_at *piece);
 /* Takes the first frame, whose length is from lo to hi: shared within a chunk, a copy (memory) across chunks.
  * IOBUFS_END_OF_BUFFER if it is not whole yet, IOBUFS_INVALID_VARINT or IOBUFS_INVALID_LENGTH if no further bytes make it
- * whole; after each both are unchanged. A loop of iobufs_frames_feed and this call is `Frames::run`. (own) */
-iobufs_status iobufs_frames_next(struct iobufs_frames_at *frames, size_t lo, size_t hi, struct iobuf_at *out);
+ * whole; after each both are unchanged. Writes the length that is outside to `wrong`. A loop of iobufs_frames_feed and this call is `Frames::run`. (own) */
+IOBUFS_CHECKED iobufs_status iobufs_frames_next(struct iobufs_frames_at *frames, size_t lo, size_t hi, struct iobuf_at *out,
+    size_t *wrong);
+
+/* ---- places of memory that is made a buffer at once ---- */
+
+static inline struct iobuf_at iobuf_made(struct iobuf *memory) {
+    struct iobuf_at at = { memory };
+    iobuf_init(memory);
+    return at;
+}
+static inline struct iobufmut_at iobufmut_made(struct iobufmut *memory) {
+    struct iobufmut_at at = { memory };
+    iobufmut_init(memory);
+    return at;
+}
+static inline struct iobufs_at iobufs_made(struct iobufs *memory) {
+    struct iobufs_at at = { memory };
+    iobufs_init(memory);
+    return at;
+}
+static inline struct iobufsmut_at iobufsmut_made(struct iobufsmut *memory) {
+    struct iobufsmut_at at = { memory };
+    iobufsmut_init(memory);
+    return at;
+}
+static inline struct iobufs_builder_at iobufs_builder_made(struct iobufs_builder *memory) {
+    struct iobufs_builder_at at = { memory };
+    iobufs_builder_init(memory);
+    return at;
+}
+static inline struct iobufs_frames_at iobufs_frames_made(struct iobufs_frames *memory) {
+    struct iobufs_frames_at at = { memory };
+    iobufs_frames_init(memory);
+    return at;
+}
 
 #ifdef __cplusplus
 }

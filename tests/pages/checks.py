@@ -176,3 +176,29 @@ def faults_of_imports(found):
         left = {name: deps for name, deps in left.items() if name not in free}
     if left:
         yield f"modules import each other: {', '.join(sorted(left))}"
+
+
+# Names that the original or Rust fixes for types of two crates, or that tests and workloads have for a type of their own.
+SHARED = {"Kind", "Read", "Record", "Refusal", "Reply", "Run", "Step"}
+DECLARED = re.compile(r"^(?:abbrev|unfoldable) (?:pub )?([^\s:]+) :|^(?:pub )?(?:record|data) (\w+)", re.M)
+PUBLIC = re.compile(r"^pub (?:struct|enum|trait) (\w+)", re.M)
+
+
+def meanings():
+    """Each definition of specs/ and each public type with the files that declare it. A type and the definition that is its
+    value may share a name in a crate."""
+    found = {}
+    for file in (file for crate in sorted(CRATES.iterdir()) for file in sources(crate)):
+        path = str(file.relative_to(CRATES))
+        form = PUBLIC if file.suffix == ".rt" else DECLARED if "/specs/" in path else None
+        for name in {"".join(it) for it in form.findall(file.read_text())} if form else ():
+            found.setdefault(name, []).append(path)
+    return found
+
+
+def faults_of_meanings(found):
+    """Names with more than one meaning."""
+    for name, paths in sorted(found.items()):
+        is_value = len({it.split("/")[0] for it in paths}) == 1 and sum(it.endswith(".antt") for it in paths) < 2
+        if len(paths) > 1 and not is_value and name not in SHARED:
+            yield f"`{name}` has more than one meaning: {', '.join(paths)}"

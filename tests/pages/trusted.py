@@ -11,7 +11,7 @@ HEAD = re.compile(r"(?:abbrev |unfoldable |pub )*(?:(?:record|data|ruleset) (\S+
 CONTRACTS = [
     ("Table::run", "iobufs_run/src/table.rt", "run"),
     ("Machine::run", "iobufs_owner/src/owner.rt", "run"),
-    ("session", "iobufs_session/src/serve.rt", "session"),
+    ("session", "iobuf/src/serve.rt", "session"),
 ]
 
 

@@ -1,17 +1,17 @@
 //! The byte buffers of commonware-runtime (`src/iobuf`): `IoBuf`, `IoBufMut`, `IoBufs`, `IoBufsMut`, `Builder`, `Frames`,
 //! over the static library `libiobufs.a`, which is proved in Rattle.
 //!
-//! Names, arguments and panics are the original's. It has no dependency, so what the original takes from the traits of the
-//! crate `bytes` are methods here. A `Vec` is copied, since Rust's memory can't be handed over to the library.
+//! Names, arguments and panics are the original's. It has no dependency, so methods of the traits of the crate `bytes` are
+//! methods here. A `Vec` is copied, since Rust's memory can't be handed over to the library. If an allocation fails, the
+//! process ends, as it does if one of std's collections can't allocate.
 //!
 //! With the feature `bytes` the buffers have the traits `Buf` and `BufMut` of that crate, and `Bytes` and `BytesMut` are
-//! copied into them and out of them. What is put by `chunk_mut` and `advance_mut` is copied once more than by `put_slice`,
-//! since the library lends no room that isn't readable.
+//! copied into them and out of them. Bytes that are put by `chunk_mut` and `advance_mut` are copied once more than by
+//! `put_slice`, since the library lends no space that isn't readable.
 //!
-//! What differs: the method `copy_to_bytes` answers an `IoBuf` (that of the trait a `Bytes`); `set_len` is safe, and what
-//! was not readable is zero; an alignment is tested and not promised; of a buffer without readable bytes no place is told
-//! (`as_mut_ptr`). `put` of any reader is there with the feature alone. Values (`codec`) are numbers, lengths, views, and what
-//! a caller makes of them.
+//! These differ from the original: the method `copy_to_bytes` returns an `IoBuf` (that of the trait a `Bytes`); `set_len` is
+//! safe, and new bytes are zero; an alignment is tested and not promised; `as_mut_ptr` is missing; `put` of any reader needs
+//! the feature. Values (`codec`) are numbers, lengths, views, and types of a caller's own.
 //!
 //! What each `unsafe` block does is call the library; the comment names the duties of `iobufs.h` that it meets. Duties
 //! that all meet: (1) a buffer's memory is made by `.._init` in `Memory::new`, is dropped once by `Drop`, and may move;
@@ -20,6 +20,7 @@
 pub mod codec;
 mod part;
 mod parts;
+mod streams;
 mod sys;
 mod text;
 #[cfg(feature = "bytes")]
@@ -28,7 +29,8 @@ mod view;
 
 pub use part::IoBufMut;
 pub use parts::{Builder, IoBufsMut};
-pub use text::{Frames, IoBufs};
+pub use streams::{FrameError, FrameReader, FrameWriter};
+pub use text::{Frames, IoBufs, Prefix};
 pub use view::IoBuf;
 
 #[cfg(feature = "bytes")]
@@ -38,8 +40,9 @@ use traits::Scratch;
 #[cfg(not(feature = "bytes"))]
 type Scratch = std::marker::PhantomData<()>;
 
-use std::fmt;
+use std::alloc::{self, Layout};
 use std::ops::{Bound, RangeBounds};
+use std::{fmt, process};
 
 /// Why a value was not read (the codec's `Error`).
 #[derive(Clone, Copy, Debug, PartialEq, Eq)]
@@ -89,20 +92,36 @@ pub fn length_size(n: usize) -> usize {
     unsafe { sys::iobufs_length_size(n) }
 }
 
-/// Ends as the original does where memory is refused.
-fn out_of_memory() -> ! {
-    std::alloc::handle_alloc_error(std::alloc::Layout::new::<u8>())
+/// Ends the process, as Rust's collections do if an allocation fails. Says of how many bytes, if the call asked for bytes.
+#[cold]
+fn out_of_memory(bytes: Option<usize>) -> ! {
+    if let Some(layout) = bytes.and_then(|n| Layout::array::<u8>(n).ok()) {
+        alloc::handle_alloc_error(layout);
+    }
+    eprintln!("memory allocation failed");
+    process::abort()
 }
 
-/// Takes a status: done, or a panic with `message`, or the end where memory was refused.
+/// Takes the status of a call that allocates no bytes of a size that it is given: returns if it is done, ends the process if
+/// an allocation failed, else panics with `message`.
 #[inline]
 #[track_caller]
 fn done(status: u8, message: &str) {
     match status {
         sys::OK => {}
-        sys::MEMORY => out_of_memory(),
+        sys::MEMORY => out_of_memory(None),
         _ => panic!("{message}"),
     }
+}
+
+/// Takes the status of a call that allocates `bytes` bytes, as `done` does.
+#[inline]
+#[track_caller]
+fn allocated(status: u8, bytes: usize, message: &str) {
+    if status == sys::MEMORY {
+        out_of_memory(Some(bytes));
+    }
+    done(status, message)
 }
 
 /// A pointer that is not null, for no bytes (duty 4).
@@ -125,6 +144,24 @@ fn limits(range: impl RangeBounds<usize>) -> (usize, usize) {
     lo.zip(hi).unwrap_or((1, 0))
 }
 
+/// The start and the end of a range within `len` bytes. Panics with the original's messages if it isn't.
+#[track_caller]
+fn bounds(range: impl RangeBounds<usize>, len: usize) -> (usize, usize) {
+    let lo = match range.start_bound() {
+        Bound::Included(n) => *n,
+        Bound::Excluded(n) => n.checked_add(1).expect("range start overflow"),
+        Bound::Unbounded => 0,
+    };
+    let hi = match range.end_bound() {
+        Bound::Included(n) => n.checked_add(1).expect("range end overflow"),
+        Bound::Excluded(n) => *n,
+        Bound::Unbounded => len,
+    };
+    assert!(lo <= hi, "slice start must be <= end");
+    assert!(hi <= len, "slice out of bounds");
+    (lo, hi)
+}
+
 /// What reading a length, a view or a frame answers; `length` tells one that is outside the range.
 fn read(status: u8, length: impl FnOnce() -> usize) -> Result<(), Error> {
     match status {
@@ -132,12 +169,12 @@ fn read(status: u8, length: impl FnOnce() -> usize) -> Result<(), Error> {
         sys::END_OF_BUFFER => Err(Error::EndOfBuffer),
         sys::INVALID_VARINT => Err(Error::InvalidVarint),
         sys::INVALID_LENGTH => Err(Error::InvalidLength(length())),
-        _ => out_of_memory(),
+        _ => out_of_memory(None),
     }
 }
 
-/// Equality with bytes, as the original has it.
-macro_rules! same_bytes {
+/// Equality with bytes, as the original has it, and the methods of slices.
+macro_rules! as_bytes {
     ($buffer:ty) => {
         impl PartialEq<[u8]> for $buffer {
             fn eq(&self, other: &[u8]) -> bool {
@@ -159,9 +196,16 @@ macro_rules! same_bytes {
                 self.as_ref() == *other
             }
         }
+        impl std::ops::Deref for $buffer {
+            type Target = [u8];
+
+            fn deref(&self) -> &[u8] {
+                self.as_ref()
+            }
+        }
     };
 }
-pub(crate) use same_bytes;
+pub(crate) use as_bytes;
 
 /// Numbers are put by the calls of their names.
 macro_rules! puts {

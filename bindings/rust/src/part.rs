@@ -1,7 +1,7 @@
 //! `IoBufMut`.
 use crate::sys::{self, Memory};
 use crate::view::IoBuf;
-use crate::{Scratch, done, no_bytes, puts, same_bytes, try_copy};
+use crate::{Scratch, allocated, as_bytes, done, no_bytes, puts, try_copy};
 use std::num::NonZeroUsize;
 use std::{fmt, io, slice};
 
@@ -32,8 +32,9 @@ impl IoBufMut {
     pub fn with_alignment(capacity: usize, alignment: NonZeroUsize) -> Self {
         let out = Self::none();
         // SAFETY: duty 1.
-        done(
+        allocated(
             unsafe { sys::iobufmut_with_alignment(capacity, alignment.get(), &mut out.0.at()) },
+            capacity,
             LAYOUT,
         );
         out
@@ -50,8 +51,9 @@ impl IoBufMut {
     pub fn zeroed_with_alignment(len: usize, alignment: NonZeroUsize) -> Self {
         let out = Self::none();
         // SAFETY: duty 1.
-        done(
+        allocated(
             unsafe { sys::iobufmut_zeroed_with_alignment(len, alignment.get(), &mut out.0.at()) },
+            len,
             LAYOUT,
         );
         out
@@ -238,7 +240,13 @@ impl fmt::Debug for IoBufMut {
     }
 }
 
-same_bytes!(IoBufMut);
+as_bytes!(IoBufMut);
+
+impl std::ops::DerefMut for IoBufMut {
+    fn deref_mut(&mut self) -> &mut [u8] {
+        self.as_mut()
+    }
+}
 
 impl PartialEq for IoBufMut {
     fn eq(&self, other: &Self) -> bool {
@@ -250,8 +258,9 @@ impl From<&[u8]> for IoBufMut {
     fn from(bytes: &[u8]) -> Self {
         let out = Self::none();
         // SAFETY: duty 4: the slice's pointer is not null, and it outlives the call.
-        done(
+        allocated(
             unsafe { sys::iobufmut_copy_from_slice(bytes.as_ptr(), bytes.len(), &mut out.0.at()) },
+            bytes.len(),
             "",
         );
         out
@@ -282,10 +291,11 @@ impl From<Vec<u8>> for IoBufMut {
 /// Recovered as by `IoBuf::try_into_mut`, else copied.
 impl From<IoBuf> for IoBufMut {
     fn from(view: IoBuf) -> Self {
-        let out = Self::none();
+        let (len, out) = (view.len(), Self::none());
         // SAFETY: duties 1 to 3.
-        done(
+        allocated(
             unsafe { sys::iobufmut_from_view(&mut view.memory().at(), &mut out.0.at()) },
+            len,
             "",
         );
         out

@@ -3,7 +3,7 @@ use crate::part::IoBufMut;
 use crate::sys::{self, At, Memory};
 use crate::text::{IoBufs, NO_CHUNK, piece};
 use crate::view::IoBuf;
-use crate::{Scratch, done, no_bytes, puts, try_copy};
+use crate::{Scratch, allocated, done, no_bytes, puts, try_copy};
 use std::io::{self, IoSlice};
 use std::{fmt, slice};
 
@@ -78,16 +78,18 @@ impl IoBufsMut {
     /// The parts as one buffer, with a copy of several.
     #[track_caller]
     pub fn coalesce(self) -> IoBufMut {
-        let out = IoBufMut::none();
+        let (len, out) = (self.len(), IoBufMut::none());
         // SAFETY: duties 1 to 3.
-        done(
+        allocated(
             unsafe { sys::iobufsmut_coalesce(&mut self.0.at(), &mut out.memory().at()) },
+            len,
             "the parts are too long for one buffer",
         );
         out
     }
 
     /// The only part; the parts themselves where there are more.
+    #[expect(clippy::result_large_err, reason = "the original hands the buffers back")]
     pub fn try_into_single(self) -> Result<IoBufMut, Self> {
         let out = IoBufMut::none();
         // SAFETY: duties 1 to 3.
@@ -301,8 +303,9 @@ impl Builder {
     pub fn new(capacity: usize) -> Self {
         let out = Builder(Memory::new(sys::iobufs_builder_init), Scratch::default());
         // SAFETY: duty 1.
-        done(
+        allocated(
             unsafe { sys::iobufs_builder_new(capacity, &mut out.0.at()) },
+            capacity,
             "alignment must be a power of two and the size must fit a layout",
         );
         out

@@ -65,7 +65,6 @@ impl<const N: usize> std::panic::RefUnwindSafe for Memory<N> {}
 
 pub const OK: u8 = 0;
 pub const MEMORY: u8 = 1;
-pub const OUT_OF_RANGE: u8 = 4;
 pub const END_OF_BUFFER: u8 = 5;
 pub const INVALID_VARINT: u8 = 6;
 pub const INVALID_LENGTH: u8 = 7;
@@ -84,7 +83,7 @@ pub const PART: usize = 8;
 pub const TEXT: usize = 7;
 pub const PARTS: usize = 23;
 pub const BUILDER: usize = 15;
-pub const FRAMES: usize = 7;
+pub const FRAMES: usize = 8;
 
 type View = At<VIEW>;
 type Part = At<PART>;
@@ -152,6 +151,8 @@ unsafe extern "C" {
     pub fn iobufs_chunk(text: &mut Text, out: &mut *const u8) -> usize;
     pub fn iobufs_chunk_at(text: &mut Text, i: usize, out: &mut *const u8) -> usize;
     pub fn iobufs_chunks(text: &mut Text, out: *mut Chunk, n: usize) -> usize;
+    pub fn iobufs_byte_at(text: &mut Text, i: usize, out: &mut u8) -> bool;
+    pub fn iobufs_locate(text: &mut Text, at: usize, index: &mut usize, offset: &mut usize) -> u8;
     pub fn iobufs_append(text: &mut Text, piece: &mut View) -> u8;
     pub fn iobufs_prepend(text: &mut Text, piece: &mut View) -> u8;
     pub fn iobufs_split_to(text: &mut Text, at: usize, out: &mut Text) -> u8;
@@ -213,7 +214,7 @@ unsafe extern "C" {
     pub fn iobufs_frames_drop(frames: &mut Frames);
     pub fn iobufs_frames_len(frames: &mut Frames) -> usize;
     pub fn iobufs_frames_feed(frames: &mut Frames, piece: &mut View) -> u8;
-    pub fn iobufs_frames_rest(frames: &mut Frames, out: &mut Text) -> u8;
-    pub fn iobufs_frames_next(frames: &mut Frames, lo: usize, hi: usize, out: &mut View) -> u8;
+    pub fn iobufs_frames_next(frames: &mut Frames, lo: usize, hi: usize, out: &mut View, wrong: &mut usize) -> u8;
+    pub fn iobufs_frames_set_prefix(frames: &mut Frames, kind: u8) -> u8;
     pub fn iobufs_length_size(n: usize) -> usize;
 }

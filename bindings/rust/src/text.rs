@@ -2,7 +2,9 @@
 use crate::part::IoBufMut;
 use crate::sys::{self, Chunk, Memory};
 use crate::view::IoBuf;
-use crate::{Error, done, gets, limits, no_bytes, read, try_copy};
+use crate::{Error, allocated, bounds, done, gets, length_size, limits, no_bytes, read, try_copy};
+use std::cmp::Ordering;
+use std::hash::{Hash, Hasher};
 use std::io::{self, IoSlice};
 use std::ops::RangeBounds;
 use std::{fmt, slice};
@@ -70,6 +72,44 @@ impl IoBufs {
         (0..).map_while(|index| self.chunk_at(index))
     }
 
+    /// Returns the bytes of the only chunk, if there is at most one. The original returns its buffer, which the library keeps
+    /// to itself.
+    pub fn as_single(&self) -> Option<&[u8]> {
+        self.is_single().then(|| self.chunk())
+    }
+
+    /// Returns the byte at an offset, if there is one. (own)
+    pub fn byte_at(&self, i: usize) -> Option<u8> {
+        let mut byte = 0;
+        // SAFETY: it only looks (duty 3), and writes to a place that is lent.
+        unsafe { sys::iobufs_byte_at(&mut self.0.at(), i, &mut byte) }.then_some(byte)
+    }
+
+    /// Returns the index of the chunk that contains an offset, and the distance from its start. (own)
+    pub fn locate(&self, at: usize) -> Option<(usize, usize)> {
+        let (mut index, mut offset) = (0, 0);
+        // SAFETY: it only looks (duty 3), and writes to places that are lent.
+        let status = unsafe { sys::iobufs_locate(&mut self.0.at(), at, &mut index, &mut offset) };
+        (status == sys::OK).then_some((index, offset))
+    }
+
+    /// Returns the bytes of a range, which share their storage. Panics if it isn't within the bytes. (own)
+    #[track_caller]
+    pub fn slice(&self, range: impl RangeBounds<usize>) -> Self {
+        let (lo, hi) = bounds(range, self.len());
+        let mut out = self.clone();
+        out.truncate(hi);
+        out.advance(lo);
+        out
+    }
+
+    /// Keeps at most the first `len` bytes. (own)
+    pub fn truncate(&mut self, len: usize) {
+        if len < self.len() {
+            *self = self.split_to(len);
+        }
+    }
+
     /// Shows each piece that holds bytes, in order.
     pub fn for_each_chunk(&self, mut visit: impl FnMut(&[u8])) {
         let mut chunks = [NO_CHUNK; 32];
@@ -120,10 +160,11 @@ impl IoBufs {
     /// The text as one piece, with a copy of several.
     #[track_caller]
     pub fn coalesce(self) -> IoBuf {
-        let out = IoBuf::default();
+        let (len, out) = (self.len(), IoBuf::default());
         // SAFETY: duties 1 to 3.
-        done(
+        allocated(
             unsafe { sys::iobufs_coalesce(&mut self.0.at(), &mut out.memory().at()) },
+            len,
             "the text is too long for one buffer",
         );
         out
@@ -212,8 +253,9 @@ impl IoBufs {
     pub fn take_owned(&mut self, n: usize) -> IoBuf {
         let out = IoBuf::default();
         // SAFETY: duties 1 to 3.
-        done(
+        allocated(
             unsafe { sys::iobufs_take(&mut self.0.at(), n, &mut out.memory().at()) },
+            n,
             "take_owned out of bounds",
         );
         out
@@ -268,33 +310,81 @@ impl fmt::Debug for IoBufs {
     }
 }
 
-/// Whether they hold the same bytes, however these are cut.
+/// Compares the bytes of two lists of chunks, for every chunking, in place.
+fn compare<'a>(mut ours: impl Iterator<Item = &'a [u8]>, mut theirs: impl Iterator<Item = &'a [u8]>) -> Ordering {
+    let (mut a, mut b): (&[u8], &[u8]) = (&[], &[]);
+    loop {
+        if a.is_empty() {
+            a = ours.next().unwrap_or_default();
+        }
+        if b.is_empty() {
+            b = theirs.next().unwrap_or_default();
+        }
+        let n = a.len().min(b.len());
+        if n == 0 {
+            return a.len().cmp(&b.len());
+        }
+        let (front, other) = (&a[..n], &b[..n]);
+        if front != other {
+            return front.cmp(other);
+        }
+        (a, b) = (&a[n..], &b[n..]);
+    }
+}
+
+/// Whether they hold the same bytes, for every chunking.
 impl PartialEq for IoBufs {
     fn eq(&self, other: &Self) -> bool {
-        if self.len() != other.len() {
-            return false;
-        }
-        let (mut ours, mut theirs) = (self.chunks(), other.chunks());
-        let (mut a, mut b): (&[u8], &[u8]) = (&[], &[]);
-        loop {
-            if a.is_empty() {
-                let Some(chunk) = ours.next() else { return true };
-                a = chunk;
-            }
-            if b.is_empty() {
-                let Some(chunk) = theirs.next() else { return true };
-                b = chunk;
-            }
-            let n = a.len().min(b.len());
-            if a[..n] != b[..n] {
-                return false;
-            }
-            (a, b) = (&a[n..], &b[n..]);
-        }
+        self.len() == other.len() && self.cmp(other).is_eq()
     }
 }
 
 impl Eq for IoBufs {}
+
+impl PartialEq<[u8]> for IoBufs {
+    fn eq(&self, other: &[u8]) -> bool {
+        self.len() == other.len() && compare(self.chunks(), std::iter::once(other)).is_eq()
+    }
+}
+
+impl PartialEq<&[u8]> for IoBufs {
+    fn eq(&self, other: &&[u8]) -> bool {
+        self == *other
+    }
+}
+
+impl<const N: usize> PartialEq<[u8; N]> for IoBufs {
+    fn eq(&self, other: &[u8; N]) -> bool {
+        self == &other[..]
+    }
+}
+
+impl<const N: usize> PartialEq<&[u8; N]> for IoBufs {
+    fn eq(&self, other: &&[u8; N]) -> bool {
+        self == &other[..]
+    }
+}
+
+impl PartialOrd for IoBufs {
+    fn partial_cmp(&self, other: &Self) -> Option<Ordering> {
+        Some(self.cmp(other))
+    }
+}
+
+/// The order of the bytes.
+impl Ord for IoBufs {
+    fn cmp(&self, other: &Self) -> Ordering {
+        compare(self.chunks(), other.chunks())
+    }
+}
+
+/// The same for every chunking, so it takes the bytes one by one.
+impl Hash for IoBufs {
+    fn hash<H: Hasher>(&self, state: &mut H) {
+        state.write_usize(self.len());
+        self.chunks().flatten().for_each(|byte| state.write_u8(*byte));
+    }
+}
 
 impl From<IoBuf> for IoBufs {
     fn from(view: IoBuf) -> Self {
@@ -370,11 +460,56 @@ impl io::BufRead for IoBufs {
     }
 }
 
-/// Frames out of a text that comes in pieces: bytes behind their length.
+/// How the length before a frame is written. (own)
+#[derive(Clone, Copy, Debug, Default, PartialEq, Eq, Hash)]
+pub enum Prefix {
+    /// A varint: seven bits a byte, the lowest first.
+    #[default]
+    Varint = 0,
+    /// Two bytes, the highest first.
+    U16Be = 1,
+    /// Four bytes, the highest first.
+    U32Be = 2,
+    /// Eight bytes, the highest first.
+    U64Be = 3,
+    /// Two bytes, the lowest first.
+    U16Le = 4,
+    /// Four bytes, the lowest first.
+    U32Le = 5,
+    /// Eight bytes, the lowest first.
+    U64Le = 6,
+}
+
+impl Prefix {
+    /// The length `n` as it is written; `None` if it doesn't fit.
+    pub fn written(self, n: usize) -> Option<IoBufMut> {
+        let mut out = IoBufMut::with_capacity(length_size(n).max(size_of::<u64>()));
+        match self {
+            Prefix::Varint => out.put_length(n),
+            Prefix::U16Be => out.put_slice(&u16::try_from(n).ok()?.to_be_bytes()),
+            Prefix::U32Be => out.put_slice(&u32::try_from(n).ok()?.to_be_bytes()),
+            Prefix::U64Be => out.put_slice(&(n as u64).to_be_bytes()),
+            Prefix::U16Le => out.put_slice(&u16::try_from(n).ok()?.to_le_bytes()),
+            Prefix::U32Le => out.put_slice(&u32::try_from(n).ok()?.to_le_bytes()),
+            Prefix::U64Le => out.put_slice(&(n as u64).to_le_bytes()),
+        }
+        Some(out)
+    }
+}
+
+/// Frames of bytes that come in chunks: each is a length followed by a body.
 pub struct Frames(Memory<{ sys::FRAMES }>);
 
 impl Frames {
-    /// Puts bytes behind those that were fed.
+    /// Makes frames to which nothing was fed, with lengths that are written as `prefix`.
+    pub fn new(prefix: Prefix) -> Self {
+        let out = Frames::default();
+        // SAFETY: duties 1 and 3.
+        done(unsafe { sys::iobufs_frames_set_prefix(&mut out.0.at(), prefix as u8) }, "");
+        out
+    }
+
+    /// Adds bytes at the end.
     #[track_caller]
     pub fn feed(&mut self, piece: IoBuf) {
         // SAFETY: duties 1 to 3.
@@ -384,28 +519,16 @@ impl Frames {
         );
     }
 
-    /// Takes the frame in front; none where it is not whole yet. An error where no bytes behind will make it so.
+    /// Takes the first frame; `None` if it isn't whole yet. Fails if no further bytes can make it whole.
     pub fn next(&mut self, range: impl RangeBounds<usize>) -> Result<Option<IoBuf>, Error> {
-        let ((lo, hi), out) = (limits(range), IoBuf::default());
+        let ((lo, hi), out, mut wrong) = (limits(range), IoBuf::default(), 0);
         // SAFETY: duties 1 to 3.
-        let status = unsafe { sys::iobufs_frames_next(&mut self.0.at(), lo, hi, &mut out.memory().at()) };
-        match read(status, || self.length_in_front(lo, hi)) {
+        let status = unsafe { sys::iobufs_frames_next(&mut self.0.at(), lo, hi, &mut out.memory().at(), &mut wrong) };
+        match read(status, || wrong) {
             Ok(()) => Ok(Some(out)),
             Err(Error::EndOfBuffer) => Ok(None),
             Err(error) => Err(error),
         }
-    }
-
-    /// The length in front, which is outside these bounds.
-    #[cold]
-    fn length_in_front(&self, lo: usize, hi: usize) -> usize {
-        let (rest, mut n) = (IoBufs::default(), 0);
-        // SAFETY: it only looks at `self` (duty 3), and then at a text of its own.
-        unsafe {
-            done(sys::iobufs_frames_rest(&mut self.0.at(), &mut rest.0.at()), "");
-            sys::iobufs_read_length(&mut rest.0.at(), lo, hi, &mut n);
-        }
-        n
     }
 
     /// How many bytes were fed and not taken.

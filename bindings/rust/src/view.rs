@@ -1,9 +1,16 @@
 //! `IoBuf`.
 use crate::part::IoBufMut;
 use crate::sys::{self, Memory};
-use crate::{Error, done, gets, limits, no_bytes, read, same_bytes, try_copy};
-use std::ops::{Bound, RangeBounds};
+use crate::{Error, allocated, as_bytes, bounds, done, gets, limits, no_bytes, read, try_copy};
+use std::borrow::Borrow;
+use std::cmp::Ordering;
+use std::hash::{Hash, Hasher};
+use std::ops::RangeBounds;
 use std::{fmt, io, slice};
+
+/// Kinds of bounds (`iobufs.h`).
+const INCLUDED: u8 = 0;
+const EXCLUDED: u8 = 1;
 
 /// A read-only text of one piece. Clones, slices and both sides of a split share their storage.
 pub struct IoBuf(Memory<{ sys::VIEW }>);
@@ -17,8 +24,9 @@ impl IoBuf {
     pub fn copy_from_slice(data: &[u8]) -> Self {
         let out = IoBuf::default();
         // SAFETY: duty 4: the slice's pointer is not null, and it outlives the call.
-        done(
+        allocated(
             unsafe { sys::iobuf_copy_from_slice(data.as_ptr(), data.len(), &mut out.0.at()) },
+            data.len(),
             "",
         );
         out
@@ -45,29 +53,12 @@ impl IoBuf {
     /// The bytes of a range, in the same storage. Panics where it does not lie within the bytes.
     #[track_caller]
     pub fn slice(&self, range: impl RangeBounds<usize>) -> Self {
-        let kind = |bound: Bound<&usize>| match bound {
-            Bound::Included(n) => (0, *n),
-            Bound::Excluded(n) => (1, *n),
-            Bound::Unbounded => (2, 0),
-        };
-        let ((lo_kind, lo), (hi_kind, hi)) = (kind(range.start_bound()), kind(range.end_bound()));
-        let out = IoBuf::default();
+        let ((lo, hi), out) = (bounds(range, self.len()), IoBuf::default());
         // SAFETY: it only looks at `self` (duty 3).
-        let status = unsafe { sys::iobuf_slice(&mut self.0.at(), lo_kind, lo, hi_kind, hi, &mut out.0.at()) };
-        if status == sys::OUT_OF_RANGE {
-            let from = if lo_kind == 1 {
-                lo.checked_add(1).expect("range start overflow")
-            } else {
-                lo
-            };
-            let to = match hi_kind {
-                0 => hi.checked_add(1).expect("range end overflow"),
-                1 => hi,
-                _ => self.len(),
-            };
-            assert!(from <= to, "slice start must be <= end");
-        }
-        done(status, "slice out of bounds");
+        done(
+            unsafe { sys::iobuf_slice(&mut self.0.at(), INCLUDED, lo, EXCLUDED, hi, &mut out.0.at()) },
+            "slice out of bounds",
+        );
         out
     }
 
@@ -208,7 +199,32 @@ impl PartialEq for IoBuf {
 }
 
 impl Eq for IoBuf {}
-same_bytes!(IoBuf);
+as_bytes!(IoBuf);
+
+impl PartialOrd for IoBuf {
+    fn partial_cmp(&self, other: &Self) -> Option<Ordering> {
+        Some(self.cmp(other))
+    }
+}
+
+impl Ord for IoBuf {
+    fn cmp(&self, other: &Self) -> Ordering {
+        self.as_ref().cmp(other.as_ref())
+    }
+}
+
+impl Hash for IoBuf {
+    fn hash<H: Hasher>(&self, state: &mut H) {
+        self.as_ref().hash(state);
+    }
+}
+
+/// A view equals its bytes, is ordered as they are, and has their hash.
+impl Borrow<[u8]> for IoBuf {
+    fn borrow(&self) -> &[u8] {
+        self.as_ref()
+    }
+}
 
 impl From<&'static [u8]> for IoBuf {
     fn from(bytes: &'static [u8]) -> Self {

@@ -1,6 +1,8 @@
 //! Texts, parts, builders and frames, worked by hand; readers, writers and threads.
-use iobufs::{Builder, Error, Frames, IoBuf, IoBufMut, IoBufs, IoBufsMut, length_size};
+use iobufs::{Builder, Error, FrameReader, FrameWriter, Frames, IoBuf, IoBufMut, IoBufs, IoBufsMut, Prefix, length_size};
+use std::hash::{DefaultHasher, Hash, Hasher};
 use std::io::{self, BufRead, IoSlice, Read, Write};
+use std::process::Command;
 use std::thread;
 
 fn bytes(text: &IoBufs) -> Vec<u8> {
@@ -44,6 +46,77 @@ fn texts() {
     assert_eq!(&list[1][..], b"de");
     let (slices, n) = same.slices::<8>();
     assert_eq!((n, &slices[2][..], slices[3].len()), (3, &b"fghi"[..], 0));
+}
+
+// The chunks of a text, each range of its bytes, each length that is kept, each byte, and where it is, beside a plain list.
+#[test]
+fn ranges_bytes_and_chunks() {
+    let (all, chunks): (&[u8], [&[u8]; 3]) = (b"abcdefghi", [b"abc", b"de", b"fghi"]);
+    let t = text();
+    assert!(t.chunks().eq(chunks));
+    for lo in 0..=all.len() {
+        for hi in lo..=all.len() {
+            assert_eq!(t.slice(lo..hi), all[lo..hi], "{lo}..{hi}");
+        }
+        let mut cut = t.clone();
+        cut.truncate(lo);
+        assert_eq!(cut, all[..lo], "{lo}");
+        assert_eq!(t.byte_at(lo), all.get(lo).copied(), "{lo}");
+    }
+    let places = chunks.iter().enumerate().flat_map(|(index, it)| (0..it.len()).map(move |at| (index, at)));
+    assert!(places.map(Some).chain([None]).eq((0..=9).map(|at| t.locate(at))));
+    assert_eq!((t.slice(1..=3), t.slice(..)), (IoBufs::from(b"bcd"), t.clone()));
+    assert_eq!((t.as_single(), t.slice(3..5).as_single()), (None, Some(&b"de"[..])));
+    let mut long = t.clone();
+    long.truncate(10);
+    assert_eq!(long, *all);
+}
+
+#[test]
+#[should_panic(expected = "slice out of bounds")]
+fn slice_past_the_end() {
+    text().slice(4..10);
+}
+
+#[test]
+#[should_panic(expected = "slice start must be <= end")]
+fn slice_backwards() {
+    let (lo, hi) = (2, 1);
+    text().slice(lo..hi);
+}
+
+#[test]
+fn equality_order_and_hash_are_those_of_the_bytes() {
+    let lists: [&[&'static [u8]]; 5] = [&[], &[b"a", b"b"], &[b"ab"], &[b"a", b"bc"], &[b"b"]];
+    let hash_of = |value: &dyn Fn(&mut DefaultHasher)| {
+        let mut hasher = DefaultHasher::new();
+        value(&mut hasher);
+        hasher.finish()
+    };
+    for ours in lists {
+        for theirs in lists {
+            let (a, b) = (ours.concat(), theirs.concat());
+            let [x, y] = [ours, theirs].map(|chunks| chunks.iter().map(|it| IoBuf::from(*it)).collect::<IoBufs>());
+            assert_eq!((x == y, x == b[..], x.cmp(&y)), (a == b, a == b, a.cmp(&b)), "{a:?} {b:?}");
+            assert_eq!(a == b, hash_of(&|it| x.hash(it)) == hash_of(&|it| y.hash(it)), "{a:?} {b:?}");
+            let (v, w) = (x.coalesce(), y.coalesce());
+            assert_eq!((v == w, v.cmp(&w), v[..].to_vec()), (a == b, a.cmp(&b), a.clone()), "{a:?} {b:?}");
+            assert_eq!(hash_of(&|it| v.hash(it)), hash_of(&|it| a[..].hash(it)));
+        }
+    }
+}
+
+// An allocation that fails ends the process, which says of how many bytes. The test runs itself again as that process.
+#[test]
+fn a_failed_allocation_tells_its_size() {
+    if std::env::var_os("IOBUFS_ALLOCATES").is_some() {
+        IoBufMut::with_capacity(1 << 62);
+    }
+    let mut again = Command::new(std::env::current_exe().unwrap());
+    again.args(["--exact", "a_failed_allocation_tells_its_size", "--nocapture"]).env("IOBUFS_ALLOCATES", "1");
+    let ended = again.output().unwrap();
+    let said = String::from_utf8_lossy(&ended.stderr);
+    assert!(!ended.status.success() && said.contains("4611686018427387904 bytes failed"), "{said}");
 }
 
 #[test]
@@ -182,4 +255,118 @@ fn threads() {
     let moved = view.clone();
     assert_eq!(thread::spawn(move || moved.len()).join().unwrap(), 64);
     assert_eq!(view.try_into_mut().unwrap().capacity(), 100);
+}
+
+/// Takes and gives at most `most` bytes at a time, after an interruption each.
+struct Narrow {
+    bytes: Vec<u8>,
+    most: usize,
+    was_interrupted: bool,
+}
+
+impl Narrow {
+    fn new(bytes: &[u8], most: usize) -> Self {
+        Narrow { bytes: bytes.to_vec(), most, was_interrupted: false }
+    }
+
+    fn interrupt(&mut self) -> io::Result<()> {
+        self.was_interrupted = !self.was_interrupted;
+        if self.was_interrupted { Err(io::ErrorKind::Interrupted.into()) } else { Ok(()) }
+    }
+}
+
+impl Read for Narrow {
+    fn read(&mut self, dst: &mut [u8]) -> io::Result<usize> {
+        self.interrupt()?;
+        let n = dst.len().min(self.most).min(self.bytes.len());
+        dst[..n].copy_from_slice(&self.bytes[..n]);
+        self.bytes.drain(..n);
+        Ok(n)
+    }
+}
+
+impl Write for Narrow {
+    fn write(&mut self, src: &[u8]) -> io::Result<usize> {
+        self.interrupt()?;
+        let n = src.len().min(self.most);
+        self.bytes.extend_from_slice(&src[..n]);
+        Ok(n)
+    }
+
+    fn flush(&mut self) -> io::Result<()> {
+        Ok(())
+    }
+}
+
+// What comes out of a reader: bodies with `|` after each, and how it ends.
+fn read_frames(bytes: &[u8], most: usize) -> (Vec<u8>, String) {
+    let (mut from, mut bodies) = (FrameReader::new(Narrow::new(bytes, most), 0..=8), Vec::new());
+    loop {
+        match from.next() {
+            Ok(Some(body)) => bodies.extend([&body[..], b"|"].concat()),
+            Ok(None) => return (bodies, "end".into()),
+            Err(error) => return (bodies, error.to_string()),
+        }
+    }
+}
+
+#[test]
+fn frames_over_streams() {
+    let cases: [(&[u8], &[u8], &str); 5] = [
+        (b"\x03abc\0\x05hello", b"abc||hello|", "end"),
+        (b"\x05hell", b"", "the input ends inside a frame"),
+        (b"\x88", b"", "the input ends inside a frame"),
+        (b"\0\x09aaaaaaaaa", b"|", "bad frame: InvalidLength(9)"),
+        (b"\x80\0", b"", "bad frame: InvalidVarint"),
+    ];
+    for (bytes, bodies, end) in cases {
+        for most in [1, 2, 3, 7, 100] {
+            assert_eq!(read_frames(bytes, most), (bodies.to_vec(), end.to_string()), "{bytes:?} by {most}");
+        }
+    }
+    for most in [1, 2, 3, 7, 100] {
+        let mut to = FrameWriter::new(Narrow::new(b"", most));
+        to.put(text());
+        to.put(IoBuf::default());
+        assert!(!to.is_sent());
+        to.send().unwrap();
+        assert!(to.is_sent());
+        assert_eq!(to.into_inner().bytes, b"\x09abcdefghi\0", "by {most}");
+    }
+    let mut full = FrameWriter::new(Narrow::new(b"", 0));
+    full.put(text());
+    assert_eq!(full.send().unwrap_err().kind(), io::ErrorKind::WriteZero);
+    assert!(!full.is_sent());
+}
+
+#[test]
+fn frames_of_each_prefix() {
+    let cases: [(Prefix, &[u8]); 7] = [
+        (Prefix::Varint, b"\x03abc\0"),
+        (Prefix::U16Be, b"\0\x03abc\0\0"),
+        (Prefix::U32Be, b"\0\0\0\x03abc\0\0\0\0"),
+        (Prefix::U64Be, b"\0\0\0\0\0\0\0\x03abc\0\0\0\0\0\0\0\0"),
+        (Prefix::U16Le, b"\x03\0abc\0\0"),
+        (Prefix::U32Le, b"\x03\0\0\0abc\0\0\0\0"),
+        (Prefix::U64Le, b"\x03\0\0\0\0\0\0\0abc\0\0\0\0\0\0\0\0"),
+    ];
+    for (prefix, bytes) in cases {
+        let mut to = FrameWriter::with_prefix(Narrow::new(b"", 3), prefix);
+        to.put(IoBuf::from(b"abc"));
+        to.put(IoBuf::default());
+        to.send().unwrap();
+        assert_eq!(to.into_inner().bytes, bytes, "{prefix:?}");
+        let mut from = FrameReader::with_prefix(Narrow::new(bytes, 3), prefix, 0..=8);
+        let bodies = [from.next(), from.next(), from.next()].map(|it| it.unwrap().map(Vec::from));
+        assert_eq!(bodies, [Some(b"abc".to_vec()), Some(vec![]), None], "{prefix:?}");
+        let mut frames = Frames::new(prefix);
+        frames.feed(IoBuf::copy_from_slice(bytes));
+        assert_eq!(frames.next(..=2), Err(Error::InvalidLength(3)), "{prefix:?}");
+    }
+}
+
+#[test]
+#[should_panic(expected = "the body is too long for its prefix")]
+fn a_body_above_its_prefix() {
+    FrameWriter::with_prefix(Vec::new(), Prefix::U16Be).put(vec![0; 1 << 16]);
 }

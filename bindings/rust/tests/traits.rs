@@ -184,7 +184,8 @@ fn read_both(random: &mut Random, ours: &mut impl Buf, theirs: &mut BytesMut) {
         }
         2 => {
             let (mut a, mut b) = (vec![0; n], vec![0; n]);
-            (ours.copy_to_slice(&mut a), theirs.copy_to_slice(&mut b));
+            ours.copy_to_slice(&mut a);
+            theirs.copy_to_slice(&mut b);
             assert_eq!(a, b);
             ((), ())
         }

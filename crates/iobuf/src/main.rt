@@ -1,12 +1,19 @@
-// The program: a session over the standard streams.
+//! The program: a session of commands or of owner steps, line by line, over the standard streams.
+//!
+//! - `serve`: a session of either half, over any reader and writers.
+//! - `input`: the lines of an input, one by one. `output`: the writer of replies. `fault`: why a session ends early.
+//! - `specs/`: `Session` and `MachineSession` say what a session answers, `Faults` what is read and written if it
+//!   can't go on.
 #![tactic(auto)]
 
-#[cfg(test)]
-mod tests;
+mod fault;
+mod input;
+mod output;
+mod serve;
 
-use iobufs_session::fault::{Fault, Stop, status, tell};
-use iobufs_session::output::Stream;
-use iobufs_session::serve::serve;
+use crate::fault::{Obstacle, Stop, status, tell};
+use crate::output::Output;
+use crate::serve::serve;
 use std::io::BufWriter;
 use std::process::ExitCode;
 use std::{env, io};
@@ -38,7 +45,7 @@ fn run(rt: &HostRuntime) -> io::Result<u8> {
     for word in &words {
         args.push(word.as_str())?;
     }
-    let mut output = Stream::new(BufWriter::with_capacity(alloc, AT_ONCE, rt.stdout())?);
+    let mut output = Output::new(BufWriter::with_capacity(alloc, AT_ONCE, rt.stdout())?);
     Ok(serve(
         alloc,
         args.as_slice(),
@@ -51,6 +58,6 @@ fn run(rt: &HostRuntime) -> io::Result<u8> {
 fn main(rt: HostRuntime) -> ExitCode {
     match run(&rt) {
         Ok(status) => ExitCode::from(status),
-        Err(_) => ExitCode::from(stopped(&rt, Stop::CannotContinue(Fault::Memory))),
+        Err(_) => ExitCode::from(stopped(&rt, Stop::CannotContinue(Obstacle::Memory))),
     }
 }

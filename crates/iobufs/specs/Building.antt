@@ -14,27 +14,27 @@
 use Rattle.std.specs.Prelude.{ℕ, ◌+◌, ◌-◌, ◌^◌, ◌<◌, ◌≤◌, ◌==◌, if◌then◌else◌, List, [], ◌∷◌, ◌++◌, length}
 use Rattle.iobufs_core.specs.View.{View, native_mark}
 use Rattle.iobufs_core.specs.MarkedText.{MarkedText, joined}
-use Rattle.iobufs_core.specs.Items.{Item, put_item, push_item, items_bytes, items_inline, items_pushed}
+use Rattle.iobufs_core.specs.Items.{PutOrPush, put_item, push_item, items_bytes, items_inline, items_pushed}
 
 -- room for so many inline bytes, the items up to the last view, and the inline bytes after it
 pub record Building : Type 0 where
   pub capacity : ℕ
-  pub front : List Item
+  pub front : List PutOrPush
   pub last : List ℕ
 
 abbrev pub empty_building : ℕ → Building
 empty_building capacity = record { capacity = capacity; front = []; last = [] }
 
 -- inline bytes are one item, and none where there are none
-abbrev pub inline_run : List ℕ → List Item
+abbrev pub inline_run : List ℕ → List PutOrPush
 inline_run [] = []
 inline_run (byte ∷ bytes) = put_item (byte ∷ bytes) ∷ []
 
-abbrev pub building_items : Building → List Item
+abbrev pub building_items : Building → List PutOrPush
 building_items b = b.front ++ inline_run b.last
 
 -- no item is empty, and after each inline text stands a view
-abbrev pub AreInTurn : List Item → Type 0
+abbrev pub AreInTurn : List PutOrPush → Type 0
 AreInTurn [] = Unit {0}
 AreInTurn (push_item view ∷ items) = (0 < length view.bytes) × AreInTurn items
 AreInTurn (put_item bytes ∷ push_item view ∷ items) = (0 < length bytes) × (0 < length view.bytes) × AreInTurn items
@@ -56,12 +56,12 @@ building_push b view =
     if length view.bytes == 0 then b
     else record { capacity = b.capacity; front = b.front ++ (inline_run b.last ++ push_item view ∷ []); last = [] }
 
-abbrev pub building_with : Building → Item → Building
+abbrev pub building_with : Building → PutOrPush → Building
 building_with b (put_item bytes) = building_put b bytes
 building_with b (push_item view) = building_push b view
 
 -- these puts and pushes, one after another
-abbrev pub building_after : Building → List Item → Building
+abbrev pub building_after : Building → List PutOrPush → Building
 building_after b [] = b
 building_after b (item ∷ items) = building_after (building_with b item) items
 
@@ -76,7 +76,7 @@ abbrev pub room_for_pushes : Building → ℕ
 room_for_pushes b = 2 ^ 64 - 1 - b.capacity - items_pushed b.front
 
 -- the views of items: an inline text is native, with the room after its place
-abbrev pub views_from : ℕ → List Item → List View
+abbrev pub views_from : ℕ → List PutOrPush → List View
 views_from room [] = []
 views_from room (put_item bytes ∷ items) = record { bytes = bytes; mark = native_mark room } ∷ views_from (room - length bytes) items
 views_from room (push_item view ∷ items) = view ∷ views_from room items

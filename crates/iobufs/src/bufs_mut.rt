@@ -53,16 +53,16 @@ enum Shape {
 impl Shape {
     ghost use Rattle.iobufs.specs.contracts.bufs_mut.Shape.{the_row};
     ghost use Rattle.iobufs.specs.declared.bufs_mut.Shape.TheVariants.{One};
-    ghost use Rattle.iobufs.specs.Inside.PartShape.{IsBuilt, shape_parts, shape_single};
+    ghost use Rattle.iobufs.specs.Inside.PartShape.{IsShape, shape_parts, shape_single};
 
     // One more part, which can hold a byte; one that can't makes way for it.
     #[tactic(auto, using(crate::proofs::Parts::PartRuns::growing, crate::proofs::Parts::FewLaws::growing_few))]
     fn with_part(self, alloc: Global, part: IoBufMut) -> Result<Shape, BufError>
-        requires built { IsBuilt self }
+        requires built { IsShape self }
         requires more { 0 < part_capacity part }
         requires fits { parts_capacity (shape_parts self) + part_capacity part < 2 ^ 64 }
         ensures parts { IfOk result (λ shape. shape_parts shape ≡ kept_parts (shape_parts self ++ part ∷ [])) }
-        ensures built { IfOk result IsBuilt }
+        ensures built { IfOk result IsShape }
         ensures memory { IsOkUnless result BufError.Memory }
         ensures few { length (shape_parts self) < 3 → IsOk result }
     {
@@ -130,11 +130,18 @@ impl Model for IoBufsMut {
 impl IoBufsMut {
     ghost use Rattle.iobufs.specs.contracts.bufs_mut.IoBufsMut.{the_row};
 
-    /// Returns one buffer of capacity 0 (`Default`).
+    /// Returns one buffer of capacity 0 (own).
+    pub fn new(alloc: Global) -> IoBufsMut
+        ensures { result ≡ empty_part 0 ∷ [] }
+    {
+        IoBufsMut::from(IoBufMut::new(alloc))
+    }
+
+    /// Acts as `new` (`Default`).
     pub fn default(alloc: Global) -> IoBufsMut
         ensures { result ≡ empty_part 0 ∷ [] }
     {
-        IoBufsMut::from(IoBufMut::default(alloc))
+        IoBufsMut::new(alloc)
     }
 
     /// Collects the buffers that can hold a byte; if there are none, one of capacity 0 (`FromIterator`). Fails with

@@ -112,11 +112,11 @@ impl Builder {
 }
 
 impl BufMut for Builder {
-    ghost use Rattle.iobufs.specs.Laws.Building.{IsPut, put_composes, put_lessens, put_nothing, put_unchanged};
+    ghost use Rattle.iobufs.specs.Laws.Building.{IsBuilderPut, put_composes, put_lessens, put_nothing, put_unchanged};
 
     ghost room = { building_room };
 
-    ghost filled = { IsPut };
+    ghost filled = { IsBuilderPut };
 
     #[tactic(auto, using(crate::proofs::Building::BuildLaws::building))]
     fn remaining_mut(&self) -> usize
@@ -147,13 +147,13 @@ impl BufMut for Builder {
 
 impl BufsMut for Builder {
     ghost use Rattle.iobufs.specs.Building.{building_bytes, room_for_pushes};
-    ghost use Rattle.iobufs.specs.Laws.Building.{IsBuilt, built_adds, built_follows, built_idle, built_puts, built_skips, built_spends, built_uses};
+    ghost use Rattle.iobufs.specs.Laws.Building.{IsBuiltBy, built_adds, built_follows, built_idle, built_puts, built_skips, built_spends, built_uses};
 
     ghost joined = { building_bytes };
 
     ghost pushable = { room_for_pushes };
 
-    ghost done = { IsBuilt };
+    ghost done = { IsBuiltBy };
 
     #[tactic(auto, using(crate::proofs::Building::BuildLaws::building))]
     #[inline(always)]

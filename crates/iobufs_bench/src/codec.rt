@@ -1,5 +1,5 @@
 // The workloads that encode and decode.
-use crate::run::{Run, Stop, cut, mark, native, since};
+use crate::run::{Run, RunError, cut, mark, native, since};
 use iobufs::bufs::IoBufs;
 use iobufs::builder::{Builder, EncodeExt};
 use iobufs_core::buf::IoBuf;
@@ -15,7 +15,7 @@ const RANGE: RangeCfg = RangeCfg {
     hi: 1_048_576,
 };
 
-pub fn encode(rt: &HostRuntime) -> Result<Run, Stop> {
+pub fn encode(rt: &HostRuntime) -> Result<Run, RunError> {
     let alloc = rt.alloc();
     let view = native(alloc, 64)?;
     let keep = view.clone()?;
@@ -36,20 +36,20 @@ pub fn encode(rt: &HostRuntime) -> Result<Run, Stop> {
     })
 }
 
-fn record(builder: &mut Builder, view: &IoBuf, i: u16) -> Result<(), Stop> {
+fn record(builder: &mut Builder, view: &IoBuf, i: u16) -> Result<(), RunError> {
     if builder.remaining_mut() < 2 {
-        return Err(Stop::Unfit);
+        return Err(RunError::Unfit);
     }
     builder.put_u16(i);
     builder.push(view.clone()?)?;
     if builder.remaining_mut() < 4 {
-        return Err(Stop::Unfit);
+        return Err(RunError::Unfit);
     }
     builder.put_u32(7);
     Ok(())
 }
 
-pub fn build(rt: &HostRuntime) -> Result<Run, Stop> {
+pub fn build(rt: &HostRuntime) -> Result<Run, RunError> {
     let alloc = rt.alloc();
     let view = native(alloc, 64)?;
     let keep = view.clone()?;
@@ -74,7 +74,7 @@ pub fn build(rt: &HostRuntime) -> Result<Run, Stop> {
     })
 }
 
-fn frames(alloc: Global, count: usize, len: usize, piece: usize) -> Result<IoBufs, Stop> {
+fn frames(alloc: Global, count: usize, len: usize, piece: usize) -> Result<IoBufs, RunError> {
     let body = native(alloc, len)?;
     let mut all = Vec::new(alloc);
     for _ in 0..count {
@@ -95,7 +95,7 @@ fn frames(alloc: Global, count: usize, len: usize, piece: usize) -> Result<IoBuf
     Ok(IoBufs::from_chunks(alloc, views.into_iter())?)
 }
 
-fn decode(alloc: Global, text: &mut IoBufs) -> Result<u64, Stop> {
+fn decode(alloc: Global, text: &mut IoBufs) -> Result<u64, RunError> {
     let mut sum = 0u64;
     for _ in 0..u64::MAX {
         if !text.has_remaining() {
@@ -107,7 +107,7 @@ fn decode(alloc: Global, text: &mut IoBufs) -> Result<u64, Stop> {
     Ok(sum)
 }
 
-fn take_frames(alloc: Global, text: &mut IoBufs) -> Result<u64, Stop> {
+fn take_frames(alloc: Global, text: &mut IoBufs) -> Result<u64, RunError> {
     let mut sum = 0u64;
     for _ in 0..u64::MAX {
         if !text.has_remaining() {
@@ -115,7 +115,7 @@ fn take_frames(alloc: Global, text: &mut IoBufs) -> Result<u64, Stop> {
         }
         let len = usize::read_cfg(alloc, text, &RANGE)?;
         if text.len() < len {
-            return Err(Stop::Unfit);
+            return Err(RunError::Unfit);
         }
         let view: IoBuf = text.take_owned(alloc, len)?;
         sum = sum.wrapping_add(mark(view.as_ref()));
@@ -123,7 +123,7 @@ fn take_frames(alloc: Global, text: &mut IoBufs) -> Result<u64, Stop> {
     Ok(sum)
 }
 
-fn sources(alloc: Global, count: usize, len: usize, piece: usize) -> Result<Vec<IoBufs>, Stop> {
+fn sources(alloc: Global, count: usize, len: usize, piece: usize) -> Result<Vec<IoBufs>, RunError> {
     let source = frames(alloc, count, len, piece)?;
     let mut texts = Vec::with_capacity(alloc, 4)?;
     for _ in 0..4 {
@@ -132,7 +132,7 @@ fn sources(alloc: Global, count: usize, len: usize, piece: usize) -> Result<Vec<
     Ok(texts)
 }
 
-fn read_all(alloc: Global, text: &mut IoBufs, is_take: bool) -> Result<u64, Stop> {
+fn read_all(alloc: Global, text: &mut IoBufs, is_take: bool) -> Result<u64, RunError> {
     if is_take {
         return take_frames(alloc, text);
     }
@@ -145,7 +145,7 @@ pub fn decoding(
     len: usize,
     piece: usize,
     is_take: bool,
-) -> Result<Run, Stop> {
+) -> Result<Run, RunError> {
     let alloc = rt.alloc();
     let mut texts = sources(alloc, count, len, piece)?;
     let start = Instant::now(rt)?;
@@ -162,7 +162,7 @@ pub fn decoding(
 }
 
 // Encodes views of many lengths, and appends each piece to one text.
-fn wired(alloc: Global, master: &IoBuf) -> Result<IoBufs, Stop> {
+fn wired(alloc: Global, master: &IoBuf) -> Result<IoBufs, RunError> {
     let mut wire = IoBufs::default();
     for i in 0..1000usize {
         let body = cut(master, 0, i * 37 % 1400 + 1)?;
@@ -173,7 +173,7 @@ fn wired(alloc: Global, master: &IoBuf) -> Result<IoBufs, Stop> {
             }
             let n = text.chunk().len();
             if text.len() < n {
-                return Err(Stop::Unfit);
+                return Err(RunError::Unfit);
             }
             let piece: IoBuf = text.take_owned(alloc, n)?;
             wire.append(alloc, piece)?;
@@ -182,7 +182,7 @@ fn wired(alloc: Global, master: &IoBuf) -> Result<IoBufs, Stop> {
     Ok(wire)
 }
 
-pub fn there_and_back(rt: &HostRuntime, is_take: bool) -> Result<Run, Stop> {
+pub fn there_and_back(rt: &HostRuntime, is_take: bool) -> Result<Run, RunError> {
     let alloc = rt.alloc();
     let master = native(alloc, 1400)?;
     let start = Instant::now(rt)?;

@@ -2,18 +2,18 @@
 ghost use Rattle.std.specs.Prelude.{◌≡◌, length};
 ghost use Rattle.iobufs.specs.Parts.{parts_filled};
 
-use crate::run::{PART, Run, Stop, copies, lists, mark, parts, pattern, roomy_lists, since};
+use crate::run::{PART, Run, RunError, copies, lists, mark, parts, pattern, roomy_lists, since};
 use iobufs::bufs_mut::IoBufsMut;
 use iobufs_core::codec::{Buf, BufMut};
 use std::alloc::Global;
 use std::time::Instant;
 
 // Puts a piece so many times.
-fn put_turns<B: BufMut>(buf: &mut B, piece: &[u8], turns: usize) -> Result<(), Stop> {
+fn put_turns<B: BufMut>(buf: &mut B, piece: &[u8], turns: usize) -> Result<(), RunError> {
     let mut room = buf.remaining_mut();
     'turns: for _ in 0..turns {
         if room < piece.len() {
-            return Err(Stop::Unfit);
+            return Err(RunError::Unfit);
         }
         buf.put_slice(piece);
         room -= piece.len();
@@ -22,12 +22,12 @@ fn put_turns<B: BufMut>(buf: &mut B, piece: &[u8], turns: usize) -> Result<(), S
 }
 
 // Advances by 100 so many times, and then by the rest.
-fn advance_turns<B: Buf>(buf: &mut B, turns: usize) -> Result<u64, Stop> {
+fn advance_turns<B: Buf>(buf: &mut B, turns: usize) -> Result<u64, RunError> {
     let mut left = buf.remaining();
     let mut sum = 0u64;
     'turns: for _ in 0..turns {
         if left < 100 {
-            return Err(Stop::Unfit);
+            return Err(RunError::Unfit);
         }
         buf.advance(100);
         left -= 100;
@@ -38,12 +38,12 @@ fn advance_turns<B: Buf>(buf: &mut B, turns: usize) -> Result<u64, Stop> {
 }
 
 // Takes 300 bytes out so many times.
-fn take_turns<B: Buf>(alloc: Global, buf: &mut B, turns: usize) -> Result<u64, Stop> {
+fn take_turns<B: Buf>(alloc: Global, buf: &mut B, turns: usize) -> Result<u64, RunError> {
     let mut left = buf.remaining();
     let mut sum = 0u64;
     'turns: for _ in 0..turns {
         if left < 300 {
-            return Err(Stop::Unfit);
+            return Err(RunError::Unfit);
         }
         let bytes = buf.copy_to_bytes(alloc, 300)?;
         left -= 300;
@@ -52,7 +52,7 @@ fn take_turns<B: Buf>(alloc: Global, buf: &mut B, turns: usize) -> Result<u64, S
     Ok(sum)
 }
 
-pub fn put(rt: &HostRuntime, n: usize, size: usize) -> Result<Run, Stop> {
+pub fn put(rt: &HostRuntime, n: usize, size: usize) -> Result<Run, RunError> {
     let alloc = rt.alloc();
     let k = copies(n);
     let mut lists = lists(alloc, k, n, false)?;
@@ -74,7 +74,7 @@ pub fn put(rt: &HostRuntime, n: usize, size: usize) -> Result<Run, Stop> {
     })
 }
 
-pub fn advance100(rt: &HostRuntime, n: usize) -> Result<Run, Stop> {
+pub fn advance100(rt: &HostRuntime, n: usize) -> Result<Run, RunError> {
     let k = copies(n);
     let mut lists = lists(rt.alloc(), k, n, true)?;
     let steps = n.wrapping_mul(PART) / 100;
@@ -91,7 +91,7 @@ pub fn advance100(rt: &HostRuntime, n: usize) -> Result<Run, Stop> {
     })
 }
 
-pub fn take300(rt: &HostRuntime, n: usize) -> Result<Run, Stop> {
+pub fn take300(rt: &HostRuntime, n: usize) -> Result<Run, RunError> {
     let alloc = rt.alloc();
     let k = copies(n);
     let mut lists = lists(alloc, k, n, true)?;
@@ -109,7 +109,7 @@ pub fn take300(rt: &HostRuntime, n: usize) -> Result<Run, Stop> {
     })
 }
 
-pub fn freeze(rt: &HostRuntime, n: usize) -> Result<Run, Stop> {
+pub fn freeze(rt: &HostRuntime, n: usize) -> Result<Run, RunError> {
     let alloc = rt.alloc();
     let k = copies(n);
     let lists = lists(alloc, k, n, true)?;
@@ -132,7 +132,7 @@ pub fn freeze(rt: &HostRuntime, n: usize) -> Result<Run, Stop> {
     })
 }
 
-pub fn coalesce(rt: &HostRuntime, n: usize) -> Result<Run, Stop> {
+pub fn coalesce(rt: &HostRuntime, n: usize) -> Result<Run, RunError> {
     let alloc = rt.alloc();
     let k = copies(n);
     let lists = roomy_lists(alloc, k, n)?;
@@ -166,7 +166,7 @@ fn read_turns<B: Buf>(buf: &mut B, turns: usize) -> u64 {
 }
 
 /// Parts that are read to their ends, and keep their room.
-pub fn drained_read(rt: &HostRuntime, n: usize) -> Result<Run, Stop> {
+pub fn drained_read(rt: &HostRuntime, n: usize) -> Result<Run, RunError> {
     let k = copies(n);
     let mut lists = roomy_lists(rt.alloc(), k, n)?;
     let start = Instant::now(rt)?;
@@ -192,13 +192,13 @@ fn overwrite_turns(list: &mut IoBufsMut, source: &[u8], turns: usize)
     }
 }
 
-pub fn overwrite(rt: &HostRuntime, n: usize) -> Result<Run, Stop> {
+pub fn overwrite(rt: &HostRuntime, n: usize) -> Result<Run, RunError> {
     let alloc = rt.alloc();
     let k = copies(n);
     let source = pattern(alloc, n.wrapping_mul(PART))?;
     let mut list = parts(alloc, n, true)?;
     if source.len() != list.len() {
-        return Err(Stop::Unfit);
+        return Err(RunError::Unfit);
     }
     let start = Instant::now(rt)?;
     overwrite_turns(&mut list, source.as_slice(), k);

@@ -11,7 +11,7 @@ mod streams;
 mod texts;
 mod workloads;
 
-use run::{Run, Stop};
+use run::{Run, RunError};
 use std::process::ExitCode;
 use std::time::Instant;
 use std::{env, io};
@@ -24,7 +24,7 @@ struct Request {
     names: Vec<&'static str>,
 }
 
-fn requested(rt: &HostRuntime) -> Result<Request, Stop> {
+fn requested(rt: &HostRuntime) -> Result<Request, RunError> {
     let mut is_sums = false;
     let mut names = Vec::new(rt.alloc());
     for word in env::args(rt)?.skip(1) {
@@ -35,7 +35,7 @@ fn requested(rt: &HostRuntime) -> Result<Request, Stop> {
         }
         match NAMES.iter().chain(&STREAMS).find(|name| **name == word) {
             Some(name) => names.push(*name)?,
-            None => return Err(Stop::NoName),
+            None => return Err(RunError::NoName),
         }
     }
     if names.is_empty() {
@@ -50,7 +50,7 @@ fn picoseconds_each(nanos: u64, ops: u64) -> u64 {
 }
 
 // The picoseconds of an operation over as many runs as make 8 milliseconds of timed work, or 60 in all.
-fn repetition(rt: &HostRuntime, name: &str) -> Result<u64, Stop> {
+fn repetition(rt: &HostRuntime, name: &str) -> Result<u64, RunError> {
     let mut nanos = 0u64;
     let mut ops = 0u64;
     let begun = Instant::now(rt)?;
@@ -66,7 +66,7 @@ fn repetition(rt: &HostRuntime, name: &str) -> Result<u64, Stop> {
 }
 
 // The least of five repetitions.
-fn least(rt: &HostRuntime, name: &str) -> Result<u64, Stop> {
+fn least(rt: &HostRuntime, name: &str) -> Result<u64, RunError> {
     let mut least = repetition(rt, name)?;
     for _ in 0..4 {
         least = least.min(repetition(rt, name)?);
@@ -74,7 +74,7 @@ fn least(rt: &HostRuntime, name: &str) -> Result<u64, Stop> {
     Ok(least)
 }
 
-fn answer(rt: &HostRuntime) -> Result<(), Stop> {
+fn answer(rt: &HostRuntime) -> Result<(), RunError> {
     let Request { is_sums, names } = requested(rt)?;
     for name in names {
         if is_sums {
@@ -91,7 +91,7 @@ fn answer(rt: &HostRuntime) -> Result<(), Stop> {
 fn main(rt: HostRuntime) -> ExitCode {
     match answer(&rt) {
         Ok(()) => ExitCode::from(0),
-        Err(Stop::NoName) => {
+        Err(RunError::NoName) => {
             let _ = eprintln!(&rt; "usage: iobufs_bench [--sums] [NAME..]");
             ExitCode::from(2)
         }

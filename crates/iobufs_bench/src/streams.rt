@@ -1,5 +1,5 @@
 // Streams of frames that come in pieces.
-use crate::run::{MIB, Run, Stop, cut, mark, native, since};
+use crate::run::{MIB, Run, RunError, cut, mark, native, since};
 use iobufs::builder::EncodeExt;
 use iobufs_core::buf::IoBuf;
 use iobufs_core::codec::RangeCfg;
@@ -18,7 +18,7 @@ const BLOCKS: usize = 64;
 const RANGE: RangeCfg = RangeCfg { lo: 0, hi: MIB };
 
 // A block of frames in one storage.
-fn block(alloc: Global) -> Result<IoBuf, Stop> {
+fn block(alloc: Global) -> Result<IoBuf, RunError> {
     let frame = native(alloc, BODY)?.encode_iobufs(alloc)?.coalesce(alloc)?;
     let mut bytes = Vec::with_capacity(alloc, frame.len().saturating_mul(FRAMES))?;
     for _ in 0..FRAMES {
@@ -28,7 +28,7 @@ fn block(alloc: Global) -> Result<IoBuf, Stop> {
 }
 
 // Takes the frames that are whole.
-fn take_whole(alloc: Global, frames: &mut Frames) -> Result<u64, Stop> {
+fn take_whole(alloc: Global, frames: &mut Frames) -> Result<u64, RunError> {
     let mut sum = 0u64;
     for _ in 0..u64::MAX {
         match frames.next(alloc, &RANGE)? {
@@ -40,7 +40,7 @@ fn take_whole(alloc: Global, frames: &mut Frames) -> Result<u64, Stop> {
 }
 
 // Feeds a block in pieces.
-fn feed(alloc: Global, frames: &mut Frames, block: &IoBuf, piece: usize) -> Result<u64, Stop> {
+fn feed(alloc: Global, frames: &mut Frames, block: &IoBuf, piece: usize) -> Result<u64, RunError> {
     let mut sum = 0u64;
     let mut at = 0usize;
     for _ in 0..u64::MAX {
@@ -56,7 +56,7 @@ fn feed(alloc: Global, frames: &mut Frames, block: &IoBuf, piece: usize) -> Resu
 }
 
 /// Takes frames of 1 KiB from 64 MiB, which come in pieces of this size.
-pub fn stream(rt: &HostRuntime, piece: usize) -> Result<Run, Stop> {
+pub fn stream(rt: &HostRuntime, piece: usize) -> Result<Run, RunError> {
     let alloc = rt.alloc();
     let block = block(alloc)?;
     let mut frames = Frames::default();

@@ -1,5 +1,5 @@
 // The workloads by their names.
-use crate::run::{Run, Stop};
+use crate::run::{Run, RunError};
 use crate::{codec, lists, single, streams, texts};
 
 /// All of them, in the order in which they are run.
@@ -98,7 +98,7 @@ enum Shape {
 }
 
 /// One run of a workload.
-pub fn run_named(rt: &HostRuntime, name: &str) -> Result<Run, Stop> {
+pub fn run_named(rt: &HostRuntime, name: &str) -> Result<Run, RunError> {
     match name {
         "put64_1m_freeze" => single::put64(rt),
         "put_u8_64k_freeze" => single::put_u8(rt),
@@ -119,7 +119,7 @@ pub fn run_named(rt: &HostRuntime, name: &str) -> Result<Run, Stop> {
 }
 
 // The workloads that encode and decode. A frame's length, and where its text is cut, stand in the name.
-fn run_wire(rt: &HostRuntime, name: &str) -> Result<Run, Stop> {
+fn run_wire(rt: &HostRuntime, name: &str) -> Result<Run, RunError> {
     match name {
         "encode_view64" => codec::encode(rt),
         "build_records64" => codec::build(rt),
@@ -142,14 +142,14 @@ fn run_wire(rt: &HostRuntime, name: &str) -> Result<Run, Stop> {
 }
 
 // The workloads whose names begin with the number of pieces.
-fn run_sized(rt: &HostRuntime, name: &str) -> Result<Run, Stop> {
+fn run_sized(rt: &HostRuntime, name: &str) -> Result<Run, RunError> {
     let Some((head, tail)) = name.split_once('_') else {
-        return Err(Stop::NoName);
+        return Err(RunError::NoName);
     };
     match shape_of(head) {
         Some(Shape::Text(n)) => run_text(rt, n, tail),
         Some(Shape::Parts(n)) => run_parts(rt, n, tail),
-        None => Err(Stop::NoName),
+        None => Err(RunError::NoName),
     }
 }
 
@@ -161,7 +161,7 @@ fn shape_of(head: &str) -> Option<Shape> {
     Some(Shape::Parts(number.parse::<usize>().ok()?))
 }
 
-fn run_text(rt: &HostRuntime, n: usize, name: &str) -> Result<Run, Stop> {
+fn run_text(rt: &HostRuntime, n: usize, name: &str) -> Result<Run, RunError> {
     match name {
         "append" => texts::join(rt, n, false),
         "prepend" => texts::join(rt, n, true),
@@ -174,11 +174,11 @@ fn run_text(rt: &HostRuntime, n: usize, name: &str) -> Result<Run, Stop> {
         "clone_drop" => texts::clone_drop(rt, n),
         "walk" => texts::walk(rt, n),
         "bytewise" => texts::bytewise(rt, n),
-        _ => Err(Stop::NoName),
+        _ => Err(RunError::NoName),
     }
 }
 
-fn run_parts(rt: &HostRuntime, n: usize, name: &str) -> Result<Run, Stop> {
+fn run_parts(rt: &HostRuntime, n: usize, name: &str) -> Result<Run, RunError> {
     match name {
         "put64" => lists::put(rt, n, 64),
         "put96" => lists::put(rt, n, 96),
@@ -188,6 +188,6 @@ fn run_parts(rt: &HostRuntime, n: usize, name: &str) -> Result<Run, Stop> {
         "overwrite" => lists::overwrite(rt, n),
         "coalesce" => lists::coalesce(rt, n),
         "drained_read" => lists::drained_read(rt, n),
-        _ => Err(Stop::NoName),
+        _ => Err(RunError::NoName),
     }
 }

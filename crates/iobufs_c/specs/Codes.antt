@@ -6,7 +6,7 @@
 --     IsViewReadCode           what reading a view answers
 use Rattle.std.specs.Prelude.{◌≡◌, ◌⊎◌, ℕ}
 use Rattle.iobufs_c.specs.declared.status.Status.{Status}
-use Rattle.iobufs_c.specs.declared.status.Status.TheVariants.{Done, Memory, BadLayout, TooLong, OutOfRange, EndOfBuffer, InvalidVarint, InvalidLength, Declined}
+use Rattle.iobufs_c.specs.declared.status.Status.TheVariants.{Done, Memory, BadLayout, TooLong, OutOfRange, EndOfBuffer, InvalidVarint, InvalidLength, Declined, BadKind}
 use Rattle.iobufs_core.specs.declared.codec.base.BufError.{BufError}
 use Rattle.iobufs_core.specs.declared.codec.base.BufError.TheVariants as cause
 use Rattle.iobufs_core.specs.declared.codec.base.Error.{Error}
@@ -23,6 +23,7 @@ code_of EndOfBuffer = 5
 code_of InvalidVarint = 6
 code_of InvalidLength = 7
 code_of Declined = 8
+code_of BadKind = 9
 
 -- the status of a refusal
 abbrev pub of_buf_error : BufError → Status

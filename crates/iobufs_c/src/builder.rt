@@ -6,7 +6,7 @@ ghost use Rattle.std.specs.Ptr.{lies_at, room_at};
 ghost use Rattle.iobufs.specs.Building.{Building, building_items, building_push, building_put, building_room, empty_building, finished, room_for_pushes};
 ghost use Rattle.iobufs_core.specs.View.{default_view};
 ghost use Rattle.iobufs_c.specs.Codes.{IsDoneUnless, code_of};
-ghost use Rattle.iobufs_c.specs.Rows.{builder_row, building_of};
+ghost use Rattle.iobufs_c.specs.Rows.{builder_row, building_or_empty};
 
 use crate::part::fits;
 use crate::status::{Status, refusal};
@@ -107,7 +107,7 @@ pub extern "C" fn iobufs_builder_new(alloc: Global, capacity: usize, out: &mut B
 #[unsafe(no_mangle)]
 pub extern "C" fn iobufs_builder_remaining_mut(builder: &mut BuilderAt) -> usize
     ensures same { (builder.new.at ≡ builder.old.at) × (builder.new.value ≡ builder.old.value) }
-    ensures value { result ≡ building_room (building_of builder.old.value) }
+    ensures value { result ≡ building_room (building_or_empty builder.old.value) }
 {
     match builder.get() {
         Some(builder) => builder.remaining_mut(),
@@ -120,7 +120,7 @@ pub extern "C" fn iobufs_builder_remaining_mut(builder: &mut BuilderAt) -> usize
 pub extern "C" fn iobufs_builder_put_slice(builder: &mut BuilderAt, src: &[u8]) -> u8
     ensures at { builder.new.at ≡ builder.old.at }
     ensures value { builder.new.value ≡ (if result == 0 then option_map (λ b. building_put b src.now) builder.old.value else builder.old.value) }
-    ensures result { result ≡ (if nat_le (length src.now) (building_room (building_of builder.old.value)) then 0 else code_of Status.OutOfRange) }
+    ensures result { result ≡ (if nat_le (length src.now) (building_room (building_or_empty builder.old.value)) then 0 else code_of Status.OutOfRange) }
 {
     let Some(builder) = builder.get() else {
         return fits(src.len(), 0);
@@ -137,7 +137,7 @@ pub extern "C" fn iobufs_builder_put_slice(builder: &mut BuilderAt, src: &[u8]) 
 pub extern "C" fn iobufs_builder_put_bytes(builder: &mut BuilderAt, value: u8, n: usize) -> u8
     ensures at { builder.new.at ≡ builder.old.at }
     ensures value { builder.new.value ≡ (if result == 0 then option_map (λ b. building_put b (replicate n value)) builder.old.value else builder.old.value) }
-    ensures result { result ≡ (if nat_le n (building_room (building_of builder.old.value)) then 0 else code_of Status.OutOfRange) }
+    ensures result { result ≡ (if nat_le n (building_room (building_or_empty builder.old.value)) then 0 else code_of Status.OutOfRange) }
 {
     let Some(builder) = builder.get() else {
         return fits(n, 0);
@@ -154,7 +154,7 @@ pub extern "C" fn iobufs_builder_put_bytes(builder: &mut BuilderAt, value: u8, n
 pub extern "C" fn iobufs_builder_put_u8(builder: &mut BuilderAt, n: u8) -> u8
     ensures at { builder.new.at ≡ builder.old.at }
     ensures value { builder.new.value ≡ (if result == 0 then option_map (λ b. building_put b (n ∷ [])) builder.old.value else builder.old.value) }
-    ensures result { result ≡ (if nat_le 1 (building_room (building_of builder.old.value)) then 0 else code_of Status.OutOfRange) }
+    ensures result { result ≡ (if nat_le 1 (building_room (building_or_empty builder.old.value)) then 0 else code_of Status.OutOfRange) }
 {
     let Some(builder) = builder.get() else {
         return fits(1, 0);
@@ -196,9 +196,9 @@ pub extern "C" fn iobufs_builder_push(builder: &mut BuilderAt, piece: &mut ViewA
 pub extern "C" fn iobufs_builder_finish(builder: &mut BuilderAt, out: &mut TextAt) -> u8
     ensures at { (builder.new.at ≡ builder.old.at) × (out.new.at ≡ out.old.at) }
     ensures builder { builder.new.value ≡ None }
-    ensures value { out.new.value ≡ (if result == 0 then finished (building_of builder.old.value) else out.old.value) }
+    ensures value { out.new.value ≡ (if result == 0 then finished (building_or_empty builder.old.value) else out.old.value) }
     ensures memory { IsDoneUnless result Status.Memory }
-    ensures nothing { building_items (building_of builder.old.value) ≡ [] → result ≡ 0 }
+    ensures nothing { building_items (building_or_empty builder.old.value) ≡ [] → result ≡ 0 }
 {
     let Some(builder) = mem::replace(builder.get(), None) else {
         *out.get() = IoBufs::default();

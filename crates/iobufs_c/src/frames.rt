@@ -1,19 +1,20 @@
 // Frames at their places.
-ghost use Rattle.std.specs.Prelude.{◌≡◌, ℕ, ◌+◌, ◌≤◌, ◌<◌, ◌^◌, ◌==◌, if◌then◌else◌, length, false, Ok, Some};
+ghost use Rattle.std.specs.Prelude.{◌≡◌, ◌⊎◌, ℕ, ◌+◌, ◌≤◌, ◌<◌, ◌^◌, ◌==◌, if◌then◌else◌, length, false, Ok, Some, IfNone, IfSome};
 ghost use Rattle.std.specs.Borrow.{sem, Lends, full_share};
 ghost use Rattle.std.specs.Ptr.{lies_at, room_at};
-ghost use Rattle.iobufs_core.specs.MarkedText.{MarkedText, default_text, text_append, text_len, text_rest};
+ghost use Rattle.iobufs_core.specs.MarkedText.{text_append, text_len, text_rest};
 ghost use Rattle.iobufs_core.specs.View.{default_view};
-ghost use Rattle.iobufs_core.specs.Wire.{view_written};
-ghost use Rattle.iobufs_frames.specs.Frames.{HasBytes, HasNoFrame, IsNext};
+ghost use Rattle.iobufs_frames.specs.Frames.{HasBodyBytes, IsNext, LacksFrame, frame_written};
 ghost use Rattle.iobufs_frames.specs.contracts.Frames.{the_row as frames_row};
+ghost use Rattle.iobufs_frames.specs.declared.Frames.{Frames as AllFrames};
+ghost use Rattle.iobufs_c.specs.FrameRows.{default_frames, prefix_from_c};
 ghost use Rattle.iobufs_c.specs.Codes.{IsDoneUnless, IsViewReadCode, code_of};
 
 use crate::status::{Status, fault, refusal};
 use crate::text::TextAt;
 use crate::view::ViewAt;
 use iobufs_core::codec::{Error, RangeCfg};
-use iobufs_frames::{End, Frames};
+use iobufs_frames::{ByteOrder, End, Frames, Prefix, Width};
 use std::alloc::Global;
 use std::marker::{Model, Send};
 use std::mem;
@@ -22,7 +23,7 @@ use std::mem;
 #[repr(C)]
 pub struct FramesAt {
     at: *mut u8,
-    ghost value: { MarkedText },
+    ghost value: { AllFrames },
 }
 
 impl Model for FramesAt {
@@ -49,7 +50,7 @@ impl FramesAt {
 }
 
 fn empty() -> Frames
-    ensures { result ≡ default_text }
+    ensures { result ≡ default_frames }
 {
     Frames::default()
 }
@@ -70,7 +71,7 @@ pub extern "C" fn iobufs_frames_align() -> usize {
 #[unsafe(no_mangle)]
 pub unsafe extern "C" fn iobufs_frames_init(at: *mut u8)
     requires* { sem 𝓛 (room_at frames_row at) }
-    ensures* { sem 𝓛 (lies_at frames_row full_share at default_text) }
+    ensures* { sem 𝓛 (lies_at frames_row full_share at default_frames) }
 {
     (at as *mut Frames).write(empty());
 }
@@ -79,18 +80,18 @@ pub unsafe extern "C" fn iobufs_frames_init(at: *mut u8)
 #[unsafe(no_mangle)]
 pub extern "C" fn iobufs_frames_drop(frames: &mut FramesAt)
     ensures at { frames.new.at ≡ frames.old.at }
-    ensures value { frames.new.value ≡ default_text }
+    ensures value { frames.new.value ≡ default_frames }
 {
-    *frames.get() = Frames::default();
+    *frames.get() = empty();
 }
 
 /// How many bytes were fed and not taken.
 #[unsafe(no_mangle)]
 pub extern "C" fn iobufs_frames_len(frames: &mut FramesAt) -> usize
     ensures same { (frames.new.at ≡ frames.old.at) × (frames.new.value ≡ frames.old.value) }
-    ensures value { result ≡ text_len frames.old.value }
+    ensures value { result ≡ text_len frames.old.value.rest }
 {
-    frames.get().rest().len()
+    frames.get().rest.len()
 }
 
 /// What was fed and not taken, as a text that shares its storage.
@@ -98,10 +99,10 @@ pub extern "C" fn iobufs_frames_len(frames: &mut FramesAt) -> usize
 pub extern "C" fn iobufs_frames_rest(frames: &mut FramesAt, out: &mut TextAt) -> u8
     ensures same { (frames.new.at ≡ frames.old.at) × (frames.new.value ≡ frames.old.value) }
     ensures at { out.new.at ≡ out.old.at }
-    ensures value { out.new.value ≡ (if result == 0 then frames.old.value else out.old.value) }
+    ensures value { out.new.value ≡ (if result == 0 then frames.old.value.rest else out.old.value) }
     ensures memory { IsDoneUnless result Status.Memory }
 {
-    match frames.get().rest().clone() {
+    match frames.get().rest.clone() {
         Ok(text) => {
             *out.get() = text;
             Status::Done.code()
@@ -114,10 +115,10 @@ pub extern "C" fn iobufs_frames_rest(frames: &mut FramesAt, out: &mut TextAt) ->
 #[unsafe(no_mangle)]
 pub extern "C" fn iobufs_frames_feed(alloc: Global, frames: &mut FramesAt, piece: &mut ViewAt) -> u8
     ensures at { (frames.new.at ≡ frames.old.at) × (piece.new.at ≡ piece.old.at) }
-    ensures frames { frames.new.value ≡ (if result == 0 then text_append frames.old.value piece.old.value else frames.old.value) }
+    ensures frames { frames.new.value ≡ (if result == 0 then record { prefix = frames.old.value.prefix; rest = text_append frames.old.value.rest piece.old.value } else frames.old.value) }
     ensures piece { piece.new.value ≡ (if result == 0 then default_view else piece.old.value) }
-    ensures too_long { 2 ^ 64 ≤ text_len frames.old.value + length piece.old.value.bytes → result ≡ code_of Status.TooLong }
-    ensures memory { text_len frames.old.value + length piece.old.value.bytes < 2 ^ 64 → IsDoneUnless result Status.Memory }
+    ensures too_long { 2 ^ 64 ≤ text_len frames.old.value.rest + length piece.old.value.bytes → result ≡ code_of Status.TooLong }
+    ensures memory { text_len frames.old.value.rest + length piece.old.value.bytes < 2 ^ 64 → IsDoneUnless result Status.Memory }
     ensures nothing { length piece.old.value.bytes ≡ 0 → result ≡ 0 }
 {
     let view = mem::take(piece.get());
@@ -130,9 +131,41 @@ pub extern "C" fn iobufs_frames_feed(alloc: Global, frames: &mut FramesAt, piece
     }
 }
 
-/// Takes the frame at the front, whose length is from `lo` to `hi`. `Status::EndOfBuffer` where it is not whole yet,
-/// `Status::InvalidVarint` and `Status::InvalidLength` where no bytes after will make it so. All but a taken frame leave
-/// both as before.
+// The prefix of a kind, if it is known.
+fn prefix_of(kind: u8) -> Option<Prefix>
+    ensures { result ≡ prefix_from_c kind }
+{
+    match kind {
+        0 => Some(Prefix::Spelled),
+        1 => Some(Prefix::Fixed(Width::U16, ByteOrder::Big)),
+        2 => Some(Prefix::Fixed(Width::U32, ByteOrder::Big)),
+        3 => Some(Prefix::Fixed(Width::U64, ByteOrder::Big)),
+        4 => Some(Prefix::Fixed(Width::U16, ByteOrder::Little)),
+        5 => Some(Prefix::Fixed(Width::U32, ByteOrder::Little)),
+        6 => Some(Prefix::Fixed(Width::U64, ByteOrder::Little)),
+        _ => None,
+    }
+}
+
+/// Says how the lengths before the frames are written, from the next frame on. `Status::BadKind` if the kind is unknown.
+#[unsafe(no_mangle)]
+pub extern "C" fn iobufs_frames_set_prefix(frames: &mut FramesAt, kind: u8) -> u8
+    ensures at { frames.new.at ≡ frames.old.at }
+    ensures rest { frames.new.value.rest ≡ frames.old.value.rest }
+    ensures status { (result ≡ 0) ⊎ (result ≡ code_of Status.BadKind) }
+    ensures known { IfSome (prefix_from_c kind) (λ prefix. (result ≡ 0) × (frames.new.value.prefix ≡ prefix)) }
+    ensures unknown { IfNone (prefix_from_c kind) ((result ≡ code_of Status.BadKind) × (frames.new.value ≡ frames.old.value)) }
+{
+    let Some(prefix) = prefix_of(kind) else {
+        return Status::BadKind.code();
+    };
+    frames.get().prefix = prefix;
+    Status::Done.code()
+}
+
+/// Takes the first frame, whose length is from `lo` to `hi`. `Status::EndOfBuffer` if it is not whole yet,
+/// `Status::InvalidVarint` or `Status::InvalidLength` if no further bytes can make it whole; of an invalid length,
+/// `wrong` is it. Unless a frame is taken, frames and place are as before.
 #[unsafe(no_mangle)]
 pub extern "C" fn iobufs_frames_next(
     alloc: Global,
@@ -140,16 +173,22 @@ pub extern "C" fn iobufs_frames_next(
     lo: usize,
     hi: usize,
     out: &mut ViewAt,
+    wrong: &mut usize,
 ) -> u8
     ensures at { (frames.new.at ≡ frames.old.at) × (out.new.at ≡ out.old.at) }
-    ensures taken { result ≡ 0 → IsNext (record { lo = lo; hi = hi }) frames.old.value.bytes (Ok (Some out.new.value)) frames.new.value.bytes }
-    ensures left { result ≡ 0 → frames.new.value ≡ text_rest frames.old.value (length (view_written out.new.value)) }
+    ensures prefix { frames.new.value.prefix ≡ frames.old.value.prefix }
+    ensures taken { result ≡ 0 → IsNext frames.old.value.prefix (record { lo = lo; hi = hi }) frames.old.value.rest.bytes (Ok (Some out.new.value))
+        frames.new.value.rest.bytes }
+    ensures left { result ≡ 0 → frames.new.value.rest
+        ≡ text_rest frames.old.value.rest (length (frame_written frames.old.value.prefix out.new.value.bytes)) }
     ensures unchanged { (result == 0) ≡ false → (frames.new.value ≡ frames.old.value) × (out.new.value ≡ out.old.value) }
-    ensures open { result ≡ code_of Status.EndOfBuffer → HasNoFrame (record { lo = lo; hi = hi }) frames.old.value.bytes End.Open }
-    ensures invalid { result ≡ code_of Status.InvalidVarint → HasNoFrame (record { lo = lo; hi = hi }) frames.old.value.bytes (End.Bad Error.InvalidVarint) }
-    ensures outside { result ≡ code_of Status.InvalidLength → (n : ℕ)
-        × HasNoFrame (record { lo = lo; hi = hi }) frames.old.value.bytes (End.Bad (Error.InvalidLength n)) }
-    ensures memory { result ≡ code_of Status.Memory → HasBytes (record { lo = lo; hi = hi }) frames.old.value.bytes }
+    ensures open { result ≡ code_of Status.EndOfBuffer → LacksFrame frames.old.value.prefix (record { lo = lo; hi = hi }) frames.old.value.rest.bytes End.Open }
+    ensures invalid { result ≡ code_of Status.InvalidVarint
+        → LacksFrame frames.old.value.prefix (record { lo = lo; hi = hi }) frames.old.value.rest.bytes (End.Bad Error.InvalidVarint) }
+    ensures outside { result ≡ code_of Status.InvalidLength
+        → LacksFrame frames.old.value.prefix (record { lo = lo; hi = hi }) frames.old.value.rest.bytes (End.Bad (Error.InvalidLength wrong.new)) }
+    ensures wrong { (result == code_of Status.InvalidLength) ≡ false → wrong.new ≡ wrong.old }
+    ensures memory { result ≡ code_of Status.Memory → HasBodyBytes frames.old.value.prefix (record { lo = lo; hi = hi }) frames.old.value.rest.bytes }
     ensures causes { IsViewReadCode result }
 {
     let range = RangeCfg { lo, hi };
@@ -159,6 +198,10 @@ pub extern "C" fn iobufs_frames_next(
             Status::Done.code()
         }
         Ok(None) => Status::EndOfBuffer.code(),
+        Err(Error::InvalidLength(n)) => {
+            *wrong = n;
+            Status::InvalidLength.code()
+        }
         Err(error) => fault(error),
     }
 }

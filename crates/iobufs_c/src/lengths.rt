@@ -9,7 +9,7 @@ ghost use Rattle.iobufs_core.specs.Spelling.{spell};
 ghost use Rattle.iobufs_core.specs.View.{view_advanced, view_rest};
 ghost use Rattle.iobufs_core.specs.Wire.{IsLengthRead, IsViewFault, IsViewRead, view_written};
 ghost use Rattle.iobufs_c.specs.Codes.{IsReadCode, IsViewReadCode, code_of};
-ghost use Rattle.iobufs_c.specs.Rows.{building_of, part_of, parts_of};
+ghost use Rattle.iobufs_c.specs.Rows.{building_or_empty, part_or_empty, parts_of};
 
 use crate::builder::BuilderAt;
 use crate::part::{PartAt, fits};
@@ -34,7 +34,7 @@ pub extern "C" fn iobufs_length_size(n: usize) -> usize
 pub extern "C" fn iobufmut_put_length(part: &mut PartAt, n: usize) -> u8
     ensures at { part.new.at ≡ part.old.at }
     ensures value { part.new.value ≡ (if result == 0 then option_map (λ part. part_put part (spell n)) part.old.value else part.old.value) }
-    ensures result { result ≡ (if nat_le (length (spell n)) (part_of part.old.value).spare then 0 else code_of Status.OutOfRange) }
+    ensures result { result ≡ (if nat_le (length (spell n)) (part_or_empty part.old.value).spare then 0 else code_of Status.OutOfRange) }
 {
     let Some(part) = part.get() else {
         return fits(iobufs_length_size(n), 0);
@@ -68,7 +68,7 @@ pub extern "C" fn iobufsmut_put_length(parts: &mut PartsAt, n: usize) -> u8
 pub extern "C" fn iobufs_builder_put_length(builder: &mut BuilderAt, n: usize) -> u8
     ensures at { builder.new.at ≡ builder.old.at }
     ensures value { builder.new.value ≡ (if result == 0 then option_map (λ b. building_put b (spell n)) builder.old.value else builder.old.value) }
-    ensures result { result ≡ (if nat_le (length (spell n)) (building_room (building_of builder.old.value)) then 0 else code_of Status.OutOfRange) }
+    ensures result { result ≡ (if nat_le (length (spell n)) (building_room (building_or_empty builder.old.value)) then 0 else code_of Status.OutOfRange) }
 {
     let Some(builder) = builder.get() else {
         return fits(iobufs_length_size(n), 0);

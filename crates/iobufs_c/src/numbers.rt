@@ -9,7 +9,7 @@ ghost use Rattle.iobufs_core.specs.Part.{part_put};
 ghost use Rattle.iobufs_core.specs.View.{view_advanced};
 ghost use Rattle.iobufs_core.specs.Wire.{IsNumberRead};
 ghost use Rattle.iobufs_c.specs.Codes.{IsDoneUnless, code_of};
-ghost use Rattle.iobufs_c.specs.Rows.{building_of, part_of, parts_of};
+ghost use Rattle.iobufs_c.specs.Rows.{building_or_empty, part_or_empty, parts_of};
 
 use crate::builder::BuilderAt;
 use crate::part::{PartAt, fits};
@@ -25,7 +25,7 @@ use std::alloc::Global;
 pub extern "C" fn iobufmut_put_u16(part: &mut PartAt, n: u16) -> u8
     ensures at { part.new.at ≡ part.old.at }
     ensures value { part.new.value ≡ (if result == 0 then option_map (λ part. part_put part (to_be_bytes w16 n)) part.old.value else part.old.value) }
-    ensures result { result ≡ (if nat_le 2 (part_of part.old.value).spare then 0 else code_of Status.OutOfRange) }
+    ensures result { result ≡ (if nat_le 2 (part_or_empty part.old.value).spare then 0 else code_of Status.OutOfRange) }
 {
     let Some(part) = part.get() else {
         return fits(2, 0);
@@ -42,7 +42,7 @@ pub extern "C" fn iobufmut_put_u16(part: &mut PartAt, n: u16) -> u8
 pub extern "C" fn iobufmut_put_u32(part: &mut PartAt, n: u32) -> u8
     ensures at { part.new.at ≡ part.old.at }
     ensures value { part.new.value ≡ (if result == 0 then option_map (λ part. part_put part (to_be_bytes w32 n)) part.old.value else part.old.value) }
-    ensures result { result ≡ (if nat_le 4 (part_of part.old.value).spare then 0 else code_of Status.OutOfRange) }
+    ensures result { result ≡ (if nat_le 4 (part_or_empty part.old.value).spare then 0 else code_of Status.OutOfRange) }
 {
     let Some(part) = part.get() else {
         return fits(4, 0);
@@ -59,7 +59,7 @@ pub extern "C" fn iobufmut_put_u32(part: &mut PartAt, n: u32) -> u8
 pub extern "C" fn iobufmut_put_u64(part: &mut PartAt, n: u64) -> u8
     ensures at { part.new.at ≡ part.old.at }
     ensures value { part.new.value ≡ (if result == 0 then option_map (λ part. part_put part (to_be_bytes w64 n)) part.old.value else part.old.value) }
-    ensures result { result ≡ (if nat_le 8 (part_of part.old.value).spare then 0 else code_of Status.OutOfRange) }
+    ensures result { result ≡ (if nat_le 8 (part_or_empty part.old.value).spare then 0 else code_of Status.OutOfRange) }
 {
     let Some(part) = part.get() else {
         return fits(8, 0);
@@ -127,7 +127,7 @@ pub extern "C" fn iobufsmut_put_u64(parts: &mut PartsAt, n: u64) -> u8
 pub extern "C" fn iobufs_builder_put_u16(builder: &mut BuilderAt, n: u16) -> u8
     ensures at { builder.new.at ≡ builder.old.at }
     ensures value { builder.new.value ≡ (if result == 0 then option_map (λ b. building_put b (to_be_bytes w16 n)) builder.old.value else builder.old.value) }
-    ensures result { result ≡ (if nat_le 2 (building_room (building_of builder.old.value)) then 0 else code_of Status.OutOfRange) }
+    ensures result { result ≡ (if nat_le 2 (building_room (building_or_empty builder.old.value)) then 0 else code_of Status.OutOfRange) }
 {
     let Some(builder) = builder.get() else {
         return fits(2, 0);
@@ -144,7 +144,7 @@ pub extern "C" fn iobufs_builder_put_u16(builder: &mut BuilderAt, n: u16) -> u8
 pub extern "C" fn iobufs_builder_put_u32(builder: &mut BuilderAt, n: u32) -> u8
     ensures at { builder.new.at ≡ builder.old.at }
     ensures value { builder.new.value ≡ (if result == 0 then option_map (λ b. building_put b (to_be_bytes w32 n)) builder.old.value else builder.old.value) }
-    ensures result { result ≡ (if nat_le 4 (building_room (building_of builder.old.value)) then 0 else code_of Status.OutOfRange) }
+    ensures result { result ≡ (if nat_le 4 (building_room (building_or_empty builder.old.value)) then 0 else code_of Status.OutOfRange) }
 {
     let Some(builder) = builder.get() else {
         return fits(4, 0);
@@ -161,7 +161,7 @@ pub extern "C" fn iobufs_builder_put_u32(builder: &mut BuilderAt, n: u32) -> u8
 pub extern "C" fn iobufs_builder_put_u64(builder: &mut BuilderAt, n: u64) -> u8
     ensures at { builder.new.at ≡ builder.old.at }
     ensures value { builder.new.value ≡ (if result == 0 then option_map (λ b. building_put b (to_be_bytes w64 n)) builder.old.value else builder.old.value) }
-    ensures result { result ≡ (if nat_le 8 (building_room (building_of builder.old.value)) then 0 else code_of Status.OutOfRange) }
+    ensures result { result ≡ (if nat_le 8 (building_room (building_or_empty builder.old.value)) then 0 else code_of Status.OutOfRange) }
 {
     let Some(builder) = builder.get() else {
         return fits(8, 0);

@@ -7,7 +7,7 @@ ghost use Rattle.iobufs_core.specs.Part.{Part, empty_part, is_bad_layout as bad_
 ghost use Rattle.iobufs_core.specs.Recovery.{IsPartOf, IsRecovery};
 ghost use Rattle.iobufs_core.specs.View.{default_view};
 ghost use Rattle.iobufs_c.specs.Codes.{IsDoneUnless, code_of};
-ghost use Rattle.iobufs_c.specs.Rows.{part_of, part_row, part_written_at};
+ghost use Rattle.iobufs_c.specs.Rows.{part_or_empty, part_row, part_written_at};
 
 use crate::status::{Status, refusal};
 use crate::view::ViewAt;
@@ -230,7 +230,7 @@ pub extern "C" fn iobufmut_from_view(alloc: Global, src: &mut ViewAt, out: &mut 
 #[unsafe(no_mangle)]
 pub extern "C" fn iobufmut_len(part: &mut PartAt) -> usize
     ensures same { (part.new.at ≡ part.old.at) × (part.new.value ≡ part.old.value) }
-    ensures value { result ≡ length (part_of part.old.value).filled }
+    ensures value { result ≡ length (part_or_empty part.old.value).filled }
 {
     match part.get() {
         Some(part) => part.len(),
@@ -242,7 +242,7 @@ pub extern "C" fn iobufmut_len(part: &mut PartAt) -> usize
 #[unsafe(no_mangle)]
 pub extern "C" fn iobufmut_is_empty(part: &mut PartAt) -> bool
     ensures same { (part.new.at ≡ part.old.at) × (part.new.value ≡ part.old.value) }
-    ensures value { result ≡ (length (part_of part.old.value).filled == 0) }
+    ensures value { result ≡ (length (part_or_empty part.old.value).filled == 0) }
 {
     match part.get() {
         Some(part) => part.is_empty(),
@@ -254,7 +254,7 @@ pub extern "C" fn iobufmut_is_empty(part: &mut PartAt) -> bool
 #[unsafe(no_mangle)]
 pub extern "C" fn iobufmut_capacity(part: &mut PartAt) -> usize
     ensures same { (part.new.at ≡ part.old.at) × (part.new.value ≡ part.old.value) }
-    ensures value { result ≡ part_capacity (part_of part.old.value) }
+    ensures value { result ≡ part_capacity (part_or_empty part.old.value) }
 {
     match part.get() {
         Some(part) => part.capacity(),
@@ -266,7 +266,7 @@ pub extern "C" fn iobufmut_capacity(part: &mut PartAt) -> usize
 #[unsafe(no_mangle)]
 pub extern "C" fn iobufmut_remaining_mut(part: &mut PartAt) -> usize
     ensures same { (part.new.at ≡ part.old.at) × (part.new.value ≡ part.old.value) }
-    ensures value { result ≡ (part_of part.old.value).spare }
+    ensures value { result ≡ (part_or_empty part.old.value).spare }
 {
     match part.get() {
         Some(part) => part.remaining_mut(),
@@ -279,7 +279,7 @@ pub extern "C" fn iobufmut_remaining_mut(part: &mut PartAt) -> usize
 #[unsafe(no_mangle)]
 pub extern "C" fn iobufmut_chunk(part: &mut PartAt, out: &mut *mut u8) -> usize
     ensures same { (part.new.at ≡ part.old.at) × (part.new.value ≡ part.old.value) }
-    ensures value { result ≡ length (part_of part.old.value).filled }
+    ensures value { result ≡ length (part_or_empty part.old.value).filled }
 {
     let Some(part) = part.get() else {
         return 0;
@@ -296,7 +296,7 @@ pub extern "C" fn iobufmut_chunk(part: &mut PartAt, out: &mut *mut u8) -> usize
 pub extern "C" fn iobufmut_put_slice(part: &mut PartAt, src: &[u8]) -> u8
     ensures at { part.new.at ≡ part.old.at }
     ensures value { part.new.value ≡ (if result == 0 then option_map (λ part. part_put part src.now) part.old.value else part.old.value) }
-    ensures result { result ≡ (if nat_le (length src.now) (part_of part.old.value).spare then 0 else code_of Status.OutOfRange) }
+    ensures result { result ≡ (if nat_le (length src.now) (part_or_empty part.old.value).spare then 0 else code_of Status.OutOfRange) }
 {
     let Some(part) = part.get() else {
         return fits(src.len(), 0);
@@ -324,7 +324,7 @@ pub(crate) fn fits(n: usize, most: usize) -> u8
 pub extern "C" fn iobufmut_put_bytes(part: &mut PartAt, value: u8, n: usize) -> u8
     ensures at { part.new.at ≡ part.old.at }
     ensures value { part.new.value ≡ (if result == 0 then option_map (λ part. part_put part (replicate n value)) part.old.value else part.old.value) }
-    ensures result { result ≡ (if nat_le n (part_of part.old.value).spare then 0 else code_of Status.OutOfRange) }
+    ensures result { result ≡ (if nat_le n (part_or_empty part.old.value).spare then 0 else code_of Status.OutOfRange) }
 {
     let Some(part) = part.get() else {
         return fits(n, 0);
@@ -341,7 +341,7 @@ pub extern "C" fn iobufmut_put_bytes(part: &mut PartAt, value: u8, n: usize) -> 
 pub extern "C" fn iobufmut_put_u8(part: &mut PartAt, n: u8) -> u8
     ensures at { part.new.at ≡ part.old.at }
     ensures value { part.new.value ≡ (if result == 0 then option_map (λ part. part_put part (n ∷ [])) part.old.value else part.old.value) }
-    ensures result { result ≡ (if nat_le 1 (part_of part.old.value).spare then 0 else code_of Status.OutOfRange) }
+    ensures result { result ≡ (if nat_le 1 (part_or_empty part.old.value).spare then 0 else code_of Status.OutOfRange) }
 {
     let Some(part) = part.get() else {
         return Status::OutOfRange.code();
@@ -358,7 +358,7 @@ pub extern "C" fn iobufmut_put_u8(part: &mut PartAt, n: u8) -> u8
 pub extern "C" fn iobufmut_set_len(part: &mut PartAt, n: usize) -> u8
     ensures at { part.new.at ≡ part.old.at }
     ensures value { part.new.value ≡ (if result == 0 then option_map (λ part. part_with_len part n) part.old.value else part.old.value) }
-    ensures result { result ≡ (if nat_le n (part_capacity (part_of part.old.value)) then 0 else code_of Status.OutOfRange) }
+    ensures result { result ≡ (if nat_le n (part_capacity (part_or_empty part.old.value)) then 0 else code_of Status.OutOfRange) }
 {
     let Some(part) = part.get() else {
         return fits(n, 0);
@@ -397,7 +397,7 @@ pub extern "C" fn iobufmut_clear(part: &mut PartAt)
 pub extern "C" fn iobufmut_advance(part: &mut PartAt, n: usize) -> u8
     ensures at { part.new.at ≡ part.old.at }
     ensures value { part.new.value ≡ (if result == 0 then option_map (λ part. part_drained part n) part.old.value else part.old.value) }
-    ensures result { result ≡ (if nat_le n (length (part_of part.old.value).filled) then 0 else code_of Status.OutOfRange) }
+    ensures result { result ≡ (if nat_le n (length (part_or_empty part.old.value).filled) then 0 else code_of Status.OutOfRange) }
 {
     let Some(part) = part.get() else {
         return fits(n, 0);
@@ -414,8 +414,8 @@ pub extern "C" fn iobufmut_advance(part: &mut PartAt, n: usize) -> u8
 pub extern "C" fn iobufmut_copy_to_slice(part: &mut PartAt, dst: &mut [u8]) -> u8
     ensures at { part.new.at ≡ part.old.at }
     ensures value { part.new.value ≡ (if result == 0 then option_map (λ part. part_drained part (length dst.old)) part.old.value else part.old.value) }
-    ensures bytes { dst.new ≡ (if result == 0 then take (length dst.old) (part_of part.old.value).filled else dst.old) }
-    ensures result { result ≡ (if nat_le (length dst.old) (length (part_of part.old.value).filled) then 0 else code_of Status.EndOfBuffer) }
+    ensures bytes { dst.new ≡ (if result == 0 then take (length dst.old) (part_or_empty part.old.value).filled else dst.old) }
+    ensures result { result ≡ (if nat_le (length dst.old) (length (part_or_empty part.old.value).filled) then 0 else code_of Status.EndOfBuffer) }
 {
     let Some(part) = part.get() else {
         return if dst.is_empty() {
@@ -436,7 +436,7 @@ pub extern "C" fn iobufmut_copy_to_slice(part: &mut PartAt, dst: &mut [u8]) -> u
 pub extern "C" fn iobufmut_write_at(part: &mut PartAt, at: usize, src: &[u8]) -> u8
     ensures at { part.new.at ≡ part.old.at }
     ensures value { part.new.value ≡ (if result == 0 then option_map (λ part. part_written_at part at src.now) part.old.value else part.old.value) }
-    ensures result { result ≡ (if nat_le (at + length src.now) (length (part_of part.old.value).filled) then 0 else code_of Status.OutOfRange) }
+    ensures result { result ≡ (if nat_le (at + length src.now) (length (part_or_empty part.old.value).filled) then 0 else code_of Status.OutOfRange) }
 {
     let Some(part) = part.get() else {
         return if at == 0 && src.is_empty() {
@@ -459,9 +459,9 @@ pub extern "C" fn iobufmut_write_at(part: &mut PartAt, at: usize, src: &[u8]) ->
 pub extern "C" fn iobufmut_freeze(part: &mut PartAt, out: &mut ViewAt) -> u8
     ensures at { (part.new.at ≡ part.old.at) × (out.new.at ≡ out.old.at) }
     ensures part { part.new.value ≡ None }
-    ensures value { out.new.value ≡ (if result == 0 then part_frozen (part_of part.old.value) else out.old.value) }
+    ensures value { out.new.value ≡ (if result == 0 then part_frozen (part_or_empty part.old.value) else out.old.value) }
     ensures memory { IsDoneUnless result Status.Memory }
-    ensures nothing { length (part_of part.old.value).filled ≡ 0 → result ≡ 0 }
+    ensures nothing { length (part_or_empty part.old.value).filled ≡ 0 → result ≡ 0 }
 {
     let Some(part) = mem::replace(part.get(), None) else {
         *out.get() = IoBuf::default();

@@ -25,6 +25,8 @@ pub enum Status {
     InvalidLength,
     /// The buffer can't become what was asked for, and stays.
     Declined,
+    /// The kind of a bound is unknown.
+    BadKind,
 }
 
 impl Status {
@@ -42,6 +44,7 @@ impl Status {
             Status::InvalidVarint => 6,
             Status::InvalidLength => 7,
             Status::Declined => 8,
+            Status::BadKind => 9,
         }
     }
 }

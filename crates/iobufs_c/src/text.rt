@@ -9,7 +9,7 @@ ghost use Rattle.iobufs_core.specs.MarkedText.{MarkedText, chunk_count as count_
 ghost use Rattle.iobufs_core.specs.Part.{part_frozen};
 ghost use Rattle.iobufs_core.specs.View.{default_view};
 ghost use Rattle.iobufs_c.specs.Codes.{IsDoneUnless, code_of};
-ghost use Rattle.iobufs_c.specs.Rows.{chunk_len, part_of};
+ghost use Rattle.iobufs_c.specs.Rows.{chunk_len, part_or_empty};
 
 use crate::part::PartAt;
 use crate::status::{Status, refusal};
@@ -103,9 +103,9 @@ pub extern "C" fn iobufs_from_view(src: &mut ViewAt, out: &mut TextAt)
 pub extern "C" fn iobufs_from_mut(part: &mut PartAt, out: &mut TextAt) -> u8
     ensures at { (part.new.at ≡ part.old.at) × (out.new.at ≡ out.old.at) }
     ensures part { part.new.value ≡ None }
-    ensures value { out.new.value ≡ (if result == 0 then of_view (part_frozen (part_of part.old.value)) else out.old.value) }
+    ensures value { out.new.value ≡ (if result == 0 then of_view (part_frozen (part_or_empty part.old.value)) else out.old.value) }
     ensures memory { IsDoneUnless result Status.Memory }
-    ensures nothing { length (part_of part.old.value).filled ≡ 0 → result ≡ 0 }
+    ensures nothing { length (part_or_empty part.old.value).filled ≡ 0 → result ≡ 0 }
 {
     let Some(part) = mem::replace(part.get(), None) else {
         *out.get() = IoBufs::default();

@@ -1,12 +1,12 @@
 // Views at their places.
-ghost use Rattle.std.specs.Prelude.{◌≡◌, ◌≤◌, ◌<◌, ◌==◌, if◌then◌else◌, length, take, nat_le, slice_get, Some, None, true, false};
+ghost use Rattle.std.specs.Prelude.{◌≡◌, ◌≤◌, ◌<◌, ◌==◌, if◌then◌else◌, length, take, nat_le, slice_get, Some, None, true, false, IfNone, IfSome};
 ghost use Rattle.std.specs.Borrow.{sem, Lends, full_share};
 ghost use Rattle.std.specs.Ptr.{lies_at, room_at};
 ghost use Rattle.iobufs_core.specs.MarkedText.{of_view, taken_view};
 ghost use Rattle.iobufs_core.specs.View.{View, default_view, range_fits, static_mark, native_mark, view_advanced, view_rest, view_slice, view_split_front};
 ghost use Rattle.iobufs_core.specs.contracts.buf.view.IoBuf.{the_row as view_row};
 ghost use Rattle.iobufs_c.specs.Codes.{IsDoneUnless, code_of};
-ghost use Rattle.iobufs_c.specs.Rows.{bound_of};
+ghost use Rattle.iobufs_c.specs.Rows.{bound_from_c};
 
 use crate::status::Status;
 use iobufs_core::buf::IoBuf;
@@ -234,17 +234,19 @@ pub extern "C" fn iobuf_copy_to_slice(src: &mut ViewAt, dst: &mut [u8]) -> u8
     Status::Done.code()
 }
 
-fn bound(kind: u8, n: usize) -> Bound<usize>
-    ensures { result ≡ bound_of kind n }
+// A bound, if its kind is known.
+fn bound(kind: u8, n: usize) -> Option<Bound<usize>>
+    ensures { result ≡ bound_from_c kind n }
 {
     match kind {
-        0 => Bound::Included(n),
-        1 => Bound::Excluded(n),
-        _ => Bound::Unbounded,
+        0 => Some(Bound::Included(n)),
+        1 => Some(Bound::Excluded(n)),
+        2 => Some(Bound::Unbounded),
+        _ => None,
     }
 }
 
-/// The bytes of a range, in the same storage.
+/// Returns the bytes of a range, in the same storage.
 #[unsafe(no_mangle)]
 pub extern "C" fn iobuf_slice(
     src: &mut ViewAt,
@@ -256,12 +258,19 @@ pub extern "C" fn iobuf_slice(
 ) -> u8
     ensures at { (src.new.at ≡ src.old.at) × (out.new.at ≡ out.old.at) }
     ensures same { src.new.value ≡ src.old.value }
-    ensures out { out.new.value ≡ (if result == 0 then view_slice src.old.value (bound_of lo_kind lo) (bound_of hi_kind hi) else out.old.value) }
-    ensures outside { range_fits (bound_of lo_kind lo) (bound_of hi_kind hi) (length src.old.value.bytes) ≡ false → result ≡ code_of Status.OutOfRange }
-    ensures inside { range_fits (bound_of lo_kind lo) (bound_of hi_kind hi) (length src.old.value.bytes) ≡ true → IsDoneUnless result Status.Memory }
+    ensures out { IfSome (bound_from_c lo_kind lo) (λ from. IfSome (bound_from_c hi_kind hi) (λ to.
+        out.new.value ≡ (if result == 0 then view_slice src.old.value from to else out.old.value))) }
+    ensures outside { IfSome (bound_from_c lo_kind lo) (λ from. IfSome (bound_from_c hi_kind hi) (λ to.
+        range_fits from to (length src.old.value.bytes) ≡ false → result ≡ code_of Status.OutOfRange)) }
+    ensures inside { IfSome (bound_from_c lo_kind lo) (λ from. IfSome (bound_from_c hi_kind hi) (λ to.
+        range_fits from to (length src.old.value.bytes) ≡ true → IsDoneUnless result Status.Memory)) }
+    ensures bad_start { IfNone (bound_from_c lo_kind lo) ((result ≡ code_of Status.BadKind) × (out.new.value ≡ out.old.value)) }
+    ensures bad_end { IfNone (bound_from_c hi_kind hi) ((result ≡ code_of Status.BadKind) × (out.new.value ≡ out.old.value)) }
 {
+    let (Some(from), Some(to)) = (bound(lo_kind, lo), bound(hi_kind, hi)) else {
+        return Status::BadKind.code();
+    };
     let view = src.get();
-    let (from, to) = (bound(lo_kind, lo), bound(hi_kind, hi));
     if !view.fits_range(from, to) {
         return Status::OutOfRange.code();
     }

@@ -17,7 +17,7 @@ use Rattle.std.proofs.Math.Seq.{take-append_seam}
 use Rattle.std.proofs.lemmas.Bool.Decides.{nat_tests}
 use Rattle.std.proofs.lemmas.Grind.{common_steps}
 use Rattle.std.proofs.lemmas.List.{drop-drop, drop_all, append_cancel_left, nil_from_length, take_all}
-use Rattle.iobufs_core.specs.Items.{Item, put_item, push_item, items_bytes, items_inline, IsBegun}
+use Rattle.iobufs_core.specs.Items.{PutOrPush, put_item, push_item, items_bytes, items_inline, IsBegun}
 use Rattle.iobufs_core.specs.LayoutLaws.{good_layout}
 use Rattle.iobufs_core.specs.MarkedText.{MarkedText, taken_view, text_advanced, text_left, text_rest, text_right, text_split_front}
 use Rattle.iobufs_core.specs.Part.{Part, part_frozen}
@@ -148,7 +148,7 @@ pub length-bytes_written : (bytes : List ℕ) → length (bytes_written bytes) �
 length-bytes_written bytes = omega (arith, length-spell (length bytes), length-append (spell (length bytes)) bytes)
 
 -- no more bytes are inline than are written
-pub inline-most : (items : List Item) → items_inline items ≤ length (items_bytes items)
+pub inline-most : (items : List PutOrPush) → items_inline items ≤ length (items_bytes items)
 inline-most [] = omega arith
 inline-most (put_item bytes ∷ items) = let ih = inline-most items in omega (arith, ih, length-append bytes (items_bytes items))
 inline-most (push_item view ∷ items) = let ih = inline-most items in omega (arith, ih, length-append view.bytes (items_bytes items))

@@ -19,7 +19,7 @@
 use Rattle.std.specs.Prelude.{ℕ, ◌+◌, ◌-◌, ◌<◌, Bool, ◌==◌, ◌&&◌, nat_lt, nat_le, if◌then◌else◌, List, [], ◌∷◌, ◌++◌, length, take, drop, map, filter, fold}
 use Rattle.std.specs.List.{list_any}
 use Rattle.iobufs_core.specs.Chunks.{full_chunks}
-use Rattle.iobufs_core.specs.View.{Mark, View, HasRoom, mark_after, native_mark, default_view}
+use Rattle.iobufs_core.specs.View.{Mark, View, ReachesEnd, mark_after, native_mark, default_view}
 
 -- the bytes, the mark of the first piece, and the places where the further pieces begin, with their marks
 pub record MarkedText : Type 0 where
@@ -31,11 +31,11 @@ pub record MarkedText : Type 0 where
 pub record IsCut (key : ℕ) (mark : Mark) (cut : ℕ × Mark) (end : ℕ) : Type 0 where
   pub rises : key < cut.0
   pub below : cut.0 < end
-  pub room : HasRoom mark (cut.0 - key)
+  pub room : ReachesEnd mark (cut.0 - key)
 
 -- from a key with its mark on: the cuts rise, lie below the end, and each piece has room
 abbrev pub AreCuts : ℕ → Mark → List (ℕ × Mark) → ℕ → Type 0
-AreCuts key mark [] end = HasRoom mark (end - key)
+AreCuts key mark [] end = ReachesEnd mark (end - key)
 AreCuts key mark (cut ∷ cuts) end = IsCut key mark cut end × AreCuts cut.0 cut.1 cuts end
 
 abbrev pub IsMarked : MarkedText → Type 0

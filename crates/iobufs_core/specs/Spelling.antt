@@ -1,7 +1,7 @@
 -- Varints: seven bits a byte, lowest first, the top bit set on all bytes but the last (unsigned LEB128).
 --     spell, spell_within    the bytes of a length; with at most n bytes before the last
 --     IsSpelledAt            bytes begin with the varint of this length
---     IsSpelling, GoesOn     bytes are the varint of a number, by their first byte: it ends there, or goes on
+--     IsSpelling, IsContinued     bytes are the varint of a number, by their first byte: it ends there, or goes on
 --     AreHigh                bytes of which each says that another follows
 --     HasNoLength, IsOpen    no varint is at the front; more bytes could still make one
 use Rattle.std.specs.Prelude.{◌≡◌, ℕ, zero, suc, ◌+◌, ◌/◌, ◌%◌, ◌*◌, ◌^◌, ◌<◌, ◌≤◌, nat_lt, if◌then◌else◌, List, [], ◌∷◌, length, take}
@@ -20,7 +20,7 @@ abbrev pub IsSpelledAt : List ℕ → ℕ → Type 0
 IsSpelledAt bytes n = (n < 2 ^ 64) × (take (length (spell n)) bytes ≡ spell n)
 
 -- a byte from 128 on has the low seven bits of a number, and what is after it represents the rest, which isn't 0
-pub record GoesOn (b n : ℕ) (IsOfRest : ℕ → Type 0) : Type 0 where
+pub record IsContinued (b n : ℕ) (IsOfRest : ℕ → Type 0) : Type 0 where
   pub top : 128 ≤ b
   pub byte : b < 256
   pub high : ℕ
@@ -32,7 +32,7 @@ pub record GoesOn (b n : ℕ) (IsOfRest : ℕ → Type 0) : Type 0 where
 abbrev pub IsSpelling : List ℕ → ℕ → Type 0
 IsSpelling [] n = ⊥
 IsSpelling (b ∷ []) n = (b < 128) × (n ≡ b)
-IsSpelling (b ∷ c ∷ bs) n = GoesOn b n (IsSpelling (c ∷ bs))
+IsSpelling (b ∷ c ∷ bs) n = IsContinued b n (IsSpelling (c ∷ bs))
 
 -- each byte has the top bit set
 abbrev pub AreHigh : List ℕ → Type 0

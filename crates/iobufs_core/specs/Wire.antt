@@ -18,7 +18,7 @@ use Rattle.iobufs_core.specs.Ranges.{in_range}
 use Rattle.iobufs_core.specs.Spelling.{spell, IsSpelledAt, HasNoLength, IsOpen}
 use Rattle.iobufs_core.specs.View.{View, static_mark, view_of_bytes}
 use Rattle.iobufs_core.specs.MarkedText.{MarkedText, taken_view, text_rest}
-use Rattle.iobufs_core.specs.Items.{Item, put_item, push_item}
+use Rattle.iobufs_core.specs.Items.{PutOrPush, put_item, push_item}
 use Rattle.iobufs_core.specs.declared.codec.base.Error.{Error}
 use Rattle.iobufs_core.specs.declared.codec.base.Error.TheVariants.{EndOfBuffer, InvalidVarint, InvalidLength, Memory}
 use Rattle.iobufs_core.specs.declared.codec.base.RangeCfg.{RangeCfg}
@@ -30,10 +30,10 @@ bytes_written bytes = spell (length bytes) ++ bytes
 abbrev pub view_written : View → List ℕ
 view_written view = bytes_written view.bytes
 
-abbrev pub view_items : View → List Item
+abbrev pub view_items : View → List PutOrPush
 view_items view = put_item (spell (length view.bytes)) ∷ push_item view ∷ []
 
-abbrev pub bytes_items : List ℕ → List Item
+abbrev pub bytes_items : List ℕ → List PutOrPush
 bytes_items bytes = put_item (spell (length bytes)) ∷ push_item (view_of_bytes bytes) ∷ []
 
 -- a `bool` is one byte
@@ -45,7 +45,7 @@ abbrev pub option_written : {Value : Type 0} → (Value → List ℕ) → Option
 option_written written None = 0 ∷ []
 option_written written (Some value) = 1 ∷ written value
 
-abbrev pub option_items : {Value : Type 0} → (Value → List Item) → Option Value → List Item
+abbrev pub option_items : {Value : Type 0} → (Value → List PutOrPush) → Option Value → List PutOrPush
 option_items items None = put_item (0 ∷ []) ∷ []
 option_items items (Some value) = put_item (1 ∷ []) ∷ items value
 

@@ -1,15 +1,15 @@
 -- The exit status of an echo.
 --
---     status_of   the status that each ending has
+--     echo_status   the status that each ending has
 use Rattle.std.specs.Prelude.{ℕ, ⊤, Result, Ok, Err}
 use Rattle.iobufs_streams.specs.declared.error.FrameError.{FrameError}
 use Rattle.iobufs_streams.specs.declared.error.FrameError.TheVariants.{Bad, Cut, Io, Memory, TooLong}
 
 -- the input ended between two frames, inside one, or before what is none; or a stream or memory failed
-abbrev pub status_of : Result ⊤ FrameError → ℕ
-status_of (Ok _) = 0
-status_of (Err Cut) = 1
-status_of (Err (Bad _)) = 2
-status_of (Err (Io _)) = 3
-status_of (Err Memory) = 3
-status_of (Err TooLong) = 3
+abbrev pub echo_status : Result ⊤ FrameError → ℕ
+echo_status (Ok _) = 0
+echo_status (Err Cut) = 1
+echo_status (Err (Bad _)) = 2
+echo_status (Err (Io _)) = 3
+echo_status (Err Memory) = 3
+echo_status (Err TooLong) = 3

@@ -2,7 +2,7 @@
 #![tactic(auto)]
 
 ghost use Rattle.std.specs.Prelude.{◌≡◌};
-ghost use Rattle.iobufs_echo.specs.Status.{status_of};
+ghost use Rattle.iobufs_echo.specs.Status.{echo_status};
 
 use iobufs_core::codec::RangeCfg;
 use iobufs_streams::echo::echo;
@@ -18,7 +18,7 @@ const MOST: usize = 1 << 20;
 // The exit status: 0 where the input ended between two frames, 1 where it ended inside one, 2 for a bad frame, 3 where a
 // stream or memory failed.
 fn status(ended: &Result<(), FrameError>) -> u8
-    ensures { result ≡ status_of ended.now }
+    ensures { result ≡ echo_status ended.now }
 {
     match ended {
         Ok(()) => 0,

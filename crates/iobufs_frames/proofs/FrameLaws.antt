@@ -14,7 +14,7 @@ use Rattle.iobufs_core.specs.declared.codec.base.Error.TheVariants.{EndOfBuffer,
 use Rattle.iobufs_core.specs.declared.codec.base.RangeCfg.{RangeCfg}
 use Rattle.iobufs.specs.Laws.Joined.{bytes-append}
 use Rattle.iobufs_frames.specs.FrameFacts.{first_is, none_in_front, nothing_is_open, one_end, one_more, stands, stays_bad, written-push}
-use Rattle.iobufs_frames.specs.Frames.{AreAlike, AreMoved, BeginsWithBytes, CanAllFollow, CanFollow, HasBodyBytes, HasFramesWith, HaveOneReadingWith, IsBehindPrefix, IsFirstWith, IsFramedWith, IsNextWith, LacksFrame, all_written, bodies, found_of, frame_written}
+use Rattle.iobufs_frames.specs.Frames.{AreSameFrames, AreMoved, BeginsWithBytes, CanAllFollow, CanFollow, HasBodyBytes, HasFrames, HaveOneReading, IsBehindLength, IsFirst, IsFramed, IsNext, LacksFrame, all_written, bodies, found_of, frame_written}
 use Rattle.iobufs_frames.specs.PrefixFacts.{form_of, may_be_open, one_front, some_length}
 use Rattle.iobufs_frames.specs.Prefixes.{HasNoLengthAt, IsLengthAt, prefix_limit, prefix_written}
 use Rattle.iobufs_frames.specs.declared.End.{End}
@@ -28,7 +28,7 @@ use Rattle.iobufs_frames.specs.declared.lengths.Width.TheVariants.{U16, U32, U64
 framed_once : (prefix : Prefix) (range : RangeCfg) (text : List ℕ) (fs gs : List (List ℕ)) (a b : End) (x y : List ℕ)
     → text ≡ all_written prefix fs ++ x → CanAllFollow prefix range fs → LacksFrame prefix range x a
     → text ≡ all_written prefix gs ++ y → CanAllFollow prefix range gs → LacksFrame prefix range y b
-    → AreAlike fs gs a b x y
+    → AreSameFrames fs gs a b x y
 framed_once prefix range text [] [] a b x y e p h e' q h' =
     let same : x ≡ y = sym e ∙ e' in
     record {
@@ -53,7 +53,7 @@ framed_once prefix range text (f ∷ fs) (g ∷ gs) a b x y e (fits, p) h e' (fi
     }
 
 -- any two readings of a text are the same
-pub one_reading : (prefix : Prefix) → HaveOneReadingWith prefix
+pub one_reading : (prefix : Prefix) → HaveOneReading prefix
 one_reading prefix range text fs gs a b x y p q =
     framed_once prefix range text fs gs a b x y p.whole p.admitted p.ends q.whole q.admitted q.ends
 
@@ -125,7 +125,7 @@ front prefix range text = elim (some_length prefix text) [
 ]
 
 -- frame by frame, each of which shortens what is left
-framed_within : (prefix : Prefix) (range : RangeCfg) (fuel : ℕ) (text : List ℕ) → length text < fuel → HasFramesWith prefix range text
+framed_within : (prefix : Prefix) (range : RangeCfg) (fuel : ℕ) (text : List ℕ) → length text < fuel → HasFrames prefix range text
 framed_within prefix range zero text enough = absurd (omega (arith, enough))
 framed_within prefix range (suc fuel) text enough =
     elim (front prefix range text) [
@@ -146,7 +146,7 @@ framed_within prefix range (suc fuel) text enough =
     ]
 
 -- each text has frames, an end and a rest
-pub framed : (prefix : Prefix) (range : RangeCfg) (text : List ℕ) → HasFramesWith prefix range text
+pub framed : (prefix : Prefix) (range : RangeCfg) (text : List ℕ) → HasFrames prefix range text
 framed prefix range text = framed_within prefix range (suc (length text)) text (omega arith)
 
 -- ---- one frame taken
@@ -164,7 +164,7 @@ wanted range t n (((small, at), inside), long) some =
     }
 
 next_by_reading : (range : RangeCfg) (t new : MarkedText) (read : Result View Error) → IsViewRead t range read
-    → IfOk read (λ view. new ≡ text_rest t (length (view_written view))) → IsNextWith Spelled range t.bytes (found_of read) new.bytes
+    → IfOk read (λ view. new ≡ text_rest t (length (view_written view))) → IsNext Spelled range t.bytes (found_of read) new.bytes
 next_by_reading range t new (Ok view) h left =
     let (small, inside) = read_in_range t range (Ok view) h in
     (record { small = small; inside = inside }, read_and_left t new range (Ok view) h left)
@@ -178,8 +178,8 @@ next_by_reading range t new (Err TooLong) h left = h
 -- a view that is read off a text is its next frame, and leaves what is after it; where reading ends with the text there is none
 pub next_is : (range : RangeCfg) (t new : MarkedText) (read : Result View Error) (result : Result (Option View) Error) → result ≡ found_of read
     → IsViewRead t range read
-    → IfOk read (λ view. new ≡ text_rest t (length (view_written view))) → IsNextWith Spelled range t.bytes result new.bytes
-next_is range t new read result e h left = subst (λ r. IsNextWith Spelled range t.bytes r new.bytes) (sym e) (next_by_reading range t new read h left)
+    → IfOk read (λ view. new ≡ text_rest t (length (view_written view))) → IsNext Spelled range t.bytes result new.bytes
+next_is range t new read result e h left = subst (λ r. IsNext Spelled range t.bytes r new.bytes) (sym e) (next_by_reading range t new read h left)
 
 HasRest : MarkedText → MarkedText → Result (Option View) Error → Type 0
 HasRest old new result = IfOk result (λ found. IfSome found (λ view. new ≡ text_rest old (length (view_written view))))
@@ -198,9 +198,9 @@ taken_rest old new (Err BadLayout) result e h = subst (HasRest old new) (sym e) 
 taken_rest old new (Err TooLong) result e h = subst (HasRest old new) (sym e) tt
 
 HasBody : MarkedText → Result (Option View) Error → Type 0
-HasBody text result = IfOk result (λ found. IfSome found (λ body. IsBehindPrefix Spelled text body))
+HasBody text result = IfOk result (λ found. IfSome found (λ body. IsBehindLength Spelled text body))
 
-behind_length : (range : RangeCfg) (text : MarkedText) (view : View) → IsViewRead text range (Ok view) → IsBehindPrefix Spelled text view
+behind_length : (range : RangeCfg) (text : MarkedText) (view : View) → IsViewRead text range (Ok view) → IsBehindLength Spelled text view
 behind_length range text view (n, (((small, at), inside), long), is) =
     let there = view_there text n view at long is in
     record { fits = there.within; is = subst (λ m. view ≡ taken_view text (length (spell m)) m) (sym there.long) is }
@@ -208,7 +208,7 @@ behind_length range text view (n, (((small, at), inside), long), is) =
 -- a taken frame's body is the view after its length
 pub taken_body : (range : RangeCfg) (text : MarkedText) (read : Result View Error) (result : Result (Option View) Error) → result ≡ found_of read
     → IsViewRead text range read
-    → IfOk result (λ found. IfSome found (λ body. IsBehindPrefix Spelled text body))
+    → IfOk result (λ found. IfSome found (λ body. IsBehindLength Spelled text body))
 unfolding HasBody
 taken_body range text (Ok view) result e h = subst (HasBody text) (sym e) (behind_length range text view h)
 taken_body range text (Err EndOfBuffer) result e h = subst (HasBody text) (sym e) tt
@@ -219,15 +219,15 @@ taken_body range text (Err BadLayout) result e h = subst (HasBody text) (sym e) 
 taken_body range text (Err TooLong) result e h = subst (HasBody text) (sym e) tt
 
 first_wanted : (prefix : Prefix) (range : RangeCfg) (old : List ℕ) (end : End) (frames : List (List ℕ)) (rest : List ℕ) → HasBodyBytes prefix range old
-    → IsFramedWith prefix range old frames end rest → BeginsWithBytes frames
+    → IsFramed prefix range old frames end rest → BeginsWithBytes frames
 first_wanted prefix range old end frames rest has is =
     let taken = first_is prefix range old has.more has.body end frames rest has.admitted has.whole is in
     record { body = has.body; others = taken.others; first = taken.first; some = has.some }
 
 -- the next frame of a text is the first of its frames and leaves the others; where there is none, the answer is by the end
-pub first_of_next : (prefix : Prefix) (range : RangeCfg) (old new : List ℕ) (result : Result (Option View) Error) → IsNextWith prefix range old result new
-    → (frames : List (List ℕ)) (end : End) (rest : List ℕ) → IsFramedWith prefix range old frames end rest
-    → IsFirstWith prefix range frames end rest result new
+pub first_of_next : (prefix : Prefix) (range : RangeCfg) (old new : List ℕ) (result : Result (Option View) Error) → IsNext prefix range old result new
+    → (frames : List (List ℕ)) (end : End) (rest : List ℕ) → IsFramed prefix range old frames end rest
+    → IsFirst prefix range frames end rest result new
 first_of_next prefix range old new (Ok (Some view)) h frames end rest is = first_is prefix range old new view.bytes end frames rest h.0 h.1 is
 first_of_next prefix range old new (Ok None) h frames end rest is = none_in_front prefix range old end Open frames rest h is
 first_of_next prefix range old new (Err EndOfBuffer) h frames end rest is = absurd h
@@ -249,7 +249,7 @@ fed old new piece (Err refused) is = tt
 -- ---- frames found in order
 
 moved_body : (prefix : Prefix) (range : RangeCfg) (old new : List ℕ) (body : View) (views more : List View)
-    → IsNextWith prefix range old (Ok (Some body)) new → more ≡ views ++ body ∷ []
+    → IsNext prefix range old (Ok (Some body)) new → more ≡ views ++ body ∷ []
     → AreMoved prefix range (bodies views) old (bodies more) new × (length new < length old)
 moved_body prefix range old new body views more (admitted, whole) e =
     let listed : bodies more ≡ bodies views ++ body.bytes ∷ [] = ap bodies e ∙ map-append (λ (v : View). v.bytes) views (body ∷ []) in
@@ -265,10 +265,10 @@ moved_body prefix range old new body views more (admitted, whole) e =
 
 -- a frame that is taken from the front of a text follows those that went before it, and the text is shorter
 pub moved_one : (prefix : Prefix) (range : RangeCfg) (old new : List ℕ) (body : View) (found : Option View) (views more : List View) → found ≡ Some body
-    → IsNextWith prefix range old (Ok found) new → more ≡ views ++ body ∷ []
+    → IsNext prefix range old (Ok found) new → more ≡ views ++ body ∷ []
     → AreMoved prefix range (bodies views) old (bodies more) new × (length new < length old)
 moved_one prefix range old new body found views more is h e =
-    moved_body prefix range old new body views more (subst (λ (o : Option View). IsNextWith prefix range old (Ok o) new) is h) e
+    moved_body prefix range old new body views more (subst (λ (o : Option View). IsNext prefix range old (Ok o) new) is h) e
 
 -- ---- a text in pieces
 
@@ -278,7 +278,7 @@ open_is_not_bad error e = cc
 
 -- before anything was fed there is no frame, and an open front
 pub start : (prefix : Prefix) (range : RangeCfg) (views : List View) (rest : List ℕ) → views ≡ [] → rest ≡ []
-    → IsFramedWith prefix range [] (bodies views) Open rest
+    → IsFramed prefix range [] (bodies views) Open rest
 start prefix range views rest none empty =
     record {
       whole = ap (λ vs. all_written prefix (bodies vs)) (sym none) ∙ sym (append-nil (all_written prefix (bodies views)))
@@ -289,8 +289,8 @@ start prefix range views rest none empty =
 
 -- a piece after a bad front changes the rest alone
 pub fed_bad : (prefix : Prefix) (range : RangeCfg) (text piece rest new : List ℕ) (frames : List (List ℕ)) (end : End) (error : Error)
-    → IsFramedWith prefix range text frames end rest → end ≡ Bad error
-    → new ≡ rest ++ piece → IsFramedWith prefix range (text ++ piece) frames end new
+    → IsFramed prefix range text frames end rest → end ≡ Bad error
+    → new ≡ rest ++ piece → IsFramed prefix range (text ++ piece) frames end new
 fed_bad prefix range text piece rest new frames end error is bad e =
     record {
       whole = ap (λ xs. xs ++ piece) is.whole ∙ append_assoc (all_written prefix frames) rest piece ∙ ap (λ xs. all_written prefix frames ++ xs) (sym e);

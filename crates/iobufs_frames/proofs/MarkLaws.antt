@@ -11,7 +11,7 @@ use Rattle.std.proofs.lemmas.List.Sums.{fold-append}
 use Rattle.iobufs_core.specs.LengthFacts.{less}
 use Rattle.iobufs_core.specs.MarkedText.{MarkedText, default_text, has_cut_between, joined, key_upto, mark_at, mark_past, moved_down, of_view, taken_view, text_append, text_glue, text_len, text_rest, text_right}
 use Rattle.iobufs_core.specs.View.{Mark, View, default_view, mark_after, native_mark, static_mark, bytes_mark}
-use Rattle.iobufs_frames.specs.Frames.{IsBehindPrefix, IsTakenApartWith, frame_written}
+use Rattle.iobufs_frames.specs.Frames.{IsBehindLength, IsTakenApart, frame_written}
 use Rattle.iobufs_frames.specs.Prefixes.{prefix_written}
 use Rattle.iobufs_frames.specs.declared.lengths.Prefix.{Prefix}
 
@@ -235,7 +235,7 @@ longer t v = elim (less 0 (length v.bytes)) [
   ]
 ]
 
-behind-append : (prefix : Prefix) (t : MarkedText) (v body : View) → IsBehindPrefix prefix t body → IsBehindPrefix prefix (text_append t v) body
+behind-append : (prefix : Prefix) (t : MarkedText) (v body : View) → IsBehindLength prefix t body → IsBehindLength prefix (text_append t v) body
 behind-append prefix t v body is =
     let k = length (prefix_written prefix (length body.bytes)) in record {
       fits = omega (arith, is.fits, longer t v);
@@ -244,22 +244,22 @@ behind-append prefix t v body is =
 
 -- a piece after a text follows what is left of it
 pub apart-append : (prefix : Prefix) (t : MarkedText) (bodies : List View) (rest : MarkedText) (v : View) → HasCutsInside t
-    → IsTakenApartWith prefix t bodies rest
-    → IsTakenApartWith prefix (text_append t v) bodies (text_append rest v)
+    → IsTakenApart prefix t bodies rest
+    → IsTakenApart prefix (text_append t v) bodies (text_append rest v)
 apart-append prefix t [] rest v inside is = ap (λ (x : MarkedText). text_append x v) is
 apart-append prefix t (body ∷ bodies) rest v inside (here, behind) =
     let k = length (frame_written prefix body.bytes) in (
       behind-append prefix t v body here,
-      subst (λ (x : MarkedText). IsTakenApartWith prefix x bodies (text_append rest v)) (rest-append t v k here.fits inside)
+      subst (λ (x : MarkedText). IsTakenApart prefix x bodies (text_append rest v)) (rest-append t v k here.fits inside)
           (apart-append prefix (text_rest t k) bodies rest v (inside-rest t k here.fits inside) behind),
     )
 
 -- one body more
-pub apart-more : (prefix : Prefix) (t : MarkedText) (bodies : List View) (rest : MarkedText) (body : View) → IsTakenApartWith prefix t bodies rest
-    → IsBehindPrefix prefix rest body
-    → IsTakenApartWith prefix t (bodies ++ body ∷ []) (text_rest rest (length (frame_written prefix body.bytes)))
+pub apart-more : (prefix : Prefix) (t : MarkedText) (bodies : List View) (rest : MarkedText) (body : View) → IsTakenApart prefix t bodies rest
+    → IsBehindLength prefix rest body
+    → IsTakenApart prefix t (bodies ++ body ∷ []) (text_rest rest (length (frame_written prefix body.bytes)))
 apart-more prefix t [] rest body is here =
-    (subst (λ (x : MarkedText). IsBehindPrefix prefix x body) is here, ap (λ (x : MarkedText). text_rest x (length (frame_written prefix body.bytes))) is)
+    (subst (λ (x : MarkedText). IsBehindLength prefix x body) is here, ap (λ (x : MarkedText). text_rest x (length (frame_written prefix body.bytes))) is)
 apart-more prefix t (first ∷ bodies) rest body (one, behind) here =
     (one, apart-more prefix (text_rest t (length (frame_written prefix first.bytes))) bodies rest body behind here)
 
@@ -276,38 +276,38 @@ joined-push views v = fold-append text_append default_text views (v ∷ [])
 
 -- a piece that is fed follows what was left of those before it
 pub fed_marks : (prefix : Prefix) (views bodies : List View) (piece : View) (rest new : MarkedText) → new ≡ text_append rest piece
-    → IsTakenApartWith prefix (joined views) bodies rest
-    → IsTakenApartWith prefix (joined (views ++ piece ∷ [])) bodies new
+    → IsTakenApart prefix (joined views) bodies rest
+    → IsTakenApart prefix (joined (views ++ piece ∷ [])) bodies new
 fed_marks prefix views bodies piece rest new is apart =
-    subst (λ (x : MarkedText). IsTakenApartWith prefix x bodies new) (sym (joined-push views piece))
-    (subst (IsTakenApartWith prefix (text_append (joined views) piece) bodies) (sym is)
+    subst (λ (x : MarkedText). IsTakenApart prefix x bodies new) (sym (joined-push views piece))
+    (subst (IsTakenApart prefix (text_append (joined views) piece) bodies) (sym is)
     (apart-append prefix (joined views) bodies rest piece (inside-joined views) apart))
 
 -- a chunk that is fed, and the frames that it makes whole
 pub fed_on : {Value Refusal : Type 0} (prefix : Prefix) (bodies more : List View) (piece : View) (old fed_to new : MarkedText) (result : Result Value Refusal)
     → fed_to ≡ text_append old piece
-    → OnOk result ((text : MarkedText) → IsTakenApartWith prefix text bodies fed_to → IsTakenApartWith prefix text more new)
-    → OnOk result ((fed : List View) → IsTakenApartWith prefix (joined fed) bodies old → IsTakenApartWith prefix (joined (fed ++ piece ∷ [])) more new)
+    → OnOk result ((text : MarkedText) → IsTakenApart prefix text bodies fed_to → IsTakenApart prefix text more new)
+    → OnOk result ((fed : List View) → IsTakenApart prefix (joined fed) bodies old → IsTakenApart prefix (joined (fed ++ piece ∷ [])) more new)
 fed_on prefix bodies more piece old fed_to new (Ok value) is moves = λ fed apart.
     moves (joined (fed ++ piece ∷ [])) (fed_marks prefix fed bodies piece old fed_to is apart)
 fed_on prefix bodies more piece old fed_to new (Err refusal) is moves = tt
 
-moved_body : (prefix : Prefix) (old new : MarkedText) (body : View) (views more : List View) → IsBehindPrefix prefix old body
+moved_body : (prefix : Prefix) (old new : MarkedText) (body : View) (views more : List View) → IsBehindLength prefix old body
     → new ≡ text_rest old (length (frame_written prefix body.bytes))
-    → more ≡ views ++ body ∷ [] → (text : MarkedText) → IsTakenApartWith prefix text views old → IsTakenApartWith prefix text more new
+    → more ≡ views ++ body ∷ [] → (text : MarkedText) → IsTakenApart prefix text views old → IsTakenApart prefix text more new
 moved_body prefix old new body views more here left listed text apart =
-    subst (λ (vs : List View). IsTakenApartWith prefix text vs new) (sym listed)
-    (subst (IsTakenApartWith prefix text (views ++ body ∷ [])) (sym left) (apart-more prefix text views old body apart here))
+    subst (λ (vs : List View). IsTakenApart prefix text vs new) (sym listed)
+    (subst (IsTakenApart prefix text (views ++ body ∷ [])) (sym left) (apart-more prefix text views old body apart here))
 
 -- a frame that is taken is one body more, and leaves what is after it
 pub moved_marks : (prefix : Prefix) (old new : MarkedText) (body : View) (found : Option View) (views more : List View) → found ≡ Some body
-    → IfSome found (λ b. IsBehindPrefix prefix old b) → IfSome found (λ b. new ≡ text_rest old (length (frame_written prefix b.bytes)))
+    → IfSome found (λ b. IsBehindLength prefix old b) → IfSome found (λ b. new ≡ text_rest old (length (frame_written prefix b.bytes)))
     → more ≡ views ++ body ∷ []
-    → (text : MarkedText) → IsTakenApartWith prefix text views old → IsTakenApartWith prefix text more new
+    → (text : MarkedText) → IsTakenApart prefix text views old → IsTakenApart prefix text more new
 moved_marks prefix old new body found views more is here left listed =
-    moved_body prefix old new body views more (subst (λ (o : Option View). IfSome o (λ b. IsBehindPrefix prefix old b)) is here)
+    moved_body prefix old new body views more (subst (λ (o : Option View). IfSome o (λ b. IsBehindLength prefix old b)) is here)
     (subst (λ (o : Option View). IfSome o (λ b. new ≡ text_rest old (length (frame_written prefix b.bytes)))) is left) listed
 
 -- before anything was fed nothing was taken
-pub started : (prefix : Prefix) (views : List View) (rest : MarkedText) → views ≡ [] → rest ≡ default_text → IsTakenApartWith prefix (joined []) views rest
-started prefix views rest none empty = subst (λ (vs : List View). IsTakenApartWith prefix (joined []) vs rest) (sym none) empty
+pub started : (prefix : Prefix) (views : List View) (rest : MarkedText) → views ≡ [] → rest ≡ default_text → IsTakenApart prefix (joined []) views rest
+started prefix views rest none empty = subst (λ (vs : List View). IsTakenApart prefix (joined []) vs rest) (sym none) empty

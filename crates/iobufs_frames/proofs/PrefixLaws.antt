@@ -9,7 +9,7 @@ use Rattle.iobufs_core.specs.Ranges.{in_range}
 use Rattle.iobufs_core.specs.ReadBytes.{bytes-taken_view, length-taken_view}
 use Rattle.iobufs_core.specs.View.{View}
 use Rattle.iobufs_core.specs.declared.codec.base.RangeCfg.{RangeCfg}
-use Rattle.iobufs_frames.specs.Frames.{CanFollow, HasBodyBytes, IsBehindPrefix, frame_written}
+use Rattle.iobufs_frames.specs.Frames.{CanFollow, HasBodyBytes, IsBehindLength, frame_written}
 use Rattle.iobufs_frames.specs.PrefixFacts.{form_of, length-there}
 use Rattle.iobufs_frames.specs.Prefixes.{IsLengthAt, prefix_written, width_size}
 use Rattle.iobufs_frames.specs.declared.lengths.ByteOrder.{ByteOrder}
@@ -54,7 +54,7 @@ there-with prefix text n view (small, at) within is =
 pub record IsTakenWith (prefix : Prefix) (range : RangeCfg) (old new : MarkedText) (view : View) : Type 0 where
   pub follows : CanFollow prefix range view.bytes
   pub whole : old.bytes ≡ frame_written prefix view.bytes ++ new.bytes
-  pub behind : IsBehindPrefix prefix old view
+  pub behind : IsBehindLength prefix old view
   pub left : new ≡ text_rest old (length (frame_written prefix view.bytes))
 
 -- a view that is taken from after its length, in the range, is a frame's body, and leaves what is after it

@@ -18,7 +18,7 @@ use Rattle.iobufs_core.specs.Spelled.{none_high}
 use Rattle.iobufs_core.specs.declared.codec.base.Error.{Error}
 use Rattle.iobufs_core.specs.declared.codec.base.Error.TheVariants.{EndOfBuffer, InvalidVarint, InvalidLength, Memory, BadLayout, TooLong}
 use Rattle.iobufs_core.specs.declared.codec.base.RangeCfg.{RangeCfg}
-use Rattle.iobufs_frames.specs.Frames.{BadStaysBadWith, BeginningsAreOpenWith, CanAllFollow, CanFollow, FirstTakenWith, IsFramedWith, LacksFrame, all_written, frame_written}
+use Rattle.iobufs_frames.specs.Frames.{BadStaysBad, BeginningsAreOpen, CanAllFollow, CanFollow, FirstTaken, IsFramed, LacksFrame, all_written, frame_written}
 use Rattle.iobufs_frames.specs.PrefixFacts.{form_of, length-before, length-in_front, length-later, length-sooner, one_front, one_length, too_few}
 use Rattle.iobufs_frames.specs.Prefixes.{HasNoLengthAt, IsLengthAt, IsOpenAt, prefix_written, width_size}
 use Rattle.iobufs_frames.specs.declared.End.{End}
@@ -118,7 +118,7 @@ stands prefix range body more (Bad error) admitted h =
 
 -- a text without a frame at the front has none
 pub none_in_front : (prefix : Prefix) (range : RangeCfg) (old : List ℕ) (end now : End) (frames : List (List ℕ)) (rest : List ℕ)
-    → LacksFrame prefix range old now → IsFramedWith prefix range old frames end rest → (frames ≡ []) × (end ≡ now)
+    → LacksFrame prefix range old now → IsFramed prefix range old frames end rest → (frames ≡ []) × (end ≡ now)
 none_in_front prefix range old end now [] rest h is =
     (refl, one_end prefix range rest end now is.ends (subst (λ (xs : List ℕ). LacksFrame prefix range xs now) is.whole h))
 none_in_front prefix range old end now (f ∷ fs) rest h is =
@@ -129,8 +129,8 @@ none_in_front prefix range old end now (f ∷ fs) rest h is =
 
 -- a frame at the front is the first
 pub first_is : (prefix : Prefix) (range : RangeCfg) (old new body : List ℕ) (end : End) (frames : List (List ℕ)) (rest : List ℕ)
-    → CanFollow prefix range body → old ≡ frame_written prefix body ++ new → IsFramedWith prefix range old frames end rest
-    → FirstTakenWith prefix range frames end rest body new
+    → CanFollow prefix range body → old ≡ frame_written prefix body ++ new → IsFramed prefix range old frames end rest
+    → FirstTaken prefix range frames end rest body new
 first_is prefix range old new body end [] rest admitted e is =
     absurd (stands prefix range body new end admitted (subst (λ (xs : List ℕ). LacksFrame prefix range xs end) (sym is.whole ∙ e) is.ends))
 first_is prefix range old new body end (f ∷ fs) rest admitted e is =
@@ -146,7 +146,7 @@ first_is prefix range old new body end (f ∷ fs) rest admitted e is =
 -- ---- beginnings, and what is bad
 
 -- a beginning of a frame is open
-pub begins_open : (prefix : Prefix) → BeginningsAreOpenWith prefix
+pub begins_open : (prefix : Prefix) → BeginningsAreOpen prefix
 begins_open Spelled range body front back admitted whole some =
     begun_open range body front back admitted.small admitted.inside whole some
 begins_open (Fixed width order) range body front back admitted whole some =
@@ -164,7 +164,7 @@ begins_open (Fixed width order) range body front back admitted whole some =
     ]
 
 -- what is bad stays so whatever follows
-pub stays_bad : (prefix : Prefix) → BadStaysBadWith prefix
+pub stays_bad : (prefix : Prefix) → BadStaysBad prefix
 stays_bad Spelled range bytes more EndOfBuffer h = absurd h
 stays_bad Spelled range bytes more InvalidVarint h = (no_length_later bytes more h.0 h.1, still_closed bytes more h.1)
 stays_bad (Fixed width order) range bytes more EndOfBuffer h = absurd h

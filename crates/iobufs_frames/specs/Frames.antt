@@ -1,24 +1,20 @@
 -- The frames of some bytes. A frame is a length, written as a prefix says, followed by that many bytes, its body.
--- Names that end in `With` are for any prefix; without it they are for varint lengths.
 --     frame_written, all_written   a length followed by a body; and several in order
 --     bodies, joined_bytes         the bytes of bodies that are views: each by itself, and all in one
---     IsBehindPrefix,              a body is the view after its length at the front, with its mark; and several are
---     IsTakenApartWith             so, each in what those before it left
+--     IsBehindLength,              a body is the view after its length at the front, with its mark; and several are
+--     IsTakenApart                 so, each in what those before it left
 --     CanFollow, CanAllFollow      the length of a body can be written, and is in the range; and of each
 --     LacksFrame                   no whole frame is at the front, and why: more bytes may complete it, or none can
 --     HasBodyBytes                 a whole frame with bytes is at the front
---     IsFramedWith, HasFramesWith  bytes are these frames and a rest that no whole frame begins; and they have such
+--     IsFramed, HasFrames          bytes are these frames and a rest that no whole frame begins; and they have such
 --                                  frames
---     IsNextWith, found_of         what taking one frame returns and leaves; the result by that of reading a view
---     IsFirstWith, FirstTakenWith, the result by the frames of the bytes: the first went, or has bytes whose
+--     IsNext, found_of             what taking one frame returns and leaves; the result by that of reading a view
+--     IsFirst, FirstTaken,         the result by the frames of the bytes: the first went, or has bytes whose
 --     BeginsWithBytes              allocation failed
 --     AreMoved                     frames moved from the front of some bytes to the end of a list
---     AreAlike, HaveOneReadingWith two readings of some bytes are equal; and so are any two
---     BeginningsAreOpenWith,       a prefix of a frame may go on; what can't be a frame stays so whatever follows
---     BadStaysBadWith
--- Of varint lengths:
---     HasNoFrame, HasBytes, IsFramed, HasFrames, IsBehindLength, IsTakenApart, IsNext, IsFirst, HaveOneReading,
---     BeginningsAreOpen, BadStaysBad
+--     AreSameFrames, HaveOneReading     two readings of some bytes are equal; and so are any two
+--     BeginningsAreOpen,           a prefix of a frame may go on; what can't be a frame stays so whatever follows
+--     BadStaysBad
 use Rattle.std.specs.Prelude.{◌≡◌, ◌⊎◌, ℕ, ◌+◌, ◌<◌, ◌≤◌, true, false, Option, None, Some, Result, Ok, Err, List, [], ◌∷◌, ◌++◌, map, flat_map, length}
 use Rattle.iobufs_core.specs.Ranges.{in_range}
 use Rattle.iobufs_core.specs.MarkedText.{MarkedText, taken_view, text_len, text_rest}
@@ -30,7 +26,6 @@ use Rattle.iobufs_frames.specs.Prefixes.{HasNoLengthAt, IsLengthAt, IsOpenAt, pr
 use Rattle.iobufs_frames.specs.declared.End.{End}
 use Rattle.iobufs_frames.specs.declared.End.TheVariants.{Open, Bad}
 use Rattle.iobufs_frames.specs.declared.lengths.Prefix.{Prefix}
-use Rattle.iobufs_frames.specs.declared.lengths.Prefix.TheVariants.{Spelled}
 
 -- a body after its length
 abbrev pub frame_written : Prefix → List ℕ → List ℕ
@@ -70,7 +65,7 @@ pub record HasBodyBytes (prefix : Prefix) (range : RangeCfg) (bytes : List ℕ) 
   pub some : 0 < length body
 
 -- the frames of a text, why no further one follows them, and what is after them
-pub record IsFramedWith (prefix : Prefix) (range : RangeCfg) (text : List ℕ) (frames : List (List ℕ)) (end : End) (rest : List ℕ) : Type 0 where
+pub record IsFramed (prefix : Prefix) (range : RangeCfg) (text : List ℕ) (frames : List (List ℕ)) (end : End) (rest : List ℕ) : Type 0 where
   pub whole : text ≡ all_written prefix frames ++ rest
   pub admitted : CanAllFollow prefix range frames
   pub ends : LacksFrame prefix range rest end
@@ -84,15 +79,15 @@ abbrev pub joined_bytes : List View → List ℕ
 joined_bytes views = flat_map (λ view. view.bytes) views
 
 -- a body is the view after its length before a text: of its piece, or native where it spans pieces
-pub record IsBehindPrefix (prefix : Prefix) (text : MarkedText) (body : View) : Type 0 where
+pub record IsBehindLength (prefix : Prefix) (text : MarkedText) (body : View) : Type 0 where
   pub fits : length (frame_written prefix body.bytes) ≤ text_len text
   pub is : body ≡ taken_view text (length (prefix_written prefix (length body.bytes))) (length body.bytes)
 
 -- bodies are so in order, each in what those before it left, and this is left after them
-abbrev pub IsTakenApartWith : Prefix → MarkedText → List View → MarkedText → Type 0
-IsTakenApartWith prefix text [] rest = rest ≡ text
-IsTakenApartWith prefix text (body ∷ bodies) rest =
-    IsBehindPrefix prefix text body × IsTakenApartWith prefix (text_rest text (length (frame_written prefix body.bytes))) bodies rest
+abbrev pub IsTakenApart : Prefix → MarkedText → List View → MarkedText → Type 0
+IsTakenApart prefix text [] rest = rest ≡ text
+IsTakenApart prefix text (body ∷ bodies) rest =
+    IsBehindLength prefix text body × IsTakenApart prefix (text_rest text (length (frame_written prefix body.bytes))) bodies rest
 
 -- the answer by what reading a view answers: none where that ends with the text
 abbrev pub found_of : Result View Error → Result (Option View) Error
@@ -101,17 +96,17 @@ found_of (Err EndOfBuffer) = Ok None
 found_of (Err error) = Err error
 
 -- What taking one frame answers of a text, and the text that it leaves. Memory is wanted only for a frame with bytes.
-abbrev pub IsNextWith : Prefix → RangeCfg → List ℕ → Result (Option View) Error → List ℕ → Type 0
-IsNextWith prefix range old (Ok (Some body)) new = CanFollow prefix range body.bytes × (old ≡ frame_written prefix body.bytes ++ new)
-IsNextWith prefix range old (Ok None) new = LacksFrame prefix range old Open
-IsNextWith prefix range old (Err Memory) new = HasBodyBytes prefix range old
-IsNextWith prefix range old (Err error) new = LacksFrame prefix range old (Bad error)
+abbrev pub IsNext : Prefix → RangeCfg → List ℕ → Result (Option View) Error → List ℕ → Type 0
+IsNext prefix range old (Ok (Some body)) new = CanFollow prefix range body.bytes × (old ≡ frame_written prefix body.bytes ++ new)
+IsNext prefix range old (Ok None) new = LacksFrame prefix range old Open
+IsNext prefix range old (Err Memory) new = HasBodyBytes prefix range old
+IsNext prefix range old (Err error) new = LacksFrame prefix range old (Bad error)
 
 -- the first frame of a text is taken, and what is left are the others
-pub record FirstTakenWith (prefix : Prefix) (range : RangeCfg) (frames : List (List ℕ)) (end : End) (rest body new : List ℕ) : Type 0 where
+pub record FirstTaken (prefix : Prefix) (range : RangeCfg) (frames : List (List ℕ)) (end : End) (rest body new : List ℕ) : Type 0 where
   pub others : List (List ℕ)
   pub first : frames ≡ body ∷ others
-  pub behind : IsFramedWith prefix range new others end rest
+  pub behind : IsFramed prefix range new others end rest
 
 -- the first frame has bytes
 pub record BeginsWithBytes (frames : List (List ℕ)) : Type 0 where
@@ -121,11 +116,11 @@ pub record BeginsWithBytes (frames : List (List ℕ)) : Type 0 where
   pub some : 0 < length body
 
 -- of the frames of the bytes the first is taken; if there is none, the end determines the result
-abbrev pub IsFirstWith : Prefix → RangeCfg → List (List ℕ) → End → List ℕ → Result (Option View) Error → List ℕ → Type 0
-IsFirstWith prefix range frames end rest (Ok (Some taken)) new = FirstTakenWith prefix range frames end rest taken.bytes new
-IsFirstWith prefix range frames end rest (Ok None) new = (frames ≡ []) × (end ≡ Open)
-IsFirstWith prefix range frames end rest (Err Memory) new = BeginsWithBytes frames
-IsFirstWith prefix range frames end rest (Err error) new = (frames ≡ []) × (end ≡ Bad error)
+abbrev pub IsFirst : Prefix → RangeCfg → List (List ℕ) → End → List ℕ → Result (Option View) Error → List ℕ → Type 0
+IsFirst prefix range frames end rest (Ok (Some taken)) new = FirstTaken prefix range frames end rest taken.bytes new
+IsFirst prefix range frames end rest (Ok None) new = (frames ≡ []) × (end ≡ Open)
+IsFirst prefix range frames end rest (Err Memory) new = BeginsWithBytes frames
+IsFirst prefix range frames end rest (Err error) new = (frames ≡ []) × (end ≡ Bad error)
 
 -- frames went over from the front of a text after others
 abbrev pub AreMoved : Prefix → RangeCfg → List (List ℕ) → List ℕ → List (List ℕ) → List ℕ → Type 0
@@ -133,65 +128,30 @@ AreMoved prefix range frames text more rest =
     (all_written prefix frames ++ text ≡ all_written prefix more ++ rest) × (CanAllFollow prefix range frames → CanAllFollow prefix range more)
 
 -- two readings of a text are the same
-pub record AreAlike (frames others : List (List ℕ)) (end stop : End) (rest left : List ℕ) : Type 0 where
+pub record AreSameFrames (frames others : List (List ℕ)) (end stop : End) (rest left : List ℕ) : Type 0 where
   pub same_frames : frames ≡ others
   pub same_end : end ≡ stop
   pub same_rest : rest ≡ left
 
 -- a text has at most one list of frames, one end and one rest
-abbrev pub HaveOneReadingWith : Prefix → Type 0
-HaveOneReadingWith prefix =
+abbrev pub HaveOneReading : Prefix → Type 0
+HaveOneReading prefix =
     (range : RangeCfg) (text : List ℕ) (frames others : List (List ℕ)) (end stop : End) (rest left : List ℕ)
-    → IsFramedWith prefix range text frames end rest → IsFramedWith prefix range text others stop left → AreAlike frames others end stop rest left
+    → IsFramed prefix range text frames end rest → IsFramed prefix range text others stop left → AreSameFrames frames others end stop rest left
 
 -- bytes have a list of frames, an end and a rest
-pub record HasFramesWith (prefix : Prefix) (range : RangeCfg) (text : List ℕ) : Type 0 where
+pub record HasFrames (prefix : Prefix) (range : RangeCfg) (text : List ℕ) : Type 0 where
   pub frames : List (List ℕ)
   pub end : End
   pub rest : List ℕ
-  pub is : IsFramedWith prefix range text frames end rest
+  pub is : IsFramed prefix range text frames end rest
 
 -- a beginning of a frame is open
-abbrev pub BeginningsAreOpenWith : Prefix → Type 0
-BeginningsAreOpenWith prefix = (range : RangeCfg) (body front back : List ℕ) → CanFollow prefix range body → frame_written prefix body ≡ front ++ back
+abbrev pub BeginningsAreOpen : Prefix → Type 0
+BeginningsAreOpen prefix = (range : RangeCfg) (body front back : List ℕ) → CanFollow prefix range body → frame_written prefix body ≡ front ++ back
     → 0 < length back → LacksFrame prefix range front Open
 
 -- what is bad stays bad, whatever follows
-abbrev pub BadStaysBadWith : Prefix → Type 0
-BadStaysBadWith prefix = (range : RangeCfg) (bytes more : List ℕ) (error : Error) → LacksFrame prefix range bytes (Bad error)
+abbrev pub BadStaysBad : Prefix → Type 0
+BadStaysBad prefix = (range : RangeCfg) (bytes more : List ℕ) (error : Error) → LacksFrame prefix range bytes (Bad error)
     → LacksFrame prefix range (bytes ++ more) (Bad error)
-
--- ---- spelled lengths
-
-abbrev pub HasNoFrame : RangeCfg → List ℕ → End → Type 0
-HasNoFrame = LacksFrame Spelled
-
-abbrev pub HasBytes : RangeCfg → List ℕ → Type 0
-HasBytes = HasBodyBytes Spelled
-
-abbrev pub IsFramed : RangeCfg → List ℕ → List (List ℕ) → End → List ℕ → Type 0
-IsFramed = IsFramedWith Spelled
-
-abbrev pub HasFrames : RangeCfg → List ℕ → Type 0
-HasFrames = HasFramesWith Spelled
-
-abbrev pub IsBehindLength : MarkedText → View → Type 0
-IsBehindLength = IsBehindPrefix Spelled
-
-abbrev pub IsTakenApart : MarkedText → List View → MarkedText → Type 0
-IsTakenApart = IsTakenApartWith Spelled
-
-abbrev pub IsNext : RangeCfg → List ℕ → Result (Option View) Error → List ℕ → Type 0
-IsNext = IsNextWith Spelled
-
-abbrev pub IsFirst : RangeCfg → List (List ℕ) → End → List ℕ → Result (Option View) Error → List ℕ → Type 0
-IsFirst = IsFirstWith Spelled
-
-abbrev pub HaveOneReading : Type 0
-HaveOneReading = HaveOneReadingWith Spelled
-
-abbrev pub BeginningsAreOpen : Type 0
-BeginningsAreOpen = BeginningsAreOpenWith Spelled
-
-abbrev pub BadStaysBad : Type 0
-BadStaysBad = BadStaysBadWith Spelled

@@ -1,11 +1,4 @@
 -- What keeps the machine sound, call by call.
-pub mod Counts
-pub mod Keeps
-pub mod Frames
-pub mod StaysSound
-pub mod Edits
-pub mod Logs
-pub mod Holders
 pub mod New
 pub mod NewRecord
 pub mod AddHolder
@@ -25,3 +18,21 @@ pub mod Release
 pub mod Subtract
 pub mod Drop
 pub mod Promises
+pub use New.*
+pub use NewRecord.*
+pub use AddHolder.*
+pub use SplitTo.*
+pub use RecordFreed.*
+pub use Recovered.*
+pub use BlockFreed.*
+pub use Demote.*
+pub use Called.*
+pub use Readied.*
+pub use Won.*
+pub use Lost.*
+pub use Share.*
+pub use NewMachine.*
+pub use Release.*
+pub use Subtract.*
+pub use Drop.*
+pub use Promises.*

@@ -1,7 +1,4 @@
 -- What makes a move by the tables a step of the world, call by call.
-pub mod Lent
-pub mod Shown
-pub mod Sizes
 pub mod Taken
 pub mod TryIntoMut
 pub mod Demote
@@ -15,6 +12,17 @@ pub mod Step
 pub mod FourthStep
 pub mod Modest
 pub mod Reserved
-pub mod Caused
+pub mod GoodPlaces
+pub mod Walk
 pub mod Sole
 pub mod OneAnswer
+pub use TryIntoMut.*
+pub use New.*
+pub use Run.*
+pub use Step.*
+pub use FourthStep.*
+pub use Reserved.*
+pub use GoodPlaces.*
+pub use Walk.*
+pub use Sole.*
+pub use OneAnswer.*

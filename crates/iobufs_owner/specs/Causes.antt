@@ -1,9 +1,10 @@
 -- Why a step is refused: the first cause that holds. Denied memory and a full table are told apart from these.
+--     alone_of, any_of, view_of            the handle of a call: of this kind, or of any, and borrowed by no other call;
+--                                          a view that it shares
+--     owning_of, owning_view_of            a handle, and a view, that must have a block
+--     capacity, capacity_in                how many bytes there are from a handle's address to its block's end
 --     cause_if, cause_or                   a cause if a test holds; the cause against a handle, or else against what
 --                                          is asked of it
---     is_power_below                       an alignment is one of the first powers of two
---     is_place, is_taken, is_good_place    a range where a block may be; one that touches a block; and a block may be
---                                          there and touches none
 --     is_over, is_over_at                  a block, or a handle's block, has as many holders as there may be
 --     split_cause                          against a split at an offset of a view
 --     cause_begun, cause_gone              against a call that begins, and against one that goes on
@@ -11,11 +12,43 @@
 --     may_take                             the step is granted memory, if it needs some
 --     IsBeside, IsCaused                   a refusal for denied memory or a full table; the reply is the cause that
 --                                          holds, or if none does at most one of these
-use Rattle.std.specs.Prelude.{◌≡◌, ◌⊎◌, ℕ, ◌+◌, ◌-◌, ◌%◌, ◌^◌, ◌&&◌, ◌||◌, not, nat_lt, nat_eq, zero, suc, Bool, false, List, [], ◌∷◌, length, Option, None, Some, Result, Ok, Err, if◌then◌else◌}
-use Rattle.std.specs.Int.{next_multiple_of}
-use Rattle.iobufs_owner.specs.Types.{Block, View, Mut, Call, New, External, Static, Put, Advance, Freeze, TryIntoMut, SplitTo, IsUnique, Demote, Clone, Slice, Drop, Act, Begin, Go, Step, Refusal, Busy, Idle, OutOfRange, BadPlace, Memory, Ceiling, Room, Reply, Refused}
-use Rattle.iobufs_owner.specs.World.{World, Held, Unfinished, Sharing, Dropping, held_at, going_at, holders}
-use Rattle.iobufs_owner.specs.Steps.{capacity, alone_of, any_of, block_of, view_block_of, view_of}
+use Rattle.std.specs.Prelude.{◌≡◌, ◌⊎◌, ℕ, ◌+◌, ◌-◌, ◌&&◌, ◌||◌, not, nat_lt, nat_eq, Bool, true, false, length, Option, None, Some, is_some, Result, Ok, Err, if◌then◌else◌}
+use Rattle.iobufs_owner.specs.Places.{is_good_place}
+use Rattle.iobufs_owner.specs.Kinds.{same_kind, asked}
+use Rattle.iobufs_owner.specs.Types.{Kind, View, Mut, Call, New, External, Static, Put, Advance, Freeze, TryIntoMut, SplitTo, IsUnique, Demote, Clone, Slice, Drop, Act, Begin, Go, Step, Refusal, Busy, Idle, OutOfRange, BadPlace, Memory, Ceiling, Room, Reply, Refused}
+use Rattle.iobufs_owner.specs.World.{World, LiveHandle, Unfinished, Sharing, Dropping, held_at, going_at, block_in, holders, is_shared}
+
+-- ---- the handle of a call, or the lowest cause against it
+
+-- for a call that must have the handle alone
+abbrev pub alone_of : World → ℕ → Kind → Result LiveHandle Refusal
+alone_of w h kind = asked (λ x. same_kind x.kind kind) (is_shared h w.calls) (held_at w h)
+
+-- for a call that takes a handle of either kind
+abbrev pub any_of : World → ℕ → Result LiveHandle Refusal
+any_of w h = asked (λ x. true) (is_shared h w.calls) (held_at w h)
+
+-- the handle that has a block
+abbrev pub owning_of : World → ℕ → Result LiveHandle Refusal
+owning_of w h = asked (λ x. is_some x.block) (is_shared h w.calls) (held_at w h)
+
+-- the view that has a block
+abbrev pub owning_view_of : World → ℕ → Result LiveHandle Refusal
+owning_view_of w h = asked (λ x. same_kind x.kind View && is_some x.block) (is_shared h w.calls) (held_at w h)
+
+-- the view, for a call that shares it
+abbrev pub view_of : World → ℕ → Result LiveHandle Refusal
+view_of w h = asked (λ x. same_kind x.kind View) false (held_at w h)
+
+-- ---- causes
+
+abbrev pub capacity_in : World → ℕ → Option ℕ → ℕ
+capacity_in w place None = 0
+capacity_in w place (Some b) = (block_in w b).base + (block_in w b).size - place
+
+-- the end of its block, less its place
+abbrev pub capacity : World → LiveHandle → ℕ
+capacity w x = capacity_in w x.place x.block
 
 abbrev pub cause_if : Bool → Refusal → Option Refusal
 cause_if stands why = if stands then Some why else None
@@ -25,35 +58,13 @@ abbrev pub cause_or : {X : Type 0} → Result X Refusal → (X → Option Refusa
 cause_or (Err why) asked = Some why
 cause_or (Ok x) asked = asked x
 
--- ---- where a block may lie
-
--- 2 to a power below this one
-abbrev pub is_power_below : ℕ → ℕ → Bool
-is_power_below zero align = false
-is_power_below (suc k) align = nat_eq align (2 ^ k) || is_power_below k align
-
-abbrev pub is_place : (base size align : ℕ) → Bool
-is_place base size align =
-    nat_lt 0 size && nat_lt 0 base && is_power_below 64 align && nat_eq (base % align) 0 && nat_lt (base + size) (2 ^ 64)
-    && nat_lt (next_multiple_of size align) (2 ^ 63)
-
--- whether one of the blocks has a byte in the range
-abbrev pub is_taken : List Block → (base size : ℕ) → Bool
-is_taken [] base size = false
-is_taken (b ∷ bs) base size = (nat_lt base (b.base + b.size) && nat_lt b.base (base + size)) || is_taken bs base size
-
-abbrev pub is_good_place : List Block → (base size align : ℕ) → Bool
-is_good_place blocks base size align = is_place base size align && not (is_taken blocks base size)
-
--- ---- calls
-
 -- whether one holder more would be too many
 abbrev pub is_over : World → Option ℕ → Bool
 is_over w None = false
 is_over w (Some b) = nat_lt w.ceiling (holders w b)
 
 -- inside the view the block would have a holder more
-abbrev pub split_cause : World → ℕ → Held → Option Refusal
+abbrev pub split_cause : World → ℕ → LiveHandle → Option Refusal
 split_cause w at x =
     if nat_lt x.len at then Some OutOfRange
     else (if nat_eq at 0 then None
@@ -70,13 +81,13 @@ cause_begun w (Advance h n) = cause_or (any_of w h) (λ x. cause_if (nat_lt x.le
 cause_begun w (Freeze h) = cause_or (alone_of w h Mut) (λ x. None)
 cause_begun w (TryIntoMut h) = cause_or (alone_of w h View) (λ x. None)
 cause_begun w (SplitTo h at) = cause_or (alone_of w h View) (split_cause w at)
-cause_begun w (IsUnique h) = cause_or (block_of w h) (λ b. None)
-cause_begun w (Demote h) = cause_or (view_block_of w h) (λ b. None)
+cause_begun w (IsUnique h) = cause_or (owning_of w h) (λ x. None)
+cause_begun w (Demote h) = cause_or (owning_view_of w h) (λ x. None)
 cause_begun w (Clone h) = cause_or (view_of w h) (λ x. None)
 cause_begun w (Slice h lo hi) = cause_or (view_of w h) (λ x. cause_if (nat_lt hi lo || nat_lt x.len hi) OutOfRange)
 cause_begun w (Drop h) = cause_or (any_of w h) (λ x. None)
 
-abbrev pub is_over_at : World → Option Held → Bool
+abbrev pub is_over_at : World → Option LiveHandle → Bool
 is_over_at w None = false
 is_over_at w (Some x) = is_over w x.block
 

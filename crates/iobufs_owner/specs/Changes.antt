@@ -1,5 +1,6 @@
 -- The small changes of a state, with their replies.
 --     Outcome, refused, done                   a reply and the state after it; a refusal and a plain success
+--     on_lent                                  what is done with the handle of a call, or its refusal
 --     edited, state_without, replaced          another handle under a number, none, or either
 --     with_handle, made                        one handle more, and its number as the reply
 --     called, unfinished_call                  a thread's call from now on; and with `More` as the reply
@@ -8,7 +9,7 @@
 --                                              that is dead
 --     block_freed, record_freed, both_freed    an entry in the log of freed blocks, of freed records, in both
 --     detached_handle, part                    a view that holds no block, and a view of a range of another one
-use Rattle.std.specs.Prelude.{ℕ, ◌+◌, ◌-◌, true, false, [], ◌∷◌, ◌++◌, length, Option, None, Some, slice_set}
+use Rattle.std.specs.Prelude.{ℕ, ◌+◌, ◌-◌, true, false, [], ◌∷◌, ◌++◌, length, Option, None, Some, Result, Ok, Err, slice_set}
 use Rattle.iobufs_owner.specs.Types.{Block, Freed, Handle, View, Word, Empty, Pending, Refusal, Reply, Made, More, Done, Refused}
 use Rattle.iobufs_owner.specs.State.{State, Tables, block_at, record_at, triple}
 
@@ -20,6 +21,11 @@ pub record Outcome : Type 0 where
 -- a refusal that changes nothing
 abbrev pub refused : State → Refusal → Outcome
 refused s why = record { reply = Refused why; state = s }
+
+-- what is done with the handle of a call, or its refusal
+abbrev pub on_lent : State → Result Handle Refusal → (Handle → Outcome) → Outcome
+on_lent s (Err why) f = refused s why
+on_lent s (Ok x) f = f x
 
 abbrev pub done : State → Outcome
 done s = record { reply = Done; state = s }

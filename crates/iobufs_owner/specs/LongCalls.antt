@@ -1,10 +1,9 @@
 -- What each step of a clone, a slice and a drop makes of a state: the calls that may take several.
---     clone_of, clone_lent            how a clone begins; with the view, or with the cause against it
---     slice_of, slice_lent            how a slice begins; an empty one needs no block
+--     clone_of                        how a clone begins
+--     slice_of                        how a slice begins; an empty one needs no block
 --     share_by                        what the loaded word makes of a clone or slice: a view at once, or a call with
 --                                     steps to come
---     drop_of, drop_lent, drop_by,    how a drop begins: of a number, a handle, its word, a record
---     drop_counted
+--     drop_of, drop_by, drop_counted  how a drop begins: of a number, a handle, its word, a record
 --     after_count                     what a drop that has read the count still has to do
 --     ended, shared                   a call that ends without a view, and with one
 --     loaded_block, loaded_found      the block that the loaded descriptor speaks of
@@ -13,10 +12,10 @@
 --     race_of, race_found, race_by    the compare-exchange: the record is shown, or another one came first
 --     add_of, add_found               a holder is counted, unless there are too many
 --     subtract_of, release_of         a holder less, and block and record freed
-use Rattle.std.specs.Prelude.{ℕ, ◌+◌, ◌-◌, ◌==◌, nat_lt, nat_eq, Bool, Option, None, Some, Result, Ok, Err, ◌||◌, if◌then◌else◌}
+use Rattle.std.specs.Prelude.{ℕ, ◌+◌, ◌-◌, ◌==◌, nat_lt, nat_eq, Bool, Option, None, Some, ◌||◌, if◌then◌else◌}
 use Rattle.iobufs_owner.specs.Types.{Handle, Kind, View, Mut, Word, Empty, Descriptor, Counted, Share, Pending, Loaded, Ready, Add, Subtract, Release, Refusal, Idle, OutOfRange, Memory, Ceiling, Refused}
 use Rattle.iobufs_owner.specs.State.{State, handle_at, record_at, recovered, owned_by}
-use Rattle.iobufs_owner.specs.Changes.{Outcome, refused, done, edited, state_without, made, called, unfinished_call, with_record, next_record, with_count, block_freed, record_freed, both_freed, detached_handle, part}
+use Rattle.iobufs_owner.specs.Changes.{Outcome, refused, on_lent, done, edited, state_without, made, called, unfinished_call, with_record, next_record, with_count, block_freed, record_freed, both_freed, detached_handle, part}
 use Rattle.iobufs_owner.specs.Lending.{lend_any_of, lend_view_of}
 
 -- ---- their first step
@@ -27,22 +26,15 @@ share_by s p k x Empty = made s (part x k.lo k.hi Empty)
 share_by s p k x (Descriptor w) = unfinished_call s p (Loaded k w)
 share_by s p k x (Counted r) = unfinished_call s p (Add k r)
 
-abbrev pub clone_lent : State → ℕ → ℕ → Result Handle Refusal → Outcome
-clone_lent s p h (Err why) = refused s why
-clone_lent s p h (Ok x) = share_by s p (record { handle = h; lo = 0; hi = x.len }) x x.word
-
 abbrev pub clone_of : State → ℕ → ℕ → Outcome
-clone_of s p h = clone_lent s p h (lend_view_of s h)
-
-abbrev pub slice_lent : State → ℕ → (h lo hi : ℕ) → Result Handle Refusal → Outcome
-slice_lent s p h lo hi (Err why) = refused s why
-slice_lent s p h lo hi (Ok x) =
-    if nat_lt hi lo || nat_lt x.len hi then refused s OutOfRange
-    else (if nat_eq lo hi then made s (detached_handle 0)
-    else share_by s p (record { handle = h; lo = lo; hi = hi }) x x.word)
+clone_of s p h = on_lent s (lend_view_of s h) (λ x. share_by s p (record { handle = h; lo = 0; hi = x.len }) x x.word)
 
 abbrev pub slice_of : State → ℕ → (h lo hi : ℕ) → Outcome
-slice_of s p h lo hi = slice_lent s p h lo hi (lend_view_of s h)
+slice_of s p h lo hi =
+    on_lent s (lend_view_of s h)
+    (λ x. if nat_lt hi lo || nat_lt x.len hi then refused s OutOfRange
+    else (if nat_eq lo hi then made s (detached_handle 0)
+    else share_by s p (record { handle = h; lo = lo; hi = hi }) x x.word))
 
 -- a view of a counted block loads the count: the only holder will free, another one subtracts
 abbrev pub after_count : (count r : ℕ) → Pending
@@ -57,12 +49,8 @@ drop_by s p h x Empty = done (state_without s h)
 drop_by s p h x (Descriptor w) = done (state_without (block_freed s (recovered s.tables x w)) h)
 drop_by s p h x (Counted r) = drop_counted s p h r x.kind
 
-abbrev pub drop_lent : State → (p h : ℕ) → Result Handle Refusal → Outcome
-drop_lent s p h (Err why) = refused s why
-drop_lent s p h (Ok x) = drop_by s p h x x.word
-
 abbrev pub drop_of : State → (p h : ℕ) → Outcome
-drop_of s p h = drop_lent s p h (lend_any_of s h)
+drop_of s p h = on_lent s (lend_any_of s h) (λ x. drop_by s p h x x.word)
 
 -- ---- their further steps
 

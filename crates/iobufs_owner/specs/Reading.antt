@@ -7,7 +7,7 @@ use Rattle.std.specs.Prelude.{ℕ, ◌==◌, ◌&&◌, nat_eq, Bool, false, List
 use Rattle.std.specs.List.{list_any}
 use Rattle.iobufs_owner.specs.Types.{Block, Handle, Pending, Loaded, Ready, Add, Subtract, Release, Freed}
 use Rattle.iobufs_owner.specs.State.{State, Tables, owner_of, record_at}
-use Rattle.iobufs_owner.specs.World.{World, Held, Unfinished, Sharing, Dropping}
+use Rattle.iobufs_owner.specs.World.{World, LiveHandle, Unfinished, Sharing, Dropping}
 
 abbrev pub same_freed : Block → Freed → Bool
 same_freed b f = (b.base == f.base) && (b.size == f.size) && (b.align == f.align)
@@ -16,10 +16,10 @@ same_freed b f = (b.base == f.base) && (b.size == f.size) && (b.align == f.align
 abbrev pub is_freed : Block → List Freed → Bool
 is_freed b log = list_any (same_freed b) log
 
-abbrev pub read_held : Tables → Handle → Held
+abbrev pub read_held : Tables → Handle → LiveHandle
 read_held g x = record { kind = x.kind; block = owner_of g x; place = x.ptr; len = x.len }
 
-abbrev pub read_handle : Tables → Option Handle → Option Held
+abbrev pub read_handle : Tables → Option Handle → Option LiveHandle
 read_handle g None = None
 read_handle g (Some x) = Some (read_held g x)
 

@@ -4,29 +4,29 @@
 --     described_of, recorded_of                      a new block under a descriptor, and under a record
 --     CanDescribe, fits_in, placed                   a block that a word can describe; whether the fields suffice;
 --                                                    and the new block under a word or else a record
---     IsAllocated, IsExternal, external_of           native storage, and adopted one; and at a good address
+--     new_of, external_of                            native storage, and adopted one
 --     static_of                                      a view of static bytes
---     put_of, put_lent                               bytes put after those of a writable handle
---     advance_of, advance_lent, advanced             the first bytes dropped
+--     put_of                                         bytes put after those of a writable handle
+--     advance_of, advanced                           the first bytes dropped
 --     IsLoose                                        a handle that is gone, or holds nothing
 --     freed_with                                     what a sole holder owns is freed
---     freeze_of, freeze_lent, freeze_by, frozen      a writable handle becomes a view; an empty one frees its block
+--     freeze_of, freeze_by, frozen                   a writable handle becomes a view; an empty one frees its block
 --     promoted                                       a record in place of a descriptor
---     recover_of, recover_lent, recover_by,          a view becomes writable again, or stays since it isn't the sole
---     thawed, declined                               holder of native storage
---     split_of, split_lent, split_by, split_with     the first bytes of a view become another one, and both hold the
+--     recover_of, recover_by, thawed, declined       a view becomes writable again, or stays since it isn't the sole
+--                                                    holder of native storage
+--     split_of, split_by, split_with                 the first bytes of a view become another one, and both hold the
 --                                                    block
---     unique_of, unique_lent, is_unique              whether a handle is the sole holder
---     IsDemoted, IsDemotedBy, demote_counted,        a sole view gives up its record for a descriptor, which has the
+--     unique_of, is_unique                           whether a handle is the sole holder
+--     demote_of, demote_by, demote_counted,          a sole view gives up its record for a descriptor, which has the
 --     may_demote, described, tail_of                 number of bytes of the block after the view
-use Rattle.std.specs.Prelude.{◌≡◌, ◌⊎◌, ℕ, ◌+◌, ◌-◌, ◌^◌, nat_lt, nat_eq, Bool, true, false, length, Option, None, Some, Result, Ok, Err, ◌&&◌, ◌||◌, not, if◌then◌else◌, MatchBool}
-use Rattle.iobufs_owner.specs.Types.{Block, Handle, View, Mut, Word, Empty, Descriptor, Counted, Refusal, OutOfRange, BadPlace, Memory, Ceiling, Declined, Unique}
+use Rattle.std.specs.Prelude.{◌≡◌, ◌⊎◌, ℕ, ◌+◌, ◌-◌, ◌^◌, nat_lt, nat_eq, Bool, true, false, length, Option, None, Some, ◌&&◌, ◌||◌, not, if◌then◌else◌}
+use Rattle.iobufs_owner.specs.Types.{Block, Handle, View, Mut, Word, Empty, Descriptor, Counted, OutOfRange, BadPlace, Memory, Ceiling, Declined, Unique}
 use Rattle.iobufs_owner.specs.Kinds.{is_mut}
-use Rattle.iobufs_owner.specs.Places.{IsGoodPlace}
+use Rattle.iobufs_owner.specs.Places.{IsGoodPlace, is_good_place, log_of}
 use Rattle.iobufs_owner.specs.State.{State, Tables, block_at, record_at, tail_in, retailed, recovered, owned_by}
 use Rattle.iobufs_owner.specs.Word.{HasRoom, fits, word_of}
-use Rattle.iobufs_owner.specs.Changes.{Outcome, refused, done, edited, made, with_block, with_record, next_record, with_count, block_freed, record_freed, both_freed, detached_handle, part}
-use Rattle.iobufs_owner.specs.Lending.{lend_of, lend_any_of, lend_owning_of}
+use Rattle.iobufs_owner.specs.Changes.{Outcome, refused, on_lent, done, edited, made, with_block, with_record, next_record, with_count, block_freed, record_freed, both_freed, detached_handle, part}
+use Rattle.iobufs_owner.specs.Lending.{lend_of, lend_any_of, lend_owning_of, lend_owning_view_of}
 
 -- ---- new blocks
 
@@ -62,51 +62,39 @@ abbrev pub fits_in : Tables → (size log tail : ℕ) → Bool
 fits_in g size log tail = fits g.align_bits g.tail_bits g.size_bits size log tail
 
 -- where the fields have room a descriptor of tail 0, else a record
-abbrev pub placed : State → (base size log : ℕ) → Outcome
-placed s base size log =
-    let b = made_block base size (2 ^ log) false in
-    if fits_in s.tables size log 0
-    then described_of s b (word_of s.tables.align_bits s.tables.tail_bits size log 0)
+abbrev pub placed : State → (base size align : ℕ) → Outcome
+placed s base size align =
+    let b = made_block base size align false in
+    if fits_in s.tables size (log_of align) 0
+    then described_of s b (word_of s.tables.align_bits s.tables.tail_bits size (log_of align) 0)
     else recorded_of s b (first_handle b (Counted (next_record s)))
 
-abbrev pub IsAllocated : State → (base size align : ℕ) → Bool → Outcome → Type 0
-IsAllocated s base size align memory o =
-    ((IsGoodPlace s.tables.blocks base size align → ⊥) × (o ≡ refused s BadPlace))
-    ⊎ (IsGoodPlace s.tables.blocks base size align
-    × MatchBool memory ((log : ℕ) × (align ≡ 2 ^ log) × (o ≡ placed s base size log)) (o ≡ refused s Memory))
+abbrev pub new_of : State → (base size align : ℕ) → Bool → Outcome
+new_of s base size align memory =
+    if is_good_place s.tables.blocks base size align then (if memory then placed s base size align else refused s Memory) else refused s BadPlace
 
 abbrev pub external_of : State → (base size : ℕ) → Bool → Outcome
 external_of s base size memory =
-    if memory then recorded_of s (made_block base size 1 true) (whole_view (made_block base size 1 true) (Counted (next_record s))) else refused s Memory
-
-abbrev pub IsExternal : State → (base size : ℕ) → Bool → Outcome → Type 0
-IsExternal s base size memory o =
-    ((IsGoodPlace s.tables.blocks base size 1 → ⊥) × (o ≡ refused s BadPlace))
-    ⊎ (IsGoodPlace s.tables.blocks base size 1 × (o ≡ external_of s base size memory))
+    let b = made_block base size 1 true in
+    if is_good_place s.tables.blocks base size 1
+    then (if memory then recorded_of s b (whole_view b (Counted (next_record s))) else refused s Memory)
+    else refused s BadPlace
 
 abbrev pub static_of : State → ℕ → Outcome
 static_of s len = made s (detached_handle len)
 
 -- ---- Put and Advance
 
-abbrev pub put_lent : State → ℕ → ℕ → Result Handle Refusal → Outcome
-put_lent s h n (Err why) = refused s why
-put_lent s h n (Ok x) =
-    if nat_lt (x.cap - x.len) n then refused s OutOfRange else done (edited s h (record x { len = x.len + n }))
-
 abbrev pub put_of : State → ℕ → ℕ → Outcome
-put_of s h n = put_lent s h n (lend_of s h Mut)
+put_of s h n =
+    on_lent s (lend_of s h Mut) (λ x. if nat_lt (x.cap - x.len) n then refused s OutOfRange else done (edited s h (record x { len = x.len + n })))
 
 -- a view has capacity 0 and keeps it
 abbrev pub advanced : Handle → ℕ → Handle
 advanced x n = record x { ptr = x.ptr + n; len = x.len - n; cap = x.cap - n }
 
-abbrev pub advance_lent : State → ℕ → ℕ → Result Handle Refusal → Outcome
-advance_lent s h n (Err why) = refused s why
-advance_lent s h n (Ok x) = if nat_lt x.len n then refused s OutOfRange else done (edited s h (advanced x n))
-
 abbrev pub advance_of : State → ℕ → ℕ → Outcome
-advance_of s h n = advance_lent s h n (lend_any_of s h)
+advance_of s h n = on_lent s (lend_any_of s h) (λ x. if nat_lt x.len n then refused s OutOfRange else done (edited s h (advanced x n)))
 
 -- ---- Freeze
 
@@ -136,13 +124,10 @@ freeze_by s h memory x (Descriptor w) =
     else (if memory then done (edited (promoted s x 1) h (frozen x (Counted (next_record s)))) else refused s Memory)
 freeze_by s h memory x (Counted r) = done (edited s h (frozen x (Counted r)))
 
-abbrev pub freeze_lent : State → ℕ → Bool → Result Handle Refusal → Outcome
-freeze_lent s h memory (Err why) = refused s why
-freeze_lent s h memory (Ok x) =
-    if nat_eq x.len 0 then done (edited (freed_with s x x.word) h (detached_handle 0)) else freeze_by s h memory x x.word
-
 abbrev pub freeze_of : State → ℕ → Bool → Outcome
-freeze_of s h memory = freeze_lent s h memory (lend_of s h Mut)
+freeze_of s h memory =
+    on_lent s (lend_of s h Mut)
+    (λ x. if nat_eq x.len 0 then done (edited (freed_with s x x.word) h (detached_handle 0)) else freeze_by s h memory x x.word)
 
 -- ---- TryIntoMut
 
@@ -164,12 +149,8 @@ recover_by s h x (Counted r) =
     then done (edited s h (thawed x (b.base + b.size - x.ptr) (Counted r)))
     else declined s)
 
-abbrev pub recover_lent : State → ℕ → Result Handle Refusal → Outcome
-recover_lent s h (Err why) = refused s why
-recover_lent s h (Ok x) = recover_by s h x x.word
-
 abbrev pub recover_of : State → ℕ → Outcome
-recover_of s h = recover_lent s h (lend_of s h View)
+recover_of s h = on_lent s (lend_of s h View) (λ x. recover_by s h x x.word)
 
 -- ---- SplitTo
 
@@ -187,16 +168,13 @@ split_by s h at memory x (Counted r) =
     if nat_lt s.ceiling (record_at s.tables r).count then refused s Ceiling
     else split_with (with_count s r ((record_at s.tables r).count + 1)) h at x (Counted r)
 
-abbrev pub split_lent : State → ℕ → ℕ → Bool → Result Handle Refusal → Outcome
-split_lent s h at memory (Err why) = refused s why
-split_lent s h at memory (Ok x) =
-    if nat_lt x.len at then refused s OutOfRange
+abbrev pub split_of : State → ℕ → ℕ → Bool → Outcome
+split_of s h at memory =
+    on_lent s (lend_of s h View)
+    (λ x. if nat_lt x.len at then refused s OutOfRange
     else (if nat_eq at 0 then made s (detached_handle 0)
     else (if nat_eq at x.len then made (edited s h (detached_handle 0)) x
-    else split_by s h at memory x x.word))
-
-abbrev pub split_of : State → ℕ → ℕ → Bool → Outcome
-split_of s h at memory = split_lent s h at memory (lend_of s h View)
+    else split_by s h at memory x x.word)))
 
 -- ---- IsUnique
 
@@ -205,12 +183,8 @@ is_unique g x Empty = false
 is_unique g x (Descriptor w) = true
 is_unique g x (Counted r) = is_mut x.kind || nat_eq (record_at g r).count 1
 
-abbrev pub unique_lent : State → Result Handle Refusal → Outcome
-unique_lent s (Err why) = refused s why
-unique_lent s (Ok x) = record { reply = Unique (is_unique s.tables x x.word); state = s }
-
 abbrev pub unique_of : State → ℕ → Outcome
-unique_of s h = unique_lent s (lend_owning_of s h)
+unique_of s h = on_lent s (lend_owning_of s h) (λ x. record { reply = Unique (is_unique s.tables x x.word); state = s })
 
 -- ---- Demote
 
@@ -218,31 +192,29 @@ unique_of s h = unique_lent s (lend_owning_of s h)
 abbrev pub tail_of : Block → Handle → ℕ
 tail_of b x = b.base + b.size - x.ptr - x.len
 
--- a record that counts one view of a native block, whose size, alignment 2 ^ log and tail have room in a word
-abbrev pub may_demote : Tables → Handle → (r log : ℕ) → Bool
-may_demote g x r log =
+-- a record that counts one view of a native block, whose size, alignment and tail have room in a word
+abbrev pub may_demote : Tables → Handle → ℕ → Bool
+may_demote g x r =
     let b = block_at g (record_at g r).block in
-    nat_eq (record_at g r).count 1 && not b.external && fits_in g b.size log (tail_of b x)
+    nat_eq (record_at g r).count 1 && not b.external && fits_in g b.size (log_of b.align) (tail_of b x)
 
 -- the view by a descriptor of its block
-abbrev pub described : Tables → Handle → (r log : ℕ) → Handle
-described g x r log =
+abbrev pub described : Tables → Handle → ℕ → Handle
+described g x r =
     let b = block_at g (record_at g r).block in
-    record x { word = Descriptor (word_of g.align_bits g.tail_bits b.size log (tail_of b x)) }
+    record x { word = Descriptor (word_of g.align_bits g.tail_bits b.size (log_of b.align) (tail_of b x)) }
 
 -- the descriptor takes the record's place, and the record alone is freed
-abbrev pub demote_counted : State → ℕ → Handle → (r log : ℕ) → Outcome
-demote_counted s h x r log =
-    if may_demote s.tables x r log then done (edited (record_freed s r) h (described s.tables x r log)) else declined s
+abbrev pub demote_counted : State → ℕ → Handle → ℕ → Outcome
+demote_counted s h x r =
+    if may_demote s.tables x r then done (edited (record_freed s r) h (described s.tables x r)) else declined s
 
 -- a word that isn't a record's stays; a view without block doesn't come here
-abbrev pub IsDemotedBy : State → ℕ → Handle → Word → Outcome → Type 0
-IsDemotedBy s h x Empty o = o ≡ declined s
-IsDemotedBy s h x (Descriptor w) o = o ≡ declined s
-IsDemotedBy s h x (Counted r) o =
-    (log : ℕ) × ((block_at s.tables (record_at s.tables r).block).align ≡ 2 ^ log) × (o ≡ demote_counted s h x r log)
+abbrev pub demote_by : State → ℕ → Handle → Word → Outcome
+demote_by s h x Empty = declined s
+demote_by s h x (Descriptor w) = declined s
+demote_by s h x (Counted r) = demote_counted s h x r
 
 -- a view goes back from a record to a descriptor
-abbrev pub IsDemoted : State → ℕ → Result Handle Refusal → Outcome → Type 0
-IsDemoted s h (Err why) o = o ≡ refused s why
-IsDemoted s h (Ok x) o = IsDemotedBy s h x x.word o
+abbrev pub demote_of : State → ℕ → Outcome
+demote_of s h = on_lent s (lend_owning_view_of s h) (λ x. demote_by s h x x.word)

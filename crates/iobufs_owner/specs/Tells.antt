@@ -3,7 +3,7 @@
 --     CountsTaken            a step leaves its party's call with fewer than four steps taken
 use Rattle.std.specs.Prelude.{◌≡◌, ◌≢◌, ◌↔◌, ℕ, ◌<◌, ◌≤◌, Bool, true, false, Some}
 use Rattle.iobufs_owner.specs.Types.{IsUnique, Begin, Step, Reply, Unique}
-use Rattle.iobufs_owner.specs.World.{World, Held, held_at, going_at, holds, still_holds}
+use Rattle.iobufs_owner.specs.World.{World, LiveHandle, held_at, going_at, holds, still_holds}
 use Rattle.iobufs_owner.specs.Runs.{taken_after, taken_of}
 
 -- no other handle and no unfinished drop holds the block
@@ -14,7 +14,7 @@ pub record IsSole (w : World) (h b : ℕ) : Type 0 where
 -- `IsUnique` answers true exactly where the handle is its block's sole holder
 abbrev pub TellsUnique : World → Step → Reply → Type 0
 TellsUnique w step reply =
-    (h b : ℕ) (memory v : Bool) (x : Held) → step.act ≡ Begin (IsUnique h) memory → reply ≡ Unique v → held_at w h ≡ Some x → x.block ≡ Some b
+    (h b : ℕ) (memory v : Bool) (x : LiveHandle) → step.act ≡ Begin (IsUnique h) memory → reply ≡ Unique v → held_at w h ≡ Some x → x.block ≡ Some b
     → (v ≡ true) ↔ IsSole w h b
 
 -- Where n steps of the party's unfinished call are taken at most, fewer than four are after the step, and no more than

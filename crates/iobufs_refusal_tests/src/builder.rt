@@ -1,6 +1,6 @@
 // Pushes to a `Builder`, which hand back what they were given, and values that are encoded into chunks.
 use crate::made::shows;
-use crate::word::{Word, end, say};
+use crate::word::{FailedAt, end, say};
 use bytes::Bytes;
 use iobufs::builder::{Builder, EncodeExt};
 use iobufs_core::buf::IoBuf;

@@ -1,7 +1,7 @@
 // Calls that consume what they make a buffer of.
 use crate::given::Given;
 use crate::made::part;
-use crate::word::{Word, end, say};
+use crate::word::{FailedAt, end, say};
 use bytes::{Bytes, BytesMut};
 use iobufs::bufs::IoBufs;
 use iobufs_core::buf::{IoBuf, IoBufMut};
@@ -137,11 +137,11 @@ fn convert(alloc: Global, source: Source, to: To) -> Result<Given, BufError> {
 fn converted(rt: &(impl Print + Abort + AllocGlobal), from: From, to: To, bytes: &[u8]) {
     let (source, sharer) = fixture!(*rt, made(rt.alloc(), from));
     let (given, word) = match convert(rt.alloc(), source, to) {
-        Ok(given) => (given, Word::Whole),
+        Ok(given) => (given, FailedAt::Whole),
         Err(BufError::Memory) => {
             let (again, _sharer) = made(rt.alloc(), from).expect(rt, "the second fixture");
             let given = convert(rt.alloc(), again, to).expect(rt, "the second call");
-            (given, Word::Refused)
+            (given, FailedAt::Refused)
         }
         Err(_) => panic!(rt; "another error"),
     };

@@ -1,5 +1,5 @@
 // One call on each of a list of buffers.
-use crate::word::{Word, say};
+use crate::word::{FailedAt, say};
 use iobufs_core::codec::BufError;
 use std::process::Abort;
 
@@ -15,15 +15,15 @@ pub fn on_each<B: Drop, S: Fn(&B) -> bool, F: FnMut(&mut B) -> Result<bool, BufE
     requires call { (state : F) (x : _) → F.pre state x }
 {
     let Ok(buffers) = made else {
-        return say(rt, Word::Fixture);
+        return say(rt, FailedAt::Fixture);
     };
-    let mut word = Word::Whole;
+    let mut word = FailedAt::Whole;
     for mut buffer in buffers {
         let mut answer = call(&mut buffer);
         if let Err(BufError::Memory) = answer {
             assert!(rt; is_same(&buffer), "changed by a failure");
             answer = call(&mut buffer);
-            word = Word::Refused;
+            word = FailedAt::Refused;
         }
         assert!(rt; matches!(answer, Ok(true)), "another answer");
     }

@@ -7,6 +7,9 @@ use iobufs_core::buf::{IoBuf, IoBufMut};
 pub enum Given {
     Nothing,
     View(IoBuf),
+    // What a call hands back that has to own the storage, or a single chunk.
+    Declined(IoBuf),
+    Several(IoBufs),
     Bytes(Bytes),
     List(Vec<u8>),
     Part(IoBufMut),
@@ -18,11 +21,12 @@ impl Given {
     pub fn shows(&self, bytes: &[u8]) -> bool {
         match self {
             Given::Nothing => bytes.is_empty(),
-            Given::View(view) => view.as_ref() == bytes,
+            Given::View(view) | Given::Declined(view) => view.as_ref() == bytes,
             Given::Bytes(given) => given.as_slice() == bytes,
             Given::List(list) => list.as_slice() == bytes,
             Given::Part(part) => part.as_ref() == bytes,
             Given::Bufs(bufs) => bufs.chunk_count() == 1 && bufs.chunk_at(0) == Some(bytes),
+            Given::Several(bufs) => bufs.eq_bytes(bytes),
         }
     }
 }

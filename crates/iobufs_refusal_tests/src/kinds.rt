@@ -98,21 +98,21 @@ fn has_second(pair: &Pair) -> bool {
 }
 
 // The error of a reader, as that of a buffer.
-fn memory<T: Drop>(read: Result<T, Error>) -> Result<T, BufError> {
+pub fn memory<T: Drop>(read: Result<T, Error>) -> Result<T, BufError> {
     read.map_err(|error| match error {
         Error::Memory => BufError::Memory,
         _ => BufError::TooLong,
     })
 }
 
-fn slice(view: &IoBuf, lo: usize, hi: usize) -> Result<IoBuf, BufError> {
+pub fn slice(view: &IoBuf, lo: usize, hi: usize) -> Result<IoBuf, BufError> {
     if !view.fits_range(Included(lo), Excluded(hi)) {
         return Err(BufError::TooLong);
     }
     view.slice(Included(lo), Excluded(hi))
 }
 
-fn split(view: &mut IoBuf, at: usize) -> Result<IoBuf, BufError> {
+pub fn split(view: &mut IoBuf, at: usize) -> Result<IoBuf, BufError> {
     if view.len() < at {
         return Err(BufError::TooLong);
     }
@@ -140,7 +140,7 @@ fn taken<T: OwnedBytes>(
 }
 
 // A view is made into `Bytes`, and handed back where that fails.
-fn into_bytes(alloc: Global, view: &mut IoBuf) -> Result<Bytes, BufError> {
+pub fn into_bytes(alloc: Global, view: &mut IoBuf) -> Result<Bytes, BufError> {
     match mem::take(view).into_bytes(alloc) {
         Ok(bytes) => Ok(bytes),
         Err(back) => {
@@ -150,7 +150,7 @@ fn into_bytes(alloc: Global, view: &mut IoBuf) -> Result<Bytes, BufError> {
     }
 }
 
-fn into_part(alloc: Global, view: &mut IoBuf) -> Result<IoBufMut, BufError> {
+pub fn into_part(alloc: Global, view: &mut IoBuf) -> Result<IoBufMut, BufError> {
     match IoBufMut::from_view(alloc, mem::take(view)) {
         Ok(part) => Ok(part),
         Err(back) => {

@@ -9,7 +9,7 @@ macro_rules! fixture {
     ($rt:expr, $made:expr) => {
         match $made {
             Ok(made) => made,
-            Err(_) => return say(&$rt, Word::Fixture),
+            Err(_) => return say(&$rt, FailedAt::Fixture),
         }
     };
 }
@@ -18,10 +18,10 @@ macro_rules! fixture {
 macro_rules! lent {
     ($rt:expr, $call:expr, $memory:pat, $same:expr) => {
         match $call {
-            Ok(answer) => (answer, Word::Whole),
+            Ok(answer) => (answer, FailedAt::Whole),
             Err($memory) => {
                 assert!($rt; $same, "changed by a failure");
-                ($call.expect(&$rt, "the second call"), Word::Refused)
+                ($call.expect(&$rt, "the second call"), FailedAt::Refused)
             }
             Err(_) => panic!($rt; "another error"),
         }
@@ -32,6 +32,8 @@ macro_rules! lent {
 mod builder;
 #[cfg(test)]
 mod conversions;
+#[cfg(test)]
+mod costs;
 #[cfg(test)]
 mod each;
 #[cfg(test)]
@@ -46,6 +48,8 @@ mod machine;
 mod made;
 #[cfg(test)]
 mod parts;
+#[cfg(test)]
+mod readers;
 #[cfg(test)]
 mod several;
 #[cfg(test)]

@@ -19,7 +19,7 @@
 // | `win` | a handle | `a_clone`, `a_slice` |
 // | `add_holder` | a handle | `a_clone_of_a_shared_view` |
 // | `reserve` | each table and what grows beside it | `a_reservation` |
-use crate::word::{Word, end, say};
+use crate::word::{FailedAt, end, say};
 use iobufs_core::codec::BufError;
 use iobufs_owner::format::FORMAT_64;
 use iobufs_owner::owner::Act::{self, Begin, Go};
@@ -98,7 +98,7 @@ fn two_machines(alloc: Global) -> Result<(Machine, Machine), BufError> {
 // Executes steps on a machine that reserves before each, and on one that has the capacity.
 fn lockstep(rt: &(impl Print + Abort + AllocGlobal), first: &[Row], then: &[Row]) {
     let (mut one, mut other) = fixture!(*rt, two_machines(rt.alloc()));
-    let mut word = Word::Whole;
+    let mut word = FailedAt::Whole;
     for (party, act) in first.iter().chain(then) {
         let step = Step {
             party: *party,
@@ -106,7 +106,7 @@ fn lockstep(rt: &(impl Print + Abort + AllocGlobal), first: &[Row], then: &[Row]
         };
         let (reply, refused) = stepped(rt, &mut one, &other, step);
         if refused {
-            word = Word::Refused;
+            word = FailedAt::Refused;
         }
         assert!(rt; reply == other.step(step), "another reply");
         assert!(rt; is_same(&one, &other), "another state");

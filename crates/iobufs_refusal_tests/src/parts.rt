@@ -1,6 +1,6 @@
 // How writable buffers are made, by calls that the program has no line for; those on each kind of storage are in `kinds`.
 use crate::made::{part, shows_part};
-use crate::word::{Word, end, say};
+use crate::word::{FailedAt, end, say};
 use iobufs_core::buf::IoBufMut;
 use iobufs_core::codec::{Buf, BufError, BufMut};
 use std::process::Abort;
@@ -32,5 +32,5 @@ fn calls_that_allocate_nothing(rt: HostRuntime) {
     part.set_len(3);
     assert!(rt; part.as_ref() == b"bc\0".as_slice(), "other bytes");
     part.clear();
-    end(&rt, Word::Whole, shows_part(&part, b"", 15));
+    end(&rt, FailedAt::Whole, shows_part(&part, b"", 15));
 }

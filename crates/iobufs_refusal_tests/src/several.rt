@@ -1,6 +1,6 @@
 // Calls of `IoBufsMut` that the program has no line for.
 use crate::made::{shows_part, shows_parts, strung};
-use crate::word::{Word, end, say};
+use crate::word::{FailedAt, end, say};
 use iobufs::bufs_mut::IoBufsMut;
 use iobufs_core::codec::{Buf, BufError, BufMut};
 use std::alloc::Global;
@@ -18,7 +18,7 @@ fn counted(alloc: Global, parts: &IoBufsMut, max: usize) -> Result<usize, BufErr
 fn into_single(rt: HostRuntime) {
     let parts = fixture!(rt, strung(rt.alloc(), 1));
     let part = parts.try_into_single().ok().expect(&rt, "one buffer");
-    end(&rt, Word::Whole, shows_part(&part, b"ab", 2));
+    end(&rt, FailedAt::Whole, shows_part(&part, b"ab", 2));
 }
 
 #[test]
@@ -50,5 +50,9 @@ fn calls_that_allocate_nothing(rt: HostRuntime) {
     assert!(rt; parts.len() == 2, "another length");
     parts.copy_from_slice(b"uv");
     let rest = parts.byte_at(0) == Some(b'u') && parts.byte_at(1) == Some(b'v');
-    end(&rt, Word::Whole, rest && two.as_slice() == b"ab".as_slice());
+    end(
+        &rt,
+        FailedAt::Whole,
+        rest && two.as_slice() == b"ab".as_slice(),
+    );
 }

@@ -1,6 +1,6 @@
 // A table of names, and a run of commands. `tests/sessions` have each command with each allocation failing.
 use crate::made::shows;
-use crate::word::{Word, end, say};
+use crate::word::{FailedAt, end, say};
 use iobufs_core::codec::BufError;
 use iobufs_run::command::{Cmd, Kind, Piece, Refusal, Reply};
 use iobufs_run::table::{Slot, Table};
@@ -109,11 +109,11 @@ fn is_told(reply: &Reply, target: usize) -> bool {
 // Shows a name. If an allocation fails, the reply says so, and the name holds what it held.
 fn told(rt: &(impl Print + Abort + AllocGlobal), target: usize) {
     let mut table = fixture!(*rt, filled(rt.alloc()));
-    let mut word = Word::Whole;
+    let mut word = FailedAt::Whole;
     let mut reply = shown(&mut table, target);
     if reply == Reply::Refused(Refusal::Memory) {
         assert!(rt; stays(&table, target), "changed by a failure");
-        word = Word::Refused;
+        word = FailedAt::Refused;
         reply = shown(&mut table, target);
     }
     end(rt, word, is_told(&reply, target) && stays(&table, target));

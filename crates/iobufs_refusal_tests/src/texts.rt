@@ -2,7 +2,7 @@
 use crate::each::on_each;
 use crate::given::Given;
 use crate::made::{PIECES, native, natives, pieces, shows, shows_pieces};
-use crate::word::{Word, end, say};
+use crate::word::{FailedAt, end, say};
 use bytes::Bytes;
 use iobufs::bufs::IoBufs;
 use iobufs_core::buf::IoBuf;
@@ -76,7 +76,7 @@ fn prepended(rt: HostRuntime) {
 fn into_single(rt: HostRuntime) {
     let text = IoBufs::from(fixture!(rt, native(rt.alloc(), 8, b"abc")));
     let view = text.try_into_single().ok().expect(&rt, "one piece");
-    end(&rt, Word::Whole, view.as_ref() == b"abc".as_slice());
+    end(&rt, FailedAt::Whole, view.as_ref() == b"abc".as_slice());
 }
 
 // The number of chunks, at most `max`.
@@ -226,6 +226,26 @@ fn sliced(rt: HostRuntime) {
     })
 }
 
+fn front(alloc: Global, text: &IoBufs, n: usize) -> Result<IoBufs, BufError> {
+    if text.len() < n {
+        return Err(BufError::TooLong);
+    }
+    text.slice(alloc, 0..n)
+}
+
+// Within one native chunk: nothing is allocated.
+#[test]
+fn sliced_within_a_chunk(rt: HostRuntime) {
+    let text = fixture!(rt, natives(rt.alloc()));
+    let (slice, word) = lent!(
+        rt,
+        front(rt.alloc(), &text, 2),
+        BufError::Memory,
+        shows(&text, &[b"abc", b"def"])
+    );
+    end(&rt, word, shows(&slice, &[b"ab"]));
+}
+
 #[test]
 fn tried_to_take(rt: HostRuntime) {
     let mut text = fixture!(rt, pieces(rt.alloc(), 4));
@@ -252,7 +272,7 @@ fn calls_that_allocate_nothing(rt: HostRuntime) {
     let rest = shows(&text, &[b"h"]) && IoBufs::default().is_empty();
     end(
         &rt,
-        Word::Whole,
+        FailedAt::Whole,
         is_def && rest && shows(&IoBufs::from(b"ab".as_slice()), &[b"ab"]),
     );
 }

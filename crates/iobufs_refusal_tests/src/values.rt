@@ -1,6 +1,6 @@
 // Values that are written and read.
 use crate::made::{native, shows};
-use crate::word::{Word, end, say};
+use crate::word::{FailedAt, end, say};
 use bytes::Bytes;
 use iobufs::bufs::IoBufs;
 use iobufs::builder::Builder;
@@ -85,10 +85,10 @@ fn written<T: Write>(rt: &(impl Print + Abort + AllocGlobal), value: &T, begun: 
         "no space"
     );
     match value.write_bufs(&mut builder) {
-        Ok(()) => say(rt, Word::Whole),
+        Ok(()) => say(rt, FailedAt::Whole),
         Err(Error::Memory) => {
             let built = builder.finish().expect(rt, "what is begun");
-            end(rt, Word::Refused, shows(&built, begun));
+            end(rt, FailedAt::Refused, shows(&built, begun));
         }
         Err(_) => panic!(rt; "another error"),
     }
@@ -196,5 +196,5 @@ fn counts_that_lie_ask_for_nothing(rt: HostRuntime) {
         end_of_bytes,
         &LARGEST,
     );
-    end(&rt, Word::Whole, numbers && bytes && lists);
+    end(&rt, FailedAt::Whole, numbers && bytes && lists);
 }

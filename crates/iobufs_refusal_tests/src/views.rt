@@ -1,5 +1,5 @@
 // How views are made, by calls that the program has no line for; those on each kind of storage are in `kinds`.
-use crate::word::{Word, end, say};
+use crate::word::{FailedAt, end, say};
 use bytes::Bytes;
 use iobufs_core::buf::IoBuf;
 use iobufs_core::codec::{Buf, BufError};
@@ -26,5 +26,9 @@ fn calls_that_allocate_nothing(rt: HostRuntime) {
     view.copy_to_slice(&mut two);
     view.advance(1);
     let rest = view.as_ref() == b"f".as_slice() && IoBuf::default().is_empty();
-    end(&rt, Word::Whole, rest && two.as_slice() == b"cd".as_slice());
+    end(
+        &rt,
+        FailedAt::Whole,
+        rest && two.as_slice() == b"cd".as_slice(),
+    );
 }

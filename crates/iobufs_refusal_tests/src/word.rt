@@ -4,7 +4,7 @@ use std::process::Abort;
 
 // Which allocation failed.
 #[derive(Clone, Copy)]
-pub enum Word {
+pub enum FailedAt {
     // One of the fixture's.
     Fixture,
     // One of the call's.
@@ -13,22 +13,22 @@ pub enum Word {
     Whole,
 }
 
-impl fmt::Display for Word {
+impl fmt::Display for FailedAt {
     fn fmt<W: fmt::Write>(&self, f: &mut fmt::Formatter<W>) -> fmt::Result {
         f.write_str(match self {
-            Word::Fixture => "fixture",
-            Word::Refused => "refused",
-            Word::Whole => "whole",
+            FailedAt::Fixture => "fixture",
+            FailedAt::Refused => "refused",
+            FailedAt::Whole => "whole",
         })
     }
 }
 
-pub fn say(rt: &(impl Print + Abort), word: Word) {
+pub fn say(rt: &(impl Print + Abort), word: FailedAt) {
     println!(rt; "{word}").expect(rt, "the word is printed");
 }
 
 // The word, if the call gave what it should.
-pub fn end(rt: &(impl Print + Abort), word: Word, holds: bool) {
+pub fn end(rt: &(impl Print + Abort), word: FailedAt, holds: bool) {
     assert!(rt; holds, "another answer");
     say(rt, word);
 }

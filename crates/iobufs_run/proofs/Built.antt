@@ -4,7 +4,7 @@ use Rattle.std.specs.Prelude.{slice_set, ◌==◌}
 use Rattle.std.specs.List.{list_all}
 use Rattle.std.proofs.lemmas.Bool.{or_parts, and_parts}
 use Rattle.std.proofs.lemmas.List.Sums.{sum_by-cons}
-use Rattle.iobufs_core.specs.Items.{Item as Written, put_item, push_item, items_inline, items_pushed}
+use Rattle.iobufs_core.specs.Items.{PutOrPush as Written, put_item, push_item, items_inline, items_pushed}
 use Rattle.iobufs.specs.Building.{Building, building_after, building_with, empty_building, building_room, room_for_pushes}
 use Rattle.iobufs.specs.Laws.Building.{room-built, pushes-built}
 use Rattle.iobufs_run.specs.declared.command.Item.{Item}

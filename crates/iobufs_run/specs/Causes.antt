@@ -3,7 +3,7 @@
 --     is_no_name, is_in_use_beside      a name that isn't there; a destination in use that isn't the source either
 --     is_listed, has_twice              a name is in a list; one is there twice
 --     is_too_long                       more bytes than a length can say
---     free_name, one_of, lent, moved    the causes that several commands have in common, each with further ones
+--     free_name, one_of, lent, move_causes    the causes that several commands have in common, each with further ones
 --     gathered, gather_causes           those of commands that join several sources, and all of a gathering
 --     total_extent                      how much the sources count together
 --     pushed_names, inline_len          the names that the items of a built text push, and how many bytes they put
@@ -69,8 +69,8 @@ lent kinds names src dst others =
     ∷ others
 
 -- a source of one of these kinds that is consumed, and a destination that is free or the source
-abbrev pub moved : List Kind → List Slot → ℕ → ℕ → List Cause → List Cause
-moved kinds names src dst others =
+abbrev pub move_causes : List Kind → List Slot → ℕ → ℕ → List Cause → List Cause
+move_causes kinds names src dst others =
     (is_no_name names src || is_no_name names dst, NoName)
     ∷ (not (is_one_of kinds (slot_named names src)), WrongKind)
     ∷ (is_in_use_beside names src dst, InUse)
@@ -139,8 +139,8 @@ causes names (Truncate target n) = one_of (Part ∷ []) names target []
 causes names (Clear target) = one_of (Part ∷ []) names target []
 causes names (Overwrite target bytes) =
     one_of (Part ∷ Parts ∷ []) names target ((not (length bytes.items == readable (slot_named names target)), OutOfRange) ∷ [])
-causes names (Freeze src dst) = moved (Part ∷ Parts ∷ []) names src dst []
-causes names (Recover src dst) = moved (View ∷ []) names src dst ((is_fixed_view (slot_named names src), Declined) ∷ [])
+causes names (Freeze src dst) = move_causes (Part ∷ Parts ∷ []) names src dst []
+causes names (Recover src dst) = move_causes (View ∷ []) names src dst ((is_fixed_view (slot_named names src), Declined) ∷ [])
 causes names (Clone src dst) = lent (View ∷ Text ∷ []) names src dst []
 causes names (Slice src dst lo hi) =
     lent (View ∷ []) names src dst ((not (range_fits lo hi (readable (slot_named names src))), OutOfRange) ∷ [])
@@ -152,7 +152,7 @@ causes names (Gather dst sources) = gather_causes View names dst sources.items
 causes names (GatherMut dst sources) = gather_causes Part names dst sources.items
 causes names (Append target src) = join_causes names target src
 causes names (Prepend target src) = join_causes names target src
-causes names (Coalesce src dst) = moved (Text ∷ Parts ∷ []) names src dst ((is_too_large (slot_named names src), BadLayout) ∷ [])
+causes names (Coalesce src dst) = move_causes (Text ∷ Parts ∷ []) names src dst ((is_too_large (slot_named names src), BadLayout) ∷ [])
 causes names (Build dst capacity items) = build_causes names dst capacity items.items
 causes names (Encode src dst) =
     lent (View ∷ []) names src dst ((is_too_long (length (view_written (view_held (slot_named names src)))), Codec fault.TooLong) ∷ [])

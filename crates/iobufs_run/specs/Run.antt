@@ -14,7 +14,7 @@
 --     reply_of                        the reply of a command that is done, or refused
 use Rattle.std.specs.Prelude.{◌≡◌, ◌⊎◌, ℕ, ◌==◌, ◌&&◌, not, List, [], ◌∷◌, map, length, take, replicate, slice_set, None, Some, IsTrue, Result, Ok, Err}
 use Rattle.iobufs_core.specs.Part.{empty_part}
-use Rattle.iobufs_core.specs.Items.{Item as Written, put_item, push_item}
+use Rattle.iobufs_core.specs.Items.{PutOrPush as Written, put_item, push_item}
 use Rattle.iobufs_core.specs.MarkedText.{MarkedText, joined}
 use Rattle.iobufs_core.specs.View.{View as ViewValue, static_mark, view_of_bytes}
 use Rattle.iobufs_core.specs.Wire.{IsViewRead}

@@ -1,7 +1,6 @@
 // Named buffers, and the commands on them.
 ghost use Rattle.std.specs.Prelude.{◌≡◌, ◌≢◌, true, length, replicate, IfErr, IfOk, IsOk, IsOkUnless, None, OnErr};
 ghost use Rattle.iobufs_run.specs.Causes.{refusal_for};
-ghost use Rattle.iobufs_run.specs.Choices.{NoOtherChoices, OnlyWants, RefusalsKeep};
 ghost use Rattle.iobufs_run.specs.Run.{Run, Step, reply_of};
 ghost use Rattle.iobufs_run.specs.Slots.{AreSlots, IsSlot, kind_of, slot_named};
 
@@ -213,17 +212,3 @@ impl Table {
         Ok(replies)
     }
 }
-
-/// Does nothing. Its contract is a law: two steps of the same command on the same names, neither refused with `Memory`,
-/// have the same outcome, except for the capacity after adopted bytes and whether a native view is recovered. A step is
-/// refused with `Memory` only if the command may be and is otherwise executed.
-pub fn choices_law()
-    ensures same { NoOtherChoices }
-    ensures memory { OnlyWants }
-{}
-
-/// Does nothing. Its contract is a law: a refused command leaves what each name holds, except for names that it
-/// consumes, which `Memory` may free.
-pub fn refusal_law()
-    ensures { RefusalsKeep }
-{}

@@ -7,7 +7,7 @@ use Rattle.std.proofs.KnownBytes.{Appends-nil, Appends-trans}
 use Rattle.iobufs.specs.CallerFacts.{IsSent, sent_all, sent_kept, sent_nothing, sent_on}
 use Rattle.iobufs_core.specs.View.{View}
 use Rattle.iobufs_core.specs.declared.codec.base.RangeCfg.{RangeCfg}
-use Rattle.iobufs_frames.specs.Frames.{CanAllFollow, CanFollow, IsFramedWith, all_written, frame_written}
+use Rattle.iobufs_frames.specs.Frames.{CanAllFollow, CanFollow, IsFramed, all_written, frame_written}
 use Rattle.iobufs_frames.specs.FrameFacts.{first_is, none_in_front, nothing_is_open, one_more, written-append, written-push}
 use Rattle.iobufs_frames.specs.declared.End.{End}
 use Rattle.iobufs_frames.specs.declared.End.TheVariants.{Open}
@@ -172,15 +172,15 @@ begun_more prefix now_prefix to now_to range now_range (Some text) (Some left) (
 record Others (prefix : Prefix) (range : RangeCfg) (done frames : List (List ℕ)) (stop : End) (rest left : List ℕ) : Type 0 where
   others : List (List ℕ)
   listed : frames ≡ done ++ others
-  behind : IsFramedWith prefix range left others stop rest
+  behind : IsFramed prefix range left others stop rest
 
 others_of : (prefix : Prefix) (range : RangeCfg) (text left : List ℕ) (done frames : List (List ℕ)) (stop : End) (rest : List ℕ)
-    → text ≡ all_written prefix done ++ left → CanAllFollow prefix range done → IsFramedWith prefix range text frames stop rest
+    → text ≡ all_written prefix done ++ left → CanAllFollow prefix range done → IsFramed prefix range text frames stop rest
     → Others prefix range done frames stop rest left
 others_of prefix range text left [] frames stop rest e fits is = record {
   others = frames;
   listed = refl;
-  behind = subst (λ (w : List ℕ). IsFramedWith prefix range w frames stop rest) e is;
+  behind = subst (λ (w : List ℕ). IsFramed prefix range w frames stop rest) e is;
 }
 others_of prefix range text left (f ∷ fs) frames stop rest e (first, fits) is =
     let behind = all_written prefix fs ++ left in
@@ -224,7 +224,7 @@ sent_to_the_end : (prefix to : Prefix) (range : RangeCfg) (text left : List ℕ)
     → left ≡ [] → SendsAllFrames prefix to range text held holds
 sent_to_the_end prefix to range text left held holds so_far nothing frames stop rest is =
     let more = others_of prefix range text left so_far.done frames stop rest so_far.whole so_far.fits is in
-    let behind = subst (λ (w : List ℕ). IsFramedWith prefix range w more.others stop rest) nothing more.behind in
+    let behind = subst (λ (w : List ℕ). IsFramed prefix range w more.others stop rest) nothing more.behind in
     let (none, stopped) = none_in_front prefix range [] stop Open more.others rest (nothing_is_open prefix range) behind in
     let all : so_far.done ≡ frames = sym (more.listed ∙ ap (λ w. so_far.done ++ w) none ∙ append-nil so_far.done) in
     (sym (behind.whole ∙ ap (λ fs. all_written prefix fs ++ rest) none), subst (λ fs. Appends held holds (all_written to fs)) all so_far.sent)

@@ -7,11 +7,11 @@ use Rattle.std.proofs.lemmas.List.{nil_from_length}
 use Rattle.iobufs_core.specs.View.{View}
 use Rattle.iobufs_core.specs.declared.codec.base.RangeCfg.{RangeCfg}
 use Rattle.iobufs_frames.specs.FrameFacts.{first_is, none_in_front, nothing_is_open, stands, stays_bad}
-use Rattle.iobufs_frames.specs.Frames.{IsFramedWith, LacksFrame, all_written, frame_written}
+use Rattle.iobufs_frames.specs.Frames.{IsFramed, LacksFrame, all_written, frame_written}
 use Rattle.iobufs_frames.specs.declared.End.{End}
 use Rattle.iobufs_frames.specs.declared.End.TheVariants as end
 use Rattle.iobufs_frames.specs.declared.lengths.Prefix.{Prefix}
-use Rattle.iobufs_streams.specs.Streams.{HasFrame, IsEnd, IsFilled, IsFirstOf, IsFront, IsHeldFront, IsNeeded, TakesFrame}
+use Rattle.iobufs_streams.specs.Streams.{HasFrame, IsEnd, IsFilledBy, IsFirstOf, IsFront, IsHeldFront, IsNeeded, TakesFrame}
 use Rattle.iobufs_streams.specs.declared.error.FrameError.{FrameError}
 use Rattle.iobufs_streams.specs.declared.error.FrameError.TheVariants.{Bad, Cut, Io, Memory, TooLong}
 
@@ -74,7 +74,7 @@ same_items is was len a b =
     ∙ take-append-drop len is
 
 filled_by : (had has : Option (List ℕ)) (fed was is : List ℕ) (m n : ℕ) → m ≡ 0 → n ≤ length is → 0 < length is
-    → Consumes had has (take n is) × (n ≡ 0 → 0 < length is → IsAtEnd has) → IsFilled had has (fed ++ take m was) (fed ++ take n is) (nat_eq n 0)
+    → Consumes had has (take n is) × (n ≡ 0 → 0 < length is → IsAtEnd has) → IsFilledBy had has (fed ++ take m was) (fed ++ take n is) (nat_eq n 0)
 filled_by had has fed was is m n zero fits room (took, last) =
     let nothing : take m was ≡ [] = ap (λ k. take k was) zero in
     let count : length (take n is) ≡ n = omega (arith, length-take n is, fits) in record {
@@ -89,9 +89,9 @@ filled_by had has fed was is m n zero fits room (took, last) =
 
 -- what a read put over the first bytes of a piece, where none of the earlier ones were left, is held after what was fed; no byte is the end
 pub filled_so : (had has : Option (List ℕ)) (fed was is items : List ℕ) (m n : ℕ) → items ≡ is → m ≡ 0 → n ≤ length is → 0 < length is
-    → Consumes had has (take n is) × (n ≡ 0 → 0 < length is → IsAtEnd has) → IsFilled had has (fed ++ take m was) (fed ++ take n items) (nat_eq n 0)
+    → Consumes had has (take n is) × (n ≡ 0 → 0 < length is → IsAtEnd has) → IsFilledBy had has (fed ++ take m was) (fed ++ take n items) (nat_eq n 0)
 filled_so had has fed was is items m n same zero fits room both =
-    subst (λ (w : List ℕ). IsFilled had has (fed ++ take m was) (fed ++ take n w) (nat_eq n 0)) (sym same)
+    subst (λ (w : List ℕ). IsFilledBy had has (fed ++ take m was) (fed ++ take n w) (nat_eq n 0)) (sym same)
     (filled_by had has fed was is m n zero fits room both)
 
 -- ---- reads that wait for a frame
@@ -133,14 +133,15 @@ never_ready prefix range from now_from had has old held left count so_far (same,
     not_ready prefix range old so_far.read held so_far.grew none
 
 -- what is known of bytes that hold no whole frame
-pub none_held : (prefix : Prefix) (range : RangeCfg) (held left : List ℕ) (found : Option View) → found ≡ None → IsHeldFront prefix range held (Ok found) left
-    → (left ≡ held) × LacksFrame prefix range held end.Open
-none_held prefix range held left found is h = subst (λ (o : Option View). IsHeldFront prefix range held (Ok o) left) is h
+pub none_held : (prefix now : Prefix) (range : RangeCfg) (held left : List ℕ) (found : Option View) → now ≡ prefix → found ≡ None
+    → IsHeldFront now range held (Ok found) left → (left ≡ held) × LacksFrame prefix range held end.Open
+none_held prefix now range held left found same is h =
+    subst (λ (p : Prefix). IsHeldFront p range held (Ok None) left) same (subst (λ (o : Option View). IsHeldFront now range held (Ok o) left) is h)
 
 -- one more read
 pub waits_on : {Reader : Type 0} (prefix : Prefix) (range : RangeCfg) (from mid new : Reader) (a b c : Option (List ℕ)) (old held left now : List ℕ)
     (count next : ℕ) (last : Bool)
-    → IsWaiting prefix range from mid a b old held count → (left ≡ held) × LacksFrame prefix range held end.Open → IsFilled b c left now last → last ≡ false
+    → IsWaiting prefix range from mid a b old held count → (left ≡ held) × LacksFrame prefix range held end.Open → IsFilledBy b c left now last → last ≡ false
     → next ≡ count + 1 → IsWaiting prefix range from new a c old now next
 waits_on prefix range from mid new a b c old held left now count next last so_far (same, none) filled some step =
     let before = so_far.read in
@@ -211,7 +212,7 @@ ended prefix range has bytes (Err TooLong) last none h = absurd h
 pub took_end : {Reader : Type 0} (prefix : Prefix) (range : RangeCfg) (from now_from : Reader) (a b c : Option (List ℕ)) (old held left now : List ℕ)
     (count : ℕ) (last : Bool) (result : Result (Option View) FrameError)
     → IsWaiting prefix range from now_from a b old held count → (left ≡ held) × LacksFrame prefix range held end.Open
-    → IsFilled b c left now last → last ≡ true → IsEnd now result → TakesFrame prefix range a c old now result
+    → IsFilledBy b c left now last → last ≡ true → IsEnd now result → TakesFrame prefix range a c old now result
 took_end prefix range from now_from a b c old held left now count last result so_far (same, none) filled at h =
     let nothing : filled.is.read ≡ [] = nil_from_length filled.is.read (zero_of (length filled.is.read) (sym filled.empty ∙ at)) in
     let stays_so : now ≡ held = filled.is.grew ∙ ap (λ w. left ++ w) nothing ∙ append-nil left ∙ same in
@@ -255,13 +256,13 @@ nothing_framed prefix range text e = subst (λ (xs : List ℕ). LacksFrame prefi
 
 -- where a text has no frames, all of it is after them
 all_behind : (prefix : Prefix) (range : RangeCfg) (text : List ℕ) (frames : List (List ℕ)) (stop : End) (rest : List ℕ)
-    → IsFramedWith prefix range text frames stop rest → frames ≡ []
+    → IsFramed prefix range text frames stop rest → frames ≡ []
     → text ≡ rest
 all_behind prefix range text frames stop rest is none = is.whole ∙ ap (λ fs. all_written prefix fs ++ rest) none
 
 first_of : (prefix : Prefix) (range : RangeCfg) (old new bytes left : List ℕ) (result : Result (Option View) FrameError) (frames : List (List ℕ))
     (stop : End) (rest : List ℕ)
-    → IsFront prefix range (Some left) bytes result new → IsFramedWith prefix range (bytes ++ left) frames stop rest
+    → IsFront prefix range (Some left) bytes result new → IsFramed prefix range (bytes ++ left) frames stop rest
     → IsFirstOf prefix range frames stop rest result (new ++ left)
 first_of prefix range old new bytes left (Ok (Some body)) frames stop rest (admitted, whole) is =
     first_is prefix range (bytes ++ left) (new ++ left) body.bytes stop frames rest admitted
@@ -280,19 +281,19 @@ first_of prefix range old new bytes left (Err (Bad error)) frames stop rest (sam
     let (none, stopped) = none_in_front prefix range (bytes ++ left) stop (end.Bad error) frames rest (stays_bad prefix range bytes left error bad) is in
     (none, stopped, ap (λ w. w ++ left) same ∙ all_behind prefix range (bytes ++ left) frames stop rest is none)
 first_of prefix range old new bytes left (Err (Io error)) frames stop rest same is =
-    subst (λ (w : List ℕ). IsFramedWith prefix range w frames stop rest) (ap (λ w. w ++ left) (sym same)) is
+    subst (λ (w : List ℕ). IsFramed prefix range w frames stop rest) (ap (λ w. w ++ left) (sym same)) is
 first_of prefix range old new bytes left (Err Memory) frames stop rest same is =
-    subst (λ (w : List ℕ). IsFramedWith prefix range w frames stop rest) (ap (λ w. w ++ left) (sym same)) is
+    subst (λ (w : List ℕ). IsFramed prefix range w frames stop rest) (ap (λ w. w ++ left) (sym same)) is
 first_of prefix range old new bytes left (Err TooLong) frames stop rest (same, long) is =
-    subst (λ (w : List ℕ). IsFramedWith prefix range w frames stop rest) (ap (λ w. w ++ left) (sym same)) is
+    subst (λ (w : List ℕ). IsFramed prefix range w frames stop rest) (ap (λ w. w ++ left) (sym same)) is
 
 -- what `next` answers is the first of the frames of all bytes held and still to be read, or what their end says
 pub first_taken : (prefix : Prefix) (range : RangeCfg) (had has : Option (List ℕ)) (old new : List ℕ) (result : Result (Option View) FrameError)
     → TakesFrame prefix range had has old new result
     → IfSome had (λ text. IfSome has (λ left. (frames : List (List ℕ)) (stop : End) (rest : List ℕ)
-    → IsFramedWith prefix range (old ++ text) frames stop rest → IsFirstOf prefix range frames stop rest result (new ++ left)))
+    → IsFramed prefix range (old ++ text) frames stop rest → IsFirstOf prefix range frames stop rest result (new ++ left)))
 first_taken prefix range None has old new result is = tt
 first_taken prefix range (Some text) None old new result is = absurd is.took
 first_taken prefix range (Some text) (Some left) old new result is = λ frames stop rest framed.
     first_of prefix range old new (old ++ is.read) left result frames stop rest is.front
-    (subst (λ (w : List ℕ). IsFramedWith prefix range w frames stop rest) (ap (λ w. old ++ w) is.took ∙ sym (append_assoc old is.read left)) framed)
+    (subst (λ (w : List ℕ). IsFramed prefix range w frames stop rest) (ap (λ w. old ++ w) is.took ∙ sym (append_assoc old is.read left)) framed)

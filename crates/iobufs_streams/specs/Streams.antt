@@ -1,7 +1,8 @@
 -- Frames on a stream, of lengths that are written as a prefix says.
 --     held_bytes           the bytes that were read and not taken
+--     held_prefix          how the lengths of their frames are written
 --     HasFrame             a whole frame is at the front
---     IsMore, IsFilled     more bytes are held, which a reader gave; and there are some, or it is at its end
+--     IsMore, IsFilledBy     more bytes are held, which a reader gave; and there are some, or it is at its end
 --     WasNeeded,           before the last read no whole frame was held; or nothing was read
 --     IsNeeded
 --     fault_of_error,      an error of reading, or of holding what was read, as why no frame is taken
@@ -23,7 +24,7 @@ use Rattle.iobufs_core.specs.declared.codec.base.BufError.TheVariants as cause
 use Rattle.iobufs_core.specs.declared.codec.base.Error.{Error}
 use Rattle.iobufs_core.specs.declared.codec.base.Error.TheVariants as error
 use Rattle.iobufs_core.specs.declared.codec.base.RangeCfg.{RangeCfg}
-use Rattle.iobufs_frames.specs.Frames.{CanFollow, FirstTakenWith, IsFramedWith, LacksFrame, all_written, frame_written}
+use Rattle.iobufs_frames.specs.Frames.{CanFollow, FirstTaken, IsFramed, LacksFrame, all_written, frame_written}
 use Rattle.iobufs_frames.specs.declared.End.{End}
 use Rattle.iobufs_frames.specs.declared.End.TheVariants as end
 use Rattle.iobufs_frames.specs.declared.lengths.Prefix.{Prefix}
@@ -33,7 +34,11 @@ use Rattle.iobufs_streams.specs.declared.held.Held.{Held}
 
 -- those that were fed, and those of the last read that were not
 abbrev pub held_bytes : Held → List ℕ
-held_bytes held = held.frames.bytes ++ take held.read held.piece.items
+held_bytes held = held.frames.rest.bytes ++ take held.read held.piece.items
+
+-- how the lengths of its frames are written
+abbrev pub held_prefix : Held → Prefix
+held_prefix held = held.frames.prefix
 
 -- a whole frame is at the front
 pub record HasFrame (prefix : Prefix) (range : RangeCfg) (bytes : List ℕ) : Type 0 where
@@ -49,7 +54,7 @@ pub record IsMore (had has : Option (List ℕ)) (old new : List ℕ) : Type 0 wh
   pub grew : new ≡ old ++ read
 
 -- a read gave some bytes, or the reader is at its end
-pub record IsFilled (had has : Option (List ℕ)) (old new : List ℕ) (none : Bool) : Type 0 where
+pub record IsFilledBy (had has : Option (List ℕ)) (old new : List ℕ) (none : Bool) : Type 0 where
   pub is : IsMore had has old new
   pub empty : none ≡ nat_eq (length is.read) 0
   pub last : none ≡ true → IsAtEnd has
@@ -110,11 +115,11 @@ pub record TakesFrame (prefix : Prefix) (range : RangeCfg) (had has : Option (Li
 -- Of the frames of the whole stream the first is taken, and the others are left; if there is none, the end determines the
 -- result. Any other error leaves all of them.
 abbrev pub IsFirstOf : Prefix → RangeCfg → List (List ℕ) → End → List ℕ → Result (Option View) FrameError → List ℕ → Type 0
-IsFirstOf prefix range frames stop rest (Ok (Some body)) left = FirstTakenWith prefix range frames stop rest body.bytes left
+IsFirstOf prefix range frames stop rest (Ok (Some body)) left = FirstTaken prefix range frames stop rest body.bytes left
 IsFirstOf prefix range frames stop rest (Ok None) left = (frames ≡ []) × (rest ≡ []) × (left ≡ [])
 IsFirstOf prefix range frames stop rest (Err Cut) left = (frames ≡ []) × (stop ≡ end.Open) × (0 < length rest) × (left ≡ rest)
 IsFirstOf prefix range frames stop rest (Err (Bad error)) left = (frames ≡ []) × (stop ≡ end.Bad error) × (left ≡ rest)
-IsFirstOf prefix range frames stop rest (Err error) left = IsFramedWith prefix range left frames stop rest
+IsFirstOf prefix range frames stop rest (Err error) left = IsFramed prefix range left frames stop rest
 
 -- a writer was sent a beginning of a text
 abbrev pub HasSent : Option (List ℕ) → Option (List ℕ) → List ℕ → Type 0
@@ -122,10 +127,10 @@ HasSent held holds text = (behind : List ℕ) × IsSent held holds text behind
 
 -- a writer was sent a beginning of the frames of a text, each of them written with another prefix
 abbrev pub SendsFrames : Prefix → Prefix → RangeCfg → List ℕ → Option (List ℕ) → Option (List ℕ) → Type 0
-SendsFrames prefix to range text held holds = (frames : List (List ℕ)) (stop : End) (rest : List ℕ) → IsFramedWith prefix range text frames stop rest
+SendsFrames prefix to range text held holds = (frames : List (List ℕ)) (stop : End) (rest : List ℕ) → IsFramed prefix range text frames stop rest
     → HasSent held holds (all_written to frames)
 
 -- all of them, and nothing is after them
 abbrev pub SendsAllFrames : Prefix → Prefix → RangeCfg → List ℕ → Option (List ℕ) → Option (List ℕ) → Type 0
-SendsAllFrames prefix to range text held holds = (frames : List (List ℕ)) (stop : End) (rest : List ℕ) → IsFramedWith prefix range text frames stop rest
+SendsAllFrames prefix to range text held holds = (frames : List (List ℕ)) (stop : End) (rest : List ℕ) → IsFramed prefix range text frames stop rest
     → (rest ≡ []) × Appends held holds (all_written to frames)

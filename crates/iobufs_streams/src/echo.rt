@@ -2,7 +2,7 @@
 ghost use Rattle.std.specs.Prelude.{◌≡◌, ◌++◌, [], IfSome, OnOk};
 ghost use Rattle.std.specs.Io.KnownBytes.{Appends};
 ghost use Rattle.iobufs_frames.specs.Frames.{frame_written};
-ghost use Rattle.iobufs_streams.specs.Streams.{HasSent, SendsAllFrames, SendsFrames, held_bytes};
+ghost use Rattle.iobufs_streams.specs.Streams.{HasSent, SendsAllFrames, SendsFrames, held_bytes, held_prefix};
 
 use crate::error::FrameError;
 use crate::reader::FrameReader;
@@ -45,13 +45,13 @@ pub fn echo<R: Read + Drop, W: Write + Drop>(
     to: &mut FrameWriter<W>,
 ) -> Result<(), FrameError>
     requires { to.old.rest.bytes ≡ [] }
-    ensures frames { IfSome (R.remaining from.old.from) (λ text. SendsFrames from.old.prefix to.old.prefix from.old.range
+    ensures frames { IfSome (R.remaining from.old.from) (λ text. SendsFrames (held_prefix from.old.held) to.old.prefix from.old.range
         (held_bytes from.old.held ++ text) (W.contents to.old.to) (W.contents to.new.to)) }
-    ensures all_frames { OnOk result (IfSome (R.remaining from.old.from) (λ text. SendsAllFrames from.old.prefix to.old.prefix from.old.range
+    ensures all_frames { OnOk result (IfSome (R.remaining from.old.from) (λ text. SendsAllFrames (held_prefix from.old.held) to.old.prefix from.old.range
         (held_bytes from.old.held ++ text) (W.contents to.old.to) (W.contents to.new.to))) }
-    ensures all { from.old.prefix ≡ to.old.prefix → OnOk result (IfSome (R.remaining from.old.from)
+    ensures all { held_prefix from.old.held ≡ to.old.prefix → OnOk result (IfSome (R.remaining from.old.from)
         (λ text. Appends (W.contents to.old.to) (W.contents to.new.to) (held_bytes from.old.held ++ text))) }
-    ensures begun { from.old.prefix ≡ to.old.prefix → IfSome (R.remaining from.old.from)
+    ensures begun { held_prefix from.old.held ≡ to.old.prefix → IfSome (R.remaining from.old.from)
         (λ text. HasSent (W.contents to.old.to) (W.contents to.new.to) (held_bytes from.old.held ++ text)) }
 {
     for _ in 0..u64::MAX {

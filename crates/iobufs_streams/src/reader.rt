@@ -4,9 +4,9 @@ ghost use Rattle.std.specs.IoError.{error_kind};
 ghost use Rattle.std.specs.declared.io.ErrorKind.TheVariants.{Interrupted};
 ghost use Rattle.std.specs.Io.{ReadsAtMost};
 ghost use Rattle.std.specs.Io.KnownBytes.{Keeps, ReadConsumes};
-ghost use Rattle.iobufs_frames.specs.Frames.{IsFramedWith};
+ghost use Rattle.iobufs_frames.specs.Frames.{IsFramed};
 ghost use Rattle.iobufs_frames.specs.declared.End.{End};
-ghost use Rattle.iobufs_streams.specs.Streams.{HasFrame, IsEnd, IsFilled, IsFirstOf, IsHeldFront, TakesFrame, fault_of_cause, fault_of_error, held_bytes};
+ghost use Rattle.iobufs_streams.specs.Streams.{HasFrame, IsEnd, IsFilledBy, IsFirstOf, IsHeldFront, TakesFrame, fault_of_cause, fault_of_error, held_bytes, held_prefix};
 
 use crate::error::FrameError;
 use crate::held::Held;
@@ -56,14 +56,15 @@ fn fault_of_holding(cause: BufError) -> FrameError
 }
 
 impl Held {
-    // None, and room for what one read gives.
-    fn new(alloc: Global) -> Result<Held, AllocError>
-        ensures { IfOk result (λ held. held_bytes held ≡ []) }
+    // None, and space for one read.
+    fn new(alloc: Global, prefix: Prefix) -> Result<Held, AllocError>
+        ensures empty { IfOk result (λ held. held_bytes held ≡ []) }
+        ensures prefix { IfOk result (λ held. held_prefix held ≡ prefix) }
     {
         let mut piece = Vec::new(alloc);
         piece.resize(PIECE, 0)?;
         Ok(Held {
-            frames: Frames::default(),
+            frames: Frames::new(prefix),
             piece,
             read: 0,
         })
@@ -72,6 +73,7 @@ impl Held {
     // Feeds what was read last.
     fn feed(&mut self, alloc: Global) -> Result<(), BufError>
         ensures same { held_bytes self.new ≡ held_bytes self.old }
+        ensures prefix { held_prefix self.new ≡ held_prefix self.old }
         ensures fed { OnOk result (self.new.read ≡ 0) }
         ensures too_long { IfErr result (λ cause. cause ≡ BufError.TooLong → 2 ^ 64 ≤ length (held_bytes self.old)) }
     {
@@ -85,18 +87,14 @@ impl Held {
     }
 
     // Takes the first whole frame of all that was read.
-    fn next(
-        &mut self,
-        alloc: Global,
-        prefix: Prefix,
-        range: &RangeCfg,
-    ) -> Result<Option<IoBuf>, FrameError>
-        ensures front { IsHeldFront prefix range.now (held_bytes self.old) result (held_bytes self.new) }
+    fn next(&mut self, alloc: Global, range: &RangeCfg) -> Result<Option<IoBuf>, FrameError>
+        ensures prefix { held_prefix self.new ≡ held_prefix self.old }
+        ensures front { IsHeldFront (held_prefix self.old) range.now (held_bytes self.old) result (held_bytes self.new) }
         ensures fed { IfOk result (λ found. IfNone found (self.new.read ≡ 0)) }
-        ensures spelled { IfErr result (λ error. error ≡ FrameError.Bad Error.InvalidVarint → prefix ≡ Prefix.Spelled) }
+        ensures spelled { IfErr result (λ error. error ≡ FrameError.Bad Error.InvalidVarint → held_prefix self.old ≡ Prefix.Spelled) }
     {
         self.feed(alloc).map_err(fault_of_holding)?;
-        match self.frames.next_with(alloc, prefix, range) {
+        match self.frames.next(alloc, range) {
             Ok(found) => Ok(found),
             Err(error) => Err(fault_of(error)),
         }
@@ -105,7 +103,8 @@ impl Held {
     // Reads once, after what is held, and returns whether no byte came.
     fn fill<R: Read>(&mut self, from: &mut R) -> io::Result<bool>
         requires { self.old.read ≡ 0 }
-        ensures filled { IfOk result (IsFilled (R.remaining from.old) (R.remaining from.new) (held_bytes self.old) (held_bytes self.new)) }
+        ensures filled { IfOk result (IsFilledBy (R.remaining from.old) (R.remaining from.new) (held_bytes self.old) (held_bytes self.new)) }
+        ensures prefix { held_prefix self.new ≡ held_prefix self.old }
         ensures fed { IfOk result (λ none. IsTrue none → self.new.read ≡ 0) }
         ensures same { OnErr result (held_bytes self.new ≡ held_bytes self.old) }
         ensures kept { OnErr result (Keeps (R.remaining from.old) (R.remaining from.new)) }
@@ -119,7 +118,7 @@ impl Held {
         requires { self.now.read ≡ 0 }
         ensures { IsEnd (held_bytes self.now) result }
     {
-        if self.frames.rest().is_empty() {
+        if self.frames.rest.is_empty() {
             Ok(None)
         } else {
             Err(FrameError::Cut)
@@ -131,15 +130,15 @@ impl Held {
         &mut self,
         alloc: Global,
         from: &mut R,
-        prefix: Prefix,
         range: &RangeCfg,
     ) -> Result<Option<IoBuf>, FrameError>
-        ensures next { TakesFrame prefix range.now (R.remaining from.old) (R.remaining from.new) (held_bytes self.old) (held_bytes self.new) result }
-        ensures ready { HasFrame prefix range.now (held_bytes self.old) → from.new ≡ from.old }
-        ensures spelled { IfErr result (λ error. error ≡ FrameError.Bad Error.InvalidVarint → prefix ≡ Prefix.Spelled) }
+        ensures prefix { held_prefix self.new ≡ held_prefix self.old }
+        ensures next { TakesFrame (held_prefix self.old) range.now (R.remaining from.old) (R.remaining from.new) (held_bytes self.old) (held_bytes self.new) result }
+        ensures ready { HasFrame (held_prefix self.old) range.now (held_bytes self.old) → from.new ≡ from.old }
+        ensures spelled { IfErr result (λ error. error ≡ FrameError.Bad Error.InvalidVarint → held_prefix self.old ≡ Prefix.Spelled) }
     {
         for _ in 0..u64::MAX {
-            match self.next(alloc, prefix, range) {
+            match self.next(alloc, range) {
                 Ok(Some(body)) => return Ok(Some(body)),
                 Err(error) => return Err(error),
                 Ok(None) => {}
@@ -161,8 +160,6 @@ impl Held {
 pub struct FrameReader<R> {
     /// The reader.
     pub from: R,
-    /// How the lengths are written.
-    pub prefix: Prefix,
     /// The lengths that a body may have.
     pub range: RangeCfg,
     /// What was read from it and not taken.
@@ -173,7 +170,7 @@ impl<R: Read + Drop> FrameReader<R> {
     /// Makes a reader of frames with varint lengths, and allocates space for one read. Fails with `AllocError`.
     pub fn new(alloc: Global, from: R, range: RangeCfg) -> Result<FrameReader<R>, AllocError>
         ensures from { IfOk result (λ reader. reader.from ≡ from) }
-        ensures prefix { IfOk result (λ reader. reader.prefix ≡ Prefix.Spelled) }
+        ensures prefix { IfOk result (λ reader. held_prefix reader.held ≡ Prefix.Spelled) }
         ensures range { IfOk result (λ reader. reader.range ≡ range) }
         ensures empty { IfOk result (λ reader. held_bytes reader.held ≡ []) }
     {
@@ -188,34 +185,28 @@ impl<R: Read + Drop> FrameReader<R> {
         range: RangeCfg,
     ) -> Result<FrameReader<R>, AllocError>
         ensures from { IfOk result (λ reader. reader.from ≡ from) }
-        ensures prefix { IfOk result (λ reader. reader.prefix ≡ prefix) }
+        ensures prefix { IfOk result (λ reader. held_prefix reader.held ≡ prefix) }
         ensures range { IfOk result (λ reader. reader.range ≡ range) }
         ensures empty { IfOk result (λ reader. held_bytes reader.held ≡ []) }
     {
-        let held = Held::new(alloc)?;
-        Ok(FrameReader {
-            from,
-            prefix,
-            range,
-            held,
-        })
+        let held = Held::new(alloc, prefix)?;
+        Ok(FrameReader { from, range, held })
     }
 
     /// Takes the next frame; `None` at the end of the input. It starts no read while a whole frame is held. After an
     /// error no byte is lost: all that was read is held, and `next` may be called again.
     pub fn next(&mut self, alloc: Global) -> Result<Option<IoBuf>, FrameError>
-        ensures next { TakesFrame self.old.prefix self.old.range (R.remaining self.old.from) (R.remaining self.new.from) (held_bytes self.old.held)
+        ensures next { TakesFrame (held_prefix self.old.held) self.old.range (R.remaining self.old.from) (R.remaining self.new.from) (held_bytes self.old.held)
             (held_bytes self.new.held) result }
-        ensures ready { HasFrame self.old.prefix self.old.range (held_bytes self.old.held) → self.new.from ≡ self.old.from }
+        ensures ready { HasFrame (held_prefix self.old.held) self.old.range (held_bytes self.old.held) → self.new.from ≡ self.old.from }
         ensures first { IfSome (R.remaining self.old.from) (λ old. IfSome (R.remaining self.new.from) (λ new.
             (frames : List (List ℕ)) (stop : End) (rest : List ℕ)
-            → IsFramedWith self.old.prefix self.old.range (held_bytes self.old.held ++ old) frames stop rest
-            → IsFirstOf self.old.prefix self.old.range frames stop rest result (held_bytes self.new.held ++ new))) }
-        ensures spelled { IfErr result (λ error. error ≡ FrameError.Bad Error.InvalidVarint → self.old.prefix ≡ Prefix.Spelled) }
-        ensures prefix { self.new.prefix ≡ self.old.prefix }
+            → IsFramed (held_prefix self.old.held) self.old.range (held_bytes self.old.held ++ old) frames stop rest
+            → IsFirstOf (held_prefix self.old.held) self.old.range frames stop rest result (held_bytes self.new.held ++ new))) }
+        ensures spelled { IfErr result (λ error. error ≡ FrameError.Bad Error.InvalidVarint → held_prefix self.old.held ≡ Prefix.Spelled) }
+        ensures prefix { held_prefix self.new.held ≡ held_prefix self.old.held }
         ensures range { self.new.range ≡ self.old.range }
     {
-        self.held
-            .take(alloc, &mut self.from, self.prefix, &self.range)
+        self.held.take(alloc, &mut self.from, &self.range)
     }
 }

@@ -10,7 +10,7 @@ use Rattle.iobufs_core.specs.ReadBack.{IsReadAlike, IsReadBack}
 use Rattle.iobufs_core.specs.declared.codec.base.Error.{Error}
 use Rattle.iobufs_core.specs.declared.codec.base.Error.TheVariants.{EndOfBuffer, InvalidVarint, InvalidLength, Memory, BadLayout, TooLong}
 use Rattle.iobufs_tests.specs.declared.wire.record.Record.{Record}
-use Rattle.iobufs_tests.specs.Record.{record_written, IsRecordRead}
+use Rattle.iobufs_tests.specs.Record.{entry_written, IsRecordRead}
 
 fault : (bytes : List ℕ) (error : Error) → IsRecordRead bytes (Err error) → (error ≡ EndOfBuffer) × (length bytes < 7)
 fault bytes EndOfBuffer h = (refl, h)
@@ -24,25 +24,25 @@ no_fault : (bytes : List ℕ) (error : Error) → 7 ≤ length bytes → IsRecor
 no_fault bytes error long h = let short = (fault bytes error h).1 in absurd (omega arith)
 
 same_record : (bytes : List ℕ) (a b : Result Record Error) → IsRecordRead bytes a → IsRecordRead bytes b
-    → IsReadAlike (λ x y. record_written x ≡ record_written y) a b
+    → IsReadAlike (λ x y. entry_written x ≡ entry_written y) a b
 same_record bytes (Ok x) (Ok y) p q = p.1 ∙ sym q.1
 same_record bytes (Ok x) (Err error) p q = absurd (no_fault bytes error p.0 q)
 same_record bytes (Err error) (Ok y) p q = absurd (no_fault bytes error q.0 p)
 same_record bytes (Err a) (Err b) p q = inl ((fault bytes a p).0 ∙ sym (fault bytes b q).0)
 
 pub record_alike : (s t : MarkedText) (a b : Result Record Error) → s.bytes ≡ t.bytes → IsRecordRead s.bytes a → IsRecordRead t.bytes b
-    → IsReadAlike (λ x y. record_written x ≡ record_written y) a b
+    → IsReadAlike (λ x y. entry_written x ≡ entry_written y) a b
 record_alike s t a b e p q = same_record t.bytes a b (subst (λ (xs : List ℕ). IsRecordRead xs a) e p) q
 
-pub record_back : (r : Record) (bytes rest : List ℕ) (answer : Result Record Error) → bytes ≡ record_written r ++ rest → IsRecordRead bytes answer
-    → IsReadBack (λ x y. record_written x ≡ record_written y) r answer
-record_back r bytes rest (Ok read) e h = sym (h.1 ∙ ap (take 7) e ∙ take_at (record_written r) rest 7 refl)
+pub record_back : (r : Record) (bytes rest : List ℕ) (answer : Result Record Error) → bytes ≡ entry_written r ++ rest → IsRecordRead bytes answer
+    → IsReadBack (λ x y. entry_written x ≡ entry_written y) r answer
+record_back r bytes rest (Ok read) e h = sym (h.1 ∙ ap (take 7) e ∙ take_at (entry_written r) rest 7 refl)
 record_back r bytes rest (Err error) e h =
-    let long : 7 ≤ length bytes = omega (arith, ap (λ (xs : List ℕ). length xs) e, length-append (record_written r) rest) in
+    let long : 7 ≤ length bytes = omega (arith, ap (λ (xs : List ℕ). length xs) e, length-append (entry_written r) rest) in
     absurd (no_fault bytes error long h)
 
-pub record_one : (x y : Record) (u v : List ℕ) → record_written x ++ u ≡ record_written y ++ v → record_written x ≡ record_written y
-record_one x y u v e = sym (take_at (record_written x) u 7 refl) ∙ ap (take 7) e ∙ take_at (record_written y) v 7 refl
+pub record_one : (x y : Record) (u v : List ℕ) → entry_written x ++ u ≡ entry_written y ++ v → entry_written x ≡ entry_written y
+record_one x y u v e = sym (take_at (entry_written x) u 7 refl) ∙ ap (take 7) e ∙ take_at (entry_written y) v 7 refl
 
-pub record_front : (r : Record) (bytes : List ℕ) → IsRecordRead bytes (Ok r) → ⊤ × (take (length (record_written r)) bytes ≡ record_written r)
+pub record_front : (r : Record) (bytes : List ℕ) → IsRecordRead bytes (Ok r) → ⊤ × (take (length (entry_written r)) bytes ≡ entry_written r)
 record_front r bytes h = (tt, sym h.1)

@@ -1,9 +1,8 @@
-// The crates over the buffers: lists of commands, streams of frames, the worked callers and journals.
+// The crates over the buffers: lists of commands, streams of frames, the worked callers.
 mod calls;
 mod many;
 mod pool;
 mod printed;
-mod records;
 mod runs;
 mod scale;
 mod streams;

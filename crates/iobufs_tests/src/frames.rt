@@ -27,19 +27,6 @@ const BIG_64: Prefix = Prefix::Fixed(Width::U64, ByteOrder::Big);
 
 const LITTLE_64: Prefix = Prefix::Fixed(Width::U64, ByteOrder::Little);
 
-// How frames are taken out of their chunks.
-#[derive(Clone, Copy, Debug)]
-enum Way {
-    // All at once, behind varints.
-    Run,
-    // All at once, by their prefix.
-    RunWith,
-    // One by one as chunks are fed, behind varints.
-    Next,
-    // One by one as chunks are fed, by their prefix.
-    NextWith,
-}
-
 // What is fed, the bodies with `|` after each and then the rest, and why there is no further frame.
 #[derive(Clone, Copy)]
 struct Case {
@@ -252,16 +239,12 @@ fn views(alloc: Global, chunks: &[&'static [u8]]) -> Result<Vec<IoBuf>, AllocErr
 // Takes all frames at once.
 fn run(
     alloc: Global,
-    way: Way,
     case: &Case,
     chunks: &[&'static [u8]],
     found: &mut Vec<u8>,
 ) -> Result<End, BufError> {
     let views = views(alloc, chunks)?;
-    let run = match way {
-        Way::Run => Frames::run(alloc, views, &case.range)?,
-        _ => Frames::run_with(alloc, case.prefix, views, &case.range)?,
-    };
+    let run = Frames::run(alloc, case.prefix, views, &case.range)?;
     for body in run.frames.iter() {
         push_body(found, body)?;
     }
@@ -272,17 +255,12 @@ fn run(
 // Takes the frames that are whole.
 fn take_whole(
     alloc: Global,
-    way: Way,
     case: &Case,
     frames: &mut Frames,
     found: &mut Vec<u8>,
 ) -> Result<End, AllocError> {
     for _ in 0..9 {
-        let next = match way {
-            Way::Next => frames.next(alloc, &case.range),
-            _ => frames.next_with(alloc, case.prefix, &case.range),
-        };
-        match next {
+        match frames.next(alloc, &case.range) {
             Ok(Some(body)) => push_body(found, &body)?,
             Ok(None) => return Ok(End::Open),
             Err(error) => return Ok(End::Bad(error)),
@@ -294,49 +272,32 @@ fn take_whole(
 // Takes frames as chunks are fed.
 fn feed(
     alloc: Global,
-    way: Way,
     case: &Case,
     chunks: &[&'static [u8]],
     found: &mut Vec<u8>,
 ) -> Result<End, BufError> {
-    let mut frames = Frames::default();
+    let mut frames = Frames::new(case.prefix);
     let mut end = End::Open;
     for chunk in chunks {
         frames.feed(alloc, IoBuf::from(*chunk))?;
-        end = take_whole(alloc, way, case, &mut frames, found)?;
+        end = take_whole(alloc, case, &mut frames, found)?;
     }
-    found.extend_from_slice(frames.rest().to_vec(alloc)?.as_slice())?;
+    found.extend_from_slice(frames.rest.to_vec(alloc)?.as_slice())?;
     Ok(end)
 }
 
-fn assert_way(
-    rt: &(impl Abort + AllocGlobal),
-    way: Way,
-    case: &Case,
-    chunks: &[&'static [u8]],
-) -> Result<(), BufError> {
-    let mut found = Vec::new(rt.alloc());
-    let end = match way {
-        Way::Run | Way::RunWith => run(rt.alloc(), way, case, chunks, &mut found)?,
-        Way::Next | Way::NextWith => feed(rt.alloc(), way, case, chunks, &mut found)?,
-    };
-    assert_same!(rt; (found.as_slice(), end), (case.found, case.end), "{} by {way:?}: {chunks:?}", case.name);
-    Ok(())
-}
-
-// Takes the frames in each way that fits the prefix.
+// Takes the frames at once, and as chunks are fed.
 fn assert_case(
     rt: &(impl Abort + AllocGlobal),
     case: &Case,
     chunks: &[&'static [u8]],
 ) -> Result<(), BufError> {
-    let ways: &[Way] = match case.prefix {
-        Prefix::Spelled => &[Way::RunWith, Way::NextWith, Way::Run, Way::Next],
-        Prefix::Fixed(_, _) => &[Way::RunWith, Way::NextWith],
-    };
-    for way in ways {
-        assert_way(rt, *way, case, chunks)?;
-    }
+    let (mut at_once, mut fed) = (Vec::new(rt.alloc()), Vec::new(rt.alloc()));
+    let ends = (
+        run(rt.alloc(), case, chunks, &mut at_once)?,
+        feed(rt.alloc(), case, chunks, &mut fed)?,
+    );
+    assert_same!(rt; (at_once.as_slice(), fed.as_slice(), ends), (case.found, case.found, (case.end, case.end)), "{}: {chunks:?}", case.name);
     Ok(())
 }
 
@@ -462,10 +423,10 @@ fn a_long_body_comes_back(rt: HostRuntime) -> Result<(), Fail> {
         let body = IoBufs::from_vec(Vec::from_slice(alloc, &[7; 5000])?)?;
         let mut written = Vec::new(alloc);
         push_frame(alloc, prefix, body, &mut written)?;
-        let mut frames = Frames::default();
+        let mut frames = Frames::new(prefix);
         frames.feed(alloc, IoBuf::from_vec(written)?)?;
-        let body = frames.next_with(alloc, prefix, &LONG)?.ok_or("no frame")?;
-        let found = (body.as_ref(), frames.rest().is_empty());
+        let body = frames.next(alloc, &LONG)?.ok_or("no frame")?;
+        let found = (body.as_ref(), frames.rest.is_empty());
         assert_same!(rt; found, ([7; 5000].as_slice(), true), "{prefix:?}");
     }
     Ok(())

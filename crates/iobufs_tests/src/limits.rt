@@ -10,7 +10,7 @@ use iobufs_core::buf::{IoBuf, IoBufMut};
 use iobufs_core::codec::{
     Buf, BufError, BufMut, BufsMut, Encode, Error, OwnedBytes, Peek, RangeCfg,
 };
-use iobufs_frames::{End, Frames};
+use iobufs_frames::{End, Frames, Prefix};
 use std::alloc::Global;
 use std::ops::Bound::{Excluded, Included};
 use std::process::Abort;
@@ -302,7 +302,7 @@ fn many_frames(rt: HostRuntime) -> Result<(), Fail> {
     for _ in 0..MANY {
         pieces.push(IoBuf::from(b"\x01a".as_slice()))?;
     }
-    let run = Frames::run(rt.alloc(), pieces, &ANY)?;
+    let run = Frames::run(rt.alloc(), Prefix::Spelled, pieces, &ANY)?;
     assert_same!(rt; (run.frames.len(), run.stop), (MANY, End::Open));
     Ok(())
 }

@@ -1,2 +1,1 @@
 mod Again
-mod CrcLaws

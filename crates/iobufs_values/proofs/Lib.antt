@@ -1,3 +1,6 @@
+mod AskedBoth
 mod Behind
+mod CutTurns
 mod DecodedBack
+mod GatheredTurns
 mod Turns

@@ -1,6 +1,6 @@
 -- A byte for the kind followed by a value, and a value of one of two kinds: the first byte determines which.
---     IsFirst                                the first of these bytes is of the kind, or of another
---     IsEnd                                  no byte is there
+--     IsTagAt                                the first of these bytes is of the kind, or of another
+--     IsNoKind                                  no byte is there
 --     IsKindFound, IsKindFault               the byte of a kind followed by a value; why it isn't decoded
 --     either_written, either_items,          the encoding of a value of one of two kinds, and which are equal
 --     IsSameEither
@@ -13,7 +13,7 @@ use Rattle.std.proofs.Common.{◌≡◌, ◌⊎◌, inl, inr, ℕ, ◌+◌, Bool
 use Rattle.std.proofs.lemmas.Bool.Decides.{nat_tests}
 use Rattle.std.proofs.lemmas.Grind.{common_steps}
 use Rattle.std.proofs.lemmas.List.{drop-drop}
-use Rattle.iobufs_core.specs.Items.{Item, items_bytes}
+use Rattle.iobufs_core.specs.Items.{PutOrPush, items_bytes}
 use Rattle.iobufs_core.specs.MarkedText.{MarkedText}
 use Rattle.iobufs_core.specs.declared.codec.base.Error.TheVariants.{EndOfBuffer}
 use Rattle.iobufs_values.specs.declared.fault.Fault.{Fault}
@@ -24,20 +24,20 @@ use Rattle.iobufs_values.specs.Form.{IsForm, IsByteAt, no_memory}
 use Rattle.iobufs_values.specs.Forms.{behind_byte, no_first, tails, two_bytes, two_firsts, whole_by}
 
 -- the first byte is a tag of the kind (`true`), or of another (`false`)
-pub record IsFirst (is_tag : ℕ → Bool) (told : Bool) (bytes : List ℕ) : Type 0 where
+pub record IsTagAt (is_tag : ℕ → Bool) (told : Bool) (bytes : List ℕ) : Type 0 where
   pub tag : ℕ
   pub at : take 1 bytes ≡ tag ∷ []
   pub tells : is_tag tag ≡ told
 
-abbrev pub IsEnd : MarkedText → ℕ → Fault → Type 0
-IsEnd text skip fault = (fault ≡ Codec EndOfBuffer) × (drop skip text.bytes ≡ [])
+abbrev pub IsNoKind : MarkedText → ℕ → Fault → Type 0
+IsNoKind text skip fault = (fault ≡ Codec EndOfBuffer) × (drop skip text.bytes ≡ [])
 
 abbrev pub IsKindFound : {Value Cfg : Type 0} → ℕ → (MarkedText → ℕ → Cfg → Value → Type 0) → MarkedText → ℕ → Cfg → Value → Type 0
 IsKindFound tag is_found text skip cfg value = IsByteAt text skip tag × is_found text (skip + 1) cfg value
 
 abbrev pub IsKindFault : {Cfg : Type 0} → ℕ → (MarkedText → ℕ → Cfg → Fault → Type 0) → MarkedText → ℕ → Cfg → Fault → Type 0
 IsKindFault tag is_fault text skip cfg fault =
-    IsEnd text skip fault
+    IsNoKind text skip fault
     ⊎ (((other : ℕ) × IsByteAt text skip other × (nat_eq other tag ≡ false) × (fault ≡ InvalidEnum other))
     ⊎ (IsByteAt text skip tag × is_fault text (skip + 1) cfg fault))
 
@@ -45,7 +45,7 @@ abbrev pub either_written : {A B : Type 0} → (A → List ℕ) → (B → List 
 either_written first second (First x) = first x
 either_written first second (Second y) = second y
 
-abbrev pub either_items : {A B : Type 0} → (A → List Item) → (B → List Item) → Either A B → List Item
+abbrev pub either_items : {A B : Type 0} → (A → List PutOrPush) → (B → List PutOrPush) → Either A B → List PutOrPush
 either_items first second (First x) = first x
 either_items first second (Second y) = second y
 
@@ -57,19 +57,19 @@ IsSameEither first second (Second x) (Second y) = second x y
 
 abbrev pub IsEitherAdmitted : {A B C D : Type 0} → (ℕ → Bool) → (B → List ℕ) → (C → A → Type 0) → (D → B → Type 0) → C × D → Either A B → Type 0
 IsEitherAdmitted is_tag written first second cfg (First x) = first cfg.0 x
-IsEitherAdmitted is_tag written first second cfg (Second y) = second cfg.1 y × IsFirst is_tag false (written y)
+IsEitherAdmitted is_tag written first second cfg (Second y) = second cfg.1 y × IsTagAt is_tag false (written y)
 
 abbrev pub IsEitherFound : {A B C D : Type 0} → (ℕ → Bool) → (MarkedText → ℕ → C → A → Type 0) → (MarkedText → ℕ → D → B → Type 0)
     → MarkedText → ℕ → C × D → Either A B → Type 0
 IsEitherFound is_tag first second text skip cfg (First x) = first text skip cfg.0 x
-IsEitherFound is_tag first second text skip cfg (Second y) = IsFirst is_tag false (drop skip text.bytes) × second text skip cfg.1 y
+IsEitherFound is_tag first second text skip cfg (Second y) = IsTagAt is_tag false (drop skip text.bytes) × second text skip cfg.1 y
 
 abbrev pub IsEitherFault : {C D : Type 0} → (ℕ → Bool) → (MarkedText → ℕ → C → Fault → Type 0) → (MarkedText → ℕ → D → Fault → Type 0)
     → MarkedText → ℕ → C × D → Fault → Type 0
 IsEitherFault is_tag first second text skip cfg fault =
-    IsEnd text skip fault
-    ⊎ ((IsFirst is_tag true (drop skip text.bytes) × first text skip cfg.0 fault)
-    ⊎ (IsFirst is_tag false (drop skip text.bytes) × second text skip cfg.1 fault))
+    IsNoKind text skip fault
+    ⊎ ((IsTagAt is_tag true (drop skip text.bytes) × first text skip cfg.0 fault)
+    ⊎ (IsTagAt is_tag false (drop skip text.bytes) × second text skip cfg.1 fault))
 
 -- ---- the first byte
 
@@ -78,11 +78,11 @@ begins_on [] ys b e = absurd (no_first [] b e refl)
 begins_on (x ∷ xs) ys b e = e
 
 -- what follows bytes leaves what their first tells
-first_on : (is_tag : ℕ → Bool) (told : Bool) (xs ys : List ℕ) → IsFirst is_tag told xs → IsFirst is_tag told (xs ++ ys)
+first_on : (is_tag : ℕ → Bool) (told : Bool) (xs ys : List ℕ) → IsTagAt is_tag told xs → IsTagAt is_tag told (xs ++ ys)
 first_on is_tag told xs ys f = record { tag = f.tag; at = begins_on xs ys f.tag f.at; tells = f.tells }
 
 -- the first of the same bytes tells one thing
-one_kind : (is_tag : ℕ → Bool) (xs ys : List ℕ) → xs ≡ ys → IsFirst is_tag true xs → IsFirst is_tag false ys → ⊥
+one_kind : (is_tag : ℕ → Bool) (xs ys : List ℕ) → xs ≡ ys → IsTagAt is_tag true xs → IsTagAt is_tag false ys → ⊥
 one_kind is_tag xs ys e p q =
     let same : p.tag ≡ q.tag = two_firsts ys p.tag q.tag (ap (take 1) (sym e) ∙ p.at) q.at in
     let both : true ≡ false = sym p.tells ∙ ap is_tag same ∙ q.tells in cc
@@ -94,13 +94,13 @@ or_true : (b : Bool) → b || true ≡ true
 or_true true = refl
 or_true false = refl
 
-not_end : (is_tag : ℕ → Bool) (told : Bool) (xs : List ℕ) → IsFirst is_tag told xs → xs ≡ [] → ⊥
+not_end : (is_tag : ℕ → Bool) (told : Bool) (xs : List ℕ) → IsTagAt is_tag told xs → xs ≡ [] → ⊥
 not_end is_tag told xs f e = no_first xs f.tag f.at e
 
 -- ---- a value after the byte of its kind
 
 -- what is written after a tag begins with it
-pub kind_first : (tag : ℕ) (bytes : List ℕ) → IsFirst (λ byte. nat_eq byte tag) true (tag ∷ bytes)
+pub kind_first : (tag : ℕ) (bytes : List ℕ) → IsTagAt (λ byte. nat_eq byte tag) true (tag ∷ bytes)
 kind_first tag bytes = record { tag = tag; at = refl; tells = eq_self tag }
 
 -- a byte that is no tag of the kind is not the tag
@@ -171,21 +171,21 @@ kind_form {w = w} tag form = record {
 -- ---- a value of one kind or another
 
 -- the items of a value of one kind or another join to what is written of it
-pub joins_either : {A B : Type 0} (wa : A → List ℕ) (ia : A → List Item) → ((x : A) → items_bytes (ia x) ≡ wa x)
-    → (wb : B → List ℕ) (ib : B → List Item) → ((y : B) → items_bytes (ib y) ≡ wb y)
+pub joins_either : {A B : Type 0} (wa : A → List ℕ) (ia : A → List PutOrPush) → ((x : A) → items_bytes (ia x) ≡ wa x)
+    → (wb : B → List ℕ) (ib : B → List PutOrPush) → ((y : B) → items_bytes (ib y) ≡ wb y)
     → (value : Either A B) → items_bytes (either_items ia ib value) ≡ either_written wa wb value
 joins_either wa ia first wb ib second (First x) = first x
 joins_either wa ia first wb ib second (Second y) = second y
 
-first_or : (p q : ℕ → Bool) (bytes : List ℕ) → IsFirst p true bytes → IsFirst (λ byte. p byte || q byte) true bytes
+first_or : (p q : ℕ → Bool) (bytes : List ℕ) → IsTagAt p true bytes → IsTagAt (λ byte. p byte || q byte) true bytes
 first_or p q bytes f = record { tag = f.tag; at = f.at; tells = ap (λ told. told || q f.tag) f.tells }
 
-or_first : (p q : ℕ → Bool) (bytes : List ℕ) → IsFirst q true bytes → IsFirst (λ byte. p byte || q byte) true bytes
+or_first : (p q : ℕ → Bool) (bytes : List ℕ) → IsTagAt q true bytes → IsTagAt (λ byte. p byte || q byte) true bytes
 or_first p q bytes f = record { tag = f.tag; at = f.at; tells = ap (λ told. p f.tag || told) f.tells ∙ or_true (p f.tag) }
 
 -- the first byte of a value tells its kind, and so that it is of one of the two
-pub either_first : {A B : Type 0} {wa : A → List ℕ} {wb : B → List ℕ} {p q : ℕ → Bool} → ((x : A) → IsFirst p true (wa x)) → ((y : B) → IsFirst q true (wb y))
-    → (value : Either A B) → IsFirst (λ byte. p byte || q byte) true (either_written wa wb value)
+pub either_first : {A B : Type 0} {wa : A → List ℕ} {wb : B → List ℕ} {p q : ℕ → Bool} → ((x : A) → IsTagAt p true (wa x)) → ((y : B) → IsTagAt q true (wb y))
+    → (value : Either A B) → IsTagAt (λ byte. p byte || q byte) true (either_written wa wb value)
 either_first {wa = wa} {p = p} {q = q} first second (First x) = first_or p q (wa x) (first x)
 either_first {wb = wb} {p = p} {q = q} first second (Second y) = or_first p q (wb y) (second y)
 
@@ -200,7 +200,7 @@ either_same wa wb sa sb first second (Second x) (Second y) h = second x y h
 either_front : {A B C D : Type 0} {p : ℕ → Bool}
     {wa : A → List ℕ} {sa : A → A → Type 0} {oka : C → A → Type 0} {fa : MarkedText → ℕ → C → A → Type 0} {ea : MarkedText → ℕ → C → Fault → Type 0}
     {wb : B → List ℕ} {sb : B → B → Type 0} {okb : D → B → Type 0} {fb : MarkedText → ℕ → D → B → Type 0} {eb : MarkedText → ℕ → D → Fault → Type 0}
-    → IsForm A C wa sa oka fa ea → ((x : A) → IsFirst p true (wa x)) → IsForm B D wb sb okb fb eb
+    → IsForm A C wa sa oka fa ea → ((x : A) → IsTagAt p true (wa x)) → IsForm B D wb sb okb fb eb
     → (x y : Either A B) (cfg other : C × D) (u v : List ℕ) → IsEitherAdmitted p wb oka okb cfg x → IsEitherAdmitted p wb oka okb other y
     → either_written wa wb x ++ u ≡ either_written wa wb y ++ v → IsSameEither sa sb x y
 either_front a begins b (First x) (First y) cfg other u v ok ok' e = a.no_front x y cfg.0 other.0 u v ok ok' e
@@ -211,7 +211,7 @@ either_front {p = p} {wa = wa} {wb = wb} a begins b (Second x) (First y) cfg oth
 either_front a begins b (Second x) (Second y) cfg other u v ok ok' e = b.no_front x y cfg.1 other.1 u v ok.0 ok'.0 e
 
 -- the byte before a text is the first of the value that stands there
-first_there : (p q : ℕ → Bool) (d w : List ℕ) → take (length w) d ≡ w → IsFirst q true w → IsFirst p false d → IsFirst p false w
+first_there : (p q : ℕ → Bool) (d w : List ℕ) → take (length w) d ≡ w → IsTagAt q true w → IsTagAt p false d → IsTagAt p false w
 first_there p q d w front begins f =
     let whole : d ≡ w ++ drop (length w) d = whole_by w d front in
     let same : f.tag ≡ begins.tag = two_firsts d f.tag begins.tag f.at (ap (take 1) whole ∙ begins_on w (drop (length w) d) begins.tag begins.at) in
@@ -220,7 +220,7 @@ first_there p q d w front begins f =
 either_found : {A B C D : Type 0} {p q : ℕ → Bool}
     {wa : A → List ℕ} {sa : A → A → Type 0} {oka : C → A → Type 0} {fa : MarkedText → ℕ → C → A → Type 0} {ea : MarkedText → ℕ → C → Fault → Type 0}
     {wb : B → List ℕ} {sb : B → B → Type 0} {okb : D → B → Type 0} {fb : MarkedText → ℕ → D → B → Type 0} {eb : MarkedText → ℕ → D → Fault → Type 0}
-    → IsForm A C wa sa oka fa ea → ((x : A) → IsFirst p true (wa x)) → IsForm B D wb sb okb fb eb → ((y : B) → IsFirst q true (wb y))
+    → IsForm A C wa sa oka fa ea → ((x : A) → IsTagAt p true (wa x)) → IsForm B D wb sb okb fb eb → ((y : B) → IsTagAt q true (wb y))
     → (x : Either A B) (cfg : C × D) (text : MarkedText) (skip : ℕ) → IsEitherFound p fa fb text skip cfg x
     → IsEitherAdmitted p wb oka okb cfg x × (take (length (either_written wa wb x)) (drop skip text.bytes) ≡ either_written wa wb x)
 either_found a begins b begins' (First x) cfg text skip h = a.found_written x cfg.0 text skip h
@@ -231,12 +231,12 @@ either_found {p = p} {q = q} {wb = wb} a begins b begins' (Second y) cfg text sk
 either_refused : {A B C D : Type 0} {p : ℕ → Bool}
     {wa : A → List ℕ} {sa : A → A → Type 0} {oka : C → A → Type 0} {fa : MarkedText → ℕ → C → A → Type 0} {ea : MarkedText → ℕ → C → Fault → Type 0}
     {wb : B → List ℕ} {sb : B → B → Type 0} {okb : D → B → Type 0} {fb : MarkedText → ℕ → D → B → Type 0} {eb : MarkedText → ℕ → D → Fault → Type 0}
-    → IsForm A C wa sa oka fa ea → ((x : A) → IsFirst p true (wa x)) → IsForm B D wb sb okb fb eb
+    → IsForm A C wa sa oka fa ea → ((x : A) → IsTagAt p true (wa x)) → IsForm B D wb sb okb fb eb
     → (x : Either A B) (cfg : C × D) (text : MarkedText) (skip : ℕ) (rest : List ℕ) (f : Fault) → IsEitherAdmitted p wb oka okb cfg x
     → drop skip text.bytes ≡ either_written wa wb x ++ rest → IsEitherFault p ea eb text skip cfg f → f ≡ no_memory
 either_refused {p = p} {wa = wa} a begins b (First x) cfg text skip rest f ok e h =
     let d = drop skip text.bytes in
-    let there : IsFirst p true (wa x ++ rest) = first_on p true (wa x) rest (begins x) in
+    let there : IsTagAt p true (wa x ++ rest) = first_on p true (wa x) rest (begins x) in
     elim h [
       | inl ended ↦ absurd (not_end p true (wa x ++ rest) there (sym e ∙ ended.1))
       | inr more ↦ elim more [
@@ -246,7 +246,7 @@ either_refused {p = p} {wa = wa} a begins b (First x) cfg text skip rest f ok e 
     ]
 either_refused {p = p} {wb = wb} a begins b (Second y) cfg text skip rest f ok e h =
     let d = drop skip text.bytes in
-    let there : IsFirst p false (wb y ++ rest) = first_on p false (wb y) rest ok.1 in
+    let there : IsTagAt p false (wb y ++ rest) = first_on p false (wb y) rest ok.1 in
     elim h [
       | inl ended ↦ absurd (not_end p false (wb y ++ rest) there (sym e ∙ ended.1))
       | inr more ↦ elim more [
@@ -258,7 +258,7 @@ either_refused {p = p} {wb = wb} a begins b (Second y) cfg text skip rest f ok e
 either_faults : {A B C D : Type 0} {p : ℕ → Bool}
     {wa : A → List ℕ} {sa : A → A → Type 0} {oka : C → A → Type 0} {fa : MarkedText → ℕ → C → A → Type 0} {ea : MarkedText → ℕ → C → Fault → Type 0}
     {wb : B → List ℕ} {sb : B → B → Type 0} {okb : D → B → Type 0} {fb : MarkedText → ℕ → D → B → Type 0} {eb : MarkedText → ℕ → D → Fault → Type 0}
-    → IsForm A C wa sa oka fa ea → ((x : A) → IsFirst p true (wa x)) → IsForm B D wb sb okb fb eb
+    → IsForm A C wa sa oka fa ea → ((x : A) → IsTagAt p true (wa x)) → IsForm B D wb sb okb fb eb
     → (t u : MarkedText) (skip : ℕ) (cfg : C × D) (e f : Fault) → t.bytes ≡ u.bytes
     → IsEitherFault p ea eb t skip cfg e → IsEitherFault p ea eb u skip cfg f → (e ≡ f) ⊎ ((e ≡ no_memory) ⊎ (f ≡ no_memory))
 either_faults {p = p} a begins b t u skip cfg e f is g h =
@@ -292,7 +292,7 @@ either_faults {p = p} a begins b t u skip cfg e f is g h =
 pub either_form : {A B C D : Type 0} {p q : ℕ → Bool}
     {wa : A → List ℕ} {sa : A → A → Type 0} {oka : C → A → Type 0} {fa : MarkedText → ℕ → C → A → Type 0} {ea : MarkedText → ℕ → C → Fault → Type 0}
     {wb : B → List ℕ} {sb : B → B → Type 0} {okb : D → B → Type 0} {fb : MarkedText → ℕ → D → B → Type 0} {eb : MarkedText → ℕ → D → Fault → Type 0}
-    → IsForm A C wa sa oka fa ea → ((x : A) → IsFirst p true (wa x)) → IsForm B D wb sb okb fb eb → ((y : B) → IsFirst q true (wb y))
+    → IsForm A C wa sa oka fa ea → ((x : A) → IsTagAt p true (wa x)) → IsForm B D wb sb okb fb eb → ((y : B) → IsTagAt q true (wb y))
     → IsForm (Either A B) (C × D) (either_written wa wb) (IsSameEither sa sb) (IsEitherAdmitted p wb oka okb) (IsEitherFound p fa fb) (IsEitherFault p ea eb)
 either_form {wa = wa} {sa = sa} {wb = wb} {sb = sb} a begins b begins' = record {
   same_written = either_same wa wb sa sb a.same_written b.same_written;

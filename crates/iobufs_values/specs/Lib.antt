@@ -1,3 +1,5 @@
+pub mod Both
+pub mod Cut
 pub mod Form
 pub mod Forms
 pub mod Kinds

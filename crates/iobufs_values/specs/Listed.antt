@@ -11,7 +11,7 @@ use Rattle.std.proofs.Common.{◌≡◌, ◌⊎◌, inl, inr, ℕ, zero, suc, �
 use Rattle.std.specs.List.{All, flat_map}
 use Rattle.std.proofs.lemmas.List.{append_cancel_left, drop-drop}
 use Rattle.std.proofs.lemmas.List.Elements.{All-cons, All-head, All-nil, All-tail}
-use Rattle.iobufs_core.specs.Items.{Item, put_item, items_bytes}
+use Rattle.iobufs_core.specs.Items.{PutOrPush, put_item, items_bytes}
 use Rattle.iobufs_core.specs.MarkedText.{MarkedText}
 use Rattle.iobufs_core.specs.Ranges.{in_range}
 use Rattle.iobufs_core.specs.SeveralLaws.{joins_two}
@@ -26,7 +26,7 @@ use Rattle.iobufs_values.specs.Forms.{behind_first, found_or_memory, found_same,
 abbrev pub list_written : {Value : Type 0} → (Value → List ℕ) → List Value → List ℕ
 list_written written values = spell (length values) ++ flat_map written values
 
-abbrev pub list_items : {Value : Type 0} → (Value → List Item) → List Value → List Item
+abbrev pub list_items : {Value : Type 0} → (Value → List PutOrPush) → List Value → List PutOrPush
 list_items items values = put_item (spell (length values)) ∷ flat_map items values
 
 abbrev pub AreFound : {Value Cfg : Type 0} → (Value → List ℕ) → (MarkedText → ℕ → Cfg → Value → Type 0) → MarkedText → ℕ → Cfg → List Value → Type 0
@@ -58,13 +58,13 @@ AreSame same (x ∷ xs) (y ∷ ys) = same x y × AreSame same xs ys
 
 -- ---- the items of a list join to what is written of it
 
-pub joins_each : {Value : Type 0} (written : Value → List ℕ) (items : Value → List Item) → ((value : Value) → items_bytes (items value) ≡ written value)
+pub joins_each : {Value : Type 0} (written : Value → List ℕ) (items : Value → List PutOrPush) → ((value : Value) → items_bytes (items value) ≡ written value)
     → (values : List Value) → items_bytes (flat_map items values) ≡ flat_map written values
 joins_each written items joins [] = refl
 joins_each written items joins (x ∷ xs) =
     joins_two (items x) (flat_map items xs) (written x) (flat_map written xs) (joins x) (joins_each written items joins xs)
 
-pub joins_list : {Value : Type 0} (written : Value → List ℕ) (items : Value → List Item) → ((value : Value) → items_bytes (items value) ≡ written value)
+pub joins_list : {Value : Type 0} (written : Value → List ℕ) (items : Value → List PutOrPush) → ((value : Value) → items_bytes (items value) ≡ written value)
     → (values : List Value) → items_bytes (list_items items values) ≡ list_written written values
 joins_list written items joins values = ap (λ zs. spell (length values) ++ zs) (joins_each written items joins values)
 

@@ -1,7 +1,7 @@
 // A byte for the kind followed by a value, and a value of one of two kinds.
 ghost use Rattle.std.specs.Prelude.{◌≡◌, ℕ, Bool, true, ◌||◌, nat_eq, [], ◌∷◌};
 ghost use Rattle.iobufs_core.specs.Items.{put_item};
-ghost use Rattle.iobufs_values.specs.Kinds.{IsEitherAdmitted, IsEitherFault, IsEitherFound, IsFirst, IsKindFault, IsKindFound, IsSameEither, either_items, either_written};
+ghost use Rattle.iobufs_values.specs.Kinds.{IsEitherAdmitted, IsEitherFault, IsEitherFound, IsTagAt, IsKindFault, IsKindFound, IsSameEither, either_items, either_written};
 
 use crate::look::has_len;
 use crate::views::bytes_at;
@@ -19,7 +19,7 @@ pub trait Tagged: Look {
         ensures { result ≡ is_tag byte };
 
     // What is written begins with such a byte.
-    ghost begins: { (value : Self) → IsFirst is_tag true (Self.written value) };
+    ghost begins: { (value : Self) → IsTagAt is_tag true (Self.written value) };
 }
 
 /// The byte `TAG` followed by a value (own).

@@ -6,7 +6,7 @@ use Rattle.std.proofs.lemmas.Grind.{common_steps}
 use Rattle.std.proofs.lemmas.List.{drop-drop, length-replicate, take-append-le, drop-append-le, drop_all}
 use Rattle.iobufs_core.specs.LayoutLaws.{good_layout, large_layout}
 use Rattle.iobufs_core.specs.View.{View, view_of_bytes}
-use Rattle.iobufs_core.specs.Items.{Item, push_item, items_inline, items_pushed}
+use Rattle.iobufs_core.specs.Items.{PutOrPush, push_item, items_inline, items_pushed}
 use Rattle.iobufs_core.specs.Part.{Part, empty_part, part_put, part_capacity}
 use Rattle.iobufs.specs.Building.{Building, AreInTurn, IsBuilding, building_items, inline_run, empty_building, building_put, building_push, building_room, room_for_pushes}
 use Rattle.iobufs.specs.Laws.Building.{items_inline-append, items_pushed-append, run-inline, run-pushed, push-some}
@@ -147,7 +147,7 @@ pub pushes-kept : (part : Part) (ss : List Segment) (placed pushable : ℕ) (b :
 pushes-kept part ss placed pushable b limited is = ap room_for_pushes (sym is) ∙ pushes-building part ss placed pushable limited
 
 -- what the fields keep is what a builder keeps
-in_turn-run : (bytes : List ℕ) (view : View) (items : List Item) → 0 < length view.bytes → AreInTurn items
+in_turn-run : (bytes : List ℕ) (view : View) (items : List PutOrPush) → 0 < length view.bytes → AreInTurn items
     → AreInTurn (inline_run bytes ++ push_item view ∷ items)
 in_turn-run [] view items some rest = (some, rest)
 in_turn-run (byte ∷ bytes) view items some rest = (omega arith, some, rest)

@@ -6,7 +6,7 @@ use Rattle.std.proofs.lemmas.Grind.{common_steps}
 use Rattle.std.proofs.lemmas.List.{drop-drop, nil_from_length}
 use Rattle.iobufs_core.specs.View.{View, default_view, native_mark, view_rest, view_split_front}
 use Rattle.iobufs_core.specs.MarkedText.{joined}
-use Rattle.iobufs_core.specs.Items.{Item, put_item, push_item, items_bytes, items_inline, items_pushed}
+use Rattle.iobufs_core.specs.Items.{PutOrPush, put_item, push_item, items_bytes, items_inline, items_pushed}
 use Rattle.iobufs_core.specs.Part.{Part, part_frozen, part_capacity}
 use Rattle.iobufs.specs.Building.{Building, building_bytes, building_items, building_put, building_push, building_after, empty_building, inline_run, room_for_pushes, views_from, finished}
 use Rattle.iobufs.specs.Laws.Building.{bytes-built, items_bytes-append, push-none, put_nothing, run-bytes}
@@ -37,7 +37,7 @@ inline-some room bytes some = grind (arith, nat_tests, common_steps)
 inline-none : (room : ℕ) (bytes : List ℕ) → length bytes ≡ 0 → inline_view room bytes ≡ default_view
 inline-none room bytes none = grind (arith, nat_tests, common_steps)
 
-views-run : (room : ℕ) (bytes : List ℕ) (items : List Item)
+views-run : (room : ℕ) (bytes : List ℕ) (items : List PutOrPush)
     → views_from room (inline_run bytes ++ items) ≡ run_views room bytes ++ views_from (room - length bytes) items
 views-run room [] items = let n : room ≡ room - 0 = omega arith in ap (λ r. views_from r items) n
 views-run room (b ∷ bs) items = refl
@@ -107,7 +107,7 @@ filled-views room bytes (gap n ∷ ss) segments fits =
     ∙ ap (λ vs. record { bytes = w; mark = native_mark room } ∷ vs) (filled-views (room - n) left ss first.1 (omega arith))
     ∙ run
     ∙ ap (λ more. views_from room (inline_run w ++ (items_front left ss ++ inline_run more))) (drop-drop (gaps_len ss) n bytes)
-    ∙ ap (λ (all : List Item). views_from room all) (sym (append_assoc (inline_run w) (items_front left ss) _))
+    ∙ ap (λ (all : List PutOrPush). views_from room all) (sym (append_assoc (inline_run w) (items_front left ss) _))
 
 -- so they make what the builder says
 pub finished-views : (part : Part) (ss : List Segment) (placed : ℕ) → AreSegments ss → gaps_len ss ≡ placed → placed ≤ length part.filled
@@ -125,7 +125,7 @@ pub frozen-bytes : (part : Part) → (part_frozen part).bytes ≡ part.filled
 frozen-bytes part = inline-bytes (part_capacity part) part.filled
 
 -- the bytes of the pieces are all bytes
-views-bytes : (room : ℕ) (items : List Item) → pieces_bytes (views_from room items) ≡ items_bytes items
+views-bytes : (room : ℕ) (items : List PutOrPush) → pieces_bytes (views_from room items) ≡ items_bytes items
 views-bytes room [] = refl
 views-bytes room (put_item bytes ∷ items) = ap (λ more. bytes ++ more) (views-bytes (room - length bytes) items)
 views-bytes room (push_item view ∷ items) = ap (λ more. view.bytes ++ more) (views-bytes room items)
@@ -138,24 +138,24 @@ finished-bytes b =
     ∙ ap (λ more. items_bytes b.front ++ more) (run-bytes b.last)
 
 -- what a new builder makes of items has the bytes of the items, whatever its capacity
-pub encoded-bytes : (capacity : ℕ) (items : List Item) → (finished (building_after (empty_building capacity) items)).bytes ≡ items_bytes items
+pub encoded-bytes : (capacity : ℕ) (items : List PutOrPush) → (finished (building_after (empty_building capacity) items)).bytes ≡ items_bytes items
 encoded-bytes capacity items = finished-bytes (building_after (empty_building capacity) items) ∙ bytes-built (empty_building capacity) items
 
 -- the bytes of items are as many as those that are put and those that are pushed
-pub items-len : (items : List Item) → length (items_bytes items) ≡ items_inline items + items_pushed items
+pub items-len : (items : List PutOrPush) → length (items_bytes items) ≡ items_inline items + items_pushed items
 items-len [] = omega arith
 items-len (put_item bytes ∷ items) = let n = length-append bytes (items_bytes items) in let ih = items-len items in omega arith
 items-len (push_item view ∷ items) = let n = length-append view.bytes (items_bytes items) in let ih = items-len items in omega arith
 
 -- a builder for the inline bytes has room for all pushes
-pub pushes-fit : (b : Building) (items : List Item) → b ≡ empty_building (items_inline items) → length (items_bytes items) < 2 ^ 64
+pub pushes-fit : (b : Building) (items : List PutOrPush) → b ≡ empty_building (items_inline items) → length (items_bytes items) < 2 ^ 64
     → room_for_pushes b < items_pushed items → ⊥
 pushes-fit b items empty fits long =
     let n = items-len items in
     let room = ap room_for_pushes empty in omega arith
 
 -- puts and pushes without bytes leave a builder as it was
-built-nothing : (b : Building) (items : List Item) → length (items_bytes items) ≡ 0 → building_after b items ≡ b
+built-nothing : (b : Building) (items : List PutOrPush) → length (items_bytes items) ≡ 0 → building_after b items ≡ b
 built-nothing b [] none = refl
 built-nothing b (put_item bytes ∷ items) none =
     let n = length-append bytes (items_bytes items) in
@@ -167,7 +167,7 @@ built-nothing b (push_item view ∷ items) none =
     built-nothing (building_push b view) items (omega arith) ∙ push-none b view (omega arith)
 
 -- a new builder that is given items without bytes has no item
-pub nothing-built : (capacity : ℕ) (items : List Item) → length (items_bytes items) ≡ 0 → building_items (building_after (empty_building capacity) items) ≡ []
+pub nothing-built : (capacity : ℕ) (items : List PutOrPush) → length (items_bytes items) ≡ 0 → building_items (building_after (empty_building capacity) items) ≡ []
 nothing-built capacity items none = ap building_items (built-nothing (empty_building capacity) items none)
 
 pub ruleset finishing = (len-append, frozen-bytes)

@@ -3,7 +3,7 @@ use Rattle.std.proofs.Common.{◌≡◌, ℕ, ◌+◌, ◌-◌, ◌%◌, ◌^◌
 use Rattle.std.proofs.lemmas.List.{length-map, map-append}
 use Rattle.iobufs.proofs.Text.PieceLaws.{AreFull-append}
 use Rattle.iobufs_core.specs.View.{View, view_advanced}
-use Rattle.iobufs.specs.Inside.Pieces.{view_len, piece_at, pieces_bytes, piece_start, AreFull, IsPlace}
+use Rattle.iobufs.specs.Inside.Pieces.{view_len, piece_at, pieces_bytes, piece_start, AreFull, IsChunkPlace}
 use Rattle.iobufs.specs.Search.{IsRising, IsFirstPast}
 use Rattle.iobufs.specs.Inside.Ends.{from_base, views_in, ends_from, AreEnds, IsRow, IsSearch, shortened}
 use Rattle.iobufs.specs.declared.bufs.row.Piece.{Piece}
@@ -138,7 +138,7 @@ last-end b ps l h =
 
 -- the first end above a place belongs to the piece that holds it
 pub place-first : (b : ℕ) (ps : List Piece) (at i start : ℕ) → AreEnds b 0 ps → IsFirstPast (ends_from b ps) at i
-    → start ≡ piece_start (views_in ps) i → (start ≤ at) × IsPlace (views_in ps) at i (at - start)
+    → start ≡ piece_start (views_in ps) i → (start ≤ at) × IsChunkPlace (views_in ps) at i (at - start)
 place-first b ps at i start h first is =
     let n = length-map ps (λ (p : Piece). from_base b p.end) in
     let k = length-map ps (λ (p : Piece). p.view) in

@@ -1,7 +1,7 @@
 -- Room for the bytes of pieces (`AreViews`), also on either side of a place; with it the text that they make is well formed (`IsMarked`).
 use Rattle.std.proofs.Common.{Bool, true, false, cond, nat_eq, ◌≡◌, ℕ, ◌+◌, ◌-◌, ◌<◌, ◌≤◌, List, [], ◌∷◌, ◌++◌, length, take, map, arith, length-append, length-drop, length-take, suc, zero, ⊎_elim, All}
 use Rattle.std.proofs.lemmas.Bool.{cases_lt}
-use Rattle.iobufs_core.specs.View.{View, Mark, HasRoom, IsView, default_view, mark_after, native_mark, static_mark, bytes_mark, view_front, view_advanced}
+use Rattle.iobufs_core.specs.View.{View, Mark, ReachesEnd, IsView, default_view, mark_after, native_mark, static_mark, bytes_mark, view_front, view_advanced}
 use Rattle.iobufs_core.specs.MarkedText.{IsMarked, AreCuts, text_len, moved_up, text_glue}
 use Rattle.iobufs.specs.Inside.Pieces.{view_len, of_pieces, IsPieces, AreViews, left_pieces, right_pieces, rest_pieces, pieces_bytes}
 use Rattle.iobufs.proofs.Text.Sides.{no_sub}
@@ -22,7 +22,7 @@ IsMarked-of_pieces v (w ∷ vs) (first, behind) h =
     let n = length-bytes w vs in
     let ih = IsMarked-of_pieces w vs (IsPieces-from_full w vs behind) (λ k d l. h (suc k) d (omega arith)) in
     let e : length (v.bytes ++ y.bytes) ≡ view_len v + text_len y = length-append v.bytes y.bytes in
-    let r : HasRoom v.mark (view_len v) = h 0 v (omega arith) in
+    let r : ReachesEnd v.mark (view_len v) = h 0 v (omega arith) in
     let up : AreCuts (view_len v + 0) y.mark (map (moved_up (view_len v)) y.cuts) (view_len v + text_len y) =
     AreCuts-up (view_len v) 0 y.mark y.cuts (text_len y) ih in
     let z : view_len v + 0 ≡ view_len v = omega arith in
@@ -30,12 +30,12 @@ IsMarked-of_pieces v (w ∷ vs) (first, behind) h =
     (record { rises = omega (arith, first); below = omega (arith, behind.0); room = rw (no_sub (view_len v)) r }, end)
 
 -- the room of the pieces
-pub HasRoom-on : (m : Mark) (n k : ℕ) → HasRoom m n → HasRoom (mark_after k m) (n - k)
+pub HasRoom-on : (m : Mark) (n k : ℕ) → ReachesEnd m n → ReachesEnd (mark_after k m) (n - k)
 HasRoom-on static_mark n k h = tt
 HasRoom-on bytes_mark n k h = tt
 HasRoom-on (native_mark r) n k h = omega arith
 
-pub HasRoom-less : (m : Mark) (n k : ℕ) → k ≤ n → HasRoom m n → HasRoom m k
+pub HasRoom-less : (m : Mark) (n k : ℕ) → k ≤ n → ReachesEnd m n → ReachesEnd m k
 HasRoom-less static_mark n k l h = tt
 HasRoom-less bytes_mark n k l h = tt
 HasRoom-less (native_mark r) n k l h = omega arith

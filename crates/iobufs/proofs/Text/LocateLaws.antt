@@ -3,7 +3,7 @@ use Rattle.std.proofs.Common.{◌≡◌, ℕ, ◌+◌, ◌-◌, ◌<◌, ◌≤�
 use Rattle.iobufs_core.specs.View.{View, Mark}
 use Rattle.iobufs_core.specs.MarkedText.{MarkedText, key_upto, moved_up, text_glue}
 use Rattle.iobufs.specs.Located.{keys_upto, greatest_key}
-use Rattle.iobufs.specs.Inside.Pieces.{view_len, piece_at, pieces_bytes, piece_start, of_pieces, IsPlace}
+use Rattle.iobufs.specs.Inside.Pieces.{view_len, piece_at, pieces_bytes, piece_start, of_pieces, IsChunkPlace}
 use Rattle.iobufs.proofs.Text.Sides.{both, FromOn, le_up, upto_none, upto_up, is_le, not_le}
 use Rattle.iobufs.proofs.Text.TakenLaws.{from_on-of_pieces}
 
@@ -70,7 +70,7 @@ located (v ∷ w ∷ vs) at (suc i) o sum inside =
     (omega arith, omega arith)
 
 -- what is told of a place is where it stands among the keys
-pub index-located : (vs : List View) (t : MarkedText) (at i o : ℕ) → of_pieces vs ≡ t → IsPlace vs at i o → i + 1 ≡ keys_upto t at
+pub index-located : (vs : List View) (t : MarkedText) (at i o : ℕ) → of_pieces vs ≡ t → IsChunkPlace vs at i o → i + 1 ≡ keys_upto t at
 index-located vs t at i o e place =
     let h = (located vs at i o place.sum place.inside).0 in
     let k = keys-count t at in
@@ -78,7 +78,7 @@ index-located vs t at i o e place =
     omega arith
 
 -- a place lies as far after the greatest key at most there as it lies in its piece
-pub offset-located : (vs : List View) (t : MarkedText) (at i o : ℕ) → of_pieces vs ≡ t → IsPlace vs at i o → greatest_key t at + o ≡ at
+pub offset-located : (vs : List View) (t : MarkedText) (at i o : ℕ) → of_pieces vs ≡ t → IsChunkPlace vs at i o → greatest_key t at + o ≡ at
 offset-located vs t at i o e place =
     let h = (located vs at i o place.sum place.inside).1 in
     let g = ap (λ (x : MarkedText). greatest_key x at) e in

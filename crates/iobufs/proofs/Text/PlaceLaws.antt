@@ -1,7 +1,7 @@
 -- The pieces on either side of a place, told by the piece that holds it and how far it lies in that.
 use Rattle.std.proofs.Common.{◌≡◌, ℕ, ◌+◌, ◌-◌, ◌^◌, ◌<◌, ◌≤◌, List, [], ◌∷◌, ◌++◌, length, take, drop, refl, sym, ap, ◌∙◌, arith, length-append, suc, zero, get_or}
 use Rattle.iobufs_core.specs.View.{View, default_view, view_front, view_advanced}
-use Rattle.iobufs.specs.Inside.Pieces.{view_len, pieces_bytes, piece_start, piece_at, IsPlace, AreFull, left_pieces, right_pieces}
+use Rattle.iobufs.specs.Inside.Pieces.{view_len, pieces_bytes, piece_start, piece_at, IsChunkPlace, AreFull, left_pieces, right_pieces}
 use Rattle.iobufs.proofs.Text.Sides.{no_sub}
 use Rattle.iobufs.proofs.Text.PieceLaws.{length-bytes, right_pieces-none, right_pieces-within, right_pieces-past, left_pieces-none, left_pieces-within, left_pieces-past, left_pieces-first, front-all, order3}
 
@@ -48,7 +48,7 @@ right_pieces-seam (suc i) (v ∷ vs) f =
     right_pieces-past (piece_start (v ∷ vs) (suc i)) v vs (omega arith) ∙ ap (λ m. right_pieces vs m) k ∙ right_pieces-seam i vs f.1
 
 -- the piece of a place is one of the pieces
-pub index-of_place : (vs : List View) (at i o : ℕ) → IsPlace vs at i o → i < length vs
+pub index-of_place : (vs : List View) (at i o : ℕ) → IsChunkPlace vs at i o → i < length vs
 index-of_place vs at i o h = within vs i h.inside
   where
     within : (vs : List View) (i : ℕ) → o < view_len (piece_at vs i) → i < length vs
@@ -57,7 +57,7 @@ index-of_place vs at i o h = within vs i h.inside
     within (v ∷ vs) (suc i) l = let ih = within vs i l in omega arith
 
 -- where a number holds the bytes of the place's piece, and those of several pieces, it holds those of all
-pub bytes-fit : (vs : List View) (at i o : ℕ) → IsPlace vs at i o → view_len (piece_at vs i) < 2 ^ 64
+pub bytes-fit : (vs : List View) (at i o : ℕ) → IsChunkPlace vs at i o → view_len (piece_at vs i) < 2 ^ 64
     → (1 < length vs → length (pieces_bytes vs) < 2 ^ 64) → length (pieces_bytes vs) < 2 ^ 64
 bytes-fit [] at i o place here many = omega arith
 bytes-fit (v ∷ []) at zero o place here many = omega (arith, length-bytes v [])
@@ -65,7 +65,7 @@ bytes-fit (v ∷ []) at (suc i) o place here many = absurd (omega (arith, index-
 bytes-fit (v ∷ w ∷ vs) at i o place here many = many (omega arith)
 
 -- up to a place inside a piece stand the pieces before that one, and its front
-pub left-at_place : (vs : List View) (at i o : ℕ) → IsPlace vs at i o → 0 < o → left_pieces vs at ≡ take i vs ++ view_front (piece_at vs i) o ∷ []
+pub left-at_place : (vs : List View) (at i o : ℕ) → IsChunkPlace vs at i o → 0 < o → left_pieces vs at ≡ take i vs ++ view_front (piece_at vs i) o ∷ []
 left-at_place vs at i o h p =
     let n = index-of_place vs at i o h in
     let s = h.sum in
@@ -74,7 +74,7 @@ left-at_place vs at i o h p =
     left_pieces-at i at vs default_view n (omega arith) (omega arith) ∙ ap (λ m. take i vs ++ view_front (piece_at vs i) m ∷ []) d
 
 -- from a place in a piece on stand that piece advanced, and those after it
-pub right-at_place : (vs : List View) (at i o : ℕ) → IsPlace vs at i o → right_pieces vs at ≡ view_advanced (piece_at vs i) o ∷ drop (suc i) vs
+pub right-at_place : (vs : List View) (at i o : ℕ) → IsChunkPlace vs at i o → right_pieces vs at ≡ view_advanced (piece_at vs i) o ∷ drop (suc i) vs
 right-at_place vs at i o h =
     let n = index-of_place vs at i o h in
     let s = h.sum in
@@ -83,14 +83,14 @@ right-at_place vs at i o h =
     right_pieces-at i at vs default_view n (omega arith) (omega arith) ∙ ap (λ m. view_advanced (piece_at vs i) m ∷ drop (suc i) vs) d
 
 -- a place between two pieces
-pub left-at_edge : (vs : List View) (at i o : ℕ) → AreFull vs → IsPlace vs at i o → o ≡ 0 → left_pieces vs at ≡ take i vs
+pub left-at_edge : (vs : List View) (at i o : ℕ) → AreFull vs → IsChunkPlace vs at i o → o ≡ 0 → left_pieces vs at ≡ take i vs
 left-at_edge vs at i o f h z =
     let s = h.sum in
     let e : at ≡ piece_start vs i = omega arith in
     ap (λ m. left_pieces vs m) e ∙ left_pieces-seam i vs f
 
 -- where no piece is empty, from the first byte of one on stand that one and those after it
-pub right-at_edge : (vs : List View) (at i o : ℕ) → AreFull vs → IsPlace vs at i o → o ≡ 0 → right_pieces vs at ≡ drop i vs
+pub right-at_edge : (vs : List View) (at i o : ℕ) → AreFull vs → IsChunkPlace vs at i o → o ≡ 0 → right_pieces vs at ≡ drop i vs
 right-at_edge vs at i o f h z =
     let s = h.sum in
     let e : at ≡ piece_start vs i = omega arith in

@@ -12,7 +12,7 @@ use Rattle.iobufs_core.specs.Chunks.{first_chunk, IsChunkOf}
 use Rattle.iobufs_core.specs.View.{View, default_view, view_front, view_advanced, view_slice, native_mark}
 use Rattle.iobufs_core.specs.Part.{part_frozen}
 use Rattle.iobufs_core.specs.MarkedText.{MarkedText, of_view, text_len, is_single, text_chunks, text_coalesced, text_rest, text_right, taken_view}
-use Rattle.iobufs.specs.Inside.Pieces.{view_len, pieces_bytes, piece_at, piece_start, of_pieces, behind_first, rest_pieces, right_pieces, AreFull, IsPieces, IsPlace, AreViews}
+use Rattle.iobufs.specs.Inside.Pieces.{view_len, pieces_bytes, piece_at, piece_start, of_pieces, behind_first, rest_pieces, right_pieces, AreFull, IsPieces, IsChunkPlace, AreViews}
 use Rattle.iobufs.specs.Inside.Kept.{text_of}
 use Rattle.iobufs.specs.declared.bufs.IoBufs.TheInside.{Inside}
 use Rattle.iobufs.proofs.Text.PieceLaws.{bytes-of_pieces, len-of_pieces, right-of_pieces, length-bytes, AreFull-from_pieces, of_pieces-one, front-all, rest-all, rest_pieces-all, rest_pieces-inside, right_pieces-past, right_pieces-none}
@@ -69,7 +69,7 @@ get-past (x ∷ xs) ys zero n e = absurd (omega arith)
 get-past (x ∷ xs) ys (suc m) n e = get-past xs ys m n (omega arith)
 
 -- the byte at a place is that of its piece, so far in it
-pub byte-at_place : (vs : List View) (at i o : ℕ) → IsPlace vs at i o → slice_get (pieces_bytes vs) at ≡ Some (get_or (piece_at vs i).bytes o 0)
+pub byte-at_place : (vs : List View) (at i o : ℕ) → IsChunkPlace vs at i o → slice_get (pieces_bytes vs) at ≡ Some (get_or (piece_at vs i).bytes o 0)
 byte-at_place vs at i o h = at_index vs at i h.sum h.inside
   where
     at_index : (vs : List View) (at i : ℕ) → piece_start vs i + o ≡ at → o < view_len (piece_at vs i)
@@ -91,13 +91,13 @@ rest-length vs i =
 front-advanced : (v : View) (o n : ℕ) → 0 < n → view_front (view_advanced v o) n ≡ view_slice v (Included o) (Excluded (o + n))
 front-advanced v o n p = grind (arith, nat_tests, common_steps, drop-take)
 
-right-place : (vs : List View) (t : MarkedText) (skip i o : ℕ) → of_pieces vs ≡ t → IsPlace vs skip i o → skip < length (pieces_bytes vs)
+right-place : (vs : List View) (t : MarkedText) (skip i o : ℕ) → of_pieces vs ≡ t → IsChunkPlace vs skip i o → skip < length (pieces_bytes vs)
     → text_right t skip ≡ of_pieces (view_advanced (piece_at vs i) o ∷ drop (suc i) vs)
 right-place vs t skip i o e h l =
     ap (λ (x : MarkedText). text_right x skip) (sym e) ∙ right-of_pieces skip vs l ∙ ap of_pieces (right-at_place vs skip i o h)
 
 -- bytes that lie in one piece are taken as a slice of it
-pub taken-within : (vs : List View) (t : MarkedText) (skip n i o : ℕ) → of_pieces vs ≡ t → IsPlace vs skip i o → skip < length (pieces_bytes vs)
+pub taken-within : (vs : List View) (t : MarkedText) (skip n i o : ℕ) → of_pieces vs ≡ t → IsChunkPlace vs skip i o → skip < length (pieces_bytes vs)
     → 0 < n → n ≤ view_len (piece_at vs i) - o → view_slice (piece_at vs i) (Included o) (Excluded (o + n)) ≡ taken_view t skip n
 taken-within vs t skip n i o e h l p m =
     let v = view_advanced (piece_at vs i) o in
@@ -106,7 +106,7 @@ taken-within vs t skip n i o e h l p m =
     ∙ taken_view-within n v (drop (suc i) vs) p (omega arith) ∙ front-advanced (piece_at vs i) o n p)
 
 -- bytes that lie in several pieces are taken as a copy without spare bytes, frozen
-pub taken-across : (vs : List View) (t : MarkedText) (skip n i o : ℕ) (copy : List ℕ) → of_pieces vs ≡ t → IsPlace vs skip i o
+pub taken-across : (vs : List View) (t : MarkedText) (skip n i o : ℕ) (copy : List ℕ) → of_pieces vs ≡ t → IsChunkPlace vs skip i o
     → skip + n ≤ length (pieces_bytes vs) → view_len (piece_at vs i) - o < n → copy ≡ take n (drop o (pieces_bytes (drop i vs)))
     → part_frozen (record { filled = copy; spare = 0 }) ≡ taken_view t skip n
 taken-across vs t skip n i o copy e h l m c =

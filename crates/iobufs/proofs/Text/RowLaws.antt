@@ -3,7 +3,7 @@ use Rattle.std.proofs.Common.{◌≡◌, ℕ, ◌+◌, ◌-◌, ◌%◌, ◌^◌
 use Rattle.std.proofs.Math.Seq.{take-append_seam}
 use Rattle.std.proofs.lemmas.List.{map-append}
 use Rattle.iobufs_core.specs.View.{View, default_view, view_front, view_advanced}
-use Rattle.iobufs.specs.Inside.Pieces.{view_len, piece_at, pieces_bytes, piece_start, AreFull, IsPlace, left_pieces, right_pieces}
+use Rattle.iobufs.specs.Inside.Pieces.{view_len, piece_at, pieces_bytes, piece_start, AreFull, IsChunkPlace, left_pieces, right_pieces}
 use Rattle.std.proofs.lemmas.Bool.{cases_lt}
 use Rattle.iobufs.specs.Inside.Ends.{views_in, cut_piece, shortened, IsRow}
 use Rattle.iobufs.specs.Inside.RowValues.{ViewRow}
@@ -48,7 +48,7 @@ drop-all (w ∷ ws) v zero e = absurd (omega arith)
 drop-all (w ∷ ws) v (suc i) e = drop-all ws v i (omega arith)
 
 -- the last piece goes, or its last bytes
-pub last-left : (vs ws : List View) (v : View) (at i o : ℕ) → vs ≡ ws ++ v ∷ [] → i + 1 ≡ length vs → AreFull vs → IsPlace vs at i o → o ≡ 0
+pub last-left : (vs ws : List View) (v : View) (at i o : ℕ) → vs ≡ ws ++ v ∷ [] → i + 1 ≡ length vs → AreFull vs → IsChunkPlace vs at i o → o ≡ 0
     → ws ≡ left_pieces vs at
 last-left vs ws v at i o is last full place edge =
     let n = length-append ws (v ∷ []) in
@@ -56,7 +56,7 @@ last-left vs ws v at i o is last full place edge =
     sym (left-at_edge vs at i o full place edge ∙ ap (take i) is ∙ take-seam ws v i e)
 
 -- where no piece is empty, the last is what stands from its first byte on
-pub last-right : (vs ws : List View) (v : View) (at i o : ℕ) → vs ≡ ws ++ v ∷ [] → i + 1 ≡ length vs → AreFull vs → IsPlace vs at i o → o ≡ 0
+pub last-right : (vs ws : List View) (v : View) (at i o : ℕ) → vs ≡ ws ++ v ∷ [] → i + 1 ≡ length vs → AreFull vs → IsChunkPlace vs at i o → o ≡ 0
     → v ∷ [] ≡ right_pieces vs at
 last-right vs ws v at i o is last full place edge =
     let n = length-append ws (v ∷ []) in
@@ -71,7 +71,7 @@ last-here vs ws v i is last =
     ap (λ xs. piece_at xs i) is ∙ at-seam ws v i e
 
 -- the pieces but the last, and the front of that, are those up to a place inside it
-pub last-front : (vs ws : List View) (v front : View) (at i o : ℕ) → vs ≡ ws ++ v ∷ [] → i + 1 ≡ length vs → IsPlace vs at i o → 0 < o
+pub last-front : (vs ws : List View) (v front : View) (at i o : ℕ) → vs ≡ ws ++ v ∷ [] → i + 1 ≡ length vs → IsChunkPlace vs at i o → 0 < o
     → front ≡ view_front v o → ws ++ front ∷ [] ≡ left_pieces vs at
 last-front vs ws v front at i o is last place some cut =
     let n = length-append ws (v ∷ []) in
@@ -81,7 +81,7 @@ last-front vs ws v front at i o is last place some cut =
     sym (left-at_place vs at i o place some ∙ (λ k. before k ++ view_front (here k) o ∷ []) ∙ ap (λ x. ws ++ x ∷ []) (sym cut))
 
 -- the last piece advanced is what stands from a place in it on
-pub last-behind : (vs ws : List View) (v behind : View) (at i o : ℕ) → vs ≡ ws ++ v ∷ [] → i + 1 ≡ length vs → IsPlace vs at i o
+pub last-behind : (vs ws : List View) (v behind : View) (at i o : ℕ) → vs ≡ ws ++ v ∷ [] → i + 1 ≡ length vs → IsChunkPlace vs at i o
     → behind ≡ view_advanced v o → behind ∷ [] ≡ right_pieces vs at
 last-behind vs ws v behind at i o is last place cut =
     let n = length-append ws (v ∷ []) in
@@ -91,7 +91,7 @@ last-behind vs ws v behind at i o is last place cut =
     sym (right-at_place vs at i o place ∙ (λ k. view_advanced (here k) o ∷ none k) ∙ ap (λ x. x ∷ []) (sym cut))
 
 -- a place in the last piece lies in it before its end
-pub last-inside : (vs ws : List View) (v : View) (at i o : ℕ) → vs ≡ ws ++ v ∷ [] → i + 1 ≡ length vs → IsPlace vs at i o → o < view_len v
+pub last-inside : (vs ws : List View) (v : View) (at i o : ℕ) → vs ≡ ws ++ v ∷ [] → i + 1 ≡ length vs → IsChunkPlace vs at i o → o < view_len v
 last-inside vs ws v at i o is last place = omega (arith, place.inside, ap (λ (x : View). view_len x) (last-here vs ws v i is last))
 
 -- what stands after the last piece is popped
@@ -103,7 +103,7 @@ pub views-popped : (ps qs : List Piece) (p : Piece) → ps ≡ qs ++ p ∷ [] �
 views-popped ps qs p is = ap (λ (xs : List Piece). views_in xs) is ∙ map-append (λ (q : Piece). q.view) qs (p ∷ [])
 
 -- a place in the last piece is the number of bytes before that piece, and how far it lies in it
-pub last-sum : (vs ws : List View) (v : View) (at i o : ℕ) → vs ≡ ws ++ v ∷ [] → i + 1 ≡ length vs → IsPlace vs at i o → at ≡ length (pieces_bytes ws) + o
+pub last-sum : (vs ws : List View) (v : View) (at i o : ℕ) → vs ≡ ws ++ v ∷ [] → i + 1 ≡ length vs → IsChunkPlace vs at i o → at ≡ length (pieces_bytes ws) + o
 last-sum vs ws v at i o is last place =
     let n = length-append ws (v ∷ []) in
     let e : i ≡ length ws = omega (arith, ap length is) in
@@ -135,11 +135,11 @@ piece-dropped ps behind i is =
     ap (λ (xs : List Piece). piece_at (views_in xs) 0) is ∙ ap (λ vs. piece_at vs 0) (views-drop i ps) ∙ first-dropped (views_in ps) i
 
 -- a place in a piece lies before its end where that is the first of those from it on
-pub inside-dropped : (ps behind : List Piece) (at i o : ℕ) → IsPlace (views_in ps) at i o → behind ≡ drop i ps → o < view_len (piece_at (views_in behind) 0)
+pub inside-dropped : (ps behind : List Piece) (at i o : ℕ) → IsChunkPlace (views_in ps) at i o → behind ≡ drop i ps → o < view_len (piece_at (views_in behind) 0)
 inside-dropped ps behind at i o place is = omega (arith, place.inside, ap (λ (v : View). view_len v) (piece-dropped ps behind i is))
 
 -- the pieces of a row before the one that holds a place, and the front of that one, if any, are a row, of the pieces up to the place
-pub left-row : (b at i o e : ℕ) (ps moved front : List Piece) (inside : View) → IsRow b ps → IsPlace (views_in ps) at i o
+pub left-row : (b at i o e : ℕ) (ps moved front : List Piece) (inside : View) → IsRow b ps → IsChunkPlace (views_in ps) at i o
     → (0 < o → inside ≡ view_front (piece_at (views_in ps) i) o) → at < 2 ^ 64 → e ≡ (b + at) % 2 ^ 64 → moved ≡ take i ps
     → front ≡ moved ++ cut_piece inside e o → IsRow b front × (views_in front ≡ left_pieces (views_in ps) at)
 left-row b at i o e ps moved front inside h place cut fits end before join =
@@ -164,7 +164,7 @@ left-row b at i o e ps moved front inside h place cut fits end before join =
     (cases_lt 0 o)
 
 -- the pieces of a row from the one that holds a place on, that one shortened, are a row with its base at the place, of the pieces from there on
-pub right-row : (b at i o c : ℕ) (ps rest behind : List Piece) → IsRow b ps → IsPlace (views_in ps) at i o → c ≡ (b + at) % 2 ^ 64 → rest ≡ drop i ps
+pub right-row : (b at i o c : ℕ) (ps rest behind : List Piece) → IsRow b ps → IsChunkPlace (views_in ps) at i o → c ≡ (b + at) % 2 ^ 64 → rest ≡ drop i ps
     → behind ≡ shortened rest o → IsRow c behind × (views_in behind ≡ right_pieces (views_in ps) at)
 right-row b at i o c ps rest behind h place base left cut =
     let is : behind ≡ shortened (drop i ps) o = cut ∙ ap (λ (xs : List Piece). shortened xs o) left in

@@ -6,7 +6,7 @@ use Rattle.std.specs.Result.{OnOk, OnErr}
 use Rattle.iobufs.proofs.Text.EndLaws.{start-next, starts-below}
 use Rattle.std.proofs.Common.{Result, Ok, Err, map, refl, append-nil, ⊎_elim, ◌≡◌, ℕ, ◌+◌, ◌-◌, ◌<◌, ◌≤◌, List, [], ◌∷◌, ◌++◌, length, suc, sym, ap, ◌∙◌, arith, subst, length-append, length-drop}
 use Rattle.iobufs_core.specs.View.{View}
-use Rattle.iobufs.specs.Inside.Pieces.{view_len, piece_at, piece_start, pieces_bytes, AreFull, IsPlace, left_pieces, right_pieces}
+use Rattle.iobufs.specs.Inside.Pieces.{view_len, piece_at, piece_start, pieces_bytes, AreFull, IsChunkPlace, left_pieces, right_pieces}
 use Rattle.iobufs.specs.Inside.Several.{IsPieced}
 use Rattle.iobufs.specs.declared.bufs.pieces.Form.{Form}
 use Rattle.iobufs.proofs.Text.PieceLaws.{order3, length-left, left_pieces-past, length-bytes, AreFull-append, AreFull-right, AreFull-left}
@@ -61,7 +61,7 @@ left-two vs ws at f past l is =
         rw (left_pieces-past at v vs (omega arith) (omega arith)) (omega arith)
 
 -- up to the last piece
-pub right-two : (vs ws : List View) (at i o : ℕ) → AreFull vs → at < length (pieces_bytes vs) → IsPlace vs at i o → i + 1 < length vs
+pub right-two : (vs ws : List View) (at i o : ℕ) → AreFull vs → at < length (pieces_bytes vs) → IsChunkPlace vs at i o → i + 1 < length vs
     → ws ≡ right_pieces vs at → (1 < length ws) × AreFull ws
 right-two vs ws at i o f l place more is =
     let n = ap (λ (xs : List View). length xs) (is ∙ right-at_place vs at i o place) in
@@ -69,12 +69,12 @@ right-two vs ws at i o f l place more is =
     (omega arith, (right-full vs ws at f l is).0)
 
 -- a place in the first piece
-pub place-in_first : (vs : List View) (at : ℕ) → at < view_len (piece_at vs 0) → IsPlace vs at 0 at
+pub place-in_first : (vs : List View) (at : ℕ) → at < view_len (piece_at vs 0) → IsChunkPlace vs at 0 at
 place-in_first vs at l = record { sum = omega arith; inside = l }
 
 -- at the edge of the last piece a place has nothing before it there
 pub edge-last : (vs front : List View) (last : View) (at i o : ℕ) → AreFull vs → vs ≡ front ++ last ∷ []
-    → at + view_len last ≡ length (pieces_bytes vs) → IsPlace vs at i o → (i + 1 ≡ length vs) × (o ≡ 0)
+    → at + view_len last ≡ length (pieces_bytes vs) → IsChunkPlace vs at i o → (i + 1 ≡ length vs) × (o ≡ 0)
 edge-last vs front last at i o full is edge place =
     let k = length front in
     let n = ap (λ (xs : List View). length xs) is ∙ length-append front (last ∷ []) in

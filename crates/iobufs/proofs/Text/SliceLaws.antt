@@ -10,7 +10,7 @@ use Rattle.iobufs_core.specs.CallerFacts.{bytes-rest}
 use Rattle.iobufs_core.specs.View.{View, default_view, mark_after, static_mark, view_advanced}
 use Rattle.iobufs_core.specs.Chunks.{first_chunk}
 use Rattle.iobufs_core.specs.MarkedText.{MarkedText, taken_view, text_chunks, text_len, text_rest, text_split_front}
-use Rattle.iobufs.specs.Inside.Pieces.{AreFull, AreViews, IsPlace, left_pieces, of_pieces, piece_at, piece_start, pieces_bytes, right_pieces, view_len}
+use Rattle.iobufs.specs.Inside.Pieces.{AreFull, AreViews, IsChunkPlace, left_pieces, of_pieces, piece_at, piece_start, pieces_bytes, right_pieces, view_len}
 use Rattle.iobufs.specs.declared.bufs.row.Piece.{Piece}
 use Rattle.iobufs.proofs.Text.EndLaws.{start-next, starts-below}
 use Rattle.iobufs.proofs.Text.PieceLaws.{AreFull-right, left_pieces-none, left_pieces-past, left_pieces-within, len-of_pieces, length-bytes, rest-of_pieces, right_pieces-none, right_pieces-past, right_pieces-within, split_front-of_pieces}
@@ -123,7 +123,7 @@ rest-len t at l = omega (arith, l, ap length (bytes-rest t at l), length-drop at
 
 -- a run of pieces from the place's on that hold n bytes from there, cut at both ends, is the range
 pub cut-run : (vs run : List View) (t u : MarkedText) (start n i o k : ℕ) → of_pieces vs ≡ t → of_pieces run ≡ u → AreFull vs → AreFull run
-    → run ≡ take (k + 1) (drop i vs) → IsPlace vs start i o → 0 < n → start + n ≤ length (pieces_bytes vs) → o + n ≤ length (pieces_bytes run)
+    → run ≡ take (k + 1) (drop i vs) → IsChunkPlace vs start i o → 0 < n → start + n ≤ length (pieces_bytes vs) → o + n ≤ length (pieces_bytes run)
     → text_split_front (text_rest u o) n ≡ text_split_front (text_rest t start) n
 cut-run vs run t u start n i o k text run_text full run_full is place some l held =
     let ranged : MarkedText → ℕ → MarkedText = λ x at. text_split_front (text_rest x at) n in
@@ -138,7 +138,7 @@ cut-run vs run t u start n i o k text run_text full run_full is place some l hel
     ∙ sym (cut-of_pieces vs start n full some l) ∙ ap (λ x. ranged x start) text
 
 -- of full pieces the one that holds a place stands no further on than that of a place after it
-pub places-rise : (vs : List View) (from to i j o p : ℕ) → AreFull vs → IsPlace vs from i o → IsPlace vs to j p → from ≤ to → i ≤ j
+pub places-rise : (vs : List View) (from to i j o p : ℕ) → AreFull vs → IsChunkPlace vs from i o → IsChunkPlace vs to j p → from ≤ to → i ≤ j
 places-rise vs from to i j o p full here there l =
     ⊎_elim
     (λ (h : j < i). let index = index-of_place vs from i o here in
@@ -152,7 +152,7 @@ places-rise vs from to i j o p full here there l =
     (cases_lt j i)
 
 -- the pieces from that of a place to that of a place after it hold what lies between, with the byte there
-pub held-between : (vs run : List View) (from to i j o p : ℕ) → IsPlace vs from i o → IsPlace vs to j p → i ≤ j → from ≤ to
+pub held-between : (vs run : List View) (from to i j o p : ℕ) → IsChunkPlace vs from i o → IsChunkPlace vs to j p → i ≤ j → from ≤ to
     → run ≡ take (j - i + 1) (drop i vs) → o + (to - from) < length (pieces_bytes run)
 held-between vs run from to i j o p here there rise l is =
     let next = start-next vs j (index-of_place vs to j p there) in
@@ -161,7 +161,7 @@ held-between vs run from to i j o p here there rise l is =
     omega (arith, next, sum, last, here.sum, there.sum, there.inside, l, ap (λ (ws : List View). length (pieces_bytes ws)) is)
 
 -- a piece that holds all bytes from a place to one after it holds that one too
-pub places-meet : (vs : List View) (from to i j o p : ℕ) → AreFull vs → IsPlace vs from i o → IsPlace vs to j p → from ≤ to
+pub places-meet : (vs : List View) (from to i j o p : ℕ) → AreFull vs → IsChunkPlace vs from i o → IsChunkPlace vs to j p → from ≤ to
     → o + (to - from) < view_len (piece_at vs i) → j - i ≡ 0
 places-meet vs from to i j o p full here there l within =
     ⊎_elim
@@ -181,7 +181,7 @@ only-run vs run i k index is none =
     is ∙ ap (λ m. take (m + 1) (drop i vs)) none ∙ ap (take 1) (drop-cons vs i default_view index)
 
 -- what follows a place of a static piece alone, which has n bytes there: its first chunk has them, and is static
-pub static-run : (vs run : List View) (t : MarkedText) (from n i o k : ℕ) → AreFull vs → IsPlace vs from i o → run ≡ take (k + 1) (drop i vs) → k ≡ 0
+pub static-run : (vs run : List View) (t : MarkedText) (from n i o k : ℕ) → AreFull vs → IsChunkPlace vs from i o → run ≡ take (k + 1) (drop i vs) → k ≡ 0
     → 0 < n → o + n ≤ view_len (piece_at vs i) → (piece_at vs i).mark ≡ static_mark → t ≡ text_rest (of_pieces run) o
     → (n ≤ length (first_chunk (text_chunks t))) × ((taken_view t 0 n).mark ≡ static_mark)
 static-run vs run t from n i o k full place is none some l static rest =

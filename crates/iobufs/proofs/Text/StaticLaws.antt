@@ -6,7 +6,7 @@ use Rattle.std.proofs.lemmas.Grind.{common_steps}
 use Rattle.iobufs_core.specs.View.{View, Mark, static_mark, bytes_mark, native_mark, mark_after, view_slice}
 use Rattle.iobufs_core.specs.Part.{part_capacity, part_frozen}
 use Rattle.iobufs_core.specs.MarkedText.{MarkedText, taken_view}
-use Rattle.iobufs.specs.Inside.Pieces.{view_len, pieces_bytes, piece_at, of_pieces, IsPlace}
+use Rattle.iobufs.specs.Inside.Pieces.{view_len, pieces_bytes, piece_at, of_pieces, IsChunkPlace}
 use Rattle.iobufs.proofs.Text.ReadLaws.{taken-across, taken-within, rest-length}
 
 abbrev IsStatic : Mark → Type 0
@@ -23,7 +23,7 @@ mark-slice : (v : View) (o n : ℕ) → 0 < n → (view_slice v (Included o) (Ex
 mark-slice v o n some = grind (arith, nat_tests, common_steps)
 
 -- one byte or more that lie in one piece are taken as static text only where that piece is static
-pub static-within : (vs : List View) (t : MarkedText) (skip n i o : ℕ) → of_pieces vs ≡ t → IsPlace vs skip i o → skip < length (pieces_bytes vs)
+pub static-within : (vs : List View) (t : MarkedText) (skip n i o : ℕ) → of_pieces vs ≡ t → IsChunkPlace vs skip i o → skip < length (pieces_bytes vs)
     → 0 < n → n ≤ view_len (piece_at vs i) - o → (taken_view t skip n).mark ≡ static_mark → (piece_at vs i).mark ≡ static_mark
 static-within vs t skip n i o e h l some m static =
     still-static o (piece_at vs i).mark
@@ -34,7 +34,7 @@ mark-frozen : (copy : List ℕ) → 0 < length copy → (part_frozen (record { f
 mark-frozen copy some = grind (arith, nat_tests, common_steps)
 
 -- bytes that lie in several pieces are never taken as static text
-pub across-native : (vs : List View) (t : MarkedText) (skip n i o : ℕ) → of_pieces vs ≡ t → IsPlace vs skip i o → skip + n ≤ length (pieces_bytes vs)
+pub across-native : (vs : List View) (t : MarkedText) (skip n i o : ℕ) → of_pieces vs ≡ t → IsChunkPlace vs skip i o → skip + n ≤ length (pieces_bytes vs)
     → view_len (piece_at vs i) - o < n → (taken_view t skip n).mark ≡ static_mark → ⊥
 across-native vs t skip n i o e h l m static =
     let copy = take n (drop o (pieces_bytes (drop i vs))) in
@@ -42,7 +42,7 @@ across-native vs t skip n i o e h l m static =
     let some : 0 < length copy = omega (arith, m, copied-length vs skip n i o h l) in
     subst IsStatic (sym static ∙ sym (ap (λ (v : View). v.mark) taken) ∙ mark-frozen copy some) tt
   where
-    copied-length : (vs : List View) (skip n i o : ℕ) → IsPlace vs skip i o → skip + n ≤ length (pieces_bytes vs)
+    copied-length : (vs : List View) (skip n i o : ℕ) → IsChunkPlace vs skip i o → skip + n ≤ length (pieces_bytes vs)
         → length (take n (drop o (pieces_bytes (drop i vs)))) ≡ n
     copied-length vs skip n i o h l =
         let rest = rest-length vs i in

@@ -2,7 +2,7 @@
 -- end. So bytes that come or go at the front change the base alone.
 --     from_base, ends_from    how many bytes there are up to an end, by the base; and up to each chunk's end
 --     views_in                the chunks without their ends
---     IsEnd, AreEnds          each chunk ends where the bytes before it and its own determine
+--     IsEndPlace, AreEnds          each chunk ends where the bytes before it and its own determine
 --     IsRow                   the invariant of several chunks: their ends, and that none is empty
 --     IsSearch                what a search requires: rising ends, and an offset below the last
 --     shortened, cut_piece    the first chunk less n bytes; the part of a chunk before a cut, if any
@@ -23,14 +23,14 @@ abbrev pub ends_from : ℕ → List Piece → List ℕ
 ends_from base pieces = map (λ (piece : Piece). from_base base piece.end) pieces
 
 -- a piece's end as it is stored, and where the piece ends, with so many bytes before it
-pub record IsEnd (base start : ℕ) (piece : Piece) : Type 0 where
+pub record IsEndPlace (base start : ℕ) (piece : Piece) : Type 0 where
   pub stored : piece.end < 2 ^ 64
   pub placed : from_base base piece.end ≡ start + view_len piece.view
 
 -- so many bytes stand before the first piece, and each end is where its piece ends
 abbrev pub AreEnds : ℕ → ℕ → List Piece → Type 0
 AreEnds base start [] = Unit {0}
-AreEnds base start (piece ∷ pieces) = IsEnd base start piece × AreEnds base (start + view_len piece.view) pieces
+AreEnds base start (piece ∷ pieces) = IsEndPlace base start piece × AreEnds base (start + view_len piece.view) pieces
 
 -- what a row keeps true: each end, less the base, is where its piece ends in the text, and each piece holds bytes
 pub record IsRow (base : ℕ) (pieces : List Piece) : Type 0 where

@@ -1,7 +1,7 @@
 -- How the code keeps buffers, as a list of parts.
 --     shape_parts, shape_single    one buffer, up to three in place or a deque, as a list; and the only one, if it is
 --                                  kept by itself
---     IsBuilt                      a deque has more buffers than there are places, if no bytes were taken
+--     IsShape                      a deque has more buffers than there are places, if no bytes were taken
 use Rattle.std.specs.Prelude.{◌<◌, Option, None, Some, List, [], ◌∷◌, length}
 use Rattle.iobufs_core.specs.Part.{Part}
 use Rattle.iobufs.specs.Parts.{kept_parts}
@@ -20,7 +20,7 @@ shape_single (Few parts) = None
 shape_single (Many row) = None
 
 -- more parts than three are in the row, if there is one
-abbrev pub IsBuilt : Shape → Type 0
-IsBuilt (One part) = Unit {0}
-IsBuilt (Few parts) = Unit {0}
-IsBuilt (Many row) = 3 < length row
+abbrev pub IsShape : Shape → Type 0
+IsShape (One part) = Unit {0}
+IsShape (Few parts) = Unit {0}
+IsShape (Many row) = 3 < length row

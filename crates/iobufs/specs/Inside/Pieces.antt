@@ -4,7 +4,7 @@
 --     AreViews                  native storage reaches to the end of each chunk
 --     view_len, pieces_bytes    how many bytes a chunk has, and the bytes of all
 --     piece_at, piece_start     the i-th chunk, and how many bytes come before it
---     IsPlace                   an offset, as a chunk and a distance in it
+--     IsChunkPlace                   an offset, as a chunk and a distance in it
 --     left_pieces,              the chunks of the two sides of an offset
 --     right_pieces
 --     rest_pieces               the rest without the first bytes; the empty view if all go
@@ -70,7 +70,7 @@ abbrev pub piece_at : List View → ℕ → View
 piece_at pieces i = get_or pieces i default_view
 
 -- a place, as a piece and the number of bytes before the place in it
-pub record IsPlace (pieces : List View) (at index offset : ℕ) : Type 0 where
+pub record IsChunkPlace (pieces : List View) (at index offset : ℕ) : Type 0 where
   pub sum : piece_start pieces index + offset ≡ at
   pub inside : offset < view_len (piece_at pieces index)
 

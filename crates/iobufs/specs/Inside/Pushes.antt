@@ -5,7 +5,7 @@
 --     IsBuilder                     the invariant of a builder's fields: how many bytes have their gap, a free entry
 --                                   for those after the last view, how much may still be pushed
 use Rattle.std.specs.Prelude.{◌≡◌, ◌≤◌, ◌<◌, ℕ, ◌+◌, ◌^◌, List, [], ◌∷◌, ◌++◌, length, take, drop}
-use Rattle.iobufs_core.specs.Items.{Item, push_item}
+use Rattle.iobufs_core.specs.Items.{PutOrPush, push_item}
 use Rattle.iobufs_core.specs.Part.{Part, part_capacity}
 use Rattle.iobufs.specs.Building.{Building, inline_run}
 use Rattle.iobufs.specs.Inside.Gaps.{AreSegments, gaps_len, stood_len}
@@ -13,7 +13,7 @@ use Rattle.iobufs.specs.Inside.RowValues.{Segment, gap, standing}
 use Rattle.iobufs.specs.declared.builder.Builder.TheInside.{Inside}
 
 -- the items up to the last view
-abbrev pub items_front : List ℕ → List Segment → List Item
+abbrev pub items_front : List ℕ → List Segment → List PutOrPush
 items_front bytes [] = []
 items_front bytes (gap n ∷ segments) = inline_run (take n bytes) ++ items_front (drop n bytes) segments
 items_front bytes (standing view ∷ segments) = push_item view ∷ items_front bytes segments

@@ -1,5 +1,5 @@
 // One piece, or a row of several.
-ghost use Rattle.iobufs.specs.Inside.Pieces.{AreFull, IsPieces, IsPlace, behind_first, left_pieces, rest_pieces, right_pieces, piece_at, pieces_bytes, view_len, bytes_behind};
+ghost use Rattle.iobufs.specs.Inside.Pieces.{AreFull, IsPieces, IsChunkPlace, behind_first, left_pieces, rest_pieces, right_pieces, piece_at, pieces_bytes, view_len, bytes_behind};
 ghost use Rattle.iobufs.specs.Inside.Several.{views, IsPieced};
 ghost use Rattle.iobufs_core.specs.Part.{part_frozen, part_put};
 ghost use Rattle.iobufs_core.specs.View.{View, IsFreelyShared, static_mark};
@@ -339,7 +339,7 @@ impl Pieces {
     pub(super) fn locate(&self, at: usize) -> Located
         requires { at < length (pieces_bytes self.now) }
         ensures full { AreFull self.now }
-        ensures place { IsPlace self.now at result.index result.offset }
+        ensures place { IsChunkPlace self.now at result.index result.offset }
         ensures fits { 1 < length self.now → length (pieces_bytes self.now) < 2 ^ 64 }
         ensures probes { 2 ^ result.probes ≤ 2 * length self.now }
         ensures halves { length self.now < 2 ^ (result.probes + 1) }

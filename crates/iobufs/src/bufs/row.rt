@@ -7,7 +7,7 @@ ghost use Rattle.std.specs.VecDeque.{deque_len, deque_capacity};
 ghost use Rattle.iobufs_core.specs.Part.{part_put};
 ghost use Rattle.iobufs_core.specs.View.{IsView, static_mark, view_advanced, view_front};
 ghost use Rattle.iobufs.specs.Inside.Ends.{cut_piece, shortened, views_in};
-ghost use Rattle.iobufs.specs.Inside.Pieces.{AreFull, IsPlace, left_pieces, piece_at, piece_start, pieces_bytes, right_pieces, view_len};
+ghost use Rattle.iobufs.specs.Inside.Pieces.{AreFull, IsChunkPlace, left_pieces, piece_at, piece_start, pieces_bytes, right_pieces, view_len};
 
 mod gaps;
 
@@ -170,11 +170,26 @@ impl Row {
         ensures same_room { self.new.room ≡ self.old.room }
         ensures view { IsView piece }
     {
+        let len = self.len();
+        self.add_after(piece, len);
+    }
+
+    /// As `add`, after `len` bytes, which are all of the deque's. Returns how many there are then.
+    #[inline(always)]
+    pub(crate) fn add_after(&mut self, piece: IoBuf, len: usize) -> usize
+        requires total { len ≡ length (pieces_bytes self.old.views) }
+        requires fits { length (pieces_bytes self.old.views) + length piece.bytes < 2 ^ 64 }
+        requires room { length self.old.views < self.old.room }
+        ensures added { self.new.views ≡ (if length piece.bytes == 0 then self.old.views else self.old.views ++ piece ∷ []) }
+        ensures len { result ≡ len + length piece.bytes }
+        ensures same_room { self.new.room ≡ self.old.room }
+        ensures view { IsView piece }
+    {
         let more = piece.len();
         if more != 0 {
-            let len = self.len() + more;
-            self.push_back_reserved(piece, len);
+            self.push_back_reserved(piece, len + more);
         }
+        len + more
     }
 
     /// As `push_back`, within the reserved space.
@@ -280,7 +295,7 @@ impl Row {
     /// The piece that holds a place.
     pub(super) fn locate(&self, at: usize) -> Located
         requires { at < length (pieces_bytes self.now.views) }
-        ensures place { IsPlace self.now.views at result.index result.offset }
+        ensures place { IsChunkPlace self.now.views at result.index result.offset }
         ensures fits { length (pieces_bytes self.now.views) < 2 ^ 64 }
         ensures probes { 2 ^ result.probes ≤ 2 * length self.now.views }
         ensures halves { length self.now.views < 2 ^ (result.probes + 1) }
@@ -344,7 +359,7 @@ impl Row {
 
     /// Takes the bytes of the last piece from a place on.
     pub(super) fn split_last(&mut self, place: Located, at: usize) -> Result<IoBuf, BufError>
-        requires place { IsPlace self.old.views at place.index place.offset }
+        requires place { IsChunkPlace self.old.views at place.index place.offset }
         requires last { place.index + 1 ≡ length self.old.views }
         ensures answer { IfOk result (λ last. last ∷ [] ≡ right_pieces self.old.views at) }
         ensures left { OnOk result (self.new.views ≡ left_pieces self.old.views at) }
@@ -371,7 +386,7 @@ impl Row {
         place: Located,
         at: usize,
     ) -> Result<Row, BufError>
-        requires place { IsPlace self.old.views at place.index place.offset }
+        requires place { IsChunkPlace self.old.views at place.index place.offset }
         ensures answer { IfOk result (λ front. front.views ≡ left_pieces self.old.views at) }
         ensures left { OnOk result (self.new.views ≡ right_pieces self.old.views at) }
         ensures unchanged { OnErr result (self.new.views ≡ self.old.views) }
@@ -385,7 +400,7 @@ impl Row {
 
     // Reserves space for the chunks before the offset, cuts, and then moves them.
     fn split_left(&mut self, alloc: Global, place: Located, at: usize) -> Result<Row, BufError>
-        requires place { IsPlace self.old.views at place.index place.offset }
+        requires place { IsChunkPlace self.old.views at place.index place.offset }
         requires fits { place.index + 1 < 2 ^ 64 }
         ensures answer { IfOk result (λ front. front.views ≡ left_pieces self.old.views at) }
         ensures left { OnOk result (self.new.views ≡ right_pieces self.old.views at) }
@@ -412,14 +427,14 @@ impl Row {
 
     // Cuts, and then moves the chunks from the offset on into a deque of their own.
     fn split_right(&mut self, place: Located, at: usize) -> Result<Row, BufError>
-        requires place { IsPlace self.old.views at place.index place.offset }
+        requires place { IsChunkPlace self.old.views at place.index place.offset }
         ensures answer { IfOk result (λ front. front.views ≡ left_pieces self.old.views at) }
         ensures left { OnOk result (self.new.views ≡ right_pieces self.old.views at) }
         ensures unchanged { OnErr result (self.new.views ≡ self.old.views) }
         ensures memory { IsOkUnless result BufError.Memory }
     {
         let inside = front_of(&self.pieces, place.index, place.offset)?;
-        let mut pieces = self.pieces.split_off(place.index)?;
+        let mut pieces = split_off(&mut self.pieces, place.index)?;
         let base = self.base.wrapping_add(at as u64);
         cut(&mut self.pieces, &mut pieces, inside, place.offset, base);
         Ok(mem::replace(self, Row { base, pieces }))
@@ -497,6 +512,30 @@ fn split_first_inside(row: &mut VecDeque<Piece>, at: usize) -> Result<IoBuf, Buf
         Some(first) => split_inside(&mut first.view, at),
         None => unreachable!(),
     }
+}
+
+// How few chunks are moved one by one.
+const FEW: usize = 8;
+
+// Takes the chunks from an index on. Many are moved at once, as a `Vec` moves them; that may move those before the index too.
+fn split_off(pieces: &mut VecDeque<Piece>, at: usize) -> Result<VecDeque<Piece>, AllocError>
+    requires { at ≤ deque_len pieces.old }
+    ensures items { OnOk result (pieces.new.items ≡ take at pieces.old.items) }
+    ensures len { OnOk result (deque_len pieces.new ≡ at) }
+    ensures tail { IfOk result (λ rest. rest.items ≡ drop at pieces.old.items) }
+    ensures tail_len { IfOk result (λ rest. deque_len rest + at ≡ deque_len pieces.old) }
+    ensures err { OnErr result (pieces.new.items ≡ pieces.old.items) }
+    ensures capacity { deque_capacity pieces.new ≡ deque_capacity pieces.old }
+{
+    let count = pieces.len() - at;
+    if count < FEW || count < at / 4 {
+        return pieces.split_off(at);
+    }
+    let alloc = *pieces.allocator();
+    let mut front = mem::replace(pieces, VecDeque::new(alloc)).into_vec();
+    let rest = front.split_off(at);
+    *pieces = VecDeque::from_vec(front);
+    Ok(VecDeque::from_vec(rest?))
 }
 
 // Cuts a piece in two: its first bytes go after the front pieces, and the first of those after keeps the others.

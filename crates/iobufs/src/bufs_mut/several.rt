@@ -482,9 +482,9 @@ fn freeze_behind(
     ensures memory { IsOkUnless result BufError.Memory }
 {
     let mut row = Row::with_room(alloc, parts.len() + 1)?;
-    row.add(first);
+    let mut len = row.add_after(first, 0);
     while let Some(part) = parts.pop_front() {
-        row.add(part.freeze()?);
+        len = row.add_after(part.freeze()?, len);
     }
     Ok(IoBufs::from_row(row))
 }

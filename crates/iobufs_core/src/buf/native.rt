@@ -1,6 +1,6 @@
 // A text in native storage.
 ghost use Rattle.std.specs.Arc.{arc_value};
-ghost use Rattle.std.specs.Prelude.{◌≡◌, ◌≤◌, ◌+◌, ◌-◌, length, drop, vec_len, vec_capacity, IfOk, MatchOption, MatchResult};
+ghost use Rattle.std.specs.Prelude.{◌≡◌, ◌≤◌, ◌+◌, ◌-◌, length, drop, vec_len, vec_capacity, IfOk, OnErr, OnOk, MatchOption, MatchResult};
 ghost use Rattle.iobufs_core.specs.Native.{native_advanced, native_cut};
 
 use super::IoBufMut;
@@ -15,8 +15,8 @@ use std::sync::Arc;
 #[derive(Drop)]
 pub(super) struct Native {
     block: Arc<Vec<u8>>,
-    start: usize,
     len: usize,
+    start: usize,
     limit: usize,
 }
 
@@ -113,6 +113,28 @@ impl Native {
             len: n,
             limit: self.limit,
         })
+    }
+
+    /// The bytes of a range, in the same block.
+    pub(super) fn slice(&self, from: usize, to: usize) -> Result<Native, AllocError>
+        requires { (from ≤ to) × (to ≤ length self.now.bytes) }
+        ensures { IfOk result (λ s. s ≡ native_advanced (native_cut self.now to) from) }
+    {
+        let mut slice = self.front(to)?;
+        slice.advance(from);
+        Ok(slice)
+    }
+
+    /// Takes the first bytes, in the same block.
+    pub(super) fn split_to(&mut self, n: usize) -> Result<Native, AllocError>
+        requires { n ≤ length self.old.bytes }
+        ensures front { IfOk result (λ f. f ≡ native_cut self.old n) }
+        ensures rest { OnOk result (self.new ≡ native_advanced self.old n) }
+        ensures unchanged { OnErr result (self.new ≡ self.old) }
+    {
+        let front = self.front(n)?;
+        self.advance(n);
+        Ok(front)
     }
 
     /// The bytes as a `Bytes`: in their storage, if no other text is in the block and its room ends with them, else a copy.

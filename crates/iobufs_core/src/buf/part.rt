@@ -63,11 +63,18 @@ fn is_bad_layout(n: usize, align: usize) -> bool
 }
 
 impl IoBufMut {
-    /// Returns an empty buffer of capacity 0 (`Default`).
-    pub fn default(alloc: Global) -> IoBufMut
+    /// Returns an empty buffer of capacity 0 (own).
+    pub fn new(alloc: Global) -> IoBufMut
         ensures { result ≡ empty_part 0 }
     {
         IoBufMut::from_storage(Vec::new(alloc), 0, 0)
+    }
+
+    /// Acts as `new` (`Default`).
+    pub fn default(alloc: Global) -> IoBufMut
+        ensures { result ≡ empty_part 0 }
+    {
+        IoBufMut::new(alloc)
     }
 
     /// Allocates an empty buffer of exactly this capacity (`IoBufMut::with_capacity`).

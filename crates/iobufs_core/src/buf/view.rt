@@ -36,8 +36,8 @@ impl Drop for IoBuf {
 #[derive(Drop)]
 enum Storage {
     Native(Native),
-    Shared(Bytes),
     Static(&'static [u8]),
+    Shared(Bytes),
 }
 
 impl Model for IoBuf {
@@ -129,22 +129,6 @@ impl IoBuf {
         }
     }
 
-    // The first bytes, in the same storage.
-    #[inline(always)]
-    fn front(&self, n: usize) -> Result<IoBuf, BufError>
-        requires { n ≤ length self.now.bytes }
-        ensures ok { IfOk result (λ front. front ≡ view_front self.now n) }
-        ensures memory { IsOkUnless result BufError.Memory }
-        ensures static_text { self.now.mark ≡ static_mark → IsOk result }
-    {
-        let storage = match &self.storage {
-            Storage::Static(text) => Storage::Static(&text[..n]),
-            Storage::Shared(bytes) => Storage::Shared(bytes.slice(..n)?),
-            Storage::Native(native) => Storage::Native(native.front(n)?),
-        };
-        Ok(IoBuf { storage })
-    }
-
     /// Drops the first bytes, as a copy of them does.
     pub(crate) fn drop_front(&mut self, n: usize)
         requires { n ≤ length self.old.bytes }
@@ -186,9 +170,16 @@ impl IoBuf {
         if from == to {
             return Ok(IoBuf::default());
         }
-        let mut slice = self.front(to)?;
-        slice.advance(from);
-        Ok(slice)
+        let storage = match &self.storage {
+            Storage::Native(native) => Storage::Native(native.slice(from, to)?),
+            Storage::Static(text) => Storage::Static(&text[..to][from..]),
+            Storage::Shared(bytes) => {
+                let mut slice = bytes.slice(..to)?;
+                slice.advance(from);
+                Storage::Shared(slice)
+            }
+        };
+        Ok(IoBuf { storage })
     }
 
     /// Takes the first `at` bytes, in the same storage (`IoBuf::split_to`).
@@ -209,9 +200,16 @@ impl IoBuf {
         if at == self.len() {
             return Ok(mem::take(self));
         }
-        let front = self.front(at)?;
-        self.advance(at);
-        Ok(front)
+        let storage = match &mut self.storage {
+            Storage::Native(native) => Storage::Native(native.split_to(at)?),
+            Storage::Static(text) => {
+                let (front, rest) = text.split_at(at);
+                *text = rest;
+                Storage::Static(front)
+            }
+            Storage::Shared(bytes) => Storage::Shared(bytes.split_to(at)?),
+        };
+        Ok(IoBuf { storage })
     }
 
     /// Recovers the storage for writing, or returns the view (`IoBuf::try_into_mut`). It recovers native storage that

@@ -6,7 +6,7 @@ ghost use Rattle.iobufs_core.specs.Spelling.{spell};
 ghost use Rattle.iobufs_core.specs.Wire.{HasStaticView, HasView, IsTaken, IsViewFault, IsViewRead, view_items, view_written};
 ghost use Rattle.iobufs_core.specs.ReadBack.{IsReadAlike, IsReadBack};
 ghost use Rattle.iobufs_core.specs.Dropping.{Dropping, by_advance, by_copy, dropped, dropped_len};
-ghost use Rattle.iobufs_core.specs.Items.{Item, put_item, push_item, items_bytes, items_inline, items_pushed, IsBegun};
+ghost use Rattle.iobufs_core.specs.Items.{PutOrPush, put_item, push_item, items_bytes, items_inline, items_pushed, IsBegun};
 ghost use Rattle.iobufs_core.specs.View.{view_of_bytes};
 ghost use Rattle.iobufs_core.specs.declared.codec.base.Error.{Error as AnyError};
 
@@ -25,7 +25,7 @@ pub trait BufsMut: BufMut {
     ghost pushable: { Self → ℕ };
 
     // From one value to another by these puts and pushes, all of which fit.
-    ghost done: { Self → List Item → Self → Type 0 };
+    ghost done: { Self → List PutOrPush → Self → Type 0 };
 
     /// Appends a view (`BufsMut::push`). Fails with `BufError::TooLong` exactly if it is longer than pushes may still
     /// add.
@@ -53,13 +53,13 @@ pub trait BufsMut: BufMut {
 
     ghost skips: { (s : Self) (view : View) → length view.bytes ≡ 0 → done s (push_item view ∷ []) s };
 
-    ghost follows: { (a b c : Self) (us vs : List Item) → done a us b → done b vs c → done a (us ++ vs) c };
+    ghost follows: { (a b c : Self) (us vs : List PutOrPush) → done a us b → done b vs c → done a (us ++ vs) c };
 
-    ghost adds: { (a b : Self) (items : List Item) → done a items b → joined b ≡ joined a ++ items_bytes items };
+    ghost adds: { (a b : Self) (items : List PutOrPush) → done a items b → joined b ≡ joined a ++ items_bytes items };
 
-    ghost uses: { (a b : Self) (items : List Item) → done a items b → Self.room a ≡ Self.room b + items_inline items };
+    ghost uses: { (a b : Self) (items : List PutOrPush) → done a items b → Self.room a ≡ Self.room b + items_inline items };
 
-    ghost spends: { (a b : Self) (items : List Item) → done a items b → pushable a ≡ pushable b + items_pushed items };
+    ghost spends: { (a b : Self) (items : List PutOrPush) → done a items b → pushable a ≡ pushable b + items_pushed items };
 }
 
 /// A value whose encoded size is known (the codec's `EncodeSize`).
@@ -67,7 +67,7 @@ pub trait EncodeSize {
     // The text that is written, and the puts and pushes that write it.
     ghost written: { Self → List ℕ };
 
-    ghost items: { Self → List Item };
+    ghost items: { Self → List PutOrPush };
 
     /// Returns how many bytes are written; `None` above `usize::MAX` (`EncodeSize::encode_size`).
     fn encode_size(&self) -> Option<usize>

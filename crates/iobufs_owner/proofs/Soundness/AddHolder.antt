@@ -1,22 +1,5 @@
 -- One holder more of a counted block keeps the machine sound.
-use Rattle.std.proofs.Common.{◌≡◌, ◌≢◌, inl, inr, ℕ, zero, suc, ◌+◌, ◌^◌, ◌<◌, ◌≤◌, ◌==◌, Bool, true, false, cond, List, [], ◌∷◌, ◌++◌, length, get_or, set, sym, ◌∙◌, ap, subst, refl, arith, All, Option, Some, None, nat_eq, length-append}
-use Rattle.std.proofs.Math.ListN.{length-set}
-use Rattle.std.proofs.lemmas.List.Elements.{All-push}
-use Rattle.std.proofs.lemmas.List.{get_or-set_same, get_or-set_other}
-use Rattle.std.proofs.lemmas.Bool.Decides.{nat_tests, eqb_tells}
-use Rattle.iobufs_owner.specs.State.{State, Tables, owner_of, record_at, block_at, handle_at}
-use Rattle.iobufs_owner.specs.World.{holds, holders, users, still_holds, tally}
-use Rattle.iobufs_owner.specs.Reading.{reading, read_handle, read_call, has_let_go}
-use Rattle.iobufs_owner.specs.Sound.{IsSound, Fits, FitsWord, LiesIn, alone, describes}
-use Rattle.iobufs_owner.specs.Changes.{counted, with_count, with_handle}
-use Rattle.iobufs_owner.specs.Types.{Record, Handle, Kind, View, Pending, Release, Word, Counted}
-use Rattle.iobufs_owner.proofs.Soundness.Counts.{count-append, count-some, count-map, count-less, holders-more, users-more}
-use Rattle.iobufs_owner.proofs.Soundness.Keeps.{Keeps, KeepsLetGo, all-fit-kept, calls-fit-kept, calls-read-kept, releases-kept}
-use Rattle.iobufs_owner.proofs.Soundness.StaysSound.{at-some, append-at, owner-counted}
-use Rattle.iobufs_owner.proofs.Soundness.Frames.{handles-kept, alone-kept, describes-kept, holders-tables, users-tables, not-eqb, is-eqb}
-use Rattle.iobufs_owner.proofs.Soundness.Edits.{counted-at, live-inside, alone-shared, describes-counted}
-use Rattle.iobufs_owner.proofs.Soundness.Holders.{alone-holds, held_by, held-at, holders-as}
-use Rattle.iobufs_owner.proofs.Soundness.Logs.{block-log-alike, record-log-counted}
+use Rattle.iobufs_owner.proofs.Base.{◌≡◌, ◌≢◌, inl, inr, ℕ, zero, suc, ◌+◌, ◌^◌, ◌<◌, ◌≤◌, ◌==◌, Bool, true, false, cond, List, [], ◌∷◌, ◌++◌, length, get_or, set, sym, ◌∙◌, ap, subst, refl, arith, All, Option, Some, None, nat_eq, length-append, length-set, All-push, get_or-set_same, get_or-set_other, nat_tests, eqb_tells, State, Tables, owner_of, record_at, block_at, handle_at, holds, holders, users, still_holds, tally, reading, read_handle, read_call, has_let_go, IsSound, Fits, FitsWord, LiesIn, alone, describes, counted, with_count, with_handle, Record, Handle, Kind, View, Pending, Release, Word, Counted, count-append, count-some, count-map, count-less, Keeps, KeepsLetGo, all-fit-kept, calls-fit-kept, at-some, append-at, owner-counted, ne_eqb, eq-eqb, counted-at, live-inside, alone-shared, describes-counted, alone-holds, held_by, held-at, holders-as, block-log-alike, record-log-counted, sized, alike, users-as}
 
 -- a write that keeps a field keeps it everywhere
 pub field-set : {X Y : Type 0} (f : X → Y) (xs : List X) (i q : ℕ) (v d : X) → f v ≡ f (get_or xs i d) → f (get_or (set xs i v) q d) ≡ f (get_or xs q d)
@@ -60,7 +43,7 @@ alone-less s h x b at o f =
     let l = at-some s.handles h x at in
     let m = count-map (holds b) (read_handle s.tables) s.handles in
     let t = count-less (λ (o : Option Handle). holds b (read_handle s.tables o)) (alone s.tables b) s.handles h None (alone-holds s.tables b) l
-    (rw (at, o) (is-eqb b b refl)) (rw at f) in
+    (rw (at, o) (eq-eqb b b refl)) (rw at f) in
     omega (arith, m, t)
 
 -- a handle holds the block, so a drop that releases is one of another block
@@ -70,11 +53,11 @@ pub release-elsewhere : (s : State) (h b p q : ℕ) (x : Handle) (d : Option Pen
 unfolding holders
 release-elsewhere s h b p q x d at o l i n e =
     let m = count-map (holds b) (read_handle s.tables) s.handles in
-    let one = count-some (λ (o : Option Handle). holds b (read_handle s.tables o)) s.handles h None (at-some s.handles h x at) (rw (at, o) (is-eqb b b refl)) in
+    let one = count-some (λ (o : Option Handle). holds b (read_handle s.tables o)) s.handles h None (at-some s.handles h x at) (rw (at, o) (eq-eqb b b refl)) in
     let mc = count-map (still_holds b) (read_call s.tables) s.calls in
     let two : has_let_go s.tables q ≡ false → 0 < tally (λ (c : Option Pending). still_holds b (read_call s.tables c)) s.calls =
     λ f. count-some (λ (c : Option Pending). still_holds b (read_call s.tables c)) s.calls p d l
-    (rw (i, f) (is-eqb b (record_at s.tables q).block (sym e))) in
+    (rw (i, f) (eq-eqb b (record_at s.tables q).block (sym e))) in
     let n' = rw e at n in
     let by : (v : Bool) → has_let_go s.tables q ≡ v → ⊥ = λ v. elim v as (λ v. has_let_go s.tables q ≡ v → ⊥) [
       | true ↦ λ f. (let z = rw f at n' in omega (arith, z, m, one))
@@ -91,7 +74,7 @@ pub counted-more : (s : State) (h : ℕ) (x : Handle) (r : ℕ) → IsSound s �
 counted-more s h x r k at w =
     let b : ℕ = (record_at s.tables r).block in
     let f = counted-at s h x r k at w in
-    let held = count-some (held_by s b) s.handles h None (at-some s.handles h x at) (held-at s h x b at (owner-counted s.tables x r w)) in
+    let held = count-some (held_by s.tables b) s.handles h None (at-some s.handles h x at) (held-at s h x b at (owner-counted s.tables x r w)) in
     sym (more-some (record_at s.tables r).count (omega (arith, (k.counted r f.live).counts f.shown, holders-as s b, held)))
 
 -- a record of the table has the count that it is given
@@ -121,30 +104,23 @@ sound-added s h r x y k at xv xw yv yw lies low few =
     let ox : owner_of g x ≡ Some b = owner-counted g x r xw in
     let o : owner_of g' y ≡ Some b = owner-counted g' y r yw ∙ ap Some (counted-block g r n r) in
     let gone : All (KeepsLetGo g g') s.calls = λ i d l q j t. counted-let_go g r n q (counted-more s h x r k at xw) in
-    let hs = handles-kept g g' s.calls s.handles e k.fit in
-    let cs = calls-read-kept s g' s.calls e gone k.calls_fit in
+    let v = alike s g' k e gone in
+    let held : (c : ℕ) → tally (held_by g' c) (s.handles ++ Some y ∷ []) ≡ tally (held_by g c) s.handles + cond (c == b) 1 0 =
+    λ c. rw (count-append (held_by g' c) s.handles (Some y), v.held c, o) refl in
     let hm : (c : ℕ) → holders (reading next) c ≡ holders (reading s) c + cond (c == b) 1 0 =
-    λ c. rw (holders-more (with_count s r ((record_at s.tables r).count + 1)) (Some y) c, holders-tables s g' c hs cs, o) refl in
+    λ c. omega (arith, holders-as s c, holders-as next c, held c, v.still c) in
     let um : (c : ℕ) → users (reading next) c ≡ users (reading s) c + cond (c == b) 1 0 =
-    λ c. rw (users-more (with_count s r ((record_at s.tables r).count + 1)) (Some y) c, users-tables s g' c hs cs, o) refl in
+    λ c. omega (arith, users-as s c, users-as next c, held c, v.drops c) in
     let am : (c : ℕ) → tally (alone g' c) (s.handles ++ Some y ∷ []) ≡ tally (alone g c) s.handles =
-    λ c. rw (count-append (alone g' c) s.handles (Some y), alone-kept g g' s.calls c s.handles e k.fit, alone-shared g' c y r yw yv) (omega arith) in
+    λ c. rw (count-append (alone g' c) s.handles (Some y), v.alone c, alone-shared g' c y r yw yv) (omega arith) in
     let dm : (c : ℕ) → tally (describes g' c) (s.handles ++ Some y ∷ []) ≡ tally (describes g c) s.handles =
-    λ c. rw (count-append (describes g' c) s.handles (Some y), describes-kept g g' s.calls c s.handles e k.fit, describes-counted g' c y r yw)
+    λ c. rw (count-append (describes g' c) s.handles (Some y), v.describes c, describes-counted g' c y r yw)
     (omega arith) in
     let me = k.counted r fx.live in
     let less = alone-less s h x b at ox (alone-shared g b x r xw xv) in
     let inside = live-inside g.records r fx.live in
-    let size = k.size in
     record {
-      size = record {
-        wide = size.wide;
-        ceiling = size.ceiling;
-        few_blocks = size.few_blocks;
-        few_records = rw length-set size.few_records;
-        few_handles = rw length-append (omega arith);
-        few_calls = size.few_calls;
-      };
+      size = sized k.size k.size.few_blocks (rw length-set k.size.few_records) (rw length-append (omega arith)) k.size.few_calls;
       blocks = k.blocks;
       fit = All-push (Fits g' s.calls) s.handles (Some y) (all-fit-kept g g' s.calls s.handles e live k.fit)
           (subst (λ (v : Word). FitsWord g' s.calls y v) (sym yw) (record {
@@ -154,10 +130,11 @@ sound-added s h r x y k at xv xw yv yw lies low few =
             lies = rw (counted-block g r n r) (subst (λ (q : Kind). LiesIn (block_at g b) y q) (sym yv) lies);
             native = λ m. absurd (let q = sym yv ∙ m in cc);
           }));
-      calls_fit = calls-fit-kept s next refl e live (λ i z l a. append-at s.handles (Some y) i z a) k.fit (λ i z a. at-some s.handles i z a) gone
-          (λ p d q l i. let f = rw i at (k.calls_fit p d l) in
-          rw (hm, not-eqb (record_at g q).block b (release-elsewhere s h b p q x d at ox l i f.alone)) (omega arith)) k.calls_fit;
-      one_release = λ c. rw (releases-kept s g' c s.calls e k.calls_fit) (k.one_release c);
+      calls_fit = calls-fit-kept s next refl e (λ _ q _ _ t. live q t) (λ i z l a. append-at s.handles (Some y) i z a) k.fit
+          (λ i z a. at-some s.handles i z a) gone
+          (λ p q l i. let f = rw i at (k.calls_fit p None l) in
+          rw (hm, ne_eqb (record_at g q).block b (release-elsewhere s h b p q x None at ox l i f.alone)) (omega arith)) k.calls_fit;
+      one_release = λ c. rw (v.releases c) (k.one_release c);
       counted = λ q l.
           let lq : (record_at g q).live ≡ true = sym (counted-live g r n q) ∙ l in
           let cq = k.counted q lq in
@@ -165,12 +142,12 @@ sound-added s h r x y k at xv xw yv yw lies low few =
             known = rw (counted-block g r n q) cq.known;
             one_maker = cq.one_maker;
             counts = λ z. elim (eqb_tells q r) [
-              | inl i ↦ rw (i.1, counted-same g r n inside, counted-block g r n r, hm, is-eqb b b refl) (omega (arith, me.counts fx.shown))
+              | inl i ↦ rw (i.1, counted-same g r n inside, counted-block g r n r, hm, eq-eqb b b refl) (omega (arith, me.counts fx.shown))
               | inr i ↦ rw (
                 counted-other g r n q i.1,
                 counted-block g r n q,
                 hm,
-                not-eqb (record_at g q).block b (λ j. i.1 (k.one_record q r lq fx.live z fx.shown j)),
+                ne_eqb (record_at g q).block b (λ j. i.1 (k.one_record q r lq fx.live z fx.shown j)),
               ) (omega (arith, cq.counts z))
             ];
             fresh = λ z. rw (counted-other g r n q (λ i. absurd (let y = rw i at z in omega (arith, y, fx.shown)))) (cq.fresh z);
@@ -179,17 +156,17 @@ sound-added s h r x y k at xv xw yv yw lies low few =
           };
       one_record = λ p q lp lq hp hq i. k.one_record p q (sym (counted-live g r n p) ∙ lp) (sym (counted-live g r n q) ∙ lq) hp hq
           (sym (counted-block g r n p) ∙ i ∙ counted-block g r n q);
-      sole = λ c t. let u = rw am at t in rw (hm, not-eqb c b (λ i. absurd (let v = rw i at u in omega (arith, v, less, k.sole b v))))
+      sole = λ c t. let u = rw am at t in rw (hm, ne_eqb c b (λ i. absurd (let v = rw i at u in omega (arith, v, less, k.sole b v))))
           (omega (arith, k.sole c u));
       capped = λ c. elim (eqb_tells c b) [
-        | inl i ↦ rw (i.1, hm, is-eqb b b refl) (omega (arith, me.counts fx.shown))
+        | inl i ↦ rw (i.1, hm, eq-eqb b b refl) (omega (arith, me.counts fx.shown))
         | inr i ↦ rw (hm, i.0) (omega (arith, k.capped c))
       ];
       known_users = λ c t. let u = rw um at t in
           elim (eqb_tells c b) [ inl i ↦ rw i.1 me.known | inr i ↦ k.known_users c (let v = rw i.0 at u in omega (arith, v)) ];
       block_log = block-log-alike g.blocks s.freed_blocks (users (reading s)) (users (reading next))
           (λ c t. elim (eqb_tells c b) [
-            | inl i ↦ rw (i.1, um, is-eqb b b refl) (sym (more-some (users (reading s) b) me.used))
+            | inl i ↦ rw (i.1, um, eq-eqb b b refl) (sym (more-some (users (reading s) b) me.used))
             | inr i ↦
                 rw (um, i.0) (ap (λ m. nat_eq m 0) (omega arith))
           ]) k.block_log;

@@ -1,19 +1,5 @@
 -- What follows where a handle holds its block alone, and goes by a record: nothing else speaks of either.
-use Rattle.std.proofs.Common.{◌≡◌, ◌≢◌, inl, inr, ℕ, ◌<◌, ◌==◌, ◌&&◌, Bool, true, false, cond, length, sym, ◌∙◌, ap, refl, arith, Option, Some, None}
-use Rattle.std.proofs.lemmas.Bool.Decides.{nat_tests, eqb_tells}
-use Rattle.iobufs_owner.specs.State.{State, owner_of, record_at, handle_at, call_at}
-use Rattle.iobufs_owner.specs.World.{Dropping, drops, holders, users, tally}
-use Rattle.iobufs_owner.specs.Reading.{reading, read_call, has_let_go}
-use Rattle.iobufs_owner.specs.Sound.{IsSound, Fits, FitsCall, hidden, readies}
-use Rattle.iobufs_owner.specs.Changes.{tables_without}
-use Rattle.iobufs_owner.specs.Lending.{is_lent}
-use Rattle.iobufs_owner.specs.Types.{Handle, Pending, Loaded, Ready, Add, Subtract, Release, Counted}
-use Rattle.iobufs_owner.proofs.Soundness.Counts.{count-some, count-two, count-find, count-sum}
-use Rattle.iobufs_owner.proofs.Soundness.Keeps.{lent-by, names, fits-kept, owner-kept, live-of}
-use Rattle.iobufs_owner.proofs.Soundness.StaysSound.{at-some, owner-counted}
-use Rattle.iobufs_owner.proofs.Soundness.Frames.{is-eqb}
-use Rattle.iobufs_owner.proofs.Soundness.Edits.{counted-at}
-use Rattle.iobufs_owner.proofs.Soundness.Holders.{held_by, still_by, drops_by, holders-as, users-as, held-at, lets_go, drops-split}
+use Rattle.iobufs_owner.proofs.Base.{◌≡◌, ◌≢◌, inl, inr, ℕ, ◌<◌, ◌==◌, ◌&&◌, Bool, true, false, cond, length, sym, ◌∙◌, ap, refl, arith, Option, Some, None, nat_tests, eqb_tells, State, owner_of, record_at, handle_at, call_at, Dropping, drops, holders, users, tally, reading, read_call, has_let_go, IsSound, Fits, FitsCall, hidden, readies, tables_without, is_lent, Handle, Pending, Loaded, Ready, Add, Subtract, Release, Counted, count-some, count-two, count-sum, lent-by, names, fits-kept, owner-kept, live-of, at-some, owner-counted, eq-eqb, counted-at, held_by, still_by, drops_by, holders-as, users-as, held-at, lets_go, drops-split, count-none}
 use Rattle.iobufs_owner.proofs.Soundness.RecordFreed.{dead-other, dead-keeps}
 
 none-left : (b c : ℕ) (n : ℕ → ℕ) (v : Bool) → ((b == c) && v) ≡ true → n c ≡ cond v 0 1 → n b ≡ 0
@@ -21,17 +7,13 @@ none-left b c n true t e = let same : b ≡ c = grind (arith, nat_tests, t) in r
 none-left b c n false t e = absurd (grind (arith, nat_tests, t))
 
 let-go-call : (s : State) (b i : ℕ) (c : Option Pending) → call_at s i ≡ c → lets_go s.tables b c ≡ true → FitsCall s c → holders (reading s) b ≡ 0
-let-go-call s b i None at t f = absurd (cc)
-let-go-call s b i (Some (Loaded part w)) at t f = absurd (cc)
-let-go-call s b i (Some (Ready part w q)) at t f = absurd (cc)
-let-go-call s b i (Some (Add part q)) at t f = absurd (cc)
-let-go-call s b i (Some (Subtract q)) at t f = absurd (cc)
 let-go-call s b i (Some (Release q)) at t f = none-left b (record_at s.tables q).block (holders (reading s)) (has_let_go s.tables q) t f.alone
+let-go-call s b i c at t f = absurd (cc)
 
 -- what is known where one handle is the only holder
 pub record Only (s : State) (h b : ℕ) : Type 0 where
-  pub held : tally (held_by s b) s.handles ≡ 1
-  pub dropped : tally (drops_by s b) s.calls ≡ 0
+  pub held : tally (held_by s.tables b) s.handles ≡ 1
+  pub dropped : tally (drops_by s.tables b) s.calls ≡ 0
   pub users : users (reading s) b ≡ 1
   pub handle : (i : ℕ) (y : Handle) → handle_at s i ≡ Some y → owner_of s.tables y ≡ Some b → i ≡ h
 
@@ -39,24 +21,21 @@ pub record Only (s : State) (h b : ℕ) : Type 0 where
 pub only : (s : State) (h b : ℕ) (x : Handle) → IsSound s → handle_at s h ≡ Some x → owner_of s.tables x ≡ Some b → holders (reading s) b ≡ 1 → Only s h b
 only s h b x k at o one =
     let l = at-some s.handles h x at in
-    let some = count-some (held_by s b) s.handles h None l (held-at s h x b at o) in
+    let some = count-some (held_by s.tables b) s.handles h None l (held-at s h x b at o) in
     let sum = holders-as s b in
-    let held : tally (held_by s b) s.handles ≡ 1 = omega (arith, sum, one, some) in
-    let still : tally (still_by s b) s.calls ≡ 0 = omega (arith, sum, one, some) in
-    let split = count-sum (drops_by s b) (still_by s b) (lets_go s.tables b) s.calls (drops-split s.tables b) in
-    let gone : tally (lets_go s.tables b) s.calls ≡ 0 = elim (eqb_tells (tally (lets_go s.tables b) s.calls) 0) [
-      | inl z ↦ z.1
-      | inr z ↦ absurd (let w = count-find (lets_go s.tables b) None s.calls (let n = z.1 in omega arith) in
-          let n = let-go-call s b w.place (call_at s w.place) refl w.passes (k.calls_fit w.place None w.inside) in omega (arith, n, one))
-    ] in
-    let dropped : tally (drops_by s b) s.calls ≡ 0 = omega (arith, split, still, gone) in
+    let held : tally (held_by s.tables b) s.handles ≡ 1 = omega (arith, sum, one, some) in
+    let still : tally (still_by s.tables b) s.calls ≡ 0 = omega (arith, sum, one, some) in
+    let split = count-sum (drops_by s.tables b) (still_by s.tables b) (lets_go s.tables b) s.calls (drops-split s.tables b) in
+    let gone = count-none (lets_go s.tables b) None s.calls (λ i l t.
+    let n = let-go-call s b i (call_at s i) refl t (k.calls_fit i None l) in omega (arith, n, one)) in
+    let dropped : tally (drops_by s.tables b) s.calls ≡ 0 = omega (arith, split, still, gone) in
     record {
       held = held;
       dropped = dropped;
       users = omega (arith, users-as s b, held, dropped);
       handle = λ i y a own. elim (eqb_tells i h) [
         | inl z ↦ z.1
-        | inr z ↦ absurd (let two = count-two (held_by s b) s.handles i h None z.1 (at-some s.handles i y a) l (held-at s i y b a own)
+        | inr z ↦ absurd (let two = count-two (held_by s.tables b) s.handles i h None z.1 (at-some s.handles i y a) l (held-at s i y b a own)
             (held-at s h x b at o) in omega (arith, two, held))
       ];
     }
@@ -71,8 +50,6 @@ pub record BorrowedFor (s : State) (q : ℕ) : Type 0 where
 
 -- a call that has made a record borrows a handle of the record's block
 pub ready-borrows : (s : State) (q i : ℕ) (c : Option Pending) → i < length s.calls → call_at s i ≡ c → readies q c ≡ true → FitsCall s c → BorrowedFor s q
-ready-borrows s q i None l at t f = absurd (cc)
-ready-borrows s q i (Some (Loaded part w)) l at t f = absurd (cc)
 ready-borrows s q i (Some (Ready part w z)) l at t f =
     let e : q ≡ z = grind (arith, nat_tests, t) in
     record {
@@ -80,30 +57,22 @@ ready-borrows s q i (Some (Ready part w z)) l at t f =
       view = f.view;
       at = f.shares.at;
       owner = f.promised.owner ∙ ap Some (sym f.same ∙ ap (λ (n : ℕ). (record_at s.tables n).block) (sym e));
-      lent = lent-by part.handle s.calls i None l (rw at (is-eqb part.handle part.handle refl));
+      lent = lent-by part.handle s.calls i None l (rw at (eq-eqb part.handle part.handle refl));
     }
-ready-borrows s q i (Some (Add part z)) l at t f = absurd (cc)
-ready-borrows s q i (Some (Subtract z)) l at t f = absurd (cc)
-ready-borrows s q i (Some (Release z)) l at t f = absurd (cc)
+ready-borrows s q i c l at t f = absurd (cc)
 
 -- where the only holder isn't borrowed, no unpublished record is of its block
 pub unready : (s : State) (h b q : ℕ) → IsSound s → Only s h b → is_lent h s.calls ≡ false → (record_at s.tables q).block ≡ b → hidden s.calls q ≡ 0
-unready s h b q k one free e =
-    elim (eqb_tells (hidden s.calls q) 0) [
-      | inl z ↦ z.1
-      | inr z ↦ absurd (let w = count-find (readies q) None s.calls (let n = z.1 in omega arith) in
-          let y = ready-borrows s q w.place (call_at s w.place) w.inside refl w.passes (k.calls_fit w.place None w.inside) in
-          let i = one.handle y.handle y.view y.at (y.owner ∙ ap Some e) in
-          let u = ap (λ (n : ℕ). is_lent n s.calls) i in
-          let v = y.lent in
-          cc)
-    ]
+unready s h b q k one free e = count-none (readies q) None s.calls (λ j l t.
+    let y = ready-borrows s q j (call_at s j) l refl t (k.calls_fit j None l) in
+    let u = ap (λ (n : ℕ). is_lent n s.calls) (one.handle y.handle y.view y.at (y.owner ∙ ap Some e)) in
+    let v = y.lent in cc)
 
 -- no call drops the block
 pub undropped : (s : State) (h b i r : ℕ) (let_go : Bool) (left : ℕ) → Only s h b → i < length s.calls
     → read_call s.tables (call_at s i) ≡ Some (Dropping (record_at s.tables r).block let_go left) → (record_at s.tables r).block ≢ b
 undropped s h b i r let_go left one l at e =
-    let t = count-some (drops_by s b) s.calls i None l (ap (drops b) at ∙ is-eqb b (record_at s.tables r).block (sym e)) in
+    let t = count-some (drops_by s.tables b) s.calls i None l (ap (drops b) at ∙ eq-eqb b (record_at s.tables r).block (sym e)) in
     let n = one.dropped in
     omega (arith, t, n)
 
@@ -125,17 +94,15 @@ pub record NamedOnce (s : State) (h r : ℕ) : Type 0 where
 
 silent : (s : State) (h r i : ℕ) (c : Option Pending) → Only s h (record_at s.tables r).block → is_lent h s.calls ≡ false → hidden s.calls r ≡ 0
     → i < length s.calls → call_at s i ≡ c → FitsCall s c → speaks_of r c ≡ true → ⊥
-silent s h r i None one free z l at f t = cc
-silent s h r i (Some (Loaded part w)) one free z l at f t = cc
 silent s h r i (Some (Ready part w q)) one free z l at f t =
     let same : q ≡ r = grind (arith, nat_tests, t) in
-    let some = count-some (readies r) s.calls i None l (rw at (is-eqb r q (sym same))) in
+    let some = count-some (readies r) s.calls i None l (rw at (eq-eqb r q (sym same))) in
     omega (arith, some, z)
 silent s h r i (Some (Add part q)) one free z l at f t =
     let same : q ≡ r = grind (arith, nat_tests, t) in
     let j : part.handle ≡ h = one.handle part.handle f.view f.shares.at
     (owner-counted s.tables f.view q f.word ∙ ap (λ (n : ℕ). Some (record_at s.tables n).block) same) in
-    let lent = lent-by part.handle s.calls i None l (rw at (is-eqb part.handle part.handle refl)) in
+    let lent = lent-by part.handle s.calls i None l (rw at (eq-eqb part.handle part.handle refl)) in
     let u = ap (λ (n : ℕ). is_lent n s.calls) j in
     cc
 silent s h r i (Some (Subtract q)) one free z l at f t =
@@ -145,6 +112,7 @@ silent s h r i (Some (Release q)) one free z l at f t =
     let same : q ≡ r = grind (arith, nat_tests, t) in
     undropped s h (record_at s.tables r).block i q (has_let_go s.tables q) 1 one l (ap (read_call s.tables) at)
     (ap (λ (n : ℕ). (record_at s.tables n).block) same)
+silent s h r i c one free z l at f t = cc
 
 -- Another handle, and a drop that hasn't let go, would be a holder more than the one that is counted; a clone or slice that
 -- is to be counted there borrows the handle. So the record can be freed while the block lives on.
@@ -160,12 +128,8 @@ named-once s h r x k at free xw one =
 
 -- what calls count on is among what they speak of
 names-speak : (r : ℕ) (c : Option Pending) → names r c ≡ true → speaks_of r c ≡ true
-names-speak r None t = t
-names-speak r (Some (Loaded part w)) t = t
-names-speak r (Some (Ready part w q)) t = t
 names-speak r (Some (Add part q)) t = absurd (cc)
-names-speak r (Some (Subtract q)) t = t
-names-speak r (Some (Release q)) t = t
+names-speak r c t = t
 
 -- every other live record that a call counts on stays live
 pub calls-live : (s : State) (h r q i : ℕ) → NamedOnce s h r → i < length s.calls → names q (call_at s i) ≡ true → (record_at s.tables q).live ≡ true

@@ -1,23 +1,5 @@
 -- A handle lets its block go, which it holds alone: that is freed at once.
-use Rattle.std.proofs.Common.{◌≡◌, ◌≢◌, inl, inr, ℕ, ◌+◌, ◌<◌, ◌≤◌, ◌==◌, true, false, cond, List, length, get_or, set, sym, ◌∙◌, ap, subst, refl, arith, Option, Some, None, nat_eq}
-use Rattle.std.proofs.Math.ListN.{length-set}
-use Rattle.std.proofs.lemmas.List.Elements.{All-set, All-from_get_or}
-use Rattle.std.proofs.lemmas.List.{get_or-set_other}
-use Rattle.iobufs_owner.specs.State.{State, Tables, owner_of, record_at, block_at, handle_at, call_at, recovered, triple}
-use Rattle.iobufs_owner.specs.World.{holds, is_block, holders, users, tally}
-use Rattle.iobufs_owner.specs.Reading.{reading, read_handle, read_call, has_let_go}
-use Rattle.iobufs_owner.specs.Sound.{IsSound, Fits, FitsCall, alone, describes}
-use Rattle.iobufs_owner.specs.Changes.{detached_handle, replaced, block_freed, both_freed, tables_without}
-use Rattle.iobufs_owner.specs.Lending.{is_lent}
-use Rattle.iobufs_owner.specs.ShortCalls.{IsLoose}
-use Rattle.iobufs_owner.specs.Types.{Freed, Handle, Mut, Pending, Empty, Descriptor, Counted}
-use Rattle.iobufs_owner.proofs.Soundness.Counts.{count-set, count-some, holders-changed, users-changed}
-use Rattle.iobufs_owner.proofs.Soundness.Keeps.{keeps-self, call-kept, lent-by, owner-kept, calls-read-kept, releases-kept, handles-fit-set}
-use Rattle.iobufs_owner.proofs.Soundness.StaysSound.{at-some, block-log-kept, owner-empty, owner-counted}
-use Rattle.iobufs_owner.proofs.Soundness.Frames.{holders-alike, users-alike, not-eqb, is-eqb, handles-kept, alone-kept, describes-kept, holders-tables, users-tables}
-use Rattle.iobufs_owner.proofs.Soundness.Edits.{fits-at, alone-at, described-at, counted-at, live-inside, alone-described, describes-described, alone-written}
-use Rattle.iobufs_owner.proofs.Soundness.Holders.{alone-few, fits-fewer}
-use Rattle.iobufs_owner.proofs.Soundness.Logs.{block-log-freed, record-log-dead, block-log-room, record-log-room}
+use Rattle.iobufs_owner.proofs.Base.{◌≡◌, ◌≢◌, inl, inr, ℕ, ◌+◌, ◌<◌, ◌≤◌, ◌==◌, true, false, cond, List, length, get_or, set, sym, ◌∙◌, ap, subst, refl, arith, Option, Some, None, nat_eq, length-set, All-set, State, Tables, owner_of, record_at, block_at, handle_at, recovered, triple, holds, is_block, holders, users, tally, reading, read_handle, read_call, has_let_go, IsSound, Fits, alone, describes, detached_handle, replaced, block_freed, both_freed, tables_without, is_lent, IsLoose, Freed, Handle, Mut, Pending, Empty, Descriptor, Counted, count-set, count-some, keeps-self, owner-kept, handles-fit-set, at-some, owner-empty, owner-counted, ne_eqb, eq-eqb, fits-at, alone-at, described-at, counted-at, live-inside, alone-described, describes-described, alone-written, alone-few, fits-fewer, block-log-freed, record-log-dead, block-log-room, record-log-room, set-at, sound-handles, alike, held_by, holders-as, users-as, calls-fit-kept}
 use Rattle.iobufs_owner.proofs.Soundness.RecordFreed.{dead-at, dead-block, dead-keeps, dead-let_go, dead-live}
 use Rattle.iobufs_owner.proofs.Soundness.Alone.{only, unready, undropped, named-once, calls-live, fit-dead}
 use Rattle.iobufs_owner.proofs.Soundness.Recovered.{recovered-is}
@@ -61,42 +43,35 @@ sound-freed_described s h x w o k at free xw is =
     let ox : owner_of g x ≡ Some b = d.says.owner in
     let l = at-some s.handles h x at in
     let n = loose g s.calls o is in
-    let one : holders (reading s) b ≡ 1 = alone-at s h x b k at (alone-described g b x w xw ∙ rw ox (is-eqb b b refl)) in
+    let one : holders (reading s) b ≡ 1 = alone-at s h x b k at (alone-described g b x w xw ∙ rw ox (eq-eqb b b refl)) in
     let me = only s h b x k at ox one in
     let next : State = replaced (block_freed s (triple (block_at s.tables b))) h o in
-    let hm : (c : ℕ) → holders (reading next) c + cond (c == b) 1 0 ≡ holders (reading s) c = λ c. let m =
-    rw (at, ox, n.holds c) at (holders-changed s h o c l) in let a =
-    holders-alike (reading next) (reading (record s { handles = set s.handles h o })) c refl refl in omega (arith, m, a) in
-    let um : (c : ℕ) → users (reading next) c + cond (c == b) 1 0 ≡ users (reading s) c = λ c. let m =
-    rw (at, ox, n.holds c) at (users-changed s h o c l) in let a =
-    users-alike (reading next) (reading (record s { handles = set s.handles h o })) c refl refl in omega (arith, m, a) in
-    let hn : (c : ℕ) → c ≢ b → holders (reading next) c ≡ holders (reading s) c = λ c ne. let m = rw (not-eqb c b ne) at (hm c) in omega (arith, m) in
-    let un : (c : ℕ) → c ≢ b → users (reading next) c ≡ users (reading s) c = λ c ne. let m = rw (not-eqb c b ne) at (um c) in omega (arith, m) in
-    let none : users (reading next) b ≡ 0 = (let m = rw (is-eqb b b refl) at (um b) in let u = me.users in omega (arith, m, u)) in
+    let held : (c : ℕ) → tally (held_by g c) (set s.handles h o) + cond (c == b) 1 0 ≡ tally (held_by g c) s.handles = λ c. let m =
+    rw (at, ox, n.holds c) at (count-set (held_by g c) s.handles h o None l) in omega (arith, m) in
+    let hm : (c : ℕ) → holders (reading next) c + cond (c == b) 1 0 ≡ holders (reading s) c =
+    λ c. omega (arith, holders-as s c, holders-as next c, held c) in
+    let um : (c : ℕ) → users (reading next) c + cond (c == b) 1 0 ≡ users (reading s) c = λ c. omega (arith, users-as s c, users-as next c, held c) in
+    let hn : (c : ℕ) → c ≢ b → holders (reading next) c ≡ holders (reading s) c = λ c ne. let m = rw (ne_eqb c b ne) at (hm c) in omega (arith, m) in
+    let un : (c : ℕ) → c ≢ b → users (reading next) c ≡ users (reading s) c = λ c ne. let m = rw (ne_eqb c b ne) at (um c) in omega (arith, m) in
+    let none : users (reading next) b ≡ 0 = (let m = rw (eq-eqb b b refl) at (um b) in let u = me.users in omega (arith, m, u)) in
     let dm : (c : ℕ) → tally (describes g c) (set s.handles h o) ≤ tally (describes g c) s.handles = λ c. let m =
     rw (n.describes c) at (count-set (describes g c) s.handles h o None l) in omega (arith, m) in
     let some : 0 < tally (describes g b) s.handles =
-    count-some (describes g b) s.handles h None l (ap (describes g b) at ∙ describes-described g b x w xw ∙ rw ox (is-eqb b b refl)) in
+    count-some (describes g b) s.handles h None l (ap (describes g b) at ∙ describes-described g b x w xw ∙ rw ox (eq-eqb b b refl)) in
     let am : (c : ℕ) → tally (alone g c) (set s.handles h o) + cond (alone g c (Some x)) 1 0 ≡ tally (alone g c) s.handles = λ c. let m =
     rw (at, n.alone c) at (count-set (alone g c) s.handles h o None l) in omega (arith, m) in
     let few = alone-few s b in
     let lonely : tally (alone g b) (set s.handles h o) ≡ 0 =
-    (let m = rw (alone-described g b x w xw ∙ ap (is_block b) ox ∙ is-eqb b b refl) at (am b) in omega (arith, m, few, one)) in
+    (let m = rw (alone-described g b x w xw ∙ ap (is_block b) ox ∙ eq-eqb b b refl) at (am b) in omega (arith, m, few, one)) in
     let apart : (q : ℕ) → (record_at g q).live ≡ true → (record_at g q).block ≢ b =
     λ q t e. (let z = unready s h b q k me free e in let u = rw e at ((k.counted q t).undescribed z) in omega (arith, u, some)) in
     subst (λ (f : Freed). IsSound (replaced (block_freed s f) h o)) (sym (recovered-is s h x w b k at xw ox)) (record {
       size = rw length-set k.size;
       blocks = k.blocks;
       fit = All-set (Fits g s.calls) s.handles h o n.fits k.fit;
-      calls_fit = All-from_get_or (FitsCall next) s.calls None (λ i li. call-kept s next (call_at s i) (record {
-        tables = keeps-self g;
-        let_go = λ q j t. refl;
-        live = λ q _ t. t;
-        hidden = λ q _ _. refl;
-        handle = λ j y b a. get_or-set_other s.handles h j o None (λ e. let q = rw e at (lent-by j s.calls i None li b) in absurd (cc)) ∙ a;
-        owner = λ j y a. refl;
-        holders = λ q e. hn (record_at g q).block (undropped s h b i q (has_let_go g q) 1 me li (ap (read_call g) e));
-      }) (k.calls_fit i None li));
+      calls_fit = calls-fit-kept s next refl (keeps-self g) (λ _ q _ _ t. t) (λ i z b a. set-at s.handles h i o z (λ e. let q = rw e at b in absurd (cc)) a)
+          k.fit (λ i z a. at-some s.handles i z a) (λ i d l q j t. refl)
+          (λ i q li e. hn (record_at g q).block (undropped s h b i q (has_let_go g q) 1 me li (ap (read_call g) e))) k.calls_fit;
       one_release = k.one_release;
       counted = λ q t. let ne = apart q t in
           rw (hn (record_at g q).block ne, un (record_at g q).block ne) (fits-fewer (k.counted q t) (dm (record_at g q).block));
@@ -141,50 +116,40 @@ sound-freed_counted s h x r o k at free xm xw is =
     let l = at-some s.handles h x at in
     let inside = live-inside g.records r f.live in
     let n = loose g' s.calls o is in
-    let one : holders (reading s) b ≡ 1 = alone-at s h x b k at (alone-written g b x r xw xm ∙ rw ox (is-eqb b b refl)) in
+    let one : holders (reading s) b ≡ 1 = alone-at s h x b k at (alone-written g b x r xw xm ∙ rw ox (eq-eqb b b refl)) in
     let me = only s h b x k at ox one in
     let once = named-once s h r x k at free xw one in
     let next : State = replaced (both_freed s r) h o in
     let e = dead-keeps g r in
     let ox' : owner_of g' x ≡ Some b = owner-kept g g' s.calls x e (fits-at s h x k at) ∙ ox in
-    let hs = handles-kept g g' s.calls s.handles e k.fit in
-    let cs = calls-read-kept s g' s.calls e (λ i d l q j t. dead-let_go g r q) k.calls_fit in
-    let mid : State = record s { tables = tables_without s.tables r } in
-    let hm : (c : ℕ) → holders (reading next) c + cond (c == b) 1 0 ≡ holders (reading s) c = λ c. let m =
-    rw (at, ox', n.holds c) at (holders-changed mid h o c l) in let a =
-    holders-alike (reading next) (reading (record mid { handles = set s.handles h o })) c refl refl in let t =
-    holders-tables s g' c hs cs in omega (arith, m, a, t) in
-    let um : (c : ℕ) → users (reading next) c + cond (c == b) 1 0 ≡ users (reading s) c = λ c. let m =
-    rw (at, ox', n.holds c) at (users-changed mid h o c l) in let a =
-    users-alike (reading next) (reading (record mid { handles = set s.handles h o })) c refl refl in let t =
-    users-tables s g' c hs cs in omega (arith, m, a, t) in
-    let hn : (c : ℕ) → c ≢ b → holders (reading next) c ≡ holders (reading s) c = λ c ne. let m = rw (not-eqb c b ne) at (hm c) in omega (arith, m) in
-    let un : (c : ℕ) → c ≢ b → users (reading next) c ≡ users (reading s) c = λ c ne. let m = rw (not-eqb c b ne) at (um c) in omega (arith, m) in
-    let none : users (reading next) b ≡ 0 = (let m = rw (is-eqb b b refl) at (um b) in let u = me.users in omega (arith, m, u)) in
+    let w = alike s g' k e (λ i d l q j t. dead-let_go g r q) in
+    let held : (c : ℕ) → tally (held_by g' c) (set s.handles h o) + cond (c == b) 1 0 ≡ tally (held_by g c) s.handles = λ c. let m =
+    rw (at, ox', n.holds c) at (count-set (held_by g' c) s.handles h o None l) in omega (arith, m, w.held c) in
+    let hm : (c : ℕ) → holders (reading next) c + cond (c == b) 1 0 ≡ holders (reading s) c =
+    λ c. omega (arith, holders-as s c, holders-as next c, held c, w.still c) in
+    let um : (c : ℕ) → users (reading next) c + cond (c == b) 1 0 ≡ users (reading s) c =
+    λ c. omega (arith, users-as s c, users-as next c, held c, w.drops c) in
+    let hn : (c : ℕ) → c ≢ b → holders (reading next) c ≡ holders (reading s) c = λ c ne. let m = rw (ne_eqb c b ne) at (hm c) in omega (arith, m) in
+    let un : (c : ℕ) → c ≢ b → users (reading next) c ≡ users (reading s) c = λ c ne. let m = rw (ne_eqb c b ne) at (um c) in omega (arith, m) in
+    let none : users (reading next) b ≡ 0 = (let m = rw (eq-eqb b b refl) at (um b) in let u = me.users in omega (arith, m, u)) in
     let dm : (c : ℕ) → tally (describes g' c) (set s.handles h o) ≤ tally (describes g c) s.handles = λ c. let m =
-    rw (n.describes c) at (count-set (describes g' c) s.handles h o None l) in let t =
-    describes-kept g g' s.calls c s.handles e k.fit in omega (arith, m, t) in
+    rw (n.describes c) at (count-set (describes g' c) s.handles h o None l) in omega (arith, m, w.describes c) in
     let am : (c : ℕ) → tally (alone g' c) (set s.handles h o) + cond (alone g' c (Some x)) 1 0 ≡ tally (alone g c) s.handles = λ c. let m =
-    rw (at, n.alone c) at (count-set (alone g' c) s.handles h o None l) in let t = alone-kept g g' s.calls c s.handles e k.fit in omega (arith, m, t) in
+    rw (at, n.alone c) at (count-set (alone g' c) s.handles h o None l) in omega (arith, m, w.alone c) in
     let few = alone-few s b in
     let lonely : tally (alone g' b) (set s.handles h o) ≡ 0 =
-    (let m = rw (alone-written g' b x r xw xm ∙ ap (is_block b) ox' ∙ is-eqb b b refl) at (am b) in omega (arith, m, few, one)) in
+    (let m = rw (alone-written g' b x r xw xm ∙ ap (is_block b) ox' ∙ eq-eqb b b refl) at (am b) in omega (arith, m, few, one)) in
     let apart : (q : ℕ) → (record_at g q).live ≡ true → q ≢ r → (record_at g q).block ≢ b =
     λ q t ne i. ne (k.one_record q r t f.live (unready s h b q k me free i) f.shown i) in
     record {
       size = rw (length-set, length-set) k.size;
       blocks = k.blocks;
       fit = handles-fit-set g' s.calls s.handles h o l n.fits (λ i ne li. fit-dead s h r i (get_or s.handles i None) once ne refl (k.fit i None li));
-      calls_fit = All-from_get_or (FitsCall next) s.calls None (λ i li. call-kept s next (call_at s i) (record {
-        tables = e;
-        let_go = λ q j t. dead-let_go g r q;
-        live = λ q m t. calls-live s h r q i once li m t;
-        hidden = λ q _ _. refl;
-        handle = λ j y b a. get_or-set_other s.handles h j o None (λ e. let q = rw e at (lent-by j s.calls i None li b) in absurd (cc)) ∙ a;
-        owner = λ j y a. owner-kept g g' s.calls y e (fits-at s j y k a);
-        holders = λ q e. hn (record_at g q).block (undropped s h b i q (has_let_go g q) 1 me li (ap (read_call g) e));
-      }) (k.calls_fit i None li));
-      one_release = λ c. rw (releases-kept s g' c s.calls e k.calls_fit) (k.one_release c);
+      calls_fit = calls-fit-kept s next refl e (λ i q li m t. calls-live s h r q i once li m t)
+          (λ i z b a. set-at s.handles h i o z (λ e. let q = rw e at b in absurd (cc)) a) k.fit (λ i z a. at-some s.handles i z a)
+          (λ i d l q j t. dead-let_go g r q) (λ i q li e. hn (record_at g q).block (undropped s h b i q (has_let_go g q) 1 me li (ap (read_call g) e)))
+          k.calls_fit;
+      one_release = λ c. rw (w.releases c) (k.one_release c);
       counted = λ q t.
           let d = dead-live g r q inside t in
           let ne = apart q d.0 d.1 in
@@ -206,36 +171,12 @@ sound-freed_counted s h x r o k at free xm xw is =
 pub sound-gone_empty : (s : State) (h : ℕ) (x : Handle) → IsSound s → handle_at s h ≡ Some x → is_lent h s.calls ≡ false → x.word ≡ Empty
     → IsSound (replaced s h None)
 sound-gone_empty s h x k at free xw =
-    let g : Tables = s.tables in
-    let next : State = replaced s h None in
     let l = at-some s.handles h x at in
-    let ox = owner-empty g x xw in
-    let n = loose g s.calls None (inl refl) in
-    let hm : (c : ℕ) → holders (reading next) c ≡ holders (reading s) c = λ c. let m = rw (at, ox) at (holders-changed s h None c l) in omega (arith, m) in
-    let um : (c : ℕ) → users (reading next) c ≡ users (reading s) c = λ c. let m = rw (at, ox) at (users-changed s h None c l) in omega (arith, m) in
-    let dm : (c : ℕ) → tally (describes g c) (set s.handles h None) ≤ tally (describes g c) s.handles = λ c. let m =
-    count-set (describes g c) s.handles h None None l in omega (arith, m) in
-    let am : (c : ℕ) → tally (alone g c) (set s.handles h None) ≤ tally (alone g c) s.handles = λ c. let m =
-    count-set (alone g c) s.handles h None None l in omega (arith, m) in
-    record {
-      size = rw length-set k.size;
-      blocks = k.blocks;
-      fit = All-set (Fits g s.calls) s.handles h None tt k.fit;
-      calls_fit = All-from_get_or (FitsCall next) s.calls None (λ i li. call-kept s next (call_at s i) (record {
-        tables = keeps-self g;
-        let_go = λ q j t. refl;
-        live = λ q _ t. t;
-        hidden = λ q _ _. refl;
-        handle = λ j y b a. get_or-set_other s.handles h j None None (λ e. let q = rw e at (lent-by j s.calls i None li b) in absurd (cc)) ∙ a;
-        owner = λ j y a. refl;
-        holders = λ q e. hm (record_at g q).block;
-      }) (k.calls_fit i None li));
-      one_release = k.one_release;
-      counted = λ q t. rw (hm, um) (fits-fewer (k.counted q t) (dm (record_at g q).block));
-      one_record = k.one_record;
-      sole = λ c t. rw hm (k.sole c (omega (arith, t, am c)));
-      capped = λ c. rw hm (k.capped c);
-      known_users = λ c t. k.known_users c (rw um at t);
-      block_log = block-log-kept g.blocks s.freed_blocks (users (reading s)) (users (reading next)) um k.block_log;
-      record_log = k.record_log;
-    }
+    let ox = owner-empty s.tables x xw in
+    let held : (c : ℕ) → tally (held_by s.tables c) (set s.handles h None) ≡ tally (held_by s.tables c) s.handles = λ c. let e =
+    rw (at, ox) at (count-set (held_by s.tables c) s.handles h None None l) in omega (arith, e) in
+    sound-handles s (set s.handles h None) k (rw length-set k.size.few_handles) (All-set (Fits s.tables s.calls) s.handles h None tt k.fit)
+    (λ c. omega (arith, holders-as s c, holders-as (replaced s h None) c, held c)) (λ c. omega (arith, users-as s c, users-as (replaced s h None) c, held c))
+    (λ c. let m = count-set (describes s.tables c) s.handles h None None l in omega (arith, m))
+    (λ c t. k.sole c (let m = count-set (alone s.tables c) s.handles h None None l in omega (arith, t, m)))
+    (λ i z b a. set-at s.handles h i None z (λ e. let q = rw e at b in absurd (cc)) a)

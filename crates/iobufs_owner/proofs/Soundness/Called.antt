@@ -1,18 +1,5 @@
 -- A party's call becomes another one; neither is a drop, and neither has made a record.
-use Rattle.std.proofs.Common.{◌≡◌, ℕ, ◌<◌, ◌≤◌, Bool, false, cond, List, length, get_or, set, map, sym, ◌∙◌, ap, refl, arith, Option, Some, None}
-use Rattle.std.proofs.Math.ListN.{length-set}
-use Rattle.std.proofs.lemmas.List.Elements.{All-from_get_or}
-use Rattle.std.proofs.lemmas.List.{map-set, length-map}
-use Rattle.iobufs_owner.specs.State.{State, Tables, record_at, call_at}
-use Rattle.iobufs_owner.specs.World.{holders, users, still_holds, drops, tally}
-use Rattle.iobufs_owner.specs.Reading.{reading, read_call}
-use Rattle.iobufs_owner.specs.Sound.{IsSound, Fits, FitsCall, hidden, readies, releases}
-use Rattle.iobufs_owner.specs.Changes.{called}
-use Rattle.iobufs_owner.specs.Types.{Handle, Share, Pending, Loaded, Add}
-use Rattle.iobufs_owner.proofs.Soundness.Counts.{count-set}
-use Rattle.iobufs_owner.proofs.Soundness.Keeps.{keeps-self, call-kept, fits-calls, calls-fit-set, Leaves}
-use Rattle.iobufs_owner.proofs.Soundness.StaysSound.{block-log-kept}
-use Rattle.iobufs_owner.proofs.WorldSteps.Shown.{get_or-read}
+use Rattle.iobufs_owner.proofs.Base.{◌≡◌, ℕ, ◌<◌, ◌≤◌, Bool, false, List, length, get_or, set, sym, ◌∙◌, refl, arith, Option, Some, None, length-set, All-from_get_or, State, Tables, record_at, call_at, holders, users, still_holds, drops, tally, reading, read_call, IsSound, Fits, FitsCall, hidden, readies, releases, called, Handle, Share, Pending, Loaded, Add, keeps-self, call-kept, fits-calls, calls-fit-set, Leaves, block-log-kept, count-change, drops_by, holders-as, still_by, users-as}
 
 -- calls that count for nothing
 pub record IsQuiet (s : State) (c : Option Pending) : Type 0 where
@@ -37,22 +24,7 @@ quiet-add s k r = record { still = λ b. refl; drops = λ b. refl; readies = λ 
 pub count-calls : {X : Type 0} (p : X → Bool) (xs : List X) (i : ℕ) (y d : X) → i < length xs → p (get_or xs i d) ≡ false → p y ≡ false
     → tally p (set xs i y) ≡ tally p xs
 count-calls p xs i y d l e f =
-    let n = count-set p xs i y d l in
-    let a : ◌≡◌ {A = ℕ} (cond (p (get_or xs i d)) 1 0) 0 = ap (λ (v : Bool). cond {A = ℕ} v 1 0) e in
-    let b : ◌≡◌ {A = ℕ} (cond (p y) 1 0) 0 = ap (λ (v : Bool). cond {A = ℕ} v 1 0) f in
-    omega (arith, n, a, b)
-
--- a call that neither holds nor drops anything, in the place of another such
-pub called-still : (s : State) (p : ℕ) (c : Option Pending) (b : ℕ) → p < length s.calls → still_holds b (read_call s.tables (call_at s p)) ≡ false
-    → drops b (read_call s.tables (call_at s p)) ≡ false → still_holds b (read_call s.tables c) ≡ false → drops b (read_call s.tables c) ≡ false
-    → (holders (reading (called s p c)) b ≡ holders (reading s) b) × (users (reading (called s p c)) b ≡ users (reading s) b)
-unfolding holders users
-called-still s p c b l a d still drop =
-    let lm : p < length (map (read_call s.tables) s.calls) = rw length-map l in
-    let e = get_or-read (read_call s.tables) s.calls p None in
-    let h = count-calls (still_holds b) (map (read_call s.tables) s.calls) p (read_call s.tables c) None lm (ap (still_holds b) e ∙ a) still in
-    let u = count-calls (drops b) (map (read_call s.tables) s.calls) p (read_call s.tables c) None lm (ap (drops b) e ∙ d) drop in
-    (rw (map-set (read_call s.tables) s.calls p c) (omega (arith, h)), rw (map-set (read_call s.tables) s.calls p c) (omega (arith, u)))
+    omega (arith, count-change p xs i y d false false l e f)
 
 fit-called : (g : Tables) (cs ds : List (Option Pending)) → ((q : ℕ) → hidden ds q ≤ hidden cs q) → (o : Option Handle) → Fits g cs o → Fits g ds o
 fit-called g cs ds less None f = tt
@@ -64,8 +36,10 @@ pub sound-called : (s : State) (p : ℕ) (c : Option Pending) → IsSound s → 
 sound-called s p c k l q r f =
     let g : Tables = s.tables in
     let next : State = called s p c in
-    let hm : (b : ℕ) → holders (reading next) b ≡ holders (reading s) b = λ b. (called-still s p c b l (q.still b) (q.drops b) (r.still b) (r.drops b)).0 in
-    let um : (b : ℕ) → users (reading next) b ≡ users (reading s) b = λ b. (called-still s p c b l (q.still b) (q.drops b) (r.still b) (r.drops b)).1 in
+    let hm : (b : ℕ) → holders (reading next) b ≡ holders (reading s) b =
+    λ b. omega (arith, holders-as s b, holders-as next b, count-calls (still_by g b) s.calls p c None l (q.still b) (r.still b)) in
+    let um : (b : ℕ) → users (reading next) b ≡ users (reading s) b =
+    λ b. omega (arith, users-as s b, users-as next b, count-calls (drops_by g b) s.calls p c None l (q.drops b) (r.drops b)) in
     let hid : (n : ℕ) → hidden (set s.calls p c) n ≡ hidden s.calls n = λ n. count-calls (readies n) s.calls p c None l (q.readies n) (r.readies n) in
     let rel : (b : ℕ) → tally (releases g b) (set s.calls p c) ≡ tally (releases g b) s.calls =
     λ b. count-calls (releases g b) s.calls p c None l (q.releases b) (r.releases b) in

@@ -1,20 +1,5 @@
 -- A drop begins: the handle of a counted block is gone, and its call holds in its place.
-use Rattle.std.proofs.Common.{◌≡◌, inl, inr, ℕ, ◌+◌, ◌<◌, ◌≤◌, true, false, cond, length, get_or, set, sym, ◌∙◌, ap, refl, arith, Bool, nat_eq, Option, Some, None}
-use Rattle.std.proofs.Math.ListN.{length-set}
-use Rattle.std.proofs.lemmas.List.{get_or-set_other}
-use Rattle.std.proofs.lemmas.Bool.Decides.{nat_tests, eqb_tells}
-use Rattle.iobufs_owner.specs.State.{State, Tables, owner_of, record_at, handle_at, call_at}
-use Rattle.iobufs_owner.specs.World.{Dropping, holders, users, tally}
-use Rattle.iobufs_owner.specs.Reading.{reading, read_call, has_let_go}
-use Rattle.iobufs_owner.specs.Changes.{state_without, called}
-use Rattle.iobufs_owner.specs.Lending.{is_lent}
-use Rattle.iobufs_owner.specs.Sound.{IsSound, Fits, FitsCall, alone, describes, hidden, readies, releases}
-use Rattle.iobufs_owner.specs.Types.{Handle, View, Pending, Loaded, Ready, Add, Subtract, Release, Counted}
-use Rattle.iobufs_owner.proofs.Soundness.Counts.{count-set, count-find, holders-changed, users-changed, holders-called, users-called}
-use Rattle.iobufs_owner.proofs.Soundness.Keeps.{keeps-self, fits-calls, lent-by, calls-fit-set, handles-fit-set}
-use Rattle.iobufs_owner.proofs.Soundness.StaysSound.{at-some, owner-counted, block-log-kept}
-use Rattle.iobufs_owner.proofs.Soundness.Frames.{not-eqb, is-eqb}
-use Rattle.iobufs_owner.proofs.Soundness.Holders.{fits-fewer}
+use Rattle.iobufs_owner.proofs.Base.{◌≡◌, inl, inr, ℕ, ◌+◌, ◌<◌, ◌≤◌, true, false, cond, length, get_or, set, sym, ◌∙◌, ap, refl, arith, Bool, nat_eq, Option, Some, None, length-set, get_or-set_other, nat_tests, eqb_tells, State, Tables, owner_of, record_at, handle_at, call_at, Dropping, holders, users, tally, reading, read_call, has_let_go, state_without, called, is_lent, IsSound, Fits, FitsCall, alone, describes, hidden, readies, releases, Handle, View, Pending, Subtract, Release, Counted, count-set, keeps-self, fits-calls, lent-by, calls-fit-set, handles-fit-set, at-some, owner-counted, block-log-kept, ne_eqb, eq-eqb, fits-fewer, drops_by, held_by, holders-as, still_by, users-as, count-none}
 use Rattle.iobufs_owner.proofs.Soundness.AddHolder.{release-elsewhere}
 
 abbrev pub dropping : State → ℕ → ℕ → Pending → State
@@ -42,10 +27,12 @@ sound-dropping s p h r x c k at word view free none lp d =
     let next : State = dropping s p h c in
     let l = at-some s.handles h x at in
     let o = owner-counted g x r word in
-    let hm : (b : ℕ) → holders (reading next) b ≡ holders (reading s) b = λ b. let m = rw (at, o) at (holders-changed s h None b l) in let n =
-    rw (none, d.reads) at (holders-called (state_without s h) p (Some c) b lp) in omega (arith, m, n) in
-    let um : (b : ℕ) → users (reading next) b ≡ users (reading s) b = λ b. let m = rw (at, o) at (users-changed s h None b l) in let n =
-    rw (none, d.reads) at (users-called (state_without s h) p (Some c) b lp) in omega (arith, m, n) in
+    let hm : (b : ℕ) → holders (reading next) b ≡ holders (reading s) b = λ b.
+    let m = rw (at, o) at (count-set (held_by g b) s.handles h None None l) in
+    let n = rw (none, d.reads) at (count-set (still_by g b) s.calls p (Some c) None lp) in omega (arith, holders-as s b, holders-as next b, m, n) in
+    let um : (b : ℕ) → users (reading next) b ≡ users (reading s) b = λ b.
+    let m = rw (at, o) at (count-set (held_by g b) s.handles h None None l) in
+    let n = rw (none, d.reads) at (count-set (drops_by g b) s.calls p (Some c) None lp) in omega (arith, users-as s b, users-as next b, m, n) in
     let hid : (q : ℕ) → hidden (set s.calls p (Some c)) q ≡ hidden s.calls q = λ q.
     let n = count-set (readies q) s.calls p (Some c) None lp in
     let nx : ◌≡◌ {A = ℕ} (cond (readies q (get_or s.calls p None)) 1 0) 0 = rw none refl in
@@ -92,13 +79,9 @@ drop-subtract s r k live z = record {
 -- a call that releases a block is one of the list
 release-of : (s : State) (h b i : ℕ) (x : Handle) (c : Option Pending) → handle_at s h ≡ Some x → owner_of s.tables x ≡ Some b → i < length s.calls
     → call_at s i ≡ c → FitsCall s c → releases s.tables b c ≡ true → ⊥
-release-of s h b i x None at o l e f t = absurd (cc)
-release-of s h b i x (Some (Loaded part w)) at o l e f t = absurd (cc)
-release-of s h b i x (Some (Ready part w q)) at o l e f t = absurd (cc)
-release-of s h b i x (Some (Add part q)) at o l e f t = absurd (cc)
-release-of s h b i x (Some (Subtract q)) at o l e f t = absurd (cc)
 release-of s h b i x (Some (Release q)) at o l e f t =
     release-elsewhere s h b i q x None at o l e f.alone (grind (arith, nat_tests, t))
+release-of s h b i x c at o l e f t = absurd (cc)
 
 -- alone it will release
 pub drop-release : (s : State) (h r : ℕ) (x : Handle) → IsSound s → handle_at s h ≡ Some x → x.word ≡ Counted r → (record_at s.tables r).live ≡ true
@@ -107,12 +90,8 @@ drop-release s h r x k at word live z one =
     let b : ℕ = (record_at s.tables r).block in
     let o = owner-counted s.tables x r word in
     let n = (k.counted r live).counts z in
-    let still : has_let_go s.tables r ≡ false = not-eqb (record_at s.tables r).count 0 (omega (arith, one)) in
-    let none : tally (releases s.tables b) s.calls ≡ 0 = elim (eqb_tells (tally (releases s.tables b) s.calls) 0) [
-      | inl i ↦ i.1
-      | inr i ↦ absurd (let w = count-find (releases s.tables b) None s.calls (let m = i.1 in omega arith) in
-          release-of s h b w.place x (call_at s w.place) at o w.inside refl (k.calls_fit w.place None w.inside) w.passes)
-    ] in
+    let still : has_let_go s.tables r ≡ false = ne_eqb (record_at s.tables r).count 0 (omega (arith, one)) in
+    let none = count-none (releases s.tables b) None s.calls (λ i l t. release-of s h b i x (call_at s i) at o l refl (k.calls_fit i None l) t) in
     record {
       left = 1;
       reads = rw still refl;
@@ -123,8 +102,8 @@ drop-release s h r x k at word live z one =
         alone = rw (ap (λ (g : Tables). has_let_go g r) e ∙ still) (ap (λ (g : Tables). holders (reading t) (record_at g r).block) e ∙ m ∙ sym n ∙ one);
       };
       first = λ c. elim (eqb_tells c b) [
-        | inl i ↦ rw (i.1, none, is-eqb b b refl) (omega arith)
-        | inr i ↦ rw (not-eqb c b i.1) (omega (arith, k.one_release c))
+        | inl i ↦ rw (i.1, none, eq-eqb b b refl) (omega arith)
+        | inr i ↦ rw (ne_eqb c b i.1) (omega (arith, k.one_release c))
       ];
     }
 

@@ -1,24 +1,5 @@
 -- A new block with its first handle keeps the machine sound.
-use Rattle.std.proofs.Common.{◌≡◌, ◌≢◌, ℕ, ◌+◌, ◌^◌, ◌<◌, ◌==◌, ◌&&◌, inl, inr, Bool, true, false, cond, List, [], ◌∷◌, ◌++◌, length, refl, arith, All, Some, length-append}
-use Rattle.std.proofs.lemmas.List.Elements.{All-push}
-use Rattle.std.proofs.Math.Seq.{get_or-append_seam}
-use Rattle.std.proofs.lemmas.Bool.Decides.{eqb_tells}
-use Rattle.iobufs_owner.specs.Word.{HasRoom, word_of}
-use Rattle.iobufs_owner.specs.State.{State, Tables, owner_of, base_by, record_at, block_at}
-use Rattle.iobufs_owner.specs.World.{holders, users, tally}
-use Rattle.iobufs_owner.specs.Reading.{reading}
-use Rattle.iobufs_owner.specs.Sound.{IsSound, ArePlaced, Fits, alone, describes}
-use Rattle.iobufs_owner.specs.Changes.{with_block, with_handle}
-use Rattle.iobufs_owner.specs.ShortCalls.{first_handle}
-use Rattle.iobufs_owner.specs.Places.{IsPlace, IsGoodPlace, Apart, ApartFrom}
-use Rattle.iobufs_owner.specs.Types.{Block, Handle, Descriptor}
-use Rattle.iobufs_owner.proofs.Words.{unpack-size}
-use Rattle.iobufs_owner.proofs.Soundness.Keeps.{all-fit-kept, calls-kept}
-use Rattle.iobufs_owner.proofs.Soundness.StaysSound.{at-some, append-at}
-use Rattle.iobufs_owner.proofs.Soundness.Counts.{count-append, holders-more, users-more, holders-le-users}
-use Rattle.iobufs_owner.proofs.Soundness.Frames.{grown, grown-keeps, with-fresh, handles-kept, alone-kept, describes-kept, holders-tables, users-tables, not-eqb, is-eqb}
-use Rattle.iobufs_owner.proofs.Soundness.Edits.{no_block}
-use Rattle.iobufs_owner.proofs.Soundness.Logs.{below-or, block-log-more}
+use Rattle.iobufs_owner.proofs.Base.{◌≡◌, ◌≢◌, ℕ, ◌+◌, ◌^◌, ◌<◌, ◌==◌, ◌&&◌, inl, inr, Bool, true, false, cond, List, [], ◌∷◌, ◌++◌, length, refl, arith, All, Some, length-append, All-push, get_or-append_seam, eqb_tells, HasRoom, word_of, State, Tables, owner_of, base_by, record_at, block_at, holders, users, tally, reading, IsSound, ArePlaced, Fits, alone, describes, with_block, with_handle, first_handle, IsPlace, IsGoodPlace, Apart, ApartFrom, Block, Handle, Descriptor, unpack-size, all-fit-kept, calls-kept, at-some, append-at, count-append, holders-le-users, grown, grown-keeps, with-fresh, ne_eqb, eq-eqb, no_block, below-or, block-log-more, sized, alike, held_by, holders-as, users-as}
 
 -- no earlier block has the base of a good place
 pub other-base : (bs : List Block) (b : Block) → All (λ (x : Block). IsPlace x.base x.size x.align) bs → IsGoodPlace bs b.base b.size b.align
@@ -78,39 +59,25 @@ sound-made s b log w k good native al room is few fewer =
     let next : State = with_handle (with_block s b) (first_handle b (Descriptor w)) in
     let o : owner_of g' x ≡ Some n = first-owner g b log w k.blocks.places good room is in
     let e = grown-keeps g b in
-    let hs = handles-kept g g' s.calls s.handles e k.fit in
+    let v = alike s g' k e (λ i d l q j t. refl) in
     let other = other-base g.blocks b k.blocks.places good in
     let at : block_at g' n ≡ b = get_or-append_seam g.blocks b [] _ in
+    let held : (c : ℕ) → tally (held_by g' c) (s.handles ++ Some x ∷ []) ≡ tally (held_by g c) s.handles + cond (c == n) 1 0 =
+    λ c. rw (count-append (held_by g' c) s.handles (Some x), v.held c, o) refl in
     let hm : (c : ℕ) → holders (reading next) c ≡ holders (reading s) c + cond (c == n) 1 0 =
-    λ c. rw (
-      holders-more (record s { tables = grown s.tables b }) (Some (first_handle b (Descriptor w))) c,
-      holders-tables s (grown s.tables b) c hs refl,
-      o,
-    ) refl in
+    λ c. omega (arith, holders-as s c, holders-as next c, held c, v.still c) in
     let um : (c : ℕ) → users (reading next) c ≡ users (reading s) c + cond (c == n) 1 0 =
-    λ c. rw (
-      users-more (record s { tables = grown s.tables b }) (Some (first_handle b (Descriptor w))) c,
-      users-tables s (grown s.tables b) c hs refl,
-      o,
-    ) refl in
+    λ c. omega (arith, users-as s c, users-as next c, held c, v.drops c) in
     let am : (c : ℕ) → tally (alone g' c) (s.handles ++ Some x ∷ []) ≡ tally (alone g c) s.handles + cond (c == n) 1 0 =
-    λ c. rw (count-append (alone g' c) s.handles (Some x), alone-kept g g' s.calls c s.handles e k.fit, o)
+    λ c. rw (count-append (alone g' c) s.handles (Some x), v.alone c, o)
     (one-and (c == n) (tally (alone g c) s.handles)) in
     let dm : (c : ℕ) → tally (describes g' c) (s.handles ++ Some x ∷ []) ≡ tally (describes g c) s.handles + cond (c == n) 1 0 =
-    λ c. rw (count-append (describes g' c) s.handles (Some x), describes-kept g g' s.calls c s.handles e k.fit, o)
+    λ c. rw (count-append (describes g' c) s.handles (Some x), v.describes c, o)
     (one-and (c == n) (tally (describes g c) s.handles)) in
     let unused : users (reading s) n ≡ 0 = grind (arith, k.known_users n) in
-    let one : users (reading next) n ≡ 1 = (let u = rw (is-eqb n n refl) at (um n) in omega (arith, u, unused)) in
-    let size = k.size in
+    let one : users (reading next) n ≡ 1 = (let u = rw (eq-eqb n n refl) at (um n) in omega (arith, u, unused)) in
     record {
-      size = record {
-        wide = size.wide;
-        ceiling = size.ceiling;
-        few_blocks = rw length-append (omega arith);
-        few_records = size.few_records;
-        few_handles = rw length-append (omega arith);
-        few_calls = size.few_calls;
-      };
+      size = sized k.size (rw length-append (omega arith)) k.size.few_records (rw length-append (omega arith)) k.size.few_calls;
       blocks = placed-more g b k.blocks good;
       fit = All-push (Fits g' s.calls) s.handles (Some x) (all-fit-kept g g' s.calls s.handles e (λ r t. t) k.fit) (record {
         block = n;
@@ -128,10 +95,10 @@ sound-made s b log w k good native al room is few fewer =
         };
       });
       calls_fit = calls-kept s next refl e (λ r t. t) (λ i y b a. append-at s.handles (Some x) i y a) k.fit (λ i y a. at-some s.handles i y a)
-          (λ i d l q j t. refl) (λ c l. rw (hm, not-eqb c n (omega arith)) (omega arith)) (λ r live. (k.counted r live).known) k.calls_fit;
+          (λ i d l q j t. refl) (λ c l. rw (hm, ne_eqb c n (omega arith)) (omega arith)) (λ r live. (k.counted r live).known) k.calls_fit;
       one_release = k.one_release;
       counted = λ r live. let c = k.counted r live in
-          let ne = not-eqb (record_at g r).block n (let q = c.known in omega arith) in
+          let ne = ne_eqb (record_at g r).block n (let q = c.known in omega arith) in
           let known = c.known in
           record {
             known = rw length-append (omega arith);
@@ -155,6 +122,6 @@ sound-made s b log w k good native al room is few fewer =
         | inr i ↦ (let q = rw i.0 at p in omega (arith, k.known_users c (omega (arith, q))))
       ]);
       block_log = block-log-more g b s.freed_blocks (users (reading s)) (users (reading next)) other one
-          (λ c l. rw (um, not-eqb c n (omega arith)) (omega arith)) k.block_log;
+          (λ c l. rw (um, ne_eqb c n (omega arith)) (omega arith)) k.block_log;
       record_log = k.record_log;
     }

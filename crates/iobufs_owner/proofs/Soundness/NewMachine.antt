@@ -1,14 +1,5 @@
 -- A new machine is sound.
-use Rattle.std.proofs.Common.{◌≡◌, ℕ, zero, suc, ◌+◌, ◌≤◌, ◌<◌, ◌^◌, Bool, false, List, ◌∷◌, replicate, map, ap, refl, arith, Option, None}
-use Rattle.std.proofs.lemmas.List.{length-replicate}
-use Rattle.std.proofs.lemmas.List.Elements.{All-replicate, All-nil}
-use Rattle.iobufs_owner.specs.Types.{Block, Freed}
-use Rattle.iobufs_owner.specs.State.{State, Tables, fresh}
-use Rattle.iobufs_owner.proofs.Soundness.Counts.{holders-le-users}
-use Rattle.iobufs_owner.specs.World.{Unfinished, users, drops, tally}
-use Rattle.iobufs_owner.specs.Reading.{reading, read_call}
-use Rattle.iobufs_owner.specs.Places.{IsPlace}
-use Rattle.iobufs_owner.specs.Sound.{IsSound, Fits, FitsCall, releases}
+use Rattle.iobufs_owner.proofs.Base.{◌≡◌, ℕ, zero, suc, ◌+◌, ◌≤◌, ◌<◌, ◌^◌, Bool, false, List, ◌∷◌, replicate, map, ap, refl, arith, Option, None, length-replicate, All-replicate, All-nil, Block, Freed, State, Tables, fresh, holders-le-users, Unfinished, users, drops, tally, reading, read_call, IsPlace, IsSound, Fits, FitsCall, releases}
 
 tally-none : {X : Type 0} (p : Option X → Bool) (n : ℕ) → p None ≡ false → tally p (replicate n None) ≡ 0
 tally-none p zero e = refl

@@ -1,26 +1,5 @@
 -- A new record keeps the machine sound: for a new block, and in the place of a descriptor.
-use Rattle.std.proofs.Common.{◌≡◌, ◌≢◌, ℕ, ◌+◌, ◌^◌, ◌<◌, ◌≤◌, ◌==◌, ◌⊎◌, inl, inr, Bool, true, false, cond, [], ◌∷◌, ◌++◌, length, get_or, set, sym, ◌∙◌, ap, subst, refl, arith, Option, Some, None, nat_eq, length-append}
-use Rattle.std.proofs.Math.ListN.{length-set}
-use Rattle.std.proofs.lemmas.List.Elements.{All-push, All-set}
-use Rattle.std.proofs.lemmas.List.{get_or_append_left}
-use Rattle.std.proofs.Math.Seq.{get_or-append_seam}
-use Rattle.std.proofs.lemmas.Bool.Decides.{nat_tests, eqb_tells}
-use Rattle.iobufs_owner.specs.State.{State, Tables, owner_of, record_at, block_at, handle_at}
-use Rattle.iobufs_owner.specs.World.{holders, users, is_block, tally}
-use Rattle.iobufs_owner.specs.Reading.{reading, has_let_go}
-use Rattle.iobufs_owner.specs.Sound.{IsSound, Fits, FitsWord, FitsCall, LiesIn, alone, describes, hidden, readies}
-use Rattle.iobufs_owner.specs.Changes.{with_block, with_record, with_handle, edited, next_record}
-use Rattle.iobufs_owner.specs.Lending.{Lends, is_lent}
-use Rattle.iobufs_owner.specs.ShortCalls.{frozen}
-use Rattle.iobufs_owner.specs.Places.{IsGoodPlace}
-use Rattle.iobufs_owner.specs.Types.{Block, Record, Handle, Kind, View, Mut, Pending, Loaded, Ready, Add, Subtract, Release, Word, Descriptor, Counted}
-use Rattle.iobufs_owner.proofs.Soundness.Keeps.{Keeps, all-fit-kept, calls-kept, calls-read-kept, releases-kept, owner-kept}
-use Rattle.iobufs_owner.proofs.Soundness.StaysSound.{at-some, append-at, set-at, owner-counted, block-log-kept}
-use Rattle.iobufs_owner.proofs.Soundness.Counts.{count-append, count-set, count-find, holders-more, users-more, holders-changed, users-changed, holders-le-users}
-use Rattle.iobufs_owner.proofs.Soundness.Frames.{grown, grown-keeps, handles-kept, alone-kept, describes-kept, holders-tables, users-tables, not-eqb, is-eqb}
-use Rattle.iobufs_owner.proofs.Soundness.Edits.{lies-as, fits-at, live-inside, described-at, alone-at, alone-described, describes-described, describes-counted, alone-shared}
-use Rattle.iobufs_owner.proofs.Soundness.Holders.{describes-few, fits-fewer}
-use Rattle.iobufs_owner.proofs.Soundness.Logs.{no_record, below-or, block-log-more, record-log-more}
+use Rattle.iobufs_owner.proofs.Base.{◌≡◌, ◌≢◌, ℕ, ◌+◌, ◌^◌, ◌<◌, ◌≤◌, ◌==◌, ◌⊎◌, inl, inr, Bool, true, false, cond, [], ◌∷◌, ◌++◌, length, set, sym, ◌∙◌, ap, subst, refl, arith, Option, Some, None, nat_eq, length-append, length-set, All-push, All-set, get_or_append_left, get_or-append_seam, nat_tests, eqb_tells, State, Tables, owner_of, record_at, block_at, handle_at, holders, users, is_block, tally, reading, has_let_go, IsSound, Fits, FitsWord, FitsCall, LiesIn, alone, describes, hidden, readies, with_block, with_record, with_handle, edited, next_record, Lends, is_lent, frozen, IsGoodPlace, Block, Record, Handle, Kind, View, Mut, Pending, Ready, Word, Descriptor, Counted, Keeps, all-fit-kept, calls-kept, owner-kept, at-some, append-at, set-at, owner-counted, block-log-kept, count-append, count-set, holders-le-users, grown, grown-keeps, ne_eqb, eq-eqb, lies-as, fits-at, live-inside, described-at, alone-at, alone-described, describes-described, describes-counted, alone-shared, describes-few, fits-fewer, no_record, below-or, block-log-more, record-log-more, count-change, sized, alike, held_by, holders-as, users-as, call_at, count-none}
 use Rattle.iobufs_owner.proofs.Soundness.New.{other-base, placed-more}
 
 -- ---- one record more
@@ -63,26 +42,16 @@ recorded-either g n b r e =
     elim (below-or r (length g.records) (rw length-append at l)) [ inl m ↦ inl (m, recorded-old g n b r m) | inr m ↦ inr m ]
 
 -- an unpublished record is live
-ready-live : (s : State) (r : ℕ) (c : Option Pending) → readies r c ≡ true → FitsCall s c → (record_at s.tables r).live ≡ true
-ready-live s r None t f = absurd (cc)
-ready-live s r (Some (Loaded part w)) t f = absurd (cc)
+pub ready-live : (s : State) (r : ℕ) (c : Option Pending) → readies r c ≡ true → FitsCall s c → (record_at s.tables r).live ≡ true
 ready-live s r (Some (Ready part w q)) t f =
     let e : r ≡ q = grind (arith, nat_tests, t) in
     ap (λ (n : ℕ). (record_at s.tables n).live) e ∙ f.live
-ready-live s r (Some (Add part q)) t f = absurd (cc)
-ready-live s r (Some (Subtract q)) t f = absurd (cc)
-ready-live s r (Some (Release q)) t f = absurd (cc)
+ready-live s r c t f = absurd (cc)
 
 -- a number that isn't given yet is no unpublished record
 pub unhidden-next : (s : State) → IsSound s → hidden s.calls (next_record s) ≡ 0
-unhidden-next s k =
-    elim (eqb_tells (hidden s.calls (next_record s)) 0) [
-      | inl z ↦ z.1
-      | inr z ↦ absurd (let w = count-find (readies (next_record s)) None s.calls (let n = z.1 in omega arith) in
-          let l = live-inside s.tables.records (next_record s)
-          (ready-live s (next_record s) (get_or s.calls w.place None) w.passes (k.calls_fit w.place None w.inside)) in
-          omega arith)
-    ]
+unhidden-next s k = count-none (readies (next_record s)) None s.calls (λ i l t.
+    let m = live-inside s.tables.records (next_record s) (ready-live s (next_record s) (call_at s i) t (k.calls_fit i None l)) in omega arith)
 
 -- ---- a new block that a new record counts
 
@@ -97,7 +66,7 @@ both-keeps g b =
     record { align_bits = refl; tail_bits = refl; size_bits = refl; longer = one.longer; blocks = one.blocks; with' = one.with'; records = two.records }
 
 no-alone : (g : Tables) (c n : ℕ) (x : Handle) → owner_of g x ≡ Some n → c ≢ n → alone g c (Some x) ≡ false
-no-alone g c n x o ne = rw (o, not-eqb c n ne) refl
+no-alone g c n x o ne = rw (o, ne_eqb c n ne) refl
 
 -- a new block at a good place, a record of it that counts one, and a handle by it inside the block, writable only where that
 -- is native, keep the machine sound, where there were fewer than 2^32 of each
@@ -115,34 +84,27 @@ sound-recorded s b x k good xw lies native few few' fewer =
     let o : owner_of g' x ≡ Some n = owner-counted g' x r xw ∙ ap Some new-block in
     let e = both-keeps g b in
     let live : (q : ℕ) → (record_at g q).live ≡ true → (record_at g' q).live ≡ true = λ q t. recorded-live (grown s.tables b) 1 n q t in
-    let hs = handles-kept g g' s.calls s.handles e k.fit in
-    let cs = calls-read-kept s g' s.calls e (λ i d l q j t. recorded-let_go (grown g b) 1 n q t) k.calls_fit in
+    let v = alike s g' k e (λ i d l q j t. recorded-let_go (grown g b) 1 n q t) in
     let other = other-base g.blocks b k.blocks.places good in
     let at : block_at g' n ≡ b = get_or-append_seam g.blocks b [] _ in
+    let more : (c : ℕ) → tally (held_by g' c) (s.handles ++ Some x ∷ []) ≡ tally (held_by g c) s.handles + cond (c == n) 1 0 =
+    λ c. rw (count-append (held_by g' c) s.handles (Some x), v.held c, o) refl in
     let hm : (c : ℕ) → holders (reading next) c ≡ holders (reading s) c + cond (c == n) 1 0 =
-    λ c. rw (holders-more (record s { tables = both s.tables b }) (Some x) c, holders-tables s (both s.tables b) c hs cs, o) refl in
+    λ c. omega (arith, holders-as s c, holders-as next c, more c, v.still c) in
     let um : (c : ℕ) → users (reading next) c ≡ users (reading s) c + cond (c == n) 1 0 =
-    λ c. rw (users-more (record s { tables = both s.tables b }) (Some x) c, users-tables s (both s.tables b) c hs cs, o) refl in
+    λ c. omega (arith, users-as s c, users-as next c, more c, v.drops c) in
     let am : (c : ℕ) → c ≢ n → tally (alone g' c) (s.handles ++ Some x ∷ []) ≡ tally (alone g c) s.handles =
-    λ c ne. rw (count-append (alone g' c) s.handles (Some x), alone-kept g g' s.calls c s.handles e k.fit, no-alone g' c n x o ne) (omega arith) in
+    λ c ne. rw (count-append (alone g' c) s.handles (Some x), v.alone c, no-alone g' c n x o ne) (omega arith) in
     let dm : (c : ℕ) → tally (describes g' c) (s.handles ++ Some x ∷ []) ≡ tally (describes g c) s.handles =
-    λ c. rw (count-append (describes g' c) s.handles (Some x), describes-kept g g' s.calls c s.handles e k.fit, describes-counted g' c x r xw)
+    λ c. rw (count-append (describes g' c) s.handles (Some x), v.describes c, describes-counted g' c x r xw)
     (omega arith) in
     let unused : users (reading s) n ≡ 0 = grind (arith, k.known_users n) in
     let unheld : holders (reading s) n ≡ 0 = omega (arith, unused, holders-le-users (reading s) n) in
-    let one : users (reading next) n ≡ 1 = (let u = rw (is-eqb n n refl) at (um n) in omega (arith, u, unused)) in
-    let held : holders (reading next) n ≡ 1 = (let u = rw (is-eqb n n refl) at (hm n) in omega (arith, u, unheld)) in
+    let one : users (reading next) n ≡ 1 = (let u = rw (eq-eqb n n refl) at (um n) in omega (arith, u, unused)) in
+    let held : holders (reading next) n ≡ 1 = (let u = rw (eq-eqb n n refl) at (hm n) in omega (arith, u, unheld)) in
     let shown = unhidden-next s k in
-    let size = k.size in
     record {
-      size = record {
-        wide = size.wide;
-        ceiling = size.ceiling;
-        few_blocks = rw length-append (omega arith);
-        few_records = rw length-append (omega arith);
-        few_handles = rw length-append (omega arith);
-        few_calls = size.few_calls;
-      };
+      size = sized k.size (rw length-append (omega arith)) (rw length-append (omega arith)) (rw length-append (omega arith)) k.size.few_calls;
       blocks = (let p = placed-more g b k.blocks good in record { places = p.places; apart = p.apart });
       fit = All-push (Fits g' s.calls) s.handles (Some x) (all-fit-kept g g' s.calls s.handles e live k.fit)
           (subst (λ (v : Word). FitsWord g' s.calls x v) (sym xw) (record {
@@ -153,13 +115,13 @@ sound-recorded s b x k good xw lies native few few' fewer =
             native = λ m. rw (new-block, at) (native m);
           }));
       calls_fit = calls-kept s next refl e live (λ i y _ a. append-at s.handles (Some x) i y a) k.fit (λ i y a. at-some s.handles i y a)
-          (λ i d l q j t. recorded-let_go (grown g b) 1 n q t) (λ c l. rw (hm, not-eqb c n (omega arith)) (omega arith))
+          (λ i d l q j t. recorded-let_go (grown g b) 1 n q t) (λ c l. rw (hm, ne_eqb c n (omega arith)) (omega arith))
           (λ q t. (k.counted q t).known) k.calls_fit;
-      one_release = λ c. rw (releases-kept s g' c s.calls e k.calls_fit) (k.one_release c);
+      one_release = λ c. rw (v.releases c) (k.one_release c);
       counted = λ q t. elim (recorded-either (grown s.tables b) 1 n q t) [
         | inl w ↦ (let c = k.counted q (ap (λ (v : Record). v.live) (sym w.1) ∙ t) in
             let known = c.known in
-            let ne = not-eqb (record_at g q).block n (omega arith) in
+            let ne = ne_eqb (record_at g q).block n (omega arith) in
             rw w.1 (record {
               known = rw length-append (omega arith);
               one_maker = c.one_maker;
@@ -203,7 +165,7 @@ sound-recorded s b x k good xw lies native few few' fewer =
         | inr i ↦ (let q = rw i.0 at p in omega (arith, k.known_users c (omega (arith, q))))
       ]);
       block_log = block-log-more g b s.freed_blocks (users (reading s)) (users (reading next)) other one
-          (λ c l. rw (um, not-eqb c n (omega arith)) (omega arith)) k.block_log;
+          (λ c l. rw (um, ne_eqb c n (omega arith)) (omega arith)) k.block_log;
       record_log = record-log-more g.records s.freed_records (record { count = 1; block = length s.tables.blocks; live = true }) refl k.record_log;
     }
 
@@ -225,42 +187,27 @@ sound-promoted s h x y w b k at free xw ox kb yw yv lies few =
     let live : (q : ℕ) → (record_at g q).live ≡ true → (record_at g' q).live ≡ true = λ q t. recorded-live g 1 b q t in
     let ox' : owner_of g' x ≡ Some b = owner-kept g g' s.calls x e (fits-at s h x k at) ∙ ox in
     let oy : owner_of g' y ≡ Some b = owner-counted g' y r yw ∙ ap Some new-block in
-    let hs = handles-kept g g' s.calls s.handles e k.fit in
-    let cs = calls-read-kept s g' s.calls e (λ i d l q j t. recorded-let_go g 1 b q t) k.calls_fit in
-    let hm : (c : ℕ) → holders (reading next) c ≡ holders (reading s) c = λ c. let n =
-    rw (at, ox', oy) at (holders-changed (record s { tables = recorded s.tables 1 b }) h (Some y) c l) in let m =
-    holders-tables s g' c hs cs in omega (arith, n, m) in
-    let um : (c : ℕ) → users (reading next) c ≡ users (reading s) c = λ c. let n =
-    rw (at, ox', oy) at (users-changed (record s { tables = recorded s.tables 1 b }) h (Some y) c l) in let m =
-    users-tables s g' c hs cs in omega (arith, n, m) in
+    let v = alike s g' k e (λ i d l q j t. recorded-let_go g 1 b q t) in
+    let held : (c : ℕ) → tally (held_by g' c) (set s.handles h (Some y)) ≡ tally (held_by g c) s.handles = λ c. let n =
+    rw (at, ox', oy) at (count-set (held_by g' c) s.handles h (Some y) None l) in omega (arith, n, v.held c) in
+    let hm : (c : ℕ) → holders (reading next) c ≡ holders (reading s) c = λ c. omega (arith, holders-as s c, holders-as next c, held c, v.still c) in
+    let um : (c : ℕ) → users (reading next) c ≡ users (reading s) c = λ c. omega (arith, users-as s c, users-as next c, held c, v.drops c) in
     let dm : (c : ℕ) → tally (describes g' c) (set s.handles h (Some y)) + cond (c == b) 1 0 ≡ tally (describes g c) s.handles = λ c.
-    let n = count-set (describes g' c) s.handles h (Some y) None l in
-    let nx : ◌≡◌ {A = ℕ} (cond (describes g' c (get_or s.handles h None)) 1 0) (cond (c == b) 1 0) =
-    ap (λ (o : Option Handle). cond {A = ℕ} (describes g' c o) 1 0) at
-    ∙ ap (λ (v : Bool). cond {A = ℕ} v 1 0) (describes-described g' c x w xw ∙ ap (is_block c) ox') in
-    let ny : ◌≡◌ {A = ℕ} (cond (describes g' c (Some y)) 1 0) 0 = ap (λ (v : Bool). cond {A = ℕ} v 1 0) (describes-counted g' c y r yw) in
-    omega (arith, n, nx, ny, describes-kept g g' s.calls c s.handles e k.fit) in
+    let n = count-change (describes g' c) s.handles h (Some y) None (c == b) false l
+    (ap (describes g' c) at ∙ describes-described g' c x w xw ∙ ap (is_block c) ox') (describes-counted g' c y r yw) in omega (arith, n, v.describes c) in
     let am : (c : ℕ) → tally (alone g' c) (set s.handles h (Some y)) ≤ tally (alone g c) s.handles = λ c.
     let n = count-set (alone g' c) s.handles h (Some y) None l in
     let ny : ◌≡◌ {A = ℕ} (cond (alone g' c (Some y)) 1 0) 0 = ap (λ (v : Bool). cond {A = ℕ} v 1 0) (alone-shared g' c y r yw yv) in
-    omega (arith, n, ny, alone-kept g g' s.calls c s.handles e k.fit) in
-    let one : holders (reading s) b ≡ 1 = alone-at s h x b k at (alone-described g b x w xw ∙ ap (is_block b) ox ∙ is-eqb b b refl) in
-    let some : 0 < tally (describes g b) s.handles = (let z = rw (is-eqb b b refl) at (dm b) in omega (arith, z)) in
-    let gone : tally (describes g' b) (set s.handles h (Some y)) ≡ 0 = (let z = rw (is-eqb b b refl) at (dm b) in omega (arith, z, describes-few s b, one)) in
+    omega (arith, n, ny, v.alone c) in
+    let one : holders (reading s) b ≡ 1 = alone-at s h x b k at (alone-described g b x w xw ∙ ap (is_block b) ox ∙ eq-eqb b b refl) in
+    let some : 0 < tally (describes g b) s.handles = (let z = rw (eq-eqb b b refl) at (dm b) in omega (arith, z)) in
+    let gone : tally (describes g' b) (set s.handles h (Some y)) ≡ 0 = (let z = rw (eq-eqb b b refl) at (dm b) in omega (arith, z, describes-few s b, one)) in
     let apart : (q : ℕ) → (record_at g q).live ≡ true → hidden s.calls q ≡ 0 → (record_at g q).block ≢ b =
     λ q t z i. (let u = rw i at ((k.counted q t).undescribed z) in omega (arith, u, some)) in
     let shown = unhidden-next s k in
-    let size = k.size in
     let lie : LiesIn (block_at g' (record_at g' r).block) y y.kind = rw (new-block) (subst (λ (q : Kind). LiesIn (block_at g b) y q) (sym yv) lies) in
     record {
-      size = record {
-        wide = size.wide;
-        ceiling = size.ceiling;
-        few_blocks = size.few_blocks;
-        few_records = rw length-append (omega arith);
-        few_handles = rw length-set size.few_handles;
-        few_calls = size.few_calls;
-      };
+      size = sized k.size k.size.few_blocks (rw length-append (omega arith)) (rw length-set k.size.few_handles) k.size.few_calls;
       blocks = k.blocks;
       fit = All-set (Fits g' s.calls) s.handles h (Some y) (subst (λ (v : Word). FitsWord g' s.calls y v) (sym yw) (record {
         live = ap (λ (v : Record). v.live) new;
@@ -271,7 +218,7 @@ sound-promoted s h x y w b k at free xw ox kb yw yv lies few =
       })) (all-fit-kept g g' s.calls s.handles e live k.fit);
       calls_fit = calls-kept s next refl e live (λ i z b a. set-at s.handles h i (Some y) z (λ e. let q = rw e at b in absurd (cc)) a) k.fit
           (λ i z a. at-some s.handles i z a) (λ i d l q j t. recorded-let_go g 1 b q t) (λ c _. hm c) (λ q t. (k.counted q t).known) k.calls_fit;
-      one_release = λ c. rw (releases-kept s g' c s.calls e k.calls_fit) (k.one_release c);
+      one_release = λ c. rw (v.releases c) (k.one_release c);
       counted = λ q t. elim (recorded-either g 1 b q t) [
         | inl v ↦ rw (v.1, hm, um) (fits-fewer (k.counted q (ap (λ (v : Record). v.live) (sym v.1) ∙ t)) (omega (arith, dm (record_at g q).block)))
         | inr i ↦ rw (i, new) (record {

@@ -1,30 +1,17 @@
 -- A sound machine keeps what is promised.
-use Rattle.std.proofs.Common.{◌≡◌, inl, inr, ℕ, ◌<◌, ◌≤◌, Bool, true, false, not, List, [], ◌∷◌, length, get_or, Option, Some, None, ap, sym, ◌∙◌, refl, arith, All}
-use Rattle.std.proofs.lemmas.Bool.Decides.{eqb_tells}
-use Rattle.std.proofs.lemmas.List.Elements.{All-head, All-tail, All-get_or, All-from_get_or}
-use Rattle.iobufs_owner.specs.Types.{Handle, Pending, Loaded, Ready, Add, Subtract, Release}
-use Rattle.iobufs_owner.specs.State.{State, handle_at, record_at, owner_of}
-use Rattle.iobufs_owner.specs.World.{holders, users, tally}
-use Rattle.iobufs_owner.specs.Reading.{reading}
-use Rattle.iobufs_owner.specs.Sound.{IsSound, is_logged, hidden, readies, FitsCall}
-use Rattle.iobufs_owner.specs.Promises.{Promises, IsFreed, IsOver, IsExclusive}
-use Rattle.iobufs_owner.proofs.Soundness.Counts.{holders-le-users, count-find}
-use Rattle.iobufs_owner.proofs.Soundness.Edits.{alone-at, described-at}
-use Rattle.iobufs_owner.proofs.Soundness.Frames.{is-eqb}
+use Rattle.iobufs_owner.proofs.Base.{◌≡◌, inl, inr, ℕ, ◌<◌, ◌≤◌, Bool, true, false, not, List, [], ◌∷◌, length, get_or, Option, Some, None, ap, sym, ◌∙◌, refl, arith, All, eqb_tells, All-head, All-tail, All-get_or, All-from_get_or, Handle, Pending, State, handle_at, record_at, owner_of, holders, users, tally, reading, IsSound, is_logged, hidden, readies, Promises, IsFreed, IsOver, IsExclusive, holders-le-users, count-find, alone-at, described-at, eq-eqb, held_by, drops_by, users-as, logged-at, eqb-true}
 use Rattle.iobufs_owner.proofs.Soundness.Recovered.{recovered-is}
-use Rattle.iobufs_owner.proofs.Soundness.Holders.{held_by, drops_by, users-as}
-use Rattle.iobufs_owner.proofs.Soundness.Logs.{logged-at}
-use Rattle.iobufs_owner.proofs.WorldSteps.Taken.{eq-true}
+use Rattle.iobufs_owner.proofs.Soundness.NewRecord.{ready-live}
 
 exclusive-alone : (s : State) (h b : ℕ) (x : Handle) → IsSound s → handle_at s h ≡ Some x → owner_of s.tables x ≡ Some b → IsExclusive x
     → holders (reading s) b ≡ 1
-exclusive-alone s h b x k at o e = alone-at s h x b k at (rw (o, is-eqb b b refl) e)
+exclusive-alone s h b x k at o e = alone-at s h x b k at (rw (o, eq-eqb b b refl) e)
 
 none-freed : (s : State) (b : ℕ) → IsSound s → b < length s.tables.blocks → users (reading s) b ≡ 0 → IsFreed s b
 none-freed s b k l e = record { known = l; logged = k.block_log.freed b l ∙ rw e refl }
 
 freed-none : (s : State) (b : ℕ) → IsSound s → IsFreed s b → users (reading s) b ≡ 0
-freed-none s b k f = eq-true (users (reading s) b) 0 (sym (k.block_log.freed b f.known) ∙ f.logged)
+freed-none s b k f = eqb-true (users (reading s) b) 0 (sym (k.block_log.freed b f.known) ∙ f.logged)
 
 -- a record whose block nobody uses is logged
 dead-logged : (s : State) (r : ℕ) (v : Bool) → IsSound s → r < length s.tables.records → (record_at s.tables r).live ≡ v
@@ -39,27 +26,18 @@ logged-dead s r false k l e i = e
 
 -- ---- nothing is left
 
-none-held : (s : State) (b : ℕ) (hs : List (Option Handle)) → All (λ o. o ≡ None) hs → tally (held_by s b) hs ≡ 0
+none-held : (s : State) (b : ℕ) (hs : List (Option Handle)) → All (λ o. o ≡ None) hs → tally (held_by s.tables b) hs ≡ 0
 none-held s b [] a = refl
 none-held s b (o ∷ hs) a = rw (All-head (λ (o : Option Handle). o ≡ None) o hs a)
     (omega (arith, none-held s b hs (All-tail (λ (o : Option Handle). o ≡ None) o hs a)))
 
-none-dropped : (s : State) (b : ℕ) (cs : List (Option Pending)) → All (λ c. c ≡ None) cs → tally (drops_by s b) cs ≡ 0
+none-dropped : (s : State) (b : ℕ) (cs : List (Option Pending)) → All (λ c. c ≡ None) cs → tally (drops_by s.tables b) cs ≡ 0
 none-dropped s b [] a = refl
 none-dropped s b (c ∷ cs) a = rw (All-head (λ (c : Option Pending). c ≡ None) c cs a)
     (omega (arith, none-dropped s b cs (All-tail (λ (c : Option Pending). c ≡ None) c cs a)))
 
 over-none : (s : State) (b : ℕ) → IsOver s → users (reading s) b ≡ 0
 over-none s b o = omega (arith, users-as s b, none-held s b s.handles o.handles, none-dropped s b s.calls o.calls)
-
--- a record that a promotion has made is live
-ready-live : (s : State) (r : ℕ) (c : Option Pending) → readies r c ≡ true → FitsCall s c → (record_at s.tables r).live ≡ true
-ready-live s r None t f = absurd (cc)
-ready-live s r (Some (Loaded k w)) t f = absurd (cc)
-ready-live s r (Some (Ready k w q)) t f = elim (eqb_tells r q) [ inl e ↦ rw e.1 f.live | inr e ↦ absurd (let z = sym e.0 ∙ t in cc) ]
-ready-live s r (Some (Add k q)) t f = absurd (cc)
-ready-live s r (Some (Subtract q)) t f = absurd (cc)
-ready-live s r (Some (Release q)) t f = absurd (cc)
 
 one-maker : (s : State) (r : ℕ) → IsSound s → hidden s.calls r ≤ 1
 one-maker s r k = elim (eqb_tells (hidden s.calls r) 0) [

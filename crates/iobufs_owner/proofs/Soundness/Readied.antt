@@ -1,29 +1,9 @@
 -- A clone or slice has loaded a descriptor and makes a record, which nothing shows yet.
-use Rattle.std.proofs.Common.{◌≡◌, inl, inr, ℕ, ◌+◌, ◌^◌, ◌<◌, ◌==◌, true, cond, List, length, get_or, set, sym, ◌∙◌, ap, subst, refl, arith, Option, Some, None, unwrap_or, length-append}
-use Rattle.std.proofs.Math.ListN.{length-set}
-use Rattle.std.proofs.lemmas.List.Elements.{All-from_get_or}
-use Rattle.iobufs_owner.specs.State.{State, Tables, record_at, call_at}
-use Rattle.iobufs_owner.specs.World.{holders, users, tally}
-use Rattle.iobufs_owner.specs.Reading.{reading}
-use Rattle.iobufs_owner.specs.Sound.{IsSound, Fits, FitsWord, FitsCall, IsLoading, SpeaksOf, hidden, readies, releases}
-use Rattle.iobufs_owner.specs.Changes.{called, with_record, part}
-use Rattle.iobufs_owner.specs.LongCalls.{loaded_found, loaded_block}
-use Rattle.iobufs_owner.specs.Types.{Record, Handle, Share, Pending, Loaded, Ready, Word, Empty, Descriptor, Counted}
-use Rattle.iobufs_owner.proofs.Soundness.Counts.{count-set}
-use Rattle.iobufs_owner.proofs.Soundness.Keeps.{calls-read-kept, releases-kept, owner-kept, fits-kept, live-of, shares-kept, promised-kept, calls-fit-set}
-use Rattle.iobufs_owner.proofs.Soundness.StaysSound.{at-some, block-log-kept}
-use Rattle.iobufs_owner.proofs.Soundness.Frames.{handles-kept, alone-kept, describes-kept, holders-tables, users-tables, not-eqb, is-eqb}
-use Rattle.iobufs_owner.proofs.Soundness.Edits.{fits-at, live-inside}
-use Rattle.iobufs_owner.proofs.Soundness.Holders.{owner-used}
-use Rattle.iobufs_owner.proofs.Soundness.Logs.{record-log-more}
+use Rattle.iobufs_owner.proofs.Base.{◌≡◌, inl, inr, ℕ, ◌+◌, ◌^◌, ◌<◌, ◌==◌, true, cond, List, length, get_or, set, sym, ◌∙◌, ap, subst, refl, arith, Option, Some, None, unwrap_or, length-append, length-set, All-from_get_or, State, Tables, record_at, call_at, holders, users, tally, reading, IsSound, Fits, FitsWord, IsLoading, SpeaksOf, hidden, readies, releases, called, with_record, part, loaded_found, loaded_block, Record, Handle, Share, Pending, Loaded, Ready, Word, Empty, Descriptor, Counted, count-set, owner-kept, fits-kept, live-of, shares-kept, promised-kept, calls-fit-set, at-some, block-log-kept, ne_eqb, eq-eqb, fits-at, live-inside, owner-used, record-log-more, sized, alike, drops_by, holders-as, still_by, users-as}
 use Rattle.iobufs_owner.proofs.Soundness.NewRecord.{recorded, recorded-new, recorded-keeps, recorded-let_go, recorded-live, recorded-either, unhidden-next}
-use Rattle.iobufs_owner.proofs.Soundness.Called.{IsQuiet, quiet-loaded, count-calls, called-still}
+use Rattle.iobufs_owner.proofs.Soundness.Called.{count-calls}
 
--- in a sound machine a clone or slice that has loaded a descriptor knows its view and the block that the descriptor says
-pub loading : (s : State) (p : ℕ) (k : Share) (w : ℕ) → IsSound s → call_at s p ≡ Some (Loaded k w) → IsLoading s k w
-loading s p k w i at = subst (λ (c : Option Pending). FitsCall s c) at (i.calls_fit p None (at-some s.calls p (Loaded k w) at))
-
--- its block is the one that the loaded descriptor recovers
+-- the block that a loading knows is the one that the loaded descriptor recovers
 pub loading-block : (s : State) (k : Share) (w : ℕ) (l : IsLoading s k w) → l.block ≡ loaded_block s k.handle w
 loading-block s k w l = sym (ap (λ (o : Option Handle). loaded_found s w o) l.shares.at ∙ ap (λ (o : Option ℕ). unwrap_or o 0) l.promised.says.owner)
 
@@ -64,35 +44,21 @@ sound-readied s p part w b k at ld same few =
     let new = recorded-new g 2 b in
     let known : b < length g.blocks = promised.says.known in
     let live : (q : ℕ) → (record_at g q).live ≡ true → (record_at g' q).live ≡ true = λ q t. recorded-live g 2 b q t in
-    let hs = handles-kept g g' s.calls s.handles e k.fit in
-    let cs = calls-read-kept s g' s.calls e (λ i d l q j t. recorded-let_go g 2 b q t) k.calls_fit in
-    let mid : State = with_record s 2 b in
-    let qold : IsQuiet mid (call_at s p) = subst (λ (c : Option Pending). IsQuiet mid c) (sym at) (quiet-loaded mid part w) in
-    let both : (d : ℕ) → (holders (reading next) d ≡ holders (reading s) d) × (users (reading next) d ≡ users (reading s) d) = λ d.
-    let a = called-still mid p c d l (qold.still d) (qold.drops d) refl refl in
-    (a.0 ∙ holders-tables s g' d hs cs, a.1 ∙ users-tables s g' d hs cs) in
-    let hm : (d : ℕ) → holders (reading next) d ≡ holders (reading s) d = λ d. (both d).0 in
-    let um : (d : ℕ) → users (reading next) d ≡ users (reading s) d = λ d. (both d).1 in
+    let v = alike s g' k e (λ i d l q j t. recorded-let_go g 2 b q t) in
+    let hm : (d : ℕ) → holders (reading next) d ≡ holders (reading s) d = λ d. let n =
+    count-calls (still_by g' d) s.calls p c None l (ap (still_by g' d) at) refl in omega (arith, holders-as s d, holders-as next d, n, v.held d, v.still d) in
+    let um : (d : ℕ) → users (reading next) d ≡ users (reading s) d = λ d. let n =
+    count-calls (drops_by g' d) s.calls p c None l (ap (drops_by g' d) at) refl in omega (arith, users-as s d, users-as next d, n, v.held d, v.drops d) in
     let hid : (q : ℕ) → hidden (set s.calls p c) q ≡ hidden s.calls q + cond (q == length s.tables.records) 1 0 = λ q.
-    let n = count-set (readies q) s.calls p c None l in
-    let z : ◌≡◌ {A = ℕ} (cond (readies q (get_or s.calls p None)) 1 0) 0 = ap (λ (o : Option Pending). cond {A = ℕ} (readies q o) 1 0) at in
-    omega (arith, n, z) in
+    let n = rw at at (count-set (readies q) s.calls p c None l) in omega (arith, n) in
     let old : (q : ℕ) → q < length g.records → hidden (set s.calls p c) q ≡ hidden s.calls q =
-    λ q m. (let n = rw (not-eqb q (length s.tables.records) (omega arith)) at (hid q) in omega (arith, n)) in
+    λ q m. (let n = rw (ne_eqb q (length s.tables.records) (omega arith)) at (hid q) in omega (arith, n)) in
     let one : hidden (set s.calls p c) r ≡ 1 =
-    (let n = rw (is-eqb (length s.tables.records) (length s.tables.records) refl) at (hid r) in let z = unhidden-next s k in omega (arith, n, z)) in
+    (let n = rw (eq-eqb (length s.tables.records) (length s.tables.records) refl) at (hid r) in let z = unhidden-next s k in omega (arith, n, z)) in
     let rel : (d : ℕ) → tally (releases g' d) (set s.calls p c) ≡ tally (releases g d) s.calls =
-    λ d. count-calls (releases g' d) s.calls p c None l (ap (releases g' d) at) refl ∙ releases-kept s g' d s.calls e k.calls_fit in
-    let size = k.size in
+    λ d. count-calls (releases g' d) s.calls p c None l (ap (releases g' d) at) refl ∙ v.releases d in
     record {
-      size = record {
-        wide = size.wide;
-        ceiling = size.ceiling;
-        few_blocks = size.few_blocks;
-        few_records = rw length-append (omega arith);
-        few_handles = size.few_handles;
-        few_calls = rw length-set size.few_calls;
-      };
+      size = sized k.size k.size.few_blocks (rw length-append (omega arith)) k.size.few_handles (rw length-set k.size.few_calls);
       blocks = k.blocks;
       fit = All-from_get_or (Fits g' (set s.calls p c)) s.handles None
           (λ i li. fit-readied s 2 b (set s.calls p c) old (get_or s.handles i None) (k.fit i None li));
@@ -114,7 +80,7 @@ sound-readied s p part w b k at ld same few =
       }) k.calls_fit;
       one_release = λ d. rw rel (k.one_release d);
       counted = λ q t. elim (recorded-either g 2 b q t) [
-        | inl u ↦ rw (u.1, old q u.0, hm, um, describes-kept g g' s.calls (record_at g q).block s.handles e k.fit)
+        | inl u ↦ rw (u.1, old q u.0, hm, um, v.describes (record_at g q).block)
             (k.counted q (ap (λ (v : Record). v.live) (sym u.1) ∙ t))
         | inr i ↦ rw (i, new) (record {
           known = known;
@@ -133,7 +99,7 @@ sound-readied s p part w b k at ld same few =
         ]
         | inr u ↦ absurd (let z = rw u at hq in omega (arith, z, one))
       ];
-      sole = λ d t. rw hm (k.sole d (rw (alone-kept g g' s.calls d s.handles e k.fit) at t));
+      sole = λ d t. rw hm (k.sole d (rw (v.alone d) at t));
       capped = λ d. rw hm (k.capped d);
       known_users = λ d t. k.known_users d (rw um at t);
       block_log = block-log-kept g.blocks s.freed_blocks (users (reading s)) (users (reading next)) um k.block_log;

@@ -1,21 +1,10 @@
 -- What a record that is freed leaves as it was.
-use Rattle.std.proofs.Common.{◌≡◌, ◌≢◌, inl, inr, ℕ, ◌<◌, true, false, length, sym, ◌∙◌, ap, refl, arith, nat_eq}
-use Rattle.std.proofs.lemmas.List.{get_or-set_same, get_or-set_other}
-use Rattle.std.proofs.lemmas.Bool.Decides.{eqb_tells}
-use Rattle.iobufs_owner.specs.State.{Tables, record_at}
-use Rattle.iobufs_owner.specs.Reading.{has_let_go}
-use Rattle.iobufs_owner.specs.Changes.{tables_without}
-use Rattle.iobufs_owner.specs.Types.{Record}
-use Rattle.iobufs_owner.proofs.Soundness.Keeps.{Keeps}
+use Rattle.iobufs_owner.proofs.Base.{◌≡◌, ◌≢◌, inl, inr, ℕ, ◌<◌, true, false, length, sym, ◌∙◌, ap, refl, arith, nat_eq, get_or-set_same, get_or-set_other, eqb_tells, Tables, record_at, has_let_go, tables_without, Record, Keeps}
 use Rattle.iobufs_owner.proofs.Soundness.AddHolder.{field-set}
 
 -- a record that is freed leaves the block of each
 pub dead-block : (g : Tables) (r q : ℕ) → (record_at (tables_without g r) q).block ≡ (record_at g q).block
 dead-block g r q = field-set (λ (v : Record). v.block) g.records r q _ _ refl
-
--- a record that is freed leaves the count of each
-pub dead-count : (g : Tables) (r q : ℕ) → (record_at (tables_without g r) q).count ≡ (record_at g q).count
-dead-count g r q = field-set (λ (v : Record). v.count) g.records r q _ _ refl
 
 -- a record that is freed leaves the others live or dead as they were
 pub dead-other : (g : Tables) (r q : ℕ) → q ≢ r → (record_at (tables_without g r) q).live ≡ (record_at g q).live
@@ -42,7 +31,7 @@ dead-keeps g r = record {
 
 -- where a record is freed, each drop has let go as before
 pub dead-let_go : (g : Tables) (r q : ℕ) → has_let_go (tables_without g r) q ≡ has_let_go g q
-dead-let_go g r q = ap (λ (n : ℕ). nat_eq n 0) (dead-count g r q)
+dead-let_go g r q = ap (λ (n : ℕ). nat_eq n 0) (field-set (λ (v : Record). v.count) g.records r q _ _ refl)
 
 -- what is live afterwards was live, and is another record
 pub dead-live : (g : Tables) (r q : ℕ) → r < length g.records → (record_at (tables_without g r) q).live ≡ true → ((record_at g q).live ≡ true) × (q ≢ r)

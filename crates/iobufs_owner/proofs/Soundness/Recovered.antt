@@ -1,17 +1,5 @@
 -- A descriptor recovers its block, whether its handle has it still or not.
-use Rattle.std.proofs.Common.{◌≡◌, ◌≢◌, ℕ, zero, suc, ◌+◌, ◌^◌, ◌<◌, ◌≤◌, ◌==◌, Bool, true, false, cond, List, [], ◌∷◌, length, get_or, sym, ◌∙◌, ap, refl, arith, Option, Some, None, option_map, add-one}
-use Rattle.std.proofs.lemmas.Bool.Decides.{nat_tests}
-use Rattle.iobufs_owner.specs.State.{State, Tables, owner_of, block_at, handle_at, base_by, block_with, end_of, size_in, tail_in, recovered, triple}
-use Rattle.iobufs_owner.specs.Word.{IsWord}
-use Rattle.iobufs_owner.specs.World.{users}
-use Rattle.iobufs_owner.specs.Reading.{reading}
-use Rattle.iobufs_owner.specs.Sound.{IsDescribed, IsSound, LiesIn, LeavesBehind}
-use Rattle.iobufs_owner.specs.Types.{Block, Handle, Kind, View, Mut, Descriptor}
-use Rattle.iobufs_owner.proofs.Soundness.Frames.{is-eqb, not-eqb}
-use Rattle.iobufs_owner.proofs.Words.{word-log}
-use Rattle.iobufs_owner.proofs.Soundness.Edits.{word-fits, word-at, tail-says, behind-as, lies-as, described-at, no_block, owner-described, size-says}
-use Rattle.iobufs_owner.proofs.Soundness.Holders.{owner-used}
-use Rattle.iobufs_owner.proofs.Soundness.Logs.{block-log-room}
+use Rattle.iobufs_owner.proofs.Base.{◌≡◌, ◌≢◌, ℕ, zero, suc, ◌+◌, ◌^◌, ◌<◌, ◌≤◌, ◌==◌, Bool, true, false, cond, List, [], ◌∷◌, length, get_or, sym, ◌∙◌, ap, refl, arith, Option, Some, None, option_map, add-one, nat_tests, State, Tables, owner_of, block_at, handle_at, base_by, block_with, end_of, size_in, tail_in, recovered, triple, IsWord, users, reading, IsDescribed, IsSound, LiesIn, LeavesBehind, Block, Handle, Kind, View, Mut, Descriptor, eq-eqb, ne_eqb, word-log, word-fits, word-at, tail-says, behind-as, lies-as, described-at, no_block, owner-described, size-says, owner-used, block-log-room}
 
 with-later : (x : Block) (base b : ℕ) (bs : List Block) (o : Option ℕ) → ((c : ℕ) → o ≡ Some c → (get_or bs c no_block).base ≡ base)
     → option_map (λ i. i + 1) o ≡ Some b → (get_or (x ∷ bs) b no_block).base ≡ base
@@ -36,16 +24,16 @@ with-base base b (x ∷ bs) e = with-here (x.base == base) x base b bs (λ t. gr
 pub with-first : (base : ℕ) (bs : List Block) (i : ℕ) → i < length bs → (get_or bs i no_block).base ≡ base
     → ((j : ℕ) → j < i → (get_or bs j no_block).base ≢ base) → block_with base bs ≡ Some i
 with-first base [] i l e none = absurd (omega arith)
-with-first base (x ∷ bs) zero l e none = rw (is-eqb x.base base e) refl
+with-first base (x ∷ bs) zero l e none = rw (eq-eqb x.base base e) refl
 with-first base (x ∷ bs) (suc i) l e none = rw (
-  not-eqb x.base base (none 0 (omega arith)),
+  ne_eqb x.base base (none 0 (omega arith)),
   with-first base bs i (omega arith) e (λ j m. none (suc j) (omega arith)),
 ) (ap Some (omega arith))
 
 -- where no block has a base, none is found by it
 pub with-none : (base : ℕ) (bs : List Block) → ((j : ℕ) → j < length bs → (get_or bs j no_block).base ≢ base) → block_with base bs ≡ None
 with-none base [] none = refl
-with-none base (x ∷ bs) none = rw (not-eqb x.base base (none 0 (omega arith)), with-none base bs (λ j m. none (suc j) (omega arith))) refl
+with-none base (x ∷ bs) none = rw (ne_eqb x.base base (none 0 (omega arith)), with-none base bs (λ j m. none (suc j) (omega arith))) refl
 
 -- what is recovered from a descriptor is the block
 pub recovered-is : (s : State) (h : ℕ) (x : Handle) (w b : ℕ) → IsSound s → handle_at s h ≡ Some x → x.word ≡ Descriptor w

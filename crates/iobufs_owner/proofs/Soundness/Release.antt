@@ -1,21 +1,5 @@
 -- The last step of a drop: record and block are freed.
-use Rattle.std.proofs.Common.{◌≡◌, ◌≢◌, inl, inr, ℕ, ◌+◌, ◌<◌, ◌==◌, Bool, true, false, cond, length, get_or, set, sym, ◌∙◌, ap, subst, refl, arith, Option, Some, None, nat_eq}
-use Rattle.std.proofs.Math.ListN.{length-set}
-use Rattle.std.proofs.lemmas.List.Elements.{All-from_get_or}
-use Rattle.std.proofs.lemmas.Bool.Decides.{nat_tests, eqb_tells}
-use Rattle.iobufs_owner.specs.State.{State, Tables, owner_of, record_at, handle_at, call_at}
-use Rattle.iobufs_owner.specs.World.{holds, holders, users, Dropping, still_holds, drops, tally}
-use Rattle.iobufs_owner.specs.Reading.{reading, read_handle, read_call, has_let_go}
-use Rattle.iobufs_owner.specs.Changes.{tables_without, both_freed, called}
-use Rattle.iobufs_owner.specs.Sound.{IsSound, Fits, FitsCall, alone, describes, hidden, readies, releases}
-use Rattle.iobufs_owner.specs.Types.{Handle, Pending, Loaded, Ready, Add, Subtract, Release}
-use Rattle.iobufs_owner.proofs.Soundness.Counts.{count-set, count-some, count-less, count-most, count-two, count-find, count-sum, holders-le-users, holders-called, users-called}
-use Rattle.iobufs_owner.proofs.Soundness.Keeps.{names, calls-read-kept, releases-kept, owner-kept, fits-kept, fits-calls, live-of, calls-fit-set}
-use Rattle.iobufs_owner.proofs.Soundness.StaysSound.{at-some, owner-counted}
-use Rattle.iobufs_owner.proofs.Soundness.Frames.{handles-kept, alone-kept, describes-kept, not-eqb, is-eqb, holders-tables, users-tables, holders-alike, users-alike}
-use Rattle.iobufs_owner.proofs.Soundness.Edits.{fits-at, live-inside, and-no}
-use Rattle.iobufs_owner.proofs.Soundness.Holders.{held_by, still_by, drops_by, holders-as, users-as, alone-holds, lets_go, drops-split, go-releases}
-use Rattle.iobufs_owner.proofs.Soundness.Logs.{block-log-freed, record-log-dead}
+use Rattle.iobufs_owner.proofs.Base.{◌≡◌, ◌≢◌, inl, inr, ℕ, ◌+◌, ◌<◌, ◌==◌, Bool, true, false, cond, length, get_or, set, sym, ◌∙◌, ap, refl, arith, Option, Some, None, nat_eq, length-set, All-from_get_or, nat_tests, eqb_tells, State, Tables, owner_of, record_at, handle_at, call_at, holds, holders, users, Dropping, still_holds, drops, tally, reading, read_handle, read_call, has_let_go, tables_without, both_freed, called, IsSound, Fits, alone, hidden, readies, releases, Handle, Pending, Ready, Subtract, Release, count-set, count-some, count-less, count-most, count-two, count-find, count-sum, holders-le-users, names, owner-kept, fits-kept, fits-calls, live-of, calls-fit-set, at-some, owner-counted, ne_eqb, eq-eqb, fits-at, live-inside, held_by, still_by, drops_by, holders-as, users-as, alone-holds, lets_go, drops-split, go-releases, block-log-freed, record-log-dead, and_right, call-fits, alike}
 use Rattle.iobufs_owner.proofs.Soundness.RecordFreed.{dead-at, dead-block, dead-other, dead-keeps, dead-let_go, dead-live}
 use Rattle.iobufs_owner.proofs.Soundness.Alone.{ready-borrows}
 
@@ -36,29 +20,29 @@ release-last s p r k at =
     let h = holders-as s b in
     let n = f.alone in
     let u = users-as s b in
-    let split = count-sum (drops_by s b) (still_by s b) (lets_go s.tables b) s.calls (drops-split s.tables b) in
+    let split = count-sum (drops_by s.tables b) (still_by s.tables b) (lets_go s.tables b) s.calls (drops-split s.tables b) in
     let ones = k.one_release b in
-    let here = count-some (releases s.tables b) s.calls p None l (rw at (is-eqb b b refl)) in
+    let here = count-some (releases s.tables b) s.calls p None l (rw at (eq-eqb b b refl)) in
     let by : (w : Bool) → has_let_go s.tables r ≡ w → Last s b = λ w. elim w as (λ w. has_let_go s.tables r ≡ w → Last s b) [
       | true ↦ λ e. (let n1 = rw e at n in
           let go = count-most (releases s.tables b) (lets_go s.tables b) s.calls (go-releases s.tables b) in
-          let some = count-some (lets_go s.tables b) s.calls p None l (rw (at, e, is-eqb b b refl) refl) in
+          let some = count-some (lets_go s.tables b) s.calls p None l (rw (at, e, eq-eqb b b refl) refl) in
           record { none = omega arith; one = omega arith; users = omega arith })
       | false ↦ λ e. (let n1 = rw e at n in
-          let some = count-some (still_by s b) s.calls p None l (rw (at, e) (is-eqb b b refl)) in
-          let go = count-less (releases s.tables b) (lets_go s.tables b) s.calls p None (go-releases s.tables b) l (rw at (is-eqb b b refl))
-          (rw (at, e) (and-no (b == b))) in
+          let some = count-some (still_by s.tables b) s.calls p None l (rw (at, e) (eq-eqb b b refl)) in
+          let go = count-less (releases s.tables b) (lets_go s.tables b) s.calls p None (go-releases s.tables b) l (rw at (eq-eqb b b refl))
+          (rw (at, e) (and_right (b == b) false refl)) in
           record { none = omega arith; one = omega arith; users = omega arith })
     ] in
     by (has_let_go s.tables r) refl
 
-none-holds : (s : State) (b i : ℕ) (x : Handle) → tally (held_by s b) s.handles ≡ 0 → handle_at s i ≡ Some x → owner_of s.tables x ≢ Some b
+none-holds : (s : State) (b i : ℕ) (x : Handle) → tally (held_by s.tables b) s.handles ≡ 0 → handle_at s i ≡ Some x → owner_of s.tables x ≢ Some b
 none-holds s b i x z at o =
-    let t = count-some (held_by s b) s.handles i None (at-some s.handles i x at) (rw (at, o) (is-eqb b b refl)) in
+    let t = count-some (held_by s.tables b) s.handles i None (at-some s.handles i x at) (rw (at, o) (eq-eqb b b refl)) in
     omega arith
 
 fit-released : (s : State) (p r : ℕ) (o : Option Handle) → ((q : ℕ) → hidden (set s.calls p None) q ≡ hidden s.calls q)
-    → tally (held_by s (record_at s.tables r).block) s.handles ≡ 0 → (i : ℕ) → get_or s.handles i None ≡ o → Fits s.tables s.calls o
+    → tally (held_by s.tables (record_at s.tables r).block) s.handles ≡ 0 → (i : ℕ) → get_or s.handles i None ≡ o → Fits s.tables s.calls o
     → Fits (tables_without s.tables r) (set s.calls p None) o
 fit-released s p r None hid none i at f = tt
 fit-released s p r (Some x) hid none i at f =
@@ -71,33 +55,32 @@ fit-released s p r (Some x) hid none i at f =
 
 still-other : (b c : ℕ) (v : Bool) → c ≢ b → still_holds c (Some (Dropping b v 1)) ≡ false
 still-other b c true ne = refl
-still-other b c false ne = not-eqb c b ne
+still-other b c false ne = ne_eqb c b ne
 
 -- no other call counts on the record, or drops the block
-other-drops : (s : State) (p r i b : ℕ) → call_at s p ≡ Some (Release r) → (record_at s.tables r).block ≡ b → tally (drops_by s b) s.calls ≡ 1
-    → i ≢ p → i < length s.calls → drops_by s b (call_at s i) ≡ true → ⊥
+other-drops : (s : State) (p r i b : ℕ) → call_at s p ≡ Some (Release r) → (record_at s.tables r).block ≡ b → tally (drops_by s.tables b) s.calls ≡ 1
+    → i ≢ p → i < length s.calls → drops_by s.tables b (call_at s i) ≡ true → ⊥
 other-drops s p r i b at eb one ne l t =
-    let two = count-two (drops_by s b) s.calls i p None ne l (at-some s.calls p (Release r) at) t (rw at (is-eqb b (record_at s.tables r).block (sym eb))) in
+    let two = count-two (drops_by s.tables b) s.calls i p None ne l (at-some s.calls p (Release r) at) t
+    (rw at (eq-eqb b (record_at s.tables r).block (sym eb))) in
     omega (arith, two, one)
 
 other-names : (s : State) (r i : ℕ) (c : Option Pending) → call_at s i ≡ c → i < length s.calls → hidden s.calls r ≡ 0
-    → (drops_by s (record_at s.tables r).block c ≡ true → ⊥) → names r c ≡ true → ⊥
-other-names s r i None at l hid never t = cc
-other-names s r i (Some (Loaded part w)) at l hid never t = cc
+    → (drops_by s.tables (record_at s.tables r).block c ≡ true → ⊥) → names r c ≡ true → ⊥
 other-names s r i (Some (Ready part w q)) at l hid never t =
     let e : q ≡ r = grind (arith, nat_tests, t) in
-    let some = count-some (readies r) s.calls i None l (rw at (is-eqb r q (sym e))) in
+    let some = count-some (readies r) s.calls i None l (rw at (eq-eqb r q (sym e))) in
     omega (arith, some, hid)
-other-names s r i (Some (Add part q)) at l hid never t = cc
 other-names s r i (Some (Subtract q)) at l hid never t =
     let e : q ≡ r = grind (arith, nat_tests, t) in
-    never (is-eqb (record_at s.tables r).block (record_at s.tables q).block (ap (λ (n : ℕ). (record_at s.tables n).block) (sym e)))
+    never (eq-eqb (record_at s.tables r).block (record_at s.tables q).block (ap (λ (n : ℕ). (record_at s.tables n).block) (sym e)))
 other-names s r i (Some (Release q)) at l hid never t =
     let e : q ≡ r = grind (arith, nat_tests, t) in
-    never (is-eqb (record_at s.tables r).block (record_at s.tables q).block (ap (λ (n : ℕ). (record_at s.tables n).block) (sym e)))
+    never (eq-eqb (record_at s.tables r).block (record_at s.tables q).block (ap (λ (n : ℕ). (record_at s.tables n).block) (sym e)))
+other-names s r i c at l hid never t = cc
 
 other-block : (s : State) (r q : ℕ) → IsSound s → (record_at s.tables r).live ≡ true → hidden s.calls r ≡ 0
-    → tally (held_by s (record_at s.tables r).block) s.handles ≡ 0 → (record_at s.tables q).live ≡ true → q ≢ r
+    → tally (held_by s.tables (record_at s.tables r).block) s.handles ≡ 0 → (record_at s.tables q).live ≡ true → q ≢ r
     → (record_at s.tables q).block ≢ (record_at s.tables r).block
 other-block s r q k lr hr none lq ne e =
     elim (eqb_tells (hidden s.calls q) 0) [
@@ -115,25 +98,20 @@ sound-released s p r k at =
     let b : ℕ = (record_at s.tables r).block in
     let next : State = released s p r in
     let l = at-some s.calls p (Release r) at in
-    let f : FitsCall s (Some (Release r)) = subst (λ (c : Option Pending). FitsCall s c) at (k.calls_fit p None l) in
+    let f = call-fits s p (Release r) k at in
     let last = release-last s p r k at in
     let me = k.counted r f.live in
     let inside = live-inside g.records r f.live in
     let e = dead-keeps g r in
-    let hs = handles-kept g g' s.calls s.handles e k.fit in
-    let cs = calls-read-kept s g' s.calls e (λ i d l q j t. dead-let_go g r q) k.calls_fit in
+    let v = alike s g' k e (λ i d l q j t. dead-let_go g r q) in
     let hid : (q : ℕ) → hidden (set s.calls p None) q ≡ hidden s.calls q = λ q. let c =
     rw at at (count-set (readies q) s.calls p None None l) in omega (arith, c) in
-    let mid : State = record s { tables = tables_without s.tables r } in
     let um : (c : ℕ) → users (reading next) c + cond (c == b) 1 0 ≡ users (reading s) c = λ c. let n =
-    rw (at, dead-block g r r) at (users-called mid p None c l) in let a = users-alike (reading next) (reading (called mid p None)) c refl refl in let m =
-    users-tables s g' c hs cs in omega (arith, a, n, m) in
+    rw (at, dead-block g r r) at (count-set (drops_by g' c) s.calls p None None l) in omega (arith, users-as s c, users-as next c, n, v.held c, v.drops c) in
     let hm : (c : ℕ) → c ≢ b → holders (reading next) c ≡ holders (reading s) c = λ c ne. let n =
-    rw (at, dead-block g r r, still-other b c (has_let_go g' r) ne) at (holders-called mid p None c l) in let a =
-    holders-alike (reading next) (reading (called mid p None)) c refl refl in let m = holders-tables s g' c hs cs in omega (arith, a, n, m) in
-    let am : (c : ℕ) → tally (alone g' c) s.handles ≡ tally (alone g c) s.handles = λ c. alone-kept g g' s.calls c s.handles e k.fit in
-    let dm : (c : ℕ) → tally (describes g' c) s.handles ≡ tally (describes g c) s.handles = λ c. describes-kept g g' s.calls c s.handles e k.fit in
-    let none : users (reading next) b ≡ 0 = (let z = rw (is-eqb b b refl, last.users) at (um b) in omega (arith, z)) in
+    rw (at, dead-block g r r, still-other b c (has_let_go g' r) ne) at (count-set (still_by g' c) s.calls p None None l) in
+    omega (arith, holders-as s c, holders-as next c, n, v.held c, v.still c) in
+    let none : users (reading next) b ≡ 0 = (let z = rw (eq-eqb b b refl, last.users) at (um b) in omega (arith, z)) in
     record {
       size = rw (length-set, length-set) k.size;
       blocks = k.blocks;
@@ -147,27 +125,28 @@ sound-released s p r k at =
         handle = λ j x y a. a;
         owner = λ j x a. owner-kept g g' s.calls x e (fits-at s j x k a);
         let_go = λ q j t. dead-let_go g r q;
-        holders = λ q y. hm (record_at g q).block (λ j. other-drops s p r i b at refl last.one ne lo (rw y (is-eqb b (record_at g q).block (sym j))));
+        holders = λ q y. hm (record_at g q).block (λ j. other-drops s p r i b at refl last.one ne lo (rw y (eq-eqb b (record_at g q).block (sym j))));
       }) k.calls_fit;
       one_release = λ c. let n = count-set (releases g' c) s.calls p None None l in let m =
-          releases-kept s g' c s.calls e k.calls_fit in omega (arith, n, m, k.one_release c);
+          v.releases c in omega (arith, n, m, k.one_release c);
       counted = λ q t.
           let d = dead-live g r q inside t in
           let nb = other-block s r q k f.live f.shown last.none d.0 d.1 in
           let same : users (reading next) (record_at g q).block ≡ users (reading s) (record_at g q).block =
-          (let n = rw (not-eqb (record_at g q).block b nb) at (um (record_at g q).block) in omega (arith, n)) in
-          rw (dead-at g r q d.1, hid q, hm (record_at g q).block nb, same, dm) (k.counted q d.0);
+          (let n = rw (ne_eqb (record_at g q).block b nb) at (um (record_at g q).block) in omega (arith, n)) in
+          rw (dead-at g r q d.1, hid q, hm (record_at g q).block nb, same, v.describes) (k.counted q d.0);
       one_record = λ q q' tq tq' hq hq' i. k.one_record q q' (dead-live g r q inside tq).0 (dead-live g r q' inside tq').0 (sym (hid q) ∙ hq)
           (sym (hid q') ∙ hq') (sym (dead-block g r q) ∙ i ∙ dead-block g r q');
-      sole = λ c t. let u = rw am at t in
-          hm c (λ i. absurd (let w = rw i at u in omega (arith, w, count-most (held_by s b) (alone g b) s.handles (alone-holds g b), last.none))) ∙ k.sole c u;
+      sole = λ c t. let u = rw (v.alone c) at t in
+          hm c (λ i. absurd (let w = rw i at u in omega (arith, w, count-most (held_by s.tables b) (alone g b) s.handles (alone-holds g b), last.none)))
+          ∙ k.sole c u;
       capped = λ c. elim (eqb_tells c b) [
         | inl i ↦ rw i.1 (omega (arith, holders-le-users (reading next) b, none))
         | inr i ↦ rw (hm c i.1) (k.capped c)
       ];
       known_users = λ c t. k.known_users c (omega (arith, um c));
       block_log = block-log-freed g s.freed_blocks b (users (reading s)) (users (reading next)) k.blocks me.known me.used none
-          (λ c ne. let z = rw (not-eqb c b ne) at (um c) in ap (λ m. nat_eq m 0) (omega (arith, z))) k.block_log;
+          (λ c ne. let z = rw (ne_eqb c b ne) at (um c) in ap (λ m. nat_eq m 0) (omega (arith, z))) k.block_log;
       record_log = record-log-dead g.records s.freed_records r
           (record { count = (record_at g r).count; block = (record_at g r).block; live = false }) inside refl f.live k.record_log;
     }
@@ -175,5 +154,5 @@ sound-released s p r k at =
 -- a drop that releases has a live record
 pub releasing : (s : State) (p r : ℕ) → IsSound s → call_at s p ≡ Some (Release r) → (record_at s.tables r).live ≡ true
 releasing s p r k at =
-    let f : FitsCall s (Some (Release r)) = subst (λ (c : Option Pending). FitsCall s c) at (k.calls_fit p None (at-some s.calls p (Release r) at)) in
+    let f = call-fits s p (Release r) k at in
     f.live

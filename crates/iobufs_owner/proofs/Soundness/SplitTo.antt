@@ -1,19 +1,5 @@
 -- Splitting a view keeps the machine sound.
-use Rattle.std.proofs.Common.{◌≡◌, ℕ, zero, suc, ◌+◌, ◌^◌, ◌<◌, ◌≤◌, true, List, [], ◌∷◌, ◌++◌, length, set, sym, ◌∙◌, ap, subst, refl, arith, Option, Some, None, length-append}
-use Rattle.std.proofs.Math.ListN.{length-set}
-use Rattle.std.proofs.lemmas.List.Elements.{All-push, All-set}
-use Rattle.std.proofs.lemmas.List.{set-set, get_or-set_same}
-use Rattle.iobufs_owner.specs.State.{State, Tables, owner_of, record_at, block_at, handle_at}
-use Rattle.iobufs_owner.specs.World.{holders, users, tally}
-use Rattle.iobufs_owner.specs.Reading.{reading}
-use Rattle.iobufs_owner.specs.Sound.{IsSound, Fits, LiesIn, alone, describes}
-use Rattle.iobufs_owner.specs.Changes.{counted, with_count, with_handle, with_record, edited, detached_handle, part, next_record}
-use Rattle.iobufs_owner.specs.Lending.{Lends}
-use Rattle.iobufs_owner.specs.Types.{Record, Handle, View, Empty, Descriptor, Counted}
-use Rattle.iobufs_owner.proofs.Soundness.Counts.{count-append, count-set, holders-more, users-more, holders-changed, users-changed}
-use Rattle.iobufs_owner.proofs.Soundness.Keeps.{keeps-self, calls-kept}
-use Rattle.iobufs_owner.proofs.Soundness.StaysSound.{at-some, append-at, set-at, sound-edited, sound-detached, owner-empty, owner-counted, block-log-kept}
-use Rattle.iobufs_owner.proofs.Soundness.Edits.{fits-at, counted-at, empty-at, described-at, lies-as, describes-counted, alone-shared}
+use Rattle.iobufs_owner.proofs.Base.{◌≡◌, ℕ, zero, suc, ◌+◌, ◌^◌, ◌<◌, ◌≤◌, true, List, [], ◌∷◌, ◌++◌, length, set, sym, ◌∙◌, ap, subst, refl, arith, Option, Some, None, length-append, length-set, All-push, All-set, set-set, get_or-set_same, State, Tables, owner_of, record_at, block_at, handle_at, tally, IsSound, Fits, LiesIn, alone, describes, counted, with_count, with_handle, with_record, edited, detached_handle, part, next_record, Lends, Record, Handle, View, Empty, Descriptor, Counted, count-append, count-set, at-some, append-at, set-at, sound-detached, owner-empty, fits-at, counted-at, empty-at, described-at, lies-as, sound-handles, held_by, holders-as, users-as, sound-emptied, sound-recounted}
 use Rattle.iobufs_owner.proofs.Soundness.NewRecord.{recorded, recorded-new, sound-promoted}
 use Rattle.iobufs_owner.proofs.Soundness.AddHolder.{sound-added}
 
@@ -33,28 +19,15 @@ set-last (x ∷ xs) y v = ap (λ (l : List _). x ∷ l) (set-last xs y v)
 pub sound-part_empty : (s : State) (h : ℕ) (x : Handle) (lo hi : ℕ) → IsSound s → Lends s h View x → x.word ≡ Empty → lo ≤ hi → hi ≤ x.len
     → IsSound (edited s h (part x lo hi Empty))
 sound-part_empty s h x lo hi k t i low high =
-    let y : Handle = part x lo hi Empty in
     let f = empty-at s h x k t.at i in
-    let oy = owner-empty s.tables y refl in
-    sound-edited s h x y k t.at t.free (oy ∙ sym (owner-empty s.tables x i)) (λ c. rw (oy, owner-empty s.tables x i) refl)
-    (λ c a. absurd (let q = rw oy at a in cc)) (record { no_room = refl; ends = omega (arith, f.ends); no_bytes = λ m. absurd (cc) })
+    sound-emptied s h x (part x lo hi Empty) View k t i refl (record { no_room = refl; ends = omega (arith, f.ends); no_bytes = λ m. absurd (cc) })
 
 pub sound-part_counted : (s : State) (h : ℕ) (x : Handle) (r lo hi : ℕ) → IsSound s → Lends s h View x → x.word ≡ Counted r → lo ≤ hi → hi ≤ x.len
     → IsSound (edited s h (part x lo hi (Counted r)))
 sound-part_counted s h x r lo hi k t i low high =
-    let y : Handle = part x lo hi (Counted r) in
-    let f = counted-at s h x r k t.at i in
-    let lies = lies-as (block_at s.tables (record_at s.tables r).block) x View t.kind_is f.lies in
-    let o : owner_of s.tables y ≡ owner_of s.tables x = owner-counted s.tables y r refl ∙ sym (owner-counted s.tables x r i) in
-    sound-edited s h x y k t.at t.free o (λ c. describes-counted s.tables c y r refl ∙ sym (describes-counted s.tables c x r i))
-    (λ c a. absurd (let q = sym (alone-shared s.tables c y r refl refl) ∙ a in cc))
-    (record {
-      live = f.live;
-      known = f.known;
-      shown = f.shown;
-      lies = record { begins = omega (arith, lies.begins); ends = omega (arith, lies.ends); no_room = refl };
-      native = λ m. absurd (cc);
-    })
+    let lies = lies-as (block_at s.tables (record_at s.tables r).block) x View t.kind_is (counted-at s h x r k t.at i).lies in
+    sound-recounted s h x (part x lo hi (Counted r)) View r k t i refl refl
+    (record { begins = omega (arith, lies.begins); ends = omega (arith, lies.ends); no_room = refl })
 
 -- ---- the parts
 
@@ -162,44 +135,20 @@ pub sound-moved : (s : State) (h : ℕ) (x : Handle) → IsSound s → Lends s h
     → IsSound (with_handle (edited s h (detached_handle 0)) x)
 sound-moved s h x k t few =
     let g : Tables = s.tables in
-    let y : Handle = detached_handle 0 in
-    let next : State = with_handle (edited s h (detached_handle 0)) x in
+    let y : Option Handle = Some (detached_handle 0) in
     let l = at-some s.handles h x t.at in
-    let oy = owner-empty g y refl in
-    let hm : (c : ℕ) → holders (reading next) c ≡ holders (reading s) c = λ c. let a = holders-more (edited s h (detached_handle 0)) (Some x) c in let m =
-    rw (t.at, oy) at (holders-changed s h (Some (detached_handle 0)) c l) in omega (arith, a, m) in
-    let um : (c : ℕ) → users (reading next) c ≡ users (reading s) c = λ c. let a = users-more (edited s h (detached_handle 0)) (Some x) c in let m =
-    rw (t.at, oy) at (users-changed s h (Some (detached_handle 0)) c l) in omega (arith, a, m) in
-    let dm : (c : ℕ) → tally (describes g c) (set s.handles h (Some (detached_handle 0)) ++ Some x ∷ []) ≡ tally (describes g c) s.handles = λ c. let a =
-    count-append (describes g c) (set s.handles h (Some (detached_handle 0))) (Some x) in let m =
-    rw (t.at, oy) at (count-set (describes g c) s.handles h (Some (detached_handle 0)) None l) in omega (arith, a, m) in
-    let am : (c : ℕ) → tally (alone g c) (set s.handles h (Some (detached_handle 0)) ++ Some x ∷ []) ≡ tally (alone g c) s.handles = λ c. let a =
-    count-append (alone g c) (set s.handles h (Some (detached_handle 0))) (Some x) in let m =
-    rw (t.at, oy) at (count-set (alone g c) s.handles h (Some (detached_handle 0)) None l) in omega (arith, a, m) in
-    let size = k.size in
-    record {
-      size = record {
-        wide = size.wide;
-        ceiling = size.ceiling;
-        few_blocks = size.few_blocks;
-        few_records = size.few_records;
-        few_handles = rw (length-append, length-set) (omega arith);
-        few_calls = size.few_calls;
-      };
-      blocks = k.blocks;
-      fit = All-push (Fits g s.calls) (set s.handles h (Some (detached_handle 0))) (Some x)
-          (All-set (Fits g s.calls) s.handles h (Some (detached_handle 0)) (record { no_room = refl; ends = omega arith; no_bytes = λ m. refl }) k.fit)
-          (fits-at s h x k t.at);
-      calls_fit = calls-kept s next refl (keeps-self g) (λ r t. t)
-          (λ i z b a. append-at (set s.handles h (Some (detached_handle 0))) (Some x) i z
-          (set-at s.handles h i (Some (detached_handle 0)) z (λ e. let q = rw e at b in let u = t.free in cc) a)) k.fit (λ i z a. at-some s.handles i z a)
-          (λ i d l q j t. refl) (λ c _. hm c) (λ q t. (k.counted q t).known) k.calls_fit;
-      one_release = k.one_release;
-      counted = λ r live. rw (hm, um, dm) (k.counted r live);
-      one_record = k.one_record;
-      sole = λ b p. rw hm (k.sole b (rw am at p));
-      capped = λ b. rw hm (k.capped b);
-      known_users = λ b e. k.known_users b (rw um at e);
-      block_log = block-log-kept g.blocks s.freed_blocks (users (reading s)) (users (reading next)) um k.block_log;
-      record_log = k.record_log;
-    }
+    let oy = owner-empty g (detached_handle 0) refl in
+    let next : State = with_handle (edited s h (detached_handle 0)) x in
+    let held : (c : ℕ) → tally (held_by g c) (set s.handles h y ++ Some x ∷ []) ≡ tally (held_by g c) s.handles = λ c.
+    let a = count-append (held_by g c) (set s.handles h y) (Some x) in
+    let m = rw (t.at, oy) at (count-set (held_by g c) s.handles h y None l) in omega (arith, a, m) in
+    let am : (c : ℕ) → tally (alone g c) (set s.handles h y ++ Some x ∷ []) ≡ tally (alone g c) s.handles = λ c.
+    let a = count-append (alone g c) (set s.handles h y) (Some x) in
+    let m = rw (t.at, oy) at (count-set (alone g c) s.handles h y None l) in omega (arith, a, m) in
+    sound-handles s (set s.handles h y ++ Some x ∷ []) k (rw (length-append, length-set) (omega arith))
+    (All-push (Fits g s.calls) (set s.handles h y) (Some x)
+    (All-set (Fits g s.calls) s.handles h y (record { no_room = refl; ends = omega arith; no_bytes = λ m. refl }) k.fit) (fits-at s h x k t.at))
+    (λ c. omega (arith, holders-as s c, holders-as next c, held c)) (λ c. omega (arith, users-as s c, users-as next c, held c))
+    (λ c. let a = count-append (describes g c) (set s.handles h y) (Some x) in
+    let m = rw (t.at, oy) at (count-set (describes g c) s.handles h y None l) in omega (arith, a, m)) (λ c p. k.sole c (rw am at p))
+    (λ i z b a. append-at (set s.handles h y) (Some x) i z (set-at s.handles h i y z (λ e. absurd (let q = rw e at b in let u = t.free in cc)) a))

@@ -1,24 +1,6 @@
 -- A drop lets go: the count shrinks by one.
-use Rattle.std.proofs.Common.{◌≡◌, ◌≢◌, inl, inr, ℕ, ◌+◌, ◌-◌, ◌<◌, ◌≤◌, ◌==◌, Bool, true, false, cond, length, get_or, set, map, sym, ◌∙◌, ap, subst, refl, arith, All, Option, Some, None, nat_eq}
-use Rattle.std.proofs.Math.ListN.{length-set}
-use Rattle.std.proofs.lemmas.List.Elements.{All-from_get_or}
-use Rattle.std.proofs.lemmas.List.{get_or-set_same, map-set, length-map}
-use Rattle.std.proofs.lemmas.Bool.Decides.{nat_tests, eqb_tells}
-use Rattle.iobufs_owner.specs.State.{State, Tables, record_at, call_at}
-use Rattle.iobufs_owner.specs.World.{Unfinished, holders, users, still_holds, drops, tally}
-use Rattle.iobufs_owner.specs.Reading.{reading, read_handle, read_call, has_let_go}
-use Rattle.iobufs_owner.specs.Sound.{IsSound, Fits, FitsCall, alone, describes, hidden, readies, releases}
-use Rattle.iobufs_owner.specs.Types.{Pending, Loaded, Ready, Add, Subtract, Release}
-use Rattle.iobufs_owner.proofs.Soundness.Counts.{count-set, count-some, count-find, count-most, count-two, holders-le-users}
-use Rattle.iobufs_owner.proofs.Soundness.Keeps.{KeepsLetGo, calls-read-kept, releases-kept, owner-kept, calls-fit-set}
-use Rattle.iobufs_owner.proofs.Soundness.StaysSound.{at-some}
-use Rattle.iobufs_owner.proofs.Soundness.Frames.{handles-kept, alone-kept, describes-kept, not-eqb, is-eqb}
-use Rattle.iobufs_owner.proofs.WorldSteps.Shown.{get_or-read}
-use Rattle.iobufs_owner.specs.Changes.{counted, with_count, called}
+use Rattle.iobufs_owner.proofs.Base.{◌≡◌, ◌≢◌, inl, inr, ℕ, ◌+◌, ◌-◌, ◌<◌, ◌≤◌, ◌==◌, Bool, true, false, cond, length, get_or, set, sym, ◌∙◌, ap, subst, refl, arith, All, Option, Some, None, nat_eq, length-set, All-from_get_or, get_or-set_same, nat_tests, eqb_tells, State, Tables, record_at, call_at, holders, users, still_holds, drops, tally, reading, read_call, has_let_go, IsSound, Fits, FitsCall, alone, describes, hidden, readies, releases, Pending, Subtract, Release, count-set, count-some, count-most, count-two, holders-le-users, KeepsLetGo, owner-kept, calls-fit-set, at-some, ne_eqb, eq-eqb, counted, with_count, called, fits-at, live-inside, block-log-alike, record-log-counted, holders-as, users-as, held_by, still_by, drops_by, alone-holds, call-fits, Alike, alike, count-change, count-none}
 use Rattle.iobufs_owner.proofs.Soundness.AddHolder.{counted-keeps, counted-block, counted-live, counted-same, counted-other}
-use Rattle.iobufs_owner.proofs.Soundness.Edits.{fits-at, live-inside}
-use Rattle.iobufs_owner.proofs.Soundness.Logs.{block-log-alike, record-log-counted}
-use Rattle.iobufs_owner.proofs.Soundness.Holders.{holders-as, users-as, held_by, still_by, drops_by, alone-holds}
 use Rattle.iobufs_owner.proofs.Soundness.Won.{fit-counted}
 
 -- what the call goes on to
@@ -31,26 +13,22 @@ subtracted s p r = called (with_count s r ((record_at s.tables r).count - 1)) p 
 -- no call releases a block that another drop holds
 none-release : (s : State) (p r i : ℕ) (c : Option Pending) → IsSound s → call_at s p ≡ Some (Subtract r) → i < length s.calls → call_at s i ≡ c
     → FitsCall s c → releases s.tables (record_at s.tables r).block c ≡ true → ⊥
-none-release s p r i None k at l e f t = cc
-none-release s p r i (Some (Loaded part w)) k at l e f t = cc
-none-release s p r i (Some (Ready part w q)) k at l e f t = cc
-none-release s p r i (Some (Add part q)) k at l e f t = cc
-none-release s p r i (Some (Subtract q)) k at l e f t = cc
 none-release s p r i (Some (Release q)) k at l e f t =
     let b : ℕ = (record_at s.tables r).block in
     let lp = at-some s.calls p (Subtract r) at in
     let same : b ≡ (record_at s.tables q).block = grind (arith, nat_tests, t) in
     let h = holders-as s b in
-    let one = count-some (still_by s b) s.calls p None lp (rw at (is-eqb b b refl)) in
+    let one = count-some (still_by s.tables b) s.calls p None lp (rw at (eq-eqb b b refl)) in
     let n = rw (← same) at f.alone in
     let by : (w : Bool) → has_let_go s.tables q ≡ w → ⊥ = λ w. elim w as (λ w. has_let_go s.tables q ≡ w → ⊥) [
       | true ↦ λ z. (let m = rw z at n in omega (arith, m, h, one))
       | false ↦ λ z. (let m = rw z at n in
-          let two = count-two (still_by s b) s.calls p i None (λ j. let q = sym at ∙ ap (λ (n : ℕ). call_at s n) j ∙ e in cc) lp l
-          (rw at (is-eqb b b refl)) (rw (e, z) (is-eqb b (record_at s.tables q).block same)) in
+          let two = count-two (still_by s.tables b) s.calls p i None (λ j. let q = sym at ∙ ap (λ (n : ℕ). call_at s n) j ∙ e in cc) lp l
+          (rw at (eq-eqb b b refl)) (rw (e, z) (eq-eqb b (record_at s.tables q).block same)) in
           omega (arith, m, h, two))
     ] in
     by (has_let_go s.tables q) refl
+none-release s p r i c k at l e f t = cc
 
 -- so another count for that block's record leaves each call that frees a record as it was
 pub counted-drops : (s : State) (p r n : ℕ) → IsSound s → call_at s p ≡ Some (Subtract r) → All (KeepsLetGo s.tables (counted s.tables r n)) s.calls
@@ -58,11 +36,11 @@ counted-drops s p r n k at =
     All-from_get_or (KeepsLetGo s.tables (counted s.tables r n)) s.calls None
     (λ i l q e live. ap (λ (m : ℕ). nat_eq m 0)
     (counted-other s.tables r n q (λ same. none-release s p r i (call_at s i) k at l refl (k.calls_fit i None l)
-    (rw e (is-eqb (record_at s.tables r).block (record_at s.tables q).block (ap (λ (m : ℕ). (record_at s.tables m).block) (sym same)))))))
+    (rw e (eq-eqb (record_at s.tables r).block (record_at s.tables q).block (ap (λ (m : ℕ). (record_at s.tables m).block) (sym same)))))))
 
 -- it is the last holder's drop that goes on, and its record counts none then
 pub gone-after : (g : Tables) (r : ℕ) → r < length g.records → (record_at g r).count ≡ 1 → has_let_go (counted g r ((record_at g r).count - 1)) r ≡ true
-gone-after g r inside one = is-eqb (record_at (counted g r ((record_at g r).count - 1)) r).count 0
+gone-after g r inside one = eq-eqb (record_at (counted g r ((record_at g r).count - 1)) r).count 0
     (counted-same g r ((record_at g r).count - 1) inside ∙ omega (arith, one))
 
 after-still : (g : Tables) (b r n : ℕ) → (n ≡ 1 → has_let_go g r ≡ true) → still_holds b (read_call g (afterwards r n)) ≡ false
@@ -73,7 +51,7 @@ after-readies q r n = elim (n == 1) as (λ v. readies q (cond v (Some (Release r
 
 after-drops : (g : Tables) (b r n : ℕ) → (record_at g r).block ≢ b → drops b (read_call g (afterwards r n)) ≡ false
 after-drops g b r n ne = elim (n == 1) as (λ v. drops b (read_call g (cond v (Some (Release r)) None)) ≡ false)
-    [ true ↦ not-eqb b (record_at g r).block (λ e. ne (sym e)) | false ↦ refl ]
+    [ true ↦ ne_eqb b (record_at g r).block (λ e. ne (sym e)) | false ↦ refl ]
 
 record After (s t : State) (b : ℕ) : Type 0 where
   pub holders : (c : ℕ) → holders (reading t) c + cond (c == b) 1 0 ≡ holders (reading s) c
@@ -81,34 +59,22 @@ record After (s t : State) (b : ℕ) : Type 0 where
   pub least : users (reading s) b ≤ users (reading t) b + 1
 
 after : (s : State) (p r : ℕ) → call_at s p ≡ Some (Subtract r) → p < length s.calls → r < length s.tables.records
-    → map (read_handle (counted s.tables r ((record_at s.tables r).count - 1))) s.handles ≡ map (read_handle s.tables) s.handles
-    → map (read_call (counted s.tables r ((record_at s.tables r).count - 1))) s.calls ≡ map (read_call s.tables) s.calls
-    → After s (subtracted s p r) (record_at s.tables r).block
-unfolding holders users
-after s p r at l inside hs cs =
+    → Alike s (counted s.tables r ((record_at s.tables r).count - 1)) → After s (subtracted s p r) (record_at s.tables r).block
+after s p r at l inside v =
     let n : ℕ = (record_at s.tables r).count in
     let b : ℕ = (record_at s.tables r).block in
     let g' : Tables = counted s.tables r ((record_at s.tables r).count - 1) in
     let bb = counted-block s.tables r (n - 1) r in
-    let a : Option Unfinished = read_call g' (afterwards r n) in
-    let ms = map-set (read_call g') s.calls p (afterwards r n) in
-    let h : (c : ℕ) → tally (still_holds c) (set (map (read_call s.tables) s.calls) p a) + cond (c == b) 1 0
-    ≡ tally (still_holds c) (map (read_call s.tables) s.calls) = λ c.
-    let m = count-set (still_holds c) (map (read_call s.tables) s.calls) p a None (rw length-map l) in
-    let mx : ◌≡◌ {A = ℕ} (cond (still_holds c (get_or (map (read_call s.tables) s.calls) p None)) 1 0) (cond (c == b) 1 0) =
-    rw (get_or-read (read_call s.tables) s.calls p None, at) refl in
-    let my : ◌≡◌ {A = ℕ} (cond (still_holds c a) 1 0) 0 = rw (after-still g' c r n (gone-after s.tables r inside)) refl in
-    omega (arith, m, mx, my) in
-    let dr : (c : ℕ) → tally (drops c) (set (map (read_call s.tables) s.calls) p a) + cond (c == b) 1 0
-    ≡ tally (drops c) (map (read_call s.tables) s.calls) + cond (drops c a) 1 0 = λ c.
-    let m = count-set (drops c) (map (read_call s.tables) s.calls) p a None (rw length-map l) in
-    let mx : ◌≡◌ {A = ℕ} (cond (drops c (get_or (map (read_call s.tables) s.calls) p None)) 1 0) (cond (c == b) 1 0) =
-    rw (get_or-read (read_call s.tables) s.calls p None, at) refl in
-    omega (arith, m, mx) in
+    let next : State = subtracted s p r in
+    let dr : (c : ℕ) → users (reading next) c + cond (c == b) 1 0 ≡ users (reading s) c + cond (drops_by g' c (afterwards r n)) 1 0 = λ c.
+    let m = rw (at, bb) at (count-set (drops_by g' c) s.calls p (afterwards r n) None l) in
+    omega (arith, users-as s c, users-as next c, m, v.held c, v.drops c) in
     record {
-      holders = λ c. rw (ms, hs, cs) (omega (arith, h c));
-      others = λ c ne. rw (ms, hs, cs) (let e = rw (not-eqb c b ne, after-drops g' c r n (λ i. ne (sym i ∙ bb))) at (dr c) in omega (arith, e));
-      least = rw (ms, hs, cs) (let e = rw (is-eqb b b refl) at (dr b) in omega (arith, e));
+      holders = λ c.
+          let m = rw (at, bb, after-still g' c r n (gone-after s.tables r inside)) at (count-set (still_by g' c) s.calls p (afterwards r n) None l) in
+          omega (arith, holders-as s c, holders-as next c, m, v.held c, v.still c);
+      others = λ c ne. (let e = rw (ne_eqb c b ne, after-drops g' c r n (λ i. ne (sym i ∙ bb))) at (dr c) in omega (arith, e));
+      least = (let e = rw (eq-eqb b b refl) at (dr b) in omega (arith, e));
     }
 
 both-some : (m n : ℕ) → 0 < m → 0 < n → nat_eq m 0 ≡ nat_eq n 0
@@ -120,7 +86,7 @@ at-most false = omega arith
 
 after-releases : (g : Tables) (b r n : ℕ) → (record_at g r).block ≢ b → releases g b (afterwards r n) ≡ false
 after-releases g b r n ne = elim (n == 1) as (λ v. releases g b (cond v (Some (Release r)) None) ≡ false)
-    [ true ↦ not-eqb b (record_at g r).block (λ e. ne (sym e)) | false ↦ refl ]
+    [ true ↦ ne_eqb b (record_at g r).block (λ e. ne (sym e)) | false ↦ refl ]
 
 used-after : (s : State) (p r n : ℕ) → n ≡ (record_at s.tables r).count → p < length s.calls
     → users (reading s) (record_at s.tables r).block ≤ users (reading (subtracted s p r)) (record_at s.tables r).block + 1
@@ -132,9 +98,9 @@ used-after s p r n en lp least is le pos =
     let t : State = subtracted s p r in
     elim (eqb_tells (record_at s.tables r).count 1) [
       | inl i ↦ (let u = users-as t b in
-          let here = count-some (drops_by t b) t.calls p None (rw length-set lp)
+          let here = count-some (drops_by t.tables b) t.calls p None (rw length-set lp)
           (rw (get_or-set_same s.calls p (afterwards r (record_at s.tables r).count) None lp, i.0)
-          (is-eqb b (record_at t.tables r).block (sym (counted-block s.tables r ((record_at s.tables r).count - 1) r)))) in
+          (eq-eqb b (record_at t.tables r).block (sym (counted-block s.tables r ((record_at s.tables r).count - 1) r)))) in
           omega (arith, u, here))
       | inr i ↦ (let ne = i.1 in omega arith)
     ]
@@ -181,35 +147,27 @@ sound-subtracted s p r k at =
     let next : State = subtracted s p r in
     let y : Option Pending = afterwards r (record_at s.tables r).count in
     let lp = at-some s.calls p (Subtract r) at in
-    let f : FitsCall s (Some (Subtract r)) = subst (λ (c : Option Pending). FitsCall s c) at (k.calls_fit p None lp) in
+    let f = call-fits s p (Subtract r) k at in
     let me = k.counted r f.0 in
     let e = counted-keeps g r (n - 1) in
-    let hs = handles-kept g g' s.calls s.handles e k.fit in
     let gone = counted-drops s p r (n - 1) k at in
-    let cs = calls-read-kept s g' s.calls e gone k.calls_fit in
-    let m = after s p r at lp (live-inside g.records r f.0) hs cs in
+    let v = alike s g' k e gone in
+    let m = after s p r at lp (live-inside g.records r f.0) v in
     let hm = m.holders in
     let is : n ≡ holders (reading s) b = me.counts f.1 in
     let h = holders-as s b in
-    let one = count-some (still_by s b) s.calls p None lp (rw at (is-eqb b b refl)) in
+    let one = count-some (still_by s.tables b) s.calls p None lp (rw at (eq-eqb b b refl)) in
     let some : 0 < users (reading next) b = used-after s p r n refl lp m.least is (holders-le-users (reading s) b) (omega (arith, h, one, is)) in
-    let none : tally (releases g b) s.calls ≡ 0 = elim (eqb_tells (tally (releases g b) s.calls) 0) [
-      | inl i ↦ i.1
-      | inr i ↦ absurd (let w = count-find (releases g b) None s.calls (let m = i.1 in omega arith) in
-          none-release s p r w.place (call_at s w.place) k at w.inside refl (k.calls_fit w.place None w.inside) w.passes)
-    ] in
+    let none = count-none (releases g b) None s.calls (λ i l t. none-release s p r i (call_at s i) k at l refl (k.calls_fit i None l) t) in
     let lonely : tally (alone g b) s.handles ≡ 0 = elim (eqb_tells (tally (alone g b) s.handles) 0) [
       | inl i ↦ i.1
       | inr i ↦ absurd (let q = k.sole b (let m = i.1 in omega arith) in let t =
-          count-most (held_by s b) (alone g b) s.handles (alone-holds g b) in let m = i.1 in omega (arith, q, t, h, one))
+          count-most (held_by s.tables b) (alone g b) s.handles (alone-holds g b) in let m = i.1 in omega (arith, q, t, h, one))
     ] in
     let hid : (q : ℕ) → hidden (set s.calls p y) q ≡ hidden s.calls q = λ q.
-    let t = count-set (readies q) s.calls p y None lp in
-    let tx : ◌≡◌ {A = ℕ} (cond (readies q (get_or s.calls p None)) 1 0) 0 = rw at refl in
-    let ty : ◌≡◌ {A = ℕ} (cond (readies q y) 1 0) 0 = rw (after-readies q r n) refl in
-    omega (arith, t, tx, ty) in
-    let same : (c : ℕ) → c ≢ b → holders (reading next) c ≡ holders (reading s) c = λ c ne. (let t = rw (not-eqb c b ne) at (hm c) in omega (arith, t)) in
-    let fewer : holders (reading next) b + 1 ≡ holders (reading s) b = (let t = rw (is-eqb b b refl) at (hm b) in omega (arith, t)) in
+    omega (arith, count-change (readies q) s.calls p y None false false lp (ap (readies q) at) (after-readies q r n)) in
+    let same : (c : ℕ) → c ≢ b → holders (reading next) c ≡ holders (reading s) c = λ c ne. (let t = rw (ne_eqb c b ne) at (hm c) in omega (arith, t)) in
+    let fewer : holders (reading next) b + 1 ≡ holders (reading s) b = (let t = rw (eq-eqb b b refl) at (hm b) in omega (arith, t)) in
     record {
       size = rw (length-set, length-set) k.size;
       blocks = k.blocks;
@@ -223,9 +181,9 @@ sound-subtracted s p r k at =
         owner = λ j x a. owner-kept g g' s.calls x e (fits-at s j x k a);
         let_go = gone i None lo;
         holders = λ q j. same (record_at g q).block
-            (λ w. none-release s p r i (call_at s i) k at lo refl (k.calls_fit i None lo) (rw j (is-eqb b (record_at g q).block (sym w))));
+            (λ w. none-release s p r i (call_at s i) k at lo refl (k.calls_fit i None lo) (rw j (eq-eqb b (record_at g q).block (sym w))));
       }) k.calls_fit;
-      one_release = λ c. one-after s p r c lp (releases-kept s g' c s.calls e k.calls_fit) (k.one_release c) none at;
+      one_release = λ c. one-after s p r c lp (v.releases c) (k.one_release c) none at;
       counted = λ q t.
           let lq : (record_at g q).live ≡ true = sym (counted-live g r (n - 1) q) ∙ t in
           let cq = k.counted q lq in
@@ -243,11 +201,11 @@ sound-subtracted s p r k at =
             used = subst (λ c. 0 < users (reading next) c) (sym (counted-block g r (n - 1) q))
                 (elim (eqb_tells (record_at g q).block b) [ inl i ↦ rw i.1 some | inr i ↦ rw (m.others (record_at g q).block i.1) cq.used ]);
             undescribed = λ z. subst (λ c. tally (describes g' c) s.handles ≡ 0) (sym (counted-block g r (n - 1) q))
-                (describes-kept g g' s.calls (record_at g q).block s.handles e k.fit ∙ cq.undescribed (sym (hid q) ∙ z));
+                (v.describes (record_at g q).block ∙ cq.undescribed (sym (hid q) ∙ z));
           };
       one_record = λ q q' a c u v i. k.one_record q q' (sym (counted-live g r (n - 1) q) ∙ a) (sym (counted-live g r (n - 1) q') ∙ c)
           (sym (hid q) ∙ u) (sym (hid q') ∙ v) (sym (counted-block g r (n - 1) q) ∙ i ∙ counted-block g r (n - 1) q');
-      sole = λ c t. let u = rw (alone-kept g g' s.calls c s.handles e k.fit) at t in
+      sole = λ c t. let u = rw (v.alone c) at t in
           same c (λ i. absurd (let w = rw i at u in omega (arith, w, lonely))) ∙ k.sole c u;
       capped = λ c. omega (arith, hm c, k.capped c);
       known_users = λ c t. elim (eqb_tells c b) [ inl i ↦ rw i.1 me.known | inr i ↦ k.known_users c (rw (m.others c i.1) at t) ];
@@ -269,17 +227,9 @@ pub record IsLettingGo (s : State) (r : ℕ) : Type 0 where
 pub letting-go : (s : State) (p r : ℕ) → IsSound s → call_at s p ≡ Some (Subtract r) → IsLettingGo s r
 letting-go s p r k at =
     let lp = at-some s.calls p (Subtract r) at in
-    let f : FitsCall s (Some (Subtract r)) = subst (λ (c : Option Pending). FitsCall s c) at (k.calls_fit p None lp) in
+    let f = call-fits s p (Subtract r) k at in
     let b : ℕ = (record_at s.tables r).block in
     let h = holders-as s b in
-    let one = count-some (still_by s b) s.calls p None lp (rw at (is-eqb b b refl)) in
+    let one = count-some (still_by s.tables b) s.calls p None lp (rw at (eq-eqb b b refl)) in
     let n = (k.counted r f.0).counts f.1 in
     record { live = f.0; shown = f.1; some = omega (arith, h, one, n) }
-
--- a drop that lowers a count of 1 has to free then
-pub afterwards-one : (r n : ℕ) → n ≡ 1 → afterwards r n ≡ Some (Release r)
-afterwards-one r n e = rw (is-eqb n 1 e) refl
-
--- a drop that lowers another count is over then
-pub afterwards-none : (r n : ℕ) → n ≢ 1 → afterwards r n ≡ None
-afterwards-none r n e = rw (not-eqb n 1 e) refl

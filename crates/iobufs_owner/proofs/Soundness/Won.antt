@@ -1,22 +1,5 @@
 -- A clone or slice wins the race: its record takes the descriptor's place, and counts the handle and the new view.
-use Rattle.std.proofs.Common.{◌≡◌, ◌≢◌, inl, inr, ℕ, zero, suc, ◌+◌, ◌^◌, ◌<◌, ◌≤◌, ◌==◌, Bool, true, cond, List, [], ◌∷◌, ◌++◌, length, get_or, set, sym, ◌∙◌, ap, subst, refl, arith, All, Option, Some, None, nat_eq}
-use Rattle.std.proofs.Math.ListN.{length-set}
-use Rattle.std.proofs.lemmas.List.Elements.{All-from_get_or}
-use Rattle.std.proofs.lemmas.List.{get_or-set_same, get_or-set_other, set-set}
-use Rattle.std.proofs.lemmas.Bool.Decides.{eqb_tells}
-use Rattle.iobufs_owner.specs.State.{State, Tables, owner_of, record_at, block_at, handle_at, call_at}
-use Rattle.iobufs_owner.specs.World.{holders, users, is_block, tally}
-use Rattle.iobufs_owner.specs.Reading.{reading, has_let_go}
-use Rattle.iobufs_owner.specs.Sound.{IsSound, Fits, FitsCall, Shares, SpeaksOf, LiesIn, alone, describes, hidden, readies, releases}
-use Rattle.iobufs_owner.specs.Changes.{counted, called, edited, with_handle, part}
-use Rattle.iobufs_owner.specs.Types.{Record, Handle, Share, View, Pending, Loaded, Ready, Add, Subtract, Release, Descriptor, Counted}
-use Rattle.iobufs_owner.proofs.Soundness.Counts.{count-set, count-some, holders-changed, users-changed, holders-called, users-called}
-use Rattle.iobufs_owner.proofs.Soundness.Keeps.{calls-read-kept, releases-kept, owner-kept, fits-kept, fits-calls, live-of, shares-kept, promised-kept, described-kept, handles-fit-set}
-use Rattle.iobufs_owner.proofs.Soundness.StaysSound.{at-some, owner-counted, block-log-kept}
-use Rattle.iobufs_owner.proofs.Soundness.Frames.{handles-kept, alone-kept, describes-kept, not-eqb, is-eqb, holders-tables, users-tables}
-use Rattle.iobufs_owner.proofs.Soundness.Edits.{fits-at, alone-at, live-inside, lies-as, lies-still, alone-described, describes-described, describes-counted, alone-shared}
-use Rattle.iobufs_owner.proofs.Soundness.Holders.{describes-few}
-use Rattle.iobufs_owner.proofs.Soundness.Logs.{no_record, record-log-counted}
+use Rattle.iobufs_owner.proofs.Base.{◌≡◌, ◌≢◌, inl, inr, ℕ, zero, suc, ◌+◌, ◌^◌, ◌<◌, ◌≤◌, ◌==◌, Bool, true, cond, List, [], ◌∷◌, ◌++◌, length, get_or, set, sym, ◌∙◌, ap, subst, refl, arith, All, Option, Some, None, nat_eq, length-set, All-from_get_or, get_or-set_same, get_or-set_other, set-set, eqb_tells, State, Tables, owner_of, record_at, block_at, handle_at, call_at, holders, users, is_block, tally, reading, has_let_go, IsSound, Fits, FitsCall, Shares, SpeaksOf, LiesIn, alone, describes, hidden, readies, releases, counted, called, edited, with_handle, part, Record, Handle, Share, View, Pending, Loaded, Ready, Add, Subtract, Release, Descriptor, Counted, count-set, count-some, owner-kept, fits-kept, fits-calls, live-of, shares-kept, promised-kept, described-kept, handles-fit-set, at-some, owner-counted, block-log-kept, ne_eqb, eq-eqb, fits-at, alone-at, live-inside, lies-as, lies-still, alone-described, describes-described, describes-counted, alone-shared, describes-few, no_record, record-log-counted, call-fits, count-change, false, alike, drops_by, held_by, holders-as, still_by, users-as}
 use Rattle.iobufs_owner.proofs.Soundness.AddHolder.{sound-added, counted-keeps, counted-let_go, counted-block, counted-live, counted-same, counted-other}
 
 -- ---- the record is published in the place of the descriptor, and counts the handle
@@ -136,7 +119,7 @@ sound-shown s p r w part x k atp at word =
     let next : State = shown s p part.handle r x in
     let lp = at-some s.calls p (Ready part w r) atp in
     let l = at-some s.handles part.handle x at in
-    let f : FitsCall s (Some (Ready part w r)) = subst (λ (c : Option Pending). FitsCall s c) atp (k.calls_fit p None lp) in
+    let f = call-fits s p (Ready part w r) k atp in
     let b : ℕ = f.block in
     let yx : f.view ≡ x = some-same f.view x (sym f.shares.at ∙ at) in
     let pr : SpeaksOf g x w b = subst (λ (y : Handle). SpeaksOf g y w b) yx f.promised in
@@ -145,44 +128,36 @@ sound-shown s p r w part x k atp at word =
     let e = counted-keeps g r 1 in
     let ox : owner_of g' x ≡ Some b = owner-kept g g' s.calls x e (fits-at s h x k at) ∙ o in
     let oy : owner_of g' y ≡ Some b = owner-counted g' y r refl ∙ ap Some (counted-block g r 1 r ∙ f.same) in
-    let hs = handles-kept g g' s.calls s.handles e k.fit in
     let two : (record_at s.tables r).count ≡ 2 =
-    (let a = count-some (readies r) s.calls p None lp (ap (readies r) atp ∙ is-eqb r r refl) in let m =
+    (let a = count-some (readies r) s.calls p None lp (ap (readies r) atp ∙ eq-eqb r r refl) in let m =
     (k.counted r f.live).one_maker in (k.counted r f.live).fresh (omega (arith, a, m))) in
-    let cs = calls-read-kept s g' s.calls e (λ i d l q j t. counted-let_go g r 1 q (shown-let_go g r two)) k.calls_fit in
-    let mid : State = record s { tables = counted s.tables r 1 } in
-    let hm : (c : ℕ) → holders (reading next) c ≡ holders (reading s) c = λ c. let a = holders-tables s g' c hs cs in let m =
-    rw (at, ox, oy) at (holders-changed mid h (Some y) c l) in let n = rw atp at (holders-called (edited mid h y) p None c lp) in omega (arith, a, m, n) in
-    let um : (c : ℕ) → users (reading next) c ≡ users (reading s) c = λ c. let a = users-tables s g' c hs cs in let m =
-    rw (at, ox, oy) at (users-changed mid h (Some y) c l) in let n = rw atp at (users-called (edited mid h y) p None c lp) in omega (arith, a, m, n) in
+    let v = alike s g' k e (λ i d l q j t. counted-let_go g r 1 q (shown-let_go g r two)) in
+    let held : (c : ℕ) → tally (held_by g' c) (set s.handles h (Some y)) ≡ tally (held_by g c) s.handles = λ c. let n =
+    rw (at, ox, oy) at (count-set (held_by g' c) s.handles h (Some y) None l) in omega (arith, n, v.held c) in
+    let hm : (c : ℕ) → holders (reading next) c ≡ holders (reading s) c = λ c. let n =
+    rw atp at (count-set (still_by g' c) s.calls p None None lp) in omega (arith, holders-as s c, holders-as next c, n, held c, v.still c) in
+    let um : (c : ℕ) → users (reading next) c ≡ users (reading s) c = λ c. let n =
+    rw atp at (count-set (drops_by g' c) s.calls p None None lp) in omega (arith, users-as s c, users-as next c, n, held c, v.drops c) in
     let hid : (q : ℕ) → hidden (set s.calls p None) q + cond (q == r) 1 0 ≡ hidden s.calls q = λ q. let c =
     rw atp at (count-set (readies q) s.calls p None None lp) in omega (arith, c) in
     let less : (q : ℕ) → hidden (set s.calls p None) q ≤ hidden s.calls q = λ q. omega (arith, hid q) in
-    let one : holders (reading s) b ≡ 1 = alone-at s h x b k at (alone-described g b x w word ∙ ap (is_block b) o ∙ is-eqb b b refl) in
+    let one : holders (reading s) b ≡ 1 = alone-at s h x b k at (alone-described g b x w word ∙ ap (is_block b) o ∙ eq-eqb b b refl) in
     let me = k.counted r f.live in
-    let mine : hidden (set s.calls p None) r ≡ 0 = (let z = rw (is-eqb r r refl) at (hid r) in let m = me.one_maker in omega (arith, z)) in
+    let mine : hidden (set s.calls p None) r ≡ 0 = (let z = rw (eq-eqb r r refl) at (hid r) in let m = me.one_maker in omega (arith, z)) in
     let dm : (c : ℕ) → tally (describes g' c) (set s.handles h (Some y)) + cond (c == b) 1 0 ≡ tally (describes g c) s.handles = λ c.
-    let n = count-set (describes g' c) s.handles h (Some y) None l in
-    let nx : ◌≡◌ {A = ℕ} (cond (describes g' c (get_or s.handles h None)) 1 0) (cond (c == b) 1 0) =
-    ap (λ (o : Option Handle). cond {A = ℕ} (describes g' c o) 1 0) at
-    ∙ ap (λ (v : Bool). cond {A = ℕ} v 1 0) (describes-described g' c x w word ∙ ap (is_block c) ox) in
-    let ny : ◌≡◌ {A = ℕ} (cond (describes g' c (Some y)) 1 0) 0 = ap (λ (v : Bool). cond {A = ℕ} v 1 0) (describes-counted g' c y r refl) in
-    omega (arith, n, nx, ny, describes-kept g g' s.calls c s.handles e k.fit) in
+    let n = count-change (describes g' c) s.handles h (Some y) None (c == b) false l
+    (ap (describes g' c) at ∙ describes-described g' c x w word ∙ ap (is_block c) ox) (describes-counted g' c y r refl) in omega (arith, n, v.describes c) in
     let am : (c : ℕ) → tally (alone g' c) (set s.handles h (Some y)) + cond (c == b) 1 0 ≡ tally (alone g c) s.handles = λ c.
-    let n = count-set (alone g' c) s.handles h (Some y) None l in
-    let nx : ◌≡◌ {A = ℕ} (cond (alone g' c (get_or s.handles h None)) 1 0) (cond (c == b) 1 0) =
-    ap (λ (o : Option Handle). cond {A = ℕ} (alone g' c o) 1 0) at
-    ∙ ap (λ (v : Bool). cond {A = ℕ} v 1 0) (alone-described g' c x w word ∙ ap (is_block c) ox) in
-    let ny : ◌≡◌ {A = ℕ} (cond (alone g' c (Some y)) 1 0) 0 = ap (λ (v : Bool). cond {A = ℕ} v 1 0) (alone-shared g' c y r refl view) in
-    omega (arith, n, nx, ny, alone-kept g g' s.calls c s.handles e k.fit) in
-    let some : 0 < tally (describes g b) s.handles = (let z = rw (is-eqb b b refl) at (dm b) in omega (arith, z)) in
+    let n = count-change (alone g' c) s.handles h (Some y) None (c == b) false l
+    (ap (alone g' c) at ∙ alone-described g' c x w word ∙ ap (is_block c) ox) (alone-shared g' c y r refl view) in omega (arith, n, v.alone c) in
+    let some : 0 < tally (describes g b) s.handles = (let z = rw (eq-eqb b b refl) at (dm b) in omega (arith, z)) in
     let here : (record_at g' r).block ≡ b = counted-block g r 1 r ∙ f.same in
     let gone : tally (describes g' b) (set s.handles h (Some y)) ≡ 0 =
-    (let n = rw (is-eqb b b refl) at (dm b) in let m = describes-few s b in omega (arith, n, m, one)) in
+    (let n = rw (eq-eqb b b refl) at (dm b) in let m = describes-few s b in omega (arith, n, m, one)) in
     let apart : (q : ℕ) → (record_at g q).live ≡ true → hidden s.calls q ≡ 0 → (record_at g q).block ≢ b =
     λ q t z i. (let u = rw i at ((k.counted q t).undescribed z) in omega (arith, u, some)) in
     let old : (q : ℕ) → q ≢ r → hidden (set s.calls p None) q ≡ 0 → hidden s.calls q ≡ 0 =
-    λ q ne z. (let u = rw (not-eqb q r ne) at (hid q) in omega (arith, u)) in
+    λ q ne z. (let u = rw (ne_eqb q r ne) at (hid q) in omega (arith, u)) in
     record {
       size = rw (length-set, length-set, length-set) k.size;
       blocks = k.blocks;
@@ -201,7 +176,7 @@ sound-shown s p r w part x k atp at word =
                 (call-shown s p h r i x b (call_at s i) at w word l k.fit o f.same two less hm (k.calls_fit i None lo))
           ]);
       one_release = λ c. let n = count-set (releases g' c) s.calls p None None lp in let m =
-          releases-kept s g' c s.calls e k.calls_fit in omega (arith, n, m, k.one_release c);
+          v.releases c in omega (arith, n, m, k.one_release c);
       counted = λ q t.
           let lq : (record_at g q).live ≡ true = sym (counted-live g r 1 q) ∙ t in
           let cq = k.counted q lq in
@@ -218,7 +193,7 @@ sound-shown s p r w part x k atp at word =
               known = rw (counted-block g r 1 q) cq.known;
               one_maker = omega (arith, less q, cq.one_maker);
               counts = λ z. rw (counted-other g r 1 q i.1, counted-block g r 1 q, hm) (cq.counts (old q i.1 z));
-              fresh = λ z. rw (counted-other g r 1 q i.1) (cq.fresh (let u = rw (not-eqb q r i.1) at (hid q) in omega (arith, u, z)));
+              fresh = λ z. rw (counted-other g r 1 q i.1) (cq.fresh (let u = rw (ne_eqb q r i.1) at (hid q) in omega (arith, u, z)));
               used = rw (counted-block g r 1 q, um) cq.used;
               undescribed = λ z. rw (counted-block g r 1 q) (omega (arith, dm (record_at g q).block, cq.undescribed (old q i.1 z)));
             }
@@ -288,8 +263,7 @@ pub sound-won : (s : State) (p r w : ℕ) (k : Share) (x : Handle) → IsSound s
     → IsSound (with_handle (called (edited s k.handle (by_record x r)) p None) (part x k.lo k.hi (Counted r)))
 sound-won s p r w part' x k at atx xw few =
     let g : Tables = s.tables in
-    let f : FitsCall s (Some (Ready part' w r)) =
-    subst (λ (c : Option Pending). FitsCall s c) at (k.calls_fit p None (at-some s.calls p (Ready part' w r) at)) in
+    let f = call-fits s p (Ready part' w r) k at in
     let yx : f.view ≡ x = some-same f.view x (sym f.shares.at ∙ atx) in
     let sh : Shares s part' x = subst (λ (y : Handle). Shares s part' y) yx f.shares in
     let pr : SpeaksOf g x w f.block = subst (λ (y : Handle). SpeaksOf g y w f.block) yx f.promised in
@@ -300,7 +274,7 @@ sound-won s p r w part' x k at atx xw few =
     let l = at-some s.handles part'.handle x atx in
     let at1 : handle_at s1 part'.handle ≡ Some y = get_or-set_same s.handles part'.handle (Some (by_record x r)) None l in
     let hid : hidden s.calls r
-    ≡ 1 = (let a = count-some (readies r) s.calls p None (at-some s.calls p (Ready part' w r) at) (ap (readies r) at ∙ is-eqb r r refl) in
+    ≡ 1 = (let a = count-some (readies r) s.calls p None (at-some s.calls p (Ready part' w r) at) (ap (readies r) at ∙ eq-eqb r r refl) in
     let m = (k.counted r f.live).one_maker in omega (arith, a, m)) in
     let two : (record_at g r).count ≡ 2 = (k.counted r f.live).fresh hid in
     let count1 : (record_at s1.tables r).count ≡ 1 = counted-same g r 1 inside in

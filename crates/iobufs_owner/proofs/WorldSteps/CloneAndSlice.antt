@@ -1,36 +1,11 @@
 -- Clones and slices, and the further steps of drops, read as steps of the world.
-use Rattle.std.proofs.Common.{◌≡◌, ◌≢◌, ◌⊎◌, inl, inr, ℕ, ◌+◌, ◌-◌, ◌<◌, Bool, true, false, cond, nat_lt, nat_eq, get_or, map, ◌||◌, Option, Some, None, Result, Ok, Err, MatchOption, ap, sym, ◌∙◌, subst, refl, arith, All}
-use Rattle.std.proofs.Math.ListN.{length-set}
-use Rattle.std.proofs.lemmas.List.{length-map, map-set}
-use Rattle.iobufs_owner.specs.Types.{Handle, Share, View, Pending, Loaded, Ready, Add, Subtract, Release, Word, Empty, Descriptor, Counted, Refusal, Idle, WrongKind, OutOfRange, Memory, Ceiling, Reply, More, Done, Refused}
-use Rattle.iobufs_owner.specs.State.{State, Tables, owner_of, handle_at, call_at, record_at}
-use Rattle.iobufs_owner.specs.World.{World, Held, Sharing, Dropping, holders, is_block}
-use Rattle.iobufs_owner.specs.Reading.{reading, read_held, read_handle, read_call, has_let_go}
-use Rattle.iobufs_owner.specs.Sound.{IsSound, FitsCall, hidden, IsRacing, IsAdding}
-use Rattle.iobufs_owner.specs.Kinds.{same_kind}
+use Rattle.iobufs_owner.proofs.Base.{cause_if, is_over, is_over_at, held_at, Ceiling, ◌≡◌, ◌≢◌, ◌⊎◌, inl, inr, ℕ, ◌+◌, ◌-◌, ◌<◌, Bool, true, false, cond, nat_lt, nat_eq, get_or, map, ◌||◌, Option, Some, None, Ok, MatchOption, ap, sym, ◌∙◌, subst, refl, arith, All, length-set, length-map, map-set, Handle, Share, View, Pending, Loaded, Ready, Add, Subtract, Release, Word, Empty, Descriptor, Counted, Idle, OutOfRange, Memory, Reply, More, Done, Refused, State, Tables, owner_of, handle_at, call_at, record_at, World, LiveHandle, Sharing, Dropping, holders, is_block, reading, read_held, read_handle, read_call, has_let_go, IsSound, hidden, IsRacing, IsAdding, same_kind, called, unfinished_call, done, edited, part, made, counted, with_count, with_record, record_freed, both_freed, next_record, tables_without, ended, shared, loaded_block, ready_of, gone_on, NoRoom, Makes, GoesOnWithin, SharesOn, Goes, call_set, free_in, part_of, IsAnswered, entries, grows-never, Keeps, KeepsLetGo, calls-read-kept, at-some, owner-empty, owner-counted, handles-kept, eq-eqb, get_or-read, held-reads, view-reads, described-at, counted-at, alone-at, live-inside, alone-described, freed-more, eqb-true, asked-ok, call-fits, MatchBool, ShareIs, le-ltb, view_of}
 use Rattle.iobufs_owner.specs.Changes as change
 use Rattle.iobufs_owner.specs.Lending as lending
 use Rattle.iobufs_owner.specs.LongCalls as long
-use Rattle.iobufs_owner.specs.Changes.{called, unfinished_call, done, edited, part, made, counted, with_count, with_record, record_freed, both_freed, next_record, tables_without}
-use Rattle.iobufs_owner.specs.LongCalls.{ended, shared, loaded_block, ready_of}
-use Rattle.iobufs_owner.specs.Moves.{gone_on}
 use Rattle.iobufs_owner.specs.Steps as world
-use Rattle.iobufs_owner.specs.Steps.{NoRoom, Makes, IsAboveCeiling, GoesOnWithin, SharesOn, Goes, call_set, free_in, part_of}
-use Rattle.iobufs_owner.proofs.WorldSteps.Sizes.{IsAnswered, entries, grows-never}
-use Rattle.iobufs_owner.proofs.Soundness.Keeps.{Keeps, KeepsLetGo, calls-read-kept}
-use Rattle.iobufs_owner.proofs.Soundness.StaysSound.{at-some, owner-empty, owner-counted}
-use Rattle.iobufs_owner.proofs.Soundness.Frames.{handles-kept, is-eqb}
-use Rattle.iobufs_owner.proofs.WorldSteps.Shown.{get_or-read, held-reads, view-reads, read_lent}
-use Rattle.iobufs_owner.proofs.Soundness.Edits.{described-at, counted-at, alone-at, live-inside, alone-described}
-use Rattle.iobufs_owner.proofs.Soundness.Logs.{freed-more}
-use Rattle.iobufs_owner.proofs.Soundness.NewRecord.{recorded, recorded-keeps, recorded-let_go}
-use Rattle.iobufs_owner.proofs.Soundness.AddHolder.{counted-keeps, counted-let_go, counted-more, counted-block}
-use Rattle.iobufs_owner.proofs.Soundness.RecordFreed.{dead-keeps, dead-let_go}
-use Rattle.iobufs_owner.proofs.Soundness.Readied.{loading}
-use Rattle.iobufs_owner.proofs.Soundness.Won.{by_record, set-get}
-use Rattle.iobufs_owner.proofs.Soundness.Share.{racing, adding}
-use Rattle.iobufs_owner.proofs.Soundness.Subtract.{letting-go, counted-drops, gone-after}
-use Rattle.iobufs_owner.proofs.WorldSteps.Taken.{refused-taken, by-test, reads-detached, grown-taken, made-taken, lt-true, lt-false, eq-true}
+use Rattle.iobufs_owner.proofs.Soundness.{recorded, recorded-keeps, recorded-let_go, counted-keeps, counted-let_go, counted-more, counted-block, dead-keeps, dead-let_go, by_record, set-get, letting-go, counted-drops, gone-after}
+use Rattle.iobufs_owner.proofs.WorldSteps.Taken.{refused-taken, by-test, reads-detached, grown-taken, made-taken, Had, had, by-cause}
 
 -- ---- outcomes
 
@@ -75,10 +50,10 @@ loaded-as s t p k w x false reply i y =
 -- users see the step that makes a record, of a clone or slice in a sound machine, as one of a call with three steps left
 pub loaded-goes : (s t : State) (p : ℕ) (k : Share) (w : ℕ) (memory : Bool) (reply : Reply) → IsSound s → call_at s p ≡ Some (Loaded k w)
     → IsAnswered s (gone_on s p (Loaded k w) memory) reply t → Goes (reading s) p (Sharing k.handle k.lo k.hi 3) memory reply (reading t)
-unfolding Goes gone_on
+unfolding Goes
 loaded-goes s t p k w memory reply i at y =
-    let l = loading s p k w i at in
-    subst (λ (o : Option Held). SharesOn (reading s) p k.handle k.lo k.hi 3 memory o reply (reading t))
+    let l = call-fits s p (Loaded k w) i at in
+    subst (λ (o : Option LiveHandle). SharesOn (reading s) p k.handle k.lo k.hi 3 memory o reply (reading t))
     (sym (held-reads s k.handle ∙ ap (read_handle s.tables) l.shares.at)) (loaded-as s t p k w l.view memory reply i y)
 
 -- the handle whose descriptor becomes a record shows the same
@@ -103,17 +78,16 @@ race-as s t p k w r memory reply (Descriptor u) i a e y =
           let same : u ≡ w = cc in
           let ow = a.promised.owner in
           let one = alone-at s k.handle a.view a.block i a.shares.at
-          (alone-described s.tables a.block a.view u e ∙ ap (is_block a.block) ow ∙ is-eqb a.block a.block refl) in
+          (alone-described s.tables a.block a.view u e ∙ ap (is_block a.block) ow ∙ eq-eqb a.block a.block refl) in
           let c = i.size.ceiling in
           let y' = subst
           (λ (b : Bool). IsAnswered s (cond b (shared (edited s k.handle (record a.view { word = Counted r })) p k a.view r)
-          (change.refused s Idle)) reply t) (is-eqb u w same) y in
+          (change.refused s Idle)) reply t) (eq-eqb u w same) y in
           let front : Handle = part a.view k.lo k.hi (Counted r) in
           let of = owner-counted s.tables front r refl ∙ ap Some a.same ∙ sym ow in
-          let never : IsAboveCeiling (reading s) (owner_of s.tables a.view) → ⊥ =
-          subst (λ (o : Option ℕ). IsAboveCeiling (reading s) o → ⊥) (sym ow) (λ z. omega (arith, z, one, c)) in
+          let never : is_over (reading s) (owner_of s.tables a.view) ≡ false =
+          subst (λ (o : Option ℕ). is_over (reading s) o ≡ false) (sym ow) (le-ltb s.ceiling (holders (reading s) a.block) (omega (arith, one, c))) in
           inr
-          (inr
           (inr
           (inr (
             never,
@@ -121,7 +95,7 @@ race-as s t p k w r memory reply (Descriptor u) i a e y =
             made-taken s (called (edited s k.handle (by_record a.view r)) p None) t (call_set (reading s) p None) front
                 (part_of (read_held s.tables a.view) k.lo k.hi) reply (shown-reads s p k w r i a)
                 (ap (λ (b : Option ℕ). record { kind = View; block = b; place = a.view.ptr + k.lo; len = k.hi - k.lo }) of) y',
-          )))))
+          ))))
       | inr z ↦ absurd (let q = sym e ∙ z.1 in cc)
     ]
 race-as s t p k w r memory reply (Counted winner) i a e y =
@@ -134,36 +108,31 @@ race-as s t p k w r memory reply (Counted winner) i a e y =
 -- users see the compare-exchange of a clone or slice in a sound machine as a step of a call with two steps left
 pub ready-goes : (s t : State) (p : ℕ) (k : Share) (w r : ℕ) (memory : Bool) (reply : Reply) → IsSound s → call_at s p ≡ Some (Ready k w r)
     → IsAnswered s (gone_on s p (Ready k w r) memory) reply t → Goes (reading s) p (Sharing k.handle k.lo k.hi 2) memory reply (reading t)
-unfolding Goes gone_on
+unfolding Goes
 ready-goes s t p k w r memory reply i at y =
-    let a = racing s p k w r i at in
+    let a = call-fits s p (Ready k w r) i at in
     let y' = subst (λ (o : Option Handle). IsAnswered s (long.race_found s p k w r o) reply t) a.shares.at y in
-    subst (λ (o : Option Held). SharesOn (reading s) p k.handle k.lo k.hi 2 memory o reply (reading t))
+    subst (λ (o : Option LiveHandle). SharesOn (reading s) p k.handle k.lo k.hi 2 memory o reply (reading t))
     (sym (held-reads s k.handle ∙ ap (read_handle s.tables) a.shares.at)) (race-as s t p k w r memory reply a.view.word i a refl y')
 
 add-as : (s t : State) (p : ℕ) (k : Share) (r : ℕ) (memory : Bool) (reply : Reply) (v : Bool) → IsSound s → (a : IsAdding s k r)
     → nat_lt s.ceiling (record_at s.tables r).count ≡ v
     → IsAnswered s (cond v (ended s p Ceiling) (shared (with_count s r ((record_at s.tables r).count + 1)) p k a.view r)) reply t
-    → GoesAs s p k 1 memory (Some a.view) reply (reading t)
+    → MatchOption (cause_if v Ceiling) (GoesAs s p k 1 memory (Some a.view) reply (reading t))
+    (λ why. (reply ≡ Refused why) × (reading t ≡ call_set (reading s) p None))
 add-as s t p k r memory reply true i a e y =
-    let c = counted-at s k.handle a.view r i a.shares.at a.word in
-    let n = (i.counted r c.live).counts c.shown in
-    let m = lt-true s.ceiling (record_at s.tables r).count e in
-    let z = reply-taken s (called s p None) t (call_set (reading s) p None) (Refused Ceiling) reply refl (called-reads s p None) y in
-    inr (inr (inr (inl (refl, subst (λ (o : Option ℕ). IsAboveCeiling (reading s) o) (sym (owner-counted s.tables a.view r a.word)) (rw (← n) m), z.0, z.1))))
+    reply-taken s (called s p None) t (call_set (reading s) p None) (Refused Ceiling) reply refl (called-reads s p None) y
 add-as s t p k r memory reply false i a e y =
     let c = counted-at s k.handle a.view r i a.shares.at a.word in
     let n = (i.counted r c.live).counts c.shown in
     let still = counted-more s k.handle a.view r i a.shares.at a.word in
-    let m = lt-false s.ceiling (record_at s.tables r).count e in
     let g' : Tables = counted s.tables r ((record_at s.tables r).count + 1) in
     let front : Handle = part a.view k.lo k.hi (Counted r) in
     let of = owner-counted g' front r refl ∙ ap Some (counted-block s.tables r ((record_at s.tables r).count + 1) r)
     ∙ sym (owner-counted s.tables a.view r a.word) in
-    let never : IsAboveCeiling (reading s) (owner_of s.tables a.view) → ⊥ =
-    subst (λ (o : Option ℕ). IsAboveCeiling (reading s) o → ⊥) (sym (owner-counted s.tables a.view r a.word)) (λ z. omega (arith, z, n, m)) in
+    let never : is_over (reading s) (owner_of s.tables a.view) ≡ false =
+    subst (λ (o : Option ℕ). is_over (reading s) o ≡ false) (sym (owner-counted s.tables a.view r a.word)) (rw (← n) e) in
     inr
-    (inr
     (inr
     (inr (
       never,
@@ -173,18 +142,25 @@ add-as s t p k r memory reply false i a e y =
           (called-kept s (counted s.tables r ((record_at s.tables r).count + 1)) p None i (counted-keeps s.tables r ((record_at s.tables r).count + 1))
           (λ n d l q j t. counted-let_go s.tables r ((record_at s.tables r).count + 1) q still) refl)
           (ap (λ (b : Option ℕ). record { kind = View; block = b; place = a.view.ptr + k.lo; len = k.hi - k.lo }) of) y,
-    ))))
+    )))
 
 -- users see the step that counts a holder, of a clone or slice in a sound machine, as one of a call with one step left
 pub add-goes : (s t : State) (p : ℕ) (k : Share) (r : ℕ) (memory : Bool) (reply : Reply) → IsSound s → call_at s p ≡ Some (Add k r)
-    → IsAnswered s (gone_on s p (Add k r) memory) reply t → Goes (reading s) p (Sharing k.handle k.lo k.hi 1) memory reply (reading t)
-unfolding Goes gone_on
+    → IsAnswered s (gone_on s p (Add k r) memory) reply t → MatchOption (cause_if (is_over_at (reading s) (held_at (reading s) k.handle)) Ceiling)
+    (Goes (reading s) p (Sharing k.handle k.lo k.hi 1) memory reply (reading t)) (λ why. (reply ≡ Refused why) × (reading t ≡ call_set (reading s) p None))
+unfolding Goes
 add-goes s t p k r memory reply i at y =
-    let a = adding s p k r i at in
+    let a = call-fits s p (Add k r) i at in
     let y' = subst (λ (o : Option Handle). IsAnswered s (long.add_found s p k r o) reply t) a.shares.at y in
-    subst (λ (o : Option Held). SharesOn (reading s) p k.handle k.lo k.hi 1 memory o reply (reading t))
-    (sym (held-reads s k.handle ∙ ap (read_handle s.tables) a.shares.at))
-    (add-as s t p k r memory reply (nat_lt s.ceiling (record_at s.tables r).count) i a refl y')
+    let c = counted-at s k.handle a.view r i a.shares.at a.word in
+    let n : is_over (reading s) (owner_of s.tables a.view) ≡ nat_lt s.ceiling (record_at s.tables r).count =
+    ap (is_over (reading s)) (owner-counted s.tables a.view r a.word) ∙ ap (nat_lt s.ceiling) (sym ((i.counted r c.live).counts c.shown)) in
+    subst (λ (o : Option LiveHandle). MatchOption (cause_if (is_over_at (reading s) o) Ceiling) (SharesOn (reading s) p k.handle k.lo k.hi 1 memory o reply
+    (reading t))
+    (λ why. (reply ≡ Refused why) × (reading t ≡ call_set (reading s) p None))) (sym (held-reads s k.handle ∙ ap (read_handle s.tables) a.shares.at))
+    (subst (λ (v : Bool). MatchOption (cause_if v Ceiling) (GoesAs s p k 1 memory (Some a.view) reply (reading t))
+    (λ why. (reply ≡ Refused why) × (reading t ≡ call_set (reading s) p None))) (sym n)
+    (add-as s t p k r memory reply (nat_lt s.ceiling (record_at s.tables r).count) i a refl y'))
 
 -- ---- drops
 
@@ -197,7 +173,7 @@ unfolding Goes
 subtract-as s t p r memory reply true i at live shown some e y =
     let m : ℕ = (record_at s.tables r).count - 1 in
     let n = (i.counted r live).counts shown in
-    let one = eq-true (record_at s.tables r).count 1 e in
+    let one = eqb-true (record_at s.tables r).count 1 e in
     let l = length-set s.tables.records r (record {
       count = (record_at s.tables r).count - 1;
       block = (record_at s.tables r).block;
@@ -214,7 +190,7 @@ subtract-as s t p r memory reply true i at live shown some e y =
     inr (inl (sym n ∙ one, omega arith, z))
 subtract-as s t p r memory reply false i at live shown some e y =
     let n = (i.counted r live).counts shown in
-    let ne : (record_at s.tables r).count ≢ 1 = λ z. (let q = is-eqb (record_at s.tables r).count 1 z in cc) in
+    let ne : (record_at s.tables r).count ≢ 1 = λ z. (let q = eq-eqb (record_at s.tables r).count 1 z in cc) in
     let l = length-set s.tables.records r (record {
       count = (record_at s.tables r).count - 1;
       block = (record_at s.tables r).block;
@@ -228,7 +204,6 @@ subtract-as s t p r memory reply false i at live shown some e y =
 -- users see the step that lowers the count, of a drop in a sound machine, as one of a drop with two steps left that hasn't let go
 pub subtract-goes : (s t : State) (p r : ℕ) (memory : Bool) (reply : Reply) → IsSound s → call_at s p ≡ Some (Subtract r)
     → IsAnswered s (gone_on s p (Subtract r) memory) reply t → Goes (reading s) p (Dropping (record_at s.tables r).block false 2) memory reply (reading t)
-unfolding gone_on
 subtract-goes s t p r memory reply i at y =
     let a = letting-go s p r i at in
     subtract-as s t p r memory reply (nat_eq (record_at s.tables r).count 1) i at a.live a.shown a.some refl y
@@ -257,9 +232,8 @@ frees w next p b false memory reply n z = inr (inr (n, z.0, z.1))
 pub release-goes : (s t : State) (p r : ℕ) (memory : Bool) (reply : Reply) → IsSound s → call_at s p ≡ Some (Release r)
     → IsAnswered s (gone_on s p (Release r) memory) reply t
     → Goes (reading s) p (Dropping (record_at s.tables r).block (has_let_go s.tables r) 1) memory reply (reading t)
-unfolding gone_on
 release-goes s t p r memory reply i at y =
-    let f : FitsCall s (Some (Release r)) = subst (λ (c : Option Pending). FitsCall s c) at (i.calls_fit p None (at-some s.calls p (Release r) at)) in
+    let f = call-fits s p (Release r) i at in
     let l = length-set s.tables.records r (record { count = (record_at s.tables r).count; block = (record_at s.tables r).block; live = false }) in
     let z = reply-taken s (called (both_freed s r) p None) t (free_in (call_set (reading s) p None) (record_at s.tables r).block) Done reply (cc (l))
     (released-reads s p r i f.live) y in
@@ -267,18 +241,8 @@ release-goes s t p r memory reply i at y =
 
 -- ---- a clone or a slice begins
 
-view-is : (y x : Handle) (v : Bool) → cond v (Ok y) (Err WrongKind) ≡ Ok x → Some y ≡ Some x
-view-is y x true e = cc
-view-is y x false e = absurd (cc)
-
 view-tells : (s : State) (h : ℕ) (x : Handle) → lending.lend_view_of s h ≡ Ok x → handle_at s h ≡ Some x
-view-tells s h x e =
-    let by : (o : Option Handle) → lending.lend_view_found o ≡ Ok x → o ≡ Some x =
-    λ o. elim o as (λ o. lending.lend_view_found o ≡ Ok x → o ≡ Some x) [
-      | None ↦ λ i. absurd (cc)
-      | Some y ↦ λ i. view-is y x (same_kind y.kind View) i
-    ] in
-    by (handle_at s h) e
+view-tells s h x e = (asked-ok (λ (x : Handle). same_kind x.kind View) false (handle_at s h) x e).0
 
 -- what the world says, by the block
 abbrev Begun : State → (p h lo hi : ℕ) → Handle → Option ℕ → Reply → World → Type 0
@@ -308,29 +272,26 @@ begun-word s t p h lo hi x reply (Counted r) k at e y =
     subst (λ (o : Option ℕ). Begun s p h lo hi x o reply (reading t)) (sym (owner-counted s.tables x r e))
     (record { left = 1; some = omega arith; few = omega arith; goes = z })
 
-clone-lent : (s t : State) (p h : ℕ) (reply : Reply) (r : Result Handle Refusal) → IsSound s → lending.lend_view_of s h ≡ r
-    → IsAnswered s (long.clone_lent s p h r) reply t → world.CloneIs (reading s) p h (read_lent s.tables r) reply (reading t)
-clone-lent s t p h reply (Err why) k e i = refused-taken s t why reply i
-clone-lent s t p h reply (Ok x) k e i = begun-word s t p h 0 x.len x reply x.word k (view-tells s h x e) refl i
-
 -- users of a sound machine see the first step of a clone as that of the view that they see under the number
 pub clone-steps : (s t : State) (p h : ℕ) (reply : Reply) → IsSound s → IsAnswered s (long.clone_of s p h) reply t
-    → world.CloneIs (reading s) p h (world.view_of (reading s) h) reply (reading t)
-clone-steps s t p h reply k i = rw (view-reads s h) (clone-lent s t p h reply (lending.lend_view_of s h) k refl i)
-
-slice-lent : (s t : State) (p h lo hi : ℕ) (reply : Reply) (r : Result Handle Refusal) → IsSound s → lending.lend_view_of s h ≡ r
-    → IsAnswered s (long.slice_lent s p h lo hi r) reply t → world.SliceIs (reading s) p h lo hi (read_lent s.tables r) reply (reading t)
-slice-lent s t p h lo hi reply (Err why) k e i = refused-taken s t why reply i
-slice-lent s t p h lo hi reply (Ok x) k e i =
-    by-test _ _ s t (change.refused s OutOfRange)
-    (cond (nat_eq lo hi) (made s (change.detached_handle 0)) (long.share_by s p (record { handle = h; lo = lo; hi = hi }) x x.word)) reply
-    (nat_lt hi lo || nat_lt x.len hi)
-    (λ _ i. refused-taken s t OutOfRange reply i)
-    (λ _ i. by-test _ _ s t (made s (change.detached_handle 0)) (long.share_by s p (record { handle = h; lo = lo; hi = hi }) x x.word) reply (nat_eq lo hi)
-    (λ _ i. made-taken s s t (reading s) (change.detached_handle 0) (world.detached 0) reply refl (reads-detached s.tables 0) i)
-    (λ _ i. begun-word s t p h lo hi x reply x.word k (view-tells s h x e) refl i) i) i
+    → Had s t h (view_of (reading s) h) (λ x. None) (λ x. ShareIs (reading s) p h 0 x.len x reply (reading t)) reply
+clone-steps s t p h reply k i = had s t h (lending.lend_view_of s h) _ _ _ _ reply (view-reads s h) i (λ x e i.
+    (let at = view-tells s h x e in (at, begun-word s t p h 0 x.len x reply x.word k at refl i)))
 
 -- users of a sound machine see the first step of a slice as that of the view that they see under the number
 pub slice-steps : (s t : State) (p h lo hi : ℕ) (reply : Reply) → IsSound s → IsAnswered s (long.slice_of s p h lo hi) reply t
-    → world.SliceIs (reading s) p h lo hi (world.view_of (reading s) h) reply (reading t)
-slice-steps s t p h lo hi reply k i = rw (view-reads s h) (slice-lent s t p h lo hi reply (lending.lend_view_of s h) k refl i)
+    → Had s t h (view_of (reading s) h) (λ x. cause_if (nat_lt hi lo || nat_lt x.len hi) OutOfRange)
+    (λ x. MatchBool (nat_eq lo hi) (NoRoom (reading s) reply (reading t) ⊎ Makes (reading s) (world.detached 0) reply (reading t))
+    (ShareIs (reading s) p h lo hi x reply (reading t))) reply
+slice-steps s t p h lo hi reply k i = had s t h (lending.lend_view_of s h) _ _ _ _ reply (view-reads s h) i (λ x e i.
+    (let at = view-tells s h x e in (
+      at,
+      by-cause _ _ OutOfRange s t (change.refused s OutOfRange)
+          (cond (nat_eq lo hi) (made s (change.detached_handle 0)) (long.share_by s p (record { handle = h; lo = lo; hi = hi }) x x.word)) reply
+          (nat_lt hi lo || nat_lt x.len hi)
+          (λ _ i. refused-taken s t OutOfRange reply i)
+          (λ _ i. by-test _ _ s t (made s (change.detached_handle 0)) (long.share_by s p (record { handle = h; lo = lo; hi = hi }) x x.word) reply
+          (nat_eq lo hi)
+          (λ _ i. made-taken s s t (reading s) (change.detached_handle 0) (world.detached 0) reply refl (reads-detached s.tables 0) i)
+          (λ _ i. begun-word s t p h lo hi x reply x.word k at refl i) i) i,
+    )))

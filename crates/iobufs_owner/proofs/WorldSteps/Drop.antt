@@ -1,26 +1,11 @@
 -- A drop begins, read as a step of the world.
-use Rattle.std.proofs.Common.{◌≡◌, ◌⊎◌, inl, inr, ℕ, Bool, true, false, cond, nat_eq, length, set, Option, Some, None, Result, Ok, Err, MatchOption, ap, sym, ◌∙◌, subst, refl, arith}
-use Rattle.std.proofs.lemmas.Bool.Decides.{nat_tests}
-use Rattle.std.proofs.Math.ListN.{length-set}
-use Rattle.std.proofs.lemmas.List.{map-set}
-use Rattle.iobufs_owner.specs.Types.{Handle, Freed, Kind, View, Mut, Pending, Subtract, Release, Word, Empty, Descriptor, Counted, Refusal, Reply, More, Done}
-use Rattle.iobufs_owner.specs.State.{State, owner_of, handle_at, record_at, block_at, triple}
-use Rattle.iobufs_owner.specs.World.{World, Dropping, holders, is_block}
-use Rattle.iobufs_owner.specs.Reading.{reading, read_handle, read_call, has_let_go}
-use Rattle.iobufs_owner.specs.Sound.{IsSound}
+use Rattle.iobufs_owner.proofs.Base.{◌≡◌, ◌⊎◌, inl, inr, ℕ, Bool, true, false, cond, nat_eq, length, set, Option, Some, None, MatchOption, ap, sym, ◌∙◌, subst, refl, arith, nat_tests, length-set, map-set, Handle, Freed, Kind, View, Mut, Pending, Subtract, Release, Word, Empty, Descriptor, Counted, Reply, More, Done, State, owner_of, handle_at, record_at, block_at, triple, World, Dropping, holders, is_block, reading, read_handle, read_call, has_let_go, IsSound, done, unfinished_call, called, state_without, block_freed, both_freed, GoesOnWithin, free_in, held_gone, call_set, IsAnswered, owner-empty, owner-counted, eq-eqb, any-reads, described-at, counted-at, alone-at, alone-described, alone-written, any-tells, any_of}
 use Rattle.iobufs_owner.specs.Lending as lending
 use Rattle.iobufs_owner.specs.LongCalls as long
-use Rattle.iobufs_owner.specs.Changes.{done, unfinished_call, called, state_without, block_freed, both_freed}
 use Rattle.iobufs_owner.specs.Steps as world
-use Rattle.iobufs_owner.specs.Steps.{GoesOnWithin, free_in, held_gone, call_set}
-use Rattle.iobufs_owner.proofs.WorldSteps.Sizes.{IsAnswered}
-use Rattle.iobufs_owner.proofs.Soundness.StaysSound.{owner-empty, owner-counted}
-use Rattle.iobufs_owner.proofs.Soundness.Frames.{is-eqb}
-use Rattle.iobufs_owner.proofs.WorldSteps.Shown.{any-reads, read_lent}
-use Rattle.iobufs_owner.proofs.Soundness.Edits.{described-at, counted-at, alone-at, alone-described, alone-written}
-use Rattle.iobufs_owner.proofs.Soundness.Recovered.{recovered-is}
+use Rattle.iobufs_owner.proofs.Soundness.{recovered-is}
 use Rattle.iobufs_owner.proofs.WorldSteps.Freeze.{freed-reads, both-reads}
-use Rattle.iobufs_owner.proofs.WorldSteps.Taken.{refused-taken, done-taken, any-tells}
+use Rattle.iobufs_owner.proofs.WorldSteps.Taken.{done-taken, Had, had}
 use Rattle.iobufs_owner.proofs.WorldSteps.CloneAndSlice.{reply-taken}
 
 -- what the world says, by the block
@@ -68,7 +53,7 @@ drop-kind s t p h r x reply View k at w e i = inr (drop-viewed s t p h r reply (
 drop-kind s t p h r x reply Mut k at w e i =
     let b : ℕ = (record_at s.tables r).block in
     let c = counted-at s h x r k at w in
-    let one = alone-at s h x b k at (alone-written s.tables b x r w e ∙ ap (is_block b) (owner-counted s.tables x r w) ∙ is-eqb b b refl) in
+    let one = alone-at s h x b k at (alone-written s.tables b x r w e ∙ ap (is_block b) (owner-counted s.tables x r w) ∙ eq-eqb b b refl) in
     let l = gone-entries s h in
     let m = length-set s.tables.records r (record { count = (record_at s.tables r).count; block = (record_at s.tables r).block; live = false }) in
     let z = done-taken s (state_without (both_freed s r) h) t (free_in (held_gone (reading s) h) (record_at s.tables r).block) reply (cc (l, m))
@@ -84,7 +69,7 @@ drop-word s t p h x reply Empty k at w i =
 drop-word s t p h x reply (Descriptor v) k at w i =
     let d = described-at s h x v k at w in
     let b : ℕ = d.block in
-    let one = alone-at s h x d.block k at (alone-described s.tables d.block x v w ∙ ap (is_block d.block) d.says.owner ∙ is-eqb d.block d.block refl) in
+    let one = alone-at s h x d.block k at (alone-described s.tables d.block x v w ∙ ap (is_block d.block) d.says.owner ∙ eq-eqb d.block d.block refl) in
     let l = gone-entries s h in
     let i' = subst (λ (f : Freed). IsAnswered s (done (state_without (block_freed s f) h)) reply t) (recovered-is s h x v d.block k at w d.says.owner) i in
     let z = done-taken s (state_without (block_freed s (triple (block_at s.tables d.block))) h) t (free_in (held_gone (reading s) h) d.block) reply
@@ -93,12 +78,8 @@ drop-word s t p h x reply (Descriptor v) k at w i =
 drop-word s t p h x reply (Counted r) k at w i =
     subst (λ (o : Option ℕ). Begun s p h o reply (reading t)) (sym (owner-counted s.tables x r w)) (drop-kind s t p h r x reply x.kind k at w refl i)
 
-drop-lent : (s t : State) (p h : ℕ) (reply : Reply) (r : Result Handle Refusal) → IsSound s → lending.lend_any_of s h ≡ r
-    → IsAnswered s (long.drop_lent s p h r) reply t → world.DropIs (reading s) p h (read_lent s.tables r) reply (reading t)
-drop-lent s t p h reply (Err why) k e i = refused-taken s t why reply i
-drop-lent s t p h reply (Ok x) k e i = drop-word s t p h x reply x.word k (any-tells s h x e).at refl i
-
 -- users of a sound machine see the first step of a drop as that of the handle that they see under the number
 pub drop-steps : (s t : State) (p h : ℕ) (reply : Reply) → IsSound s → IsAnswered s (long.drop_of s p h) reply t
-    → world.DropIs (reading s) p h (world.any_of (reading s) h) reply (reading t)
-drop-steps s t p h reply k i = rw (any-reads s h) (drop-lent s t p h reply (lending.lend_any_of s h) k refl i)
+    → Had s t h (any_of (reading s) h) (λ x. None) (λ x. world.DropIs (reading s) p h x reply (reading t)) reply
+drop-steps s t p h reply k i = had s t h (lending.lend_any_of s h) _ _ _ _ reply (any-reads s h) i (λ x e i.
+    (let at = (any-tells s h x e).at in (at, drop-word s t p h x reply x.word k at refl i)))

@@ -1,31 +1,10 @@
 -- Freeze, read as a step of the world.
-use Rattle.std.proofs.Common.{◌≡◌, ◌⊎◌, inl, inr, ℕ, ◌-◌, ◌^◌, ◌<◌, Bool, true, false, cond, nat_lt, nat_eq, length, set, Option, Some, Result, Ok, Err, ap, sym, ◌∙◌, subst, refl, IsSome}
-use Rattle.std.proofs.Math.ListN.{length-set}
-use Rattle.std.proofs.lemmas.List.{map-set}
-use Rattle.iobufs_owner.specs.Types.{Handle, Freed, Record, View, Mut, Word, Empty, Descriptor, Counted, Refusal, Memory, Reply, Done}
-use Rattle.iobufs_owner.specs.State.{State, Tables, owner_of, owned_by, handle_at, record_at, block_at, triple, retailed}
-use Rattle.iobufs_owner.specs.World.{World, Held}
-use Rattle.iobufs_owner.specs.Reading.{reading, read_held, read_handle}
-use Rattle.iobufs_owner.specs.Sound.{IsSound}
+use Rattle.iobufs_owner.proofs.Base.{◌≡◌, ◌⊎◌, inl, inr, ℕ, ◌-◌, ◌^◌, ◌<◌, Bool, true, false, cond, nat_lt, nat_eq, length, set, Option, Some, ap, sym, ◌∙◌, subst, refl, IsSome, length-set, map-set, Handle, Freed, Record, View, Mut, Word, Empty, Descriptor, Counted, Memory, Reply, Done, State, Tables, owner_of, owned_by, handle_at, record_at, block_at, triple, retailed, World, LiveHandle, reading, read_held, read_handle, IsSound, refused, done, edited, next_record, tables_without, block_freed, both_freed, replaced, lend_of, Lends, frozen, promoted, Denied, GrantedNoRoom, free_in, free_of, held_set, IsAnswered, entries, calls-read-kept, owner-empty, owner-counted, lend-tells, handles-kept, alone-reads, described-at, counted-at, within, owner-redescribed, base-frozen, freed-more, ltb-true, None, alone_of}
 use Rattle.iobufs_owner.specs.Changes as change
 use Rattle.iobufs_owner.specs.ShortCalls as short
-use Rattle.iobufs_owner.specs.Changes.{refused, done, edited, next_record, tables_without, block_freed, both_freed, replaced}
-use Rattle.iobufs_owner.specs.Lending.{lend_of, Lends}
-use Rattle.iobufs_owner.specs.ShortCalls.{frozen, promoted}
 use Rattle.iobufs_owner.specs.Steps as world
-use Rattle.iobufs_owner.specs.Steps.{Denied, GrantedNoRoom, free_in, free_of, held_set}
-use Rattle.iobufs_owner.proofs.WorldSteps.Sizes.{IsAnswered, entries}
-use Rattle.iobufs_owner.proofs.Soundness.Keeps.{calls-read-kept}
-use Rattle.iobufs_owner.proofs.Soundness.StaysSound.{owner-empty, owner-counted}
-use Rattle.iobufs_owner.proofs.WorldSteps.Lent.{lend-tells}
-use Rattle.iobufs_owner.proofs.Soundness.Frames.{handles-kept}
-use Rattle.iobufs_owner.proofs.WorldSteps.Shown.{alone-reads, read_lent}
-use Rattle.iobufs_owner.proofs.Soundness.Edits.{described-at, counted-at, within, owner-redescribed, base-frozen}
-use Rattle.iobufs_owner.proofs.Soundness.Logs.{freed-more}
-use Rattle.iobufs_owner.proofs.Soundness.RecordFreed.{dead-keeps, dead-let_go}
-use Rattle.iobufs_owner.proofs.Soundness.Recovered.{recovered-is}
-use Rattle.iobufs_owner.proofs.Soundness.NewRecord.{recorded, recorded-keeps, recorded-let_go, recorded-new}
-use Rattle.iobufs_owner.proofs.WorldSteps.Taken.{refused-taken, done-taken, grown-taken, edit-taken, reads-detached, lt-true, by-test}
+use Rattle.iobufs_owner.proofs.Soundness.{dead-keeps, dead-let_go, recovered-is, recorded, recorded-keeps, recorded-let_go, recorded-new}
+use Rattle.iobufs_owner.proofs.WorldSteps.Taken.{refused-taken, done-taken, grown-taken, edit-taken, reads-detached, by-test, Had, had}
 
 -- ---- a handle that lets its block go
 
@@ -62,13 +41,13 @@ nothing-reads s h x (Descriptor v) k l w =
     (subst (λ (o : Option ℕ). reading (replaced (block_freed s (triple (block_at s.tables d.block))) h (Some (change.detached_handle 0)))
     ≡ held_set (free_of (reading s) o) h (world.detached 0)) (sym d.says.owner)
     (freed-reads s h d.block (Some (change.detached_handle 0)) k d.says.known
-    ∙ ap (λ (z : Held). record (free_in (reading s) d.block) { handles = set (reading s).handles h (Some z) }) (reads-detached s.tables 0)))
+    ∙ ap (λ (z : LiveHandle). record (free_in (reading s) d.block) { handles = set (reading s).handles h (Some z) }) (reads-detached s.tables 0)))
 nothing-reads s h x (Counted r) k l w =
     let c = counted-at s h x r k l.at w in
     subst (λ (o : Option ℕ). reading (replaced (both_freed s r) h (Some (change.detached_handle 0)))
     ≡ held_set (free_of (reading s) o) h (world.detached 0)) (sym (owner-counted s.tables x r w))
     (both-reads s h r (Some (change.detached_handle 0)) k c.live
-    ∙ ap (λ (z : Held). record (free_in (reading s) (record_at s.tables r).block) { handles = set (reading s).handles h (Some z) })
+    ∙ ap (λ (z : LiveHandle). record (free_in (reading s) (record_at s.tables r).block) { handles = set (reading s).handles h (Some z) })
     (reads-detached (tables_without s.tables r) 0))
 
 nothing-entries : (s : State) (h : ℕ) (x : Handle) (w : Word) → entries (edited (short.freed_with s x w) h (change.detached_handle 0)) ≡ entries s
@@ -83,7 +62,7 @@ nothing-entries s h x (Counted r) = let a = length-set s.handles h (Some (change
 -- ---- a handle whose descriptor becomes a record
 
 -- a record more and another handle under a number are, read, that handle in the world, in a sound machine where one stood there
-pub promoted-reads : (s : State) (h b n : ℕ) (x y : Handle) (z : Held) → IsSound s → handle_at s h ≡ Some x → read_held (recorded s.tables n b) y ≡ z
+pub promoted-reads : (s : State) (h b n : ℕ) (x y : Handle) (z : LiveHandle) → IsSound s → handle_at s h ≡ Some x → read_held (recorded s.tables n b) y ≡ z
     → reading (edited (change.with_record s n b) h y) ≡ held_set (reading s) h z
 promoted-reads s h b n x y z k at e =
     let q = recorded-keeps s.tables n b in
@@ -129,7 +108,7 @@ freeze-described s t h v x memory reply true k l w e i =
     let d = described-at s h x v k l.at w in
     let y : Handle = frozen x (Descriptor (retailed s.tables v (x.cap - x.len))) in
     let o = owner-redescribed s.tables x y v (retailed s.tables v (x.cap - x.len)) w refl
-    (base-frozen s.tables x v d.block d.log d.tail l.kind_is (within s h x k l.at l.kind_is) d.says (lt-true (x.cap - x.len) (2 ^ s.tables.tail_bits) e)) in
+    (base-frozen s.tables x v d.block d.log d.tail l.kind_is (within s h x k l.at l.kind_is) d.says (ltb-true (x.cap - x.len) (2 ^ s.tables.tail_bits) e)) in
     inr (inr (edit-taken s t h y (record { kind = View; block = owner_of s.tables x; place = x.ptr; len = x.len }) reply (rw o refl) i))
 freeze-described s t h v x memory reply false k l w e i = freeze-promoted s t h v x memory reply k l w i
 
@@ -145,18 +124,16 @@ freeze-word s t h x memory reply (Counted r) k l w i =
     (inr (edit-taken s t h (frozen x (Counted r)) (record { kind = View; block = owner_of s.tables x; place = x.ptr; len = x.len }) reply
     (rw (owner-counted s.tables (frozen x (Counted r)) r refl, owner-counted s.tables x r w) refl) i))
 
-freeze-lent : (s t : State) (h : ℕ) (memory : Bool) (reply : Reply) (r : Result Handle Refusal) → IsSound s → lend_of s h Mut ≡ r
-    → IsAnswered s (short.freeze_lent s h memory r) reply t → world.FreezeIs (reading s) h memory (read_lent s.tables r) reply (reading t)
-freeze-lent s t h memory reply (Err why) k e i = refused-taken s t why reply i
-freeze-lent s t h memory reply (Ok x) k e i =
-    let l = lend-tells s h Mut x e in
-    by-test _ _ s t (done (edited (short.freed_with s x x.word) h (change.detached_handle 0))) (short.freeze_by s h memory x x.word) reply (nat_eq x.len 0)
-    (λ _ i. done-taken s (edited (short.freed_with s x x.word) h (change.detached_handle 0)) t
-    (held_set (free_of (reading s) (owner_of s.tables x)) h (world.detached 0)) reply (nothing-entries s h x x.word)
-    (nothing-reads s h x x.word k l refl) i)
-    (λ _ i. freeze-word s t h x memory reply x.word k l refl i) i
-
 -- users of a sound machine see a freeze as that of the writable handle that they see under the number
 pub freeze-steps : (s t : State) (h : ℕ) (memory : Bool) (reply : Reply) → IsSound s → IsAnswered s (short.freeze_of s h memory) reply t
-    → world.FreezeIs (reading s) h memory (world.alone_of (reading s) h Mut) reply (reading t)
-freeze-steps s t h memory reply k i = rw (alone-reads s h Mut) (freeze-lent s t h memory reply (lend_of s h Mut) k refl i)
+    → Had s t h (alone_of (reading s) h Mut) (λ x. None) (λ x. world.FreezeIs (reading s) h memory x reply (reading t)) reply
+freeze-steps s t h memory reply k i = had s t h (lend_of s h Mut) _ _ _ _ reply (alone-reads s h Mut) i (λ x e i.
+    (let l = lend-tells s h Mut x e in (
+      l.at,
+      by-test _ _ s t (done (edited (short.freed_with s x x.word) h (change.detached_handle 0))) (short.freeze_by s h memory x x.word) reply
+          (nat_eq x.len 0)
+          (λ _ i. done-taken s (edited (short.freed_with s x x.word) h (change.detached_handle 0)) t
+          (held_set (free_of (reading s) (owner_of s.tables x)) h (world.detached 0)) reply (nothing-entries s h x x.word)
+          (nothing-reads s h x x.word k l refl) i)
+          (λ _ i. freeze-word s t h x memory reply x.word k l refl i) i,
+    )))

@@ -1,26 +1,10 @@
 -- New and External, read as steps of the world.
-use Rattle.std.proofs.Common.{◌≡◌, ◌⊎◌, inl, inr, ℕ, ◌^◌, Bool, true, false, cond, [], ◌∷◌, ◌++◌, length, map, Option, Some, ap, sym, ◌∙◌, subst, refl, MatchBool}
-use Rattle.std.proofs.lemmas.List.{map-append}
-use Rattle.iobufs_owner.specs.Types.{Block, Handle, Record, View, Mut, Descriptor, Counted, BadPlace, Memory, Reply}
-use Rattle.iobufs_owner.specs.State.{State, Tables, owner_of}
-use Rattle.iobufs_owner.specs.Reading.{reading, read_held, is_freed}
-use Rattle.iobufs_owner.specs.Sound.{IsSound}
-use Rattle.iobufs_owner.specs.Places.{IsGoodPlace}
-use Rattle.iobufs_owner.specs.Word.{HasRoom, word_of}
+use Rattle.iobufs_owner.proofs.Base.{◌≡◌, ◌⊎◌, ℕ, Bool, true, false, cond, [], ◌∷◌, ◌++◌, length, map, Option, Some, ap, ◌∙◌, refl, MatchBool, map-append, Block, Handle, Record, View, Mut, Descriptor, Counted, BadPlace, Memory, Reply, State, Tables, owner_of, reading, read_held, is_freed, IsSound, IsGoodPlace, HasRoom, word_of, Outcome, refused, with_block, with_record, next_record, made_block, first_handle, whole_view, described_of, recorded_of, NoRoom, Makes, Refuses, block_more, native_block, external_block, IsAnswered, calls-read-kept, owner-counted, grown, grown-keeps, handles-kept, fresh-log, fits-room, fits-true, is_good_place, log_of, MatchOption, cause_if, not}
 use Rattle.iobufs_owner.specs.ShortCalls as short
-use Rattle.iobufs_owner.specs.Changes.{Outcome, refused, with_block, with_record, next_record}
-use Rattle.iobufs_owner.specs.ShortCalls.{made_block, first_handle, whole_view, described_of, recorded_of}
 use Rattle.iobufs_owner.specs.Steps as world
-use Rattle.iobufs_owner.specs.Steps.{NoRoom, Makes, Refuses, block_more, native_block, external_block}
-use Rattle.iobufs_owner.proofs.WorldSteps.Sizes.{IsAnswered}
-use Rattle.iobufs_owner.proofs.Soundness.Keeps.{calls-read-kept}
-use Rattle.iobufs_owner.proofs.Soundness.StaysSound.{owner-counted}
-use Rattle.iobufs_owner.proofs.Soundness.Frames.{grown, grown-keeps, handles-kept}
-use Rattle.iobufs_owner.proofs.Soundness.Logs.{fresh-log}
-use Rattle.iobufs_owner.proofs.Soundness.New.{other-base, first-owner}
-use Rattle.iobufs_owner.proofs.Soundness.NewRecord.{recorded-new, recorded-let_go, both, both-keeps}
-use Rattle.iobufs_owner.proofs.Words.{fits-room, fits-true}
+use Rattle.iobufs_owner.proofs.Soundness.{other-base, first-owner, recorded-new, recorded-let_go, both, both-keeps}
 use Rattle.iobufs_owner.proofs.WorldSteps.Taken.{refused-taken, made-taken}
+use Rattle.iobufs_owner.proofs.WorldSteps.GoodPlaces.{good-is}
 
 -- one block more isn't freed
 block-reads : (s : State) (b : Block) → IsSound s → IsGoodPlace s.tables.blocks b.base b.size b.align
@@ -71,70 +55,56 @@ recorded-made s t b x reply k good w i =
       len = x.len;
     }) reply (recorded-reads s b k good) z i
 
-new-placed : (s t : State) (base size log : ℕ) (o : Outcome) (reply : Reply) → IsSound s → IsGoodPlace s.tables.blocks base size (2 ^ log)
-    → (v : Bool) → short.fits_in s.tables size log 0 ≡ v
-    → o ≡ cond v (described_of s (made_block base size (2 ^ log) false) (word_of s.tables.align_bits s.tables.tail_bits size log 0))
-    (recorded_of s (made_block base size (2 ^ log) false) (first_handle (made_block base size (2 ^ log) false) (Counted (next_record s))))
-    → IsAnswered s o reply t → NoRoom (reading s) reply (reading t)
-    ⊎ Makes (block_more (reading s) (native_block base size (2 ^ log)))
+new-placed : (s t : State) (base size align : ℕ) (reply : Reply) → IsSound s → IsGoodPlace s.tables.blocks base size align
+    → (v : Bool) → short.fits_in s.tables size (log_of align) 0 ≡ v
+    → IsAnswered s (cond v (described_of s (made_block base size align false) (word_of s.tables.align_bits s.tables.tail_bits size (log_of align) 0))
+    (recorded_of s (made_block base size align false) (first_handle (made_block base size align false) (Counted (next_record s))))) reply t
+    → NoRoom (reading s) reply (reading t) ⊎ Makes (block_more (reading s) (native_block base size align))
     (record { kind = Mut; block = Some (length s.tables.blocks); place = base; len = 0 }) reply (reading t)
-new-placed s t base size log o reply k good true f e i =
-    let room = fits-room s.tables.align_bits s.tables.tail_bits s.tables.size_bits size log 0 f in
-    let b : Block = made_block base size (2 ^ log) false in
-    let w : ℕ = word_of s.tables.align_bits s.tables.tail_bits size log 0 in
-    let x : Handle = first_handle (made_block base size (2 ^ log) false) (Descriptor w) in
-    let own = first-owner s.tables b log w k.blocks.places good room refl in
+new-placed s t base size align reply k good true f i =
+    let room = fits-room s.tables.align_bits s.tables.tail_bits s.tables.size_bits size (log_of align) 0 f in
+    let b : Block = made_block base size align false in
+    let w : ℕ = word_of s.tables.align_bits s.tables.tail_bits size (log_of align) 0 in
+    let x : Handle = first_handle (made_block base size align false) (Descriptor w) in
+    let own = first-owner s.tables b (log_of align) w k.blocks.places good room refl in
     let z : read_held (grown s.tables b) x ≡ record { kind = Mut; block = Some (length s.tables.blocks); place = base; len = 0 } =
     ap (λ (o : Option ℕ). record { kind = Mut; block = o; place = base; len = 0 }) own in
     made-taken s (with_block s b) t (block_more (reading s) b) x
-    (record { kind = Mut; block = Some (length s.tables.blocks); place = base; len = 0 }) reply (described-reads s b k good) z
-    (subst (λ (o : Outcome). IsAnswered s o reply t) e i)
-new-placed s t base size log o reply k good false f e i =
-    recorded-made s t (made_block base size (2 ^ log) false) (first_handle (made_block base size (2 ^ log) false) (Counted (next_record s))) reply k good
-    refl (subst (λ (o : Outcome). IsAnswered s o reply t) e i)
+    (record { kind = Mut; block = Some (length s.tables.blocks); place = base; len = 0 }) reply (described-reads s b k good) z i
+new-placed s t base size align reply k good false f i =
+    recorded-made s t (made_block base size align false) (first_handle (made_block base size align false) (Counted (next_record s))) reply k good refl i
 
--- a word that describes the block
-pub described-placed : (s : State) (base size align log w : ℕ) → align ≡ 2 ^ log
-    → HasRoom s.tables.align_bits s.tables.tail_bits s.tables.size_bits size log 0 → w ≡ word_of s.tables.align_bits s.tables.tail_bits size log 0
-    → described_of s (made_block base size align false) w ≡ short.placed s base size log
-described-placed s base size align log w e room is = rw (e, is, fits-true s.tables.align_bits s.tables.tail_bits s.tables.size_bits size log 0 room) refl
+-- a block that a word describes is placed so
+pub described-placed : (s : State) (base size align w : ℕ) → HasRoom s.tables.align_bits s.tables.tail_bits s.tables.size_bits size (log_of align) 0
+    → w ≡ word_of s.tables.align_bits s.tables.tail_bits size (log_of align) 0
+    → described_of s (made_block base size align false) w ≡ short.placed s base size align
+described-placed s base size align w room is = rw (is, fits-true s.tables.align_bits s.tables.tail_bits s.tables.size_bits size (log_of align) 0 room) refl
 
-new-good : (s t : State) (base size align : ℕ) (memory : Bool) (o : Outcome) (reply : Reply) → IsSound s
-    → IsGoodPlace s.tables.blocks base size align → MatchBool memory ((log : ℕ) × (align ≡ 2 ^ log) × (o ≡ short.placed s base size log))
-    (o ≡ refused s Memory) → IsAnswered s o reply t
-    → MatchBool memory (NoRoom (reading s) reply (reading t)
-    ⊎ Makes (block_more (reading s) (native_block base size align))
-    (record { kind = Mut; block = Some (length s.tables.blocks); place = base; len = 0 }) reply (reading t)) (Refuses (reading s) Memory reply (reading t))
-new-good s t base size align true o reply k good (log, e, p) i =
-    subst (λ (a : ℕ). NoRoom (reading s) reply (reading t)
-    ⊎ Makes (block_more (reading s) (native_block base size a))
-    (record { kind = Mut; block = Some (length s.tables.blocks); place = base; len = 0 }) reply (reading t)) (sym e)
-    (new-placed s t base size log o reply k (subst (λ (a : ℕ). IsGoodPlace s.tables.blocks base size a) e good) (short.fits_in s.tables size log 0) refl p i)
-new-good s t base size align false o reply k good e i = refused-taken s t Memory reply (subst (λ (o : Outcome). IsAnswered s o reply t) e i)
+-- a new block where one may be, if memory is granted; what is made is o, and P says so in the world
+granted : (s t : State) (P : Type 0) (base size align : ℕ) (memory : Bool) (o : Outcome) (reply : Reply) (v : Bool)
+    → is_good_place s.tables.blocks base size align ≡ v → (IsGoodPlace s.tables.blocks base size align → IsAnswered s o reply t → P)
+    → IsAnswered s (cond v (cond memory o (refused s Memory)) (refused s BadPlace)) reply t
+    → MatchOption (cause_if (not v) BadPlace) (MatchBool memory P (Refuses (reading s) Memory reply (reading t)))
+    (λ why. Refuses (reading s) why reply (reading t))
+granted s t P base size align true o reply true e f i = f (good-is s.tables.blocks base size align e) i
+granted s t P base size align false o reply true e f i = refused-taken s t Memory reply i
+granted s t P base size align memory o reply false e f i = refused-taken s t BadPlace reply i
 
 -- users of a sound machine see New as one native block more with an empty writable handle at its base, or as a refusal that changes nothing
-pub new-steps : (s t : State) (base size align : ℕ) (memory : Bool) (o : Outcome) (reply : Reply) → IsSound s
-    → short.IsAllocated s base size align memory o → IsAnswered s o reply t
-    → world.NewIs (reading s) (native_block base size align) (record { kind = Mut; block = Some (length s.tables.blocks); place = base; len = 0 })
-    memory reply (reading t)
-new-steps s t base size align memory o reply k (inl (bad, e)) i =
-    inl (bad, refused-taken s t BadPlace reply (subst (λ (o : Outcome). IsAnswered s o reply t) e i))
-new-steps s t base size align memory o reply k (inr (good, p)) i = inr (good, new-good s t base size align memory o reply k good p i)
-
-external-good : (s t : State) (base size : ℕ) (memory : Bool) (reply : Reply) → IsSound s → IsGoodPlace s.tables.blocks base size 1
-    → IsAnswered s (short.external_of s base size memory) reply t
-    → MatchBool memory (NoRoom (reading s) reply (reading t)
-    ⊎ Makes (block_more (reading s) (external_block base size))
-    (record { kind = View; block = Some (length s.tables.blocks); place = base; len = size }) reply (reading t)) (Refuses (reading s) Memory reply (reading t))
-external-good s t base size true reply k good i =
-    recorded-made s t (made_block base size 1 true) (whole_view (made_block base size 1 true) (Counted (next_record s))) reply k good refl i
-external-good s t base size false reply k good i = refused-taken s t Memory reply i
+pub new-steps : (s t : State) (base size align : ℕ) (memory : Bool) (reply : Reply) → IsSound s → IsAnswered s (short.new_of s base size align memory) reply t
+    → MatchOption (cause_if (not (is_good_place s.tables.blocks base size align)) BadPlace) (world.NewIs (reading s) (native_block base size align)
+    (record { kind = Mut; block = Some (length s.tables.blocks); place = base; len = 0 }) memory reply (reading t))
+    (λ why. Refuses (reading s) why reply (reading t))
+new-steps s t base size align memory reply k i =
+    granted s t _ base size align memory (short.placed s base size align) reply (is_good_place s.tables.blocks base size align) refl
+    (λ good i. new-placed s t base size align reply k good (short.fits_in s.tables size (log_of align) 0) refl i) i
 
 -- users of a sound machine see External as one adopted block more with a view of all of it, or as a refusal that changes nothing
-pub external-steps : (s t : State) (base size : ℕ) (memory : Bool) (o : Outcome) (reply : Reply) → IsSound s → short.IsExternal s base size memory o
-    → IsAnswered s o reply t → world.NewIs (reading s) (external_block base size)
-    (record { kind = View; block = Some (length s.tables.blocks); place = base; len = size }) memory reply (reading t)
-external-steps s t base size memory o reply k (inl (bad, e)) i =
-    inl (bad, refused-taken s t BadPlace reply (subst (λ (o : Outcome). IsAnswered s o reply t) e i))
-external-steps s t base size memory o reply k (inr (good, e)) i =
-    inr (good, external-good s t base size memory reply k good (subst (λ (o : Outcome). IsAnswered s o reply t) e i))
+pub external-steps : (s t : State) (base size : ℕ) (memory : Bool) (reply : Reply) → IsSound s → IsAnswered s (short.external_of s base size memory) reply t
+    → MatchOption (cause_if (not (is_good_place s.tables.blocks base size 1)) BadPlace) (world.NewIs (reading s) (external_block base size)
+    (record { kind = View; block = Some (length s.tables.blocks); place = base; len = size }) memory reply (reading t))
+    (λ why. Refuses (reading s) why reply (reading t))
+external-steps s t base size memory reply k i =
+    let b : Block = made_block base size 1 true in
+    granted s t _ base size 1 memory (recorded_of s b (whole_view b (Counted (next_record s)))) reply (is_good_place s.tables.blocks base size 1) refl
+    (λ good i. recorded-made s t b (whole_view b (Counted (next_record s))) reply k good refl i) i

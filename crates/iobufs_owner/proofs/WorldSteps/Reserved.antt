@@ -1,16 +1,6 @@
 -- Steps of a machine with room find it.
-use Rattle.std.proofs.Common.{◌≡◌, ◌≢◌, ℕ, ◌+◌, ◌≤◌, arith, List, [], ◌∷◌, ◌++◌, length, subst, Bool, cond, All, inl, inr, sym, ◌∙◌, ap}
-use Rattle.std.proofs.lemmas.List.{append_assoc}
-use Rattle.std.specs.List.{AllByRecursion as ByRecursion}
-use Rattle.std.proofs.lemmas.List.Elements.{All-from_recursion}
-use Rattle.iobufs_owner.specs.Types.{Step, Room, Reply, Refused}
-use Rattle.iobufs_owner.specs.State.{Seen, State, Room as Space, KeepsRoom, KeepsLogs, IsBeginning}
-use Rattle.iobufs_owner.specs.Changes.{Outcome}
-use Rattle.iobufs_owner.specs.Moves.{Moves, WantsRoom}
-use Rattle.iobufs_owner.proofs.WorldSteps.Sizes.{IsCarriedOut}
-use Rattle.iobufs_owner.specs.Runs.{Runs}
-use Rattle.iobufs_owner.specs.Growing.{GrowingRuns}
-use Rattle.iobufs_owner.specs.Reserved.{RoomFor, limit, blocks_of, new_blocks}
+use Rattle.iobufs_owner.proofs.Base.{◌≡◌, ◌≢◌, ℕ, ◌+◌, ◌≤◌, arith, List, [], ◌∷◌, ◌++◌, length, subst, Bool, cond, All, inl, inr, sym, ◌∙◌, ap, append_assoc, AllByRecursion as ByRecursion, All-from_recursion, Step, Room, Reply, Refused, Seen, State, KeepsRoom, KeepsLogs, IsBeginning, Outcome, Moves, WantsRoom, IsCarriedOut, Runs, GrowingRuns, RoomFor, limit, blocks_of, new_blocks, moved}
+use Rattle.iobufs_owner.specs.State.{Room as Space}
 use Rattle.iobufs_owner.proofs.WorldSteps.Modest.{IsModest, adds_block, blocks-made, modest, logs-same}
 
 -- memory for so many blocks more and for so many steps, within the limit
@@ -22,7 +12,8 @@ record HasBoth (m : Seen) (made steps : ℕ) : Type 0 where
 wants-none : (m : Seen) (o : Outcome) (block : Bool) → HasBoth m (cond block 1 0) 1 → IsModest m.state block o → WantsRoom m o.state → ⊥
 wants-none m o block r n (inl (grows, inl full)) = let l = r.memory.handles in omega (arith, l, full)
 wants-none m o block r n (inl (grows, inr many)) = let l = r.few.handles in omega (arith, l, many)
-wants-none m o block r n (inr (inl (grows, inl full))) = let g = n.blocks in let l = r.memory.blocks (omega (arith, g, grows)) in omega (arith, g, grows, l, full)
+wants-none m o block r n (inr (inl (grows, inl full))) = let g = n.blocks in let l = r.memory.blocks (omega (arith, g, grows)) in omega
+    (arith, g, grows, l, full)
 wants-none m o block r n (inr (inl (grows, inr many))) = let g = n.blocks in let l = r.few.blocks (omega (arith, g, grows)) in omega (arith, g, grows, l, many)
 wants-none m o block r n (inr (inr (grows, inl full))) = let l = r.memory.records in omega (arith, l, full)
 wants-none m o block r n (inr (inr (grows, inr many))) = let l = r.few.records in omega (arith, l, many)
@@ -35,11 +26,11 @@ taken-finds m o block reply next r n (inr (w, e, f)) = λ _. wants-none m o bloc
 -- a step of a machine with room for its block and for one step isn't refused for want of room
 pub finds : (m : Seen) (step : Step) (reply : Reply) (next : Seen) → Moves m step reply next → RoomFor m.room m.state (new_blocks step.act) 1 1
     → RoomFor limit m.state (new_blocks step.act) 1 1 → reply ≢ Refused Room
-finds m step reply next (o, moved, taken) memory few =
-    taken-finds m o (adds_block step.act) reply next.state (record {
+finds m step reply next taken memory few =
+    taken-finds m (moved m.state step) (adds_block step.act) reply next.state (record {
       memory = subst (λ n. RoomFor m.room m.state n 1 1) (blocks-made step.act) memory;
       few = subst (λ n. RoomFor limit m.state n 1 1) (blocks-made step.act) few;
-    }) (modest m.state step o moved) taken
+    }) (modest m.state step) taken
 
 -- ---- the logs
 
@@ -50,7 +41,7 @@ taken-logs m o block reply next n (inr (w, e, f)) = rw f (logs-same m.state)
 
 -- a step leaves in the logs what they have, and adds after it
 pub keeps-logs : (m : Seen) (step : Step) (reply : Reply) (next : Seen) → Moves m step reply next → KeepsLogs m.state next.state
-keeps-logs m step reply next (o, moved, taken) = taken-logs m o (adds_block step.act) reply next.state (modest m.state step o moved) taken
+keeps-logs m step reply next taken = taken-logs m (moved m.state step) (adds_block step.act) reply next.state (modest m.state step) taken
 
 -- ---- a run
 
@@ -75,9 +66,9 @@ left room m next a b k n e l i = record {
 
 moves-left : (m : Seen) (step : Step) (reply : Reply) (next : Seen) (b k n : ℕ) → k ≡ n + 1 → Moves m step reply next → next.room ≡ m.room
     → HasBoth m (new_blocks step.act + b) k → HasBoth next b n
-moves-left m step reply next b k n e (o, moved, taken) room i =
+moves-left m step reply next b k n e taken room i =
     let l = subst (λ n. IsLeft m next n) (sym (blocks-made step.act))
-    (taken-left m o (adds_block step.act) reply next (modest m.state step o moved) taken) in
+    (taken-left m (moved m.state step) (adds_block step.act) reply next (modest m.state step) taken) in
     record {
       memory = subst (λ (r : Space). RoomFor r next.state b n n) (sym room) (left m.room m next (new_blocks step.act) b k n e l i.memory);
       few = left limit m next (new_blocks step.act) b k n e l i.few;
@@ -106,9 +97,7 @@ fewer room s a b k n e i = record {
 
 find-each : (m : Seen) (steps : List Step) (replies : List Reply) (next : Seen) → GrowingRuns m steps replies next
     → HasBoth m (blocks_of steps) (length steps) → ByRecursion (λ reply. reply ≢ Refused Room) replies
-find-each m [] [] next r i = tt
 find-each m [] (reply ∷ replies) next r i = absurd r
-find-each m (step ∷ steps) [] next r i = tt
 find-each m (step ∷ steps) (reply ∷ replies) next (grown, mid, same, more, one, others) i =
     let e : length (step ∷ steps) ≡ length steps + 1 = omega arith in
     let a = new_blocks step.act in
@@ -118,6 +107,7 @@ find-each m (step ∷ steps) (reply ∷ replies) next (grown, mid, same, more, o
           (fewer limit grown.state a b _ (length steps) e g.few),
       find-each mid steps replies next others (moves-left grown step reply mid b _ (length steps) e one.moves one.room g),
     )
+find-each m steps replies next r i = tt
 
 -- no step of a run in which tables may grow is refused for want of room, where the machine has room for its blocks and steps
 pub find : (m : Seen) (steps : List Step) (replies : List Reply) (next : Seen) → GrowingRuns m steps replies next
@@ -132,9 +122,8 @@ begins-through a b c (m, e) (n, f) = (m ++ n, f ∙ ap (λ l. l ++ n) e ∙ appe
 -- a run leaves in the logs what they have, and adds after it
 pub logs-run : (s : State) (steps : List Step) (replies : List Reply) (next : State) → Runs s steps replies next → KeepsLogs s next
 logs-run s [] [] next r = subst (λ (n : State). KeepsLogs s n) (sym r) (logs-same s)
-logs-run s [] (reply ∷ replies) next r = absurd r
-logs-run s (step ∷ steps) [] next r = absurd r
 logs-run s (step ∷ steps) (reply ∷ replies) next (mid, one, others) =
     let a = one.logs in
     let b = logs-run mid steps replies next others in
     (begins-through _ _ _ a.0 b.0, begins-through _ _ _ a.1 b.1)
+logs-run s steps replies next r = absurd r

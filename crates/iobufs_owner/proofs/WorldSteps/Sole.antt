@@ -1,15 +1,5 @@
 -- The answer of `IsUnique` is exact.
-use Rattle.std.proofs.Common.{◌≡◌, ◌≢◌, ◌⊎◌, inl, inr, ℕ, ◌<◌, ◌≤◌, zero, suc, Bool, true, false, cond, nat_lt, nat_eq, List, [], ◌∷◌, length, get_or, set, Option, Some, None, Ok, Err, sym, ◌∙◌, subst, refl, arith, MatchBool}
-use Rattle.std.proofs.lemmas.Bool.Decides.{nat_tests, eqb_tells}
-use Rattle.std.proofs.lemmas.List.{get_or-set_same, get_or-set_other}
-use Rattle.iobufs_owner.specs.Types.{IsUnique, Act, Begin, Step, Borrowed, Idle, Reply, Unique}
-use Rattle.iobufs_owner.specs.World.{World, Held, Unfinished, held_at, going_at, holders, holds, still_holds, tally, is_shared}
-use Rattle.iobufs_owner.specs.Steps as world
-use Rattle.iobufs_owner.specs.Steps.{Begins, ActsAt, Steps}
-use Rattle.iobufs_owner.specs.Tells.{IsSole, TellsUnique}
-use Rattle.iobufs_owner.proofs.Soundness.Counts.{count-set, count-some, count-two, count-find}
-use Rattle.iobufs_owner.proofs.Soundness.Frames.{is-eqb}
-use Rattle.iobufs_owner.proofs.WorldSteps.Taken.{eq-true}
+use Rattle.iobufs_owner.proofs.Base.{◌≡◌, ◌≢◌, ◌⊎◌, inl, inr, ℕ, ◌<◌, ◌≤◌, zero, suc, Bool, true, false, nat_eq, List, [], ◌∷◌, length, get_or, set, Option, Some, None, sym, ◌∙◌, subst, refl, arith, eqb_tells, get_or-set_same, get_or-set_other, IsUnique, Act, Begin, Step, Reply, Unique, World, LiveHandle, Unfinished, held_at, going_at, holders, holds, still_holds, tally, Begins, ActsAt, Steps, IsSole, TellsUnique, count-set, count-some, count-two, eq-eqb, eqb-true, false_from_ne_true, Refusal, ap, count-none, MatchOption, Refused, cause_of, refused_at}
 
 -- ---- counts
 
@@ -19,26 +9,18 @@ inside p [] i n t = absurd (cc)
 inside p (x ∷ xs) zero n t = omega arith
 inside p (x ∷ xs) (suc i) n t = let l = inside p xs i n t in omega (arith, l)
 
--- what can't be true is false
-not-so : (v : Bool) → (v ≡ true → ⊥) → v ≡ false
-not-so true n = absurd (n refl)
-not-so false n = refl
-
 -- where one counts and another place passes, the other doesn't
 others-fail : {X : Type 0} (p : Option X → Bool) (xs : List (Option X)) (h k : ℕ) → p None ≡ false → p (get_or xs h None) ≡ true → tally p xs ≤ 1
     → k ≢ h → p (get_or xs k None) ≡ false
 others-fail p xs h k n t few d =
-    not-so (p (get_or xs k None)) (λ u. (let two = count-two p xs k h None d (inside p xs k n u) (inside p xs h n t) u t in omega (arith, two, few)))
+    false_from_ne_true (p (get_or xs k None)) (λ u. (let two = count-two p xs k h None d (inside p xs k n u) (inside p xs h n t) u t in omega
+    (arith, two, few)))
 
 none-pass : {X : Type 0} (p : Option X → Bool) (xs : List (Option X)) (k : ℕ) → p None ≡ false → tally p xs ≡ 0 → p (get_or xs k None) ≡ false
-none-pass p xs k n z = not-so (p (get_or xs k None)) (λ u. (let one = count-some p xs k None (inside p xs k n u) u in omega (arith, one, z)))
+none-pass p xs k n z = false_from_ne_true (p (get_or xs k None)) (λ u. (let one = count-some p xs k None (inside p xs k n u) u in omega (arith, one, z)))
 
 none-counted : {X : Type 0} (p : Option X → Bool) (xs : List (Option X)) → ((k : ℕ) → p (get_or xs k None) ≡ false) → tally p xs ≡ 0
-none-counted p xs f = elim (eqb_tells (tally p xs) 0) [
-  | inl e ↦ e.1
-  | inr e ↦ (let d = e.1 in let some : 0 < tally p xs = omega (arith, d) in let q =
-      count-find p None xs some in absurd (let z = sym (f q.place) ∙ q.passes in cc))
-]
+none-counted p xs f = count-none p None xs (λ i l t. let z = sym (f i) ∙ t in cc)
 
 -- without the handle
 emptied : {X : Type 0} (p : Option X → Bool) (xs : List (Option X)) (h k : ℕ) (v : (k ≡ h) ⊎ (k ≢ h)) → p None ≡ false → h < length xs
@@ -75,45 +57,33 @@ sole-one w h b t s =
 
 -- ---- the answer
 
-unique-free : (w next : World) (b : ℕ) (reply : Reply) (v u : Bool) → world.UniqueIs w (cond u (Err Borrowed) (Ok b)) reply next → reply ≡ Unique v
-    → v ≡ nat_eq (holders w b) 1
-unique-free w next b reply v true (e, f) q = absurd (let z = sym e ∙ q in cc)
-unique-free w next b reply v false (e, f) q = let z : Unique (nat_eq (holders w b) 1) ≡ Unique v = sym e ∙ q in cc
-
-unique-block : (w next : World) (h b : ℕ) (reply : Reply) (v : Bool) (o : Option ℕ) → o ≡ Some b
-    → world.UniqueIs w (world.unborrowed_block w h o) reply next → reply ≡ Unique v → v ≡ nat_eq (holders w b) 1
-unique-block w next h b reply v o e m q =
-    unique-free w next b reply v (is_shared h w.calls) (subst (λ (o : Option ℕ). world.UniqueIs w (world.unborrowed_block w h o) reply next) e m) q
-
-unique-at : (w next : World) (h b : ℕ) (x : Held) (reply : Reply) (v : Bool) (o : Option Held) → o ≡ Some x → x.block ≡ Some b
-    → world.UniqueIs w (world.on_held o (λ x. world.unborrowed_block w h x.block)) reply next → reply ≡ Unique v → v ≡ nat_eq (holders w b) 1
-unique-at w next h b x reply v o e f m q =
-    unique-block w next h b reply v x.block f (subst (λ (o : Option Held). world.UniqueIs w (world.on_held o (λ x. world.unborrowed_block w h x.block)) reply next) e m) q
-
-unique-begun : (w next : World) (p h : ℕ) (memory : Bool) (reply : Reply) → Begins w p (IsUnique h) memory reply next
-    → world.UniqueIs w (world.block_of w h) reply next
+unique-begun : (w next : World) (p h b : ℕ) (memory v : Bool) (x : LiveHandle) (reply : Reply) → Begins w p (IsUnique h) memory reply next
+    → held_at w h ≡ Some x → x.block ≡ Some b → reply ≡ Unique v → v ≡ nat_eq (holders w b) 1
 unfolding Begins
-unique-begun w next p h memory reply m = m
+unique-begun w next p h b memory v x reply (y, at', (c, own, e, g)) at f q =
+    let yx : y ≡ x = (let z = sym at' ∙ at in cc) in
+    let i : Some b ≡ Some c = sym f ∙ ap (λ (x : LiveHandle). x.block) (sym yx) ∙ own in
+    let n : b ≡ c = cc in
+    let z : Unique (nat_eq (holders w c) 1) ≡ Unique v = sym e ∙ q in
+    rw n (cc)
 
-unique-acts : (w next : World) (p h b : ℕ) (memory v : Bool) (x : Held) (o : Option Unfinished) (reply : Reply)
+unique-acts : (w next : World) (p h b : ℕ) (memory v : Bool) (x : LiveHandle) (o : Option Unfinished) (reply : Reply)
     → ActsAt w p (Begin (IsUnique h) memory) o reply next → held_at w h ≡ Some x → x.block ≡ Some b → reply ≡ Unique v → v ≡ nat_eq (holders w b) 1
-unique-acts w next p h b memory v x None reply m at block q = unique-at w next h b x reply v (held_at w h) at block (unique-begun w next p h memory reply m) q
-unique-acts w next p h b memory v x (Some c) reply m at block q = absurd (let z = sym m.0 ∙ q in cc)
+unique-acts w next p h b memory v x None reply m at block q = unique-begun w next p h b memory v x reply m at block q
+unique-acts w next p h b memory v x (Some c) reply m at block q = absurd m
 
-unique-by : (w next : World) (step : Step) (h b : ℕ) (memory v u : Bool) (x : Held) (reply : Reply)
-    → MatchBool u (ActsAt w step.party step.act (going_at w step.party) reply next) (world.Refuses w Idle reply next)
+unique-by : (w next : World) (step : Step) (h b : ℕ) (memory v : Bool) (o : Option Refusal) (x : LiveHandle) (reply : Reply)
+    → MatchOption o (ActsAt w step.party step.act (going_at w step.party) reply next)
+    (λ why. (reply ≡ Refused why) × (next ≡ refused_at w step.party step.act (going_at w step.party)))
     → step.act ≡ Begin (IsUnique h) memory → held_at w h ≡ Some x → x.block ≡ Some b → reply ≡ Unique v → v ≡ nat_eq (holders w b) 1
-unique-by w next step h b memory v true x reply m act at block q =
+unique-by w next step h b memory v None x reply m act at block q =
     unique-acts w next step.party h b memory v x (going_at w step.party) reply
     (subst (λ (a : Act). ActsAt w step.party a (going_at w step.party) reply next) act m) at block q
-unique-by w next step h b memory v false x reply m act at block q = absurd (let z = sym m.0 ∙ q in cc)
-
-eq-yes : (m n : ℕ) → m ≡ n → nat_eq m n ≡ true
-eq-yes m n e = grind (arith, nat_tests)
+unique-by w next step h b memory v (Some why) x reply m act at block q = absurd (let z = sym m.0 ∙ q in cc)
 
 -- a step of the world answers that a handle is unique exactly where no other handle and no unfinished drop holds its block
 pub tells-unique : (w next : World) (step : Step) (reply : Reply) → Steps w step reply next → TellsUnique w step reply
 tells-unique w next step reply m = λ h b memory v x act q at block.
-    let e = unique-by w next step h b memory v (nat_lt step.party (length w.calls)) x reply m act at block q in
-    let t : holds b (held_at w h) ≡ true = rw (at, block) (is-eqb b b refl) in
-    (λ y. sole-of w h b t (eq-true (holders w b) 1 (sym e ∙ y)), λ s. e ∙ eq-yes (holders w b) 1 (sole-one w h b t s))
+    let e = unique-by w next step h b memory v (cause_of w step) x reply m act at block q in
+    let t : holds b (held_at w h) ≡ true = rw (at, block) (eq-eqb b b refl) in
+    (λ y. sole-of w h b t (eqb-true (holders w b) 1 (sym e ∙ y)), λ s. e ∙ eq-eqb (holders w b) 1 (sole-one w h b t s))

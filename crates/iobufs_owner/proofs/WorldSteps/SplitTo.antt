@@ -1,43 +1,28 @@
 -- SplitTo, read as a step of the world.
-use Rattle.std.proofs.Common.{◌≡◌, ◌⊎◌, inl, inr, ℕ, ◌+◌, ◌-◌, Bool, true, false, cond, nat_lt, nat_eq, length, Option, Some, Result, Ok, Err, ap, sym, ◌∙◌, subst, refl, arith, IsSome}
-use Rattle.std.proofs.lemmas.List.{map-set}
-use Rattle.iobufs_owner.specs.Types.{Handle, View, Word, Empty, Descriptor, Counted, Refusal, OutOfRange, Memory, Ceiling, Reply}
-use Rattle.iobufs_owner.specs.State.{State, Tables, owner_of, owned_by, record_at}
-use Rattle.iobufs_owner.specs.World.{World, Held, is_block}
-use Rattle.iobufs_owner.specs.Reading.{reading, read_held, read_handle, has_let_go}
-use Rattle.iobufs_owner.specs.Sound.{IsSound}
+use Rattle.iobufs_owner.proofs.Base.{holders, ◌≡◌, ◌⊎◌, inl, inr, ℕ, ◌+◌, ◌-◌, Bool, true, false, cond, nat_lt, nat_eq, length, Option, Some, ap, sym, ◌∙◌, subst, refl, arith, IsSome, map-set, Handle, View, Word, Empty, Descriptor, Counted, OutOfRange, Memory, Ceiling, Reply, State, Tables, owner_of, owned_by, record_at, World, LiveHandle, is_block, reading, read_held, read_handle, has_let_go, IsSound, refused, made, edited, part, counted, with_count, lend_of, Lends, promoted, NoRoom, Denied, Makes, Refuses, held_set, part_of, IsAnswered, calls-read-kept, owner-empty, owner-counted, lend-tells, handles-kept, eq-eqb, alone-reads, described-at, counted-at, alone-at, alone-described, MatchBool, MatchOption, None, alone_of, cause_if, is_over, le-ltb, split_cause}
 use Rattle.iobufs_owner.specs.Changes as change
 use Rattle.iobufs_owner.specs.ShortCalls as short
-use Rattle.iobufs_owner.specs.Changes.{refused, made, edited, part, counted, with_count}
-use Rattle.iobufs_owner.specs.Lending.{lend_of, Lends}
-use Rattle.iobufs_owner.specs.ShortCalls.{promoted}
 use Rattle.iobufs_owner.specs.Steps as world
-use Rattle.iobufs_owner.specs.Steps.{NoRoom, Denied, Makes, Refuses, IsAboveCeiling, held_set, part_of}
-use Rattle.iobufs_owner.proofs.WorldSteps.Sizes.{IsAnswered}
-use Rattle.iobufs_owner.proofs.Soundness.Keeps.{calls-read-kept}
-use Rattle.iobufs_owner.proofs.Soundness.StaysSound.{owner-empty, owner-counted}
-use Rattle.iobufs_owner.proofs.WorldSteps.Lent.{lend-tells}
-use Rattle.iobufs_owner.proofs.Soundness.Frames.{handles-kept, is-eqb}
-use Rattle.iobufs_owner.proofs.WorldSteps.Shown.{alone-reads, read_lent}
-use Rattle.iobufs_owner.proofs.Soundness.Edits.{described-at, counted-at, alone-at, alone-described}
-use Rattle.iobufs_owner.proofs.Soundness.NewRecord.{recorded}
-use Rattle.iobufs_owner.proofs.Soundness.AddHolder.{counted-keeps, counted-let_go, counted-more, counted-block}
+use Rattle.iobufs_owner.proofs.Soundness.{recorded, counted-keeps, counted-let_go, counted-more, counted-block}
 use Rattle.iobufs_owner.proofs.WorldSteps.Freeze.{promoted-reads, recorded-owner}
-use Rattle.iobufs_owner.proofs.WorldSteps.Taken.{refused-taken, made-taken, reads-edited, reads-detached, by-test, lt-true, lt-false}
+use Rattle.iobufs_owner.proofs.WorldSteps.Taken.{refused-taken, made-taken, reads-edited, reads-detached, Had, had}
 
 -- what the world says of a split inside the view, by the block
 abbrev Splits : State → (h at : ℕ) → Handle → Bool → Option ℕ → Reply → World → Type 0
 Splits s h at x memory o reply next =
-    (IsAboveCeiling (reading s) o × Refuses (reading s) Ceiling reply next)
-    ⊎ ((IsAboveCeiling (reading s) o → ⊥)
-    × (Denied (reading s) o memory reply next ⊎ NoRoom (reading s) reply next
-    ⊎ Makes (held_set (reading s) h (part_of (read_held s.tables x) at x.len)) (part_of (read_held s.tables x) 0 at) reply next))
+    Denied (reading s) o memory reply next ⊎ NoRoom (reading s) reply next
+    ⊎ Makes (held_set (reading s) h (part_of (read_held s.tables x) at x.len)) (part_of (read_held s.tables x) 0 at) reply next
+
+-- that, unless a cause stands against it
+abbrev SplitsOr : State → (h at : ℕ) → Handle → Bool → Option ℕ → Reply → World → Type 0
+SplitsOr s h at x memory o reply next =
+    MatchOption (cause_if (is_over (reading s) o) Ceiling) (Splits s h at x memory o reply next) (λ why. Refuses (reading s) why reply next)
 
 room-or-made : (P Q R : Type 0) → Q ⊎ R → P ⊎ Q ⊎ R
 room-or-made P Q R (inl q) = inr (inl q)
 room-or-made P Q R (inr r) = inr (inr r)
 
-pub counted-reads : (s : State) (h r n : ℕ) (y : Handle) (z : Held) → IsSound s → nat_eq n 0 ≡ has_let_go s.tables r
+pub counted-reads : (s : State) (h r n : ℕ) (y : Handle) (z : LiveHandle) → IsSound s → nat_eq n 0 ≡ has_let_go s.tables r
     → read_held (counted s.tables r n) y ≡ z → reading (edited (with_count s r n) h y) ≡ held_set (reading s) h z
 counted-reads s h r n y z k same e =
     let q = counted-keeps s.tables r n in
@@ -46,9 +31,7 @@ counted-reads s h r n y z k same e =
     rw (map-set (read_handle (counted s.tables r n)) s.handles h (Some y), hs, cs, e) refl
 
 split-described : (s t : State) (h at v : ℕ) (x : Handle) (memory : Bool) (reply : Reply) → IsSound s → Lends s h View x → x.word ≡ Descriptor v
-    → IsAnswered s (short.split_by s h at memory x (Descriptor v)) reply t → Denied (reading s) (owner_of s.tables x) memory reply (reading t)
-    ⊎ NoRoom (reading s) reply (reading t) ⊎ Makes (held_set (reading s) h (part_of (read_held s.tables x) at x.len))
-    (part_of (read_held s.tables x) 0 at) reply (reading t)
+    → IsAnswered s (short.split_by s h at memory x (Descriptor v)) reply t → Splits s h at x memory (owner_of s.tables x) reply (reading t)
 split-described s t h at v x true reply k l w i =
     let d = described-at s h x v k l.at w in
     let n : owned_by s.tables x ≡ d.block = rw d.says.owner refl in
@@ -71,16 +54,14 @@ split-described s t h at v x false reply k l w i =
 split-counted : (s t : State) (h at r : ℕ) (x : Handle) (memory : Bool) (reply : Reply) (u : Bool) → IsSound s → Lends s h View x
     → x.word ≡ Counted r → nat_lt s.ceiling (record_at s.tables r).count ≡ u
     → IsAnswered s (cond u (refused s Ceiling) (short.split_with (with_count s r ((record_at s.tables r).count + 1)) h at x (Counted r))) reply t
-    → Splits s h at x memory (Some (record_at s.tables r).block) reply (reading t)
+    → SplitsOr s h at x memory (Some (record_at s.tables r).block) reply (reading t)
 split-counted s t h at r x memory reply true k l w e i =
     let c = counted-at s h x r k l.at w in
     let n = (k.counted r c.live).counts c.shown in
-    let m = lt-true s.ceiling (record_at s.tables r).count e in
-    inl (rw (← n) m, refused-taken s t Ceiling reply i)
+    rw (← n, e) (refused-taken s t Ceiling reply i)
 split-counted s t h at r x memory reply false k l w e i =
     let c = counted-at s h x r k l.at w in
     let n = (k.counted r c.live).counts c.shown in
-    let m = lt-false s.ceiling (record_at s.tables r).count e in
     let g' : Tables = counted s.tables r ((record_at s.tables r).count + 1) in
     let back : Handle = part x at x.len (Counted r) in
     let front : Handle = part x 0 at (Counted r) in
@@ -91,15 +72,12 @@ split-counted s t h at r x memory reply false k l w e i =
     ap (λ (b : Option ℕ). record { kind = View; block = b; place = x.ptr + at; len = x.len - at }) ob in
     let zf : read_held g' front ≡ part_of (read_held s.tables x) 0 at =
     ap (λ (b : Option ℕ). record { kind = View; block = b; place = x.ptr + 0; len = at - 0 }) of in
-    inr (
-      λ z. omega (arith, z, n, m),
-      room-or-made _ _ _ (made-taken s (edited (with_count s r ((record_at s.tables r).count + 1)) h back) t
-          (held_set (reading s) h (part_of (read_held s.tables x) at x.len)) front (part_of (read_held s.tables x) 0 at) reply
-          (counted-reads s h r ((record_at s.tables r).count + 1) back (part_of (read_held s.tables x) at x.len) k (counted-more s h x r k l.at w) zb) zf i),
-    )
+    rw (← n, e) (room-or-made _ _ _ (made-taken s (edited (with_count s r ((record_at s.tables r).count + 1)) h back) t
+    (held_set (reading s) h (part_of (read_held s.tables x) at x.len)) front (part_of (read_held s.tables x) 0 at) reply
+    (counted-reads s h r ((record_at s.tables r).count + 1) back (part_of (read_held s.tables x) at x.len) k (counted-more s h x r k l.at w) zb) zf i))
 
 split-word : (s t : State) (h at : ℕ) (x : Handle) (memory : Bool) (reply : Reply) (w : Word) → IsSound s → Lends s h View x → x.word ≡ w
-    → IsAnswered s (short.split_by s h at memory x w) reply t → Splits s h at x memory (owner_of s.tables x) reply (reading t)
+    → IsAnswered s (short.split_by s h at memory x w) reply t → SplitsOr s h at x memory (owner_of s.tables x) reply (reading t)
 split-word s t h at x memory reply Empty k l w i =
     let back : Handle = part x at x.len Empty in
     let front : Handle = part x 0 at Empty in
@@ -108,45 +86,38 @@ split-word s t h at x memory reply Empty k l w i =
     ap (λ (b : Option ℕ). record { kind = View; block = b; place = x.ptr + at; len = x.len - at }) (owner-empty s.tables back refl ∙ sym n) in
     let zf : read_held s.tables front ≡ part_of (read_held s.tables x) 0 at =
     ap (λ (b : Option ℕ). record { kind = View; block = b; place = x.ptr + 0; len = at - 0 }) (owner-empty s.tables front refl ∙ sym n) in
-    subst (λ (o : Option ℕ). Splits s h at x memory o reply (reading t)) (sym n)
-    (inr (
-      λ z. z,
-      room-or-made _ _ _ (made-taken s (edited s h back) t (held_set (reading s) h (part_of (read_held s.tables x) at x.len)) front
-          (part_of (read_held s.tables x) 0 at) reply (reads-edited s h back (part_of (read_held s.tables x) at x.len) zb) zf i),
-    ))
+    subst (λ (o : Option ℕ). SplitsOr s h at x memory o reply (reading t)) (sym n)
+    (room-or-made _ _ _ (made-taken s (edited s h back) t (held_set (reading s) h (part_of (read_held s.tables x) at x.len)) front
+    (part_of (read_held s.tables x) 0 at) reply (reads-edited s h back (part_of (read_held s.tables x) at x.len) zb) zf i))
 split-word s t h at x memory reply (Descriptor v) k l w i =
     let d = described-at s h x v k l.at w in
-    let one = alone-at s h x d.block k l.at (alone-described s.tables d.block x v w ∙ ap (is_block d.block) d.says.owner ∙ is-eqb d.block d.block refl) in
+    let one = alone-at s h x d.block k l.at (alone-described s.tables d.block x v w ∙ ap (is_block d.block) d.says.owner ∙ eq-eqb d.block d.block refl) in
     let c = k.size.ceiling in
-    subst (λ (o : Option ℕ). Splits s h at x memory o reply (reading t)) (sym d.says.owner)
-    (inr (
-      λ z. omega (arith, z, one, c),
-      subst (λ (o : Option ℕ). Denied (reading s) o memory reply (reading t)
-          ⊎ NoRoom (reading s) reply (reading t) ⊎ Makes (held_set (reading s) h (part_of (read_held s.tables x) at x.len))
-          (part_of (read_held s.tables x) 0 at) reply (reading t)) d.says.owner (split-described s t h at v x memory reply k l w i),
-    ))
+    subst (λ (o : Option ℕ). SplitsOr s h at x memory o reply (reading t)) (sym d.says.owner)
+    (rw (le-ltb s.ceiling (holders (reading s) d.block) (omega (arith, one, c)))
+    (subst (λ (o : Option ℕ). Splits s h at x memory o reply (reading t)) d.says.owner (split-described s t h at v x memory reply k l w i)))
 split-word s t h at x memory reply (Counted r) k l w i =
-    subst (λ (o : Option ℕ). Splits s h at x memory o reply (reading t)) (sym (owner-counted s.tables x r w))
+    subst (λ (o : Option ℕ). SplitsOr s h at x memory o reply (reading t)) (sym (owner-counted s.tables x r w))
     (split-counted s t h at r x memory reply (nat_lt s.ceiling (record_at s.tables r).count) k l w refl i)
 
-split-lent : (s t : State) (h at : ℕ) (memory : Bool) (reply : Reply) (r : Result Handle Refusal) → IsSound s → lend_of s h View ≡ r
-    → IsAnswered s (short.split_lent s h at memory r) reply t → world.SplitIs (reading s) h at memory (read_lent s.tables r) reply (reading t)
-split-lent s t h at memory reply (Err why) k e i = refused-taken s t why reply i
-split-lent s t h at memory reply (Ok x) k e i =
-    let l = lend-tells s h View x e in
-    by-test _ _ s t (refused s OutOfRange)
-    (cond (nat_eq at 0) (made s (change.detached_handle 0))
-    (cond (nat_eq at x.len) (made (edited s h (change.detached_handle 0)) x) (short.split_by s h at memory x x.word))) reply (nat_lt x.len at)
-    (λ _ i. refused-taken s t OutOfRange reply i)
-    (λ _ i. by-test _ _ s t (made s (change.detached_handle 0))
-    (cond (nat_eq at x.len) (made (edited s h (change.detached_handle 0)) x) (short.split_by s h at memory x x.word)) reply (nat_eq at 0)
-    (λ _ i. made-taken s s t (reading s) (change.detached_handle 0) (world.detached 0) reply refl (reads-detached s.tables 0) i)
-    (λ _ i. by-test _ _ s t (made (edited s h (change.detached_handle 0)) x) (short.split_by s h at memory x x.word) reply (nat_eq at x.len)
-    (λ _ i. made-taken s (edited s h (change.detached_handle 0)) t (held_set (reading s) h (world.detached 0)) x (read_held s.tables x) reply
-    (reads-edited s h (change.detached_handle 0) (world.detached 0) (reads-detached s.tables 0)) refl i)
-    (λ _ i. split-word s t h at x memory reply x.word k l refl i) i) i) i
+split-by : (s t : State) (h at : ℕ) (x : Handle) (memory : Bool) (reply : Reply) (u v z : Bool) → IsSound s → Lends s h View x
+    → IsAnswered s (cond u (refused s OutOfRange) (cond v (made s (change.detached_handle 0))
+    (cond z (made (edited s h (change.detached_handle 0)) x) (short.split_by s h at memory x x.word)))) reply t
+    → MatchOption (cond u (Some OutOfRange) (cond v None (cond z None (cause_if (is_over (reading s) (owner_of s.tables x)) Ceiling))))
+    (MatchBool v (NoRoom (reading s) reply (reading t) ⊎ Makes (reading s) (world.detached 0) reply (reading t))
+    (MatchBool z (NoRoom (reading s) reply (reading t) ⊎ Makes (held_set (reading s) h (world.detached 0)) (read_held s.tables x) reply (reading t))
+    (Splits s h at x memory (owner_of s.tables x) reply (reading t)))) (λ why. Refuses (reading s) why reply (reading t))
+split-by s t h at x memory reply true v z k l i = refused-taken s t OutOfRange reply i
+split-by s t h at x memory reply false true z k l i =
+    made-taken s s t (reading s) (change.detached_handle 0) (world.detached 0) reply refl (reads-detached s.tables 0) i
+split-by s t h at x memory reply false false true k l i =
+    made-taken s (edited s h (change.detached_handle 0)) t (held_set (reading s) h (world.detached 0)) x (read_held s.tables x) reply
+    (reads-edited s h (change.detached_handle 0) (world.detached 0) (reads-detached s.tables 0)) refl i
+split-by s t h at x memory reply false false false k l i = split-word s t h at x memory reply x.word k l refl i
 
 -- users of a sound machine see a split as that of the view that they see under the number
 pub split-steps : (s t : State) (h at : ℕ) (memory : Bool) (reply : Reply) → IsSound s → IsAnswered s (short.split_of s h at memory) reply t
-    → world.SplitIs (reading s) h at memory (world.alone_of (reading s) h View) reply (reading t)
-split-steps s t h at memory reply k i = rw (alone-reads s h View) (split-lent s t h at memory reply (lend_of s h View) k refl i)
+    → Had s t h (alone_of (reading s) h View) (split_cause (reading s) at) (λ x. world.SplitIs (reading s) h at memory x reply (reading t)) reply
+split-steps s t h at memory reply k i = had s t h (lend_of s h View) _ _ _ _ reply (alone-reads s h View) i (λ x e i.
+    (let l = lend-tells s h View x e in
+    (l.at, split-by s t h at x memory reply (nat_lt x.len at) (nat_eq at 0) (nat_eq at x.len) k l i)))

@@ -1,27 +1,9 @@
 -- What an answered outcome shows of the world; with it Static, Put and Advance, read as steps of the world.
-use Rattle.std.proofs.Common.{◌≡◌, ◌⊎◌, inl, inr, ℕ, ◌+◌, ◌-◌, ◌<◌, ◌≤◌, Bool, true, false, cond, nat_lt, nat_eq, length, Option, Some, None, Result, Ok, Err, ap, sym, ◌∙◌, refl, arith, MatchBool}
-use Rattle.std.proofs.Math.ListN.{length-set}
-use Rattle.std.proofs.lemmas.Bool.Decides.{nat_tests}
-use Rattle.std.proofs.lemmas.List.{length-map}
-use Rattle.iobufs_owner.specs.Types.{Handle, Mut, Empty, Refusal, Borrowed, OutOfRange, Reply, Made, Done}
-use Rattle.iobufs_owner.specs.State.{State, Tables, owner_of, handle_at}
-use Rattle.iobufs_owner.specs.World.{World, Held}
-use Rattle.iobufs_owner.specs.Reading.{reading, read_held, read_handle}
-use Rattle.iobufs_owner.specs.Sound.{IsSound}
+use Rattle.iobufs_owner.proofs.Base.{capacity, ◌≡◌, ◌⊎◌, inl, inr, ℕ, ◌+◌, ◌-◌, Bool, true, false, cond, nat_lt, length, Some, None, Result, Ok, Err, ap, sym, ◌∙◌, refl, MatchBool, length-set, length-map, Handle, Mut, Empty, Refusal, OutOfRange, Reply, Made, Done, State, Tables, owner_of, World, LiveHandle, reading, read_held, read_handle, IsSound, Outcome, refused, done, edited, made, lend_of, declined, Refuses, NoRoom, Makes, Declines, held_set, held_more, IsAnswered, entries, grows-never, reading-set, reading-append, owner-empty, lend-tells, alone-reads, any-reads, capacity-reads, read_lent, owner-put, owner-advanced, within, ltb-false, any-tells, MatchOption, OnHeld, Option, alone_of, any_of, cause_if, cause_or, handle_at, held-reads}
 use Rattle.iobufs_owner.specs.Changes as change
 use Rattle.iobufs_owner.specs.Lending as lending
 use Rattle.iobufs_owner.specs.ShortCalls as short
-use Rattle.iobufs_owner.specs.Changes.{Outcome, refused, done, edited, made}
-use Rattle.iobufs_owner.specs.Lending.{lend_of, Lends, is_lent}
-use Rattle.iobufs_owner.specs.ShortCalls.{declined}
 use Rattle.iobufs_owner.specs.Steps as world
-use Rattle.iobufs_owner.specs.Steps.{Refuses, NoRoom, Makes, Declines, held_set, held_more}
-use Rattle.iobufs_owner.proofs.WorldSteps.Sizes.{IsAnswered, entries, grows-never}
-use Rattle.iobufs_owner.proofs.Soundness.Counts.{reading-set, reading-append}
-use Rattle.iobufs_owner.proofs.Soundness.StaysSound.{owner-empty}
-use Rattle.iobufs_owner.proofs.WorldSteps.Lent.{lend-tells}
-use Rattle.iobufs_owner.proofs.WorldSteps.Shown.{alone-reads, any-reads, capacity-reads, read_lent}
-use Rattle.iobufs_owner.proofs.Soundness.Edits.{owner-put, owner-advanced, within}
 
 -- ---- outcomes
 
@@ -48,7 +30,7 @@ grown-taken s u t w answer reply r (inl (e, f)) = inr (e, ap reading f ∙ r)
 grown-taken s u t w answer reply r (inr l) = inl (l.refused, ap reading l.same)
 
 -- one handle more than u has
-pub made-taken : (s u t : State) (w : World) (x : Handle) (y : Held) (reply : Reply) → reading u ≡ w → read_held u.tables x ≡ y
+pub made-taken : (s u t : State) (w : World) (x : Handle) (y : LiveHandle) (reply : Reply) → reading u ≡ w → read_held u.tables x ≡ y
     → IsAnswered s (made u x) reply t → NoRoom (reading s) reply (reading t) ⊎ Makes w y reply (reading t)
 made-taken s u t w x y reply r e (inl (i, f)) =
     inr (
@@ -62,11 +44,11 @@ entries-edited : (s : State) (h : ℕ) (y : Handle) → entries (edited s h y) �
 entries-edited s h y = rw length-set refl
 
 -- another handle under a number is, read, that handle in the world
-pub reads-edited : (s : State) (h : ℕ) (y : Handle) (z : Held) → read_held s.tables y ≡ z → reading (edited s h y) ≡ held_set (reading s) h z
+pub reads-edited : (s : State) (h : ℕ) (y : Handle) (z : LiveHandle) → read_held s.tables y ≡ z → reading (edited s h y) ≡ held_set (reading s) h z
 reads-edited s h y z e = reading-set s h (Some y) ∙ ap (held_set (reading s) h) e
 
 -- a handle is changed
-pub edit-taken : (s t : State) (h : ℕ) (y : Handle) (z : Held) (reply : Reply) → read_held s.tables y ≡ z
+pub edit-taken : (s t : State) (h : ℕ) (y : Handle) (z : LiveHandle) (reply : Reply) → read_held s.tables y ≡ z
     → IsAnswered s (done (edited s h y)) reply t → (reply ≡ Done) × (reading t ≡ held_set (reading s) h z)
 edit-taken s t h y z reply e i = done-taken s (edited s h y) t (held_set (reading s) h z) reply (entries-edited s h y) (reads-edited s h y z e) i
 
@@ -86,17 +68,36 @@ pub by-test : (P Q : Type 0) (s t : State) (a b : Outcome) (reply : Reply) (v : 
 by-test P Q s t a b reply true f g i = f refl i
 by-test P Q s t a b reply false f g i = g refl i
 
--- where the test of less passes, the one number is less than the other
-pub lt-true : (m n : ℕ) → nat_lt m n ≡ true → m < n
-lt-true m n e = grind (arith, nat_tests, e)
+-- where a cause stands against a step by a test, what follows from each of two outcomes follows by the test
+pub by-cause : (P : Type 0) (Q : Refusal → Type 0) (why : Refusal) (s t : State) (a b : Outcome) (reply : Reply) (v : Bool)
+    → (v ≡ true → IsAnswered s a reply t → Q why) → (v ≡ false → IsAnswered s b reply t → P) → IsAnswered s (cond v a b) reply t
+    → MatchOption (cause_if v why) P Q
+by-cause P Q why s t a b reply true f g i = f refl i
+by-cause P Q why s t a b reply false f g i = g refl i
 
--- where the test of less fails, the other number is at most the one
-pub lt-false : (m n : ℕ) → nat_lt m n ≡ false → n ≤ m
-lt-false m n e = grind (arith, nat_tests, e)
+-- ---- the handle of a call
 
--- where the test of equality passes, the numbers are equal
-pub eq-true : (m n : ℕ) → nat_eq m n ≡ true → m ≡ n
-eq-true m n e = grind (arith, nat_tests, e)
+-- a call is refused by its cause, or has its effect on the handle that users see under the number
+abbrev pub Had : State → State → ℕ → Result LiveHandle Refusal → (LiveHandle → Option Refusal) → (LiveHandle → Type 0) → Reply → Type 0
+Had s t h r against P reply = MatchOption (cause_or r against) (OnHeld (reading s) h P) (λ why. Refuses (reading s) why reply (reading t))
+
+-- what holds of a handle of the tables holds of the handle that users see under its number
+seen : (s t : State) (h : ℕ) (x : Handle) (P : LiveHandle → Type 0) (reply : Reply) (o : Option Refusal) → handle_at s h ≡ Some x
+    → MatchOption o (P (read_held s.tables x)) (λ why. Refuses (reading s) why reply (reading t))
+    → MatchOption o (OnHeld (reading s) h P) (λ why. Refuses (reading s) why reply (reading t))
+seen s t h x P reply None at m = (read_held s.tables x, held-reads s h ∙ ap (read_handle s.tables) at, m)
+seen s t h x P reply (Some why) at m = m
+
+-- users see a call that is refused by its cause, or else what it does with the handle that they see under the number
+pub had : (s t : State) (h : ℕ) (r : Result Handle Refusal) (f : Handle → Outcome) (q : Result LiveHandle Refusal) (against : LiveHandle → Option Refusal)
+    (P : LiveHandle → Type 0) (reply : Reply) → q ≡ read_lent s.tables r → IsAnswered s (change.on_lent s r f) reply t
+    → ((x : Handle) → r ≡ Ok x → IsAnswered s (f x) reply t → (handle_at s h ≡ Some x)
+    × MatchOption (against (read_held s.tables x)) (P (read_held s.tables x)) (λ why. Refuses (reading s) why reply (reading t)))
+    → Had s t h q against P reply
+had s t h (Err why) f q against P reply e i g = rw e (refused-taken s t why reply i)
+had s t h (Ok x) f q against P reply e i g =
+    let m = g x refl i in
+    rw e (seen s t h x P reply (against (read_held s.tables x)) m.0 m.1)
 
 -- ---- Static
 
@@ -107,51 +108,33 @@ static-steps s t len reply i = made-taken s s t (reading s) (change.detached_han
 
 -- ---- Put
 
-put-lent : (s t : State) (h n : ℕ) (reply : Reply) (r : Result Handle Refusal) → IsSound s → lend_of s h Mut ≡ r
-    → IsAnswered s (short.put_lent s h n r) reply t → world.PutIs (reading s) h n (read_lent s.tables r) reply (reading t)
-put-lent s t h n reply (Err why) k e i = refused-taken s t why reply i
-put-lent s t h n reply (Ok x) k e i =
-    let l = lend-tells s h Mut x e in
-    let o = owner-put s.tables x n l.kind_is in
-    rw (capacity-reads s h x k l.at l.kind_is)
-    (by-test _ _ s t (refused s OutOfRange) (done (edited s h (record x { len = x.len + n }))) reply (nat_lt (x.cap - x.len) n)
-    (λ _ i. refused-taken s t OutOfRange reply i)
-    (λ _ i. edit-taken s t h (record x { len = x.len + n }) (record { kind = x.kind; block = owner_of s.tables x; place = x.ptr; len = x.len + n })
-    reply (rw o refl) i) i)
-
 -- users of a sound machine see a put as that of the writable handle that they see under the number
 pub put-steps : (s t : State) (h n : ℕ) (reply : Reply) → IsSound s → IsAnswered s (short.put_of s h n) reply t
-    → world.PutIs (reading s) h n (world.alone_of (reading s) h Mut) reply (reading t)
-put-steps s t h n reply k i = rw (alone-reads s h Mut) (put-lent s t h n reply (lend_of s h Mut) k refl i)
+    → Had s t h (alone_of (reading s) h Mut) (λ x. cause_if (nat_lt (capacity (reading s) x - x.len) n) OutOfRange)
+    (λ x. (reply ≡ Done) × (reading t ≡ held_set (reading s) h (record x { len = x.len + n }))) reply
+put-steps s t h n reply k i = had s t h (lend_of s h Mut) _ _ _ _ reply (alone-reads s h Mut) i (λ x e i.
+    (let l = lend-tells s h Mut x e in
+    let o = owner-put s.tables x n l.kind_is in (
+      l.at,
+      rw (capacity-reads s h x k l.at l.kind_is)
+          (by-cause _ _ OutOfRange s t (refused s OutOfRange) (done (edited s h (record x { len = x.len + n }))) reply (nat_lt (x.cap - x.len) n)
+          (λ _ i. refused-taken s t OutOfRange reply i)
+          (λ _ i. edit-taken s t h (record x { len = x.len + n }) (record { kind = x.kind; block = owner_of s.tables x; place = x.ptr; len = x.len + n })
+          reply (rw o refl) i) i),
+    )))
 
 -- ---- Advance
 
-any-free : (s : State) (h : ℕ) (x y : Handle) (u : Bool) → is_lent h s.calls ≡ u → handle_at s h ≡ Some y → cond u (Err Borrowed) (Ok y) ≡ Ok x
-    → Lends s h x.kind x
-any-free s h x y true f at i = absurd (cc)
-any-free s h x y false f at i = let q : y ≡ x = cc in record { at = at ∙ ap Some q; kind_is = refl; free = f }
-
--- a handle of either kind that may be had alone stands under the number, and is borrowed by no call
-pub any-tells : (s : State) (h : ℕ) (x : Handle) → lending.lend_any_of s h ≡ Ok x → Lends s h x.kind x
-any-tells s h x e =
-    let by : (o : Option Handle) → handle_at s h ≡ o → lending.lend_any_found s h o ≡ Ok x → Lends s h x.kind x =
-    λ o. elim o as (λ o. handle_at s h ≡ o → lending.lend_any_found s h o ≡ Ok x → Lends s h x.kind x) [
-      | None ↦ λ at i. absurd (cc)
-      | Some y ↦ λ at i. any-free s h x y (is_lent h s.calls) refl at i
-    ] in
-    by (handle_at s h) refl e
-
-advance-lent : (s t : State) (h n : ℕ) (reply : Reply) (r : Result Handle Refusal) → IsSound s → lending.lend_any_of s h ≡ r
-    → IsAnswered s (short.advance_lent s h n r) reply t → world.AdvanceIs (reading s) h n (read_lent s.tables r) reply (reading t)
-advance-lent s t h n reply (Err why) k e i = refused-taken s t why reply i
-advance-lent s t h n reply (Ok x) k e i =
-    let l = any-tells s h x e in
-    by-test _ _ s t (refused s OutOfRange) (done (edited s h (short.advanced x n))) reply (nat_lt x.len n)
-    (λ _ i. refused-taken s t OutOfRange reply i)
-    (λ v i. let o = owner-advanced s.tables x n (lt-false x.len n v) (within s h x k l.at) in
-    edit-taken s t h (short.advanced x n) (record { kind = x.kind; block = owner_of s.tables x; place = x.ptr + n; len = x.len - n }) reply (rw o refl) i) i
-
 -- users of a sound machine see an advance as that of the handle that they see under the number
 pub advance-steps : (s t : State) (h n : ℕ) (reply : Reply) → IsSound s → IsAnswered s (short.advance_of s h n) reply t
-    → world.AdvanceIs (reading s) h n (world.any_of (reading s) h) reply (reading t)
-advance-steps s t h n reply k i = rw (any-reads s h) (advance-lent s t h n reply (lending.lend_any_of s h) k refl i)
+    → Had s t h (any_of (reading s) h) (λ x. cause_if (nat_lt x.len n) OutOfRange)
+    (λ x. (reply ≡ Done) × (reading t ≡ held_set (reading s) h (record x { place = x.place + n; len = x.len - n }))) reply
+advance-steps s t h n reply k i = had s t h (lending.lend_any_of s h) _ _ _ _ reply (any-reads s h) i (λ x e i.
+    (let l = any-tells s h x e in (
+      l.at,
+      by-cause _ _ OutOfRange s t (refused s OutOfRange) (done (edited s h (short.advanced x n))) reply (nat_lt x.len n)
+          (λ _ i. refused-taken s t OutOfRange reply i)
+          (λ v i. let o = owner-advanced s.tables x n (ltb-false x.len n v) (within s h x k l.at) in
+          edit-taken s t h (short.advanced x n) (record { kind = x.kind; block = owner_of s.tables x; place = x.ptr + n; len = x.len - n }) reply
+          (rw o refl) i) i,
+    )))

@@ -1,23 +1,19 @@
 //! A view goes back from a record to a descriptor. The original has no such call.
-ghost use Rattle.std.specs.Prelude.{◌≡◌, ℕ, ◌^◌};
+ghost use Rattle.std.specs.Prelude.{◌≡◌};
 ghost use Rattle.iobufs_owner.specs.declared.owner.types.Kind.TheVariants.{View};
 ghost use Rattle.iobufs_owner.specs.declared.owner.types.Word.TheVariants.{Record as Counted};
 ghost use Rattle.iobufs_owner.specs.ShortCalls as short;
-ghost use Rattle.iobufs_owner.specs.Changes.{Outcome};
-ghost use Rattle.iobufs_owner.specs.Lending.{Lends, lend_owning_view_of};
-ghost use Rattle.iobufs_owner.specs.ShortCalls.{IsDemoted};
-ghost use Rattle.iobufs_owner.specs.State.{record_at, block_at};
+ghost use Rattle.iobufs_owner.specs.Lending.{Lends};
+ghost use Rattle.iobufs_owner.specs.ShortCalls.{demote_of};
 
 use crate::owner::{Handle, Machine, Record, Reply, Word};
 
 impl Machine {
     /// A view's record is freed, where it counts the view alone and a descriptor can stand in its place.
     pub(super) fn demote(&mut self, h: usize) -> Reply
-        ensures { (o : Outcome)
-            × IsDemoted self.old.state h (lend_owning_view_of self.old.state h) o
-            × (result ≡ o.reply)
-            × (self.new.state ≡ o.state)
-            × (self.new.room ≡ self.old.room) }
+        ensures reply { result ≡ (demote_of self.old.state h).reply }
+        ensures state { self.new.state ≡ (demote_of self.old.state h).state }
+        ensures room { self.new.room ≡ self.old.room }
     {
         let x = match self.lend_owning_view(h) {
             Ok(x) => x,
@@ -33,10 +29,8 @@ impl Machine {
     fn demote_counted(&mut self, h: usize, x: Handle, r: usize) -> Reply
         requires lent { Lends self.old.state h View x }
         requires word { x.word ≡ Counted r }
-        ensures { (log : ℕ)
-            × ((block_at self.old.state.tables (record_at self.old.state.tables r).block).align ≡ 2 ^ log)
-            × (result ≡ (short.demote_counted self.old.state h x r log).reply)
-            × (self.new.state ≡ (short.demote_counted self.old.state h x r log).state)
+        ensures { (result ≡ (short.demote_counted self.old.state h x r).reply)
+            × (self.new.state ≡ (short.demote_counted self.old.state h x r).state)
             × (self.new.room ≡ self.old.room) }
     {
         let record = self.record(r);

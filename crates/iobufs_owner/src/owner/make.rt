@@ -2,8 +2,8 @@
 ghost use Rattle.std.specs.Prelude.{◌≡◌, ◌+◌, ◌^◌, ◌<◌, [], All, true, false};
 ghost use Rattle.iobufs_owner.specs.declared.owner.types.Kind.TheVariants.{Mut};
 ghost use Rattle.iobufs_owner.specs.declared.owner.types.Word.TheVariants.{Record as Counted};
-ghost use Rattle.iobufs_owner.specs.Changes.{Outcome, made, detached_handle, next_record};
-ghost use Rattle.iobufs_owner.specs.ShortCalls.{CanDescribe, IsAllocated, IsExternal, described_of, recorded_of};
+ghost use Rattle.iobufs_owner.specs.Changes.{made, detached_handle, next_record};
+ghost use Rattle.iobufs_owner.specs.ShortCalls.{CanDescribe, new_of, external_of, described_of, recorded_of};
 ghost use Rattle.iobufs_owner.specs.Moves.{Took};
 ghost use Rattle.iobufs_owner.specs.Places.{IsPlace, ApartFrom, IsGoodPlace};
 ghost use Rattle.iobufs_owner.specs.Sound.{LiesIn};
@@ -75,9 +75,7 @@ impl Machine {
         align: u64,
         memory: bool,
     ) -> Result<Reply, Full>
-        ensures { (o : Outcome)
-            × IsAllocated self.old.state base size align memory o
-            × Took self.old o result self.new }
+        ensures { Took self.old (new_of self.old.state base size align memory) result self.new }
     {
         if !self.is_good_place(base, size, align) {
             return Ok(Reply::Refused(Refusal::BadPlace));
@@ -113,9 +111,7 @@ impl Machine {
         size: u64,
         memory: bool,
     ) -> Result<Reply, Full>
-        ensures { (o : Outcome)
-            × IsExternal self.old.state base size memory o
-            × Took self.old o result self.new }
+        ensures { Took self.old (external_of self.old.state base size memory) result self.new }
     {
         if !self.is_good_place(base, size, 1) {
             return Ok(Reply::Refused(Refusal::BadPlace));

@@ -1,12 +1,9 @@
 // Each caller once, without allocation failure.
 use crate::make::{chunks, parts, text};
 use crate::same::assert_same;
-use iobufs::bufs::IoBufs;
 use iobufs_core::buf::IoBuf;
-use iobufs_core::codec::{BufError, Error};
-use iobufs_uses::crc::crc32;
+use iobufs_core::codec::BufError;
 use iobufs_uses::frame::{echo, frame, read_frame};
-use iobufs_uses::journal::{End, append_record, replay};
 use iobufs_uses::send::send;
 use iobufs_uses::store::store;
 use std::alloc::Global;
@@ -98,69 +95,5 @@ fn parts_are_filled_from_a_reader(rt: HostRuntime) -> Result<(), Fail> {
     assert_same!(rt; chunks(alloc, &full)?.as_slice(), b"ab|cde".as_slice());
     let rest = store(alloc, &mut from, parts(alloc, &[(b"", 2), (b"", 3)])?)?;
     assert_same!(rt; rest.to_vec(alloc)?.as_slice(), b"fgh".as_slice());
-    Ok(())
-}
-
-#[test]
-fn the_sum_of_nine_digits(rt: HostRuntime) {
-    assert_same!(rt; (crc32(b"123456789"), crc32(b"")), (0xcbf4_3926, 0));
-}
-
-// Records by their numbers, the length of their journal, how many of its bytes are kept, how many records are found in
-// them, and how they end.
-#[derive(Clone, Copy)]
-struct Journal {
-    records: &'static [(u64, &'static [u8])],
-    len: usize,
-    kept: usize,
-    found: usize,
-    end: End,
-}
-
-const JOURNALS: [Journal; 3] = [
-    Journal {
-        records: &[(0, b"ab"), (1, b"")],
-        len: 28,
-        kept: 28,
-        found: 2,
-        end: End::Whole,
-    },
-    Journal {
-        records: &[(0, b"ab"), (1, b"")],
-        len: 28,
-        kept: 20,
-        found: 1,
-        end: End::Torn,
-    },
-    Journal {
-        records: &[(0, b"ab"), (1, b""), (3, b"cd")],
-        len: 43,
-        kept: 43,
-        found: 2,
-        end: End::Damaged,
-    },
-];
-
-// The records, one after the other.
-fn recorded(alloc: Global, records: &[(u64, &[u8])]) -> Result<IoBufs, Error> {
-    let mut journal = IoBufs::default();
-    for (number, body) in records.iter() {
-        append_record(alloc, &mut journal, *number, body)?;
-    }
-    Ok(journal)
-}
-
-#[test]
-fn records_are_replayed(rt: HostRuntime) -> Result<(), Fail> {
-    let alloc = rt.alloc();
-    for case in &JOURNALS {
-        let mut journal = recorded(alloc, case.records)?;
-        assert_same!(rt; journal.len(), case.len, "{:?}", case.end);
-        journal.truncate(alloc, case.kept)?;
-        let replayed = replay(alloc, journal, 100)?;
-        let first = replayed.found.get(0).map(|body| body.len());
-        let told = (replayed.found.len(), replayed.end, first);
-        assert_same!(rt; told, (case.found, case.end, Some(2)), "{:?}", case.end);
-    }
     Ok(())
 }

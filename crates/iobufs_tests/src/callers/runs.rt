@@ -1,10 +1,10 @@
 // Commands, as lines of the program, executed as one list and one by one.
 use crate::same::assert_same;
-use iobufs_lines::line::command;
-use iobufs_lines::reply::push_line;
+use iobuf_lines::buffers::line::command;
+use iobuf_lines::buffers::reply::push_line;
+use iobuf_lines::words::LineError;
 use iobufs_run::command::{Cmd, Reply};
 use iobufs_run::table::Table;
-use iobufs_words::words::LineError;
 use std::alloc::Global;
 use std::process::Abort;
 use std::test::Fail;

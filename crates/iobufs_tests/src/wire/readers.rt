@@ -2,7 +2,7 @@
 use crate::same::assert_same;
 use iobufs_core::buf::IoBuf;
 use iobufs_core::codec::{Buf, TryGetError};
-use iobufs_readers::{Chain, Take};
+use iobufs_values::{Chain, Take};
 use std::process::Abort;
 
 // A call of a reader, and what it gives.

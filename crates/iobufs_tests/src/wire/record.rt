@@ -16,11 +16,11 @@ pub struct Record {
 
 impl EncodeSize for Record {
     ghost use Rattle.iobufs_core.specs.WireLaws.{joins-put};
-    ghost use Rattle.iobufs_tests.specs.Record.{record_written};
+    ghost use Rattle.iobufs_tests.specs.Record.{entry_written};
 
-    ghost written = { record_written };
+    ghost written = { entry_written };
 
-    ghost items = { λ r. put_item (record_written r) ∷ [] };
+    ghost items = { λ r. put_item (entry_written r) ∷ [] };
 
     fn encode_size(&self) -> Option<usize> {
         Some(7)
@@ -30,7 +30,7 @@ impl EncodeSize for Record {
         7
     }
 
-    ghost joins_items = { λ r. joins-put (record_written r) };
+    ghost joins_items = { λ r. joins-put (entry_written r) };
 }
 
 impl Write for Record {
@@ -62,14 +62,14 @@ fn place_of(a: u8, b: u8, c: u8, d: u8) -> u32
 impl Read for Record {
     type Cfg = ();
 
-    ghost use Rattle.iobufs_tests.specs.Record.{record_written, IsRecordRead};
+    ghost use Rattle.iobufs_tests.specs.Record.{entry_written, IsRecordRead};
     ghost use Rattle.iobufs_tests.specs.RecordLaws.{record_alike};
 
     ghost is_read = { λ text _ answer. IsRecordRead text.bytes answer };
 
     ghost dropping = { λ _. by_advance 7 ∷ [] };
 
-    ghost same = { λ x y. record_written x ≡ record_written y };
+    ghost same = { λ x y. entry_written x ≡ entry_written y };
 
     fn read_cfg<B: OwnedBuf>(_alloc: Global, buf: &mut B, _cfg: &()) -> Result<Record, Error> {
         let mut bytes = [0; 7];

@@ -1,4 +1,4 @@
--- `iobufs_frames_init` writes the empty text into the room.
+-- `iobufs_frames_init` writes empty frames into the room.
 use Rattle.std.proofs.Common.{◌≡◌, List, [], ◌∷◌, ◌++◌, refl}
 use seplogic.Ra.Ura.{Ura}
 use base.Fraction.{full_share}
@@ -29,7 +29,8 @@ use prog.Wp.{WpFn}
 use sound.WpLaws.{FmC}
 use denote.Triple.Table.{framed}
 use Rattle.std.proofs.raw_atomic.Walks.{proved}
-use Rattle.iobufs_core.specs.MarkedText.{MarkedText, default_text}
+use Rattle.iobufs_frames.specs.declared.Frames.{Frames}
+use Rattle.iobufs_c.specs.FrameRows.{default_frames}
 use Rattle.iobufs_frames.specs.contracts.Frames.{the_row as V}
 use Rattle.iobufs_frames.proofs.Frames.TheLaws.{the_row_laws}
 use Rattle.iobufs_c.specs.contracts.frames.empty as of
@@ -68,15 +69,15 @@ module _ {M : Type 1} (𝓤 : Ura M) (𝓛 : Logic 𝓤) (𝓜 : Model 𝓤 𝓛
       alloc_all ! (λ l. pass_all ! refl ((tt, tt), tt) $ sets ! (of_opd ! (get ! refl)) refl (tt, tt) $
       use0 𝓛 (raw (emp 𝓤)) (id⊢ 𝓤 (emp 𝓤)) $ nothing ! $ nothing ! $ join ! $ join ! $ use1 𝓛 (raw (k.pre y)) (id⊢ 𝓤 (k.pre y)) $
       calls_at ! fm k (met 𝓤 𝓛 𝓜 𝓡 (code.calls-iobufs_c::frames::empty 𝓡.env wired)) y (no_more !) (λ v.
-      use1 𝓛 (later (some (λ (r : MarkedText). (‵ ftrue ⊛ ‵ (V.own_val r (v ∷ [])))
+      use1 𝓛 (later (some (λ (r : Frames). (‵ ftrue ⊛ ‵ (V.own_val r (v ∷ [])))
       ⊛ raw (ensured 𝓛 of.ended (of.clauses 𝓛 𝓜.mem 𝓡.returns) tt tt tt r)))) (id⊢ 𝓤 _) $ await ! tt $ pick ! (λ r.
-      split ! $ move ! (1 ∷ []) $ use1 𝓛 (raw (fact 𝓤 (r ≡ default_text))) (ex_e 𝓤 _ (λ ws. snd∗ 𝓤 (sem 𝓛 (lasts of.ended tt tt ws)) (fact 𝓤
-      (r ≡ default_text)))) $ heard ! (r ≡ default_text) (λ e.
+      split ! $ move ! (1 ∷ []) $ use1 𝓛 (raw (fact 𝓤 (r ≡ default_frames))) (ex_e 𝓤 _ (λ ws. snd∗ 𝓤 (sem 𝓛 (lasts of.ended tt tt ws)) (fact 𝓤
+      (r ≡ default_frames)))) $ heard ! (r ≡ default_frames) (λ e.
       split ! $ drop ! $ peeks ! V (Is V) (shows 𝓛 V) r (v ∷ []) (λ is. let good = ((the_row_laws.lawful 𝓛).typed r (v ∷ []) is).0 in
       lands_as ! refl refl good $ assigns ! (of_opd ! (get ! refl)) (through ! refl (stop !)) (init ! 2 refl good) $
       sets ! (of_opd ! (unit_lit !)) refl (tt, tt) $ returns ! (look_at ! 0 refl) $ free_all ! refl $
       move ! (2 ∷ 0 ∷ []) $ use2 𝓛 (‵ (part_at V full_share r b o)) (part_in 𝓛 V refl full_share r b o v) $
-      rewrite ! 0 (λ (x : MarkedText). ‵ (part_at V full_share x b o)) e refl $
+      rewrite ! 0 (λ (x : Frames). ‵ (part_at V full_share x b o)) e refl $
       suffices ! _ (ends_at 𝓛 ended hs c (bound (block_ptr b o)) vunit tt (tt, tt) (tt, tt)) $ move ! (1 ∷ []) $ split ! $
       feq_i ! (List Val) (vunit ∷ []) (vunit ∷ []) refl $ move ! (2 ∷ 0 ∷ []) $ join ! $ move ! (1 ∷ 0 ∷ []) $ join ! $ done !)))))
   at_each null_ptr = via 𝓤 (never 𝓤) (snd∗ 𝓤 (on_entry 𝓛 ended.signature tt tt (null_ptr, tt) (rawptr_vals null_ptr, tt)) (never 𝓤)) (never_e 𝓤 _)

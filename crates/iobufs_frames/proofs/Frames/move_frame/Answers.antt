@@ -2,19 +2,17 @@ use Rattle.iobufs_frames.proofs.FrameLaws.{moved_one}
 use Rattle.iobufs_frames.proofs.MarkLaws.{moved_marks}
 use Rattle.iobufs_frames.proofs.Frames.move_frame.Goals as goal
 
--- src/lib.rt:83:5
 pub returns-in_ok-push-in-Ok-Some-clause-moved : goal.returns-in_ok-push-in-Ok-Some-clause-moved
 returns-in_ok-push-in-Ok-Some-clause-moved c =
-    (moved_one c.args.prefix c.args.range.now c.args.self.now.bytes c.next_with.new.self.bytes c.in-Ok-Some.body c.in-Ok-Some.field-0 c.args.found.now.items
+    (moved_one c.args.self.now.prefix c.args.range.now c.args.self.now.rest.bytes c.next.new.self.rest.bytes c.in-Ok-Some.body c.in-Ok-Some.field-0 c.args.found.now.items
     c.push.new.self.items c.in-Ok-Some.field-0-is c.in-Ok-Some.ensures.next c.in_ok-push-in-Ok-Some.ensures.items).0
 
--- src/lib.rt:83:5
 pub returns-in_ok-push-in-Ok-Some-clause-shorter : goal.returns-in_ok-push-in-Ok-Some-clause-shorter
 returns-in_ok-push-in-Ok-Some-clause-shorter c =
-    (moved_one c.args.prefix c.args.range.now c.args.self.now.bytes c.next_with.new.self.bytes c.in-Ok-Some.body c.in-Ok-Some.field-0 c.args.found.now.items
+    (moved_one c.args.self.now.prefix c.args.range.now c.args.self.now.rest.bytes c.next.new.self.rest.bytes c.in-Ok-Some.body c.in-Ok-Some.field-0 c.args.found.now.items
     c.push.new.self.items c.in-Ok-Some.field-0-is c.in-Ok-Some.ensures.next c.in_ok-push-in-Ok-Some.ensures.items).1
 
 pub returns-in_ok-push-in-Ok-Some-clause-marks : goal.returns-in_ok-push-in-Ok-Some-clause-marks
 returns-in_ok-push-in-Ok-Some-clause-marks c =
-    moved_marks c.args.prefix c.args.self.now c.next_with.new.self c.in-Ok-Some.body c.in-Ok-Some.field-0 c.args.found.now.items
+    moved_marks c.args.self.now.prefix c.args.self.now.rest c.next.new.self.rest c.in-Ok-Some.body c.in-Ok-Some.field-0 c.args.found.now.items
     c.push.new.self.items c.in-Ok-Some.field-0-is c.in-Ok-Some.ensures.body c.in-Ok-Some.ensures.left c.in_ok-push-in-Ok-Some.ensures.items

@@ -1,4 +1,4 @@
-use Rattle.iobufs_owner.proofs.WorldSteps.OneAnswer.{one-answer}
+use Rattle.iobufs_owner.proofs.WorldSteps.{one-answer}
 use Rattle.iobufs_owner.proofs.laws.answer_law.Goals as goal
 
 pub returns : goal.returns

@@ -1,4 +1,4 @@
-use Rattle.iobufs_owner.proofs.WorldSteps.FourthStep.{ends-in-four, near-start}
+use Rattle.iobufs_owner.proofs.WorldSteps.{ends-in-four, near-start}
 use Rattle.iobufs_owner.proofs.laws.ends_law.Goals as goal
 
 pub returns : goal.returns

@@ -1,4 +1,4 @@
-use Rattle.iobufs_owner.proofs.WorldSteps.Run.{runs-of}
+use Rattle.iobufs_owner.proofs.WorldSteps.{runs-of}
 use Rattle.iobufs_owner.proofs.laws.growing_law.Goals as goal
 
 pub returns : goal.returns

@@ -1,4 +1,4 @@
-use Rattle.iobufs_owner.proofs.WorldSteps.Reserved.{logs-run}
+use Rattle.iobufs_owner.proofs.WorldSteps.{logs-run}
 use Rattle.iobufs_owner.proofs.laws.logs_law.Goals as goal
 
 pub returns : goal.returns

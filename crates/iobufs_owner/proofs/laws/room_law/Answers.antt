@@ -1,4 +1,4 @@
-use Rattle.iobufs_owner.proofs.WorldSteps.Reserved.{find}
+use Rattle.iobufs_owner.proofs.WorldSteps.{find}
 use Rattle.iobufs_owner.proofs.laws.room_law.Goals as goal
 
 pub returns : goal.returns

@@ -1,4 +1,4 @@
-use Rattle.iobufs_owner.proofs.WorldSteps.Sole.{tells-unique}
+use Rattle.iobufs_owner.proofs.WorldSteps.{tells-unique}
 use Rattle.iobufs_owner.proofs.laws.unique_law.Goals as goal
 
 pub returns : goal.returns

@@ -1,4 +1,4 @@
-use Rattle.iobufs_owner.proofs.Words.{zeros-of, fits-iff}
+use Rattle.iobufs_owner.proofs.Base.{zeros-of, fits-iff}
 use Rattle.iobufs_owner.proofs.format.Format.fits.Goals as goal
 
 pub returns-clause-value : goal.returns-clause-value

@@ -1,5 +1,4 @@
-use Rattle.iobufs_owner.specs.Word.{HasRoom}
-use Rattle.iobufs_owner.proofs.Words.{pack-is, zeros-of, log-below}
+use Rattle.iobufs_owner.proofs.Base.{HasRoom, pack-is, zeros-of, log-below}
 use Rattle.iobufs_owner.proofs.format.Format.pack.Goals as goal
 
 pub returns-then-not-has_room-clause-sum : goal.returns-then-not-has_room-clause-sum

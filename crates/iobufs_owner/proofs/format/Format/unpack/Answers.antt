@@ -1,7 +1,4 @@
-use Rattle.std.proofs.Common.{sym, ◌∙◌, refl, arith}
-use Rattle.iobufs_owner.specs.Word.{word_of}
-use Rattle.std.proofs.lemmas.Nat.{one_shl, and_mask}
-use Rattle.iobufs_owner.proofs.Words.{unpack-log, unpack-tail, unpack-size, log-small, word-log, word-tail}
+use Rattle.iobufs_owner.proofs.Base.{sym, ◌∙◌, refl, arith, word_of, one_shl, and_mask, unpack-log, unpack-tail, unpack-size, log-small, word-log, word-tail}
 use Rattle.iobufs_owner.proofs.format.Format.unpack.Goals as goal
 
 pub overflow_shl-result : goal.overflow_shl-result

@@ -1,4 +1,4 @@
-use Rattle.iobufs_owner.proofs.Words.{some-iff, retailed-is}
+use Rattle.iobufs_owner.proofs.Base.{some-iff, retailed-is}
 use Rattle.iobufs_owner.proofs.format.Format.with_tail.Goals as goal
 
 pub pack-requires : goal.pack-requires

@@ -1,48 +1,40 @@
-use Rattle.std.proofs.Common.{◌≡◌, ◌∙◌, ℕ, Some, None, sym, ap, subst}
-use Rattle.iobufs_owner.specs.Inside.{state_of}
-use Rattle.iobufs_owner.specs.Sound.{DescribesBlock}
-use Rattle.iobufs_owner.specs.State.{State, Seen, end_of, tail_in, owner_of}
-use Rattle.iobufs_owner.proofs.Soundness.Edits.{owner-described}
-use Rattle.iobufs_owner.proofs.Soundness.Recovered.{says-ends}
+use Rattle.iobufs_owner.proofs.Base.{◌≡◌, ◌∙◌, ℕ, Some, None, sym, ap, subst, state_of, DescribesBlock, State, Seen, end_of, tail_in, owner_of, owner-described, before}
+use Rattle.iobufs_owner.proofs.Soundness.{says-ends}
 use Rattle.iobufs_owner.proofs.owner.Machine.described.Goals as goal
 
 pub unpack-fields-requires : goal.unpack-fields-requires
 unpack-fields-requires c =
     let s : State = state_of c.self.inside in
-    let k = c.self.invariant in
-    let d = subst (λ (s : State). DescribesBlock s.tables c.args.x c.args.word) (sym (ap (λ (m : Seen). m.state) c.self.view_is)) c.requires.says in
-    let ends = says-ends s c.args.x c.args.word d.block d.log d.tail k.sound d.says in
+    let d = before (λ (s : State). DescribesBlock s.tables c.args.x c.args.word) c.self.inside _ c.self.view_is c.requires.says in
+    let ends = says-ends s c.args.x c.args.word d.block d.log d.tail c.self.invariant.sound d.says in
     ends.word
 
 pub end-requires-clause-behind_view : goal.end-requires-clause-behind_view
 end-requires-clause-behind_view c =
     let s : State = state_of c.self.inside in
-    let k = c.self.invariant in
-    let d = subst (λ (s : State). DescribesBlock s.tables c.args.x c.args.word) (sym (ap (λ (m : Seen). m.state) c.self.view_is)) c.requires.says in
-    let ends = says-ends s c.args.x c.args.word d.block d.log d.tail k.sound d.says in
+    let d = before (λ (s : State). DescribesBlock s.tables c.args.x c.args.word) c.self.inside _ c.self.view_is c.requires.says in
+    let ends = says-ends s c.args.x c.args.word d.block d.log d.tail c.self.invariant.sound d.says in
     rw c.unpack-fields.ensures.tail ends.view
 
 pub end-requires-clause-behind_room : goal.end-requires-clause-behind_room
 end-requires-clause-behind_room c =
     let s : State = state_of c.self.inside in
-    let k = c.self.invariant in
-    let d = subst (λ (s : State). DescribesBlock s.tables c.args.x c.args.word) (sym (ap (λ (m : Seen). m.state) c.self.view_is)) c.requires.says in
-    let ends = says-ends s c.args.x c.args.word d.block d.log d.tail k.sound d.says in
+    let d = before (λ (s : State). DescribesBlock s.tables c.args.x c.args.word) c.self.inside _ c.self.view_is c.requires.says in
+    let ends = says-ends s c.args.x c.args.word d.block d.log d.tail c.self.invariant.sound d.says in
     ends.room
 
 pub overflow_sub-base : goal.overflow_sub-base
 overflow_sub-base c =
     let s : State = state_of c.self.inside in
-    let k = c.self.invariant in
-    let d = subst (λ (s : State). DescribesBlock s.tables c.args.x c.args.word) (sym (ap (λ (m : Seen). m.state) c.self.view_is)) c.requires.says in
-    let ends = says-ends s c.args.x c.args.word d.block d.log d.tail k.sound d.says in
+    let d = before (λ (s : State). DescribesBlock s.tables c.args.x c.args.word) c.self.inside _ c.self.view_is c.requires.says in
+    let ends = says-ends s c.args.x c.args.word d.block d.log d.tail c.self.invariant.sound d.says in
     let e : c.end.result ≡ end_of c.args.x (tail_in s.tables c.args.word) = c.end.ensures ∙ ap (λ (n : ℕ). end_of c.args.x n) c.unpack-fields.ensures.tail in
     rw (e, c.unpack-fields.ensures.size) ends.below
 
 pub unreachable-requires : goal.unreachable-requires
 unreachable-requires c =
     let s : State = state_of c.self.inside in
-    let d = subst (λ (s : State). DescribesBlock s.tables c.args.x c.args.word) (sym (ap (λ (m : Seen). m.state) c.self.view_is)) c.requires.says in
+    let d = before (λ (s : State). DescribesBlock s.tables c.args.x c.args.word) c.self.inside _ c.self.view_is c.requires.says in
     let e : c.end.result ≡ end_of c.args.x (tail_in s.tables c.args.word) = c.end.ensures ∙ ap (λ (n : ℕ). end_of c.args.x n) c.unpack-fields.ensures.tail in
     let h = rw (e, c.unpack-fields.ensures.size, c.deref.ensures.value) at c.block_with.ensures in
     let z : None ≡ Some d.block = sym c.in-None.is ∙ h ∙ sym (owner-described s.tables c.args.x c.args.word c.requires.word) ∙ d.says.owner in

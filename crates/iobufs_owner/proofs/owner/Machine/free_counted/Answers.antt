@@ -1,41 +1,28 @@
-use Rattle.std.proofs.Common.{◌≡◌, sym, subst, arith, ap}
-use Rattle.std.proofs.Math.ListN.{length-set}
-use Rattle.iobufs_owner.specs.Types.{Mut}
-use Rattle.iobufs_owner.specs.Inside.{state_of}
-use Rattle.iobufs_owner.specs.Lending.{Lends}
-use Rattle.iobufs_owner.specs.State.{State, Seen, record_at, block_at}
-use Rattle.iobufs_owner.proofs.Soundness.Edits.{counted-at}
-use Rattle.iobufs_owner.proofs.Soundness.BlockFreed.{counted-ends, sound-freed_counted}
+use Rattle.iobufs_owner.proofs.Base.{◌≡◌, arith, length-set, Mut, Lends, State, record_at, block_at, counted-at, before}
+use Rattle.iobufs_owner.proofs.Soundness.{counted-ends, sound-freed_counted}
 use Rattle.iobufs_owner.proofs.owner.Machine.free_counted.Goals as goal
 
 pub push_reserved-requires : goal.push_reserved-requires
 push_reserved-requires c =
-    let s : State = state_of c.self.inside in
-    let k = c.self.invariant in
-    let t = subst (λ (s : State). Lends s c.args.h Mut c.args.x) (sym (ap (λ (m : Seen). m.state) c.self.view_is)) c.requires.lent in
-    let e = counted-ends s c.args.r k.sound (counted-at s c.args.h c.args.x c.args.r k.sound t.at c.requires.word).live in
-    omega (arith, e.block_log, k.block_room)
+    let t = before (λ (s : State). Lends s c.args.h Mut c.args.x) c.self.inside _ c.self.view_is c.requires.lent in
+    let e = counted-ends _ c.args.r c.self.invariant.sound (counted-at _ c.args.h c.args.x c.args.r c.self.invariant.sound t.at c.requires.word).live in
+    omega (arith, e.block_log, c.self.invariant.block_room)
 
 pub push_reserved-requires-2 : goal.push_reserved-requires-2
 push_reserved-requires-2 c =
-    let s : State = state_of c.self.inside in
-    let k = c.self.invariant in
-    let t = subst (λ (s : State). Lends s c.args.h Mut c.args.x) (sym (ap (λ (m : Seen). m.state) c.self.view_is)) c.requires.lent in
-    let e = counted-ends s c.args.r k.sound (counted-at s c.args.h c.args.x c.args.r k.sound t.at c.requires.word).live in
-    omega (arith, e.record_log, k.record_room)
+    let t = before (λ (s : State). Lends s c.args.h Mut c.args.x) c.self.inside _ c.self.view_is c.requires.lent in
+    let e = counted-ends _ c.args.r c.self.invariant.sound (counted-at _ c.args.h c.args.x c.args.r c.self.invariant.sound t.at c.requires.word).live in
+    omega (arith, e.record_log, c.self.invariant.record_room)
 
 pub invariant_of-self : goal.invariant_of-self
 invariant_of-self c =
-    let s : State = state_of c.self.inside in
-    let k = c.self.invariant in
-    let t = subst (λ (s : State). Lends s c.args.h Mut c.args.x) (sym (ap (λ (m : Seen). m.state) c.self.view_is)) c.requires.lent in
-    let e1 = subst (λ (s : State). c.record-record.result ≡ record_at s.tables c.args.r) (sym (ap (λ (m : Seen). m.state) c.self.view_is))
-    c.record-record.ensures in
-    let e2 = subst (λ (s : State). c.block-block.result ≡ block_at s.tables c.record-record.result.block)
-    (sym (ap (λ (m : Seen). m.state) c.self.view_is)) c.block-block.ensures in
+    let t = before (λ (s : State). Lends s c.args.h Mut c.args.x) c.self.inside _ c.self.view_is c.requires.lent in
+    let e1 = before (λ (s : State). c.record-record.result ≡ record_at s.tables c.args.r) c.self.inside _ c.self.view_is c.record-record.ensures in
+    let e2 = before (λ (s : State). c.block-block.result ≡ block_at s.tables c.record-record.result.block) c.self.inside _ c.self.view_is c.block-block.ensures
+    in
     record {
       sound = rw (c.push_reserved.ensures.items, c.push_reserved-2.ensures.items, e2, e1)
-          (sound-freed_counted s c.args.h c.args.x c.args.r c.args.rest k.sound t.at t.free t.kind_is c.requires.word c.requires.rest);
-      block_room = omega (arith, k.block_room, c.push_reserved.ensures.capacity);
-      record_room = rw length-set (omega (arith, k.record_room, c.push_reserved-2.ensures.capacity));
+          (sound-freed_counted _ c.args.h c.args.x c.args.r c.args.rest c.self.invariant.sound t.at t.free t.kind_is c.requires.word c.requires.rest);
+      block_room = omega (arith, c.self.invariant.block_room, c.push_reserved.ensures.capacity);
+      record_room = rw length-set (omega (arith, c.self.invariant.record_room, c.push_reserved-2.ensures.capacity));
     }

@@ -1,23 +1,14 @@
-use Rattle.std.proofs.Common.{◌≡◌, ◌<◌, Option, Some, None, length, sym, subst, ap}
-use Rattle.iobufs_owner.specs.Types.{Pending, Loaded}
-use Rattle.iobufs_owner.specs.Inside.{state_of}
-use Rattle.iobufs_owner.specs.Sound.{Shares}
-use Rattle.iobufs_owner.specs.State.{State, Seen, call_at}
-use Rattle.iobufs_owner.proofs.Soundness.Called.{IsQuiet, quiet-none, quiet-loaded, sound-called}
-use Rattle.iobufs_owner.proofs.Soundness.Share.{loaded-fits}
+use Rattle.iobufs_owner.proofs.Base.{◌≡◌, ◌<◌, Option, Some, None, length, sym, subst, Pending, Loaded, state_of, Shares, State, call_at, before, refl, still}
+use Rattle.iobufs_owner.proofs.Soundness.{IsQuiet, quiet-none, quiet-loaded, sound-called, loaded-fits}
 use Rattle.iobufs_owner.proofs.owner.Machine.load.Goals as goal
 
 pub invariant_of-self : goal.invariant_of-self
 invariant_of-self c =
     let s : State = state_of c.self.inside in
-    let k = c.self.invariant in
-    let sh = subst (λ (s : State). Shares s c.args.range c.args.x) (sym (ap (λ (m : Seen). m.state) c.self.view_is)) c.requires.fits in
-    let idle = subst (λ (s : State). call_at s c.args.party ≡ None) (sym (ap (λ (m : Seen). m.state) c.self.view_is)) c.requires.idle in
-    let there = subst (λ (s : State). c.args.party < length s.calls) (sym (ap (λ (m : Seen). m.state) c.self.view_is)) c.requires.there in
+    let sh = before (λ (s : State). Shares s c.args.range c.args.x) c.self.inside _ c.self.view_is c.requires.fits in
+    let idle = before (λ (s : State). call_at s c.args.party ≡ None) c.self.inside _ c.self.view_is c.requires.idle in
+    let there = before (λ (s : State). c.args.party < length s.calls) c.self.inside _ c.self.view_is c.requires.there in
     let quiet = subst (λ (o : Option Pending). IsQuiet s o) (sym idle) (quiet-none s) in
-    record {
-      sound = sound-called s c.args.party (Some (Loaded c.args.range c.args.word)) k.sound there quiet (quiet-loaded s c.args.range c.args.word)
-          (loaded-fits s c.args.range c.args.x c.args.word k.sound sh c.requires.word);
-      block_room = k.block_room;
-      record_room = k.record_room;
-    }
+    still c.self.invariant refl refl refl refl
+    (sound-called s c.args.party (Some (Loaded c.args.range c.args.word)) c.self.invariant.sound there quiet (quiet-loaded s c.args.range c.args.word)
+    (loaded-fits s c.args.range c.args.x c.args.word c.self.invariant.sound sh c.requires.word))

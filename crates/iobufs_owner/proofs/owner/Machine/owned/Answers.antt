@@ -1,5 +1,4 @@
-use Rattle.std.proofs.Common.{ℕ, Option, sym, ap, unwrap_or}
-use Rattle.iobufs_owner.proofs.Soundness.Edits.{described-at}
+use Rattle.iobufs_owner.proofs.Base.{ℕ, Option, sym, ap, unwrap_or, described-at}
 use Rattle.iobufs_owner.proofs.owner.Machine.owned.Goals as goal
 
 pub described-requires-clause-says : goal.described-requires-clause-says

@@ -1,23 +1,16 @@
-use Rattle.std.proofs.Common.{◌≡◌, Some, length, length-append, sym, subst, arith, ap}
-use Rattle.iobufs_owner.specs.Types.{Mut}
-use Rattle.iobufs_owner.specs.Inside.{state_of}
-use Rattle.iobufs_owner.specs.Lending.{Lends}
-use Rattle.iobufs_owner.specs.State.{State, Seen, owner_of}
-use Rattle.iobufs_owner.proofs.Soundness.NewRecord.{sound-promoted-frozen}
+use Rattle.iobufs_owner.proofs.Base.{◌≡◌, Some, length, length-append, arith, Mut, Lends, State, owner_of, before}
+use Rattle.iobufs_owner.proofs.Soundness.{sound-promoted-frozen}
 use Rattle.iobufs_owner.proofs.owner.Machine.promote.Goals as goal
 
 pub invariant_of-self : goal.invariant_of-self
 invariant_of-self c =
-    let s : State = state_of c.self.inside in
-    let k = c.self.invariant in
-    let t = subst (λ (s : State). Lends s c.args.h Mut c.args.x) (sym (ap (λ (m : Seen). m.state) c.self.view_is)) c.requires.lent in
-    let o = subst (λ (s : State). owner_of s.tables c.args.x ≡ Some c.owned-block.result) (sym (ap (λ (m : Seen). m.state) c.self.view_is))
-    c.owned-block.ensures.owner in
+    let t = before (λ (s : State). Lends s c.args.h Mut c.args.x) c.self.inside _ c.self.view_is c.requires.lent in
+    let o = before (λ (s : State). owner_of s.tables c.args.x ≡ Some c.owned-block.result) c.self.inside _ c.self.view_is c.owned-block.ensures.owner in
     let r : c.len-r.result ≡ length c.self.inside.records.items = omega (arith, c.len-r.ensures) in
     record {
       sound = rw (c.frozen.ensures, c.push_reserved.ensures.items, r)
-          (sound-promoted-frozen s c.args.h c.args.x c.args.word c.owned-block.result k.sound t c.requires.word o
+          (sound-promoted-frozen _ c.args.h c.args.x c.args.word c.owned-block.result c.self.invariant.sound t c.requires.word o
           (omega (arith, c.in_ok-room_for_record.ensures.few)));
-      block_room = k.block_room;
+      block_room = c.self.invariant.block_room;
       record_room = rw (c.push_reserved.ensures.items, length-append) (omega (arith, c.in_ok-room_for_record.ensures.freed_room));
     }

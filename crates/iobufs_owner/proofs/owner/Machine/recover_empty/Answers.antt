@@ -1,18 +1,7 @@
-use Rattle.std.proofs.Common.{sym, subst, ap}
-use Rattle.iobufs_owner.specs.Types.{View}
-use Rattle.iobufs_owner.specs.Inside.{state_of}
-use Rattle.iobufs_owner.specs.Lending.{Lends}
-use Rattle.iobufs_owner.specs.State.{State, Seen}
-use Rattle.iobufs_owner.proofs.Soundness.Edits.{sound-thawed_empty}
+use Rattle.iobufs_owner.proofs.Base.{View, Lends, State, sound-thawed_empty, before, refl, still}
 use Rattle.iobufs_owner.proofs.owner.Machine.recover_empty.Goals as goal
 
 pub invariant_of-self : goal.invariant_of-self
 invariant_of-self c =
-    let s : State = state_of c.self.inside in
-    let k = c.self.invariant in
-    let t = subst (λ (s : State). Lends s c.args.h View c.args.x) (sym (ap (λ (m : Seen). m.state) c.self.view_is)) c.requires.lent in
-    record {
-      sound = sound-thawed_empty s c.args.h c.args.x k.sound t c.requires.word c.if-x-ne0.false;
-      block_room = k.block_room;
-      record_room = k.record_room;
-    }
+    let t = before (λ (s : State). Lends s c.args.h View c.args.x) c.self.inside _ c.self.view_is c.requires.lent in
+    still c.self.invariant refl refl refl refl (sound-thawed_empty _ c.args.h c.args.x c.self.invariant.sound t c.requires.word c.if-x-ne0.false)

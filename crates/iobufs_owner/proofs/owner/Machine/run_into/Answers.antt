@@ -1,10 +1,6 @@
-use Rattle.std.proofs.Common.{arith, ◌∙◌}
-use Rattle.std.proofs.lemmas.Grind.{common_steps}
-use Rattle.iobufs_owner.specs.Growing.{GrowingRuns}
-use Rattle.iobufs_owner.proofs.Soundness.Promises.{promises-of}
-use Rattle.iobufs_owner.proofs.WorldSteps.FourthStep.{ends-in-four, near-start}
-use Rattle.iobufs_owner.proofs.WorldSteps.Run.{growing-step, runs-of}
-use Rattle.iobufs_owner.proofs.WorldSteps.Reserved.{find}
+use Rattle.iobufs_owner.proofs.Base.{arith, ◌∙◌, common_steps, GrowingRuns}
+use Rattle.iobufs_owner.proofs.Soundness.{promises-of}
+use Rattle.iobufs_owner.proofs.WorldSteps.{ends-in-four, near-start, growing-step, runs-of, find}
 use Rattle.iobufs_owner.proofs.owner.Machine.run_into.Goals as goal
 
 pub loop-step-preserved : goal.loop-step-preserved

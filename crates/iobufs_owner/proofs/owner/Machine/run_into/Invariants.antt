@@ -1,5 +1,4 @@
-use Rattle.std.proofs.Common.{◌≡◌, ◌≤◌, take, length, vec_len, vec_capacity}
-use Rattle.iobufs_owner.specs.Growing.{GrowingRuns}
+use Rattle.iobufs_owner.proofs.Base.{◌≡◌, ◌≤◌, take, length, vec_len, vec_capacity, GrowingRuns}
 use Rattle.iobufs_owner.proofs.owner.Machine.run_into.Given as goal
 
 abbrev pub invariant-loop-step : goal.invariant-loop-step

@@ -1,4 +1,4 @@
-use Rattle.iobufs_owner.proofs.Soundness.Edits.{counted-at, live-inside}
+use Rattle.iobufs_owner.proofs.Base.{counted-at, live-inside}
 use Rattle.iobufs_owner.proofs.owner.Machine.unique.Goals as goal
 
 pub record-requires : goal.record-requires

@@ -1,5 +1,5 @@
-use Rattle.std.proofs.Common.{arith, sym}
-use Rattle.iobufs_owner.proofs.Soundness.Recovered.{with-first, with-none}
+use Rattle.iobufs_owner.proofs.Base.{arith, sym}
+use Rattle.iobufs_owner.proofs.Soundness.{with-first, with-none}
 use Rattle.iobufs_owner.proofs.owner.entries.block_with.Goals as goal
 
 pub returns-then-blocks-i : goal.returns-then-blocks-i

@@ -1,5 +1,4 @@
-use Rattle.std.proofs.Common.{◌≢◌, ◌<◌, ℕ, get_or}
-use Rattle.iobufs_owner.proofs.Soundness.Edits.{no_block}
+use Rattle.iobufs_owner.proofs.Base.{◌≢◌, ◌<◌, ℕ, get_or, no_block}
 use Rattle.iobufs_owner.proofs.owner.entries.block_with.Given as goal
 
 abbrev pub invariant-loop-i : goal.invariant-loop-i

@@ -1,6 +1,4 @@
-use Rattle.std.proofs.Common.{◌<◌, ℕ, get_or}
-use Rattle.iobufs_owner.specs.Places.{ApartFrom}
-use Rattle.iobufs_owner.proofs.Soundness.Edits.{no_block}
+use Rattle.iobufs_owner.proofs.Base.{◌<◌, ℕ, get_or, ApartFrom, no_block}
 use Rattle.iobufs_owner.proofs.owner.make.are_apart.Given as goal
 
 abbrev pub invariant-loop-block : goal.invariant-loop-block

@@ -1,5 +1,4 @@
-use Rattle.std.proofs.Common.{sym}
-use Rattle.iobufs_owner.proofs.Words.{shifted-one}
+use Rattle.iobufs_owner.proofs.Base.{sym, shifted-one}
 use Rattle.iobufs_owner.proofs.owner.make.is_place.Goals as goal
 
 pub returns-then-align-clause-no : goal.returns-then-align-clause-no

@@ -1,4 +1,4 @@
-use Rattle.iobufs_owner.proofs.WorldSteps.Run.{blocks-next, few-next}
+use Rattle.iobufs_owner.proofs.WorldSteps.{blocks-next, few-next}
 use Rattle.iobufs_owner.proofs.owner.room.blocks_made.Goals as goal
 
 pub loop-step-preserved : goal.loop-step-preserved

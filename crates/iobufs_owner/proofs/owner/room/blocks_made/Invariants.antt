@@ -1,5 +1,4 @@
-use Rattle.std.proofs.Common.{◌≡◌, ◌≤◌, take}
-use Rattle.iobufs_owner.specs.Reserved.{blocks_of}
+use Rattle.iobufs_owner.proofs.Base.{◌≡◌, ◌≤◌, take, blocks_of}
 use Rattle.iobufs_owner.proofs.owner.room.blocks_made.Given as goal
 
 abbrev pub invariant-loop-step : goal.invariant-loop-step

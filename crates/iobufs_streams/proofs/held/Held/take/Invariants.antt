@@ -1,7 +1,12 @@
-use Rattle.iobufs_streams.specs.Streams.{held_bytes}
+use Rattle.std.proofs.Common.{◌≡◌}
+use Rattle.iobufs_streams.specs.Streams.{held_bytes, held_prefix}
 use Rattle.iobufs_streams.proofs.StreamLaws.{IsWaiting}
 use Rattle.iobufs_streams.proofs.held.Held.take.Given as goal
 
+-- no whole frame is held so far, and lengths are written as before
 abbrev pub invariant-loop : goal.invariant-loop
-invariant-loop g l = IsWaiting l.prefix l.range l.fn.from l.from (g.R.Read.remaining l.fn.from) (g.R.Read.remaining l.from) (held_bytes l.fn.self)
-    (held_bytes l.self) l.counter
+invariant-loop g l = record {
+  waits : IsWaiting (held_prefix l.fn.self) l.range l.fn.from l.from (g.R.Read.remaining l.fn.from) (g.R.Read.remaining l.from) (held_bytes l.fn.self)
+      (held_bytes l.self) l.counter;
+  same : held_prefix l.self ≡ held_prefix l.fn.self;
+}

@@ -2,7 +2,7 @@ use Rattle.std.proofs.Common.{◌-◌, ap, sym, ◌∙◌, arith, length, subst}
 use Rattle.std.proofs.lemmas.List.{length-map}
 use Rattle.iobufs.specs.Inside.Ends.{from_base}
 use Rattle.iobufs.specs.declared.bufs.row.Piece.{Piece}
-use Rattle.iobufs.specs.Inside.Pieces.{IsPlace, piece_start, pieces_bytes}
+use Rattle.iobufs.specs.Inside.Pieces.{IsChunkPlace, piece_start, pieces_bytes}
 use Rattle.iobufs.specs.Inside.RowValues.{ViewRow}
 use Rattle.iobufs.proofs.Text.EndLaws.{ends-fit, row-search, place-first}
 use Rattle.iobufs.proofs.bufs.row.Row.locate.Goals as goal
@@ -32,7 +32,7 @@ overflow_sub-result c =
 pub returns-clause-place : goal.returns-clause-place
 returns-clause-place c =
     let start = ap (λ (r : ViewRow). piece_start r.views c.find_end-index.result) c.self.view_is in
-    subst (λ (r : ViewRow). IsPlace r.views c.args.at c.find_end-index.result (c.args.at - c.start.result)) c.self.view_is
+    subst (λ (r : ViewRow). IsChunkPlace r.views c.args.at c.find_end-index.result (c.args.at - c.start.result)) c.self.view_is
     (place-first c.self.inside.base c.self.inside.pieces.items c.args.at c.find_end-index.result c.start.result c.self.invariant.ended
     c.find_end-index.ensures.found (c.start.ensures ∙ sym start)).1
 

@@ -1,0 +1,236 @@
+/*
+ * Calls at size and at their edges: chunks of up to 2 MiB, read through the pointer that is returned; empty ranges; lengths
+ * and limits above 2^32; fronts that are no length. The bytes are those of `model`, and a chunk is a range of it.
+ */
+#include "test.h"
+
+#define LONG ((size_t)2 << 20)
+#define FAR ((size_t)1 << 33)
+
+static uint8_t model[LONG], room[LONG];
+
+static int is_range(const uint8_t *at, size_t n, size_t lo, size_t hi) { return n == hi - lo && !memcmp(at, model + lo, n); }
+static int view_shows(struct iobuf_at *view, size_t lo, size_t hi) {
+    const uint8_t *at = model;
+    size_t n = iobuf_chunk(view, &at);
+    return n == iobuf_len(view) && is_range(at, n, lo, hi);
+}
+static int part_shows(struct iobufmut_at *part, size_t lo, size_t hi) {
+    uint8_t *at = model;
+    size_t n = iobufmut_chunk(part, &at);
+    return n == iobufmut_len(part) && is_range(at, n, lo, hi);
+}
+
+/* Whether the chunks of a text show a range, cut at multiples of n: by chunk_at, by the list and by locate. */
+static int text_shows(struct iobufs_at *text, size_t n, size_t lo, size_t hi) {
+    size_t count = iobufs_chunk_count(text), at = lo;
+    struct iobufs_chunk *list = calloc(count + 1, sizeof *list);
+    CHECK(list && iobufs_chunks(text, list, count + 1) == count && iobufs_len(text) == hi - lo);
+    for (size_t i = 0; i < count; i++) {
+        const uint8_t *base;
+        size_t len = iobufs_chunk_at(text, i, &base), index, offset, end = (at / n + 1) * n;
+        CHECK(is_range(base, len, at, end < hi ? end : hi) && list[i].base == base && list[i].len == len);
+        OK(iobufs_locate(text, at - lo + len - 1, &index, &offset));
+        CHECK(index == i && offset == len - 1);
+        at += len;
+    }
+    free(list);
+    return at == hi;
+}
+
+static void views(size_t n) {
+    VIEW(view); VIEW(other);
+    PART(part);
+    uint8_t byte;
+    OK(iobuf_copy_from_slice(model, n, &view));
+    CHECK(view_shows(&view, 0, n) && iobuf_byte_at(&view, n - 1, &byte) && byte == model[n - 1]);
+    OK(iobuf_slice(&view, IOBUFS_INCLUDED, n / 3, IOBUFS_EXCLUDED, n - 1, &other));
+    CHECK(view_shows(&other, n / 3, n - 1) && view_shows(&view, 0, n));
+    iobuf_drop(&other);
+    OK(iobuf_split_to(&view, n / 2, &other));
+    CHECK(view_shows(&other, 0, n / 2) && view_shows(&view, n / 2, n));
+    OK(iobuf_take(&view, 7, &other));
+    CHECK(view_shows(&other, n / 2, n / 2 + 7));
+    iobuf_drop(&other);
+    OK(iobuf_copy_to_slice(&view, room, n / 4));
+    CHECK(!memcmp(room, model + n / 2 + 7, n / 4) && view_shows(&view, n / 2 + 7 + n / 4, n));
+    OK(iobufmut_from_view(&view, &part));
+    CHECK(part_shows(&part, n / 2 + 7 + n / 4, n));
+    iobufmut_drop(&part);
+}
+
+static void parts(size_t n) {
+    PART(part); PART(whole);
+    PARTS(row);
+    TEXT(text);
+    struct iobufmut memory[3];
+    struct iobufmut_at places[3];
+    for (size_t i = 0; i < 3; i++) {
+        places[i].at = &memory[i];
+        iobufmut_init(places[i].at);
+        OK(iobufmut_copy_from_slice(model + i * n, n, &places[i]));
+        CHECK(part_shows(&places[i], i * n, i * n + n));
+    }
+    OK(iobufsmut_from_parts(places, 3, &row));
+    for (size_t i = 0; i < 3; i++) {
+        uint8_t *at;
+        size_t capacity, len = iobufsmut_part_at(&row, i, &at, &capacity);
+        CHECK(is_range(at, len, i * n, i * n + n) && capacity == n);
+    }
+    OK(iobufsmut_advance(&row, n + 5));
+    struct iobufs_chunk list[3];
+    CHECK(iobufsmut_chunks(&row, list, 3) == 2 && is_range(list[0].base, list[0].len, n + 5, 2 * n));
+    OK(iobufsmut_freeze(&row, &text));
+    CHECK(text_shows(&text, n, n + 5, 3 * n));
+    OK(iobufmut_with_capacity(n, &part));
+    OK(iobufmut_put_slice(&part, model, n));
+    CHECK(part_shows(&part, 0, n) && iobufmut_remaining_mut(&part) == 0);
+    OK(iobufmut_zeroed_with_alignment(n, 4096, &whole));
+    uint8_t *at;
+    CHECK(iobufmut_chunk(&whole, &at) == n && at[0] == 0 && !memcmp(at, at + 1, n - 1));
+    iobufmut_drop(&part), iobufmut_drop(&whole), iobufs_drop(&text);
+}
+
+static void texts(size_t count, size_t n) {
+    size_t all = count * n;
+    TEXT(text); TEXT(front);
+    VIEW(view);
+    for (size_t i = 0; i < count; i++) {
+        OK(iobuf_copy_from_slice(model + i * n, n, &view));
+        OK(iobufs_append(&text, &view));
+    }
+    CHECK(text_shows(&text, n, 0, all));
+    OK(iobufs_clone(&text, &front));
+    OK(iobufs_take_after(&front, n / 2, all - n, &view));
+    CHECK(view_shows(&view, n / 2, all - n + n / 2) && text_shows(&front, n, all - n + n / 2, all));
+    iobuf_drop(&view), iobufs_drop(&front);
+    OK(iobufs_split_to(&text, all / 3, &front));
+    CHECK(text_shows(&front, n, 0, all / 3) && text_shows(&text, n, all / 3, all));
+    OK(iobufs_copy_to_slice(&text, room, all / 3));
+    CHECK(!memcmp(room, model + all / 3, all / 3));
+    OK(iobufs_coalesce(&text, &view));
+    CHECK(view_shows(&view, 2 * (all / 3), all));
+    iobuf_drop(&view), iobufs_drop(&front);
+}
+
+/* Ranges without bytes, and those that don't fit. */
+static void ranges(void) {
+    const size_t n = 5000;
+    VIEW(view); VIEW(out);
+    TEXT(text); TEXT(front);
+    OK(iobuf_copy_from_slice(model, n, &view));
+    for (size_t at = 0; at <= n; at += n / 2) {
+        OK(iobuf_slice(&view, IOBUFS_INCLUDED, at, IOBUFS_EXCLUDED, at, &out));
+        CHECK(iobuf_is_empty(&out));
+        CHECK(iobuf_slice(&view, IOBUFS_EXCLUDED, at, IOBUFS_INCLUDED, at, &out) == (at < n ? IOBUFS_OK : IOBUFS_OUT_OF_RANGE));
+        CHECK(iobuf_slice(&view, IOBUFS_EXCLUDED, at, IOBUFS_EXCLUDED, at, &out) == IOBUFS_OUT_OF_RANGE);
+    }
+    OK(iobuf_slice(&view, IOBUFS_INCLUDED, n, IOBUFS_UNBOUNDED, 0, &out));
+    OK(iobuf_slice(&view, IOBUFS_UNBOUNDED, 0, IOBUFS_EXCLUDED, 0, &out));
+    CHECK(iobuf_is_empty(&out));
+    const size_t beyond[] = { n + 1, FAR + n, SIZE_MAX };
+    for (size_t i = 0; i < 3; i++) {
+        const size_t far = beyond[i];
+        CHECK(iobuf_slice(&view, IOBUFS_INCLUDED, 0, IOBUFS_EXCLUDED, far, &out) == IOBUFS_OUT_OF_RANGE);
+        CHECK(iobuf_slice(&view, IOBUFS_INCLUDED, far, IOBUFS_UNBOUNDED, 0, &out) == IOBUFS_OUT_OF_RANGE);
+        CHECK(iobuf_slice(&view, IOBUFS_EXCLUDED, far, IOBUFS_INCLUDED, far, &out) == IOBUFS_OUT_OF_RANGE);
+        CHECK(iobuf_split_to(&view, far, &out) == IOBUFS_OUT_OF_RANGE && iobuf_advance(&view, far) == IOBUFS_OUT_OF_RANGE);
+        CHECK(iobuf_take(&view, far, &out) == IOBUFS_END_OF_BUFFER);
+    }
+    OK(iobuf_split_to(&view, 0, &out));
+    OK(iobuf_take(&view, 0, &out));
+    OK(iobuf_advance(&view, 0));
+    OK(iobuf_copy_to_slice(&view, room, 0));
+    CHECK(view_shows(&view, 0, n) && iobuf_is_empty(&out));
+    OK(iobuf_copy_from_slice(model, 0, &out));
+    CHECK(iobuf_is_empty(&out));
+    iobufs_from_view(&view, &text);
+    OK(iobufs_split_to(&text, 0, &front));
+    OK(iobufs_take_after(&text, 0, 0, &out));
+    CHECK(iobufs_is_empty(&front) && iobuf_is_empty(&out) && text_shows(&text, n, 0, n));
+    CHECK(iobufs_take_after(&text, SIZE_MAX, 1, &out) == IOBUFS_END_OF_BUFFER);
+    CHECK(iobufs_take_after(&text, FAR, SIZE_MAX - FAR, &out) == IOBUFS_END_OF_BUFFER);
+    CHECK(iobufs_split_to(&text, FAR, &front) == IOBUFS_OUT_OF_RANGE && iobufs_advance(&text, SIZE_MAX) == IOBUFS_OUT_OF_RANGE);
+    size_t index, offset;
+    CHECK(iobufs_locate(&text, n, &index, &offset) == IOBUFS_OUT_OF_RANGE && iobufs_locate(&text, FAR, &index, &offset) == IOBUFS_OUT_OF_RANGE);
+    OK(iobufs_split_to(&text, n, &front));
+    CHECK(iobufs_is_empty(&text) && text_shows(&front, n, 0, n));
+    iobufs_drop(&front);
+}
+
+/* Lengths and limits above 2^32. */
+static void limits(void) {
+    static const uint8_t written[] = { 0x85, 0x80, 0x80, 0x80, 0x20 };
+    PART(part);
+    VIEW(view); VIEW(out);
+    FRAMES(frames);
+    size_t n = 1;
+    CHECK(iobufs_length_size(FAR + 5) == 5 && iobufs_length_size(SIZE_MAX) == 10);
+    OK(iobufmut_with_capacity(9, &part));
+    OK(iobufmut_put_length(&part, FAR + 5));
+    OK(iobufmut_freeze(&part, &view));
+    const uint8_t *at;
+    CHECK(iobuf_chunk(&view, &at) == 5 && !memcmp(at, written, 5));
+    CHECK(iobuf_read_length(&view, 0, FAR + 4, &n) == IOBUFS_INVALID_LENGTH && iobuf_len(&view) == 5);
+    CHECK(iobuf_read_length(&view, FAR + 6, SIZE_MAX, &n) == IOBUFS_INVALID_LENGTH && n == FAR + 5);
+    CHECK(iobuf_read_length(&view, FAR + 6, FAR + 4, &n) == IOBUFS_INVALID_LENGTH);
+    CHECK(iobuf_read_view(&view, 0, SIZE_MAX, &out) == IOBUFS_END_OF_BUFFER && iobuf_len(&view) == 5);
+    OK(iobuf_read_length(&view, FAR + 5, FAR + 5, &n));
+    CHECK(n == FAR + 5 && iobuf_is_empty(&view));
+    OK(iobuf_copy_from_slice(bytes("\3abc"), 4, &view));
+    CHECK(iobuf_read_view(&view, FAR, SIZE_MAX, &out) == IOBUFS_INVALID_LENGTH && iobuf_len(&view) == 4);
+    OK(iobufs_frames_feed(&frames, &view));
+    CHECK(iobufs_frames_next(&frames, FAR, SIZE_MAX, &out, &n) == IOBUFS_INVALID_LENGTH && iobufs_frames_len(&frames) == 4);
+    OK(iobufs_frames_next(&frames, 3, FAR, &out, &n));
+    CHECK(view_is(&out, "abc"));
+    CHECK(iobufmut_with_capacity((size_t)1 << 63, &part) == IOBUFS_BAD_LAYOUT);
+    CHECK(iobufmut_with_alignment(8, ((size_t)1 << 32) + 1, &part) == IOBUFS_BAD_LAYOUT);
+    CHECK(iobufmut_zeroed((size_t)1 << 63, &part) == IOBUFS_BAD_LAYOUT);
+    iobuf_drop(&out), iobufs_frames_drop(&frames);
+}
+
+/* Fronts that are no length and no number: each call says why, and what it read from stays. */
+static void fronts(void) {
+    static const char *const all[] = { "\x80", "\x80\0" };
+    VIEW(view); VIEW(out);
+    TEXT(text);
+    FRAMES(frames);
+    PART(part);
+    uint8_t one = 1;
+    uint16_t two = 1;
+    uint32_t four = 1;
+    size_t n = 1;
+    CHECK(iobufs_get_u8(&text, &one) == IOBUFS_END_OF_BUFFER && one == 1);
+    for (size_t len = 1; len <= 2; len++) {
+        iobufs_status why = len == 1 ? IOBUFS_END_OF_BUFFER : IOBUFS_INVALID_VARINT;
+        OK(iobuf_copy_from_slice(bytes(all[len - 1]), len, &view));
+        CHECK(iobuf_read_length(&view, 0, SIZE_MAX, &n) == why && iobuf_read_view(&view, 0, SIZE_MAX, &out) == why);
+        CHECK(len == 2 || (iobuf_get_u16(&view, &two) == IOBUFS_END_OF_BUFFER && two == 1));
+        OK(iobuf_clone(&view, &out));
+        iobufs_from_view(&out, &text);
+        CHECK(iobufs_read_length(&text, 0, SIZE_MAX, &n) == why && iobufs_read_view(&text, 0, SIZE_MAX, &out) == why && n == 1);
+        CHECK(len == 2 || (iobufs_get_u16(&text, &two) == IOBUFS_END_OF_BUFFER && two == 1));
+        CHECK(iobufs_get_u32(&text, &four) == IOBUFS_END_OF_BUFFER && four == 1 && iobufs_len(&text) == len);
+        CHECK(iobuf_len(&view) == len && iobuf_is_empty(&out));
+        OK(iobufs_frames_feed(&frames, &view));
+        CHECK(iobufs_frames_next(&frames, 0, SIZE_MAX, &out, &n) == why && iobufs_frames_len(&frames) == len);
+        iobufs_drop(&text); iobufs_frames_drop(&frames);
+    }
+    OK(iobufmut_with_capacity(1, &part));
+    CHECK(iobufmut_put_length(&part, 300) == IOBUFS_OUT_OF_RANGE && iobufmut_is_empty(&part));
+    iobufmut_drop(&part);
+}
+
+int main(void) {
+    static const size_t sizes[] = { 64, 4097, 65537, (1 << 20) + 1, LONG };
+    for (size_t i = 0; i < LONG; i++) model[i] = (uint8_t)((i * 7 + i / 251) % 253);
+    for (size_t i = 0; i < sizeof sizes / sizeof *sizes; i++) {
+        views(sizes[i]);
+        parts(sizes[i] / 3);
+        texts(1, sizes[i]), texts(2, sizes[i] / 2), texts(4, sizes[i] / 4), texts(sizes[i] / 16, 16);
+    }
+    ranges();
+    limits();
+    fronts();
+    return 0;
+}

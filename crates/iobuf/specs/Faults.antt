@@ -1,0 +1,62 @@
+-- What may fail in a session, and what is so if it does.
+--     ReadFails                the failures of reading a line, which flushes replies first
+--     Takes                    what a writer has got of some bytes: all of them, a prefix if it failed, nothing if an
+--                              allocation failed
+--     LineAt, IsTextAt         a line of the input by its number, and that it is UTF-8
+--     IsFrontOf                what is known to be written is a prefix of these bytes
+--     most_lines               the most lines that a session counts: a longer input can't be served to its end
+--     Halts                    where a session was when it met a fault: the lines answered, and what of their replies
+--                              is written
+use Rattle.std.specs.Prelude.{◌≡◌, ℕ, ◌-◌, ◌^◌, take, length, List, ◌∷◌, ◌++◌, Option, Some, Result, Ok, Err, IsUtf8, ⊤}
+use Rattle.std.specs.Io.KnownBytes.{Appends, Keeps}
+use Rattle.std.specs.Str.Lines.{lines}
+use Rattle.iobuf.specs.declared.fault.Obstacle.{Obstacle}
+use Rattle.iobuf.specs.declared.fault.Obstacle.TheVariants.{Reading, Writing, Memory, NotText, TooManyLines}
+
+-- reading a line can't find that it isn't text, or is one too many
+abbrev pub ReadFails : Obstacle → Type 0
+ReadFails Reading = ⊤
+ReadFails Writing = ⊤
+ReadFails Memory = ⊤
+ReadFails NotText = ⊥
+ReadFails TooManyLines = ⊥
+
+-- a writer takes a text: all of it, or a front of it where it fails, and nothing for a failed allocation
+abbrev pub Takes : (old new : Option (List ℕ)) → List ℕ → Result (Unit {0}) Obstacle → Type 0
+Takes old new text (Ok done) = Appends old new text
+Takes old new text (Err Reading) = ⊥
+Takes old new text (Err Writing) = (n : ℕ) × Appends old new (take n text)
+Takes old new text (Err Memory) = Keeps old new
+Takes old new text (Err NotText) = ⊥
+Takes old new text (Err TooManyLines) = ⊥
+
+-- the line after so many others
+pub record LineAt (input : List ℕ) (count : ℕ) (line : List ℕ) : Type 0 where
+  pub front : List (List ℕ)
+  pub behind : List (List ℕ)
+  pub split : lines input ≡ front ++ line ∷ behind
+  pub counts : length front ≡ count
+
+-- the line after so many others is text
+abbrev pub IsTextAt : (input : List ℕ) → (count : ℕ) → Type 0
+IsTextAt input count = (line : List ℕ) × LineAt input count line × IsUtf8 line
+
+-- what is known of a writer is a front of these bytes
+pub record IsFrontOf (whole : List ℕ) (written : Option (List ℕ)) : Type 0 where
+  pub front : List ℕ
+  pub rest : List ℕ
+  pub split : whole ≡ front ++ rest
+  pub written_is : written ≡ Some front
+
+-- the most lines that a session counts
+abbrev pub most_lines : ℕ
+most_lines = 2 ^ 64 - 2
+
+-- A session that can't go on, by what failed. `answered count written` says that so many lines of the input, the first
+-- ones, were answered, and that this is what was written
+abbrev pub Halts : (answered : ℕ → Option (List ℕ) → Type 0) → (input : List ℕ) → (written : Option (List ℕ)) → Obstacle → Type 0
+Halts answered input written Reading = (count : ℕ) × answered count written
+Halts answered input written Writing = (count : ℕ) × (whole : List ℕ) × answered count (Some whole) × IsFrontOf whole written
+Halts answered input written Memory = (count : ℕ) × answered count written
+Halts answered input written NotText = (count : ℕ) × answered count written × (line : List ℕ) × LineAt input count line × (IsUtf8 line → ⊥)
+Halts answered input written TooManyLines = answered most_lines written

@@ -1,0 +1,66 @@
+-- A session with an owner machine: what it reads, and what it prints.
+--     MakesMachine, MachineMade           the first line makes the machine that it asks for, or asks for none
+--     AnswersMachineLine,     what one further line makes of the machine, and the line that it prints
+--     AskAnswered
+--     MachineAnsweredFirst    the first n lines of the input were answered, whatever is in the others
+--     ServesMachine           what a session has read and written when it ends, by how it ends
+--     HasMachineStatus        how it ends, by the program's status
+use Rattle.std.specs.Prelude.{◌≡◌, ◌⊎◌, ℕ, ◌+◌, List, Option, Some, None, Result, Ok, Err, ⊤}
+use Rattle.iobufs_owner.specs.Promises.{Promises}
+use Rattle.iobufs_owner.specs.State.{Seen}
+use Rattle.iobuf_lines.specs.declared.owner.line.Ask.{Ask}
+use Rattle.iobuf_lines.specs.declared.owner.line.Setup.{Setup}
+use Rattle.iobuf_lines.specs.Owner.Said.{ask_of, setup_of}
+use Rattle.iobuf_lines.specs.Owner.Session.{AllStepsAnswered, StepsAnswered, StepsAnsweredUpTo, Answers, with_line_end, machine_of}
+use Rattle.iobuf_lines.specs.declared.words.LineError.{LineError}
+use Rattle.iobuf_lines.specs.declared.words.LineError.TheVariants.{NoCommand, Memory}
+use Rattle.iobuf.specs.Faults.{Halts, IsTextAt}
+use Rattle.iobuf.specs.Stops.{stop_status}
+use Rattle.iobuf.specs.declared.fault.Stop.{Stop}
+use Rattle.iobuf.specs.declared.fault.Stop.TheVariants.{BadCommand, CannotContinue, OtherWords}
+
+-- a line asks for a machine, which is made as it is promised
+pub record MachineMade (line : List ℕ) (m : Seen) : Type 0 where
+  pub setup : Setup
+  pub asks_for : setup_of line ≡ Some setup
+  pub begins : m.state ≡ machine_of setup
+  pub promises : Promises m.state
+
+-- the first line asks for a machine, which is made
+abbrev pub MakesMachine : (line : List ℕ) → Result Seen LineError → Type 0
+MakesMachine line (Ok m) = MachineMade line m
+MakesMachine line (Err NoCommand) = setup_of line ≡ None
+MakesMachine line (Err Memory) = ⊤
+
+-- a line asks something, and is answered by a text, which is printed as a line
+pub record AskAnswered (line : List ℕ) (old new : Seen) (printed : List ℕ) : Type 0 where
+  pub ask : Ask
+  pub text : List ℕ
+  pub says : ask_of line ≡ Some ask
+  pub answers : Answers old ask text new
+  pub prints : printed ≡ with_line_end text
+
+-- a line that asks something is answered
+abbrev pub AnswersMachineLine : (line : List ℕ) → (old new : Seen) → (printed : List ℕ) → Result (Unit {0}) LineError → Type 0
+AnswersMachineLine line old new printed (Ok done) = AskAnswered line old new printed
+AnswersMachineLine line old new printed (Err NoCommand) = ask_of line ≡ None
+AnswersMachineLine line old new printed (Err Memory) = ⊤
+
+-- so many lines were answered, whatever the others ask; where none was, nothing is written
+abbrev pub MachineAnsweredFirst : (input before : List ℕ) → ℕ → Option (List ℕ) → Type 0
+MachineAnsweredFirst input before count written =
+    ((count ≡ 0) × (written ≡ Some before)) ⊎ ((left : List (Option Ask)) × StepsAnswered input before left written count)
+
+-- At the end of the input each line was answered, at a line that asks nothing each before it, and that line is text.
+-- Where a session can't go on, lines were answered up to there
+abbrev pub ServesMachine : (input before : List ℕ) → (written : Option (List ℕ)) → Result (Unit {0}) Stop → Type 0
+ServesMachine input before written (Ok done) = AllStepsAnswered input before written
+ServesMachine input before written (Err (BadCommand number)) = (count : ℕ) × (number ≡ count + 1) × StepsAnsweredUpTo count input before written
+    × IsTextAt input count
+ServesMachine input before written (Err (CannotContinue fault)) = Halts (MachineAnsweredFirst input before) input written fault
+ServesMachine input before written (Err OtherWords) = ⊥
+
+-- how a session with the machine ends, by its status
+abbrev pub HasMachineStatus : (input before : List ℕ) → (written : Option (List ℕ)) → (status : ℕ) → Type 0
+HasMachineStatus input before written status =
+    (ended : Result (Unit {0}) Stop) × (status ≡ stop_status ended) × ServesMachine input before written ended

@@ -1,0 +1,130 @@
+// A session of either half, over any reader and writers.
+ghost use Rattle.std.specs.Prelude.{◌≡◌, ◌≢◌, [], ◌∷◌, codes, map, true, false, Ok, Err, Some, None, IfErr, IfNone, IfSome, OnOk};
+ghost use Rattle.std.specs.Io.Buffered.{reader_remaining};
+ghost use Rattle.std.specs.Io.KnownBytes.{Appends};
+ghost use Rattle.iobuf.specs.Halves.{ServesHalf, half_word};
+ghost use Rattle.iobuf.specs.MachineSession.{HasMachineStatus, ServesMachine};
+ghost use Rattle.iobuf.specs.Session.{HasStatus, Serves};
+ghost use Rattle.iobuf.specs.Stops.{IsStatus, stop_line};
+ghost use Rattle.iobuf.specs.declared.fault.Stop.TheVariants.{OtherWords};
+
+mod buffers;
+mod machine;
+
+use crate::fault::{Obstacle, Stop, status, tell};
+use crate::input::Input;
+use crate::output::Output;
+use std::alloc::Global;
+use std::io::{self, Read, Write};
+
+/// The two halves of the program.
+#[derive(Clone, Copy, Debug, PartialEq, Eq, Drop)]
+pub enum Half {
+    /// Commands on named buffers.
+    Buffers,
+    /// Steps of the owner machine.
+    Machine,
+}
+
+// Answers each line of the input.
+fn serve_half<R: Read + Drop, W: Write>(
+    alloc: Global,
+    half: Half,
+    input: &mut Input<R>,
+    output: &mut Output<W>,
+) -> Result<(), Stop>
+    ensures { IfSome (reader_remaining R.remaining input.old.reader) (λ read. IfSome (W.contents output.old.writer) (λ before.
+        ServesHalf half read before (W.contents output.new.writer) result)) }
+{
+    match half {
+        Half::Buffers => buffers::serve(alloc, input, output),
+        Half::Machine => machine::serve(alloc, input, output),
+    }
+}
+
+// Answers each line of a reader, and flushes the last replies.
+fn run<R: Read + Drop, W: Write>(
+    alloc: Global,
+    half: Half,
+    input: R,
+    output: &mut Output<W>,
+) -> Result<(), Stop>
+    ensures serves { IfSome (R.remaining input) (λ read. IfSome (W.contents output.old.writer) (λ before.
+        ServesHalf half read before (W.contents output.new.writer) result)) }
+    ensures sent { OnOk result (output.new.is_sent ≡ true) }
+{
+    let mut input = match Input::new(alloc, input) {
+        Ok(input) => input,
+        Err(_) => return Err(Stop::CannotContinue(Obstacle::Memory)),
+    };
+    let served = serve_half(alloc, half, &mut input, output);
+    if let Err(failure) = output.send() {
+        return Err(Stop::CannotContinue(failure));
+    }
+    served
+}
+
+// The half that the words after the program's name ask for.
+fn half_of(args: &[&str]) -> Option<Half>
+    ensures asks { IfSome result (λ half. map (λ arg. arg.now) args.now ≡ half_word half ∷ []) }
+    ensures none { IfNone result ((map (λ arg. arg.now) args.now ≢ codes "buf" ∷ []) × (map (λ arg. arg.now) args.now ≢ codes "owner" ∷ [])) }
+{
+    match args {
+        ["buf"] => Some(Half::Buffers),
+        ["owner"] => Some(Half::Machine),
+        _ => None,
+    }
+}
+
+/// Runs the program on the words after its name, and tells `errors` why it ends before the end of the input. Beside
+/// the reason stands whether `errors` took what it was told.
+pub fn session<R: Read + Drop, W: Write, E: Write>(
+    alloc: Global,
+    args: &[&str],
+    input: &mut R,
+    output: &mut Output<W>,
+    errors: &mut E,
+) -> (Result<(), Stop>, io::Result<()>)
+    ensures buffers { map (λ arg. arg.now) args.now ≡ codes "buf" ∷ [] → IfSome (R.remaining input.old) (λ read.
+        IfSome (W.contents output.old.writer) (λ before. Serves read before (W.contents output.new.writer) result.0)) }
+    ensures machine { map (λ arg. arg.now) args.now ≡ codes "owner" ∷ [] → IfSome (R.remaining input.old) (λ read.
+        IfSome (W.contents output.old.writer) (λ before. ServesMachine read before (W.contents output.new.writer) result.0)) }
+    ensures usage { map (λ arg. arg.now) args.now ≢ codes "buf" ∷ [] → map (λ arg. arg.now) args.now ≢ codes "owner" ∷ []
+        → (result.0 ≡ Err OtherWords) × (input.new ≡ input.old) × (output.new ≡ output.old) }
+    ensures sent { OnOk result.0 (output.new.is_sent ≡ true) }
+    ensures told { IfErr result.0 (λ stop. OnOk result.1 (Appends (E.contents errors.old) (E.contents errors.new) (stop_line stop))) }
+    ensures silent { OnOk result.0 (errors.new ≡ errors.old) }
+{
+    let ended = match half_of(args) {
+        Some(half) => run(alloc, half, input, output),
+        None => Err(Stop::OtherWords),
+    };
+    let told = match &ended {
+        Ok(()) => Ok(()),
+        Err(stop) => tell(stop, errors),
+    };
+    (ended, told)
+}
+
+/// The status of a session. A fault in writing to `errors` changes nothing.
+pub fn serve<R: Read + Drop, W: Write, E: Write>(
+    alloc: Global,
+    args: &[&str],
+    input: R,
+    output: &mut Output<W>,
+    errors: &mut E,
+) -> u8
+    ensures known { IsStatus result }
+    ensures buffers { map (λ arg. arg.now) args.now ≡ codes "buf" ∷ [] → IfSome (R.remaining input) (λ read.
+        IfSome (W.contents output.old.writer) (λ before. HasStatus read before (W.contents output.new.writer) result)) }
+    ensures machine { map (λ arg. arg.now) args.now ≡ codes "owner" ∷ [] → IfSome (R.remaining input) (λ read.
+        IfSome (W.contents output.old.writer) (λ before. HasMachineStatus read before (W.contents output.new.writer) result)) }
+    ensures usage { map (λ arg. arg.now) args.now ≢ codes "buf" ∷ [] → map (λ arg. arg.now) args.now ≢ codes "owner" ∷ []
+        → (result ≡ 2) × (output.new ≡ output.old) }
+    ensures sent { result ≡ 0 → output.new.is_sent ≡ true }
+    ensures silent { result ≡ 0 → errors.new ≡ errors.old }
+{
+    let mut input = input;
+    let (ended, _) = session(alloc, args, &mut input, output, errors);
+    status(&ended)
+}

@@ -1,0 +1,90 @@
+// The owner machine, line by line.
+ghost use Rattle.std.specs.Prelude.{IfSome};
+ghost use Rattle.std.specs.Io.Buffered.{reader_remaining};
+ghost use Rattle.iobuf.specs.MachineSession.{AnswersMachineLine, MakesMachine, ServesMachine};
+
+use crate::fault::{Obstacle, Stop};
+use crate::input::{Input, text};
+use crate::output::Output;
+use iobuf_lines::owner::line::{first_line, further_line};
+use iobuf_lines::owner::session;
+use iobuf_lines::words::LineError;
+use iobufs_owner::owner::Machine;
+use std::alloc::Global;
+use std::io::{Read, Write};
+
+/// Answers each line of the input by an owner machine, which the first line asks for.
+pub fn serve<R: Read + Drop, W: Write>(
+    alloc: Global,
+    input: &mut Input<R>,
+    output: &mut Output<W>,
+) -> Result<(), Stop>
+    ensures { IfSome (reader_remaining R.remaining input.old.reader) (λ read. IfSome (W.contents output.old.writer) (λ before.
+        ServesMachine read before (W.contents output.new.writer) result)) }
+{
+    match input.read_line(output) {
+        Ok(true) => {}
+        Ok(false) => return Ok(()),
+        Err(fault) => return Err(Stop::CannotContinue(fault)),
+    }
+    let first = match text(input.line()) {
+        Ok(first) => first,
+        Err(fault) => return Err(Stop::CannotContinue(fault)),
+    };
+    let mut machine = match begin(alloc, first) {
+        Ok(machine) => machine,
+        Err(LineError::NoCommand) => return Err(Stop::BadCommand(1)),
+        Err(LineError::Memory) => return Err(Stop::CannotContinue(Obstacle::Memory)),
+    };
+    if let Err(fault) = output.take(b"ok\n") {
+        return Err(Stop::CannotContinue(fault));
+    }
+    let mut reply = Vec::new(alloc);
+    for number in 2..u64::MAX {
+        match input.read_line(output) {
+            Ok(true) => {}
+            Ok(false) => return Ok(()),
+            Err(fault) => return Err(Stop::CannotContinue(fault)),
+        }
+        let line = match text(input.line()) {
+            Ok(line) => line,
+            Err(fault) => return Err(Stop::CannotContinue(fault)),
+        };
+        match answer(&mut machine, line, &mut reply) {
+            Ok(()) => {}
+            Err(LineError::NoCommand) => return Err(Stop::BadCommand(number)),
+            Err(LineError::Memory) => return Err(Stop::CannotContinue(Obstacle::Memory)),
+        }
+        if let Err(fault) = output.take(&reply) {
+            return Err(Stop::CannotContinue(fault));
+        }
+    }
+    Err(Stop::CannotContinue(Obstacle::TooManyLines))
+}
+
+// Makes the machine that the first line asks for.
+fn begin(alloc: Global, line: &str) -> Result<Machine, LineError>
+    ensures { MakesMachine line.now result }
+{
+    let Ok(setup) = first_line(line) else {
+        return Err(LineError::NoCommand);
+    };
+    match setup.machine(alloc) {
+        Ok(machine) => Ok(machine),
+        Err(_) => Err(LineError::Memory),
+    }
+}
+
+// Answers a line, and prints its answer.
+fn answer(machine: &mut Machine, line: &str, reply: &mut Vec<u8>) -> Result<(), LineError>
+    ensures { AnswersMachineLine line.now machine.old machine.new reply.new.items result }
+{
+    let Ok(ask) = further_line(line) else {
+        return Err(LineError::NoCommand);
+    };
+    reply.clear();
+    match session::answer(machine, ask, reply) {
+        Ok(()) => Ok(()),
+        Err(_) => Err(LineError::Memory),
+    }
+}

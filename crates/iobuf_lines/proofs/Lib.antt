@@ -1,0 +1,13 @@
+pub mod Front
+pub mod Held
+pub mod Hexes
+pub mod Many
+pub mod NextWord
+pub mod Numbers
+pub mod Numerals
+pub mod Replies
+pub mod Spelling
+pub mod StepSpelling
+pub mod Stepped
+pub mod WordLaws
+pub mod Written

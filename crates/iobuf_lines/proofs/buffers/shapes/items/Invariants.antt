@@ -1,0 +1,12 @@
+use Rattle.std.proofs.Common.{◌≡◌, ◌++◌, length, map}
+use Rattle.std.specs.Option.{option_map}
+use Rattle.iobuf_lines.specs.Buffers.Commands.{plain_item}
+use Rattle.iobuf_lines.specs.Buffers.Shapes.{items_of}
+use Rattle.iobuf_lines.proofs.buffers.shapes.items.Given as goal
+
+-- what all words say is the items so far, and after them what the words that are left say
+abbrev pub invariant-loop-word : goal.invariant-loop-word
+invariant-loop-word l = items_of l.fn.words ≡ option_map (λ items. map plain_item l.items.items ++ items) (items_of l.words)
+
+abbrev pub decreases-loop-word : goal.decreases-loop-word
+decreases-loop-word l = length l.words

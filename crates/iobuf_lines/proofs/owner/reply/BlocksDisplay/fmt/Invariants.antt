@@ -1,0 +1,8 @@
+use Rattle.std.proofs.Common.{take, flat_map}
+use Rattle.std.specs.Fmt.{HasWritten, IsPlainFormatter}
+use Rattle.iobuf_lines.specs.Owner.Printed.{block_text}
+use Rattle.iobuf_lines.proofs.owner.reply.BlocksDisplay.fmt.Given as goal
+
+abbrev pub invariant-loop-freed : goal.invariant-loop-freed
+invariant-loop-freed g l =
+    IsPlainFormatter l.fn.f → HasWritten g.W.Write.write_str_gives l.fn.f (flat_map block_text (take l.freed-index l.freed-items)) l.f

@@ -1,0 +1,8 @@
+use Rattle.std.proofs.Common.{take, flat_map}
+use Rattle.std.specs.Fmt.{HasWritten, IsPlainFormatter}
+use Rattle.iobuf_lines.specs.Owner.Printed.{number_text}
+use Rattle.iobuf_lines.proofs.owner.reply.RecordsDisplay.fmt.Given as goal
+
+abbrev pub invariant-loop-record : goal.invariant-loop-record
+invariant-loop-record g l =
+    IsPlainFormatter l.fn.f → HasWritten g.W.Write.write_str_gives l.fn.f (flat_map number_text (take l.record-index l.record-items)) l.f

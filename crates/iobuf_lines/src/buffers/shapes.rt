@@ -1,0 +1,163 @@
+// Words that follow one another to the end of a line.
+ghost use Rattle.std.specs.Prelude.{◌≡◌, ◌⊎◌, ℕ, List, ◌∷◌, map, Some, None, IfOk, IfErr};
+ghost use Rattle.iobuf_lines.specs.Buffers.Commands.{plain, plain_item, Fill, Slice};
+ghost use Rattle.iobuf_lines.specs.Buffers.Shapes.{bound_said, build_of, bytes_for_of, fill_of, first_bound, four, four_numbers, item_of, items_of, numbers_for_of, one_number, slice_said, three, three_numbers, two_numbers};
+
+use crate::words::{LineError, Words, bytes, number};
+use iobufs_run::command::{Cmd, Item};
+use std::alloc::Global;
+use std::ops::Bound;
+
+/// One number, and no word after it.
+pub fn one(words: &mut Words<'_>) -> Result<usize, LineError>
+    ensures ok { IfOk result (λ n. one_number words.old ≡ Some n) }
+    ensures err { IfErr result (λ error. (error ≡ LineError.NoCommand) × (one_number words.old ≡ None)) }
+{
+    let a = words.number()?;
+    words.end()?;
+    Ok(a)
+}
+
+/// Two numbers, and no word after them.
+pub fn two(words: &mut Words<'_>) -> Result<(usize, usize), LineError>
+    ensures ok { IfOk result (λ n. two_numbers words.old ≡ Some (n.0, n.1)) }
+    ensures err { IfErr result (λ error. (error ≡ LineError.NoCommand) × (two_numbers words.old ≡ None)) }
+{
+    let a = words.number()?;
+    let b = one(words)?;
+    Ok((a, b))
+}
+
+/// Three numbers, and no word after them.
+pub fn three(words: &mut Words<'_>) -> Result<(usize, usize, usize), LineError>
+    ensures ok { IfOk result (λ n. three_numbers words.old ≡ Some (three n.0 n.1 n.2)) }
+    ensures err { IfErr result (λ error. (error ≡ LineError.NoCommand) × (three_numbers words.old ≡ None)) }
+{
+    let a = words.number()?;
+    let (b, c) = two(words)?;
+    Ok((a, b, c))
+}
+
+/// Four numbers, and no word after them.
+pub fn four(words: &mut Words<'_>) -> Result<(usize, usize, usize, usize), LineError>
+    ensures ok { IfOk result (λ n. four_numbers words.old ≡ Some (four n.0 n.1 n.2 n.3)) }
+    ensures err { IfErr result (λ error. (error ≡ LineError.NoCommand) × (four_numbers words.old ≡ None)) }
+{
+    let a = words.number()?;
+    let (b, c, d) = three(words)?;
+    Ok((a, b, c, d))
+}
+
+/// A number, and bytes.
+pub fn bytes_for(alloc: Global, words: &mut Words<'_>) -> Result<(usize, Vec<u8>), LineError>
+    ensures ok { IfOk result (λ n. bytes_for_of words.old ≡ Some (n.0, n.1.items)) }
+    ensures err { IfErr result (λ error. (error ≡ LineError.Memory) ⊎ (bytes_for_of words.old ≡ None)) }
+{
+    let a = words.number()?;
+    let bytes = words.bytes(alloc)?;
+    words.end()?;
+    Ok((a, bytes))
+}
+
+/// A number, and any number of numbers.
+pub fn numbers_for(alloc: Global, words: &mut Words<'_>) -> Result<(usize, Vec<usize>), LineError>
+    ensures ok { IfOk result (λ n. numbers_for_of words.old ≡ Some (n.0, n.1.items)) }
+    ensures err { IfErr result (λ error. (error ≡ LineError.Memory) ⊎ (numbers_for_of words.old ≡ None)) }
+{
+    let a = words.number()?;
+    let others = words.numbers(alloc)?;
+    Ok((a, others))
+}
+
+/// A number, a byte and a number.
+pub fn fill(words: &mut Words<'_>) -> Result<(usize, u8, usize), LineError>
+    ensures ok { IfOk result (λ n. fill_of words.old ≡ Some (Fill n.0 n.1 n.2)) }
+    ensures err { IfErr result (λ error. (error ≡ LineError.NoCommand) × (fill_of words.old ≡ None)) }
+{
+    let a = words.number()?;
+    let value = words.byte()?;
+    let n = one(words)?;
+    Ok((a, value, n))
+}
+
+// A place that is included, `i3`, one that is excluded, `e3`, or none, `u`.
+fn bound(word: &str) -> Result<Bound<usize>, LineError>
+    ensures ok { IfOk result (λ bound. bound_said word.now ≡ Some bound) }
+    ensures err { IfErr result (λ error. (error ≡ LineError.NoCommand) × (bound_said word.now ≡ None)) }
+{
+    if word == "u" {
+        return Ok(Bound::Unbounded);
+    }
+    if let Some(place) = word.strip_prefix('i') {
+        return Ok(Bound::Included(number(place)?));
+    }
+    match word.strip_prefix('e') {
+        Some(place) => Ok(Bound::Excluded(number(place)?)),
+        None => Err(LineError::NoCommand),
+    }
+}
+
+// Takes the next word, which is a bound.
+fn next_bound(words: &mut Words<'_>) -> Result<Bound<usize>, LineError>
+    ensures ok { IfOk result (λ bound. (word : List ℕ) × (words.old ≡ word ∷ words.new) × (bound_said word ≡ Some bound)) }
+    ensures err { IfErr result (λ error. (error ≡ LineError.NoCommand) × (first_bound words.old ≡ None)) }
+{
+    match words.next_word() {
+        Some(word) => bound(word),
+        None => Err(LineError::NoCommand),
+    }
+}
+
+/// Two numbers and two bounds, and no word after them.
+pub fn slice(words: &mut Words<'_>) -> Result<(usize, usize, Bound<usize>, Bound<usize>), LineError>
+    ensures ok { IfOk result (λ n. slice_said words.old ≡ Some (Slice n.0 n.1 n.2 n.3)) }
+    ensures err { IfErr result (λ error. (error ≡ LineError.NoCommand) × (slice_said words.old ≡ None)) }
+{
+    let src = words.number()?;
+    let dst = words.number()?;
+    let lo = next_bound(words)?;
+    let hi = next_bound(words)?;
+    words.end()?;
+    Ok((src, dst, lo, hi))
+}
+
+// Bytes after an `i`, or the name of a view after a `p`.
+fn item(alloc: Global, word: &str) -> Result<Item, LineError>
+    ensures ok { IfOk result (λ item. item_of word.now ≡ Some (plain_item item)) }
+    ensures err { IfErr result (λ error. (error ≡ LineError.Memory) ⊎ (item_of word.now ≡ None)) }
+{
+    if let Some(digits) = word.strip_prefix('i') {
+        return Ok(Item::Inline(bytes(alloc, digits)?));
+    }
+    match word.strip_prefix('p') {
+        Some(name) => Ok(Item::Push(number(name)?)),
+        None => Err(LineError::NoCommand),
+    }
+}
+
+// Any number of items.
+fn items(alloc: Global, words: &mut Words<'_>) -> Result<Vec<Item>, LineError>
+    ensures ok { IfOk result (λ items. items_of words.old ≡ Some (map plain_item items.items)) }
+    ensures err { IfErr result (λ error. (error ≡ LineError.Memory) ⊎ (items_of words.old ≡ None)) }
+{
+    let mut items = Vec::new(alloc);
+    while let Some(word) = words.next_word() {
+        items.push(item(alloc, word)?)?;
+    }
+    Ok(items)
+}
+
+/// Two numbers, and any number of items.
+pub fn build(alloc: Global, words: &mut Words<'_>) -> Result<Cmd, LineError>
+    ensures ok { IfOk result (λ cmd. build_of words.old ≡ Some (plain cmd)) }
+    ensures err { IfErr result (λ error. (error ≡ LineError.Memory) ⊎ (build_of words.old ≡ None)) }
+{
+    let dst = words.number()?;
+    let capacity = words.number()?;
+    let items = items(alloc, words)?;
+    Ok(Cmd::Build {
+        dst,
+        capacity,
+        items,
+    })
+}

@@ -1,0 +1,26 @@
+-- What frames at a place are.
+--     default_frames    nothing was fed, and lengths are varints
+--     prefix_from_c     how lengths are written, as C says it
+use Rattle.std.specs.Prelude.{ℕ, ◌==◌, if◌then◌else◌, Option, Some, None}
+use Rattle.iobufs_core.specs.MarkedText.{default_text}
+use Rattle.iobufs_frames.specs.declared.Frames.{Frames}
+use Rattle.iobufs_frames.specs.declared.lengths.Prefix.{Prefix}
+use Rattle.iobufs_frames.specs.declared.lengths.Prefix.TheVariants.{Spelled, Fixed}
+use Rattle.iobufs_frames.specs.declared.lengths.Width.TheVariants.{U16, U32, U64}
+use Rattle.iobufs_frames.specs.declared.lengths.ByteOrder.TheVariants.{Big, Little}
+
+-- nothing was fed, and lengths are varints
+abbrev pub default_frames : Frames
+default_frames = record { prefix = Spelled; rest = default_text }
+
+-- the kinds of prefixes, in the header's order
+abbrev pub prefix_from_c : ℕ → Option Prefix
+prefix_from_c kind =
+    if kind == 0 then Some Spelled
+    else if kind == 1 then Some (Fixed U16 Big)
+    else if kind == 2 then Some (Fixed U32 Big)
+    else if kind == 3 then Some (Fixed U64 Big)
+    else if kind == 4 then Some (Fixed U16 Little)
+    else if kind == 5 then Some (Fixed U32 Little)
+    else if kind == 6 then Some (Fixed U64 Little)
+    else None

@@ -1,0 +1,15 @@
+use Rattle.iobufs_frames.specs.FrameFacts.{begins_open, stays_bad}
+use Rattle.iobufs_frames.proofs.FrameLaws.{framed, one_reading}
+use Rattle.iobufs_frames.proofs.laws.frames_law.Goals as goal
+
+pub returns-clause-one : goal.returns-clause-one
+returns-clause-one c = one_reading
+
+pub returns-clause-some : goal.returns-clause-some
+returns-clause-some c = framed
+
+pub returns-clause-begun : goal.returns-clause-begun
+returns-clause-begun c = begins_open
+
+pub returns-clause-bad : goal.returns-clause-bad
+returns-clause-bad c = stays_bad

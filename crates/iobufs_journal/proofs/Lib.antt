@@ -1,0 +1,5 @@
+mod CrcLaws
+mod EndingLaws
+mod FrontLaws
+mod LineLaws
+mod ScanLaws

@@ -1,0 +1,11 @@
+use Rattle.iobufs_journal.specs.ReplayLaw.{replayed}
+use Rattle.iobufs_journal.specs.SomeJournal.{cut_short, one_journal}
+use Rattle.iobufs_journal.proofs.journal.journal_law.Goals as goal
+
+pub returns : goal.returns
+returns c = record {
+  one = one_journal c.args.most c.ranges.most.fits;
+  written = λ text found written end rest short e is. replayed c.args.most text found written end rest c.ranges.most.fits short e is;
+  cut = λ n found lines others text rest end was short is.
+      cut_short c.args.most n found lines others text rest end c.ranges.most.fits was short is;
+}

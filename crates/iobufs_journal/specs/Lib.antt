@@ -1,0 +1,8 @@
+pub mod Crc
+pub mod Ending
+pub mod Journal
+pub mod JournalLaws
+pub mod Lines
+pub mod ReplayLaw
+pub mod Scan
+pub mod SomeJournal

@@ -1,0 +1,58 @@
+// Why a command doesn't do all.
+use crate::journal::Ending;
+use iobufs_core::codec::BufError;
+use std::alloc::AllocError;
+use std::io::{self, ErrorKind};
+use thiserror::Error;
+
+/// Why a command doesn't do all.
+#[derive(Debug, Drop, Error)]
+pub enum Failure {
+    /// Another program has the journal's lock.
+    #[error("another program writes to it")]
+    Locked,
+    /// The journal isn't at its name any more.
+    #[error("it was removed or renamed")]
+    Renamed,
+    /// The journal isn't whole.
+    #[error("{0}")]
+    NotWhole(Ending),
+    /// A line is too long for a record.
+    #[error("a line has more than 1048564 bytes")]
+    LongLine,
+    /// This failed.
+    #[error("{0}: {1}")]
+    Failed(&'static str, io::Error),
+}
+
+impl From<AllocError> for Failure {
+    fn from(error: AllocError) -> Failure {
+        Failure::Failed("cannot go on", io::Error::from(error))
+    }
+}
+
+impl From<BufError> for Failure {
+    fn from(_error: BufError) -> Failure {
+        Failure::Failed("cannot go on", io::Error::from(ErrorKind::OutOfMemory))
+    }
+}
+
+impl Failure {
+    /// Returns the exit status: 1 if a journal isn't whole, else 3.
+    pub fn status(&self) -> u8 {
+        match self {
+            Failure::NotWhole(_) => 1,
+            _ => 3,
+        }
+    }
+}
+
+/// Names what failed.
+pub fn named<T>(what: &'static str, done: io::Result<T>) -> Result<T, Failure> {
+    done.map_err(|error| Failure::Failed(what, error))
+}
+
+/// Makes the failure of a journal that is too large.
+pub fn too_large() -> Failure {
+    Failure::Failed("cannot go on", io::Error::from(ErrorKind::FileTooLarge))
+}

@@ -1,5 +1,0 @@
-pub mod Held
-pub mod Hexes
-pub mod Numerals
-pub mod Replies
-pub mod Spelling

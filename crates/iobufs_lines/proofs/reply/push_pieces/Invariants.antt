@@ -1,7 +1,0 @@
-use Rattle.std.proofs.Common.{◌≡◌, take, flat_map, ◌++◌, string_bytes}
-use Rattle.iobufs_lines.specs.Printed.{piece_text}
-use Rattle.iobufs_lines.proofs.reply.push_pieces.Given as goal
-
-abbrev pub invariant-loop-piece : goal.invariant-loop-piece
-invariant-loop-piece l =
-    string_bytes l.text ≡ string_bytes l.fn.text ++ flat_map (piece_text l.fn.kind) (take l.piece-index l.fn.pieces)

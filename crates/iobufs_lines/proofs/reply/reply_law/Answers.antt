@@ -1,5 +1,0 @@
-use Rattle.iobufs_lines.proofs.Replies.{one_reply_a_line}
-use Rattle.iobufs_lines.proofs.reply.reply_law.Goals as goal
-
-pub returns : goal.returns
-returns c = one_reply_a_line

@@ -1,5 +1,0 @@
-pub mod Commands
-pub mod Printed
-pub mod Said
-pub mod Shapes
-pub mod Spelled

@@ -1,0 +1,13 @@
+-- The fields of a machine, before a change and after it.
+use Rattle.iobufs_owner.proofs.Base.Known.{◌≡◌, length, subst, sym, ap, vec_capacity, state_of, seen_of, IsReady, IsSound, State, Seen}
+use Rattle.iobufs_owner.specs.declared.owner.Machine.TheInside.{Inside}
+
+-- what was known of the machine is known of its fields
+pub before : (P : State → Type 0) (m : Inside) (n : Seen) → seen_of m ≡ n → P n.state → P (state_of m)
+before P m n e p = subst P (sym (ap (λ (n : Seen). n.state) e)) p
+
+-- where blocks, records and the memory of the logs stay as many, the machine is ready if it is sound
+pub still : {m n : Inside} → IsReady m → length n.blocks.items ≡ length m.blocks.items → length n.records.items ≡ length m.records.items
+    → vec_capacity n.freed_blocks ≡ vec_capacity m.freed_blocks → vec_capacity n.freed_records ≡ vec_capacity m.freed_records → IsSound (state_of n)
+    → IsReady n
+still k b r f g sound = record { sound = sound; block_room = rw (b, f) k.block_room; record_room = rw (r, g) k.record_room }

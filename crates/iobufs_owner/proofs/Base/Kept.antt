@@ -1,0 +1,241 @@
+-- Tables that keep what live handles and calls speak of (`Keeps`): handles and calls that fit go on to fit.
+use Rattle.iobufs_owner.proofs.Base.Known.{◌≡◌, ◌≢◌, inl, inr, set, ℕ, zero, suc, ◌<◌, ◌≤◌, ◌==◌, Bool, true, false, List, [], ◌∷◌, length, get_or, map, sym, ◌∙◌, ap, refl, arith, All, Option, Some, None, length-set, get_or-set_same, get_or-set_other, All-from_get_or, All-head, All-tail, All-weaker, eqb_tells, State, Tables, owner_of, owner_by, base_by, record_at, block_at, handle_at, call_at, block_with, holders, tally, reading, read_call, has_let_go, borrows_it, is_lent, FitsWord, Fits, FitsCall, Shares, SpeaksOf, IsDescribed, hidden, releases, Handle, Share, Pending, Loaded, Ready, Add, Subtract, Release, Word, Empty, Descriptor, Counted, eq-eqb, or_right}
+
+-- tables that keep what live handles and calls speak of: the bits, each block, the block of each live record
+pub record Keeps (g k : Tables) : Type 0 where
+  pub align_bits : k.align_bits ≡ g.align_bits
+  pub tail_bits : k.tail_bits ≡ g.tail_bits
+  pub size_bits : k.size_bits ≡ g.size_bits
+  pub longer : length g.blocks ≤ length k.blocks
+  pub blocks : (b : ℕ) → b < length g.blocks → block_at k b ≡ block_at g b
+  pub with' : (base b : ℕ) → block_with base g.blocks ≡ Some b → block_with base k.blocks ≡ Some b
+  pub records : (r : ℕ) → (record_at g r).live ≡ true → (record_at k r).block ≡ (record_at g r).block
+
+-- unchanged tables keep what live handles and calls speak of
+pub keeps-self : (g : Tables) → Keeps g g
+keeps-self g = record {
+  align_bits = refl;
+  tail_bits = refl;
+  size_bits = refl;
+  longer = omega arith;
+  blocks = λ b h. refl;
+  with' = λ base b h. h;
+  records = λ r h. refl;
+}
+
+-- a handle that fits holds the same block by tables that keep what it speaks of
+pub owner-kept : (g k : Tables) (calls : List (Option Pending)) (x : Handle) → Keeps g k → FitsWord g calls x x.word → owner_of k x ≡ owner_of g x
+unfolding owner_of
+owner-kept g k calls x e f =
+    let by : (w : Word) → x.word ≡ w → FitsWord g calls x w → owner_by k x w ≡ owner_by g x w =
+    λ w. elim w as (λ w. x.word ≡ w → FitsWord g calls x w → owner_by k x w ≡ owner_by g x w) [
+      | Empty ↦ λ i f. refl
+      | Descriptor w ↦ λ i d.
+          let o : owner_by g x (Descriptor w) ≡ Some d.block = rw i at d.says.owner in
+          rw (e.align_bits, e.tail_bits) (e.with' (base_by g x w) d.block o ∙ sym o)
+      | Counted r ↦ λ i f. ap Some (e.records r f.live)
+    ] in
+    by x.word refl f
+
+-- a descriptor describes its block alike by tables that keep what it speaks of, where its handle holds the same by them
+pub described-kept : (g k : Tables) (x : Handle) (w b log tail : ℕ) → owner_of k x ≡ owner_of g x → Keeps g k → IsDescribed g x w b log tail
+    → IsDescribed k x w b log tail
+described-kept g k x w b log tail o e d =
+    let same = e.blocks b d.known in
+    let longer = e.longer in
+    let known = d.known in
+    record {
+      known = omega arith;
+      room = rw (e.align_bits, e.tail_bits, e.size_bits, same) d.room;
+      word = rw (e.align_bits, e.tail_bits, same) d.word;
+      align = rw same d.align;
+      native = rw same d.native;
+      owner = o ∙ d.owner;
+      lies = rw same d.lies;
+      behind = rw same d.behind;
+    }
+
+-- the record by which a fitting handle goes is live
+pub live-of : (g : Tables) (calls : List (Option Pending)) (x : Handle) (w : Word) (r : ℕ) → w ≡ Counted r → FitsWord g calls x w → (record_at g r).live ≡ true
+live-of g calls x Empty r i f = absurd (cc)
+live-of g calls x (Descriptor w) r i f = absurd (cc)
+live-of g calls x (Counted q) r i f = let e : q ≡ r = cc in rw e at f.live
+
+-- a handle fits tables that keep what it speaks of
+pub fits-kept : (g k : Tables) (calls : List (Option Pending)) (x : Handle) (w : Word) → owner_of k x ≡ owner_of g x → Keeps g k
+    → ((r : ℕ) → w ≡ Counted r → (record_at k r).live ≡ true) → FitsWord g calls x w → FitsWord k calls x w
+fits-kept g k calls x Empty o e l f = f
+fits-kept g k calls x (Descriptor w) o e l d =
+    record { block = d.block; log = d.log; tail = d.tail; says = described-kept g k x w d.block d.log d.tail o e d.says }
+fits-kept g k calls x (Counted r) o e l f =
+    let b = e.records r f.live in
+    let same = e.blocks (record_at g r).block f.known in
+    let longer = e.longer in
+    let known = f.known in
+    record { live = l r refl; known = rw b (omega arith); shown = f.shown; lies = rw (b, same) f.lies; native = λ m. rw (b, same) (f.native m) }
+
+-- handles that fit go on to fit tables that keep what they speak of, where each live record stays live
+pub all-fit-kept : (g k : Tables) (calls : List (Option Pending)) (hs : List (Option Handle)) → Keeps g k
+    → ((r : ℕ) → (record_at g r).live ≡ true → (record_at k r).live ≡ true) → All (Fits g calls) hs → All (Fits k calls) hs
+all-fit-kept g k calls hs e l f =
+    All-weaker (Fits g calls) (Fits k calls)
+    (λ o. elim o as (λ o. Fits g calls o → Fits k calls o) [
+      | None ↦ λ t. t
+      | Some x ↦
+          λ t. fits-kept g k calls x x.word (owner-kept g k calls x e t) e (λ r i. l r (live-of g calls x x.word r i t)) t
+    ]) hs f
+
+-- ---- unfinished calls
+
+-- whether a call counts on a record
+abbrev pub names : ℕ → Option Pending → Bool
+names r (Some (Ready part w q)) = q == r
+names r (Some (Subtract q)) = q == r
+names r (Some (Release q)) = q == r
+names r c = false
+
+-- whether the call, where it frees a live record, has let go is the same by other tables
+abbrev pub KeepsLetGo : Tables → Tables → Option Pending → Type 0
+KeepsLetGo g k c = (r : ℕ) → c ≡ Some (Release r) → (record_at g r).live ≡ true → has_let_go k r ≡ has_let_go g r
+
+-- what a call asks of a change: the handle that it borrows stays, and so do the records that it counts on, hidden or not,
+-- its block keeps its holders, and it has let go where it had
+pub record Leaves (s t : State) (c : Option Pending) : Type 0 where
+  pub tables : Keeps s.tables t.tables
+  pub live : (r : ℕ) → names r c ≡ true → (record_at s.tables r).live ≡ true → (record_at t.tables r).live ≡ true
+  pub hidden : (r : ℕ) → names r c ≡ true → (record_at s.tables r).live ≡ true → hidden t.calls r ≡ hidden s.calls r
+  pub handle : (i : ℕ) (x : Handle) → borrows_it i c ≡ true → handle_at s i ≡ Some x → handle_at t i ≡ Some x
+  pub owner : (i : ℕ) (x : Handle) → handle_at s i ≡ Some x → owner_of t.tables x ≡ owner_of s.tables x
+  pub let_go : KeepsLetGo s.tables t.tables c
+  pub holders : (r : ℕ) → c ≡ Some (Release r) → holders (reading t) (record_at s.tables r).block ≡ holders (reading s) (record_at s.tables r).block
+
+-- a clone or slice that shares a view shares it in another state, where the view stands there too
+pub shares-kept : (s t : State) (part : Share) (x : Handle) → (handle_at s part.handle ≡ Some x → handle_at t part.handle ≡ Some x) → Shares s part x
+    → Shares t part x
+shares-kept s t part x at h = record { at = at h.at; view = h.view; order = h.order; within = h.within }
+
+-- what a loaded descriptor promised holds by tables that keep what it speaks of, where the view holds the same by them
+pub promised-kept : (g k : Tables) (x : Handle) (w b : ℕ) → Keeps g k → owner_of k x ≡ owner_of g x → SpeaksOf g x w b → SpeaksOf k x w b
+promised-kept g k x w b e o p =
+    let y : Handle = record x { word = Descriptor w } in
+    let calls : List (Option Pending) = [] in
+    let oy : owner_of k y ≡ owner_of g y = owner-kept g k calls y e (record { block = b; log = p.log; tail = p.tail; says = p.says }) in
+    record { log = p.log; tail = p.tail; says = described-kept g k y w b p.log p.tail oy e p.says; owner = o ∙ p.owner; now' = p.now' }
+
+-- a call that fits goes on to fit a state that leaves what it relies on
+pub call-kept : (s t : State) (c : Option Pending) → Leaves s t c → FitsCall s c → FitsCall t c
+call-kept s t None l f = f
+call-kept s t (Some (Loaded part w)) l f = record {
+  view = f.view;
+  shares = shares-kept s t part f.view (l.handle part.handle f.view (eq-eqb part.handle part.handle refl)) f.shares;
+  block = f.block;
+  promised = promised-kept s.tables t.tables f.view w f.block l.tables (l.owner part.handle f.view f.shares.at) f.promised;
+}
+call-kept s t (Some (Ready part w r)) l f = record {
+  view = f.view;
+  shares = shares-kept s t part f.view (l.handle part.handle f.view (eq-eqb part.handle part.handle refl)) f.shares;
+  block = f.block;
+  promised = promised-kept s.tables t.tables f.view w f.block l.tables (l.owner part.handle f.view f.shares.at) f.promised;
+  live = l.live r (eq-eqb r r refl) f.live;
+  same = l.tables.records r f.live ∙ f.same;
+}
+call-kept s t (Some (Add part r)) l f =
+    record { view = f.view; shares = shares-kept s t part f.view (l.handle part.handle f.view (eq-eqb part.handle part.handle refl)) f.shares; word = f.word }
+call-kept s t (Some (Subtract r)) l (live, hid) = (l.live r (eq-eqb r r refl) live, l.hidden r (eq-eqb r r refl) live ∙ hid)
+call-kept s t (Some (Release r)) l f =
+    record {
+      live = l.live r (eq-eqb r r refl) f.live;
+      shown = l.hidden r (eq-eqb r r refl) f.live ∙ f.shown;
+      alone = rw (l.tables.records r f.live, l.let_go r refl f.live) (l.holders r refl ∙ f.alone);
+    }
+
+-- a call of the list borrows what the list borrows
+pub lent-by : (i : ℕ) (cs : List (Option Pending)) (p : ℕ) (d : Option Pending) → p < length cs → borrows_it i (get_or cs p d) ≡ true → is_lent i cs ≡ true
+lent-by i [] p d h e = absurd (omega arith)
+lent-by i (c ∷ cs) zero d h e = rw e refl
+lent-by i (c ∷ cs) (suc p) d h e = rw (lent-by i cs p d (omega arith) e) (or_right (borrows_it i c) true refl)
+
+-- where no handle that is lent changes, and what calls name and hold stays, each call fits as before
+pub calls-fit-kept : (s t : State) → t.calls ≡ s.calls → Keeps s.tables t.tables
+    → ((p r : ℕ) → p < length s.calls → names r (call_at s p) ≡ true → (record_at s.tables r).live ≡ true → (record_at t.tables r).live ≡ true)
+    → ((i : ℕ) (x : Handle) → is_lent i s.calls ≡ true → handle_at s i ≡ Some x → handle_at t i ≡ Some x) → All (Fits s.tables s.calls) s.handles
+    → ((i : ℕ) (x : Handle) → handle_at s i ≡ Some x → i < length s.handles) → All (KeepsLetGo s.tables t.tables) s.calls
+    → ((p r : ℕ) → p < length s.calls → call_at s p ≡ Some (Release r)
+    → holders (reading t) (record_at s.tables r).block ≡ holders (reading s) (record_at s.tables r).block) → All (FitsCall s) s.calls → All (FitsCall t) s.calls
+calls-fit-kept s t same e live at fit inside a n f = All-from_get_or (FitsCall t) s.calls None (λ p h. call-kept s t (call_at s p) (record {
+  tables = e;
+  live = λ r m t. live p r h m t;
+  hidden = λ r _ _. rw same refl;
+  handle = λ i x b a. at i x (lent-by i s.calls p None h b) a;
+  owner = λ i x a. owner-kept s.tables t.tables s.calls x e (rw a at (fit i None (inside i x a)));
+  let_go = a p None h;
+  holders = λ r i. n p r h i;
+}) (f p None h))
+
+-- calls fit if the holders of blocks stay
+pub calls-kept : (s t : State) → t.calls ≡ s.calls → Keeps s.tables t.tables
+    → ((r : ℕ) → (record_at s.tables r).live ≡ true → (record_at t.tables r).live ≡ true)
+    → ((i : ℕ) (x : Handle) → is_lent i s.calls ≡ true → handle_at s i ≡ Some x → handle_at t i ≡ Some x) → All (Fits s.tables s.calls) s.handles
+    → ((i : ℕ) (x : Handle) → handle_at s i ≡ Some x → i < length s.handles) → All (KeepsLetGo s.tables t.tables) s.calls
+    → ((b : ℕ) → b < length s.tables.blocks → holders (reading t) b ≡ holders (reading s) b)
+    → ((r : ℕ) → (record_at s.tables r).live ≡ true → (record_at s.tables r).block < length s.tables.blocks) → All (FitsCall s) s.calls
+    → All (FitsCall t) s.calls
+calls-kept s t same e live at fit inside a n known f = calls-fit-kept s t same e (λ _ r _ _ t. live r t) at fit inside a
+    (λ p r h i. n (record_at s.tables r).block (known r (let g = rw i at (f p None h) in g.live))) f
+
+-- what calls are read as, and which of them release a block
+pub call-read-kept : (s : State) (k : Tables) (c : Option Pending) → Keeps s.tables k → KeepsLetGo s.tables k c → FitsCall s c
+    → read_call k c ≡ read_call s.tables c
+call-read-kept s k (Some (Subtract r)) e a f = rw (e.records r f.0) refl
+call-read-kept s k (Some (Release r)) e a f = rw (e.records r f.live, a r refl f.live) refl
+call-read-kept s k c e a f = refl
+
+-- calls that fit are read alike by tables that keep what they speak of, where each that frees a live record has let go as before
+pub calls-read-kept : (s : State) (k : Tables) (cs : List (Option Pending)) → Keeps s.tables k → All (KeepsLetGo s.tables k) cs → All (FitsCall s) cs
+    → map (read_call k) cs ≡ map (read_call s.tables) cs
+calls-read-kept s k [] e a f = refl
+calls-read-kept s k (c ∷ cs) e a f = rw (
+  call-read-kept s k c e (All-head (KeepsLetGo s.tables k) c cs a) (All-head (FitsCall s) c cs f),
+  calls-read-kept s k cs e (All-tail (KeepsLetGo s.tables k) c cs a) (All-tail (FitsCall s) c cs f),
+) refl
+
+release-kept : (s : State) (k : Tables) (b : ℕ) (c : Option Pending) → Keeps s.tables k → FitsCall s c → releases k b c ≡ releases s.tables b c
+release-kept s k b (Some (Release r)) e f = rw (e.records r f.live) refl
+release-kept s k b c e f = refl
+
+-- of calls that fit as many release a block, by tables that keep what they speak of
+pub releases-kept : (s : State) (k : Tables) (b : ℕ) (cs : List (Option Pending)) → Keeps s.tables k → All (FitsCall s) cs
+    → tally (releases k b) cs ≡ tally (releases s.tables b) cs
+releases-kept s k b [] e f = refl
+releases-kept s k b (c ∷ cs) e f = rw (release-kept s k b c e (All-head (FitsCall s) c cs f), releases-kept s k b cs e (All-tail (FitsCall s) c cs f)) refl
+
+-- a handle fits calls that hide no more records
+pub fits-calls : (g : Tables) (cs ds : List (Option Pending)) (x : Handle) (w : Word) → ((r : ℕ) → hidden ds r ≤ hidden cs r) → FitsWord g cs x w
+    → FitsWord g ds x w
+fits-calls g cs ds x Empty e f = f
+fits-calls g cs ds x (Descriptor w) e f = f
+fits-calls g cs ds x (Counted r) e f = record {
+  live = f.live;
+  known = f.known;
+  shown = (let n = e r in let z = f.shown in omega arith);
+  lies = f.lies;
+  native = f.native;
+}
+
+-- another call for a party: where it fits, and each other one has left to it what it relies on, all fit
+pub calls-fit-set : (s t : State) (p : ℕ) (c : Option Pending) → p < length s.calls → FitsCall t c
+    → ((i : ℕ) → i ≢ p → i < length s.calls → Leaves s t (call_at s i)) → All (FitsCall s) s.calls → All (FitsCall t) (set s.calls p c)
+calls-fit-set s t p c l f leaves k = All-from_get_or (FitsCall t) (set s.calls p c) None (λ i li.
+    let lo : i < length s.calls = (let z = rw length-set at li in z) in
+    elim (eqb_tells i p) [
+      | inl z ↦ rw (z.1, get_or-set_same s.calls p c None l) f
+      | inr z ↦ rw (get_or-set_other s.calls p i c None z.1) (call-kept s t (call_at s i) (leaves i z.1 lo) (k i None lo))
+    ])
+
+-- another handle under a number: where it fits, and each other one fits as it did, all fit
+pub handles-fit-set : (g : Tables) (calls : List (Option Pending)) (hs : List (Option Handle)) (h : ℕ) (o : Option Handle) → h < length hs → Fits g calls o
+    → ((i : ℕ) → i ≢ h → i < length hs → Fits g calls (get_or hs i None)) → All (Fits g calls) (set hs h o)
+handles-fit-set g calls hs h o l f others = All-from_get_or (Fits g calls) (set hs h o) None (λ i li. elim (eqb_tells i h) [
+  | inl z ↦ rw (z.1, get_or-set_same hs h o None l) f
+  | inr z ↦ rw (get_or-set_other hs h i o None z.1) (others i z.1 (rw length-set at li))
+])

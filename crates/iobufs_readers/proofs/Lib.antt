@@ -1,3 +1,0 @@
-pub mod AskedBoth
-pub mod CutTurns
-pub mod GatheredTurns

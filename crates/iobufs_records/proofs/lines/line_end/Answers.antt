@@ -1,5 +1,0 @@
-use Rattle.iobufs_records.proofs.TextLaws.{free_more}
-use Rattle.iobufs_records.proofs.lines.line_end.Goals as goal
-
-pub loop-at-preserved : goal.loop-at-preserved
-loop-at-preserved c = free_more c.args.bytes.now c.loop-at.at c.loop-at-test.true c.loop-at.invariant c.if-bytes-at-eq10.false

@@ -1,0 +1,335 @@
+// Each call at size, for `tests/costs`. A test prints a line before each call, a line after it, and then what it was made
+// on and whether its value is that of the model: a list of bytes, cut at multiples of a length.
+use crate::costs::calls::{Args, Costed, Counted};
+use crate::costs::shape::{Place, Shape};
+use crate::costs::stores::{ORIGINS, Origin, STORES, Store, row_of, stored, stored_part, text};
+use crate::given::Given;
+use iobufs_core::buf::{IoBuf, IoBufMut};
+use iobufs_core::codec::BufError;
+use iobufs_values::{Chain, Take};
+use std::alloc::Global;
+use std::fmt::Debug;
+use std::process::Abort;
+use std::test::Fail;
+
+mod calls;
+mod shape;
+mod sizes;
+mod stores;
+
+// The lengths of the views and writable buffers.
+const LENGTHS: [usize; 4] = [64, 4097, 65537, 1048577];
+
+// How many chunks of how many bytes each, in pairs of one number of chunks.
+const CHUNKS: [(usize, usize); 16] = [
+    (1, 64),
+    (1, 4160),
+    (2, 64),
+    (2, 4160),
+    (3, 64),
+    (3, 4160),
+    (4, 64),
+    (4, 4160),
+    (5, 64),
+    (5, 4160),
+    (64, 64),
+    (64, 4160),
+    (4097, 64),
+    (4097, 128),
+    (65537, 64),
+    (65537, 128),
+];
+
+// Where a range begins and ends.
+type Span = (Place, Place);
+
+const ALL: Span = (0, 64);
+
+const NONE: Span = (64, 64);
+
+const FRONT: Span = (0, 21);
+
+const BACK: Span = (21, 64);
+
+const MIDDLE: Span = (21, 43);
+
+const REST: Span = (43, 64);
+
+// A call, the bytes that it is given or gives, and those that it leaves.
+type Row = (Costed, Span, Span);
+
+const OF_VIEWS: [Row; 23] = [
+    (Costed::Clone, ALL, ALL),
+    (Costed::Slice, MIDDLE, ALL),
+    (Costed::SplitTo, FRONT, BACK),
+    (Costed::Advance, FRONT, BACK),
+    (Costed::CopyToSlice, FRONT, BACK),
+    (Costed::CopyToBytes, FRONT, BACK),
+    (Costed::Chunks, ALL, ALL),
+    (Costed::TakeView, MIDDLE, REST),
+    (Costed::TakeBytes, MIDDLE, REST),
+    (Costed::TryTake, FRONT, BACK),
+    (Costed::PeekView, MIDDLE, ALL),
+    (Costed::PeekBytes, MIDDLE, ALL),
+    (Costed::PeekSlice, MIDDLE, ALL),
+    (Costed::TakeAllView, ALL, NONE),
+    (Costed::TakeAllBytes, ALL, NONE),
+    (Costed::ToVec, ALL, ALL),
+    (Costed::IntoBytes, ALL, NONE),
+    (Costed::IntoPart, ALL, NONE),
+    (Costed::Recover, ALL, NONE),
+    (Costed::FromView, ALL, NONE),
+    (Costed::Encode, ALL, ALL),
+    (Costed::EncodeChunks, ALL, ALL),
+    (Costed::Read, ALL, ALL),
+];
+
+// Calls that make a buffer of bytes that are given to them.
+const MAKERS: [Row; 13] = [
+    (Costed::Copy, ALL, ALL),
+    (Costed::CopyPart, ALL, ALL),
+    (Costed::OfList, ALL, ALL),
+    (Costed::PartOfList, ALL, ALL),
+    (Costed::TextOfList, ALL, ALL),
+    (Costed::OfBytesMut, ALL, ALL),
+    (Costed::PartOfBytes, ALL, ALL),
+    (Costed::PartOfBytesMut, ALL, ALL),
+    (Costed::Capacity, ALL, ALL),
+    (Costed::Aligned, ALL, ALL),
+    (Costed::Zeroed, ALL, ALL),
+    (Costed::ZeroedAligned, ALL, ALL),
+    (Costed::EncodeBytes, ALL, ALL),
+];
+
+const OF_PARTS: [Row; 9] = [
+    (Costed::Advance, FRONT, BACK),
+    (Costed::CopyToSlice, FRONT, BACK),
+    (Costed::CopyToBytes, FRONT, BACK),
+    (Costed::Chunks, ALL, ALL),
+    (Costed::Truncate, FRONT, FRONT),
+    (Costed::SetLen, FRONT, FRONT),
+    (Costed::Put, ALL, ALL),
+    (Costed::Freeze, ALL, NONE),
+    (Costed::IntoText, ALL, NONE),
+];
+
+const OF_TEXTS: [Row; 24] = [
+    (Costed::Clone, ALL, ALL),
+    (Costed::Slice, MIDDLE, ALL),
+    (Costed::SplitTo, FRONT, BACK),
+    (Costed::SplitTo, (0, 32), (32, 64)),
+    (Costed::Truncate, FRONT, FRONT),
+    (Costed::Advance, FRONT, BACK),
+    (Costed::CopyToSlice, FRONT, BACK),
+    (Costed::CopyToBytes, FRONT, BACK),
+    (Costed::Chunks, ALL, ALL),
+    (Costed::TakeView, MIDDLE, REST),
+    (Costed::TakeBytes, MIDDLE, REST),
+    (Costed::TryTake, FRONT, BACK),
+    (Costed::PeekView, MIDDLE, ALL),
+    (Costed::PeekBytes, MIDDLE, ALL),
+    (Costed::PeekSlice, MIDDLE, ALL),
+    (Costed::ToVec, ALL, ALL),
+    (Costed::Coalesce, ALL, NONE),
+    (Costed::Single, ALL, NONE),
+    (Costed::Join, ALL, ALL),
+    (Costed::Build, ALL, ALL),
+    (Costed::Framed, ALL, ALL),
+    (Costed::Fed, ALL, ALL),
+    (Costed::Append, AFTER, (0, Shape::AFTER)),
+    (Costed::Prepend, BEFORE, (Shape::BEFORE, 64)),
+];
+
+const AFTER: Span = (64, Shape::AFTER);
+
+const BEFORE: Span = (Shape::BEFORE, 0);
+
+const OF_ROWS: [Row; 8] = [
+    (Costed::Advance, FRONT, BACK),
+    (Costed::CopyToSlice, FRONT, BACK),
+    (Costed::CopyToBytes, FRONT, BACK),
+    (Costed::Chunks, ALL, ALL),
+    (Costed::SetLen, FRONT, FRONT),
+    (Costed::Put, ALL, ALL),
+    (Costed::Freeze, ALL, NONE),
+    (Costed::Coalesce, ALL, NONE),
+];
+
+const OF_READERS: [Row; 4] = [
+    (Costed::Advance, FRONT, BACK),
+    (Costed::CopyToSlice, FRONT, BACK),
+    (Costed::CopyToBytes, FRONT, BACK),
+    (Costed::Chunks, ALL, ALL),
+];
+
+// Whether what a call gives has the bytes of a range, cut as they are.
+fn is_cut(alloc: Global, given: &Given, shape: &Shape, span: Span) -> Result<bool, BufError> {
+    match given {
+        Given::Nothing => Ok(true),
+        Given::Bufs(text) | Given::Several(text) => shape.holds(alloc, text, span),
+        _ => Ok(given.shows(shape.bytes(span))),
+    }
+}
+
+// How a call ended.
+fn outcome<B: Counted>(
+    alloc: Global,
+    answer: &Result<Given, BufError>,
+    shape: &Shape,
+    buf: &B,
+    row: &Row,
+) -> Result<&'static str, BufError> {
+    let Ok(given) = answer else {
+        return Ok("FAILED");
+    };
+    if !is_cut(alloc, given, shape, row.1)? || !shape.holds(alloc, buf, row.2)? {
+        return Ok("WRONG");
+    }
+    match given {
+        Given::Declined(_) => Ok("declined"),
+        Given::Several(_) => Ok("several"),
+        _ => Ok("done"),
+    }
+}
+
+// Makes a call, and prints what it was made on, and how it ended.
+fn count<B: Counted>(
+    rt: &(impl Print + Abort + AllocGlobal),
+    what: &impl Debug,
+    shape: &Shape,
+    mut buf: B,
+    row: &Row,
+) -> Result<(), BufError> {
+    let (call, alloc) = (row.0, rt.alloc());
+    let args = Args::new(alloc, shape, call, row.1)?;
+    println!(rt; "call").expect(rt, "printed");
+    let answer = buf.make(alloc, call, args);
+    println!(rt; "done").expect(rt, "printed");
+    let ended = outcome(alloc, &answer, shape, &buf, row)?;
+    println!(rt; "{call:?} {what:?} {} {} {ended}", shape.count, shape.len).expect(rt, "printed");
+    Ok(())
+}
+
+// The calls on a view, made anew for each.
+fn count_views(
+    rt: &(impl Print + Abort + AllocGlobal),
+    shape: &Shape,
+    kind: Store,
+) -> Result<(), BufError> {
+    let count_left = if matches!(kind, Store::Emptied) { 0 } else { 1 };
+    let left = Shape {
+        all: shape.all,
+        count: count_left,
+        len: shape.len,
+    };
+    for row in &OF_VIEWS {
+        let (view, _other) = stored(rt.alloc(), kind, shape.bytes(ALL))?;
+        count(rt, &kind, &left, view, row)?;
+    }
+    Ok(())
+}
+
+#[test]
+fn views(rt: HostRuntime) -> Result<(), Fail> {
+    for len in LENGTHS {
+        let shape = Shape::new(rt.alloc(), 1, len)?;
+        for kind in STORES {
+            count_views(&rt, &shape, kind)?;
+        }
+    }
+    Ok(())
+}
+
+#[test]
+fn makers(rt: HostRuntime) -> Result<(), Fail> {
+    for len in LENGTHS {
+        let shape = Shape::new(rt.alloc(), 1, len)?;
+        for row in &MAKERS {
+            let view = IoBuf::from(shape.bytes(ALL));
+            count(&rt, &Store::Static, &shape, view, row)?;
+        }
+    }
+    Ok(())
+}
+
+// The calls on a writable buffer, made anew for each.
+fn count_parts(
+    rt: &(impl Print + Abort + AllocGlobal),
+    shape: &Shape,
+    origin: Origin,
+) -> Result<(), BufError> {
+    for row in &OF_PARTS {
+        let part = stored_part(rt.alloc(), origin, shape.bytes(ALL))?;
+        count(rt, &origin, shape, part, row)?;
+    }
+    Ok(())
+}
+
+#[test]
+fn parts(rt: HostRuntime) -> Result<(), Fail> {
+    for len in LENGTHS {
+        let shape = Shape::new(rt.alloc(), 1, len)?;
+        for origin in ORIGINS {
+            count_parts(&rt, &shape, origin)?;
+        }
+    }
+    Ok(())
+}
+
+fn count_texts(
+    rt: &(impl Print + Abort + AllocGlobal),
+    shape: &Shape,
+    kind: Store,
+) -> Result<(), BufError> {
+    for row in &OF_TEXTS {
+        count(
+            rt,
+            &kind,
+            shape,
+            text(rt.alloc(), kind, shape.bytes(ALL), shape.len)?,
+            row,
+        )?;
+    }
+    Ok(())
+}
+
+#[test]
+fn texts(rt: HostRuntime) -> Result<(), Fail> {
+    for (chunks, len) in CHUNKS {
+        let shape = Shape::new(rt.alloc(), chunks, len)?;
+        count_texts(&rt, &shape, Store::Static)?;
+        count_texts(&rt, &shape, Store::Full)?;
+    }
+    Ok(())
+}
+
+#[test]
+fn rows(rt: HostRuntime) -> Result<(), Fail> {
+    for (chunks, len) in CHUNKS {
+        let shape = Shape::new(rt.alloc(), chunks, len)?;
+        for row in &OF_ROWS {
+            count(&rt, &Origin::Full, &shape, row_of(rt.alloc(), &shape)?, row)?;
+        }
+    }
+    Ok(())
+}
+
+// The first chunks of longer bytes, and a chunk before others.
+#[test]
+fn readers(rt: HostRuntime) -> Result<(), Fail> {
+    let alloc = rt.alloc();
+    for (chunks, len) in CHUNKS {
+        let shape = Shape::new(alloc, chunks, len)?;
+        for row in &OF_READERS {
+            let inner = text(alloc, Store::Full, shape.bytes((0, Shape::AFTER)), len)?;
+            let limit = shape.size();
+            count(&rt, &"Take", &shape, Take { inner, limit }, row)?;
+            let bytes = shape.bytes(ALL);
+            let (front, back) = bytes.split_at(len.min(bytes.len()));
+            let front = IoBufMut::copy_from_slice(alloc, front)?;
+            let back = text(alloc, Store::Full, back, len)?;
+            count(&rt, &"Chain", &shape, Chain::new(front, back), row)?;
+        }
+    }
+    Ok(())
+}

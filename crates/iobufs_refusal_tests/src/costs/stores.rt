@@ -1,0 +1,162 @@
+// Where bytes are stored.
+use crate::costs::calls::cut;
+use crate::costs::shape::Shape;
+use crate::made::{native, part, twin_of};
+use bytes::{Bytes, BytesMut};
+use iobufs::bufs::IoBufs;
+use iobufs::bufs_mut::IoBufsMut;
+use iobufs_core::buf::{IoBuf, IoBufMut};
+use iobufs_core::codec::{Buf, BufError, BufMut};
+use std::alloc::Global;
+
+#[derive(Clone, Copy, Debug)]
+pub enum Store {
+    Static,
+    StaticBytes,
+    Bytes,
+    SharedBytes,
+    // Native storage without spare capacity.
+    Full,
+    SharedFull,
+    // Native storage with spare capacity.
+    Roomy,
+    Aligned,
+    // The first half of native storage, whose rest is another view.
+    Half,
+    // The second half, alone.
+    LoneHalf,
+    // Native, drained.
+    Emptied,
+}
+
+pub const STORES: [Store; 11] = [
+    Store::Static,
+    Store::StaticBytes,
+    Store::Bytes,
+    Store::SharedBytes,
+    Store::Full,
+    Store::SharedFull,
+    Store::Roomy,
+    Store::Aligned,
+    Store::Half,
+    Store::LoneHalf,
+    Store::Emptied,
+];
+
+fn aligned(alloc: Global, bytes: &[u8]) -> Result<IoBufMut, BufError> {
+    let mut part = IoBufMut::with_alignment(alloc, bytes.len(), 4096)?;
+    if part.remaining_mut() >= bytes.len() {
+        part.put_slice(bytes);
+    }
+    Ok(part)
+}
+
+// Both halves of native storage that holds the bytes twice.
+fn halves(alloc: Global, bytes: &[u8]) -> Result<(IoBuf, IoBuf), BufError> {
+    let n = bytes.len();
+    let mut twice = part(alloc, n.saturating_add(n), bytes)?;
+    if twice.remaining_mut() >= n {
+        twice.put_slice(bytes);
+    }
+    let mut back = twice.freeze()?;
+    if back.len() < n {
+        return Err(BufError::TooLong);
+    }
+    Ok((back.split_to(n)?, back))
+}
+
+fn drained(mut view: IoBuf) -> IoBuf {
+    view.advance(view.remaining());
+    view
+}
+
+// A view, and the other handle of its storage.
+pub fn stored(
+    alloc: Global,
+    kind: Store,
+    bytes: &'static [u8],
+) -> Result<(IoBuf, IoBuf), BufError> {
+    let view = match kind {
+        Store::Static => IoBuf::from(bytes),
+        Store::StaticBytes => IoBuf::from(Bytes::from_static(bytes)),
+        Store::Bytes | Store::SharedBytes => IoBuf::from(Bytes::copy_from_slice(alloc, bytes)?),
+        Store::Emptied => drained(IoBuf::copy_from_slice(alloc, bytes)?),
+        Store::Full | Store::SharedFull => IoBuf::copy_from_slice(alloc, bytes)?,
+        Store::Roomy => native(alloc, bytes.len().saturating_add(bytes.len()), bytes)?,
+        Store::Aligned => aligned(alloc, bytes)?.freeze()?,
+        Store::Half => return halves(alloc, bytes),
+        Store::LoneHalf => halves(alloc, bytes)?.1,
+    };
+    match kind {
+        Store::SharedBytes | Store::SharedFull => Ok((twin_of(&view)?, view)),
+        _ => Ok((view, IoBuf::default())),
+    }
+}
+
+// How a writable buffer is made.
+#[derive(Clone, Copy, Debug)]
+pub enum Origin {
+    Roomy,
+    Aligned,
+    Full,
+    List,
+    Bytes,
+    // The rest of a `BytesMut` whose front is dropped.
+    BytesMut,
+}
+
+pub const ORIGINS: [Origin; 6] = [
+    Origin::Roomy,
+    Origin::Aligned,
+    Origin::Full,
+    Origin::List,
+    Origin::Bytes,
+    Origin::BytesMut,
+];
+
+fn rest(alloc: Global, bytes: &[u8]) -> Result<BytesMut, BufError> {
+    let mut both = BytesMut::copy_from_slice(alloc, bytes)?;
+    both.extend_from_slice(bytes)?;
+    if both.len() < bytes.len() {
+        return Err(BufError::TooLong);
+    }
+    Ok(both.split_off(bytes.len())?)
+}
+
+pub fn stored_part(alloc: Global, origin: Origin, bytes: &[u8]) -> Result<IoBufMut, BufError> {
+    match origin {
+        Origin::Roomy => part(alloc, bytes.len().saturating_add(bytes.len()), bytes),
+        Origin::Aligned => aligned(alloc, bytes),
+        Origin::Full => IoBufMut::copy_from_slice(alloc, bytes),
+        Origin::List => Ok(IoBufMut::from(Vec::from_slice(alloc, bytes)?)),
+        Origin::Bytes => IoBufMut::from_bytes(alloc, Bytes::copy_from_slice(alloc, bytes)?),
+        Origin::BytesMut => IoBufMut::from_bytes_mut(rest(alloc, bytes)?),
+    }
+}
+
+// The chunks, each in storage of its own.
+pub fn text(
+    alloc: Global,
+    kind: Store,
+    bytes: &'static [u8],
+    len: usize,
+) -> Result<IoBufs, BufError> {
+    let mut text = IoBufs::default();
+    for view in cut(alloc, bytes, len)? {
+        let view = match kind {
+            Store::Static => view,
+            _ => IoBuf::copy_from_slice(alloc, view.as_ref())?,
+        };
+        text.append(alloc, view)?;
+    }
+    Ok(text)
+}
+
+// The chunks as writable buffers in a row.
+pub fn row_of(alloc: Global, shape: &Shape) -> Result<IoBufsMut, BufError> {
+    let mut parts = Vec::with_capacity(alloc, shape.count)?;
+    for view in cut(alloc, shape.bytes((0, 64)), shape.len)? {
+        parts.push(IoBufMut::copy_from_slice(alloc, view.as_ref())?)?;
+    }
+    IoBufsMut::from_parts(alloc, parts.into_iter())
+}

@@ -1,5 +1,0 @@
-use Rattle.iobufs_run.proofs.Choices.{refusals_keep}
-use Rattle.iobufs_run.proofs.table.refusal_law.Goals as goal
-
-pub returns : goal.returns
-returns c = refusals_keep

@@ -1,6 +1,0 @@
-pub mod Contents
-pub mod Endings
-pub mod MachineLaws
-pub mod Sessions
-pub mod TakenLines
-pub mod Taking

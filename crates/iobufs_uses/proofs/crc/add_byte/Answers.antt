@@ -1,9 +1,0 @@
-use Rattle.std.proofs.Common.{ap, ◌∙◌, ◌/◌}
-use Rattle.std.specs.Int.Bits.{bit_xor}
-use Rattle.iobufs_uses.specs.Crc.{crc_bits}
-use Rattle.iobufs_uses.proofs.CrcLaws.{byte_gone}
-use Rattle.iobufs_uses.proofs.crc.add_byte.Goals as goal
-
-pub returns : goal.returns
-returns c = ap (bit_xor (bit_xor c.args.sum c.from.result / 256)) c.byte_sum.ensures ∙ byte_gone (bit_xor c.args.sum c.from.result)
-    ∙ ap (λ b. crc_bits 8 (bit_xor c.args.sum b)) c.from.ensures

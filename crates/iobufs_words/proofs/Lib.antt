@@ -1,4 +1,0 @@
-pub mod Front
-pub mod Many
-pub mod NextWord
-pub mod Numbers

@@ -1,5 +1,0 @@
-use Rattle.iobufs_words.proofs.Front.{Shown}
-use Rattle.iobufs_words.proofs.words.front_number.Given as goal
-
-abbrev pub invariant-loop-place : goal.invariant-loop-place
-invariant-loop-place l = Shown l.line l.place l.n

@@ -1,5 +1,0 @@
-pub mod LineLaws
-pub mod Reading
-pub mod Spelled
-pub mod WordLaws
-pub mod Words
