@@ -1,5 +1,6 @@
-// Loaded before the program: each read and write of it is interrupted INTERRUPT times before it is done. How often it was
-// interrupted goes to the file that INTERRUPTED names, if it does, when the program ends.
+// Loaded before the program: each read and write of it is interrupted INTERRUPT times before it is done, and then takes at
+// most AT_MOST bytes. How often it was interrupted goes to the file that INTERRUPTED names, if it does, when the program
+// ends.
 #define _GNU_SOURCE
 #include <errno.h>
 #include <stdio.h>
@@ -10,12 +11,19 @@
 
 static unsigned long all = 0;
 
+static unsigned long number(const char *name, unsigned long otherwise) {
+    const char *text = getenv(name);
+    return text ? strtoul(text, NULL, 10) : otherwise;
+}
+
+static size_t at_most(size_t n) {
+    size_t most = number("AT_MOST", n);
+    return n < most ? n : most;
+}
+
 // Whether this call is interrupted; each kind of call counts by itself.
 static int interrupted(unsigned long *left) {
-    if (*left == 0) {
-        const char *text = getenv("INTERRUPT");
-        *left = text ? strtoul(text, NULL, 10) + 1 : 1;
-    }
+    if (*left == 0) *left = number("INTERRUPT", 0) + 1;
     if (--*left == 0) return 0;
     all++;
     errno = EINTR;
@@ -24,17 +32,21 @@ static int interrupted(unsigned long *left) {
 
 ssize_t read(int from, void *to, size_t n) {
     static unsigned long left = 0;
-    return interrupted(&left) ? -1 : syscall(SYS_read, from, to, n);
+    return interrupted(&left) ? -1 : syscall(SYS_read, from, to, at_most(n));
 }
 
 ssize_t write(int to, const void *from, size_t n) {
     static unsigned long left = 0;
-    return interrupted(&left) ? -1 : syscall(SYS_write, to, from, n);
+    return interrupted(&left) ? -1 : syscall(SYS_write, to, from, at_most(n));
 }
 
 ssize_t writev(int to, const struct iovec *from, int n) {
     static unsigned long left = 0;
-    return interrupted(&left) ? -1 : syscall(SYS_writev, to, from, n);
+    if (interrupted(&left)) return -1;
+    // Of several pieces the first that isn't empty.
+    for (int i = 0; getenv("AT_MOST") && i < n; i++)
+        if (from[i].iov_len) return syscall(SYS_write, to, from[i].iov_base, at_most(from[i].iov_len));
+    return syscall(SYS_writev, to, from, n);
 }
 
 __attribute__((destructor)) static void tell(void) {

@@ -2,8 +2,10 @@
 // on and whether its value is that of the model: a list of bytes, cut at multiples of a length.
 use crate::costs::calls::{Args, Costed, Counted};
 use crate::costs::shape::{Place, Shape};
-use crate::costs::stores::{ORIGINS, Origin, STORES, Store, row_of, stored, stored_part, text};
+use crate::costs::stores::{ORIGINS, Origin, STORES, Store, parts_of, stored, stored_part, text};
 use crate::given::Given;
+use iobufs::bufs::IoBufs;
+use iobufs::bufs_mut::IoBufsMut;
 use iobufs_core::buf::{IoBuf, IoBufMut};
 use iobufs_core::codec::BufError;
 use iobufs_values::{Chain, Take};
@@ -21,13 +23,16 @@ mod stores;
 const LENGTHS: [usize; 4] = [64, 4097, 65537, 1048577];
 
 // How many chunks of how many bytes each, in pairs of one number of chunks.
-const CHUNKS: [(usize, usize); 16] = [
+const CHUNKS: [(usize, usize); 21] = [
     (1, 64),
     (1, 4160),
+    (1, 1048577),
     (2, 64),
     (2, 4160),
+    (2, 1048577),
     (3, 64),
     (3, 4160),
+    (3, 1048577),
     (4, 64),
     (4, 4160),
     (5, 64),
@@ -36,6 +41,8 @@ const CHUNKS: [(usize, usize); 16] = [
     (64, 4160),
     (4097, 64),
     (4097, 128),
+    (65536, 64),
+    (65536, 128),
     (65537, 64),
     (65537, 128),
 ];
@@ -101,7 +108,7 @@ const MAKERS: [Row; 13] = [
     (Costed::EncodeBytes, ALL, ALL),
 ];
 
-const OF_PARTS: [Row; 9] = [
+const OF_PARTS: [Row; 10] = [
     (Costed::Advance, FRONT, BACK),
     (Costed::CopyToSlice, FRONT, BACK),
     (Costed::CopyToBytes, FRONT, BACK),
@@ -111,9 +118,10 @@ const OF_PARTS: [Row; 9] = [
     (Costed::Put, ALL, ALL),
     (Costed::Freeze, ALL, NONE),
     (Costed::IntoText, ALL, NONE),
+    (Costed::CopyToBytes, ALL, NONE),
 ];
 
-const OF_TEXTS: [Row; 24] = [
+const OF_TEXTS: [Row; 28] = [
     (Costed::Clone, ALL, ALL),
     (Costed::Slice, MIDDLE, ALL),
     (Costed::SplitTo, FRONT, BACK),
@@ -138,13 +146,19 @@ const OF_TEXTS: [Row; 24] = [
     (Costed::Fed, ALL, ALL),
     (Costed::Append, AFTER, (0, Shape::AFTER)),
     (Costed::Prepend, BEFORE, (Shape::BEFORE, 64)),
+    (Costed::SplitTo, (0, 43), REST),
+    (Costed::SplitTo, FIRST, (Shape::FIRST, 64)),
+    (Costed::TakeView, FIRST, (Shape::FIRST, 64)),
+    (Costed::TakeView, (0, 10), (10, 64)),
 ];
 
 const AFTER: Span = (64, Shape::AFTER);
 
 const BEFORE: Span = (Shape::BEFORE, 0);
 
-const OF_ROWS: [Row; 8] = [
+const FIRST: Span = (0, Shape::FIRST);
+
+const OF_ROWS: [Row; 10] = [
     (Costed::Advance, FRONT, BACK),
     (Costed::CopyToSlice, FRONT, BACK),
     (Costed::CopyToBytes, FRONT, BACK),
@@ -153,13 +167,16 @@ const OF_ROWS: [Row; 8] = [
     (Costed::Put, ALL, ALL),
     (Costed::Freeze, ALL, NONE),
     (Costed::Coalesce, ALL, NONE),
+    (Costed::FromParts, ALL, ALL),
+    (Costed::CopyToBytes, ALL, NONE),
 ];
 
-const OF_READERS: [Row; 4] = [
+const OF_READERS: [Row; 5] = [
     (Costed::Advance, FRONT, BACK),
     (Costed::CopyToSlice, FRONT, BACK),
     (Costed::CopyToBytes, FRONT, BACK),
     (Costed::Chunks, ALL, ALL),
+    (Costed::CopyToBytes, ALL, NONE),
 ];
 
 // Whether what a call gives has the bytes of a range, cut as they are.
@@ -308,13 +325,29 @@ fn rows(rt: HostRuntime) -> Result<(), Fail> {
     for (chunks, len) in CHUNKS {
         let shape = Shape::new(rt.alloc(), chunks, len)?;
         for row in &OF_ROWS {
-            count(&rt, &Origin::Full, &shape, row_of(rt.alloc(), &shape)?, row)?;
+            let parts = parts_of(rt.alloc(), shape.bytes(ALL), len)?;
+            let parts = IoBufsMut::from_parts(rt.alloc(), parts.into_iter())?;
+            count(&rt, &Origin::Full, &shape, parts, row)?;
         }
     }
     Ok(())
 }
 
-// The first chunks of longer bytes, and a chunk before others.
+// The first bytes of a buffer, and its chunks.
+fn chained(
+    alloc: Global,
+    shape: &Shape,
+    front: usize,
+) -> Result<Chain<IoBufMut, IoBufs>, BufError> {
+    let bytes = shape.bytes(ALL);
+    let (front, back) = bytes.split_at(front.min(bytes.len()));
+    Ok(Chain::new(
+        IoBufMut::copy_from_slice(alloc, front)?,
+        text(alloc, Store::Full, back, shape.len)?,
+    ))
+}
+
+// The first chunks of longer bytes, and a chunk or nothing before others.
 #[test]
 fn readers(rt: HostRuntime) -> Result<(), Fail> {
     let alloc = rt.alloc();
@@ -324,11 +357,8 @@ fn readers(rt: HostRuntime) -> Result<(), Fail> {
             let inner = text(alloc, Store::Full, shape.bytes((0, Shape::AFTER)), len)?;
             let limit = shape.size();
             count(&rt, &"Take", &shape, Take { inner, limit }, row)?;
-            let bytes = shape.bytes(ALL);
-            let (front, back) = bytes.split_at(len.min(bytes.len()));
-            let front = IoBufMut::copy_from_slice(alloc, front)?;
-            let back = text(alloc, Store::Full, back, len)?;
-            count(&rt, &"Chain", &shape, Chain::new(front, back), row)?;
+            count(&rt, &"Chain", &shape, chained(alloc, &shape, len)?, row)?;
+            count(&rt, &"EmptyChain", &shape, chained(alloc, &shape, 0)?, row)?;
         }
     }
     Ok(())

@@ -1,5 +1,6 @@
 // The calls.
 use crate::costs::shape::{Place, Shape};
+use crate::costs::stores::{cut, parts_of};
 use crate::given::Given;
 use crate::kinds::{into_bytes, into_part, memory, slice, split};
 use bytes::{Bytes, BytesMut};
@@ -79,6 +80,7 @@ pub enum Costed {
     Put,
     Freeze,
     IntoText,
+    FromParts,
 }
 
 impl Costed {
@@ -100,7 +102,7 @@ impl Costed {
     }
 }
 
-// What a call is given: a range from the start, zeros, its bytes, and how they are cut.
+// What a call is given: a range from the start, zeros, its bytes, how they are cut, and they as writable buffers.
 #[derive(Drop)]
 pub struct Args {
     lo: usize,
@@ -108,6 +110,7 @@ pub struct Args {
     room: Vec<u8>,
     bytes: &'static [u8],
     len: usize,
+    parts: Vec<IoBufMut>,
 }
 
 impl Args {
@@ -119,12 +122,17 @@ impl Args {
     ) -> Result<Args, BufError> {
         let bytes = shape.bytes(span);
         let room = if call.is_filling() { bytes.len() } else { 0 };
+        let parts = match call {
+            Costed::FromParts => parts_of(alloc, bytes, shape.len)?,
+            _ => Vec::new(alloc),
+        };
         Ok(Args {
             lo: shape.bytes((0, span.0)).len(),
             hi: shape.bytes((0, span.1)).len(),
             room: vec![in alloc; 0u8; room]?,
             bytes,
             len: shape.len,
+            parts,
         })
     }
 }
@@ -223,19 +231,6 @@ fn last(mut part: IoBufMut, n: usize) -> IoBufMut {
 // The value behind its length, read back.
 fn read_back(alloc: Global, view: &IoBuf) -> Result<IoBuf, Error> {
     IoBuf::read_cfg(alloc, &mut view.encode_iobufs(alloc)?, &ANY)
-}
-
-// The bytes in chunks of so many.
-pub fn cut(alloc: Global, bytes: &'static [u8], len: usize) -> Result<Vec<IoBuf>, BufError> {
-    let count = bytes.len().checked_div(len).unwrap_or(0);
-    let mut views = Vec::with_capacity(alloc, count)?;
-    let mut rest = bytes;
-    for _ in 0..count {
-        let (chunk, after) = rest.split_at(len.min(rest.len()));
-        views.push(IoBuf::from(chunk))?;
-        rest = after;
-    }
-    Ok(views)
 }
 
 // The views, every second of which is put, and the others pushed.
@@ -440,6 +435,10 @@ impl Counted for IoBufsMut {
             Costed::Coalesce => {
                 let parts = mem::replace(self, IoBufsMut::default(alloc));
                 Ok(Given::Part(parts.coalesce(alloc)?))
+            }
+            Costed::FromParts => {
+                *self = IoBufsMut::from_parts(alloc, args.parts.into_iter())?;
+                Ok(Given::Nothing)
             }
             Costed::SetLen if args.hi <= self.capacity() => {
                 self.set_len(args.hi);

@@ -38,6 +38,9 @@ impl Shape {
 
     pub const BEFORE: Place = 66;
 
+    // Where the first chunk ends.
+    pub const FIRST: Place = 67;
+
     pub fn new(alloc: Global, count: usize, len: usize) -> Result<Shape, BufError> {
         let all = pattern(alloc, count.saturating_add(2).saturating_mul(len))?;
         Ok(Shape { all, count, len })
@@ -52,6 +55,7 @@ impl Shape {
     fn offset(&self, place: Place) -> usize {
         match place {
             Shape::BEFORE => 0,
+            Shape::FIRST => self.len.saturating_add(self.len),
             Shape::AFTER => self
                 .size()
                 .saturating_add(self.len)

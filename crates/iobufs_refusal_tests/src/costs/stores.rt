@@ -1,10 +1,7 @@
 // Where bytes are stored.
-use crate::costs::calls::cut;
-use crate::costs::shape::Shape;
 use crate::made::{native, part, twin_of};
 use bytes::{Bytes, BytesMut};
 use iobufs::bufs::IoBufs;
-use iobufs::bufs_mut::IoBufsMut;
 use iobufs_core::buf::{IoBuf, IoBufMut};
 use iobufs_core::codec::{Buf, BufError, BufMut};
 use std::alloc::Global;
@@ -134,6 +131,19 @@ pub fn stored_part(alloc: Global, origin: Origin, bytes: &[u8]) -> Result<IoBufM
     }
 }
 
+// The bytes in chunks of so many.
+pub fn cut(alloc: Global, bytes: &'static [u8], len: usize) -> Result<Vec<IoBuf>, BufError> {
+    let count = bytes.len().checked_div(len).unwrap_or(0);
+    let mut views = Vec::with_capacity(alloc, count)?;
+    let mut rest = bytes;
+    for _ in 0..count {
+        let (chunk, after) = rest.split_at(len.min(rest.len()));
+        views.push(IoBuf::from(chunk))?;
+        rest = after;
+    }
+    Ok(views)
+}
+
 // The chunks, each in storage of its own.
 pub fn text(
     alloc: Global,
@@ -152,11 +162,15 @@ pub fn text(
     Ok(text)
 }
 
-// The chunks as writable buffers in a row.
-pub fn row_of(alloc: Global, shape: &Shape) -> Result<IoBufsMut, BufError> {
-    let mut parts = Vec::with_capacity(alloc, shape.count)?;
-    for view in cut(alloc, shape.bytes((0, 64)), shape.len)? {
+// The chunks as writable buffers.
+pub fn parts_of(
+    alloc: Global,
+    bytes: &'static [u8],
+    len: usize,
+) -> Result<Vec<IoBufMut>, BufError> {
+    let mut parts = Vec::new(alloc);
+    for view in cut(alloc, bytes, len)? {
         parts.push(IoBufMut::copy_from_slice(alloc, view.as_ref())?)?;
     }
-    IoBufsMut::from_parts(alloc, parts.into_iter())
+    Ok(parts)
 }
