@@ -6,14 +6,15 @@
 --     drop_of, drop_by, drop_counted  how a drop begins: of a number, a handle, its word, a record
 --     after_count                     what a drop that has read the count still has to do
 --     ended, shared                   a call that ends without a view, and with one
---     loaded_block, loaded_found      the block that the loaded descriptor speaks of
+--     borrowed                        the view that an unfinished clone or slice borrows
+--     loaded_block                    the block that the loaded descriptor speaks of
 --     ready_of                        the second step: a record is made that counts two, or the call ends for lack of
 --                                     memory
---     race_of, race_found, race_by    the compare-exchange: the record is shown, or another one came first
---     add_of, add_found               a holder is counted, unless there are too many
+--     race_of, race_by                the compare-exchange: the record is shown, or another one came first
+--     add_of                          a holder is counted, unless there are too many
 --     subtract_of, release_of         a holder less, and block and record freed
-use Rattle.std.specs.Prelude.{ℕ, ◌+◌, ◌-◌, ◌==◌, nat_lt, nat_eq, Bool, Option, None, Some, ◌||◌, if◌then◌else◌}
-use Rattle.iobufs_owner.specs.Types.{Handle, Kind, View, Mut, Word, Empty, Descriptor, Counted, Share, Pending, Loaded, Ready, Add, Subtract, Release, Refusal, Idle, OutOfRange, Memory, Ceiling, Refused}
+use Rattle.std.specs.Prelude.{ℕ, ◌+◌, ◌-◌, nat_lt, nat_eq, Bool, None, unwrap_or, ◌||◌, if◌then◌else◌}
+use Rattle.iobufs_owner.specs.Types.{Handle, Kind, View, Mut, Word, Empty, Descriptor, Counted, Share, Pending, Loaded, Ready, Add, Subtract, Release, Refusal, OutOfRange, Memory, Ceiling, Refused}
 use Rattle.iobufs_owner.specs.State.{State, handle_at, record_at, recovered, owned_by}
 use Rattle.iobufs_owner.specs.Changes.{Outcome, refused, on_lent, done, edited, state_without, made, called, unfinished_call, with_record, next_record, with_count, block_freed, record_freed, both_freed, detached_handle, part}
 use Rattle.iobufs_owner.specs.Lending.{lend_any_of, lend_view_of}
@@ -62,44 +63,32 @@ ended s p why = record { reply = Refused why; state = called s p None }
 abbrev pub shared : State → ℕ → Share → Handle → ℕ → Outcome
 shared s p k x r = made (called s p None) (part x k.lo k.hi (Counted r))
 
-abbrev pub loaded_found : State → ℕ → Option Handle → ℕ
-loaded_found s w None = 0
-loaded_found s w (Some x) = owned_by s.tables (record x { word = Descriptor w })
+-- the view that an unfinished clone or slice borrows: it stays until the call ends, so the default is never reached
+abbrev pub borrowed : State → Share → Handle
+borrowed s k = unwrap_or (handle_at s k.handle) (detached_handle 0)
 
--- the block that a loaded descriptor recovers, by the place of the handle that it was loaded from
-abbrev pub loaded_block : State → (h w : ℕ) → ℕ
-loaded_block s h w = loaded_found s w (handle_at s h)
+-- the block that a loaded descriptor recovers, by the place of the view that it was loaded from
+abbrev pub loaded_block : State → Share → ℕ → ℕ
+loaded_block s k w = owned_by s.tables (record (borrowed s k) { word = Descriptor w })
 
 -- a record for the block of the loaded descriptor, which counts the handle and the new view
 abbrev pub ready_of : State → ℕ → Share → ℕ → Bool → Outcome
 ready_of s p k w memory =
-    if memory then unfinished_call (with_record s 2 (loaded_block s k.handle w)) p (Ready k w (next_record s)) else ended s p Memory
+    if memory then unfinished_call (with_record s 2 (loaded_block s k w)) p (Ready k w (next_record s)) else ended s p Memory
 
--- The compare-exchange: the handle's word is still the descriptor, or another record has come first. An unfinished clone
--- or slice borrows its handle, so that is there, and its word is the loaded one or a record's: here and in `add_found` the
--- cases `None`, `Empty` and another descriptor can't be reached, and stand only since a function answers everywhere.
-abbrev pub race_by : State → ℕ → Share → (w r : ℕ) → Handle → Word → Outcome
-race_by s p k w r x Empty = refused s Idle
-race_by s p k w r x (Descriptor v) =
-    if v == w then shared (edited s k.handle (record x { word = Counted r })) p k x r else refused s Idle
-race_by s p k w r x (Counted winner) = unfinished_call (record_freed s r) p (Add k winner)
+-- the compare-exchange, by the view's word: a record's if another call has come first, else still the loaded descriptor
+abbrev pub race_by : State → ℕ → Share → ℕ → Handle → Word → Outcome
+race_by s p k r x (Counted winner) = unfinished_call (record_freed s r) p (Add k winner)
+race_by s p k r x word = shared (edited s k.handle (record x { word = Counted r })) p k x r
 
-abbrev pub race_found : State → ℕ → Share → (w r : ℕ) → Option Handle → Outcome
-race_found s p k w r None = refused s Idle
-race_found s p k w r (Some x) = race_by s p k w r x x.word
-
-abbrev pub race_of : State → ℕ → Share → (w r : ℕ) → Outcome
-race_of s p k w r = race_found s p k w r (handle_at s k.handle)
-
-abbrev pub add_found : State → ℕ → Share → ℕ → Option Handle → Outcome
-add_found s p k r None = refused s Idle
-add_found s p k r (Some x) =
-    if nat_lt s.ceiling (record_at s.tables r).count then ended s p Ceiling
-    else shared (with_count s r ((record_at s.tables r).count + 1)) p k x r
+abbrev pub race_of : State → ℕ → Share → ℕ → Outcome
+race_of s p k r = race_by s p k r (borrowed s k) (borrowed s k).word
 
 -- one holder more
 abbrev pub add_of : State → ℕ → Share → ℕ → Outcome
-add_of s p k r = add_found s p k r (handle_at s k.handle)
+add_of s p k r =
+    let count = (record_at s.tables r).count in
+    if nat_lt s.ceiling count then ended s p Ceiling else shared (with_count s r (count + 1)) p k (borrowed s k) r
 
 -- one holder less; the last one will free
 abbrev pub subtract_of : State → (p r : ℕ) → Outcome

@@ -22,7 +22,7 @@ pub use Rattle.iobufs_owner.specs.Growing.{GrowingRuns, IsMove}
 pub use Rattle.iobufs_owner.specs.Inside.{IsReady, seen_of, state_of}
 pub use Rattle.iobufs_owner.specs.Kinds.{asked, is_mut, same_kind}
 pub use Rattle.iobufs_owner.specs.Lending.{Lends, borrows_it, is_empty, is_lent, lend_any_of, lend_of, lend_owning_of, lend_owning_view_of, lend_view_of}
-pub use Rattle.iobufs_owner.specs.LongCalls.{after_count, ended, loaded_block, loaded_found, ready_of, shared}
+pub use Rattle.iobufs_owner.specs.LongCalls.{after_count, ended, loaded_block, ready_of, shared}
 pub use Rattle.iobufs_owner.specs.Moves.{IsCarriedOut, Moves, Took, WantsRoom, begun, gone_on, moved, moved_at}
 pub use Rattle.iobufs_owner.specs.Places.{Apart, ApartFrom, IsGoodPlace, IsPlace, is_good_place, is_place, is_taken, log_of}
 unfoldable pub use Rattle.iobufs_owner.specs.Places.{is_power_below, log_below}

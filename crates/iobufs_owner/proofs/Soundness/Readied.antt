@@ -1,11 +1,11 @@
 -- A clone or slice has loaded a descriptor and makes a record, which nothing shows yet.
-use Rattle.iobufs_owner.proofs.Base.{◌≡◌, inl, inr, ℕ, ◌+◌, ◌^◌, ◌<◌, ◌==◌, true, cond, List, length, get_or, set, sym, ◌∙◌, ap, subst, refl, arith, Option, Some, None, unwrap_or, length-append, length-set, All-from_get_or, State, Tables, record_at, call_at, holders, users, tally, reading, IsSound, Fits, FitsWord, IsLoading, SpeaksOf, hidden, readies, releases, called, with_record, part, loaded_found, loaded_block, Record, Handle, Share, Pending, Loaded, Ready, Word, Empty, Descriptor, Counted, count-set, owner-kept, fits-kept, live-of, shares-kept, promised-kept, calls-fit-set, at-some, block-log-kept, ne_eqb, eq-eqb, fits-at, live-inside, owner-used, record-log-more, sized, alike, drops_by, holders-as, still_by, users-as}
+use Rattle.iobufs_owner.proofs.Base.{◌≡◌, inl, inr, ℕ, ◌+◌, ◌^◌, ◌<◌, ◌==◌, true, cond, List, length, get_or, set, sym, ◌∙◌, ap, subst, refl, arith, Option, Some, None, length-append, length-set, All-from_get_or, State, Tables, record_at, call_at, holders, users, tally, reading, IsSound, Fits, FitsWord, IsLoading, SpeaksOf, hidden, readies, releases, called, with_record, part, loaded_block, Record, Handle, Share, Pending, Loaded, Ready, Word, Empty, Descriptor, Counted, count-set, owner-kept, fits-kept, live-of, shares-kept, promised-kept, calls-fit-set, at-some, block-log-kept, ne_eqb, eq-eqb, fits-at, live-inside, owner-used, record-log-more, sized, alike, drops_by, holders-as, still_by, users-as}
 use Rattle.iobufs_owner.proofs.Soundness.NewRecord.{recorded, recorded-new, recorded-keeps, recorded-let_go, recorded-live, recorded-either, unhidden-next}
 use Rattle.iobufs_owner.proofs.Soundness.Called.{count-calls}
 
 -- the block that a loading knows is the one that the loaded descriptor recovers
-pub loading-block : (s : State) (k : Share) (w : ℕ) (l : IsLoading s k w) → l.block ≡ loaded_block s k.handle w
-loading-block s k w l = sym (ap (λ (o : Option Handle). loaded_found s w o) l.shares.at ∙ ap (λ (o : Option ℕ). unwrap_or o 0) l.promised.says.owner)
+pub loading-block : (s : State) (k : Share) (w : ℕ) (l : IsLoading s k w) → l.block ≡ loaded_block s k w
+loading-block s k w l = rw (l.shares.at, l.promised.says.owner) refl
 
 fit-readied : (s : State) (n b : ℕ) (cs : List (Option Pending)) → ((q : ℕ) → q < length s.tables.records → hidden cs q ≡ hidden s.calls q)
     → (o : Option Handle) → Fits s.tables s.calls o → Fits (recorded s.tables n b) cs o

@@ -1,5 +1,5 @@
 -- Clones and slices, and the further steps of drops, read as steps of the world.
-use Rattle.iobufs_owner.proofs.Base.{cause_if, is_over, is_over_at, held_at, Ceiling, ◌≡◌, ◌≢◌, ◌⊎◌, inl, inr, ℕ, ◌+◌, ◌-◌, ◌<◌, Bool, true, false, cond, nat_lt, nat_eq, get_or, map, ◌||◌, Option, Some, None, Ok, MatchOption, ap, sym, ◌∙◌, subst, refl, arith, All, length-set, length-map, map-set, Handle, Share, View, Pending, Loaded, Ready, Add, Subtract, Release, Word, Empty, Descriptor, Counted, Idle, OutOfRange, Memory, Reply, More, Done, Refused, State, Tables, owner_of, handle_at, call_at, record_at, World, LiveHandle, Sharing, Dropping, holders, is_block, reading, read_held, read_handle, read_call, has_let_go, IsSound, hidden, IsRacing, IsAdding, same_kind, called, unfinished_call, done, edited, part, made, counted, with_count, with_record, record_freed, both_freed, next_record, tables_without, ended, shared, loaded_block, ready_of, gone_on, NoRoom, Makes, GoesOnWithin, SharesOn, Goes, call_set, free_in, part_of, IsAnswered, entries, grows-never, Keeps, KeepsLetGo, calls-read-kept, at-some, owner-empty, owner-counted, handles-kept, eq-eqb, get_or-read, held-reads, view-reads, described-at, counted-at, alone-at, live-inside, alone-described, freed-more, eqb-true, asked-ok, call-fits, MatchBool, ShareIs, le-ltb, view_of}
+use Rattle.iobufs_owner.proofs.Base.{cause_if, is_over, is_over_at, held_at, Ceiling, ◌≡◌, ◌≢◌, ◌⊎◌, inl, inr, ℕ, ◌+◌, ◌-◌, ◌<◌, Bool, true, false, cond, nat_lt, nat_eq, get_or, map, ◌||◌, Option, Some, None, Ok, MatchOption, ap, sym, ◌∙◌, subst, refl, arith, All, length-set, length-map, map-set, Handle, Share, View, Pending, Loaded, Ready, Add, Subtract, Release, Word, Empty, Descriptor, Counted, OutOfRange, Memory, Reply, More, Done, Refused, State, Tables, owner_of, handle_at, call_at, record_at, World, LiveHandle, Sharing, Dropping, holders, is_block, reading, read_held, read_handle, read_call, has_let_go, IsSound, hidden, IsRacing, IsAdding, same_kind, called, unfinished_call, done, edited, part, made, counted, with_count, with_record, record_freed, both_freed, next_record, tables_without, ended, shared, loaded_block, ready_of, gone_on, NoRoom, Makes, GoesOnWithin, SharesOn, Goes, call_set, free_in, part_of, IsAnswered, entries, grows-never, Keeps, KeepsLetGo, calls-read-kept, at-some, owner-empty, owner-counted, handles-kept, eq-eqb, get_or-read, held-reads, view-reads, described-at, counted-at, alone-at, live-inside, alone-described, freed-more, eqb-true, asked-ok, call-fits, MatchBool, ShareIs, le-ltb, view_of}
 use Rattle.iobufs_owner.specs.Changes as change
 use Rattle.iobufs_owner.specs.Lending as lending
 use Rattle.iobufs_owner.specs.LongCalls as long
@@ -35,11 +35,11 @@ GoesAs s p k left memory o reply next = SharesOn (reading s) p k.handle k.lo k.h
 loaded-as : (s t : State) (p : ℕ) (k : Share) (w : ℕ) (x : Handle) (memory : Bool) (reply : Reply) → IsSound s
     → IsAnswered s (ready_of s p k w memory) reply t → GoesAs s p k 3 memory (Some x) reply (reading t)
 loaded-as s t p k w x true reply i y =
-    let e = recorded-keeps s.tables 2 (loaded_block s k.handle w) in
-    elim (grown-taken s (called (with_record s 2 (loaded_block s k.handle w)) p (Some (Ready k w (next_record s)))) t
+    let e = recorded-keeps s.tables 2 (loaded_block s k w) in
+    elim (grown-taken s (called (with_record s 2 (loaded_block s k w)) p (Some (Ready k w (next_record s)))) t
     (call_set (reading s) p (Some (Sharing k.handle k.lo k.hi 2))) More reply
-    (called-kept s (recorded s.tables 2 (loaded_block s k.handle w)) p (Some (Ready k w (next_record s))) i e
-    (λ n d l q j t. recorded-let_go s.tables 2 (loaded_block s k.handle w) q t) refl) y) [
+    (called-kept s (recorded s.tables 2 (loaded_block s k w)) p (Some (Ready k w (next_record s))) i e
+    (λ n d l q j t. recorded-let_go s.tables 2 (loaded_block s k w) q t) refl) y) [
       | inl a ↦ inr (inr (inl (refl, refl, a)))
       | inr a ↦ inr (inl (2, omega arith, omega arith, a))
     ]
@@ -69,41 +69,36 @@ shown-reads s p k w r i a =
     let m = set-get (map (read_handle s.tables) s.handles) k.handle (read_handle s.tables (Some (by_record a.view r))) None (rw length-map l) e in
     rw (map-set (read_call s.tables) s.calls p None, map-set (read_handle s.tables) s.handles k.handle (Some (by_record a.view r)), m) refl
 
-race-as : (s t : State) (p : ℕ) (k : Share) (w r : ℕ) (memory : Bool) (reply : Reply) (v : Word) → IsSound s → (a : IsRacing s k w r)
-    → a.view.word ≡ v → IsAnswered s (long.race_by s p k w r a.view v) reply t → GoesAs s p k 2 memory (Some a.view) reply (reading t)
-race-as s t p k w r memory reply Empty i a e y = elim a.promised.now' [ inl z ↦ absurd (let q = sym e ∙ z in cc) | inr z ↦ absurd (let q = sym e ∙ z.1 in cc) ]
-race-as s t p k w r memory reply (Descriptor u) i a e y =
-    elim a.promised.now' [
-      | inl z ↦ (let q = sym e ∙ z in
-          let same : u ≡ w = cc in
-          let ow = a.promised.owner in
-          let one = alone-at s k.handle a.view a.block i a.shares.at
-          (alone-described s.tables a.block a.view u e ∙ ap (is_block a.block) ow ∙ eq-eqb a.block a.block refl) in
-          let c = i.size.ceiling in
-          let y' = subst
-          (λ (b : Bool). IsAnswered s (cond b (shared (edited s k.handle (record a.view { word = Counted r })) p k a.view r)
-          (change.refused s Idle)) reply t) (eq-eqb u w same) y in
-          let front : Handle = part a.view k.lo k.hi (Counted r) in
-          let of = owner-counted s.tables front r refl ∙ ap Some a.same ∙ sym ow in
-          let never : is_over (reading s) (owner_of s.tables a.view) ≡ false =
-          subst (λ (o : Option ℕ). is_over (reading s) o ≡ false) (sym ow) (le-ltb s.ceiling (holders (reading s) a.block) (omega (arith, one, c))) in
-          inr
-          (inr
-          (inr (
-            never,
-            omega arith,
-            made-taken s (called (edited s k.handle (by_record a.view r)) p None) t (call_set (reading s) p None) front
-                (part_of (read_held s.tables a.view) k.lo k.hi) reply (shown-reads s p k w r i a)
-                (ap (λ (b : Option ℕ). record { kind = View; block = b; place = a.view.ptr + k.lo; len = k.hi - k.lo }) of) y',
-          ))))
-      | inr z ↦ absurd (let q = sym e ∙ z.1 in cc)
-    ]
-race-as s t p k w r memory reply (Counted winner) i a e y =
-    let q = dead-keeps s.tables r in
-    let n = length-set s.tables.records r (record { count = (record_at s.tables r).count; block = (record_at s.tables r).block; live = false }) in
-    let z = reply-taken s (called (record_freed s r) p (Some (Add k winner))) t (call_set (reading s) p (Some (Sharing k.handle k.lo k.hi 1))) More
-    reply (cc n) (called-kept s (tables_without s.tables r) p (Some (Add k winner)) i q (λ n d l v j t. dead-let_go s.tables r v) refl) y in
-    inr (inl (1, omega arith, omega arith, z))
+race-as : (s t : State) (p : ℕ) (k : Share) (w r : ℕ) (memory : Bool) (reply : Reply) → IsSound s → (a : IsRacing s k w r)
+    → IsAnswered s (long.race_of s p k r) reply t → GoesAs s p k 2 memory (Some a.view) reply (reading t)
+race-as s t p k w r memory reply i a y = elim a.promised.now' [
+  | inl e ↦ (
+      let ow = a.promised.owner in
+      let one = alone-at s k.handle a.view a.block i a.shares.at
+      (alone-described s.tables a.block a.view w e ∙ ap (is_block a.block) ow ∙ eq-eqb a.block a.block refl) in
+      let c = i.size.ceiling in
+      let front : Handle = part a.view k.lo k.hi (Counted r) in
+      let of = owner-counted s.tables front r refl ∙ ap Some a.same ∙ sym ow in
+      let never : is_over (reading s) (owner_of s.tables a.view) ≡ false =
+      subst (λ (o : Option ℕ). is_over (reading s) o ≡ false) (sym ow) (le-ltb s.ceiling (holders (reading s) a.block) (omega (arith, one, c))) in
+      inr
+      (inr
+      (inr (
+        never,
+        omega arith,
+        made-taken s (called (edited s k.handle (by_record a.view r)) p None) t (call_set (reading s) p None) front
+            (part_of (read_held s.tables a.view) k.lo k.hi) reply (shown-reads s p k w r i a)
+            (ap (λ (b : Option ℕ). record { kind = View; block = b; place = a.view.ptr + k.lo; len = k.hi - k.lo }) of)
+            (rw (a.shares.at, e) at y),
+      ))))
+  | inr (winner, e) ↦ (
+      let q = dead-keeps s.tables r in
+      let n = length-set s.tables.records r (record { count = (record_at s.tables r).count; block = (record_at s.tables r).block; live = false }) in
+      let z = reply-taken s (called (record_freed s r) p (Some (Add k winner))) t (call_set (reading s) p (Some (Sharing k.handle k.lo k.hi 1))) More
+      reply (cc n) (called-kept s (tables_without s.tables r) p (Some (Add k winner)) i q (λ n d l v j t. dead-let_go s.tables r v) refl)
+      (rw (a.shares.at, e) at y) in
+      inr (inl (1, omega arith, omega arith, z)))
+]
 
 -- users see the compare-exchange of a clone or slice in a sound machine as a step of a call with two steps left
 pub ready-goes : (s t : State) (p : ℕ) (k : Share) (w r : ℕ) (memory : Bool) (reply : Reply) → IsSound s → call_at s p ≡ Some (Ready k w r)
@@ -111,9 +106,8 @@ pub ready-goes : (s t : State) (p : ℕ) (k : Share) (w r : ℕ) (memory : Bool)
 unfolding Goes
 ready-goes s t p k w r memory reply i at y =
     let a = call-fits s p (Ready k w r) i at in
-    let y' = subst (λ (o : Option Handle). IsAnswered s (long.race_found s p k w r o) reply t) a.shares.at y in
     subst (λ (o : Option LiveHandle). SharesOn (reading s) p k.handle k.lo k.hi 2 memory o reply (reading t))
-    (sym (held-reads s k.handle ∙ ap (read_handle s.tables) a.shares.at)) (race-as s t p k w r memory reply a.view.word i a refl y')
+    (sym (held-reads s k.handle ∙ ap (read_handle s.tables) a.shares.at)) (race-as s t p k w r memory reply i a y)
 
 add-as : (s t : State) (p : ℕ) (k : Share) (r : ℕ) (memory : Bool) (reply : Reply) (v : Bool) → IsSound s → (a : IsAdding s k r)
     → nat_lt s.ceiling (record_at s.tables r).count ≡ v
@@ -151,7 +145,6 @@ pub add-goes : (s t : State) (p : ℕ) (k : Share) (r : ℕ) (memory : Bool) (re
 unfolding Goes
 add-goes s t p k r memory reply i at y =
     let a = call-fits s p (Add k r) i at in
-    let y' = subst (λ (o : Option Handle). IsAnswered s (long.add_found s p k r o) reply t) a.shares.at y in
     let c = counted-at s k.handle a.view r i a.shares.at a.word in
     let n : is_over (reading s) (owner_of s.tables a.view) ≡ nat_lt s.ceiling (record_at s.tables r).count =
     ap (is_over (reading s)) (owner-counted s.tables a.view r a.word) ∙ ap (nat_lt s.ceiling) (sym ((i.counted r c.live).counts c.shown)) in
@@ -160,7 +153,7 @@ add-goes s t p k r memory reply i at y =
     (λ why. (reply ≡ Refused why) × (reading t ≡ call_set (reading s) p None))) (sym (held-reads s k.handle ∙ ap (read_handle s.tables) a.shares.at))
     (subst (λ (v : Bool). MatchOption (cause_if v Ceiling) (GoesAs s p k 1 memory (Some a.view) reply (reading t))
     (λ why. (reply ≡ Refused why) × (reading t ≡ call_set (reading s) p None))) (sym n)
-    (add-as s t p k r memory reply (nat_lt s.ceiling (record_at s.tables r).count) i a refl y'))
+    (add-as s t p k r memory reply (nat_lt s.ceiling (record_at s.tables r).count) i a refl (rw a.shares.at at y)))
 
 -- ---- drops
 

@@ -1,5 +1,5 @@
 -- A step by the tables answers no want of room, and adds at most one entry to each table.
-use Rattle.iobufs_owner.proofs.Base.{◌≡◌, ℕ, ◌+◌, ◌-◌, ◌^◌, ◌≤◌, arith, Bool, true, false, cond, nat_lt, nat_eq, ◌==◌, [], ◌∷◌, length, length-append, Option, Some, None, refl, sym, length-set, append-nil, Freed, Handle, Kind, View, Mut, Word, Empty, Descriptor, Counted, Share, Call, New, External, Static, Act, Begin, Go, Step, Pending, Loaded, Ready, Add, Subtract, Release, Refusal, Busy, Idle, WrongKind, Borrowed, OutOfRange, BadPlace, Memory, Ceiling, Room, Reply, More, Done, Declined, Refused, State, KeepsLogs, handle_at, call_at, record_at, block_at, recovered, triple, Outcome, refused, gone_on, new_blocks, is_good_place, log_of, moved_at, begun, moved, asked, is_lent, not, same_kind, ◌&&◌, Advance, Clone, Demote, Drop, Freeze, IsUnique, Put, Slice, SplitTo, TryIntoMut}
+use Rattle.iobufs_owner.proofs.Base.{◌≡◌, ℕ, ◌+◌, ◌-◌, ◌^◌, ◌≤◌, arith, Bool, true, false, cond, nat_lt, nat_eq, [], ◌∷◌, length, length-append, Option, Some, None, refl, sym, length-set, append-nil, Freed, Handle, Kind, View, Mut, Word, Empty, Descriptor, Counted, Share, Call, New, External, Static, Act, Begin, Go, Step, Pending, Loaded, Ready, Add, Subtract, Release, Refusal, Busy, Idle, WrongKind, Borrowed, OutOfRange, BadPlace, Memory, Ceiling, Room, Reply, More, Done, Declined, Refused, State, KeepsLogs, handle_at, call_at, record_at, block_at, recovered, triple, Outcome, refused, gone_on, new_blocks, is_good_place, log_of, moved_at, begun, moved, asked, is_lent, not, same_kind, ◌&&◌, Advance, Clone, Demote, Drop, Freeze, IsUnique, Put, Slice, SplitTo, TryIntoMut}
 use Rattle.iobufs_owner.specs.Changes as change
 use Rattle.iobufs_owner.specs.Lending as lending
 use Rattle.iobufs_owner.specs.ShortCalls as short
@@ -175,19 +175,13 @@ ready-modest s p k w memory =
 idle : (s : State) → IsModest s false (refused s Idle)
 idle s = refuses s false Idle (λ e. absurd (cc))
 
-race-by : (s : State) (p : ℕ) (k : Share) (w r : ℕ) (x : Handle) (now : Word) → IsModest s false (long.race_by s p k w r x now)
-race-by s p k w r x Empty = idle s
-race-by s p k w r x (Descriptor v) = by (IsModest s false) (v == w) _ _ (made s _ refl refl _ false (length-set _ _ _) (omega arith) (omega arith)) (idle s)
-race-by s p k w r x (Counted winner) = frees s (change.called (change.record_freed s r) p (Some (Add k winner))) More (logs-record s r)
+race-modest : (s : State) (p : ℕ) (k : Share) (r : ℕ) (x : Handle) (w : Word) → IsModest s false (long.race_by s p k r x w)
+race-modest s p k r x (Counted winner) = frees s (change.called (change.record_freed s r) p (Some (Add k winner))) More (logs-record s r)
     (λ e. absurd (cc)) refl (length-set _ _ _) refl
+race-modest s p k r x w = made s _ refl refl _ false (length-set _ _ _) (omega arith) (omega arith)
 
-race-modest : (s : State) (p : ℕ) (k : Share) (w r : ℕ) (o : Option Handle) → IsModest s false (long.race_found s p k w r o)
-race-modest s p k w r None = idle s
-race-modest s p k w r (Some x) = race-by s p k w r x x.word
-
-add-modest : (s : State) (p : ℕ) (k : Share) (r : ℕ) (o : Option Handle) → IsModest s false (long.add_found s p k r o)
-add-modest s p k r None = idle s
-add-modest s p k r (Some x) =
+add-modest : (s : State) (p : ℕ) (k : Share) (r : ℕ) → IsModest s false (long.add_of s p k r)
+add-modest s p k r =
     by (IsModest s false) _ _ _ (frees s _ (Refused Ceiling) (logs-same s) (λ e. absurd (cc)) refl refl refl)
     (made s _ refl refl _ false refl (rw length-set (omega arith)) (omega arith))
 
@@ -203,8 +197,8 @@ release-modest s p r = frees s (change.called (change.both_freed s r) p None) Do
 
 goes-modest : (s : State) (p : ℕ) (c : Pending) (memory : Bool) → IsModest s false (gone_on s p c memory)
 goes-modest s p (Loaded k w) memory = ready-modest s p k w memory
-goes-modest s p (Ready k w r) memory = race-modest s p k w r (handle_at s k.handle)
-goes-modest s p (Add k r) memory = add-modest s p k r (handle_at s k.handle)
+goes-modest s p (Ready k w r) memory = race-modest s p k r (long.borrowed s k) (long.borrowed s k).word
+goes-modest s p (Add k r) memory = add-modest s p k r
 goes-modest s p (Subtract r) memory = subtract-modest s p r
 goes-modest s p (Release r) memory = release-modest s p r
 

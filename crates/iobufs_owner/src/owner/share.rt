@@ -137,7 +137,7 @@ impl Machine {
     /// The number of the block that a loaded descriptor describes.
     fn loaded_block(&self, party: usize, range: Share, word: u64) -> usize
         requires { call_at self.now.state party ≡ Some (Loaded range word) }
-        ensures { result ≡ long.loaded_block self.now.state range.handle word }
+        ensures { result ≡ long.loaded_block self.now.state range word }
     {
         let Some(x) = self.find(range.handle) else {
             unreachable!()
@@ -185,7 +185,7 @@ impl Machine {
         r: usize,
     ) -> Result<Reply, Full>
         requires { call_at self.old.state party ≡ Some (Ready range word r) }
-        ensures { Took self.old (race_of self.old.state party range word r) result self.new }
+        ensures { Took self.old (race_of self.old.state party range r) result self.new }
     {
         let Some(x) = self.find(range.handle) else {
             unreachable!()

@@ -1,4 +1,4 @@
-use Rattle.iobufs_owner.proofs.Base.{◌≡◌, ◌∙◌, ℕ, Option, sym, subst, ap, unwrap_or, Handle, Descriptor, loaded_found, DescribesBlock, Loaded, call-fits}
+use Rattle.iobufs_owner.proofs.Base.{◌≡◌, ◌∙◌, Some, sym, subst, refl, Handle, Descriptor, handle_at, DescribesBlock, Loaded, call-fits}
 use Rattle.iobufs_owner.proofs.owner.Machine.loaded_block.Goals as goal
 
 pub unreachable-requires : goal.unreachable-requires
@@ -19,5 +19,5 @@ described-requires-clause-says c =
 
 pub returns : goal.returns
 returns c =
-    let e = sym c.find.ensures.value ∙ c.in-Some.is in
-    sym (ap (λ (o : Option Handle). loaded_found c.args.self.now.state c.args.word o) e ∙ ap (λ (o : Option ℕ). unwrap_or o 0) c.described.ensures)
+    let at : handle_at c.args.self.now.state c.args.range.handle ≡ Some c.in-Some.x = sym c.find.ensures.value ∙ c.in-Some.is in
+    rw (at, c.described.ensures) refl

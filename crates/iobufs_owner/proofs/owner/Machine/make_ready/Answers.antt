@@ -15,12 +15,12 @@ invariant_of-self-2 c =
     let s : State = state_of c.self.inside in
     let at = before (λ (s : State). call_at s c.args.party ≡ Some (Loaded c.args.range c.args.word)) c.self.inside _ c.self.view_is c.requires in
     let l = call-fits s c.args.party (Loaded c.args.range c.args.word) c.self.invariant.sound at in
-    let b = before (λ (s : State). c.loaded_block-block.result ≡ loaded_block s c.args.range.handle c.args.word) c.self.inside _ c.self.view_is
+    let b = before (λ (s : State). c.loaded_block-block.result ≡ loaded_block s c.args.range c.args.word) c.self.inside _ c.self.view_is
     c.loaded_block-block.ensures in
     let r : c.len-r.result ≡ length c.self.inside.records.items = omega (arith, c.len-r.ensures) in
     record {
       sound = rw (c.push_reserved.ensures.items, r, b)
-          (sound-readied s c.args.party c.args.range c.args.word (loaded_block s c.args.range.handle c.args.word) c.self.invariant.sound at l
+          (sound-readied s c.args.party c.args.range c.args.word (loaded_block s c.args.range c.args.word) c.self.invariant.sound at l
           (loading-block s c.args.range c.args.word l) (omega (arith, c.in_ok-room_for_record.ensures.few)));
       block_room = c.self.invariant.block_room;
       record_room = rw (c.push_reserved.ensures.items, length-append) (omega (arith, c.in_ok-room_for_record.ensures.freed_room));
