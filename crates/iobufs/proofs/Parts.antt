@@ -5,6 +5,7 @@ pub mod DrainTurns
 pub mod Examples
 pub mod FewLaws
 pub mod Frozen
+pub mod FullLaws
 pub mod OrderLaws
 pub mod PartChunks
 pub mod PartLaws

@@ -3,11 +3,12 @@ use Rattle.std.proofs.Common.{◌≡◌, ℕ, ◌+◌, ◌-◌, ◌^◌, ◌<◌
 use Rattle.std.proofs.lemmas.List.{drop_all}
 use Rattle.std.proofs.lemmas.List.Sums.{sum_by_push}
 use Rattle.iobufs_core.specs.Part.{Part, empty_part, part_capacity, part_drained}
-use Rattle.iobufs.specs.Inside.PartOrder.{AreBehind, AreKept, first_drained, in_order}
+use Rattle.iobufs.specs.Inside.PartOrder.{AreBehind, AreKept, HaveNoSpare, first_drained, in_order}
 use Rattle.iobufs.specs.Parts.{HaveCapacity, IsParts, kept_parts, parts_capacity, parts_drained, parts_filled, parts_or_default, parts_shared_out}
 use Rattle.iobufs.proofs.Parts.DrainShapes.{able-both, able-front, able-rest, capacity-shared_out, shared_out-behind, shared_out-first, shared_out-none, with_capacity-spent}
 use Rattle.iobufs.proofs.Parts.FewLaws.{drained-parts, kept-same, parts-kept}
-use Rattle.iobufs.proofs.Parts.OrderLaws.{behind-both, filled-length, filled-order, first-filled, kept-none, order-both}
+use Rattle.iobufs.proofs.Parts.FullLaws.{full-drained, full-push}
+use Rattle.iobufs.proofs.Parts.OrderLaws.{behind-both, filled-length, filled-order, first-filled, kept-none, order-both, order-length}
 use Rattle.iobufs.proofs.Parts.PartRuns.{parts-push}
 use Rattle.iobufs.proofs.Parts.SumLaws.{summed-drained}
 
@@ -173,28 +174,32 @@ shortened-row row new used n behind parts some less drained =
     draining-ends new used 0 _ refl (draining-stops row new used n _ (draining-begins row used n behind parts some) less drained)
 
 -- what draining leaves is kept with its sums
-pub kept-drained-row : (row new : List Part) (used behind n len capacity : ℕ) → AreKept row used len capacity → n ≤ length (parts_filled row)
-    → in_order new behind ≡ parts_drained (in_order row used) n → AreBehind new behind → AreKept new behind (len - n) (capacity - n)
-kept-drained-row row new used behind n len capacity kept some is are =
+pub kept-drained-row : (row new : List Part) (used behind n full still len capacity : ℕ) → AreKept row used full len capacity → n ≤ length (parts_filled row)
+    → in_order new behind ≡ parts_drained (in_order row used) n → AreBehind new behind → still ≡ full - (length row - length new)
+    → AreKept new behind still (len - n) (capacity - n)
+kept-drained-row row new used behind n full still len capacity kept some is are still_is =
     let all = in_order row used in
     let bytes = ap (λ (w : List ℕ). length w) (filled-order row used kept.behind) in
     let left = is ∙ drained-parts all n kept.parts in
     let fits : parts_capacity (parts_shared_out all n) < 2 ^ 64 = omega (arith, capacity-shared_out all n, kept.parts.fits) in
+    let count : still ≡ full - (length all - length (parts_drained all n)) =
+    omega (arith, still_is, order-length row used, order-length new behind, ap (λ (ps : List Part). length ps) is) in
     record {
       behind = are;
+      no_spare = subst (λ ps. HaveNoSpare still ps) (sym is) (full-drained still full n all kept.no_spare kept.parts count);
       sums = summed-drained all (in_order new behind) n len capacity kept.sums (omega (arith, bytes, some)) is;
       parts = subst IsParts (sym left) (parts-kept (parts_shared_out all n) fits);
     }
 
 -- a part that can hold a byte, put after two or more in order, is kept with their sums
-pub kept-pushed : (row new : List Part) (used none : ℕ) (p : Part) (len capacity n m : ℕ) → AreKept row used len capacity → new ≡ in_order row used ++ p ∷ []
+pub kept-pushed : (row new : List Part) (used none : ℕ) (p : Part) (full len capacity n m : ℕ) → AreKept row used full len capacity → new ≡ in_order row used ++ p ∷ []
     → none ≡ 0 → 1 < length (in_order row used) → 0 < part_capacity p → parts_capacity (in_order row used) + part_capacity p < 2 ^ 64
-    → n ≡ length p.filled → m ≡ part_capacity p → AreKept new none (len + n) (capacity + m)
-kept-pushed row new used none p len capacity n m kept is zero several more fits len_is capacity_is =
+    → n ≡ length p.filled → m ≡ part_capacity p → AreKept new none full (len + n) (capacity + m)
+kept-pushed row new used none p full len capacity n m kept is zero several more fits len_is capacity_is =
     let all = in_order row used in
     let bytes = ap (λ ps. length (parts_filled ps)) is ∙ filled-length all (p ∷ []) in
     let sum = ap parts_capacity is ∙ sum_by_push part_capacity all p in
     let last = length-append p.filled [] in
-    kept-none new none (len + n) (capacity + m) zero
+    kept-none new none full (len + n) (capacity + m) zero (subst (λ ps. HaveNoSpare full ps) (sym is) (full-push full all (p ∷ []) kept.no_spare))
     (record { len_is = omega (arith, bytes, last, kept.sums.len_is, len_is); capacity_is = omega (arith, sum, kept.sums.capacity_is, capacity_is) })
     (subst IsParts (sym is) (parts-push all p kept.parts several more fits))

@@ -7,7 +7,7 @@ use Rattle.std.proofs.lemmas.List.Sums.{sum_by-append}
 use Rattle.iobufs_core.specs.MarkedText.{MarkedText, default_text, text_append}
 use Rattle.iobufs_core.specs.Part.{Part, empty_part, part_capacity, part_drained, part_frozen, part_overwritten}
 use Rattle.iobufs.specs.Laws.Filling.{fill-nil, same_part}
-use Rattle.iobufs.specs.Inside.PartOrder.{AreBehind, AreKept, first_drained, in_order}
+use Rattle.iobufs.specs.Inside.PartOrder.{AreBehind, AreKept, HaveNoSpare, first_drained, in_order}
 use Rattle.iobufs.specs.Inside.PartSums.{AreSummed}
 use Rattle.iobufs.specs.Parts.{IsParts, parts_capacity, parts_chunks, parts_fill, parts_filled, parts_frozen, parts_overwritten}
 use Rattle.iobufs.proofs.Parts.Frozen.{frozen-none}
@@ -20,12 +20,14 @@ order-none row used none =
     ap (λ k. drop k row ++ take k row) all ∙ (λ i. drop_all (length row) row (omega arith) i ++ take_all (length row) row (omega arith) i)
 
 -- a row of which no part is drained is kept, where the sums beside it are its own
-pub kept-none : (row : List Part) (used len capacity : ℕ) → used ≡ 0 → AreSummed row len capacity → IsParts row → AreKept row used len capacity
-kept-none row used len capacity none sums parts = record {
+pub kept-none : (row : List Part) (used full len capacity : ℕ) → used ≡ 0 → HaveNoSpare full row → AreSummed row len capacity → IsParts row
+    → AreKept row used full len capacity
+kept-none row used full len capacity none no_spare sums parts = record {
   behind = record {
     within = omega arith;
     empty = ap (λ ps. length (parts_filled ps)) (drop_all (length row - used) row (omega arith));
   };
+  no_spare = subst (λ ps. HaveNoSpare full ps) (sym (order-none row used none)) no_spare;
   sums = subst (λ ps. AreSummed ps len capacity) (sym (order-none row used none)) sums;
   parts = subst IsParts (sym (order-none row used none)) parts;
 }
@@ -121,6 +123,11 @@ capacity-order row used =
 pub first-filled : (row : List Part) → length (get_or row 0 (empty_part 0)).filled ≤ length (parts_filled row)
 first-filled [] = omega arith
 first-filled (p ∷ row) = omega (arith, length-append p.filled (parts_filled row))
+
+-- the first part stays in the row
+pub first-length : (row : List Part) (n : ℕ) → length (first_drained row n) ≡ length row
+first-length [] n = refl
+first-length (p ∷ row) n = refl
 
 -- a row in which its first part is put back drained is the row whose first part is drained
 pub first-set : (row : List Part) (p q : Part) (n : ℕ) → 0 < length row → p ≡ get_or row 0 p → q ≡ part_drained p n → set row 0 q ≡ first_drained row n

@@ -1,10 +1,10 @@
 -- One turn of a loop that goes over parts by index, front to back.
-use Rattle.std.proofs.Common.{◌≡◌, ℕ, ◌+◌, ◌<◌, ◌≤◌, List, [], ◌∷◌, ◌++◌, length, take, drop, refl, sym, ap, ◌∙◌, arith, append-nil, append_assoc, take-append-drop, ⊎_elim, min, take_all, get_or, set}
+use Rattle.std.proofs.Common.{◌≡◌, ℕ, ◌+◌, ◌<◌, ◌≤◌, List, [], ◌∷◌, ◌++◌, length, take, drop, refl, sym, ap, ◌∙◌, arith, append_assoc, take-append-drop, ⊎_elim, min, take_all, get_or, set}
 use Rattle.std.proofs.lemmas.Bool.{cases_lt}
 use Rattle.std.proofs.Math.Seq.{drop-set-lt}
 use Rattle.std.proofs.lemmas.List.{drop_all, drop_more, take_more_set}
 use Rattle.iobufs_core.specs.Part.{Part, part_put}
-use Rattle.iobufs.specs.Laws.Filling.{fill-nil, same_part}
+use Rattle.iobufs.specs.Laws.Filling.{fill-nil}
 use Rattle.iobufs.specs.Parts.{parts_fill}
 
 -- f works on one part after the other, and carries s along; the part at i was x and is y
@@ -44,12 +44,6 @@ pub fill-turn : (all now : List Part) (i : ℕ) (x y : Part) (w w' u : List ℕ)
 fill-turn all now i x y w w' u n l e q a b m so_far =
     turn parts_fill (λ p bytes. part_put p (take p.spare bytes)) (λ p bytes. drop p.spare bytes) (λ p ps bytes. refl) all now i x y w w' l e
     (q ∙ ap (part_put x) (a ∙ share_taken w n x.spare m)) (b ∙ share_dropped w n x.spare m) so_far
-
--- a part without room is passed by
-pub fill-past : (all now : List Part) (i : ℕ) (x : Part) (w : List ℕ) → i < length now → x ≡ get_or now i x → x.spare ≡ 0
-    → all ≡ take i now ++ parts_fill (drop i now) w → all ≡ take (i + 1) (set now i x) ++ parts_fill (drop (i + 1) (set now i x)) w
-fill-past all now i x w l e none so_far =
-    fill-turn all now i x x w w [] 0 l e (same_part x (part_put x []) (sym (append-nil x.filled)) (omega arith)) refl refl (omega arith) so_far
 
 -- nothing is left to fill in
 pub fill-done : (all now : List Part) (i : ℕ) → all ≡ take i now ++ parts_fill (drop i now) [] → now ≡ all

@@ -2,8 +2,9 @@
 --     in_order         the buffers of a deque in order, of which n at its end are drained
 --     first_drained    the deque without the first bytes of its first buffer
 --     AreBehind        n buffers at the end hold no bytes
---     AreKept          the buffers in order are parts, with the sums of all
-use Rattle.std.specs.Prelude.{◌≡◌, ℕ, ◌-◌, ◌≤◌, List, [], ◌∷◌, ◌++◌, length, drop, take}
+--     HaveNoSpare      the first n buffers are full
+--     AreKept          the buffers in order are parts, with the sums of all, of which the first `full` are full
+use Rattle.std.specs.Prelude.{◌≡◌, ℕ, zero, suc, ◌-◌, ◌≤◌, List, [], ◌∷◌, ◌++◌, length, drop, take}
 use Rattle.iobufs_core.specs.Part.{Part, part_drained}
 use Rattle.iobufs.specs.Inside.PartSums.{AreSummed}
 use Rattle.iobufs.specs.Parts.{IsParts, parts_filled}
@@ -21,7 +22,14 @@ pub record AreBehind (row : List Part) (used : ℕ) : Type 0 where
   pub within : used ≤ length row
   pub empty : length (parts_filled (drop (length row - used) row)) ≡ 0
 
-pub record AreKept (row : List Part) (used len capacity : ℕ) : Type 0 where
+-- the first n parts have no spare capacity
+abbrev pub HaveNoSpare : ℕ → List Part → Type 0
+HaveNoSpare zero parts = Unit {0}
+HaveNoSpare (suc n) [] = ⊥
+HaveNoSpare (suc n) (part ∷ parts) = (part.spare ≡ 0) × HaveNoSpare n parts
+
+pub record AreKept (row : List Part) (used full len capacity : ℕ) : Type 0 where
   pub behind : AreBehind row used
+  pub no_spare : HaveNoSpare full (in_order row used)
   pub sums : AreSummed (in_order row used) len capacity
   pub parts : IsParts (in_order row used)

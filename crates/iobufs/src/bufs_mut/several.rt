@@ -4,7 +4,7 @@ ghost use Rattle.std.specs.Prelude.{◌≡◌, ◌+◌, ◌^◌, ◌<◌, ◌≤
 ghost use Rattle.iobufs_core.specs.Chunks.{first_chunk};
 ghost use Rattle.iobufs_core.specs.MarkedText.{of_view, text_append};
 ghost use Rattle.iobufs_core.specs.Part.{empty_part, part_capacity, part_frozen};
-ghost use Rattle.iobufs.specs.Inside.PartOrder.{AreBehind, first_drained, in_order};
+ghost use Rattle.iobufs.specs.Inside.PartOrder.{AreBehind, HaveNoSpare, first_drained, in_order};
 ghost use Rattle.iobufs.specs.Parts.{HaveCapacity, IsParts, kept_parts, parts_capacity, parts_chunks, parts_drained, parts_fill, parts_filled, parts_frozen, parts_overwritten, parts_spare, parts_with_len, single_part};
 
 use crate::bufs::IoBufs;
@@ -28,6 +28,9 @@ use std::mem;
 pub(super) struct Several {
     row: VecDeque<IoBufMut>,
     used: usize,
+    // The first `full` buffers in order are known to have no spare capacity. A put begins after them, so many small puts
+    // walk over the buffers once.
+    full: usize,
     len: usize,
     capacity: usize,
 }
@@ -41,7 +44,7 @@ impl Model for Several {
 
     ghost view = { λ s. in_order s.row.items s.used };
 
-    ghost invariant = { λ s. AreKept s.row.items s.used s.len s.capacity };
+    ghost invariant = { λ s. AreKept s.row.items s.used s.full s.len s.capacity };
 }
 
 impl Several {
@@ -66,6 +69,7 @@ impl Several {
         Ok(Several {
             row,
             used: 0,
+            full: 0,
             len,
             capacity,
         })
@@ -131,6 +135,7 @@ impl Several {
         }
         let none = IoBufMut::default(*self.row.allocator());
         self.used = 0;
+        self.full = 0;
         self.len = 0;
         self.capacity = 0;
         Some(mem::replace(&mut self.row[0], none))
@@ -165,7 +170,8 @@ impl Several {
             return;
         }
         settle(&mut self.row, &mut self.used);
-        put(&mut self.row, src);
+        self.full = count_full(&self.row, self.full);
+        put(&mut self.row, self.full, src);
         self.len += src.len();
     }
 
@@ -178,7 +184,8 @@ impl Several {
             return;
         }
         settle(&mut self.row, &mut self.used);
-        put_bytes(&mut self.row, value, n);
+        self.full = count_full(&self.row, self.full);
+        put_bytes(&mut self.row, self.full, value, n);
         self.len += n;
     }
 
@@ -189,6 +196,7 @@ impl Several {
     {
         settle(&mut self.row, &mut self.used);
         set_len(&mut self.row, n);
+        self.full = 0;
         self.len = n;
     }
 
@@ -207,7 +215,10 @@ impl Several {
         self.len -= n;
         self.capacity -= n;
         if !shorten(&mut self.row, n) {
+            let count = self.row.len();
             self.used = drain(&mut self.row, n, self.used);
+            // Each buffer that was dropped had no spare capacity.
+            self.full = self.full.saturating_sub(count - self.row.len());
         }
     }
 
@@ -304,6 +315,7 @@ impl Several {
         let Several {
             mut row,
             used: _,
+            full: _,
             len,
             capacity: _,
         } = self;
@@ -335,43 +347,51 @@ impl Several {
     }
 }
 
-// Fills the room of the parts in order.
-fn put(parts: &mut VecDeque<IoBufMut>, src: &[u8])
-    requires { length src.now ≤ parts_spare parts.old.items }
+// Counts the buffers before the first one with spare capacity. The first `known` have none.
+fn count_full(parts: &VecDeque<IoBufMut>, known: usize) -> usize
+    requires { HaveNoSpare known parts.now.items }
+    ensures { HaveNoSpare result parts.now.items }
+{
+    let mut full = known;
+    while full < parts.len() && parts[full].remaining_mut() == 0 {
+        full += 1;
+    }
+    full
+}
+
+// Fills the spare capacity of the buffers in order. The first `full` have none.
+#[tactic(auto, using(crate::proofs::Parts::FullLaws::filling))]
+fn put(parts: &mut VecDeque<IoBufMut>, full: usize, src: &[u8])
+    requires fits { length src.now ≤ parts_spare parts.old.items }
+    requires full { HaveNoSpare full parts.old.items }
     ensures { parts.new.items ≡ parts_fill parts.old.items src.now }
 {
     let mut left = src;
-    for i in 0..parts.len() {
+    for i in full..parts.len() {
         if left.is_empty() {
             return;
         }
         let part = &mut parts[i];
-        let room = part.remaining_mut();
-        if room == 0 {
-            continue;
-        }
-        let n = left.len().min(room);
+        let n = left.len().min(part.remaining_mut());
         part.put_slice(&left[..n]);
         left = &left[n..];
     }
 }
 
-// Puts one byte `n` times into the buffers in order.
-fn put_bytes(parts: &mut VecDeque<IoBufMut>, value: u8, n: usize)
-    requires { n ≤ parts_spare parts.old.items }
+// Puts one byte `n` times into the buffers in order. The first `full` have no spare capacity.
+#[tactic(auto, using(crate::proofs::Parts::FullLaws::filling))]
+fn put_bytes(parts: &mut VecDeque<IoBufMut>, full: usize, value: u8, n: usize)
+    requires fits { n ≤ parts_spare parts.old.items }
+    requires full { HaveNoSpare full parts.old.items }
     ensures { parts.new.items ≡ parts_fill parts.old.items (replicate n value) }
 {
     let mut rest = n;
-    for i in 0..parts.len() {
+    for i in full..parts.len() {
         if rest == 0 {
             return;
         }
         let part = &mut parts[i];
-        let room = part.remaining_mut();
-        if room == 0 {
-            continue;
-        }
-        let n = rest.min(room);
+        let n = rest.min(part.remaining_mut());
         part.put_bytes(value, n);
         rest -= n;
     }

@@ -1,6 +1,6 @@
 use Rattle.std.proofs.Common.{◌<◌, ◌≤◌, ◌≡◌, length, replicate, arith, ◌∙◌, min, sym, rules}
 use Rattle.std.proofs.lemmas.List.{take-replicate, drop-replicate, length-replicate}
-use Rattle.iobufs.proofs.Parts.PartTurns.{fill-turn, fill-done, fill-past}
+use Rattle.iobufs.proofs.Parts.PartTurns.{fill-turn, fill-done}
 use Rattle.iobufs.proofs.bufs_mut.several.put_bytes.Goals as goal
 
 pub returns-then-rest-eq0 : goal.returns-then-rest-eq0
@@ -22,16 +22,5 @@ loop-i-preserved c =
       same_len = l.invariant.same_len;
       so_far = fill-turn _ l.parts.items l.i part.result.now c.put_bytes.new.self (replicate l.rest value) _ (replicate n value) n inside
           part.ensures.value c.put_bytes.ensures.1 (sym (take-replicate n l.rest value share)) (sym (drop-replicate n l.rest value))
-          (c.min-n.ensures ∙ (λ i. min (sym all i) (c.remaining_mut-room.ensures i))) l.invariant.so_far;
-    }
-
-pub loop-i-preserved-then-room-eq0 : goal.loop-i-preserved-then-room-eq0
-loop-i-preserved-then-room-eq0 c =
-    let l = c.loop-i in
-    let part = c.index_mut-part in
-    let inside : l.i < length l.parts.items = omega arith in
-    let none = sym c.remaining_mut-room.ensures ∙ c.if-room-eq0.true in
-    record {
-      same_len = l.invariant.same_len;
-      so_far = fill-past _ l.parts.items l.i part.result.now (replicate l.rest c.args.value) inside part.ensures.value none l.invariant.so_far;
+          (c.min-n.ensures ∙ (λ i. min (sym all i) (c.remaining_mut.ensures i))) l.invariant.so_far;
     }

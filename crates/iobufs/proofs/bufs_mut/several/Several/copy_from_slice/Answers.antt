@@ -1,6 +1,7 @@
 use Rattle.std.proofs.Common.{ap, ◌∙◌, length, subst, sym}
-use Rattle.iobufs.specs.Inside.PartOrder.{in_order}
+use Rattle.iobufs.specs.Inside.PartOrder.{HaveNoSpare, in_order}
 use Rattle.iobufs.specs.Parts.{IsParts, parts_filled, parts_overwritten}
+use Rattle.iobufs.proofs.Parts.FullLaws.{full-overwritten}
 use Rattle.iobufs.proofs.Parts.OrderLaws.{filled-order, overwritten-order}
 use Rattle.iobufs.proofs.Parts.PartLaws.{parts-overwritten}
 use Rattle.iobufs.proofs.Parts.SumLaws.{summed-overwritten}
@@ -18,6 +19,7 @@ invariant_of-self c =
     let over = overwritten-order s.row.items _ s.used src c.self.invariant.behind c.copy_from_slice.ensures in
     record {
       behind = over.1;
+      no_spare = subst (λ ps. HaveNoSpare s.full ps) (sym over.0) (full-overwritten s.full (in_order s.row.items s.used) src c.self.invariant.no_spare);
       parts = subst IsParts (sym over.0) (parts-overwritten (in_order s.row.items s.used) src c.self.invariant.parts);
       sums = summed-overwritten (in_order s.row.items s.used) _ src s.len s.capacity c.self.invariant.sums over.0;
     }

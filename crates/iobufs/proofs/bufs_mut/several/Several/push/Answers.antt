@@ -26,7 +26,7 @@ invariant_of-self-2 c =
     let row = c.settle.new.row.items in
     let are : c.push_back.new.self.items ≡ row ++ part ∷ [] = rw c.if-is_err.ensures.negation at c.push_back.ensures.items in
     let is = are ∙ ap (λ ps. ps ++ part ∷ []) c.settle.ensures.ordered in
-    kept-pushed s.row.items _ s.used c.settle.new.used part s.len s.capacity _ _ c.self.invariant is c.settle.ensures.none
+    kept-pushed s.row.items _ s.used c.settle.new.used part s.full s.len s.capacity _ _ c.self.invariant is c.settle.ensures.none
     (omega (arith, ap length c.self.view_is, c.requires.several)) c.requires.more
     (omega (arith, ap parts_capacity c.self.view_is, c.requires.fits)) c.len-len.ensures c.capacity-capacity.ensures
 
@@ -37,7 +37,7 @@ returns-clause-kept c =
     let row = c.settle.new.row.items in
     let are : c.push_back.new.self.items ≡ row ++ part ∷ [] = rw c.if-is_err.ensures.negation at c.push_back.ensures.items in
     let is = are ∙ ap (λ ps. ps ++ part ∷ []) c.settle.ensures.ordered in
-    let kept = kept-pushed s.row.items _ s.used c.settle.new.used part s.len s.capacity _ _ c.self.invariant is c.settle.ensures.none
+    let kept = kept-pushed s.row.items _ s.used c.settle.new.used part s.full s.len s.capacity _ _ c.self.invariant is c.settle.ensures.none
     (omega (arith, ap length c.self.view_is, c.requires.several)) c.requires.more
     (omega (arith, ap parts_capacity c.self.view_is, c.requires.fits)) c.len-len.ensures c.capacity-capacity.ensures in
     kept-same _ kept.parts.some kept.parts.have_capacity

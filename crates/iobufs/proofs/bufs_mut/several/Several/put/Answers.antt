@@ -1,6 +1,7 @@
 use Rattle.std.proofs.Common.{◌≤◌, ap, arith, length, subst, sym, ◌∙◌}
-use Rattle.iobufs.specs.Inside.PartOrder.{in_order}
+use Rattle.iobufs.specs.Inside.PartOrder.{HaveNoSpare, in_order}
 use Rattle.iobufs.specs.Parts.{IsParts, parts_fill, parts_spare}
+use Rattle.iobufs.proofs.Parts.FullLaws.{full-fill}
 use Rattle.iobufs.proofs.Parts.OrderLaws.{kept-none}
 use Rattle.iobufs.proofs.Parts.PartLaws.{parts-fill}
 use Rattle.iobufs.proofs.Parts.SumLaws.{spare-summed, summed-fill}
@@ -18,5 +19,6 @@ invariant_of-self c =
     let filled = c.put.ensures ∙ ap (λ ps. parts_fill ps src) c.settle.ensures.ordered in
     let all = in_order s.row.items s.used in
     let some : length src ≤ parts_spare all = omega (arith, ap parts_spare c.self.view_is, c.requires) in
-    kept-none _ _ _ s.capacity c.settle.ensures.none (summed-fill all _ src s.len s.capacity c.self.invariant.sums some filled)
+    let full = subst (λ ps. HaveNoSpare c.count_full-self-inside.result ps) (sym c.put.ensures) (full-fill _ _ src c.count_full-self-inside.ensures) in
+    kept-none _ _ _ _ s.capacity c.settle.ensures.none full (summed-fill all _ src s.len s.capacity c.self.invariant.sums some filled)
     (subst IsParts (sym filled) (parts-fill all src c.self.invariant.parts))

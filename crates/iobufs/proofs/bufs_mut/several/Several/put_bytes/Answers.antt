@@ -1,7 +1,8 @@
 use Rattle.std.proofs.Common.{◌≡◌, ap, arith, length, replicate, subst, sym, ◌∙◌}
 use Rattle.std.proofs.lemmas.List.{length-replicate}
-use Rattle.iobufs.specs.Inside.PartOrder.{in_order}
+use Rattle.iobufs.specs.Inside.PartOrder.{HaveNoSpare, in_order}
 use Rattle.iobufs.specs.Parts.{IsParts, parts_fill, parts_spare}
+use Rattle.iobufs.proofs.Parts.FullLaws.{full-fill}
 use Rattle.iobufs.proofs.Parts.OrderLaws.{kept-none}
 use Rattle.iobufs.proofs.Parts.PartLaws.{parts-fill}
 use Rattle.iobufs.proofs.Parts.SumLaws.{spare-summed, summed-fill}
@@ -20,5 +21,6 @@ invariant_of-self c =
     let filled = c.put_bytes.ensures ∙ ap (λ ps. parts_fill ps w) c.settle.ensures.ordered in
     let sums = summed-fill (in_order s.row.items s.used) _ w s.len s.capacity c.self.invariant.sums
     (omega (arith, ap parts_spare c.self.view_is, c.requires)) filled in
-    kept-none _ _ _ s.capacity c.settle.ensures.none (rw (← long) sums)
+    let full = subst (λ ps. HaveNoSpare c.count_full-self-inside.result ps) (sym c.put_bytes.ensures) (full-fill _ _ w c.count_full-self-inside.ensures) in
+    kept-none _ _ _ _ s.capacity c.settle.ensures.none full (rw (← long) sums)
     (subst IsParts (sym filled) (parts-fill (in_order s.row.items s.used) w c.self.invariant.parts))

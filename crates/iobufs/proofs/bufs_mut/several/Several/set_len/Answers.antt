@@ -13,5 +13,5 @@ invariant_of-self c =
     let with_len = c.set_len.ensures ∙ ap (λ ps. parts_with_len ps n) c.settle.ensures.ordered in
     let all = in_order s.row.items s.used in
     let fits : n ≤ parts_capacity all = omega (arith, ap parts_capacity c.self.view_is, c.requires) in
-    kept-none _ _ n s.capacity c.settle.ensures.none (summed-with_len all _ n s.len s.capacity c.self.invariant.sums fits with_len)
+    kept-none _ _ _ n s.capacity c.settle.ensures.none tt (summed-with_len all _ n s.len s.capacity c.self.invariant.sums fits with_len)
     (subst IsParts (sym with_len) (parts-with_len all n c.self.invariant.parts))
