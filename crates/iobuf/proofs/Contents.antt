@@ -1,4 +1,4 @@
--- What is known of a writer's contents.
+-- Known contents of a writer.
 use Rattle.std.proofs.Common.{◌≡◌, ℕ, List, ◌++◌, Option, Some, None, ap, subst}
 use Rattle.std.specs.Io.KnownBytes.{Appends, Keeps}
 

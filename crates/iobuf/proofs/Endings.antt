@@ -47,7 +47,7 @@ machine_first input before written count first =
       | inr (left, a) ↦ whole (MachineAnsweredFirst input before) input written _ count a.prints (inr (left, a))
     ]
 
--- what a session with the machine has answered so far
+-- a session with the machine has answered its first lines so far
 machine_so_far : (input before : List ℕ) (written : Option (List ℕ)) (served : Result (Unit {0}) Stop) → ServesMachine input before written served
     → Halts (MachineAnsweredFirst input before) input written Writing
 machine_so_far input before written (Ok done) s =
@@ -68,7 +68,7 @@ machine_so_far input before written (Err (CannotContinue NotText)) s = let (coun
 machine_so_far input before written (Err (CannotContinue TooManyLines)) s = machine_first input before written _ s
 machine_so_far input before written (Err OtherWords) s = elim s [ ]
 
--- what is known stays
+-- a property of known contents stays true
 stays : (P : Option (List ℕ) → Type 0) (bs : List ℕ) (written new : Option (List ℕ)) → written ≡ Some bs → Keeps written new → P written → P new
 stays P bs written new e keeps p = subst P (e ∙ sym (kept bs written new e keeps)) p
 

@@ -1,4 +1,4 @@
--- What reading up to a line break says of the lines.
+-- Reading up to a line break takes the first line.
 use Rattle.std.proofs.Common.{◌≡◌, ℕ, zero, suc, ◌+◌, ◌<◌, Bool, true, false, eqb, List, [], ◌∷◌, ◌++◌, length, length-append, slice_index, take, drop, nat_lt, Option, Some, None, IfSome, refl, sym, ap, subst, ◌∙◌, arith}
 use Rattle.std.specs.Prelude.{if◌then◌else◌}
 use Rattle.std.proofs.lemmas.Bool.Decides.{nat_tests}
@@ -50,7 +50,7 @@ parted_at (b ∷ bytes) behind (suc place) inside here before =
     not_true true never = absurd (never refl)
     not_true false never = refl
 
--- what is known of a reader begins with its buffer
+-- the known bytes of a reader begin with its buffer
 pub buffer_first : (empty : Bool) (buffer : List ℕ) (inner : Option (List ℕ))
     → IfSome (if empty then None else prepend_known buffer inner) (λ bytes. (behind : List ℕ) × (bytes ≡ buffer ++ behind))
 buffer_first true buffer inner = tt

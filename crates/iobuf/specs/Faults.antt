@@ -1,4 +1,4 @@
--- What may fail in a session, and what is so if it does.
+-- The faults of a session, and what holds after each.
 --     ReadFails                the failures of reading a line, which flushes replies first
 --     Takes                    what a writer has got of some bytes: all of them, a prefix if it failed, nothing if an
 --                              allocation failed
@@ -30,18 +30,18 @@ Takes old new text (Err Memory) = Keeps old new
 Takes old new text (Err NotText) = ⊥
 Takes old new text (Err TooManyLines) = ⊥
 
--- the line after so many others
+-- the line after `count` others
 pub record LineAt (input : List ℕ) (count : ℕ) (line : List ℕ) : Type 0 where
   pub front : List (List ℕ)
   pub behind : List (List ℕ)
   pub split : lines input ≡ front ++ line ∷ behind
   pub counts : length front ≡ count
 
--- the line after so many others is text
+-- the line after `count` others is UTF-8
 abbrev pub IsTextAt : (input : List ℕ) → (count : ℕ) → Type 0
 IsTextAt input count = (line : List ℕ) × LineAt input count line × IsUtf8 line
 
--- what is known of a writer is a front of these bytes
+-- the known contents of a writer are a prefix of these bytes
 pub record IsFrontOf (whole : List ℕ) (written : Option (List ℕ)) : Type 0 where
   pub front : List ℕ
   pub rest : List ℕ
@@ -52,8 +52,8 @@ pub record IsFrontOf (whole : List ℕ) (written : Option (List ℕ)) : Type 0 w
 abbrev pub most_lines : ℕ
 most_lines = 2 ^ 64 - 2
 
--- A session that can't go on, by what failed. `answered count written` says that so many lines of the input, the first
--- ones, were answered, and that this is what was written
+-- A session that can't go on, by what failed. `answered count written` says that the first `count` lines of the input
+-- were answered, and that the writer holds `written`
 abbrev pub Halts : (answered : ℕ → Option (List ℕ) → Type 0) → (input : List ℕ) → (written : Option (List ℕ)) → Obstacle → Type 0
 Halts answered input written Reading = (count : ℕ) × answered count written
 Halts answered input written Writing = (count : ℕ) × (whole : List ℕ) × answered count (Some whole) × IsFrontOf whole written

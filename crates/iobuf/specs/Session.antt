@@ -24,13 +24,12 @@ use Rattle.iobuf.specs.Stops.{stop_status}
 use Rattle.iobuf.specs.declared.fault.Stop.{Stop}
 use Rattle.iobuf.specs.declared.fault.Stop.TheVariants.{BadCommand, CannotContinue, OtherWords}
 
--- what each line of the input says
+-- the command of each line of the input, if it says one
 abbrev pub commands_of : List ℕ → List (Option Command)
 commands_of input = map command_of (lines input)
 
--- The first lines of the input say commands, so many of them, and `left` is what the others say. What is written is
--- what was there before, and the lines of the replies of a run of these commands from the empty table, which leaves
--- these names
+-- The first `count` lines of the input say commands, and `left` has the commands of the others. A run of the first ones
+-- from the empty table leaves `names`. The writer holds the bytes `before`, and then the lines of the run's replies.
 pub record Answered (input before : List ℕ) (left : List (Option Command)) (written : Option (List ℕ)) (count : ℕ) (names : List Slot) : Type 0 where
   pub commands : List Cmd
   pub replies : List Reply
@@ -43,12 +42,12 @@ pub record Answered (input before : List ℕ) (left : List (Option Command)) (wr
 abbrev pub AllAnswered : List ℕ → List ℕ → Option (List ℕ) → Type 0
 AllAnswered input before written = (count : ℕ) × (names : List Slot) × Answered input before [] written count names
 
--- so many lines say commands, and were answered, and the next line says none
+-- `count` lines say commands, and were answered, and the next line says none
 abbrev pub AnsweredUpTo : ℕ → List ℕ → List ℕ → Option (List ℕ) → Type 0
 AnsweredUpTo count input before written =
     (names : List Slot) × (left : List (Option Command)) × Answered input before (None ∷ left) written count names
 
--- so many lines say commands, and were answered, whatever the others say
+-- `count` lines say commands, and were answered, whatever the others say
 abbrev pub AnsweredFirst : (input before : List ℕ) → ℕ → Option (List ℕ) → Type 0
 AnsweredFirst input before count written =
     (names : List Slot) × (left : List (Option Command)) × Answered input before left written count names

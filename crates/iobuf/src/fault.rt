@@ -8,7 +8,7 @@ use std::alloc::AllocError;
 use std::fmt;
 use std::io::{self, Write};
 
-/// What keeps a session from going on.
+/// The reason why a session can't go on.
 #[derive(Clone, Copy, Debug, PartialEq, Eq, Drop)]
 pub enum Obstacle {
     /// The reader failed.

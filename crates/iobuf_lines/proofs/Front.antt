@@ -13,7 +13,7 @@ use Rattle.iobuf_lines.proofs.WordLaws.{last_word, next_word, onto_word, spacele
 own : IsNumeralModel (λ ds. all_ascii_digits ds ≡ true) (digits_value 10)
 own = numerals_by_value _ tells_all_ascii_digits
 
--- the first bytes of a line, so many, are digits, and say this number
+-- the first `place` bytes of a line are digits, and say this number
 pub record Shown (line : List ℕ) (place n : ℕ) : Type 0 where
   pub digits : AllDigits 10 (take place line)
   pub value : digits_value 10 (take place line) ≡ n
@@ -34,7 +34,7 @@ digits_say word n some digits value low =
     let all = own.from word digits in
     grind (arith, nat_tests, all, value, some, low)
 
--- a line is what stands before a place, what stands there, and what follows it
+-- a line is the bytes before an offset, the byte there, and the bytes after it
 cut_at : (line : List ℕ) (place : ℕ) → place < length line → line ≡ take place line ++ get_or line place 0 ∷ drop (place + 1) line
 cut_at [] place inside = absurd (omega arith)
 cut_at (b ∷ bs) zero inside = refl
@@ -47,7 +47,7 @@ length_take [] place inside = absurd (omega arith)
 length_take (b ∷ bs) zero inside = refl
 length_take (b ∷ bs) (suc place) inside = ap suc (length_take bs place (omega arith))
 
--- what a word and what is after it say of a line
+-- a line's first word says this number, and its other words are those of the rest
 pub record Front (line rest : List ℕ) (n : ℕ) : Type 0 where
   pub word : List ℕ
   pub is : words_of line ≡ word ∷ words_of rest

@@ -1,4 +1,4 @@
--- What a name holds, printed from where it lies, is the line of a reply.
+-- The buffer of a name, printed in place, is the line of a reply.
 use Rattle.std.proofs.Common.{◌≡◌, ℕ, suc, ◌+◌, ◌^◌, ◌<◌, ◌≤◌, List, [], ◌∷◌, ◌++◌, length, length-append, map, flat_map, take, take_all, codes, Some, None, OnOk, Ok, Err, Result, refl, sym, ap, ◌∙◌, arith, append_assoc, append-nil, Vec, Global}
 use Rattle.std.specs.Fmt.{decimal}
 use Rattle.std.specs.Prelude.{slice_get}
@@ -41,12 +41,12 @@ held_all f h xs i before text past so_far =
 
 -- ---- the reply
 
--- what follows where a call succeeds
+-- an implication, applied if a call succeeds
 pub on_ok : {E A B : Type 0} (result : Result (Unit {0}) E) → (A → B) → OnOk result A → OnOk result B
 on_ok (Ok done) f a = f a
 on_ok (Err e) f a = tt
 
--- a vector of these elements, if there are few enough, where another lies
+-- a vector of these elements, if there are few enough, at the address of another
 abbrev vec_of : {X : Type 0} → Vec ℕ Global → (xs : List X) → length xs < 2 ^ 63 → Vec X Global
 vec_of v xs few = record { ptr = v.ptr; len = length xs; cap = length xs; alloc = v.alloc; items = xs; ok = (refl, omega arith); small = few }
 

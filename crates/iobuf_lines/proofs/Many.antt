@@ -2,6 +2,6 @@
 use Rattle.std.proofs.Common.{ℕ, List, ◌++◌, Option}
 use Rattle.std.specs.Option.{option_map}
 
--- what the numbers are, of which those in `all` are read and those in `left` are not
+-- the numbers, of which those in `all` are read and those in `left` are not
 abbrev pub behind : List ℕ → Option (List ℕ) → Option (List ℕ)
 behind all left = option_map (λ ns. all ++ ns) left

@@ -6,7 +6,7 @@ use Rattle.memchr.specs.Find.{is_byte, IsFirstByte}
 use Rattle.iobuf_lines.specs.Words.{words_of}
 use Rattle.iobuf_lines.proofs.WordLaws.{last_word, next_word, spaceless}
 
--- what a search for a space says of the words
+-- the words of a line, by the result of a search for a space
 abbrev pub FirstWord : List ℕ → Option ℕ → Type 0
 FirstWord line found = MatchOption found (words_of line ≡ line ∷ []) (λ end. words_of line ≡ take end line ∷ words_of (drop (end + 1) line))
 
@@ -14,7 +14,7 @@ no_space : (t : Bool) → (t ≡ true → ⊥) → t ≡ false
 no_space true never = absurd (never refl)
 no_space false never = refl
 
--- what stands before the first space has none
+-- the bytes before the first space contain none
 spaceless_to : (line : List ℕ) (end : ℕ) → ((k : ℕ) → k < end → eqb (slice_index line k) 32 ≡ true → ⊥) → end ≤ length line
     → spaceless (take end line) ≡ true
 spaceless_to line zero before inside = refl
@@ -33,7 +33,7 @@ cut (b ∷ bs) (suc end) inside space =
     let count : suc end + 1 ≡ suc (end + 1) = omega arith in
     rw count (ap (λ l. b ∷ l) (cut bs end (omega arith) space))
 
--- what a search for a space finds is the end of the first word of a line; where it finds none, the line is its one word
+-- a search for a space finds the end of the first word of a line; if it finds none, the line is one word
 pub first_word : (line : List ℕ) (found : Option ℕ) → IsFirstByte (is_byte 32) line found → FirstWord line found
 first_word line (Some end) h =
     let before = h.0.before in

@@ -1,4 +1,4 @@
--- What `parse` says of a word with no sign.
+-- The result of `parse` for a word with no sign.
 use Rattle.std.proofs.Common.{◌≡◌, ◌≢◌, ℕ, ◌∷◌, [], List, get_or, Ok, Err, Some, None, true, arith, refl}
 use Rattle.std.proofs.lemmas.Bool.Decides.{nat_tests}
 use Rattle.std.proofs.lemmas.Str.Parse.{IsNumeralModel, numerals_by_value, tells_all_ascii_digits, parse_plain}

@@ -48,7 +48,7 @@ plusless_hex : (bytes : List ℕ) → plusless (hex_text bytes) ≡ true
 plusless_hex [] = refl
 plusless_hex (b ∷ bytes) = plusless_digits (b ∷ bytes)
 
--- what is before the first plus, and after it
+-- the bytes before the first plus, and after it
 abbrev before_plus : List ℕ → List ℕ
 before_plus [] = []
 before_plus (c ∷ cs) = if eqb c 43 then [] else c ∷ before_plus cs

@@ -42,7 +42,7 @@ byte = record {
 digits : Reads bytes_of Digits
 digits = record { is = bytes_are; back = λ text bytes s. bytes_back text bytes s.0 s.1 }
 
--- what is made of something that was read
+-- a mapped value comes from a value that was read
 made_of : {A B : Type 0} (f : A → B) (o : Option A) (b : B) → option_map f o ≡ Some b → (a : A) × (o ≡ Some a) × (f a ≡ b)
 made_of f (Some a) b e = (a, refl, cc)
 made_of f None b e = cc e
@@ -344,7 +344,7 @@ letters_by lo hi text true is e =
     omega (arith, len, low)
 letters_by lo hi text false is e = cc e
 
--- what is made of three numbers, where they say something
+-- a command made of three numbers comes from numbers that were read
 then_of : (o : Option Three) (command : Command) → option_and_then (λ n. option_map (Static n.first) (letters_of n.second n.third)) o ≡ Some command
     → (n : Three) × (o ≡ Some n) × (option_map (Static n.first) (letters_of n.second n.third) ≡ Some command)
 then_of (Some n) command e = (n, refl, e)

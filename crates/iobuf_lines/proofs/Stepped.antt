@@ -53,7 +53,7 @@ answered_more m mid next (first ∷ asks) [] ask text h a = elim h [ ]
 answered_more m mid next (first ∷ asks) (t ∷ texts) ask text (between, one, others) a =
     (between, one, answered_more between mid next asks texts ask text others a)
 
--- what is promised stays so
+-- an answer keeps the promises of the machine
 pub promised_after : (m next : Seen) (ask : Ask) (text : List ℕ) → Answers m ask text next → Promises m.state → Promises next.state
 promised_after m next (Take step) text (grown, reply, has, one, says) p = one.seen.promises
 promised_after m next (Look question) text (same, says) p = subst (λ (s : Seen). Promises s.state) (sym same) p

@@ -40,7 +40,7 @@ pub next_word : (w rest : List ℕ) → spaceless w ≡ true → words_of (w ++ 
 next_word [] rest e = refl
 next_word (b ∷ bs) rest e = let f = front b bs e in rw f.byte (rw (next_word bs rest f.others) refl)
 
--- what is at the front of a line, and has no space, is at the front of its first word
+-- bytes without a space, put before a line, begin its first word
 pub onto_word : (front_of line word : List ℕ) (words : List (List ℕ)) → spaceless front_of ≡ true → words_of line ≡ word ∷ words
     → words_of (front_of ++ line) ≡ (front_of ++ word) ∷ words
 onto_word [] line word words e is = is

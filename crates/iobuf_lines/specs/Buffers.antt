@@ -1,4 +1,4 @@
--- What the lines of commands on named buffers say.
+-- The meaning of lines with commands on named buffers.
 pub mod Commands
 pub mod Printed
 pub mod Said

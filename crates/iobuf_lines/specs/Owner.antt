@@ -1,4 +1,4 @@
--- What the lines of the owner machine say.
+-- The meaning of the owner machine's lines.
 pub mod Printed
 pub mod Said
 pub mod Session

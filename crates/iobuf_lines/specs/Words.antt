@@ -43,7 +43,7 @@ bytes_of word =
     else if length word == 0 then None
     else decoded (decode_of word)
 
--- what the first word says, where there is one
+-- the number, the byte or the bytes that the first word says, if there is one
 abbrev pub first_number : List (List ℕ) → Option ℕ
 first_number [] = None
 first_number (word ∷ words) = number_of word

@@ -17,7 +17,7 @@ use std::time::Instant;
 use std::{env, io};
 use workloads::{NAMES, STREAMS, run_named};
 
-// What is asked for: times or sums, of all workloads where none is named.
+// The requested output: times or sums, of all workloads if none is named.
 #[derive(Drop)]
 struct Request {
     is_sums: bool,

@@ -44,10 +44,10 @@ of_error error.TooLong = TooLong
 abbrev pub IsDoneUnless : ℕ → Status → Type 0
 IsDoneUnless code status = (code ≡ 0) ⊎ (code ≡ code_of status)
 
--- what reading a length answers: it asks for no memory
+-- the status of reading a length, which doesn't allocate
 abbrev pub IsReadCode : ℕ → Type 0
 IsReadCode code = (code ≡ 0) ⊎ (code ≡ code_of EndOfBuffer) ⊎ (code ≡ code_of InvalidVarint) ⊎ (code ≡ code_of InvalidLength)
 
--- what reading a view answers: it may allocate
+-- the status of reading a view, which may allocate
 abbrev pub IsViewReadCode : ℕ → Type 0
 IsViewReadCode code = IsReadCode code ⊎ (code ≡ code_of Memory)

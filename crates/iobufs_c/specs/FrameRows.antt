@@ -1,4 +1,4 @@
--- What frames at a place are.
+-- The state of a handle's frames.
 --     default_frames    nothing was fed, and lengths are varints
 --     prefix_from_c     how lengths are written, as C says it
 use Rattle.std.specs.Prelude.{ℕ, ◌==◌, if◌then◌else◌, Option, Some, None}

@@ -1,4 +1,4 @@
--- What a handle's memory holds, and how a handle without a buffer reads.
+-- The contents of a handle's memory, and how a handle without a buffer reads.
 --     part_row, parts_row,     what the memory holds: a buffer of this kind, or none
 --     builder_row
 --     part_or_empty, parts_of, what a handle shows: none reads as one that holds nothing and takes nothing

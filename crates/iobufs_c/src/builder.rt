@@ -40,7 +40,7 @@ unsafe impl Send for BuilderAt {}
 impl BuilderAt {
     ghost use Rattle.iobufs_c.specs.contracts.builder.BuilderAt.{the_row};
 
-    /// What is at the place.
+    /// Borrows the contents of the handle.
     pub(crate) fn get(&mut self) -> &mut Option<Builder>
         ensures* writes_back { sem 𝓛 (Lends the_row builder_row self.entry result (λ v. record { at = self.old.at; value = v })) }
         ensures value { result.now ≡ self.old.value }

@@ -94,7 +94,7 @@ pub extern "C" fn iobufs_frames_len(frames: &mut FramesAt) -> usize
     frames.get().rest.len()
 }
 
-/// What was fed and not taken, as a text that shares its storage.
+/// Writes the bytes that were fed and not taken, as a text that shares their storage.
 #[unsafe(no_mangle)]
 pub extern "C" fn iobufs_frames_rest(frames: &mut FramesAt, out: &mut TextAt) -> u8
     ensures same { (frames.new.at ≡ frames.old.at) × (frames.new.value ≡ frames.old.value) }

@@ -38,7 +38,7 @@ unsafe impl Send for PartAt {}
 impl PartAt {
     ghost use Rattle.iobufs_c.specs.contracts.part.PartAt.{the_row};
 
-    /// What is at the place.
+    /// Borrows the contents of the handle.
     pub(crate) fn get(&mut self) -> &mut Option<IoBufMut>
         ensures* writes_back { sem 𝓛 (Lends the_row part_row self.entry result (λ v. record { at = self.old.at; value = v })) }
         ensures value { result.now ≡ self.old.value }

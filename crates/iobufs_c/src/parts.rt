@@ -41,7 +41,7 @@ unsafe impl Send for PartsAt {}
 impl PartsAt {
     ghost use Rattle.iobufs_c.specs.contracts.parts.PartsAt.{the_row};
 
-    /// What is at the place.
+    /// Borrows the contents of the handle.
     pub(crate) fn get(&mut self) -> &mut Option<IoBufsMut>
         ensures* writes_back { sem 𝓛 (Lends the_row parts_row self.entry result (λ v. record { at = self.old.at; value = v })) }
         ensures value { result.now ≡ self.old.value }

@@ -1,10 +1,10 @@
-// What calls answer.
+// The statuses that calls return.
 ghost use Rattle.std.specs.Prelude.{◌≡◌};
 ghost use Rattle.iobufs_c.specs.Codes.{code_of, of_buf_error, of_error};
 
 use iobufs_core::codec::{BufError, Error};
 
-/// What a call answers, as its number in the header's `enum iobufs_status`.
+/// The status that a call returns, as its number in the header's `enum iobufs_status`.
 #[derive(Clone, Copy)]
 pub enum Status {
     /// Done.

@@ -76,7 +76,7 @@ view_there text n view at within is =
           ∙ ap (λ m. spell n ++ (take n (drop k text.bytes) ++ drop m text.bytes)) long ∙ whole);
     }
 
--- what was read is the view as written, and then what is left
+-- the input was the encoding of the view that is read, followed by the rest
 pub read_and_left : (text rest : MarkedText) (range : RangeCfg) (result : Result View Error) → IsViewRead text range result
     → IfOk result (λ view. rest ≡ text_rest text (length (view_written view))) → IfOk result (λ view. text.bytes ≡ view_written view ++ rest.bytes)
 read_and_left text rest range (Ok view) (n, (((small, at), inside), long), is) left =
@@ -133,7 +133,7 @@ one_front a b x y small least e =
     let same : a ≡ b = sym (take-append_seam a x) ∙ ap (take (length a)) tail ∙ ap (λ n. take n (b ++ y)) long ∙ take-append_seam b y in
     (same, append_cancel_left a x y (tail ∙ ap (λ w. w ++ y) (sym same)))
 
--- what was read is the number as written, and then what is left
+-- the input was the encoding of the number that is read, followed by the rest
 pub number_and_left : (written : ℕ → List ℕ) (size : ℕ) (text rest : MarkedText) (result : Result ℕ Error) → IsNumberRead written size text.bytes result
     → IfOk result (λ n. rest ≡ text_advanced text size) → IfOk result (λ n. text.bytes ≡ written n ++ rest.bytes)
 number_and_left written size text rest (Ok n) read left =
@@ -178,7 +178,7 @@ begun_behind old first second behind middle new put begun =
       left = begun.left ∙ ap (λ xs. xs ++ front) put ∙ append_assoc old first front;
     }
 
--- what holds anyway holds where a call is refused
+-- a proposition that holds anyway holds if a call fails
 pub on_err_always : {T E P : Type 0} (result : Result T E) → P → OnErr result P
 on_err_always (Ok value) p = tt
 on_err_always (Err error) p = p

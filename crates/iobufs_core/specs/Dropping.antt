@@ -10,7 +10,7 @@ pub data Dropping : Type 0 where
   by_advance : ℕ → Dropping
   by_copy : ℕ → Dropping
 
--- what these leave one after another, where it is known what an `advance` and what a copy leaves
+-- the reader after these, in order, given the reader after an `advance` and after a copy
 abbrev pub dropped : {Reader : Type 0} → (Reader → ℕ → Reader) → (Reader → ℕ → Reader) → Reader → List Dropping → Reader
 dropped advanced copied reader [] = reader
 dropped advanced copied reader (by_advance n ∷ more) = dropped advanced copied (advanced reader n) more

@@ -99,7 +99,7 @@ opened xs = elim (less (length xs) 10) [
   | inl few ↦ elim (all_high xs) [ inl high ↦ inl (few, high) | inr none ↦ inr (λ is. none is.1) ]
 ]
 
--- what reading a length answers, whatever the text
+-- reading a length has a result for any bytes
 pub record HasAnswer (bytes : List ℕ) (range : RangeCfg) : Type 0 where
   pub answer : Result ℕ Error
   pub is : IsLengthRead bytes range answer
@@ -119,7 +119,7 @@ some_answer bytes range = elim (has_length bytes) [
 
 -- ---- a text that grows
 
--- what is before a spelling's last byte has the top bit set
+-- the bytes before a varint's last byte have the top bit set
 before_last : (front : List ℕ) (c : ℕ) (behind : List ℕ) (n : ℕ) → IsSpelling (front ++ c ∷ behind) n → AreHigh front
 before_last [] c behind n is = tt
 before_last (b ∷ []) c behind n is = (is.top, tt)
@@ -141,13 +141,13 @@ high_front (b ∷ bs) ys high = (high.0, high_front bs ys high.1)
 take_whole_length : (k : ℕ) (xs : List ℕ) → length (take k xs) ≡ k → k ≤ length xs
 take_whole_length k xs e = omega (arith, length-take k xs)
 
--- a length that is spelled at the front still is where more bytes follow
+-- a length at the front is still there if more bytes follow
 pub spelled_later : (bytes more : List ℕ) (n : ℕ) → IsSpelledAt bytes n → IsSpelledAt (bytes ++ more) n
 spelled_later bytes more n at =
     let long : length (spell n) ≤ length bytes = take_whole_length (length (spell n)) bytes (ap (λ (xs : List ℕ). length xs) at.1) in
     (at.0, take-append-le (length (spell n)) bytes more long ∙ at.1)
 
--- where no length is spelled, nor may one have begun, more bytes after spell none
+-- if no varint is at the front and none can have begun, more bytes complete none
 pub no_length_later : (bytes more : List ℕ) → HasNoLength bytes → (IsOpen bytes → ⊥) → HasNoLength (bytes ++ more)
 no_length_later bytes more none closed n at =
     let k = length (spell n) in

@@ -78,22 +78,22 @@ text_left text at = record { bytes = take at text.bytes; mark = text.mark; cuts 
 unfoldable pub text_right : MarkedText → ℕ → MarkedText
 text_right text at = record { bytes = drop at text.bytes; mark = mark_at text at; cuts = map (moved_down at) (filter (λ cut. nat_lt at cut.0) text.cuts) }
 
--- what a split at a place answers
+-- the front that a split at an offset returns
 abbrev pub text_split_front : MarkedText → ℕ → MarkedText
 text_split_front text at = if at == 0 then default_text else if at == text_len text then text else text_left text at
 
--- what a split at a place leaves, and a copy of so many bytes
+-- the rest that a split at an offset leaves, or a copy of that many bytes
 abbrev pub text_rest : MarkedText → ℕ → MarkedText
 text_rest text at = if at == 0 then text else if at == text_len text then default_text else text_right text at
 
 abbrev pub is_single : MarkedText → Bool
 is_single text = length text.cuts == 0
 
--- what `advance` leaves: one piece that is drained keeps its mark
+-- the rest that `advance` leaves: a single chunk that is drained keeps its mark
 abbrev pub text_advanced : MarkedText → ℕ → MarkedText
 text_advanced text n = if is_single text && (n == text_len text) then text_right text n else text_rest text n
 
--- a cut lies strictly between two places
+-- a cut is strictly between two offsets
 abbrev pub has_cut_between : MarkedText → ℕ → ℕ → Bool
 has_cut_between text from to = list_any (λ cut. nat_lt from cut.0 && nat_lt cut.0 to) text.cuts
 

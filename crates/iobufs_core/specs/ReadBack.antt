@@ -1,4 +1,4 @@
--- What reading returns of what was written, and of bytes that differ in their chunking alone.
+-- The results of reading an encoded value back, and of reading equal bytes in other chunks.
 --     IsReadBack     the value itself is read back, or an allocation failed
 --     IsReadAlike    two readers get the same value or the same error, unless an allocation failed for one of them
 use Rattle.std.specs.Prelude.{◌≡◌, ◌⊎◌, Result, Ok, Err}

@@ -1,4 +1,4 @@
--- What is left of a reader when bytes after their length were read.
+-- The rest of a reader after a length and its bytes are read.
 --     bytes-taken_view, length-taken_view    what is taken as one view is these bytes, and as many as were asked for
 --     left_by_copy, rest_by_copy             a value made of the bytes after a length is dropped by one copy of
 --                                            length and bytes
@@ -12,7 +12,7 @@ use Rattle.iobufs_core.specs.Wire.{IsTaken, bytes_written}
 use Rattle.iobufs_core.specs.declared.codec.base.Error.{Error}
 use Rattle.iobufs_core.specs.declared.codec.base.RangeCfg.{RangeCfg}
 
--- what is taken as one view is these bytes, and as many as were asked for
+-- a taken view has these bytes, and the requested number of them
 pub bytes-taken_view : (text : MarkedText) (skip n : ℕ) → (taken_view text skip n).bytes ≡ take n (drop skip text.bytes)
 unfolding taken_view
 bytes-taken_view text skip n = grind (arith, nat_tests, common_steps)

@@ -1,4 +1,4 @@
--- What the storage of a view represents.
+-- The view that a storage represents.
 --     stored_view    the bytes that a storage keeps, with the mark of its kind
 use Rattle.iobufs_core.specs.View.{View, static_mark, bytes_mark, native_mark}
 use Rattle.iobufs_core.specs.declared.buf.view.Storage.{Storage}

@@ -49,31 +49,31 @@ abbrev pub option_items : {Value : Type 0} → (Value → List PutOrPush) → Op
 option_items items None = put_item (0 ∷ []) ∷ []
 option_items items (Some value) = put_item (1 ∷ []) ∷ items value
 
--- why no length is spelled at the front: the end of the buffer if a spelling may go on after it, else it is invalid
+-- why no varint is at the front: the end of the buffer if one may go on after it, else it is invalid
 abbrev pub IsNoLength : List ℕ → Error → Type 0
 IsNoLength bytes EndOfBuffer = HasNoLength bytes × IsOpen bytes
 IsNoLength bytes InvalidVarint = HasNoLength bytes × (IsOpen bytes → ⊥)
 IsNoLength bytes _ = ⊥
 
--- What reading a length answers: the length that is spelled at the front, if it is in the range
+-- The result of reading a length: the value of the varint at the front, if it is in the range
 abbrev pub IsLengthRead : List ℕ → RangeCfg → Result ℕ Error → Type 0
 IsLengthRead bytes range (Ok n) = IsSpelledAt bytes n × (in_range range n ≡ true)
 IsLengthRead bytes range (Err (InvalidLength n)) = IsSpelledAt bytes n × (in_range range n ≡ false)
 IsLengthRead bytes range (Err error) = IsNoLength bytes error
 
--- a number is at the front, written as so many bytes
+-- a number is at the front, encoded in `size` bytes
 pub record IsInFront (written : ℕ → List ℕ) (size : ℕ) (bytes : List ℕ) (n : ℕ) : Type 0 where
   pub small : n < 256 ^ size
   pub long : size ≤ length bytes
   pub is : written n ≡ take size bytes
 
--- what reading a number of so many bytes answers: the number whose written bytes are at the front; the end of the buffer where there are fewer bytes
+-- the result of reading a number of `size` bytes: the one at the front, or the end of the buffer if there are fewer
 abbrev pub IsNumberRead : (ℕ → List ℕ) → ℕ → List ℕ → Result ℕ Error → Type 0
 IsNumberRead written size bytes (Ok n) = IsInFront written size bytes n
 IsNumberRead written size bytes (Err EndOfBuffer) = length bytes < size
 IsNumberRead written size bytes (Err error) = ⊥
 
--- a length in the range is spelled at the front, and so many bytes are after it
+-- a length in the range is encoded at the front, and that many bytes follow it
 abbrev pub HasView : MarkedText → RangeCfg → ℕ → Type 0
 HasView text range n = IsLengthRead text.bytes range (Ok n) × (length (spell n) + n ≤ length text.bytes)
 
@@ -98,7 +98,7 @@ IsViewFault text range EndOfBuffer =
     IsLengthRead text.bytes range (Err EndOfBuffer) ⊎ ((n : ℕ) × IsLengthRead text.bytes range (Ok n) × (length text.bytes < length (spell n) + n))
 IsViewFault text range error = IsLengthRead text.bytes range (Err error)
 
--- what reading a view answers: the bytes after its length as one view, or a fault; and the same of these bytes alone
+-- the result of reading a view: the bytes after its length as one view, or a fault; then of reading these bytes alone
 abbrev pub IsViewRead : MarkedText → RangeCfg → Result View Error → Type 0
 IsViewRead text range (Ok view) = (n : ℕ) × HasView text range n × (view ≡ taken_view text (length (spell n)) n)
 IsViewRead text range (Err error) = IsViewFault text range error
@@ -107,6 +107,6 @@ abbrev pub IsBytesRead : MarkedText → RangeCfg → Result (List ℕ) Error →
 IsBytesRead text range (Ok bytes) = (n : ℕ) × HasView text range n × (bytes ≡ take n (drop (length (spell n)) text.bytes))
 IsBytesRead text range (Err error) = IsViewFault text range error
 
--- what a read view leaves: what a copy of its length and its bytes leaves
+-- the rest after a view is read, as a copy of its length and its bytes leaves it
 abbrev pub view_left : MarkedText → View → MarkedText
 view_left text view = text_rest text (length (view_written view))

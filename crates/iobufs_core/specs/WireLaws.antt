@@ -1,4 +1,4 @@
--- What is written is what its items join to.
+-- The items of a value join to its encoding.
 --     joins-put, joins-view,    the items of bytes, of a view and of a `Bytes` join to what is written of them
 --     joins-bytes
 --     view_of_bytes-bytes       the view of a `Bytes` has its bytes

@@ -212,7 +212,7 @@ rest-behind t v k some l more inside =
           ∙ sym (ap (text_right (glued t v)) whole ∙ right-all t v inside) ∙ sym right
     ]
 
--- what is left of a text, with a piece put after it, is what is left of the two
+-- the rest of a text, with a chunk appended, is the rest of both together
 rest-append : (t : MarkedText) (v : View) (k : ℕ) → k ≤ text_len t → HasCutsInside t → text_append (text_rest t k) v ≡ text_rest (text_append t v) k
 rest-append t v k l inside = elim (less 0 (length v.bytes)) [
   | inr empty ↦ append-none (text_rest t k) v (omega (arith, empty)) ∙ sym (ap (λ (x : MarkedText). text_rest x k) (append-none t v (omega (arith, empty))))

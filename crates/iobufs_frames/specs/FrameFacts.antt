@@ -163,7 +163,7 @@ begins_open (Fixed width order) range body front back admitted whole some =
           inr (n, (length-sooner prefix front back n (omega (arith, enough, long)) at, admitted.inside), omega (arith, some, sum, parts, ap length whole))
     ]
 
--- what is bad stays so whatever follows
+-- bad bytes stay bad, whatever follows them
 pub stays_bad : (prefix : Prefix) → BadStaysBad prefix
 stays_bad Spelled range bytes more EndOfBuffer h = absurd h
 stays_bad Spelled range bytes more InvalidVarint h = (no_length_later bytes more h.0 h.1, still_closed bytes more h.1)

@@ -95,7 +95,7 @@ found_of (Ok view) = Ok (Some view)
 found_of (Err EndOfBuffer) = Ok None
 found_of (Err error) = Err error
 
--- What taking one frame answers of a text, and the text that it leaves. Memory is wanted only for a frame with bytes.
+-- The result of taking one frame from the bytes, and the bytes that it leaves. `Memory` requires a frame with bytes.
 abbrev pub IsNext : Prefix → RangeCfg → List ℕ → Result (Option View) Error → List ℕ → Type 0
 IsNext prefix range old (Ok (Some body)) new = CanFollow prefix range body.bytes × (old ≡ frame_written prefix body.bytes ++ new)
 IsNext prefix range old (Ok None) new = LacksFrame prefix range old Open
@@ -115,7 +115,7 @@ pub record BeginsWithBytes (frames : List (List ℕ)) : Type 0 where
   pub first : frames ≡ body ∷ others
   pub some : 0 < length body
 
--- of the frames of the bytes the first is taken; if there is none, the end determines the result
+-- the first frame of the bytes is taken; if there is none, the end determines the result
 abbrev pub IsFirst : Prefix → RangeCfg → List (List ℕ) → End → List ℕ → Result (Option View) Error → List ℕ → Type 0
 IsFirst prefix range frames end rest (Ok (Some taken)) new = FirstTaken prefix range frames end rest taken.bytes new
 IsFirst prefix range frames end rest (Ok None) new = (frames ≡ []) × (end ≡ Open)
@@ -151,7 +151,7 @@ abbrev pub BeginningsAreOpen : Prefix → Type 0
 BeginningsAreOpen prefix = (range : RangeCfg) (body front back : List ℕ) → CanFollow prefix range body → frame_written prefix body ≡ front ++ back
     → 0 < length back → LacksFrame prefix range front Open
 
--- what is bad stays bad, whatever follows
+-- bad bytes stay bad, whatever follows them
 abbrev pub BadStaysBad : Prefix → Type 0
 BadStaysBad prefix = (range : RangeCfg) (bytes more : List ℕ) (error : Error) → LacksFrame prefix range bytes (Bad error)
     → LacksFrame prefix range (bytes ++ more) (Bad error)

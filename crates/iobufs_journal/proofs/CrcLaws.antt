@@ -21,7 +21,7 @@ unfolding turned
 turned_above true h half = xor_assoc h half 3988292384
 turned_above false h half = refl
 
--- what stands above a bit moves down
+-- the bits above the lowest one move down
 bit_above : (h c : ℕ) → crc_bit (bit_xor (h * 2) c) ≡ bit_xor h (crc_bit c)
 unfolding turned
 bit_above h c =
@@ -34,7 +34,7 @@ bits_above (suc n) h c =
     let more : h * 2 ^ suc n ≡ h * 2 ^ n * 2 = ap (λ p. h * p) (pow-suc 2 n) ∙ (let e : h * (2 ^ n * 2) ≡ h * 2 ^ n * 2 = sym (mul_assoc h (2 ^ n) 2) in e) in
     ap (λ x. crc_bits n (crc_bit (bit_xor x c))) more ∙ ap (crc_bits n) (bit_above (h * 2 ^ n) c) ∙ bits_above n h (crc_bit c)
 
--- a byte goes, and what stands above it is added to what it makes
+-- the lowest byte is shifted out, and the bits above it are xored into its sum
 pub byte_gone : (sum : ℕ) → bit_xor (sum / 256) (crc_bits 8 (sum % 256)) ≡ crc_bits 8 sum
 byte_gone sum =
     let parts : bit_xor (sum / 256 * 2 ^ 8) (sum % 256) ≡ sum = xor_shifted (sum / 256) 8 (sum % 256) (omega arith) ∙ omega arith in
@@ -42,7 +42,7 @@ byte_gone sum =
 
 -- ---- the table
 
--- so many sums of bytes, from one on
+-- the sums of n bytes, from one byte on
 abbrev pub byte_sums : ℕ → ℕ → List ℕ
 byte_sums zero byte = []
 byte_sums (suc n) byte = crc_bits 8 byte ∷ byte_sums n (suc byte)

@@ -1,4 +1,4 @@
--- What a frame that was read off a copy of a text says of the record before the text: that it stands there, or that none does.
+-- A frame that was read from a copy of a view determines whether the view begins with a record.
 use Rattle.std.specs.Prelude.{Bool, false, ◌==◌, Option, None, Some, IfSome, IfNone, Ok, ◌≡◌, ℕ, ◌++◌, length}
 use Rattle.std.proofs.Common.{ap, subst, sym, ◌∙◌}
 use Rattle.iobufs_core.specs.MarkedText.{of_view, text_rest}

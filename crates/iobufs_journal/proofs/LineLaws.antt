@@ -149,7 +149,7 @@ puts_kept old new same lines p out number =
 
 -- ---- a piece
 
--- what was taken of a piece so far
+-- the lines taken from a chunk so far
 pub record IsTaking (piece rest : List ℕ) (old new : Lines) : Type 0 where
   pub lines : List (List ℕ)
   pub put : ArePut old new lines
@@ -163,7 +163,7 @@ pub nothing_taken : (piece : List ℕ) (lines : Lines) → HasNoEnd lines.begun.
 nothing_taken piece lines free room =
     record { lines = []; put = no_puts lines; short = tt; free = free; whole = λ behind. refl; room = room }
 
--- what follows a line that was begun, where one ends
+-- the bytes split at the line break that ends a begun line
 ends_so : (begun rest behind : List ℕ) (at : ℕ) → IsLine rest at → begun ++ (rest ++ behind) ≡ (begun ++ take at rest) ++ 10 ∷ (drop (at + 1) rest ++ behind)
 ends_so begun rest behind at line =
     ap (λ w. begun ++ (w ++ behind)) line.whole ∙ ap (λ w. begun ++ w) (append_assoc (take at rest) (10 ∷ drop (at + 1) rest) behind)
@@ -269,7 +269,7 @@ none_ended piece rest old now new is_long so_far free begun out number test = re
 
 -- ---- a reader
 
--- what was read so far: its lines were written, but for one that was begun
+-- the bytes read so far: their lines were written, except one that was begun
 pub record IsTakingAll (had has held holds : Option (List ℕ)) (old new : Lines) : Type 0 where
   pub read : List ℕ
   pub took : Consumes had has read
@@ -313,7 +313,7 @@ some_more a b c bytes at n len inside p long q =
     (appends_on a b c front (take n (drop at bytes)) p
     (subst (λ w. Appends b c (take n w)) (take_all len (drop at bytes) (omega (arith, long, length-drop at bytes))) q))
 
--- what a writer took, it keeps
+-- a writer keeps the bytes that were appended to it
 pub kept_on : (a b c : Option (List ℕ)) (u : List ℕ) → Appends a b u → Keeps b c → Appends a c u
 kept_on None b c u p q = tt
 kept_on (Some xs) None c u p q = absurd p
@@ -327,7 +327,7 @@ begun_all a b c bytes p q =
 
 -- ---- what is held goes to the writer
 
--- what was put into empty lines is what is held
+-- an empty output holds exactly the records that were put into it
 held_is : (old new : Lines) (lines : List (List ℕ)) → old.out.filled ≡ [] → ArePut old new lines → new.out.filled ≡ records_written old.number lines
 held_is old new lines empty put = ap (λ (p : Part). p.filled) put.put ∙ ap (λ w. w ++ records_written old.number lines) empty
 
@@ -475,7 +475,7 @@ all_taken (Some text) (Some middle) (Some left) a b c piece old now mid new is_l
 
 -- ---- what is left where it fails
 
--- what holds anyway holds of an error
+-- a proposition that holds anyway holds if a call fails
 pub on_err : {T E P : Type 0} (result : Result T E) → P → OnErr result P
 on_err (Ok x) p = tt
 on_err (Err e) p = p

@@ -13,7 +13,7 @@ use Rattle.iobufs_journal.specs.declared.journal.Found.{Found}
 use Rattle.iobufs_journal.specs.Scan.{IsFilled, IsPrinted, IsRead, printed}
 use Rattle.iobufs_journal.specs.declared.scan.Scan.{Scan}
 
--- what a reader gives in two steps it gives, in order
+-- two reads give the concatenation of their bytes, in order
 pub consumes_on : (a b c : Option (List ℕ)) (u v : List ℕ) → Consumes a b u → Consumes b c v → Consumes a c (u ++ v)
 consumes_on None b c u v p q = tt
 consumes_on (Some xs) None c u v p q = absurd p
@@ -25,7 +25,7 @@ pub consumes_none : (a : Option (List ℕ)) → Consumes a a []
 consumes_none None = tt
 consumes_none (Some xs) = refl
 
--- what a writer takes in two steps it takes, in order
+-- two writes append the concatenation of their bytes, in order
 pub appends_on : (a b c : Option (List ℕ)) (u v : List ℕ) → Appends a b u → Appends b c v → Appends a c (u ++ v)
 appends_on None b c u v p q = tt
 appends_on (Some xs) None c u v p q = absurd p
@@ -163,7 +163,7 @@ ended most (Some text) (Some left) held holds scan end so_far none =
       summed = so_far.read.summed;
     }
 
--- what is held is damaged at the front, whatever the reader has left
+-- the held bytes are damaged at the front, whatever the reader has left
 pub ended_damaged : (most : ℕ) (a b held holds : Option (List ℕ)) (scan : Scan) (found : Result Found JournalEnd) → IsPrinting most a b held holds scan
     → found ≡ Err Damaged → IfErr found (λ end. HasNoRecord most scan.number scan.window.bytes end)
     → IfSome a (λ text. IsPrinted most text held holds scan.number scan.taken Damaged)

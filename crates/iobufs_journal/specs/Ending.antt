@@ -45,7 +45,7 @@ pub record IsChecked (name text : List ℕ) (held holds : Option (List ℕ)) (st
   pub put : Appends held holds (name ++ codes ": " ++ ending_text ending ++ codes "\n")
   pub status_so : status ≡ status_of ending.end
 
--- what a command changes in a journal that ends so
+-- the change that a command makes in a journal with this end
 abbrev pub plan_of : JournalEnd → (is_repair is_forced : Bool) → Plan
 plan_of Whole is_repair is_forced = if is_repair then Keep else Extend
 plan_of Torn is_repair is_forced = if is_repair then Cut else Refuse

@@ -63,7 +63,7 @@ is_sealed number bytes body e =
       sum_is = back ∙ ap (λ w. to_be_bytes w32 (crc32 w)) (sym front);
     }
 
--- what a slice of a sealed record is the body of
+-- the slice between the number and the checksum of a sealed record is its body
 pub unsealed_body : (number len : ℕ) (framed body : View) → IsSealed number framed.bytes → len ≡ length framed.bytes
     → body ≡ view_slice framed (Included 8) (Excluded (len - 4))
     → framed.bytes ≡ sealed number body.bytes
@@ -89,7 +89,7 @@ found_short most number text framed body found is e seal =
     let sealed_so : framed.bytes ≡ sealed number body.bytes = subst (λ (o : Option View). IfSome o (λ b. framed.bytes ≡ sealed number b.bytes)) e seal in
     omega (arith, read_at_most text (up_to most) (Ok framed) is, ap (λ (w : List ℕ). length w) sealed_so, length-sealed number body.bytes)
 
--- what was taken is no record with this number
+-- a frame that isn't sealed with this number is no record: the bytes are damaged
 pub no_record : (most number : ℕ) (text left : MarkedText) (framed : View) (found : Option View) (empty : Bool)
     → IsViewRead text (up_to most) (Ok framed) → left ≡ text_rest text (length (view_written framed))
     → found ≡ None → IfNone found (IsSealed number framed.bytes → ⊥) → empty ≡ (length text.bytes == 0) → empty ≡ false

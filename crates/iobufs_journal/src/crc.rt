@@ -3,7 +3,7 @@ ghost use Rattle.std.specs.Prelude.{◌≡◌};
 ghost use Rattle.iobufs_journal.specs.Crc.{crc32 as sum_of, crc_bits};
 ghost use Rattle.std.specs.Int.Bits.{bit_xor};
 
-// What the eight bits of each byte make of a sum.
+// The sum of each byte after its eight bits are shifted out.
 const TABLE: [u32; 256] = [
     0x00000000, 0x77073096, 0xee0e612c, 0x990951ba, 0x076dc419, 0x706af48f, 0xe963a535, 0x9e6495a3,
     0x0edb8832, 0x79dcb8a4, 0xe0d5e91e, 0x97d2d988, 0x09b64c2b, 0x7eb17cbd, 0xe7b82d07, 0x90bf1d91,
@@ -39,7 +39,7 @@ const TABLE: [u32; 256] = [
     0xb3667a2e, 0xc4614ab8, 0x5d681b02, 0x2a6f2b94, 0xb40bbe37, 0xc30c8ea1, 0x5a05df1b, 0x2d02ef8d,
 ];
 
-// What is left of a byte, and of nothing above it, when its eight bits are dropped.
+// The sum of a byte, with nothing above it, after its eight bits are shifted out.
 fn byte_sum(byte: u8) -> u32
     ensures { result ≡ crc_bits 8 byte }
 {

@@ -8,7 +8,7 @@ use crate::scan::Scan;
 use std::alloc::Global;
 use std::io::{self, Read, Write};
 
-/// What a command changes.
+/// The change that a command makes.
 #[derive(Clone, Copy, Debug, PartialEq, Eq)]
 pub enum Plan {
     /// Nothing: the journal is whole.

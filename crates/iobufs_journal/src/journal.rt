@@ -46,7 +46,7 @@ pub struct Found {
     pub rest: IoBuf,
 }
 
-// What follows the records.
+// The printed words for a journal's end.
 fn words_of(end: JournalEnd) -> &'static str
     ensures { result.now ≡ end_words end }
 {

@@ -9,7 +9,7 @@ use iobufs_core::codec::{BufError, OwnedBytes};
 use std::alloc::Global;
 use std::process::Abort;
 
-// What a buffer is made of.
+// The value that a buffer is made of.
 #[derive(Clone, Copy)]
 enum From {
     List,
@@ -30,7 +30,7 @@ enum To {
     Bufs,
 }
 
-// What is consumed.
+// The consumed value.
 #[derive(Drop)]
 enum Source {
     List(Vec<u8>),
@@ -39,7 +39,7 @@ enum Source {
     Part(IoBufMut),
 }
 
-// What shares the bytes.
+// Another handle that shares the bytes, if there is one.
 #[derive(Drop)]
 enum Sharer {
     None,

@@ -1,4 +1,4 @@
-// What a call gives, of one type or another.
+// The result of a call: one of several types.
 use bytes::Bytes;
 use iobufs::bufs::IoBufs;
 use iobufs_core::buf::{IoBuf, IoBufMut};
@@ -7,13 +7,13 @@ use iobufs_core::buf::{IoBuf, IoBufMut};
 pub enum Given {
     Nothing,
     View(IoBuf),
-    // What a call hands back that has to own the storage, or a single chunk.
+    // A buffer handed back by a call that requires sole ownership of the storage, or a single chunk.
     Declined(IoBuf),
     Several(IoBufs),
     Bytes(Bytes),
     List(Vec<u8>),
     Part(IoBufMut),
-    // Of one chunk.
+    // An `IoBufs` of one chunk.
     Bufs(IoBufs),
 }
 

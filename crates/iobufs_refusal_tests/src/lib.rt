@@ -4,7 +4,7 @@
 // leave what it borrowed as it was, and to give the second time what it gives without a failure.
 #![tactic(auto)]
 
-// What the fixture makes. If an allocation of it fails, the test says so and ends.
+// The value of the fixture. If an allocation of it fails, the test says so and ends.
 macro_rules! fixture {
     ($rt:expr, $made:expr) => {
         match $made {
@@ -14,7 +14,8 @@ macro_rules! fixture {
     };
 }
 
-// What a call gives, and whether an allocation of it failed first. Such a failure is this error, and leaves this so.
+// The result of a call, and whether an allocation of it failed first. Such a failure is `$memory`, and leaves
+// `$same` true.
 macro_rules! lent {
     ($rt:expr, $call:expr, $memory:pat, $same:expr) => {
         match $call {

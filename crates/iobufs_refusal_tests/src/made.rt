@@ -1,4 +1,4 @@
-// What the tests work on, and what it shows.
+// The buffers of the tests, and how they are shown.
 use iobufs::bufs::IoBufs;
 use iobufs::bufs_mut::IoBufsMut;
 use iobufs_core::buf::{IoBuf, IoBufMut};

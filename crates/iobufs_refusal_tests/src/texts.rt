@@ -147,7 +147,7 @@ fn make_call(alloc: Global, text: &mut IoBufs, call: Call) -> Result<Given, BufE
 // The bytes that a call gives, and the chunks that it leaves.
 type Expected = (&'static [u8], &'static [&'static [u8]]);
 
-// What the call gives and leaves of the two native chunks, and of the four static ones.
+// Compares the call's result and the rest with those expected of two native chunks, and of four static ones.
 fn on_cut(
     rt: &(impl Print + Abort + AllocGlobal),
     what: Call,

@@ -1,4 +1,4 @@
-// What a test prints.
+// The words that a test prints.
 use std::fmt;
 use std::process::Abort;
 

@@ -17,7 +17,7 @@ use Rattle.iobufs_run.specs.Run.{all_freed, MayFree, item_held}
 use Rattle.iobufs_run.proofs.Freed.{differ_back, held_other, MayFree-none, MayFree-next}
 use Rattle.iobufs_run.proofs.Gathered.{view_held_len}
 
--- what is left to build from here on, of what was to be built from the old names
+-- building the remaining items now gives what building all items from the old names gives
 pub record IsLeft (old : List Slot) (capacity : ℕ) (items : List Item) (names : List Slot) (b : Building) (rest : List Item) : Type 0 where
   pub views : list_all (λ src. is_view (slot_named names src)) (pushed_names rest) ≡ true
   pub once : has_twice (pushed_names rest) ≡ false

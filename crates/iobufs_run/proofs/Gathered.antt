@@ -42,7 +42,7 @@ not_before (y ∷ ys) (suc i) x once inside e =
 pub joined-append : (views : List View) (view : View) → joined (views ++ view ∷ []) ≡ text_append (joined views) view
 joined-append views view = fold-append text_append default_text views (view ∷ [])
 
--- what was taken is put back
+-- putting a taken slot back restores the names
 pub put_back : (names : List Slot) (src : ℕ) (slot : Slot) → src < length names → slot_named names src ≡ slot
     → slice_set (slice_set names src Free) src slot ≡ names
 put_back [] src slot inside e = absurd (omega arith)
@@ -82,7 +82,7 @@ source_read p old now xs i d never once all is inside =
     let there = held_inside p now x never (ap p kept ∙ passes) in
     (get_or_default now x d Free there ∙ kept, passes)
 
--- what is free after one source more
+-- the names once one more source is free
 pub freed_more : (old now : List Slot) (xs : List ℕ) (i : ℕ) (emptied : Slot) → now ≡ all_freed old (take i xs) → i < length xs → emptied ≡ Free
     → slice_set now (get_or xs i 0) emptied ≡ all_freed old (take (i + 1) xs)
 freed_more old now xs i emptied is inside e =

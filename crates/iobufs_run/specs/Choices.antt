@@ -1,6 +1,6 @@
--- What a command leaves open, and nothing else: whether it is refused with `Memory`, and which of the consumed names
--- are then free; the capacity after adopted bytes; and whether a native view, whose storage may be shared, is
--- recovered. And what a refusal leaves.
+-- The choices that a command leaves open, and the names after a refusal. It may be refused with `Memory`, and some of
+-- the consumed names may then be free. The capacity after adopted bytes is open. A native view, whose storage may be
+-- shared, may be recovered or not. Nothing else is open.
 --     is_want_of_memory,       a reply is refused with `Memory`, or for another cause
 --     is_other_refusal
 --     SameReply                two replies are equal, and show the same chunks

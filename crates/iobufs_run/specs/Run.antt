@@ -154,11 +154,11 @@ all_freed names (src ∷ sources) = all_freed (slice_set names src Free) sources
 abbrev pub moved_to : List Slot → ℕ → ℕ → Slot → List Slot
 moved_to names src dst slot = slice_set (slice_set names src Free) dst slot
 
--- the names with a part of these bytes, and so much room after them
+-- the names, where `dst` holds a writable buffer of these bytes with this spare capacity
 abbrev pub with_bytes : List Slot → ℕ → List ℕ → ℕ → List Slot
 with_bytes names dst bytes spare = slice_set names dst (Part (record { filled = bytes; spare = spare }))
 
--- what is put or pushed by an item
+-- the bytes that an item puts, or the view that it pushes
 abbrev pub item_held : List Slot → Item → Written
 item_held names (Inline bytes) = put_item bytes.items
 item_held names (Push name) = push_item (view_held (slot_named names name))
@@ -167,8 +167,8 @@ item_held names (Push name) = push_item (view_held (slot_named names name))
 abbrev pub Gives : Reply → List Slot → Reply → List Slot → Type 0
 Gives answer left reply new = (reply ≡ answer) × (new ≡ left)
 
--- what a command that is done answers and leaves. How much room is after adopted bytes is open, and a view is read as
--- `IsViewRead` says
+-- the reply of a command that is done, and the names that it leaves. The spare capacity after adopted bytes is open,
+-- and a view is read as `IsViewRead` says
 abbrev pub Does : List Slot → Cmd → Reply → List Slot → Type 0
 Does old (NewMut dst capacity align) = Gives Done (slice_set old dst (Part (empty_part capacity)))
 Does old (Zeroed dst len align) = Gives Done (with_bytes old dst (replicate len 0) 0)

@@ -1,4 +1,4 @@
--- What names hold, and what a command makes of it.
+-- The buffers that names hold, and how a command changes them.
 --     slot_named                                    what a name holds, which is nothing if there is no such name
 --     IsSlot, AreSlots                              what is held is well formed, and so is each name
 --     is_free, is_part, is_view, is_text,           nothing is held, or which of the four kinds
@@ -46,7 +46,7 @@ use Rattle.iobufs_run.specs.declared.command.Kind.TheVariants as kind
 use Rattle.iobufs_run.specs.declared.command.Reply.{Reply}
 use Rattle.iobufs_run.specs.declared.command.Reply.TheVariants.{Shown}
 
--- what a name holds, nothing where there is no such name
+-- the slot of a name, `Free` if there is no such name
 abbrev pub slot_named : List Slot → ℕ → Slot
 slot_named names name = slice_index_or names name Free
 
@@ -59,7 +59,7 @@ IsSlot (View view) = IsView view × (length view.bytes < 2 ^ 64)
 IsSlot (Text text) = IsMarked text × (text_len text < 2 ^ 64)
 IsSlot (Parts parts) = IsParts parts
 
--- so does each name
+-- each name holds such a slot
 abbrev pub AreSlots : List Slot → Type 0
 AreSlots names = (name : ℕ) → IsSlot (slot_named names name)
 
@@ -142,7 +142,7 @@ slot_put (Part part) bytes = Part (part_put part bytes)
 slot_put (Parts parts) bytes = Parts (parts_fill parts bytes)
 slot_put slot bytes = slot
 
--- with so many bytes filled, cut to so many, and with other bytes written over those that are filled
+-- filled to n bytes; cut to n; and with other bytes written over those that are filled
 abbrev pub slot_with_len : Slot → ℕ → Slot
 slot_with_len (Part part) n = Part (part_with_len part n)
 slot_with_len (Parts parts) n = Parts (parts_with_len parts n)
@@ -179,7 +179,7 @@ slot_sliced slot lo hi = slot
 abbrev pub is_empty_range : Bound ℕ → Bound ℕ → ℕ → Bool
 is_empty_range lo hi len = unwrap_or (start_place lo) 0 == unwrap_or (end_place hi len) 0
 
--- what a split answers and leaves
+-- the front that a split returns, and the rest that it leaves
 abbrev pub slot_split_front : Slot → ℕ → Slot
 slot_split_front (View view) at = View (view_split_front view at)
 slot_split_front (Text text) at = Text (text_split_front text at)
@@ -197,7 +197,7 @@ slot_advanced (View view) n = View (view_advanced view n)
 slot_advanced (Text text) n = Text (text_advanced text n)
 slot_advanced (Parts parts) n = Parts (parts_drained parts n)
 
--- what is left when so many bytes are taken out
+-- the rest after n bytes are copied out
 abbrev pub slot_copied : Slot → ℕ → Slot
 slot_copied Free n = Free
 slot_copied (Part part) n = Part (part_copied part n)
@@ -218,7 +218,7 @@ abbrev pub part_held : Slot → PartValue
 part_held (Part part) = part
 part_held _ = empty_part 0
 
--- what is held as a marked text, a view as one of one piece; and what is left when a view is read from it
+-- the slot's marked text, of one chunk for a view; and the rest after a view is read from it
 abbrev pub marked_held : Slot → MarkedText
 marked_held (View view) = of_view view
 marked_held slot = text_held slot
@@ -284,7 +284,7 @@ pieces_of (View view) = (view.bytes, 0) ∷ []
 pieces_of (Text text) = map (λ chunk. (chunk, 0)) (text_chunks text)
 pieces_of (Parts parts) = map (λ part. (part.filled, part.spare)) parts
 
--- what is held is shown as this kind, by these pieces
+-- the slot is shown as this kind, by these chunks
 abbrev pub Shows : Slot → Kind → List (List ℕ × ℕ) → Type 0
 Shows slot kind pieces = (kind_of slot ≡ Some kind) × (pieces ≡ pieces_of slot)
 

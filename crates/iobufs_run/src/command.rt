@@ -175,13 +175,13 @@ pub enum Reply {
     Done,
     /// The bytes that were taken.
     Bytes(Bytes),
-    /// What a name holds, chunk by chunk.
+    /// The buffer of a name, chunk by chunk.
     Shown { kind: Kind, pieces: Vec<Piece> },
     /// The command was not executed.
     Refused(Refusal),
 }
 
-/// What a name holds.
+/// The kind of the buffer that a name holds.
 #[derive(Clone, Copy, Debug, PartialEq, Eq)]
 pub enum Kind {
     /// An `IoBufMut`.
@@ -226,7 +226,7 @@ pub enum Refusal {
     Memory,
 }
 
-// What a command comes to: its reply, or why it is refused.
+// The result of a command: its reply, or the cause of its refusal.
 pub(crate) type Outcome = Result<Reply, Refusal>;
 
 impl fmt::Display for Refusal {

@@ -22,7 +22,7 @@ use iobufs_core::codec::BufError;
 use std::alloc::Global;
 use std::marker::Model;
 
-/// What a name holds.
+/// The contents of a name.
 #[derive(Drop)]
 pub enum Slot {
     /// Nothing.

@@ -62,7 +62,7 @@ pub record AreSame (prefix now_prefix to now_to : Prefix) (range now_range : Ran
   pub same_to : now_to ≡ to
   pub same_range : now_range ≡ range
 
--- what is held and left begins with the next frame
+-- the held bytes and the rest of the input begin with the next frame
 next_in : (prefix : Prefix) (range : RangeCfg) (left behind now new : List ℕ) (body : View)
     → TakesFrame prefix range (Some left) (Some behind) now new (Ok (Some body)) → now ++ left ≡ frame_written prefix body.bytes ++ (new ++ behind)
 next_in prefix range left behind now new body is =
@@ -92,7 +92,7 @@ sent_more prefix to range text now new body held mid holds so_far fits whole put
       (Appends-trans held mid holds (all_written to so_far.done) (frame_written to body) so_far.sent put);
 }
 
--- what is taken now is taken so from a reader that stays as it was
+-- a reader with an equal prefix and an equal range takes an equal result
 taken_as : (p q : Prefix) (r s : RangeCfg) (had has : Option (List ℕ)) (now new : List ℕ) (found sought : Option View) → p ≡ q → r ≡ s → found ≡ sought
     → TakesFrame p r had has now new (Ok found) → TakesFrame q s had has now new (Ok sought)
 taken_as p q r s had has now new found sought same range is h =
@@ -134,7 +134,7 @@ echoed prefix now_prefix to now_to range now_range (Some text) (Some left) (Some
     sent_all held holds (old ++ text) (now ++ left) (alike prefix to range (old ++ text) (now ++ left) held holds one so_far)
     (nothing_left prefix range left behind now new ended)
 
--- what was sent so far is a beginning
+-- the bytes sent so far are a prefix of all bytes held and still to be read
 pub begun : (prefix to : Prefix) (range : RangeCfg) (a b : Option (List ℕ)) (old now : List ℕ) (held holds : Option (List ℕ))
     → Echoes prefix to range a b old now held holds → prefix ≡ to → IfSome a (λ text. HasSent held holds (old ++ text))
 begun prefix to range None b old now held holds so_far one = tt
@@ -229,7 +229,7 @@ sent_to_the_end prefix to range text left held holds so_far nothing frames stop 
     let all : so_far.done ≡ frames = sym (more.listed ∙ ap (λ w. so_far.done ++ w) none ∙ append-nil so_far.done) in
     (sym (behind.whole ∙ ap (λ fs. all_written prefix fs ++ rest) none), subst (λ fs. Appends held holds (all_written to fs)) all so_far.sent)
 
--- what was sent so far is a beginning of the frames that came
+-- the bytes sent so far are a prefix of the frames that came
 pub frames_begun : (prefix to : Prefix) (range : RangeCfg) (a b : Option (List ℕ)) (old now : List ℕ) (held holds : Option (List ℕ))
     → Echoes prefix to range a b old now held holds → IfSome a (λ text. SendsFrames prefix to range (old ++ text) held holds)
 frames_begun prefix to range None b old now held holds so_far = tt

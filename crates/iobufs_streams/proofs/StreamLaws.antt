@@ -1,4 +1,4 @@
--- What reads and writes do to the bytes that are known, and what becomes of frames then.
+-- The effect of reads and writes on the known bytes, and on the frames in them.
 use Rattle.std.specs.Prelude.{◌≡◌, ℕ, ◌+◌, ◌^◌, ◌<◌, ◌≤◌, Bool, true, false, nat_eq, Option, None, Some, IfSome, Result, Ok, Err, List, [], ◌++◌, length, take, drop, refl}
 use Rattle.std.specs.Io.KnownBytes.{Appends, Consumes, IsAtEnd, Keeps}
 use Rattle.std.proofs.Common.{arith, inl, inr, ap, sym, subst, ◌∙◌, append_assoc, append-nil, length-append, length-drop, length-take, take-append-drop}
@@ -65,7 +65,7 @@ zero_of n h = grind (arith, nat_tests, h)
 some_of : (n : ℕ) → nat_eq n 0 ≡ false → 0 < n
 some_of n h = grind (arith, nat_tests, h)
 
--- what was written over all of a vector
+-- items written over all of a vector are its items
 pub same_items : (is was : List ℕ) (len : ℕ) → length is ≡ len → length was ≡ len → take len (is ++ drop (length is) was) ≡ is
 same_items is was len a b =
     let none : drop (length is) was ≡ [] = nil_from_length (drop (length is) was) (omega (arith, length-drop (length is) was, a, b)) in
@@ -87,7 +87,7 @@ filled_by had has fed was is m n zero fits room (took, last) =
       last = λ none. last (zero_of n none) room;
     }
 
--- what a read put over the first bytes of a piece, where none of the earlier ones were left, is held after what was fed; no byte is the end
+-- if no earlier bytes were left in the buffer, the bytes of a read are held after the fed ones; no byte is the end
 pub filled_so : (had has : Option (List ℕ)) (fed was is items : List ℕ) (m n : ℕ) → items ≡ is → m ≡ 0 → n ≤ length is → 0 < length is
     → Consumes had has (take n is) × (n ≡ 0 → 0 < length is → IsAtEnd has) → IsFilledBy had has (fed ++ take m was) (fed ++ take n items) (nat_eq n 0)
 filled_so had has fed was is items m n same zero fits room both =
@@ -96,7 +96,7 @@ filled_so had has fed was is items m n same zero fits room both =
 
 -- ---- reads that wait for a frame
 
--- what was read so far gave no whole frame before its last read; the reader is as it was where a frame was held
+-- the bytes read so far gave no whole frame before the last read; the reader is as it was if a frame was held
 pub record IsWaiting {Reader : Type 0} (prefix : Prefix) (range : RangeCfg) (from now_from : Reader) (had has : Option (List ℕ))
     (old now : List ℕ) (count : ℕ) : Type 0 where
   pub read : List ℕ
@@ -132,7 +132,7 @@ pub never_ready : {Reader : Type 0} (prefix : Prefix) (range : RangeCfg) (from n
 never_ready prefix range from now_from had has old held left count so_far (same, none) =
     not_ready prefix range old so_far.read held so_far.grew none
 
--- what is known of bytes that hold no whole frame
+-- if no frame is found, the held bytes stay, and they begin with no whole frame
 pub none_held : (prefix now : Prefix) (range : RangeCfg) (held left : List ℕ) (found : Option View) → now ≡ prefix → found ≡ None
     → IsHeldFront now range held (Ok found) left → (left ≡ held) × LacksFrame prefix range held end.Open
 none_held prefix now range held left found same is h =
@@ -160,7 +160,7 @@ waits_on prefix range from mid new a b c old held left now count next last so_fa
       ready = λ has. absurd (not_ready prefix range old before held so_far.grew none has);
     }
 
--- what was held is answered: a frame, or why none is there
+-- an error for the held bytes is the result of taking a frame
 front_some : (prefix : Prefix) (range : RangeCfg) (has : Option (List ℕ)) (bytes left : List ℕ) (error : FrameError)
     → IsHeldFront prefix range bytes (Err error) left
     → IsFront prefix range has bytes (Err error) left
@@ -287,7 +287,7 @@ first_of prefix range old new bytes left (Err Memory) frames stop rest same is =
 first_of prefix range old new bytes left (Err TooLong) frames stop rest (same, long) is =
     subst (λ (w : List ℕ). IsFramed prefix range w frames stop rest) (ap (λ w. w ++ left) (sym same)) is
 
--- what `next` answers is the first of the frames of all bytes held and still to be read, or what their end says
+-- `next` returns the first frame of all bytes held and still to be read, or the result that their end determines
 pub first_taken : (prefix : Prefix) (range : RangeCfg) (had has : Option (List ℕ)) (old new : List ℕ) (result : Result (Option View) FrameError)
     → TakesFrame prefix range had has old new result
     → IfSome had (λ text. IfSome has (λ left. (frames : List (List ℕ)) (stop : End) (rest : List ℕ)

@@ -78,7 +78,7 @@ abbrev pub fault_of_cause : BufError → FrameError
 fault_of_cause cause.TooLong = TooLong
 fault_of_cause fault = Memory
 
--- What taking a frame answers of the bytes that are held, and what it leaves of them
+-- The result of taking a frame from the held bytes, and the bytes that it leaves
 abbrev pub IsHeldFront : Prefix → RangeCfg → List ℕ → Result (Option View) FrameError → List ℕ → Type 0
 IsHeldFront prefix range bytes (Ok (Some body)) left = CanFollow prefix range body.bytes × (bytes ≡ frame_written prefix body.bytes ++ left)
 IsHeldFront prefix range bytes (Ok None) left = (left ≡ bytes) × LacksFrame prefix range bytes end.Open
@@ -87,15 +87,15 @@ IsHeldFront prefix range bytes (Err Memory) left = left ≡ bytes
 IsHeldFront prefix range bytes (Err TooLong) left = (left ≡ bytes) × (2 ^ 64 ≤ length bytes)
 IsHeldFront prefix range bytes (Err error) left = ⊥
 
--- What is answered of bytes that are no whole frame, where no more come
+-- The result for bytes that are no whole frame, if no more come
 abbrev pub IsEnd : List ℕ → Result (Option View) FrameError → Type 0
 IsEnd bytes (Ok None) = bytes ≡ []
 IsEnd bytes (Ok (Some body)) = ⊥
 IsEnd bytes (Err Cut) = 0 < length bytes
 IsEnd bytes (Err error) = ⊥
 
--- What taking a frame answers of all that was held and read for it. There is none only at the end of the stream;
--- one that was begun there is cut.
+-- The result of taking a frame from all bytes that were held and read for it. There is none only at the end of the
+-- stream; one that was begun there is cut.
 abbrev pub IsFront : Prefix → RangeCfg → Option (List ℕ) → List ℕ → Result (Option View) FrameError → List ℕ → Type 0
 IsFront prefix range has bytes (Ok (Some body)) left = CanFollow prefix range body.bytes × (bytes ≡ frame_written prefix body.bytes ++ left)
 IsFront prefix range has bytes (Ok None) left = (bytes ≡ []) × (left ≡ []) × IsAtEnd has
@@ -112,7 +112,7 @@ pub record TakesFrame (prefix : Prefix) (range : RangeCfg) (had has : Option (Li
   pub needed : IsNeeded prefix range old read
   pub front : IsFront prefix range has (old ++ read) result new
 
--- Of the frames of the whole stream the first is taken, and the others are left; if there is none, the end determines the
+-- The first frame of the whole stream is taken, and the others are left; if there is none, the end determines the
 -- result. Any other error leaves all of them.
 abbrev pub IsFirstOf : Prefix → RangeCfg → List (List ℕ) → End → List ℕ → Result (Option View) FrameError → List ℕ → Type 0
 IsFirstOf prefix range frames stop rest (Ok (Some body)) left = FirstTaken prefix range frames stop rest body.bytes left

@@ -1,4 +1,4 @@
-//! What a reader of frames holds. Its calls are in `reader`, whose contracts name it.
+//! The state of a reader of frames. Its calls are in `reader`, whose contracts name it.
 ghost use Rattle.std.specs.Prelude.{◌<◌, ◌≤◌, vec_len};
 
 use iobufs_frames::Frames;
@@ -8,7 +8,7 @@ use iobufs_frames::Frames;
 pub struct Held {
     // Those that were fed to it.
     pub(crate) frames: Frames,
-    // What was read last.
+    // The buffer of the last read.
     pub(crate) piece: Vec<u8>,
     // How many of its first bytes came and were not fed.
     pub(crate) read: usize,

@@ -113,7 +113,7 @@ impl Held {
         Ok(self.read == 0)
     }
 
-    // What is returned at the end of the input, if all that was read was fed.
+    // The result at the end of the input, if all bytes that were read were fed.
     fn end(&self) -> Result<Option<IoBuf>, FrameError>
         requires { self.now.read ≡ 0 }
         ensures { IsEnd (held_bytes self.now) result }
@@ -162,7 +162,7 @@ pub struct FrameReader<R> {
     pub from: R,
     /// The lengths that a body may have.
     pub range: RangeCfg,
-    /// What was read from it and not taken.
+    /// The bytes that were read from it and not taken.
     pub held: Held,
 }
 

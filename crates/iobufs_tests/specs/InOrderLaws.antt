@@ -1,4 +1,4 @@
--- What the laws of a value give for bytes that begin with it.
+-- Laws of a value, for bytes that begin with it.
 --     behind_written    once a value is read, the bytes after it are left
 use Rattle.std.proofs.Common.{◌≡◌, ℕ, List, ◌++◌, length, ap, ◌∙◌}
 use Rattle.iobufs_core.specs.CodecLaws.{left_behind}

@@ -27,7 +27,7 @@ const BIG_64: Prefix = Prefix::Fixed(Width::U64, ByteOrder::Big);
 
 const LITTLE_64: Prefix = Prefix::Fixed(Width::U64, ByteOrder::Little);
 
-// What is fed, the bodies with `|` after each and then the rest, and why there is no further frame.
+// The fed chunks, the bodies with `|` after each and then the rest, and why there is no further frame.
 #[derive(Clone, Copy)]
 struct Case {
     name: &'static str,

@@ -244,12 +244,12 @@ const ROWS: [(usize, usize, usize, usize, Whole, usize); 4] = [
     (MANY, 2, 0, MANY, Whole::Coalesced, 2 * MANY),
 ];
 
-// What writable buffers in a row become.
+// The buffer that several writable buffers become.
 #[derive(Clone, Copy, Debug)]
 enum Whole {
-    // A text, told by its chunks.
+    // An `IoBufs`, shown by its chunks.
     Frozen,
-    // One buffer, told by its bytes.
+    // One buffer, shown by its bytes.
     Coalesced,
 }
 

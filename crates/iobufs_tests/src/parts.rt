@@ -47,7 +47,7 @@ fn printed_text(rt: HostRuntime) -> Result<(), Fail> {
     Ok(())
 }
 
-// What becomes a writable buffer.
+// The value that becomes a writable buffer.
 #[derive(Clone, Copy, Debug)]
 enum Adopted {
     // A `Bytes` of a list with this capacity.
@@ -70,8 +70,8 @@ enum Adopted {
     StaticView,
 }
 
-// What is adopted, its bytes, those of the writable buffer, and its capacity: that of the storage if no other handle shares
-// it, and else that of a copy. A `Bytes` of an empty list has no storage.
+// The adopted value, its bytes, those of the writable buffer, and its capacity. This is the capacity of the storage if
+// no other handle shares it, and else that of a copy. A `Bytes` of an empty list has no storage.
 const ADOPTED: [(Adopted, &'static [u8], &'static [u8], usize); 14] = [
     (Adopted::List(100), b"abc", b"abc", 100),
     (Adopted::List(5), b"exact", b"exact", 5),

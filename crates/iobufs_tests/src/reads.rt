@@ -63,7 +63,7 @@ fn copied<B: Buf>(alloc: Global, buf: &mut B, n: usize) -> Result<Vec<u8>, BufEr
     Ok(shown)
 }
 
-// What a call answers.
+// The result of a call, as bytes.
 pub fn answer<B: Buf>(alloc: Global, buf: &mut B, read: Read) -> Result<Vec<u8>, BufError> {
     match read {
         Read::Remaining => Ok(format!(in alloc; "{}", buf.remaining())?.into_bytes()),

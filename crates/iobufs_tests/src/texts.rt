@@ -24,7 +24,7 @@ enum Ask {
     ChunkAt(usize),
     // The last eight bytes that `for_each_chunk` visits.
     Visit,
-    // What the iterator `chunks` yields in so many calls, `none` after the last chunk, with `|` after each.
+    // The chunks that the iterator `chunks` yields in n calls, `none` after the last chunk, with `|` after each.
     Iterate(usize),
     // `single` or `several`.
     Single,
@@ -245,7 +245,7 @@ fn owned(alloc: Global, text: &mut IoBufs, skip: usize, n: usize) -> Result<Vec<
     Ok(shown)
 }
 
-// What is answered.
+// The result of a call, as bytes.
 fn told(alloc: Global, text: &mut IoBufs, ask: Ask) -> Result<Vec<u8>, BufError> {
     match ask {
         Ask::Reads(read) => answer(alloc, text, read),
@@ -357,7 +357,7 @@ fn cut_up(alloc: Global, from: usize, to: usize) -> Result<Vec<u8>, AllocError> 
     Ok(bytes)
 }
 
-// What `split_to` takes, what it leaves, and what `advance` leaves.
+// The chunks that `split_to` takes, those that it leaves, and those that `advance` leaves.
 fn assert_cut(rt: &(impl Abort + AllocGlobal), count: usize, at: usize) -> Result<(), BufError> {
     let alloc = rt.alloc();
     let (mut text, mut advanced) = (first(alloc, count)?, first(alloc, count)?);

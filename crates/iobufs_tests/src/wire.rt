@@ -1,4 +1,4 @@
-// What no contract says of encoding: worked examples of lengths, views, types of several fields and the builder.
+// Worked examples of encoding, which no contract gives: lengths, views, types of several fields and the builder.
 #[cfg(test)]
 mod alike;
 #[cfg(test)]

@@ -44,7 +44,7 @@ impl Pool {
     }
 }
 
-/// What was handed out stays the first part of the log: so what a pool hands out after further steps is new too.
+/// The blocks handed out stay a prefix of the log: each block that a pool hands out after further steps is new too.
 pub fn pool_law()
     ensures { (before after : State) → (given : ℕ) → KeepsLogs before after → given ≤ length before.freed_blocks
         → take given after.freed_blocks ≡ take given before.freed_blocks }

@@ -55,8 +55,8 @@ fn send_batch<W: Write>(
     Ok(n)
 }
 
-/// Hands the chunks of a text to a writer, at most `most` of them at a time, until none is left. What the writer took
-/// is dropped from the text, whatever the answer: it may be called again. An error is the writer's, or
+/// Hands the chunks of a text to a writer, at most `most` of them at a time, until none is left. The bytes that the
+/// writer took are dropped from the text, whatever the result: it may be called again. An error is the writer's, or
 /// `ErrorKind::WriteZero` where it takes none, or `ErrorKind::OutOfMemory`, and leaves at least a byte.
 #[tactic(auto, using(iobufs::specs::CallerFacts::sending))]
 pub fn send<W: Write>(alloc: Global, to: &mut W, text: &mut IoBufs, most: usize) -> io::Result<()>

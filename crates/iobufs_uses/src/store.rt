@@ -31,8 +31,9 @@ fn fill_once<R: Read>(from: &mut R, parts: &mut IoBufsMut) -> io::Result<usize>
 }
 // [docs end]
 
-/// Reads into the room of the parts until it is full, or the reader has no more. What was read is in the parts,
-/// whatever the answer: it may be called again. An error is the reader's, and comes only while there is room.
+/// Reads into the spare capacity of the buffers until it is full, or the reader has no more. The buffers hold all bytes
+/// that were read, whatever the result: it may be called again. An error is the reader's, and comes only while there is
+/// spare capacity.
 #[tactic(auto, using(iobufs::specs::CallerFacts::storing))]
 pub fn fill<R: Read>(from: &mut R, parts: &mut IoBufsMut) -> io::Result<()>
     ensures stored { IsStored (R.remaining from.old) (R.remaining from.new) parts.old parts.new }

@@ -22,14 +22,14 @@ pub cut-end : (shown xs target : List (List ℕ)) (i left : ℕ) → chunks_of_f
     → shown ≡ target
 cut-end shown xs target i left none so_far = sym (append-nil shown) ∙ ap (λ ys. shown ++ ys) (sym none) ∙ so_far
 
--- from an element on stand it and those after it, seen by what each shows
+-- the elements from an index on, as they are shown: this one, and those after it
 pub shown-behind : {X : Type 0} (show : X → List ℕ) (items : List X) (i : ℕ) (item : X) → i < length items → item ≡ get_or items i item
     → drop i (map show items) ≡ show item ∷ drop (i + 1) (map show items)
 shown-behind show items i item l is =
     drop-map show i items ∙ ap (map show) (drop-cons items i item l) ∙ ap (λ x. show x ∷ map show (drop (suc i) items)) (sym is)
     ∙ ap (λ xs. show item ∷ xs) (sym (drop-map show (suc i) items)) ∙ ap (λ k. show item ∷ drop k (map show items)) (sym (add-one i))
 
--- what a call answers, under another name
+-- the result of a call, under another name
 pub as_shown : {Value Refusal X : Type 0} (result : Result Value Refusal) (show : Value → X) (a b : X) → a ≡ b → IfOk result (λ value. show value ≡ a)
     → IfOk result (λ value. show value ≡ b)
 as_shown (Ok value) show a b same is = is ∙ same

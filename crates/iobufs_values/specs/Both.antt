@@ -15,11 +15,11 @@ use Rattle.std.proofs.lemmas.List.Elements.{filter-append}
 use Rattle.iobufs_core.specs.Chunks.{first_chunk, full_chunks, is_full}
 use Rattle.iobufs_values.specs.Cut.{none-left}
 
--- the second reader once n bytes went, where the first had so many
+-- the second reader after n bytes were dropped from both, where the first had `here` bytes
 abbrev pub dropped_second : {S : Type 0} → (S → ℕ → S) → S → ℕ → ℕ → S
 dropped_second advanced s n here = if nat_le n here then s else advanced s (n - here)
 
--- the first reader once n bytes were taken out, where it had so many
+-- the first reader after n bytes were taken out, where it had `here` bytes
 abbrev pub copied_first : {S : Type 0} → (S → ℕ → S) → (S → ℕ → S) → S → ℕ → ℕ → S
 copied_first copied advanced s n here = if nat_le n here then copied s n else if here == 0 then s else advanced s here
 
@@ -27,7 +27,7 @@ copied_first copied advanced s n here = if nat_le n here then copied s n else if
 abbrev pub copied_second : {S : Type 0} → (S → ℕ → S) → (S → ℕ → S) → S → ℕ → ℕ → S
 copied_second copied advanced s n here = if nat_le n here then s else if here == 0 then copied s n else advanced s (n - here)
 
--- what is left of two texts
+-- the rest of two lists, concatenated, after n elements
 drop-two : {X : Type 0} (n : ℕ) (xs ys : List X) → drop n (xs ++ ys) ≡ drop n xs ++ drop (n - length xs) ys
 drop-two zero xs ys = let none : 0 - length xs ≡ 0 = omega arith in ap (λ k. xs ++ drop k ys) (sym none)
 drop-two (suc n) [] ys = let same : suc n - 0 ≡ suc n = omega arith in ap (λ k. drop k ys) (sym same)

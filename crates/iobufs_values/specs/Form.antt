@@ -1,4 +1,4 @@
--- What a value that is decoded has to meet, and how bytes, `bool` and optional values are decoded.
+-- The conditions on values that are decoded, and how bytes, `bool` and optional values are decoded.
 --     IsForm                            how a value is written and decoded: what is decoded is admitted and is there as it
 --                                       is written, no encoding is a prefix of another's, and if one is there only an
 --                                       allocation can fail
@@ -46,13 +46,13 @@ pub record IsForm (Value Cfg : Type 0) (written : Value → List ℕ) (same : Va
   pub same_written : (x y : Value) → same x y → written x ≡ written y
   -- the bytes of a value begin those of no other
   pub no_front : (x y : Value) (cfg other : Cfg) (u v : List ℕ) → admits cfg x → admits other y → written x ++ u ≡ written y ++ v → same x y
-  -- what is found is admitted, and stands there as it is written
+  -- a value that is found is admitted, and its encoding is there
   pub found_written : (value : Value) (cfg : Cfg) (text : MarkedText) (skip : ℕ) → is_found text skip cfg value
       → admits cfg value × (take (length (written value)) (drop skip text.bytes) ≡ written value)
-  -- where an admitted value stands, nothing is refused but for memory
+  -- if an admitted value is there, the only fault is a failed allocation
   pub refuses : (value : Value) (cfg : Cfg) (text : MarkedText) (skip : ℕ) (rest : List ℕ) (fault : Fault) → admits cfg value
       → drop skip text.bytes ≡ written value ++ rest → is_fault text skip cfg fault → fault ≡ no_memory
-  -- two refusals at the same bytes are one, memory aside
+  -- two faults at equal bytes are equal, unless one is a failed allocation
   pub one_fault : (s t : MarkedText) (skip : ℕ) (cfg : Cfg) (a b : Fault) → s.bytes ≡ t.bytes → is_fault s skip cfg a → is_fault t skip cfg b
       → (a ≡ b) ⊎ ((a ≡ no_memory) ⊎ (b ≡ no_memory))
 

@@ -207,7 +207,7 @@ bool_form Cfg = record {
 
 -- ---- two values, in order
 
--- what a pair of values is
+-- bytes that begin with two encodings, in order, begin with their concatenation
 pub two_bytes : (d u v : List ℕ) → take (length u) d ≡ u → take (length v) (drop (length u) d) ≡ v → take (length (u ++ v)) d ≡ u ++ v
 two_bytes d u v p q =
     let whole : u ++ drop (length u) d ≡ d = ap (λ xs. xs ++ drop (length u) d) (sym p) ∙ take-append-drop (length u) d in
@@ -329,7 +329,7 @@ form_as {w = w} parts config written is form = record {
 
 -- ---- a value that is there or not
 
--- what follows a byte stands one place further on
+-- the bytes after a byte are at the next offset
 pub behind_byte : (text : MarkedText) (skip b : ℕ) (more : List ℕ) → drop skip text.bytes ≡ b ∷ more → drop (skip + 1) text.bytes ≡ more
 behind_byte text skip b more e = sym (drop-drop 1 skip text.bytes) ∙ ap (drop 1) e
 

@@ -77,11 +77,11 @@ begins_on : (xs ys : List ℕ) (b : ℕ) → take 1 xs ≡ b ∷ [] → take 1 (
 begins_on [] ys b e = absurd (no_first [] b e refl)
 begins_on (x ∷ xs) ys b e = e
 
--- what follows bytes leaves what their first tells
+-- appended bytes don't change the kind that the first byte determines
 first_on : (is_tag : ℕ → Bool) (told : Bool) (xs ys : List ℕ) → IsTagAt is_tag told xs → IsTagAt is_tag told (xs ++ ys)
 first_on is_tag told xs ys f = record { tag = f.tag; at = begins_on xs ys f.tag f.at; tells = f.tells }
 
--- the first of the same bytes tells one thing
+-- the first of equal bytes determines one kind
 one_kind : (is_tag : ℕ → Bool) (xs ys : List ℕ) → xs ≡ ys → IsTagAt is_tag true xs → IsTagAt is_tag false ys → ⊥
 one_kind is_tag xs ys e p q =
     let same : p.tag ≡ q.tag = two_firsts ys p.tag q.tag (ap (take 1) (sym e) ∙ p.at) q.at in
@@ -99,7 +99,7 @@ not_end is_tag told xs f e = no_first xs f.tag f.at e
 
 -- ---- a value after the byte of its kind
 
--- what is written after a tag begins with it
+-- a tag and any bytes after it begin with the tag
 pub kind_first : (tag : ℕ) (bytes : List ℕ) → IsTagAt (λ byte. nat_eq byte tag) true (tag ∷ bytes)
 kind_first tag bytes = record { tag = tag; at = refl; tells = eq_self tag }
 

@@ -18,7 +18,7 @@ pub trait Tagged: Look {
     fn is_tag(byte: u8) -> bool
         ensures { result ≡ is_tag byte };
 
-    // What is written begins with such a byte.
+    // Each encoding begins with such a byte.
     ghost begins: { (value : Self) → IsTagAt is_tag true (Self.written value) };
 }
 

@@ -48,7 +48,7 @@ abbrev pub plain_item : Given → PlainItem
 plain_item (given.Inline bytes) = Inline bytes.items
 plain_item (given.Push name) = Push name
 
--- what a command says
+-- a command as a line says it
 abbrev pub plain : Cmd → Command
 plain (cmd.NewMut dst capacity align) = NewMut dst capacity align
 plain (cmd.Zeroed dst len align) = Zeroed dst len align

@@ -32,14 +32,14 @@ kind_text kind.View = codes "view"
 kind_text kind.Text = codes "text"
 kind_text kind.Parts = codes "parts"
 
--- one piece of what is shown; of a part with the room after it
+-- one chunk of a shown buffer; of a writable buffer with its spare capacity
 abbrev pub piece_text : Kind → Piece → List ℕ
 piece_text kind.Part piece = codes " " ++ hex_text piece.bytes.items ++ codes "+" ++ decimal piece.spare
 piece_text kind.Parts piece = codes " " ++ hex_text piece.bytes.items ++ codes "+" ++ decimal piece.spare
 piece_text kind.View piece = codes " " ++ hex_text piece.bytes.items
 piece_text kind.Text piece = codes " " ++ hex_text piece.bytes.items
 
--- what is printed of a chunk that a name holds: its bytes, and its spare capacity
+-- a chunk that a name holds, as it is printed: its bytes, and its spare capacity
 abbrev pub held_text : Kind → List ℕ × ℕ → List ℕ
 held_text kind.Part piece = codes " " ++ hex_text piece.0 ++ codes "+" ++ decimal piece.1
 held_text kind.Parts piece = codes " " ++ hex_text piece.0 ++ codes "+" ++ decimal piece.1
@@ -57,11 +57,12 @@ reply_text (Shown kind pieces) = kind_text kind ++ flat_map (piece_text kind) pi
 abbrev pub reply_line : Reply → List ℕ
 reply_line reply = reply_text reply ++ codes "\n"
 
--- a command makes these names of those, by one step, and after a text stands the line of its reply
+-- a command changes the names `old` into `new` by one step, and the line of its reply is appended
 abbrev pub IsReplied : (old : List Slot) → Cmd → (new : List Slot) → (before after : List ℕ) → Type 0
 IsReplied old command new before after = (reply : Reply) × Step old command reply new × (after ≡ before ++ reply_line reply)
 
--- what is printed of a reply: its bytes are bytes, its numbers fit a `usize`, and no piece of a view or a text has room
+-- a reply that can be printed: its bytes are bytes, its numbers fit a `usize`, and only writable buffers have spare
+-- capacity
 abbrev pub PieceFits : Kind → Piece → Type 0
 PieceFits kind.Part piece = AreBytes piece.bytes.items × (piece.spare < 2 ^ 64)
 PieceFits kind.Parts piece = AreBytes piece.bytes.items × (piece.spare < 2 ^ 64)

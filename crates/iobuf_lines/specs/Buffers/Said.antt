@@ -13,7 +13,7 @@ use Rattle.iobuf_lines.specs.declared.buffers.line.Verb.TheVariants as verb
 use Rattle.iobuf_lines.specs.Buffers.Commands.{Command, NewMut, Zeroed, Adopt, Static, FromBytes, Put, SetLen, Truncate, Clear, Overwrite, Freeze, Recover, Clone, Split, Advance, Take, Gather, GatherMut, Append, Prepend, Coalesce, Encode, Decode, Drop, Show}
 use Rattle.iobuf_lines.specs.Buffers.Shapes.{one_number, two_numbers, three_numbers, four_numbers, bytes_for_of, numbers_for_of, fill_of, slice_said, letters_of, build_of}
 
--- of the words that put something under a name
+-- the command of a word that puts something under a name
 abbrev pub making_of : List ℕ → Option Verb
 making_of word =
     if bytes_eq word (codes "new") then Some verb.New
@@ -34,7 +34,7 @@ making_of word =
     else if bytes_eq word (codes "decode") then Some verb.Decode
     else None
 
--- of the words that act on what a name holds
+-- the command of a word that acts on the buffer of a name
 abbrev pub acting_of : List ℕ → Option Verb
 acting_of word =
     if bytes_eq word (codes "put") then Some verb.Put
@@ -51,7 +51,7 @@ acting_of word =
     else if bytes_eq word (codes "show") then Some verb.Show
     else None
 
--- what a first word asks for
+-- the command that a first word names
 abbrev pub verb_of : List ℕ → Option Verb
 verb_of word = option_or (making_of word) (acting_of word)
 

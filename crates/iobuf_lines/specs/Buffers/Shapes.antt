@@ -1,4 +1,4 @@
--- What words say that follow one another to the end of a line.
+-- The values that the words up to the end of a line say.
 --     only_word, of_both                       a last word; a value made of two words, if both say one
 --     Three, three, Four, four             three numbers, and four
 --     one_number, two_numbers, three_numbers, four_numbers    one to four words, each a number
@@ -21,13 +21,13 @@ use Rattle.std.specs.Str.{bytes_eq}
 use Rattle.iobuf_lines.specs.Words.{both, byte_of, bytes_of, number_of, numbers_of, put_first}
 use Rattle.iobuf_lines.specs.Buffers.Commands.{PlainItem, Inline, Push, Command, Fill, Slice, Build}
 
--- what a word says, where no word follows it
+-- the value of a word, if no word follows it
 abbrev pub only_word : {A : Type 0} → Option A → List (List ℕ) → Option A
 only_word None words = None
 only_word (Some x) [] = Some x
 only_word (Some x) (word ∷ words) = None
 
--- what is made of the first and of what is after it, where both are there
+-- the value made of the first word and of the rest, if both have one
 abbrev pub of_both : {A B C : Type 0} → (A → B → C) → Option A → Option B → Option C
 of_both make (Some a) (Some b) = Some (make a b)
 of_both make (Some a) None = None
@@ -135,7 +135,7 @@ abbrev pub slice_said : List (List ℕ) → Option Command
 slice_said [] = None
 slice_said (a ∷ words) = of_both (λ src n. Slice src n.dst n.lo n.hi) (number_of a) (bounds_for_of words)
 
--- what a static view is made of
+-- the bytes of which static views are made
 abbrev pub letters : List ℕ
 letters = codes "abcdefghijklmnopqrstuvwxyz"
 

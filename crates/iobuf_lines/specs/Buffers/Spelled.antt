@@ -19,7 +19,7 @@ use Rattle.iobuf_lines.specs.Words.{words_of}
 use Rattle.iobuf_lines.specs.Buffers.Commands.{PlainItem, Inline, Push, Command, NewMut, Zeroed, Adopt, Static, FromBytes, Put, Fill, SetLen, Truncate, Clear, Overwrite, Freeze, Recover, Clone, Slice, Split, Advance, Take, Gather, GatherMut, Append, Prepend, Coalesce, Build, Encode, Decode, Drop, Show}
 use Rattle.iobuf_lines.specs.Buffers.Shapes.{letters_of}
 
--- what a word says: itself, a number, a number that is a byte, bytes, or such a thing after a letter
+-- the meaning of a word: itself, a number, a number that is a byte, bytes, or such a thing after a letter
 pub data SpelledWord : Type 0 where
   Verb : (name : List ℕ) → SpelledWord
   Number : (n : ℕ) → SpelledWord
@@ -134,7 +134,7 @@ ItemsFit [] = Unit {0}
 ItemsFit (Inline bytes ∷ items) = AreBytes bytes × ItemsFit items
 ItemsFit (Push name ∷ items) = (name < 2 ^ 64) × ItemsFit items
 
--- what has a line: its numbers fit a `usize`, its bytes are bytes, and a static text is letters that follow one another
+-- a command that has a line: its numbers fit a `usize`, its bytes are bytes, and a static text is consecutive letters
 abbrev pub CommandFits : Command → Type 0
 CommandFits (NewMut dst capacity align) = (dst < 2 ^ 64) × (capacity < 2 ^ 64) × (align < 2 ^ 64)
 CommandFits (Zeroed dst len align) = (dst < 2 ^ 64) × (len < 2 ^ 64) × (align < 2 ^ 64)

@@ -24,7 +24,7 @@ use Rattle.iobufs_owner.specs.State.{State}
 use Rattle.iobuf_lines.specs.declared.owner.line.Question.{Question}
 use Rattle.iobuf_lines.specs.declared.owner.line.Question.TheVariants as question
 
--- what is printed of an entry, where there is one
+-- an entry as it is printed, or `none`
 abbrev pub shown : {A : Type 0} → (A → List ℕ) → Option A → List ℕ
 shown text None = codes "none"
 shown text (Some x) = text x
@@ -61,7 +61,7 @@ step_reply_text (Refused cause) = codes "refused " ++ step_refusal_text cause
 abbrev pub number_text : ℕ → List ℕ
 number_text n = codes " " ++ decimal n
 
--- what a handle owns
+-- the word that a handle owns
 abbrev pub word_text : Word → List ℕ
 word_text Empty = codes "empty"
 word_text (Descriptor word) = codes "word" ++ number_text word

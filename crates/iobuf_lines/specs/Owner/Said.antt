@@ -1,4 +1,4 @@
--- What a line asks of the machine.
+-- The request that a line makes of the machine.
 --     ask_of, ask_in, ask_by                  what a line after the first asks, if anything; its words; its first
 --                                             word and the others
 --     freed_of, last_number_of                nothing follows the question for the logs; only a number follows
@@ -119,7 +119,7 @@ abbrev pub ask_in : List (List ℕ) → Option Ask
 ask_in [] = None
 ask_in (first ∷ words) = ask_by first words
 
--- what a line after the first asks, if it asks anything
+-- the request of a line after the first, if it makes one
 abbrev pub ask_of : List ℕ → Option Ask
 ask_of line = ask_in (words_of line)
 

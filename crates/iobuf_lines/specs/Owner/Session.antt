@@ -1,4 +1,4 @@
--- What a session with the machine answers.
+-- The answers of a session with the machine.
 --     machine_of                    the machine that a first line asks for, in which nothing has happened yet
 --     MakesRoom                     before a step the tables get space for an entry each, or that fails
 --     Answers, AreAnswered          a step is executed and its reply printed, a question changes nothing; and a list
@@ -28,12 +28,12 @@ abbrev pub machine_of : Setup → State
 machine_of setup =
     if setup.is_wide then fresh 6 17 40 setup.ceiling setup.parties else fresh 0 7 24 setup.ceiling setup.parties
 
--- room is made for a block, a handle and a record more; or it is refused, and nothing has changed
+-- capacity is reserved for one more block, handle and record; or that fails, and nothing has changed
 abbrev pub MakesRoom : (m grown : Seen) → Type 0
 MakesRoom m grown = ((grown.state ≡ m.state) × KeepsRoom m.room grown.room × RoomFor grown.room grown.state 1 1 1) ⊎ (grown ≡ m)
 
--- a step of the machine, before which room is made, is answered by its reply; a question changes nothing, and is answered by
--- what is looked at
+-- Capacity is reserved before a step of the machine, and its reply is the answer. A question changes nothing, and is
+-- answered by the state that it asks for.
 abbrev pub Answers : Seen → Ask → List ℕ → Seen → Type 0
 Answers m (Take step) text next = (grown : Seen) × (reply : Reply) × MakesRoom m grown × IsMove grown step reply next × (text ≡ step_reply_text reply)
 Answers m (Look question) text next = (next ≡ m) × (text ≡ answer_text m.state question)
@@ -49,9 +49,9 @@ AreAnswered m (ask ∷ asks) [] next = ⊥
 abbrev pub with_line_end : List ℕ → List ℕ
 with_line_end text = text ++ codes "\n"
 
--- So many lines of the input are answered: the first asks for a machine, those after it ask something of it, and `left` is
--- what the others ask. What is written is what was there before, `ok`, and the answers, a line each; and at its end the
--- machine is as promised.
+-- The first `count` lines of the input are answered, and `left` has the requests of the others. The first line asks for
+-- a machine, those after it ask something of it. The writer holds the bytes `before`, `ok`, and the answers, a line
+-- each. At the end the machine is as promised.
 pub record StepsAnswered (input before : List ℕ) (left : List (Option Ask)) (written : Option (List ℕ)) (count : ℕ) : Type 0 where
   pub first : List ℕ
   pub others : List (List ℕ)
@@ -86,7 +86,7 @@ pub record AsksForNone (input before : List ℕ) (written : Option (List ℕ)) :
 abbrev pub AllStepsAnswered : (input before : List ℕ) → (written : Option (List ℕ)) → Type 0
 AllStepsAnswered input before written = HasNoLine input before written ⊎ ((count : ℕ) × StepsAnswered input before [] written count)
 
--- so many lines were answered, and the next one asks nothing
+-- `count` lines were answered, and the next one asks nothing
 abbrev pub StepsAnsweredUpTo : (count : ℕ) → (input before : List ℕ) → (written : Option (List ℕ)) → Type 0
 StepsAnsweredUpTo count input before written =
     ((count ≡ 0) × AsksForNone input before written) ⊎ ((left : List (Option Ask)) × StepsAnswered input before (None ∷ left) written count)

@@ -86,7 +86,7 @@ abbrev pub FitsAct : Act → Type 0
 FitsAct (Go memory) = Unit {0}
 FitsAct (Begin call memory) = AreNumbers (numbers_in call)
 
--- what has a line: its numbers have 64 bits
+-- a request that has a line: its numbers have 64 bits
 abbrev pub AskFits : Ask → Type 0
 AskFits (Take step) = (step.party < 2 ^ 64) × FitsAct step.act
 AskFits (Look (Handle h)) = h < 2 ^ 64

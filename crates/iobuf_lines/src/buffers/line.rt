@@ -9,7 +9,7 @@ use iobufs_core::codec::RangeCfg;
 use iobufs_run::command::Cmd;
 use std::alloc::Global;
 
-// What the first word of a line asks for.
+// The command that the first word of a line names.
 #[derive(Clone, Copy, Debug, PartialEq, Eq)]
 enum Verb {
     New,
@@ -42,7 +42,7 @@ enum Verb {
     Show,
 }
 
-// What a static view is made of.
+// The bytes of which static views are made.
 const LETTERS: &[u8] = b"abcdefghijklmnopqrstuvwxyz";
 
 /// The command that a line says, if it says one. Its words are separated by one space each.
@@ -60,14 +60,14 @@ pub fn command(alloc: Global, line: &str) -> Result<Cmd, LineError>
     }
 }
 
-// What the first word of a line asks for, if it is a command.
+// The command that the first word of a line names, if it names one.
 fn verb_named(word: &str) -> Option<Verb>
     ensures { result ≡ verb_of word.now }
 {
     making_named(word).or_else(|| acting_named(word))
 }
 
-// What a word asks for, if it is one of those that put something under a name.
+// The command that a word names, if it is one that puts something under a name.
 fn making_named(word: &str) -> Option<Verb>
     ensures { result ≡ making_of word.now }
 {
@@ -92,7 +92,7 @@ fn making_named(word: &str) -> Option<Verb>
     }
 }
 
-// What a word asks for, if it is one of those that act on what a name holds.
+// The command that a word names, if it is one that acts on the buffer of a name.
 fn acting_named(word: &str) -> Option<Verb>
     ensures { result ≡ acting_of word.now }
 {

@@ -16,21 +16,21 @@ pub struct Setup {
     pub is_wide: bool,
 }
 
-/// What can be looked at.
+/// A question about the machine.
 #[derive(Clone, Copy, Drop)]
 pub enum Question {
-    /// How the handle of this number stands.
+    /// The state of the handle with this number.
     Handle(usize),
-    /// How the record of this number stands.
+    /// The state of the record with this number.
     Record(usize),
-    /// What is freed.
+    /// The blocks and records that were freed.
     Freed,
 }
 
-/// What a further line asks.
+/// The request of a further line.
 #[derive(Clone, Copy, Drop)]
 pub enum Ask {
-    /// A step of a party.
+    /// A step of a thread.
     Take(Step),
     /// An answer to a question, which changes nothing.
     Look(Question),
@@ -97,7 +97,7 @@ pub fn further_line(line: &str) -> Result<Ask, LineError>
     }
 }
 
-// What a party does: it goes on, or begins a call.
+// The act of a thread: it goes on, or begins a call.
 fn act(words: &mut Words) -> Result<Act, LineError>
     ensures ok { IfOk result (λ act. act_of words.old ≡ Some act) }
     ensures err { IfErr result (λ error. (error ≡ LineError.NoCommand) × (act_of words.old ≡ None)) }

@@ -14,15 +14,15 @@ pub struct ReplyLine(pub Reply);
 #[derive(Clone, Copy)]
 pub struct AnswerLine<'a>(pub &'a Machine, pub Question);
 
-// What a machine has as the handle of some number, as it is printed: it may never have been given, or be gone.
+// The handle of some number, as it is printed: it may never have been given, or be gone.
 #[derive(Clone, Copy)]
 struct HandleLine(Option<Option<Handle>>);
 
-// What a machine has as the record of some number, as it is printed.
+// The record of some number, as it is printed.
 #[derive(Clone, Copy)]
 struct RecordLine(Option<Record>);
 
-// What a machine has freed, as it is printed.
+// The blocks and records that a machine has freed, as they are printed.
 #[derive(Clone, Copy)]
 struct FreedLine<'a>(&'a Machine);
 
@@ -62,7 +62,7 @@ impl fmt::Display for ReplyLine {
     }
 }
 
-// What a handle owns, as it is printed.
+// The word that a handle owns, as it is printed.
 #[derive(Clone, Copy)]
 struct Owned(Word);
 

@@ -37,7 +37,7 @@ fn block_of(
     Arc::new(alloc, storage)
 }
 
-// The storage of a block, if nobody else has it. What is left is a shell.
+// The storage of a block, if no other handle has it. The block is left empty then.
 fn take_storage(block: &mut Arc<Vec<u8>>) -> Option<Vec<u8>>
     ensures { MatchOption result (block.new ≡ block.old) (λ storage. storage ≡ arc_value block.old) }
 {

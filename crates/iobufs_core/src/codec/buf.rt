@@ -12,7 +12,7 @@ pub trait Buf {
     // The bytes that are left.
     ghost text: { Self → List ℕ };
 
-    // What one `advance` leaves, and what `copy_to_bytes` leaves.
+    // The reader after one `advance`, and after `copy_to_bytes`.
     ghost advanced: { Self → ℕ → Self };
 
     ghost copied: { Self → ℕ → Self };

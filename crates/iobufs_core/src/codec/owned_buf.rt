@@ -15,10 +15,10 @@ use std::ops::Bound;
 pub trait OwnedBytes: Sized {
     ghost bytes_of: { Self → List ℕ };
 
-    // What `from_view` makes of a view.
+    // The value that `from_view` makes of a view.
     ghost makes: { View → Self → Type 0 };
 
-    // It is made of such a view without being refused.
+    // The views whose conversion can't fail.
     ghost is_free: { View → Type 0 };
 
     /// Converts a `Bytes` (`From`).

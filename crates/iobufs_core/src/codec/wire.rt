@@ -103,7 +103,7 @@ pub trait Read: Sized {
     /// The configuration of a read: what is required of the value.
     type Cfg;
 
-    // What reading answers on a text, and how a value that was read is dropped from its front.
+    // The result of a read, and how the value that was read is dropped from the front.
     ghost is_read: { MarkedText → Self.Cfg → Result Self AnyError → Type 0 };
 
     ghost dropping: { Self → List Dropping };
@@ -137,7 +137,7 @@ pub trait Codec: Write + Read {
     ghost no_front: { (x y : Self) (cfg other : Self.Cfg) (u v : List ℕ) → admits cfg x → admits other y → Self.written x ++ u ≡ Self.written y ++ v
         → Self.same x y };
 
-    // What is read is admitted, and is at the front as it is written; and as many bytes are dropped.
+    // A value that is read is admitted, and the bytes begin with its encoding. The read drops as many bytes.
     ghost read_written: { (value : Self) (cfg : Self.Cfg) (text : MarkedText) → Self.is_read text cfg (Ok value)
         → admits cfg value × (take (length (Self.written value)) text.bytes ≡ Self.written value) };
 

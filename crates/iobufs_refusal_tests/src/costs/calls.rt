@@ -102,7 +102,7 @@ impl Costed {
     }
 }
 
-// What a call is given: a range from the start, zeros, its bytes, how they are cut, and they as writable buffers.
+// The arguments of a call: a range from the start, zeros, its bytes, how they are cut, and they as writable buffers.
 #[derive(Drop)]
 pub struct Args {
     lo: usize,
@@ -210,7 +210,7 @@ fn recovered(alloc: Global, view: &mut IoBuf) -> Given {
     }
 }
 
-// What follows the first chunk, the length.
+// The rest after the first chunk, which is the length.
 fn body(mut text: IoBufs) -> IoBufs {
     let n = text.chunk().len();
     if n <= text.remaining() {
@@ -228,7 +228,7 @@ fn last(mut part: IoBufMut, n: usize) -> IoBufMut {
     part
 }
 
-// The value behind its length, read back.
+// The value, encoded after its length and read back.
 fn read_back(alloc: Global, view: &IoBuf) -> Result<IoBuf, Error> {
     IoBuf::read_cfg(alloc, &mut view.encode_iobufs(alloc)?, &ANY)
 }
@@ -246,7 +246,7 @@ fn built(alloc: Global, views: Vec<IoBuf>, size: usize) -> Result<IoBufs, BufErr
     builder.finish()
 }
 
-// A body behind its length.
+// A body, framed, without the length before it.
 fn framed(alloc: Global, text: IoBufs) -> Result<Given, BufError> {
     match framed_with(alloc, Prefix::Spelled, text) {
         Ok(text) => Ok(Given::Bufs(body(text))),

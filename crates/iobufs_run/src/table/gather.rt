@@ -63,7 +63,7 @@ pub(super) fn extent_at(slots: &[Slot], name: usize) -> usize
     }
 }
 
-// What these names count together, if a number can say it.
+// The sum of these names' extents, if it fits a `usize`.
 fn total(slots: &[Slot], names: &[usize]) -> Option<usize>
     ensures { SomeIff result (sum_by (λ name. extent (slot_named slots.now name)) names.now < 2 ^ 64)
         (sum_by (λ name. extent (slot_named slots.now name)) names.now) }

@@ -48,7 +48,7 @@ fn parts_shown(alloc: Global, parts: &IoBufsMut) -> Result<Vec<Piece>, AllocErro
     Ok(pieces)
 }
 
-// What a name holds, as it is shown.
+// The kind and the chunks of a slot's buffer, as they are shown.
 fn shown(alloc: Global, slot: &Slot) -> Result<(Kind, Vec<Piece>), Refusal>
     ensures ok { IfOk result (λ shown. Shows slot.now shown.0 (map shown_piece shown.1.items)) }
     ensures free { slot.now ≡ Slot.Free → result ≡ Err Refusal.WrongKind }

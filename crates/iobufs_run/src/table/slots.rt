@@ -1,4 +1,4 @@
-// What is taken from a slot and put there, and the command that frees a name.
+// Taking buffers from slots and putting them there, and the command that frees a name.
 ghost use Rattle.std.specs.Prelude.{◌≡◌, ◌<◌, slice_set, length, false, IfErr, IfOk};
 ghost use Rattle.iobufs_run.specs.declared.command.Cmd.{Cmd};
 ghost use Rattle.iobufs_run.specs.Run.{Step, reply_of};
@@ -23,8 +23,8 @@ pub(super) fn readable(slot: &Slot) -> usize
     }
 }
 
-/// Puts a buffer under a name. What the name held is dropped here, so that no other function has the branches of a
-/// drop.
+/// Puts a buffer under a name. The buffer that the name held is dropped here, so that no other function has the
+/// branches of a drop.
 #[inline(always)]
 pub(super) fn hold(slots: &mut [Slot], name: usize, slot: Slot)
     requires { name < length slots.old }
@@ -33,7 +33,7 @@ pub(super) fn hold(slots: &mut [Slot], name: usize, slot: Slot)
     slots[name] = slot;
 }
 
-/// Takes the part out of a slot. What is of another kind stays.
+/// Takes the writable buffer out of a slot. A buffer of another kind stays.
 #[inline(always)]
 pub(super) fn take_part(slot: &mut Slot) -> Result<IoBufMut, Refusal>
     ensures ok { IfOk result (λ part. (slot.old ≡ Slot.Part part) × (slot.new ≡ Slot.Free)) }
@@ -48,7 +48,7 @@ pub(super) fn take_part(slot: &mut Slot) -> Result<IoBufMut, Refusal>
     }
 }
 
-/// Takes the view out of a slot. What is of another kind stays.
+/// Takes the view out of a slot. A buffer of another kind stays.
 #[inline(always)]
 pub(super) fn take_view(slot: &mut Slot) -> Result<IoBuf, Refusal>
     ensures ok { IfOk result (λ view. (slot.old ≡ Slot.View view) × (slot.new ≡ Slot.Free)) }

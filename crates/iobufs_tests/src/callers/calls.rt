@@ -35,7 +35,7 @@ fn chunks_are_sent_two_at_a_time(rt: HostRuntime) -> Result<(), Fail> {
     Ok(())
 }
 
-// A writer that takes everything, except one write after so many.
+// A writer that takes everything, except the write after `before` others.
 #[derive(Drop)]
 struct Refuses {
     before: usize,
@@ -56,7 +56,7 @@ impl Write for Refuses {
     }
 }
 
-// What is left of three chunks if the write after so many is refused, or `None` if all are sent.
+// The number of bytes left of three chunks if the write after `before` others fails, or `None` if all are sent.
 fn left_behind(alloc: Global, most: usize, before: usize) -> Result<Option<usize>, BufError> {
     let mut text = text(alloc, &PIECES)?;
     let sent = send(alloc, &mut Refuses { before }, &mut text, most);

@@ -289,7 +289,7 @@ fn take_bodies(
     Ok(Ending::Other)
 }
 
-// What comes after the bodies comes a second time.
+// The ending after the bodies is reported a second time.
 fn assert_reading(
     rt: &(impl Abort + AllocGlobal),
     case: &Reading,

@@ -3,7 +3,7 @@ use crate::owner::schedules::PARTIES;
 use iobufs_owner::owner::{Act, Call, Reply, Step};
 use std::process::Abort;
 
-// What a party has begun and not ended.
+// The call that a thread has begun and not ended.
 #[derive(Clone, Copy, Debug, PartialEq, Eq, Drop)]
 pub enum Begun {
     Nothing,
@@ -16,7 +16,7 @@ pub enum Begun {
 }
 
 impl Begun {
-    // What the party has begun after an answered step.
+    // The call that the thread has begun after an answered step.
     fn after(self, act: Act, reply: Reply) -> Begun {
         match (self, act, reply) {
             (_, Act::Begin(Call::Drop(_), _), Reply::More) => Begun::Drop,

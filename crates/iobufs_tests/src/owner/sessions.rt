@@ -11,20 +11,20 @@ use std::alloc::{AllocError, Global};
 use std::process::Abort;
 use std::test::Fail;
 
-// What is done with a machine, and what it answers.
+// A line of a session: an action on the machine with its replies, or the contents of the tables.
 #[derive(Clone, Copy)]
 enum Line {
     // Entries are reserved in the tables of blocks, handles and records.
     Reserve(usize, usize, usize),
-    // A party steps without a reservation.
+    // A thread steps without a reservation.
     Bare(usize, Act, Reply),
-    // A party steps after one entry of each kind is reserved.
+    // A thread steps after one entry of each kind is reserved.
     Step(usize, Act, Reply),
     // Static views from one handle's number to another's, each made after one handle is reserved.
     Statics(usize, usize),
     // Steps as one list.
     Run(&'static [Step], &'static [Reply]),
-    // What its tables hold.
+    // The contents of its tables.
     Handles(&'static [Option<Handle>]),
     Records(&'static [Record]),
     Blocks(usize),
@@ -33,7 +33,7 @@ enum Line {
     FreedRecords(&'static [usize]),
 }
 
-// Lines on a machine of so many parties whose counts have this ceiling.
+// Lines on a machine of `parties` threads whose counts have this ceiling.
 #[derive(Clone, Copy)]
 struct Session {
     name: &'static str,

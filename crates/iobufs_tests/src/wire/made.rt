@@ -94,7 +94,7 @@ fn varint(bytes: &[u8]) -> Result<(u64, usize), Error> {
     })
 }
 
-// What a view is that is read from bytes, with a length in a range.
+// The bytes of a view that is read, with a length in a range.
 fn plain(bytes: &[u8], range: RangeCfg) -> Result<&[u8], Error> {
     let (value, len) = varint(bytes)?;
     let value = value as usize;

@@ -7,8 +7,8 @@ use Rattle.iobufs_frames.specs.declared.End.TheVariants.{Bad}
 use Rattle.iobufs_frames.specs.declared.lengths.Prefix.TheVariants.{Spelled}
 use Rattle.iobufs_frames.proofs.Frames.run.Given as goal
 
--- what was fed so far is these frames and the rest, with their marks, and with what is still to be fed it is the whole
--- text; no more pieces are to be fed than there were
+-- the bytes fed so far are these frames and the rest, with their marks; the bytes still to be fed complete the
+-- input. No more chunks are to be fed than there were
 abbrev pub invariant-loop-piece : goal.invariant-loop-piece
 invariant-loop-piece l = record {
   same : l.frames.prefix ≡ l.fn.prefix;

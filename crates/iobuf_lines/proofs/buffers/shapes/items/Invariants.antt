@@ -4,7 +4,7 @@ use Rattle.iobuf_lines.specs.Buffers.Commands.{plain_item}
 use Rattle.iobuf_lines.specs.Buffers.Shapes.{items_of}
 use Rattle.iobuf_lines.proofs.buffers.shapes.items.Given as goal
 
--- what all words say is the items so far, and after them what the words that are left say
+-- the items of all words are the items so far, and then those of the remaining words
 abbrev pub invariant-loop-word : goal.invariant-loop-word
 invariant-loop-word l = items_of l.fn.words ≡ option_map (λ items. map plain_item l.items.items ++ items) (items_of l.words)
 
