@@ -120,7 +120,7 @@ pub fn split(view: &mut IoBuf, at: usize) -> Result<IoBuf, BufError> {
 }
 
 fn copied(alloc: Global, view: &mut IoBuf, n: usize) -> Result<Bytes, BufError> {
-    if view.remaining() < n {
+    if view.len() < n {
         return Err(BufError::TooLong);
     }
     view.copy_to_bytes(alloc, n)

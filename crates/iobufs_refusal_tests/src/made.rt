@@ -69,8 +69,9 @@ pub fn shows(text: &IoBufs, chunks: &[&[u8]]) -> bool {
         return false;
     }
     for (i, chunk) in chunks.iter().enumerate() {
-        if text.chunk_at(i) != Some(*chunk) {
-            return false;
+        match text.chunk_at(i) {
+            Some(shown) if shown == *chunk => (),
+            _ => return false,
         }
     }
     true

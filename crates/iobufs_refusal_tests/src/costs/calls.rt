@@ -196,11 +196,10 @@ fn own<B: Peek>(
 }
 
 // The bytes in place of zeros.
-fn filled(mut room: Vec<u8>, bytes: &[u8]) -> Vec<u8> {
-    if room.len() == bytes.len() {
-        room.as_mut_slice().copy_from_slice(bytes);
-    }
-    room
+fn filled(mut room: Vec<u8>, bytes: &[u8]) -> Result<Vec<u8>, BufError> {
+    room.clear();
+    room.extend_from_slice(bytes)?;
+    Ok(room)
 }
 
 fn recovered(alloc: Global, view: &mut IoBuf) -> Given {
@@ -284,18 +283,18 @@ fn maker(alloc: Global, call: Costed, args: Args) -> Result<Given, BufError> {
     match call {
         Costed::Copy => Ok(Given::View(IoBuf::copy_from_slice(alloc, bytes)?)),
         Costed::CopyPart => Ok(Given::Part(IoBufMut::copy_from_slice(alloc, bytes)?)),
-        Costed::OfList => Ok(Given::View(IoBuf::from_vec(filled(room, bytes))?)),
-        Costed::PartOfList => Ok(Given::Part(IoBufMut::from(filled(room, bytes)))),
-        Costed::TextOfList => Ok(Given::Bufs(IoBufs::from_vec(filled(room, bytes))?)),
+        Costed::OfList => Ok(Given::View(IoBuf::from_vec(filled(room, bytes)?)?)),
+        Costed::PartOfList => Ok(Given::Part(IoBufMut::from(filled(room, bytes)?))),
+        Costed::TextOfList => Ok(Given::Bufs(IoBufs::from_vec(filled(room, bytes)?)?)),
         Costed::OfBytesMut => Ok(Given::View(IoBuf::from_bytes_mut(BytesMut::from(filled(
             room, bytes,
-        )))?)),
+        )?))?)),
         Costed::PartOfBytes => {
-            let bytes = Bytes::from_vec(filled(room, bytes))?;
+            let bytes = Bytes::from_vec(filled(room, bytes)?)?;
             Ok(Given::Part(IoBufMut::from_bytes(alloc, bytes)?))
         }
         Costed::PartOfBytesMut => {
-            let bytes = BytesMut::from(filled(room, bytes));
+            let bytes = BytesMut::from(filled(room, bytes)?);
             Ok(Given::Part(IoBufMut::from_bytes_mut(bytes)?))
         }
         Costed::Capacity => nothing(IoBufMut::with_capacity(alloc, hi)?.capacity() == hi),

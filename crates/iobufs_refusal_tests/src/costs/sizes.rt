@@ -78,11 +78,12 @@ fn pieces(
     length: &'static [u8],
     body: &'static [u8],
 ) -> Result<Vec<IoBuf>, BufError> {
-    let (first, rest) = body.split_at(body.len() / 3);
-    let (second, third) = rest.split_at(rest.len() / 2);
+    let first = body.len() / 3;
+    let second = first.saturating_add(first);
     let mut pieces = Vec::new(alloc);
-    for piece in [length, first, second, third] {
-        pieces.push(IoBuf::from(piece))?;
+    pieces.push(IoBuf::from(length))?;
+    for range in [0..first, first..second, second..body.len()] {
+        pieces.push(IoBuf::from(body.get(range).unwrap_or_default()))?;
     }
     Ok(pieces)
 }
