@@ -1,4 +1,4 @@
--- What a builder holds, and the pieces that it finishes to.
+-- The contents of a builder, and the chunks that it finishes to.
 pub mod AddLaws
 pub mod BuildLaws
 pub mod FinishLaws

@@ -71,7 +71,7 @@ sent_on a b c text middle rest p q = record {
   grew = appends_on a b c p.front q.front p.grew q.grew;
 }
 
--- what a writer took of the front of a text went off, where that front was dropped
+-- the first n bytes are sent if a writer took them and they are dropped
 pub sent_front : (held holds : Option (List ℕ)) (text rest : List ℕ) (n : ℕ) → Appends held holds (take n text) → rest ≡ drop n text
     → IsSent held holds text rest
 sent_front held holds text rest n h is = record { front = take n text; whole = sym (take-append-drop n text) ∙ ap (λ w. take n text ++ w) (sym is); grew = h }
@@ -86,7 +86,7 @@ sent_none held holds text rest is same =
 pub sent_all : (held holds : Option (List ℕ)) (text rest : List ℕ) → IsSent held holds text rest → rest ≡ [] → Appends held holds text
 sent_all held holds text rest is none = subst (Appends held holds) (sym (is.whole ∙ ap (λ w. is.front ++ w) none ∙ append-nil is.front)) is.grew
 
--- what an advance drops
+-- an advance by n drops n bytes
 pub length-advanced : (text new : MarkedText) (n : ℕ) → n ≤ length text.bytes → new ≡ text_advanced text n → length text.bytes ≡ n + length new.bytes
 length-advanced text new n within is =
     omega (arith, within, ap (λ (t : MarkedText). length t.bytes) is, ap (λ (w : List ℕ). length w) (bytes-advanced text n within), length-drop n text.bytes)
@@ -126,7 +126,7 @@ written_within bytes_of slices text most (Err error) is bound = tt
 
 -- ---- storing
 
--- what a reader gave went into the room of parts
+-- bytes that a reader gave fill the spare capacity of buffers
 pub record IsStored (had has : Option (List ℕ)) (old new : List Part) : Type 0 where
   pub read : List ℕ
   pub gave : Consumes had has read
@@ -223,7 +223,7 @@ frozen-parts (part ∷ parts) = ap (λ w. w ++ flat_map (λ (v : View). v.bytes)
 pub bytes-parts_frozen : (parts : List Part) → (parts_frozen parts).bytes ≡ parts_filled parts
 bytes-parts_frozen parts = bytes-joined (map part_frozen parts) ∙ frozen-parts parts
 
--- what came into parts cut to no bytes
+-- emptied buffers contain exactly the bytes that were read into them, and the rest of their capacity is spare
 stored_all : (had has : Option (List ℕ)) (parts old new : List Part) → old ≡ parts_with_len parts 0 → (is : IsStored had has old new)
     → (parts_filled new ≡ is.read) × (parts_capacity parts ≡ parts_spare new + length is.read)
 stored_all had has parts old new cut is =
@@ -231,7 +231,7 @@ stored_all had has parts old new cut is =
     let room : parts_spare old ≡ parts_capacity parts = ap parts_spare cut ∙ emptied-spare parts in
     (ap parts_filled is.filled.1 ∙ filled-empty old is.read none is.filled.0, sym room ∙ filled_lessens old new is.read is.filled)
 
--- such parts are full, or their reader has no more
+-- emptied buffers are full after a store, or their reader is at its end
 pub stored_done : {P : Type 0} (had has : Option (List ℕ)) (parts old new : List Part) (text : MarkedText) → old ≡ parts_with_len parts 0
     → IsStored had has old new → text ≡ parts_frozen new
     → (parts_spare new ≡ 0) ⊎ P → (length text.bytes ≡ parts_capacity parts) ⊎ P

@@ -813,7 +813,7 @@ impl IoBufs {
         Ok(made)
     }
 
-    // Bytes from a place on as one buffer: of their piece, or a copy where they span pieces.
+    // Bytes from an offset on as one buffer: a slice of their chunk, or a copy if they span chunks.
     fn taken(&self, alloc: Global, skip: usize, n: usize) -> Result<IoBuf, BufError>
         requires { skip + n ≤ text_len self.now }
         ensures ok { IfOk result (λ view. view ≡ taken_view self.now skip n) }
@@ -839,7 +839,7 @@ impl IoBufs {
         }
     }
 
-    // Copies bytes that lie after the first piece, or span pieces.
+    // Copies bytes that come after the first chunk, or span chunks.
     #[inline(never)]
     fn peek_behind(&self, skip: usize, dst: &mut [u8])
         requires { skip + length dst.old ≤ text_len self.now }
@@ -862,7 +862,7 @@ impl IoBufs {
         Ok(Bytes::from_vec(self.pieces.copy_front(alloc, n)?)?)
     }
 
-    // What is made of the first piece, which has `n` bytes and goes.
+    // Removes the first chunk, which has `n` bytes, and makes a `T` of it.
     fn take_first<T: OwnedBytes>(&mut self, alloc: Global, n: usize) -> Result<T, BufError>
         requires some { 0 < n }
         requires first { n ≡ length (first_chunk (text_chunks self.old)) }

@@ -22,9 +22,9 @@ use std::marker::Model;
 /// A put doesn't allocate. `finish` splits the inline buffer between pushed views, and copies no byte.
 pub struct Builder {
     inline: IoBufMut,
-    // What was pushed, after gaps for the inline bytes.
+    // The pushed views, after gaps for the inline bytes.
     pushes: Gapped,
-    // How many inline bytes stand before the last push.
+    // How many inline bytes come before the last push.
     placed: usize,
     // How many bytes pushes may still add.
     pushable: usize,

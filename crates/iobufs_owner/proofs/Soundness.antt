@@ -1,4 +1,4 @@
--- What keeps the machine sound, call by call.
+-- The machine stays sound (`IsSound`), call by call.
 pub mod New
 pub mod NewRecord
 pub mod AddHolder

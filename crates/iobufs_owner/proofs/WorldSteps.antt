@@ -1,4 +1,4 @@
--- What makes a move by the tables a step of the world, call by call.
+-- Each move of the concrete state is a step of the abstract state, call by call.
 pub mod Taken
 pub mod TryIntoMut
 pub mod Demote

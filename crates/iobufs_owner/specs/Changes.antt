@@ -1,6 +1,6 @@
 -- The small changes of a state, with their replies.
 --     Outcome, refused, done                   a reply and the state after it; a refusal and a plain success
---     on_lent                                  what is done with the handle of a call, or its refusal
+--     on_lent                                  the outcome of a call on its handle, or its refusal
 --     edited, state_without, replaced          another handle under a number, none, or either
 --     with_handle, made                        one handle more, and its number as the reply
 --     called, unfinished_call                  a thread's call from now on; and with `More` as the reply
@@ -13,7 +13,7 @@ use Rattle.std.specs.Prelude.{ℕ, ◌+◌, ◌-◌, true, false, [], ◌∷◌,
 use Rattle.iobufs_owner.specs.Types.{Block, Freed, Handle, View, Word, Empty, Pending, Refusal, Reply, Made, More, Done, Refused}
 use Rattle.iobufs_owner.specs.State.{State, Tables, block_at, record_at, triple}
 
--- a reply, and what stands after it
+-- a reply, and the state after it
 pub record Outcome : Type 0 where
   pub reply : Reply
   pub state : State
@@ -22,7 +22,7 @@ pub record Outcome : Type 0 where
 abbrev pub refused : State → Refusal → Outcome
 refused s why = record { reply = Refused why; state = s }
 
--- what is done with the handle of a call, or its refusal
+-- the outcome of a call on its handle, or its refusal
 abbrev pub on_lent : State → Result Handle Refusal → (Handle → Outcome) → Outcome
 on_lent s (Err why) f = refused s why
 on_lent s (Ok x) f = f x

@@ -1,4 +1,4 @@
--- What each step of a clone, a slice and a drop makes of a state: the calls that may take several.
+-- The effect on a state of each step of a clone, a slice and a drop: the calls that may take several.
 --     clone_of                        how a clone begins
 --     slice_of                        how a slice begins; an empty one needs no block
 --     share_by                        what the loaded word makes of a clone or slice: a view at once, or a call with

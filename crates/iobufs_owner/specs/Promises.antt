@@ -1,4 +1,4 @@
--- What a user of the machine may rely on after every step of every run.
+-- The guarantees of the machine to its users, after every step of every run.
 --     Promises       all of them: counts, sole holders, recovered blocks, and logs that say what is freed, once
 --     IsPublished    a live record that its block goes by, and not one that a clone has just made
 --     IsFreed        the log says that the block was given back

@@ -1,4 +1,4 @@
--- What a call that ends with its first step makes of a state: each call but clones, slices and drops.
+-- The effect on a state of each call that ends with its first step: all except clones, slices and drops.
 --     made_block, first_handle, whole_view           a block, and the first handle on it: writable and empty, or a
 --                                                    view of all
 --     described_of, recorded_of                      a new block under a descriptor, and under a record
@@ -9,7 +9,7 @@
 --     put_of                                         bytes put after those of a writable handle
 --     advance_of, advanced                           the first bytes dropped
 --     IsLoose                                        a handle that is gone, or holds nothing
---     freed_with                                     what a sole holder owns is freed
+--     freed_with                                     the block of a sole holder is freed, and its record
 --     freeze_of, freeze_by, frozen                   a writable handle becomes a view; an empty one frees its block
 --     promoted                                       a record in place of a descriptor
 --     recover_of, recover_by, thawed, declined       a view becomes writable again, or stays since it isn't the sole
@@ -17,7 +17,7 @@
 --     split_of, split_by, split_with                 the first bytes of a view become another one, and both hold the
 --                                                    block
 --     unique_of, is_unique                           whether a handle is the sole holder
---     demote_of, demote_by, demote_counted,          a sole view gives up its record for a descriptor, which has the
+--     demote_of, demote_by, demote_counted,          a sole view replaces its record by a descriptor, which has the
 --     may_demote, described, tail_of                 number of bytes of the block after the view
 use Rattle.std.specs.Prelude.{◌≡◌, ◌⊎◌, ℕ, ◌+◌, ◌-◌, ◌^◌, nat_lt, nat_eq, Bool, true, false, length, Option, None, Some, ◌&&◌, ◌||◌, not, if◌then◌else◌}
 use Rattle.iobufs_owner.specs.Types.{Block, Handle, View, Mut, Word, Empty, Descriptor, Counted, OutOfRange, BadPlace, Memory, Ceiling, Declined, Unique}
@@ -102,7 +102,7 @@ advance_of s h n = on_lent s (lend_any_of s h) (λ x. if nat_lt x.len n then ref
 abbrev pub IsLoose : Option Handle → Type 0
 IsLoose o = (o ≡ None) ⊎ (o ≡ Some (detached_handle 0))
 
--- what a handle owns alone is freed
+-- the block that a handle owns alone is freed, and the record that it goes by, if any
 abbrev pub freed_with : State → Handle → Word → State
 freed_with s x Empty = s
 freed_with s x (Descriptor w) = block_freed s (recovered s.tables x w)

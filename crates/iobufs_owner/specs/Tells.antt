@@ -1,6 +1,6 @@
--- What the answers of a machine tell.
---     IsSole, TellsUnique    no other handle and no drop holds the block; and `IsUnique` answers just that
---     CountsTaken            a step leaves its party's call with fewer than four steps taken
+-- The meaning of a machine's replies.
+--     IsSole, TellsUnique    no other handle and no drop holds the block; and `IsUnique` reports just that
+--     CountsTaken            a step leaves its thread's call with fewer than four steps executed
 use Rattle.std.specs.Prelude.{◌≡◌, ◌≢◌, ◌↔◌, ℕ, ◌<◌, ◌≤◌, Bool, true, false, Some}
 use Rattle.iobufs_owner.specs.Types.{IsUnique, Begin, Step, Reply, Unique}
 use Rattle.iobufs_owner.specs.World.{World, LiveHandle, held_at, going_at, holds, still_holds}

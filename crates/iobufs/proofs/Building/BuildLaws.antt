@@ -146,7 +146,7 @@ pub pushes-kept : (part : Part) (ss : List Segment) (placed pushable : ℕ) (b :
     → building_from part ss placed ≡ b → room_for_pushes b ≡ pushable
 pushes-kept part ss placed pushable b limited is = ap room_for_pushes (sym is) ∙ pushes-building part ss placed pushable limited
 
--- what the fields keep is what a builder keeps
+-- items in turn stay in turn if inline bytes, or none, and then a view with bytes are put before them
 in_turn-run : (bytes : List ℕ) (view : View) (items : List PutOrPush) → 0 < length view.bytes → AreInTurn items
     → AreInTurn (inline_run bytes ++ push_item view ∷ items)
 in_turn-run [] view items some rest = (some, rest)
@@ -160,7 +160,7 @@ in_turn-front bytes (gap n ∷ gap m ∷ ss) h = absurd h
 in_turn-front bytes (gap n ∷ standing view ∷ ss) (some, stands, others) =
     in_turn-run (take n bytes) view (items_front (drop n bytes) ss) stands (in_turn-front (drop n bytes) ss others)
 
--- what the fields of a builder say takes turns and keeps to its room, where the fields keep what they have to
+-- the builder that fields represent has its items in turn and within its capacity, if the fields keep their invariant
 pub IsBuilding-kept : (part : Part) (ss : List Segment) (placed pushable : ℕ) (b : Building) → gaps_len ss ≡ placed → placed ≤ length part.filled
     → AreSegments ss → part_capacity part + stood_len ss + pushable + 1 ≡ 2 ^ 64 → building_from part ss placed ≡ b → IsBuilding b
 IsBuilding-kept part ss placed pushable b counted within segments limited is = subst IsBuilding is (

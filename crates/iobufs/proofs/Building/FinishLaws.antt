@@ -137,7 +137,7 @@ finished-bytes b =
     ∙ items_bytes-append b.front (inline_run b.last)
     ∙ ap (λ more. items_bytes b.front ++ more) (run-bytes b.last)
 
--- what a new builder makes of items has the bytes of the items, whatever its capacity
+-- a new builder finishes to the bytes of the items that it was given, whatever its capacity
 pub encoded-bytes : (capacity : ℕ) (items : List PutOrPush) → (finished (building_after (empty_building capacity) items)).bytes ≡ items_bytes items
 encoded-bytes capacity items = finished-bytes (building_after (empty_building capacity) items) ∙ bytes-built (empty_building capacity) items
 

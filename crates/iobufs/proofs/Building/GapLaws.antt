@@ -122,7 +122,7 @@ filling-set all ps i p q rest left end after inside at h fill len less moved end
     (subst (λ (w : List Piece). IsFilling all (take i ps) w rest end) behind h)
     fill len less moved ends view (take_more_set ps i q inside))
 
--- what a piece asks of what is left
+-- the inline bytes that are left suffice for the gap of the next chunk, and the chunk ends below 2 ^ 64
 pub filling-first : (all : List View) (ps : List Piece) (i : ℕ) (p : Piece) (rest : View) (end : ℕ) → i < length ps → p ≡ slice_index_or ps i p
     → IsFilling all (take i ps) (drop i ps) rest end → (gap_len (segment_of p) ≤ length rest.bytes) × (end + segment_len (segment_of p) < 2 ^ 64)
 filling-first all ps i p rest end inside at h =
@@ -132,7 +132,7 @@ filling-first all ps i p rest end inside at h =
     let within = g.within in
     let fits = g.fits in (omega arith, omega arith)
 
--- what is left follows
+-- after the last gap is filled, the bytes that are left follow as the last chunk, if there are any
 pub filled-last : (all vs ws : List View) (rest : View) → vs ++ filled rest [] ≡ all → ws ≡ (if length rest.bytes == 0 then vs else vs ++ rest ∷ []) → ws ≡ all
 filled-last all vs ws rest so_far is =
     ⊎_elim

@@ -1,4 +1,4 @@
--- What several parts coalesce to, and bytes that are put into exactly their room.
+-- The buffer that several coalesce to, and bytes that are put into a buffer of exactly their length.
 use Rattle.std.proofs.Common.{◌≡◌, ℕ, None, List, [], ◌∷◌, length, refl, sym, arith}
 use Rattle.std.proofs.lemmas.Option.{none-some}
 use Rattle.iobufs_core.specs.LayoutLaws.{bad_layout_one}

@@ -1,4 +1,4 @@
--- What draining leaves of several parts, by the definitions: shares, and those that can hold a byte.
+-- The buffers that draining leaves, by the definitions: each without its share, and those that can hold a byte.
 use Rattle.std.proofs.Common.{◌≡◌, ℕ, ◌-◌, ◌<◌, ◌≤◌, List, [], ◌∷◌, ◌++◌, length, drop, refl, sym, ap, ◌∙◌, arith, length-append, length-drop, nat_eq, nat_lt}
 use Rattle.std.proofs.Math.Seq.{drop-nil}
 use Rattle.std.proofs.lemmas.Bool.{cond_both, cond-true, cond-false, eqb-true, ltb-true, ltb-false, lt-ltb, le-ltb}

@@ -88,10 +88,10 @@ draining-stops row new used n left d less drained =
           (shared_out-none (part_drained p n ∷ rest) ∙ sym (shared_out-first p rest n inside) ∙ ap (λ ps. parts_shared_out ps n) (sym are)) ∙ d.left_is;
     }
 
--- the first part, of so many bytes, is drained: it goes after the others
+-- the first buffer, of `len` bytes, is drained: it goes after the others
 module _ (row rest : List Part) (p q : Part) (used n len : ℕ) (left : List Part) (d : IsDraining row used n left) (more : 0 < n) (front : row ≡ p ∷ rest)
     (len_is : len ≡ length p.filled) (most : len ≤ n) (is : q ≡ part_drained p len) where
-  -- what the first part and the others are
+  -- p is the first of the buffers that aren't drained, and the rest is the others of these and then the drained ones
   first_is : (others : List Part) × (d.others ≡ p ∷ others) × (rest ≡ others ++ d.behind)
   first_is =
       let (r, others, are) = first_of d.others n more d.some in
@@ -173,7 +173,7 @@ pub shortened-row : (row new : List Part) (used n : ℕ) → AreBehind row used 
 shortened-row row new used n behind parts some less drained =
     draining-ends new used 0 _ refl (draining-stops row new used n _ (draining-begins row used n behind parts some) less drained)
 
--- what draining leaves is kept with its sums
+-- the buffers that draining leaves keep their invariant, with their sums
 pub kept-drained-row : (row new : List Part) (used behind n full still len capacity : ℕ) → AreKept row used full len capacity → n ≤ length (parts_filled row)
     → in_order new behind ≡ parts_drained (in_order row used) n → AreBehind new behind → still ≡ full - (length row - length new)
     → AreKept new behind still (len - n) (capacity - n)

@@ -32,7 +32,7 @@ pub with_capacity-none : (p : Part) (parts : List Part) → part_capacity p ≡ 
 with_capacity-none p parts none =
     cond-false (nat_lt 0 (part_capacity p)) (p ∷ with_capacity parts) (with_capacity parts) (le-ltb 0 (part_capacity p) (omega arith))
 
--- what works on one part after the other, and carries s along, leaves capacities, and passes by a part that has none
+-- a walk over buffers in order, which carries s along, keeps each capacity; a buffer without capacity leaves s as it is
 record Walks {S : Type 0} (f : List Part → S → List Part) (g : Part → S → Part) (h : Part → S → S) : Type 0 where
   nothing : (s : S) → f [] s ≡ []
   step : (p : Part) (ps : List Part) (s : S) → f (p ∷ ps) s ≡ g p s ∷ f ps (h p s)

@@ -1,4 +1,4 @@
--- What the calls on parts keep: capacities, lengths, and what is kept true of parts.
+-- The calls on buffers keep capacities, the number of buffers, and their invariant (`IsParts`).
 use Rattle.std.proofs.Common.{◌≡◌, ℕ, ◌+◌, ◌-◌, List, [], ◌∷◌, ◌++◌, length, take, drop, replicate, min, refl, sym, ap, ◌∙◌, arith, length-append, length-take, length-drop}
 use Rattle.std.specs.List.{sum_by}
 use Rattle.std.proofs.lemmas.List.{length-replicate}

@@ -1,4 +1,4 @@
--- What the calls on several parts do to the sums that are kept beside them.
+-- The effect of the calls on several buffers on the sums that are stored with them.
 use Rattle.std.proofs.Common.{◌≡◌, ℕ, ◌+◌, ◌-◌, ◌≤◌, List, [], ◌∷◌, ◌++◌, length, take, drop, replicate, min, refl, ap, ◌∙◌, sym, arith, nat_eq, length-append, length-take, length-drop}
 use Rattle.std.proofs.lemmas.Bool.{cond_both, eqb-true}
 use Rattle.std.proofs.lemmas.List.{length-replicate}

@@ -248,7 +248,7 @@ row-shorten b n (p ∷ ps) qs h l is =
       full = (omega arith, h.full.1);
     })
 
--- what a search asks of the ends of a row, and of a place in it
+-- the ends of a deque, and an offset in it, meet the requirements of a search
 pub row-search : (b place : ℕ) (ps : List Piece) → IsRow b ps → place < length (pieces_bytes (views_in ps)) → IsSearch (ends_from b ps) place
 row-search b place [] h l = absurd (omega arith)
 row-search b place (p ∷ ps) h l =

@@ -11,7 +11,7 @@ use Rattle.iobufs_core.specs.View.{View}
 use Rattle.iobufs.specs.Inside.Pieces.{bytes_behind, piece_at, pieces_bytes, view_len}
 use Rattle.iobufs.proofs.Text.CopyLaws.{bytes-from, slice_from}
 
--- what stands at a place begins with the bytes that were compared, and goes on with the rest
+-- `start` and `bytes` begin with the same compared bytes, and go on with `rest` and `left`
 pub record IsMatched (start bytes left rest : List ℕ) : Type 0 where
   pub done : List ℕ
   pub compared : bytes ≡ done ++ left
@@ -90,7 +90,7 @@ matched-past start bytes left rest chunk behind more m stands same is =
     let parts : left ≡ chunk ++ more = sym (take-append-drop n left) ∙ ap (λ xs. xs ++ drop n left) front ∙ ap (λ xs. chunk ++ xs) (sym is) in
     matched-more start bytes left rest chunk more behind m parts stands
 
--- nothing stands any more, and there was enough
+-- if `rest` is empty and `start` is long enough, `start` begins with `bytes`
 pub matched-end : (start bytes left rest : List ℕ) → IsMatched start bytes left rest → rest ≡ [] → length bytes ≤ length start → start ≡ bytes ++ rest
 matched-end start bytes left rest m none enough =
     let b = length-append m.done left in
@@ -99,13 +99,13 @@ matched-end start bytes left rest m none enough =
     (omega (arith, b, s, enough, ap length m.compared, ap length m.stands, ap length none)) in
     matched-all start bytes left rest rest m (sym (ap (λ xs. xs ++ rest) left_none))
 
--- after the last piece no bytes stand
+-- after the last chunk there are no bytes
 pub none-behind : (vs : List View) (i o : ℕ) → length vs ≤ i → bytes_behind vs i o ≡ []
 none-behind vs i o l =
     let none : length (pieces_bytes (drop i vs)) ≡ 0 = ap (λ (ws : List View). length (pieces_bytes ws)) (drop_all i vs l) in
     nil_from_length (bytes_behind vs i o) (omega (arith, length-drop o (pieces_bytes (drop i vs)), none))
 
--- from inside a piece on stands what is left of it, and the pieces after it
+-- the bytes from an offset in a chunk on are the rest of the chunk, and the chunks after it
 pub chunk-stands : (vs : List View) (i o : ℕ) (all : List ℕ) → i < length vs → o ≤ view_len (piece_at vs i) → all ≡ (piece_at vs i).bytes
     → bytes_behind vs i o ≡ take (length all - o) (drop o all) ++ pieces_bytes (drop (i + 1) vs)
 chunk-stands vs i o all l inside is =
@@ -119,7 +119,7 @@ further-behind vs i o n all l inside is =
     ∙ ap (λ xs. xs ++ pieces_bytes (drop (i + 1) vs))
     (sym (drop-drop n o (piece_at vs i).bytes) ∙ ap (λ xs. drop n (drop o xs)) (sym is) ∙ ap (drop n) (sym (slice_from o all)))
 
--- what stands is as long as what is left to compare where all is as long as all
+-- `left` is as long as `rest` if `bytes` is as long as `start`
 pub matched-lengths : (start bytes left rest : List ℕ) → IsMatched start bytes left rest → length bytes ≡ length start → length left ≡ length rest
 matched-lengths start bytes left rest m same =
     omega (arith, same, ap length m.compared, ap length m.stands, length-append m.done left, length-append m.done rest)

@@ -59,7 +59,7 @@ both_gone : text_advanced (joined (native ab 8 ∷ native cd 8 ∷ [])) 4 ≡ de
 unfolding text_right text_glue
 both_gone = refl
 
--- what is taken across chunks is a copy of exact room, and within a chunk has its mark
+-- bytes taken across chunks are a copy of exact capacity; bytes taken within a chunk have its storage kind
 taken_one : taken_view (joined (fixed ab ∷ fixed cd ∷ [])) 0 1 ≡ fixed (97 ∷ [])
 unfolding taken_view text_glue
 taken_one = refl

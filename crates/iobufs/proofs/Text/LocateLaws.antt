@@ -7,7 +7,7 @@ use Rattle.iobufs.specs.Inside.Pieces.{view_len, piece_at, pieces_bytes, piece_s
 use Rattle.iobufs.proofs.Text.Sides.{both, FromOn, le_up, upto_none, upto_up, is_le, not_le}
 use Rattle.iobufs.proofs.Text.TakenLaws.{from_on-of_pieces}
 
--- how many cuts stand at most at a place
+-- the number of cuts at an offset or before it
 abbrev cuts_upto : List (ℕ × Mark) → ℕ → ℕ
 cuts_upto cuts at = length (filter (λ key. nat_le key at) (map (λ (cut : ℕ × Mark). cut.0) cuts))
 
@@ -69,7 +69,7 @@ located (v ∷ w ∷ vs) at (suc i) o sum inside =
     let b = ih.1 in
     (omega arith, omega arith)
 
--- what is told of a place is where it stands among the keys
+-- the index of the chunk of an offset, plus one, is the number of keys up to the offset
 pub index-located : (vs : List View) (t : MarkedText) (at i o : ℕ) → of_pieces vs ≡ t → IsChunkPlace vs at i o → i + 1 ≡ keys_upto t at
 index-located vs t at i o e place =
     let h = (located vs at i o place.sum place.inside).0 in
@@ -77,7 +77,7 @@ index-located vs t at i o e place =
     let c = ap (λ (x : MarkedText). cuts_upto x.cuts at) e in
     omega arith
 
--- a place lies as far after the greatest key at most there as it lies in its piece
+-- an offset is the greatest key up to it, plus its distance in its chunk
 pub offset-located : (vs : List View) (t : MarkedText) (at i o : ℕ) → of_pieces vs ≡ t → IsChunkPlace vs at i o → greatest_key t at + o ≡ at
 offset-located vs t at i o e place =
     let h = (located vs at i o place.sum place.inside).1 in

@@ -1,4 +1,4 @@
--- What a reader of a text in several pieces sees and takes.
+-- The chunks that a reader of several chunks sees, and the bytes that it takes.
 use Rattle.std.proofs.Common.{◌≡◌, ◌≢◌, Result, Ok, Err, IfOk, ℕ, ◌+◌, ◌-◌, ◌<◌, ◌≤◌, true, false, Some, List, [], ◌∷◌, ◌++◌, length, take, drop, map, zero, suc, refl, sym, ap, ◌∙◌, arith, tests, add-one, append-nil, length-append, length-drop, length-take-le, take_all, zero-add, get_or, nat_eq, ⊎_elim, subst}
 use Rattle.std.specs.List.{slice_get}
 use Rattle.std.specs.declared.ops.Bound.TheVariants.{Included, Excluded}
@@ -87,7 +87,7 @@ rest-length vs i =
     ∙ ap length (sym (flat_map-append (λ (v : View). v.bytes) (take i vs) (drop i vs)))
     ∙ ap (λ (ws : List View). length (pieces_bytes ws)) (take-append-drop i vs)
 
--- what is taken of one piece, and across pieces
+-- the first n bytes of a view advanced by o are its slice from o to o + n
 front-advanced : (v : View) (o n : ℕ) → 0 < n → view_front (view_advanced v o) n ≡ view_slice v (Included o) (Excluded (o + n))
 front-advanced v o n p = grind (arith, nat_tests, common_steps, drop-take)
 
@@ -96,7 +96,7 @@ right-place : (vs : List View) (t : MarkedText) (skip i o : ℕ) → of_pieces v
 right-place vs t skip i o e h l =
     ap (λ (x : MarkedText). text_right x skip) (sym e) ∙ right-of_pieces skip vs l ∙ ap of_pieces (right-at_place vs skip i o h)
 
--- bytes that lie in one piece are taken as a slice of it
+-- bytes inside one chunk are taken as a slice of it
 pub taken-within : (vs : List View) (t : MarkedText) (skip n i o : ℕ) → of_pieces vs ≡ t → IsChunkPlace vs skip i o → skip < length (pieces_bytes vs)
     → 0 < n → n ≤ view_len (piece_at vs i) - o → view_slice (piece_at vs i) (Included o) (Excluded (o + n)) ≡ taken_view t skip n
 taken-within vs t skip n i o e h l p m =
@@ -105,7 +105,7 @@ taken-within vs t skip n i o e h l p m =
     sym (taken_view-right skip n t ∙ ap (λ (x : MarkedText). taken_view x 0 n) (right-place vs t skip i o e h l)
     ∙ taken_view-within n v (drop (suc i) vs) p (omega arith) ∙ front-advanced (piece_at vs i) o n p)
 
--- bytes that lie in several pieces are taken as a copy without spare bytes, frozen
+-- bytes that span chunks are taken as a copy without spare bytes, frozen
 pub taken-across : (vs : List View) (t : MarkedText) (skip n i o : ℕ) (copy : List ℕ) → of_pieces vs ≡ t → IsChunkPlace vs skip i o
     → skip + n ≤ length (pieces_bytes vs) → view_len (piece_at vs i) - o < n → copy ≡ take n (drop o (pieces_bytes (drop i vs)))
     → part_frozen (record { filled = copy; spare = 0 }) ≡ taken_view t skip n
@@ -213,7 +213,7 @@ none-shown now items t max e z = ap (map now) e ∙ sym (ap (take max) (chunks-o
     none zero = refl
     none (suc n) = refl
 
--- what a call answers, under another name
+-- a call that returns view a returns view b, if a and b are equal
 pub as_view : {E : Type 0} (result : Result View E) (a b : View) → a ≡ b → IfOk result (λ v. v ≡ a) → IfOk result (λ v. v ≡ b)
 as_view result a b e h = subst (λ x. IfOk result (λ v. v ≡ x)) e h
 

@@ -80,7 +80,7 @@ last-front vs ws v front at i o is last place some cut =
     let before : take i vs ≡ ws = ap (take i) is ∙ take-seam ws v i e in
     sym (left-at_place vs at i o place some ∙ (λ k. before k ++ view_front (here k) o ∷ []) ∙ ap (λ x. ws ++ x ∷ []) (sym cut))
 
--- the last piece advanced is what stands from a place in it on
+-- the last chunk, advanced, is the right side of an offset in it
 pub last-behind : (vs ws : List View) (v behind : View) (at i o : ℕ) → vs ≡ ws ++ v ∷ [] → i + 1 ≡ length vs → IsChunkPlace vs at i o
     → behind ≡ view_advanced v o → behind ∷ [] ≡ right_pieces vs at
 last-behind vs ws v behind at i o is last place cut =
@@ -90,11 +90,11 @@ last-behind vs ws v behind at i o is last place cut =
     let none : drop (suc i) vs ≡ [] = ap (drop (suc i)) is ∙ drop-all ws v i e in
     sym (right-at_place vs at i o place ∙ (λ k. view_advanced (here k) o ∷ none k) ∙ ap (λ x. x ∷ []) (sym cut))
 
--- a place in the last piece lies in it before its end
+-- the distance of an offset in the last chunk is below the chunk's length
 pub last-inside : (vs ws : List View) (v : View) (at i o : ℕ) → vs ≡ ws ++ v ∷ [] → i + 1 ≡ length vs → IsChunkPlace vs at i o → o < view_len v
 last-inside vs ws v at i o is last place = omega (arith, place.inside, ap (λ (x : View). view_len x) (last-here vs ws v i is last))
 
--- what stands after the last piece is popped
+-- a deque is the entries that a pop leaves, and then the popped one
 pub popped : (ps qs : List Piece) (last : Option Piece) (p : Piece) → ps ≡ qs ++ option_to_list last → last ≡ Some p → ps ≡ qs ++ p ∷ []
 popped ps qs last p is some = is ∙ ap (λ x. qs ++ option_to_list x) some
 
@@ -102,7 +102,7 @@ popped ps qs last p is some = is ∙ ap (λ x. qs ++ option_to_list x) some
 pub views-popped : (ps qs : List Piece) (p : Piece) → ps ≡ qs ++ p ∷ [] → views_in ps ≡ views_in qs ++ p.view ∷ []
 views-popped ps qs p is = ap (λ (xs : List Piece). views_in xs) is ∙ map-append (λ (q : Piece). q.view) qs (p ∷ [])
 
--- a place in the last piece is the number of bytes before that piece, and how far it lies in it
+-- an offset in the last chunk is the number of bytes before that chunk, plus the distance in it
 pub last-sum : (vs ws : List View) (v : View) (at i o : ℕ) → vs ≡ ws ++ v ∷ [] → i + 1 ≡ length vs → IsChunkPlace vs at i o → at ≡ length (pieces_bytes ws) + o
 last-sum vs ws v at i o is last place =
     let n = length-append ws (v ∷ []) in

@@ -10,7 +10,7 @@ pub up_up : (m n : ℕ) (es : List (ℕ × Mark)) → map (moved_up m) (map (mov
 up_up m n [] = refl
 up_up m n (e ∷ es) = let h = up_up m n es in let k : m + (n + e.0) ≡ m + n + e.0 = omega arith in cc
 
--- of three texts in order the first two, or the last two, may be joined first
+-- joining is associative: the first two of three byte strings, or the last two, may be joined first
 pub glue_assoc : (x y z : MarkedText) → text_glue (text_glue x y) z ≡ text_glue x (text_glue y z)
 unfolding text_glue
 glue_assoc x y z =
@@ -19,7 +19,7 @@ glue_assoc x y z =
     let u = up_up (length x.bytes) (length y.bytes) z.cuts in
     simp (length-append, append_assoc, map-append, up_up)
 
--- what a test chooses is alike for two functions where both of its answers are
+-- two functions agree on a conditional if they agree on both of its branches
 pub both : {A B C : Type 0} (f : A → C) (g : B → C) (b : Bool) (x y : A) (v w : B) → f x ≡ g v → f y ≡ g w → f (cond b x y) ≡ g (cond b v w)
 both f g true x y v w p q = p
 both f g false x y v w p q = q

@@ -180,7 +180,7 @@ only-run : (vs run : List View) (i k : ℕ) → i < length vs → run ≡ take (
 only-run vs run i k index is none =
     is ∙ ap (λ m. take (m + 1) (drop i vs)) none ∙ ap (take 1) (drop-cons vs i default_view index)
 
--- what follows a place of a static piece alone, which has n bytes there: its first chunk has them, and is static
+-- a single static chunk with n bytes after an offset leaves, cut there, a static first chunk of at least n bytes
 pub static-run : (vs run : List View) (t : MarkedText) (from n i o k : ℕ) → AreFull vs → IsChunkPlace vs from i o → run ≡ take (k + 1) (drop i vs) → k ≡ 0
     → 0 < n → o + n ≤ view_len (piece_at vs i) → (piece_at vs i).mark ≡ static_mark → t ≡ text_rest (of_pieces run) o
     → (n ≤ length (first_chunk (text_chunks t))) × ((taken_view t 0 n).mark ≡ static_mark)

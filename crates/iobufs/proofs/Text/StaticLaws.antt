@@ -1,4 +1,4 @@
--- What is taken is static text only where its piece is.
+-- Bytes are taken with static storage only if their chunk is static.
 use Rattle.std.proofs.Common.{◌≡◌, ℕ, ◌+◌, ◌-◌, ◌<◌, ◌≤◌, List, length, take, drop, length-drop, length-take-le, refl, sym, subst, ap, ◌∙◌, arith}
 use Rattle.std.specs.declared.ops.Bound.TheVariants.{Included, Excluded}
 use Rattle.std.proofs.lemmas.Bool.Decides.{nat_tests}
@@ -22,7 +22,7 @@ still-static n (native_mark room) e = absurd (subst IsStatic (sym e) tt)
 mark-slice : (v : View) (o n : ℕ) → 0 < n → (view_slice v (Included o) (Excluded (o + n))).mark ≡ mark_after o v.mark
 mark-slice v o n some = grind (arith, nat_tests, common_steps)
 
--- one byte or more that lie in one piece are taken as static text only where that piece is static
+-- one byte or more inside one chunk are taken with static storage only if that chunk is static
 pub static-within : (vs : List View) (t : MarkedText) (skip n i o : ℕ) → of_pieces vs ≡ t → IsChunkPlace vs skip i o → skip < length (pieces_bytes vs)
     → 0 < n → n ≤ view_len (piece_at vs i) - o → (taken_view t skip n).mark ≡ static_mark → (piece_at vs i).mark ≡ static_mark
 static-within vs t skip n i o e h l some m static =
@@ -33,7 +33,7 @@ mark-frozen : (copy : List ℕ) → 0 < length copy → (part_frozen (record { f
     ≡ native_mark (part_capacity (record { filled = copy; spare = 0 }))
 mark-frozen copy some = grind (arith, nat_tests, common_steps)
 
--- bytes that lie in several pieces are never taken as static text
+-- bytes that span chunks are never taken with static storage
 pub across-native : (vs : List View) (t : MarkedText) (skip n i o : ℕ) → of_pieces vs ≡ t → IsChunkPlace vs skip i o → skip + n ≤ length (pieces_bytes vs)
     → view_len (piece_at vs i) - o < n → (taken_view t skip n).mark ≡ static_mark → ⊥
 across-native vs t skip n i o e h l m static =

@@ -1,4 +1,4 @@
--- What is taken as one view.
+-- Bytes taken as one view.
 use Rattle.std.proofs.Common.{◌≡◌, ℕ, ◌+◌, ◌-◌, ◌<◌, ◌≤◌, true, false, cond, nat_lt, nat_le, List, [], ◌∷◌, ◌++◌, length, take, map, filter, refl, sym, ap, ◌∙◌, arith, tests, append-nil, ⊎_elim, nat_eq, ◌&&◌, zero-add}
 use Rattle.std.proofs.lemmas.List.{take-append-le}
 use Rattle.std.proofs.lemmas.Bool.{cases_lt}
@@ -10,7 +10,7 @@ use Rattle.iobufs.specs.Inside.Pieces.{view_len, pieces_bytes, of_pieces}
 use Rattle.iobufs.proofs.Text.Sides.{FromOn, from_on-up, upto_none, is_lt, not_zero, not_lt, not_le, same_view, mark_after-zero}
 use Rattle.iobufs.proofs.Text.PieceLaws.{bytes-of_pieces, mark-of_pieces}
 
--- what is taken from inside is what is taken from the front of the right side
+-- a cut is inside the first n bytes of the right side exactly if one is inside the n bytes after the offset
 pub any_down : (skip n : ℕ) (es : List (ℕ × Mark))
     → list_any (λ e. nat_lt 0 e.0 && nat_lt e.0 n) (map (moved_down skip) (filter (λ e. nat_lt skip e.0) es))
     ≡ list_any (λ e. nat_lt skip e.0 && nat_lt e.0 (skip + n)) es
@@ -57,13 +57,13 @@ any_from_on at n (e ∷ es) f l =
     let ih = any_from_on at n es f.1 l in
     let h : nat_lt e.0 n ≡ false = not_lt e.0 n (omega arith) in rw (h, and-false (nat_lt 0 e.0)) ih
 
--- all cuts in a text of pieces stand at the end of the first or after it
+-- all cuts between chunks are at the end of the first chunk or after it
 pub from_on-of_pieces : (v : View) (vs : List View) → FromOn (view_len v) (of_pieces (v ∷ vs)).cuts
 unfolding of_pieces text_glue
 from_on-of_pieces v [] = tt
 from_on-of_pieces v (w ∷ vs) = (omega arith, from_on-up (view_len v) (of_pieces (w ∷ vs)).cuts)
 
--- what one view at the front holds
+-- the first n bytes are taken as a prefix of the first view, if that contains them
 pub taken_view-within : (n : ℕ) (v : View) (vs : List View) → 0 < n → n ≤ view_len v → taken_view (of_pieces (v ∷ vs)) 0 n ≡ view_front v n
 unfolding taken_view
 taken_view-within n v vs p l =
@@ -81,7 +81,7 @@ unfolding of_pieces text_glue
 cut-of_pieces v [] n p l e = let k : length (v.bytes ++ []) ≡ view_len v = ap length (append-nil v.bytes) in absurd (omega arith)
 cut-of_pieces v (w ∷ vs) n p l e = rw (is_lt 0 (view_len v) p, is_lt (view_len v) (0 + n) (omega arith))
 
--- what the first view does not hold
+-- the first n bytes are taken as native bytes of exact capacity, if the first view contains fewer
 pub taken_view-across : (n : ℕ) (v : View) (vs : List View) → 0 < view_len v → view_len v < n → n ≤ length (pieces_bytes (v ∷ vs))
     → taken_view (of_pieces (v ∷ vs)) 0 n ≡ record { bytes = take n (pieces_bytes (v ∷ vs)); mark = native_mark n }
 unfolding taken_view

@@ -115,7 +115,7 @@ views-left vs ws at is h = subst AreViews (sym is) (AreViews-left at vs h)
 pub views-rest : (vs ws : List View) (n : ℕ) → ws ≡ rest_pieces vs n → AreViews vs → AreViews ws
 views-rest vs ws n is h = subst AreViews (sym is) (AreViews-rest n vs h)
 
--- what `advance` leaves
+-- `advance` on a single chunk leaves the view of the chunk, advanced
 pub advanced-one : (v : View) (t : MarkedText) (n : ℕ) → of_pieces (v ∷ []) ≡ t → n ≤ view_len v → of_pieces (view_advanced v n ∷ []) ≡ text_advanced t n
 advanced-one v t n e l = of_pieces-one (view_advanced v n) ∙ sym (advanced-of_view n v l)
     ∙ ap (λ (x : MarkedText). text_advanced x n) (sym (of_pieces-one v) ∙ e)

@@ -22,23 +22,23 @@ views_in pieces = map (λ (piece : Piece). piece.view) pieces
 abbrev pub ends_from : ℕ → List Piece → List ℕ
 ends_from base pieces = map (λ (piece : Piece). from_base base piece.end) pieces
 
--- a piece's end as it is stored, and where the piece ends, with so many bytes before it
+-- a chunk's end as it is stored, and where the chunk ends, with `start` bytes before it
 pub record IsEndPlace (base start : ℕ) (piece : Piece) : Type 0 where
   pub stored : piece.end < 2 ^ 64
   pub placed : from_base base piece.end ≡ start + view_len piece.view
 
--- so many bytes stand before the first piece, and each end is where its piece ends
+-- `start` bytes come before the first chunk, and each end is where its chunk ends
 abbrev pub AreEnds : ℕ → ℕ → List Piece → Type 0
 AreEnds base start [] = Unit {0}
 AreEnds base start (piece ∷ pieces) = IsEndPlace base start piece × AreEnds base (start + view_len piece.view) pieces
 
--- what a row keeps true: each end, less the base, is where its piece ends in the text, and each piece holds bytes
+-- the invariant of a deque: each end, less the base, is where its chunk ends in the bytes, and each chunk has bytes
 pub record IsRow (base : ℕ) (pieces : List Piece) : Type 0 where
   pub based : base < 2 ^ 64
   pub ended : AreEnds base 0 pieces
   pub full : AreFull (views_in pieces)
 
--- what a search among ends asks of them and of its place
+-- the requirements of a search: rising ends, and an offset below the last of them
 pub record IsSearch (ends : List ℕ) (place : ℕ) : Type 0 where
   pub rising : IsRising ends
   pub some : 0 < length ends

@@ -55,7 +55,7 @@ abbrev pub right_pieces : List View → ℕ → List View
 right_pieces [] at = []
 right_pieces (v ∷ vs) at = if nat_lt at (view_len v) then view_advanced v at ∷ vs else right_pieces vs (at - view_len v)
 
--- what is left without the first bytes; the empty view where all go
+-- the rest without the first bytes; the empty view if all go
 abbrev pub rest_pieces : List View → ℕ → List View
 rest_pieces pieces n = if n == length (pieces_bytes pieces) then default_view ∷ [] else right_pieces pieces n
 

@@ -25,7 +25,7 @@ building_from part segments placed = record { capacity = part_capacity part; fro
 abbrev pub building_of : Inside → Building
 building_of b = building_from b.inline b.pushes.segments b.placed
 
--- what a builder keeps true of its fields
+-- the invariant of a builder's fields
 pub record IsBuilder (b : Inside) : Type 0 where
   pub counted : gaps_len b.pushes.segments ≡ b.placed
   pub within : b.placed ≤ length b.inline.filled

@@ -1,8 +1,8 @@
--- What a row of pieces, a row in the making, and a search among ends are seen as.
---     ViewRow          views in order, and how many there is room for
---     Segment, SegmentRow    a `gap` for bytes to come or a `standing` view; several in order, and how many there is room
---                      for
---     Sought           a search under way: ends, the place looked for, and how many ends were looked at
+-- The values of a chunk deque, of a deque in the making, and of a search among ends.
+--     ViewRow          views in order, and the capacity for views
+--     Segment, SegmentRow    a `gap` for bytes to come or a `standing` view; several in order, and the capacity for
+--                      segments
+--     Sought           a search under way: ends, the offset that it looks for, and how many ends it has looked at
 use Rattle.std.specs.Prelude.{ℕ, List}
 use Rattle.iobufs_core.specs.View.{View}
 
@@ -11,7 +11,7 @@ pub record ViewRow : Type 0 where
   pub views : List View
   pub room : ℕ
 
--- a place in a row in the making: so many bytes that are to come, or a view that stands
+-- an entry of a deque in the making: a number of bytes that are to come, or a view
 pub data Segment : Type 0 where
   gap : ℕ → Segment
   standing : View → Segment

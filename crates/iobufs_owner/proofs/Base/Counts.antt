@@ -100,7 +100,7 @@ count-two p (x ∷ xs) zero (suc j) d n h l t u = rw t (omega (arith, count-some
 count-two p (x ∷ xs) (suc i) zero d n h l t u = rw u (omega (arith, count-some p xs i d (omega arith) t))
 count-two p (x ∷ xs) (suc i) (suc j) d n h l t u = omega (arith, count-two p xs i j d (λ e. n (ap suc e)) (omega arith) (omega arith) t u)
 
--- what follows from a test, by its answer
+-- a proof by cases of the result of a test
 found-first : {P : Type 0} (v : Bool) {w : Bool} → (w ≡ true → P) → (w ≡ false → P) → w ≡ v → P
 found-first true t f e = t e
 found-first false t f e = f e

@@ -1,4 +1,4 @@
--- What a handle's word says in a sound machine; and that puts, advances, freezes and recoveries in place keep it sound.
+-- The meaning of a handle's word in a sound machine; and puts, advances, freezes and recoveries in place keep it sound.
 use Rattle.iobufs_owner.proofs.Base.Known.{◌≡◌, inl, inr, ℕ, ◌+◌, ◌-◌, ◌%◌, ◌^◌, ◌<◌, ◌≤◌, ◌&&◌, ◌||◌, zero, suc, get_or, List, [], ◌∷◌, Bool, true, false, Option, Some, None, SomeIff, sym, ◌∙◌, ap, subst, refl, arith, length, leb_tells, mod-eq_of_lt, Handle, View, Mut, Record, Kind, Block, Pending, Word, Empty, Descriptor, Counted, HasRoom, IsWord, word_of, State, Tables, owner_of, base_by, block_with, handle_at, record_at, block_at, size_in, tail_in, retailed, edited, detached_handle, is_lent, Lends, advanced, frozen, thawed, is_mut, holders, is_block, reading, read_handle, read_call, IsSound, FitsWord, DescribesBlock, HoldsNothing, IsDescribed, IsCounted, LiesIn, LeavesBehind, alone, describes, is_descriptor, hidden, pow_pos, length-map, nat_tests, and_right, IsPlace, eqb_tells, log_below, log_of}
 use Rattle.iobufs_owner.proofs.Base.Words.{word-size, word-tail, retailed-is, log-below}
 use Rattle.iobufs_owner.proofs.Base.StaysSound.{sound-edited, at-some, owner-empty, owner-counted}
@@ -105,7 +105,7 @@ word-fits s x w b log tail k d =
       is = d.word;
     }
 
--- what lies in its block ends where addresses end
+-- a handle inside a block ends below 2 ^ 64, if the block does
 end-kind : (b : Block) (x : Handle) (kind : Kind) → b.base + b.size < 2 ^ 64 → LiesIn b x kind → x.ptr + x.len < 2 ^ 64
 end-kind b x View e lies = omega (arith, e, lies.ends)
 end-kind b x Mut e lies = omega (arith, e, lies.ends, lies.within)

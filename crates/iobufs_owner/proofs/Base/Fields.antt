@@ -2,7 +2,7 @@
 use Rattle.iobufs_owner.proofs.Base.Known.{◌≡◌, length, subst, sym, ap, vec_capacity, state_of, seen_of, IsReady, IsSound, State, Seen}
 use Rattle.iobufs_owner.specs.declared.owner.Machine.TheInside.{Inside}
 
--- what was known of the machine is known of its fields
+-- a property of the machine's state holds of the state that its fields keep
 pub before : (P : State → Type 0) (m : Inside) (n : Seen) → seen_of m ≡ n → P n.state → P (state_of m)
 before P m n e p = subst P (sym (ap (λ (n : Seen). n.state) e)) p
 

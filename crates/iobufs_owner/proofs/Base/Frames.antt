@@ -1,4 +1,5 @@
--- What tables that keep what handles and calls speak of leave as it was: readings, counts, holders and users; and blocks by their bases.
+-- Tables that keep what handles and calls speak of leave readings, counts, holders and users as they were; and blocks
+-- by their bases.
 use Rattle.iobufs_owner.proofs.Base.Known.{releases, holds, drops, still_holds, ◌≡◌, ◌≢◌, ℕ, ◌+◌, ◌==◌, Bool, true, false, cond, List, [], ◌∷◌, ◌++◌, length, map, ap, refl, arith, All, Option, Some, None, option_map, length-append, All-head, All-tail, get_or_append_left, State, Tables, block_with, tally, read_handle, read_call, Fits, alone, describes, Block, Handle, Pending, eq-eqb, ne_eqb, LiveHandle, IsSound, Unfinished, sym, ◌∙◌}
 use Rattle.iobufs_owner.proofs.Base.Kept.{Keeps, owner-kept, KeepsLetGo, calls-read-kept, releases-kept}
 use Rattle.iobufs_owner.proofs.Base.Counts.{count-map, held_by, still_by, drops_by}
@@ -14,7 +15,7 @@ handles-kept g k calls [] e f = refl
 handles-kept g k calls (o ∷ hs) e f =
     rw (read-kept g k calls o e (All-head (Fits g calls) o hs f), handles-kept g k calls hs e (All-tail (Fits g calls) o hs f)) refl
 
--- of handles that fit as many have to be alone on a block, by tables that keep what they speak of
+-- as many handles that fit have to be alone on a block, by tables that keep what they speak of
 pub alone-kept : (g k : Tables) (calls : List (Option Pending)) (b : ℕ) (hs : List (Option Handle)) → Keeps g k → All (Fits g calls) hs
     → tally (alone k b) hs ≡ tally (alone g b) hs
 alone-kept g k calls b [] e f = refl
@@ -22,7 +23,7 @@ alone-kept g k calls b (None ∷ hs) e f = rw (alone-kept g k calls b hs e (All-
 alone-kept g k calls b (Some x ∷ hs) e f =
     rw (owner-kept g k calls x e (All-head (Fits g calls) (Some x) hs f), alone-kept g k calls b hs e (All-tail (Fits g calls) (Some x) hs f)) refl
 
--- of handles that fit as many describe a block, by tables that keep what they speak of
+-- as many handles that fit describe a block, by tables that keep what they speak of
 pub describes-kept : (g k : Tables) (calls : List (Option Pending)) (b : ℕ) (hs : List (Option Handle)) → Keeps g k → All (Fits g calls) hs
     → tally (describes k b) hs ≡ tally (describes g b) hs
 describes-kept g k calls b [] e f = refl
@@ -66,7 +67,7 @@ grown-keeps g b = record {
   records = λ r e. refl;
 }
 
--- what other tables count as before
+-- by tables k as many handles and calls as before hold a block, drop it, must be alone on it, describe or release it
 pub record Alike (s : State) (k : Tables) : Type 0 where
   pub held : (b : ℕ) → tally (held_by k b) s.handles ≡ tally (held_by s.tables b) s.handles
   pub still : (b : ℕ) → tally (still_by k b) s.calls ≡ tally (still_by s.tables b) s.calls

@@ -98,8 +98,8 @@ names r c = false
 abbrev pub KeepsLetGo : Tables → Tables → Option Pending → Type 0
 KeepsLetGo g k c = (r : ℕ) → c ≡ Some (Release r) → (record_at g r).live ≡ true → has_let_go k r ≡ has_let_go g r
 
--- what a call asks of a change: the handle that it borrows stays, and so do the records that it counts on, hidden or not,
--- its block keeps its holders, and it has let go where it had
+-- A call requires of a change: the handle that it borrows stays, and so do the records that it counts on, hidden or
+-- not. The block that it is about to free keeps its holders, and the call has let go exactly if it had.
 pub record Leaves (s t : State) (c : Option Pending) : Type 0 where
   pub tables : Keeps s.tables t.tables
   pub live : (r : ℕ) → names r c ≡ true → (record_at s.tables r).live ≡ true → (record_at t.tables r).live ≡ true
@@ -109,12 +109,12 @@ pub record Leaves (s t : State) (c : Option Pending) : Type 0 where
   pub let_go : KeepsLetGo s.tables t.tables c
   pub holders : (r : ℕ) → c ≡ Some (Release r) → holders (reading t) (record_at s.tables r).block ≡ holders (reading s) (record_at s.tables r).block
 
--- a clone or slice that shares a view shares it in another state, where the view stands there too
+-- a clone or slice that shares a view shares it in another state, if that has the view under the same number
 pub shares-kept : (s t : State) (part : Share) (x : Handle) → (handle_at s part.handle ≡ Some x → handle_at t part.handle ≡ Some x) → Shares s part x
     → Shares t part x
 shares-kept s t part x at h = record { at = at h.at; view = h.view; order = h.order; within = h.within }
 
--- what a loaded descriptor promised holds by tables that keep what it speaks of, where the view holds the same by them
+-- a loaded descriptor speaks of its block by tables that keep the block too, if the view holds the same block by them
 pub promised-kept : (g k : Tables) (x : Handle) (w b : ℕ) → Keeps g k → owner_of k x ≡ owner_of g x → SpeaksOf g x w b → SpeaksOf k x w b
 promised-kept g k x w b e o p =
     let y : Handle = record x { word = Descriptor w } in
@@ -183,7 +183,7 @@ pub calls-kept : (s t : State) → t.calls ≡ s.calls → Keeps s.tables t.tabl
 calls-kept s t same e live at fit inside a n known f = calls-fit-kept s t same e (λ _ r _ _ t. live r t) at fit inside a
     (λ p r h i. n (record_at s.tables r).block (known r (let g = rw i at (f p None h) in g.live))) f
 
--- what calls are read as, and which of them release a block
+-- a call that fits is read alike by tables that keep what it speaks of, if it has let go as before
 pub call-read-kept : (s : State) (k : Tables) (c : Option Pending) → Keeps s.tables k → KeepsLetGo s.tables k c → FitsCall s c
     → read_call k c ≡ read_call s.tables c
 call-read-kept s k (Some (Subtract r)) e a f = rw (e.records r f.0) refl
@@ -203,7 +203,7 @@ release-kept : (s : State) (k : Tables) (b : ℕ) (c : Option Pending) → Keeps
 release-kept s k b (Some (Release r)) e f = rw (e.records r f.live) refl
 release-kept s k b c e f = refl
 
--- of calls that fit as many release a block, by tables that keep what they speak of
+-- as many calls that fit release a block, by tables that keep what they speak of
 pub releases-kept : (s : State) (k : Tables) (b : ℕ) (cs : List (Option Pending)) → Keeps s.tables k → All (FitsCall s) cs
     → tally (releases k b) cs ≡ tally (releases s.tables b) cs
 releases-kept s k b [] e f = refl
@@ -222,7 +222,7 @@ fits-calls g cs ds x (Counted r) e f = record {
   native = f.native;
 }
 
--- another call for a party: where it fits, and each other one has left to it what it relies on, all fit
+-- another call for a thread: if it fits, and each other call is left what it relies on, all fit
 pub calls-fit-set : (s t : State) (p : ℕ) (c : Option Pending) → p < length s.calls → FitsCall t c
     → ((i : ℕ) → i ≢ p → i < length s.calls → Leaves s t (call_at s i)) → All (FitsCall s) s.calls → All (FitsCall t) (set s.calls p c)
 calls-fit-set s t p c l f leaves k = All-from_get_or (FitsCall t) (set s.calls p c) None (λ i li.

@@ -1,4 +1,4 @@
--- What proofs cite of std, and of `specs/`.
+-- Names that proofs cite from std and from `specs/`.
 pub use Rattle.std.proofs.Common.{All, Bool, Err, IsSome, List, MatchBool, MatchOption, None, Ok, Option, Result, Some, SomeIff, [], add-one, ap, arith, bit_and, bit_or, cond, false, get_or, inl, inr, length, length-append, map, nat_eq, nat_lt, not, option_map, refl, replicate, rules, set, subst, suc, sym, take, true, unwrap_or, vec_len, zero, ℕ, ◌%◌, ◌&&◌, ◌*◌, ◌++◌, ◌+◌, ◌-◌, ◌/◌, ◌<◌, ◌==◌, ◌^◌, ◌||◌, ◌↔◌, ◌∙◌, ◌∷◌, ◌≡◌, ◌≢◌, ◌≤◌, ◌⊎◌}
 pub use Rattle.std.proofs.Math.ListN.{length-set}
 pub use Rattle.std.proofs.Math.Nat.{div-eq_of_lt, mod-eq_of_lt}

@@ -1,4 +1,4 @@
--- What lending a handle tells, and when a changed handle holds what it held.
+-- Properties of a handle that a call may have (`lend_of`), and when a changed handle holds the block that it held.
 use Rattle.iobufs_owner.proofs.Base.Known.{◌≡◌, ℕ, ◌+◌, Bool, true, false, cond, Option, Some, None, Ok, Err, ap, sym, ◌∙◌, refl, arith, Handle, Kind, View, Mut, Word, Empty, Descriptor, Counted, WrongKind, Borrowed, State, Tables, owner_of, owner_by, base_by, block_with, handle_at, lend_of, is_lent, Lends, same_kind, asked, lend_any_of}
 
 -- kinds that the test finds alike are the same
@@ -14,18 +14,18 @@ asked-some test y x true true t e = absurd (cc)
 asked-some test y x false true t e = let q : y ≡ x = cc in (ap Some q, ap test (sym q) ∙ t, refl)
 asked-some test y x b false t e = absurd (cc)
 
--- what is had stands under the number, passes the test and isn't borrowed
+-- an element that `asked` returns is the one under the number, passes the test and isn't borrowed
 pub asked-ok : {X : Type 0} (test : X → Bool) (b : Bool) (o : Option X) (x : X) → asked test b o ≡ Ok x → (o ≡ Some x) × (test x ≡ true) × (b ≡ false)
 asked-ok test b None x e = absurd (cc)
 asked-ok test b (Some y) x e = asked-some test y x b (test y) refl e
 
--- a handle that is lent stands under the number, is of the kind, and is borrowed by no call
+-- a handle that a call may have is the one under the number, is of the kind, and is borrowed by no call
 pub lend-tells : (s : State) (h : ℕ) (kind : Kind) (x : Handle) → lend_of s h kind ≡ Ok x → Lends s h kind x
 lend-tells s h kind x e =
     let a = asked-ok (λ (x : Handle). same_kind x.kind kind) (is_lent h s.calls) (handle_at s h) x e in
     record { at = a.0; kind_is = same-kind x.kind kind a.1; free = a.2 }
 
--- a handle of either kind that may be had alone stands under the number, and is borrowed by no call
+-- a handle of either kind that a call may have alone is the one under the number, and is borrowed by no call
 pub any-tells : (s : State) (h : ℕ) (x : Handle) → lend_any_of s h ≡ Ok x → Lends s h x.kind x
 any-tells s h x e =
     let a = asked-ok (λ (x : Handle). true) (is_lent h s.calls) (handle_at s h) x e in

@@ -118,7 +118,7 @@ is_freed-append b (x ∷ fs) f = rw (is_freed-append b fs f)
 same-triple : (b : Block) → same_freed b (triple b) ≡ true
 same-triple b = rw (eq-eqb b.base b.base refl, eq-eqb b.size b.size refl, eq-eqb b.align b.align refl) refl
 
--- what isn't in the log, by its triple
+-- if the log doesn't have a block, no entry of it is the block's triple
 not-logged : (b : Block) (fs : List Freed) (i : ℕ) (d : Freed) → is_freed b fs ≡ false → i < length fs → get_or fs i d ≢ triple b
 not-logged b [] i d e l h = absurd (omega arith)
 not-logged b (f ∷ fs) zero d e l h = let z = rw (h, same-triple b) at e in cc

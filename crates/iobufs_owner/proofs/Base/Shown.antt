@@ -1,9 +1,9 @@
--- What users see under a number is what the tables have there, read: a handle, its capacity, and the cause against it.
+-- Users see under a number the entry of the tables, read: a handle, its capacity, and the cause against it.
 use Rattle.iobufs_owner.proofs.Base.Known.{◌≡◌, ℕ, zero, suc, Bool, true, false, cond, Option, Some, None, Result, Ok, Err, List, [], ◌∷◌, map, get_or, sym, refl, arith, Handle, Kind, View, Mut, Pending, Loaded, Word, Empty, Descriptor, Counted, Refusal, WrongKind, Borrowed, State, Tables, owner_of, handle_at, IsSound, FitsWord, LiveHandle, held_at, borrows, is_shared, reading, read_handle, read_held, read_call, lend_of, is_lent, borrows_it, same_kind, alone_of, any_of, view_of, capacity, capacity_in, ap, asked, is_empty, is_some, lend_any_of, lend_owning_of, lend_owning_view_of, lend_view_of, not, owning_of, owning_view_of, ◌&&◌}
 use Rattle.iobufs_owner.proofs.Base.StaysSound.{owner-empty, owner-counted}
 use Rattle.iobufs_owner.proofs.Base.Edits.{fits-at, described-at}
 
--- what a mapped list has at a place is what the list has there, mapped, and so after its end
+-- a mapped list has at each index the element of the list, mapped; after its end it has the default, mapped
 pub get_or-read : {X Y : Type 0} (f : X → Y) (xs : List X) (i : ℕ) (d : X) → get_or (map f xs) i (f d) ≡ f (get_or xs i d)
 get_or-read f [] i d = refl
 get_or-read f (x ∷ xs) zero d = refl

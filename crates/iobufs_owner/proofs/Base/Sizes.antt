@@ -46,7 +46,7 @@ wants-grows m t (inl w) = inl w.0
 wants-grows m t (inr (inl w)) = inr (inl w.0)
 wants-grows m t (inr (inr w)) = inr (inr w.0)
 
--- what the tables say of a step is done, or it would add an entry, answers want of room and changes nothing
+-- a step has the outcome that the step tables give, or it would add an entry, replies `Room` and changes nothing
 pub answered : (m : Seen) (o : Outcome) (reply : Reply) (t : State) → IsCarriedOut m o reply t → IsAnswered m.state o reply t
 answered m o reply t (inl (found, e, f)) = inl (e, f)
 answered m o reply t (inr (w, e, f)) = inr (record { grows = wants-grows m o.state w; refused = e; same = f })
@@ -79,8 +79,8 @@ pub room-of : (m : Seen) (o : Outcome) (result : Result Reply Full) (next : Seen
 room-of m o (Ok reply) next (e, f, k) = k
 room-of m o (Err full) next (w, e) = ap (λ (n : Seen). n.room) e
 
--- what the code does is a move of the machine, with want of room for an error, where the state after it is sound and the
--- tables there have memory for their entries
+-- The code's result is a move of the machine, with the refusal `Room` for an error. The state after the step has to be
+-- sound, and its tables need memory for their entries.
 pub moves-of : (m : Seen) (step : Step) (result : Result Reply Full) (next : Seen) → IsSound next.state
     → length next.state.tables.blocks ≤ next.room.blocks → length next.state.handles ≤ next.room.handles
     → length next.state.tables.records ≤ next.room.records → Took m (moved m.state step) result next

@@ -13,7 +13,7 @@ pub owner-counted : (g : Tables) (x : Handle) (r : ℕ) → x.word ≡ Counted r
 unfolding owner_of
 owner-counted g x r e = rw e refl
 
--- where something stands at a place, the place is one of the list
+-- if there is an entry at an index, the index is inside the list
 pub at-some : {X : Type 0} (xs : List (Option X)) (i : ℕ) (x : X) → get_or xs i None ≡ Some x → i < length xs
 at-some [] i x e = absurd (cc)
 at-some (y ∷ xs) zero x e = omega arith
@@ -23,11 +23,11 @@ at-some (y ∷ xs) (suc i) x e = omega (arith, at-some xs i x e)
 pub call-fits : (s : State) (p : ℕ) (c : Pending) → IsSound s → call_at s p ≡ Some c → FitsCall s (Some c)
 call-fits s p c k at = subst (λ (c : Option Pending). FitsCall s c) at (k.calls_fit p None (at-some s.calls p c at))
 
--- what stands at a place stays there with one more after the list
+-- an entry stays at its index if another is appended
 pub append-at : {X : Type 0} (xs : List (Option X)) (y : Option X) (i : ℕ) (x : X) → get_or xs i None ≡ Some x → get_or (xs ++ y ∷ []) i None ≡ Some x
 append-at xs y i x e = get_or_append_left xs (y ∷ []) None i (at-some xs i x e) ∙ e
 
--- what stands at a place stays there where another one is changed
+-- an entry stays at its index if another index is set
 pub set-at : {X : Type 0} (xs : List (Option X)) (h i : ℕ) (y : Option X) (x : X) → i ≢ h → get_or xs i None ≡ Some x → get_or (set xs h y) i None ≡ Some x
 set-at xs h i y x ne e = get_or-set_other xs h i y None ne ∙ e
 

@@ -8,7 +8,7 @@ zeros_pow w k small =
     let other = bit_at-pow_other k (trailing_zeros w (2 ^ k)) in
     grind (arith, z.1, other)
 
--- what is nothing after a shift is below that power
+-- a number shifted right by k is 0 exactly if it is below 2 ^ k
 pub shr_zero : (x k : ℕ) → (x / 2 ^ k ≡ 0) ↔ (x < 2 ^ k)
 shr_zero x k = (
   λ h. let s = shr_split x k in let m = mod_below x (2 ^ k) (pow_pos k) in let s2 = rw h at s in omega (arith, s2, m),

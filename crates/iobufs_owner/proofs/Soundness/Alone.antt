@@ -1,4 +1,4 @@
--- What follows where a handle holds its block alone, and goes by a record: nothing else speaks of either.
+-- If a handle is the only holder of its block and goes by a record, nothing else speaks of the block or the record.
 use Rattle.iobufs_owner.proofs.Base.{◌≡◌, ◌≢◌, inl, inr, ℕ, ◌<◌, ◌==◌, ◌&&◌, Bool, true, false, cond, length, sym, ◌∙◌, ap, refl, arith, Option, Some, None, nat_tests, eqb_tells, State, owner_of, record_at, handle_at, call_at, Dropping, drops, holders, users, tally, reading, read_call, has_let_go, IsSound, Fits, FitsCall, hidden, readies, tables_without, is_lent, Handle, Pending, Loaded, Ready, Add, Subtract, Release, Counted, count-some, count-two, count-sum, lent-by, names, fits-kept, owner-kept, live-of, at-some, owner-counted, eq-eqb, counted-at, held_by, still_by, drops_by, holders-as, users-as, held-at, lets_go, drops-split, count-none}
 use Rattle.iobufs_owner.proofs.Soundness.RecordFreed.{dead-other, dead-keeps}
 
@@ -10,7 +10,7 @@ let-go-call : (s : State) (b i : ℕ) (c : Option Pending) → call_at s i ≡ c
 let-go-call s b i (Some (Release q)) at t f = none-left b (record_at s.tables q).block (holders (reading s)) (has_let_go s.tables q) t f.alone
 let-go-call s b i c at t f = absurd (cc)
 
--- what is known where one handle is the only holder
+-- handle h is the only handle and the only user of block b, and no unfinished drop is of the block
 pub record Only (s : State) (h b : ℕ) : Type 0 where
   pub held : tally (held_by s.tables b) s.handles ≡ 1
   pub dropped : tally (drops_by s.tables b) s.calls ≡ 0
@@ -126,7 +126,7 @@ named-once s h r x k at free xw one =
       handles = λ i y a yw. me.handle i y a (owner-counted s.tables y r yw);
     }
 
--- what calls count on is among what they speak of
+-- a call speaks of each record that it counts on
 names-speak : (r : ℕ) (c : Option Pending) → names r c ≡ true → speaks_of r c ≡ true
 names-speak r (Some (Add part q)) t = absurd (cc)
 names-speak r c t = t

@@ -4,7 +4,7 @@ use Rattle.iobufs_owner.proofs.Soundness.RecordFreed.{dead-at, dead-block, dead-
 use Rattle.iobufs_owner.proofs.Soundness.Called.{count-calls}
 use Rattle.iobufs_owner.proofs.Soundness.Won.{some-same}
 
--- what is said of a call of another party, where an unpublished record is freed
+-- the unpublished record of a call can be freed: no other thread's call counts on it
 not-mine : (s : State) (p r i : ℕ) (k : Share) (w : ℕ) (c : Option Pending) → IsSound s → call_at s p ≡ Some (Ready k w r) → i ≢ p
     → i < length s.calls → call_at s i ≡ c → FitsCall s c → hidden s.calls r ≡ 1 → names r c ≡ true → ⊥
 not-mine s p r i k w (Some (Ready part v q)) sd at ne l e f hid t =

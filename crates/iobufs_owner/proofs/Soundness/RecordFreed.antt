@@ -1,4 +1,4 @@
--- What a record that is freed leaves as it was.
+-- Freeing a record leaves the other records, the block of each record, and whether a drop has let go.
 use Rattle.iobufs_owner.proofs.Base.{◌≡◌, ◌≢◌, inl, inr, ℕ, ◌<◌, true, false, length, sym, ◌∙◌, ap, refl, arith, nat_eq, get_or-set_same, get_or-set_other, eqb_tells, Tables, record_at, has_let_go, tables_without, Record, Keeps}
 use Rattle.iobufs_owner.proofs.Soundness.AddHolder.{field-set}
 
@@ -33,7 +33,7 @@ dead-keeps g r = record {
 pub dead-let_go : (g : Tables) (r q : ℕ) → has_let_go (tables_without g r) q ≡ has_let_go g q
 dead-let_go g r q = ap (λ (n : ℕ). nat_eq n 0) (field-set (λ (v : Record). v.count) g.records r q _ _ refl)
 
--- what is live afterwards was live, and is another record
+-- a record that is live after one is freed was live before, and is another record
 pub dead-live : (g : Tables) (r q : ℕ) → r < length g.records → (record_at (tables_without g r) q).live ≡ true → ((record_at g q).live ≡ true) × (q ≢ r)
 dead-live g r q l e = elim (eqb_tells q r) [
   | inl i ↦ absurd (let z = rw i.1 at e in let y = dead-same g r l in cc)

@@ -35,7 +35,7 @@ pub with-none : (base : ℕ) (bs : List Block) → ((j : ℕ) → j < length bs 
 with-none base [] none = refl
 with-none base (x ∷ bs) none = rw (ne_eqb x.base base (none 0 (omega arith)), with-none base bs (λ j m. none (suc j) (omega arith))) refl
 
--- what is recovered from a descriptor is the block
+-- a handle's descriptor recovers base, size and alignment of the block that the handle holds
 pub recovered-is : (s : State) (h : ℕ) (x : Handle) (w b : ℕ) → IsSound s → handle_at s h ≡ Some x → x.word ≡ Descriptor w
     → owner_of s.tables x ≡ Some b → recovered s.tables x w ≡ triple (block_at s.tables b)
 recovered-is s h x w b k at i o =

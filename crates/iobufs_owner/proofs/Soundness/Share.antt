@@ -1,4 +1,4 @@
--- What unfinished clones and slices find, and how one that is counted ends.
+-- A clone or slice that has loaded a descriptor fits; one that counts its view and ends keeps the machine sound.
 use Rattle.iobufs_owner.proofs.Base.{◌≡◌, inl, ℕ, ◌+◌, ◌^◌, ◌<◌, ◌≤◌, length, sym, ◌∙◌, ap, subst, refl, arith, Option, Some, None, State, record_at, block_at, handle_at, call_at, IsSound, FitsCall, Shares, IsDescribed, with_count, called, with_handle, part, Handle, Share, View, Pending, Loaded, Add, Word, Descriptor, Counted, at-some, described-at, counted-at, lies-as, call-fits}
 use Rattle.iobufs_owner.proofs.Soundness.AddHolder.{sound-added}
 use Rattle.iobufs_owner.proofs.Soundness.Called.{IsQuiet, quiet-none, quiet-add, sound-called}

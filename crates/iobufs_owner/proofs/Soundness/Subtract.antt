@@ -3,7 +3,7 @@ use Rattle.iobufs_owner.proofs.Base.{◌≡◌, ◌≢◌, inl, inr, ℕ, ◌+�
 use Rattle.iobufs_owner.proofs.Soundness.AddHolder.{counted-keeps, counted-block, counted-live, counted-same, counted-other}
 use Rattle.iobufs_owner.proofs.Soundness.Won.{fit-counted}
 
--- what the call goes on to
+-- the call after a subtraction from count n: `Release` if n is 1, else none
 abbrev pub afterwards : ℕ → ℕ → Option Pending
 afterwards r n = cond (n == 1) (Some (Release r)) None
 

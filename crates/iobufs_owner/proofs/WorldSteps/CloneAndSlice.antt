@@ -28,7 +28,7 @@ called-kept s g p c k e a b =
 
 -- ---- clones and slices
 
--- what the world says, with the handle
+-- the effect of a further step of a clone or slice in the abstract state, by the handle that it borrows
 abbrev GoesAs : State → ℕ → Share → ℕ → Bool → Option Handle → Reply → World → Type 0
 GoesAs s p k left memory o reply next = SharesOn (reading s) p k.handle k.lo k.hi left memory (read_handle s.tables o) reply next
 
@@ -237,7 +237,7 @@ release-goes s t p r memory reply i at y =
 view-tells : (s : State) (h : ℕ) (x : Handle) → lending.lend_view_of s h ≡ Ok x → handle_at s h ≡ Some x
 view-tells s h x e = (asked-ok (λ (x : Handle). same_kind x.kind View) false (handle_at s h) x e).0
 
--- what the world says, by the block
+-- the effect of the first step of a clone or slice in the abstract state, by the block that the handle holds
 abbrev Begun : State → (p h lo hi : ℕ) → Handle → Option ℕ → Reply → World → Type 0
 Begun s p h lo hi x o reply next =
     MatchOption o (NoRoom (reading s) reply next ⊎ Makes (reading s) (part_of (read_held s.tables x) lo hi) reply next)

@@ -28,7 +28,7 @@ demoted-entries s h r y = let a = length-set s.handles h (Some y) in let b = len
   live = false;
 }) in cc (a, b)
 
--- what the world says of a demotion, by the block
+-- the effect of a demotion in the abstract state, by the block that the view holds
 abbrev Demotes : State → Handle → Option ℕ → Reply → World → Type 0
 Demotes s x o reply next =
     (MayRecover (reading s) (read_held s.tables x) o × (reply ≡ Done) × (next ≡ reading s)) ⊎ Declines (reading s) reply next

@@ -8,7 +8,7 @@ use Rattle.iobufs_owner.proofs.WorldSteps.Freeze.{freed-reads, both-reads}
 use Rattle.iobufs_owner.proofs.WorldSteps.Taken.{done-taken, Had, had}
 use Rattle.iobufs_owner.proofs.WorldSteps.CloneAndSlice.{reply-taken}
 
--- what the world says, by the block
+-- the effect of a drop's first step in the abstract state, by the block that the handle holds
 abbrev Begun : State → (p h : ℕ) → Option ℕ → Reply → World → Type 0
 Begun s p h o reply next =
     MatchOption o ((reply ≡ Done) × (next ≡ held_gone (reading s) h))

@@ -29,7 +29,7 @@ both-reads s h r o k live =
       cs,
     ) refl
 
--- what stands after an empty handle is frozen
+-- users see a frozen empty handle as a view without block, and its block, if any, as freed
 nothing-reads : (s : State) (h : ℕ) (x : Handle) (w : Word) → IsSound s → Lends s h Mut x → x.word ≡ w
     → reading (edited (short.freed_with s x w) h (change.detached_handle 0)) ≡ held_set (free_of (reading s) (owner_of s.tables x)) h (world.detached 0)
 nothing-reads s h x Empty k l w = rw (owner-empty s.tables x w)
@@ -74,7 +74,7 @@ promoted-reads s h b n x y z k at e =
 pub recorded-owner : (g : Tables) (n b : ℕ) (y : Handle) → y.word ≡ Counted (length g.records) → owner_of (recorded g n b) y ≡ Some b
 recorded-owner g n b y e = owner-counted (recorded g n b) y (length g.records) e ∙ ap (λ (v : Record). Some v.block) (recorded-new g n b)
 
--- what the world says of a handle with bytes
+-- the effect of freezing a handle that has bytes, in the abstract state
 abbrev Freezes : State → ℕ → Handle → Bool → Reply → World → Type 0
 Freezes s h x memory reply next =
     Denied (reading s) (owner_of s.tables x) memory reply next

@@ -1,4 +1,4 @@
--- A step by the tables answers no want of room, and adds at most one entry to each table.
+-- A step by the step tables never replies `Room`, and adds at most one entry to each table.
 use Rattle.iobufs_owner.proofs.Base.{◌≡◌, ℕ, ◌+◌, ◌-◌, ◌^◌, ◌≤◌, arith, Bool, true, false, cond, nat_lt, nat_eq, [], ◌∷◌, length, length-append, Option, Some, None, refl, sym, length-set, append-nil, Freed, Handle, Kind, View, Mut, Word, Empty, Descriptor, Counted, Share, Call, New, External, Static, Act, Begin, Go, Step, Pending, Loaded, Ready, Add, Subtract, Release, Refusal, Busy, Idle, WrongKind, Borrowed, OutOfRange, BadPlace, Memory, Ceiling, Room, Reply, More, Done, Declined, Refused, State, KeepsLogs, handle_at, call_at, record_at, block_at, recovered, triple, Outcome, refused, gone_on, new_blocks, is_good_place, log_of, moved_at, begun, moved, asked, is_lent, not, same_kind, ◌&&◌, Advance, Clone, Demote, Drop, Freeze, IsUnique, Put, Slice, SplitTo, TryIntoMut}
 use Rattle.iobufs_owner.specs.Changes as change
 use Rattle.iobufs_owner.specs.Lending as lending
@@ -108,7 +108,7 @@ lent s test b (Some x) f m =
     by (λ r. IsModest s false (change.on_lent s r f)) (test x) _ _ (by (λ r. IsModest s false (change.on_lent s r f)) b _ _
     (refuses s false Borrowed (λ e. absurd (cc))) (m x)) (refuses s false WrongKind (λ e. absurd (cc)))
 
--- what is freed takes no entry out of a table
+-- freeing the block of a handle takes no entry out of a table, and adds none
 freed : (s : State) (h : ℕ) (x : Handle) (w : Word) → IsModest s false (change.done (change.edited (short.freed_with s x w) h (change.detached_handle 0)))
 freed s h x Empty = edited s h _
 freed s h x (Descriptor w) = frees s _ Done (logs-block s (recovered s.tables x w)) (λ e. absurd (cc)) (length-set _ _ _) refl refl
@@ -231,7 +231,7 @@ begun-modest s p (Slice h lo hi) memory = lent s (λ x. same_kind x.kind View) f
     (by (IsModest s false) (nat_eq lo hi) _ _ (made s s refl refl _ false refl (omega arith) (omega arith)) (share-by s p _ x x.word)))
 begun-modest s p (Drop h) memory = lent s (λ x. true) (is_lent h s.calls) (handle_at s h) _ (λ x. drop-by s p h x x.word)
 
--- what adds no block adds none where it might
+-- an outcome that adds no block keeps the limits of a step that may add one
 loosely : (s : State) (block : Bool) (o : Outcome) → IsModest s false o → IsModest s block o
 loosely s block o m = record { answers = m.answers; handles = m.handles; records = m.records; blocks = (let l = m.blocks in omega (arith, l)); logs = m.logs }
 
@@ -241,7 +241,8 @@ at-modest s p (Begin call memory) (Some c) = loosely s (makes_block call) _ (ref
 at-modest s p (Go memory) None = idle s
 at-modest s p (Go memory) (Some c) = goes-modest s p c memory
 
--- a step by the tables never answers want of room, adds at most a handle, a record and, where its call makes one, a block, and writes the logs on
+-- A step by the step tables never replies `Room`, and appends to the logs if it changes them. The step adds at most a
+-- handle, a record and, if its call makes one, a block.
 pub modest : (s : State) (step : Step) → IsModest s (adds_block step.act) (moved s step)
 modest s step =
     by (IsModest s (adds_block step.act)) (nat_lt step.party (length s.calls)) _ _ (at-modest s step.party step.act (call_at s step.party))

@@ -3,7 +3,7 @@ use Rattle.iobufs_owner.proofs.Base.{◌≡◌, ◌≢◌, ◌⊎◌, inl, inr, 
 
 -- ---- counts
 
--- what passes stands inside
+-- an index at which an element passes is inside the list, if `None` doesn't pass
 inside : {X : Type 0} (p : Option X → Bool) (xs : List (Option X)) (i : ℕ) → p None ≡ false → p (get_or xs i None) ≡ true → i < length xs
 inside p [] i n t = absurd (cc)
 inside p (x ∷ xs) zero n t = omega arith

@@ -7,13 +7,13 @@ use Rattle.iobufs_owner.proofs.Soundness.{recorded, counted-keeps, counted-let_g
 use Rattle.iobufs_owner.proofs.WorldSteps.Freeze.{promoted-reads, recorded-owner}
 use Rattle.iobufs_owner.proofs.WorldSteps.Taken.{refused-taken, made-taken, reads-edited, reads-detached, Had, had}
 
--- what the world says of a split inside the view, by the block
+-- the effect of a split inside the view in the abstract state, by the block that the view holds
 abbrev Splits : State → (h at : ℕ) → Handle → Bool → Option ℕ → Reply → World → Type 0
 Splits s h at x memory o reply next =
     Denied (reading s) o memory reply next ⊎ NoRoom (reading s) reply next
     ⊎ Makes (held_set (reading s) h (part_of (read_held s.tables x) at x.len)) (part_of (read_held s.tables x) 0 at) reply next
 
--- that, unless a cause stands against it
+-- the effect of such a split, unless its block has too many holders
 abbrev SplitsOr : State → (h at : ℕ) → Handle → Bool → Option ℕ → Reply → World → Type 0
 SplitsOr s h at x memory o reply next =
     MatchOption (cause_if (is_over (reading s) o) Ceiling) (Splits s h at x memory o reply next) (λ why. Refuses (reading s) why reply next)

@@ -1,4 +1,4 @@
--- What an answered outcome shows of the world; with it Static, Put and Advance, read as steps of the world.
+-- The abstract state after an answered outcome (`IsAnswered`); and Static, Put and Advance, read as abstract steps.
 use Rattle.iobufs_owner.proofs.Base.{capacity, ◌≡◌, ◌⊎◌, inl, inr, ℕ, ◌+◌, ◌-◌, Bool, true, false, cond, nat_lt, length, Some, None, Result, Ok, Err, ap, sym, ◌∙◌, refl, MatchBool, length-set, length-map, Handle, Mut, Empty, Refusal, OutOfRange, Reply, Made, Done, State, Tables, owner_of, World, LiveHandle, reading, read_held, read_handle, IsSound, Outcome, refused, done, edited, made, lend_of, declined, Refuses, NoRoom, Makes, Declines, held_set, held_more, IsAnswered, entries, grows-never, reading-set, reading-append, owner-empty, lend-tells, alone-reads, any-reads, capacity-reads, read_lent, owner-put, owner-advanced, within, ltb-false, any-tells, MatchOption, OnHeld, Option, alone_of, any_of, cause_if, cause_or, handle_at, held-reads}
 use Rattle.iobufs_owner.specs.Changes as change
 use Rattle.iobufs_owner.specs.Lending as lending
@@ -52,7 +52,7 @@ pub edit-taken : (s t : State) (h : ℕ) (y : Handle) (z : LiveHandle) (reply : 
     → IsAnswered s (done (edited s h y)) reply t → (reply ≡ Done) × (reading t ≡ held_set (reading s) h z)
 edit-taken s t h y z reply e i = done-taken s (edited s h y) t (held_set (reading s) h z) reply (entries-edited s h y) (reads-edited s h y z e) i
 
--- what a handle without block shows
+-- users see the kind, address and length of a handle without block, and no block
 pub reads-empty : (g : Tables) (x : Handle) → x.word ≡ Empty → read_held g x ≡ record { kind = x.kind; block = None; place = x.ptr; len = x.len }
 reads-empty g x e = rw (owner-empty g x e) refl
 
@@ -81,7 +81,7 @@ by-cause P Q why s t a b reply false f g i = g refl i
 abbrev pub Had : State → State → ℕ → Result LiveHandle Refusal → (LiveHandle → Option Refusal) → (LiveHandle → Type 0) → Reply → Type 0
 Had s t h r against P reply = MatchOption (cause_or r against) (OnHeld (reading s) h P) (λ why. Refuses (reading s) why reply (reading t))
 
--- what holds of a handle of the tables holds of the handle that users see under its number
+-- a property of a handle of the tables, as users see it, holds of the handle that they see under its number
 seen : (s t : State) (h : ℕ) (x : Handle) (P : LiveHandle → Type 0) (reply : Reply) (o : Option Refusal) → handle_at s h ≡ Some x
     → MatchOption o (P (read_held s.tables x)) (λ why. Refuses (reading s) why reply (reading t))
     → MatchOption o (OnHeld (reading s) h P) (λ why. Refuses (reading s) why reply (reading t))

@@ -7,7 +7,7 @@ use Rattle.iobufs_owner.proofs.WorldSteps.Taken.{declined-taken, edit-taken, Had
 
 -- ---- TryIntoMut
 
--- what the world says of recovery, by the block
+-- the effect of a recovery in the abstract state, by the block that the view holds
 abbrev Recovers : State → ℕ → Handle → Option ℕ → Reply → World → Type 0
 Recovers s h x o reply next =
     (MayRecover (reading s) (read_held s.tables x) o × (reply ≡ Done)

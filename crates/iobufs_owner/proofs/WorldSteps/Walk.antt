@@ -1,4 +1,4 @@
--- What a step of the world does to the calls, and for which cause it is refused: one walk over all steps.
+-- The effect of an abstract step on the calls, and the cause of its refusal, if any: one walk over all steps.
 use Rattle.iobufs_owner.proofs.Base.{Act, ActsAt, ◌∷◌, [], zero, suc, get_or, ltb-false, set, nat_eq, Advance, Begin, Begins, Block, Bool, Call, Ceiling, Clone, Declined, Demote, Done, Drop, Dropping, External, Freeze, Go, Goes, GoesOn, GoesOnWithin, LiveHandle, Idle, IsBeside, IsCaused, IsUnique, List, Made, MatchBool, MatchOption, Memory, More, Mut, New, None, Option, Put, Refusal, Refused, Reply, Room, SharesOn, Sharing, Slice, Some, SplitTo, Static, Step, Steps, TryIntoMut, Unfinished, Unique, View, World, ap, arith, cause_at, cause_gone, cause_if, cause_of, cond, false, going_at, held_at, holders, inl, inr, is_over_at, length, ltb-true, may_take, nat_lt, refl, subst, sym, taken_after, true, ◌≡◌, ◌≢◌, ◌⊎◌, ℕ, ◌+◌, ◌-◌, ◌<◌, ◌≤◌, ◌&&◌, ◌∙◌, refused_at}
 use Rattle.iobufs_owner.specs.Steps as world
 
@@ -12,7 +12,7 @@ abbrev pub IsLess : Option Unfinished → Unfinished → Type 0
 IsLess None c = left_of c ≤ 3
 IsLess (Some d) c = left_of c < left_of d
 
--- the call of party p goes on, nearer to its end
+-- the call of thread p goes on, nearer to its end
 pub record GoesNearer (w : World) (p : ℕ) (o : Option Unfinished) (reply : Reply) (next : World) : Type 0 where
   pub party : p < length w.calls
   pub call : Unfinished
@@ -21,17 +21,17 @@ pub record GoesNearer (w : World) (p : ℕ) (o : Option Unfinished) (reply : Rep
   pub some : 0 < left_of call
   pub less : IsLess o call
 
--- the call of party p has ended
+-- the call of thread p has ended
 pub record HasEnded (w : World) (p : ℕ) (reply : Reply) (next : World) : Type 0 where
   pub party : p < length w.calls
   pub calls : next.calls ≡ set w.calls p None
   pub none : (n : ℕ) → taken_after n reply ≡ 0
 
--- what a step of party p does to the calls, where o was its own
+-- a step of thread p, whose call is o, leaves all calls; or p's call begins, goes on nearer to its end, or ends
 abbrev pub Changes : World → ℕ → Option Unfinished → Reply → World → Type 0
 Changes w p o reply next = ((next.calls ≡ w.calls) × (reply ≢ More)) ⊎ GoesNearer w p o reply next ⊎ HasEnded w p reply next
 
--- an effect of a step of party p, where o was its call: a refusal is for denied memory or want of room alone
+-- an effect of a step of thread p, whose call is o: a refusal is for denied memory or a full table alone
 record IsTold (w : World) (p : ℕ) (o : Option Unfinished) (memory : Bool) (reply : Reply) (next : World) : Type 0 where
   calls : Changes w p o reply next
   beside : (why : Refusal) → reply ≡ Refused why → IsBeside memory why
@@ -54,7 +54,7 @@ choose P Q R false m f g = g m
 kept : (w next : World) (p : ℕ) (o : Option Unfinished) (why : Refusal) (reply : Reply) → world.Refuses w why reply next → Changes w p o reply next
 kept w next p o why reply (e, f) = inl (ap (λ (w : World). w.calls) f, λ z. (let q = sym e ∙ z in absurd (cc)))
 
--- denied memory, or want of room
+-- denied memory, or a full table
 beside : (w next : World) (p : ℕ) (o : Option Unfinished) (memory : Bool) (why : Refusal) (reply : Reply) → IsBeside memory why
     → world.Refuses w why reply next → IsTold w p o memory reply next
 beside w next p o memory why reply b r = record {
@@ -245,7 +245,7 @@ none-after [] i l = refl
 none-after (x ∷ xs) zero l = absurd (omega (arith, l))
 none-after (x ∷ xs) (suc i) l = none-after xs i (omega (arith, l))
 
--- what a step whose party is there, or isn't, does to the calls, and why it is refused
+-- the effect of a step on the calls, and the cause of its refusal, if its thread exists and if it doesn't
 told-of : (w next : World) (p : ℕ) (act : Act) (o : Option Unfinished) (cause : Option Refusal) (reply : Reply) → p < length w.calls
     → cause_at w act o ≡ cause
     → MatchOption cause (ActsAt w p act o reply next) (λ why. (reply ≡ Refused why) × (next ≡ refused_at w p act o))
@@ -262,8 +262,8 @@ told-by w next p act o false reply g e m =
     let f : refused_at w p act o ≡ w = rw n (refused-none w p act) in
     (kept w next p o Idle reply (m.0, m.1 ∙ f), m.0)
 
--- A step changes the call of its party alone. It is refused by its cause where one stands, and else only for memory that it is
--- denied or for want of room.
+-- A step changes the call of its thread alone. The step is refused by its cause if one holds, and else only for denied
+-- memory or a full table.
 pub told : (w next : World) (step : Step) (reply : Reply) → Steps w step reply next
     → Changes w step.party (going_at w step.party) reply next × IsCaused (may_take step.act) (cause_of w step) reply
 told w next step reply m = told-by w next step.party step.act (going_at w step.party) (nat_lt step.party (length w.calls)) reply refl refl m

@@ -3,7 +3,7 @@ use Rattle.iobufs.specs.Inside.Ends.{views_in}
 use Rattle.iobufs.specs.Inside.Pieces.{pieces_bytes}
 use Rattle.iobufs.proofs.bufs.row.put_all.Given as goal
 
--- what is put and what is to come are what was there and all
+-- the filled bytes and the chunks to come, in order, are the bytes filled before the loop and all chunks
 abbrev pub invariant-loop-piece : goal.invariant-loop-piece
 invariant-loop-piece l =
     record {
