@@ -158,6 +158,9 @@ static void texts(void) {
     CHECK(iobufs_chunks(&t, list, 2) == 2 && list[1].len == 2 && list[1].base[0] == 'd');
     CHECK(iobufs_chunks(&t, list, 4) == 3 && list[0].len == 3 && list[2].len == 4 && list[2].base[3] == 'i');
     CHECK(iobufs_chunks(&t, list, 0) == 0);
+    CHECK(iobufs_chunks_from(&t, 1, list, 4) == 2 && list[0].base[1] == 'e' && list[1].len == 4 && list[2].base[3] == 'i');
+    CHECK(iobufs_chunks_from(&t, 2, list, 1) == 1 && list[0].len == 4 && list[1].len == 4 && iobufs_chunks_from(&t, 0, list, 0) == 0);
+    CHECK(iobufs_chunks_from(&t, 3, list, 4) == 0 && iobufs_chunks_from(&t, SIZE_MAX, list, 4) == 0 && list[0].len == 4);
     HELLO(v);
     OK(iobufs_prepend(&t, &v));
     CHECK(text_is(&t, "hello worldabcdefghi") && view_is(&v, ""));

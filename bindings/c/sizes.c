@@ -21,7 +21,7 @@ static int part_shows(struct iobufmut_at *part, size_t lo, size_t hi) {
     return n == iobufmut_len(part) && is_range(at, n, lo, hi);
 }
 
-/* Whether the chunks of a text show a range, cut at multiples of n: by chunk_at, by the list and by locate. */
+/* Whether the chunks of a text show a range, cut at multiples of n: by chunk_at, by the list, in threes and by locate. */
 static int text_shows(struct iobufs_at *text, size_t n, size_t lo, size_t hi) {
     size_t count = iobufs_chunk_count(text), at = lo;
     struct iobufs_chunk *list = calloc(count + 1, sizeof *list);
@@ -30,6 +30,9 @@ static int text_shows(struct iobufs_at *text, size_t n, size_t lo, size_t hi) {
         const uint8_t *base;
         size_t len = iobufs_chunk_at(text, i, &base), index, offset, end = (at / n + 1) * n;
         CHECK(is_range(base, len, at, end < hi ? end : hi) && list[i].base == base && list[i].len == len);
+        struct iobufs_chunk three[3];
+        size_t some = count - i < 3 ? count - i : 3;
+        CHECK(iobufs_chunks_from(text, i, three, 3) == some && memcmp(three, list + i, some * sizeof *three) == 0);
         OK(iobufs_locate(text, at - lo + len - 1, &index, &offset));
         CHECK(index == i && offset == len - 1);
         at += len;

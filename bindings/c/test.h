@@ -17,7 +17,7 @@
 static inline const uint8_t *bytes(const char *text) { return (const uint8_t *)text; }
 
 /* Whether a buffer holds just these bytes. */
-static inline int view_is(struct iobuf_at *view, const char *text) {
+static inline int view_is(const struct iobuf_at *view, const char *text) {
     const uint8_t *at = NULL;
     size_t n = iobuf_chunk(view, &at);
     return n == strlen(text) && n == iobuf_len(view) && (n == 0 || !memcmp(at, text, n));
@@ -27,7 +27,7 @@ static inline int part_is(struct iobufmut_at *part, const char *text) {
     size_t n = iobufmut_chunk(part, &at);
     return n == strlen(text) && n == iobufmut_len(part) && (n == 0 || !memcmp(at, text, n));
 }
-static inline int text_is(struct iobufs_at *text, const char *wanted) {
+static inline int text_is(const struct iobufs_at *text, const char *wanted) {
     size_t len = strlen(wanted), seen = 0;
     if (iobufs_len(text) != len) return 0;
     for (size_t i = 0; i < iobufs_chunk_count(text); i++) {

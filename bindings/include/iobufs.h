@@ -21,8 +21,8 @@
  *  2. The places and other pointers of one call don't overlap: `iobuf_clone(&a, &a)` is not allowed.
  *  3. One call at a time uses a buffer. Another thread may use it after what orders the two (a lock, a thread's start or
  *     join, a SEQ_CST atomic); buffers that share a block may be used by several threads at once. Calls that only look
- *     (`.._len`, `.._chunk`, `.._clone`, `iobuf_slice`, ..) may be several at once on one buffer: that is tested,
- *     not proved.
+ *     (at a const place, and `.._chunk` of a writable buffer) may be several at once on one buffer: that is tested, not
+ *     proved.
  *  4. Pointers to bytes are not NULL, also for 0 bytes, and outlive the call; those of `iobuf_from_static` outlive every
  *     buffer that is made of it, and the bytes never change.
  *  5. The pointer of `.._chunk` and its like may be read until the next call that changes or drops that buffer. Only the
@@ -141,17 +141,17 @@ IOBUFS_CHECKED iobufs_status iobuf_copy_from_slice(const uint8_t *src, size_t n,
 /* A view of n static bytes (duty 4). No memory. (From<&'static [u8]>) */
 void iobuf_from_static(const uint8_t *text, size_t n, struct iobuf_at *out);
 /* The number of bytes. (IoBuf::len) */
-size_t iobuf_len(struct iobuf_at *src);
+size_t iobuf_len(const struct iobuf_at *src);
 /* Whether there are none. (IoBuf::is_empty) */
-bool iobuf_is_empty(struct iobuf_at *src);
+bool iobuf_is_empty(const struct iobuf_at *src);
 /* Writes a pointer to the bytes, if there are any, and returns how many there are. (AsRef, Buf::chunk) */
-size_t iobuf_chunk(struct iobuf_at *src, const uint8_t **out);
+size_t iobuf_chunk(const struct iobuf_at *src, const uint8_t **out);
 /* Writes the byte at offset i, and returns whether there is one. (own) */
-bool iobuf_byte_at(struct iobuf_at *src, size_t i, uint8_t *out);
+bool iobuf_byte_at(const struct iobuf_at *src, size_t i, uint8_t *out);
 /* Whether two views hold the same bytes. (PartialEq) */
-bool iobuf_eq(struct iobuf_at *src, struct iobuf_at *other);
+bool iobuf_eq(const struct iobuf_at *src, const struct iobuf_at *other);
 /* Another view of the same bytes, in their storage: no byte is copied. Memory none today. (Clone) */
-IOBUFS_CHECKED iobufs_status iobuf_clone(struct iobuf_at *src, struct iobuf_at *out);
+IOBUFS_CHECKED iobufs_status iobuf_clone(const struct iobuf_at *src, struct iobuf_at *out);
 /* Drops the first n bytes; IOBUFS_OUT_OF_RANGE if there are fewer. (Buf::advance) */
 IOBUFS_CHECKED iobufs_status iobuf_advance(struct iobuf_at *src, size_t n);
 /* Takes the first `at` bytes, in the same storage; IOBUFS_OUT_OF_RANGE if there are fewer. Memory none today.
@@ -164,7 +164,7 @@ IOBUFS_CHECKED iobufs_status iobuf_take(struct iobuf_at *src, size_t n, struct i
 IOBUFS_CHECKED iobufs_status iobuf_copy_to_slice(struct iobuf_at *src, uint8_t *dst, size_t n);
 /* The bytes of a range, in the same storage; bounds are `enum iobufs_bound`. IOBUFS_BAD_KIND if a kind is none of these,
  * IOBUFS_OUT_OF_RANGE if the range isn't within the bytes. Memory none today. (IoBuf::slice) */
-IOBUFS_CHECKED iobufs_status iobuf_slice(struct iobuf_at *src, uint8_t lo_kind, size_t lo, uint8_t hi_kind, size_t hi, struct iobuf_at *out);
+IOBUFS_CHECKED iobufs_status iobuf_slice(const struct iobuf_at *src, uint8_t lo_kind, size_t lo, uint8_t hi_kind, size_t hi, struct iobuf_at *out);
 /* Recovers the storage as a writable buffer, and leaves the empty view; or IOBUFS_DECLINED, and the view stays. It recovers
  * native storage that no other view shares: tested, not proved. No memory. (IoBuf::try_into_mut) */
 IOBUFS_CHECKED iobufs_status iobuf_try_into_mut(struct iobuf_at *src, struct iobufmut_at *out);
@@ -194,13 +194,13 @@ IOBUFS_CHECKED iobufs_status iobufmut_copy_from_slice(const uint8_t *src, size_t
  * allocation fails, both stay. (From<IoBuf>) */
 IOBUFS_CHECKED iobufs_status iobufmut_from_view(struct iobuf_at *src, struct iobufmut_at *out);
 /* The number of readable bytes. (len) */
-size_t iobufmut_len(struct iobufmut_at *part);
+size_t iobufmut_len(const struct iobufmut_at *part);
 /* Whether there are none. (is_empty) */
-bool iobufmut_is_empty(struct iobufmut_at *part);
+bool iobufmut_is_empty(const struct iobufmut_at *part);
 /* How many bytes fit, counted from the first readable one. (capacity) */
-size_t iobufmut_capacity(struct iobufmut_at *part);
+size_t iobufmut_capacity(const struct iobufmut_at *part);
 /* How many bytes may still be put. (BufMut::remaining_mut) */
-size_t iobufmut_remaining_mut(struct iobufmut_at *part);
+size_t iobufmut_remaining_mut(const struct iobufmut_at *part);
 /* Writes a pointer to the readable bytes, if there are any, and returns how many there are; they may be overwritten there.
  * (AsRef, AsMut) */
 size_t iobufmut_chunk(struct iobufmut_at *part, uint8_t **out);
@@ -249,27 +249,30 @@ void iobufs_from_view(struct iobuf_at *src, struct iobufs_at *out);
 /* An iobufs of a writable buffer; none is left. Memory none today; IOBUFS_MEMORY drops the buffer. (From<IoBufMut>) */
 IOBUFS_CHECKED iobufs_status iobufs_from_mut(struct iobufmut_at *part, struct iobufs_at *out);
 /* The same bytes once more, in their storage; memory for the deque of chunks. (Clone) */
-IOBUFS_CHECKED iobufs_status iobufs_clone(struct iobufs_at *text, struct iobufs_at *out);
+IOBUFS_CHECKED iobufs_status iobufs_clone(const struct iobufs_at *text, struct iobufs_at *out);
 /* The number of bytes. (IoBufs::len) */
-size_t iobufs_len(struct iobufs_at *text);
+size_t iobufs_len(const struct iobufs_at *text);
 /* Whether there are none. (IoBufs::is_empty) */
-bool iobufs_is_empty(struct iobufs_at *text);
+bool iobufs_is_empty(const struct iobufs_at *text);
 /* Whether all bytes are in one chunk. (is_single) */
-bool iobufs_is_single(struct iobufs_at *text);
+bool iobufs_is_single(const struct iobufs_at *text);
 /* The number of chunks that hold bytes. (chunk_count) */
-size_t iobufs_chunk_count(struct iobufs_at *text);
+size_t iobufs_chunk_count(const struct iobufs_at *text);
 /* Writes a pointer to the first chunk, if there are bytes, and returns its length. (Buf::chunk) */
-size_t iobufs_chunk(struct iobufs_at *text, const uint8_t **out);
+size_t iobufs_chunk(const struct iobufs_at *text, const uint8_t **out);
 /* Writes a pointer to chunk i, counted from 0, and returns its length; 0 if there is none. (chunk_at) */
-size_t iobufs_chunk_at(struct iobufs_at *text, size_t i, const uint8_t **out);
+size_t iobufs_chunk_at(const struct iobufs_at *text, size_t i, const uint8_t **out);
 /* Fills a list of n for writev with the first chunks, and returns how many it filled. No memory.
  * iobufs_advance then takes the count that writev returns. (Buf::chunks_vectored) */
-size_t iobufs_chunks(struct iobufs_at *text, struct iobufs_chunk *out, size_t n);
+size_t iobufs_chunks(const struct iobufs_at *text, struct iobufs_chunk *out, size_t n);
+/* Fills a list of n with the chunks from chunk first on, counted from 0, and returns how many it filled; 0 if there are
+ * none. So a loop takes many chunks at a time. No memory. (own) */
+size_t iobufs_chunks_from(const struct iobufs_at *text, size_t first, struct iobufs_chunk *out, size_t n);
 /* Writes the byte at offset i, and returns whether there is one. (own) */
-bool iobufs_byte_at(struct iobufs_at *text, size_t i, uint8_t *out);
+bool iobufs_byte_at(const struct iobufs_at *text, size_t i, uint8_t *out);
 /* Writes the index of the chunk that contains an offset, and the distance from its start; IOBUFS_OUT_OF_RANGE at the end.
  * No memory. (own) */
-IOBUFS_CHECKED iobufs_status iobufs_locate(struct iobufs_at *text, size_t at, size_t *index, size_t *offset);
+IOBUFS_CHECKED iobufs_status iobufs_locate(const struct iobufs_at *text, size_t at, size_t *index, size_t *offset);
 /* Adds a view at the end, and leaves its place empty; at times memory for the deque of chunks. IOBUFS_TOO_LONG if the
  * length would pass SIZE_MAX. After an error both are unchanged. (append) */
 IOBUFS_CHECKED iobufs_status iobufs_append(struct iobufs_at *text, struct iobuf_at *piece);
@@ -309,17 +312,17 @@ void iobufsmut_from_mut(struct iobufmut_at *part, struct iobufsmut_at *out);
  * IOBUFS_MEMORY or IOBUFS_TOO_LONG the buffers may be dropped. (FromIterator) */
 IOBUFS_CHECKED iobufs_status iobufsmut_from_parts(struct iobufmut_at *places, size_t n, struct iobufsmut_at *out);
 /* The number of readable bytes. (len) */
-size_t iobufsmut_len(struct iobufsmut_at *parts);
+size_t iobufsmut_len(const struct iobufsmut_at *parts);
 /* Whether there are none. (is_empty) */
-bool iobufsmut_is_empty(struct iobufsmut_at *parts);
+bool iobufsmut_is_empty(const struct iobufsmut_at *parts);
 /* How many bytes fit, counted from the first readable one. (capacity) */
-size_t iobufsmut_capacity(struct iobufsmut_at *parts);
+size_t iobufsmut_capacity(const struct iobufsmut_at *parts);
 /* How many bytes may still be put. (BufMut::remaining_mut) */
-size_t iobufsmut_remaining_mut(struct iobufsmut_at *parts);
+size_t iobufsmut_remaining_mut(const struct iobufsmut_at *parts);
 /* The number of parts. (own) */
-size_t iobufsmut_part_count(struct iobufsmut_at *parts);
+size_t iobufsmut_part_count(const struct iobufsmut_at *parts);
 /* Whether there is just one. (is_single) */
-bool iobufsmut_is_single(struct iobufsmut_at *parts);
+bool iobufsmut_is_single(const struct iobufsmut_at *parts);
 /* Writes a pointer to the first chunk of the readable bytes, if there are any, and returns its length; it may be
  * overwritten there. (Buf::chunk) */
 size_t iobufsmut_chunk(struct iobufsmut_at *parts, uint8_t **out);
@@ -328,9 +331,9 @@ size_t iobufsmut_chunk(struct iobufsmut_at *parts, uint8_t **out);
 size_t iobufsmut_part_at(struct iobufsmut_at *parts, size_t i, uint8_t **out, size_t *capacity);
 /* Fills a list of n for readv (or writev) with the first chunks of the readable bytes, and returns how many it
  * filled. No memory. To read into parts, set their length first. (Buf::chunks_vectored) */
-size_t iobufsmut_chunks(struct iobufsmut_at *parts, struct iobufs_chunk *out, size_t n);
+size_t iobufsmut_chunks(const struct iobufsmut_at *parts, struct iobufs_chunk *out, size_t n);
 /* Writes the readable byte at offset i, and returns whether there is one. (own) */
-bool iobufsmut_byte_at(struct iobufsmut_at *parts, size_t i, uint8_t *out);
+bool iobufsmut_byte_at(const struct iobufsmut_at *parts, size_t i, uint8_t *out);
 /* Puts bytes, part after part; IOBUFS_OUT_OF_RANGE if they don't fit. No memory. (BufMut::put_slice) */
 IOBUFS_CHECKED iobufs_status iobufsmut_put_slice(struct iobufsmut_at *parts, const uint8_t *src, size_t n);
 /* Puts a byte n times; IOBUFS_OUT_OF_RANGE if they don't fit. No memory. (BufMut::put_bytes) */
@@ -377,7 +380,7 @@ void iobufs_builder_drop(struct iobufs_builder_at *builder);
 /* A builder for this many bytes that are put: memory except for 0; IOBUFS_BAD_LAYOUT above SSIZE_MAX. (Builder::new) */
 IOBUFS_CHECKED iobufs_status iobufs_builder_new(size_t capacity, struct iobufs_builder_at *out);
 /* How many bytes may still be put. (BufMut::remaining_mut) */
-size_t iobufs_builder_remaining_mut(struct iobufs_builder_at *builder);
+size_t iobufs_builder_remaining_mut(const struct iobufs_builder_at *builder);
 /* Puts bytes; IOBUFS_OUT_OF_RANGE if they don't fit. No memory. (BufMut::put_slice) */
 IOBUFS_CHECKED iobufs_status iobufs_builder_put_slice(struct iobufs_builder_at *builder, const uint8_t *src, size_t n);
 /* Puts a byte n times; IOBUFS_OUT_OF_RANGE if they don't fit. No memory. (BufMut::put_bytes) */
@@ -449,9 +452,9 @@ void iobufs_frames_drop(struct iobufs_frames_at *frames);
 /* Says how lengths are written from the next frame on, by an `enum iobufs_prefix`; IOBUFS_BAD_KIND if it is none. (own) */
 IOBUFS_CHECKED iobufs_status iobufs_frames_set_prefix(struct iobufs_frames_at *frames, uint8_t prefix);
 /* How many bytes were fed and not taken. (own) */
-size_t iobufs_frames_len(struct iobufs_frames_at *frames);
+size_t iobufs_frames_len(const struct iobufs_frames_at *frames);
 /* The bytes that were fed and not taken, in their storage; memory for the deque. (own) */
-IOBUFS_CHECKED iobufs_status iobufs_frames_rest(struct iobufs_frames_at *frames, struct iobufs_at *out);
+IOBUFS_CHECKED iobufs_status iobufs_frames_rest(const struct iobufs_frames_at *frames, struct iobufs_at *out);
 /* Adds a view at the end, and leaves its place empty; at times memory. IOBUFS_TOO_LONG if that would pass SIZE_MAX. After
  * an error both are unchanged. (own) */
 IOBUFS_CHECKED iobufs_status iobufs_frames_feed(struct iobufs_frames_at *frames, struct iobuf_at *piece);

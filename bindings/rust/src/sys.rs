@@ -151,6 +151,7 @@ unsafe extern "C" {
     pub fn iobufs_chunk(text: &mut Text, out: &mut *const u8) -> usize;
     pub fn iobufs_chunk_at(text: &mut Text, i: usize, out: &mut *const u8) -> usize;
     pub fn iobufs_chunks(text: &mut Text, out: *mut Chunk, n: usize) -> usize;
+    pub fn iobufs_chunks_from(text: &mut Text, first: usize, out: *mut Chunk, n: usize) -> usize;
     pub fn iobufs_byte_at(text: &mut Text, i: usize, out: &mut u8) -> bool;
     pub fn iobufs_locate(text: &mut Text, at: usize, index: &mut usize, offset: &mut usize) -> u8;
     pub fn iobufs_append(text: &mut Text, piece: &mut View) -> u8;

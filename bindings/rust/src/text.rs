@@ -23,6 +23,9 @@ pub(crate) const NO_CHUNK: Chunk = Chunk {
     len: 0,
 };
 
+// How many chunks are taken at a time.
+const BATCH: usize = 32;
+
 /// A read-only text in pieces, none of which is copied.
 pub struct IoBufs(Memory<{ sys::TEXT }>);
 
@@ -67,9 +70,29 @@ impl IoBufs {
         }
     }
 
+    // The chunks from `first` on, at most `BATCH`, and how many they are.
+    fn batch(&self, first: usize) -> ([Chunk; BATCH], usize) {
+        let mut chunks = [NO_CHUNK; BATCH];
+        // SAFETY: duty 4: the list has `BATCH` places. It only looks (duty 3).
+        let n = unsafe { sys::iobufs_chunks_from(&mut self.0.at(), first, chunks.as_mut_ptr(), BATCH) };
+        (chunks, n)
+    }
+
     /// Returns the chunks that hold bytes, in order.
     pub fn chunks(&self) -> impl Iterator<Item = &[u8]> {
-        (0..).map_while(|index| self.chunk_at(index))
+        let (mut chunks, mut n) = self.batch(0);
+        let (mut first, mut i) = (0, 0);
+        std::iter::from_fn(move || {
+            if i == BATCH {
+                first += BATCH;
+                (chunks, n) = self.batch(first);
+                i = 0;
+            }
+            let chunk = chunks[..n].get(i)?;
+            i += 1;
+            // SAFETY: it is a chunk of `self`, which is borrowed.
+            Some(unsafe { piece(chunk) })
+        })
     }
 
     /// Returns the bytes of the only chunk, if there is at most one. The original returns its buffer, which the library keeps
@@ -111,18 +134,8 @@ impl IoBufs {
     }
 
     /// Shows each piece that holds bytes, in order.
-    pub fn for_each_chunk(&self, mut visit: impl FnMut(&[u8])) {
-        let mut chunks = [NO_CHUNK; 32];
-        // SAFETY: duty 4: the list has so many places. It only looks (duty 3).
-        let mut seen = unsafe { sys::iobufs_chunks(&mut self.0.at(), chunks.as_mut_ptr(), chunks.len()) };
-        for chunk in &chunks[..seen] {
-            // SAFETY: it is a piece of `self`, which is borrowed.
-            visit(unsafe { piece(chunk) });
-        }
-        while let Some(chunk) = self.chunk_at(seen) {
-            visit(chunk);
-            seen += 1;
-        }
+    pub fn for_each_chunk(&self, visit: impl FnMut(&[u8])) {
+        self.chunks().for_each(visit);
     }
 
     /// Puts a buffer behind the text.

@@ -48,6 +48,17 @@ fn texts() {
     assert_eq!((n, &slices[2][..], slices[3].len()), (3, &b"fghi"[..], 0));
 }
 
+// The chunks of a text are taken 32 at a time.
+#[test]
+fn many_chunks() {
+    for count in [0, 1, 31, 32, 33, 63, 64, 65, 100] {
+        let chunks: Vec<Vec<u8>> = (1..=count).map(|i| vec![i; usize::from(i % 7) + 1]).collect();
+        let mut t = IoBufs::default();
+        chunks.iter().for_each(|chunk| t.append(IoBuf::copy_from_slice(chunk)));
+        assert!(t.chunks().eq(chunks.iter().map(Vec::as_slice)), "{count}");
+    }
+}
+
 // The chunks of a text, each range of its bytes, each length that is kept, each byte, and where it is, beside a plain list.
 #[test]
 fn ranges_bytes_and_chunks() {

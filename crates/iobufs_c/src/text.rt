@@ -1,5 +1,5 @@
 // Texts in pieces at their places.
-ghost use Rattle.std.specs.Prelude.{◌≡◌, ◌+◌, ◌≤◌, ◌<◌, ◌^◌, ◌==◌, if◌then◌else◌, length, take, drop, map, min, nat_le, slice_get, Ok, Err, Some, None, true, false};
+ghost use Rattle.std.specs.Prelude.{◌≡◌, ◌+◌, ◌-◌, ◌≤◌, ◌<◌, ◌^◌, ◌==◌, if◌then◌else◌, length, take, drop, map, min, nat_le, slice_get, Ok, Err, Some, None, true, false};
 ghost use Rattle.std.specs.Borrow.{sem, Lends, full_share};
 ghost use Rattle.std.specs.Ptr.{lies_at, room_at};
 ghost use Rattle.iobufs.specs.Located.{greatest_key, keys_upto};
@@ -459,15 +459,16 @@ pub(crate) fn chunk_of(bytes: &[u8]) -> Chunk
     }
 }
 
-// Fills a list with where the first pieces lie, and answers how many it filled.
-fn fill_chunks(text: &IoBufs, out: &mut [Chunk]) -> usize
-    ensures count { result ≡ min (length out.old) (length (text_chunks text.now)) }
-    ensures lengths { map (λ chunk. chunk.len) (take result out.new) ≡ map length (take result (text_chunks text.now)) }
+// Fills a list with the addresses and lengths of the chunks from `first` on, and returns how many it filled.
+fn fill_chunks(text: &IoBufs, first: usize, out: &mut [Chunk]) -> usize
+    ensures count { result ≡ min (length out.old) (length (text_chunks text.now) - first) }
+    ensures lengths { map (λ chunk. chunk.len) (take result out.new) ≡ map length (take result (drop first (text_chunks text.now))) }
     ensures rest { drop result out.new ≡ drop result out.old }
 {
+    let left = text.chunk_count().saturating_sub(first);
     let mut count = 0;
-    while count < out.len() {
-        let Some(chunk) = text.chunk_at(count) else {
+    while count < out.len() && count < left {
+        let Some(chunk) = text.chunk_at(first + count) else {
             return count;
         };
         out[count] = chunk_of(chunk);
@@ -476,7 +477,7 @@ fn fill_chunks(text: &IoBufs, out: &mut [Chunk]) -> usize
     count
 }
 
-/// Fills a list for `writev` with where the first pieces lie, and answers how many it filled.
+/// Fills a list for `writev` with the first chunks, and returns how many it filled.
 #[unsafe(no_mangle)]
 pub extern "C" fn iobufs_chunks(text: &mut TextAt, out: &mut [Chunk]) -> usize
     ensures same { (text.new.at ≡ text.old.at) × (text.new.value ≡ text.old.value) }
@@ -484,5 +485,16 @@ pub extern "C" fn iobufs_chunks(text: &mut TextAt, out: &mut [Chunk]) -> usize
     ensures lengths { map (λ chunk. chunk.len) (take result out.new) ≡ map length (take result (text_chunks text.old.value)) }
     ensures rest { drop result out.new ≡ drop result out.old }
 {
-    fill_chunks(text.get(), out)
+    fill_chunks(text.get(), 0, out)
+}
+
+/// Fills a list with the chunks from `first` on, and returns how many it filled.
+#[unsafe(no_mangle)]
+pub extern "C" fn iobufs_chunks_from(text: &mut TextAt, first: usize, out: &mut [Chunk]) -> usize
+    ensures same { (text.new.at ≡ text.old.at) × (text.new.value ≡ text.old.value) }
+    ensures count { result ≡ min (length out.old) (length (text_chunks text.old.value) - first) }
+    ensures lengths { map (λ chunk. chunk.len) (take result out.new) ≡ map length (take result (drop first (text_chunks text.old.value))) }
+    ensures rest { drop result out.new ≡ drop result out.old }
+{
+    fill_chunks(text.get(), first, out)
 }
