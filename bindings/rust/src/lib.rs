@@ -3,7 +3,8 @@
 //!
 //! Names, arguments and panics are the original's. It has no dependency, so methods of the traits of the crate `bytes` are
 //! methods here. A `Vec` is copied, since Rust's memory can't be handed over to the library. If an allocation fails, the
-//! process ends, as it does if one of std's collections can't allocate.
+//! process ends, as it does if one of std's collections can't allocate. `try_with_capacity`, `try_zeroed` and
+//! `try_copy_from_slice` return an error instead. Clones, splits and appends allocate too: headers, and lists of chunks.
 //!
 //! With the feature `bytes` the buffers have the traits `Buf` and `BufMut` of that crate, and `Bytes` and `BytesMut` are
 //! copied into them and out of them. Bytes that are put by `chunk_mut` and `advance_mut` are copied once more than by
@@ -78,6 +79,21 @@ impl fmt::Display for TryGetError {
 
 impl std::error::Error for TryGetError {}
 
+/// Memory for a buffer couldn't be allocated, or no buffer has this size.
+#[derive(Clone, Copy, Debug, PartialEq, Eq)]
+pub struct AllocError {
+    /// How many bytes were asked for.
+    pub bytes: usize,
+}
+
+impl fmt::Display for AllocError {
+    fn fmt(&self, f: &mut fmt::Formatter<'_>) -> fmt::Result {
+        write!(f, "memory allocation of {} bytes failed", self.bytes)
+    }
+}
+
+impl std::error::Error for AllocError {}
+
 impl fmt::Display for Error {
     fn fmt(&self, f: &mut fmt::Formatter<'_>) -> fmt::Result {
         fmt::Debug::fmt(self, f)
@@ -122,6 +138,14 @@ fn allocated(status: u8, bytes: usize, message: &str) {
         out_of_memory(Some(bytes));
     }
     done(status, message)
+}
+
+/// What a call made, unless its status says that it failed to allocate `bytes` bytes.
+fn tried<T>(status: u8, bytes: usize, made: T) -> Result<T, AllocError> {
+    match status {
+        sys::OK => Ok(made),
+        _ => Err(AllocError { bytes }),
+    }
 }
 
 /// A pointer that is not null, for no bytes (duty 4).

@@ -1,7 +1,7 @@
 //! `IoBufMut`.
 use crate::sys::{self, Memory};
 use crate::view::IoBuf;
-use crate::{Scratch, allocated, as_bytes, done, no_bytes, puts, try_copy};
+use crate::{AllocError, Scratch, allocated, as_bytes, done, no_bytes, puts, tried, try_copy};
 use std::num::NonZeroUsize;
 use std::{fmt, io, slice};
 
@@ -57,6 +57,28 @@ impl IoBufMut {
             LAYOUT,
         );
         out
+    }
+
+    /// Makes an empty buffer of this capacity, or returns an error if that fails. (own)
+    pub fn try_with_capacity(capacity: usize) -> Result<Self, AllocError> {
+        let out = Self::none();
+        // SAFETY: duty 1.
+        tried(unsafe { sys::iobufmut_with_alignment(capacity, 1, &mut out.0.at()) }, capacity, out)
+    }
+
+    /// Makes a buffer of `len` zeros, or returns an error if that fails. (own)
+    pub fn try_zeroed(len: usize) -> Result<Self, AllocError> {
+        let out = Self::none();
+        // SAFETY: duty 1.
+        tried(unsafe { sys::iobufmut_zeroed_with_alignment(len, 1, &mut out.0.at()) }, len, out)
+    }
+
+    /// Copies these bytes, or returns an error if that fails. (own)
+    pub fn try_copy_from_slice(data: &[u8]) -> Result<Self, AllocError> {
+        let out = Self::none();
+        // SAFETY: duty 4: the slice's pointer is not null, and it outlives the call.
+        let status = unsafe { sys::iobufmut_copy_from_slice(data.as_ptr(), data.len(), &mut out.0.at()) };
+        tried(status, data.len(), out)
     }
 
     /// The number of readable bytes.

@@ -1,7 +1,7 @@
 //! `IoBuf`.
 use crate::part::IoBufMut;
 use crate::sys::{self, Memory};
-use crate::{Error, allocated, as_bytes, bounds, done, gets, limits, no_bytes, read, try_copy};
+use crate::{AllocError, Error, allocated, as_bytes, bounds, done, gets, limits, no_bytes, read, tried, try_copy};
 use std::borrow::Borrow;
 use std::cmp::Ordering;
 use std::hash::{Hash, Hasher};
@@ -30,6 +30,14 @@ impl IoBuf {
             "",
         );
         out
+    }
+
+    /// Copies these bytes, or returns an error if that fails. (own)
+    pub fn try_copy_from_slice(data: &[u8]) -> Result<Self, AllocError> {
+        let out = IoBuf::default();
+        // SAFETY: duty 4: the slice's pointer is not null, and it outlives the call.
+        let status = unsafe { sys::iobuf_copy_from_slice(data.as_ptr(), data.len(), &mut out.0.at()) };
+        tried(status, data.len(), out)
     }
 
     /// The number of bytes.

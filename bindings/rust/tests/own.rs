@@ -1,5 +1,5 @@
 //! Texts, parts, builders and frames, worked by hand; readers, writers and threads.
-use iobufs::{Builder, Error, FrameReader, FrameWriter, Frames, IoBuf, IoBufMut, IoBufs, IoBufsMut, Prefix, length_size};
+use iobufs::{AllocError, Builder, Error, FrameReader, FrameWriter, Frames, IoBuf, IoBufMut, IoBufs, IoBufsMut, Prefix, length_size};
 use std::hash::{DefaultHasher, Hash, Hasher};
 use std::io::{self, BufRead, IoSlice, Read, Write};
 use std::process::Command;
@@ -46,6 +46,21 @@ fn texts() {
     assert_eq!(&list[1][..], b"de");
     let (slices, n) = same.slices::<8>();
     assert_eq!((n, &slices[2][..], slices[3].len()), (3, &b"fghi"[..], 0));
+}
+
+// A size that no buffer can have, and one that no machine has memory for.
+#[test]
+fn allocations_that_fail() {
+    for bytes in [usize::MAX, 1 << 62, 1 << 50] {
+        assert_eq!(IoBufMut::try_with_capacity(bytes).err(), Some(AllocError { bytes }));
+        assert_eq!(IoBufMut::try_zeroed(bytes).err(), Some(AllocError { bytes }));
+    }
+    let message = "memory allocation of 7 bytes failed";
+    assert_eq!(AllocError { bytes: 7 }.to_string(), message);
+    let (empty, zeros) = (IoBufMut::try_with_capacity(9).unwrap(), IoBufMut::try_zeroed(3).unwrap());
+    assert_eq!((empty.len(), empty.capacity(), zeros.as_ref()), (0, 9, &[0; 3][..]));
+    let copies = (IoBufMut::try_copy_from_slice(b"ab").unwrap(), IoBuf::try_copy_from_slice(b"cd").unwrap());
+    assert_eq!((copies.0.as_ref(), copies.1.as_ref()), (&b"ab"[..], &b"cd"[..]));
 }
 
 // The chunks of a text are taken 32 at a time.
