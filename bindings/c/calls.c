@@ -315,6 +315,7 @@ static void numbers(void) {
     OK(iobufmut_freeze(&p, &v));
     OK(iobuf_get_u16(&v, &two)); OK(iobuf_get_u32(&v, &four)); OK(iobuf_get_u64(&v, &eight));
     CHECK(two == 0x0102 && four == 0x03040506 && eight == 0x0708090a0b0c0d0e && iobuf_is_empty(&v));
+    CHECK(iobufs_swap16(two) == 0x0201 && iobufs_swap32(four) == 0x06050403 && iobufs_swap64(eight) == 0x0e0d0c0b0a090807);
     CHECK(iobuf_get_u8(&v, &one) == IOBUFS_END_OF_BUFFER && one == 0);
     OK(iobufmut_with_capacity(5, &p)); OK(iobufmut_with_capacity(10, &q));
     struct iobufmut_at row[2] = { p, q };

@@ -464,6 +464,18 @@ IOBUFS_CHECKED iobufs_status iobufs_frames_feed(struct iobufs_frames_at *frames,
 IOBUFS_CHECKED iobufs_status iobufs_frames_next(struct iobufs_frames_at *frames, size_t lo, size_t hi, struct iobuf_at *out,
     size_t *wrong);
 
+/* ---- little-endian numbers: put swapped, as in iobufmut_put_u32(&part, iobufs_swap32(n)), and swapped after a read ---- */
+
+static inline uint16_t iobufs_swap16(uint16_t n) {
+    return (uint16_t)(n >> 8 | n << 8);
+}
+static inline uint32_t iobufs_swap32(uint32_t n) {
+    return (uint32_t)iobufs_swap16((uint16_t)n) << 16 | iobufs_swap16((uint16_t)(n >> 16));
+}
+static inline uint64_t iobufs_swap64(uint64_t n) {
+    return (uint64_t)iobufs_swap32((uint32_t)n) << 32 | iobufs_swap32((uint32_t)(n >> 32));
+}
+
 /* ---- places of memory that is made a buffer at once ---- */
 
 static inline struct iobuf_at iobuf_made(struct iobuf *memory) {
