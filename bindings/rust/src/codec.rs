@@ -1,5 +1,5 @@
 //! Values that are written and read, by traits with the names of the original's codec: `EncodeSize`, `Write`, `Read`, and
-//! what they write to and read from, `BufMut`, `BufsMut` and `Buf`.
+//! what they write to and read from, `Sink`, `BufsMut` and `Source`.
 //!
 //! A number of a fixed size is written with its highest byte first, a `usize` as a length, and an `IoBuf` behind its length.
 //! What is read is a view of the buffer's own storage, where it lies in one piece. Where a value isn't read, the buffer is as
@@ -52,7 +52,7 @@ impl<T: Copy> From<std::ops::RangeFull> for RangeCfg<T> {
 }
 
 /// What values are read from: `IoBuf` and `IoBufs`. A refusal changes nothing.
-pub trait Buf {
+pub trait Source {
     /// How many bytes are left.
     fn remaining(&self) -> usize;
     /// Reads one byte.
@@ -71,7 +71,7 @@ pub trait Buf {
 
 macro_rules! reads {
     ($($buffer:ty)*) => {$(
-        impl Buf for $buffer {
+        impl Source for $buffer {
             fn remaining(&self) -> usize {
                 self.len()
             }
@@ -106,7 +106,7 @@ macro_rules! reads {
 reads! { IoBuf IoBufs }
 
 /// What values are written to: `IoBufMut`, `IoBufsMut` and `Builder`. A put panics where there is no room.
-pub trait BufMut {
+pub trait Sink {
     /// How many bytes may still be put.
     fn remaining_mut(&self) -> usize;
     /// Puts bytes.
@@ -127,7 +127,7 @@ pub trait BufMut {
 
 macro_rules! writes {
     ($($buffer:ty)*) => {$(
-        impl BufMut for $buffer {
+        impl Sink for $buffer {
             fn remaining_mut(&self) -> usize {
                 <$buffer>::remaining_mut(self)
             }
@@ -166,7 +166,7 @@ macro_rules! writes {
 writes! { IoBufMut IoBufsMut Builder }
 
 /// What also takes whole views, with no copy: `Builder`.
-pub trait BufsMut: BufMut {
+pub trait BufsMut: Sink {
     /// Puts a view behind what was put and pushed.
     fn push(&mut self, chunk: impl Into<IoBuf>);
 }
@@ -191,7 +191,7 @@ pub trait EncodeSize {
 /// A value that is written.
 pub trait Write {
     /// Puts it. Panics where there is no room.
-    fn write(&self, buf: &mut impl BufMut);
+    fn write(&self, buf: &mut impl Sink);
 
     /// The same, with views pushed and not copied.
     fn write_bufs(&self, buf: &mut impl BufsMut) {
@@ -205,13 +205,13 @@ pub trait Read: Sized {
     type Cfg;
 
     /// Reads a value from the front. Where that is refused, the buffer is as it was.
-    fn read_cfg(buf: &mut impl Buf, cfg: &Self::Cfg) -> Result<Self, Error>;
+    fn read_cfg(buf: &mut impl Source, cfg: &Self::Cfg) -> Result<Self, Error>;
 }
 
 /// What a whole value is decoded from: a buffer to write is frozen first.
 pub trait Input: Into<Self::Buf> {
     /// What is read.
-    type Buf: Buf;
+    type Buf: Source;
 }
 
 impl Input for IoBuf {
@@ -285,7 +285,7 @@ macro_rules! numbers {
         }
 
         impl Write for $number {
-            fn write(&self, buf: &mut impl BufMut) {
+            fn write(&self, buf: &mut impl Sink) {
                 buf.$put(*self)
             }
         }
@@ -293,7 +293,7 @@ macro_rules! numbers {
         impl Read for $number {
             type Cfg = ();
 
-            fn read_cfg(buf: &mut impl Buf, _: &()) -> Result<Self, Error> {
+            fn read_cfg(buf: &mut impl Source, _: &()) -> Result<Self, Error> {
                 buf.$get().map_err(|_| Error::EndOfBuffer)
             }
         }
@@ -314,7 +314,7 @@ impl EncodeSize for usize {
 }
 
 impl Write for usize {
-    fn write(&self, buf: &mut impl BufMut) {
+    fn write(&self, buf: &mut impl Sink) {
         buf.put_length(*self)
     }
 }
@@ -322,7 +322,7 @@ impl Write for usize {
 impl Read for usize {
     type Cfg = RangeCfg<usize>;
 
-    fn read_cfg(buf: &mut impl Buf, range: &Self::Cfg) -> Result<Self, Error> {
+    fn read_cfg(buf: &mut impl Source, range: &Self::Cfg) -> Result<Self, Error> {
         buf.read_length(range)
     }
 }
@@ -339,7 +339,7 @@ impl EncodeSize for IoBuf {
 }
 
 impl Write for IoBuf {
-    fn write(&self, buf: &mut impl BufMut) {
+    fn write(&self, buf: &mut impl Sink) {
         buf.put_length(self.len());
         buf.put_slice(self.as_ref());
     }
@@ -353,7 +353,7 @@ impl Write for IoBuf {
 impl Read for IoBuf {
     type Cfg = RangeCfg<usize>;
 
-    fn read_cfg(buf: &mut impl Buf, range: &Self::Cfg) -> Result<Self, Error> {
+    fn read_cfg(buf: &mut impl Source, range: &Self::Cfg) -> Result<Self, Error> {
         buf.read_view(range)
     }
 }

@@ -35,7 +35,8 @@ fn long_views() {
         let mut part = IoBufMut::from(view);
         assert!(part.chunk() == &all[n / 2 + 7..]);
         assert!(part.copy_to_bytes(9) == all[n / 2 + 7..n / 2 + 16] && part.freeze() == all[n / 2 + 16..]);
-        assert!(IoBuf::from(all.clone()) == all[..]);
+        let copy = IoBuf::from(all.clone());
+        assert!(copy == all[..]);
     }
 }
 

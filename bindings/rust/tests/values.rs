@@ -1,5 +1,5 @@
 //! Values that are written and read: worked by hand, and the original's test of a view as a value.
-use iobufs::codec::{Buf, BufMut, BufsMut, Decode, Encode, EncodeExt, EncodeSize, RangeCfg, Read, Write};
+use iobufs::codec::{BufsMut, Decode, Encode, EncodeExt, EncodeSize, RangeCfg, Read, Sink, Source, Write};
 use iobufs::{Builder, Error, IoBuf, IoBufMut, IoBufs, IoBufsMut};
 
 #[test]
@@ -55,7 +55,7 @@ fn in_bytes(bytes: &[u8]) -> IoBufs {
 #[test]
 fn numbers_and_lengths() {
     let bytes = *b"\x01\x02\x03\x04\x05\x06\x07\x08\x09\x0a\x0b\x0c\x0d\x0e\x0f\xac\x02";
-    fn read(buf: &mut impl Buf) -> (u8, u16, u32, u64, usize) {
+    fn read(buf: &mut impl Source) -> (u8, u16, u32, u64, usize) {
         let numbers = (
             u8::read_cfg(buf, &()).unwrap(),
             u16::read_cfg(buf, &()).unwrap(),
@@ -123,7 +123,7 @@ impl EncodeSize for Shard {
 }
 
 impl Write for Shard {
-    fn write(&self, buf: &mut impl BufMut) {
+    fn write(&self, buf: &mut impl Sink) {
         self.index.write(buf);
         self.body.write(buf);
         self.last.write(buf);
@@ -139,7 +139,7 @@ impl Write for Shard {
 impl Read for Shard {
     type Cfg = RangeCfg<usize>;
 
-    fn read_cfg(buf: &mut impl Buf, range: &Self::Cfg) -> Result<Self, Error> {
+    fn read_cfg(buf: &mut impl Source, range: &Self::Cfg) -> Result<Self, Error> {
         Ok(Shard {
             index: u16::read_cfg(buf, &())?,
             body: IoBuf::read_cfg(buf, range)?,
