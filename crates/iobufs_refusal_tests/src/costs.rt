@@ -227,7 +227,7 @@ fn count<B: Counted>(
     Ok(())
 }
 
-// The calls on a view, made anew for each.
+// The calls on a view, each on a new one.
 fn count_views(
     rt: &(impl Print + Abort + AllocGlobal),
     shape: &Shape,
@@ -269,7 +269,7 @@ fn makers(rt: HostRuntime) -> Result<(), Fail> {
     Ok(())
 }
 
-// The calls on a writable buffer, made anew for each.
+// The calls on a writable buffer, each on a new one.
 fn count_parts(
     rt: &(impl Print + Abort + AllocGlobal),
     shape: &Shape,

@@ -34,7 +34,7 @@ found-reads g x true true = refl
 found-reads g x true false = refl
 found-reads g x false u = refl
 
--- users see what may be had under a number, or the same cause against it, where their test says the same of what stands there
+-- users see what may be had under a number, or the same cause against it, where their test gives the same result for its entry
 asked-reads : (g : Tables) (test : Handle → Bool) (seen : LiveHandle → Bool) (b c : Bool) (o : Option Handle)
     → ((x : Handle) → o ≡ Some x → seen (read_held g x) ≡ test x) → c ≡ b → asked seen c (read_handle g o) ≡ read_lent g (asked test b o)
 asked-reads g test seen b c None t e = refl

@@ -6,7 +6,7 @@ use std::alloc::Global;
 pub type Place = usize;
 
 // A buffer of `count` chunks of `len` bytes each. It holds what follows the first `len` bytes of `all`, which has `len`
-// bytes more behind it.
+// bytes more after it.
 #[derive(Clone, Copy)]
 pub struct Shape {
     pub all: &'static [u8],
