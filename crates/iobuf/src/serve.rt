@@ -5,7 +5,7 @@ ghost use Rattle.std.specs.Io.KnownBytes.{Appends};
 ghost use Rattle.iobuf.specs.Halves.{ServesHalf, half_word};
 ghost use Rattle.iobuf.specs.MachineSession.{HasMachineStatus, ServesMachine};
 ghost use Rattle.iobuf.specs.Session.{HasStatus, Serves};
-ghost use Rattle.iobuf.specs.Stops.{IsStatus, stop_line};
+ghost use Rattle.iobuf.specs.Stops.{IsFlushed, IsStatus, stop_line};
 ghost use Rattle.iobuf.specs.declared.fault.Stop.TheVariants.{OtherWords};
 
 mod buffers;
@@ -52,6 +52,7 @@ fn run<R: Read + Drop, W: Write>(
     ensures serves { IfSome (R.remaining input) (λ read. IfSome (W.contents output.old.writer) (λ before.
         ServesHalf half read before (W.contents output.new.writer) result)) }
     ensures sent { OnOk result (output.new.is_sent ≡ true) }
+    ensures flushed { IsFlushed result output.new.is_sent }
 {
     let mut input = match Input::new(alloc, input) {
         Ok(input) => input,
@@ -92,6 +93,7 @@ pub fn session<R: Read + Drop, W: Write, E: Write>(
     ensures usage { map (λ arg. arg.now) args.now ≢ codes "buf" ∷ [] → map (λ arg. arg.now) args.now ≢ codes "owner" ∷ []
         → (result.0 ≡ Err OtherWords) × (input.new ≡ input.old) × (output.new ≡ output.old) }
     ensures sent { OnOk result.0 (output.new.is_sent ≡ true) }
+    ensures flushed { IsFlushed result.0 output.new.is_sent }
     ensures told { IfErr result.0 (λ stop. OnOk result.1 (Appends (E.contents errors.old) (E.contents errors.new) (stop_line stop))) }
     ensures silent { OnOk result.0 (errors.new ≡ errors.old) }
 {

@@ -3,6 +3,7 @@ use Rattle.std.specs.Io.Buffered.{reader_remaining}
 use Rattle.iobuf.specs.Halves.{ServesHalf}
 use Rattle.iobuf.specs.declared.fault.Obstacle.{Obstacle}
 use Rattle.iobuf.specs.declared.fault.Stop.TheVariants.{CannotContinue}
+use Rattle.iobuf.specs.Stops.{IsFlushed}
 use Rattle.iobuf.proofs.Endings.{not_begun, unsent}
 use Rattle.iobuf.proofs.serve.run.Goals as goal
 
@@ -21,3 +22,7 @@ returns-in-Err-send-clause-serves g c =
     (sym c.in-Err-send.ensures.err)
     (unsent c.args.half (g.R.Read.remaining c.args.input) told (g.W.Write.contents c.serve_half-served.new.output.writer) new
     c.serve_half-served.result served c.send.ensures.bytes)
+
+pub returns-in-Err-send-clause-flushed : goal.returns-in-Err-send-clause-flushed
+returns-in-Err-send-clause-flushed g c =
+    subst (λ (failure : Obstacle). IsFlushed (Err (CannotContinue failure)) c.send.new.self.is_sent) (sym c.in-Err-send.ensures.err) tt
