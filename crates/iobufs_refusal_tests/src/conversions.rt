@@ -1,7 +1,7 @@
 // Calls that consume what they make a buffer of.
 use crate::given::Given;
 use crate::made::part;
-use crate::word::{FailedAt, end, say};
+use crate::word::{FailedAt, end, name, say};
 use bytes::{Bytes, BytesMut};
 use iobufs::bufs::IoBufs;
 use iobufs_core::buf::{IoBuf, IoBufMut};
@@ -148,62 +148,25 @@ fn converted(rt: &(impl Print + Abort + AllocGlobal), from: From, to: To, bytes:
     end(rt, word, given.shows(bytes) && sharer.is_same());
 }
 
-#[test]
-fn list_to_view(rt: HostRuntime) {
-    converted(&rt, From::List, To::View, b"abc");
-}
+const CONVERSIONS: [(&'static str, From, To, &'static [u8]); 12] = rows! {
+    "list_to_view", From::List, To::View, b"abc";
+    "bytes_to_view", From::Bytes, To::View, b"abc";
+    "block_to_view", From::Block, To::View, b"abc";
+    "shared_block_to_view", From::SharedBlock, To::View, b"ab";
+    "bytes_to_bytes", From::Bytes, To::Bytes, b"abc";
+    "list_to_part", From::List, To::Part, b"abc";
+    "bytes_to_part", From::Bytes, To::Part, b"abc";
+    "shared_bytes_to_part", From::SharedBytes, To::Part, b"abcd";
+    "block_to_part", From::Block, To::Part, b"abc";
+    "shared_block_to_part", From::SharedBlock, To::Part, b"ab";
+    "part_to_bufs", From::Part, To::Bufs, b"abc";
+    "list_to_bufs", From::List, To::Bufs, b"abc";
+};
 
 #[test]
-fn bytes_to_view(rt: HostRuntime) {
-    converted(&rt, From::Bytes, To::View, b"abc");
-}
-
-#[test]
-fn block_to_view(rt: HostRuntime) {
-    converted(&rt, From::Block, To::View, b"abc");
-}
-
-#[test]
-fn shared_block_to_view(rt: HostRuntime) {
-    converted(&rt, From::SharedBlock, To::View, b"ab");
-}
-
-#[test]
-fn bytes_to_bytes(rt: HostRuntime) {
-    converted(&rt, From::Bytes, To::Bytes, b"abc");
-}
-
-#[test]
-fn list_to_part(rt: HostRuntime) {
-    converted(&rt, From::List, To::Part, b"abc");
-}
-
-#[test]
-fn bytes_to_part(rt: HostRuntime) {
-    converted(&rt, From::Bytes, To::Part, b"abc");
-}
-
-#[test]
-fn shared_bytes_to_part(rt: HostRuntime) {
-    converted(&rt, From::SharedBytes, To::Part, b"abcd");
-}
-
-#[test]
-fn block_to_part(rt: HostRuntime) {
-    converted(&rt, From::Block, To::Part, b"abc");
-}
-
-#[test]
-fn shared_block_to_part(rt: HostRuntime) {
-    converted(&rt, From::SharedBlock, To::Part, b"ab");
-}
-
-#[test]
-fn part_to_bufs(rt: HostRuntime) {
-    converted(&rt, From::Part, To::Bufs, b"abc");
-}
-
-#[test]
-fn list_to_bufs(rt: HostRuntime) {
-    converted(&rt, From::List, To::Bufs, b"abc");
+fn conversions(rt: HostRuntime) {
+    for (case, from, to, bytes) in CONVERSIONS {
+        name(&rt, case);
+        converted(&rt, from, to, bytes);
+    }
 }

@@ -8,7 +8,6 @@ use iobufs::bufs::IoBufs;
 use iobufs::bufs_mut::IoBufsMut;
 use iobufs_core::buf::{IoBuf, IoBufMut};
 use iobufs_core::codec::BufError;
-use iobufs_values::{Chain, Take};
 use std::alloc::Global;
 use std::fmt::Debug;
 use std::process::Abort;
@@ -171,14 +170,6 @@ const OF_ROWS: [Row; 10] = [
     (Costed::CopyToBytes, ALL, NONE),
 ];
 
-const OF_READERS: [Row; 5] = [
-    (Costed::Advance, FRONT, BACK),
-    (Costed::CopyToSlice, FRONT, BACK),
-    (Costed::CopyToBytes, FRONT, BACK),
-    (Costed::Chunks, ALL, ALL),
-    (Costed::CopyToBytes, ALL, NONE),
-];
-
 // Whether what a call gives has the bytes of a range, cut as they are.
 fn is_cut(alloc: Global, given: &Given, shape: &Shape, span: Span) -> Result<bool, BufError> {
     match given {
@@ -328,37 +319,6 @@ fn rows(rt: HostRuntime) -> Result<(), Fail> {
             let parts = parts_of(rt.alloc(), shape.bytes(ALL), len)?;
             let parts = IoBufsMut::from_parts(rt.alloc(), parts.into_iter())?;
             count(&rt, &Origin::Full, &shape, parts, row)?;
-        }
-    }
-    Ok(())
-}
-
-// The first bytes of a buffer, and its chunks.
-fn chained(
-    alloc: Global,
-    shape: &Shape,
-    front: usize,
-) -> Result<Chain<IoBufMut, IoBufs>, BufError> {
-    let bytes = shape.bytes(ALL);
-    let (front, back) = bytes.split_at(front.min(bytes.len()));
-    Ok(Chain::new(
-        IoBufMut::copy_from_slice(alloc, front)?,
-        text(alloc, Store::Full, back, shape.len)?,
-    ))
-}
-
-// The first chunks of longer bytes, and a chunk or nothing before others.
-#[test]
-fn readers(rt: HostRuntime) -> Result<(), Fail> {
-    let alloc = rt.alloc();
-    for (chunks, len) in CHUNKS {
-        let shape = Shape::new(alloc, chunks, len)?;
-        for row in &OF_READERS {
-            let inner = text(alloc, Store::Full, shape.bytes((0, Shape::AFTER)), len)?;
-            let limit = shape.size();
-            count(&rt, &"Take", &shape, Take { inner, limit }, row)?;
-            count(&rt, &"Chain", &shape, chained(alloc, &shape, len)?, row)?;
-            count(&rt, &"EmptyChain", &shape, chained(alloc, &shape, 0)?, row)?;
         }
     }
     Ok(())

@@ -2,6 +2,7 @@
 use crate::each::on_each;
 use crate::given::Given;
 use crate::made::{native, part, twin_of};
+use crate::word::name;
 use bytes::{Bytes, BytesMut};
 use iobufs_core::buf::{IoBuf, IoBufMut};
 use iobufs_core::codec::{Buf, BufError, BufMut, Error, OwnedBuf, OwnedBytes};
@@ -204,69 +205,28 @@ fn on_views(rt: &(impl Print + Abort + AllocGlobal), what: Call, given: &[u8], l
     })
 }
 
-#[test]
-fn clone(rt: HostRuntime) {
-    on_views(&rt, Call::Clone, TEXT, TEXT);
-}
+const CALLS: [(&'static str, Call, &'static [u8], &'static [u8]); 13] = rows! {
+    "clone", Call::Clone, TEXT, TEXT;
+    "slices", Call::Slice(1, 3), b"bc", TEXT;
+    "splits", Call::SplitTo(1), b"a", b"bcd";
+    "copied_to_a_list", Call::ToVec, TEXT, TEXT;
+    "copied_to_bytes", Call::CopyToBytes(3), b"abc", b"d";
+    "all_copied_to_bytes", Call::CopyToBytes(4), TEXT, b"";
+    "taken_as_views", Call::TakeView(1, 2), b"bc", b"d";
+    "taken_as_bytes", Call::TakeBytes(1, 2), b"bc", b"d";
+    "tried_to_take", Call::TryTakeBytes(2), b"ab", b"cd";
+    "taken_whole_as_views", Call::TakeWholeView, TEXT, b"";
+    "taken_whole_as_bytes", Call::TakeWholeBytes, TEXT, b"";
+    "made_into_bytes", Call::IntoBytes, TEXT, b"";
+    "made_into_parts", Call::IntoPart, TEXT, b"";
+};
 
 #[test]
-fn slices(rt: HostRuntime) {
-    on_views(&rt, Call::Slice(1, 3), b"bc", TEXT);
-}
-
-#[test]
-fn splits(rt: HostRuntime) {
-    on_views(&rt, Call::SplitTo(1), b"a", b"bcd");
-}
-
-#[test]
-fn copied_to_a_list(rt: HostRuntime) {
-    on_views(&rt, Call::ToVec, TEXT, TEXT);
-}
-
-#[test]
-fn copied_to_bytes(rt: HostRuntime) {
-    on_views(&rt, Call::CopyToBytes(3), b"abc", b"d");
-}
-
-#[test]
-fn all_copied_to_bytes(rt: HostRuntime) {
-    on_views(&rt, Call::CopyToBytes(4), TEXT, b"");
-}
-
-#[test]
-fn taken_as_views(rt: HostRuntime) {
-    on_views(&rt, Call::TakeView(1, 2), b"bc", b"d");
-}
-
-#[test]
-fn taken_as_bytes(rt: HostRuntime) {
-    on_views(&rt, Call::TakeBytes(1, 2), b"bc", b"d");
-}
-
-#[test]
-fn tried_to_take(rt: HostRuntime) {
-    on_views(&rt, Call::TryTakeBytes(2), b"ab", b"cd");
-}
-
-#[test]
-fn taken_whole_as_views(rt: HostRuntime) {
-    on_views(&rt, Call::TakeWholeView, TEXT, b"");
-}
-
-#[test]
-fn taken_whole_as_bytes(rt: HostRuntime) {
-    on_views(&rt, Call::TakeWholeBytes, TEXT, b"");
-}
-
-#[test]
-fn made_into_bytes(rt: HostRuntime) {
-    on_views(&rt, Call::IntoBytes, TEXT, b"");
-}
-
-#[test]
-fn made_into_parts(rt: HostRuntime) {
-    on_views(&rt, Call::IntoPart, TEXT, b"");
+fn calls(rt: HostRuntime) {
+    for (case, what, given, left) in CALLS {
+        name(&rt, case);
+        on_views(&rt, what, given, left);
+    }
 }
 
 #[test]
@@ -317,17 +277,17 @@ fn on_emptied(rt: &(impl Print + Abort + AllocGlobal), calls: &[Call]) {
     )
 }
 
-#[test]
-fn emptied_views(rt: HostRuntime) {
-    on_emptied(&rt, &[Call::Clone, Call::Slice(0, 0), Call::SplitTo(0)]);
-}
+const EMPTIED: [(&'static str, &'static [Call]); 2] = rows! {
+    "emptied_views", &[Call::Clone, Call::Slice(0, 0), Call::SplitTo(0)];
+    "copies_of_emptied_views", &[Call::ToVec, Call::CopyToBytes(0), Call::TakeWholeBytes];
+};
 
 #[test]
-fn copies_of_emptied_views(rt: HostRuntime) {
-    on_emptied(
-        &rt,
-        &[Call::ToVec, Call::CopyToBytes(0), Call::TakeWholeBytes],
-    );
+fn calls_on_emptied_views(rt: HostRuntime) {
+    for (case, calls) in EMPTIED {
+        name(&rt, case);
+        on_emptied(&rt, calls);
+    }
 }
 
 // A writable buffer, and the spare capacity that it had at first.

@@ -1,8 +1,16 @@
 // Each allocation fails in turn. `tests/refuse` at the top of the repository runs these tests with the first allocation
 // failing, then with the second, and so on. Each test makes a fixture, makes one call, and prints which of the two the
-// failure hit: `fixture`, `refused` or, if it hit neither, `whole`. A call whose allocation fails has to report that, to
-// leave what it borrowed as it was, and to give the second time what it gives without a failure.
+// failure hit: `fixture`, `refused` or, if it hit neither, `whole`. A test of several cases first prints the name of each.
+// A call whose allocation fails has to report that, to leave what it borrowed as it was, and to give the second time what
+// it gives without a failure.
 #![tactic(auto)]
+
+// The cases of a table, one a line.
+macro_rules! rows {
+    ($($($value:expr),+;)+) => {
+        [$(($($value),+)),+]
+    };
+}
 
 // The value of the fixture. If an allocation of it fails, the test says so and ends.
 macro_rules! fixture {
@@ -49,8 +57,6 @@ mod machine;
 mod made;
 #[cfg(test)]
 mod parts;
-#[cfg(test)]
-mod readers;
 #[cfg(test)]
 mod several;
 #[cfg(test)]

@@ -19,7 +19,7 @@
 // | `win` | a handle | `a_clone`, `a_slice` |
 // | `add_holder` | a handle | `a_clone_of_a_shared_view` |
 // | `reserve` | each table and what grows beside it | `a_reservation` |
-use crate::word::{FailedAt, end, say};
+use crate::word::{FailedAt, end, name, say};
 use iobufs_core::codec::BufError;
 use iobufs_owner::format::FORMAT_64;
 use iobufs_owner::owner::Act::{self, Begin, Go};
@@ -141,154 +141,41 @@ fn run(rt: HostRuntime) {
     );
 }
 
-// Tables of blocks, places, handles and their borrows, and the log of freed blocks.
-const A_NEW_BLOCK: [Row; 1] = [(0, Begin(Call::New(64, 12, 1), true))];
+const CASES: [(&'static str, &'static [Row], &'static [Row]); 17] = rows! {
+    // Tables of blocks, places, handles and their borrows, and the log of freed blocks.
+    "a_new_block", &[], &[(0, Begin(Call::New(64, 12, 1), true))];
+    "an_external_block", &[], &[(0, Begin(Call::External(64, 12), true))];
+    "a_static_view", &[], &[(0, Begin(Call::Static(3), true))];
+    // A block that is too long for a word: it comes with a record.
+    "a_block_with_a_record", &[], &[(0, Begin(Call::New(64, 1 << 40, 1), true))];
+    // The rest after the one byte is too long for a word: the record is made when the handle is frozen.
+    "a_freeze_with_a_record", &[], &[(0, Begin(Call::New(4096, 131_073, 1), true)),
+        (0, Begin(Call::Put(0, 1), true)), (0, Begin(Call::Freeze(0), true))];
+    // A record is made, and a fifth handle.
+    "a_split", &FOUR, &[(0, Begin(Call::SplitTo(0, 3), true))];
+    "a_split_at_the_front", &FOUR, &[(0, Begin(Call::SplitTo(0, 0), true))];
+    "a_split_at_the_end", &FOUR, &[(0, Begin(Call::SplitTo(0, 8), true))];
+    "a_split_without_block", &FOUR, &[(0, Begin(Call::SplitTo(1, 2), true))];
+    "a_split_of_a_shared_view", &SHARED, &[(0, Begin(Call::SplitTo(0, 2), true))];
+    "a_fifth_static_view", &FOUR, &[(0, Begin(Call::Static(3), true))];
+    "an_empty_slice", &FOUR, &[(0, Begin(Call::Slice(0, 2, 2), true))];
+    "a_clone_of_a_shared_view", &SHARED, &[(0, Begin(Call::Clone(0), true)), (0, Go(true))];
+    "a_clone", &FOUR, &[(0, Begin(Call::Clone(0), true)), (0, Go(true)), (0, Go(true))];
+    "a_clone_without_block", &FOUR, &[(0, Begin(Call::Clone(1), true))];
+    "a_slice", &FOUR, &[(0, Begin(Call::Slice(0, 1, 3), true)), (0, Go(true)), (0, Go(true))];
+    // Two promotions of which one is late, and frees its record. The drops free the other and the block.
+    "two_clones_and_three_drops", &FOUR, &[(0, Begin(Call::Clone(0), true)), (1, Begin(Call::Clone(0), true)),
+        (0, Go(true)), (1, Go(true)), (1, Go(true)), (0, Go(true)), (0, Go(true)),
+        (2, Begin(Call::Drop(0), true)), (2, Go(true)), (1, Begin(Call::Drop(4), true)), (1, Go(true)),
+        (0, Begin(Call::Drop(5), true)), (0, Go(true))];
+};
 
 #[test]
-fn a_new_block(rt: HostRuntime) {
-    lockstep(&rt, &[], &A_NEW_BLOCK);
-}
-
-const AN_EXTERNAL_BLOCK: [Row; 1] = [(0, Begin(Call::External(64, 12), true))];
-
-#[test]
-fn an_external_block(rt: HostRuntime) {
-    lockstep(&rt, &[], &AN_EXTERNAL_BLOCK);
-}
-
-const A_STATIC_VIEW: [Row; 1] = [(0, Begin(Call::Static(3), true))];
-
-#[test]
-fn a_static_view(rt: HostRuntime) {
-    lockstep(&rt, &[], &A_STATIC_VIEW);
-}
-
-// A block that is too long for a word: it comes with a record.
-const A_BLOCK_WITH_A_RECORD: [Row; 1] = [(0, Begin(Call::New(64, 1 << 40, 1), true))];
-
-#[test]
-fn a_block_with_a_record(rt: HostRuntime) {
-    lockstep(&rt, &[], &A_BLOCK_WITH_A_RECORD);
-}
-
-// The rest after the one byte is too long for a word: the record is made when the handle is frozen.
-const A_FREEZE_WITH_A_RECORD: [Row; 3] = [
-    (0, Begin(Call::New(4096, 131_073, 1), true)),
-    (0, Begin(Call::Put(0, 1), true)),
-    (0, Begin(Call::Freeze(0), true)),
-];
-
-#[test]
-fn a_freeze_with_a_record(rt: HostRuntime) {
-    lockstep(&rt, &[], &A_FREEZE_WITH_A_RECORD);
-}
-
-// A record is made, and a fifth handle.
-const A_SPLIT: [Row; 1] = [(0, Begin(Call::SplitTo(0, 3), true))];
-
-#[test]
-fn a_split(rt: HostRuntime) {
-    lockstep(&rt, &FOUR, &A_SPLIT);
-}
-
-const A_SPLIT_AT_THE_FRONT: [Row; 1] = [(0, Begin(Call::SplitTo(0, 0), true))];
-
-#[test]
-fn a_split_at_the_front(rt: HostRuntime) {
-    lockstep(&rt, &FOUR, &A_SPLIT_AT_THE_FRONT);
-}
-
-const A_SPLIT_AT_THE_END: [Row; 1] = [(0, Begin(Call::SplitTo(0, 8), true))];
-
-#[test]
-fn a_split_at_the_end(rt: HostRuntime) {
-    lockstep(&rt, &FOUR, &A_SPLIT_AT_THE_END);
-}
-
-const A_SPLIT_WITHOUT_BLOCK: [Row; 1] = [(0, Begin(Call::SplitTo(1, 2), true))];
-
-#[test]
-fn a_split_without_block(rt: HostRuntime) {
-    lockstep(&rt, &FOUR, &A_SPLIT_WITHOUT_BLOCK);
-}
-
-const A_SPLIT_OF_A_SHARED_VIEW: [Row; 1] = [(0, Begin(Call::SplitTo(0, 2), true))];
-
-#[test]
-fn a_split_of_a_shared_view(rt: HostRuntime) {
-    lockstep(&rt, &SHARED, &A_SPLIT_OF_A_SHARED_VIEW);
-}
-
-const A_FIFTH_STATIC_VIEW: [Row; 1] = [(0, Begin(Call::Static(3), true))];
-
-#[test]
-fn a_fifth_static_view(rt: HostRuntime) {
-    lockstep(&rt, &FOUR, &A_FIFTH_STATIC_VIEW);
-}
-
-const AN_EMPTY_SLICE: [Row; 1] = [(0, Begin(Call::Slice(0, 2, 2), true))];
-
-#[test]
-fn an_empty_slice(rt: HostRuntime) {
-    lockstep(&rt, &FOUR, &AN_EMPTY_SLICE);
-}
-
-const A_CLONE_OF_A_SHARED_VIEW: [Row; 2] = [(0, Begin(Call::Clone(0), true)), (0, Go(true))];
-
-#[test]
-fn a_clone_of_a_shared_view(rt: HostRuntime) {
-    lockstep(&rt, &SHARED, &A_CLONE_OF_A_SHARED_VIEW);
-}
-
-const A_CLONE: [Row; 3] = [
-    (0, Begin(Call::Clone(0), true)),
-    (0, Go(true)),
-    (0, Go(true)),
-];
-
-#[test]
-fn a_clone(rt: HostRuntime) {
-    lockstep(&rt, &FOUR, &A_CLONE);
-}
-
-const A_CLONE_WITHOUT_BLOCK: [Row; 1] = [(0, Begin(Call::Clone(1), true))];
-
-#[test]
-fn a_clone_without_block(rt: HostRuntime) {
-    lockstep(&rt, &FOUR, &A_CLONE_WITHOUT_BLOCK);
-}
-
-const A_SLICE: [Row; 3] = [
-    (0, Begin(Call::Slice(0, 1, 3), true)),
-    (0, Go(true)),
-    (0, Go(true)),
-];
-
-#[test]
-fn a_slice(rt: HostRuntime) {
-    lockstep(&rt, &FOUR, &A_SLICE);
-}
-
-// Two promotions of which one is late, and frees its record. The drops free the other and the block.
-const TWO_CLONES_AND_THREE_DROPS: [Row; 13] = [
-    (0, Begin(Call::Clone(0), true)),
-    (1, Begin(Call::Clone(0), true)),
-    (0, Go(true)),
-    (1, Go(true)),
-    (1, Go(true)),
-    (0, Go(true)),
-    (0, Go(true)),
-    (2, Begin(Call::Drop(0), true)),
-    (2, Go(true)),
-    (1, Begin(Call::Drop(4), true)),
-    (1, Go(true)),
-    (0, Begin(Call::Drop(5), true)),
-    (0, Go(true)),
-];
-
-#[test]
-fn two_clones_and_three_drops(rt: HostRuntime) {
-    lockstep(&rt, &FOUR, &TWO_CLONES_AND_THREE_DROPS);
+fn steps(rt: HostRuntime) {
+    for (case, first, then) in CASES {
+        name(&rt, case);
+        lockstep(&rt, first, then);
+    }
 }
 
 // Each of the seven tables is reserved once. A reservation that fails leaves what the machine shows.

@@ -2,7 +2,7 @@
 use crate::each::on_each;
 use crate::given::Given;
 use crate::made::{PIECES, native, natives, pieces, shows, shows_pieces};
-use crate::word::{FailedAt, end, say};
+use crate::word::{FailedAt, end, name, say};
 use bytes::Bytes;
 use iobufs::bufs::IoBufs;
 use iobufs_core::buf::IoBuf;
@@ -164,54 +164,20 @@ fn on_cut(
     })
 }
 
-#[test]
-fn taken_as_views(rt: HostRuntime) {
-    on_cut(
-        &rt,
-        Call::TakeView(0, 2),
-        (b"ab", &[b"c", b"def"]),
-        (b"ab", &[b"cd", b"ef", b"gh"]),
-    );
-}
+const CUTS: [(&'static str, Call, Expected, Expected); 5] = rows! {
+    "taken_as_views", Call::TakeView(0, 2), (b"ab", &[b"c", b"def"]), (b"ab", &[b"cd", b"ef", b"gh"]);
+    "taken_across_pieces_as_views", Call::TakeView(1, 4), (b"bcde", &[b"f"]), (b"bcde", &[b"f", b"gh"]);
+    "taken_across_pieces_as_bytes", Call::TakeBytes(1, 4), (b"bcde", &[b"f"]), (b"bcde", &[b"f", b"gh"]);
+    "copied_to_a_list", Call::ToVec, (b"abcdef", &[b"abc", b"def"]), (b"abcdefgh", &[b"ab", b"cd", b"ef", b"gh"]);
+    "truncated", Call::Truncate(4), (b"", &[b"abc", b"d"]), (b"", &[b"ab", b"cd"]);
+};
 
 #[test]
-fn taken_across_pieces_as_views(rt: HostRuntime) {
-    on_cut(
-        &rt,
-        Call::TakeView(1, 4),
-        (b"bcde", &[b"f"]),
-        (b"bcde", &[b"f", b"gh"]),
-    );
-}
-
-#[test]
-fn taken_across_pieces_as_bytes(rt: HostRuntime) {
-    on_cut(
-        &rt,
-        Call::TakeBytes(1, 4),
-        (b"bcde", &[b"f"]),
-        (b"bcde", &[b"f", b"gh"]),
-    );
-}
-
-#[test]
-fn copied_to_a_list(rt: HostRuntime) {
-    on_cut(
-        &rt,
-        Call::ToVec,
-        (b"abcdef", &[b"abc", b"def"]),
-        (b"abcdefgh", &[b"ab", b"cd", b"ef", b"gh"]),
-    );
-}
-
-#[test]
-fn truncated(rt: HostRuntime) {
-    on_cut(
-        &rt,
-        Call::Truncate(4),
-        (b"", &[b"abc", b"d"]),
-        (b"", &[b"ab", b"cd"]),
-    );
+fn cuts(rt: HostRuntime) {
+    for (case, what, of_natives, of_pieces) in CUTS {
+        name(&rt, case);
+        on_cut(&rt, what, of_natives, of_pieces);
+    }
 }
 
 #[test]

@@ -23,6 +23,11 @@ impl fmt::Display for FailedAt {
     }
 }
 
+// Names the case of a test that comes next.
+pub fn name(rt: &(impl Print + Abort), case: &str) {
+    println!(rt; "{case}").expect(rt, "the name is printed");
+}
+
 pub fn say(rt: &(impl Print + Abort), word: FailedAt) {
     println!(rt; "{word}").expect(rt, "the word is printed");
 }

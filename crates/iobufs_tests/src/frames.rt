@@ -15,6 +15,8 @@ const SHORT: RangeCfg = RangeCfg { lo: 0, hi: 2 };
 
 const LONG: RangeCfg = RangeCfg { lo: 0, hi: 5000 };
 
+const VARINT: Prefix = Prefix::Spelled;
+
 const BIG_16: Prefix = Prefix::Fixed(Width::U16, ByteOrder::Big);
 
 const LITTLE_16: Prefix = Prefix::Fixed(Width::U16, ByteOrder::Little);
@@ -38,188 +40,42 @@ struct Case {
     end: End,
 }
 
-const CASES: [Case; 14] = [
-    Case {
-        name: "no chunk",
-        prefix: Prefix::Spelled,
-        range: ANY,
-        chunks: &[],
-        found: b"",
-        end: End::Open,
-    },
-    Case {
-        name: "two empty frames",
-        prefix: Prefix::Spelled,
-        range: ANY,
-        chunks: &[b"\0\0"],
-        found: b"||",
-        end: End::Open,
-    },
-    Case {
-        name: "frames across chunks, and then no length",
-        prefix: Prefix::Spelled,
-        range: ANY,
-        chunks: &[b"\x02", b"ab\x03", b"c", b"de\x84", b"\x00"],
-        found: b"ab|cde|\x84\x00",
-        end: End::Bad(Error::InvalidVarint),
-    },
-    Case {
-        name: "the same in one chunk",
-        prefix: Prefix::Spelled,
-        range: ANY,
-        chunks: &[b"\x02ab\x03cde\x84\x00"],
-        found: b"ab|cde|\x84\x00",
-        end: End::Bad(Error::InvalidVarint),
-    },
-    Case {
-        name: "a length outside the range",
-        prefix: Prefix::Spelled,
-        range: SHORT,
-        chunks: &[b"\x02ab\x03cde\x84\x00"],
-        found: b"ab|\x03cde\x84\x00",
-        end: End::Bad(Error::InvalidLength(3)),
-    },
-    Case {
-        name: "a length that goes on",
-        prefix: Prefix::Spelled,
-        range: ANY,
-        chunks: &[b"\x02a", b"b\x84"],
-        found: b"ab|\x84",
-        end: End::Open,
-    },
-    Case {
-        name: "an open frame",
-        prefix: Prefix::Spelled,
-        range: ANY,
-        chunks: &[b"\x01a\x02b"],
-        found: b"a|\x02b",
-        end: End::Open,
-    },
-    Case {
-        name: "an open frame that becomes whole",
-        prefix: Prefix::Spelled,
-        range: ANY,
-        chunks: &[b"\x01a\x02b", b"c"],
-        found: b"a|bc|",
-        end: End::Open,
-    },
-    Case {
-        name: "a u16 outside the range after a frame",
-        prefix: BIG_16,
-        range: SHORT,
-        chunks: &[b"\0\x02a", b"b\0\x03", b"cde"],
-        found: b"ab|\0\x03cde",
-        end: End::Bad(Error::InvalidLength(3)),
-    },
-    Case {
-        name: "an open u32 after a frame",
-        prefix: LITTLE_32,
-        range: ANY,
-        chunks: &[b"\x01\0\0\0a\x01\0", b"\0"],
-        found: b"a|\x01\0\0",
-        end: End::Open,
-    },
-    Case {
-        name: "a u16 outside the range after an empty frame",
-        prefix: BIG_16,
-        range: SHORT,
-        chunks: &[b"\0\0\x02\x01", b"aaa"],
-        found: b"|\x02\x01aaa",
-        end: End::Bad(Error::InvalidLength(513)),
-    },
-    Case {
-        name: "a u16 outside the range, big",
-        prefix: BIG_16,
-        range: SHORT,
-        chunks: &[b"\x01\x02ab"],
-        found: b"\x01\x02ab",
-        end: End::Bad(Error::InvalidLength(258)),
-    },
-    Case {
-        name: "a u16 outside the range, little",
-        prefix: LITTLE_16,
-        range: SHORT,
-        chunks: &[b"\x01\x02ab"],
-        found: b"\x01\x02ab",
-        end: End::Bad(Error::InvalidLength(513)),
-    },
-    Case {
-        name: "an open u16",
-        prefix: BIG_16,
-        range: ANY,
-        chunks: &[b"\x01\x02ab"],
-        found: b"\x01\x02ab",
-        end: End::Open,
-    },
-];
+macro_rules! cases {
+    ($($name:expr, $prefix:expr, $range:expr, $chunks:expr, $found:expr, $end:expr;)+) => {
+        [$(Case { name: $name, prefix: $prefix, range: $range, chunks: $chunks, found: $found, end: $end }),+]
+    };
+}
+
+const NO_VARINT: End = End::Bad(Error::InvalidVarint);
+
+const CASES: [Case; 14] = cases! {
+    "no chunk", VARINT, ANY, &[], b"", End::Open;
+    "two empty frames", VARINT, ANY, &[b"\0\0"], b"||", End::Open;
+    "frames across chunks, and then no length", VARINT, ANY, &[b"\x02", b"ab\x03", b"c", b"de\x84", b"\x00"], b"ab|cde|\x84\x00", NO_VARINT;
+    "the same in one chunk", VARINT, ANY, &[b"\x02ab\x03cde\x84\x00"], b"ab|cde|\x84\x00", NO_VARINT;
+    "a length outside the range", VARINT, SHORT, &[b"\x02ab\x03cde\x84\x00"], b"ab|\x03cde\x84\x00", End::Bad(Error::InvalidLength(3));
+    "a length that goes on", VARINT, ANY, &[b"\x02a", b"b\x84"], b"ab|\x84", End::Open;
+    "an open frame", VARINT, ANY, &[b"\x01a\x02b"], b"a|\x02b", End::Open;
+    "an open frame that becomes whole", VARINT, ANY, &[b"\x01a\x02b", b"c"], b"a|bc|", End::Open;
+    "a u16 outside the range after a frame", BIG_16, SHORT, &[b"\0\x02a", b"b\0\x03", b"cde"], b"ab|\0\x03cde", End::Bad(Error::InvalidLength(3));
+    "an open u32 after a frame", LITTLE_32, ANY, &[b"\x01\0\0\0a\x01\0", b"\0"], b"a|\x01\0\0", End::Open;
+    "a u16 outside the range after an empty frame", BIG_16, SHORT, &[b"\0\0\x02\x01", b"aaa"], b"|\x02\x01aaa", End::Bad(Error::InvalidLength(513));
+    "a u16 outside the range, big", BIG_16, SHORT, &[b"\x01\x02ab"], b"\x01\x02ab", End::Bad(Error::InvalidLength(258));
+    "a u16 outside the range, little", LITTLE_16, SHORT, &[b"\x01\x02ab"], b"\x01\x02ab", End::Bad(Error::InvalidLength(513));
+    "an open u16", BIG_16, ANY, &[b"\x01\x02ab"], b"\x01\x02ab", End::Open;
+};
 
 // Frames that are cut in every way into three chunks.
-const CUT: [Case; 8] = [
-    Case {
-        name: "frames, and then no length",
-        prefix: Prefix::Spelled,
-        range: ANY,
-        chunks: &[b"\x02ab\x03cde\x84\x00"],
-        found: b"ab|cde|\x84\x00",
-        end: End::Bad(Error::InvalidVarint),
-    },
-    Case {
-        name: "two frames behind varints",
-        prefix: Prefix::Spelled,
-        range: ANY,
-        chunks: &[b"\x02ab\x03cde"],
-        found: b"ab|cde|",
-        end: End::Open,
-    },
-    Case {
-        name: "u16, big",
-        prefix: BIG_16,
-        range: ANY,
-        chunks: &[b"\0\x02ab\0\x03cde"],
-        found: b"ab|cde|",
-        end: End::Open,
-    },
-    Case {
-        name: "u16, little",
-        prefix: LITTLE_16,
-        range: ANY,
-        chunks: &[b"\x02\0ab\x03\0cde"],
-        found: b"ab|cde|",
-        end: End::Open,
-    },
-    Case {
-        name: "u32, big",
-        prefix: BIG_32,
-        range: ANY,
-        chunks: &[b"\0\0\0\x02ab\0\0\0\x03cde"],
-        found: b"ab|cde|",
-        end: End::Open,
-    },
-    Case {
-        name: "u32, little",
-        prefix: LITTLE_32,
-        range: ANY,
-        chunks: &[b"\x02\0\0\0ab\x03\0\0\0cde"],
-        found: b"ab|cde|",
-        end: End::Open,
-    },
-    Case {
-        name: "u64, big",
-        prefix: BIG_64,
-        range: ANY,
-        chunks: &[b"\0\0\0\0\0\0\0\x02ab\0\0\0\0\0\0\0\x03cde"],
-        found: b"ab|cde|",
-        end: End::Open,
-    },
-    Case {
-        name: "u64, little",
-        prefix: LITTLE_64,
-        range: ANY,
-        chunks: &[b"\x02\0\0\0\0\0\0\0ab\x03\0\0\0\0\0\0\0cde"],
-        found: b"ab|cde|",
-        end: End::Open,
-    },
-];
+const CUT: [Case; 8] = cases! {
+    "frames, and then no length", VARINT, ANY, &[b"\x02ab\x03cde\x84\x00"], b"ab|cde|\x84\x00", NO_VARINT;
+    "two frames behind varints", VARINT, ANY, &[b"\x02ab\x03cde"], b"ab|cde|", End::Open;
+    "u16, big", BIG_16, ANY, &[b"\0\x02ab\0\x03cde"], b"ab|cde|", End::Open;
+    "u16, little", LITTLE_16, ANY, &[b"\x02\0ab\x03\0cde"], b"ab|cde|", End::Open;
+    "u32, big", BIG_32, ANY, &[b"\0\0\0\x02ab\0\0\0\x03cde"], b"ab|cde|", End::Open;
+    "u32, little", LITTLE_32, ANY, &[b"\x02\0\0\0ab\x03\0\0\0cde"], b"ab|cde|", End::Open;
+    "u64, big", BIG_64, ANY, &[b"\0\0\0\0\0\0\0\x02ab\0\0\0\0\0\0\0\x03cde"], b"ab|cde|", End::Open;
+    "u64, little", LITTLE_64, ANY, &[b"\x02\0\0\0\0\0\0\0ab\x03\0\0\0\0\0\0\0cde"], b"ab|cde|", End::Open;
+};
 
 // Puts a body there, and `|` after it.
 fn push_body(found: &mut Vec<u8>, body: &IoBuf) -> Result<(), AllocError> {
@@ -334,7 +190,7 @@ fn frames_cut_in_every_way(rt: HostRuntime) -> Result<(), Fail> {
 
 // `ab` and `cde`, as each prefix writes them.
 const WRITTEN: [(Prefix, &'static [u8]); 7] = [
-    (Prefix::Spelled, b"\x02ab\x03cde"),
+    (VARINT, b"\x02ab\x03cde"),
     (BIG_16, b"\0\x02ab\0\x03cde"),
     (LITTLE_16, b"\x02\0ab\x03\0cde"),
     (BIG_32, b"\0\0\0\x02ab\0\0\0\x03cde"),
@@ -359,44 +215,27 @@ fn push_frame(
 fn frames_are_written(rt: HostRuntime) -> Result<(), Fail> {
     for (prefix, wanted) in WRITTEN {
         let mut written = Vec::new(rt.alloc());
-        push_frame(
-            rt.alloc(),
-            prefix,
-            text(rt.alloc(), &[b"ab"])?,
-            &mut written,
-        )?;
-        push_frame(
-            rt.alloc(),
-            prefix,
-            text(rt.alloc(), &[b"cde"])?,
-            &mut written,
-        )?;
+        for body in [b"ab".as_slice(), b"cde"] {
+            push_frame(rt.alloc(), prefix, text(rt.alloc(), &[body])?, &mut written)?;
+        }
         assert_same!(rt; written.as_slice(), wanted, "{prefix:?}");
     }
     Ok(())
 }
 
 // Lengths as each prefix writes them, if it can.
-const LENGTHS: [(Prefix, usize, Option<&'static [u8]>); 10] = [
-    (
-        Prefix::Spelled,
-        18446744073709551615,
-        Some(b"\xff\xff\xff\xff\xff\xff\xff\xff\xff\x01"),
-    ),
-    (Prefix::Spelled, 16384, Some(b"\x80\x80\x01")),
-    (Prefix::Spelled, 65536, Some(b"\x80\x80\x04")),
-    (BIG_16, 65535, Some(b"\xff\xff")),
-    (BIG_16, 65536, None),
-    (LITTLE_16, 258, Some(b"\x02\x01")),
-    (BIG_32, 4294967295, Some(b"\xff\xff\xff\xff")),
-    (LITTLE_32, 16909060, Some(b"\x04\x03\x02\x01")),
-    (
-        BIG_64,
-        18446744073709551615,
-        Some(b"\xff\xff\xff\xff\xff\xff\xff\xff"),
-    ),
-    (LITTLE_64, 1099511627777, Some(b"\x01\0\0\0\0\x01\0\0")),
-];
+const LENGTHS: [(Prefix, usize, Option<&'static [u8]>); 10] = rows! {
+    VARINT, 18446744073709551615, Some(b"\xff\xff\xff\xff\xff\xff\xff\xff\xff\x01");
+    VARINT, 16384, Some(b"\x80\x80\x01");
+    VARINT, 65536, Some(b"\x80\x80\x04");
+    BIG_16, 65535, Some(b"\xff\xff");
+    BIG_16, 65536, None;
+    LITTLE_16, 258, Some(b"\x02\x01");
+    BIG_32, 4294967295, Some(b"\xff\xff\xff\xff");
+    LITTLE_32, 16909060, Some(b"\x04\x03\x02\x01");
+    BIG_64, 18446744073709551615, Some(b"\xff\xff\xff\xff\xff\xff\xff\xff");
+    LITTLE_64, 1099511627777, Some(b"\x01\0\0\0\0\x01\0\0");
+};
 
 // A length as it is written, if it can be.
 fn written(alloc: Global, prefix: Prefix, n: usize) -> Result<Option<IoBuf>, BufError> {

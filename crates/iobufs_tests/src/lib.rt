@@ -2,6 +2,13 @@
 // `callers` tests the crates over the buffers, `owner` the owner machine, and `wire` encoded values.
 #![tactic(auto)]
 
+// The cases of a table, one a line.
+macro_rules! rows {
+    ($($($value:expr),+;)+) => {
+        [$(($($value),+)),+]
+    };
+}
+
 #[cfg(test)]
 mod callers;
 #[cfg(test)]

@@ -27,57 +27,26 @@ enum Ask {
     Coalesce(&'static [u8], usize),
 }
 
-// The buffers, each as its bytes and its spare capacity, and calls on them.
-#[derive(Clone, Copy)]
-struct Case {
-    name: &'static str,
-    parts: &'static [(&'static [u8], usize)],
-    asks: &'static [Ask],
-}
+// A name, the buffers, each as its bytes and its spare capacity, and calls on them.
+type Case = (
+    &'static str,
+    &'static [(&'static [u8], usize)],
+    &'static [Ask],
+);
 
-const CASES: [Case; 4] = [
-    Case {
-        name: "spare capacity is filled in order",
-        parts: &[(b"ab", 1), (b"c", 2)],
-        asks: &[Ask::Put(b"xyz"), Ask::Show(&[(b"abx", 0), (b"cyz", 0)])],
-    },
-    Case {
-        name: "a length is set in order",
-        parts: &[(b"ab", 2), (b"", 4)],
-        asks: &[
-            Ask::SetLen(5),
-            Ask::Show(&[(b"ab\x00\x00", 0), (b"\x00", 3)]),
-        ],
-    },
-    Case {
-        name: "five buffers are read and written over",
-        parts: &[
-            (b"ab", 1),
-            (b"", 3),
-            (b"", 0),
-            (b"c", 0),
-            (b"de", 2),
-            (b"", 1),
-        ],
-        asks: &[
-            Ask::Show(&[(b"ab", 1), (b"", 3), (b"c", 0), (b"de", 2), (b"", 1)]),
-            Ask::Reads(Read::Chunk, b"ab"),
-            Ask::Reads(Read::Byte(2), b"c"),
-            Ask::Reads(Read::Chunks(2), b"ab|c|"),
-            Ask::Reads(Read::Remaining, b"5"),
-            Ask::Overwrite(b"vwxyz"),
-            Ask::Show(&[(b"vw", 1), (b"", 3), (b"x", 0), (b"yz", 2), (b"", 1)]),
-            Ask::Reads(Read::Copy(4), b"vwxy"),
-            Ask::Show(&[(b"", 1), (b"", 3), (b"z", 2), (b"", 1)]),
-            Ask::Coalesce(b"z", 1),
-        ],
-    },
-    Case {
-        name: "no capacity",
-        parts: &[(b"", 0), (b"", 0)],
-        asks: &[Ask::Show(&[(b"", 0)])],
-    },
-];
+const CASES: [Case; 4] = rows! {
+    "spare capacity is filled in order", &[(b"ab", 1), (b"c", 2)], &[Ask::Put(b"xyz"),
+        Ask::Show(&[(b"abx", 0), (b"cyz", 0)])];
+    "a length is set in order", &[(b"ab", 2), (b"", 4)], &[Ask::SetLen(5),
+        Ask::Show(&[(b"ab\x00\x00", 0), (b"\x00", 3)])];
+    "five buffers are read and written over", &[(b"ab", 1), (b"", 3), (b"", 0), (b"c", 0), (b"de", 2), (b"", 1)],
+        &[Ask::Show(&[(b"ab", 1), (b"", 3), (b"c", 0), (b"de", 2), (b"", 1)]), Ask::Reads(Read::Chunk, b"ab"),
+        Ask::Reads(Read::Byte(2), b"c"), Ask::Reads(Read::Chunks(2), b"ab|c|"), Ask::Reads(Read::Remaining, b"5"),
+        Ask::Overwrite(b"vwxyz"), Ask::Show(&[(b"vw", 1), (b"", 3), (b"x", 0), (b"yz", 2), (b"", 1)]),
+        Ask::Reads(Read::Copy(4), b"vwxy"), Ask::Show(&[(b"", 1), (b"", 3), (b"z", 2), (b"", 1)]),
+        Ask::Coalesce(b"z", 1)];
+    "no capacity", &[(b"", 0), (b"", 0)], &[Ask::Show(&[(b"", 0)])];
+};
 
 // Compares the buffers, each as its bytes and its spare capacity.
 fn assert_parts(rt: &impl Abort, name: &str, found: &IoBufsMut, wanted: &[(&[u8], usize)]) {
@@ -127,10 +96,10 @@ fn assert_asked(
 
 #[test]
 fn buffers_in_a_row(rt: HostRuntime) -> Result<(), Fail> {
-    for case in &CASES {
-        let mut parts = parts(rt.alloc(), case.parts)?;
-        for ask in case.asks {
-            assert_asked(&rt, case.name, &mut parts, *ask)?;
+    for (name, buffers, asks) in CASES {
+        let mut parts = parts(rt.alloc(), buffers)?;
+        for ask in asks {
+            assert_asked(&rt, name, &mut parts, *ask)?;
         }
     }
     Ok(())

@@ -43,13 +43,12 @@ enum Ask {
     Own(usize, usize),
 }
 
-// The chunks of a text, calls on it, and their answers.
-#[derive(Clone, Copy)]
-struct Case {
-    name: &'static str,
-    chunks: &'static [(Kind, &'static [u8])],
-    asks: &'static [(Ask, &'static [u8])],
-}
+// A name, the chunks of a text, calls on it, and their answers.
+type Case = (
+    &'static str,
+    &'static [(Kind, &'static [u8])],
+    &'static [(Ask, &'static [u8])],
+);
 
 const THREE: &[(Kind, &'static [u8])] = &[
     (Kind::Static, b"ab"),
@@ -71,99 +70,28 @@ const FOUR_NATIVE: &[(Kind, &'static [u8])] = &[
     (Kind::Native(6), b"gh"),
 ];
 
-const CASES: [Case; 12] = [
-    Case {
-        name: "an emptied chunk is recovered",
-        chunks: &[(Kind::Native(4), b"abcd")],
-        asks: &[
-            (Ask::Reads(Read::Advance(4)), b""),
-            (Ask::Count, b"0"),
-            (Ask::Single, b"single"),
-            (Ask::Recover, b"4"),
-        ],
-    },
-    Case {
-        name: "two emptied chunks are not recovered",
-        chunks: &[(Kind::Native(6), b"ab"), (Kind::Native(6), b"cd")],
-        asks: &[(Ask::Reads(Read::Advance(4)), b""), (Ask::Recover, b"0")],
-    },
-    Case {
-        name: "chunks of four",
-        chunks: FOUR,
-        asks: &[
-            (Ask::Count, b"4"),
-            (Ask::ChunkAt(3), b"gh"),
-            (Ask::ChunkAt(4), b"none"),
-            (Ask::Reads(Read::Chunks(2)), b"ab|cd|"),
-            (Ask::Reads(Read::Chunks(0)), b""),
-            (Ask::Reads(Read::Byte(5)), b"f"),
-            (Ask::Reads(Read::Byte(8)), b"none"),
-            (Ask::Visit, b"abcdefgh"),
-        ],
-    },
-    Case {
-        name: "bytes inside a chunk, and then across two",
-        chunks: &[(Kind::Static, b"ab"), (Kind::Static, b"cd")],
-        asks: &[
-            (Ask::Own(0, 1), b"a|declined"),
-            (Ask::Own(0, 2), b"bc|2"),
-            (Ask::Show, b"d"),
-        ],
-    },
-    Case {
-        name: "bytes across two of four chunks",
-        chunks: FOUR,
-        asks: &[(Ask::Own(1, 2), b"bc|2"), (Ask::Show, b"d|ef|gh")],
-    },
-    Case {
-        name: "bytes across two of four native chunks",
-        chunks: FOUR_NATIVE,
-        asks: &[(Ask::Own(1, 2), b"bc|2"), (Ask::Show, b"d|ef|gh")],
-    },
-    Case {
-        name: "a whole chunk of four",
-        chunks: FOUR,
-        asks: &[(Ask::Own(2, 2), b"cd|declined"), (Ask::Show, b"ef|gh")],
-    },
-    Case {
-        name: "a whole native chunk of four",
-        chunks: FOUR_NATIVE,
-        asks: &[(Ask::Own(2, 2), b"cd|8"), (Ask::Show, b"ef|gh")],
-    },
-    Case {
-        name: "chunks come in order",
-        chunks: THREE,
-        asks: &[(Ask::Iterate(5), b"ab|cd|ef|none|none|")],
-    },
-    Case {
-        name: "no chunk",
-        chunks: &[],
-        asks: &[(Ask::Iterate(1), b"none|")],
-    },
-    Case {
-        name: "a destination is filled across chunks",
-        chunks: THREE,
-        asks: &[
-            (Ask::Reads(Read::Copy(3)), b"abc"),
-            (Ask::Show, b"d|ef"),
-            (Ask::Reads(Read::Copy(4)), b"3 of 4: ...."),
-            (Ask::Reads(Read::Chunk), b"d"),
-        ],
-    },
-    Case {
-        name: "a text is copied and cut",
-        chunks: THREE,
-        asks: &[
-            (Ask::ToVec, b"abcdef"),
-            (Ask::Truncate(9), b"ab|cd|ef"),
-            (Ask::Truncate(6), b"ab|cd|ef"),
-            (Ask::Truncate(3), b"ab|c"),
-            (Ask::Truncate(2), b"ab"),
-            (Ask::Truncate(0), b""),
-            (Ask::ToVec, b""),
-        ],
-    },
-];
+const CASES: [Case; 12] = rows! {
+    "an emptied chunk is recovered", &[(Kind::Native(4), b"abcd")], &[(Ask::Reads(Read::Advance(4)), b""),
+        (Ask::Count, b"0"), (Ask::Single, b"single"), (Ask::Recover, b"4")];
+    "two emptied chunks are not recovered", &[(Kind::Native(6), b"ab"), (Kind::Native(6), b"cd")],
+        &[(Ask::Reads(Read::Advance(4)), b""), (Ask::Recover, b"0")];
+    "chunks of four", FOUR, &[(Ask::Count, b"4"), (Ask::ChunkAt(3), b"gh"), (Ask::ChunkAt(4), b"none"),
+        (Ask::Reads(Read::Chunks(2)), b"ab|cd|"), (Ask::Reads(Read::Chunks(0)), b""),
+        (Ask::Reads(Read::Byte(5)), b"f"), (Ask::Reads(Read::Byte(8)), b"none"), (Ask::Visit, b"abcdefgh")];
+    "bytes inside a chunk, and then across two", &[(Kind::Static, b"ab"), (Kind::Static, b"cd")],
+        &[(Ask::Own(0, 1), b"a|declined"), (Ask::Own(0, 2), b"bc|2"), (Ask::Show, b"d")];
+    "bytes across two of four chunks", FOUR, &[(Ask::Own(1, 2), b"bc|2"), (Ask::Show, b"d|ef|gh")];
+    "bytes across two of four native chunks", FOUR_NATIVE, &[(Ask::Own(1, 2), b"bc|2"), (Ask::Show, b"d|ef|gh")];
+    "a whole chunk of four", FOUR, &[(Ask::Own(2, 2), b"cd|declined"), (Ask::Show, b"ef|gh")];
+    "a whole native chunk of four", FOUR_NATIVE, &[(Ask::Own(2, 2), b"cd|8"), (Ask::Show, b"ef|gh")];
+    "chunks come in order", THREE, &[(Ask::Iterate(5), b"ab|cd|ef|none|none|")];
+    "no chunk", &[], &[(Ask::Iterate(1), b"none|")];
+    "a destination is filled across chunks", THREE, &[(Ask::Reads(Read::Copy(3)), b"abc"), (Ask::Show, b"d|ef"),
+        (Ask::Reads(Read::Copy(4)), b"3 of 4: ...."), (Ask::Reads(Read::Chunk), b"d")];
+    "a text is copied and cut", THREE, &[(Ask::ToVec, b"abcdef"), (Ask::Truncate(9), b"ab|cd|ef"),
+        (Ask::Truncate(6), b"ab|cd|ef"), (Ask::Truncate(3), b"ab|c"), (Ask::Truncate(2), b"ab"),
+        (Ask::Truncate(0), b""), (Ask::ToVec, b"")];
+};
 
 // Views, one after the other.
 fn chunked(alloc: Global, chunks: &[(Kind, &'static [u8])]) -> Result<IoBufs, BufError> {
@@ -281,9 +209,9 @@ fn assert_told(
 
 #[test]
 fn texts(rt: HostRuntime) -> Result<(), Fail> {
-    for case in &CASES {
-        let mut text = chunked(rt.alloc(), case.chunks)?;
-        assert_told(&rt, case.name, &mut text, case.asks)?;
+    for (name, chunks, asks) in CASES {
+        let mut text = chunked(rt.alloc(), chunks)?;
+        assert_told(&rt, name, &mut text, asks)?;
     }
     Ok(())
 }

@@ -53,45 +53,27 @@ fn ranges(rt: HostRuntime) -> Result<(), Fail> {
     Ok(())
 }
 
-// The bytes of a static view, calls on it, and their answers.
-#[derive(Clone, Copy)]
-struct Case {
-    name: &'static str,
-    bytes: &'static [u8],
-    reads: &'static [(Read, &'static [u8])],
-}
+// A name, the bytes of a static view, calls on it, and their answers.
+type Case = (
+    &'static str,
+    &'static [u8],
+    &'static [(Read, &'static [u8])],
+);
 
-const CASES: [Case; 2] = [
-    Case {
-        name: "a view is read to its end",
-        bytes: b"hello world",
-        reads: &[
-            (Read::Advance(6), b""),
-            (Read::Chunk, b"world"),
-            (Read::Take(2), b"wo"),
-            (Read::Take(3), b"rld"),
-            (Read::Remaining, b"0"),
-        ],
-    },
-    Case {
-        name: "a destination that is too long",
-        bytes: b"abc",
-        reads: &[
-            (Read::Copy(4), b"3 of 4: ...."),
-            (Read::Chunk, b"abc"),
-            (Read::Copy(3), b"abc"),
-            (Read::Remaining, b"0"),
-        ],
-    },
-];
+const CASES: [Case; 2] = rows! {
+    "a view is read to its end", b"hello world", &[(Read::Advance(6), b""), (Read::Chunk, b"world"),
+        (Read::Take(2), b"wo"), (Read::Take(3), b"rld"), (Read::Remaining, b"0")];
+    "a destination that is too long", b"abc", &[(Read::Copy(4), b"3 of 4: ...."), (Read::Chunk, b"abc"),
+        (Read::Copy(3), b"abc"), (Read::Remaining, b"0")];
+};
 
 #[test]
 fn views(rt: HostRuntime) -> Result<(), Fail> {
-    for case in &CASES {
-        let mut view = IoBuf::from(case.bytes);
-        for (read, wanted) in case.reads {
+    for (name, bytes, reads) in CASES {
+        let mut view = IoBuf::from(bytes);
+        for (read, wanted) in reads {
             let found = answer(rt.alloc(), &mut view, *read)?;
-            assert_same!(rt; found.as_slice(), *wanted, "{}: {read:?}", case.name);
+            assert_same!(rt; found.as_slice(), *wanted, "{name}: {read:?}");
         }
     }
     Ok(())

@@ -8,8 +8,6 @@ mod chunks;
 #[cfg(test)]
 mod encode;
 #[cfg(test)]
-mod gets;
-#[cfg(test)]
 mod lengths;
 #[cfg(test)]
 mod made;
@@ -19,8 +17,6 @@ mod message;
 mod note;
 #[cfg(test)]
 mod parts;
-#[cfg(test)]
-mod readers;
 mod record;
 mod request;
 #[cfg(test)]

@@ -1,6 +1,3 @@
-mod AskedBoth
 mod Behind
-mod CutTurns
 mod DecodedBack
-mod GatheredTurns
 mod Turns

@@ -1,5 +1,3 @@
-pub mod Both
-pub mod Cut
 pub mod Form
 pub mod Forms
 pub mod Kinds

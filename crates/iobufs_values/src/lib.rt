@@ -1,17 +1,13 @@
 //! Values of several fields that are read whole or not at all.
 //!
-//! - `gets`: numbers from the front of any reader.
 //! - `look`: the trait `Look`, with `read_whole` and `decode_cfg` over it. `fault`: why a value is not decoded.
 //! - `numbers`, `views`, `option`, `several`: numbers and lengths; views, `Bytes` and arrays; `bool` and `Option`; tuples.
 //! - `kinds`: a byte for the kind followed by a value, and a value of one of two kinds.
-//! - `take`, `chain`: readers over readers: the first bytes of one, and one after another.
 //! - `specs/`: `Form` is what a value has to meet, in one record, and how each kind is decoded; `Forms` that each kind
 //!   meets it.
 #![tactic(auto)]
 
-mod chain;
 mod fault;
-mod gets;
 mod kinds;
 mod list;
 mod look;
@@ -20,15 +16,11 @@ mod option;
 mod parts;
 mod several;
 mod signed;
-mod take;
 mod views;
 
-pub use chain::Chain;
 pub use fault::Fault;
-pub use gets::GetNumbers;
 pub use kinds::{Either, Kind, Tagged};
 pub use list::List;
 pub use look::Look;
 pub use parts::{ByParts, FromText, IntoParts};
 pub use signed::Signed;
-pub use take::Take;

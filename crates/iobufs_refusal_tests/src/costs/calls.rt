@@ -12,7 +12,6 @@ use iobufs_core::codec::{
     Buf, BufError, BufMut, BufsMut, Encode, Error, OwnedBytes, Peek, RangeCfg, Read,
 };
 use iobufs_frames::{Frames, Prefix, framed_with};
-use iobufs_values::{Chain, Take};
 use std::alloc::Global;
 use std::mem;
 
@@ -449,17 +448,5 @@ impl Counted for IoBufsMut {
             }
             _ => read(alloc, self, call, args),
         }
-    }
-}
-
-impl Counted for Take<IoBufs> {
-    fn make(&mut self, alloc: Global, call: Costed, args: Args) -> Result<Given, BufError> {
-        read(alloc, self, call, args)
-    }
-}
-
-impl Counted for Chain<IoBufMut, IoBufs> {
-    fn make(&mut self, alloc: Global, call: Costed, args: Args) -> Result<Given, BufError> {
-        read(alloc, self, call, args)
     }
 }

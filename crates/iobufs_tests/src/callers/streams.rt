@@ -17,6 +17,8 @@ use std::test::Fail;
 
 const RANGE: RangeCfg = RangeCfg { lo: 0, hi: 8 };
 
+const VARINT: Prefix = Prefix::Spelled;
+
 const BIG_16: Prefix = Prefix::Fixed(Width::U16, ByteOrder::Big);
 
 const LITTLE_16: Prefix = Prefix::Fixed(Width::U16, ByteOrder::Little);
@@ -46,6 +48,15 @@ struct Steps<'a> {
 }
 
 impl<'a> Steps<'a> {
+    fn new(bytes: &'a [u8], most: usize, is_broken: bool) -> Steps<'a> {
+        Steps {
+            left: bytes,
+            most,
+            was_interrupted: false,
+            is_broken,
+        }
+    }
+
     // The bytes that it gives now.
     fn resume(&mut self, bytes: &'a [u8]) {
         self.left = bytes;
@@ -128,138 +139,33 @@ fn ending_by(error: FrameError) -> Ending {
     }
 }
 
-// A reader's bytes, whether it is broken, how many bytes it gives at most (each number in turn), its bodies with `|` after
-// each, and what comes after them.
-#[derive(Clone, Copy)]
-struct Reading {
-    name: &'static str,
-    prefix: Prefix,
-    bytes: &'static [u8],
-    is_broken: bool,
-    most: &'static [usize],
-    bodies: &'static [u8],
-    ending: Ending,
-}
+// A name, a prefix, a reader's bytes, whether it is broken, how many bytes it gives at most (each number in turn), its
+// bodies with `|` after each, and what comes after them.
+type Reading = (
+    &'static str,
+    Prefix,
+    &'static [u8],
+    bool,
+    &'static [usize],
+    &'static [u8],
+    Ending,
+);
 
-const READINGS: [Reading; 13] = [
-    Reading {
-        name: "whole frames",
-        prefix: Prefix::Spelled,
-        bytes: FRAMES,
-        is_broken: false,
-        most: &[1, 2, 3, 4, 7, 100],
-        bodies: b"abc||hello|",
-        ending: Ending::End,
-    },
-    Reading {
-        name: "frames that are held before the reader fails",
-        prefix: Prefix::Spelled,
-        bytes: FRAMES,
-        is_broken: true,
-        most: &[100],
-        bodies: b"abc||hello|",
-        ending: Ending::Io(ErrorKind::ConnectionReset),
-    },
-    Reading {
-        name: "the end inside a body",
-        prefix: Prefix::Spelled,
-        bytes: b"\x05hell",
-        is_broken: false,
-        most: &[3],
-        bodies: b"",
-        ending: Ending::Cut,
-    },
-    Reading {
-        name: "the end after a length",
-        prefix: Prefix::Spelled,
-        bytes: b"\x05",
-        is_broken: false,
-        most: &[3],
-        bodies: b"",
-        ending: Ending::Cut,
-    },
-    Reading {
-        name: "the end inside a length",
-        prefix: Prefix::Spelled,
-        bytes: b"\x88",
-        is_broken: false,
-        most: &[3],
-        bodies: b"",
-        ending: Ending::Cut,
-    },
-    Reading {
-        name: "a length outside the range",
-        prefix: Prefix::Spelled,
-        bytes: b"\0\x09aaaaaaaaa",
-        is_broken: false,
-        most: &[1],
-        bodies: b"|",
-        ending: Ending::Bad(Error::InvalidLength(9)),
-    },
-    Reading {
-        name: "a length that is not in the shortest form",
-        prefix: Prefix::Spelled,
-        bytes: b"\x80\0",
-        is_broken: false,
-        most: &[1],
-        bodies: b"",
-        ending: Ending::Bad(Error::InvalidVarint),
-    },
-    Reading {
-        name: "u16, big",
-        prefix: BIG_16,
-        bytes: FRAMES_BIG_16,
-        is_broken: false,
-        most: &[1, 2, 3, 5, 100],
-        bodies: b"abc||hello|",
-        ending: Ending::End,
-    },
-    Reading {
-        name: "u16, little",
-        prefix: LITTLE_16,
-        bytes: FRAMES_LITTLE_16,
-        is_broken: false,
-        most: &[1, 2, 3, 5, 100],
-        bodies: b"abc||hello|",
-        ending: Ending::End,
-    },
-    Reading {
-        name: "u32, big",
-        prefix: BIG_32,
-        bytes: FRAMES_BIG_32,
-        is_broken: false,
-        most: &[1, 2, 3, 5, 100],
-        bodies: b"abc||hello|",
-        ending: Ending::End,
-    },
-    Reading {
-        name: "u32, little",
-        prefix: LITTLE_32,
-        bytes: FRAMES_LITTLE_32,
-        is_broken: false,
-        most: &[1, 2, 3, 5, 100],
-        bodies: b"abc||hello|",
-        ending: Ending::End,
-    },
-    Reading {
-        name: "a u16 outside the range",
-        prefix: BIG_16,
-        bytes: b"\x01\x02a",
-        is_broken: false,
-        most: &[1],
-        bodies: b"",
-        ending: Ending::Bad(Error::InvalidLength(258)),
-    },
-    Reading {
-        name: "the end inside a u16",
-        prefix: BIG_16,
-        bytes: b"\0",
-        is_broken: false,
-        most: &[1],
-        bodies: b"",
-        ending: Ending::Cut,
-    },
-];
+const READINGS: [Reading; 13] = rows! {
+    "whole frames", VARINT, FRAMES, false, &[1, 2, 3, 4, 7, 100], b"abc||hello|", Ending::End;
+    "frames that are held before the reader fails", VARINT, FRAMES, true, &[100], b"abc||hello|", Ending::Io(ErrorKind::ConnectionReset);
+    "the end inside a body", VARINT, b"\x05hell", false, &[3], b"", Ending::Cut;
+    "the end after a length", VARINT, b"\x05", false, &[3], b"", Ending::Cut;
+    "the end inside a length", VARINT, b"\x88", false, &[3], b"", Ending::Cut;
+    "a length outside the range", VARINT, b"\0\x09aaaaaaaaa", false, &[1], b"|", Ending::Bad(Error::InvalidLength(9));
+    "a length that is not in the shortest form", VARINT, b"\x80\0", false, &[1], b"", Ending::Bad(Error::InvalidVarint);
+    "u16, big", BIG_16, FRAMES_BIG_16, false, &[1, 2, 3, 5, 100], b"abc||hello|", Ending::End;
+    "u16, little", LITTLE_16, FRAMES_LITTLE_16, false, &[1, 2, 3, 5, 100], b"abc||hello|", Ending::End;
+    "u32, big", BIG_32, FRAMES_BIG_32, false, &[1, 2, 3, 5, 100], b"abc||hello|", Ending::End;
+    "u32, little", LITTLE_32, FRAMES_LITTLE_32, false, &[1, 2, 3, 5, 100], b"abc||hello|", Ending::End;
+    "a u16 outside the range", BIG_16, b"\x01\x02a", false, &[1], b"", Ending::Bad(Error::InvalidLength(258));
+    "the end inside a u16", BIG_16, b"\0", false, &[1], b"", Ending::Cut;
+};
 
 fn frame_reader<'a>(
     alloc: Global,
@@ -295,72 +201,41 @@ fn assert_reading(
     case: &Reading,
     most: usize,
 ) -> Result<(), AllocError> {
-    let from = Steps {
-        left: case.bytes,
-        most,
-        was_interrupted: false,
-        is_broken: case.is_broken,
-    };
-    let mut reader = frame_reader(rt.alloc(), case.prefix, from)?;
-    let mut bodies = Vec::new(rt.alloc());
-    let first = take_bodies(rt.alloc(), &mut reader, &mut bodies)?;
-    let second = take_bodies(rt.alloc(), &mut reader, &mut bodies)?;
-    assert_same!(rt; bodies.as_slice(), case.bodies, "{} by {most}", case.name);
-    assert_same!(rt; (first, second), (case.ending, case.ending), "{} by {most}", case.name);
+    let (name, prefix, bytes, is_broken, _, bodies, ending) = *case;
+    let mut reader = frame_reader(rt.alloc(), prefix, Steps::new(bytes, most, is_broken))?;
+    let mut found = Vec::new(rt.alloc());
+    let first = take_bodies(rt.alloc(), &mut reader, &mut found)?;
+    let second = take_bodies(rt.alloc(), &mut reader, &mut found)?;
+    assert_same!(rt; found.as_slice(), bodies, "{name} by {most}");
+    assert_same!(rt; (first, second), (ending, ending), "{name} by {most}");
     Ok(())
 }
 
 #[test]
 fn frames_are_read(rt: HostRuntime) -> Result<(), Fail> {
     for case in &READINGS {
-        for most in case.most {
+        for most in case.4 {
             assert_reading(&rt, case, *most)?;
         }
     }
     Ok(())
 }
 
-// The chunks of each body, how many bytes the writer takes at most (each number in turn), and what is written.
-#[derive(Clone, Copy)]
-struct Writing {
-    prefix: Prefix,
-    most: &'static [usize],
-    bodies: &'static [&'static [&'static [u8]]],
-    written: &'static [u8],
-}
+// A prefix, how many bytes the writer takes at most (each number in turn), the chunks of each body, and what is written.
+type Writing = (
+    Prefix,
+    &'static [usize],
+    &'static [&'static [&'static [u8]]],
+    &'static [u8],
+);
 
-const WRITINGS: [Writing; 5] = [
-    Writing {
-        prefix: Prefix::Spelled,
-        most: &[1, 2, 3, 7, 100],
-        bodies: &[&[b"abc", b"def"], &[]],
-        written: b"\x06abcdef\0",
-    },
-    Writing {
-        prefix: BIG_16,
-        most: &[3],
-        bodies: &[&[b"abc"], &[], &[b"hello"]],
-        written: FRAMES_BIG_16,
-    },
-    Writing {
-        prefix: LITTLE_16,
-        most: &[3],
-        bodies: &[&[b"abc"], &[], &[b"hello"]],
-        written: FRAMES_LITTLE_16,
-    },
-    Writing {
-        prefix: BIG_32,
-        most: &[3],
-        bodies: &[&[b"abc"], &[], &[b"hello"]],
-        written: FRAMES_BIG_32,
-    },
-    Writing {
-        prefix: LITTLE_32,
-        most: &[3],
-        bodies: &[&[b"abc"], &[], &[b"hello"]],
-        written: FRAMES_LITTLE_32,
-    },
-];
+const WRITINGS: [Writing; 5] = rows! {
+    VARINT, &[1, 2, 3, 7, 100], &[&[b"abc", b"def"], &[]], b"\x06abcdef\0";
+    BIG_16, &[3], &[&[b"abc"], &[], &[b"hello"]], FRAMES_BIG_16;
+    LITTLE_16, &[3], &[&[b"abc"], &[], &[b"hello"]], FRAMES_LITTLE_16;
+    BIG_32, &[3], &[&[b"abc"], &[], &[b"hello"]], FRAMES_BIG_32;
+    LITTLE_32, &[3], &[&[b"abc"], &[], &[b"hello"]], FRAMES_LITTLE_32;
+};
 
 fn frame_writer(prefix: Prefix, to: Narrow) -> FrameWriter<Narrow> {
     match prefix {
@@ -387,19 +262,20 @@ fn assert_writing(
     case: &Writing,
     most: usize,
 ) -> Result<(), Fail> {
-    let mut writer = frame_writer(case.prefix, Narrow::new(rt.alloc(), most, 100));
-    for body in case.bodies {
+    let (prefix, _, bodies, written) = *case;
+    let mut writer = frame_writer(prefix, Narrow::new(rt.alloc(), most, 100));
+    for body in bodies {
         send_body(rt, &mut writer, body)?;
     }
     assert!(rt; writer.is_sent());
-    assert_same!(rt; writer.to.taken.as_slice(), case.written, "{:?} by {most}", case.prefix);
+    assert_same!(rt; writer.to.taken.as_slice(), written, "{prefix:?} by {most}");
     Ok(())
 }
 
 #[test]
 fn frames_are_written(rt: HostRuntime) -> Result<(), Fail> {
     for case in &WRITINGS {
-        for most in case.most {
+        for most in case.1 {
             assert_writing(&rt, case, *most)?;
         }
     }
@@ -421,65 +297,23 @@ fn the_rest_of_a_frame_is_written_later(rt: HostRuntime) -> Result<(), Fail> {
 }
 
 // A prefix and the bytes that are read, a prefix and the bytes that are written, and why no further frame is echoed.
-const ECHOES: [(Prefix, &'static [u8], Prefix, &'static [u8], Ending); 10] = [
-    (
-        Prefix::Spelled,
-        FRAMES,
-        Prefix::Spelled,
-        FRAMES,
-        Ending::End,
-    ),
-    (
-        Prefix::Spelled,
-        b"\x01a\x02b",
-        Prefix::Spelled,
-        b"\x01a",
-        Ending::Cut,
-    ),
-    (BIG_16, FRAMES_BIG_16, BIG_16, FRAMES_BIG_16, Ending::End),
-    (BIG_16, FRAMES_BIG_16, Prefix::Spelled, FRAMES, Ending::End),
-    (
-        LITTLE_16,
-        FRAMES_LITTLE_16,
-        LITTLE_16,
-        FRAMES_LITTLE_16,
-        Ending::End,
-    ),
-    (
-        LITTLE_16,
-        FRAMES_LITTLE_16,
-        Prefix::Spelled,
-        FRAMES,
-        Ending::End,
-    ),
-    (BIG_32, FRAMES_BIG_32, BIG_32, FRAMES_BIG_32, Ending::End),
-    (BIG_32, FRAMES_BIG_32, Prefix::Spelled, FRAMES, Ending::End),
-    (
-        LITTLE_32,
-        FRAMES_LITTLE_32,
-        LITTLE_32,
-        FRAMES_LITTLE_32,
-        Ending::End,
-    ),
-    (
-        LITTLE_32,
-        FRAMES_LITTLE_32,
-        Prefix::Spelled,
-        FRAMES,
-        Ending::End,
-    ),
-];
+const ECHOES: [(Prefix, &'static [u8], Prefix, &'static [u8], Ending); 10] = rows! {
+    VARINT, FRAMES, VARINT, FRAMES, Ending::End;
+    VARINT, b"\x01a\x02b", VARINT, b"\x01a", Ending::Cut;
+    BIG_16, FRAMES_BIG_16, BIG_16, FRAMES_BIG_16, Ending::End;
+    BIG_16, FRAMES_BIG_16, VARINT, FRAMES, Ending::End;
+    LITTLE_16, FRAMES_LITTLE_16, LITTLE_16, FRAMES_LITTLE_16, Ending::End;
+    LITTLE_16, FRAMES_LITTLE_16, VARINT, FRAMES, Ending::End;
+    BIG_32, FRAMES_BIG_32, BIG_32, FRAMES_BIG_32, Ending::End;
+    BIG_32, FRAMES_BIG_32, VARINT, FRAMES, Ending::End;
+    LITTLE_32, FRAMES_LITTLE_32, LITTLE_32, FRAMES_LITTLE_32, Ending::End;
+    LITTLE_32, FRAMES_LITTLE_32, VARINT, FRAMES, Ending::End;
+};
 
 #[test]
 fn frames_are_echoed(rt: HostRuntime) -> Result<(), Fail> {
     for (prefix, bytes, other, written, wanted) in ECHOES {
-        let from = Steps {
-            left: bytes,
-            most: 2,
-            was_interrupted: false,
-            is_broken: false,
-        };
-        let mut from = frame_reader(rt.alloc(), prefix, from)?;
+        let mut from = frame_reader(rt.alloc(), prefix, Steps::new(bytes, 2, false))?;
         let mut to = frame_writer(other, Narrow::new(rt.alloc(), 3, 100));
         assert!(rt; to.is_sent());
         let found = match echo(rt.alloc(), &mut from, &mut to) {
@@ -542,149 +376,38 @@ fn a_frame_is_sent_without_a_flush(rt: HostRuntime) -> Result<(), Fail> {
     Ok(())
 }
 
-// The prefix; a reader's bytes, whether it then fails, and the bytes that it gives later; the call from which on the writer fails; how
-// `echo` ends, what the writer took until then, and how many bytes it holds; and all that it took after it was sent and
-// flushed, and `echo` called again.
-#[derive(Clone, Copy)]
-struct Failing {
-    name: &'static str,
-    prefix: Prefix,
-    bytes: &'static [u8],
-    is_broken: bool,
-    more: &'static [u8],
-    fails_at: usize,
-    ending: Ending,
-    calls: &'static [u8],
-    rest: usize,
-    all: &'static [u8],
-}
+// A name and a prefix; a reader's bytes, whether it then fails, and the bytes that it gives later; the call from which on
+// the writer fails; how `echo` ends, what the writer took until then, and how many bytes it holds; and all that it took
+// after it was sent and flushed, and `echo` called again.
+type Failing = (
+    &'static str,
+    Prefix,
+    &'static [u8],
+    bool,
+    &'static [u8],
+    usize,
+    Ending,
+    &'static [u8],
+    usize,
+    &'static [u8],
+);
 
 const PIPE: Ending = Ending::Io(ErrorKind::BrokenPipe);
 
 const RESET: Ending = Ending::Io(ErrorKind::ConnectionReset);
 
-const FAILINGS: [Failing; 10] = [
-    Failing {
-        name: "no failure",
-        prefix: Prefix::Spelled,
-        bytes: FRAMES,
-        is_broken: false,
-        more: b"",
-        fails_at: usize::MAX,
-        ending: Ending::End,
-        calls: b"\x03abc|\0|\x05hello|",
-        rest: 0,
-        all: b"\x03abc|\0|\x05hello||",
-    },
-    Failing {
-        name: "a read between two frames",
-        prefix: Prefix::Spelled,
-        bytes: b"\x03abc",
-        is_broken: true,
-        more: b"\0\x05hello",
-        fails_at: usize::MAX,
-        ending: RESET,
-        calls: b"\x03abc|",
-        rest: 0,
-        all: b"\x03abc||\0|\x05hello|",
-    },
-    Failing {
-        name: "a read inside a body",
-        prefix: Prefix::Spelled,
-        bytes: b"\x03abc\0\x05he",
-        is_broken: true,
-        more: b"llo",
-        fails_at: usize::MAX,
-        ending: RESET,
-        calls: b"\x03abc|\0|",
-        rest: 0,
-        all: b"\x03abc|\0||\x05hello|",
-    },
-    Failing {
-        name: "a read inside a length",
-        prefix: BIG_16,
-        bytes: b"\0\0\0",
-        is_broken: true,
-        more: b"\x03abc",
-        fails_at: usize::MAX,
-        ending: RESET,
-        calls: b"\0\0|",
-        rest: 0,
-        all: b"\0\0||\0\x03abc|",
-    },
-    Failing {
-        name: "the write of a length",
-        prefix: Prefix::Spelled,
-        bytes: FRAMES,
-        is_broken: false,
-        more: b"",
-        fails_at: 0,
-        ending: PIPE,
-        calls: b"",
-        rest: 4,
-        all: b"\x03abc|\0|\x05hello|",
-    },
-    Failing {
-        name: "the write of a body",
-        prefix: Prefix::Spelled,
-        bytes: FRAMES,
-        is_broken: false,
-        more: b"",
-        fails_at: 1,
-        ending: PIPE,
-        calls: b"\x03",
-        rest: 3,
-        all: b"\x03abc|\0|\x05hello|",
-    },
-    Failing {
-        name: "the first flush",
-        prefix: Prefix::Spelled,
-        bytes: FRAMES,
-        is_broken: false,
-        more: b"",
-        fails_at: 2,
-        ending: PIPE,
-        calls: b"\x03abc",
-        rest: 0,
-        all: b"\x03abc|\0|\x05hello|",
-    },
-    Failing {
-        name: "the flush of an empty frame",
-        prefix: Prefix::Spelled,
-        bytes: FRAMES,
-        is_broken: false,
-        more: b"",
-        fails_at: 4,
-        ending: PIPE,
-        calls: b"\x03abc|\0",
-        rest: 0,
-        all: b"\x03abc|\0|\x05hello|",
-    },
-    Failing {
-        name: "the write of the last body",
-        prefix: Prefix::Spelled,
-        bytes: FRAMES,
-        is_broken: false,
-        more: b"",
-        fails_at: 6,
-        ending: PIPE,
-        calls: b"\x03abc|\0|\x05",
-        rest: 5,
-        all: b"\x03abc|\0|\x05hello|",
-    },
-    Failing {
-        name: "the last flush",
-        prefix: Prefix::Spelled,
-        bytes: FRAMES,
-        is_broken: false,
-        more: b"",
-        fails_at: 7,
-        ending: PIPE,
-        calls: b"\x03abc|\0|\x05hello",
-        rest: 0,
-        all: b"\x03abc|\0|\x05hello|",
-    },
-];
+const FAILINGS: [Failing; 10] = rows! {
+    "no failure", VARINT, FRAMES, false, b"", usize::MAX, Ending::End, b"\x03abc|\0|\x05hello|", 0, b"\x03abc|\0|\x05hello||";
+    "a read between two frames", VARINT, b"\x03abc", true, b"\0\x05hello", usize::MAX, RESET, b"\x03abc|", 0, b"\x03abc||\0|\x05hello|";
+    "a read inside a body", VARINT, b"\x03abc\0\x05he", true, b"llo", usize::MAX, RESET, b"\x03abc|\0|", 0, b"\x03abc|\0||\x05hello|";
+    "a read inside a length", BIG_16, b"\0\0\0", true, b"\x03abc", usize::MAX, RESET, b"\0\0|", 0, b"\0\0||\0\x03abc|";
+    "the write of a length", VARINT, FRAMES, false, b"", 0, PIPE, b"", 4, b"\x03abc|\0|\x05hello|";
+    "the write of a body", VARINT, FRAMES, false, b"", 1, PIPE, b"\x03", 3, b"\x03abc|\0|\x05hello|";
+    "the first flush", VARINT, FRAMES, false, b"", 2, PIPE, b"\x03abc", 0, b"\x03abc|\0|\x05hello|";
+    "the flush of an empty frame", VARINT, FRAMES, false, b"", 4, PIPE, b"\x03abc|\0", 0, b"\x03abc|\0|\x05hello|";
+    "the write of the last body", VARINT, FRAMES, false, b"", 6, PIPE, b"\x03abc|\0|\x05", 5, b"\x03abc|\0|\x05hello|";
+    "the last flush", VARINT, FRAMES, false, b"", 7, PIPE, b"\x03abc|\0|\x05hello", 0, b"\x03abc|\0|\x05hello|";
+};
 
 fn echo_again(
     rt: &(impl Abort + AllocGlobal),
@@ -699,23 +422,17 @@ fn echo_again(
 }
 
 fn assert_failing(rt: &(impl Abort + AllocGlobal), case: &Failing) -> Result<(), Fail> {
-    let from = Steps {
-        left: case.bytes,
-        most: 100,
-        was_interrupted: false,
-        is_broken: case.is_broken,
-    };
-    let mut from = frame_reader(rt.alloc(), case.prefix, from)?;
-    let recorder = Recorder::new(rt.alloc(), case.fails_at);
-    let mut to = FrameWriter::with_prefix(recorder, case.prefix);
+    let (name, prefix, bytes, is_broken, more, fails_at, ending, calls, rest, all) = *case;
+    let mut from = frame_reader(rt.alloc(), prefix, Steps::new(bytes, 100, is_broken))?;
+    let mut to = FrameWriter::with_prefix(Recorder::new(rt.alloc(), fails_at), prefix);
     let first = echo_again(rt, &mut from, &mut to);
-    assert_same!(rt; (first, to.to.calls.as_slice(), to.rest.len()), (case.ending, case.calls, case.rest), "{}", case.name);
-    from.from.resume(case.more);
+    assert_same!(rt; (first, to.to.calls.as_slice(), to.rest.len()), (ending, calls, rest), "{name}");
+    from.from.resume(more);
     to.to.fails_at = usize::MAX;
     to.send(rt.alloc())?;
     to.to.flush()?;
     let second = echo_again(rt, &mut from, &mut to);
-    assert_same!(rt; (second, to.to.calls.as_slice()), (Ending::End, case.all), "{}", case.name);
+    assert_same!(rt; (second, to.to.calls.as_slice()), (Ending::End, all), "{name}");
     Ok(())
 }
 

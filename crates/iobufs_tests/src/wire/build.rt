@@ -35,54 +35,33 @@ fn take_step(rt: &(impl Abort + AllocGlobal), what: &str, builder: &mut Builder,
     }
 }
 
-// A builder for `inline` bytes, what is put and pushed, how many more can be put then, and what is built.
-struct Case {
-    name: &'static str,
-    inline: usize,
-    steps: &'static [Step],
-    remaining: usize,
-    chunks: &'static [&'static [u8]],
-}
+// A name, a builder's number of inline bytes, what is put and pushed, how many more can be put then, and what is built.
+type Case = (
+    &'static str,
+    usize,
+    &'static [Step],
+    usize,
+    &'static [&'static [u8]],
+);
 
-const CASES: [Case; 3] = [
-    Case {
-        name: "a view between two numbers",
-        inline: 6,
-        steps: &[
-            Step::Put16(99),
-            Step::Push(b"S"),
-            Step::Push(b""),
-            Step::Put32(7),
-        ],
-        remaining: 0,
-        chunks: &[b"\x00\x63", b"S", b"\x00\x00\x00\x07"],
-    },
-    Case {
-        name: "bytes between two numbers",
-        inline: 4,
-        steps: &[Step::Put16(1), Step::PushBytes(b"xy"), Step::Put16(2)],
-        remaining: 0,
-        chunks: &[b"\x00\x01", b"xy", b"\x00\x02"],
-    },
-    Case {
-        name: "nothing",
-        inline: 0,
-        steps: &[],
-        remaining: 0,
-        chunks: &[],
-    },
-];
+const CASES: [Case; 3] = rows! {
+    "a view between two numbers", 6, &[Step::Put16(99), Step::Push(b"S"), Step::Push(b""), Step::Put32(7)], 0,
+        &[b"\x00\x63", b"S", b"\x00\x00\x00\x07"];
+    "bytes between two numbers", 4, &[Step::Put16(1), Step::PushBytes(b"xy"), Step::Put16(2)], 0,
+        &[b"\x00\x01", b"xy", b"\x00\x02"];
+    "nothing", 0, &[], 0, &[];
+};
 
 #[test]
 fn puts_and_pushes(rt: HostRuntime) {
-    for case in &CASES {
-        let mut builder = Builder::new(rt.alloc(), case.inline).expect(&rt, case.name);
-        for step in case.steps {
-            take_step(&rt, case.name, &mut builder, *step);
+    for (name, inline, steps, remaining, chunks) in CASES {
+        let mut builder = Builder::new(rt.alloc(), inline).expect(&rt, name);
+        for step in steps {
+            take_step(&rt, name, &mut builder, *step);
         }
-        assert_same!(rt; builder.remaining_mut(), case.remaining, "{}", case.name);
-        let built = builder.finish().expect(&rt, case.name);
-        assert_chunks(&rt, case.name, &built, case.chunks);
+        assert_same!(rt; builder.remaining_mut(), remaining, "{name}");
+        let built = builder.finish().expect(&rt, name);
+        assert_chunks(&rt, name, &built, chunks);
     }
 }
 

@@ -139,18 +139,15 @@ fn inline_values(rt: HostRuntime) {
 }
 
 // Lengths, as varints.
-const LENGTHS: [(usize, &'static [u8]); 7] = [
-    (0, b"\0"),
-    (127, b"\x7f"),
-    (128, b"\x80\x01"),
-    (300, b"\xac\x02"),
-    (9223372036854775807, b"\xff\xff\xff\xff\xff\xff\xff\xff\x7f"),
-    (
-        9223372036854775808,
-        b"\x80\x80\x80\x80\x80\x80\x80\x80\x80\x01",
-    ),
-    (usize::MAX, b"\xff\xff\xff\xff\xff\xff\xff\xff\xff\x01"),
-];
+const LENGTHS: [(usize, &'static [u8]); 7] = rows! {
+    0, b"\0";
+    127, b"\x7f";
+    128, b"\x80\x01";
+    300, b"\xac\x02";
+    9223372036854775807, b"\xff\xff\xff\xff\xff\xff\xff\xff\x7f";
+    9223372036854775808, b"\x80\x80\x80\x80\x80\x80\x80\x80\x80\x01";
+    usize::MAX, b"\xff\xff\xff\xff\xff\xff\xff\xff\xff\x01";
+};
 
 #[test]
 fn lengths(rt: HostRuntime) {
@@ -160,17 +157,11 @@ fn lengths(rt: HostRuntime) {
 }
 
 // Values that are too long to be encoded, each with the error.
-const TOO_LONG: [(Zeros, Error); 3] = [
-    (
-        Zeros {
-            a: 1 << 63,
-            b: 1 << 63,
-        },
-        Error::TooLong,
-    ),
-    (Zeros { a: 1 << 63, b: 0 }, Error::BadLayout),
-    (Zeros { a: 1 << 62, b: 0 }, Error::Memory),
-];
+const TOO_LONG: [(Zeros, Error); 3] = rows! {
+    Zeros { a: 1 << 63, b: 1 << 63, }, Error::TooLong;
+    Zeros { a: 1 << 63, b: 0 }, Error::BadLayout;
+    Zeros { a: 1 << 62, b: 0 }, Error::Memory;
+};
 
 #[test]
 fn values_that_are_too_long(rt: HostRuntime) {

@@ -19,112 +19,44 @@ const INVALID: Error = Error::InvalidVarint;
 const HALF: Error = Error::InvalidLength(9223372036854775808);
 
 // No memory has as many bytes as the largest of these lengths: that they are there is seen before it is asked for.
-const VIEWS: [Case<&'static [u8]>; 19] = [
-    (b"\x04wxyz", UP_TO_1024, Ok(b"wxyz")),
-    (b"\x04xy", UP_TO_1024, Err(END)),
-    (b"\x84\x00", UP_TO_1024, Err(INVALID)),
-    (
-        b"\x80\x80\x80\x80\x80\x80\x80\x80\x80\x80",
-        UP_TO_1024,
-        Err(INVALID),
-    ),
-    (b"\x80", UP_TO_1024, Err(END)),
-    (
-        b"\xff\xff\xff\xff\xff\xff\xff\xff\xff\x02",
-        UP_TO_1024,
-        Err(INVALID),
-    ),
-    (
-        b"\xff\xff\xff\xff\xff\xff\xff\xff\xff\x01",
-        UP_TO_1024,
-        Err(Error::InvalidLength(usize::MAX)),
-    ),
-    (b"\xff\xff\xff\xff\xff\xff\xff\xff\xff\x01", ANY, Err(END)),
-    (b"", UP_TO_1024, Err(END)),
-    (b"\x00", UP_TO_1024, Ok(b"")),
-    (b"\x00", NONE, Err(Error::InvalidLength(0))),
-    (
-        b"\x80\x80\x80\x80\x80\x80\x80\x80\x80",
-        UP_TO_1024,
-        Err(END),
-    ),
-    (
-        b"\x80\x80\x80\x80\x80\x80\x80\x80\x80\x01",
-        UP_TO_1024,
-        Err(HALF),
-    ),
-    (b"\x80\x80\x80\x80\x80\x80\x80\x80\x80\x01", ANY, Err(END)),
-    (b"\x80\x80\x80\x80\x80\x80\x80\x80\x10", ANY, Err(END)),
-    (b"\xff\xff\xff\xff\xff\xff\xff\xff\x7f", ANY, Err(END)),
-    (
-        b"\x80\x80\x80\x80\x80\x80\x80\x80\x80\x00",
-        ANY,
-        Err(INVALID),
-    ),
-    (
-        b"\xff\xff\xff\xff\xff\xff\xff\xff\xff\x7f",
-        ANY,
-        Err(INVALID),
-    ),
-    (
-        b"\xff\xff\xff\xff\xff\xff\xff\xff\xff\xff",
-        ANY,
-        Err(INVALID),
-    ),
-];
+const VIEWS: [Case<&'static [u8]>; 19] = rows! {
+    b"\x04wxyz", UP_TO_1024, Ok(b"wxyz");
+    b"\x04xy", UP_TO_1024, Err(END);
+    b"\x84\x00", UP_TO_1024, Err(INVALID);
+    b"\x80\x80\x80\x80\x80\x80\x80\x80\x80\x80", UP_TO_1024, Err(INVALID);
+    b"\x80", UP_TO_1024, Err(END);
+    b"\xff\xff\xff\xff\xff\xff\xff\xff\xff\x02", UP_TO_1024, Err(INVALID);
+    b"\xff\xff\xff\xff\xff\xff\xff\xff\xff\x01", UP_TO_1024, Err(Error::InvalidLength(usize::MAX));
+    b"\xff\xff\xff\xff\xff\xff\xff\xff\xff\x01", ANY, Err(END);
+    b"", UP_TO_1024, Err(END);
+    b"\x00", UP_TO_1024, Ok(b"");
+    b"\x00", NONE, Err(Error::InvalidLength(0));
+    b"\x80\x80\x80\x80\x80\x80\x80\x80\x80", UP_TO_1024, Err(END);
+    b"\x80\x80\x80\x80\x80\x80\x80\x80\x80\x01", UP_TO_1024, Err(HALF);
+    b"\x80\x80\x80\x80\x80\x80\x80\x80\x80\x01", ANY, Err(END);
+    b"\x80\x80\x80\x80\x80\x80\x80\x80\x10", ANY, Err(END);
+    b"\xff\xff\xff\xff\xff\xff\xff\xff\x7f", ANY, Err(END);
+    b"\x80\x80\x80\x80\x80\x80\x80\x80\x80\x00", ANY, Err(INVALID);
+    b"\xff\xff\xff\xff\xff\xff\xff\xff\xff\x7f", ANY, Err(INVALID);
+    b"\xff\xff\xff\xff\xff\xff\xff\xff\xff\xff", ANY, Err(INVALID);
+};
 
-const LENGTHS: [Case<usize>; 14] = [
-    (b"\x00", ANY, Ok(0)),
-    (b"\xac\x02", ANY, Ok(300)),
-    (
-        b"\xff\xff\xff\xff\xff\xff\xff\xff\xff\x01",
-        ANY,
-        Ok(usize::MAX),
-    ),
-    (b"", UP_TO_1024, Err(END)),
-    (b"\x00", UP_TO_1024, Ok(0)),
-    (b"\x00", NONE, Err(Error::InvalidLength(0))),
-    (
-        b"\x80\x80\x80\x80\x80\x80\x80\x80\x80",
-        UP_TO_1024,
-        Err(END),
-    ),
-    (
-        b"\x80\x80\x80\x80\x80\x80\x80\x80\x80\x01",
-        UP_TO_1024,
-        Err(HALF),
-    ),
-    (
-        b"\x80\x80\x80\x80\x80\x80\x80\x80\x80\x01",
-        ANY,
-        Ok(9223372036854775808),
-    ),
-    (
-        b"\x80\x80\x80\x80\x80\x80\x80\x80\x10",
-        ANY,
-        Ok(1152921504606846976),
-    ),
-    (
-        b"\xff\xff\xff\xff\xff\xff\xff\xff\x7f",
-        ANY,
-        Ok(9223372036854775807),
-    ),
-    (
-        b"\x80\x80\x80\x80\x80\x80\x80\x80\x80\x00",
-        ANY,
-        Err(INVALID),
-    ),
-    (
-        b"\xff\xff\xff\xff\xff\xff\xff\xff\xff\x7f",
-        ANY,
-        Err(INVALID),
-    ),
-    (
-        b"\xff\xff\xff\xff\xff\xff\xff\xff\xff\xff",
-        ANY,
-        Err(INVALID),
-    ),
-];
+const LENGTHS: [Case<usize>; 14] = rows! {
+    b"\x00", ANY, Ok(0);
+    b"\xac\x02", ANY, Ok(300);
+    b"\xff\xff\xff\xff\xff\xff\xff\xff\xff\x01", ANY, Ok(usize::MAX);
+    b"", UP_TO_1024, Err(END);
+    b"\x00", UP_TO_1024, Ok(0);
+    b"\x00", NONE, Err(Error::InvalidLength(0));
+    b"\x80\x80\x80\x80\x80\x80\x80\x80\x80", UP_TO_1024, Err(END);
+    b"\x80\x80\x80\x80\x80\x80\x80\x80\x80\x01", UP_TO_1024, Err(HALF);
+    b"\x80\x80\x80\x80\x80\x80\x80\x80\x80\x01", ANY, Ok(9223372036854775808);
+    b"\x80\x80\x80\x80\x80\x80\x80\x80\x10", ANY, Ok(1152921504606846976);
+    b"\xff\xff\xff\xff\xff\xff\xff\xff\x7f", ANY, Ok(9223372036854775807);
+    b"\x80\x80\x80\x80\x80\x80\x80\x80\x80\x00", ANY, Err(INVALID);
+    b"\xff\xff\xff\xff\xff\xff\xff\xff\xff\x7f", ANY, Err(INVALID);
+    b"\xff\xff\xff\xff\xff\xff\xff\xff\xff\xff", ANY, Err(INVALID);
+};
 
 // A reader has these bytes left where a value was read from it, and is as it was where none was.
 fn assert_left<B: Buf>(

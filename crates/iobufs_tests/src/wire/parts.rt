@@ -89,43 +89,24 @@ fn request(asked: Asked) -> Request {
     }
 }
 
-// A request, and the chunks that it is written as.
-struct Case {
-    name: &'static str,
-    asked: Asked,
-    chunks: &'static [&'static [u8]],
-}
-
-const REQUESTS: [Case; 3] = [
-    Case {
-        name: "a get",
-        asked: Asked::Get(b"key", 7),
-        chunks: &[b"\0\x03", b"key", b"\0\0\0\x07"],
-    },
-    Case {
-        name: "a put",
-        asked: Asked::Put(b"key", b"body"),
-        chunks: &[b"\x01\x03", b"key", b"\x04", b"body"],
-    },
-    Case {
-        name: "a sync",
-        asked: Asked::Sync(300),
-        chunks: &[b"\x02\0\0\0\0\0\0\x01\x2c"],
-    },
-];
+// A name, a request, and the chunks that it is written as.
+const REQUESTS: [(&'static str, Asked, &'static [&'static [u8]]); 3] = rows! {
+    "a get", Asked::Get(b"key", 7), &[b"\0\x03", b"key", b"\0\0\0\x07"];
+    "a put", Asked::Put(b"key", b"body"), &[b"\x01\x03", b"key", b"\x04", b"body"];
+    "a sync", Asked::Sync(300), &[b"\x02\0\0\0\0\0\0\x01\x2c"];
+};
 
 const CFG: <RequestParts as Look>::Cfg = ((UP_TO_9, ()), ((UP_TO_9, UP_TO_9), ()));
 
 // A request is written as these chunks, and read from them and from their bytes.
-fn assert_request(rt: &(impl Abort + AllocGlobal), case: &Case) {
-    let (what, asked) = (case.name, case.asked);
-    let bytes = concatenated(rt, case.chunks);
+fn assert_request(rt: &(impl Abort + AllocGlobal), what: &str, asked: Asked, chunks: &[&[u8]]) {
+    let bytes = concatenated(rt, chunks);
     let parts = request(asked).into_parts();
     assert_same!(rt; parts.encode_size(), Some(bytes.len()), "{what}");
     let encoded = request(asked).encode(rt.alloc()).expect(rt, what);
     assert_same!(rt; encoded.as_ref(), bytes.as_slice(), "{what}");
     let mut pieces: IoBufs = request(asked).encode_iobufs(rt.alloc()).expect(rt, what);
-    assert_chunks(rt, what, &pieces, case.chunks);
+    assert_chunks(rt, what, &pieces, chunks);
     let read = Request::read_whole(rt.alloc(), &mut pieces, &CFG).expect(rt, what);
     assert!(rt;
         read == request(asked) && pieces.is_empty(),
@@ -137,8 +118,8 @@ fn assert_request(rt: &(impl Abort + AllocGlobal), case: &Case) {
 
 #[test]
 fn requests(rt: HostRuntime) {
-    for case in &REQUESTS {
-        assert_request(&rt, case);
+    for (name, asked, chunks) in REQUESTS {
+        assert_request(&rt, name, asked, chunks);
     }
 }
 
