@@ -35,4 +35,5 @@ mod strung;
 mod texts;
 #[cfg(test)]
 mod views;
+#[cfg(test)]
 mod wire;

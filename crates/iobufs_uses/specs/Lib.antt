@@ -1,1 +1,4 @@
+pub mod InOrder
 pub mod Send
+pub mod Triple
+pub mod TripleLaws

@@ -1,11 +1,17 @@
-//! Proved callers: frames, senders, stores, a pool.
+//! Proved callers: frames, messages, senders, stores, a pool.
 //!
 //! - `frame`: a frame codec. `send`: a sender of chunk lists. `store`: parts filled from a reader. `pool`, a caller of the
 //!   machine: the memory of freed blocks.
+//! - `note`, `request`: messages, and an enum, read by their parts. `triple`: a codec of its own. `alike`: code that is
+//!   generic in the value and in the reader.
 //! - The contracts are in the words of the layer and its `CallerFacts`.
 #![tactic(auto)]
 
+pub mod alike;
 pub mod frame;
+pub mod note;
 pub mod pool;
+pub mod request;
 pub mod send;
 pub mod store;
+pub mod triple;

@@ -1,7 +1,6 @@
 // Values that are encoded, into one buffer and into chunks.
 use crate::same::assert_same;
 use crate::wire::chunks::{assert_chunks, concatenated, view};
-use crate::wire::record::Record;
 use crate::wire::shard::Shard;
 use crate::wire::zeros::Zeros;
 use bytes::Bytes;
@@ -9,6 +8,7 @@ use iobufs::bufs::IoBufs;
 use iobufs::builder::EncodeExt;
 use iobufs_core::buf::{IoBuf, IoBufMut};
 use iobufs_core::codec::{Buf, BufMut, Encode, EncodeSize, Error, Write};
+use iobufs_uses::triple::Triple;
 use std::process::Abort;
 
 // The size of a value, and how many of its bytes are put inline.
@@ -117,7 +117,7 @@ fn inline_values(rt: HostRuntime) {
     assert_written(&rt, "four bytes", &0x04050607u32, 4, &[b"\x04\x05\x06\x07"]);
     let eight: &[u8] = b"\x08\x09\x0a\x0b\x0c\x0d\x0e\x0f";
     assert_written(&rt, "eight bytes", &0x08090a0b0c0d0e0fu64, 8, &[eight]);
-    let record = Record {
+    let record = Triple {
         kind: 1,
         number: 0x0203,
         place: 0x04050607,

@@ -1,10 +1,10 @@
 // Lengths and views that are read: out of one chunk of a view and of `IoBufs`, and out of a chunk for each byte.
 use crate::same::assert_same;
 use crate::wire::chunks::{ANY, UP_TO_1024, assert_chunks, bytewise, chunks_of, gathered, view};
-use crate::wire::record::Record;
 use iobufs::bufs::IoBufs;
 use iobufs_core::buf::{IoBuf, IoBufMut};
 use iobufs_core::codec::{Buf, BufMut, Encode, Error, OwnedBuf, RangeCfg, Read};
+use iobufs_uses::triple::Triple;
 use std::process::Abort;
 
 const NONE: RangeCfg = RangeCfg { lo: 1, hi: 0 };
@@ -179,7 +179,7 @@ fn prefixes_of_a_view(rt: HostRuntime) {
 
 #[test]
 fn prefixes_of_a_record(rt: HostRuntime) {
-    let record = Record {
+    let record = Triple {
         kind: 1,
         number: 0x0203,
         place: 0x04050607,
@@ -187,9 +187,9 @@ fn prefixes_of_a_record(rt: HostRuntime) {
     let whole: &[u8] = b"\x01\x02\x03\x04\x05\x06\x07";
     for n in 0..7 {
         let mut prefix = bytewise(&rt, &IoBuf::from(&whole[..n]));
-        assert_same!(rt; Record::read_cfg(rt.alloc(), &mut prefix, &()), Err(END));
+        assert_same!(rt; Triple::read_cfg(rt.alloc(), &mut prefix, &()), Err(END));
         assert_same!(rt; (prefix.len(), prefix.chunk_count()), (n, n), "the first {n} bytes");
     }
     let mut all = bytewise(&rt, &IoBuf::from(whole));
-    assert_same!(rt; Record::read_cfg(rt.alloc(), &mut all, &()), Ok(record));
+    assert_same!(rt; Triple::read_cfg(rt.alloc(), &mut all, &()), Ok(record));
 }

@@ -3,14 +3,15 @@
 use crate::same::assert_same;
 use crate::wire::chunks::{ANY, UP_TO_9, assert_chunks, concatenated, copied_bytewise, view};
 use crate::wire::encode::assert_written;
-use crate::wire::note::{Letter, Note};
-use crate::wire::request::{Request, RequestParts};
 use crate::wire::whole::{END, assert_front, assert_prefixes, assert_refused, assert_whole};
 use iobufs::bufs::IoBufs;
 use iobufs_core::buf::IoBuf;
 use iobufs_core::codec::{EncodeSize, Error, RangeCfg};
+use iobufs_uses::note::{Entry, Letter, Note};
+use iobufs_uses::request::{Request, RequestParts};
 use iobufs_values::{ByParts, Either, Fault, IntoParts, Kind, List, Look, Tagged};
 use std::process::Abort;
+use std::test::Fail;
 
 // Each prefix ends too early and is left as it was, and a byte after the value is too much.
 fn assert_by_parts<T: ByParts + PartialEq + Drop>(
@@ -65,6 +66,23 @@ fn a_note(rt: HostRuntime) {
     assert_chunks(&rt, "a note", &encoded, &[b"\0\0\0\x07\x02\x03", b"abc"]);
     let read = Note::read_whole(rt.alloc(), &mut encoded, &((), (), UP_TO_9));
     assert!(rt; read.expect(&rt, "a note") == note(), "another note");
+}
+
+#[test]
+fn an_entry_is_read_back(rt: HostRuntime) -> Result<(), Fail> {
+    let entry = Entry {
+        number: 7,
+        flags: 1,
+        key: view(b"k"),
+        value: view(b"value"),
+    };
+    let mut text: IoBufs = entry.encode_iobufs(rt.alloc())?;
+    assert_same!(rt; text.len(), 17);
+    let read = Entry::read_whole(rt.alloc(), &mut text, &((), (), UP_TO_9, UP_TO_9))?;
+    assert_same!(rt; (read.number, read.flags), (7, 1));
+    assert_same!(rt; (read.key.as_ref(), read.value.as_ref()), (b"k".as_slice(), b"value".as_slice()));
+    assert!(rt; text.is_empty());
+    Ok(())
 }
 
 // A request, with bytes for views.

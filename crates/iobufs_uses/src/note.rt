@@ -97,34 +97,3 @@ impl IntoParts for Entry {
     }
 }
 // [docs end]
-
-#[cfg(test)]
-mod tests {
-    use super::*;
-    use iobufs_core::codec::RangeCfg;
-    use std::test::Fail;
-
-    const ANY: RangeCfg = RangeCfg { lo: 0, hi: 9 };
-
-    #[test]
-    fn an_entry_is_read_back(rt: HostRuntime) -> Result<(), Fail> {
-        let alloc = rt.alloc();
-        let key = IoBuf::from(b"k".as_slice());
-        let value = IoBuf::from(b"value".as_slice());
-        let entry = Entry {
-            number: 7,
-            flags: 1,
-            key,
-            value,
-        };
-        let mut text: IoBufs = entry.encode_iobufs(alloc)?;
-        assert_eq!(rt; text.len(), 17);
-        let read = Entry::read_whole(alloc, &mut text, &((), (), ANY, ANY))?;
-        assert_eq!(rt; read.number, 7);
-        assert_eq!(rt; read.flags, 1);
-        assert_eq!(rt; read.key.as_ref(), b"k".as_slice());
-        assert_eq!(rt; read.value.as_ref(), b"value".as_slice());
-        assert!(rt; text.is_empty());
-        Ok(())
-    }
-}

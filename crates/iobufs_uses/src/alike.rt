@@ -1,7 +1,7 @@
 // The laws of reading, in code that is generic in the value and in the reader.
 ghost use Rattle.std.specs.Prelude.{◌≡◌, ◌++◌, List, ℕ, IfOk};
 ghost use Rattle.iobufs_core.specs.ReadBack.{IsReadAlike};
-ghost use Rattle.iobufs_tests.specs.InOrder.{AreReadInOrder};
+ghost use Rattle.iobufs_uses.specs.InOrder.{AreReadInOrder};
 
 use iobufs::EncodeExt;
 use iobufs_core::codec::{Codec, Encode, Error, OwnedBuf, Read, Write};

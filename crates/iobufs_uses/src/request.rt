@@ -33,7 +33,7 @@ impl ByParts for Request {
       | Sync last ↦ Second (Second (record { value = last }))
     ] };
 
-    ghost use Rattle.iobufs_tests.specs.declared.wire.request.Request.TheVariants.{Get, Put, Sync};
+    ghost use Rattle.iobufs_uses.specs.declared.request.Request.TheVariants.{Get, Put, Sync};
 
     fn from_parts(all: RequestParts) -> Request {
         match all {

@@ -1,8 +1,8 @@
 use Rattle.std.proofs.Common.{◌≡◌, ◌++◌, sym, ◌∙◌, Ok, Err}
 use Rattle.std.proofs.lemmas.Result.{err_from_is_err_and}
 use Rattle.iobufs_core.specs.declared.codec.base.Error.TheVariants.{Memory}
-use Rattle.iobufs_tests.specs.InOrderLaws.{behind_written}
-use Rattle.iobufs_tests.proofs.wire.alike.read_in_order.Goals as goal
+use Rattle.iobufs_uses.proofs.InOrderLaws.{behind_written}
+use Rattle.iobufs_uses.proofs.alike.read_in_order.Goals as goal
 
 pub returns-in_err-one : goal.returns-in_err-one
 returns-in_err-one g c = λ x y rest p q e.

@@ -5,7 +5,7 @@ use Rattle.iobufs_core.specs.Part.{Part, part_frozen}
 use Rattle.iobufs_core.specs.ReadBack.{IsReadBack}
 use Rattle.iobufs_core.specs.View.{View}
 use Rattle.iobufs_core.specs.declared.codec.base.Error.{Error}
-use Rattle.iobufs_tests.proofs.wire.alike.there_and_back.Goals as goal
+use Rattle.iobufs_uses.proofs.alike.there_and_back.Goals as goal
 
 frozen_bytes : (bytes : List ℕ) (spare : ℕ) → (part_frozen (record { filled = bytes; spare = spare })).bytes ≡ bytes
 frozen_bytes [] spare = refl

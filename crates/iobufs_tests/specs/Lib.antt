@@ -1,4 +1,0 @@
-pub mod InOrder
-pub mod InOrderLaws
-pub mod Record
-pub mod RecordLaws
