@@ -91,7 +91,7 @@ const OF_VIEWS: [Row; 23] = [
 ];
 
 // Calls that make a buffer of bytes that are given to them.
-const MAKERS: [Row; 13] = [
+const MAKERS: [Row; 14] = [
     (Costed::Copy, ALL, ALL),
     (Costed::CopyPart, ALL, ALL),
     (Costed::OfList, ALL, ALL),
@@ -99,6 +99,7 @@ const MAKERS: [Row; 13] = [
     (Costed::TextOfList, ALL, ALL),
     (Costed::OfBytesMut, ALL, ALL),
     (Costed::PartOfBytes, ALL, ALL),
+    (Costed::PartOfSharedBytes, ALL, ALL),
     (Costed::PartOfBytesMut, ALL, ALL),
     (Costed::Capacity, ALL, ALL),
     (Costed::Aligned, ALL, ALL),

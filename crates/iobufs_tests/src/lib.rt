@@ -1,4 +1,4 @@
-// Tests of what no contract says: worked examples, success, sharing, printed text, and lengths above likely limits.
+// Tests of what no contract says: worked examples, success, sharing, printed text.
 // `callers` tests the crates over the buffers, `owner` the owner machine, and `wire` encoded values.
 #![tactic(auto)]
 
@@ -15,8 +15,6 @@ mod callers;
 mod frames;
 #[cfg(test)]
 mod generic;
-#[cfg(test)]
-mod limits;
 #[cfg(test)]
 mod located;
 #[cfg(test)]

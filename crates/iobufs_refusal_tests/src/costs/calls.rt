@@ -58,6 +58,8 @@ pub enum Costed {
     TextOfList,
     OfBytesMut,
     PartOfBytes,
+    // Of one that another handle shares.
+    PartOfSharedBytes,
     PartOfBytesMut,
     Capacity,
     Aligned,
@@ -94,6 +96,7 @@ impl Costed {
                 | Costed::TextOfList
                 | Costed::OfBytesMut
                 | Costed::PartOfBytes
+                | Costed::PartOfSharedBytes
                 | Costed::PartOfBytesMut
                 | Costed::Zeroed
                 | Costed::ZeroedAligned
@@ -291,6 +294,10 @@ fn maker(alloc: Global, call: Costed, args: Args) -> Result<Given, BufError> {
         Costed::PartOfBytes => {
             let bytes = Bytes::from_vec(filled(room, bytes)?)?;
             Ok(Given::Part(IoBufMut::from_bytes(alloc, bytes)?))
+        }
+        Costed::PartOfSharedBytes => {
+            let bytes = Bytes::from_vec(filled(room, bytes)?)?;
+            Ok(Given::Part(IoBufMut::from_bytes(alloc, bytes.clone()?)?))
         }
         Costed::PartOfBytesMut => {
             let bytes = BytesMut::from(filled(room, bytes)?);

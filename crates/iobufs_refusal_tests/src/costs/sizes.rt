@@ -1,11 +1,12 @@
 // Lists, frames, capacities and runs above what other tests try.
 use crate::costs::calls::ANY;
 use crate::costs::shape::pattern;
-use bytes::BytesMut;
+use bytes::{Bytes, BytesMut};
 use iobufs::EncodeExt;
 use iobufs::bufs::IoBufs;
+use iobufs::builder::Builder;
 use iobufs_core::buf::{IoBuf, IoBufMut};
-use iobufs_core::codec::BufError;
+use iobufs_core::codec::{BufError, BufsMut};
 use iobufs_frames::{ByteOrder, End, Frames, Prefix, Width, framed_with};
 use iobufs_owner::format::FORMAT_64;
 use iobufs_owner::owner::{self, Act, Call, Machine, Step};
@@ -46,31 +47,15 @@ fn lists(rt: HostRuntime) -> Result<(), Fail> {
 }
 
 // How a length is written, its bytes, and the length.
-const FRAMES: [(Prefix, &'static [u8], usize); 7] = [
-    (Prefix::Fixed(Width::U16, ByteOrder::Big), b"\x13\x89", 5001),
-    (
-        Prefix::Fixed(Width::U16, ByteOrder::Little),
-        b"\xff\xff",
-        65535,
-    ),
-    (
-        Prefix::Fixed(Width::U32, ByteOrder::Little),
-        b"\xa1\x86\x01\0",
-        100001,
-    ),
-    (
-        Prefix::Fixed(Width::U64, ByteOrder::Big),
-        b"\0\0\0\0\0\0\0\0",
-        0,
-    ),
-    (
-        Prefix::Fixed(Width::U64, ByteOrder::Little),
-        b"\x01\0\x10\0\0\0\0\0",
-        1048577,
-    ),
-    (Prefix::Spelled, b"\x81\x80\x40", 1048577),
-    (Prefix::Spelled, b"\x80\x80\x80\x10", 33554432),
-];
+const FRAMES: [(Prefix, &'static [u8], usize); 7] = rows! {
+    Prefix::Fixed(Width::U16, ByteOrder::Big), b"\x13\x89", 5001;
+    Prefix::Fixed(Width::U16, ByteOrder::Little), b"\xff\xff", 65535;
+    Prefix::Fixed(Width::U32, ByteOrder::Little), b"\xa1\x86\x01\0", 100001;
+    Prefix::Fixed(Width::U64, ByteOrder::Big), b"\0\0\0\0\0\0\0\0", 0;
+    Prefix::Fixed(Width::U64, ByteOrder::Little), b"\x01\0\x10\0\0\0\0\0", 1048577;
+    Prefix::Spelled, b"\x81\x80\x40", 1048577;
+    Prefix::Spelled, b"\x80\x80\x80\x10", 33554432;
+};
 
 // A length, and a body in three chunks.
 fn pieces(
@@ -112,6 +97,30 @@ fn frames(rt: HostRuntime) -> Result<(), Fail> {
             "{n}: another body"
         );
     }
+    Ok(())
+}
+
+// As many frames as chunks.
+#[test]
+fn many_frames(rt: HostRuntime) -> Result<(), Fail> {
+    let mut pieces = Vec::new(rt.alloc());
+    for _ in 0..4097 {
+        pieces.push(IoBuf::from(b"\x01a".as_slice()))?;
+    }
+    let run = Frames::run(rt.alloc(), Prefix::Spelled, pieces, &ANY)?;
+    assert!(rt;
+        run.frames.len() == 4097 && run.rest.is_empty(),
+        "other frames"
+    );
+    Ok(())
+}
+
+#[test]
+fn a_long_push_of_bytes(rt: HostRuntime) -> Result<(), Fail> {
+    let bytes = pattern(rt.alloc(), 1048577)?;
+    let mut builder = Builder::new(rt.alloc(), 0)?;
+    builder.push_bytes(Bytes::from_static(bytes))?;
+    assert!(rt; builder.finish()?.eq_bytes(bytes), "other bytes");
     Ok(())
 }
 

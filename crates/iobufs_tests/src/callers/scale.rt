@@ -1,10 +1,9 @@
 // A thousand times what an example has.
 use crate::same::assert_same;
-use bytes::Bytes;
 use iobufs::bufs::IoBufs;
 use iobufs::bufs_mut::IoBufsMut;
-use iobufs_core::buf::{IoBuf, IoBufMut};
-use iobufs_core::codec::{Buf, BufError, BufMut, OwnedBuf};
+use iobufs_core::buf::IoBufMut;
+use iobufs_core::codec::{Buf, BufError, BufMut};
 use iobufs_uses::store::store;
 use std::alloc::Global;
 use std::process::Abort;
@@ -25,15 +24,6 @@ fn number(alloc: Global, capacity: usize, number: u16) -> Result<IoBufMut, BufEr
     Ok(part)
 }
 
-// Chunks of two bytes, each with its number.
-fn numbered(alloc: Global) -> Result<IoBufs, BufError> {
-    let mut text = IoBufs::default();
-    for i in 0..PIECES {
-        text.append(alloc, number(alloc, 2, i)?.freeze()?)?;
-    }
-    Ok(text)
-}
-
 // Compares the chunks of a text with the numbers from one to another.
 fn assert_numbered(rt: &impl Abort, text: &IoBufs, from: u16, to: u16) {
     let mut wanted = from;
@@ -44,77 +34,6 @@ fn assert_numbered(rt: &impl Abort, text: &IoBufs, from: u16, to: u16) {
     });
     let count = to.saturating_sub(from) as usize;
     assert_same!(rt; (wanted, text.chunk_count()), (to, count), "{from} to {to}");
-}
-
-// The bytes of a text from one place to another.
-fn sliced(alloc: Global, text: &IoBufs, from: usize, to: usize) -> Result<IoBufs, BufError> {
-    if from > to || to > text.len() {
-        return Err(BufError::TooLong);
-    }
-    text.slice(alloc, from..to)
-}
-
-// A range of bytes, and the numbers in it.
-const SLICES: [(usize, usize, u16, u16); 3] = [
-    (0, 10000, 0, PIECES),
-    (2, 9998, 1, 4999),
-    (6000, 6002, 3000, 3001),
-];
-
-#[test]
-fn a_text_is_sliced(rt: HostRuntime) -> Result<(), Fail> {
-    let text = numbered(rt.alloc())?;
-    assert_same!(rt; text.len(), 10000);
-    for (from, to, first, end) in SLICES {
-        assert_numbered(&rt, &sliced(rt.alloc(), &text, from, to)?, first, end);
-    }
-    let inside = sliced(rt.alloc(), &text, 4999, 5003)?;
-    assert_same!(rt; inside.chunk_count(), 3);
-    let bytes = [0xc3, 0x09, 0xc4, 0x09];
-    assert_same!(rt; inside.to_vec(rt.alloc())?.as_slice(), bytes.as_slice());
-    assert_numbered(&rt, &text.clone()?, 0, PIECES);
-    assert_numbered(&rt, &text, 0, PIECES);
-    Ok(())
-}
-
-#[test]
-fn a_text_is_split(rt: HostRuntime) -> Result<(), Fail> {
-    let mut rest = numbered(rt.alloc())?;
-    assert!(rt; rest.len() == 10000);
-    let front = rest.split_to(rt.alloc(), 9998)?;
-    assert_numbered(&rt, &front, 0, 4999);
-    assert_numbered(&rt, &rest, 4999, PIECES);
-    Ok(())
-}
-
-#[test]
-fn a_text_is_coalesced(rt: HostRuntime) -> Result<(), Fail> {
-    let whole = numbered(rt.alloc())?.coalesce(rt.alloc())?;
-    assert_same!(rt; whole.len(), 10000);
-    for i in 0..PIECES {
-        let [high, low] = i.to_be_bytes();
-        let at = 2 * i as usize;
-        let found = (whole.byte_at(at), whole.byte_at(at + 1));
-        assert_same!(rt; found, (Some(high), Some(low)), "{i}");
-    }
-    Ok(())
-}
-
-// A view of a mebibyte.
-fn mebibyte(alloc: Global, byte: u8) -> Result<IoBuf, BufError> {
-    IoBuf::from_vec(vec![in alloc; byte; MEBIBYTE]?)
-}
-
-#[test]
-fn a_mebibyte_is_taken(rt: HostRuntime) -> Result<(), Fail> {
-    let mut text = IoBufs::from(mebibyte(rt.alloc(), 1)?);
-    text.append(rt.alloc(), mebibyte(rt.alloc(), 2)?)?;
-    assert_same!(rt; text.len(), 2 * MEBIBYTE);
-    let across = text.try_take_owned::<Bytes>(rt.alloc(), MEBIBYTE + 1)?;
-    let found = (across.len(), across.as_slice().get(MEBIBYTE - 1..));
-    assert_same!(rt; found, (MEBIBYTE + 1, Some([1, 2].as_slice())));
-    assert_same!(rt; (text.len(), text.chunk_count()), (MEBIBYTE - 1, 1));
-    Ok(())
 }
 
 // Two parts of half a mebibyte.

@@ -30,20 +30,3 @@ fn five_thousand_blocks(rt: HostRuntime) -> Result<(), Fail> {
     );
     Ok(())
 }
-
-#[test]
-fn a_hundred_thousand_steps(rt: HostRuntime) -> Result<(), Fail> {
-    let mut machine = Machine::new(rt.alloc(), 1, CEILING, FORMAT_64)?;
-    let mut steps = Vec::new(rt.alloc());
-    steps.push(begin(Call::New(64, 16, 1)))?;
-    for _ in 1..100000 {
-        steps.push(begin(Call::IsUnique(0)))?;
-    }
-    let replies = machine.run(steps.as_slice())?;
-    assert_same!(rt; replies.len(), 100000);
-    assert_same!(rt; replies.as_slice().first(), Some(&Reply::Made(0)));
-    for reply in replies.iter().skip(1) {
-        assert_same!(rt; *reply, Reply::Unique(true));
-    }
-    Ok(())
-}
