@@ -122,6 +122,10 @@ impl IoBuf {
     pub fn as_ref(&self) -> &[u8]
         ensures { result.now ≡ self.now.bytes }
     {
+        // Most views are native: one test costs less than a choice among all kinds.
+        if let Storage::Native(native) = &self.storage {
+            return native.as_slice();
+        }
         match &self.storage {
             Storage::Static(text) => text,
             Storage::Shared(bytes) => bytes.as_slice(),
@@ -170,16 +174,17 @@ impl IoBuf {
         if from == to {
             return Ok(IoBuf::default());
         }
-        let storage = match &self.storage {
-            Storage::Native(native) => Storage::Native(native.slice(from, to)?),
-            Storage::Static(text) => Storage::Static(&text[..to][from..]),
+        match &self.storage {
+            Storage::Native(native) => Ok(IoBuf::from_native(native.slice(from, to)?)),
+            Storage::Static(text) => Ok(IoBuf::from(&text[..to][from..])),
             Storage::Shared(bytes) => {
                 let mut slice = bytes.slice(..to)?;
                 slice.advance(from);
-                Storage::Shared(slice)
+                Ok(IoBuf {
+                    storage: Storage::Shared(slice),
+                })
             }
-        };
-        Ok(IoBuf { storage })
+        }
     }
 
     /// Takes the first `at` bytes, in the same storage (`IoBuf::split_to`).
@@ -199,6 +204,10 @@ impl IoBuf {
         }
         if at == self.len() {
             return Ok(mem::take(self));
+        }
+        // As in `as_ref`.
+        if let Storage::Native(native) = &mut self.storage {
+            return Ok(IoBuf::from_native(native.split_to(at)?));
         }
         let storage = match &mut self.storage {
             Storage::Native(native) => Storage::Native(native.split_to(at)?),
