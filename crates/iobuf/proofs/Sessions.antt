@@ -7,7 +7,7 @@ use Rattle.iobufs_run.specs.declared.command.Cmd.{Cmd}
 use Rattle.iobufs_run.specs.declared.command.Reply.{Reply}
 use Rattle.iobufs_run.specs.declared.table.Slot.{Slot}
 use Rattle.iobufs_run.specs.declared.table.Slot.TheVariants.{Free}
-use Rattle.iobufs_run.specs.RunLaws.{run_more}
+use Rattle.iobufs_run.proofs.RunLaws.{run_more}
 use Rattle.std.proofs.lemmas.List.{flat_map_more}
 use Rattle.iobuf_lines.specs.Buffers.Commands.{Command, plain}
 use Rattle.iobuf_lines.specs.Buffers.Printed.{reply_line}

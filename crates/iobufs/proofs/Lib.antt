@@ -1,3 +1,5 @@
-pub mod Text
-pub mod Parts
 pub mod Building
+pub mod CallerFacts
+pub mod Joined
+pub mod Parts
+pub mod Text

@@ -2,5 +2,4 @@
 pub mod Building
 pub mod Draining
 pub mod Filling
-pub mod Joined
 pub mod Reading

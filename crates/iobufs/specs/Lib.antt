@@ -1,9 +1,9 @@
-pub mod CallerFacts
-pub mod Refusals
-pub mod Search
-pub mod Located
-pub mod PartLimits
-pub mod Parts
 pub mod Building
 pub mod Inside
 pub mod Laws
+pub mod Located
+pub mod PartLimits
+pub mod Parts
+pub mod Refusals
+pub mod Search
+pub mod Sending

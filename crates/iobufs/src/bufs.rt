@@ -485,7 +485,7 @@ impl From<&'static [u8]> for IoBufs {
 }
 
 impl Buf for IoBufs {
-    ghost use Rattle.iobufs_core.specs.CallerFacts.{bytes-advanced, bytes-rest};
+    ghost use Rattle.iobufs_core.specs.ReadBytes.{bytes-advanced, bytes-rest};
     ghost use Rattle.iobufs.specs.Laws.Reading.{joined-chunks, full-chunks};
 
     ghost text = { λ t. t.bytes };

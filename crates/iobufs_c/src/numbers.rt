@@ -176,7 +176,7 @@ pub extern "C" fn iobufs_builder_put_u64(builder: &mut BuilderAt, n: u64) -> u8
 /// Reads the number of one byte before a view, and drops it. `Status::EndOfBuffer` where there are fewer bytes, and then nothing
 /// changes.
 #[unsafe(no_mangle)]
-#[tactic(auto, using(iobufs_core::specs::CallerFacts::reading))]
+#[tactic(auto, using(iobufs_core::proofs::CallerFacts::reading))]
 pub extern "C" fn iobuf_get_u8(alloc: Global, src: &mut ViewAt, out: &mut u8) -> u8
     ensures at { src.new.at ≡ src.old.at }
     ensures read { result ≡ 0 → IsNumberRead (λ n. n ∷ []) 1 src.old.value.bytes (Ok out.new) }
@@ -196,7 +196,7 @@ pub extern "C" fn iobuf_get_u8(alloc: Global, src: &mut ViewAt, out: &mut u8) ->
 
 /// Takes a big-endian number of two bytes from the front of a view.
 #[unsafe(no_mangle)]
-#[tactic(auto, using(iobufs_core::specs::CallerFacts::reading))]
+#[tactic(auto, using(iobufs_core::proofs::CallerFacts::reading))]
 pub extern "C" fn iobuf_get_u16(alloc: Global, src: &mut ViewAt, out: &mut u16) -> u8
     ensures at { src.new.at ≡ src.old.at }
     ensures read { result ≡ 0 → IsNumberRead (to_be_bytes w16) 2 src.old.value.bytes (Ok out.new) }
@@ -216,7 +216,7 @@ pub extern "C" fn iobuf_get_u16(alloc: Global, src: &mut ViewAt, out: &mut u16) 
 
 /// Takes a big-endian number of four bytes from the front of a view.
 #[unsafe(no_mangle)]
-#[tactic(auto, using(iobufs_core::specs::CallerFacts::reading))]
+#[tactic(auto, using(iobufs_core::proofs::CallerFacts::reading))]
 pub extern "C" fn iobuf_get_u32(alloc: Global, src: &mut ViewAt, out: &mut u32) -> u8
     ensures at { src.new.at ≡ src.old.at }
     ensures read { result ≡ 0 → IsNumberRead (to_be_bytes w32) 4 src.old.value.bytes (Ok out.new) }
@@ -236,7 +236,7 @@ pub extern "C" fn iobuf_get_u32(alloc: Global, src: &mut ViewAt, out: &mut u32) 
 
 /// Takes a big-endian number of eight bytes from the front of a view.
 #[unsafe(no_mangle)]
-#[tactic(auto, using(iobufs_core::specs::CallerFacts::reading))]
+#[tactic(auto, using(iobufs_core::proofs::CallerFacts::reading))]
 pub extern "C" fn iobuf_get_u64(alloc: Global, src: &mut ViewAt, out: &mut u64) -> u8
     ensures at { src.new.at ≡ src.old.at }
     ensures read { result ≡ 0 → IsNumberRead (to_be_bytes w64) 8 src.old.value.bytes (Ok out.new) }
@@ -256,7 +256,7 @@ pub extern "C" fn iobuf_get_u64(alloc: Global, src: &mut ViewAt, out: &mut u64) 
 
 /// Takes a big-endian number of one byte from the front of an `IoBufs`.
 #[unsafe(no_mangle)]
-#[tactic(auto, using(iobufs_core::specs::CallerFacts::reading))]
+#[tactic(auto, using(iobufs_core::proofs::CallerFacts::reading))]
 pub extern "C" fn iobufs_get_u8(alloc: Global, text: &mut TextAt, out: &mut u8) -> u8
     ensures at { text.new.at ≡ text.old.at }
     ensures read { result ≡ 0 → IsNumberRead (λ n. n ∷ []) 1 text.old.value.bytes (Ok out.new) }
@@ -276,7 +276,7 @@ pub extern "C" fn iobufs_get_u8(alloc: Global, text: &mut TextAt, out: &mut u8) 
 
 /// Takes a big-endian number of two bytes from the front of an `IoBufs`.
 #[unsafe(no_mangle)]
-#[tactic(auto, using(iobufs_core::specs::CallerFacts::reading))]
+#[tactic(auto, using(iobufs_core::proofs::CallerFacts::reading))]
 pub extern "C" fn iobufs_get_u16(alloc: Global, text: &mut TextAt, out: &mut u16) -> u8
     ensures at { text.new.at ≡ text.old.at }
     ensures read { result ≡ 0 → IsNumberRead (to_be_bytes w16) 2 text.old.value.bytes (Ok out.new) }
@@ -296,7 +296,7 @@ pub extern "C" fn iobufs_get_u16(alloc: Global, text: &mut TextAt, out: &mut u16
 
 /// Takes a big-endian number of four bytes from the front of an `IoBufs`.
 #[unsafe(no_mangle)]
-#[tactic(auto, using(iobufs_core::specs::CallerFacts::reading))]
+#[tactic(auto, using(iobufs_core::proofs::CallerFacts::reading))]
 pub extern "C" fn iobufs_get_u32(alloc: Global, text: &mut TextAt, out: &mut u32) -> u8
     ensures at { text.new.at ≡ text.old.at }
     ensures read { result ≡ 0 → IsNumberRead (to_be_bytes w32) 4 text.old.value.bytes (Ok out.new) }
@@ -316,7 +316,7 @@ pub extern "C" fn iobufs_get_u32(alloc: Global, text: &mut TextAt, out: &mut u32
 
 /// Takes a big-endian number of eight bytes from the front of an `IoBufs`.
 #[unsafe(no_mangle)]
-#[tactic(auto, using(iobufs_core::specs::CallerFacts::reading))]
+#[tactic(auto, using(iobufs_core::proofs::CallerFacts::reading))]
 pub extern "C" fn iobufs_get_u64(alloc: Global, text: &mut TextAt, out: &mut u64) -> u8
     ensures at { text.new.at ≡ text.old.at }
     ensures read { result ≡ 0 → IsNumberRead (to_be_bytes w64) 8 text.old.value.bytes (Ok out.new) }

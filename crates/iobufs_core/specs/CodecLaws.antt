@@ -8,11 +8,10 @@
 use Rattle.std.proofs.Common.{◌≡◌, ℕ, ◌+◌, ◌^◌, ◌<◌, ◌≤◌, true, Ok, List, [], ◌∷◌, ◌++◌, length, take, drop, ap, sym, subst, ◌∙◌, refl, arith, append_assoc, length-append, length-drop}
 use Rattle.std.proofs.Math.Seq.{take-append_seam}
 use Rattle.std.proofs.lemmas.List.{take_at, append_cancel_left, drop-drop, drop_at}
-use Rattle.iobufs_core.specs.CallerFacts.{view_there, bytes-advanced, bytes-rest}
 use Rattle.iobufs_core.specs.Dropping.{Dropping, by_advance, by_copy, dropped, dropped_len}
 use Rattle.iobufs_core.specs.MarkedText.{MarkedText, taken_view, text_advanced, text_rest}
 use Rattle.iobufs_core.specs.Ranges.{in_range}
-use Rattle.iobufs_core.specs.ReadBytes.{bytes-taken_view}
+use Rattle.iobufs_core.specs.ReadBytes.{bytes-advanced, bytes-rest, bytes-taken_view, view_there}
 use Rattle.iobufs_core.specs.ReadLaws.{IsNumberForm}
 use Rattle.iobufs_core.specs.Spelled.{spell_begins}
 use Rattle.iobufs_core.specs.Spelling.{spell}

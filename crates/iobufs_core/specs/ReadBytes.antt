@@ -1,14 +1,17 @@
 -- The rest of a reader after a length and its bytes are read.
 --     bytes-taken_view, length-taken_view    what is taken as one view is these bytes, and as many as were asked for
+--     bytes-rest, bytes-advanced             what a copy or an advance leaves
+--     IsThere, view_there                    a view of n bytes follows its varint length at the front
 --     left_by_copy, rest_by_copy             a value made of the bytes after a length is dropped by one copy of
 --                                            length and bytes
-use Rattle.std.proofs.Common.{◌≡◌, ℕ, ◌+◌, ◌≤◌, List, length, take, drop, arith, ap, ◌∙◌, Result, Ok, Err, IfOk, length-append}
+use Rattle.std.proofs.Common.{◌≡◌, ℕ, ◌+◌, ◌≤◌, List, ◌++◌, length, take, drop, arith, ap, sym, ◌∙◌, Result, Ok, Err, IfOk, append_assoc, length-append, take-append-drop}
 use Rattle.std.proofs.lemmas.Bool.Decides.{nat_tests}
 use Rattle.std.proofs.lemmas.Grind.{common_steps}
-use Rattle.iobufs_core.specs.MarkedText.{MarkedText, taken_view, text_rest}
+use Rattle.std.proofs.lemmas.List.{drop-drop, drop_all}
+use Rattle.iobufs_core.specs.MarkedText.{MarkedText, taken_view, text_advanced, text_rest, text_right}
 use Rattle.iobufs_core.specs.Spelling.{spell}
 use Rattle.iobufs_core.specs.View.{View}
-use Rattle.iobufs_core.specs.Wire.{IsTaken, bytes_written}
+use Rattle.iobufs_core.specs.Wire.{IsTaken, bytes_written, view_written}
 use Rattle.iobufs_core.specs.declared.codec.base.Error.{Error}
 use Rattle.iobufs_core.specs.declared.codec.base.RangeCfg.{RangeCfg}
 
@@ -55,3 +58,39 @@ rest_by_copy bytes_of makes copied marked range old new (Ok value) same copies t
     ap marked taken.left ∙ copies (length (spell taken.n) + taken.n) long
     ∙ ap (text_rest (marked old)) (written_long bytes_of makes copied (marked old) range old new value same taken)
 rest_by_copy bytes_of makes copied marked range old new (Err e) same copies taken = tt
+
+-- a copy of the first n bytes leaves the others
+pub bytes-rest : (text : MarkedText) (n : ℕ) → n ≤ length text.bytes → (text_rest text n).bytes ≡ drop n text.bytes
+unfolding text_right
+bytes-rest text n h = grind (arith, nat_tests, common_steps, drop_all)
+
+-- an advance over the first n bytes leaves the others
+pub bytes-advanced : (text : MarkedText) (n : ℕ) → n ≤ length text.bytes → (text_advanced text n).bytes ≡ drop n text.bytes
+unfolding text_right
+bytes-advanced text n h = grind (arith, nat_tests, common_steps, drop_all)
+
+-- a view with n bytes follows its length before a text
+pub record IsThere (text : MarkedText) (n : ℕ) (view : View) : Type 0 where
+  pub long : length view.bytes ≡ n
+  pub within : length (view_written view) ≤ length text.bytes
+  pub whole : text.bytes ≡ view_written view ++ drop (length (view_written view)) text.bytes
+
+pub view_there : (text : MarkedText) (n : ℕ) (view : View) → take (length (spell n)) text.bytes ≡ spell n → length (spell n) + n ≤ length text.bytes
+    → view ≡ taken_view text (length (spell n)) n
+    → IsThere text n view
+view_there text n view at within is =
+    let k = length (spell n) in
+    let bytes : view.bytes ≡ take n (drop k text.bytes) = ap (λ (v : View). v.bytes) is ∙ bytes-taken_view text k n in
+    let len : length view.bytes ≡ n = ap (λ (v : View). length v.bytes) is ∙ length-taken_view text k n within in
+    let long : length (view_written view) ≡ k + n = length-append (spell (length view.bytes)) view.bytes ∙ ap (λ m. length (spell m) + m) len in
+    let whole : spell n ++ (take n (drop k text.bytes) ++ drop (k + n) text.bytes) ≡ text.bytes =
+    ap (λ xs. spell n ++ (take n (drop k text.bytes) ++ xs)) (sym (drop-drop n k text.bytes))
+    ∙ ap (λ xs. spell n ++ xs) (take-append-drop n (drop k text.bytes)) ∙ ap (λ xs. xs ++ drop k text.bytes) (sym at) ∙ take-append-drop k text.bytes in
+    let front : view_written view ≡ spell n ++ take n (drop k text.bytes) = ap (λ m. spell m ++ view.bytes) len ∙ ap (λ xs. spell n ++ xs) bytes in record {
+      long = len;
+      within = omega (arith, within, long);
+      whole =
+          sym (ap (λ xs. xs ++ drop (length (view_written view)) text.bytes) front
+          ∙ append_assoc (spell n) (take n (drop k text.bytes)) (drop (length (view_written view)) text.bytes)
+          ∙ ap (λ m. spell n ++ (take n (drop k text.bytes) ++ drop m text.bytes)) long ∙ whole);
+    }

@@ -1,9 +1,10 @@
 -- The frames of a text: there is one list of them, and it grows with the text at its end alone.
 use Rattle.std.proofs.Common.{◌≡◌, ◌⊎◌, inl, inr, ℕ, ◌+◌, ◌<◌, Bool, true, false, Option, None, Some, Result, Ok, Err, IfOk, IfSome, OnOk, List, [], ◌∷◌, ◌++◌, length, take, drop, zero, suc, ap, sym, subst, ◌∙◌, refl, arith, append_assoc, length-append, length-drop, length-take, take-append-drop}
 use Rattle.std.proofs.lemmas.List.{append-nil, map-append}
-use Rattle.iobufs_core.specs.CallerFacts.{read_and_left, read_in_range, view_there}
+use Rattle.iobufs_core.proofs.CallerFacts.{read_and_left, read_in_range}
+use Rattle.iobufs_core.specs.ReadBytes.{view_there}
 use Rattle.iobufs_core.specs.Ranges.{in_range}
-use Rattle.iobufs_core.specs.LengthFacts.{less}
+use Rattle.iobufs_core.proofs.LengthFacts.{less}
 use Rattle.iobufs_core.specs.Spelled.{spelled}
 use Rattle.iobufs_core.specs.Spelling.{spell, IsSpelling}
 use Rattle.iobufs_core.specs.View.{View}
@@ -12,10 +13,10 @@ use Rattle.iobufs_core.specs.Wire.{HasView, IsViewRead, view_written}
 use Rattle.iobufs_core.specs.declared.codec.base.Error.{Error}
 use Rattle.iobufs_core.specs.declared.codec.base.Error.TheVariants.{EndOfBuffer, InvalidVarint, InvalidLength, Memory, BadLayout, TooLong}
 use Rattle.iobufs_core.specs.declared.codec.base.RangeCfg.{RangeCfg}
-use Rattle.iobufs.specs.Laws.Joined.{bytes-append}
-use Rattle.iobufs_frames.specs.FrameFacts.{first_is, none_in_front, nothing_is_open, one_end, one_more, stands, stays_bad, written-push}
+use Rattle.iobufs.proofs.Joined.{bytes-append}
+use Rattle.iobufs_frames.proofs.FrameFacts.{first_is, none_in_front, nothing_is_open, one_end, one_more, stands, stays_bad, written-push}
 use Rattle.iobufs_frames.specs.Frames.{AreSameFrames, AreMoved, BeginsWithBytes, CanAllFollow, CanFollow, HasBodyBytes, HasFrames, HaveOneReading, IsBehindLength, IsFirst, IsFramed, IsNext, LacksFrame, all_written, bodies, found_of, frame_written}
-use Rattle.iobufs_frames.specs.PrefixFacts.{form_of, may_be_open, one_front, some_length}
+use Rattle.iobufs_frames.proofs.PrefixFacts.{form_of, may_be_open, one_front, some_length}
 use Rattle.iobufs_frames.specs.Prefixes.{HasNoLengthAt, IsLengthAt, prefix_limit, prefix_written}
 use Rattle.iobufs_frames.specs.declared.End.{End}
 use Rattle.iobufs_frames.specs.declared.End.TheVariants.{Open, Bad}

@@ -1,3 +1,5 @@
+pub mod FrameFacts
 pub mod FrameLaws
 pub mod MarkLaws
+pub mod PrefixFacts
 pub mod PrefixLaws

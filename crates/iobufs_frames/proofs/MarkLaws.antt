@@ -8,7 +8,7 @@ use Rattle.std.proofs.lemmas.List.{map-append, take-append-le, drop-append-le}
 use Rattle.std.proofs.Math.Seq.{drop-append-add}
 use Rattle.std.proofs.lemmas.List.Elements.{filter-append}
 use Rattle.std.proofs.lemmas.List.Sums.{fold-append}
-use Rattle.iobufs_core.specs.LengthFacts.{less}
+use Rattle.iobufs_core.proofs.LengthFacts.{less}
 use Rattle.iobufs_core.specs.MarkedText.{MarkedText, default_text, has_cut_between, joined, key_upto, mark_at, mark_past, moved_down, of_view, taken_view, text_append, text_glue, text_len, text_rest, text_right}
 use Rattle.iobufs_core.specs.View.{Mark, View, default_view, mark_after, native_mark, static_mark, bytes_mark}
 use Rattle.iobufs_frames.specs.Frames.{IsBehindLength, IsTakenApart, frame_written}

@@ -3,14 +3,14 @@ use Rattle.std.proofs.Common.{◌≡◌, ℕ, ◌+◌, ◌-◌, ◌<◌, ◌≤�
 use Rattle.std.proofs.lemmas.Bool.Decides.{nat_tests}
 use Rattle.std.proofs.lemmas.Grind.{common_steps}
 use Rattle.std.proofs.lemmas.List.{append-nil, nil_from_length}
-use Rattle.iobufs_core.specs.CallerFacts.{bytes-rest}
+use Rattle.iobufs_core.specs.ReadBytes.{bytes-rest}
 use Rattle.iobufs_core.specs.MarkedText.{MarkedText, taken_view, text_glue, text_len, text_prepend, text_rest}
 use Rattle.iobufs_core.specs.Ranges.{in_range}
 use Rattle.iobufs_core.specs.ReadBytes.{bytes-taken_view, length-taken_view}
 use Rattle.iobufs_core.specs.View.{View}
 use Rattle.iobufs_core.specs.declared.codec.base.RangeCfg.{RangeCfg}
 use Rattle.iobufs_frames.specs.Frames.{CanFollow, HasBodyBytes, IsBehindLength, frame_written}
-use Rattle.iobufs_frames.specs.PrefixFacts.{form_of, length-there}
+use Rattle.iobufs_frames.proofs.PrefixFacts.{form_of, length-there}
 use Rattle.iobufs_frames.specs.Prefixes.{IsLengthAt, prefix_written, width_size}
 use Rattle.iobufs_frames.specs.declared.lengths.ByteOrder.{ByteOrder}
 use Rattle.iobufs_frames.specs.declared.lengths.Prefix.{Prefix}

@@ -13,8 +13,8 @@ use Rattle.std.proofs.Common.{arith, inl, inr, ap, sym, subst, ◌∙◌, append
 use Rattle.std.proofs.Math.Seq.{take-append_seam, drop-append_seam}
 use Rattle.std.proofs.lemmas.Bool.Decides.{nat_tests}
 use Rattle.std.proofs.lemmas.List.{take-append-le}
-use Rattle.iobufs_core.specs.CallerFacts.{bytes-view_between, length-bytes_written, read_and_left, read_at_most, read_in_range}
-use Rattle.iobufs_core.specs.LengthFacts.{no_length_later, spelled_later, still_closed}
+use Rattle.iobufs_core.proofs.CallerFacts.{bytes-view_between, length-bytes_written, read_and_left, read_at_most, read_in_range}
+use Rattle.iobufs_core.proofs.LengthFacts.{no_length_later, spelled_later, still_closed}
 use Rattle.iobufs_core.specs.MarkedText.{MarkedText, text_rest}
 use Rattle.iobufs_core.specs.View.{View, view_slice}
 use Rattle.iobufs_core.specs.Wire.{IsViewRead, bytes_written, view_written}

@@ -7,7 +7,7 @@ use Rattle.std.proofs.Common.{append-nil, arith, inl, inr, ap, sym, subst, â—Œâˆ
 use Rattle.std.proofs.Math.Seq.{take-append_seam}
 use Rattle.std.proofs.lemmas.Bool.Decides.{nat_tests}
 use Rattle.std.proofs.lemmas.List.{append_cancel_left}
-use Rattle.iobufs_core.specs.CallerFacts.{one_front, written_read_back}
+use Rattle.iobufs_core.proofs.CallerFacts.{one_front, written_read_back}
 use Rattle.iobufs_core.specs.MarkedText.{MarkedText}
 use Rattle.iobufs_core.specs.Ranges.{in_range}
 use Rattle.iobufs_core.specs.ReadLaws.{not_both}

@@ -6,8 +6,8 @@ use Rattle.std.proofs.Common.{append-nil, arith, inl, inr, ap, sym, subst, â—Œâˆ
 use Rattle.std.proofs.lemmas.Bool.Decides.{nat_tests}
 use Rattle.std.proofs.Math.Seq.{take-append-add, take-nil}
 use Rattle.std.proofs.lemmas.List.{length-drop, take-append-le}
-use Rattle.iobufs_core.specs.CallerFacts.{one_front}
-use Rattle.iobufs_core.specs.LengthFacts.{has_length, less, opened}
+use Rattle.iobufs_core.proofs.CallerFacts.{one_front}
+use Rattle.iobufs_core.proofs.LengthFacts.{has_length, less, opened}
 use Rattle.iobufs_core.specs.Ranges.{in_range}
 use Rattle.iobufs_core.specs.Spelling.{spell, IsSpelledAt}
 use Rattle.iobufs_core.specs.Wire.{bytes_written}

@@ -71,7 +71,7 @@ impl fmt::Display for Ending {
 }
 
 /// Puts a record.
-#[tactic(auto, using(iobufs_core::specs::CallerFacts::writing))]
+#[tactic(auto, using(iobufs_core::proofs::CallerFacts::writing))]
 pub fn put_record(out: &mut IoBufMut, number: u64, body: &[u8])
     requires { length body.now + 22 ≤ out.old.spare }
     ensures { out.new ≡ part_put out.old (record_written number body.now) }

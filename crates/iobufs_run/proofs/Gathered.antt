@@ -3,7 +3,7 @@ use Rattle.std.proofs.Common.{Bool, ◌≡◌, ℕ, zero, suc, ◌+◌, ◌<◌,
 use Rattle.std.specs.Prelude.{slice_set, slice_index_or, ◌==◌, sum_by}
 use Rattle.std.specs.List.{list_all}
 use Rattle.std.proofs.lemmas.List.{get_or_default, take_more, map-append}
-use Rattle.iobufs.specs.Laws.Joined.{length-joined}
+use Rattle.iobufs.proofs.Joined.{length-joined}
 use Rattle.iobufs.specs.Inside.Pieces.{pieces_bytes}
 use Rattle.std.proofs.lemmas.Bool.{or_parts, or_from, and_parts}
 use Rattle.std.proofs.lemmas.Bool.Decides.{nat_tests}

@@ -3,5 +3,4 @@ pub mod Choices
 pub mod Printed
 pub mod Refusals
 pub mod Run
-pub mod RunLaws
 pub mod Slots

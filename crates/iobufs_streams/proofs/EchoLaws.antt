@@ -4,11 +4,12 @@ use Rattle.std.specs.Io.KnownBytes.{Appends, Keeps}
 use Rattle.std.proofs.Common.{ap, sym, subst, ◌∙◌, refl, append_assoc}
 use Rattle.std.proofs.lemmas.List.{append-nil}
 use Rattle.std.proofs.KnownBytes.{Appends-nil, Appends-trans}
-use Rattle.iobufs.specs.CallerFacts.{IsSent, sent_all, sent_kept, sent_nothing, sent_on}
+use Rattle.iobufs.proofs.CallerFacts.{sent_all, sent_kept, sent_nothing, sent_on}
+use Rattle.iobufs.specs.Sending.{IsSent}
 use Rattle.iobufs_core.specs.View.{View}
 use Rattle.iobufs_core.specs.declared.codec.base.RangeCfg.{RangeCfg}
 use Rattle.iobufs_frames.specs.Frames.{CanAllFollow, CanFollow, IsFramed, all_written, frame_written}
-use Rattle.iobufs_frames.specs.FrameFacts.{first_is, none_in_front, nothing_is_open, one_more, written-append, written-push}
+use Rattle.iobufs_frames.proofs.FrameFacts.{first_is, none_in_front, nothing_is_open, one_more, written-append, written-push}
 use Rattle.iobufs_frames.specs.declared.End.{End}
 use Rattle.iobufs_frames.specs.declared.End.TheVariants.{Open}
 use Rattle.iobufs_frames.specs.declared.lengths.Prefix.{Prefix}

@@ -6,7 +6,7 @@ use Rattle.std.proofs.lemmas.Bool.Decides.{nat_tests}
 use Rattle.std.proofs.lemmas.List.{nil_from_length}
 use Rattle.iobufs_core.specs.View.{View}
 use Rattle.iobufs_core.specs.declared.codec.base.RangeCfg.{RangeCfg}
-use Rattle.iobufs_frames.specs.FrameFacts.{first_is, none_in_front, nothing_is_open, stands, stays_bad}
+use Rattle.iobufs_frames.proofs.FrameFacts.{first_is, none_in_front, nothing_is_open, stands, stays_bad}
 use Rattle.iobufs_frames.specs.Frames.{IsFramed, LacksFrame, all_written, frame_written}
 use Rattle.iobufs_frames.specs.declared.End.{End}
 use Rattle.iobufs_frames.specs.declared.End.TheVariants as end

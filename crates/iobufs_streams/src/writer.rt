@@ -5,7 +5,7 @@ ghost use Rattle.std.specs.declared.io.ErrorKind.TheVariants.{Interrupted, OutOf
 ghost use Rattle.std.specs.Io.KnownBytes.{Appends, WriteAppends};
 ghost use Rattle.std.specs.Io.{WritesAtMost};
 ghost use Rattle.std.specs.Io.Slices.{io_slice_bytes, io_slices_bytes};
-ghost use Rattle.iobufs.specs.CallerFacts.{IsSent};
+ghost use Rattle.iobufs.specs.Sending.{IsSent};
 ghost use Rattle.iobufs_core.specs.MarkedText.{text_chunks};
 ghost use Rattle.iobufs_core.specs.Wire.{bytes_written};
 ghost use Rattle.iobufs_frames.specs.Frames.{frame_written};
@@ -62,7 +62,7 @@ fn write_again<W: Write>(to: &mut W, slices: &[IoSlice<'_>]) -> io::Result<usize
 }
 
 // Writes the first chunks, and returns how many bytes the writer took.
-#[tactic(auto, using(iobufs::specs::CallerFacts::sending))]
+#[tactic(auto, using(iobufs::proofs::CallerFacts::sending))]
 fn write_batch<W: Write>(alloc: Global, to: &mut W, text: &IoBufs) -> io::Result<usize>
     ensures within { IfOk result (λ n. n ≤ length text.now.bytes) }
     ensures bytes { WriteAppends (W.contents to.old) (W.contents to.new) result text.now.bytes }
@@ -73,7 +73,7 @@ fn write_batch<W: Write>(alloc: Global, to: &mut W, text: &IoBufs) -> io::Result
 }
 
 // Writes the first chunks, and drops from the front what was taken.
-#[tactic(auto, using(iobufs::specs::CallerFacts::sending))]
+#[tactic(auto, using(iobufs::proofs::CallerFacts::sending))]
 fn send_batch<W: Write>(alloc: Global, to: &mut W, text: &mut IoBufs) -> io::Result<usize>
     ensures sent { IsSent (W.contents to.old) (W.contents to.new) text.old.bytes text.new.bytes }
     ensures unchanged { OnErr result (text.new ≡ text.old) }
@@ -148,7 +148,7 @@ impl<W: Write + Drop> FrameWriter<W> {
     /// Sends the rest of the frame, in as many writes as the writer needs. After an error no byte is lost or sent
     /// twice: the rest is in `rest`, and `send` may be called again. An error is the writer's (never
     /// `ErrorKind::Interrupted`), `ErrorKind::WriteZero` if it takes none, or `ErrorKind::OutOfMemory`.
-    #[tactic(auto, using(iobufs::specs::CallerFacts::sending))]
+    #[tactic(auto, using(iobufs::proofs::CallerFacts::sending))]
     pub fn send(&mut self, alloc: Global) -> io::Result<()>
         ensures sent { IsSent (W.contents self.old.to) (W.contents self.new.to) self.old.rest.bytes self.new.rest.bytes }
         ensures prefix { self.new.prefix ≡ self.old.prefix }

@@ -1,6 +1,6 @@
 // Frames: a length followed by a body, in order.
 ghost use Rattle.std.specs.Prelude.{◌≡◌, ◌^◌, ◌<◌, ◌≤◌, ◌++◌, List, ℕ, length, IfOk, IsOkUnless, OnErr};
-ghost use Rattle.iobufs_core.specs.CallerFacts.{AreReadBack};
+ghost use Rattle.iobufs_core.specs.ReadBack.{AreReadBack};
 ghost use Rattle.iobufs_core.specs.Wire.{bytes_written};
 
 use iobufs::bufs::IoBufs;
@@ -11,7 +11,7 @@ use std::alloc::Global;
 
 // [docs: frame]
 /// Encodes a body as a frame that shares its bytes.
-#[tactic(auto, using(iobufs_core::specs::CallerFacts::writing))]
+#[tactic(auto, using(iobufs_core::proofs::CallerFacts::writing))]
 pub fn frame(alloc: Global, body: &IoBuf) -> Result<IoBufs, Error>
     ensures bytes { IfOk result (λ text. text.bytes ≡ bytes_written body.now.bytes) }
     ensures memory { length body.now.bytes < 2 ^ 63 → IsOkUnless result Error.Memory }
@@ -22,7 +22,7 @@ pub fn frame(alloc: Global, body: &IoBuf) -> Result<IoBufs, Error>
 
 // [docs: read_frame]
 /// Takes a frame's body of at most `most` bytes from the front. If it fails, `text` is unchanged.
-#[tactic(auto, using(iobufs_core::specs::CallerFacts::reading))]
+#[tactic(auto, using(iobufs_core::proofs::CallerFacts::reading))]
 pub fn read_frame(alloc: Global, text: &mut IoBufs, most: usize) -> Result<IoBuf, Error>
     ensures framed { IfOk result (λ body. text.old.bytes ≡ bytes_written body.bytes ++ text.new.bytes) }
     ensures short { IfOk result (λ body. length body.bytes ≤ most) }

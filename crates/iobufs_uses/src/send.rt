@@ -3,7 +3,7 @@ ghost use Rattle.std.specs.Prelude.{◌≡◌, ◌+◌, ◌<◌, ◌≤◌, [], 
 ghost use Rattle.std.specs.Io.{WritesAtMost};
 ghost use Rattle.std.specs.Io.KnownBytes.{Appends, WriteAppends};
 ghost use Rattle.std.specs.Io.Slices.{io_slice_bytes};
-ghost use Rattle.iobufs.specs.CallerFacts.{IsSent};
+ghost use Rattle.iobufs.specs.Sending.{IsSent};
 ghost use Rattle.iobufs_core.specs.MarkedText.{text_chunks};
 ghost use Rattle.iobufs_uses.specs.Send.{first_chunks};
 
@@ -27,7 +27,7 @@ fn batch(alloc: Global, text: &IoBufs, most: usize) -> io::Result<Vec<IoSlice<'_
 }
 
 // Hands one batch to the writer, and says how many bytes it took.
-#[tactic(auto, using(iobufs::specs::CallerFacts::sending))]
+#[tactic(auto, using(iobufs::proofs::CallerFacts::sending))]
 fn write_batch<W: Write>(alloc: Global, to: &mut W, text: &IoBufs, most: usize) -> io::Result<usize>
     ensures within { IfOk result (λ n. n ≤ length text.now.bytes) }
     ensures batch { WritesAtMost result (first_chunks text.now most) }
@@ -38,7 +38,7 @@ fn write_batch<W: Write>(alloc: Global, to: &mut W, text: &IoBufs, most: usize) 
 }
 
 // Writes one batch, and drops from the front what was taken.
-#[tactic(auto, using(iobufs::specs::CallerFacts::sending))]
+#[tactic(auto, using(iobufs::proofs::CallerFacts::sending))]
 fn send_batch<W: Write>(
     alloc: Global,
     to: &mut W,
@@ -58,7 +58,7 @@ fn send_batch<W: Write>(
 /// Hands the chunks of a text to a writer, at most `most` of them at a time, until none is left. The bytes that the
 /// writer took are dropped from the text, whatever the result: it may be called again. An error is the writer's, or
 /// `ErrorKind::WriteZero` where it takes none, or `ErrorKind::OutOfMemory`, and leaves at least a byte.
-#[tactic(auto, using(iobufs::specs::CallerFacts::sending))]
+#[tactic(auto, using(iobufs::proofs::CallerFacts::sending))]
 pub fn send<W: Write>(alloc: Global, to: &mut W, text: &mut IoBufs, most: usize) -> io::Result<()>
     ensures sent { IsSent (W.contents to.old) (W.contents to.new) text.old.bytes text.new.bytes }
     ensures all { OnOk result (text.new.bytes ≡ []) }

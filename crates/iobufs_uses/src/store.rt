@@ -1,7 +1,7 @@
 // Parts that are filled by a reader.
 ghost use Rattle.std.specs.Prelude.{◌≡◌, ◌⊎◌, ℕ, ◌+◌, ◌<◌, ◌≤◌, List, length, IfOk, IsOk, OnErr, OnOk};
 ghost use Rattle.std.specs.Io.KnownBytes.{Consumes, IsAtEnd};
-ghost use Rattle.iobufs.specs.CallerFacts.{IsStored};
+ghost use Rattle.iobufs.specs.Sending.{IsStored};
 ghost use Rattle.iobufs.specs.Parts.{parts_capacity, parts_spare};
 
 use iobufs::bufs::IoBufs;
@@ -12,7 +12,7 @@ use std::io::{self, ErrorKind, Read};
 
 // [docs: fill_once]
 // Reads once into the spare capacity of the buffers, and returns how many bytes came.
-#[tactic(auto, using(iobufs::specs::CallerFacts::storing))]
+#[tactic(auto, using(iobufs::proofs::CallerFacts::storing))]
 fn fill_once<R: Read>(from: &mut R, parts: &mut IoBufsMut) -> io::Result<usize>
     ensures stored { IsStored (R.remaining from.old) (R.remaining from.new) parts.old parts.new }
     ensures room { IfOk result (λ n. parts_spare parts.old ≡ n + parts_spare parts.new) }
@@ -34,7 +34,7 @@ fn fill_once<R: Read>(from: &mut R, parts: &mut IoBufsMut) -> io::Result<usize>
 /// Reads into the spare capacity of the buffers until it is full, or the reader has no more. The buffers hold all bytes
 /// that were read, whatever the result: it may be called again. An error is the reader's, and comes only while there is
 /// spare capacity.
-#[tactic(auto, using(iobufs::specs::CallerFacts::storing))]
+#[tactic(auto, using(iobufs::proofs::CallerFacts::storing))]
 pub fn fill<R: Read>(from: &mut R, parts: &mut IoBufsMut) -> io::Result<()>
     ensures stored { IsStored (R.remaining from.old) (R.remaining from.new) parts.old parts.new }
     ensures left { OnErr result (0 < parts_spare parts.new) }
@@ -46,7 +46,7 @@ pub fn fill<R: Read>(from: &mut R, parts: &mut IoBufsMut) -> io::Result<()>
 
 /// Fills the parts with what a reader has, from their first byte on, and freezes them: until they are full, or the
 /// reader has no more. Where that is refused, the bytes that were read are lost, at most as many as the parts hold.
-#[tactic(auto, using(iobufs::specs::CallerFacts::storing))]
+#[tactic(auto, using(iobufs::proofs::CallerFacts::storing))]
 pub fn store<R: Read>(alloc: Global, from: &mut R, mut parts: IoBufsMut) -> io::Result<IoBufs>
     ensures bytes { IfOk result (λ text. Consumes (R.remaining from.old) (R.remaining from.new) text.bytes) }
     ensures done { IfOk result (λ text. (length text.bytes ≡ parts_capacity parts) ⊎ IsAtEnd (R.remaining from.new)) }

@@ -4,7 +4,7 @@ use Rattle.std.proofs.Common.{subst}
 use Rattle.std.proofs.lemmas.Bool.Decides.{nat_tests}
 use Rattle.std.proofs.lemmas.Grind.{common_steps}
 use Rattle.std.proofs.lemmas.List.{drop-drop, length-replicate, take-append-le, drop-append-le, drop_all}
-use Rattle.iobufs_core.specs.LayoutLaws.{good_layout, large_layout}
+use Rattle.iobufs_core.proofs.LayoutLaws.{good_layout, large_layout}
 use Rattle.iobufs_core.specs.View.{View, view_of_bytes}
 use Rattle.iobufs_core.specs.Items.{PutOrPush, push_item, items_inline, items_pushed}
 use Rattle.iobufs_core.specs.Part.{Part, empty_part, part_put, part_capacity}

@@ -12,7 +12,7 @@ use Rattle.iobufs.specs.Building.{Building, building_bytes, building_items, buil
 use Rattle.iobufs.specs.Laws.Building.{bytes-built, items_bytes-append, push-none, put_nothing, run-bytes}
 use Rattle.iobufs.specs.Inside.Pieces.{pieces_bytes}
 use Rattle.iobufs.proofs.Text.Sides.{not_zero}
-use Rattle.iobufs.specs.Laws.Joined.{bytes-joined}
+use Rattle.iobufs.proofs.Joined.{bytes-joined}
 use Rattle.iobufs.specs.Inside.Gaps.{AreSegments, filled, gaps_len}
 use Rattle.iobufs.specs.Inside.Pushes.{items_front, building_from}
 use Rattle.iobufs.specs.Inside.RowValues.{Segment, gap, standing}

@@ -1,7 +1,7 @@
 -- The buffer that several coalesce to, and bytes that are put into a buffer of exactly their length.
 use Rattle.std.proofs.Common.{◌≡◌, ℕ, None, List, [], ◌∷◌, length, refl, sym, arith}
 use Rattle.std.proofs.lemmas.Option.{none-some}
-use Rattle.iobufs_core.specs.LayoutLaws.{bad_layout_one}
+use Rattle.iobufs_core.proofs.LayoutLaws.{bad_layout_one}
 use Rattle.iobufs_core.specs.Part.{Part, empty_part, part_put}
 use Rattle.iobufs.specs.Laws.Filling.{same_part}
 use Rattle.iobufs.specs.Parts.{parts_coalesced, parts_filled, single_part}

@@ -10,7 +10,7 @@ use Rattle.iobufs_core.specs.declared.codec.base.BufError.{BufError}
 use Rattle.iobufs_core.specs.declared.codec.base.BufError.TheVariants.{Memory, TooLong}
 use Rattle.iobufs.specs.Refusals.{IsRefusedAt}
 use Rattle.iobufs.proofs.Text.Sides.{is_lt, not_lt}
-use Rattle.iobufs.specs.Laws.Joined.{bytes-append}
+use Rattle.iobufs.proofs.Joined.{bytes-append}
 use Rattle.iobufs.proofs.Text.JoinLaws.{joined-push}
 
 abbrev pub run_to_end : {S A : Type 0} (steps : S → Option A → S → Type 0) (s : S) (xs : List A) {t u : S} → Yields steps s xs t → steps t None u → Run steps

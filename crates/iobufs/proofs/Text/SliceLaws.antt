@@ -6,7 +6,7 @@ use Rattle.std.proofs.lemmas.Grind.{common_steps}
 use Rattle.std.proofs.lemmas.List.{get_or-drop, take_more}
 use Rattle.std.proofs.lemmas.List.Concat.{flat_map-append}
 use Rattle.std.proofs.Math.Seq.{take-add, drop-cons}
-use Rattle.iobufs_core.specs.CallerFacts.{bytes-rest}
+use Rattle.iobufs_core.specs.ReadBytes.{bytes-rest}
 use Rattle.iobufs_core.specs.View.{View, default_view, mark_after, static_mark, view_advanced}
 use Rattle.iobufs_core.specs.Chunks.{first_chunk}
 use Rattle.iobufs_core.specs.MarkedText.{MarkedText, taken_view, text_chunks, text_len, text_rest, text_split_front}

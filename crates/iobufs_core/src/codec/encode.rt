@@ -9,7 +9,7 @@ use std::alloc::Global;
 pub trait Encode: Write {
     /// Encodes into one buffer of exactly the value's size (`Encode::encode`). Fails with `Error::TooLong` if
     /// `encode_size` is `None`, then with `Error::BadLayout` above `isize::MAX` bytes.
-    #[tactic(auto, using(crate::specs::LayoutLaws::good_layout, crate::specs::LayoutLaws::large_layout))]
+    #[tactic(auto, using(crate::proofs::LayoutLaws::good_layout, crate::proofs::LayoutLaws::large_layout))]
     final fn encode(&self, alloc: Global) -> Result<IoBufMut, Error>
     where
         Self: Sized,

@@ -1,4 +1,4 @@
-use Rattle.iobufs_frames.specs.FrameFacts.{begins_open, stays_bad}
+use Rattle.iobufs_frames.proofs.FrameFacts.{begins_open, stays_bad}
 use Rattle.iobufs_frames.proofs.FrameLaws.{framed, one_reading}
 use Rattle.iobufs_frames.proofs.laws.frames_law.Goals as goal
 

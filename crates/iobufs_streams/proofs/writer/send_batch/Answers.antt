@@ -1,4 +1,4 @@
-use Rattle.iobufs.specs.CallerFacts.{length-advanced}
+use Rattle.iobufs.proofs.CallerFacts.{length-advanced}
 use Rattle.iobufs_streams.proofs.writer.send_batch.Goals as goal
 
 pub returns-clause-count : goal.returns-clause-count

@@ -1,6 +1,6 @@
 use Rattle.std.proofs.Common.{ap, map, ◌∙◌}
 use Rattle.std.specs.Io.Slices.{io_slice_bytes}
-use Rattle.iobufs.specs.CallerFacts.{written_front, written_within}
+use Rattle.iobufs.proofs.CallerFacts.{written_front, written_within}
 use Rattle.iobufs_streams.proofs.writer.write_batch.Goals as goal
 
 pub returns-clause-within : goal.returns-clause-within

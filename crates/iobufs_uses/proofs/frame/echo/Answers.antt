@@ -1,5 +1,5 @@
 use Rattle.std.proofs.Common.{[], ◌∙◌, sym, append-nil, arith}
-use Rattle.iobufs_core.specs.CallerFacts.{read_back_is, read_back_unless}
+use Rattle.iobufs_core.proofs.CallerFacts.{read_back_is, read_back_unless}
 use Rattle.iobufs_core.specs.Wire.{bytes_written}
 use Rattle.iobufs_uses.proofs.frame.echo.Goals as goal
 

@@ -1,6 +1,6 @@
 use Rattle.std.proofs.Common.{◌≡◌, ℕ, ◌≤◌, arith, true}
 use Rattle.std.proofs.lemmas.Bool.Decides.{nat_tests}
-use Rattle.iobufs_core.specs.CallerFacts.{read_and_left, written_read_back}
+use Rattle.iobufs_core.proofs.CallerFacts.{read_and_left, written_read_back}
 use Rattle.iobufs_core.specs.Ranges.{in_range}
 use Rattle.iobufs_uses.proofs.frame.read_frame.Goals as goal
 

@@ -1,7 +1,7 @@
 use Rattle.std.proofs.Common.{ap, map, ◌∙◌, ℕ, List, subst}
 use Rattle.std.specs.Io.{WritesAtMost}
 use Rattle.std.specs.Io.Slices.{io_slice_bytes}
-use Rattle.iobufs.specs.CallerFacts.{batch_bytes, written_front, written_within}
+use Rattle.iobufs.proofs.CallerFacts.{batch_bytes, written_front, written_within}
 use Rattle.iobufs_uses.proofs.send.write_batch.Goals as goal
 
 pub returns-clause-within : goal.returns-clause-within

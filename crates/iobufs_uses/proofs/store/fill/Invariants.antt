@@ -1,4 +1,4 @@
-use Rattle.iobufs.specs.CallerFacts.{IsStored}
+use Rattle.iobufs.specs.Sending.{IsStored}
 use Rattle.iobufs.specs.Parts.{parts_spare}
 use Rattle.iobufs_uses.proofs.store.fill.Given as goal
 

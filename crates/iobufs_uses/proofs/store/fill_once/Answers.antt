@@ -1,4 +1,4 @@
-use Rattle.iobufs.specs.CallerFacts.{room_less}
+use Rattle.iobufs.proofs.CallerFacts.{room_less}
 use Rattle.iobufs_uses.proofs.store.fill_once.Goals as goal
 
 pub returns-clause-room : goal.returns-clause-room

@@ -1,4 +1,4 @@
-use Rattle.iobufs.specs.CallerFacts.{stored_done, stored_none}
+use Rattle.iobufs.proofs.CallerFacts.{stored_done, stored_none}
 use Rattle.iobufs_uses.proofs.store.store.Goals as goal
 
 pub returns-clause-done : goal.returns-clause-done

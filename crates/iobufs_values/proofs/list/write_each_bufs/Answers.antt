@@ -1,6 +1,6 @@
 use Rattle.std.proofs.Common.{◌≡◌, ◌⊎◌, inl, inr, ◌++◌, ◌<◌, drop, suc, take, ap, arith, sym, subst, ◌∙◌}
 use Rattle.std.specs.List.{flat_map}
-use Rattle.iobufs_core.specs.CallerFacts.{begun_behind, on_err_always}
+use Rattle.iobufs_core.proofs.CallerFacts.{begun_behind, on_err_always}
 use Rattle.iobufs_core.specs.Items.{IsBegun, items_inline, items_pushed}
 use Rattle.iobufs_core.specs.SeveralLaws.{inline_append, pushed_append}
 use Rattle.iobufs_values.specs.Listed.{joins_each}

@@ -1,7 +1,7 @@
 use Rattle.std.proofs.Common.{◌≡◌, ◌+◌, ◌<◌, List, ℕ, ◌∙◌, length, arith, ap, sym}
 use Rattle.std.proofs.lemmas.Bool.Decides.{nat_tests}
 use Rattle.iobufs_core.specs.MarkedText.{chunk_count, text_len}
-use Rattle.iobufs_core.specs.Chunked.{length-text_chunks}
+use Rattle.iobufs_core.proofs.Chunked.{length-text_chunks}
 use Rattle.iobufs.proofs.Text.ChunkLaws.{chunks-of_empty}
 use Rattle.iobufs.proofs.Text.TextLaws.{count-pieces, length-kept}
 use Rattle.iobufs.proofs.bufs.IoBufs.chunk_count.Goals as goal

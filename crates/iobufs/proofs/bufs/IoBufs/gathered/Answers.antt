@@ -1,5 +1,5 @@
 use Rattle.std.proofs.Common.{◌≡◌, ◌-◌, ap, ◌∙◌, sym, arith, length, take_all}
-use Rattle.iobufs_core.specs.LayoutLaws.{good_layout}
+use Rattle.iobufs_core.proofs.LayoutLaws.{good_layout}
 use Rattle.iobufs_core.specs.MarkedText.{of_view}
 use Rattle.iobufs_core.specs.Part.{Part, part_frozen, part_put}
 use Rattle.iobufs.specs.Inside.Pieces.{pieces_bytes}

@@ -1,6 +1,6 @@
 use Rattle.std.proofs.Common.{◌≡◌, ◌∙◌, arith, ap, sym, Some}
 use Rattle.std.specs.Prelude.{slice_get, drop}
-use Rattle.iobufs_core.specs.Behind.{first_behind}
+use Rattle.iobufs_core.proofs.Behind.{first_behind}
 use Rattle.iobufs_core.proofs.Reading.{one_byte, nothing_open, end_from_none}
 use Rattle.iobufs_core.proofs.codec.length.length_at.Goals as goal
 

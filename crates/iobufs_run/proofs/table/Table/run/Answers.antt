@@ -1,7 +1,7 @@
 use Rattle.std.proofs.Common.{arith, ◌≡◌, ◌++◌, [], ◌∷◌}
 use Rattle.std.proofs.lemmas.List.{take_more}
 use Rattle.std.proofs.lemmas.Grind.{common_steps}
-use Rattle.iobufs_run.specs.RunLaws.{run_more}
+use Rattle.iobufs_run.proofs.RunLaws.{run_more}
 use Rattle.iobufs_run.proofs.table.Table.run.Goals as goal
 
 pub loop-cmd-preserved : goal.loop-cmd-preserved

@@ -1,5 +1,5 @@
 use Rattle.std.proofs.Common.{◌≡◌, length}
-use Rattle.iobufs.specs.CallerFacts.{IsSent}
+use Rattle.iobufs.specs.Sending.{IsSent}
 use Rattle.iobufs_streams.proofs.writer.FrameWriter.send.Given as goal
 
 abbrev pub invariant-loop-alloc : goal.invariant-loop-alloc

@@ -1,7 +1,7 @@
 use Rattle.std.proofs.Common.{◌-◌, ap, ◌∙◌, arith, drop, take, length, length-append, length-take-le, min, refl}
 use Rattle.iobufs_core.specs.View.{View}
 use Rattle.iobufs_core.specs.Part.{Part}
-use Rattle.iobufs_core.specs.LayoutLaws.{good_layout}
+use Rattle.iobufs_core.proofs.LayoutLaws.{good_layout}
 use Rattle.iobufs.proofs.Text.CopyLaws.{only-cause, copied-step, slice_from}
 use Rattle.iobufs.proofs.bufs.pieces.Pieces.copied.Goals as goal
 

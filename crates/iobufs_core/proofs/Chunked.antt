@@ -20,6 +20,7 @@ length-cut_up bytes key mark (cut ∷ cuts) end (is, others) some long =
     full_one (take (cut.0 - key) bytes) (cut_up (drop (cut.0 - key) bytes) cut.0 cuts) (omega (arith, first, is.rises))
     ∙ ap suc (length-cut_up (drop (cut.0 - key) bytes) cut.0 cut.1 cuts end others is.below rest)
 
+-- there is one chunk more than cuts, unless there are no bytes
 pub length-text_chunks : (text : MarkedText) → IsMarked text → 0 < text_len text → length (text_chunks text) ≡ length text.cuts + 1
 unfolding text_chunks
 length-text_chunks text marked some =

@@ -16,8 +16,10 @@ bad_layout_one n =
     let same : next_multiple_of n 1 ≡ n = omega arith in
     rw same (grind (arith, nat_tests))
 
+-- fewer than 2 ^ 63 bytes have a layout
 pub good_layout : (n : ℕ) → n < 2 ^ 63 → is_bad_layout n 1 ≡ false
 good_layout n fits = rw (bad_layout_one n) (grind (arith, nat_tests))
 
+-- 2 ^ 63 bytes or more have none
 pub large_layout : (n : ℕ) → 2 ^ 63 ≤ n → IsTrue (is_bad_layout n 1)
 large_layout n large = rw (bad_layout_one n) (grind (arith, nat_tests))

@@ -4,11 +4,7 @@
 --                                    split
 --     writing                        how long what is written is, and how many of its bytes are inline
 --     several_writes                 several writes in order, and an error in their middle
---     IsThere                        a view of n bytes follows its varint length at the front
---     AreReadBack                    bytes that were written are read back and what followed them is left, or an
---                                    allocation failed
---     view_there, one_front          where a view is; two inputs that begin with a body each, and are equal, have the
---                                    same body
+--     one_front                      two inputs that begin with a body each, and are equal, have the same body
 --     read_in_range, read_at_most    the length of what was read is in the range, and no more than its end
 --     the rest                       what the rulesets cite
 use Rattle.std.specs.Prelude.{◌≡◌, ℕ, ◌+◌, ◌^◌, ◌<◌, ◌≤◌, true, Result, Ok, Err, IfOk, IsOkUnless, OnErr, List, [], ◌∷◌, ◌++◌, length, take, drop}
@@ -18,11 +14,12 @@ use Rattle.std.proofs.lemmas.Bool.Decides.{nat_tests}
 use Rattle.std.proofs.lemmas.Grind.{common_steps}
 use Rattle.std.proofs.lemmas.List.{drop-drop, drop_all, append_cancel_left, nil_from_length, take_all}
 use Rattle.iobufs_core.specs.Items.{PutOrPush, put_item, push_item, items_bytes, items_inline, IsBegun}
-use Rattle.iobufs_core.specs.LayoutLaws.{good_layout}
+use Rattle.iobufs_core.proofs.LayoutLaws.{good_layout}
 use Rattle.iobufs_core.specs.MarkedText.{MarkedText, taken_view, text_advanced, text_left, text_rest, text_right, text_split_front}
 use Rattle.iobufs_core.specs.Part.{Part, part_frozen}
 use Rattle.iobufs_core.specs.Ranges.{in_range}
-use Rattle.iobufs_core.specs.ReadBytes.{bytes-taken_view, length-taken_view}
+use Rattle.iobufs_core.specs.ReadBack.{AreReadBack}
+use Rattle.iobufs_core.specs.ReadBytes.{IsThere, bytes-advanced, bytes-rest, view_there}
 use Rattle.iobufs_core.specs.ReadLaws.{number_fault, view_back}
 use Rattle.iobufs_core.specs.Spelled.{length-spell, spell_begins}
 use Rattle.iobufs_core.specs.Spelling.{spell}
@@ -35,46 +32,10 @@ use Rattle.iobufs_core.specs.declared.codec.base.RangeCfg.{RangeCfg}
 
 -- ---- reading
 
--- a copy of the first n bytes leaves the others
-pub bytes-rest : (text : MarkedText) (n : ℕ) → n ≤ length text.bytes → (text_rest text n).bytes ≡ drop n text.bytes
-unfolding text_right
-bytes-rest text n h = grind (arith, nat_tests, common_steps, drop_all)
-
--- an advance over the first n bytes leaves the others
-pub bytes-advanced : (text : MarkedText) (n : ℕ) → n ≤ length text.bytes → (text_advanced text n).bytes ≡ drop n text.bytes
-unfolding text_right
-bytes-advanced text n h = grind (arith, nat_tests, common_steps, drop_all)
-
 -- the front that a split answers
 pub bytes-split_front : (text : MarkedText) (at : ℕ) → at ≤ length text.bytes → (text_split_front text at).bytes ≡ take at text.bytes
 unfolding text_left
 bytes-split_front text at h = grind (arith, nat_tests, common_steps, take_all)
-
--- a view with n bytes follows its length before a text
-pub record IsThere (text : MarkedText) (n : ℕ) (view : View) : Type 0 where
-  pub long : length view.bytes ≡ n
-  pub within : length (view_written view) ≤ length text.bytes
-  pub whole : text.bytes ≡ view_written view ++ drop (length (view_written view)) text.bytes
-
-pub view_there : (text : MarkedText) (n : ℕ) (view : View) → take (length (spell n)) text.bytes ≡ spell n → length (spell n) + n ≤ length text.bytes
-    → view ≡ taken_view text (length (spell n)) n
-    → IsThere text n view
-view_there text n view at within is =
-    let k = length (spell n) in
-    let bytes : view.bytes ≡ take n (drop k text.bytes) = ap (λ (v : View). v.bytes) is ∙ bytes-taken_view text k n in
-    let len : length view.bytes ≡ n = ap (λ (v : View). length v.bytes) is ∙ length-taken_view text k n within in
-    let long : length (view_written view) ≡ k + n = length-append (spell (length view.bytes)) view.bytes ∙ ap (λ m. length (spell m) + m) len in
-    let whole : spell n ++ (take n (drop k text.bytes) ++ drop (k + n) text.bytes) ≡ text.bytes =
-    ap (λ xs. spell n ++ (take n (drop k text.bytes) ++ xs)) (sym (drop-drop n k text.bytes))
-    ∙ ap (λ xs. spell n ++ xs) (take-append-drop n (drop k text.bytes)) ∙ ap (λ xs. xs ++ drop k text.bytes) (sym at) ∙ take-append-drop k text.bytes in
-    let front : view_written view ≡ spell n ++ take n (drop k text.bytes) = ap (λ m. spell m ++ view.bytes) len ∙ ap (λ xs. spell n ++ xs) bytes in record {
-      long = len;
-      within = omega (arith, within, long);
-      whole =
-          sym (ap (λ xs. xs ++ drop (length (view_written view)) text.bytes) front
-          ∙ append_assoc (spell n) (take n (drop k text.bytes)) (drop (length (view_written view)) text.bytes)
-          ∙ ap (λ m. spell n ++ (take n (drop k text.bytes) ++ drop m text.bytes)) long ∙ whole);
-    }
 
 -- the input was the encoding of the view that is read, followed by the rest
 pub read_and_left : (text rest : MarkedText) (range : RangeCfg) (result : Result View Error) → IsViewRead text range result
@@ -95,16 +56,13 @@ read_in_range text range (Err error) is = tt
 high_end : (range : RangeCfg) (n : ℕ) → in_range range n ≡ true → n ≤ range.hi
 high_end range n h = grind (arith, nat_tests)
 
+-- no more bytes are read than the range's end
 pub read_at_most : (text : MarkedText) (range : RangeCfg) (result : Result View Error) → IsViewRead text range result
     → IfOk result (λ view. length view.bytes ≤ range.hi)
 read_at_most text range (Ok view) is = high_end range (length view.bytes) (read_in_range text range (Ok view) is).1
 read_at_most text range (Err error) is = tt
 
--- bytes that were written, in the range, are read back and go, or are refused for a failed allocation alone
-abbrev pub AreReadBack : List ℕ → List ℕ → List ℕ → Result View Error → Type 0
-AreReadBack body rest left (Ok view) = (view.bytes ≡ body) × (left ≡ rest)
-AreReadBack body rest left (Err error) = error ≡ Memory
-
+-- what was written, in the range, is read back
 pub written_read_back : (text left : MarkedText) (range : RangeCfg) (result : Result View Error) (body rest : List ℕ) → IsViewRead text range result
     → IfOk result (λ view. left ≡ text_rest text (length (view_written view)))
     → length body < 2 ^ 64 → in_range range (length body) ≡ true → text.bytes ≡ bytes_written body ++ rest → AreReadBack body rest left.bytes result
@@ -115,10 +73,12 @@ written_read_back text left range (Ok view) body rest is behind small inside e =
 written_read_back text left range (Err error) body rest is behind small inside e =
     view_back (record { bytes = body; mark = static_mark }) range text rest (Err error) small inside e is
 
+-- the bytes that were written are read
 pub read_back_is : (body rest left : List ℕ) (result : Result View Error) → AreReadBack body rest left result → IfOk result (λ view. view.bytes ≡ body)
 read_back_is body rest left (Ok view) is = is.0
 read_back_is body rest left (Err error) is = tt
 
+-- only an allocation can fail
 pub read_back_unless : (body rest left : List ℕ) (result : Result View Error) → AreReadBack body rest left result → IsOkUnless result Memory
 read_back_unless body rest left (Ok view) is = tt
 read_back_unless body rest left (Err error) is = is

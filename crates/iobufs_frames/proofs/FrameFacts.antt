@@ -12,14 +12,14 @@
 use Rattle.std.proofs.Common.{◌≡◌, ◌⊎◌, inl, inr, ℕ, ◌+◌, true, false, List, [], ◌∷◌, ◌++◌, length, ap, sym, subst, ◌∙◌, refl, arith, append_assoc, length-append}
 use Rattle.std.proofs.lemmas.Bool.{false≢true}
 use Rattle.std.proofs.lemmas.List.{append-nil}
-use Rattle.iobufs_core.specs.LengthFacts.{begun_open, less, no_length_later, still_closed}
+use Rattle.iobufs_core.proofs.LengthFacts.{begun_open, less, no_length_later, still_closed}
 use Rattle.iobufs_core.specs.Ranges.{in_range}
 use Rattle.iobufs_core.specs.Spelled.{none_high}
 use Rattle.iobufs_core.specs.declared.codec.base.Error.{Error}
 use Rattle.iobufs_core.specs.declared.codec.base.Error.TheVariants.{EndOfBuffer, InvalidVarint, InvalidLength, Memory, BadLayout, TooLong}
 use Rattle.iobufs_core.specs.declared.codec.base.RangeCfg.{RangeCfg}
 use Rattle.iobufs_frames.specs.Frames.{BadStaysBad, BeginningsAreOpen, CanAllFollow, CanFollow, FirstTaken, IsFramed, LacksFrame, all_written, frame_written}
-use Rattle.iobufs_frames.specs.PrefixFacts.{form_of, length-before, length-in_front, length-later, length-sooner, one_front, one_length, too_few}
+use Rattle.iobufs_frames.proofs.PrefixFacts.{form_of, length-before, length-in_front, length-later, length-sooner, one_front, one_length, too_few}
 use Rattle.iobufs_frames.specs.Prefixes.{HasNoLengthAt, IsLengthAt, IsOpenAt, prefix_written, width_size}
 use Rattle.iobufs_frames.specs.declared.End.{End}
 use Rattle.iobufs_frames.specs.declared.End.TheVariants.{Open, Bad}

@@ -4,8 +4,6 @@
 --                               in order
 --     storing                   the bytes that fill empty buffers are theirs, and those of the `IoBufs` that they
 --                               freeze to
---     IsSent                    a writer took a prefix of the bytes, after what it held, and the rest is left
---     IsStored                  bytes that a reader gave fill the spare capacity
 --     length-advanced,          an advance by n drops n bytes; a batch of chunks is a prefix of the bytes
 --     batch_bytes,
 --     front_of_chunks
@@ -24,22 +22,18 @@ use Rattle.std.proofs.lemmas.Grind.{common_steps, flat_map-append}
 use Rattle.std.proofs.lemmas.List.{nil_from_length, take-append-le}
 use Rattle.std.proofs.lemmas.List.Folds.{flat_map-map}
 use Rattle.std.proofs.lemmas.List.Sums.{sum_by-cons}
-use Rattle.iobufs_core.specs.CallerFacts.{bytes-advanced, bytes-part_frozen, bytes-rest}
+use Rattle.iobufs_core.proofs.CallerFacts.{bytes-part_frozen}
+use Rattle.iobufs_core.specs.ReadBytes.{bytes-advanced, bytes-rest}
 use Rattle.iobufs_core.specs.MarkedText.{MarkedText, text_advanced, text_chunks}
 use Rattle.iobufs_core.specs.Part.{Part, part_capacity, part_frozen, part_with_len}
 use Rattle.iobufs_core.specs.View.{View}
 use Rattle.iobufs.specs.Laws.Filling.{AreFilled, filled_composes, filled_lessens, filled_nothing}
-use Rattle.iobufs.specs.Laws.Joined.{bytes-append, bytes-joined}
+use Rattle.iobufs.proofs.Joined.{bytes-append, bytes-joined}
+use Rattle.iobufs.specs.Sending.{IsSent, IsStored}
 use Rattle.iobufs.specs.Parts.{parts_capacity, parts_fill, parts_filled, parts_frozen, parts_spare, parts_with_len}
 use Rattle.iobufs.specs.Laws.Reading.{joined-chunks}
 
 -- ---- sending
-
--- a front went from a text to a writer, after what that held, and the rest is left
-pub record IsSent (held holds : Option (List ℕ)) (text rest : List ℕ) : Type 0 where
-  pub front : List ℕ
-  pub whole : text ≡ front ++ rest
-  pub grew : Appends held holds front
 
 kept : (old new : Option (List ℕ)) → Keeps old new → Appends old new []
 kept None new h = tt
@@ -60,6 +54,7 @@ appends_on (Some xs) (Some ys) (Some zs) u v p q = q ∙ ap (λ w. w ++ v) p ∙
 pub sent_kept : (held holds : Option (List ℕ)) (text : List ℕ) → Keeps held holds → IsSent held holds text text
 sent_kept held holds text h = record { front = []; whole = refl; grew = kept held holds h }
 
+-- a writer that took nothing leaves all bytes
 pub sent_nothing : (held : Option (List ℕ)) (text : List ℕ) → IsSent held held text text
 sent_nothing held text = sent_kept held held text (stays held)
 
@@ -119,18 +114,13 @@ pub written_front : {A E : Type 0} (bytes_of : A → List ℕ) (slices : List A)
 written_front bytes_of slices text most held holds (Ok n) is bound h = subst (Appends held holds) (front_of_chunks bytes_of slices text most n is bound).1 h
 written_front bytes_of slices text most held holds (Err error) is bound h = h
 
+-- a writer of a batch takes no more than the bytes there are
 pub written_within : {A E : Type 0} (bytes_of : A → List ℕ) (slices : List A) (text : MarkedText) (most : ℕ) (result : Result ℕ E)
     → map bytes_of slices ≡ take most (text_chunks text) → WritesAtMost result (flat_map bytes_of slices) → WritesAtMost result text.bytes
 written_within bytes_of slices text most (Ok n) is bound = (front_of_chunks bytes_of slices text most n is bound).0
 written_within bytes_of slices text most (Err error) is bound = tt
 
 -- ---- storing
-
--- bytes that a reader gave fill the spare capacity of buffers
-pub record IsStored (had has : Option (List ℕ)) (old new : List Part) : Type 0 where
-  pub read : List ℕ
-  pub gave : Consumes had has read
-  pub filled : AreFilled old read new
 
 consumes_on : (a b c : Option (List ℕ)) (u v : List ℕ) → Consumes a b u → Consumes b c v → Consumes a c (u ++ v)
 consumes_on None b c u v p q = tt

@@ -18,7 +18,7 @@ use Rattle.std.proofs.lemmas.Slice.Eq.{bytes_eq-Decides}
 use Rattle.std.proofs.Math.Seq.{take-append_seam}
 use Rattle.std.specs.Int.{from_be_bytes, from_le_bytes}
 use Rattle.std.specs.Str.{bytes_eq}
-use Rattle.iobufs_core.specs.LengthFacts.{has_length, less, opened}
+use Rattle.iobufs_core.proofs.LengthFacts.{has_length, less, opened}
 use Rattle.iobufs_core.specs.ReadLaws.{IsNumberForm}
 use Rattle.iobufs_core.specs.Spelled.{spelled_as_one}
 use Rattle.iobufs_frames.specs.Frames.{frame_written}
@@ -85,6 +85,7 @@ one_length (Fixed width order) bytes m n (small, p) (least, q) =
 pub length-before : (prefix : Prefix) (n : ℕ) (rest : List ℕ) → n < prefix_limit prefix → IsLengthAt prefix (prefix_written prefix n ++ rest) n
 length-before prefix n rest small = (small, take-append_seam (prefix_written prefix n) rest)
 
+-- a frame begins with the length of its body
 pub length-in_front : (prefix : Prefix) (body more : List ℕ) → length body < prefix_limit prefix
     → IsLengthAt prefix (frame_written prefix body ++ more) (length body)
 length-in_front prefix body more small =
@@ -108,6 +109,7 @@ pub length-later : (prefix : Prefix) (bytes more : List ℕ) (n : ℕ) → IsLen
 length-later prefix bytes more n at =
     (at.0, take-append-le (length (prefix_written prefix n)) bytes more (length-there prefix bytes n at) ∙ at.1)
 
+-- a length is there once its bytes are
 pub length-sooner : (prefix : Prefix) (bytes more : List ℕ) (n : ℕ) → length (prefix_written prefix n) ≤ length bytes → IsLengthAt prefix (bytes ++ more) n
     → IsLengthAt prefix bytes n
 length-sooner prefix bytes more n l at = (at.0, sym (take-append-le (length (prefix_written prefix n)) bytes more l) ∙ at.1)

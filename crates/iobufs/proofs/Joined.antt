@@ -9,6 +9,7 @@ use Rattle.iobufs_core.specs.View.{View}
 use Rattle.iobufs_core.specs.MarkedText.{MarkedText, default_text, joined, text_append, text_glue, text_len}
 use Rattle.iobufs.specs.Inside.Pieces.{pieces_bytes}
 
+-- an appended view's bytes come last
 pub bytes-append : (t : MarkedText) (v : View) → (text_append t v).bytes ≡ t.bytes ++ v.bytes
 unfolding text_glue
 bytes-append t v = grind (arith, nat_tests, common_steps, append-nil, nil_from_length)
@@ -17,6 +18,7 @@ bytes-fold : (t : MarkedText) (vs : List View) → (fold text_append t vs).bytes
 bytes-fold t [] = sym (append-nil t.bytes)
 bytes-fold t (v ∷ vs) = bytes-fold (text_append t v) vs ∙ ap (λ w. w ++ pieces_bytes vs) (bytes-append t v) ∙ append_assoc t.bytes v.bytes (pieces_bytes vs)
 
+-- joined views have their bytes, in order
 pub bytes-joined : (vs : List View) → (joined vs).bytes ≡ pieces_bytes vs
 bytes-joined vs = bytes-fold default_text vs
 

@@ -24,6 +24,7 @@ lesser : (m n : ℕ) (t : Bool) → nat_lt m n ≡ t → (m < n) ⊎ (n ≤ m)
 lesser m n true e = inl (ltb-true m n e)
 lesser m n false e = inr (ltb-false m n e)
 
+-- one number is less, or the other is at most as large
 pub less : (m n : ℕ) → (m < n) ⊎ (n ≤ m)
 less m n = lesser m n (nat_lt m n) refl
 
@@ -79,6 +80,7 @@ unfolding NoneBelow
 within text zero = inr (λ n j below small is. omega (arith, below))
 within text (suc k) = elim (within text k) [ inl found ↦ inl found | inr none ↦ by_bytes text k none ]
 
+-- bytes begin with a length, or with none
 pub has_length : (text : List ℕ) → ((n : ℕ) × IsSpelledAt text n) ⊎ HasNoLength text
 unfolding NoneBelow
 has_length text = elim (within text 11) [
@@ -93,6 +95,7 @@ all_high (b ∷ bs) = elim (less b 128) [
   | inr top ↦ elim (all_high bs) [ inl high ↦ inl (top, high) | inr none ↦ inr (λ high. none high.1) ]
 ]
 
+-- more bytes may end a length, or none can
 pub opened : (xs : List ℕ) → IsOpen xs ⊎ (IsOpen xs → ⊥)
 opened xs = elim (less (length xs) 10) [
   | inr long ↦ inr (λ is. let few = is.0 in omega (arith, few, long))
@@ -163,6 +166,7 @@ no_length_later bytes more none closed n at =
           closed (omega arith, before_end bytes (take (k - length bytes) more) n some (subst (λ (xs : List ℕ). IsSpelling xs n) split is))
     ]
 
+-- if no bytes can end a length, more bytes can't either
 pub still_closed : (bytes more : List ℕ) → (IsOpen bytes → ⊥) → IsOpen (bytes ++ more) → ⊥
 still_closed bytes more closed opened =
     closed (let less = opened.0 in omega (arith, length-append bytes more), high_front bytes more opened.1)
