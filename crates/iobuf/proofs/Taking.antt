@@ -1,4 +1,5 @@
 -- A writer that takes a text bit by bit.
+use Rattle.std.proofs.KnownBytes.{Appends-kept, Appends-nil, Appends-trans}
 use Rattle.std.proofs.Common.{◌≡◌, ℕ, List, [], ◌∷◌, ◌++◌, Option, Some, None, IfErr, Ok, Err, Result, refl, sym, ap, subst, ◌∙◌, append-nil, append_assoc, ◌-◌, length, take, drop, take-append-drop}
 use Rattle.std.proofs.Math.Seq.{take-length}
 use Rattle.std.proofs.lemmas.List.{length-drop}
@@ -13,24 +14,8 @@ pub record Sent (old new : Option (List ℕ)) (text rest : List ℕ) : Type 0 wh
   pub split : text ≡ front ++ rest
   pub appends : Appends old new front
 
-appends_none : (old : Option (List ℕ)) → Appends old old []
-appends_none (Some xs) = sym (append-nil xs)
-appends_none None = tt
-
-appends_more : (old mid new : Option (List ℕ)) (front more : List ℕ) → Appends old mid front → Appends mid new more → Appends old new (front ++ more)
-appends_more (Some xs) (Some ys) (Some zs) front more e f = f ∙ (ap (λ l. l ++ more) e ∙ append_assoc xs front more)
-appends_more (Some xs) (Some ys) None front more e f = elim f [ ]
-appends_more (Some xs) None new front more e f = elim e [ ]
-appends_more None mid new front more e f = tt
-
-appends_kept : (old mid new : Option (List ℕ)) (front : List ℕ) → Appends old mid front → Keeps mid new → Appends old new front
-appends_kept (Some xs) (Some ys) (Some zs) front e f = f ∙ e
-appends_kept (Some xs) (Some ys) None front e f = elim f [ ]
-appends_kept (Some xs) None new front e f = elim e [ ]
-appends_kept None mid new front e f = tt
-
 pub none_sent : (old : Option (List ℕ)) (text : List ℕ) → Sent old old text text
-none_sent old text = record { front = []; split = refl; appends = appends_none old }
+none_sent old text = record { front = []; split = refl; appends = Appends-nil old }
 
 -- a writer that took a front of a text and then some first bytes of the rest took both as a front, and the other bytes are the rest
 pub more_sent : (old mid new : Option (List ℕ)) (text rest : List ℕ) (n : ℕ) → Sent old mid text rest → Appends mid new (take n rest)
@@ -38,12 +23,12 @@ pub more_sent : (old mid new : Option (List ℕ)) (text rest : List ℕ) (n : �
 more_sent old mid new text rest n s e = record {
   front = s.front ++ take n rest;
   split = s.split ∙ (ap (λ l. s.front ++ l) (sym (take-append-drop n rest)) ∙ sym (append_assoc s.front (take n rest) (drop n rest)));
-  appends = appends_more old mid new s.front (take n rest) s.appends e;
+  appends = Appends-trans old mid new s.front (take n rest) s.appends e;
 }
 
 -- a writer that keeps what it has still has taken this front of the text
 pub same_sent : (old mid new : Option (List ℕ)) (text rest : List ℕ) → Sent old mid text rest → Keeps mid new → Sent old new text rest
-same_sent old mid new text rest s e = record { front = s.front; split = s.split; appends = appends_kept old mid new s.front s.appends e }
+same_sent old mid new text rest s e = record { front = s.front; split = s.split; appends = Appends-kept old mid new s.front s.appends e }
 
 pub all_sent : (old new : Option (List ℕ)) (text rest : List ℕ) → Sent old new text rest → rest ≡ [] → Appends old new text
 all_sent old new text rest s e = subst (λ (l : List ℕ). Appends old new l) (sym (s.split ∙ (ap (λ l. s.front ++ l) e ∙ append-nil s.front))) s.appends
@@ -65,7 +50,7 @@ part_sent old new text rest s =
 pub takes_on : (old mid new : Option (List ℕ)) (text : List ℕ) (n : ℕ) (result : Result (Unit {0}) Obstacle) → IfErr result (λ fault. fault ≡ Writing)
     → Appends old mid (take n text) → Takes mid new (drop n text) result → Takes old new text result
 takes_on old mid new text n (Ok done) fails first more =
-    subst (λ (l : List ℕ). Appends old new l) (take-append-drop n text) (appends_more old mid new (take n text) (drop n text) first more)
+    subst (λ (l : List ℕ). Appends old new l) (take-append-drop n text) (Appends-trans old mid new (take n text) (drop n text) first more)
 takes_on old mid new text n (Err Writing) fails first (m, more) =
     part_sent old new text (drop m (drop n text))
     (more_sent old mid new text (drop n text) m (more_sent old old mid text text n (none_sent old text) first) more)

@@ -16,6 +16,7 @@ use Rattle.std.specs.Prelude.{◌≡◌, ◌⊎◌, ℕ, ◌+◌, ◌-◌, ◌�
 use Rattle.std.specs.List.{flat_map}
 use Rattle.std.specs.Io.{WritesAtMost}
 use Rattle.std.specs.Io.KnownBytes.{Appends, Consumes, Keeps, WriteAppends}
+use Rattle.std.proofs.KnownBytes.{Appends-trans, Consumes-trans, Keeps-refl}
 use Rattle.std.proofs.Common.{arith, inl, inr, ap, sym, subst, ◌∙◌, append-nil, append_assoc, length-append, length-take, length-drop, take-append-drop}
 use Rattle.std.proofs.lemmas.Bool.Decides.{nat_tests}
 use Rattle.std.proofs.lemmas.Grind.{common_steps, flat_map-append}
@@ -40,30 +41,20 @@ kept None new h = tt
 kept (Some xs) None h = absurd h
 kept (Some xs) (Some ys) h = h ∙ sym (append-nil xs)
 
-stays : (held : Option (List ℕ)) → Keeps held held
-stays None = tt
-stays (Some xs) = refl
-
-appends_on : (a b c : Option (List ℕ)) (u v : List ℕ) → Appends a b u → Appends b c v → Appends a c (u ++ v)
-appends_on None b c u v p q = tt
-appends_on (Some xs) None c u v p q = absurd p
-appends_on (Some xs) (Some ys) None u v p q = absurd q
-appends_on (Some xs) (Some ys) (Some zs) u v p q = q ∙ ap (λ w. w ++ v) p ∙ append_assoc xs u v
-
 -- nothing went off
 pub sent_kept : (held holds : Option (List ℕ)) (text : List ℕ) → Keeps held holds → IsSent held holds text text
 sent_kept held holds text h = record { front = []; whole = refl; grew = kept held holds h }
 
 -- a writer that took nothing leaves all bytes
 pub sent_nothing : (held : Option (List ℕ)) (text : List ℕ) → IsSent held held text text
-sent_nothing held text = sent_kept held held text (stays held)
+sent_nothing held text = sent_kept held held text (Keeps-refl held)
 
 -- one front went off after another
 pub sent_on : (a b c : Option (List ℕ)) (text middle rest : List ℕ) → IsSent a b text middle → IsSent b c middle rest → IsSent a c text rest
 sent_on a b c text middle rest p q = record {
   front = p.front ++ q.front;
   whole = p.whole ∙ ap (λ w. p.front ++ w) q.whole ∙ sym (append_assoc p.front q.front rest);
-  grew = appends_on a b c p.front q.front p.grew q.grew;
+  grew = Appends-trans a b c p.front q.front p.grew q.grew;
 }
 
 -- the first n bytes are sent if a writer took them and they are dropped
@@ -122,12 +113,6 @@ written_within bytes_of slices text most (Err error) is bound = tt
 
 -- ---- storing
 
-consumes_on : (a b c : Option (List ℕ)) (u v : List ℕ) → Consumes a b u → Consumes b c v → Consumes a c (u ++ v)
-consumes_on None b c u v p q = tt
-consumes_on (Some xs) None c u v p q = absurd p
-consumes_on (Some xs) (Some ys) None u v p q = absurd q
-consumes_on (Some xs) (Some ys) (Some zs) u v p q = p ∙ ap (λ w. u ++ w) q ∙ sym (append_assoc u v zs)
-
 left : (had has : Option (List ℕ)) → Keeps had has → Consumes had has []
 left None has h = tt
 left (Some xs) None h = absurd h
@@ -138,13 +123,13 @@ pub stored_kept : (had has : Option (List ℕ)) (parts : List Part) → Keeps ha
 stored_kept had has parts h = record { read = []; gave = left had has h; filled = filled_nothing parts }
 
 pub stored_nothing : (had : Option (List ℕ)) (parts : List Part) → IsStored had had parts parts
-stored_nothing had parts = stored_kept had had parts (stays had)
+stored_nothing had parts = stored_kept had had parts (Keeps-refl had)
 
 -- once and once more
 pub stored_on : (a b c : Option (List ℕ)) (old middle new : List Part) → IsStored a b old middle → IsStored b c middle new → IsStored a c old new
 stored_on a b c old middle new p q = record {
   read = p.read ++ q.read;
-  gave = consumes_on a b c p.read q.read p.gave q.gave;
+  gave = Consumes-trans a b c p.read q.read p.gave q.gave;
   filled = filled_composes old middle new p.read q.read p.filled q.filled;
 }
 

@@ -19,7 +19,7 @@ use Rattle.iobufs_core.specs.MarkedText.{MarkedText, taken_view, text_advanced, 
 use Rattle.iobufs_core.specs.Part.{Part, part_frozen}
 use Rattle.iobufs_core.specs.Ranges.{in_range}
 use Rattle.iobufs_core.specs.ReadBack.{AreReadBack}
-use Rattle.iobufs_core.specs.ReadBytes.{IsThere, bytes-advanced, bytes-rest, view_there}
+use Rattle.iobufs_core.specs.ReadBytes.{IsThere, bytes-advanced, bytes-rest, bytes-taken_view, view_there}
 use Rattle.iobufs_core.specs.ReadLaws.{number_fault, view_back}
 use Rattle.iobufs_core.specs.Spelled.{length-spell, spell_begins}
 use Rattle.iobufs_core.specs.Spelling.{spell}

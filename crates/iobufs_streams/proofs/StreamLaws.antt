@@ -1,6 +1,7 @@
 -- The effect of reads and writes on the known bytes, and on the frames in them.
 use Rattle.std.specs.Prelude.{◌≡◌, ℕ, ◌+◌, ◌^◌, ◌<◌, ◌≤◌, Bool, true, false, nat_eq, Option, None, Some, IfSome, Result, Ok, Err, List, [], ◌++◌, length, take, drop, refl}
 use Rattle.std.specs.Io.KnownBytes.{Appends, Consumes, IsAtEnd, Keeps}
+use Rattle.std.proofs.KnownBytes.{Consumes-kept, Consumes-trans, Keeps-refl, Keeps-trans}
 use Rattle.std.proofs.Common.{arith, inl, inr, ap, sym, subst, ◌∙◌, append_assoc, append-nil, length-append, length-drop, length-take, take-append-drop}
 use Rattle.std.proofs.lemmas.Bool.Decides.{nat_tests}
 use Rattle.std.proofs.lemmas.List.{nil_from_length}
@@ -15,17 +16,6 @@ use Rattle.iobufs_streams.specs.Streams.{HasFrame, IsEnd, IsFilledBy, IsFirstOf,
 use Rattle.iobufs_streams.specs.declared.error.FrameError.{FrameError}
 use Rattle.iobufs_streams.specs.declared.error.FrameError.TheVariants.{Bad, Cut, Io, Memory, TooLong}
 
--- known bytes that stay as they were
-pub stays : (a : Option (List ℕ)) → Keeps a a
-stays None = tt
-stays (Some xs) = refl
-
-pub stays_on : (a b c : Option (List ℕ)) → Keeps a b → Keeps b c → Keeps a c
-stays_on None b c p q = tt
-stays_on (Some xs) None c p q = absurd p
-stays_on (Some xs) (Some ys) None p q = absurd q
-stays_on (Some xs) (Some ys) (Some zs) p q = q ∙ p
-
 pub consumes_after : (a b c : Option (List ℕ)) (u : List ℕ) → Keeps a b → Consumes b c u → Consumes a c u
 consumes_after None b c u p q = tt
 consumes_after (Some xs) None c u p q = absurd p
@@ -38,24 +28,12 @@ appends_after (Some xs) None c u p q = absurd p
 appends_after (Some xs) (Some ys) None u p q = absurd q
 appends_after (Some xs) (Some ys) (Some zs) u p q = q ∙ ap (λ w. w ++ u) p
 
-pub consumes_on : (a b c : Option (List ℕ)) (u v : List ℕ) → Consumes a b u → Consumes b c v → Consumes a c (u ++ v)
-consumes_on None b c u v p q = tt
-consumes_on (Some xs) None c u v p q = absurd p
-consumes_on (Some xs) (Some ys) None u v p q = absurd q
-consumes_on (Some xs) (Some ys) (Some zs) u v p q = p ∙ ap (λ w. u ++ w) q ∙ sym (append_assoc u v zs)
-
 pub consumes_none : (a b : Option (List ℕ)) → Keeps a b → Consumes a b []
 consumes_none None b h = tt
 consumes_none (Some xs) None h = absurd h
 consumes_none (Some xs) (Some ys) h = sym h
 
-pub consumes_before : (a b c : Option (List ℕ)) (u : List ℕ) → Consumes a b u → Keeps b c → Consumes a c u
-consumes_before None b c u p q = tt
-consumes_before (Some xs) None c u p q = absurd p
-consumes_before (Some xs) (Some ys) None u p q = absurd q
-consumes_before (Some xs) (Some ys) (Some zs) u p q = p ∙ ap (λ w. u ++ w) (sym q)
-
-pub ruleset again = (stays, stays_on, consumes_after, appends_after)
+pub ruleset again = (Keeps-refl, Keeps-trans, consumes_after, appends_after)
 
 -- ---- one read
 
@@ -110,7 +88,7 @@ pub not_waited : {Reader : Type 0} (prefix : Prefix) (range : RangeCfg) (from : 
     → IsWaiting prefix range from from had had old old 0
 not_waited prefix range from had old = record {
   read = [];
-  took = consumes_none had had (stays had);
+  took = consumes_none had had (Keeps-refl had);
   grew = sym (append-nil old);
   needed = inl refl;
   counted = omega arith;
@@ -148,7 +126,7 @@ waits_on prefix range from mid new a b c old held left now count next last so_fa
     let more = filled.is.read in
     let long : 0 < length more = some_of (length more) (sym filled.empty ∙ some) in record {
       read = before ++ more;
-      took = consumes_on a b c before more so_far.took filled.is.took;
+      took = Consumes-trans a b c before more so_far.took filled.is.took;
       grew = filled.is.grew ∙ ap (λ w. w ++ more) (same ∙ so_far.grew) ∙ append_assoc old before more;
       needed = inr (record {
         before = before;
@@ -220,7 +198,7 @@ took_end prefix range from now_from a b c old held left now count last result so
       read = so_far.read;
       took =
           subst (λ (w : List ℕ). Consumes a c w) (ap (λ w. so_far.read ++ w) nothing ∙ append-nil so_far.read)
-          (consumes_on a b c so_far.read filled.is.read so_far.took filled.is.took);
+          (Consumes-trans a b c so_far.read filled.is.read so_far.took filled.is.took);
       needed = so_far.needed;
       front =
           subst (λ (w : List ℕ). IsFront prefix range c w result now) (stays_so ∙ so_far.grew)
@@ -234,7 +212,7 @@ pub took_fault : {Reader : Type 0} (prefix : Prefix) (range : RangeCfg) (from no
     → ((bytes : List ℕ) → bytes ≡ now → IsFront prefix range c bytes (Err error) now) → TakesFrame prefix range a c old now (Err error)
 took_fault prefix range from now_from a b c old held left now count error so_far same kept keeps h = record {
   read = so_far.read;
-  took = consumes_before a b c so_far.read so_far.took keeps;
+  took = Consumes-kept a b c so_far.read so_far.took keeps;
   needed = so_far.needed;
   front = h (old ++ so_far.read) (sym (kept ∙ same ∙ so_far.grew));
 }
