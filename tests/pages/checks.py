@@ -178,8 +178,8 @@ def faults_of_imports(found):
         yield f"modules import each other: {', '.join(sorted(left))}"
 
 
-# Names that the original or Rust fixes for types of two crates, or that tests and workloads have for a type of their own.
-SHARED = {"Kind", "Read", "Record", "Refusal", "Reply", "Run", "Step"}
+# The replies, refusals, steps and kinds of the buffers and of the owner machine, and the run of frames and that of commands.
+SHARED = {"Kind", "Refusal", "Reply", "Run", "Step"}
 DECLARED = re.compile(r"^(?:abbrev|unfoldable) (?:pub )?([^\s:]+) :|^(?:pub )?(?:record|data) (\w+)", re.M)
 PUBLIC = re.compile(r"^pub (?:struct|enum|trait) (\w+)", re.M)
 

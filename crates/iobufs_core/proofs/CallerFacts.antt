@@ -12,10 +12,10 @@ use Rattle.std.proofs.Common.{arith, ap, sym, ◌∙◌, append_assoc, length-ap
 use Rattle.std.proofs.Math.Seq.{take-append_seam}
 use Rattle.std.proofs.lemmas.Bool.Decides.{nat_tests}
 use Rattle.std.proofs.lemmas.Grind.{common_steps}
-use Rattle.std.proofs.lemmas.List.{drop-drop, drop_all, append_cancel_left, nil_from_length, take_all}
+use Rattle.std.proofs.lemmas.List.{drop_all, append_cancel_left, nil_from_length, take_all}
 use Rattle.iobufs_core.specs.Items.{PutOrPush, put_item, push_item, items_bytes, items_inline, IsBegun}
 use Rattle.iobufs_core.proofs.LayoutLaws.{good_layout}
-use Rattle.iobufs_core.specs.MarkedText.{MarkedText, taken_view, text_advanced, text_left, text_rest, text_right, text_split_front}
+use Rattle.iobufs_core.specs.MarkedText.{MarkedText, text_advanced, text_left, text_rest, text_split_front}
 use Rattle.iobufs_core.specs.Part.{Part, part_frozen}
 use Rattle.iobufs_core.specs.Ranges.{in_range}
 use Rattle.iobufs_core.specs.ReadBack.{AreReadBack}

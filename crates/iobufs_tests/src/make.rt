@@ -10,7 +10,7 @@ use std::alloc::{AllocError, Global};
 
 // How the bytes of a view are stored.
 #[derive(Clone, Copy, Debug)]
-pub enum Kind {
+pub enum Stored {
     // As a static slice.
     Static,
     // In a `Bytes` that no other handle shares.
@@ -20,11 +20,11 @@ pub enum Kind {
 }
 
 // A view of this kind.
-pub fn view(alloc: Global, kind: Kind, bytes: &'static [u8]) -> Result<IoBuf, BufError> {
+pub fn view(alloc: Global, kind: Stored, bytes: &'static [u8]) -> Result<IoBuf, BufError> {
     match kind {
-        Kind::Static => Ok(IoBuf::from(bytes)),
-        Kind::Bytes => Ok(IoBuf::from(Bytes::copy_from_slice(alloc, bytes)?)),
-        Kind::Native(spare) => part(alloc, bytes, spare)?.freeze(),
+        Stored::Static => Ok(IoBuf::from(bytes)),
+        Stored::Bytes => Ok(IoBuf::from(Bytes::copy_from_slice(alloc, bytes)?)),
+        Stored::Native(spare) => part(alloc, bytes, spare)?.freeze(),
     }
 }
 

@@ -4,7 +4,7 @@ use std::alloc::Global;
 
 // A call of `Buf`.
 #[derive(Clone, Copy, Debug)]
-pub enum Read {
+pub enum Call {
     // The number of bytes, in decimal digits.
     Remaining,
     // The byte at a place, or `none`.
@@ -64,14 +64,14 @@ fn copied<B: Buf>(alloc: Global, buf: &mut B, n: usize) -> Result<Vec<u8>, BufEr
 }
 
 // The result of a call, as bytes.
-pub fn answer<B: Buf>(alloc: Global, buf: &mut B, read: Read) -> Result<Vec<u8>, BufError> {
+pub fn answer<B: Buf>(alloc: Global, buf: &mut B, read: Call) -> Result<Vec<u8>, BufError> {
     match read {
-        Read::Remaining => Ok(format!(in alloc; "{}", buf.remaining())?.into_bytes()),
-        Read::Byte(place) => byte(alloc, buf.byte_at(place)),
-        Read::Chunk => Ok(Vec::from_slice(alloc, buf.chunk())?),
-        Read::Chunks(most) => chunks(alloc, buf, most),
-        Read::Advance(n) => advanced(alloc, buf, n),
-        Read::Take(n) => taken(alloc, buf, n),
-        Read::Copy(n) => copied(alloc, buf, n),
+        Call::Remaining => Ok(format!(in alloc; "{}", buf.remaining())?.into_bytes()),
+        Call::Byte(place) => byte(alloc, buf.byte_at(place)),
+        Call::Chunk => Ok(Vec::from_slice(alloc, buf.chunk())?),
+        Call::Chunks(most) => chunks(alloc, buf, most),
+        Call::Advance(n) => advanced(alloc, buf, n),
+        Call::Take(n) => taken(alloc, buf, n),
+        Call::Copy(n) => copied(alloc, buf, n),
     }
 }

@@ -1,6 +1,6 @@
 // Texts of several chunks.
-use crate::make::{Kind, chunks, cut, part, text, view};
-use crate::reads::{Read, answer};
+use crate::make::{Stored, chunks, cut, part, text, view};
+use crate::reads::{Call, answer};
 use crate::same::assert_same;
 use bytes::Bytes;
 use iobufs::bufs::IoBufs;
@@ -15,7 +15,7 @@ use std::test::Fail;
 #[derive(Clone, Copy, Debug)]
 enum Ask {
     // A call of `Buf`.
-    Reads(Read),
+    Reads(Call),
     // The chunks, with `|` between them.
     Show,
     // The number of chunks, in decimal digits.
@@ -46,39 +46,39 @@ enum Ask {
 // A name, the chunks of a text, calls on it, and their answers.
 type Case = (
     &'static str,
-    &'static [(Kind, &'static [u8])],
+    &'static [(Stored, &'static [u8])],
     &'static [(Ask, &'static [u8])],
 );
 
-const THREE: &[(Kind, &'static [u8])] = &[
-    (Kind::Static, b"ab"),
-    (Kind::Static, b"cd"),
-    (Kind::Static, b"ef"),
+const THREE: &[(Stored, &'static [u8])] = &[
+    (Stored::Static, b"ab"),
+    (Stored::Static, b"cd"),
+    (Stored::Static, b"ef"),
 ];
 
-const FOUR: &[(Kind, &'static [u8])] = &[
-    (Kind::Static, b"ab"),
-    (Kind::Static, b"cd"),
-    (Kind::Static, b"ef"),
-    (Kind::Static, b"gh"),
+const FOUR: &[(Stored, &'static [u8])] = &[
+    (Stored::Static, b"ab"),
+    (Stored::Static, b"cd"),
+    (Stored::Static, b"ef"),
+    (Stored::Static, b"gh"),
 ];
 
-const FOUR_NATIVE: &[(Kind, &'static [u8])] = &[
-    (Kind::Native(6), b"ab"),
-    (Kind::Native(6), b"cd"),
-    (Kind::Native(6), b"ef"),
-    (Kind::Native(6), b"gh"),
+const FOUR_NATIVE: &[(Stored, &'static [u8])] = &[
+    (Stored::Native(6), b"ab"),
+    (Stored::Native(6), b"cd"),
+    (Stored::Native(6), b"ef"),
+    (Stored::Native(6), b"gh"),
 ];
 
 const CASES: [Case; 12] = rows! {
-    "an emptied chunk is recovered", &[(Kind::Native(4), b"abcd")], &[(Ask::Reads(Read::Advance(4)), b""),
+    "an emptied chunk is recovered", &[(Stored::Native(4), b"abcd")], &[(Ask::Reads(Call::Advance(4)), b""),
         (Ask::Count, b"0"), (Ask::Single, b"single"), (Ask::Recover, b"4")];
-    "two emptied chunks are not recovered", &[(Kind::Native(6), b"ab"), (Kind::Native(6), b"cd")],
-        &[(Ask::Reads(Read::Advance(4)), b""), (Ask::Recover, b"0")];
+    "two emptied chunks are not recovered", &[(Stored::Native(6), b"ab"), (Stored::Native(6), b"cd")],
+        &[(Ask::Reads(Call::Advance(4)), b""), (Ask::Recover, b"0")];
     "chunks of four", FOUR, &[(Ask::Count, b"4"), (Ask::ChunkAt(3), b"gh"), (Ask::ChunkAt(4), b"none"),
-        (Ask::Reads(Read::Chunks(2)), b"ab|cd|"), (Ask::Reads(Read::Chunks(0)), b""),
-        (Ask::Reads(Read::Byte(5)), b"f"), (Ask::Reads(Read::Byte(8)), b"none"), (Ask::Visit, b"abcdefgh")];
-    "bytes inside a chunk, and then across two", &[(Kind::Static, b"ab"), (Kind::Static, b"cd")],
+        (Ask::Reads(Call::Chunks(2)), b"ab|cd|"), (Ask::Reads(Call::Chunks(0)), b""),
+        (Ask::Reads(Call::Byte(5)), b"f"), (Ask::Reads(Call::Byte(8)), b"none"), (Ask::Visit, b"abcdefgh")];
+    "bytes inside a chunk, and then across two", &[(Stored::Static, b"ab"), (Stored::Static, b"cd")],
         &[(Ask::Own(0, 1), b"a|declined"), (Ask::Own(0, 2), b"bc|2"), (Ask::Show, b"d")];
     "bytes across two of four chunks", FOUR, &[(Ask::Own(1, 2), b"bc|2"), (Ask::Show, b"d|ef|gh")];
     "bytes across two of four native chunks", FOUR_NATIVE, &[(Ask::Own(1, 2), b"bc|2"), (Ask::Show, b"d|ef|gh")];
@@ -86,15 +86,15 @@ const CASES: [Case; 12] = rows! {
     "a whole native chunk of four", FOUR_NATIVE, &[(Ask::Own(2, 2), b"cd|8"), (Ask::Show, b"ef|gh")];
     "chunks come in order", THREE, &[(Ask::Iterate(5), b"ab|cd|ef|none|none|")];
     "no chunk", &[], &[(Ask::Iterate(1), b"none|")];
-    "a destination is filled across chunks", THREE, &[(Ask::Reads(Read::Copy(3)), b"abc"), (Ask::Show, b"d|ef"),
-        (Ask::Reads(Read::Copy(4)), b"3 of 4: ...."), (Ask::Reads(Read::Chunk), b"d")];
+    "a destination is filled across chunks", THREE, &[(Ask::Reads(Call::Copy(3)), b"abc"), (Ask::Show, b"d|ef"),
+        (Ask::Reads(Call::Copy(4)), b"3 of 4: ...."), (Ask::Reads(Call::Chunk), b"d")];
     "a text is copied and cut", THREE, &[(Ask::ToVec, b"abcdef"), (Ask::Truncate(9), b"ab|cd|ef"),
         (Ask::Truncate(6), b"ab|cd|ef"), (Ask::Truncate(3), b"ab|c"), (Ask::Truncate(2), b"ab"),
         (Ask::Truncate(0), b""), (Ask::ToVec, b"")];
 };
 
 // Views, one after the other.
-fn chunked(alloc: Global, chunks: &[(Kind, &'static [u8])]) -> Result<IoBufs, BufError> {
+fn chunked(alloc: Global, chunks: &[(Stored, &'static [u8])]) -> Result<IoBufs, BufError> {
     let mut text = IoBufs::default();
     for chunk in chunks {
         text.append(alloc, view(alloc, chunk.0, chunk.1)?)?;
@@ -219,8 +219,8 @@ fn texts(rt: HostRuntime) -> Result<(), Fail> {
 const IN_TWO: [(Ask, &'static [u8]); 4] = [
     (Ask::Show, b"ab|c"),
     (Ask::Single, b"several"),
-    (Ask::Reads(Read::Take(3)), b"abc"),
-    (Ask::Reads(Read::Remaining), b"0"),
+    (Ask::Reads(Call::Take(3)), b"abc"),
+    (Ask::Reads(Call::Remaining), b"0"),
 ];
 
 #[test]
@@ -291,7 +291,7 @@ fn assert_cut(rt: &(impl Abort + AllocGlobal), count: usize, at: usize) -> Resul
     let (mut text, mut advanced) = (first(alloc, count)?, first(alloc, count)?);
     let front = split(alloc, &mut text, at)?;
     assert_same!(rt; front, cut_up(alloc, 0, at)?, "{count} at {at}");
-    drop(answer(alloc, &mut advanced, Read::Advance(at))?);
+    drop(answer(alloc, &mut advanced, Call::Advance(at))?);
     let left = (chunks(alloc, &text)?, chunks(alloc, &advanced)?);
     let end = count.saturating_mul(2);
     let wanted = (cut_up(alloc, at, end)?, cut_up(alloc, at, end)?);
