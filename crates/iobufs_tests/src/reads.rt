@@ -4,7 +4,7 @@ use std::alloc::Global;
 
 // A call of `Buf`.
 #[derive(Clone, Copy, Debug)]
-pub enum Call {
+pub enum ReadCall {
     // The number of bytes, in decimal digits.
     Remaining,
     // The byte at a place, or `none`.
@@ -64,14 +64,14 @@ fn copied<B: Buf>(alloc: Global, buf: &mut B, n: usize) -> Result<Vec<u8>, BufEr
 }
 
 // The result of a call, as bytes.
-pub fn answer<B: Buf>(alloc: Global, buf: &mut B, read: Call) -> Result<Vec<u8>, BufError> {
+pub fn answer<B: Buf>(alloc: Global, buf: &mut B, read: ReadCall) -> Result<Vec<u8>, BufError> {
     match read {
-        Call::Remaining => Ok(format!(in alloc; "{}", buf.remaining())?.into_bytes()),
-        Call::Byte(place) => byte(alloc, buf.byte_at(place)),
-        Call::Chunk => Ok(Vec::from_slice(alloc, buf.chunk())?),
-        Call::Chunks(most) => chunks(alloc, buf, most),
-        Call::Advance(n) => advanced(alloc, buf, n),
-        Call::Take(n) => taken(alloc, buf, n),
-        Call::Copy(n) => copied(alloc, buf, n),
+        ReadCall::Remaining => Ok(format!(in alloc; "{}", buf.remaining())?.into_bytes()),
+        ReadCall::Byte(place) => byte(alloc, buf.byte_at(place)),
+        ReadCall::Chunk => Ok(Vec::from_slice(alloc, buf.chunk())?),
+        ReadCall::Chunks(most) => chunks(alloc, buf, most),
+        ReadCall::Advance(n) => advanced(alloc, buf, n),
+        ReadCall::Take(n) => taken(alloc, buf, n),
+        ReadCall::Copy(n) => copied(alloc, buf, n),
     }
 }

@@ -2,7 +2,7 @@
 ghost use Rattle.std.specs.Prelude.{◌+◌, ◌≤◌, length};
 
 use crate::make::{part, parts};
-use crate::reads::{Call, answer};
+use crate::reads::{ReadCall, answer};
 use crate::same::assert_same;
 use iobufs::bufs_mut::IoBufsMut;
 use iobufs_core::codec::{Buf, BufError, BufMut};
@@ -14,7 +14,7 @@ use std::test::Fail;
 #[derive(Clone, Copy, Debug)]
 enum Ask {
     // A call of `Buf`, and what it answers.
-    Reads(Call, &'static [u8]),
+    Reads(ReadCall, &'static [u8]),
     // The buffers that are left, each as its bytes and its spare capacity.
     Show(&'static [(&'static [u8], usize)]),
     // Bytes are put, if they fit.
@@ -40,10 +40,10 @@ const CASES: [Case; 4] = rows! {
     "a length is set in order", &[(b"ab", 2), (b"", 4)], &[Ask::SetLen(5),
         Ask::Show(&[(b"ab\x00\x00", 0), (b"\x00", 3)])];
     "five buffers are read and written over", &[(b"ab", 1), (b"", 3), (b"", 0), (b"c", 0), (b"de", 2), (b"", 1)],
-        &[Ask::Show(&[(b"ab", 1), (b"", 3), (b"c", 0), (b"de", 2), (b"", 1)]), Ask::Reads(Call::Chunk, b"ab"),
-        Ask::Reads(Call::Byte(2), b"c"), Ask::Reads(Call::Chunks(2), b"ab|c|"), Ask::Reads(Call::Remaining, b"5"),
+        &[Ask::Show(&[(b"ab", 1), (b"", 3), (b"c", 0), (b"de", 2), (b"", 1)]), Ask::Reads(ReadCall::Chunk, b"ab"),
+        Ask::Reads(ReadCall::Byte(2), b"c"), Ask::Reads(ReadCall::Chunks(2), b"ab|c|"), Ask::Reads(ReadCall::Remaining, b"5"),
         Ask::Overwrite(b"vwxyz"), Ask::Show(&[(b"vw", 1), (b"", 3), (b"x", 0), (b"yz", 2), (b"", 1)]),
-        Ask::Reads(Call::Copy(4), b"vwxy"), Ask::Show(&[(b"", 1), (b"", 3), (b"z", 2), (b"", 1)]),
+        Ask::Reads(ReadCall::Copy(4), b"vwxy"), Ask::Show(&[(b"", 1), (b"", 3), (b"z", 2), (b"", 1)]),
         Ask::Coalesce(b"z", 1)];
     "no capacity", &[(b"", 0), (b"", 0)], &[Ask::Show(&[(b"", 0)])];
 };

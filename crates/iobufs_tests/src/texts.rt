@@ -1,6 +1,6 @@
 // Texts of several chunks.
 use crate::make::{Stored, chunks, cut, part, text, view};
-use crate::reads::{Call, answer};
+use crate::reads::{ReadCall, answer};
 use crate::same::assert_same;
 use bytes::Bytes;
 use iobufs::bufs::IoBufs;
@@ -15,7 +15,7 @@ use std::test::Fail;
 #[derive(Clone, Copy, Debug)]
 enum Ask {
     // A call of `Buf`.
-    Reads(Call),
+    Reads(ReadCall),
     // The chunks, with `|` between them.
     Show,
     // The number of chunks, in decimal digits.
@@ -71,13 +71,13 @@ const FOUR_NATIVE: &[(Stored, &'static [u8])] = &[
 ];
 
 const CASES: [Case; 12] = rows! {
-    "an emptied chunk is recovered", &[(Stored::Native(4), b"abcd")], &[(Ask::Reads(Call::Advance(4)), b""),
+    "an emptied chunk is recovered", &[(Stored::Native(4), b"abcd")], &[(Ask::Reads(ReadCall::Advance(4)), b""),
         (Ask::Count, b"0"), (Ask::Single, b"single"), (Ask::Recover, b"4")];
     "two emptied chunks are not recovered", &[(Stored::Native(6), b"ab"), (Stored::Native(6), b"cd")],
-        &[(Ask::Reads(Call::Advance(4)), b""), (Ask::Recover, b"0")];
+        &[(Ask::Reads(ReadCall::Advance(4)), b""), (Ask::Recover, b"0")];
     "chunks of four", FOUR, &[(Ask::Count, b"4"), (Ask::ChunkAt(3), b"gh"), (Ask::ChunkAt(4), b"none"),
-        (Ask::Reads(Call::Chunks(2)), b"ab|cd|"), (Ask::Reads(Call::Chunks(0)), b""),
-        (Ask::Reads(Call::Byte(5)), b"f"), (Ask::Reads(Call::Byte(8)), b"none"), (Ask::Visit, b"abcdefgh")];
+        (Ask::Reads(ReadCall::Chunks(2)), b"ab|cd|"), (Ask::Reads(ReadCall::Chunks(0)), b""),
+        (Ask::Reads(ReadCall::Byte(5)), b"f"), (Ask::Reads(ReadCall::Byte(8)), b"none"), (Ask::Visit, b"abcdefgh")];
     "bytes inside a chunk, and then across two", &[(Stored::Static, b"ab"), (Stored::Static, b"cd")],
         &[(Ask::Own(0, 1), b"a|declined"), (Ask::Own(0, 2), b"bc|2"), (Ask::Show, b"d")];
     "bytes across two of four chunks", FOUR, &[(Ask::Own(1, 2), b"bc|2"), (Ask::Show, b"d|ef|gh")];
@@ -86,8 +86,8 @@ const CASES: [Case; 12] = rows! {
     "a whole native chunk of four", FOUR_NATIVE, &[(Ask::Own(2, 2), b"cd|8"), (Ask::Show, b"ef|gh")];
     "chunks come in order", THREE, &[(Ask::Iterate(5), b"ab|cd|ef|none|none|")];
     "no chunk", &[], &[(Ask::Iterate(1), b"none|")];
-    "a destination is filled across chunks", THREE, &[(Ask::Reads(Call::Copy(3)), b"abc"), (Ask::Show, b"d|ef"),
-        (Ask::Reads(Call::Copy(4)), b"3 of 4: ...."), (Ask::Reads(Call::Chunk), b"d")];
+    "a destination is filled across chunks", THREE, &[(Ask::Reads(ReadCall::Copy(3)), b"abc"), (Ask::Show, b"d|ef"),
+        (Ask::Reads(ReadCall::Copy(4)), b"3 of 4: ...."), (Ask::Reads(ReadCall::Chunk), b"d")];
     "a text is copied and cut", THREE, &[(Ask::ToVec, b"abcdef"), (Ask::Truncate(9), b"ab|cd|ef"),
         (Ask::Truncate(6), b"ab|cd|ef"), (Ask::Truncate(3), b"ab|c"), (Ask::Truncate(2), b"ab"),
         (Ask::Truncate(0), b""), (Ask::ToVec, b"")];
@@ -219,8 +219,8 @@ fn texts(rt: HostRuntime) -> Result<(), Fail> {
 const IN_TWO: [(Ask, &'static [u8]); 4] = [
     (Ask::Show, b"ab|c"),
     (Ask::Single, b"several"),
-    (Ask::Reads(Call::Take(3)), b"abc"),
-    (Ask::Reads(Call::Remaining), b"0"),
+    (Ask::Reads(ReadCall::Take(3)), b"abc"),
+    (Ask::Reads(ReadCall::Remaining), b"0"),
 ];
 
 #[test]
@@ -291,7 +291,7 @@ fn assert_cut(rt: &(impl Abort + AllocGlobal), count: usize, at: usize) -> Resul
     let (mut text, mut advanced) = (first(alloc, count)?, first(alloc, count)?);
     let front = split(alloc, &mut text, at)?;
     assert_same!(rt; front, cut_up(alloc, 0, at)?, "{count} at {at}");
-    drop(answer(alloc, &mut advanced, Call::Advance(at))?);
+    drop(answer(alloc, &mut advanced, ReadCall::Advance(at))?);
     let left = (chunks(alloc, &text)?, chunks(alloc, &advanced)?);
     let end = count.saturating_mul(2);
     let wanted = (cut_up(alloc, at, end)?, cut_up(alloc, at, end)?);

@@ -1,5 +1,5 @@
 // Views.
-use crate::reads::{Call, answer};
+use crate::reads::{ReadCall, answer};
 use crate::same::assert_same;
 use bytes::BytesMut;
 use iobufs_core::buf::IoBuf;
@@ -57,14 +57,14 @@ fn ranges(rt: HostRuntime) -> Result<(), Fail> {
 type Case = (
     &'static str,
     &'static [u8],
-    &'static [(Call, &'static [u8])],
+    &'static [(ReadCall, &'static [u8])],
 );
 
 const CASES: [Case; 2] = rows! {
-    "a view is read to its end", b"hello world", &[(Call::Advance(6), b""), (Call::Chunk, b"world"),
-        (Call::Take(2), b"wo"), (Call::Take(3), b"rld"), (Call::Remaining, b"0")];
-    "a destination that is too long", b"abc", &[(Call::Copy(4), b"3 of 4: ...."), (Call::Chunk, b"abc"),
-        (Call::Copy(3), b"abc"), (Call::Remaining, b"0")];
+    "a view is read to its end", b"hello world", &[(ReadCall::Advance(6), b""), (ReadCall::Chunk, b"world"),
+        (ReadCall::Take(2), b"wo"), (ReadCall::Take(3), b"rld"), (ReadCall::Remaining, b"0")];
+    "a destination that is too long", b"abc", &[(ReadCall::Copy(4), b"3 of 4: ...."), (ReadCall::Chunk, b"abc"),
+        (ReadCall::Copy(3), b"abc"), (ReadCall::Remaining, b"0")];
 };
 
 #[test]
