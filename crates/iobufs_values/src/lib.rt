@@ -23,4 +23,4 @@ pub use kinds::{Either, Kind, Tagged};
 pub use list::List;
 pub use look::Look;
 pub use parts::{ByParts, FromText, IntoParts};
-pub use signed::Signed;
+pub use signed::{Signed, SignedNumber};

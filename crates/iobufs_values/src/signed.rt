@@ -1,14 +1,34 @@
 // Signed numbers, as the number of their bits.
-ghost use Rattle.std.specs.Prelude.{◌≡◌, [], ◌∷◌, drop, Err};
-ghost use Rattle.std.specs.Int.{cast_unsigned, to_be_bytes, w8, w16, w32, w64, w128};
-ghost use Rattle.std.specs.Int.RustNames.{FitsSigned};
-ghost use Rattle.iobufs_core.specs.Wire.{IsNumberRead};
-ghost use Rattle.iobufs_values.specs.Form.{IsCodecFault};
-ghost use Rattle.iobufs_values.specs.Signed.{IsSignedFound};
+ghost use Rattle.std.specs.Prelude.{◌≡◌};
 
 use crate::{Fault, Look};
 use iobufs_core::codec::{BufMut, BufsMut, EncodeSize, Error, Peek, Write};
 use std::alloc::Global;
+
+/// A signed number that is written as the unsigned number of its bits, in two's complement (own).
+pub trait SignedNumber: Copy {
+    /// The number of the bits.
+    type Bits: Look + Write + Copy;
+
+    // That number, and which numbers the type has.
+    ghost bits: { Self → Self.Bits };
+
+    ghost fits: { Self → Type 0 };
+
+    /// Returns the number of the bits.
+    fn to_bits(self) -> Self::Bits
+        ensures { result ≡ bits self };
+
+    /// Returns the number with these bits.
+    fn from_bits(number: Self::Bits) -> Self
+        ensures fits { fits result }
+        ensures bits { bits result ≡ number };
+
+    // Two numbers of the type with the same bits are equal, and any configuration admits the bits of a number.
+    ghost one: { (x y : Self) → fits x → fits y → Self.Bits.same (bits x) (bits y) → x ≡ y };
+
+    ghost admitted: { (cfg : Self.Bits.Cfg) (x : Self) → fits x → Self.Bits.admits cfg (bits x) };
+}
 
 /// A signed number, written big-endian in two's complement. It wraps the number because the traits of writing are
 /// another crate's.
@@ -17,48 +37,44 @@ pub struct Signed<N> {
     pub value: N,
 }
 
-impl EncodeSize for Signed<i8> {
-    ghost use Rattle.iobufs_core.specs.Items.{put_item};
-    ghost use Rattle.iobufs_core.specs.WireLaws.{joins-put};
+impl<N: SignedNumber> EncodeSize for Signed<N> {
+    ghost written = { λ n. N.Bits.written (N.bits n.value) };
 
-    ghost written = { λ n. cast_unsigned w8 n.value ∷ [] };
-
-    ghost items = { λ n. put_item (cast_unsigned w8 n.value ∷ []) ∷ [] };
+    ghost items = { λ n. N.Bits.items (N.bits n.value) };
 
     fn encode_size(&self) -> Option<usize> {
-        Some(1)
+        self.value.to_bits().encode_size()
     }
 
     fn encode_inline_size(&self) -> usize {
-        1
+        self.value.to_bits().encode_inline_size()
     }
 
-    ghost joins_items = { λ n. joins-put (cast_unsigned w8 n.value ∷ []) };
+    ghost joins_items = { λ n. N.Bits.joins_items (N.bits n.value) };
 }
 
-impl Write for Signed<i8> {
+impl<N: SignedNumber> Write for Signed<N> {
     fn write<B: BufMut>(&self, buf: &mut B) {
-        self.value.cast_unsigned().write(buf)
+        self.value.to_bits().write(buf)
     }
 
     fn write_bufs<B: BufsMut>(&self, buf: &mut B) -> Result<(), Error> {
-        self.value.cast_unsigned().write_bufs(buf)
+        self.value.to_bits().write_bufs(buf)
     }
 }
 
-impl Look for Signed<i8> {
-    type Cfg = ();
+impl<N: SignedNumber> Look for Signed<N> {
+    type Cfg = <N::Bits as Look>::Cfg;
 
-    ghost use Rattle.iobufs_core.specs.NumberLaws.{form_8};
     ghost use Rattle.iobufs_values.specs.Forms.{form_as};
-    ghost use Rattle.iobufs_values.specs.Signed.{signed_form, small_8};
+    ghost use Rattle.iobufs_values.specs.Signed.{signed_form};
     ghost use Rattle.std.proofs.Common.{refl};
 
-    ghost is_found = { λ text skip _ n. IsSignedFound w8 (λ n. n ∷ []) 1 text skip n.value };
+    ghost is_found = { λ text skip cfg n. N.fits n.value × N.Bits.is_found text skip cfg (N.bits n.value) };
 
-    ghost is_fault = { λ text skip _ fault. IsCodecFault (λ error. IsNumberRead (λ n. n ∷ []) 1 (drop skip text.bytes) (Err error)) fault };
+    ghost is_fault = { λ text skip cfg fault. N.Bits.is_fault text skip cfg fault };
 
-    ghost admits = { λ _ n. FitsSigned w8 n.value };
+    ghost admits = { λ _ n. N.fits n.value };
 
     ghost same = { λ m n. m.value ≡ n.value };
 
@@ -66,253 +82,133 @@ impl Look for Signed<i8> {
         alloc: Global,
         buf: &B,
         skip: usize,
-        cfg: &(),
-    ) -> Result<(Signed<i8>, usize), Fault> {
-        let (bits, len) = u8::look(alloc, buf, skip, cfg)?;
-        let value = bits.cast_signed();
+        cfg: &<N::Bits as Look>::Cfg,
+    ) -> Result<(Signed<N>, usize), Fault> {
+        let (bits, len) = <N::Bits as Look>::look(alloc, buf, skip, cfg)?;
+        let value = N::from_bits(bits);
         Ok((Signed { value }, len))
     }
 
-    ghost form = { form_as (λ n. n.value) (λ cfg. cfg) (λ n. cast_unsigned w8 n.value ∷ []) (λ n. refl)
-        (signed_form _ w8 (λ n. n ∷ []) 1 form_8 small_8) };
+    ghost form = { form_as (λ n. n.value) (λ cfg. cfg) (λ n. N.Bits.written (N.bits n.value)) (λ n. refl)
+        (signed_form N.fits N.bits N.Bits.form N.one N.admitted) };
 }
 
-impl EncodeSize for Signed<i16> {
-    ghost use Rattle.iobufs_core.specs.Items.{put_item};
-    ghost use Rattle.iobufs_core.specs.WireLaws.{joins-put};
+impl SignedNumber for i8 {
+    type Bits = u8;
 
-    ghost written = { λ n. to_be_bytes w16 (cast_unsigned w16 n.value) };
+    ghost use Rattle.iobufs_values.specs.Signed.{one_of_bits, small_8};
+    ghost use Rattle.std.specs.Int.{cast_unsigned, w8};
+    ghost use Rattle.std.specs.Int.RustNames.{FitsSigned};
 
-    ghost items = { λ n. put_item (to_be_bytes w16 (cast_unsigned w16 n.value)) ∷ [] };
+    ghost bits = { cast_unsigned w8 };
 
-    fn encode_size(&self) -> Option<usize> {
-        Some(2)
+    ghost fits = { FitsSigned w8 };
+
+    fn to_bits(self) -> u8 {
+        self.cast_unsigned()
     }
 
-    fn encode_inline_size(&self) -> usize {
-        2
+    fn from_bits(number: u8) -> i8 {
+        number.cast_signed()
     }
 
-    ghost joins_items = { λ n. joins-put (to_be_bytes w16 (cast_unsigned w16 n.value)) };
+    ghost one = { one_of_bits w8 };
+
+    ghost admitted = { λ _ x h. small_8 x h };
 }
 
-impl Write for Signed<i16> {
-    fn write<B: BufMut>(&self, buf: &mut B) {
-        self.value.cast_unsigned().write(buf)
+impl SignedNumber for i16 {
+    type Bits = u16;
+
+    ghost use Rattle.iobufs_values.specs.Signed.{one_of_bits, small_16};
+    ghost use Rattle.std.specs.Int.{cast_unsigned, w16};
+    ghost use Rattle.std.specs.Int.RustNames.{FitsSigned};
+
+    ghost bits = { cast_unsigned w16 };
+
+    ghost fits = { FitsSigned w16 };
+
+    fn to_bits(self) -> u16 {
+        self.cast_unsigned()
     }
 
-    fn write_bufs<B: BufsMut>(&self, buf: &mut B) -> Result<(), Error> {
-        self.value.cast_unsigned().write_bufs(buf)
+    fn from_bits(number: u16) -> i16 {
+        number.cast_signed()
     }
+
+    ghost one = { one_of_bits w16 };
+
+    ghost admitted = { λ _ x h. small_16 x h };
 }
 
-impl Look for Signed<i16> {
-    type Cfg = ();
+impl SignedNumber for i32 {
+    type Bits = u32;
 
-    ghost use Rattle.iobufs_core.specs.NumberLaws.{form_16};
-    ghost use Rattle.iobufs_values.specs.Forms.{form_as};
-    ghost use Rattle.iobufs_values.specs.Signed.{signed_form, small_16};
-    ghost use Rattle.std.proofs.Common.{refl};
+    ghost use Rattle.iobufs_values.specs.Signed.{one_of_bits, small_32};
+    ghost use Rattle.std.specs.Int.{cast_unsigned, w32};
+    ghost use Rattle.std.specs.Int.RustNames.{FitsSigned};
 
-    ghost is_found = { λ text skip _ n. IsSignedFound w16 (to_be_bytes w16) 2 text skip n.value };
+    ghost bits = { cast_unsigned w32 };
 
-    ghost is_fault = { λ text skip _ fault. IsCodecFault (λ error. IsNumberRead (to_be_bytes w16) 2 (drop skip text.bytes) (Err error)) fault };
+    ghost fits = { FitsSigned w32 };
 
-    ghost admits = { λ _ n. FitsSigned w16 n.value };
-
-    ghost same = { λ m n. m.value ≡ n.value };
-
-    fn look<B: Peek>(
-        alloc: Global,
-        buf: &B,
-        skip: usize,
-        cfg: &(),
-    ) -> Result<(Signed<i16>, usize), Fault> {
-        let (bits, len) = u16::look(alloc, buf, skip, cfg)?;
-        let value = bits.cast_signed();
-        Ok((Signed { value }, len))
+    fn to_bits(self) -> u32 {
+        self.cast_unsigned()
     }
 
-    ghost form = { form_as (λ n. n.value) (λ cfg. cfg) (λ n. to_be_bytes w16 (cast_unsigned w16 n.value)) (λ n. refl)
-        (signed_form _ w16 (to_be_bytes w16) 2 form_16 small_16) };
+    fn from_bits(number: u32) -> i32 {
+        number.cast_signed()
+    }
+
+    ghost one = { one_of_bits w32 };
+
+    ghost admitted = { λ _ x h. small_32 x h };
 }
 
-impl EncodeSize for Signed<i32> {
-    ghost use Rattle.iobufs_core.specs.Items.{put_item};
-    ghost use Rattle.iobufs_core.specs.WireLaws.{joins-put};
+impl SignedNumber for i64 {
+    type Bits = u64;
 
-    ghost written = { λ n. to_be_bytes w32 (cast_unsigned w32 n.value) };
+    ghost use Rattle.iobufs_values.specs.Signed.{one_of_bits, small_64};
+    ghost use Rattle.std.specs.Int.{cast_unsigned, w64};
+    ghost use Rattle.std.specs.Int.RustNames.{FitsSigned};
 
-    ghost items = { λ n. put_item (to_be_bytes w32 (cast_unsigned w32 n.value)) ∷ [] };
+    ghost bits = { cast_unsigned w64 };
 
-    fn encode_size(&self) -> Option<usize> {
-        Some(4)
+    ghost fits = { FitsSigned w64 };
+
+    fn to_bits(self) -> u64 {
+        self.cast_unsigned()
     }
 
-    fn encode_inline_size(&self) -> usize {
-        4
+    fn from_bits(number: u64) -> i64 {
+        number.cast_signed()
     }
 
-    ghost joins_items = { λ n. joins-put (to_be_bytes w32 (cast_unsigned w32 n.value)) };
+    ghost one = { one_of_bits w64 };
+
+    ghost admitted = { λ _ x h. small_64 x h };
 }
 
-impl Write for Signed<i32> {
-    fn write<B: BufMut>(&self, buf: &mut B) {
-        self.value.cast_unsigned().write(buf)
+impl SignedNumber for i128 {
+    type Bits = u128;
+
+    ghost use Rattle.iobufs_values.specs.Signed.{one_of_bits, small_128};
+    ghost use Rattle.std.specs.Int.{cast_unsigned, w128};
+    ghost use Rattle.std.specs.Int.RustNames.{FitsSigned};
+
+    ghost bits = { cast_unsigned w128 };
+
+    ghost fits = { FitsSigned w128 };
+
+    fn to_bits(self) -> u128 {
+        self.cast_unsigned()
     }
 
-    fn write_bufs<B: BufsMut>(&self, buf: &mut B) -> Result<(), Error> {
-        self.value.cast_unsigned().write_bufs(buf)
-    }
-}
-
-impl Look for Signed<i32> {
-    type Cfg = ();
-
-    ghost use Rattle.iobufs_core.specs.NumberLaws.{form_32};
-    ghost use Rattle.iobufs_values.specs.Forms.{form_as};
-    ghost use Rattle.iobufs_values.specs.Signed.{signed_form, small_32};
-    ghost use Rattle.std.proofs.Common.{refl};
-
-    ghost is_found = { λ text skip _ n. IsSignedFound w32 (to_be_bytes w32) 4 text skip n.value };
-
-    ghost is_fault = { λ text skip _ fault. IsCodecFault (λ error. IsNumberRead (to_be_bytes w32) 4 (drop skip text.bytes) (Err error)) fault };
-
-    ghost admits = { λ _ n. FitsSigned w32 n.value };
-
-    ghost same = { λ m n. m.value ≡ n.value };
-
-    fn look<B: Peek>(
-        alloc: Global,
-        buf: &B,
-        skip: usize,
-        cfg: &(),
-    ) -> Result<(Signed<i32>, usize), Fault> {
-        let (bits, len) = u32::look(alloc, buf, skip, cfg)?;
-        let value = bits.cast_signed();
-        Ok((Signed { value }, len))
+    fn from_bits(number: u128) -> i128 {
+        number.cast_signed()
     }
 
-    ghost form = { form_as (λ n. n.value) (λ cfg. cfg) (λ n. to_be_bytes w32 (cast_unsigned w32 n.value)) (λ n. refl)
-        (signed_form _ w32 (to_be_bytes w32) 4 form_32 small_32) };
-}
+    ghost one = { one_of_bits w128 };
 
-impl EncodeSize for Signed<i64> {
-    ghost use Rattle.iobufs_core.specs.Items.{put_item};
-    ghost use Rattle.iobufs_core.specs.WireLaws.{joins-put};
-
-    ghost written = { λ n. to_be_bytes w64 (cast_unsigned w64 n.value) };
-
-    ghost items = { λ n. put_item (to_be_bytes w64 (cast_unsigned w64 n.value)) ∷ [] };
-
-    fn encode_size(&self) -> Option<usize> {
-        Some(8)
-    }
-
-    fn encode_inline_size(&self) -> usize {
-        8
-    }
-
-    ghost joins_items = { λ n. joins-put (to_be_bytes w64 (cast_unsigned w64 n.value)) };
-}
-
-impl Write for Signed<i64> {
-    fn write<B: BufMut>(&self, buf: &mut B) {
-        self.value.cast_unsigned().write(buf)
-    }
-
-    fn write_bufs<B: BufsMut>(&self, buf: &mut B) -> Result<(), Error> {
-        self.value.cast_unsigned().write_bufs(buf)
-    }
-}
-
-impl Look for Signed<i64> {
-    type Cfg = ();
-
-    ghost use Rattle.iobufs_core.specs.NumberLaws.{form_64};
-    ghost use Rattle.iobufs_values.specs.Forms.{form_as};
-    ghost use Rattle.iobufs_values.specs.Signed.{signed_form, small_64};
-    ghost use Rattle.std.proofs.Common.{refl};
-
-    ghost is_found = { λ text skip _ n. IsSignedFound w64 (to_be_bytes w64) 8 text skip n.value };
-
-    ghost is_fault = { λ text skip _ fault. IsCodecFault (λ error. IsNumberRead (to_be_bytes w64) 8 (drop skip text.bytes) (Err error)) fault };
-
-    ghost admits = { λ _ n. FitsSigned w64 n.value };
-
-    ghost same = { λ m n. m.value ≡ n.value };
-
-    fn look<B: Peek>(
-        alloc: Global,
-        buf: &B,
-        skip: usize,
-        cfg: &(),
-    ) -> Result<(Signed<i64>, usize), Fault> {
-        let (bits, len) = u64::look(alloc, buf, skip, cfg)?;
-        let value = bits.cast_signed();
-        Ok((Signed { value }, len))
-    }
-
-    ghost form = { form_as (λ n. n.value) (λ cfg. cfg) (λ n. to_be_bytes w64 (cast_unsigned w64 n.value)) (λ n. refl)
-        (signed_form _ w64 (to_be_bytes w64) 8 form_64 small_64) };
-}
-
-impl EncodeSize for Signed<i128> {
-    ghost use Rattle.iobufs_core.specs.Items.{put_item};
-    ghost use Rattle.iobufs_core.specs.WireLaws.{joins-put};
-
-    ghost written = { λ n. to_be_bytes w128 (cast_unsigned w128 n.value) };
-
-    ghost items = { λ n. put_item (to_be_bytes w128 (cast_unsigned w128 n.value)) ∷ [] };
-
-    fn encode_size(&self) -> Option<usize> {
-        Some(16)
-    }
-
-    fn encode_inline_size(&self) -> usize {
-        16
-    }
-
-    ghost joins_items = { λ n. joins-put (to_be_bytes w128 (cast_unsigned w128 n.value)) };
-}
-
-impl Write for Signed<i128> {
-    fn write<B: BufMut>(&self, buf: &mut B) {
-        self.value.cast_unsigned().write(buf)
-    }
-
-    fn write_bufs<B: BufsMut>(&self, buf: &mut B) -> Result<(), Error> {
-        self.value.cast_unsigned().write_bufs(buf)
-    }
-}
-
-impl Look for Signed<i128> {
-    type Cfg = ();
-
-    ghost use Rattle.iobufs_core.specs.NumberLaws.{form_128};
-    ghost use Rattle.iobufs_values.specs.Forms.{form_as};
-    ghost use Rattle.iobufs_values.specs.Signed.{signed_form, small_128};
-    ghost use Rattle.std.proofs.Common.{refl};
-
-    ghost is_found = { λ text skip _ n. IsSignedFound w128 (to_be_bytes w128) 16 text skip n.value };
-
-    ghost is_fault = { λ text skip _ fault. IsCodecFault (λ error. IsNumberRead (to_be_bytes w128) 16 (drop skip text.bytes) (Err error)) fault };
-
-    ghost admits = { λ _ n. FitsSigned w128 n.value };
-
-    ghost same = { λ m n. m.value ≡ n.value };
-
-    fn look<B: Peek>(
-        alloc: Global,
-        buf: &B,
-        skip: usize,
-        cfg: &(),
-    ) -> Result<(Signed<i128>, usize), Fault> {
-        let (bits, len) = u128::look(alloc, buf, skip, cfg)?;
-        let value = bits.cast_signed();
-        Ok((Signed { value }, len))
-    }
-
-    ghost form = { form_as (λ n. n.value) (λ cfg. cfg) (λ n. to_be_bytes w128 (cast_unsigned w128 n.value)) (λ n. refl)
-        (signed_form _ w128 (to_be_bytes w128) 16 form_128 small_128) };
+    ghost admitted = { λ _ x h. small_128 x h };
 }
