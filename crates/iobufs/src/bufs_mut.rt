@@ -55,9 +55,9 @@ impl Shape {
     ghost use Rattle.iobufs.specs.declared.bufs_mut.Shape.TheVariants.{One};
     ghost use Rattle.iobufs.specs.Inside.PartShape.{IsShape, shape_parts, shape_single};
 
-    // One more part, which can hold a byte; one that can't makes way for it.
+    // One more part, which can hold a byte; one that can't makes way for it. A first deque has space for `expected`.
     #[tactic(auto, using(crate::proofs::Parts::PartRuns::growing, crate::proofs::Parts::FewLaws::growing_few))]
-    fn with_part(self, alloc: Global, part: IoBufMut) -> Result<Shape, BufError>
+    fn with_part(self, alloc: Global, part: IoBufMut, expected: usize) -> Result<Shape, BufError>
         requires built { IsShape self }
         requires more { 0 < part_capacity part }
         requires fits { parts_capacity (shape_parts self) + part_capacity part < 2 ^ 64 }
@@ -77,7 +77,7 @@ impl Shape {
                 let Some(part) = few.push(part) else {
                     return Ok(Shape::Few(few));
                 };
-                Ok(Shape::Many(few.with_fourth(part)?))
+                Ok(Shape::Many(few.with_fourth(part, expected)?))
             }
             Shape::Many(mut row) => {
                 row.push(part)?;
@@ -156,6 +156,7 @@ impl IoBufsMut {
         ensures ok { IfOk result (λ parts. WholeRun I.next_gives items (λ run. (parts_capacity run.items < 2 ^ 64) × (parts ≡ kept_parts run.items))) }
         ensures err { IfErr result (λ cause. SomeRun I.next_gives items (λ run. IsRowRefusedAt run.items cause)) }
     {
+        let expected = items.size_hint().0;
         let mut shape = Shape::One(IoBufMut::default(alloc));
         let mut left = usize::MAX;
         while let Some(part) = items.next() {
@@ -165,7 +166,7 @@ impl IoBufsMut {
             }
             left -= capacity;
             if capacity > 0 {
-                shape = shape.with_part(alloc, part)?;
+                shape = shape.with_part(alloc, part, expected)?;
             }
         }
         Ok(IoBufsMut { shape })

@@ -218,8 +218,8 @@ impl Few {
         Some(part)
     }
 
-    /// The parts and a fourth one, in a deque.
-    pub(super) fn with_fourth(self, part: IoBufMut) -> Result<Several, AllocError>
+    /// The parts and a fourth one, in a deque with space for `expected`.
+    pub(super) fn with_fourth(self, part: IoBufMut, expected: usize) -> Result<Several, AllocError>
         requires have_capacity { HaveCapacity self }
         requires more { 0 < part_capacity part }
         requires fits { parts_capacity self + part_capacity part < 2 ^ 64 }
@@ -231,7 +231,7 @@ impl Few {
             second,
             third,
         } = self;
-        Several::of_four(alloc, first, second, third, part)
+        Several::of_four(alloc, first, second, third, part, expected)
     }
 
     pub(super) fn count(&self) -> usize

@@ -48,12 +48,14 @@ impl Model for Several {
 }
 
 impl Several {
+    /// Four parts in a deque with space for `expected`, at least eight.
     pub(super) fn of_four(
         alloc: Global,
         first: IoBufMut,
         second: IoBufMut,
         third: IoBufMut,
         fourth: IoBufMut,
+        expected: usize,
     ) -> Result<Several, AllocError>
         requires have_capacity { HaveCapacity (first ∷ second ∷ third ∷ fourth ∷ []) }
         requires fits { parts_capacity (first ∷ second ∷ third ∷ fourth ∷ []) < 2 ^ 64 }
@@ -61,7 +63,7 @@ impl Several {
     {
         let len = first.len() + second.len() + third.len() + fourth.len();
         let capacity = first.capacity() + second.capacity() + third.capacity() + fourth.capacity();
-        let mut row = VecDeque::with_capacity(alloc, 8)?;
+        let mut row = VecDeque::with_capacity(alloc, expected.max(8))?;
         row.push_back_reserved(first);
         row.push_back_reserved(second);
         row.push_back_reserved(third);
