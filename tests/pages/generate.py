@@ -166,7 +166,7 @@ def matrix():
     requests = [line.split() for line in (ROOT / "tests/requests").read_text().splitlines()]
     single = [int(it[0]) for it in requests if len(it) == 2 and it[0].isdigit()]
     swept = [sum(map(int, it[:3])) for it in requests if len(it) == 4 and it[0].isdigit()]
-    yield f"\n{totals[4]} mutants, {named} of them named. Allocations that a run fails in turn: {sum(single)} of {len(single)} tests, {sum(swept)} of {len(swept)} stored sessions."
+    yield f"\n{totals[4]} mutants, {named} of them named. Allocations that a run fails in turn: {sum(single)} of {len(single)} cases, {sum(swept)} of {len(swept)} stored sessions."
 
 
 def crates():
