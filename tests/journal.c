@@ -1,7 +1,8 @@
 // Loaded before the journal program: numbers its calls on regular files, on folders and on the input, and notes each by a letter
 // in the file that CALLS names: o opens, f finds or measures, l locks, k goes to the front, r reads, i reads the input,
-// w writes, c cuts, s syncs. In the call with number AT the program ends (HOW=stop), or it and all writes after it fail
-// (HOW=fail). A write then puts half of its bytes.
+// w writes, c cuts, s syncs a file, d a folder. In the call with number AT the program ends (HOW=stop), or it and all writes
+// after it fail
+// (HOW=fail). A write then puts half of its bytes. With HOW=grow the file `it` has some bytes more before that call.
 #define _GNU_SOURCE
 #include <errno.h>
 #include <fcntl.h>
@@ -14,18 +15,22 @@
 
 static int count = 0, is_full = 0;
 
-static int is_ours(int file) {
+static int is_kind(int file, mode_t kind) {
     struct stat of;
-    if (file < 0) return 0;
-    return syscall(SYS_fstat, file, &of) == 0 && (S_ISREG(of.st_mode) || S_ISDIR(of.st_mode));
+    return file >= 0 && syscall(SYS_fstat, file, &of) == 0 && (of.st_mode & S_IFMT) == kind;
 }
+
+static int is_ours(int file) { return is_kind(file, S_IFREG) || is_kind(file, S_IFDIR); }
 
 // Whether this call fails or is the last.
 static int is_hit(char letter) {
     const char *name = getenv("CALLS"), *at = getenv("AT");
     int file = name ? syscall(SYS_open, name, O_WRONLY | O_CREAT | O_APPEND, 0644) : -1;
     if (file >= 0) syscall(SYS_write, file, &letter, 1), syscall(SYS_close, file);
-    return ++count == (at ? atoi(at) : 0);
+    if (++count != (at ? atoi(at) : 0)) return 0;
+    if (strcmp(getenv("HOW"), "grow") != 0) return 1;
+    file = syscall(SYS_open, "it", O_WRONLY | O_APPEND);
+    return syscall(SYS_write, file, "\x14\0", 2), syscall(SYS_close, file), 0;
 }
 
 static long fails(void) {
@@ -65,4 +70,4 @@ ssize_t read(int file, void *bytes, size_t n) {
 int flock(int file, int how) { return is_hit('l') ? fails() : syscall(SYS_flock, file, how); }
 off_t lseek(int file, off_t at, int from) { return is_ours(file) && is_hit('k') ? fails() : syscall(SYS_lseek, file, at, from); }
 int ftruncate(int file, off_t size) { return is_hit('c') ? fails() : syscall(SYS_ftruncate, file, size); }
-int fsync(int file) { return is_hit('s') ? fails() : syscall(SYS_fsync, file); }
+int fsync(int file) { return is_hit(is_kind(file, S_IFDIR) ? 'd' : 's') ? fails() : syscall(SYS_fsync, file); }

@@ -1,27 +1,39 @@
 -- A frame that was read from a copy of a view determines whether the view begins with a record.
-use Rattle.std.specs.Prelude.{Bool, false, ◌==◌, Option, None, Some, IfSome, IfNone, Ok, ◌≡◌, ℕ, ◌++◌, length}
-use Rattle.std.proofs.Common.{ap, subst, sym, ◌∙◌}
+use Rattle.std.specs.Prelude.{Ok, ◌≡◌, ℕ, ◌+◌, ◌<◌, ◌≤◌, List, ◌++◌, length}
+use Rattle.std.proofs.Common.{ap, arith, inr, sym, ◌∙◌}
+use Rattle.iobufs_core.proofs.CallerFacts.{read_and_left, read_at_most, read_in_range}
 use Rattle.iobufs_core.specs.MarkedText.{of_view, text_rest}
 use Rattle.iobufs_core.specs.View.{View}
-use Rattle.iobufs_core.specs.Wire.{IsViewRead, view_written}
+use Rattle.iobufs_core.specs.Wire.{IsViewRead, bytes_written, view_written}
 use Rattle.iobufs_journal.specs.Journal.{HasNoRecord, record_written, sealed, up_to}
-use Rattle.iobufs_journal.specs.JournalLaws.{IsSealed, found_record, no_record}
+use Rattle.iobufs_journal.specs.JournalLaws.{IsSealed, is_sealed, length-sealed}
 use Rattle.iobufs_journal.specs.declared.journal.JournalEnd.TheVariants.{Damaged}
 
--- where the frame that was read off a copy of a text is a sealed body, the text is this record and what is left of the copy
-pub found_at : (most number : ℕ) (text copy left framed body : View) (found : Option View) → copy ≡ text → IsViewRead (of_view copy) (up_to most) (Ok framed)
-    → of_view left ≡ text_rest (of_view copy) (length (view_written framed)) → found ≡ Some body → IfSome found (λ b. framed.bytes ≡ sealed number b.bytes)
+-- a sealed frame is a record
+pub found_at : (most number : ℕ) (text copy left framed body : View) → copy ≡ text → IsViewRead (of_view copy) (up_to most) (Ok framed)
+    → of_view left ≡ text_rest (of_view copy) (length (view_written framed)) → framed.bytes ≡ sealed number body.bytes
     → text.bytes ≡ record_written number body.bytes ++ left.bytes
-found_at most number text copy left framed body found same is rest e seal =
-    sym (ap (λ (v : View). v.bytes) same) ∙ found_record most number (of_view copy) (of_view left) framed body found is rest e seal
+found_at most number text copy left framed body same is rest seal =
+    ap (λ (v : View). v.bytes) (sym same) ∙ read_and_left (of_view copy) (of_view left) (up_to most) (Ok framed) is rest
+    ∙ ap (λ w. bytes_written w ++ left.bytes) seal
 
--- where the frame that was read off a copy of a text isn't sealed under a number, the text has no record of that number and is damaged
-pub none_at : (most number : ℕ) (text copy left framed : View) (found : Option View) (empty : Bool) → copy ≡ text
-    → IsViewRead (of_view copy) (up_to most) (Ok framed)
-    → of_view left ≡ text_rest (of_view copy) (length (view_written framed)) → found ≡ None → IfNone found (IsSealed number framed.bytes → ⊥)
-    → empty ≡ (length text.bytes == 0) → empty ≡ false
+-- it is short enough
+pub found_short : (most number : ℕ) (copy framed body : View) → IsViewRead (of_view copy) (up_to most) (Ok framed)
+    → framed.bytes ≡ sealed number body.bytes → 12 + length body.bytes ≤ most
+found_short most number copy framed body is seal =
+    omega (arith, read_at_most (of_view copy) (up_to most) (Ok framed) is, ap (λ (w : List ℕ). length w) seal, length-sealed number body.bytes)
+
+-- one that isn't sealed with a number is damage
+pub none_at : (most number : ℕ) (text copy left framed : View) → copy ≡ text → IsViewRead (of_view copy) (up_to most) (Ok framed)
+    → of_view left ≡ text_rest (of_view copy) (length (view_written framed)) → (IsSealed number framed.bytes → ⊥) → 0 < length text.bytes
     → HasNoRecord most number text.bytes Damaged
-none_at most number text copy left framed found empty same is rest e none test more =
-    let at = ap (λ (v : View). v.bytes) same in
-    subst (λ w. HasNoRecord most number w Damaged) at
-    (no_record most number (of_view copy) (of_view left) framed found empty is rest e none (test ∙ ap (λ w. length w == 0) (sym at)) more)
+none_at most number text copy left framed same is rest never some = (
+  some,
+  inr (
+    framed.bytes,
+    left.bytes,
+    (read_in_range (of_view copy) (up_to most) (Ok framed) is).0,
+    ap (λ (v : View). v.bytes) (sym same) ∙ read_and_left (of_view copy) (of_view left) (up_to most) (Ok framed) is rest,
+    λ body seal. never (is_sealed number framed.bytes body seal),
+  ),
+)

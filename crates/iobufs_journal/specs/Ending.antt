@@ -3,8 +3,7 @@
 --     end_words, ending_text    how a journal ends, in words, and with its counts
 --     status_of, IsChecked      the exit status: 0 if nothing follows the records, else 1; that was printed of it,
 --                               with this status
---     plan_of                   what is changed: records are put after a whole journal; a repair cuts off a torn end,
---                               and a damaged one if that is forced
+--     plan_of                   what is changed: a repair cuts off a torn end, and a damaged one if that is forced
 use Rattle.std.specs.Prelude.{◌≡◌, ℕ, ◌&&◌, if◌then◌else◌, Bool, Option, List, ◌++◌, length, codes}
 use Rattle.std.specs.Fmt.{decimal}
 use Rattle.std.specs.Io.KnownBytes.{Appends}
@@ -14,7 +13,7 @@ use Rattle.iobufs_journal.specs.declared.journal.JournalEnd.{JournalEnd}
 use Rattle.iobufs_journal.specs.declared.journal.JournalEnd.TheVariants.{Whole, Torn, Damaged}
 use Rattle.iobufs_journal.specs.declared.journal.Ending.{Ending}
 use Rattle.iobufs_journal.specs.declared.ending.Plan.{Plan}
-use Rattle.iobufs_journal.specs.declared.ending.Plan.TheVariants.{Keep, Cut, Extend, Refuse}
+use Rattle.iobufs_journal.specs.declared.ending.Plan.TheVariants.{Keep, Cut, Refuse}
 
 -- the records of a text, and why no further one follows them
 pub record HasEnding (text : List ℕ) (ending : Ending) : Type 0 where
@@ -45,8 +44,8 @@ pub record IsChecked (name text : List ℕ) (held holds : Option (List ℕ)) (st
   pub put : Appends held holds (name ++ codes ": " ++ ending_text ending ++ codes "\n")
   pub status_so : status ≡ status_of ending.end
 
--- the change that a command makes in a journal with this end
+-- the change that a command makes first in a journal with this end
 abbrev pub plan_of : JournalEnd → (is_repair is_forced : Bool) → Plan
-plan_of Whole is_repair is_forced = if is_repair then Keep else Extend
+plan_of Whole is_repair is_forced = Keep
 plan_of Torn is_repair is_forced = if is_repair then Cut else Refuse
 plan_of Damaged is_repair is_forced = if is_repair && is_forced then Cut else Refuse

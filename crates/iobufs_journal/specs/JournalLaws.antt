@@ -3,23 +3,25 @@
 --     length-sealed, record_small,           how long a record is: 12 bytes more than its body, and at most 10 for
 --     record_fits                            its length
 --     sealed_is, is_sealed, unsealed_body    such bytes are sealed, and the converse; their body is a slice of them
---     found_record, found_short,             a frame that was taken is a record, short enough, or there is none
---     no_record
 --     stays_damaged                          what is damaged stays damaged, whatever follows
---     short_on, written_on                   records after each other are short, and numbered on
-use Rattle.std.specs.Prelude.{suc, [], ◌∷◌, Bool, false, ◌==◌, Option, None, Some, IfSome, IfNone, Ok, ◌≡◌, ℕ, ◌+◌, ◌-◌, ◌^◌, ◌<◌, ◌≤◌, List, ◌++◌, length, take, drop}
+--     short_on, written_on, written_more     records after each other are short, and numbered on
+use Rattle.std.specs.Prelude.{suc, [], ◌∷◌, ◌≡◌, ℕ, ◌+◌, ◌-◌, ◌^◌, ◌<◌, ◌≤◌, List, ◌++◌, length, take, drop}
 use Rattle.std.specs.Int.{w32, w64, to_be_bytes}
-use Rattle.std.proofs.Common.{arith, inl, inr, ap, sym, subst, ◌∙◌, append_assoc, length-append, length-take, take-append-drop}
+use Rattle.std.proofs.Common.{arith, inl, inr, ap, sym, ◌∙◌, append_assoc, append-nil, length-append, length-take, take-append-drop}
 use Rattle.std.proofs.Math.Seq.{take-append_seam, drop-append_seam}
-use Rattle.std.proofs.lemmas.Bool.Decides.{nat_tests}
 use Rattle.std.proofs.lemmas.List.{take-append-le}
+<<<<<<< HEAD
 use Rattle.iobufs_core.proofs.CallerFacts.{bytes-view_between, length-bytes_written, read_and_left, read_at_most, read_in_range}
 use Rattle.iobufs_core.proofs.LengthFacts.{no_length_later, spelled_later, still_closed}
 use Rattle.iobufs_core.specs.MarkedText.{MarkedText, text_rest}
+=======
+use Rattle.iobufs_core.proofs.CallerFacts.{bytes-view_between, length-bytes_written}
+use Rattle.iobufs_core.proofs.LengthFacts.{no_length_later, spelled_later, still_closed}
+>>>>>>> 79a5324ada5bd1c68cf675e892a700c8f2c8f6d4
 use Rattle.iobufs_core.specs.View.{View, view_slice}
-use Rattle.iobufs_core.specs.Wire.{IsViewRead, bytes_written, view_written}
+use Rattle.iobufs_core.specs.Wire.{bytes_written, view_written}
 use Rattle.iobufs_journal.specs.Crc.{crc32}
-use Rattle.iobufs_journal.specs.Journal.{AreShort, HasNoRecord, record_written, records_written, sealed, summed, up_to}
+use Rattle.iobufs_journal.specs.Journal.{AreShort, HasNoRecord, record_written, records_written, sealed, summed}
 use Rattle.iobufs_journal.specs.declared.journal.JournalEnd.TheVariants.{Damaged}
 use Rattle.std.specs.declared.ops.Bound.TheVariants.{Included, Excluded}
 
@@ -74,39 +76,6 @@ unsealed_body number len framed body is long slice =
     ∙ ap (λ n. drop 8 (take (n - 4) framed.bytes)) long in
     sealed_is number framed.bytes is ∙ ap (sealed number) (sym bytes)
 
--- a record was found, where a frame was taken
-pub found_record : (most number : ℕ) (text left : MarkedText) (framed body : View) (found : Option View) → IsViewRead text (up_to most) (Ok framed)
-    → left ≡ text_rest text (length (view_written framed))
-    → found ≡ Some body → IfSome found (λ b. framed.bytes ≡ sealed number b.bytes) → text.bytes ≡ record_written number body.bytes ++ left.bytes
-found_record most number text left framed body found is rest e seal =
-    read_and_left text left (up_to most) (Ok framed) is rest
-    ∙ ap (λ w. bytes_written w ++ left.bytes) (subst (λ (o : Option View). IfSome o (λ b. framed.bytes ≡ sealed number b.bytes)) e seal)
-
--- a record that was found is short enough
-pub found_short : (most number : ℕ) (text : MarkedText) (framed body : View) (found : Option View) → IsViewRead text (up_to most) (Ok framed)
-    → found ≡ Some body → IfSome found (λ b. framed.bytes ≡ sealed number b.bytes) → 12 + length body.bytes ≤ most
-found_short most number text framed body found is e seal =
-    let sealed_so : framed.bytes ≡ sealed number body.bytes = subst (λ (o : Option View). IfSome o (λ b. framed.bytes ≡ sealed number b.bytes)) e seal in
-    omega (arith, read_at_most text (up_to most) (Ok framed) is, ap (λ (w : List ℕ). length w) sealed_so, length-sealed number body.bytes)
-
--- a frame that isn't sealed with this number is no record: the bytes are damaged
-pub no_record : (most number : ℕ) (text left : MarkedText) (framed : View) (found : Option View) (empty : Bool)
-    → IsViewRead text (up_to most) (Ok framed) → left ≡ text_rest text (length (view_written framed))
-    → found ≡ None → IfNone found (IsSealed number framed.bytes → ⊥) → empty ≡ (length text.bytes == 0) → empty ≡ false
-    → HasNoRecord most number text.bytes Damaged
-no_record most number text left framed found empty is rest e none test more =
-    let some : 0 < length text.bytes = grind (arith, nat_tests, test, more) in
-    let never : IsSealed number framed.bytes → ⊥ = subst (λ (o : Option View). IfNone o (IsSealed number framed.bytes → ⊥)) e none in (
-      some,
-      inr (
-        framed.bytes,
-        left.bytes,
-        (read_in_range text (up_to most) (Ok framed) is).0,
-        read_and_left text left (up_to most) (Ok framed) is rest,
-        λ body f. never (is_sealed number framed.bytes body f),
-      ),
-    )
-
 -- where a text is damaged at the front, so it is with more bytes after it
 pub stays_damaged : (most number : ℕ) (bytes more : List ℕ) → HasNoRecord most number bytes Damaged → HasNoRecord most number (bytes ++ more) Damaged
 stays_damaged most number bytes more none =
@@ -132,3 +101,8 @@ written_on k (f ∷ fs) gs =
     let next : suc k + length fs ≡ k + suc (length fs) = omega arith in
     ap (λ w. record_written k f ++ w) (written_on (suc k) fs gs ∙ ap (λ n. records_written (suc k) fs ++ records_written n gs) next)
     ∙ sym (append_assoc (record_written k f) (records_written (suc k) fs) (records_written (k + suc (length fs)) gs))
+
+-- one record more is written after the others, with the number after theirs
+pub written_more : (k : ℕ) (fs : List (List ℕ)) (body : List ℕ)
+    → records_written k (fs ++ body ∷ []) ≡ records_written k fs ++ record_written (k + length fs) body
+written_more k fs body = written_on k fs (body ∷ []) ∙ ap (λ w. records_written k fs ++ w) (append-nil (record_written (k + length fs) body))

@@ -3,6 +3,5 @@ pub mod Ending
 pub mod Journal
 pub mod JournalLaws
 pub mod Lines
-pub mod ReplayLaw
+pub mod Readings
 pub mod Scan
-pub mod SomeJournal

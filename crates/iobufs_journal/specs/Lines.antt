@@ -1,21 +1,19 @@
 -- Lines that become the records of a journal.
 --     lines_of, with_first     the lines of some bytes; and with a byte more at the front
---     HasNoEnd, IsLine         no line ends in these bytes; a line ends at this offset and not before
+--     HasNoEnd, IsLine         no line ends in these bytes; the first line ends at this offset, or the bytes do
 --     most_bytes               how many bytes a record may have after its length
---     MayContinue, AreTaken         the line that was begun last may go on, or is too long; a piece became lines and such a
---                              one
---     ArePut                   these lines are held as records, numbered on
+--     HasLongLine, IsLast      a line is too long for a record; why no more lines were taken
+--     AreHeld                  these records were written, or are held
+--     IsGoing, IsDone          the lines of the bytes so far are records, except one that was begun; those of all bytes
 --     IsEnded, IsFinished      the line that was begun is held as a record; and at the end of the input, where there
 --                              may be none
---     TakesLines, TakesAll     the lines of a piece are held as records; those of all bytes were written
---     HasLongLine, IsLast      a line is too long for a record; why no more lines were taken
+--     TakesLines               the lines of a piece are held as records, or one is too long
 --     IsAppended               these lines went to a writer as records, and why no more of them
---     HasBegun, IsCutShort      a writer took some of the first of these bytes; of the bytes of some records
---     IsEmpty                  no record and no line is held
-use Rattle.std.specs.Prelude.{◌≡◌, ◌⊎◌, ℕ, ◌+◌, ◌<◌, ◌≤◌, ◌==◌, if◌then◌else◌, Bool, true, false, Option, List, [], ◌∷◌, ◌++◌, length, take, drop}
+--     HasBegun, IsCutShort     a writer took some of the first of these bytes; of the bytes of some records
+use Rattle.std.specs.Prelude.{◌≡◌, ℕ, ◌+◌, ◌<◌, ◌≤◌, ◌==◌, if◌then◌else◌, Bool, true, false, Option, List, [], ◌∷◌, ◌++◌, length, take, drop}
 use Rattle.std.specs.Io.KnownBytes.{Appends}
-use Rattle.iobufs_core.specs.Part.{part_capacity, part_put}
-use Rattle.iobufs_journal.specs.Journal.{AreShort, records_written}
+use Rattle.iobufs_core.specs.Part.{part_put}
+use Rattle.iobufs_journal.specs.Journal.{AreShort, record_written, records_written}
 use Rattle.iobufs_journal.specs.declared.lines.Lines.{Lines}
 
 -- a byte before the first line, or a line of its own
@@ -33,50 +31,15 @@ abbrev pub HasNoEnd : List ℕ → Type 0
 HasNoEnd [] = Unit {0}
 HasNoEnd (byte ∷ bytes) = ((byte == 10) ≡ false) × HasNoEnd bytes
 
--- a line that is taken from the front of bytes, and its end
+-- no line ends before this offset; there one does, or the bytes do
 pub record IsLine (bytes : List ℕ) (at : ℕ) : Type 0 where
-  pub inside : at < length bytes
+  pub inside : at ≤ length bytes
   pub free : HasNoEnd (take at bytes)
-  pub whole : bytes ≡ take at bytes ++ 10 ∷ drop (at + 1) bytes
+  pub whole : at < length bytes → bytes ≡ take at bytes ++ 10 ∷ drop (at + 1) bytes
 
 -- how many bytes a record may have after its length
 abbrev pub most_bytes : ℕ
 most_bytes = 1048576
-
--- The last line that was taken from a piece may go on: it isn't too long, or what is left of the piece wasn't looked at
-abbrev pub MayContinue : List ℕ → List ℕ → Bool → Type 0
-MayContinue line left true = most_bytes < 12 + length line
-MayContinue line left false = (left ≡ []) × (12 + length line ≤ most_bytes)
-
--- Lines were taken from a piece after a line that was begun, and then a line was begun, whatever is after the piece
-pub record AreTaken (old piece : List ℕ) (lines : List (List ℕ)) (new : List ℕ) (is_long : Bool) : Type 0 where
-  pub left : List ℕ
-  pub whole : (behind : List ℕ) → lines_of (old ++ (piece ++ behind)) ≡ lines ++ lines_of (new ++ (left ++ behind))
-  pub free : HasNoEnd new
-  pub open_so : MayContinue new left is_long
-  pub short : AreShort most_bytes lines
-
--- records are held after those that were, as many as the number grew
-pub record ArePut (old new : Lines) (lines : List (List ℕ)) : Type 0 where
-  pub put : new.out ≡ part_put old.out (records_written old.number lines)
-  pub counted : new.number ≡ old.number + length lines
-  pub room : part_capacity new.out ≡ part_capacity old.out
-
--- the line that was begun is held as a record, and another begins; or it is too long, and nothing changed
-abbrev pub IsEnded : Lines → Lines → Bool → Type 0
-IsEnded old new true = (most_bytes < 12 + length old.begun.items) × (new ≡ old)
-IsEnded old new false = (12 + length old.begun.items ≤ most_bytes) × (new.begun.items ≡ []) × ArePut old new (old.begun.items ∷ [])
-
--- the lines of a piece are held as records
-pub record TakesLines (piece : List ℕ) (old new : Lines) (is_long : Bool) : Type 0 where
-  pub lines : List (List ℕ)
-  pub taken : AreTaken old.begun.items piece lines new.begun.items is_long
-  pub put : ArePut old new lines
-
--- a piece was taken, and a line that was begun is the last
-abbrev pub IsFinished : Lines → Lines → Bool → Type 0
-IsFinished old new is_long =
-    ((0 < length old.begun.items) × IsEnded old new is_long) ⊎ ((old.begun.items ≡ []) × (new ≡ old) × (is_long ≡ false))
 
 -- a line that is too long follows those that were taken
 pub record HasLongLine (text : List ℕ) (taken : List (List ℕ)) : Type 0 where
@@ -90,13 +53,41 @@ abbrev pub IsLast : List ℕ → List (List ℕ) → Bool → Type 0
 IsLast text taken true = HasLongLine text taken
 IsLast text taken false = lines_of text ≡ taken
 
--- the lines of a text went to a writer as records
-pub record TakesAll (held holds : Option (List ℕ)) (text : List ℕ) (old new : Lines) (is_long : Bool) : Type 0 where
-  pub lines : List (List ℕ)
-  pub put : Appends held holds (records_written old.number lines)
-  pub counted : new.number ≡ old.number + length lines
-  pub short : AreShort most_bytes lines
-  pub last : IsLast text lines is_long
+-- these records were written from a number on, and then those that are held
+pub record AreHeld (first : ℕ) (written : List ℕ) (lines : Lines) (taken : List (List ℕ)) : Type 0 where
+  pub short : AreShort most_bytes taken
+  pub put : written ++ lines.out.filled ≡ records_written first taken
+  pub counted : lines.number ≡ first + length taken
+
+-- the lines of what was read are written or held, except one that was begun, whatever follows
+pub record IsGoing (first : ℕ) (read written : List ℕ) (lines : Lines) : Type 0 where
+  pub taken : List (List ℕ)
+  pub held : AreHeld first written lines taken
+  pub free : HasNoEnd lines.begun.items
+  pub fits : 12 + length lines.begun.items ≤ most_bytes
+  pub whole : (behind : List ℕ) → lines_of (read ++ behind) ≡ taken ++ lines_of (lines.begun.items ++ behind)
+
+-- the lines of a text are written or held, as many as are taken
+pub record IsDone (first : ℕ) (text written : List ℕ) (lines : Lines) (is_long : Bool) : Type 0 where
+  pub taken : List (List ℕ)
+  pub held : AreHeld first written lines taken
+  pub last : IsLast text taken is_long
+
+-- the line that was begun is held as a record, and another begins
+pub record IsEnded (old new : Lines) : Type 0 where
+  pub fresh : new.begun.items ≡ []
+  pub put : new.out ≡ part_put old.out (record_written old.number old.begun.items)
+  pub next : new.number ≡ old.number + 1
+
+-- if the input ends, all its lines are held
+abbrev pub IsFinished : Lines → Lines → Type 0
+IsFinished old new = (first : ℕ) (read written : List ℕ) → IsGoing first read written old → IsDone first read written new false
+
+-- the lines of a piece are held after those before it; or one is too long, whatever follows
+abbrev pub TakesLines : List ℕ → Lines → Lines → Bool → Type 0
+TakesLines piece old new false = (first : ℕ) (read written : List ℕ) → IsGoing first read written old → IsGoing first (read ++ piece) written new
+TakesLines piece old new true =
+    (first : ℕ) (read written behind : List ℕ) → IsGoing first read written old → IsDone first (read ++ (piece ++ behind)) written new true
 
 -- Lines of a text went to a writer as records, numbered from one on; so many, and all of them but where one is too long
 pub record IsAppended (text : List ℕ) (first count : ℕ) (is_long : Bool) (held holds : Option (List ℕ)) : Type 0 where
@@ -115,9 +106,3 @@ pub record IsCutShort (first : ℕ) (held holds : Option (List ℕ)) : Type 0 wh
   pub lines : List (List ℕ)
   pub short : AreShort most_bytes lines
   pub put : HasBegun held holds (records_written first lines)
-
--- no record and no line is held, and there is room for a line and a piece
-pub record IsEmpty (lines : Lines) : Type 0 where
-  pub none : lines.begun.items ≡ []
-  pub empty : lines.out.filled ≡ []
-  pub room : 1802250 ≤ lines.out.spare

@@ -1,22 +1,17 @@
 // The commands, over any file. `ending` and `lines` decide; this does it.
 use crate::disk::Disk;
-use crate::ending::{self, Plan};
+use crate::ending::{self, Plan, planned};
 use crate::failure::{Failure, named};
-use crate::journal::{Ending, JournalEnd, MOST};
+use crate::journal::{Ending, JournalEnd};
 use crate::lines;
-use crate::scan::Scan;
+use crate::scan::print;
 use std::alloc::Global;
-use std::io::{Read, Write};
+use std::io::{self, Read, Take, Write};
 
-// The length of a journal, which is read from its front then. Bytes that are written later aren't read.
-fn rewound<D: Disk>(disk: &mut D) -> Result<u64, Failure> {
-    named("cannot measure it", disk.rewind())
-}
-
-// How a journal ends.
-fn ending_of<D: Disk>(alloc: Global, disk: &mut D) -> Result<Ending, Failure> {
-    let len = rewound(disk)?;
-    ending::read(alloc, &mut Read::by_ref(disk).take(len))
+// A journal's bytes, from its front. Those that are written later aren't read.
+fn front<D: Disk>(disk: &mut D) -> Result<Take<&mut D>, Failure> {
+    let len = named("cannot measure it", disk.rewind())?;
+    Ok(Read::by_ref(disk).take(len))
 }
 
 fn find<D: Disk>(disk: &mut D) -> Result<(), Failure> {
@@ -32,19 +27,21 @@ fn claimed<D: Disk>(alloc: Global, disk: &mut D) -> Result<Ending, Failure> {
         return Err(Failure::Locked);
     }
     find(disk)?;
-    ending_of(alloc, disk)
+    print(alloc, &mut front(disk)?, &mut io::sink())
 }
 
-// Cuts off what follows the records.
-fn cut<D: Disk>(disk: &mut D, ending: Ending) -> Result<(), Failure> {
+// Cuts off what follows the records, and returns how many bytes.
+fn cut<D: Disk>(disk: &mut D, ending: Ending) -> Result<u64, Failure> {
+    let len = named("cannot measure it", disk.rewind())?;
     named("cannot cut it", disk.cut(ending.taken))?;
-    named("cannot sync it", disk.flush())
+    named("cannot sync it", disk.flush())?;
+    Ok(len.saturating_sub(ending.taken))
 }
 
 // The number of a journal's records after its torn end, if it has one, is cut off.
 fn cut_back<D: Disk>(alloc: Global, disk: &mut D) -> Result<u64, Failure> {
-    let ending = ending_of(alloc, disk)?;
-    if ending::planned(ending.end, true, false) == Plan::Cut {
+    let ending = print(alloc, &mut front(disk)?, &mut io::sink())?;
+    if planned(ending.end, true, false) == Plan::Cut {
         cut(disk, ending)?;
     }
     Ok(ending.found)
@@ -59,7 +56,7 @@ pub fn append<D: Disk, R: Read, W: Write>(
     told: &mut W,
 ) -> Result<u8, Failure> {
     let ending = claimed(alloc, disk)?;
-    if ending::planned(ending.end, false, false) != Plan::Extend {
+    if planned(ending.end, false, false) != Plan::Keep {
         return Err(Failure::NotWhole(ending));
     }
     let failure = match lines::append(alloc, ending.found, from, disk) {
@@ -82,15 +79,12 @@ pub fn append<D: Disk, R: Read, W: Write>(
 
 /// Prints the records of a journal, a line each.
 pub fn replay<D: Disk, W: Write>(alloc: Global, disk: &mut D, to: &mut W) -> Result<u8, Failure> {
-    let len = rewound(disk)?;
-    let mut scan = Scan::new();
-    let end = scan.print(alloc, &mut Read::by_ref(disk).take(len), MOST, to)?;
+    let ending = print(alloc, &mut front(disk)?, to)?;
     named("cannot print", to.flush())?;
-    if end == JournalEnd::Whole {
+    if ending.end == JournalEnd::Whole {
         return Ok(0);
     }
-    let (found, taken) = (scan.number, scan.taken);
-    Err(Failure::NotWhole(Ending { found, taken, end }))
+    Err(Failure::NotWhole(ending))
 }
 
 /// Prints how a journal ends, and returns the status.
@@ -100,8 +94,7 @@ pub fn check<D: Disk, W: Write>(
     disk: &mut D,
     to: &mut W,
 ) -> Result<u8, Failure> {
-    let len = rewound(disk)?;
-    ending::check(alloc, name, &mut Read::by_ref(disk).take(len), to)
+    ending::check(alloc, name, &mut front(disk)?, to)
 }
 
 /// Cuts off a journal's torn end, or a damaged one if that is forced, and prints how many bytes went.
@@ -113,12 +106,11 @@ pub fn repair<D: Disk, W: Write>(
     to: &mut W,
 ) -> Result<u8, Failure> {
     let ending = claimed(alloc, disk)?;
-    let gone = rewound(disk)?.saturating_sub(ending.taken);
-    match ending::planned(ending.end, true, is_forced) {
-        Plan::Refuse => return Err(Failure::NotWhole(ending)),
+    let gone = match planned(ending.end, true, is_forced) {
+        Plan::Keep => 0,
         Plan::Cut => cut(disk, ending)?,
-        Plan::Keep | Plan::Extend => {}
-    }
+        Plan::Refuse => return Err(Failure::NotWhole(ending)),
+    };
     named(
         "cannot print",
         writeln!(to, "{name}: {gone} bytes were cut off"),

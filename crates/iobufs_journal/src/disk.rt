@@ -1,7 +1,7 @@
 // A journal's file: all that a command does to one.
 use std::fs::{self, File, Metadata, OpenOptions, TryLockError};
 use std::io::{self, ErrorKind, Read, Seek, Write};
-use std::os::unix::fs::{MetadataExt, OpenOptionsExt};
+use std::os::unix::fs::MetadataExt;
 
 /// A journal's file, for which a test can put another. Bytes are written to its end, and `flush` syncs it if that was asked
 /// for.
@@ -25,9 +25,7 @@ pub struct HostFile<'a> {
     rt: &'a HostRuntime,
     name: &'a str,
     file: File,
-    // Whether `flush` syncs it, and whether its folder was synced.
     is_durable: bool,
-    is_folder_synced: bool,
 }
 
 fn test_kind(found: &Metadata) -> io::Result<()> {
@@ -37,46 +35,37 @@ fn test_kind(found: &Metadata) -> io::Result<()> {
     Err(io::Error::new(ErrorKind::InvalidInput, "not a regular file"))
 }
 
-// Makes a file for its owner alone, unless one is there.
-fn make(rt: &HostRuntime, name: &str) -> io::Result<()> {
-    let mut how = OpenOptions::new();
-    match how.append(true).create_new(true).mode(0o600).open(rt, name) {
-        Err(error) if error.kind() != ErrorKind::AlreadyExists => Err(error),
-        _ => Ok(()),
-    }
+fn sync_folder(rt: &HostRuntime, name: &str) -> io::Result<()> {
+    let mut path = fs::canonicalize(rt, name)?;
+    path.pop();
+    File::open(rt, path.as_str())?.sync_all()
 }
 
 impl<'a> HostFile<'a> {
-    /// Opens a regular file to append to it, to cut it, or else to read it. The first makes it if there is none.
+    /// Opens a regular file. If it is durable, its name is synced, and `flush` syncs its bytes.
     pub fn open(
         rt: &'a HostRuntime,
         name: &'a str,
-        is_appended: bool,
-        is_cut: bool,
+        how: &OpenOptions,
         is_durable: bool,
     ) -> io::Result<HostFile<'a>> {
-        if is_appended {
-            make(rt, name)?;
-        }
         // To open a file of another kind could wait.
-        test_kind(&fs::metadata(rt, name)?)?;
-        let mut how = OpenOptions::new();
-        how.read(true).write(is_cut);
-        let file = how.append(is_appended).open(rt, name)?;
+        match fs::metadata(rt, name) {
+            Ok(found) => test_kind(&found)?,
+            Err(error) if error.kind() == ErrorKind::NotFound => {}
+            Err(error) => return Err(error),
+        }
+        let file = how.open(rt, name)?;
         test_kind(&file.metadata()?)?;
+        if is_durable {
+            sync_folder(rt, name)?;
+        }
         Ok(HostFile {
             rt,
             name,
             file,
             is_durable,
-            is_folder_synced: false,
         })
-    }
-
-    fn sync_folder(&self) -> io::Result<()> {
-        let mut path = fs::canonicalize(self.rt, self.name)?;
-        path.pop();
-        File::open(self.rt, path.as_str())?.sync_all()
     }
 }
 
@@ -92,13 +81,8 @@ impl Write for HostFile<'_> {
     }
 
     fn flush(&mut self) -> io::Result<()> {
-        if !self.is_durable {
-            return Ok(());
-        }
-        self.file.sync_all()?;
-        if !self.is_folder_synced {
-            self.sync_folder()?;
-            self.is_folder_synced = true;
+        if self.is_durable {
+            return self.file.sync_all();
         }
         Ok(())
     }

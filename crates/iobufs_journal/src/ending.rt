@@ -1,34 +1,22 @@
 // How a journal ends, and what a command does then.
 ghost use Rattle.std.specs.Prelude.{◌≡◌, IfOk, IfSome};
-ghost use Rattle.iobufs_journal.specs.Ending.{HasEnding, IsChecked, plan_of, status_of};
+ghost use Rattle.iobufs_journal.specs.Ending.{IsChecked, plan_of, status_of};
 
 use crate::failure::Failure;
-use crate::journal::{Ending, JournalEnd, MOST};
-use crate::scan::Scan;
+use crate::journal::JournalEnd;
+use crate::scan::print;
 use std::alloc::Global;
 use std::io::{self, Read, Write};
 
-/// The change that a command makes.
+/// The change that a command makes first.
 #[derive(Clone, Copy, Debug, PartialEq, Eq)]
 pub enum Plan {
     /// Nothing: the journal is whole.
     Keep,
     /// It cuts off what follows the records.
     Cut,
-    /// It puts records after them.
-    Extend,
-    /// Nothing: the journal isn't whole.
+    /// Nothing, and the command fails: the journal isn't whole.
     Refuse,
-}
-
-/// Reads a journal from its front.
-pub fn read<R: Read>(alloc: Global, from: &mut R) -> Result<Ending, Failure>
-    ensures { IfOk result (λ ending. IfSome (R.remaining from.old) (λ text. HasEnding text ending)) }
-{
-    let mut scan = Scan::new();
-    let end = scan.print(alloc, from, MOST, &mut io::sink())?;
-    let (found, taken) = (scan.number, scan.taken);
-    Ok(Ending { found, taken, end })
 }
 
 /// Plans to append, or to repair if `is_repair`: a torn end is cut off, a damaged one if that is forced.
@@ -36,15 +24,10 @@ pub fn planned(end: JournalEnd, is_repair: bool, is_forced: bool) -> Plan
     ensures { result ≡ plan_of end is_repair is_forced }
 {
     match end {
-        JournalEnd::Whole => { if is_repair { Plan::Keep } else { Plan::Extend } }
-        JournalEnd::Torn => { if is_repair { Plan::Cut } else { Plan::Refuse } }
-        JournalEnd::Damaged => {
-            if is_repair && is_forced {
-                Plan::Cut
-            } else {
-                Plan::Refuse
-            }
-        }
+        JournalEnd::Whole => Plan::Keep,
+        JournalEnd::Torn if is_repair => Plan::Cut,
+        JournalEnd::Damaged if is_repair && is_forced => Plan::Cut,
+        JournalEnd::Torn | JournalEnd::Damaged => Plan::Refuse,
     }
 }
 
@@ -67,7 +50,7 @@ pub fn check<R: Read, W: Write>(
 ) -> Result<u8, Failure>
     ensures { IfOk result (λ status. IfSome (R.remaining from.old) (λ text. IsChecked name.now text (W.contents to.old) (W.contents to.new) status)) }
 {
-    let ending = read(alloc, from)?;
+    let ending = print(alloc, from, &mut io::sink())?;
     match writeln!(to, "{name}: {ending}") {
         Ok(()) => Ok(status(ending.end)),
         Err(error) => Err(Failure::Failed("cannot print", error)),

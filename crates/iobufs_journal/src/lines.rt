@@ -1,13 +1,14 @@
 // Lines that become the records of a journal.
-ghost use Rattle.std.specs.Prelude.{◌≡◌, ◌+◌, ◌*◌, ◌≤◌, ◌<◌, ◌^◌, [], length, IfNone, IfOk, IfSome, OnErr, OnOk, take};
-ghost use Rattle.std.specs.Io.KnownBytes.{Appends, Keeps};
+ghost use Rattle.std.specs.Prelude.{◌≡◌, ◌+◌, ◌-◌, ◌*◌, ◌≤◌, [], length, IfOk, IfSome, OnErr, OnOk};
+ghost use Rattle.std.specs.Io.KnownBytes.{Appends};
 ghost use Rattle.iobufs_core.specs.Part.{part_capacity};
-ghost use Rattle.iobufs_journal.specs.Lines.{HasNoEnd, IsAppended, HasBegun, IsCutShort, IsEmpty, IsEnded, IsFinished, IsLine, TakesAll, TakesLines};
+ghost use Rattle.iobufs_journal.specs.Lines.{HasBegun, IsAppended, IsCutShort, IsEnded, IsFinished, IsLine, TakesLines};
 
 use crate::failure::{Failure, too_large};
 use crate::journal::{MOST, put_record};
 use crate::scan::{next_number, read_piece};
 use iobufs_core::buf::IoBufMut;
+use memchr::memchr;
 use std::alloc::Global;
 use std::io::{self, ErrorKind, Read, Write};
 
@@ -22,15 +23,19 @@ const ROOM: usize = MOST_LINE + 23 * PIECE + 22;
 
 const WRITE: &'static str = "cannot write the journal";
 
-// Writes once, and again if a signal interrupts it.
-fn write_again<W: Write>(bytes: &[u8], to: &mut W) -> Result<usize, Failure>
-    ensures took { IfOk result (λ n. (0 < n) × (n ≤ length bytes.now) × Appends (W.contents to.old) (W.contents to.new) (take n bytes.now)) }
-    ensures none { OnErr result (Keeps (W.contents to.old) (W.contents to.new)) }
+// Writes all bytes, and tries again if a signal interrupts it. If that fails, the writer took only some of the first.
+fn put_all<W: Write>(bytes: &[u8], to: &mut W) -> Result<(), Failure>
+    ensures all { OnOk result (Appends (W.contents to.old) (W.contents to.new) bytes.now) }
+    ensures some { OnErr result (HasBegun (W.contents to.old) (W.contents to.new) bytes.now) }
 {
+    let mut at = 0;
     for _ in 0..u64::MAX {
-        match to.write(bytes) {
+        if at == bytes.len() {
+            return Ok(());
+        }
+        match to.write(&bytes[at..]) {
             Ok(0) => return Err(Failure::Failed(WRITE, io::Error::from(ErrorKind::WriteZero))),
-            Ok(n) => return Ok(n),
+            Ok(n) => at += n,
             Err(error) => {
                 if error.kind() != ErrorKind::Interrupted {
                     return Err(Failure::Failed(WRITE, error));
@@ -41,29 +46,11 @@ fn write_again<W: Write>(bytes: &[u8], to: &mut W) -> Result<usize, Failure>
     Err(too_large())
 }
 
-// Writes all bytes. If that fails, the writer took only some of the first.
-fn put_all<W: Write>(bytes: &[u8], to: &mut W) -> Result<(), Failure>
-    ensures all { OnOk result (Appends (W.contents to.old) (W.contents to.new) bytes.now) }
-    ensures some { OnErr result (HasBegun (W.contents to.old) (W.contents to.new) bytes.now) }
+// Where the first line ends, or the bytes do.
+fn line_end(bytes: &[u8]) -> usize
+    ensures { IsLine bytes.now result }
 {
-    let mut at = 0;
-    while at < bytes.len() {
-        at += write_again(&bytes[at..], to)?;
-    }
-    Ok(())
-}
-
-// Where the first line ends.
-fn line_end(bytes: &[u8]) -> Option<usize>
-    ensures some { IfSome result (IsLine bytes.now) }
-    ensures none { IfNone result (HasNoEnd bytes.now) }
-{
-    for at in 0..bytes.len() {
-        if bytes[at] == b'\n' {
-            return Some(at);
-        }
-    }
-    None
+    memchr(b'\n', bytes).unwrap_or(bytes.len())
 }
 
 // Lines on their way to a journal.
@@ -78,45 +65,45 @@ struct Lines {
 }
 
 impl Lines {
-    // A line that ends, as a record, unless it is too long.
-    fn end_line(&mut self) -> Result<bool, Failure>
+    // Holds the line that was begun as a record.
+    fn end_line(&mut self) -> Result<(), Failure>
         requires { length self.old.begun.items + 22 ≤ self.old.out.spare }
-        ensures { IfOk result (IsEnded self.old self.new) }
+        ensures { OnOk result (IsEnded self.old self.new) }
     {
-        if self.begun.len() > MOST_LINE {
-            return Ok(true);
-        }
         put_record(&mut self.out, self.number, self.begun.as_slice());
         self.number = next_number(self.number)?;
         self.begun.clear();
-        Ok(false)
+        Ok(())
     }
 
-    // The lines of a piece after the line that was begun, until one is too long.
+    // Holds the lines of a piece, the first after the line that was begun. Ends at one that is too long.
     fn take_lines(&mut self, piece: &[u8]) -> Result<bool, Failure>
-        requires room { length self.old.begun.items + 23 * length piece.now + 22 ≤ self.old.out.spare }
-        requires free { HasNoEnd self.old.begun.items }
-        ensures { IfOk result (TakesLines piece.now self.old self.new) }
+        requires { length self.old.begun.items + 23 * length piece.now + 22 ≤ self.old.out.spare }
+        ensures taken { IfOk result (TakesLines piece.now self.old self.new) }
+        ensures room { OnOk result (part_capacity self.new.out ≡ part_capacity self.old.out) }
     {
         let mut rest = piece;
-        while let Some(at) = line_end(rest) {
-            self.begun.extend_from_slice(&rest[..at])?;
-            if self.end_line()? {
+        loop {
+            let end = line_end(rest);
+            self.begun.extend_from_slice(&rest[..end])?;
+            if self.begun.len() > MOST_LINE {
                 return Ok(true);
             }
-            rest = &rest[at + 1..];
+            if end == rest.len() {
+                return Ok(false);
+            }
+            self.end_line()?;
+            rest = &rest[end + 1..];
         }
-        self.begun.extend_from_slice(rest)?;
-        Ok(self.begun.len() > MOST_LINE)
     }
 
-    // The last line, which nothing ends.
-    fn finish(&mut self) -> Result<bool, Failure>
+    // Holds the last line, which nothing ends.
+    fn finish(&mut self) -> Result<(), Failure>
         requires { length self.old.begun.items + 22 ≤ self.old.out.spare }
-        ensures { IfOk result (IsFinished self.old self.new) }
+        ensures { OnOk result (IsFinished self.old self.new) }
     {
         if self.begun.is_empty() {
-            return Ok(false);
+            return Ok(());
         }
         self.end_line()
     }
@@ -134,34 +121,6 @@ impl Lines {
             Ok(()) => Ok(()),
             Err(error) => Err(Failure::Failed(WRITE, error)),
         }
-    }
-
-    // The lines of a reader, until one is too long. Those of a piece are written before the next one is read.
-    fn take_all<R: Read, W: Write>(
-        &mut self,
-        alloc: Global,
-        from: &mut R,
-        to: &mut W,
-    ) -> Result<bool, Failure>
-        requires { IsEmpty self.old }
-        ensures taken { IfOk result
-            (λ is_long. IfSome (R.remaining from.old) (λ text. TakesAll (W.contents to.old) (W.contents to.new) text self.old self.new is_long)) }
-        ensures torn { OnErr result (IsCutShort self.old.number (W.contents to.old) (W.contents to.new)) }
-    {
-        for _ in 0..u64::MAX {
-            let piece = read_piece(alloc, from, "cannot read the input", PIECE)?;
-            if piece.is_empty() {
-                let is_long = self.finish()?;
-                self.send(to)?;
-                return Ok(is_long);
-            }
-            let is_long = self.take_lines(&piece)?;
-            self.send(to)?;
-            if is_long {
-                return Ok(true);
-            }
-        }
-        Err(too_large())
     }
 }
 
@@ -183,6 +142,18 @@ pub fn append<R: Read, W: Write>(
         begun: Vec::with_capacity(alloc, MOST_LINE + PIECE)?,
         number: first,
     };
-    let is_long = lines.take_all(alloc, from, to)?;
-    Ok((lines.number.saturating_sub(first), is_long))
+    for _ in 0..u64::MAX {
+        let piece = read_piece(alloc, from, "cannot read the input", PIECE)?;
+        if piece.is_empty() {
+            lines.finish()?;
+            lines.send(to)?;
+            return Ok((lines.number.saturating_sub(first), false));
+        }
+        let is_long = lines.take_lines(&piece)?;
+        lines.send(to)?;
+        if is_long {
+            return Ok((lines.number.saturating_sub(first), true));
+        }
+    }
+    Err(too_large())
 }

@@ -10,33 +10,66 @@ mod journal;
 mod lines;
 mod scan;
 
+use clap::error::ErrorKind;
+use clap::{ArgMatches, Command, arg};
 use disk::HostFile;
 use failure::{Failure, named};
+use std::alloc::{AllocError, Global};
 use std::env;
+use std::fs::OpenOptions;
 use std::io::{self, BufWriter, Write};
-use std::os::fd::{AsFd, OwnedFd};
+use std::os::fd::AsFd;
+use std::os::unix::fs::OpenOptionsExt;
 use std::process::ExitCode;
 
-const USAGE: &'static str = "\
-usage: iobufs_journal append [--sync] FILE    appends each line of the standard input as a record
-       iobufs_journal replay FILE             prints the records, a line each
-       iobufs_journal check FILE..            says how many records there are, and how each journal ends
-       iobufs_journal repair [--force] FILE   cuts off a torn end; --force: a damaged one too
+const NOTE: &'static str = "\
+A line has at most 1048564 bytes.
+Status: 0 done and whole, 1 a journal that isn't whole, 2 wrong words, 3 something failed";
 
-A line has at most 1048564 bytes. --sync: the lines of one read are on the disk before the next read.
-status: 0 done and whole, 1 a journal that isn't whole, 2 wrong words, 3 something failed
-";
+// The words of a command on files.
+fn words_of<'a>(alloc: Global, name: &'a str, about: &'a str) -> Result<Command<'a>, AllocError> {
+    let file = arg!(in alloc; <FILE> "The journal");
+    let files = if name == "check" {
+        file.num_args(1..)
+    } else {
+        file
+    };
+    Command::new(alloc, name).about(about).arg(files)
+}
 
-// The standard stream once more, if it is open.
-fn again<F: AsFd>(stream: &F) -> io::Result<OwnedFd> {
-    stream.as_fd().try_clone_to_owned()
+fn words<'a>(alloc: Global) -> Result<Command<'a>, AllocError> {
+    let append = words_of(
+        alloc,
+        "append",
+        "Appends each line of the input as a record",
+    )?;
+    let sync = arg!(in alloc; --sync "Syncs the lines of one read before the next read");
+    let repair = words_of(alloc, "repair", "Cuts off a torn end")?;
+    let force = arg!(in alloc; --force "Cuts off a damaged end too");
+    Command::new(alloc, "iobufs_journal")
+        .about("A journal of lines in a file")
+        .after_help(NOTE)
+        .subcommand_required(true)
+        .disable_help_subcommand(true)
+        .subcommand(append.arg(sync)?)?
+        .subcommand(words_of(alloc, "replay", "Prints the records, a line each")?)?
+        .subcommand(words_of(alloc, "check", "Prints how each journal ends")?)?
+        .subcommand(repair.arg(force)?)
 }
 
 // Runs a command on a file.
-fn obey(rt: &HostRuntime, command: &str, is_flagged: bool, name: &str) -> Result<u8, Failure> {
+fn obey(
+    rt: &HostRuntime,
+    command: &str,
+    given: &ArgMatches<'_>,
+    name: &str,
+) -> Result<u8, Failure> {
     let alloc = rt.alloc();
     let (is_append, is_repair) = (command == "append", command == "repair");
-    let opened = HostFile::open(rt, name, is_append, is_repair, is_flagged || is_repair);
+    let mut how = OpenOptions::new();
+    how.read(true).write(is_repair).append(is_append);
+    how.create(is_append).mode(0o600);
+    let opened = HostFile::open(rt, name, &how, is_repair || given.get_flag("sync"));
     let mut disk = named("cannot open it", opened)?;
     match command {
         "append" => commands::append(alloc, name, &mut disk, &mut rt.stdin(), &mut rt.stderr()),
@@ -44,16 +77,19 @@ fn obey(rt: &HostRuntime, command: &str, is_flagged: bool, name: &str) -> Result
             let mut to = named("cannot print", BufWriter::new(alloc, rt.stdout()))?;
             commands::replay(alloc, &mut disk, &mut to)
         }
-        "repair" => commands::repair(alloc, name, &mut disk, is_flagged, &mut rt.stdout()),
+        "repair" => {
+            let is_forced = given.get_flag("force");
+            commands::repair(alloc, name, &mut disk, is_forced, &mut rt.stdout())
+        }
         _ => commands::check(alloc, name, &mut disk, &mut rt.stdout()),
     }
 }
 
-// Runs a command on files. The status is the worst.
-fn obey_all(rt: &HostRuntime, command: &str, is_flagged: bool, names: &[&str]) -> u8 {
+// Runs a command on its files. The status is the worst.
+fn obey_all(rt: &HostRuntime, command: &str, given: &ArgMatches<'_>) -> u8 {
     let mut worst = 0;
-    for name in names {
-        let status = match obey(rt, command, is_flagged, name) {
+    for name in given.get_strs("FILE").unwrap_or_default() {
+        let status = match obey(rt, command, given, name) {
             Ok(status) => status,
             Err(failure) => {
                 let _ = writeln!(rt.stderr(), "{name}: {failure}");
@@ -65,43 +101,24 @@ fn obey_all(rt: &HostRuntime, command: &str, is_flagged: bool, names: &[&str]) -
     worst
 }
 
-// Whether these are names, as many as the command takes, and no options.
-fn are_names(command: &str, words: &[&str]) -> bool {
-    let is_count = words.len() == 1 || (command == "check" && !words.is_empty());
-    is_count && words.iter().all(|word| !word.starts_with('-'))
-}
-
 fn run(rt: &HostRuntime) -> io::Result<u8> {
     // A file that is opened would take the place of a stream that is closed.
-    again(&rt.stdin())?;
-    again(&rt.stdout())?;
-    again(&rt.stderr())?;
-    let mut words = Vec::new(rt.alloc());
-    for word in env::args(rt)?.skip(1) {
-        words.push(word)?;
-    }
-    let mut args = Vec::new(rt.alloc());
-    for word in &words {
-        args.push(word.as_str())?;
-    }
-    match args.as_slice() {
-        ["--help"] | ["append" | "replay" | "check" | "repair", "--help"] => {
-            rt.stdout().write_all(USAGE.as_bytes())?;
-            Ok(0)
-        }
-        ["append", "--sync", names @ ..] if are_names("append", names) => {
-            Ok(obey_all(rt, "append", true, names))
-        }
-        ["repair", "--force", names @ ..] if are_names("repair", names) => {
-            Ok(obey_all(rt, "repair", true, names))
-        }
-        [
-            command @ ("append" | "replay" | "check" | "repair"),
-            names @ ..,
-        ] if are_names(command, names) => { Ok(obey_all(rt, command, false, names)) }
-        _ => {
-            let _ = rt.stderr().write_all(USAGE.as_bytes());
-            Ok(2)
+    rt.stdin().as_fd().try_clone_to_owned()?;
+    rt.stdout().as_fd().try_clone_to_owned()?;
+    rt.stderr().as_fd().try_clone_to_owned()?;
+    let given: Vec<String> = env::args(rt)?.collect(rt.alloc())?;
+    match words(rt.alloc())?.try_get_matches_from(given.as_slice()) {
+        Ok(matches) => match matches.subcommand() {
+            Some((command, given)) => Ok(obey_all(rt, command, given)),
+            None => Ok(2),
+        },
+        Err(error) => {
+            error.print(rt)?;
+            match error.kind() {
+                ErrorKind::DisplayHelp => Ok(0),
+                ErrorKind::OutOfMemory => Ok(3),
+                _ => Ok(2),
+            }
         }
     }
 }

@@ -5,7 +5,7 @@ ghost use Rattle.iobufs_journal.specs.Journal.{HasNoRecord, record_written};
 ghost use Rattle.iobufs_journal.specs.Scan.{IsFilled, IsPrinted};
 
 use crate::failure::{Failure, too_large};
-use crate::journal::{JournalEnd, front_record};
+use crate::journal::{Ending, JournalEnd, MOST, front_record};
 use iobufs_core::buf::IoBuf;
 use std::alloc::Global;
 use std::io::{ErrorKind, Read, Write};
@@ -13,15 +13,15 @@ use std::io::{ErrorKind, Read, Write};
 // How many bytes are read at a time, at least.
 const PIECE: usize = 1 << 16;
 
-/// An offset in a journal.
+// An offset in a journal.
 #[derive(Drop)]
-pub struct Scan {
-    /// The bytes that were read after it.
-    pub window: IoBuf,
-    /// How many records are before it.
-    pub number: u64,
-    /// How many bytes they take.
-    pub taken: u64,
+struct Scan {
+    // The bytes that were read after it.
+    window: IoBuf,
+    // How many records are before it.
+    number: u64,
+    // How many bytes they take.
+    taken: u64,
 }
 
 /// Returns the number after one.
@@ -31,26 +31,8 @@ pub fn next_number(number: u64) -> Result<u64, Failure>
     number.checked_add(1).ok_or_else(too_large)
 }
 
-// Reads once, and again if a signal interrupts it.
-fn read_again<R: Read>(from: &mut R, what: &'static str, piece: &mut [u8]) -> Result<usize, Failure>
-    ensures bound { IfOk result (λ n. n ≤ length piece.new) }
-    ensures took { IfOk result (λ n. Consumes (R.remaining from.old) (R.remaining from.new) (take n piece.new)) }
-    ensures end { IfOk result (λ n. n ≡ 0 → 0 < length piece.old → IsAtEnd (R.remaining from.new)) }
-{
-    for _ in 0..u64::MAX {
-        match from.read(piece) {
-            Ok(n) => return Ok(n),
-            Err(error) => {
-                if error.kind() != ErrorKind::Interrupted {
-                    return Err(Failure::Failed(what, error));
-                }
-            }
-        }
-    }
-    Err(too_large())
-}
-
-/// Reads at most `len` bytes by one read, which `what` names if it fails, which is tried again if a signal interrupts it. Returns none at the end alone.
+/// Reads at most `len` bytes by one read, and tries again if a signal interrupts it. `what` names it if it fails. Returns none
+/// at the end alone.
 pub fn read_piece<R: Read>(
     alloc: Global,
     from: &mut R,
@@ -64,9 +46,20 @@ pub fn read_piece<R: Read>(
 {
     let mut piece = Vec::new(alloc);
     piece.resize(len, 0)?;
-    let n = read_again(from, what, &mut piece)?;
-    piece.truncate(n);
-    Ok(piece)
+    for _ in 0..u64::MAX {
+        match from.read(&mut piece) {
+            Ok(n) => {
+                piece.truncate(n);
+                return Ok(piece);
+            }
+            Err(error) => {
+                if error.kind() != ErrorKind::Interrupted {
+                    return Err(Failure::Failed(what, error));
+                }
+            }
+        }
+    }
+    Err(too_large())
 }
 
 // Reads once after the bytes that are held, and says whether any came.
@@ -100,17 +93,6 @@ fn print_line<W: Write>(body: &[u8], to: &mut W) -> Result<(), Failure>
 }
 
 impl Scan {
-    /// Makes a scan of a journal's front.
-    pub fn new() -> Scan
-        ensures { (result.window.bytes ≡ []) × (result.number ≡ 0) × (result.taken ≡ 0) }
-    {
-        Scan {
-            window: IoBuf::default(),
-            number: 0,
-            taken: 0,
-        }
-    }
-
     // One record goes, and this is left.
     fn take(&mut self, rest: IoBuf) -> Result<(), Failure>
         requires { length rest.bytes ≤ length self.old.window.bytes }
@@ -124,33 +106,38 @@ impl Scan {
         Ok(())
     }
 
-    /// Prints the records of a journal that is read from its front, each of at most `most` bytes after its length, a line
-    /// each. Returns how it ends after them. At most a record and a piece are held.
-    pub fn print<R: Read, W: Write>(
-        &mut self,
-        alloc: Global,
-        from: &mut R,
-        most: usize,
-        to: &mut W,
-    ) -> Result<JournalEnd, Failure>
-        requires { (self.old.window.bytes ≡ []) × (self.old.number ≡ 0) × (self.old.taken ≡ 0) }
-        ensures { IfOk result
-            (λ end. IfSome (R.remaining from.old) (λ text. IsPrinted most text (W.contents to.old) (W.contents to.new) self.new.number self.new.taken end)) }
+    fn ending(&self, end: JournalEnd) -> Ending
+        ensures { (result.found ≡ self.now.number) × (result.taken ≡ self.now.taken) × (result.end ≡ end) }
     {
-        for _ in 0..u64::MAX {
-            match front_record(alloc, &self.window, self.number, most)? {
-                Ok(found) => {
-                    print_line(found.body.as_ref(), to)?;
-                    self.take(found.rest)?;
-                }
-                Err(JournalEnd::Damaged) => return Ok(JournalEnd::Damaged),
-                Err(end) => {
-                    if !fill(alloc, &mut self.window, from)? {
-                        return Ok(end);
-                    }
+        let (found, taken) = (self.number, self.taken);
+        Ending { found, taken, end }
+    }
+}
+
+/// Prints the records of a journal that is read from its front, a line each. Returns how it ends after them. At most a record
+/// and a piece are held.
+pub fn print<R: Read, W: Write>(alloc: Global, from: &mut R, to: &mut W) -> Result<Ending, Failure>
+    ensures { IfOk result
+        (λ ending. IfSome (R.remaining from.old) (λ text. IsPrinted text (W.contents to.old) (W.contents to.new) ending)) }
+{
+    let mut scan = Scan {
+        window: IoBuf::default(),
+        number: 0,
+        taken: 0,
+    };
+    for _ in 0..u64::MAX {
+        match front_record(alloc, &scan.window, scan.number, MOST)? {
+            Ok(found) => {
+                print_line(found.body.as_ref(), to)?;
+                scan.take(found.rest)?;
+            }
+            Err(JournalEnd::Damaged) => return Ok(scan.ending(JournalEnd::Damaged)),
+            Err(end) => {
+                if !fill(alloc, &mut scan.window, from)? {
+                    return Ok(scan.ending(end));
                 }
             }
         }
-        Err(too_large())
     }
+    Err(too_large())
 }

@@ -1,5 +1,4 @@
-use Rattle.iobufs_journal.specs.ReplayLaw.{replayed}
-use Rattle.iobufs_journal.specs.SomeJournal.{cut_short, one_journal}
+use Rattle.iobufs_journal.specs.Readings.{cut_short, one_journal, replayed}
 use Rattle.iobufs_journal.proofs.journal.journal_law.Goals as goal
 
 pub returns : goal.returns

@@ -1,5 +1,5 @@
-use Rattle.iobufs_journal.proofs.LineLaws.{free_more}
+use Rattle.iobufs_journal.proofs.LineLaws.{line_at}
 use Rattle.iobufs_journal.proofs.lines.line_end.Goals as goal
 
-pub loop-at-preserved : goal.loop-at-preserved
-loop-at-preserved c = free_more c.args.bytes.now c.loop-at.at c.loop-at-test.true c.loop-at.invariant c.if-bytes-at-eq10.false
+pub returns : goal.returns
+returns c = line_at _ _ _ c.memchr.ensures c.unwrap_or.ensures

@@ -1,9 +1,6 @@
-use Rattle.std.proofs.Common.{length, ◌≤◌, ◌-◌, take}
+use Rattle.std.proofs.Common.{length, ◌≤◌, take}
 use Rattle.std.specs.Io.KnownBytes.{Appends}
 use Rattle.iobufs_journal.proofs.lines.put_all.Given as goal
 
-abbrev pub invariant-loop-at : goal.invariant-loop-at
-invariant-loop-at g l = (l.at ≤ length l.bytes) × Appends (g.W.Write.contents l.fn.to) (g.W.Write.contents l.to) (take l.at l.bytes)
-
-abbrev pub decreases-loop-at : goal.decreases-loop-at
-decreases-loop-at g l = length l.bytes - l.at
+abbrev pub invariant-loop : goal.invariant-loop
+invariant-loop g l = (l.at ≤ length l.fn.bytes) × Appends (g.W.Write.contents l.fn.to) (g.W.Write.contents l.to) (take l.at l.fn.bytes)

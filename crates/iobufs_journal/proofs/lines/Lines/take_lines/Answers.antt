@@ -1,15 +1,32 @@
-use Rattle.std.proofs.Common.{ap, nat_lt, refl, ◌∙◌}
+use Rattle.std.proofs.Common.{arith, refl}
 use Rattle.iobufs_journal.proofs.LineLaws.{line_taken, line_too_long, none_ended}
 use Rattle.iobufs_journal.proofs.lines.Lines.take_lines.Goals as goal
 
-pub returns-then-branch : goal.returns-then-branch
-returns-then-branch c = line_too_long c.args.piece.now c.loop-at.rest.now c.args.self.now c.loop-at.self _ c.end_line.new.self c.in-Some.at _
-    c.loop-at.invariant c.in-Some.ensures.some c.in_ok-extend_from_slice.ensures.items refl refl c.if-branch.true c.in_ok-end_line.ensures
+pub returns-then-len-gt-MOST_LINE-clause-taken : goal.returns-then-len-gt-MOST_LINE-clause-taken
+returns-then-len-gt-MOST_LINE-clause-taken c =
+    let long = c.if-len-gt-MOST_LINE.true in
+    let len = c.len.ensures in
+    line_too_long c.args.piece.now c.loop-self.rest.now c.args.self.now c.loop-self.self
+    (record { out = c.loop-self.self.out; begun = c.extend_from_slice.new.self; number = c.loop-self.self.number }) c.line_end-end.result
+    c.loop-self.invariant c.line_end-end.ensures c.in_ok-extend_from_slice.ensures.items refl refl
+    (omega (arith, long, len, c.extend_from_slice.new.self.ok.0))
 
-pub loop-at-preserved : goal.loop-at-preserved
-loop-at-preserved c = line_taken c.args.piece.now c.loop-at.rest.now _ c.args.self.now c.loop-at.self _ c.end_line.new.self c.in-Some.at _
-    c.loop-at.invariant c.in-Some.ensures.some c.in_ok-extend_from_slice.ensures.items refl refl c.if-branch.false c.in_ok-end_line.ensures refl
+pub returns-then-end-rest-clause-taken : goal.returns-then-end-rest-clause-taken
+returns-then-end-rest-clause-taken c =
+    let small = c.if-len-gt-MOST_LINE.false in
+    let len = c.len.ensures in
+    none_ended c.args.piece.now c.loop-self.rest.now c.args.self.now c.loop-self.self
+    (record { out = c.loop-self.self.out; begun = c.extend_from_slice.new.self; number = c.loop-self.self.number }) c.line_end-end.result
+    c.loop-self.invariant c.line_end-end.ensures c.if-end-rest.true c.in_ok-extend_from_slice.ensures.items refl refl
+    (omega (arith, small, len, c.extend_from_slice.new.self.ok.0))
 
-pub returns : goal.returns
-returns c = none_ended c.args.piece.now c.loop-at.rest.now c.args.self.now c.loop-at.self _ _ c.loop-at.invariant c.in_default.ensures.none
-    c.in_ok-extend_from_slice-2.ensures.items refl refl (ap (nat_lt 1048564) (c.len.ensures ∙ c.extend_from_slice-2.new.self.ok.0))
+pub loop-self-preserved : goal.loop-self-preserved
+loop-self-preserved c =
+    let small = c.if-len-gt-MOST_LINE.false in
+    let len = c.len.ensures in
+    let other = c.if-end-rest.false in
+    let inside = c.line_end-end.ensures.inside in
+    line_taken c.args.piece.now c.loop-self.rest.now _ c.args.self.now c.loop-self.self
+    (record { out = c.loop-self.self.out; begun = c.extend_from_slice.new.self; number = c.loop-self.self.number }) c.end_line.new.self
+    c.line_end-end.result c.loop-self.invariant c.line_end-end.ensures (omega (arith, other, inside)) c.in_ok-extend_from_slice.ensures.items refl refl
+    (omega (arith, small, len, c.extend_from_slice.new.self.ok.0)) c.in_ok-end_line.ensures refl

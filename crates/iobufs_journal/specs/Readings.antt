@@ -1,0 +1,356 @@
+-- Bytes have exactly one reading, their records, their end and their rest: so what was appended is replayed.
+--     read_alike, replayed    two readings are equal; records that were written are what is read
+--     one_journal             bytes have a reading, which is the only one
+--     cut_short               after a whole journal, the first bytes of records are the records that are whole among them
+use Rattle.std.specs.Prelude.{◌≡◌, ◌⊎◌, ℕ, zero, suc, ◌+◌, ◌-◌, ◌^◌, ◌<◌, ◌≤◌, nat_lt, if◌then◌else◌, Bool, true, false, Result, Ok, Err, List, [], ◌∷◌, ◌++◌, length, take, drop, refl, bytes_eq}
+use Rattle.std.specs.Cmp.Lexicographic.{bytes_decides}
+use Rattle.std.specs.Int.{w32, w64, to_be_bytes}
+use Rattle.std.proofs.Common.{append-nil, arith, inl, inr, ap, sym, subst, ◌∙◌, append_assoc, length-append, length-take, take-append-drop}
+use Rattle.std.proofs.Math.Seq.{take-append_seam, take-append-add, take-nil}
+use Rattle.std.proofs.lemmas.Bool.Decides.{nat_tests}
+use Rattle.std.proofs.lemmas.List.{append_cancel_left, length-drop, take-append-le}
+use Rattle.iobufs_core.proofs.CallerFacts.{one_front}
+use Rattle.iobufs_core.proofs.LengthFacts.{begun_open, less, some_answer}
+use Rattle.iobufs_core.specs.Ranges.{in_range}
+use Rattle.iobufs_core.specs.Spelled.{spelled_as_one, spelled_before}
+use Rattle.iobufs_core.specs.Spelling.{spell, IsSpelledAt}
+use Rattle.iobufs_core.specs.Wire.{IsLengthRead, bytes_written}
+use Rattle.iobufs_core.specs.declared.codec.base.Error.{Error}
+use Rattle.iobufs_core.specs.declared.codec.base.Error.TheVariants.{BadLayout, EndOfBuffer, InvalidVarint, InvalidLength, Memory, TooLong}
+use Rattle.iobufs_journal.specs.Crc.{crc32}
+use Rattle.iobufs_journal.specs.Journal.{AreAlike, AreShort, HasBadLength, HasNoRecord, HasOneJournal, IsJournal, IsTornAt, record_written, records_written, sealed, up_to, whole_of}
+use Rattle.iobufs_journal.specs.JournalLaws.{is_sealed, length-sealed, sealed_is, short_on, written_on}
+use Rattle.iobufs_journal.specs.declared.journal.JournalEnd.{JournalEnd}
+use Rattle.iobufs_journal.specs.declared.journal.JournalEnd.TheVariants.{Whole, Torn, Damaged}
+
+-- a number seals one body in one way
+one_body : (number : ℕ) (a b : List ℕ) → sealed number a ≡ sealed number b → a ≡ b
+one_body number a b e =
+    let num = to_be_bytes w64 number in
+    let sum = λ (w : List ℕ). to_be_bytes w32 (crc32 (num ++ w)) in
+    let long : length a ≡ length b = omega (arith, length-sealed number a, length-sealed number b, ap (λ (w : List ℕ). length w) e) in
+    let tail : a ++ sum a ≡ b ++ sum b = append_cancel_left num (a ++ sum a) (b ++ sum b) (sym (append_assoc num a (sum a)) ∙ e ∙ append_assoc num b (sum b)) in
+    sym (take-append_seam a (sum a)) ∙ ap (take (length a)) tail ∙ ap (λ n. take n (b ++ sum b)) long ∙ take-append_seam b (sum b)
+
+in_most : (most n : ℕ) → n ≤ most → in_range (up_to most) n ≡ true
+in_most most n h = grind (arith, nat_tests)
+
+-- ---- a frame, a torn one and a bad length exclude each other
+
+record BeginsFramed (bytes : List ℕ) (n : ℕ) : Type 0 where
+  at : IsSpelledAt bytes n
+  enough : length (spell n) + n ≤ length bytes
+
+framed_so : (bytes framed behind : List ℕ) → length framed < 2 ^ 64 → bytes ≡ bytes_written framed ++ behind → BeginsFramed bytes (length framed)
+framed_so bytes framed behind small is =
+    let n = length framed in record {
+      at = subst (λ (xs : List ℕ). IsSpelledAt xs n) (sym (is ∙ append_assoc (spell n) framed behind)) (spelled_before n (framed ++ behind) small);
+      enough = omega (
+        arith,
+        ap (λ (w : List ℕ). length w) is,
+        length-append (bytes_written framed) behind,
+        length-append (spell n) framed,
+      );
+    }
+
+not_torn : (most n : ℕ) (bytes : List ℕ) → BeginsFramed bytes n → IsTornAt most bytes → ⊥
+not_torn most n bytes frame (inl opened) = opened.0 n frame.at
+not_torn most n bytes frame (inr (m, (at, inside), few)) =
+    let enough = frame.enough in
+    let same : length (spell m) + m ≡ length (spell n) + n = ap (λ k. length (spell k) + k) (spelled_as_one bytes m n at frame.at) in
+    omega (arith, few, enough, same)
+
+not_outside : (most n m : ℕ) (bytes : List ℕ) → IsSpelledAt bytes n → in_range (up_to most) n ≡ true → IsSpelledAt bytes m → in_range (up_to most) m ≡ false → ⊥
+not_outside most n m bytes at inside there outside =
+    let both : true ≡ false = sym inside ∙ ap (in_range (up_to most)) (spelled_as_one bytes n m at there) ∙ outside in cc
+
+not_bad : (most n : ℕ) (bytes : List ℕ) → IsSpelledAt bytes n → in_range (up_to most) n ≡ true → HasBadLength most bytes → ⊥
+not_bad most n bytes at inside (inl none) = none.0 n at
+not_bad most n bytes at inside (inr (m, (there, outside))) = not_outside most n m bytes at inside there outside
+
+-- an end that is cut off, and one that is damaged, are two
+torn_or_damaged : (most number : ℕ) (bytes : List ℕ) → HasNoRecord most number bytes Torn → HasNoRecord most number bytes Damaged → ⊥
+torn_or_damaged most number bytes (some, torn) (more, inr (framed, behind, small, is, never)) =
+    not_torn most (length framed) bytes (framed_so bytes framed behind small is) torn
+torn_or_damaged most number bytes (some, inl opened) (more, inl (inl closed)) = closed.1 opened.1
+torn_or_damaged most number bytes (some, inl opened) (more, inl (inr (m, (at, outside)))) = opened.0 m at
+torn_or_damaged most number bytes (some, inr (n, (at, inside), few)) (more, inl bad) = not_bad most n bytes at inside bad
+
+one_end : (most number : ℕ) (bytes : List ℕ) (a b : JournalEnd) → HasNoRecord most number bytes a → HasNoRecord most number bytes b → a ≡ b
+one_end most number bytes Whole Whole p q = refl
+one_end most number bytes Whole Torn p q = absurd (omega (arith, ap (λ (w : List ℕ). length w) p, q.0))
+one_end most number bytes Whole Damaged p q = absurd (omega (arith, ap (λ (w : List ℕ). length w) p, q.0))
+one_end most number bytes Torn Whole p q = absurd (omega (arith, ap (λ (w : List ℕ). length w) q, p.0))
+one_end most number bytes Torn Torn p q = refl
+one_end most number bytes Torn Damaged p q = absurd (torn_or_damaged most number bytes p q)
+one_end most number bytes Damaged Whole p q = absurd (omega (arith, ap (λ (w : List ℕ). length w) q, p.0))
+one_end most number bytes Damaged Torn p q = absurd (torn_or_damaged most number bytes q p)
+one_end most number bytes Damaged Damaged p q = refl
+
+-- where a record is at the front, no reason holds that none is
+record_frame : (most number : ℕ) (text body behind : List ℕ) → most < 2 ^ 64 → 12 + length body ≤ most → text ≡ record_written number body ++ behind
+    → BeginsFramed text (length (sealed number body))
+record_frame most number text body behind large short e =
+    framed_so text (sealed number body) behind (omega (arith, length-sealed number body, large, short)) e
+
+stands : (most number : ℕ) (text body behind : List ℕ) (end : JournalEnd) → most < 2 ^ 64 → 12 + length body ≤ most → text ≡ record_written number body ++ behind
+    → HasNoRecord most number text end → ⊥
+stands most number text body behind Whole large short e none =
+    let enough = (record_frame most number text body behind large short e).enough in
+    omega (arith, enough, length-sealed number body, ap (λ (w : List ℕ). length w) none)
+stands most number text body behind Torn large short e (some, torn) =
+    not_torn most (length (sealed number body)) text (record_frame most number text body behind large short e) torn
+stands most number text body behind Damaged large short e (some, inl bad) =
+    not_bad most (length (sealed number body)) text (record_frame most number text body behind large short e).at
+    (in_most most (length (sealed number body)) (omega (arith, length-sealed number body, short))) bad
+stands most number text body behind Damaged large short e (some, inr (framed, left, small, is, never)) =
+    never body (one_front framed (sealed number body) left behind small (omega (arith, length-sealed number body, large, short)) (sym is ∙ e)).0
+
+-- ---- one reading of a text
+
+-- two readings from a number on are the same
+read_once : (most number j k : ℕ) (fs gs : List (List ℕ)) (a b : JournalEnd) (x y : List ℕ) → most < 2 ^ 64
+    → records_written number fs ++ x ≡ records_written number gs ++ y → AreShort most fs → AreShort most gs
+    → HasNoRecord most j x a → j ≡ number + length fs → HasNoRecord most k y b → k ≡ number + length gs → AreAlike fs gs a b x y
+read_once most number j k [] [] a b x y large e p q h i s t =
+    let none : HasNoRecord most k x a = subst (λ n. HasNoRecord most n x a) (let z : j ≡ k = omega (arith, i, t) in z) h in
+    record { same_records = refl; same_end = one_end most k y a b (subst (λ (w : List ℕ). HasNoRecord most k w a) e none) s; same_rest = e }
+read_once most number j k [] (g ∷ gs) a b x y large e p q h i s t =
+    absurd (stands most number x g (records_written (suc number) gs ++ y) a large q.0
+    (e ∙ append_assoc (record_written number g) (records_written (suc number) gs) y)
+    (subst (λ n. HasNoRecord most n x a) (let z : j ≡ number = omega (arith, i) in z) h))
+read_once most number j k (f ∷ fs) [] a b x y large e p q h i s t =
+    absurd (stands most number y f (records_written (suc number) fs ++ x) b large p.0
+    (sym e ∙ append_assoc (record_written number f) (records_written (suc number) fs) x)
+    (subst (λ n. HasNoRecord most n y b) (let z : k ≡ number = omega (arith, t) in z) s))
+read_once most number j k (f ∷ fs) (g ∷ gs) a b x y large e p q h i s t =
+    let first = p.0 in
+    let second = q.0 in
+    let (same, behind) = one_front (sealed number f) (sealed number g) (records_written (suc number) fs ++ x) (records_written (suc number) gs ++ y)
+    (omega (arith, length-sealed number f, large, first)) (omega (arith, length-sealed number g, large, second))
+    (sym (append_assoc (record_written number f) (records_written (suc number) fs) x) ∙ e
+    ∙ append_assoc (record_written number g) (records_written (suc number) gs) y) in
+    let others = read_once most (suc number) j k fs gs a b x y large behind p.1 q.1 h (omega (arith, i)) s (omega (arith, t)) in record {
+      same_records = ap (λ w. w ∷ fs) (one_body number f g same) ∙ ap (λ ws. g ∷ ws) others.same_records;
+      same_end = others.same_end;
+      same_rest = others.same_rest;
+    }
+
+pub read_alike : (most : ℕ) (text : List ℕ) (fs gs : List (List ℕ)) (a b : JournalEnd) (x y : List ℕ) → most < 2 ^ 64 → IsJournal most 0 text fs a x
+    → IsJournal most 0 text gs b y → AreAlike fs gs a b x y
+read_alike most text fs gs a b x y large is other =
+    read_once most 0 (0 + length fs) (0 + length gs) fs gs a b x y large (sym is.whole ∙ other.whole) is.admitted other.admitted is.ends refl other.ends refl
+
+-- ---- its records, one after the other
+
+-- a first record, and the records after it
+behind_first : (most number : ℕ) (text body behind rest : List ℕ) (found : List (List ℕ)) (end : JournalEnd) → 12 + length body ≤ most
+    → text ≡ record_written number body ++ behind → IsJournal most (suc number) behind found end rest → IsJournal most number text (body ∷ found) end rest
+behind_first most number text body behind rest found end short whole is = record {
+  whole =
+      whole ∙ ap (λ w. record_written number body ++ w) is.whole
+      ∙ sym (append_assoc (record_written number body) (records_written (suc number) found) rest);
+  admitted = (short, is.admitted);
+  ends = subst (λ k. HasNoRecord most k rest end) (let z : suc number + length found ≡ number + suc (length found) = omega arith in z) is.ends;
+}
+
+none_first : (most number : ℕ) (text : List ℕ) (end : JournalEnd) → HasNoRecord most number text end → IsJournal most number text [] end text
+none_first most number text end none =
+    record { whole = refl; admitted = tt; ends = subst (λ k. HasNoRecord most k text end) (let z : number ≡ number + 0 = omega arith in z) none }
+
+-- records that were written are what is read
+pub replayed : (most : ℕ) (text : List ℕ) (found written : List (List ℕ)) (end : JournalEnd) (rest : List ℕ) → most < 2 ^ 64 → AreShort most written
+    → text ≡ records_written 0 written → IsJournal most 0 text found end rest → (found ≡ written) × (end ≡ Whole)
+replayed most text found written end rest large short e is =
+    let all = read_alike most text found written end Whole rest [] large is
+    (record { whole = e ∙ sym (append-nil (records_written 0 written)); admitted = short; ends = refl }) in
+    (all.same_records, all.same_end)
+
+-- ---- there is a reading
+
+-- a record is at the front, and what is after it; or none is
+record HasRecord (most number : ℕ) (bytes : List ℕ) : Type 0 where
+  body : List ℕ
+  behind : List ℕ
+  short : 12 + length body ≤ most
+  whole : bytes ≡ record_written number body ++ behind
+
+Front : ℕ → ℕ → List ℕ → Type 0
+Front most number bytes = HasRecord most number bytes ⊎ ((end : JournalEnd) × HasNoRecord most number bytes end)
+
+by_seal : (most number : ℕ) (bytes framed behind : List ℕ) (test : Bool) → 0 < length bytes → length framed < 2 ^ 64 → length framed ≤ most
+    → bytes ≡ bytes_written framed ++ behind → bytes_eq framed (sealed number (drop 8 (take (length framed - 4) framed))) ≡ test → Front most number bytes
+unfolding Front
+by_seal most number bytes framed behind true some small least is e =
+    let body = drop 8 (take (length framed - 4) framed) in
+    let seal : framed ≡ sealed number body = (bytes_decides framed (sealed number body)).0 e in
+    inl (record {
+      body = body;
+      behind = behind;
+      short = omega (arith, length-sealed number body, ap (λ (w : List ℕ). length w) seal, least);
+      whole = is ∙ ap (λ w. bytes_written w ++ behind) seal;
+    })
+by_seal most number bytes framed behind false some small least is e =
+    inr (
+      Damaged,
+      (
+        some,
+        inr (
+          framed,
+          behind,
+          small,
+          is,
+          λ body seal.
+              let test = (bytes_decides framed (sealed number (drop 8 (take (length framed - 4) framed)))).1
+              (sealed_is number framed (is_sealed number framed body seal)) in
+              let both : true ≡ false = sym test ∙ e in cc,
+        ),
+      ),
+    )
+
+by_length : (most number : ℕ) (bytes : List ℕ) (length_read : Result ℕ Error) → 0 < length bytes → IsLengthRead bytes (up_to most) length_read
+    → Front most number bytes
+unfolding Front
+by_length most number bytes (Ok n) some (at, inside) = elim (less (length bytes) (length (spell n) + n)) [
+  | inl few ↦ inr (Torn, (some, inr (n, (at, inside), few)))
+  | inr enough ↦
+      let k = length (spell n) in
+      let framed = take n (drop k bytes) in
+      let behind = drop n (drop k bytes) in
+      let least : n ≤ most = grind (arith, nat_tests, inside) in
+      let small = at.0 in
+      let long : length framed ≡ n = length-take n (drop k bytes) ∙ omega (arith, length-drop k bytes, enough) in
+      let is : bytes ≡ bytes_written framed ++ behind =
+      sym (take-append-drop k bytes) ∙ ap (λ w. w ++ drop k bytes) at.1 ∙ ap (λ w. spell n ++ w) (sym (take-append-drop n (drop k bytes)))
+      ∙ sym (append_assoc (spell n) framed behind) ∙ ap (λ m. (spell m ++ framed) ++ behind) (sym long) in
+      by_seal most number bytes framed behind (bytes_eq framed (sealed number (drop 8 (take (length framed - 4) framed)))) some
+      (omega (arith, long, small)) (omega (arith, long, least)) is refl
+]
+by_length most number bytes (Err EndOfBuffer) some none = inr (Torn, (some, inl none))
+by_length most number bytes (Err InvalidVarint) some none = inr (Damaged, (some, inl (inl none)))
+by_length most number bytes (Err (InvalidLength n)) some out = inr (Damaged, (some, inl (inr (n, out))))
+by_length most number bytes (Err Memory) some none = absurd none
+by_length most number bytes (Err BadLayout) some none = absurd none
+by_length most number bytes (Err TooLong) some none = absurd none
+
+front : (most number : ℕ) (bytes : List ℕ) → Front most number bytes
+unfolding Front
+front most number [] = inr (Whole, refl)
+front most number (b ∷ bs) =
+    let read = some_answer (b ∷ bs) (up_to most) in
+    by_length most number (b ∷ bs) read.answer (omega arith) read.is
+
+record HasReading (most number : ℕ) (text : List ℕ) : Type 0 where
+  found : List (List ℕ)
+  end : JournalEnd
+  rest : List ℕ
+  is : IsJournal most number text found end rest
+
+reading : (most number fuel : ℕ) (text : List ℕ) → length text < fuel → HasReading most number text
+unfolding Front
+reading most number zero text enough = absurd (omega (arith, enough))
+reading most number (suc fuel) text enough = elim (front most number text) [
+  | inr (end, none) ↦ record { found = []; end = end; rest = text; is = none_first most number text end none }
+  | inl first ↦
+      let smaller : length first.behind < fuel =
+      omega (
+        arith,
+        enough,
+        ap (λ (w : List ℕ). length w) first.whole,
+        length-append (record_written number first.body) first.behind,
+        length-append (spell (length (sealed number first.body))) (sealed number first.body),
+        length-sealed number first.body,
+      ) in
+      let others = reading most (suc number) fuel first.behind smaller in record {
+        found = first.body ∷ others.found;
+        end = others.end;
+        rest = others.rest;
+        is = behind_first most number text first.body first.behind others.rest others.found others.end first.short first.whole others.is;
+      }
+]
+
+pub one_journal : (most : ℕ) → most < 2 ^ 64 → (text : List ℕ) → HasOneJournal most text
+one_journal most large text =
+    let all = reading most 0 (suc (length text)) text (omega arith) in record {
+      found = all.found;
+      end = all.end;
+      rest = all.rest;
+      is = all.is;
+      one = λ others stop left other. read_alike most text all.found others all.end stop all.rest left large all.is other;
+    }
+
+-- ---- records that are cut
+
+-- bytes have these records, and aren't damaged after them
+record EndsUndamaged (most number : ℕ) (text : List ℕ) (found : List (List ℕ)) : Type 0 where
+  end : JournalEnd
+  rest : List ℕ
+  is : IsJournal most number text found end rest
+  never : end ≡ Damaged → ⊥
+
+-- a record of which bytes are missing
+missing : (most number n : ℕ) (body : List ℕ) → most < 2 ^ 64 → 12 + length body ≤ most → n < length (record_written number body)
+    → EndsUndamaged most number (take n (record_written number body)) []
+missing most number zero body large short few =
+    record { end = Whole; rest = []; is = none_first most number [] Whole refl; never = λ e. cc }
+missing most number (suc n) body large short few =
+    let written = record_written number body in
+    let torn = begun_open (up_to most) (sealed number body) (take (suc n) written) (drop (suc n) written)
+    (omega (arith, length-sealed number body, large, short)) (in_most most (length (sealed number body)) (omega (arith, length-sealed number body, short)))
+    (sym (take-append-drop (suc n) written)) (omega (arith, length-drop (suc n) written, few)) in record {
+      end = Torn;
+      rest = take (suc n) written;
+      is = none_first most number (take (suc n) written) Torn (omega (arith, length-take (suc n) written, few), torn);
+      never = λ e. cc;
+    }
+
+by_test : (most number n : ℕ) (body : List ℕ) (bodies : List (List ℕ)) (test : Bool) → most < 2 ^ 64 → 12 + length body ≤ most
+    → nat_lt n (length (record_written number body)) ≡ test
+    → EndsUndamaged most (suc number) (take (n - length (record_written number body)) (records_written (suc number) bodies))
+    (whole_of (suc number) (n - length (record_written number body)) bodies)
+    → EndsUndamaged most number (take n (record_written number body ++ records_written (suc number) bodies))
+    (if test then [] else body ∷ whole_of (suc number) (n - length (record_written number body)) bodies)
+by_test most number n body bodies true large short test later =
+    let few : n < length (record_written number body) = grind (arith, nat_tests, test) in
+    subst (λ w. EndsUndamaged most number w []) (sym (take-append-le n (record_written number body) (records_written (suc number) bodies) (omega (arith, few))))
+    (missing most number n body large short few)
+by_test most number n body bodies false large short test later =
+    let written = record_written number body in
+    let more = records_written (suc number) bodies in
+    let there : n ≡ length written + (n - length written) = grind (arith, nat_tests, test) in
+    let cut : take n (written ++ more) ≡ written ++ take (n - length written) more =
+    ap (λ k. take k (written ++ more)) there ∙ take-append-add written more (n - length written) in record {
+      end = later.end;
+      rest = later.rest;
+      is =
+          behind_first most number (take n (written ++ more)) body (take (n - length written) more) later.rest
+          (whole_of (suc number) (n - length written) bodies) later.end short cut later.is;
+      never = later.never;
+    }
+
+first_whole : (most number n : ℕ) (lines : List (List ℕ)) → most < 2 ^ 64 → AreShort most lines
+    → EndsUndamaged most number (take n (records_written number lines)) (whole_of number n lines)
+first_whole most number n [] large short =
+    record { end = Whole; rest = take n []; is = none_first most number (take n []) Whole (take-nil n); never = λ e. cc }
+first_whole most number n (body ∷ bodies) large short =
+    by_test most number n body bodies (nat_lt n (length (record_written number body))) large short.0 refl
+    (first_whole most (suc number) (n - length (record_written number body)) bodies large short.1)
+
+pub cut_short : (most n : ℕ) (found lines others : List (List ℕ)) (text rest : List ℕ) (end : JournalEnd) → most < 2 ^ 64 → IsJournal most 0 text found Whole []
+    → AreShort most lines → IsJournal most 0 (text ++ take n (records_written (length found) lines)) others end rest
+    → (others ≡ found ++ whole_of (length found) n lines) × (end ≡ Damaged → ⊥)
+cut_short most n found lines others text rest end large was short is =
+    let later = first_whole most (length found) n lines large short in
+    let kept = whole_of (length found) n lines in
+    let front = records_written 0 found in
+    let added = take n (records_written (length found) lines) in
+    let from : 0 + length found ≡ length found = omega arith in
+    let one = read_alike most (text ++ added) others (found ++ kept) end later.end rest later.rest large is (record {
+      whole =
+          ap (λ w. w ++ added) (was.whole ∙ append-nil front) ∙ ap (λ w. front ++ w) later.is.whole
+          ∙ sym (append_assoc front (records_written (length found) kept) later.rest)
+          ∙ ap (λ k. (front ++ records_written k kept) ++ later.rest) (sym from) ∙ ap (λ w. w ++ later.rest) (sym (written_on 0 found kept));
+      admitted = short_on most found kept was.admitted later.is.admitted;
+      ends = subst (λ k. HasNoRecord most k later.rest later.end)
+          (let z : length found + length kept ≡ 0 + length (found ++ kept) = omega (arith, length-append found kept) in z) later.is.ends;
+    }) in (one.same_records, λ e. later.never (sym one.same_end ∙ e))
