@@ -34,8 +34,8 @@ impl std::panic::UnwindSafe for Owner {}
 
 /// A view, and the owner of its bytes if they aren't the library's.
 ///
-/// A caller who never hands memory over pays for a null owner: so the paths of the others are cold, and the owner is dropped by
-/// hand, for which a view without one saves no register.
+/// The paths of a view with an owner are cold, so that the others pay for a test alone. The owner is dropped by hand, since a
+/// field that is dropped after `Drop::drop` costs each view a saved register.
 pub(crate) struct View {
     memory: Memory<{ sys::VIEW }>,
     owner: ManuallyDrop<Option<Owner>>,
@@ -48,7 +48,7 @@ impl View {
         Self::with(None)
     }
 
-    /// The empty view, which gets bytes of this owner. (It is filled where it lies, since a move costs as much as a call.)
+    /// The empty view, which gets bytes of this owner. The memory is made a buffer where it lies, which saves a move.
     #[inline]
     fn with(owner: Option<Owner>) -> Self {
         let view = View { memory: Memory::room(), owner: ManuallyDrop::new(owner) };
@@ -104,7 +104,7 @@ impl View {
     /// Takes a view from the front by a call, whose result it returns.
     #[inline]
     pub(crate) fn take<R>(&mut self, out: &mut View, call: impl FnOnce(&mut At<{ sys::VIEW }>, &mut Made<{ sys::VIEW }>) -> R) -> R {
-        out.owner.clone_from(&self.owner);
+        *out.owner = Option::clone(&self.owner);
         call(&mut self.at(), &mut Made(out.at()))
     }
 
@@ -244,18 +244,13 @@ impl<const N: usize> Text<N> {
     /// Moves a view to the end by a call, whose status it returns.
     #[inline]
     pub(crate) fn put_back(&mut self, view: &mut View, call: impl FnOnce(&mut At<N>, &mut Moved) -> u8) -> u8 {
-        self.put(view, None, call)
+        if self.has_owners() || view.is_lent() {
+            return self.put_owned(view, None, call);
+        }
+        call(&mut self.at(), &mut Moved(view.at()))
     }
 
     /// Moves a view in by a call: to the end, or to the front of so many bytes.
-    #[inline]
-    fn put(&mut self, view: &mut View, front: Option<usize>, call: impl FnOnce(&mut At<N>, &mut Moved) -> u8) -> u8 {
-        if self.owners.is_none() && view.owner.is_none() {
-            return call(&mut self.at(), &mut Moved(view.at()));
-        }
-        self.put_owned(view, front, call)
-    }
-
     #[cold]
     fn put_owned(&mut self, view: &mut View, front: Option<usize>, call: impl FnOnce(&mut At<N>, &mut Moved) -> u8) -> u8 {
         let (at, len) = (view.bytes().as_ptr() as usize, view.bytes().len());
@@ -298,8 +293,11 @@ where
     /// Moves a view to the front by a call, whose status it returns.
     #[inline]
     pub(crate) fn put_front(&mut self, view: &mut View, call: impl FnOnce(&mut At<N>, &mut Moved) -> u8) -> u8 {
-        let len = if self.has_owners() { self.len() } else { 0 };
-        self.put(view, Some(len), call)
+        if self.has_owners() || view.is_lent() {
+            let len = self.len();
+            return self.put_owned(view, Some(len), call);
+        }
+        call(&mut self.at(), &mut Moved(view.at()))
     }
 
     /// Drops the owners of chunks that are gone.

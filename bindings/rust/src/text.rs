@@ -73,23 +73,20 @@ impl IoBufs {
         }
     }
 
-    // The chunks from `first` on, at most `BATCH`, and how many they are.
-    fn batch(&self, first: usize) -> ([Chunk; BATCH], usize) {
-        let mut chunks = [NO_CHUNK; BATCH];
+    // Fills a list with the chunks from `first` on, and returns how many it filled.
+    fn fill(&self, first: usize, chunks: &mut [Chunk; BATCH]) -> usize {
         // SAFETY: duty 4: the list has `BATCH` places. It only looks (duty 3).
-        let n = unsafe { sys::iobufs_chunks_from(&mut self.0.at(), first, chunks.as_mut_ptr(), BATCH) };
-        (chunks, n)
+        unsafe { sys::iobufs_chunks_from(&mut self.0.at(), first, chunks.as_mut_ptr(), BATCH) }
     }
 
     /// Returns the chunks that hold bytes, in order.
     pub fn chunks(&self) -> impl Iterator<Item = &[u8]> {
-        let (mut chunks, mut n) = self.batch(0);
-        let (mut first, mut i) = (0, 0);
+        let mut chunks = [NO_CHUNK; BATCH];
+        let (mut next, mut n, mut i) = (0, 0, BATCH);
         std::iter::from_fn(move || {
             if i == BATCH {
-                first += BATCH;
-                (chunks, n) = self.batch(first);
-                i = 0;
+                n = self.fill(next, &mut chunks);
+                (next, i) = (next + BATCH, 0);
             }
             let chunk = chunks[..n].get(i)?;
             i += 1;
@@ -139,8 +136,16 @@ impl IoBufs {
     }
 
     /// Shows each piece that holds bytes, in order.
-    pub fn for_each_chunk(&self, visit: impl FnMut(&[u8])) {
-        self.chunks().for_each(visit);
+    pub fn for_each_chunk(&self, mut visit: impl FnMut(&[u8])) {
+        let mut chunks = [NO_CHUNK; BATCH];
+        for first in (0..).step_by(BATCH) {
+            let n = self.fill(first, &mut chunks);
+            // SAFETY: they are chunks of `self`, which is borrowed.
+            chunks[..n].iter().for_each(|chunk| visit(unsafe { piece(chunk) }));
+            if n < BATCH {
+                return;
+            }
+        }
     }
 
     /// Puts a buffer behind the text.

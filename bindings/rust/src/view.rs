@@ -112,10 +112,11 @@ impl IoBuf {
 
     /// A copy of the bytes, with the room that their `Vec` has behind them, if no other buffer keeps it.
     fn copy_of_vec(&mut self) -> Option<IoBufMut> {
-        let at = self.as_ptr() as usize;
+        let first = self.first().map(|byte| byte as *const u8 as usize);
         let vec = self.0.vec()?;
-        let room = vec.capacity() - (at - vec.as_ptr() as usize);
-        let mut out = IoBufMut::with_capacity(room);
+        // An empty view doesn't say where it lies: it gets the room after the `Vec`'s bytes.
+        let gone = first.map_or(vec.len(), |at| at - vec.as_ptr() as usize);
+        let mut out = IoBufMut::with_capacity(vec.capacity() - gone);
         out.put_slice(self.as_ref());
         Some(out)
     }

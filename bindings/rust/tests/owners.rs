@@ -71,6 +71,9 @@ fn recovery() {
     view.advance(1);
     let part = view.try_into_mut().unwrap();
     assert_eq!((part.as_ref(), part.capacity()), (&b"bcd"[..], room - 1));
+    let mut empty = IoBuf::from(vec![7; 40]);
+    empty.advance(40);
+    assert!(empty.try_into_mut().unwrap().is_empty());
     let live = Live::default();
     let view = IoBuf::from_owner(live.owner(1, b"abc")).try_into_mut().unwrap_err();
     assert_eq!((IoBufMut::from(view), live.names()), (IoBufMut::from(b"abc"), vec![]));
@@ -80,7 +83,7 @@ fn recovery() {
 #[test]
 fn who_is_kept() {
     type Call = fn(IoBuf) -> Box<dyn std::any::Any>;
-    let calls: [(Call, bool); 17] = [
+    let calls: [(Call, bool); 18] = [
         (|view| Box::new(view.clone()), true),
         (|view| Box::new(view.slice(1..2)), true),
         (|mut view| Box::new(view.split_to(1)), true),
@@ -110,6 +113,14 @@ fn who_is_kept() {
                 Box::new(text.split_to(1))
             },
             false,
+        ),
+        (
+            |view| {
+                let mut text = IoBufs::from(IoBuf::copy_from_slice(b"native"));
+                text.prepend(view);
+                Box::new(text.split_to(1))
+            },
+            true,
         ),
         (
             |view| {
@@ -355,11 +366,19 @@ impl World {
             _ if view < self.views.len() => self.on_view(view),
             _ => {}
         }
-        let (views, texts) = (self.views.len().saturating_sub(8), self.texts.len().saturating_sub(6));
-        self.views.drain(..views);
-        self.texts.drain(..texts);
-        self.texts.retain(|(_, bytes)| bytes.len() < 400);
-        self.texts.push(Default::default());
+        let (view, text) = (self.below(9), self.below(7));
+        self.views.truncate(8);
+        if view < self.views.len() && self.views.len() == 8 {
+            self.views.swap_remove(view);
+        }
+        self.texts.retain(|(_, bytes)| bytes.len() < 200);
+        self.texts.truncate(6);
+        if text < self.texts.len() && self.texts.len() == 6 {
+            self.texts.swap_remove(text);
+        }
+        if self.texts.iter().all(|(_, bytes)| !bytes.is_empty()) {
+            self.texts.push(Default::default());
+        }
     }
 
     /// Each buffer has its bytes, and just those owners live that a view keeps or a text shows.
