@@ -55,6 +55,36 @@ static void views(void) {
     CHECK(view_is(&a, "") && view_is(&c, ""));
 }
 
+/* Memory that isn't copied lives until the last buffer made of it is dropped: nothing reads it after that. */
+static void lent(void) {
+    uint8_t *memory = (uint8_t *)malloc(6), byte = 0;
+    memcpy(memory, "\5abcde", 6);
+    VIEW(v); VIEW(w); VIEW(frame); TEXT(t); TEXT(front); BUILDER(b); FRAMES(f);
+    size_t wrong = 0;
+    iobuf_from_static(memory, 6, &v);
+    OK(iobuf_slice(&v, IOBUFS_INCLUDED, 1, IOBUFS_EXCLUDED, 4, &w));
+    OK(iobufs_append(&t, &w));
+    OK(iobuf_clone(&v, &w));
+    OK(iobufs_prepend(&t, &w));
+    OK(iobufs_split_to(&t, 2, &front));
+    OK(iobufs_builder_new(0, &b));
+    OK(iobuf_clone(&v, &w));
+    OK(iobufs_builder_push(&b, &w));
+    OK(iobuf_clone(&v, &w));
+    OK(iobufs_frames_feed(&f, &w));
+    OK(iobufs_frames_next(&f, 0, 9, &frame, &wrong));
+    CHECK(text_is(&front, "\5a") && text_is(&t, "bcdeabc") && view_is(&frame, "abcde"));
+    OK(iobufs_advance(&t, 7));
+    iobuf_drop(&v); iobuf_drop(&frame); iobufs_drop(&front); iobufs_builder_drop(&b);
+    memset(memory, 0, 6);
+    free(memory);
+    CHECK(iobufs_len(&t) == 0 && !iobufs_byte_at(&t, 0, &byte) && iobufs_frames_len(&f) == 0 && view_is(&v, ""));
+    HELLO(v);
+    OK(iobufs_append(&t, &v));
+    CHECK(text_is(&t, "hello world"));
+    iobufs_drop(&t); iobufs_frames_drop(&f); iobuf_drop(&v);
+}
+
 /* The memory moves, and the buffer with it. */
 static void moved(void) {
     struct iobuf *old = (struct iobuf *)malloc(sizeof *old), *new_ = (struct iobuf *)malloc(sizeof *new_);
@@ -393,7 +423,7 @@ static void statuses(void) {
 }
 
 int main(void) {
-    sizes(); views(); moved(); buffers(); texts(); parts(); builders(); lengths(); numbers(); frames(); prefixes();
+    sizes(); views(); lent(); moved(); buffers(); texts(); parts(); builders(); lengths(); numbers(); frames(); prefixes();
     statuses();
     return 0;
 }

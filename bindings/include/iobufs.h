@@ -23,8 +23,8 @@
  *     join, a SEQ_CST atomic); buffers that share a block may be used by several threads at once. Calls that only look
  *     (at a const place, and `.._chunk` of a writable buffer) may be several at once on one buffer: that is tested, not
  *     proved.
- *  4. Pointers to bytes are not NULL, also for 0 bytes, and outlive the call; those of `iobuf_from_static` outlive every
- *     buffer that is made of it, and the bytes never change.
+ *  4. Pointers to bytes are not NULL, also for 0 bytes, and outlive the call. The bytes of `iobuf_from_static` live, unchanged,
+ *     until the last buffer made of them is dropped.
  *  5. The pointer of `.._chunk` and its like may be read until the next call that changes or drops that buffer. Only the
  *     bytes of a writable buffer (`iobufmut`, `iobufsmut`) may be overwritten there.
  *  6. malloc, realloc and free are one allocator's; no call comes from a signal handler, or from the forked child of a
@@ -138,7 +138,7 @@ void iobuf_init(struct iobuf *at);
 void iobuf_drop(struct iobuf_at *src);
 /* A copy of n bytes; memory except for 0 bytes. (IoBuf::copy_from_slice) */
 IOBUFS_CHECKED iobufs_status iobuf_copy_from_slice(const uint8_t *src, size_t n, struct iobuf_at *out);
-/* A view of n static bytes (duty 4). No memory. (From<&'static [u8]>) */
+/* A view of n bytes, not copied, which live until the last buffer made of them is dropped (duty 4). No memory. (From<&'static [u8]>) */
 void iobuf_from_static(const uint8_t *text, size_t n, struct iobuf_at *out);
 /* The number of bytes. (IoBuf::len) */
 size_t iobuf_len(const struct iobuf_at *src);

@@ -2,23 +2,28 @@
 //! over the static library `libiobufs.a`, which is proved in Rattle.
 //!
 //! Names, arguments and panics are the original's. It has no dependency, so methods of the traits of the crate `bytes` are
-//! methods here. A `Vec` is copied, since Rust's memory can't be handed over to the library. If an allocation fails, the
-//! process ends, as it does if one of std's collections can't allocate. `try_with_capacity`, `try_zeroed` and
-//! `try_copy_from_slice` return an error instead. Clones, splits and appends allocate too: headers, and lists of chunks.
+//! methods here. If an allocation fails, the process ends, as it does if one of std's collections can't allocate.
+//! `try_with_capacity`, `try_zeroed` and `try_copy_from_slice` return an error instead. Clones, splits and appends allocate too:
+//! headers, and lists of chunks.
 //!
-//! With the feature `bytes` the buffers have the traits `Buf` and `BufMut` of that crate, and `Bytes` and `BytesMut` are
-//! copied into them and out of them. Bytes that are put by `chunk_mut` and `advance_mut` are copied once more than by
-//! `put_slice`, since the library lends no space that isn't readable.
+//! A view of a `Vec`, or of any owner of bytes (`IoBuf::from_owner`), copies nothing. The owner lives until the last buffer made
+//! of it is dropped; a text drops the owner of a chunk with its last byte. A view of one byte keeps its whole block, as a clone of
+//! a `Bytes` does. An owner's `Drop` runs inside the call that drops that buffer. Writable buffers copy.
+//!
+//! With the feature `bytes` (1.9 or later) the buffers have the traits `Buf` and `BufMut` of that crate. A `Bytes` or `BytesMut`
+//! becomes a view, and a view a `Bytes`, without a copy. Bytes that are put by `chunk_mut` and `advance_mut` are copied once more
+//! than by `put_slice`, since the library lends no space that isn't readable.
 //!
 //! These differ from the original: the method `copy_to_bytes` returns an `IoBuf` (that of the trait a `Bytes`); `set_len` is
 //! safe, and new bytes are zero; an alignment is tested and not promised; `as_mut_ptr` is missing; `put` of any reader needs
 //! the feature. Values (`codec`) are numbers, lengths, views, and types of a caller's own.
 //!
 //! What each `unsafe` block does is call the library; the comment names the duties of `iobufs.h` that it meets. Duties
-//! that all meet: (1) a buffer's memory is made by `.._init` in `Memory::new`, is dropped once by `Drop`, and may move;
+//! that all meet: (1) a buffer's memory is made by `.._init` in `Memory::make`, is dropped once by `Drop`, and may move;
 //! (2) places of one call are of different variables, since a `&mut` or an owned buffer is one of them; (3) a call that
 //! changes a buffer has it by `&mut` or owned, and others only look; (6) Rust doesn't call from signal handlers.
 pub mod codec;
+mod owner;
 mod part;
 mod parts;
 mod streams;
@@ -123,9 +128,17 @@ fn out_of_memory(bytes: Option<usize>) -> ! {
 #[inline]
 #[track_caller]
 fn done(status: u8, message: &str) {
+    if status != sys::OK {
+        failed(status, None, message);
+    }
+}
+
+/// Ends the process or panics, as `done` says.
+#[cold]
+#[track_caller]
+fn failed(status: u8, bytes: Option<usize>, message: &str) -> ! {
     match status {
-        sys::OK => {}
-        sys::MEMORY => out_of_memory(None),
+        sys::MEMORY => out_of_memory(bytes),
         _ => panic!("{message}"),
     }
 }
@@ -134,10 +147,9 @@ fn done(status: u8, message: &str) {
 #[inline]
 #[track_caller]
 fn allocated(status: u8, bytes: usize, message: &str) {
-    if status == sys::MEMORY {
-        out_of_memory(Some(bytes));
+    if status != sys::OK {
+        failed(status, Some(bytes), message);
     }
-    done(status, message)
 }
 
 /// What a call made, unless its status says that it failed to allocate `bytes` bytes.
@@ -235,6 +247,7 @@ pub(crate) use as_bytes;
 macro_rules! puts {
     ($($number:ty, $put:ident, $call:path;)*) => {$(
         /// Puts a number, the highest byte first. Panics where there is no room (`BufMut`).
+        #[inline]
         #[track_caller]
         pub fn $put(&mut self, n: $number) {
             // SAFETY: duties 1 and 3.
@@ -265,6 +278,7 @@ macro_rules! gets {
     ($length:path, $view:path; $($number:ty, $get:ident, $try_get:ident, $call:path;)*) => {
         $(
             /// Reads the number in front, the highest byte first. Panics where there are fewer bytes (`Buf`).
+            #[inline]
             #[track_caller]
             pub fn $get(&mut self) -> $number {
                 match self.$try_get() {
@@ -276,10 +290,11 @@ macro_rules! gets {
             }
 
             /// Reads the number in front, the highest byte first; where there are fewer bytes, nothing changes (`Buf`).
+            #[inline]
             pub fn $try_get(&mut self) -> Result<$number, crate::TryGetError> {
                 let mut n = 0;
                 // SAFETY: duties 1 to 3.
-                match unsafe { $call(&mut self.0.at(), &mut n) } {
+                match self.0.cut(|from| unsafe { $call(from, &mut n) }) {
                     sys::OK => Ok(n),
                     _ => Err(crate::TryGetError { requested: size_of::<$number>(), available: self.len() }),
                 }
@@ -290,7 +305,7 @@ macro_rules! gets {
         pub fn read_length(&mut self, range: impl RangeBounds<usize>) -> Result<usize, Error> {
             let ((lo, hi), mut n) = (limits(range), 0);
             // SAFETY: duties 1 to 3.
-            let status = unsafe { $length(&mut self.0.at(), lo, hi, &mut n) };
+            let status = self.0.cut(|from| unsafe { $length(from, lo, hi, &mut n) });
             read(status, || n)?;
             Ok(n)
         }
@@ -298,12 +313,12 @@ macro_rules! gets {
         /// Reads the bytes behind a length in the range, as one view: shared within a piece, copied across pieces
         /// (`IoBuf::read_cfg`).
         pub fn read_view(&mut self, range: impl RangeBounds<usize>) -> Result<IoBuf, Error> {
-            let ((lo, hi), mut n, out) = (limits(range), 0, IoBuf::default());
+            let ((lo, hi), mut n, mut out) = (limits(range), 0, IoBuf::default());
             // SAFETY: duties 1 to 3.
-            let status = unsafe { $view(&mut self.0.at(), lo, hi, &mut out.memory().at()) };
-            // SAFETY: the same. The length is refused again, and told.
-            read(status, || unsafe {
-                $length(&mut self.0.at(), lo, hi, &mut n);
+            let status = self.0.take(&mut out.0, |from, out| unsafe { $view(from, lo, hi, out) });
+            read(status, || {
+                // SAFETY: the same. The length is outside again, and returned.
+                self.0.cut(|from| unsafe { $length(from, lo, hi, &mut n) });
                 n
             })?;
             Ok(out)

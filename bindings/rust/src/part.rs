@@ -112,22 +112,25 @@ impl IoBufMut {
     }
 
     /// Keeps at most the first `len` bytes.
+    #[inline]
     pub fn truncate(&mut self, len: usize) {
         // SAFETY: duties 1 and 3.
         unsafe { sys::iobufmut_truncate(&mut self.0.at(), len) }
     }
 
     /// Keeps no byte, and the room of all.
+    #[inline]
     pub fn clear(&mut self) {
         self.truncate(0);
     }
 
     /// The bytes as a view, with no copy.
+    #[inline]
     pub fn freeze(self) -> IoBuf {
         let out = IoBuf::default();
         // SAFETY: duties 1 to 3.
         done(
-            unsafe { sys::iobufmut_freeze(&mut self.0.at(), &mut out.memory().at()) },
+            unsafe { sys::iobufmut_freeze(&mut self.0.at(), &mut out.0.at()) },
             "",
         );
         out
@@ -146,6 +149,7 @@ impl IoBufMut {
     }
 
     /// Drops the first `n` bytes. Panics where there are fewer (`Buf`).
+    #[inline]
     #[track_caller]
     pub fn advance(&mut self, n: usize) {
         // SAFETY: duties 1 and 3.
@@ -153,6 +157,7 @@ impl IoBufMut {
     }
 
     /// Fills `dst` with the first bytes, and drops these. Panics where there are fewer (`Buf`).
+    #[inline]
     #[track_caller]
     pub fn copy_to_slice(&mut self, dst: &mut [u8]) {
         // SAFETY: duty 4: the slice's pointer is not null, and its bytes may be written during the call.
@@ -186,6 +191,7 @@ impl IoBufMut {
     }
 
     /// Puts bytes behind those that are readable. Panics where they don't fit (`BufMut`).
+    #[inline]
     #[track_caller]
     pub fn put_slice(&mut self, src: &[u8]) {
         // SAFETY: duty 4: the slice's pointer is not null, and it outlives the call.
@@ -196,6 +202,7 @@ impl IoBufMut {
     }
 
     /// Puts a byte `n` times. Panics where they don't fit (`BufMut`).
+    #[inline]
     #[track_caller]
     pub fn put_bytes(&mut self, value: u8, n: usize) {
         // SAFETY: duties 1 and 3.
@@ -203,6 +210,7 @@ impl IoBufMut {
     }
 
     /// Puts the spelling of a length. Panics where it doesn't fit (`usize::write`).
+    #[inline]
     #[track_caller]
     pub fn put_length(&mut self, n: usize) {
         // SAFETY: duties 1 and 3.
@@ -218,12 +226,14 @@ impl IoBufMut {
 }
 
 impl Default for IoBufMut {
+    #[inline]
     fn default() -> Self {
         Self::with_capacity(0)
     }
 }
 
 impl Drop for IoBufMut {
+    #[inline]
     fn drop(&mut self) {
         // SAFETY: duty 1: the memory isn't used behind it.
         unsafe { sys::iobufmut_drop(&mut self.0.at()) }
@@ -243,6 +253,7 @@ impl AsRef<[u8]> for IoBufMut {
 }
 
 impl AsMut<[u8]> for IoBufMut {
+    #[inline]
     fn as_mut(&mut self) -> &mut [u8] {
         let mut at = no_bytes().cast_mut();
         // SAFETY: duty 5: these bytes may be written over too, and `&mut self` shares them with nobody.
@@ -312,11 +323,12 @@ impl From<Vec<u8>> for IoBufMut {
 
 /// Recovered as by `IoBuf::try_into_mut`, else copied.
 impl From<IoBuf> for IoBufMut {
+    #[inline]
     fn from(view: IoBuf) -> Self {
         let (len, out) = (view.len(), Self::none());
         // SAFETY: duties 1 to 3.
         allocated(
-            unsafe { sys::iobufmut_from_view(&mut view.memory().at(), &mut out.0.at()) },
+            unsafe { sys::iobufmut_from_view(&mut view.0.at(), &mut out.0.at()) },
             len,
             "",
         );

@@ -1,4 +1,5 @@
 //! `IoBufsMut` and `Builder`.
+use crate::owner::Text;
 use crate::part::IoBufMut;
 use crate::sys::{self, At, Memory};
 use crate::text::{IoBufs, NO_CHUNK, piece};
@@ -65,11 +66,12 @@ impl IoBufsMut {
     }
 
     /// The parts that hold bytes as the pieces of one text.
+    #[inline]
     pub fn freeze(self) -> IoBufs {
         let out = IoBufs::default();
         // SAFETY: duties 1 to 3.
         done(
-            unsafe { sys::iobufsmut_freeze(&mut self.0.at(), &mut out.memory().at()) },
+            unsafe { sys::iobufsmut_freeze(&mut self.0.at(), &mut out.0.at()) },
             "",
         );
         out
@@ -129,6 +131,7 @@ impl IoBufsMut {
     }
 
     /// Drops the first `n` bytes. Panics where there are fewer (`Buf`).
+    #[inline]
     #[track_caller]
     pub fn advance(&mut self, n: usize) {
         // SAFETY: duties 1 and 3.
@@ -136,6 +139,7 @@ impl IoBufsMut {
     }
 
     /// Fills `dst` with the first bytes, and drops these. Panics where there are fewer (`Buf`).
+    #[inline]
     #[track_caller]
     pub fn copy_to_slice(&mut self, dst: &mut [u8]) {
         // SAFETY: duty 4: the slice's pointer is not null, and its bytes may be written during the call.
@@ -164,6 +168,7 @@ impl IoBufsMut {
     }
 
     /// Puts bytes, part after part. Panics where they don't fit (`BufMut`).
+    #[inline]
     #[track_caller]
     pub fn put_slice(&mut self, src: &[u8]) {
         // SAFETY: duty 4: the slice's pointer is not null, and it outlives the call.
@@ -174,6 +179,7 @@ impl IoBufsMut {
     }
 
     /// Puts a byte `n` times. Panics where they don't fit (`BufMut`).
+    #[inline]
     #[track_caller]
     pub fn put_bytes(&mut self, value: u8, n: usize) {
         // SAFETY: duties 1 and 3.
@@ -181,6 +187,7 @@ impl IoBufsMut {
     }
 
     /// Puts the spelling of a length. Panics where it doesn't fit (`usize::write`).
+    #[inline]
     #[track_caller]
     pub fn put_length(&mut self, n: usize) {
         // SAFETY: duties 1 and 3.
@@ -196,12 +203,14 @@ impl IoBufsMut {
 }
 
 impl Default for IoBufsMut {
+    #[inline]
     fn default() -> Self {
         IoBufMut::default().into()
     }
 }
 
 impl Drop for IoBufsMut {
+    #[inline]
     fn drop(&mut self) {
         // SAFETY: duty 1: the memory isn't used behind it.
         unsafe { sys::iobufsmut_drop(&mut self.0.at()) }
@@ -218,6 +227,7 @@ impl fmt::Debug for IoBufsMut {
 }
 
 impl From<IoBufMut> for IoBufsMut {
+    #[inline]
     fn from(part: IoBufMut) -> Self {
         let out = Self::none();
         // SAFETY: duties 1 to 3.
@@ -295,13 +305,15 @@ impl io::Write for IoBufsMut {
 }
 
 /// Encoded bytes and existing buffers, put together as one text.
-pub struct Builder(Memory<{ sys::BUILDER }>, pub(crate) Scratch);
+///
+/// The last field is how many bytes fitted at the last push, if an owner's memory was pushed.
+pub struct Builder(Text<{ sys::BUILDER }>, pub(crate) Scratch, usize);
 
 impl Builder {
     /// A builder for so many bytes that are put, and no more.
     #[track_caller]
     pub fn new(capacity: usize) -> Self {
-        let out = Builder(Memory::new(sys::iobufs_builder_init), Scratch::default());
+        let out = Builder(Text::new(sys::iobufs_builder_init), Scratch::default(), 0);
         // SAFETY: duty 1.
         allocated(
             unsafe { sys::iobufs_builder_new(capacity, &mut out.0.at()) },
@@ -312,14 +324,18 @@ impl Builder {
     }
 
     /// All that was put and pushed, in order.
-    pub fn finish(self) -> IoBufs {
-        let out = IoBufs::default();
+    pub fn finish(mut self) -> IoBufs {
+        self.pass();
         // SAFETY: duties 1 to 3.
-        done(
-            unsafe { sys::iobufs_builder_finish(&mut self.0.at(), &mut out.memory().at()) },
-            "",
-        );
-        out
+        let finish = |builder: &mut _, out: &mut _| unsafe { sys::iobufs_builder_finish(builder, out) };
+        IoBufs(self.0.finish(sys::iobufs_init, |builder, out| done(finish(builder, out), "")))
+    }
+
+    /// Counts the bytes that were put since the last push, if owners are kept.
+    fn pass(&mut self) {
+        if self.0.has_owners() {
+            self.0.pass(self.2 - self.remaining_mut());
+        }
     }
 
     /// How many bytes may still be put (`BufMut`).
@@ -330,6 +346,7 @@ impl Builder {
     }
 
     /// Puts bytes. Panics where they don't fit (`BufMut`).
+    #[inline]
     #[track_caller]
     pub fn put_slice(&mut self, src: &[u8]) {
         // SAFETY: duty 4: the slice's pointer is not null, and it outlives the call.
@@ -340,6 +357,7 @@ impl Builder {
     }
 
     /// Puts a byte `n` times. Panics where they don't fit (`BufMut`).
+    #[inline]
     #[track_caller]
     pub fn put_bytes(&mut self, value: u8, n: usize) {
         // SAFETY: duties 1 and 3.
@@ -350,6 +368,7 @@ impl Builder {
     }
 
     /// Puts the spelling of a length. Panics where it doesn't fit (`usize::write`).
+    #[inline]
     #[track_caller]
     pub fn put_length(&mut self, n: usize) {
         // SAFETY: duties 1 and 3.
@@ -357,14 +376,16 @@ impl Builder {
     }
 
     /// Pushes a buffer, which is not copied (`BufsMut`).
+    #[inline]
     #[track_caller]
     pub fn push(&mut self, chunk: impl Into<IoBuf>) {
-        let chunk = chunk.into();
+        self.pass();
         // SAFETY: duties 1 to 3.
-        done(
-            unsafe { sys::iobufs_builder_push(&mut self.0.at(), &mut chunk.memory().at()) },
-            "length overflow",
-        );
+        let status = self.0.put_back(&mut chunk.into().0, |builder, view| unsafe { sys::iobufs_builder_push(builder, view) });
+        done(status, "length overflow");
+        if self.0.has_owners() {
+            self.2 = self.remaining_mut();
+        }
     }
 
     puts! {
@@ -376,6 +397,7 @@ impl Builder {
 }
 
 impl Drop for Builder {
+    #[inline]
     fn drop(&mut self) {
         // SAFETY: duty 1: the memory isn't used behind it.
         unsafe { sys::iobufs_builder_drop(&mut self.0.at()) }

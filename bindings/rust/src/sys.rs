@@ -1,4 +1,5 @@
 //! What the library exports (`bindings/include/iobufs.h`), and the memory of a buffer.
+use crate::owner::{Cut, Made, Moved};
 use std::cell::UnsafeCell;
 use std::mem::MaybeUninit;
 use std::sync::atomic::{AtomicBool, Ordering::Relaxed};
@@ -38,15 +39,27 @@ pub struct At<const N: usize>(*mut [MaybeUninit<u64>; N]);
 impl<const N: usize> Memory<N> {
     /// An empty buffer, made by `init` of memory of the size that the library asks for.
     #[inline]
-    pub fn new(init: unsafe extern "C" fn(*mut [MaybeUninit<u64>; N])) -> Self {
+    pub fn new(init: Init<N>) -> Self {
+        let memory = Self::room();
+        memory.make(init);
+        memory
+    }
+
+    /// Memory of which `make` makes a buffer, before any other use.
+    #[inline]
+    pub fn room() -> Self {
+        Memory(UnsafeCell::new([MaybeUninit::uninit(); N]))
+    }
+
+    /// Makes an empty buffer of memory that holds none.
+    #[inline]
+    pub fn make(&self, init: Init<N>) {
         if !COMPARED.load(Relaxed) {
             compare_sizes();
         }
-        let memory = Memory(UnsafeCell::new([MaybeUninit::uninit(); N]));
         // SAFETY: duty 1: the memory has the library's size, as was compared, and the alignment of a word; it may move
-        // behind `init`.
-        unsafe { init(memory.0.get()) };
-        memory
+        // after `init`.
+        unsafe { init(self.0.get()) };
     }
 
     /// The place, which is made anew for each call: the memory may have moved.
@@ -92,6 +105,8 @@ type Parts = At<PARTS>;
 type Builder = At<BUILDER>;
 type Frames = At<FRAMES>;
 type Room<const N: usize> = *mut [MaybeUninit<u64>; N];
+/// What makes an empty buffer of memory.
+pub type Init<const N: usize> = unsafe extern "C" fn(Room<N>);
 
 unsafe extern "C" {
     pub fn iobuf_size() -> usize;
@@ -102,15 +117,15 @@ unsafe extern "C" {
     pub fn iobuf_from_static(text: *const u8, n: usize, out: &mut View);
     pub fn iobuf_len(src: &mut View) -> usize;
     pub fn iobuf_chunk(src: &mut View, out: &mut *const u8) -> usize;
-    pub fn iobuf_clone(src: &mut View, out: &mut View) -> u8;
+    pub fn iobuf_clone(src: &mut View, out: &mut Made<VIEW>) -> u8;
     pub fn iobuf_advance(src: &mut View, n: usize) -> u8;
-    pub fn iobuf_split_to(src: &mut View, at: usize, out: &mut View) -> u8;
-    pub fn iobuf_take(src: &mut View, n: usize, out: &mut View) -> u8;
+    pub fn iobuf_split_to(src: &mut View, at: usize, out: &mut Made<VIEW>) -> u8;
+    pub fn iobuf_take(src: &mut View, n: usize, out: &mut Made<VIEW>) -> u8;
     pub fn iobuf_copy_to_slice(src: &mut View, dst: *mut u8, n: usize) -> u8;
-    pub fn iobuf_slice(src: &mut View, lo_kind: u8, lo: usize, hi_kind: u8, hi: usize, out: &mut View) -> u8;
+    pub fn iobuf_slice(src: &mut View, lo_kind: u8, lo: usize, hi_kind: u8, hi: usize, out: &mut Made<VIEW>) -> u8;
     pub fn iobuf_try_into_mut(src: &mut View, out: &mut Part) -> u8;
     pub fn iobuf_read_length(src: &mut View, lo: usize, hi: usize, out: &mut usize) -> u8;
-    pub fn iobuf_read_view(src: &mut View, lo: usize, hi: usize, out: &mut View) -> u8;
+    pub fn iobuf_read_view(src: &mut View, lo: usize, hi: usize, out: &mut Made<VIEW>) -> u8;
     pub fn iobuf_get_u8(src: &mut View, out: &mut u8) -> u8;
     pub fn iobuf_get_u16(src: &mut View, out: &mut u16) -> u8;
     pub fn iobuf_get_u32(src: &mut View, out: &mut u32) -> u8;
@@ -143,8 +158,8 @@ unsafe extern "C" {
     pub fn iobufs_size() -> usize;
     pub fn iobufs_init(at: Room<TEXT>);
     pub fn iobufs_drop(text: &mut Text);
-    pub fn iobufs_from_view(src: &mut View, out: &mut Text);
-    pub fn iobufs_clone(text: &mut Text, out: &mut Text) -> u8;
+    pub fn iobufs_from_view(src: &mut Moved, out: &mut Text);
+    pub fn iobufs_clone(text: &mut Text, out: &mut Made<TEXT>) -> u8;
     pub fn iobufs_len(text: &mut Text) -> usize;
     pub fn iobufs_is_single(text: &mut Text) -> bool;
     pub fn iobufs_chunk_count(text: &mut Text) -> usize;
@@ -154,20 +169,20 @@ unsafe extern "C" {
     pub fn iobufs_chunks_from(text: &mut Text, first: usize, out: *mut Chunk, n: usize) -> usize;
     pub fn iobufs_byte_at(text: &mut Text, i: usize, out: &mut u8) -> bool;
     pub fn iobufs_locate(text: &mut Text, at: usize, index: &mut usize, offset: &mut usize) -> u8;
-    pub fn iobufs_append(text: &mut Text, piece: &mut View) -> u8;
-    pub fn iobufs_prepend(text: &mut Text, piece: &mut View) -> u8;
-    pub fn iobufs_split_to(text: &mut Text, at: usize, out: &mut Text) -> u8;
-    pub fn iobufs_advance(text: &mut Text, n: usize) -> u8;
-    pub fn iobufs_copy_to_slice(text: &mut Text, dst: *mut u8, n: usize) -> u8;
-    pub fn iobufs_take(text: &mut Text, n: usize, out: &mut View) -> u8;
-    pub fn iobufs_coalesce(text: &mut Text, out: &mut View) -> u8;
-    pub fn iobufs_try_into_single(text: &mut Text, out: &mut View) -> u8;
-    pub fn iobufs_read_length(text: &mut Text, lo: usize, hi: usize, out: &mut usize) -> u8;
-    pub fn iobufs_read_view(text: &mut Text, lo: usize, hi: usize, out: &mut View) -> u8;
-    pub fn iobufs_get_u8(text: &mut Text, out: &mut u8) -> u8;
-    pub fn iobufs_get_u16(text: &mut Text, out: &mut u16) -> u8;
-    pub fn iobufs_get_u32(text: &mut Text, out: &mut u32) -> u8;
-    pub fn iobufs_get_u64(text: &mut Text, out: &mut u64) -> u8;
+    pub fn iobufs_append(text: &mut Text, piece: &mut Moved) -> u8;
+    pub fn iobufs_prepend(text: &mut Text, piece: &mut Moved) -> u8;
+    pub fn iobufs_split_to(text: &mut Cut<TEXT>, at: usize, out: &mut Made<TEXT>) -> u8;
+    pub fn iobufs_advance(text: &mut Cut<TEXT>, n: usize) -> u8;
+    pub fn iobufs_copy_to_slice(text: &mut Cut<TEXT>, dst: *mut u8, n: usize) -> u8;
+    pub fn iobufs_take(text: &mut Cut<TEXT>, n: usize, out: &mut Made<VIEW>) -> u8;
+    pub fn iobufs_coalesce(text: &mut Cut<TEXT>, out: &mut Made<VIEW>) -> u8;
+    pub fn iobufs_try_into_single(text: &mut Cut<TEXT>, out: &mut Made<VIEW>) -> u8;
+    pub fn iobufs_read_length(text: &mut Cut<TEXT>, lo: usize, hi: usize, out: &mut usize) -> u8;
+    pub fn iobufs_read_view(text: &mut Cut<TEXT>, lo: usize, hi: usize, out: &mut Made<VIEW>) -> u8;
+    pub fn iobufs_get_u8(text: &mut Cut<TEXT>, out: &mut u8) -> u8;
+    pub fn iobufs_get_u16(text: &mut Cut<TEXT>, out: &mut u16) -> u8;
+    pub fn iobufs_get_u32(text: &mut Cut<TEXT>, out: &mut u32) -> u8;
+    pub fn iobufs_get_u64(text: &mut Cut<TEXT>, out: &mut u64) -> u8;
 
     pub fn iobufsmut_size() -> usize;
     pub fn iobufsmut_init(at: Room<PARTS>);
@@ -207,15 +222,15 @@ unsafe extern "C" {
     pub fn iobufs_builder_put_u32(builder: &mut Builder, n: u32) -> u8;
     pub fn iobufs_builder_put_u64(builder: &mut Builder, n: u64) -> u8;
     pub fn iobufs_builder_put_length(builder: &mut Builder, n: usize) -> u8;
-    pub fn iobufs_builder_push(builder: &mut Builder, piece: &mut View) -> u8;
-    pub fn iobufs_builder_finish(builder: &mut Builder, out: &mut Text) -> u8;
+    pub fn iobufs_builder_push(builder: &mut Builder, piece: &mut Moved) -> u8;
+    pub fn iobufs_builder_finish(builder: &mut Builder, out: &mut Made<TEXT>) -> u8;
 
     pub fn iobufs_frames_size() -> usize;
     pub fn iobufs_frames_init(at: Room<FRAMES>);
     pub fn iobufs_frames_drop(frames: &mut Frames);
     pub fn iobufs_frames_len(frames: &mut Frames) -> usize;
-    pub fn iobufs_frames_feed(frames: &mut Frames, piece: &mut View) -> u8;
-    pub fn iobufs_frames_next(frames: &mut Frames, lo: usize, hi: usize, out: &mut View, wrong: &mut usize) -> u8;
+    pub fn iobufs_frames_feed(frames: &mut Frames, piece: &mut Moved) -> u8;
+    pub fn iobufs_frames_next(frames: &mut Cut<FRAMES>, lo: usize, hi: usize, out: &mut Made<VIEW>, wrong: &mut usize) -> u8;
     pub fn iobufs_frames_set_prefix(frames: &mut Frames, kind: u8) -> u8;
     pub fn iobufs_length_size(n: usize) -> usize;
 }

@@ -1,6 +1,7 @@
 //! `IoBufs` and `Frames`.
+use crate::owner::Text;
 use crate::part::IoBufMut;
-use crate::sys::{self, Chunk, Memory};
+use crate::sys::{self, Chunk};
 use crate::view::IoBuf;
 use crate::{Error, allocated, bounds, done, gets, length_size, limits, no_bytes, read, try_copy};
 use std::cmp::Ordering;
@@ -26,19 +27,20 @@ pub(crate) const NO_CHUNK: Chunk = Chunk {
 // How many chunks are taken at a time.
 const BATCH: usize = 32;
 
-/// A read-only text in pieces, none of which is copied.
-pub struct IoBufs(Memory<{ sys::TEXT }>);
+/// A read-only text in pieces, none of which is copied. A chunk of an owner's memory (`IoBuf::from_owner`) keeps the owner until
+/// its last byte is taken.
+pub struct IoBufs(pub(crate) Text<{ sys::TEXT }>);
 
 impl IoBufs {
-    pub(crate) fn memory(&self) -> &Memory<{ sys::TEXT }> {
-        &self.0
-    }
-
     /// The number of bytes.
     #[inline]
     pub fn len(&self) -> usize {
-        // SAFETY: it only looks (duty 3).
-        unsafe { sys::iobufs_len(&mut self.0.at()) }
+        self.0.len()
+    }
+
+    /// How many chunks keep an owner (`IoBuf::from_owner`). (own)
+    pub fn owners(&self) -> usize {
+        self.0.owners()
     }
 
     /// Whether there are no bytes.
@@ -61,6 +63,7 @@ impl IoBufs {
     }
 
     /// The bytes of a piece, counted from 0.
+    #[inline]
     pub fn chunk_at(&self, index: usize) -> Option<&[u8]> {
         let mut at = no_bytes();
         // SAFETY: duty 5: the bytes may be read until `self` is changed or dropped, which the borrow rules out.
@@ -70,23 +73,20 @@ impl IoBufs {
         }
     }
 
-    // The chunks from `first` on, at most `BATCH`, and how many they are.
-    fn batch(&self, first: usize) -> ([Chunk; BATCH], usize) {
-        let mut chunks = [NO_CHUNK; BATCH];
+    // Fills a list with the chunks from `first` on, and returns how many it filled.
+    fn fill(&self, first: usize, chunks: &mut [Chunk; BATCH]) -> usize {
         // SAFETY: duty 4: the list has `BATCH` places. It only looks (duty 3).
-        let n = unsafe { sys::iobufs_chunks_from(&mut self.0.at(), first, chunks.as_mut_ptr(), BATCH) };
-        (chunks, n)
+        unsafe { sys::iobufs_chunks_from(&mut self.0.at(), first, chunks.as_mut_ptr(), BATCH) }
     }
 
     /// Returns the chunks that hold bytes, in order.
     pub fn chunks(&self) -> impl Iterator<Item = &[u8]> {
-        let (mut chunks, mut n) = self.batch(0);
-        let (mut first, mut i) = (0, 0);
+        let mut chunks = [NO_CHUNK; BATCH];
+        let (mut next, mut n, mut i) = (0, 0, BATCH);
         std::iter::from_fn(move || {
             if i == BATCH {
-                first += BATCH;
-                (chunks, n) = self.batch(first);
-                i = 0;
+                n = self.fill(next, &mut chunks);
+                (next, i) = (next + BATCH, 0);
             }
             let chunk = chunks[..n].get(i)?;
             i += 1;
@@ -117,6 +117,7 @@ impl IoBufs {
     }
 
     /// Returns the bytes of a range, which share their storage. Panics if it isn't within the bytes. (own)
+    #[inline]
     #[track_caller]
     pub fn slice(&self, range: impl RangeBounds<usize>) -> Self {
         let (lo, hi) = bounds(range, self.len());
@@ -127,6 +128,7 @@ impl IoBufs {
     }
 
     /// Keeps at most the first `len` bytes. (own)
+    #[inline]
     pub fn truncate(&mut self, len: usize) {
         if len < self.len() {
             *self = self.split_to(len);
@@ -134,60 +136,60 @@ impl IoBufs {
     }
 
     /// Shows each piece that holds bytes, in order.
-    pub fn for_each_chunk(&self, visit: impl FnMut(&[u8])) {
-        self.chunks().for_each(visit);
+    pub fn for_each_chunk(&self, mut visit: impl FnMut(&[u8])) {
+        let mut chunks = [NO_CHUNK; BATCH];
+        for first in (0..).step_by(BATCH) {
+            let n = self.fill(first, &mut chunks);
+            // SAFETY: they are chunks of `self`, which is borrowed.
+            chunks[..n].iter().for_each(|chunk| visit(unsafe { piece(chunk) }));
+            if n < BATCH {
+                return;
+            }
+        }
     }
 
     /// Puts a buffer behind the text.
+    #[inline]
     #[track_caller]
-    pub fn append(&mut self, piece: IoBuf) {
+    pub fn append(&mut self, mut piece: IoBuf) {
         // SAFETY: duties 1 to 3.
-        done(
-            unsafe { sys::iobufs_append(&mut self.0.at(), &mut piece.memory().at()) },
-            "length overflow",
-        );
+        let status = self.0.put_back(&mut piece.0, |text, view| unsafe { sys::iobufs_append(text, view) });
+        done(status, "length overflow");
     }
 
     /// Puts a buffer in front of the text.
+    #[inline]
     #[track_caller]
-    pub fn prepend(&mut self, piece: IoBuf) {
+    pub fn prepend(&mut self, mut piece: IoBuf) {
         // SAFETY: duties 1 to 3.
-        done(
-            unsafe { sys::iobufs_prepend(&mut self.0.at(), &mut piece.memory().at()) },
-            "length overflow",
-        );
+        let status = self.0.put_front(&mut piece.0, |text, view| unsafe { sys::iobufs_prepend(text, view) });
+        done(status, "length overflow");
     }
 
     /// Takes the first `at` bytes away. Panics where there are fewer.
+    #[inline]
     #[track_caller]
     pub fn split_to(&mut self, at: usize) -> Self {
-        let out = IoBufs::default();
         // SAFETY: duties 1 to 3.
-        done(
-            unsafe { sys::iobufs_split_to(&mut self.0.at(), at, &mut out.0.at()) },
-            "split_to out of bounds",
-        );
-        out
+        let split = |text: &mut _, out: &mut _| unsafe { sys::iobufs_split_to(text, at, out) };
+        IoBufs(self.0.split(at, sys::iobufs_init, |text, out| done(split(text, out), "split_to out of bounds")))
     }
 
     /// The text as one piece, with a copy of several.
     #[track_caller]
-    pub fn coalesce(self) -> IoBuf {
-        let (len, out) = (self.len(), IoBuf::default());
+    pub fn coalesce(mut self) -> IoBuf {
+        let (len, mut out) = (self.len(), IoBuf::default());
         // SAFETY: duties 1 to 3.
-        allocated(
-            unsafe { sys::iobufs_coalesce(&mut self.0.at(), &mut out.memory().at()) },
-            len,
-            "the text is too long for one buffer",
-        );
+        let status = self.0.take(&mut out.0, |text, out| unsafe { sys::iobufs_coalesce(text, out) });
+        allocated(status, len, "the text is too long for one buffer");
         out
     }
 
     /// The only piece; the text itself where there are more.
-    pub fn try_into_single(self) -> Result<IoBuf, Self> {
-        let out = IoBuf::default();
+    pub fn try_into_single(mut self) -> Result<IoBuf, Self> {
+        let mut out = IoBuf::default();
         // SAFETY: duties 1 to 3.
-        match unsafe { sys::iobufs_try_into_single(&mut self.0.at(), &mut out.memory().at()) } {
+        match self.0.take(&mut out.0, |text, out| unsafe { sys::iobufs_try_into_single(text, out) }) {
             sys::OK => Ok(out),
             _ => Err(self),
         }
@@ -241,36 +243,32 @@ impl IoBufs {
     }
 
     /// Drops the first `n` bytes. Panics where there are fewer (`Buf`).
+    #[inline]
     #[track_caller]
     pub fn advance(&mut self, n: usize) {
         // SAFETY: duties 1 and 3.
-        done(
-            unsafe { sys::iobufs_advance(&mut self.0.at(), n) },
-            "cannot advance past end of buffer",
-        );
+        let status = self.0.cut(|text| unsafe { sys::iobufs_advance(text, n) });
+        done(status, "cannot advance past end of buffer");
     }
 
     /// Fills `dst` with the first bytes, and drops these. Panics where there are fewer (`Buf`).
+    #[inline]
     #[track_caller]
     pub fn copy_to_slice(&mut self, dst: &mut [u8]) {
         // SAFETY: duty 4: the slice's pointer is not null, and its bytes may be written during the call.
-        done(
-            unsafe { sys::iobufs_copy_to_slice(&mut self.0.at(), dst.as_mut_ptr(), dst.len()) },
-            "Not enough bytes remaining in buffer",
-        );
+        let status = self.0.cut(|text| unsafe { sys::iobufs_copy_to_slice(text, dst.as_mut_ptr(), dst.len()) });
+        done(status, "Not enough bytes remaining in buffer");
     }
 
     /// Takes the first `n` bytes out as one view: shared within a piece, copied across pieces. Panics where there are
     /// fewer (`Buf`).
+    #[inline]
     #[track_caller]
     pub fn take_owned(&mut self, n: usize) -> IoBuf {
-        let out = IoBuf::default();
+        let mut out = IoBuf::default();
         // SAFETY: duties 1 to 3.
-        allocated(
-            unsafe { sys::iobufs_take(&mut self.0.at(), n, &mut out.memory().at()) },
-            n,
-            "take_owned out of bounds",
-        );
+        let status = self.0.take(&mut out.0, |text, out| unsafe { sys::iobufs_take(text, n, out) });
+        allocated(status, n, "take_owned out of bounds");
         out
     }
 
@@ -293,12 +291,14 @@ impl IoBufs {
 }
 
 impl Default for IoBufs {
+    #[inline]
     fn default() -> Self {
-        IoBufs(Memory::new(sys::iobufs_init))
+        IoBufs(Text::new(sys::iobufs_init))
     }
 }
 
 impl Drop for IoBufs {
+    #[inline]
     fn drop(&mut self) {
         // SAFETY: duty 1: the memory isn't used behind it.
         unsafe { sys::iobufs_drop(&mut self.0.at()) }
@@ -306,11 +306,10 @@ impl Drop for IoBufs {
 }
 
 impl Clone for IoBufs {
+    #[inline]
     fn clone(&self) -> Self {
-        let out = IoBufs::default();
         // SAFETY: it only looks at `self` (duty 3).
-        done(unsafe { sys::iobufs_clone(&mut self.0.at(), &mut out.0.at()) }, "");
-        out
+        IoBufs(self.0.same(sys::iobufs_init, |text, out| done(unsafe { sys::iobufs_clone(text, out) }, "")))
     }
 }
 
@@ -400,21 +399,26 @@ impl Hash for IoBufs {
 }
 
 impl From<IoBuf> for IoBufs {
-    fn from(view: IoBuf) -> Self {
-        let out = IoBufs::default();
-        // SAFETY: duties 1 to 3.
-        unsafe { sys::iobufs_from_view(&mut view.memory().at(), &mut out.0.at()) };
+    #[inline]
+    fn from(mut view: IoBuf) -> Self {
+        let mut out = IoBufs::default();
+        out.0.put_back(&mut view.0, |text, view| {
+            // SAFETY: duties 1 to 3.
+            unsafe { sys::iobufs_from_view(view, text) };
+            sys::OK
+        });
         out
     }
 }
 
 impl From<IoBufMut> for IoBufs {
+    #[inline]
     fn from(part: IoBufMut) -> Self {
         part.freeze().into()
     }
 }
 
-/// Copies.
+/// Keeps the `Vec`, as `IoBuf::from_owner` does.
 impl From<Vec<u8>> for IoBufs {
     fn from(bytes: Vec<u8>) -> Self {
         IoBuf::from(bytes).into()
@@ -511,7 +515,7 @@ impl Prefix {
 }
 
 /// Frames of bytes that come in chunks: each is a length followed by a body.
-pub struct Frames(Memory<{ sys::FRAMES }>);
+pub struct Frames(Text<{ sys::FRAMES }>);
 
 impl Frames {
     /// Makes frames to which nothing was fed, with lengths that are written as `prefix`.
@@ -523,20 +527,19 @@ impl Frames {
     }
 
     /// Adds bytes at the end.
+    #[inline]
     #[track_caller]
-    pub fn feed(&mut self, piece: IoBuf) {
+    pub fn feed(&mut self, mut piece: IoBuf) {
         // SAFETY: duties 1 to 3.
-        done(
-            unsafe { sys::iobufs_frames_feed(&mut self.0.at(), &mut piece.memory().at()) },
-            "length overflow",
-        );
+        let status = self.0.put_back(&mut piece.0, |frames, view| unsafe { sys::iobufs_frames_feed(frames, view) });
+        done(status, "length overflow");
     }
 
     /// Takes the first frame; `None` if it isn't whole yet. Fails if no further bytes can make it whole.
     pub fn next(&mut self, range: impl RangeBounds<usize>) -> Result<Option<IoBuf>, Error> {
-        let ((lo, hi), out, mut wrong) = (limits(range), IoBuf::default(), 0);
+        let ((lo, hi), mut out, mut wrong) = (limits(range), IoBuf::default(), 0);
         // SAFETY: duties 1 to 3.
-        let status = unsafe { sys::iobufs_frames_next(&mut self.0.at(), lo, hi, &mut out.memory().at(), &mut wrong) };
+        let status = self.0.take(&mut out.0, |frames, out| unsafe { sys::iobufs_frames_next(frames, lo, hi, out, &mut wrong) });
         match read(status, || wrong) {
             Ok(()) => Ok(Some(out)),
             Err(Error::EndOfBuffer) => Ok(None),
@@ -547,8 +550,12 @@ impl Frames {
     /// How many bytes were fed and not taken.
     #[inline]
     pub fn len(&self) -> usize {
-        // SAFETY: it only looks (duty 3).
-        unsafe { sys::iobufs_frames_len(&mut self.0.at()) }
+        self.0.len()
+    }
+
+    /// How many chunks keep an owner (`IoBuf::from_owner`). (own)
+    pub fn owners(&self) -> usize {
+        self.0.owners()
     }
 
     /// Whether all that was fed was taken.
@@ -559,12 +566,14 @@ impl Frames {
 }
 
 impl Default for Frames {
+    #[inline]
     fn default() -> Self {
-        Frames(Memory::new(sys::iobufs_frames_init))
+        Frames(Text::new(sys::iobufs_frames_init))
     }
 }
 
 impl Drop for Frames {
+    #[inline]
     fn drop(&mut self) {
         // SAFETY: duty 1: the memory isn't used behind it.
         unsafe { sys::iobufs_frames_drop(&mut self.0.at()) }

@@ -1,5 +1,5 @@
-//! The traits of the crate `bytes` (feature `bytes`), and conversions from and to `Bytes` and `BytesMut`. These copy, in
-//! both directions: Rust's memory can't be handed over to the library, nor the library's to them.
+//! The traits of the crate `bytes` (feature `bytes`), and conversions from and to `Bytes` and `BytesMut`. A view or a text is
+//! made of these, and these of a view, without a copy: each keeps the other's memory. A writable buffer is copied.
 use crate::{Builder, IoBuf, IoBufMut, IoBufs, IoBufsMut};
 use bytes::buf::UninitSlice;
 use bytes::{Buf, BufMut, Bytes, BytesMut};
@@ -41,7 +41,7 @@ impl Scratch {
 }
 
 macro_rules! reads {
-    ($($buffer:ident { $($more:tt)* })*) => {$(
+    ($($buffer:ident, $to_bytes:expr, { $($more:tt)* })*) => {$(
         impl Buf for $buffer {
             fn remaining(&self) -> usize {
                 <$buffer>::remaining(self)
@@ -59,12 +59,9 @@ macro_rules! reads {
                 <$buffer>::copy_to_slice(self, dst)
             }
 
-            /// Copies.
             fn copy_to_bytes(&mut self, n: usize) -> Bytes {
                 assert!(n <= self.len(), "copy_to_bytes out of bounds");
-                let mut bytes = vec![0; n];
-                <$buffer>::copy_to_slice(self, &mut bytes);
-                bytes.into()
+                $to_bytes(self, n)
             }
 
             $($more)*
@@ -72,15 +69,22 @@ macro_rules! reads {
     )*};
 }
 
+/// The first bytes of a writable buffer, copied.
+fn copied(from: &mut impl Buf, n: usize) -> Bytes {
+    let mut bytes = vec![0; n];
+    from.copy_to_slice(&mut bytes);
+    bytes.into()
+}
+
 reads! {
-    IoBuf {}
-    IoBufMut {}
-    IoBufs {
+    IoBuf, |view: &mut IoBuf, n| view.take_owned(n).into(), {}
+    IoBufMut, copied, {}
+    IoBufs, |text: &mut IoBufs, n| text.take_owned(n).into(), {
         fn chunks_vectored<'a>(&'a self, dst: &mut [IoSlice<'a>]) -> usize {
             IoBufs::chunks_vectored(self, dst)
         }
     }
-    IoBufsMut {
+    IoBufsMut, copied, {
         fn chunks_vectored<'a>(&'a self, dst: &mut [IoSlice<'a>]) -> usize {
             IoBufsMut::chunks_vectored(self, dst)
         }
@@ -136,9 +140,9 @@ macro_rules! writes {
 
 writes! { IoBufMut IoBufsMut Builder }
 
-macro_rules! copies {
-    ($($from:ty => $to:ty, $make:expr;)*) => {$(
-        /// Copies.
+macro_rules! conversions {
+    ($($(#[$said:meta])* $from:ty => $to:ty, $make:expr;)*) => {$(
+        $(#[$said])*
         impl From<$from> for $to {
             fn from(bytes: $from) -> Self {
                 $make(bytes)
@@ -147,14 +151,30 @@ macro_rules! copies {
     )*};
 }
 
-copies! {
-    Bytes => IoBuf, |bytes: Bytes| IoBuf::copy_from_slice(&bytes);
-    BytesMut => IoBuf, |bytes: BytesMut| IoBuf::copy_from_slice(&bytes);
-    IoBuf => Bytes, |view: IoBuf| Bytes::copy_from_slice(view.as_ref());
-    Bytes => IoBufMut, |bytes: Bytes| IoBufMut::from(&bytes[..]);
+conversions! {
+    /// Keeps the `Bytes`, as `IoBuf::from_owner` does.
+    Bytes => IoBuf, IoBuf::from_owner;
+    /// Keeps the bytes, as `IoBuf::from_owner` does.
+    BytesMut => IoBuf, |bytes: BytesMut| IoBuf::from_owner(bytes.freeze());
+    /// Keeps the `Bytes`, as `IoBuf::from_owner` does.
     Bytes => IoBufs, |bytes: Bytes| IoBuf::from(bytes).into();
+    /// Keeps the bytes, as `IoBuf::from_owner` does.
     BytesMut => IoBufs, |bytes: BytesMut| IoBuf::from(bytes).into();
+    /// Copies.
+    Bytes => IoBufMut, |bytes: Bytes| IoBufMut::from(&bytes[..]);
+    /// Copies.
     BytesMut => IoBufsMut, |bytes: BytesMut| IoBufMut::from(bytes).into();
+}
+
+/// Copies nothing: the `Bytes` keeps the view, or is of the `Bytes` that the view was made of.
+impl From<IoBuf> for Bytes {
+    fn from(view: IoBuf) -> Self {
+        match view.0.owner::<Bytes>() {
+            _ if view.is_empty() => Bytes::new(),
+            Some(bytes) => bytes.slice_ref(&view),
+            None => Bytes::from_owner(view),
+        }
+    }
 }
 
 /// Copies, and keeps the capacity.

@@ -1,23 +1,36 @@
 //! `IoBuf`.
+use crate::owner::View;
 use crate::part::IoBufMut;
-use crate::sys::{self, Memory};
-use crate::{AllocError, Error, allocated, as_bytes, bounds, done, gets, limits, no_bytes, read, tried, try_copy};
+use crate::sys;
+use crate::{AllocError, Error, allocated, as_bytes, bounds, done, gets, limits, read, tried, try_copy};
 use std::borrow::Borrow;
 use std::cmp::Ordering;
 use std::hash::{Hash, Hasher};
-use std::ops::RangeBounds;
-use std::{fmt, io, slice};
+use std::ops::{Bound, RangeBounds};
+use std::{fmt, io};
 
-/// Kinds of bounds (`iobufs.h`).
-const INCLUDED: u8 = 0;
-const EXCLUDED: u8 = 1;
+/// The kind of a bound (`enum iobufs_bound`), and its number.
+fn bound(bound: Bound<&usize>) -> (u8, usize) {
+    match bound {
+        Bound::Included(n) => (0, *n),
+        Bound::Excluded(n) => (1, *n),
+        Bound::Unbounded => (2, 0),
+    }
+}
 
 /// A read-only text of one piece. Clones, slices and both sides of a split share their storage.
-pub struct IoBuf(Memory<{ sys::VIEW }>);
+///
+/// It may show memory that isn't the library's, as of a `Vec` (`from_owner`). Then each buffer that is made of it keeps the owner
+/// of that memory, so that a view of one byte keeps the whole block. The last of these buffers that is dropped drops the owner.
+pub struct IoBuf(pub(crate) View);
 
 impl IoBuf {
-    pub(crate) fn memory(&self) -> &Memory<{ sys::VIEW }> {
-        &self.0
+    /// A view of the bytes of `owner`, which aren't copied. They live until the last buffer made of it is dropped, on whatever
+    /// thread that is. A view of one byte keeps the whole owner. (own)
+    ///
+    /// A text, a builder and frames drop the owner of a chunk with its last byte. `as_ref` is called once.
+    pub fn from_owner<T: AsRef<[u8]> + Send + Sync + 'static>(owner: T) -> Self {
+        IoBuf(View::of_owner(owner))
     }
 
     /// A copy of these bytes.
@@ -59,37 +72,53 @@ impl IoBuf {
     }
 
     /// The bytes of a range, in the same storage. Panics where it does not lie within the bytes.
+    #[inline]
     #[track_caller]
     pub fn slice(&self, range: impl RangeBounds<usize>) -> Self {
-        let ((lo, hi), out) = (bounds(range, self.len()), IoBuf::default());
-        // SAFETY: it only looks at `self` (duty 3).
-        done(
-            unsafe { sys::iobuf_slice(&mut self.0.at(), INCLUDED, lo, EXCLUDED, hi, &mut out.0.at()) },
-            "slice out of bounds",
-        );
-        out
+        let ((lo_kind, lo), (hi_kind, hi)) = (bound(range.start_bound()), bound(range.end_bound()));
+        IoBuf(self.0.part(|view, out| {
+            // SAFETY: it only looks at `self` (duty 3).
+            let status = unsafe { sys::iobuf_slice(view, lo_kind, lo, hi_kind, hi, out) };
+            if status != sys::OK {
+                bounds(range, self.len());
+                done(status, "slice out of bounds");
+            }
+        }))
     }
 
     /// Takes the first `at` bytes away, in the same storage. Panics where there are fewer.
+    #[inline]
     #[track_caller]
     pub fn split_to(&mut self, at: usize) -> Self {
-        let out = IoBuf::default();
         // SAFETY: duties 1 to 3.
-        done(
-            unsafe { sys::iobuf_split_to(&mut self.0.at(), at, &mut out.0.at()) },
-            "split_to out of bounds",
-        );
-        out
+        let split = |view: &mut _, out: &mut _| unsafe { sys::iobuf_split_to(view, at, out) };
+        IoBuf(self.0.part(|view, out| done(split(view, out), "split_to out of bounds")))
     }
 
-    /// The same bytes as a buffer to write, with the room behind them, if no other view shares their storage.
-    pub fn try_into_mut(self) -> Result<IoBufMut, Self> {
+    /// The same bytes as a buffer to write, with the room behind them, if no other view shares their storage. A `Vec` that no
+    /// other buffer keeps is copied, with its room. Other owners' bytes are not recovered.
+    #[inline]
+    pub fn try_into_mut(mut self) -> Result<IoBufMut, Self> {
+        if self.0.is_lent() {
+            return self.copy_of_vec().ok_or(self);
+        }
         let out = IoBufMut::none();
         // SAFETY: duties 1 to 3.
         match unsafe { sys::iobuf_try_into_mut(&mut self.0.at(), &mut out.memory().at()) } {
             sys::OK => Ok(out),
             _ => Err(self),
         }
+    }
+
+    /// A copy of the bytes, with the room that their `Vec` has behind them, if no other buffer keeps it.
+    fn copy_of_vec(&mut self) -> Option<IoBufMut> {
+        let first = self.first().map(|byte| byte as *const u8 as usize);
+        let vec = self.0.vec()?;
+        // An empty view doesn't say where it lies: it gets the room after the `Vec`'s bytes.
+        let gone = first.map_or(vec.len(), |at| at - vec.as_ptr() as usize);
+        let mut out = IoBufMut::with_capacity(vec.capacity() - gone);
+        out.put_slice(self.as_ref());
+        Some(out)
     }
 
     /// How many bytes are left (`Buf`).
@@ -111,6 +140,7 @@ impl IoBuf {
     }
 
     /// Drops the first `n` bytes. Panics where there are fewer (`Buf`).
+    #[inline]
     #[track_caller]
     pub fn advance(&mut self, n: usize) {
         // SAFETY: duties 1 to 3.
@@ -121,6 +151,7 @@ impl IoBuf {
     }
 
     /// Fills `dst` with the first bytes, and drops these. Panics where there are fewer (`Buf`).
+    #[inline]
     #[track_caller]
     pub fn copy_to_slice(&mut self, dst: &mut [u8]) {
         // SAFETY: duty 4: the slice's pointer is not null, and its bytes may be written during the call.
@@ -131,15 +162,12 @@ impl IoBuf {
     }
 
     /// Takes the first `n` bytes out, in the same storage. Panics where there are fewer (`Buf`).
+    #[inline]
     #[track_caller]
     pub fn take_owned(&mut self, n: usize) -> IoBuf {
-        let out = IoBuf::default();
         // SAFETY: duties 1 to 3.
-        done(
-            unsafe { sys::iobuf_take(&mut self.0.at(), n, &mut out.0.at()) },
-            "take_owned out of bounds",
-        );
-        out
+        let take = |view: &mut _, out: &mut _| unsafe { sys::iobuf_take(view, n, out) };
+        IoBuf(self.0.part(|view, out| done(take(view, out), "take_owned out of bounds")))
     }
 
     /// The same, by the name that the original has for an answer of `Bytes`.
@@ -161,36 +189,24 @@ impl IoBuf {
 }
 
 impl Default for IoBuf {
+    #[inline]
     fn default() -> Self {
-        IoBuf(Memory::new(sys::iobuf_init))
-    }
-}
-
-impl Drop for IoBuf {
-    fn drop(&mut self) {
-        // SAFETY: duty 1: the memory isn't used behind it.
-        unsafe { sys::iobuf_drop(&mut self.0.at()) }
+        IoBuf(View::new())
     }
 }
 
 impl Clone for IoBuf {
+    #[inline]
     fn clone(&self) -> Self {
-        let out = IoBuf::default();
         // SAFETY: it only looks at `self` (duty 3).
-        done(unsafe { sys::iobuf_clone(&mut self.0.at(), &mut out.0.at()) }, "");
-        out
+        IoBuf(self.0.part(|view, out| done(unsafe { sys::iobuf_clone(view, out) }, "")))
     }
 }
 
 impl AsRef<[u8]> for IoBuf {
     #[inline]
     fn as_ref(&self) -> &[u8] {
-        let mut at = no_bytes();
-        // SAFETY: duty 5: the bytes may be read until `self` is changed or dropped, which the borrow rules out.
-        unsafe {
-            let n = sys::iobuf_chunk(&mut self.0.at(), &mut at);
-            slice::from_raw_parts(at, n)
-        }
+        self.0.bytes()
     }
 }
 
@@ -249,14 +265,15 @@ impl<const N: usize> From<&'static [u8; N]> for IoBuf {
     }
 }
 
-/// Copies.
+/// Keeps the `Vec`, as `from_owner` does.
 impl From<Vec<u8>> for IoBuf {
     fn from(bytes: Vec<u8>) -> Self {
-        Self::copy_from_slice(&bytes)
+        Self::from_owner(bytes)
     }
 }
 
 impl From<IoBufMut> for IoBuf {
+    #[inline]
     fn from(part: IoBufMut) -> Self {
         part.freeze()
     }
@@ -264,6 +281,7 @@ impl From<IoBufMut> for IoBuf {
 
 /// Copies.
 impl From<IoBuf> for Vec<u8> {
+    #[inline]
     fn from(view: IoBuf) -> Self {
         view.as_ref().to_vec()
     }

@@ -107,14 +107,29 @@ fn too_many_bytes() {
 }
 
 #[test]
-fn conversions_copy() {
+fn conversions_share() {
     let bytes = Bytes::from(vec![1, 2, 3]);
     let view = IoBuf::from(bytes.clone());
-    assert_eq!(view, [1, 2, 3]);
-    assert_ne!(view.as_ptr(), bytes.as_ptr());
-    let back = Bytes::from(view.clone());
-    assert_eq!(back, bytes);
-    assert_ne!(back.as_ptr(), view.as_ptr());
+    assert_eq!(view.as_ptr(), bytes.as_ptr());
+    // A `Bytes` comes out as itself.
+    let back = Bytes::from(view.slice(1..));
+    assert_eq!((back.as_ptr(), &back[..]), (bytes.as_ptr().wrapping_add(1), &[2, 3][..]));
+    drop((view, bytes));
+    assert!(back.is_unique());
+    // So does the library's storage, and stays while the `Bytes` does.
+    let mut text = IoBufs::from([IoBuf::copy_from_slice(b"written"), IoBuf::from(BytesMut::from(&b"-more"[..]))]);
+    let places: Vec<*const u8> = text.chunks().map(<[u8]>::as_ptr).collect();
+    let (a, b) = (Buf::copy_to_bytes(&mut text, 7), Buf::copy_to_bytes(&mut text, 5));
+    drop(text);
+    assert_eq!((a.as_ptr(), b.as_ptr()), (places[0], places[1]));
+    assert_eq!((&a[..], &b[..]), (&b"written"[..], &b"-more"[..]));
+    let shared = IoBuf::from(a.clone());
+    assert!(shared.clone().try_into_mut().is_err() && shared == a[..]);
+    assert!(Bytes::from(IoBuf::default()).is_empty() && IoBuf::from(Bytes::new()).is_empty());
+}
+
+#[test]
+fn conversions_copy() {
     let room = BytesMut::from(&b"abc"[..]);
     assert_eq!(IoBufsMut::from(room.clone()).freeze().coalesce(), b"abc");
     assert_eq!(IoBufs::from(room.clone()), IoBufs::from(room.freeze()));
@@ -122,8 +137,7 @@ fn conversions_copy() {
     room.put_slice(b"abc");
     let part = IoBufMut::from(room);
     assert_eq!((part.as_ref(), part.capacity() >= 64), (&b"abc"[..], true));
-    assert_eq!(IoBufMut::from(bytes), [1, 2, 3]);
-    assert!(IoBuf::from(Bytes::new()).is_empty());
+    assert_eq!(IoBufMut::from(Bytes::from_static(&[1, 2, 3])), [1, 2, 3]);
 }
 
 /// Random numbers, the same in every run.
