@@ -111,6 +111,7 @@ by_range : (bytes : List ℕ) (range : RangeCfg) (n : ℕ) (inside : Bool) → I
 by_range bytes range n true at e = record { answer = Ok n; is = (at, e) }
 by_range bytes range n false at e = record { answer = Err (InvalidLength n); is = (at, e) }
 
+-- bytes have a length in the range, or a reason why not
 pub some_answer : (bytes : List ℕ) (range : RangeCfg) → HasAnswer bytes range
 some_answer bytes range = elim (has_length bytes) [
   | inl (n, at) ↦ by_range bytes range n (in_range range n) at refl

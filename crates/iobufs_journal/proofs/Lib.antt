@@ -2,4 +2,5 @@ mod CrcLaws
 mod EndingLaws
 mod FrontLaws
 mod LineLaws
+mod Readings
 mod ScanLaws

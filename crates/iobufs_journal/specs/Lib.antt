@@ -3,5 +3,4 @@ pub mod Ending
 pub mod Journal
 pub mod JournalLaws
 pub mod Lines
-pub mod Readings
 pub mod Scan

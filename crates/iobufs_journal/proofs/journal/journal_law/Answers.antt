@@ -1,4 +1,4 @@
-use Rattle.iobufs_journal.specs.Readings.{cut_short, one_journal, replayed}
+use Rattle.iobufs_journal.proofs.Readings.{cut_short, one_journal, replayed}
 use Rattle.iobufs_journal.proofs.journal.journal_law.Goals as goal
 
 pub returns : goal.returns

@@ -269,6 +269,7 @@ reading most number (suc fuel) text enough = elim (front most number text) [
       }
 ]
 
+-- bytes have one list of records, one end and one rest
 pub one_journal : (most : ℕ) → most < 2 ^ 64 → (text : List ℕ) → HasOneJournal most text
 one_journal most large text =
     let all = reading most 0 (suc (length text)) text (omega arith) in record {
@@ -336,6 +337,7 @@ first_whole most number n (body ∷ bodies) large short =
     by_test most number n body bodies (nat_lt n (length (record_written number body))) large short.0 refl
     (first_whole most (suc number) (n - length (record_written number body)) bodies large short.1)
 
+-- a whole journal with the first bytes of records after it has those of them that are whole
 pub cut_short : (most n : ℕ) (found lines others : List (List ℕ)) (text rest : List ℕ) (end : JournalEnd) → most < 2 ^ 64 → IsJournal most 0 text found Whole []
     → AreShort most lines → IsJournal most 0 (text ++ take n (records_written (length found) lines)) others end rest
     → (others ≡ found ++ whole_of (length found) n lines) × (end ≡ Damaged → ⊥)
