@@ -10,14 +10,8 @@ use Rattle.std.specs.Int.{w32, w64, to_be_bytes}
 use Rattle.std.proofs.Common.{arith, inl, inr, ap, sym, ◌∙◌, append_assoc, append-nil, length-append, length-take, take-append-drop}
 use Rattle.std.proofs.Math.Seq.{take-append_seam, drop-append_seam}
 use Rattle.std.proofs.lemmas.List.{take-append-le}
-<<<<<<< HEAD
-use Rattle.iobufs_core.proofs.CallerFacts.{bytes-view_between, length-bytes_written, read_and_left, read_at_most, read_in_range}
-use Rattle.iobufs_core.proofs.LengthFacts.{no_length_later, spelled_later, still_closed}
-use Rattle.iobufs_core.specs.MarkedText.{MarkedText, text_rest}
-=======
 use Rattle.iobufs_core.proofs.CallerFacts.{bytes-view_between, length-bytes_written}
 use Rattle.iobufs_core.proofs.LengthFacts.{no_length_later, spelled_later, still_closed}
->>>>>>> 79a5324ada5bd1c68cf675e892a700c8f2c8f6d4
 use Rattle.iobufs_core.specs.View.{View, view_slice}
 use Rattle.iobufs_core.specs.Wire.{bytes_written, view_written}
 use Rattle.iobufs_journal.specs.Crc.{crc32}
