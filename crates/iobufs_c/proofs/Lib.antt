@@ -1,1 +1,3 @@
 mod Chunks
+mod Places
+mod Rooms

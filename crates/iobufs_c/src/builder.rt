@@ -57,13 +57,17 @@ fn none() -> Option<Builder>
 
 /// How many bytes a builder takes.
 #[unsafe(no_mangle)]
-pub extern "C" fn iobufs_builder_size() -> usize {
+pub extern "C" fn iobufs_builder_size() -> usize
+    ensures value { result ≡ 120 }
+{
     mem::size_of::<Option<Builder>>()
 }
 
 /// To what a builder is aligned.
 #[unsafe(no_mangle)]
-pub extern "C" fn iobufs_builder_align() -> usize {
+pub extern "C" fn iobufs_builder_align() -> usize
+    ensures value { result ≡ 8 }
+{
     mem::align_of::<Option<Builder>>()
 }
 

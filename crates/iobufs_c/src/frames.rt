@@ -57,13 +57,17 @@ fn empty() -> Frames
 
 /// How many bytes frames take.
 #[unsafe(no_mangle)]
-pub extern "C" fn iobufs_frames_size() -> usize {
+pub extern "C" fn iobufs_frames_size() -> usize
+    ensures value { result ≡ 64 }
+{
     mem::size_of::<Frames>()
 }
 
 /// To what frames are aligned.
 #[unsafe(no_mangle)]
-pub extern "C" fn iobufs_frames_align() -> usize {
+pub extern "C" fn iobufs_frames_align() -> usize
+    ensures value { result ≡ 8 }
+{
     mem::align_of::<Frames>()
 }
 

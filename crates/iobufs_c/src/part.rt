@@ -55,13 +55,17 @@ fn none() -> Option<IoBufMut>
 
 /// How many bytes a buffer takes.
 #[unsafe(no_mangle)]
-pub extern "C" fn iobufmut_size() -> usize {
+pub extern "C" fn iobufmut_size() -> usize
+    ensures value { result ≡ 64 }
+{
     mem::size_of::<Option<IoBufMut>>()
 }
 
 /// To what a buffer is aligned.
 #[unsafe(no_mangle)]
-pub extern "C" fn iobufmut_align() -> usize {
+pub extern "C" fn iobufmut_align() -> usize
+    ensures value { result ≡ 8 }
+{
     mem::align_of::<Option<IoBufMut>>()
 }
 

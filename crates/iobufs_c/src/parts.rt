@@ -58,13 +58,17 @@ fn none() -> Option<IoBufsMut>
 
 /// How many bytes parts take.
 #[unsafe(no_mangle)]
-pub extern "C" fn iobufsmut_size() -> usize {
+pub extern "C" fn iobufsmut_size() -> usize
+    ensures value { result ≡ 184 }
+{
     mem::size_of::<Option<IoBufsMut>>()
 }
 
 /// To what parts are aligned.
 #[unsafe(no_mangle)]
-pub extern "C" fn iobufsmut_align() -> usize {
+pub extern "C" fn iobufsmut_align() -> usize
+    ensures value { result ≡ 8 }
+{
     mem::align_of::<Option<IoBufsMut>>()
 }
 

@@ -59,13 +59,17 @@ fn empty() -> IoBufs
 
 /// How many bytes a text takes.
 #[unsafe(no_mangle)]
-pub extern "C" fn iobufs_size() -> usize {
+pub extern "C" fn iobufs_size() -> usize
+    ensures value { result ≡ 56 }
+{
     mem::size_of::<IoBufs>()
 }
 
 /// To what a text is aligned.
 #[unsafe(no_mangle)]
-pub extern "C" fn iobufs_align() -> usize {
+pub extern "C" fn iobufs_align() -> usize
+    ensures value { result ≡ 8 }
+{
     mem::align_of::<IoBufs>()
 }
 

@@ -54,13 +54,17 @@ fn empty() -> IoBuf
 
 /// How many bytes a view takes.
 #[unsafe(no_mangle)]
-pub extern "C" fn iobuf_size() -> usize {
+pub extern "C" fn iobuf_size() -> usize
+    ensures value { result ≡ 48 }
+{
     mem::size_of::<IoBuf>()
 }
 
 /// To what a view is aligned.
 #[unsafe(no_mangle)]
-pub extern "C" fn iobuf_align() -> usize {
+pub extern "C" fn iobuf_align() -> usize
+    ensures value { result ≡ 8 }
+{
     mem::align_of::<IoBuf>()
 }
 
@@ -283,7 +287,8 @@ pub extern "C" fn iobuf_slice(
     }
 }
 
-/// A view of bytes that stay where they are for good.
+/// A view of bytes that live, unchanged, until the last buffer made of them is dropped. The contract takes them for static: only
+/// buffers made of them have their address, so nothing reads them after that.
 #[unsafe(no_mangle)]
 pub extern "C" fn iobuf_from_static(text: &'static [u8], out: &mut ViewAt)
     ensures at { out.new.at ≡ out.old.at }
