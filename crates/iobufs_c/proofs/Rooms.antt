@@ -9,7 +9,7 @@ use base.Fml.{ftrue, froom}
 use types.Logic.{Logic, sem}
 use types.Kit.{‵, raw, ◌⊛◌, some, later, ◌$◌, ◌∵◌, !, qed, move, drop, split, join, pick, rewrite, feq_i, use1, await, suffices, done, use0, use2}
 use types.Run.{stop, of_opd, returns, enter, init, unit_lit, no_more, assigns}
-use types.ByLocal.{alloc_all, pass_all, free_all, look_at, get, through, sets, env, lands_as}
+use types.ByLocal.{alloc_all, pass_all, free_all, look_at, get, through, sets, lands_as}
 use contract.Running.{Running, MachineTables, tables}
 use contract.Fact.{fact}
 use prog.Model.{Model}
