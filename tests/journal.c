@@ -1,8 +1,8 @@
-// Loaded before the journal program: numbers its calls on regular files, on folders and on the input, and notes each by a letter
-// in the file that CALLS names: o opens, f finds or measures, l locks, k goes to the front, r reads, i reads the input,
-// w writes, c cuts, s syncs a file, d a folder. In the call with number AT the program ends (HOW=stop), or it and all writes
-// after it fail
-// (HOW=fail). A write then puts half of its bytes. With HOW=grow the file `it` has some bytes more before that call.
+// Loaded before the journal program: numbers its calls on regular files, on folders and on the input, and notes each by a
+// letter in the file that CALLS names: o opens, f finds or measures, l locks, k goes to the front, r reads, i reads the
+// input, w writes, c cuts, s syncs a file, d a folder. In the call with number AT the program ends (HOW=stop), or it and all
+// writes after it fail (HOW=fail). A write then puts half of its bytes. Before that call the file `it` grows (HOW=grow), or
+// is renamed (HOW=move).
 #define _GNU_SOURCE
 #include <errno.h>
 #include <fcntl.h>
@@ -28,6 +28,7 @@ static int is_hit(char letter) {
     int file = name ? syscall(SYS_open, name, O_WRONLY | O_CREAT | O_APPEND, 0644) : -1;
     if (file >= 0) syscall(SYS_write, file, &letter, 1), syscall(SYS_close, file);
     if (++count != (at ? atoi(at) : 0)) return 0;
+    if (strcmp(getenv("HOW"), "move") == 0) return syscall(SYS_rename, "it", "moved"), 0;
     if (strcmp(getenv("HOW"), "grow") != 0) return 1;
     file = syscall(SYS_open, "it", O_WRONLY | O_APPEND);
     return syscall(SYS_write, file, "\x14\0", 2), syscall(SYS_close, file), 0;
