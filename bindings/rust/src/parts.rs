@@ -305,9 +305,12 @@ impl io::Write for IoBufsMut {
 }
 
 /// Encoded bytes and existing buffers, put together as one text.
-///
-/// The last field is how many bytes fitted at the last push, if an owner's memory was pushed.
-pub struct Builder(Text<{ sys::BUILDER }>, pub(crate) Scratch, usize);
+pub struct Builder(
+    Text<{ sys::BUILDER }>,
+    pub(crate) Scratch,
+    // How many bytes fitted at the last push, if owners are kept.
+    usize,
+);
 
 impl Builder {
     /// A builder for so many bytes that are put, and no more.
