@@ -1,5 +1,5 @@
-// Loaded before a benchmark's program: counts its requests for memory between the first and the second of each pair of
-// readings of the monotonic clock, and has callgrind count instructions there and nowhere else.
+// Loaded before a benchmark's program: counts its requests for memory, and their bytes, between the first and the second of
+// each pair of readings of the monotonic clock, and has callgrind count instructions there and nowhere else.
 #define _GNU_SOURCE
 #include <stdio.h>
 #include <stdlib.h>
@@ -15,18 +15,23 @@
 #endif
 
 static int inside = 0;
-static unsigned long requests = 0;
+static unsigned long requests = 0, bytes = 0;
 extern void *__libc_malloc(size_t);
 extern void *__libc_calloc(size_t, size_t);
 extern void *__libc_realloc(void *, size_t);
 extern void *__libc_memalign(size_t, size_t);
 
-void *malloc(size_t n) { requests += inside; return __libc_malloc(n); }
-void *calloc(size_t a, size_t b) { requests += inside; return __libc_calloc(a, b); }
-void *realloc(void *p, size_t n) { requests += inside; return __libc_realloc(p, n); }
-void *aligned_alloc(size_t a, size_t n) { requests += inside; return __libc_memalign(a, n); }
-int posix_memalign(void **p, size_t a, size_t n) {
+static void count(size_t n) {
     requests += inside;
+    bytes += inside ? n : 0;
+}
+
+void *malloc(size_t n) { count(n); return __libc_malloc(n); }
+void *calloc(size_t a, size_t b) { count(a * b); return __libc_calloc(a, b); }
+void *realloc(void *p, size_t n) { count(n); return __libc_realloc(p, n); }
+void *aligned_alloc(size_t a, size_t n) { count(n); return __libc_memalign(a, n); }
+int posix_memalign(void **p, size_t a, size_t n) {
+    count(n);
     *p = __libc_memalign(a, n);
     return *p ? 0 : 12;
 }
@@ -45,7 +50,7 @@ int clock_gettime(clockid_t id, struct timespec *time) {
     if (id != CLOCK_MONOTONIC || skipped()) return answer;
     inside = !inside;
     if (inside) {
-        requests = 0;
+        requests = bytes = 0;
         CALLGRIND_ZERO_STATS;
         CALLGRIND_TOGGLE_COLLECT;
         return answer;
@@ -53,7 +58,7 @@ int clock_gettime(clockid_t id, struct timespec *time) {
     CALLGRIND_TOGGLE_COLLECT;
     CALLGRIND_DUMP_STATS;
     char line[64];
-    int n = snprintf(line, sizeof line, "REQUESTS %lu\n", requests);
+    int n = snprintf(line, sizeof line, "REQUESTS %lu %lu\n", requests, bytes);
     if (write(2, line, n) != n) return -1;
     return answer;
 }

@@ -24,7 +24,7 @@ def words():
     for crate in [*CRATES.iterdir(), *(KIT / name for name in KIT_CRATES)]:
         for file in sources(crate):
             found.update(WORD.findall(file.read_text()))
-    others = [*(ROOT / "tests").rglob("*"), *(ROOT / "bench").iterdir(), *(ROOT / "bindings").rglob("*"), ROOT / "crates.txt", ROOT / "HANDLES"]
+    others = [*(ROOT / "tests").rglob("*"), *CRATES.glob("*/stdout"), *(ROOT / "bench").iterdir(), *(ROOT / "bindings").rglob("*"), ROOT / "crates.txt", ROOT / "HANDLES"]
     for file in others:
         if file.is_file() and file.suffix != ".md" and file.name != "docs" and "pages" not in file.parts:
             found.add(file.stem)

@@ -1,5 +1,5 @@
 // The workloads that encode and decode.
-use crate::run::{Run, RunError, cut, mark, native, since};
+use crate::run::{Run, RunError, Sum, cut, native};
 use iobufs::bufs::IoBufs;
 use iobufs::builder::{Builder, EncodeExt};
 use iobufs_core::buf::IoBuf;
@@ -19,21 +19,16 @@ pub fn encode(rt: &HostRuntime) -> Result<Run, RunError> {
     let alloc = rt.alloc();
     let view = native(alloc, 64)?;
     let keep = view.clone()?;
+    let mut sum = Sum::new();
     let start = Instant::now(rt)?;
-    let mut sum = 0u64;
     for _ in 0..1000 {
         let text = view.encode_iobufs(alloc)?;
-        sum = sum
-            .wrapping_add(text.chunk_count() as u64)
-            .wrapping_add(mark(text.chunk()));
+        sum.add(text.chunk_count());
+        sum.mark(text.chunk());
     }
-    let nanos = since(rt, start)?;
+    let run = Run::since(rt, start, 1000, sum)?;
     drop(keep);
-    Ok(Run {
-        ops: 1000,
-        nanos,
-        sum,
-    })
+    Ok(run)
 }
 
 fn record(builder: &mut Builder, view: &IoBuf, i: u16) -> Result<(), RunError> {
@@ -53,25 +48,20 @@ pub fn build(rt: &HostRuntime) -> Result<Run, RunError> {
     let alloc = rt.alloc();
     let view = native(alloc, 64)?;
     let keep = view.clone()?;
+    let mut sum = Sum::new();
     let start = Instant::now(rt)?;
-    let mut sum = 0u64;
     for _ in 0..50 {
         let mut builder = Builder::new(alloc, 384)?;
         for i in 0..64u16 {
             record(&mut builder, &view, i)?;
         }
         let text = builder.finish()?;
-        sum = sum
-            .wrapping_add(text.chunk_count() as u64)
-            .wrapping_add(mark(text.chunk()));
+        sum.add(text.chunk_count());
+        sum.mark(text.chunk());
     }
-    let nanos = since(rt, start)?;
+    let run = Run::since(rt, start, 3200, sum)?;
     drop(keep);
-    Ok(Run {
-        ops: 3200,
-        nanos,
-        sum,
-    })
+    Ok(run)
 }
 
 fn frames(alloc: Global, count: usize, len: usize, piece: usize) -> Result<IoBufs, RunError> {
@@ -81,46 +71,47 @@ fn frames(alloc: Global, count: usize, len: usize, piece: usize) -> Result<IoBuf
         let frame = body.encode_iobufs(alloc)?.coalesce(alloc)?;
         all.extend_from_slice(frame.as_ref())?;
     }
-    let whole = IoBuf::from_vec(all)?;
+    let mut rest = IoBuf::from_vec(all)?;
     let mut views = Vec::new(alloc);
-    let mut at = 0usize;
-    for _ in 0..usize::MAX {
-        if at >= whole.len() {
+    for _ in 0..rest.len() {
+        let len = piece.min(rest.len());
+        views.push(rest.split_to(len)?)?;
+        if rest.is_empty() {
             break;
         }
-        let end = at.saturating_add(piece).min(whole.len());
-        views.push(cut(&whole, at, end)?)?;
-        at = end;
     }
     Ok(IoBufs::from_chunks(alloc, views.into_iter())?)
 }
 
-fn decode(alloc: Global, text: &mut IoBufs) -> Result<u64, RunError> {
-    let mut sum = 0u64;
-    for _ in 0..u64::MAX {
+fn decode(alloc: Global, text: &mut IoBufs, count: usize, sum: &mut Sum) -> Result<(), RunError> {
+    for _ in 0..count {
         if !text.has_remaining() {
-            break;
+            return Err(RunError::Unfit);
         }
         let view = IoBuf::read_cfg(alloc, text, &RANGE)?;
-        sum = sum.wrapping_add(mark(view.as_ref()));
+        sum.mark(view.as_ref());
     }
-    Ok(sum)
+    Ok(())
 }
 
-fn take_frames(alloc: Global, text: &mut IoBufs) -> Result<u64, RunError> {
-    let mut sum = 0u64;
-    for _ in 0..u64::MAX {
+fn take_frames(
+    alloc: Global,
+    text: &mut IoBufs,
+    count: usize,
+    sum: &mut Sum,
+) -> Result<(), RunError> {
+    for _ in 0..count {
         if !text.has_remaining() {
-            break;
+            return Err(RunError::Unfit);
         }
         let len = usize::read_cfg(alloc, text, &RANGE)?;
         if text.len() < len {
             return Err(RunError::Unfit);
         }
         let view: IoBuf = text.take_owned(alloc, len)?;
-        sum = sum.wrapping_add(mark(view.as_ref()));
+        sum.mark(view.as_ref());
     }
-    Ok(sum)
+    Ok(())
 }
 
 fn sources(alloc: Global, count: usize, len: usize, piece: usize) -> Result<Vec<IoBufs>, RunError> {
@@ -132,11 +123,18 @@ fn sources(alloc: Global, count: usize, len: usize, piece: usize) -> Result<Vec<
     Ok(texts)
 }
 
-fn read_all(alloc: Global, text: &mut IoBufs, is_take: bool) -> Result<u64, RunError> {
+// Reads so many frames: as one value, or the length and then the bytes.
+fn read_all(
+    alloc: Global,
+    text: &mut IoBufs,
+    count: usize,
+    is_take: bool,
+    sum: &mut Sum,
+) -> Result<(), RunError> {
     if is_take {
-        return take_frames(alloc, text);
+        return take_frames(alloc, text, count, sum);
     }
-    decode(alloc, text)
+    decode(alloc, text, count, sum)
 }
 
 pub fn decoding(
@@ -148,29 +146,21 @@ pub fn decoding(
 ) -> Result<Run, RunError> {
     let alloc = rt.alloc();
     let mut texts = sources(alloc, count, len, piece)?;
+    let mut sum = Sum::new();
     let start = Instant::now(rt)?;
-    let mut sum = 0u64;
     for text in &mut texts {
-        sum = sum.wrapping_add(read_all(alloc, text, is_take)?);
+        read_all(alloc, text, count, is_take, &mut sum)?;
     }
-    let nanos = since(rt, start)?;
-    Ok(Run {
-        ops: (count as u64).wrapping_mul(4),
-        nanos,
-        sum,
-    })
+    Run::since(rt, start, count.saturating_mul(4), sum)
 }
 
-// Encodes views of many lengths, and appends each piece to one text.
+// Encodes views of many lengths, and appends each chunk to one text.
 fn wired(alloc: Global, master: &IoBuf) -> Result<IoBufs, RunError> {
     let mut wire = IoBufs::default();
     for i in 0..1000usize {
         let body = cut(master, 0, i * 37 % 1400 + 1)?;
         let mut text = body.encode_iobufs(alloc)?;
-        for _ in 0..u64::MAX {
-            if !text.has_remaining() {
-                break;
-            }
+        for _ in 0..text.chunk_count() {
             let n = text.chunk().len();
             if text.len() < n {
                 return Err(RunError::Unfit);
@@ -185,14 +175,10 @@ fn wired(alloc: Global, master: &IoBuf) -> Result<IoBufs, RunError> {
 pub fn there_and_back(rt: &HostRuntime, is_take: bool) -> Result<Run, RunError> {
     let alloc = rt.alloc();
     let master = native(alloc, 1400)?;
+    let mut sum = Sum::new();
     let start = Instant::now(rt)?;
     let mut wire = wired(alloc, &master)?;
-    let sum = read_all(alloc, &mut wire, is_take)?;
+    read_all(alloc, &mut wire, 1000, is_take, &mut sum)?;
     drop(wire);
-    let nanos = since(rt, start)?;
-    Ok(Run {
-        ops: 1000,
-        nanos,
-        sum,
-    })
+    Run::since(rt, start, 1000, sum)
 }

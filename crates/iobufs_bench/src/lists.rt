@@ -1,188 +1,103 @@
-// The workloads on lists of n parts.
+// The workloads on an `IoBufsMut` of n buffers.
 ghost use Rattle.std.specs.Prelude.{◌≡◌, length};
 ghost use Rattle.iobufs.specs.Parts.{parts_filled};
 
-use crate::run::{PART, Run, RunError, copies, lists, mark, parts, pattern, roomy_lists, since};
+use crate::run::{CHUNK, Run, RunError, Sum, copies, lists, parts, pattern};
+use crate::turns::{advance_turns, put_turns, read_turns, take_turns};
 use iobufs::bufs_mut::IoBufsMut;
-use iobufs_core::codec::{Buf, BufMut};
-use std::alloc::Global;
+use iobufs_core::buf::IoBufMut;
+use iobufs_core::codec::Buf;
 use std::time::Instant;
 
-// Puts a piece so many times.
-fn put_turns<B: BufMut>(buf: &mut B, piece: &[u8], turns: usize) -> Result<(), RunError> {
-    let mut room = buf.remaining_mut();
-    'turns: for _ in 0..turns {
-        if room < piece.len() {
-            return Err(RunError::Unfit);
-        }
-        buf.put_slice(piece);
-        room -= piece.len();
-    }
-    Ok(())
-}
-
-// Advances by 100 so many times, and then by the rest.
-fn advance_turns<B: Buf>(buf: &mut B, turns: usize) -> Result<u64, RunError> {
-    let mut left = buf.remaining();
-    let mut sum = 0u64;
-    'turns: for _ in 0..turns {
-        if left < 100 {
-            return Err(RunError::Unfit);
-        }
-        buf.advance(100);
-        left -= 100;
-        sum = sum.wrapping_add(mark(buf.chunk()));
-    }
-    buf.advance(left);
-    Ok(sum)
-}
-
-// Takes 300 bytes out so many times.
-fn take_turns<B: Buf>(alloc: Global, buf: &mut B, turns: usize) -> Result<u64, RunError> {
-    let mut left = buf.remaining();
-    let mut sum = 0u64;
-    'turns: for _ in 0..turns {
-        if left < 300 {
-            return Err(RunError::Unfit);
-        }
-        let bytes = buf.copy_to_bytes(alloc, 300)?;
-        left -= 300;
-        sum = sum.wrapping_add(mark(bytes.as_slice()));
-    }
-    Ok(sum)
-}
-
-pub fn put(rt: &HostRuntime, n: usize, size: usize) -> Result<Run, RunError> {
+pub fn put(rt: &HostRuntime, n: u32, size: u32) -> Result<Run, RunError> {
     let alloc = rt.alloc();
     let k = copies(n);
-    let mut lists = lists(alloc, k, n, false)?;
-    let piece = pattern(alloc, size)?;
-    let steps = n.wrapping_mul(PART).checked_div(size).unwrap_or(0);
+    let mut lists = lists(alloc, k, n, 0)?;
+    let piece = pattern(alloc, size as usize)?;
+    let turns = (n as usize * CHUNK).checked_div(size as usize).unwrap_or(0);
     let start = Instant::now(rt)?;
     for list in &mut lists {
-        put_turns(list, piece.as_slice(), steps)?;
+        put_turns(list, piece.as_slice(), turns)?;
     }
-    let nanos = since(rt, start)?;
-    let mut sum = 0u64;
+    let mut run = Run::since(rt, start, k.saturating_mul(turns), Sum::new())?;
     for list in &lists {
-        sum = sum.wrapping_add(list.len() as u64);
+        run.sum.add(list.len());
     }
-    Ok(Run {
-        ops: (k as u64).wrapping_mul(steps as u64),
-        nanos,
-        sum,
-    })
+    Ok(run)
 }
 
-pub fn advance100(rt: &HostRuntime, n: usize) -> Result<Run, RunError> {
+pub fn advance100(rt: &HostRuntime, n: u32) -> Result<Run, RunError> {
     let k = copies(n);
-    let mut lists = lists(rt.alloc(), k, n, true)?;
-    let steps = n.wrapping_mul(PART) / 100;
+    let mut lists = lists(rt.alloc(), k, n, CHUNK)?;
+    let turns = n as usize * CHUNK / 100;
+    let mut sum = Sum::new();
     let start = Instant::now(rt)?;
-    let mut sum = 0u64;
     for list in &mut lists {
-        sum = sum.wrapping_add(advance_turns(list, steps)?);
+        advance_turns(list, turns, &mut sum)?;
     }
-    let nanos = since(rt, start)?;
-    Ok(Run {
-        ops: (k as u64).wrapping_mul((steps as u64).wrapping_add(1)),
-        nanos,
-        sum,
-    })
+    Run::since(rt, start, k.saturating_mul(turns + 1), sum)
 }
 
-pub fn take300(rt: &HostRuntime, n: usize) -> Result<Run, RunError> {
+pub fn take(rt: &HostRuntime, n: u32, size: u32) -> Result<Run, RunError> {
     let alloc = rt.alloc();
     let k = copies(n);
-    let mut lists = lists(alloc, k, n, true)?;
-    let steps = n.wrapping_mul(PART) / 300;
+    let mut lists = lists(alloc, k, n, CHUNK)?;
+    let turns = (n as usize * CHUNK).checked_div(size as usize).unwrap_or(0);
+    let mut sum = Sum::new();
     let start = Instant::now(rt)?;
-    let mut sum = 0u64;
     for list in &mut lists {
-        sum = sum.wrapping_add(take_turns(alloc, list, steps)?);
+        take_turns(alloc, list, turns, size as usize, &mut sum)?;
     }
-    let nanos = since(rt, start)?;
-    Ok(Run {
-        ops: (k as u64).wrapping_mul(steps as u64),
-        nanos,
-        sum,
-    })
+    Run::since(rt, start, k.saturating_mul(turns), sum)
 }
 
-pub fn freeze(rt: &HostRuntime, n: usize) -> Result<Run, RunError> {
+pub fn freeze(rt: &HostRuntime, n: u32) -> Result<Run, RunError> {
     let alloc = rt.alloc();
     let k = copies(n);
-    let lists = lists(alloc, k, n, true)?;
+    let lists = lists(alloc, k, n, CHUNK)?;
     let mut kept = Vec::with_capacity(alloc, k)?;
     let start = Instant::now(rt)?;
     for list in lists {
         kept.push(list.freeze(alloc)?)?;
     }
-    let nanos = since(rt, start)?;
-    let mut sum = 0u64;
+    let mut run = Run::since(rt, start, k, Sum::new())?;
     for text in &kept {
-        sum = sum
-            .wrapping_add(text.len() as u64)
-            .wrapping_add(mark(text.chunk()));
+        run.sum.add(text.len());
+        run.sum.mark(text.chunk());
     }
-    Ok(Run {
-        ops: k as u64,
-        nanos,
-        sum,
-    })
+    Ok(run)
 }
 
-pub fn coalesce(rt: &HostRuntime, n: usize) -> Result<Run, RunError> {
+/// Buffers of eight bytes, with spare capacity, made one.
+pub fn coalesce(rt: &HostRuntime, n: u32) -> Result<Run, RunError> {
     let alloc = rt.alloc();
     let k = copies(n);
-    let lists = roomy_lists(alloc, k, n)?;
+    let lists = lists(alloc, k, n, 8)?;
     let mut kept = Vec::with_capacity(alloc, k)?;
     let start = Instant::now(rt)?;
     for list in lists {
         kept.push(list.coalesce(alloc)?)?;
     }
-    let nanos = since(rt, start)?;
-    let mut sum = 0u64;
+    let mut run = Run::since(rt, start, k, Sum::new())?;
     for part in &kept {
-        sum = sum.wrapping_add(mark(part.as_ref()));
+        run.sum.mark(part.as_ref());
     }
-    Ok(Run {
-        ops: k as u64,
-        nanos,
-        sum,
-    })
+    Ok(run)
 }
 
-// Reads so many chunks, each to its end.
-fn read_turns<B: Buf>(buf: &mut B, turns: usize) -> u64 {
-    let mut sum = 0u64;
-    'turns: for _ in 0..turns {
-        let chunk = buf.chunk();
-        sum = sum.wrapping_add(mark(chunk));
-        let len = chunk.len();
-        buf.advance(len);
-    }
-    sum
-}
-
-/// Parts that are read to their ends, and keep their room.
-pub fn drained_read(rt: &HostRuntime, n: usize) -> Result<Run, RunError> {
+/// Buffers of eight bytes that are read to their ends, and keep their spare capacity.
+pub fn drain(rt: &HostRuntime, n: u32) -> Result<Run, RunError> {
     let k = copies(n);
-    let mut lists = roomy_lists(rt.alloc(), k, n)?;
+    let mut lists = lists(rt.alloc(), k, n, 8)?;
+    let mut sum = Sum::new();
     let start = Instant::now(rt)?;
-    let mut sum = 0u64;
     for list in &mut lists {
-        sum = sum.wrapping_add(read_turns(list, n));
+        read_turns(list, n as usize, &mut sum);
     }
-    let nanos = since(rt, start)?;
-    Ok(Run {
-        ops: (k as u64).wrapping_mul(n as u64),
-        nanos,
-        sum,
-    })
+    Run::since(rt, start, k.saturating_mul(n as usize), sum)
 }
 
-// Writes over the whole list so many times.
+// Writes over all bytes so many times.
 #[tactic(auto, using(crate::proofs::Overwritten::length_overwritten))]
 fn overwrite_turns(list: &mut IoBufsMut, source: &[u8], turns: usize)
     requires { length source.now ≡ length (parts_filled list.old) }
@@ -192,21 +107,30 @@ fn overwrite_turns(list: &mut IoBufsMut, source: &[u8], turns: usize)
     }
 }
 
-pub fn overwrite(rt: &HostRuntime, n: usize) -> Result<Run, RunError> {
+pub fn overwrite(rt: &HostRuntime, n: u32) -> Result<Run, RunError> {
     let alloc = rt.alloc();
     let k = copies(n);
-    let source = pattern(alloc, n.wrapping_mul(PART))?;
-    let mut list = parts(alloc, n, true)?;
+    let source = pattern(alloc, n as usize * CHUNK)?;
+    let mut list = parts(alloc, n, CHUNK)?;
     if source.len() != list.len() {
         return Err(RunError::Unfit);
     }
+    let mut sum = Sum::new();
     let start = Instant::now(rt)?;
     overwrite_turns(&mut list, source.as_slice(), k);
-    let sum = mark(list.chunk());
-    let nanos = since(rt, start)?;
-    Ok(Run {
-        ops: k as u64,
-        nanos,
-        sum,
-    })
+    sum.mark(list.chunk());
+    Run::since(rt, start, k, sum)
+}
+
+/// Keeps `n` writable buffers: for the bytes that each requests.
+pub fn hold(rt: &HostRuntime, n: u32) -> Result<Run, RunError> {
+    let alloc = rt.alloc();
+    let start = Instant::now(rt)?;
+    let mut kept = Vec::with_capacity(alloc, n as usize)?;
+    for _ in 0..n {
+        kept.push(IoBufMut::with_capacity(alloc, CHUNK)?)?;
+    }
+    let mut run = Run::since(rt, start, n as usize, Sum::new())?;
+    run.sum.add(kept.len());
+    Ok(run)
 }

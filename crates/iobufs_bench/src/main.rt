@@ -9,56 +9,54 @@ mod run;
 mod single;
 mod streams;
 mod texts;
+mod turns;
 mod workloads;
 
 use run::{Run, RunError};
 use std::process::ExitCode;
 use std::time::Instant;
 use std::{env, io};
-use workloads::{NAMES, STREAMS, run_named};
+use workloads::{run_named, usual};
 
-// The requested output: times or sums, of all workloads if none is named.
+// The requested output: times or sums, of the usual workloads if none is named.
 #[derive(Drop)]
 struct Request {
     is_sums: bool,
-    names: Vec<&'static str>,
+    names: Vec<String>,
 }
 
 fn requested(rt: &HostRuntime) -> Result<Request, RunError> {
     let mut is_sums = false;
     let mut names = Vec::new(rt.alloc());
     for word in env::args(rt)?.skip(1) {
-        let word = word.as_str();
-        if word == "--sums" && !is_sums {
+        if word.as_str() == "--sums" {
             is_sums = true;
-            continue;
-        }
-        match NAMES.iter().chain(&STREAMS).find(|name| **name == word) {
-            Some(name) => names.push(*name)?,
-            None => return Err(RunError::NoName),
+        } else {
+            names.push(word)?;
         }
     }
     if names.is_empty() {
-        names.extend_from_slice(&NAMES)?;
+        names = usual(rt.alloc())?;
     }
     Ok(Request { is_sums, names })
 }
 
 // The picoseconds of each of `ops` operations that took `nanos` nanoseconds together, and 0 of none.
-fn picoseconds_each(nanos: u64, ops: u64) -> u64 {
-    nanos.wrapping_mul(1000).checked_div(ops).unwrap_or(0)
+fn picoseconds_each(nanos: u64, ops: usize) -> u64 {
+    let picos = nanos.saturating_mul(1000);
+    picos.checked_div(ops as u64).unwrap_or(0)
 }
 
 // The picoseconds of an operation over as many runs as make 8 milliseconds of timed work, or 60 in all.
 fn repetition(rt: &HostRuntime, name: &str) -> Result<u64, RunError> {
     let mut nanos = 0u64;
-    let mut ops = 0u64;
+    let mut ops = 0usize;
     let begun = Instant::now(rt)?;
     for _ in 0..100_000 {
         let run = run_named(rt, name)?;
-        nanos = nanos.wrapping_add(run.nanos);
-        ops = ops.wrapping_add(run.ops);
-        if nanos >= 8_000_000 || run::since(rt, begun)? >= 60_000_000 {
+        nanos = nanos.saturating_add(run.nanos);
+        ops = ops.saturating_add(run.ops);
+        if nanos >= 8_000_000 || begun.elapsed(rt)?.as_millis() >= 60 {
             break;
         }
     }
@@ -76,12 +74,12 @@ fn least(rt: &HostRuntime, name: &str) -> Result<u64, RunError> {
 
 fn answer(rt: &HostRuntime) -> Result<(), RunError> {
     let Request { is_sums, names } = requested(rt)?;
-    for name in names {
+    for name in &names {
         if is_sums {
-            let Run { sum, ops, .. } = run_named(rt, name)?;
-            println!(rt; "{name} {sum} {ops}")?;
+            let Run { sum, ops, .. } = run_named(rt, name.as_str())?;
+            println!(rt; "{name} {} {ops}", sum.value())?;
         } else {
-            let picos = least(rt, name)?;
+            let picos = least(rt, name.as_str())?;
             println!(rt; "{name} {}.{:03}", picos / 1000, picos % 1000)?;
         }
     }

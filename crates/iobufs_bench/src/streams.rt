@@ -1,5 +1,5 @@
 // Streams of frames that come in pieces.
-use crate::run::{MIB, Run, RunError, cut, mark, native, since};
+use crate::run::{MIB, Run, RunError, Sum, native};
 use iobufs::builder::EncodeExt;
 use iobufs_core::buf::IoBuf;
 use iobufs_core::codec::RangeCfg;
@@ -27,48 +27,46 @@ fn block(alloc: Global) -> Result<IoBuf, RunError> {
     Ok(IoBuf::from_vec(bytes)?)
 }
 
-// Takes the frames that are whole.
-fn take_whole(alloc: Global, frames: &mut Frames) -> Result<u64, RunError> {
-    let mut sum = 0u64;
-    for _ in 0..u64::MAX {
+// Takes the frames that are whole. A piece ends at most one more frame than it has.
+fn take_whole(alloc: Global, frames: &mut Frames, sum: &mut Sum) -> Result<(), RunError> {
+    for _ in 0..=FRAMES {
         match frames.next(alloc, &RANGE)? {
-            Some(body) => sum = sum.wrapping_add(mark(body.as_ref())),
+            Some(body) => sum.mark(body.as_ref()),
             None => break,
         }
     }
-    Ok(sum)
+    Ok(())
 }
 
-// Feeds a block in pieces.
-fn feed(alloc: Global, frames: &mut Frames, block: &IoBuf, piece: usize) -> Result<u64, RunError> {
-    let mut sum = 0u64;
-    let mut at = 0usize;
-    for _ in 0..u64::MAX {
-        if at >= block.len() {
+// Feeds a block in pieces of this size.
+fn feed(
+    alloc: Global,
+    frames: &mut Frames,
+    block: &IoBuf,
+    piece: usize,
+    sum: &mut Sum,
+) -> Result<(), RunError> {
+    let mut rest = block.clone()?;
+    for _ in 0..block.len() {
+        let len = piece.min(rest.len());
+        frames.feed(alloc, rest.split_to(len)?)?;
+        take_whole(alloc, frames, sum)?;
+        if rest.is_empty() {
             break;
         }
-        let end = at.saturating_add(piece).min(block.len());
-        frames.feed(alloc, cut(block, at, end)?)?;
-        sum = sum.wrapping_add(take_whole(alloc, frames)?);
-        at = end;
     }
-    Ok(sum)
+    Ok(())
 }
 
 /// Takes frames of 1 KiB from 64 MiB, which come in pieces of this size.
-pub fn stream(rt: &HostRuntime, piece: usize) -> Result<Run, RunError> {
+pub fn stream(rt: &HostRuntime, piece: u32) -> Result<Run, RunError> {
     let alloc = rt.alloc();
     let block = block(alloc)?;
     let mut frames = Frames::default();
+    let mut sum = Sum::new();
     let start = Instant::now(rt)?;
-    let mut sum = 0u64;
     for _ in 0..BLOCKS {
-        sum = sum.wrapping_add(feed(alloc, &mut frames, &block, piece)?);
+        feed(alloc, &mut frames, &block, piece as usize, &mut sum)?;
     }
-    let nanos = since(rt, start)?;
-    Ok(Run {
-        ops: FRAMES.saturating_mul(BLOCKS) as u64,
-        nanos,
-        sum,
-    })
+    Run::since(rt, start, FRAMES * BLOCKS, sum)
 }

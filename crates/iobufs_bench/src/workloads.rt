@@ -1,9 +1,10 @@
 // The workloads by their names.
 use crate::run::{Run, RunError};
 use crate::{codec, lists, single, streams, texts};
+use std::alloc::{AllocError, Global};
 
-/// All of them, in the order in which they are run.
-pub static NAMES: [&str; 81] = [
+// Those of one size.
+const PLAIN: [&str; 24] = [
     "put64_1m_freeze",
     "put_u8_64k_freeze",
     "split_1m_1k_drop",
@@ -18,39 +19,6 @@ pub static NAMES: [&str; 81] = [
     "take_view_1k_1m",
     "take_view_1k_whole",
     "recover_put64_freeze",
-    "text4_append",
-    "text4_prepend",
-    "text4_len",
-    "text4_advance100",
-    "text4_take300",
-    "text4_split1000",
-    "text4_split_mid",
-    "text4_coalesce",
-    "text4_clone_drop",
-    "text4_walk",
-    "text4_bytewise",
-    "text64_append",
-    "text64_prepend",
-    "text64_len",
-    "text64_advance100",
-    "text64_take300",
-    "text64_split1000",
-    "text64_split_mid",
-    "text64_coalesce",
-    "text64_clone_drop",
-    "text64_walk",
-    "text64_bytewise",
-    "text4096_append",
-    "text4096_prepend",
-    "text4096_len",
-    "text4096_advance100",
-    "text4096_take300",
-    "text4096_split1000",
-    "text4096_split_mid",
-    "text4096_coalesce",
-    "text4096_clone_drop",
-    "text4096_walk",
-    "text4096_bytewise",
     "encode_view64",
     "build_records64",
     "decode64_one_chunk",
@@ -61,40 +29,70 @@ pub static NAMES: [&str; 81] = [
     "decode64_chunks48_take",
     "decode16k_chunks1024",
     "decode16k_chunks1024_take",
-    "parts2_put64",
-    "parts2_put96",
-    "parts2_advance100",
-    "parts2_take300",
-    "parts2_freeze",
-    "parts2_overwrite",
-    "parts3_put64",
-    "parts3_put96",
-    "parts3_advance100",
-    "parts3_take300",
-    "parts3_freeze",
-    "parts3_overwrite",
-    "parts64_put64",
-    "parts64_put96",
-    "parts64_advance100",
-    "parts64_take300",
-    "parts64_freeze",
-    "parts64_overwrite",
-    "parts64_coalesce",
-    "parts64_drained_read",
-    "parts4096_coalesce",
-    "parts4096_drained_read",
-    "frames_there_and_back",
-    "frames_there_and_back_take",
 ];
 
-/// Those that are run only where they are named: streams of frames in pieces of so many bytes, which have nothing of the
-/// original to stand beside.
-pub static STREAMS: [&str; 4] = ["stream_1", "stream_17", "stream_1448", "stream_65536"];
+const WHOLE: [&str; 2] = ["frames_there_and_back", "frames_there_and_back_take"];
 
-// A text or list, and how many pieces it has.
-enum Shape {
-    Text(usize),
-    Parts(usize),
+// Those of any number of chunks: `text64_append`.
+const TEXTS: [&str; 11] = [
+    "append",
+    "prepend",
+    "len",
+    "advance100",
+    "take300",
+    "split1000",
+    "split_mid",
+    "coalesce",
+    "clone_drop",
+    "walk",
+    "bytewise",
+];
+
+// Those of any number of writable buffers: `parts64_put64`.
+const PARTS: [&str; 8] = [
+    "put64",
+    "put96",
+    "advance100",
+    "take300",
+    "freeze",
+    "overwrite",
+    "coalesce",
+    "drain",
+];
+
+// Adds the names of workloads of `n` chunks or buffers.
+fn add_sized(
+    alloc: Global,
+    names: &mut Vec<String>,
+    head: &str,
+    n: u32,
+    tails: &[&str],
+) -> Result<(), AllocError> {
+    for tail in tails {
+        names.push(format!(in alloc; "{head}{n}_{tail}")?)?;
+    }
+    Ok(())
+}
+
+fn add_plain(alloc: Global, names: &mut Vec<String>, plain: &[&str]) -> Result<(), AllocError> {
+    for name in plain {
+        names.push(format!(in alloc; "{name}")?)?;
+    }
+    Ok(())
+}
+
+/// Those that are run if none is named.
+pub fn usual(alloc: Global) -> Result<Vec<String>, AllocError> {
+    let mut names = Vec::new(alloc);
+    add_plain(alloc, &mut names, &PLAIN)?;
+    for n in [4, 64, 4096] {
+        add_sized(alloc, &mut names, "text", n, &TEXTS)?;
+    }
+    for n in [2, 3, 64] {
+        add_sized(alloc, &mut names, "parts", n, &PARTS)?;
+    }
+    add_plain(alloc, &mut names, &WHOLE)?;
+    Ok(names)
 }
 
 /// One run of a workload.
@@ -118,7 +116,7 @@ pub fn run_named(rt: &HostRuntime, name: &str) -> Result<Run, RunError> {
     }
 }
 
-// The workloads that encode and decode. A frame's length, and where its text is cut, stand in the name.
+// The workloads that encode and decode. A frame's length, and where its text is cut, are in the name.
 fn run_wire(rt: &HostRuntime, name: &str) -> Result<Run, RunError> {
     match name {
         "encode_view64" => codec::encode(rt),
@@ -133,61 +131,69 @@ fn run_wire(rt: &HostRuntime, name: &str) -> Result<Run, RunError> {
         "decode16k_chunks1024_take" => codec::decoding(rt, 16, 16384, 1024, true),
         "frames_there_and_back" => codec::there_and_back(rt, false),
         "frames_there_and_back_take" => codec::there_and_back(rt, true),
-        "stream_1" => streams::stream(rt, 1),
-        "stream_17" => streams::stream(rt, 17),
-        "stream_1448" => streams::stream(rt, 1448),
-        "stream_65536" => streams::stream(rt, 65536),
         _ => run_sized(rt, name),
     }
 }
 
-// The workloads whose names begin with the number of pieces.
+// The workloads whose names have a size: of chunks, of buffers, or of the pieces of a stream, as `stream_17`.
 fn run_sized(rt: &HostRuntime, name: &str) -> Result<Run, RunError> {
     let Some((head, tail)) = name.split_once('_') else {
         return Err(RunError::NoName);
     };
-    match shape_of(head) {
-        Some(Shape::Text(n)) => run_text(rt, n, tail),
-        Some(Shape::Parts(n)) => run_parts(rt, n, tail),
+    if head == "stream" {
+        return streams::stream(rt, size(tail)?);
+    }
+    if let Some(n) = head.strip_prefix("text") {
+        return run_text(rt, size(n)?, tail);
+    }
+    match head.strip_prefix("parts") {
+        Some(n) => run_parts(rt, size(n)?, tail),
         None => Err(RunError::NoName),
     }
 }
 
-fn shape_of(head: &str) -> Option<Shape> {
-    if let Some(number) = head.strip_prefix("text") {
-        return Some(Shape::Text(number.parse::<usize>().ok()?));
+// A size, above 0.
+fn size(word: &str) -> Result<u32, RunError> {
+    match word.parse::<u32>() {
+        Ok(n) if n > 0 => Ok(n),
+        _ => Err(RunError::NoName),
     }
-    let number = head.strip_prefix("parts")?;
-    Some(Shape::Parts(number.parse::<usize>().ok()?))
 }
 
-fn run_text(rt: &HostRuntime, n: usize, name: &str) -> Result<Run, RunError> {
+fn run_text(rt: &HostRuntime, n: u32, name: &str) -> Result<Run, RunError> {
     match name {
         "append" => texts::join(rt, n, false),
         "prepend" => texts::join(rt, n, true),
         "len" => texts::len(rt, n),
         "advance100" => texts::advance100(rt, n),
-        "take300" => texts::take300(rt, n),
+        "take100" => texts::take(rt, n, 100),
+        "take300" => texts::take(rt, n, 300),
         "split1000" => texts::split1000(rt, n),
         "split_mid" => texts::split_mid(rt, n),
+        "slice" => texts::slice(rt, n),
+        "equal" => texts::equal(rt, n),
         "coalesce" => texts::coalesce(rt, n),
         "clone_drop" => texts::clone_drop(rt, n),
         "walk" => texts::walk(rt, n),
+        "drain" => texts::drain(rt, n),
         "bytewise" => texts::bytewise(rt, n),
+        "hold" => texts::hold(rt, n),
         _ => Err(RunError::NoName),
     }
 }
 
-fn run_parts(rt: &HostRuntime, n: usize, name: &str) -> Result<Run, RunError> {
+fn run_parts(rt: &HostRuntime, n: u32, name: &str) -> Result<Run, RunError> {
     match name {
         "put64" => lists::put(rt, n, 64),
         "put96" => lists::put(rt, n, 96),
         "advance100" => lists::advance100(rt, n),
-        "take300" => lists::take300(rt, n),
+        "take100" => lists::take(rt, n, 100),
+        "take300" => lists::take(rt, n, 300),
         "freeze" => lists::freeze(rt, n),
         "overwrite" => lists::overwrite(rt, n),
         "coalesce" => lists::coalesce(rt, n),
-        "drained_read" => lists::drained_read(rt, n),
+        "drain" => lists::drain(rt, n),
+        "hold" => lists::hold(rt, n),
         _ => Err(RunError::NoName),
     }
 }

@@ -1,5 +1,5 @@
 use Rattle.std.proofs.Common.{List, ℕ, length, arith, ap, length-take}
-use Rattle.iobufs_bench.proofs.lists.read_turns.Goals as goal
+use Rattle.iobufs_bench.proofs.turns.read_turns.Goals as goal
 
 pub advance-requires : goal.advance-requires
 advance-requires g c =

@@ -1,0 +1,62 @@
+// Calls on any reader or writer, so many times.
+use crate::run::{RunError, Sum};
+use iobufs_core::codec::{Buf, BufMut};
+use std::alloc::Global;
+
+/// Puts a piece so many times.
+pub fn put_turns<B: BufMut>(buf: &mut B, piece: &[u8], turns: usize) -> Result<(), RunError> {
+    let mut room = buf.remaining_mut();
+    'turns: for _ in 0..turns {
+        if room < piece.len() {
+            return Err(RunError::Unfit);
+        }
+        buf.put_slice(piece);
+        room -= piece.len();
+    }
+    Ok(())
+}
+
+/// Advances by 100 so many times, and then by the rest.
+pub fn advance_turns<B: Buf>(buf: &mut B, turns: usize, sum: &mut Sum) -> Result<(), RunError> {
+    let mut left = buf.remaining();
+    'turns: for _ in 0..turns {
+        if left < 100 {
+            return Err(RunError::Unfit);
+        }
+        buf.advance(100);
+        left -= 100;
+        sum.mark(buf.chunk());
+    }
+    buf.advance(left);
+    Ok(())
+}
+
+/// Takes `size` bytes out so many times.
+pub fn take_turns<B: Buf>(
+    alloc: Global,
+    buf: &mut B,
+    turns: usize,
+    size: usize,
+    sum: &mut Sum,
+) -> Result<(), RunError> {
+    let mut left = buf.remaining();
+    'turns: for _ in 0..turns {
+        if left < size {
+            return Err(RunError::Unfit);
+        }
+        let bytes = buf.copy_to_bytes(alloc, size)?;
+        left -= size;
+        sum.mark(bytes.as_slice());
+    }
+    Ok(())
+}
+
+/// Reads so many chunks, each to its end.
+pub fn read_turns<B: Buf>(buf: &mut B, turns: usize, sum: &mut Sum) {
+    'turns: for _ in 0..turns {
+        let chunk = buf.chunk();
+        sum.mark(chunk);
+        let len = chunk.len();
+        buf.advance(len);
+    }
+}
