@@ -3,6 +3,5 @@ mod calls;
 mod many;
 mod pool;
 mod printed;
-mod runs;
 mod scale;
 mod streams;

@@ -1,7 +1,3 @@
-// The owner machine: worked words and sessions, and schedules with the state after every step.
-mod ledger;
-mod runs;
-mod scale;
-mod schedules;
-mod sessions;
+// The owner machine: worked words, reserved entries, and lists of steps.
+mod steps;
 mod words;

@@ -1,4 +1,4 @@
-// Ten thousand commands, and a list of five hundred names.
+// Lists of ten thousand commands and of none, and a list of five hundred names.
 use crate::same::assert_same;
 use iobufs_run::command::{Cmd, Kind, Reply};
 use iobufs_run::table::Table;
@@ -37,6 +37,13 @@ fn ten_thousand_commands(rt: HostRuntime) -> Result<(), Fail> {
     let done = replies.iter().filter(|reply| **reply == Reply::Done);
     assert_same!(rt; (replies.len(), done.count()), (10000, 10000));
     assert_same!(rt; shown(&mut table, 9999, Kind::View), Some(1));
+    Ok(())
+}
+
+#[test]
+fn no_command(rt: HostRuntime) -> Result<(), Fail> {
+    let mut table = Table::new(rt.alloc(), 1)?;
+    assert_same!(rt; table.run(&[])?.len(), 0);
     Ok(())
 }
 
