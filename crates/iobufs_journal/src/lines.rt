@@ -68,7 +68,7 @@ impl Lines {
     // Holds the line that was begun as a record.
     fn end_line(&mut self) -> Result<(), Failure>
         requires { length self.old.begun.items + 22 ≤ self.old.out.spare }
-        ensures { OnOk result (IsEnded self.old self.new) }
+        ensures { OnOk result (IsEnded self.old.out self.old.begun.items self.old.number self.new) }
     {
         put_record(&mut self.out, self.number, self.begun.as_slice());
         self.number = next_number(self.number)?;

@@ -2,7 +2,7 @@ use Rattle.std.proofs.Common.{◌≡◌, arith, subst}
 use Rattle.std.proofs.lemmas.Bool.Decides.{nat_tests}
 use Rattle.std.proofs.lemmas.List.{nil_from_length}
 use Rattle.iobufs_journal.specs.Lines.{TakesLines}
-use Rattle.iobufs_journal.proofs.LineLaws.{all_sent, cut_at_last, cut_in_piece, cut_there, long_sent, on_err, piece_taken}
+use Rattle.iobufs_journal.proofs.LineLaws.{all_sent, cut_held, cut_there, long_sent, on_err, piece_taken}
 use Rattle.iobufs_journal.proofs.lines.append.Goals as goal
 
 pub returns-in_err-piece-clause-torn : goal.returns-in_err-piece-clause-torn
@@ -12,8 +12,9 @@ pub returns-in_err-finish-clause-torn : goal.returns-in_err-finish-clause-torn
 returns-in_err-finish-clause-torn g c = on_err _ (cut_there _ _ _ _ _ c.loop.lines c.loop.invariant)
 
 pub returns-in_err-send-clause-torn : goal.returns-in_err-send-clause-torn
-returns-in_err-send-clause-torn g c = on_err _
-    (cut_at_last _ _ _ _ _ _ c.loop.lines c.finish.new.self c.loop.invariant c.in_ok-finish.ensures c.in_err-send.ensures.torn)
+returns-in_err-send-clause-torn g c =
+    let so_far = c.loop.invariant in
+    on_err _ (cut_held _ _ _ _ _ _ _ _ so_far.wrote (c.in_ok-finish.ensures c.args.first so_far.read so_far.written so_far.going) c.in_err-send.ensures.torn)
 
 pub returns-then-is_empty-clause-appended : goal.returns-then-is_empty-clause-appended
 returns-then-is_empty-clause-appended g c =
@@ -29,8 +30,10 @@ pub returns-in_err-is_long-clause-torn : goal.returns-in_err-is_long-clause-torn
 returns-in_err-is_long-clause-torn g c = on_err _ (cut_there _ _ _ _ _ c.loop.lines c.loop.invariant)
 
 pub returns-in_err-send-2-clause-torn : goal.returns-in_err-send-2-clause-torn
-returns-in_err-send-2-clause-torn g c = on_err _
-    (cut_in_piece _ _ _ _ _ _ _ c.loop.lines c.take_lines.new.self _ c.loop.invariant c.in_ok-is_long.ensures.taken c.in_err-send-2.ensures.torn)
+returns-in_err-send-2-clause-torn g c =
+    let so_far = c.loop.invariant in
+    on_err _
+    (cut_held _ _ _ _ _ _ _ _ so_far.wrote (c.in_ok-is_long.ensures.taken c.args.first so_far.read so_far.written so_far.going) c.in_err-send-2.ensures.torn)
 
 pub returns-then-is_long-clause-appended : goal.returns-then-is_long-clause-appended
 returns-then-is_long-clause-appended g c =
