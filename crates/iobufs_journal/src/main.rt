@@ -9,6 +9,8 @@ mod failure;
 mod journal;
 mod lines;
 mod scan;
+#[cfg(test)]
+mod tests;
 
 use clap::error::ErrorKind;
 use clap::{ArgMatches, Command, arg};
