@@ -1,5 +1,5 @@
 -- The lines of a text, taken piece by piece, go as records in order; one that is too long ends that.
-use Rattle.std.specs.Prelude.{◌≡◌, ℕ, zero, suc, ◌+◌, ◌*◌, ◌-◌, ◌<◌, ◌≤◌, ◌==◌, if◌then◌else◌, Bool, true, false, Option, None, Some, IfSome, Result, Ok, Err, OnErr, OnOk, List, [], ◌∷◌, ◌++◌, length, take, drop, slice_index, refl}
+use Rattle.std.specs.Prelude.{◌≡◌, ℕ, zero, suc, ◌+◌, ◌*◌, ◌-◌, ◌<◌, ◌≤◌, ◌==◌, if◌then◌else◌, Bool, true, false, Option, None, Some, IfSome, List, [], ◌∷◌, ◌++◌, length, take, drop, slice_index, refl}
 use Rattle.std.specs.Option.{unwrap_or}
 use Rattle.memchr.specs.Find.{IsFirstByte, is_byte}
 use Rattle.std.specs.Int.{w32, w64, to_be_bytes}
@@ -9,7 +9,7 @@ use Rattle.std.proofs.KnownBytes.{Appends-kept, Appends-nil, Appends-trans, Cons
 use Rattle.std.proofs.Math.Seq.{drop-append_seam, take-append-add}
 use Rattle.std.proofs.lemmas.Bool.{eqb-true, ne_eqb}
 use Rattle.std.proofs.lemmas.List.{drop_more, length-drop, length-take-le, nil_from_length, take_all}
-use Rattle.iobufs_core.specs.Part.{Part, part_capacity, part_put}
+use Rattle.iobufs_core.specs.Part.{Part, part_put}
 use Rattle.iobufs_core.specs.Spelling.{spell}
 use Rattle.iobufs_journal.specs.Crc.{crc32}
 use Rattle.iobufs_journal.specs.Journal.{record_written, records_written, sealed}
@@ -18,15 +18,12 @@ use Rattle.iobufs_journal.proofs.ScanLaws.{all_known}
 use Rattle.iobufs_journal.specs.Lines.{AreFirst, AreHeld, HasBegun, HasLongLine, IsAppended, IsCutShort, IsEnded, IsFinished, IsGoing, IsLast, IsLine, IsNext, TakesLines, last_of, lines_from, lines_of, most_bytes}
 use Rattle.iobufs_journal.specs.declared.lines.Lines.{Lines}
 
-part_of : List ℕ → ℕ → Part
-part_of filled spare = record { filled = filled; spare = spare }
-
-same_part : (a b : Part) → a.filled ≡ b.filled → a.spare ≡ b.spare → a ≡ b
-unfolding part_of
-same_part a b p q = ap (λ w. part_of w a.spare) p ∙ ap (part_of b.filled) q
-
-same_put : (p : Part) (a b : List ℕ) → part_put (part_put p a) b ≡ part_put p (a ++ b)
-same_put p a b = same_part (part_put (part_put p a) b) (part_put p (a ++ b)) (append_assoc p.filled a b) (omega (arith, length-append a b))
+-- bytes put in turn are put at once
+put-both : (part : Part) (a b : List ℕ) → part_put (part_put part a) b ≡ part_put part (a ++ b)
+put-both part a b i = record { filled = append_assoc part.filled a b i; spare = less i }
+  where
+    less : part.spare - length a - length b ≡ part.spare - length (a ++ b)
+    less = omega (arith, length-append a b)
 
 -- a record that is put piece by piece
 pub record_put : (out a b c d : Part) (number len sum at : ℕ) (body text : List ℕ) → len ≡ length body + 12
@@ -35,14 +32,14 @@ pub record_put : (out a b c d : Part) (number len sum at : ℕ) (body text : Lis
     → d ≡ part_put out (record_written number body)
 record_put out a b c d number len sum at body text long first place second third behind sum_is fourth =
     let head = to_be_bytes w64 number ++ body in
-    let both : c ≡ part_put a head = third ∙ ap (λ p. part_put p body) second ∙ same_put a (to_be_bytes w64 number) body in
+    let both : c ≡ part_put a head = third ∙ ap (λ p. part_put p body) second ∙ put-both a (to_be_bytes w64 number) body in
     let cut : take (length text - at) (drop at text) ≡ head =
     take_all (length text - at) (drop at text) (omega (arith, length-drop at text)) ∙ ap (drop at) (behind ∙ ap (λ (p : Part). p.filled) both)
     ∙ ap (λ n. drop n (a.filled ++ head)) place ∙ drop-append_seam a.filled head in
     let seal : head ++ to_be_bytes w32 sum ≡ sealed number body = ap (λ s. head ++ to_be_bytes w32 s) (sum_is ∙ ap crc32 cut) in
     let sized : len ≡ length (sealed number body) = omega (arith, long, length-sealed number body) in
-    fourth ∙ ap (λ p. part_put p (to_be_bytes w32 sum)) both ∙ same_put a head (to_be_bytes w32 sum)
-    ∙ ap (λ w. part_put a w) seal ∙ ap (λ p. part_put p (sealed number body)) first ∙ same_put out (spell len) (sealed number body)
+    fourth ∙ ap (λ p. part_put p (to_be_bytes w32 sum)) both ∙ put-both a head (to_be_bytes w32 sum)
+    ∙ ap (λ w. part_put a w) seal ∙ ap (λ p. part_put p (sealed number body)) first ∙ put-both out (spell len) (sealed number body)
     ∙ ap (λ n. part_put out (spell n ++ sealed number body)) sized
 
 -- ---- lines
@@ -93,51 +90,49 @@ too_long text begun (b ∷ bs) taken e long =
 -- ---- a piece
 
 -- of the same records, something else holds
-held_so : (first next : ℕ) (written held : List ℕ) (P Q : List (List ℕ) → Type 0) → AreHeld first written held next P
-    → ((taken : List (List ℕ)) → P taken → Q taken) → AreHeld first written held next Q
-held_so first next written held P Q is so =
-    record { taken = is.taken; short = is.short; put = is.put; counted = is.counted; so = so is.taken is.so }
+held_so : (first next : ℕ) (bytes : List ℕ) (P Q : List (List ℕ) → Type 0) → AreHeld first bytes next P
+    → ((taken : List (List ℕ)) → P taken → Q taken) → AreHeld first bytes next Q
+held_so first next bytes P Q is so = record { taken = is.taken; short = is.short; put = is.put; counted = is.counted; so = so is.taken is.so }
 
--- one more line is held as a record
-held_more : (first : ℕ) (written line : List ℕ) (P Q : List (List ℕ) → Type 0) (old new : Lines)
-    (is : AreHeld first written old.out.filled old.number P) → IsEnded old.out line old.number new → 12 + length line ≤ most_bytes
-    → Q (is.taken ++ line ∷ []) → AreHeld first written new.out.filled new.number Q
-held_more first written line P Q old new is ended fits so =
+-- one more line is put as a record
+held_more : (first : ℕ) (written : List ℕ) (P Q : List (List ℕ) → Type 0) (from to : Part) (old new : Lines)
+    (is : AreHeld first (written ++ from.filled) old.number P) → IsEnded from to old new → 12 + length old.begun.items ≤ most_bytes
+    → Q (is.taken ++ old.begun.items ∷ []) → AreHeld first (written ++ to.filled) new.number Q
+held_more first written P Q from to old new is ended fits so =
+    let line = old.begun.items in
     let counted = is.counted in
     let next = ended.next in record {
       taken = is.taken ++ line ∷ [];
       short = short_on most_bytes is.taken (line ∷ []) is.short (fits, tt);
       put =
-          ap (λ (p : Part). written ++ p.filled) ended.put ∙ sym (append_assoc written old.out.filled (record_written old.number line))
+          ap (λ (p : Part). written ++ p.filled) ended.put ∙ sym (append_assoc written from.filled (record_written old.number line))
           ∙ ap (λ w. w ++ record_written old.number line) is.put ∙ ap (λ k. records_written first is.taken ++ record_written k line) counted
           ∙ sym (written_more first is.taken line);
       counted = omega (arith, next, counted, length-append is.taken (line ∷ []));
       so = so;
     }
 
--- the lines of a piece so far are held
-pub record IsTaking (piece rest : List ℕ) (old now : Lines) : Type 0 where
-  pub going : (first : ℕ) (read written : List ℕ) → IsGoing first read written old
-      → AreHeld first written now.out.filled now.number (AreFirst (read ++ piece) rest now.begun.items)
-  pub room : length now.begun.items + 23 * length rest + 22 ≤ now.out.spare
-  pub kept : part_capacity now.out ≡ part_capacity old.out
+-- the lines of a piece so far are put
+pub record IsTaking (piece rest : List ℕ) (from to : Part) (old now : Lines) : Type 0 where
+  pub going : (first : ℕ) (read written : List ℕ) → IsGoing first read (written ++ from.filled) old
+      → AreHeld first (written ++ to.filled) now.number (AreFirst (read ++ piece) rest now.begun.items)
+  pub room : length now.begun.items + 23 * length rest + 22 ≤ to.spare
 
-pub nothing_taken : (piece : List ℕ) (lines : Lines) → length lines.begun.items + 23 * length piece + 22 ≤ lines.out.spare
-    → IsTaking piece piece lines lines
-nothing_taken piece lines room = record {
+pub nothing_taken : (piece : List ℕ) (out : Part) (lines : Lines) → length lines.begun.items + 23 * length piece + 22 ≤ out.spare
+    → IsTaking piece piece out out lines lines
+nothing_taken piece out lines room = record {
   going = λ first read written is.
-      held_so first lines.number written lines.out.filled (IsNext read lines.begun.items false) (AreFirst (read ++ piece) piece lines.begun.items) is
+      held_so first lines.number (written ++ out.filled) (IsNext read lines.begun.items false) (AreFirst (read ++ piece) piece lines.begun.items) is
       (λ taken so. λ more. ap lines_of (append_assoc read piece more) ∙ so.1 (piece ++ more));
   room = room;
-  kept = refl;
 }
 
 -- the bytes before the end of the line belong to it
-line_begun : (piece rest line : List ℕ) (old now : Lines) (at : ℕ) → IsTaking piece rest old now → IsLine rest at → line ≡ now.begun.items ++ take at rest
-    → (first : ℕ) (read written : List ℕ) → IsGoing first read written old
-    → AreHeld first written now.out.filled now.number (AreFirst (read ++ piece) (drop at rest) line)
-line_begun piece rest line old now at so_far is begun first read written before =
-    held_so first now.number written now.out.filled (AreFirst (read ++ piece) rest now.begun.items) (AreFirst (read ++ piece) (drop at rest) line)
+line_begun : (piece rest line : List ℕ) (from to : Part) (old now : Lines) (at : ℕ) → IsTaking piece rest from to old now → IsLine rest at
+    → line ≡ now.begun.items ++ take at rest → (first : ℕ) (read written : List ℕ) → IsGoing first read (written ++ from.filled) old
+    → AreHeld first (written ++ to.filled) now.number (AreFirst (read ++ piece) (drop at rest) line)
+line_begun piece rest line from to old now at so_far is begun first read written before =
+    held_so first now.number (written ++ to.filled) (AreFirst (read ++ piece) rest now.begun.items) (AreFirst (read ++ piece) (drop at rest) line)
     (so_far.going first read written before)
     (λ taken so. λ more.
     so more
@@ -145,32 +140,27 @@ line_begun piece rest line old now at so_far is begun first read written before 
     (line_on at now.begun.items rest more is.inside is.free ∙ ap (λ w. lines_from w (drop at rest ++ more)) (sym begun)))
 
 -- there is room for the line that is begun
-pub line_room : (piece rest line : List ℕ) (old now : Lines) (at : ℕ) → IsTaking piece rest old now → IsLine rest at
-    → line ≡ now.begun.items ++ take at rest → length line + 23 * (length rest - at) + 22 ≤ now.out.spare
-line_room piece rest line old now at so_far is begun =
+pub line_room : (piece rest line : List ℕ) (from to : Part) (old now : Lines) (at : ℕ) → IsTaking piece rest from to old now → IsLine rest at
+    → line ≡ now.begun.items ++ take at rest → length line + 23 * (length rest - at) + 22 ≤ to.spare
+line_room piece rest line from to old now at so_far is begun =
     let inside = is.inside in
     let had = so_far.room in
-    omega (
-      arith,
-      inside,
-      had,
-      ap (λ (w : List ℕ). length w) begun,
-      length-append now.begun.items (take at rest),
-      length-take-le at rest inside,
-    )
+    let long = ap (λ (w : List ℕ). length w) begun in
+    omega (arith, inside, had, long, length-append now.begun.items (take at rest), length-take-le at rest inside)
 
--- one more line of a piece is held
-pub line_taken : (piece rest next line : List ℕ) (old now new : Lines) (at : ℕ) → IsTaking piece rest old now → IsLine rest at → at < length rest
-    → line ≡ now.begun.items ++ take at rest → 12 + length line ≤ most_bytes → IsEnded now.out line now.number new
-    → next ≡ take (length rest - (at + 1)) (drop (at + 1) rest) → IsTaking piece next old new
-line_taken piece rest next line old now new at so_far is inside begun fits ended behind =
-    let room = line_room piece rest line old now at so_far is begun in
-    let kept = so_far.kept in
+-- one more line of a piece is put
+pub line_taken : (piece rest next : List ℕ) (from to after : Part) (old now mid new : Lines) (at : ℕ) → IsTaking piece rest from to old now → IsLine rest at
+    → at < length rest → mid.begun.items ≡ now.begun.items ++ take at rest → mid.number ≡ now.number → 12 + length mid.begun.items ≤ most_bytes
+    → IsEnded to after mid new → next ≡ take (length rest - (at + 1)) (drop (at + 1) rest) → IsTaking piece next from after old new
+line_taken piece rest next from to after old now mid new at so_far is inside begun same fits ended behind =
+    let line = mid.begun.items in
+    let room = line_room piece rest line from to old now at so_far is begun in
     let left : next ≡ drop (at + 1) rest = behind ∙ take_all (length rest - (at + 1)) (drop (at + 1) rest) (omega (arith, length-drop (at + 1) rest)) in
     let ends : drop at rest ≡ 10 ∷ next = is.ends inside ∙ ap (λ w. 10 ∷ w) (sym left) in record {
       going = λ first read written before.
-          let held = line_begun piece rest line old now at so_far is begun first read written before in
-          held_more first written line (AreFirst (read ++ piece) (drop at rest) line) (AreFirst (read ++ piece) next new.begun.items) now new held ended fits
+          let held = subst (λ n. AreHeld first (written ++ to.filled) n (AreFirst (read ++ piece) (drop at rest) line)) (sym same)
+          (line_begun piece rest line from to old now at so_far is begun first read written before) in
+          held_more first written (AreFirst (read ++ piece) (drop at rest) line) (AreFirst (read ++ piece) next new.begun.items) to after mid new held ended fits
           (λ more.
           held.so more ∙ ap (λ w. held.taken ++ lines_from line (w ++ more)) ends ∙ sym (append_assoc held.taken (line ∷ []) (lines_from [] (next ++ more)))
           ∙ ap (λ w. (held.taken ++ line ∷ []) ++ lines_from w (next ++ more)) (sym ended.fresh));
@@ -182,49 +172,40 @@ line_taken piece rest next line old now new at so_far is inside begun fits ended
         length-drop (at + 1) rest,
         ap (λ (w : List ℕ). length w) ended.fresh,
         ap (λ (p : Part). p.spare) ended.put,
-        record_small now.number line,
-      );
-      kept = omega (
-        arith,
-        kept,
-        room,
-        record_small now.number line,
-        ap (λ (p : Part). p.spare) ended.put,
-        ap (λ (p : Part). length p.filled) ended.put,
-        length-append now.out.filled (record_written now.number line),
+        record_small mid.number line,
       );
     }
 
 -- the line that was begun is too long
-pub line_too_long : (piece rest line : List ℕ) (old now : Lines) (at : ℕ) → IsTaking piece rest old now → IsLine rest at
-    → line ≡ now.begun.items ++ take at rest → most_bytes < 12 + length line → (first : ℕ) (read written : List ℕ) → IsGoing first read written old
-    → AreHeld first written now.out.filled now.number (IsNext (read ++ piece) line true)
-line_too_long piece rest line old now at so_far is begun long first read written before =
-    held_so first now.number written now.out.filled (AreFirst (read ++ piece) (drop at rest) line) (IsNext (read ++ piece) line true)
-    (line_begun piece rest line old now at so_far is begun first read written before)
+pub line_too_long : (piece rest line : List ℕ) (from to : Part) (old now : Lines) (at : ℕ) → IsTaking piece rest from to old now → IsLine rest at
+    → line ≡ now.begun.items ++ take at rest → most_bytes < 12 + length line → (first : ℕ) (read written : List ℕ)
+    → IsGoing first read (written ++ from.filled) old → AreHeld first (written ++ to.filled) now.number (IsNext (read ++ piece) line true)
+line_too_long piece rest line from to old now at so_far is begun long first read written before =
+    held_so first now.number (written ++ to.filled) (AreFirst (read ++ piece) (drop at rest) line) (IsNext (read ++ piece) line true)
+    (line_begun piece rest line from to old now at so_far is begun first read written before)
     (λ taken so. λ more. too_long ((read ++ piece) ++ more) line (drop at rest ++ more) taken (so more) long)
 
 -- no line ends in what is left
-pub none_ended : (piece rest line : List ℕ) (old now : Lines) (at : ℕ) → IsTaking piece rest old now → IsLine rest at → at ≡ length rest
-    → line ≡ now.begun.items ++ take at rest → 12 + length line ≤ most_bytes → (first : ℕ) (read written : List ℕ) → IsGoing first read written old
-    → AreHeld first written now.out.filled now.number (IsNext (read ++ piece) line false)
-none_ended piece rest line old now at so_far is last begun fits first read written before =
-    held_so first now.number written now.out.filled (AreFirst (read ++ piece) (drop at rest) line) (IsNext (read ++ piece) line false)
-    (line_begun piece rest line old now at so_far is begun first read written before)
+pub none_ended : (piece rest line : List ℕ) (from to : Part) (old now : Lines) (at : ℕ) → IsTaking piece rest from to old now → IsLine rest at
+    → at ≡ length rest → line ≡ now.begun.items ++ take at rest → 12 + length line ≤ most_bytes → (first : ℕ) (read written : List ℕ)
+    → IsGoing first read (written ++ from.filled) old → AreHeld first (written ++ to.filled) now.number (IsNext (read ++ piece) line false)
+none_ended piece rest line from to old now at so_far is last begun fits first read written before =
+    held_so first now.number (written ++ to.filled) (AreFirst (read ++ piece) (drop at rest) line) (IsNext (read ++ piece) line false)
+    (line_begun piece rest line from to old now at so_far is begun first read written before)
     (λ taken so. (fits, subst (λ w. AreFirst (read ++ piece) w line taken) (nil_from_length (drop at rest) (omega (arith, last, length-drop at rest))) so))
 
 -- ---- the end of the input
 
 -- no line was begun
-pub none_begun : (lines : Lines) → lines.begun.items ≡ [] → IsFinished lines lines
-none_begun lines none = λ first read written is.
-    held_so first lines.number written lines.out.filled (IsNext read lines.begun.items false) (λ taken. IsLast read taken false) is
+pub none_begun : (out : List ℕ) (lines : Lines) → lines.begun.items ≡ [] → IsFinished out out lines lines
+none_begun out lines none = λ first read written is.
+    held_so first lines.number (written ++ out) (IsNext read lines.begun.items false) (λ taken. IsLast read taken false) is
     (λ taken so. ap lines_of (sym (append-nil read)) ∙ so.1 [] ∙ ap (λ w. taken ++ last_of w) none ∙ append-nil taken)
 
 -- one was
-pub last_held : (old new : Lines) → 0 < length old.begun.items → IsEnded old.out old.begun.items old.number new → IsFinished old new
-last_held old new some ended = λ first read written is.
-    held_more first written old.begun.items (IsNext read old.begun.items false) (λ taken. IsLast read taken false) old new is ended is.so.0
+pub last_held : (from to : Part) (old new : Lines) → 0 < length old.begun.items → IsEnded from to old new → IsFinished from.filled to.filled old new
+last_held from to old new some ended = λ first read written is.
+    held_more first written (IsNext read old.begun.items false) (λ taken. IsLast read taken false) from to old new is ended is.so.0
     (ap lines_of (sym (append-nil read)) ∙ is.so.1 [] ∙ ap (λ ls. is.taken ++ ls) (last_some old.begun.items some))
 
 -- ---- a reader and a writer
@@ -235,13 +216,10 @@ pub record IsAppending (had has held holds : Option (List ℕ)) (first : ℕ) (l
   pub written : List ℕ
   pub took : Consumes had has read
   pub wrote : Appends held holds written
-  pub going : IsGoing first read written lines
-  pub empty : lines.out.filled ≡ []
-  pub room : 1802250 ≤ lines.out.spare
+  pub going : IsGoing first read (written ++ []) lines
 
-pub nothing_read : (had held : Option (List ℕ)) (lines : Lines) → lines.begun.items ≡ [] → lines.out.filled ≡ [] → 1802250 ≤ lines.out.spare
-    → IsAppending had had held held lines.number lines
-nothing_read had held lines none empty room = record {
+pub nothing_read : (had held : Option (List ℕ)) (lines : Lines) → lines.begun.items ≡ [] → IsAppending had had held held lines.number lines
+nothing_read had held lines none = record {
   read = [];
   written = [];
   took = Consumes-nil had;
@@ -249,74 +227,60 @@ nothing_read had held lines none empty room = record {
   going = record {
     taken = [];
     short = tt;
-    put = empty;
+    put = refl;
     counted = omega arith;
     so = subst (λ w. IsNext [] w false []) (sym none) (let fits : 12 ≤ most_bytes = omega arith in fits, λ more. refl);
   };
-  empty = empty;
-  room = room;
 }
 
 -- the lines of one more piece were written
-pub piece_taken : (h i j a b c : Option (List ℕ)) (piece : List ℕ) (first : ℕ) (now mid new : Lines) (is_long : Bool) → IsAppending h i a b first now
-    → Consumes i j piece → is_long ≡ false → TakesLines piece now mid is_long → part_capacity mid.out ≡ part_capacity now.out
-    → Appends b c mid.out.filled → (new.out.filled ≡ []) × (new.out.spare ≡ part_capacity mid.out)
-    → (new.number ≡ mid.number) × (new.begun ≡ mid.begun) → IsAppending h j a c first new
-piece_taken h i j a b c piece first now mid new is_long so_far took short takes kept sent (empty, spare) (number, begun) =
-    let goes = subst (TakesLines piece now mid) short takes first so_far.read so_far.written so_far.going in
-    let room = so_far.room in
-    let written = so_far.written ++ mid.out.filled in record {
-      read = so_far.read ++ piece;
-      written = written;
-      took = Consumes-trans h i j so_far.read piece so_far.took took;
-      wrote = Appends-trans a b c so_far.written mid.out.filled so_far.wrote sent;
-      going = record {
-        taken = goes.taken;
-        short = goes.short;
-        put = ap (λ w. written ++ w) empty ∙ append-nil written ∙ goes.put;
-        counted = number ∙ goes.counted;
-        so = subst (λ w. IsNext (so_far.read ++ piece) w false goes.taken) (sym (ap (λ v. v.items) begun)) goes.so;
-      };
-      empty = empty;
-      room = omega (arith, room, spare, kept);
-    }
+pub piece_taken : (h i j a b c : Option (List ℕ)) (piece out : List ℕ) (first : ℕ) (now new : Lines) (is_long : Bool) → IsAppending h i a b first now
+    → Consumes i j piece → is_long ≡ false → TakesLines piece [] out now new is_long → Appends b c out → IsAppending h j a c first new
+piece_taken h i j a b c piece out first now new is_long so_far took short takes sent = record {
+  read = so_far.read ++ piece;
+  written = so_far.written ++ out;
+  took = Consumes-trans h i j so_far.read piece so_far.took took;
+  wrote = Appends-trans a b c so_far.written out so_far.wrote sent;
+  going = subst (λ w. IsGoing first (so_far.read ++ piece) w new) (sym (append-nil (so_far.written ++ out)))
+      (subst (TakesLines piece [] out now new) short takes first so_far.read so_far.written so_far.going);
+}
 
 -- all lines that are taken were written
-done_sent : (h i j a b c : Option (List ℕ)) (piece : List ℕ) (first count : ℕ) (now mid new : Lines) (is_long : Bool) (P : List (List ℕ) → Type 0)
-    (so_far : IsAppending h i a b first now) → Consumes i j piece → AreHeld first so_far.written mid.out.filled mid.number P
+done_sent : (h i j a b c : Option (List ℕ)) (piece out : List ℕ) (first count : ℕ) (now new : Lines) (is_long : Bool) (P : List (List ℕ) → Type 0)
+    (so_far : IsAppending h i a b first now) → Consumes i j piece → AreHeld first (so_far.written ++ out) new.number P
     → ((left : List ℕ) → j ≡ Some left → (taken : List (List ℕ)) → P taken → IsLast ((so_far.read ++ piece) ++ left) taken is_long)
-    → Appends b c mid.out.filled → new.number ≡ mid.number → count ≡ new.number - first → IfSome h (λ text. IsAppended text first count is_long a c)
-done_sent h i j a b c piece first count now mid new is_long P so_far took all last sent same sum =
+    → Appends b c out → count ≡ new.number - first → IfSome h (λ text. IsAppended text first count is_long a c)
+done_sent h i j a b c piece out first count now new is_long P so_far took all last sent sum =
     let number = all.counted in
     all_known h j (so_far.read ++ piece) (λ text. IsAppended text first count is_long a c) (Consumes-trans h i j so_far.read piece so_far.took took)
     (λ left some. record {
       taken = all.taken;
       short = all.short;
-      put = subst (Appends a c) all.put (Appends-trans a b c so_far.written mid.out.filled so_far.wrote sent);
-      counted = omega (arith, sum, same, number);
+      put = subst (Appends a c) all.put (Appends-trans a b c so_far.written out so_far.wrote sent);
+      counted = omega (arith, sum, number);
       last = last left some all.taken all.so;
     })
 
 -- a line of a piece is too long
-pub long_sent : (h i j a b c : Option (List ℕ)) (piece : List ℕ) (first count : ℕ) (now mid new : Lines) (is_long : Bool) → IsAppending h i a b first now
-    → Consumes i j piece → is_long ≡ true → TakesLines piece now mid is_long → Appends b c mid.out.filled → new.number ≡ mid.number → count ≡ new.number - first
+pub long_sent : (h i j a b c : Option (List ℕ)) (piece out : List ℕ) (first count : ℕ) (now new : Lines) (is_long : Bool) → IsAppending h i a b first now
+    → Consumes i j piece → is_long ≡ true → TakesLines piece [] out now new is_long → Appends b c out → count ≡ new.number - first
     → IfSome h (λ text. IsAppended text first count true a c)
-long_sent h i j a b c piece first count now mid new is_long so_far took long takes sent same sum =
-    done_sent h i j a b c piece first count now mid new true (IsNext (so_far.read ++ piece) mid.begun.items true) so_far took
-    (subst (TakesLines piece now mid) long takes first so_far.read so_far.written so_far.going) (λ left some taken so. so left) sent same sum
+long_sent h i j a b c piece out first count now new is_long so_far took long takes sent sum =
+    done_sent h i j a b c piece out first count now new true (IsNext (so_far.read ++ piece) new.begun.items true) so_far took
+    (subst (TakesLines piece [] out now new) long takes first so_far.read so_far.written so_far.going) (λ left some taken so. so left) sent sum
 
 -- the reader has no more bytes
-pub all_sent : (h i j a b c : Option (List ℕ)) (piece : List ℕ) (first count : ℕ) (now mid new : Lines) → IsAppending h i a b first now
-    → Consumes i j piece → piece ≡ [] → IsAtEnd j → IsFinished now mid → Appends b c mid.out.filled → new.number ≡ mid.number → count ≡ new.number - first
+pub all_sent : (h i j a b c : Option (List ℕ)) (piece out : List ℕ) (first count : ℕ) (now new : Lines) → IsAppending h i a b first now
+    → Consumes i j piece → piece ≡ [] → IsAtEnd j → IsFinished [] out now new → Appends b c out → count ≡ new.number - first
     → IfSome h (λ text. IsAppended text first count false a c)
-all_sent h i j a b c piece first count now mid new so_far took none at finished sent same sum =
-    done_sent h i j a b c piece first count now mid new false (λ taken. IsLast so_far.read taken false) so_far took
+all_sent h i j a b c piece out first count now new so_far took none at finished sent sum =
+    done_sent h i j a b c piece out first count now new false (λ taken. IsLast so_far.read taken false) so_far took
     (finished first so_far.read so_far.written so_far.going)
     (λ left some taken so.
     let end : left ≡ [] = subst IsAtEnd some at in
     ap lines_of
     (ap (λ w. (so_far.read ++ w) ++ left) none ∙ ap (λ w. (so_far.read ++ []) ++ w) end ∙ append-nil (so_far.read ++ []) ∙ append-nil so_far.read) ∙ so)
-    sent same sum
+    sent sum
 
 -- ---- bytes that are written in several writes
 
@@ -342,30 +306,20 @@ begun_all a b c bytes p q =
 
 -- ---- what is left where it fails
 
--- one that a call makes true makes others true
-pub so_ok : {T E P Q : Type 0} (result : Result T E) → OnOk result P → (P → Q) → OnOk result Q
-so_ok (Ok x) p so = so p
-so_ok (Err e) p so = tt
-
--- a proposition that holds anyway holds if a call fails
-pub on_err : {T E P : Type 0} (result : Result T E) → P → OnErr result P
-on_err (Ok x) p = tt
-on_err (Err e) p = p
-
--- only some of what is held was written
-pub cut_held : (a b c : Option (List ℕ)) (first next : ℕ) (written held : List ℕ) (P : List (List ℕ) → Type 0) → Appends a b written
-    → AreHeld first written held next P → HasBegun b c held → IsCutShort first a c
-cut_held a b c first next written held P wrote is (n, some) = record {
+-- only some of what is put was written
+pub cut_held : (a b c : Option (List ℕ)) (first next : ℕ) (written out : List ℕ) (P : List (List ℕ) → Type 0) → Appends a b written
+    → AreHeld first (written ++ out) next P → HasBegun b c out → IsCutShort first a c
+cut_held a b c first next written out P wrote is (n, some) = record {
   lines = is.taken;
   short = is.short;
   put = (
     length written + n,
-    subst (Appends a c) (sym (take-append-add written held n) ∙ ap (take (length written + n)) is.put)
-        (Appends-trans a b c written (take n held) wrote some),
+    subst (Appends a c) (sym (take-append-add written out n) ∙ ap (take (length written + n)) is.put)
+        (Appends-trans a b c written (take n out) wrote some),
   );
 }
 
 -- nothing more was written
 pub cut_there : (h i a b : Option (List ℕ)) (first : ℕ) (now : Lines) → IsAppending h i a b first now → IsCutShort first a b
 cut_there h i a b first now so_far =
-    cut_held a b b first now.number so_far.written now.out.filled (IsNext so_far.read now.begun.items false) so_far.wrote so_far.going (0, Appends-nil b)
+    cut_held a b b first now.number so_far.written [] (IsNext so_far.read now.begun.items false) so_far.wrote so_far.going (0, Appends-nil b)

@@ -4,12 +4,12 @@
 --     IsLine                   the first line ends at this offset, or the bytes do
 --     most_bytes               how many bytes a record may have after its length
 --     HasLongLine, IsLast      a line is too long for a record; why no more lines were taken
---     AreHeld                  records were written or are held, and their bodies have a property
+--     AreHeld                  bytes are records, and their bodies have a property
 --     AreFirst, IsNext         these are the first lines, whatever follows, and one was begun; it may go on, or is too long
 --     IsGoing                  the lines of the bytes so far are records, except one that was begun
---     IsEnded, IsFinished      the line that was begun is held as a record; and at the end of the input, where there
+--     IsEnded, IsFinished      the line that was begun is put as a record; and at the end of the input, where there
 --                              may be none
---     TakesLines               the lines of a piece are held as records, or one is too long
+--     TakesLines               the lines of a piece are put as records, or one is too long
 --     IsAppended               these lines went to a writer as records, and why no more of them
 --     HasBegun, IsCutShort     a writer took some of the first of these bytes; of the bytes of some records
 use Rattle.std.specs.Prelude.{◌≡◌, ℕ, ◌+◌, ◌<◌, ◌≤◌, ◌==◌, if◌then◌else◌, Bool, true, false, Option, List, [], ◌∷◌, ◌++◌, length, take, drop, slice_index}
@@ -53,11 +53,11 @@ abbrev pub IsLast : List ℕ → List (List ℕ) → Bool → Type 0
 IsLast text taken true = HasLongLine text taken
 IsLast text taken false = lines_of text ≡ taken
 
--- records were written from a number on, and then those that are held, and their bodies have P
-pub record AreHeld (first : ℕ) (written held : List ℕ) (next : ℕ) (P : List (List ℕ) → Type 0) : Type 0 where
+-- bytes are records from a number on, up to this one, and their bodies have P
+pub record AreHeld (first : ℕ) (bytes : List ℕ) (next : ℕ) (P : List (List ℕ) → Type 0) : Type 0 where
   pub taken : List (List ℕ)
   pub short : AreShort most_bytes taken
-  pub put : written ++ held ≡ records_written first taken
+  pub put : bytes ≡ records_written first taken
   pub counted : next ≡ first + length taken
   pub so : P taken
 
@@ -70,27 +70,27 @@ abbrev pub IsNext : (text begun : List ℕ) → Bool → List (List ℕ) → Typ
 IsNext text begun true taken = (more : List ℕ) → HasLongLine (text ++ more) taken
 IsNext text begun false taken = (12 + length begun ≤ most_bytes) × AreFirst text [] begun taken
 
--- the lines of what was read are written or held, except one that was begun
-abbrev pub IsGoing : ℕ → (read written : List ℕ) → Lines → Type 0
-IsGoing first read written lines = AreHeld first written lines.out.filled lines.number (IsNext read lines.begun.items false)
+-- these bytes are the lines of what was read, except one that was begun
+abbrev pub IsGoing : ℕ → (read bytes : List ℕ) → Lines → Type 0
+IsGoing first read bytes lines = AreHeld first bytes lines.number (IsNext read lines.begun.items false)
 
--- the line that was begun is held as a record, and another begins
-pub record IsEnded (out : Part) (line : List ℕ) (number : ℕ) (new : Lines) : Type 0 where
+-- the line that was begun is put as a record, and another begins
+pub record IsEnded (from to : Part) (old new : Lines) : Type 0 where
   pub fresh : new.begun.items ≡ []
-  pub put : new.out ≡ part_put out (record_written number line)
-  pub next : new.number ≡ number + 1
+  pub put : to ≡ part_put from (record_written old.number old.begun.items)
+  pub next : new.number ≡ old.number + 1
 
--- if the input ends, all its lines are held
-abbrev pub IsFinished : Lines → Lines → Type 0
-IsFinished old new =
-    (first : ℕ) (read written : List ℕ) → IsGoing first read written old
-    → AreHeld first written new.out.filled new.number (λ taken. IsLast read taken false)
+-- if the input ends, all its lines are put
+abbrev pub IsFinished : (from to : List ℕ) → Lines → Lines → Type 0
+IsFinished from to old new =
+    (first : ℕ) (read written : List ℕ) → IsGoing first read (written ++ from) old
+    → AreHeld first (written ++ to) new.number (λ taken. IsLast read taken false)
 
--- the lines of a piece are held after those before it; or one is too long, whatever follows
-abbrev pub TakesLines : List ℕ → Lines → Lines → Bool → Type 0
-TakesLines piece old new is_long =
-    (first : ℕ) (read written : List ℕ) → IsGoing first read written old
-    → AreHeld first written new.out.filled new.number (IsNext (read ++ piece) new.begun.items is_long)
+-- the lines of a piece are put after those before it; or one is too long, whatever follows
+abbrev pub TakesLines : (piece from to : List ℕ) → Lines → Lines → Bool → Type 0
+TakesLines piece from to old new is_long =
+    (first : ℕ) (read written : List ℕ) → IsGoing first read (written ++ from) old
+    → AreHeld first (written ++ to) new.number (IsNext (read ++ piece) new.begun.items is_long)
 
 -- Lines of a text went to a writer as records, numbered from one on; so many, and all of them but where one is too long
 pub record IsAppended (text : List ℕ) (first count : ℕ) (is_long : Bool) (held holds : Option (List ℕ)) : Type 0 where

@@ -1,4 +1,6 @@
 // Why a command doesn't do all.
+ghost use Rattle.std.specs.Prelude.{◌≡◌, IfOk, Ok};
+
 use crate::journal::Ending;
 use iobufs_core::codec::BufError;
 use std::alloc::AllocError;
@@ -48,7 +50,9 @@ impl Failure {
 }
 
 /// Names what failed.
-pub fn named<T>(what: &'static str, done: io::Result<T>) -> Result<T, Failure> {
+pub fn named<T>(what: &'static str, done: io::Result<T>) -> Result<T, Failure>
+    ensures { IfOk result (λ value. done ≡ Ok value) }
+{
     done.map_err(|error| Failure::Failed(what, error))
 }
 
