@@ -5,7 +5,7 @@ ghost use Rattle.iobufs_journal.specs.Lines.{HasBegun, IsAppended, IsCutShort, I
 
 use crate::failure::{Failure, named, too_large};
 use crate::journal::{MOST, put_record};
-use crate::scan::read_piece;
+use crate::scan::{added, read_piece};
 use iobufs_core::buf::IoBufMut;
 use memchr::memchr;
 use std::alloc::Global;
@@ -66,7 +66,7 @@ impl Lines {
         ensures { OnOk result (IsEnded out.old out.new self.old self.new) }
     {
         put_record(out, self.number, self.begun.as_slice());
-        self.number = self.number.checked_add(1).ok_or_else(too_large)?;
+        self.number = added(self.number, 1)?;
         self.begun.clear();
         Ok(())
     }
