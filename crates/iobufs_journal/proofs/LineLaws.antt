@@ -299,11 +299,6 @@ some_more a b c bytes at n len next (inside, p) long few q sum =
       subst (Appends a c) (sym whole) (Appends-trans a b c front (take n (take len (drop at bytes))) p q),
     )
 
--- bytes that were all written were begun
-pub begun_all : (a b c : Option (List ℕ)) (bytes : List ℕ) → Appends a b bytes → Keeps b c → HasBegun a c bytes
-begun_all a b c bytes p q =
-    (length bytes, subst (Appends a c) (sym (take_all (length bytes) bytes (omega arith))) (Appends-kept a b c bytes p q))
-
 -- ---- what is left where it fails
 
 -- only some of what is put was written

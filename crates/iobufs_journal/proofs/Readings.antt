@@ -43,14 +43,10 @@ record BeginsFramed (bytes : List ℕ) (n : ℕ) : Type 0 where
 
 framed_so : (bytes framed behind : List ℕ) → length framed < 2 ^ 64 → bytes ≡ bytes_written framed ++ behind → BeginsFramed bytes (length framed)
 framed_so bytes framed behind small is =
-    let n = length framed in record {
+    let n = length framed in
+    let long = ap (λ (w : List ℕ). length w) is in record {
       at = subst (λ (xs : List ℕ). IsSpelledAt xs n) (sym (is ∙ append_assoc (spell n) framed behind)) (spelled_before n (framed ++ behind) small);
-      enough = omega (
-        arith,
-        ap (λ (w : List ℕ). length w) is,
-        length-append (bytes_written framed) behind,
-        length-append (spell n) framed,
-      );
+      enough = omega (arith, long, length-append (bytes_written framed) behind, length-append (spell n) framed);
     }
 
 not_torn : (most n : ℕ) (bytes : List ℕ) → BeginsFramed bytes n → IsTornAt most bytes → ⊥
@@ -60,13 +56,10 @@ not_torn most n bytes frame (inr (m, (at, inside), few)) =
     let same : length (spell m) + m ≡ length (spell n) + n = ap (λ k. length (spell k) + k) (spelled_as_one bytes m n at frame.at) in
     omega (arith, few, enough, same)
 
-not_outside : (most n m : ℕ) (bytes : List ℕ) → IsSpelledAt bytes n → in_range (up_to most) n ≡ true → IsSpelledAt bytes m → in_range (up_to most) m ≡ false → ⊥
-not_outside most n m bytes at inside there outside =
-    let both : true ≡ false = sym inside ∙ ap (in_range (up_to most)) (spelled_as_one bytes n m at there) ∙ outside in cc
-
 not_bad : (most n : ℕ) (bytes : List ℕ) → IsSpelledAt bytes n → in_range (up_to most) n ≡ true → HasBadLength most bytes → ⊥
 not_bad most n bytes at inside (inl none) = none.0 n at
-not_bad most n bytes at inside (inr (m, (there, outside))) = not_outside most n m bytes at inside there outside
+not_bad most n bytes at inside (inr (m, (there, outside))) =
+    let both : true ≡ false = sym inside ∙ ap (in_range (up_to most)) (spelled_as_one bytes n m at there) ∙ outside in cc
 
 -- an end that is cut off, and one that is damaged, are two
 torn_or_damaged : (most number : ℕ) (bytes : List ℕ) → HasNoRecord most number bytes Torn → HasNoRecord most number bytes Damaged → ⊥
@@ -108,38 +101,48 @@ stands most number text body behind Damaged large short e (some, inr (framed, le
 
 -- ---- one reading of a text
 
+-- the records after the first one
+after_first : (most number : ℕ) (text body behind rest : List ℕ) (found : List (List ℕ)) (end : JournalEnd)
+    → IsJournal most number text (body ∷ found) end rest → behind ≡ records_written (suc number) found ++ rest → IsJournal most (suc number) behind found end rest
+after_first most number text body behind rest found end is whole = record {
+  whole = whole;
+  admitted = is.admitted.1;
+  ends = subst (λ k. HasNoRecord most k rest end) (let z : number + suc (length found) ≡ suc number + length found = omega arith in z) is.ends;
+}
+
+-- a record is at the front, or none is
+not_first : (most number : ℕ) (text body x y : List ℕ) (bodies : List (List ℕ)) (a b : JournalEnd) → most < 2 ^ 64 → IsJournal most number text [] a x
+    → IsJournal most number text (body ∷ bodies) b y → ⊥
+not_first most number text body x y bodies a b large none is =
+    stands most number x body (records_written (suc number) bodies ++ y) a large is.admitted.0
+    (sym none.whole ∙ is.whole ∙ append_assoc (record_written number body) (records_written (suc number) bodies) y)
+    (subst (λ k. HasNoRecord most k x a) (let z : number + 0 ≡ number = omega arith in z) none.ends)
+
 -- two readings from a number on are the same
-read_once : (most number j k : ℕ) (fs gs : List (List ℕ)) (a b : JournalEnd) (x y : List ℕ) → most < 2 ^ 64
-    → records_written number fs ++ x ≡ records_written number gs ++ y → AreShort most fs → AreShort most gs
-    → HasNoRecord most j x a → j ≡ number + length fs → HasNoRecord most k y b → k ≡ number + length gs → AreAlike fs gs a b x y
-read_once most number j k [] [] a b x y large e p q h i s t =
-    let none : HasNoRecord most k x a = subst (λ n. HasNoRecord most n x a) (let z : j ≡ k = omega (arith, i, t) in z) h in
-    record { same_records = refl; same_end = one_end most k y a b (subst (λ (w : List ℕ). HasNoRecord most k w a) e none) s; same_rest = e }
-read_once most number j k [] (g ∷ gs) a b x y large e p q h i s t =
-    absurd (stands most number x g (records_written (suc number) gs ++ y) a large q.0
-    (e ∙ append_assoc (record_written number g) (records_written (suc number) gs) y)
-    (subst (λ n. HasNoRecord most n x a) (let z : j ≡ number = omega (arith, i) in z) h))
-read_once most number j k (f ∷ fs) [] a b x y large e p q h i s t =
-    absurd (stands most number y f (records_written (suc number) fs ++ x) b large p.0
-    (sym e ∙ append_assoc (record_written number f) (records_written (suc number) fs) x)
-    (subst (λ n. HasNoRecord most n y b) (let z : k ≡ number = omega (arith, t) in z) s))
-read_once most number j k (f ∷ fs) (g ∷ gs) a b x y large e p q h i s t =
-    let first = p.0 in
-    let second = q.0 in
-    let (same, behind) = one_front (sealed number f) (sealed number g) (records_written (suc number) fs ++ x) (records_written (suc number) gs ++ y)
+pub read_alike : (most number : ℕ) (text : List ℕ) (fs gs : List (List ℕ)) (a b : JournalEnd) (x y : List ℕ) → most < 2 ^ 64
+    → IsJournal most number text fs a x → IsJournal most number text gs b y → AreAlike fs gs a b x y
+read_alike most number text [] [] a b x y large is other =
+    let same : x ≡ y = sym is.whole ∙ other.whole in record {
+      same_records = refl;
+      same_end = one_end most (number + 0) y a b (subst (λ (w : List ℕ). HasNoRecord most (number + 0) w a) same is.ends) other.ends;
+      same_rest = same;
+    }
+read_alike most number text [] (g ∷ gs) a b x y large is other = absurd (not_first most number text g x y gs a b large is other)
+read_alike most number text (f ∷ fs) [] a b x y large is other = absurd (not_first most number text f y x fs b a large other is)
+read_alike most number text (f ∷ fs) (g ∷ gs) a b x y large is other =
+    let first = is.admitted.0 in
+    let second = other.admitted.0 in
+    let later = records_written (suc number) fs ++ x in
+    let (same, behind) = one_front (sealed number f) (sealed number g) later (records_written (suc number) gs ++ y)
     (omega (arith, length-sealed number f, large, first)) (omega (arith, length-sealed number g, large, second))
-    (sym (append_assoc (record_written number f) (records_written (suc number) fs) x) ∙ e
+    (sym (append_assoc (record_written number f) (records_written (suc number) fs) x) ∙ sym is.whole ∙ other.whole
     ∙ append_assoc (record_written number g) (records_written (suc number) gs) y) in
-    let others = read_once most (suc number) j k fs gs a b x y large behind p.1 q.1 h (omega (arith, i)) s (omega (arith, t)) in record {
+    let others = read_alike most (suc number) later fs gs a b x y large (after_first most number text f later x fs a is refl)
+    (after_first most number text g later y gs b other behind) in record {
       same_records = ap (λ w. w ∷ fs) (one_body number f g same) ∙ ap (λ ws. g ∷ ws) others.same_records;
       same_end = others.same_end;
       same_rest = others.same_rest;
     }
-
-pub read_alike : (most : ℕ) (text : List ℕ) (fs gs : List (List ℕ)) (a b : JournalEnd) (x y : List ℕ) → most < 2 ^ 64 → IsJournal most 0 text fs a x
-    → IsJournal most 0 text gs b y → AreAlike fs gs a b x y
-read_alike most text fs gs a b x y large is other =
-    read_once most 0 (0 + length fs) (0 + length gs) fs gs a b x y large (sym is.whole ∙ other.whole) is.admitted other.admitted is.ends refl other.ends refl
 
 -- ---- its records, one after the other
 
@@ -162,7 +165,7 @@ none_first most number text end none =
 pub replayed : (most : ℕ) (text : List ℕ) (found written : List (List ℕ)) (end : JournalEnd) (rest : List ℕ) → most < 2 ^ 64 → AreShort most written
     → text ≡ records_written 0 written → IsJournal most 0 text found end rest → (found ≡ written) × (end ≡ Whole)
 replayed most text found written end rest large short e is =
-    let all = read_alike most text found written end Whole rest [] large is
+    let all = read_alike most 0 text found written end Whole rest [] large is
     (record { whole = e ∙ sym (append-nil (records_written 0 written)); admitted = short; ends = refl }) in
     (all.same_records, all.same_end)
 
@@ -191,22 +194,11 @@ by_seal most number bytes framed behind true some small least is e =
       whole = is ∙ ap (λ w. bytes_written w ++ behind) seal;
     })
 by_seal most number bytes framed behind false some small least is e =
-    inr (
-      Damaged,
-      (
-        some,
-        inr (
-          framed,
-          behind,
-          small,
-          is,
-          λ body seal.
-              let test = (bytes_decides framed (sealed number (drop 8 (take (length framed - 4) framed)))).1
-              (sealed_is number framed (is_sealed number framed body seal)) in
-              let both : true ≡ false = sym test ∙ e in cc,
-        ),
-      ),
-    )
+    let never : (body : List ℕ) → framed ≡ sealed number body → ⊥ = λ body seal.
+    let test = (bytes_decides framed (sealed number (drop 8 (take (length framed - 4) framed)))).1
+    (sealed_is number framed (is_sealed number framed body seal)) in
+    let both : true ≡ false = sym test ∙ e in cc in
+    inr (Damaged, (some, inr (framed, behind, small, is, never)))
 
 by_length : (most number : ℕ) (bytes : List ℕ) (length_read : Result ℕ Error) → 0 < length bytes → IsLengthRead bytes (up_to most) length_read
     → Front most number bytes
@@ -240,6 +232,9 @@ front most number (b ∷ bs) =
     let read = some_answer (b ∷ bs) (up_to most) in
     by_length most number (b ∷ bs) read.answer (omega arith) read.is
 
+record_some : (number : ℕ) (body : List ℕ) → 0 < length (record_written number body)
+record_some number body = omega (arith, length-append (spell (length (sealed number body))) (sealed number body), length-sealed number body)
+
 record HasReading (most number : ℕ) (text : List ℕ) : Type 0 where
   found : List (List ℕ)
   end : JournalEnd
@@ -252,15 +247,9 @@ reading most number zero text enough = absurd (omega (arith, enough))
 reading most number (suc fuel) text enough = elim (front most number text) [
   | inr (end, none) ↦ record { found = []; end = end; rest = text; is = none_first most number text end none }
   | inl first ↦
-      let smaller : length first.behind < fuel =
-      omega (
-        arith,
-        enough,
-        ap (λ (w : List ℕ). length w) first.whole,
-        length-append (record_written number first.body) first.behind,
-        length-append (spell (length (sealed number first.body))) (sealed number first.body),
-        length-sealed number first.body,
-      ) in
+      let long = ap (λ (w : List ℕ). length w) first.whole in
+      let some = record_some number first.body in
+      let smaller : length first.behind < fuel = omega (arith, enough, long, some, length-append (record_written number first.body) first.behind) in
       let others = reading most (suc number) fuel first.behind smaller in record {
         found = first.body ∷ others.found;
         end = others.end;
@@ -277,7 +266,7 @@ one_journal most large text =
       end = all.end;
       rest = all.rest;
       is = all.is;
-      one = λ others stop left other. read_alike most text all.found others all.end stop all.rest left large all.is other;
+      one = λ others stop left other. read_alike most 0 text all.found others all.end stop all.rest left large all.is other;
     }
 
 -- ---- records that are cut
@@ -347,7 +336,7 @@ cut_short most n found lines others text rest end large was short is =
     let front = records_written 0 found in
     let added = take n (records_written (length found) lines) in
     let from : 0 + length found ≡ length found = omega arith in
-    let one = read_alike most (text ++ added) others (found ++ kept) end later.end rest later.rest large is (record {
+    let one = read_alike most 0 (text ++ added) others (found ++ kept) end later.end rest later.rest large is (record {
       whole =
           ap (λ w. w ++ added) (was.whole ∙ append-nil front) ∙ ap (λ w. front ++ w) later.is.whole
           ∙ sym (append_assoc front (records_written (length found) kept) later.rest)

@@ -1,7 +1,7 @@
 -- The laws of journals: a record is sealed by its bytes alone, and bytes of records are that journal and no other.
 --     IsSealed                               bytes are a sealed record, by their first eight and their last four
---     length-sealed, record_small,           how long a record is: 12 bytes more than its body, and at most 10 for
---     record_fits                            its length
+--     length-sealed, record_small            how long a record is: 12 bytes more than its body, and at most 10 for its
+--                                            length
 --     sealed_is, is_sealed, unsealed_body    such bytes are sealed, and the converse; their body is a slice of them
 --     stays_damaged                          what is damaged stays damaged, whatever follows
 --     short_on, written_on, written_more     records after each other are short, and numbered on
@@ -26,9 +26,6 @@ length-sealed number body =
 
 pub record_small : (number : ℕ) (body : List ℕ) → length (record_written number body) ≤ 22 + length body
 record_small number body = omega (arith, length-sealed number body, length-bytes_written (sealed number body))
-
-pub record_fits : (number : ℕ) (body : List ℕ) (view : View) → view.bytes ≡ sealed number body → length body < 2 ^ 62 → length (view_written view) < 2 ^ 63
-record_fits number body view is small = omega (arith, small, ap (λ (w : List ℕ). length w) is, length-sealed number body, length-bytes_written view.bytes)
 
 -- how a sealed record is told from other bytes
 pub record IsSealed (number : ℕ) (bytes : List ℕ) : Type 0 where

@@ -25,18 +25,12 @@ pub enum Failure {
     /// This failed.
     #[error("{0}: {1}")]
     Failed(&'static str, io::Error),
-}
-
-impl From<AllocError> for Failure {
-    fn from(error: AllocError) -> Failure {
-        Failure::Failed("cannot go on", io::Error::from(error))
-    }
-}
-
-impl From<BufError> for Failure {
-    fn from(_error: BufError) -> Failure {
-        Failure::Failed("cannot go on", io::Error::from(ErrorKind::OutOfMemory))
-    }
+    /// An allocation failed.
+    #[error("cannot go on: out of memory")]
+    Memory(#[from] AllocError),
+    /// A buffer's allocation failed.
+    #[error("cannot go on: out of memory")]
+    Buffer(#[from] BufError),
 }
 
 impl Failure {

@@ -14,7 +14,9 @@ mod tests;
 
 use clap::error::ErrorKind;
 use clap::{ArgMatches, Command, arg};
+use commands::front;
 use disk::HostFile;
+use ending::check;
 use failure::{Failure, named};
 use std::alloc::{AllocError, Global};
 use std::env;
@@ -83,7 +85,7 @@ fn obey(
             let is_forced = given.get_flag("force");
             commands::repair(alloc, name, &mut disk, is_forced, &mut rt.stdout())
         }
-        _ => commands::check(alloc, name, &mut disk, &mut rt.stdout()),
+        _ => check(alloc, name, &mut front(&mut disk)?, &mut rt.stdout()),
     }
 }
 
