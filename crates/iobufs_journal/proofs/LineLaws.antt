@@ -3,12 +3,12 @@ use Rattle.std.specs.Prelude.{◌≡◌, ℕ, zero, suc, ◌+◌, ◌*◌, ◌-�
 use Rattle.std.specs.Option.{unwrap_or}
 use Rattle.memchr.specs.Find.{IsFirstByte, is_byte}
 use Rattle.std.specs.Int.{w32, w64, to_be_bytes}
-use Rattle.std.specs.Io.KnownBytes.{Appends, Consumes, IsAtEnd, Keeps}
-use Rattle.std.proofs.Common.{arith, ap, sym, subst, ◌∙◌, append_assoc, append-nil, length-append, take-append-drop}
-use Rattle.std.proofs.KnownBytes.{Appends-kept, Appends-nil, Appends-trans, Consumes-nil, Consumes-trans}
-use Rattle.std.proofs.Math.Seq.{drop-append_seam, take-append-add}
+use Rattle.std.specs.Io.KnownBytes.{Appends, Consumes, IsAtEnd}
+use Rattle.std.proofs.Common.{arith, ap, sym, subst, ◌∙◌, append_assoc, append-nil, length-append}
+use Rattle.std.proofs.KnownBytes.{Appends-nil, Appends-trans, Consumes-nil, Consumes-trans, Consumes-whole}
+use Rattle.std.proofs.Math.Seq.{drop-append_seam, take-add, take-append-add}
 use Rattle.std.proofs.lemmas.Bool.{eqb-true, ne_eqb}
-use Rattle.std.proofs.lemmas.List.{drop_more, length-drop, length-take-le, nil_from_length, take_all}
+use Rattle.std.proofs.lemmas.List.{drop_more, length-drop, length-take-le, nil_from_length, take_rest}
 use Rattle.iobufs_core.specs.Part.{Part, part_put}
 use Rattle.iobufs_core.specs.Spelling.{spell}
 use Rattle.iobufs_journal.specs.Crc.{crc32}
@@ -34,7 +34,7 @@ record_put out a b c d number len sum at body text long first place second third
     let head = to_be_bytes w64 number ++ body in
     let both : c ≡ part_put a head = third ∙ ap (λ p. part_put p body) second ∙ put-both a (to_be_bytes w64 number) body in
     let cut : take (length text - at) (drop at text) ≡ head =
-    take_all (length text - at) (drop at text) (omega (arith, length-drop at text)) ∙ ap (drop at) (behind ∙ ap (λ (p : Part). p.filled) both)
+    take_rest text at ∙ ap (drop at) (behind ∙ ap (λ (p : Part). p.filled) both)
     ∙ ap (λ n. drop n (a.filled ++ head)) place ∙ drop-append_seam a.filled head in
     let seal : head ++ to_be_bytes w32 sum ≡ sealed number body = ap (λ s. head ++ to_be_bytes w32 s) (sum_is ∙ ap crc32 cut) in
     let sized : len ≡ length (sealed number body) = omega (arith, long, length-sealed number body) in
@@ -155,7 +155,7 @@ pub line_taken : (piece rest next : List ℕ) (from to after : Part) (old now mi
 line_taken piece rest next from to after old now mid new at so_far is inside begun same fits ended behind =
     let line = mid.begun.items in
     let room = line_room piece rest line from to old now at so_far is begun in
-    let left : next ≡ drop (at + 1) rest = behind ∙ take_all (length rest - (at + 1)) (drop (at + 1) rest) (omega (arith, length-drop (at + 1) rest)) in
+    let left : next ≡ drop (at + 1) rest = behind ∙ take_rest rest (at + 1) in
     let ends : drop at rest ≡ 10 ∷ next = is.ends inside ∙ ap (λ w. 10 ∷ w) (sym left) in record {
       going = λ first read written before.
           let held = subst (λ n. AreHeld first (written ++ to.filled) n (AreFirst (read ++ piece) (drop at rest) line)) (sym same)
@@ -246,58 +246,49 @@ piece_taken h i j a b c piece out first now new is_long so_far took short takes 
 }
 
 -- all lines that are taken were written
-done_sent : (h i j a b c : Option (List ℕ)) (piece out : List ℕ) (first count : ℕ) (now new : Lines) (is_long : Bool) (P : List (List ℕ) → Type 0)
-    (so_far : IsAppending h i a b first now) → Consumes i j piece → AreHeld first (so_far.written ++ out) new.number P
-    → ((left : List ℕ) → j ≡ Some left → (taken : List (List ℕ)) → P taken → IsLast ((so_far.read ++ piece) ++ left) taken is_long)
-    → Appends b c out → count ≡ new.number - first → IfSome h (λ text. IsAppended text first count is_long a c)
-done_sent h i j a b c piece out first count now new is_long P so_far took all last sent sum =
-    let number = all.counted in
-    all_known h j (so_far.read ++ piece) (λ text. IsAppended text first count is_long a c) (Consumes-trans h i j so_far.read piece so_far.took took)
-    (λ left some. record {
-      taken = all.taken;
-      short = all.short;
-      put = subst (Appends a c) all.put (Appends-trans a b c so_far.written out so_far.wrote sent);
+appended : (a b c : Option (List ℕ)) (text written out : List ℕ) (first next count : ℕ) (is_long : Bool) (P : List (List ℕ) → Type 0)
+    → Appends a b written → Appends b c out → AreHeld first (written ++ out) next P → ((taken : List (List ℕ)) → P taken → IsLast text taken is_long)
+    → count ≡ next - first → IsAppended text first count is_long a c
+appended a b c text written out first next count is_long P wrote sent is last sum =
+    let number = is.counted in record {
+      taken = is.taken;
+      short = is.short;
+      put = subst (Appends a c) is.put (Appends-trans a b c written out wrote sent);
       counted = omega (arith, sum, number);
-      last = last left some all.taken all.so;
-    })
+      last = last is.taken is.so;
+    }
 
 -- a line of a piece is too long
 pub long_sent : (h i j a b c : Option (List ℕ)) (piece out : List ℕ) (first count : ℕ) (now new : Lines) (is_long : Bool) → IsAppending h i a b first now
     → Consumes i j piece → is_long ≡ true → TakesLines piece [] out now new is_long → Appends b c out → count ≡ new.number - first
     → IfSome h (λ text. IsAppended text first count true a c)
 long_sent h i j a b c piece out first count now new is_long so_far took long takes sent sum =
-    done_sent h i j a b c piece out first count now new true (IsNext (so_far.read ++ piece) new.begun.items true) so_far took
-    (subst (TakesLines piece [] out now new) long takes first so_far.read so_far.written so_far.going) (λ left some taken so. so left) sent sum
+    let read = so_far.read ++ piece in
+    all_known h j read (λ text. IsAppended text first count true a c) (Consumes-trans h i j so_far.read piece so_far.took took)
+    (λ left some. appended a b c (read ++ left) so_far.written out first new.number count true (IsNext read new.begun.items true) so_far.wrote sent
+    (subst (TakesLines piece [] out now new) long takes first so_far.read so_far.written so_far.going) (λ taken so. so left) sum)
 
 -- the reader has no more bytes
 pub all_sent : (h i j a b c : Option (List ℕ)) (piece out : List ℕ) (first count : ℕ) (now new : Lines) → IsAppending h i a b first now
     → Consumes i j piece → piece ≡ [] → IsAtEnd j → IsFinished [] out now new → Appends b c out → count ≡ new.number - first
     → IfSome h (λ text. IsAppended text first count false a c)
 all_sent h i j a b c piece out first count now new so_far took none at finished sent sum =
-    done_sent h i j a b c piece out first count now new false (λ taken. IsLast so_far.read taken false) so_far took
-    (finished first so_far.read so_far.written so_far.going)
-    (λ left some taken so.
-    let end : left ≡ [] = subst IsAtEnd some at in
-    ap lines_of
-    (ap (λ w. (so_far.read ++ w) ++ left) none ∙ ap (λ w. (so_far.read ++ []) ++ w) end ∙ append-nil (so_far.read ++ []) ∙ append-nil so_far.read) ∙ so)
-    sent sum
+    let read = so_far.read in
+    Consumes-whole h j (read ++ piece) (λ text. IsAppended text first count false a c) (Consumes-trans h i j read piece so_far.took took) at
+    (appended a b c (read ++ piece) so_far.written out first new.number count false (λ taken. IsLast read taken false) so_far.wrote sent
+    (finished first read so_far.written so_far.going) (λ taken so. ap lines_of (ap (λ w. read ++ w) none ∙ append-nil read) ∙ so) sum)
 
 -- ---- bytes that are written in several writes
 
 -- bytes that are written after the first ones
-pub some_more : (a b c : Option (List ℕ)) (bytes : List ℕ) (at n len next : ℕ) → (at ≤ length bytes) × Appends a b (take at bytes) → len ≡ length bytes - at
-    → n ≤ length (take len (drop at bytes)) → Appends b c (take n (take len (drop at bytes))) → next ≡ at + n
+pub some_more : (a b c : Option (List ℕ)) (bytes : List ℕ) (at n next : ℕ) → (at ≤ length bytes) × Appends a b (take at bytes)
+    → n ≤ length (take (length bytes - at) (drop at bytes)) → Appends b c (take n (take (length bytes - at) (drop at bytes))) → next ≡ at + n
     → (next ≤ length bytes) × Appends a c (take next bytes)
-some_more a b c bytes at n len next (inside, p) long few q sum =
-    let front = take at bytes in
-    let there : length front ≡ at = length-take-le at bytes inside in
-    let rest : take len (drop at bytes) ≡ drop at bytes = take_all len (drop at bytes) (omega (arith, long, length-drop at bytes)) in
-    let whole : take next bytes ≡ front ++ take n (take len (drop at bytes)) =
-    ap (take next) (sym (take-append-drop at bytes)) ∙ ap (λ k. take k (front ++ drop at bytes)) (sum ∙ ap (λ k. k + n) (sym there))
-    ∙ take-append-add front (drop at bytes) n ∙ ap (λ w. front ++ take n w) (sym rest) in (
-      omega (arith, sum, few, inside, ap (λ (w : List ℕ). length w) rest, length-drop at bytes),
-      subst (Appends a c) (sym whole) (Appends-trans a b c front (take n (take len (drop at bytes))) p q),
-    )
+some_more a b c bytes at n next (inside, p) few q sum =
+    let long = ap (λ (w : List ℕ). length w) (take_rest bytes at) in
+    let both = Appends-trans a b c (take at bytes) (take n (drop at bytes)) p (subst (λ w. Appends b c (take n w)) (take_rest bytes at) q) in
+    let whole : take next bytes ≡ take at bytes ++ take n (drop at bytes) = ap (λ k. take k bytes) sum ∙ take-add at n bytes in
+    (omega (arith, sum, few, inside, long, length-drop at bytes), subst (Appends a c) (sym whole) both)
 
 -- ---- what is left where it fails
 

@@ -1,8 +1,8 @@
 -- A journal that is read piece by piece: all its records were printed, and it ends so after them.
 use Rattle.std.specs.Prelude.{◌≡◌, ℕ, ◌+◌, ◌≤◌, Bool, false, Option, None, Some, IfSome, List, [], ◌∷◌, ◌++◌, length, refl}
-use Rattle.std.specs.Io.KnownBytes.{Appends, Consumes, IsAtEnd}
+use Rattle.std.specs.Io.KnownBytes.{Appends, Consumes}
 use Rattle.std.proofs.Common.{arith, ap, sym, subst, ◌∙◌, append_assoc, append-nil, length-append}
-use Rattle.std.proofs.KnownBytes.{Appends-nil, Appends-trans, Consumes-nil, Consumes-trans}
+use Rattle.std.proofs.KnownBytes.{Appends-nil, Appends-trans, Consumes-nil, Consumes-trans, Consumes-whole}
 use Rattle.std.proofs.lemmas.Bool.Decides.{nat_tests}
 use Rattle.std.proofs.lemmas.List.{nil_from_length}
 use Rattle.iobufs_journal.specs.Journal.{AreShort, HasNoRecord, record_written, records_written}
@@ -90,36 +90,32 @@ more_read a b c held holds old new number taken more so_far filled =
       put = so_far.put;
     }
 
--- no record is at the front of what is held and what is left
-ended : (a b held holds : Option (List ℕ)) (window : List ℕ) (number taken : ℕ) (end : JournalEnd) → IsPrinting a b held holds window number taken
-    → ((left : List ℕ) → b ≡ Some left → HasNoRecord most_bytes number (window ++ left) end)
-    → IfSome a (λ text. IsPrinted text held holds (record { found = number; taken = taken; end = end }))
-ended a b held holds window number taken end so_far none =
-    let found = so_far.found in
+-- no record is at the front of what follows the records that were printed
+ended : (a b held holds : Option (List ℕ)) (window rest : List ℕ) (number taken : ℕ) (end : JournalEnd)
+    (so_far : IsPrinting a b held holds window number taken) → HasNoRecord most_bytes number rest end
+    → IsPrinted (records_written 0 so_far.found ++ rest) held holds (record { found = number; taken = taken; end = end })
+ended a b held holds window rest number taken end so_far none =
     let counted = so_far.counted in
-    all_known a b (records_written 0 found ++ window) (λ text. IsPrinted text held holds (record { found = number; taken = taken; end = end })) so_far.took
-    (λ left some. record {
+    let z : number ≡ 0 + length so_far.found = omega (arith, counted) in record {
       is = record {
-        records = found;
-        rest = window ++ left;
-        is = record {
-          whole = append_assoc (records_written 0 found) window left;
-          admitted = so_far.short;
-          ends =
-              subst (λ k. HasNoRecord most_bytes k (window ++ left) end) (let z : number ≡ 0 + length found = omega (arith, counted) in z) (none left some);
-        };
+        records = so_far.found;
+        rest = rest;
+        is = record { whole = refl; admitted = so_far.short; ends = subst (λ k. HasNoRecord most_bytes k rest end) z none };
         counted = counted;
         summed = so_far.summed;
       };
       put = so_far.put;
-    })
+    }
 
 -- what is held is damaged at the front, whatever the reader has left
 pub ended_damaged : (a b held holds : Option (List ℕ)) (window : List ℕ) (number taken : ℕ) → IsPrinting a b held holds window number taken
     → HasNoRecord most_bytes number window Damaged
     → IfSome a (λ text. IsPrinted text held holds (record { found = number; taken = taken; end = Damaged }))
 ended_damaged a b held holds window number taken so_far none =
-    ended a b held holds window number taken Damaged so_far (λ left some. stays_damaged most_bytes number window left none)
+    let records = records_written 0 so_far.found in
+    let printed_so = λ (text : List ℕ). IsPrinted text held holds (record { found = number; taken = taken; end = Damaged }) in
+    all_known a b (records ++ window) printed_so so_far.took (λ left some. subst printed_so (sym (append_assoc records window left))
+    (ended a b held holds window (window ++ left) number taken Damaged so_far (stays_damaged most_bytes number window left none)))
 
 -- nothing came, so it ends as what is held does
 pub ended_there : (a b c held holds : Option (List ℕ)) (old new : List ℕ) (number taken : ℕ) (end : JournalEnd) (more : Bool)
@@ -129,6 +125,7 @@ ended_there a b c held holds old new number taken end more so_far none stop fill
     let some = filled.some in
     let nothing : filled.read ≡ [] = nil_from_length filled.read (grind (arith, nat_tests, some, stop)) in
     let same : new ≡ old = filled.grew ∙ ap (λ w. old ++ w) nothing ∙ append-nil old in
-    ended a c held holds new number taken end (more_read a b c held holds old new number taken more so_far filled)
-    (λ left is. subst (λ w. HasNoRecord most_bytes number w end)
-    (sym (ap (λ w. new ++ w) (subst IsAtEnd is (filled.last stop)) ∙ append-nil new ∙ same)) none)
+    let all = more_read a b c held holds old new number taken more so_far filled in
+    Consumes-whole a c (records_written 0 all.found ++ new) (λ text. IsPrinted text held holds (record { found = number; taken = taken; end = end }))
+    all.took (filled.last stop)
+    (ended a c held holds new new number taken end all (subst (λ w. HasNoRecord most_bytes number w end) (sym same) none))

@@ -5,7 +5,7 @@
 --     sealed_is, is_sealed, unsealed_body    such bytes are sealed, and the converse; their body is a slice of them
 --     stays_damaged                          what is damaged stays damaged, whatever follows
 --     short_on, written_on, written_more     records after each other are short, and numbered on
-use Rattle.std.specs.Prelude.{suc, [], ◌∷◌, ◌≡◌, ℕ, ◌+◌, ◌-◌, ◌^◌, ◌<◌, ◌≤◌, List, ◌++◌, length, take, drop}
+use Rattle.std.specs.Prelude.{suc, [], ◌∷◌, ◌≡◌, ℕ, ◌+◌, ◌-◌, ◌<◌, ◌≤◌, List, ◌++◌, length, take, drop}
 use Rattle.std.specs.Int.{w32, w64, to_be_bytes}
 use Rattle.std.proofs.Common.{arith, inl, inr, ap, sym, ◌∙◌, append_assoc, append-nil, length-append, length-take, take-append-drop}
 use Rattle.std.proofs.Math.Seq.{take-append_seam, drop-append_seam}
@@ -13,7 +13,7 @@ use Rattle.std.proofs.lemmas.List.{take-append-le}
 use Rattle.iobufs_core.proofs.CallerFacts.{bytes-view_between, length-bytes_written}
 use Rattle.iobufs_core.proofs.LengthFacts.{no_length_later, spelled_later, still_closed}
 use Rattle.iobufs_core.specs.View.{View, view_slice}
-use Rattle.iobufs_core.specs.Wire.{bytes_written, view_written}
+use Rattle.iobufs_core.specs.Wire.{bytes_written}
 use Rattle.iobufs_journal.specs.Crc.{crc32}
 use Rattle.iobufs_journal.specs.Journal.{AreShort, HasNoRecord, record_written, records_written, sealed, summed}
 use Rattle.iobufs_journal.specs.declared.journal.JournalEnd.TheVariants.{Damaged}

@@ -101,9 +101,6 @@ pub fn repair<D: Disk, W: Write>(
         Plan::Cut => cut(disk, ending)?,
         Plan::Refuse => return Err(Failure::NotWhole(ending)),
     };
-    named(
-        "cannot print",
-        writeln!(to, "{name}: {gone} bytes were cut off"),
-    )?;
-    Ok(0)
+    let done = writeln!(to, "{name}: {gone} bytes were cut off");
+    named("cannot print", done).map(|_| 0)
 }

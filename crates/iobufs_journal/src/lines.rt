@@ -22,8 +22,7 @@ const ROOM: usize = MOST_LINE + 23 * PIECE + 22;
 
 const WRITE: &'static str = "cannot write the journal";
 
-// Writes all bytes and flushes them, and tries again if a signal interrupts it. If that fails, the writer took only some of the
-// first.
+// Writes and flushes all bytes, again after an interruption. If that fails, the writer took only some of the first.
 fn put_all<W: Write>(bytes: &[u8], to: &mut W) -> Result<(), Failure>
     ensures all { OnOk result (Appends (W.contents to.old) (W.contents to.new) bytes.now) }
     ensures some { OnErr result (HasBegun (W.contents to.old) (W.contents to.new) bytes.now) }

@@ -42,11 +42,8 @@ fn words_of<'a>(alloc: Global, name: &'a str, about: &'a str) -> Result<Command<
 }
 
 fn words<'a>(alloc: Global) -> Result<Command<'a>, AllocError> {
-    let append = words_of(
-        alloc,
-        "append",
-        "Appends each line of the input as a record",
-    )?;
+    let about = "Appends each line of the input as a record";
+    let append = words_of(alloc, "append", about)?;
     let sync = arg!(in alloc; --sync "Syncs the lines of one read before the next read");
     let repair = words_of(alloc, "repair", "Cuts off a torn end")?;
     let force = arg!(in alloc; --force "Cuts off a damaged end too");
