@@ -15,7 +15,7 @@ use Rattle.iobufs_journal.specs.Crc.{crc32}
 use Rattle.iobufs_journal.specs.Journal.{record_written, records_written, sealed}
 use Rattle.iobufs_journal.specs.JournalLaws.{length-sealed, record_small, short_on, written_more}
 use Rattle.iobufs_journal.proofs.ScanLaws.{all_known}
-use Rattle.iobufs_journal.specs.Lines.{AreFirst, AreHeld, HasBegun, HasLongLine, IsAppended, IsCutShort, IsEnded, IsFinished, IsGoing, IsLast, IsLine, IsNext, TakesLines, last_of, lines_from, lines_of, most_bytes}
+use Rattle.iobufs_journal.specs.Lines.{AreFirst, AreHeld, HasBegun, HasLongLine, IsAppended, IsCutShort, IsEnded, IsFinished, IsGoing, IsLast, IsLine, AreNext, TakesLines, last_of, lines_from, lines_of, most_bytes}
 use Rattle.iobufs_journal.specs.declared.lines.Lines.{Lines}
 
 -- bytes put in turn are put at once
@@ -87,8 +87,6 @@ too_long text begun (b ∷ bs) taken e long =
     by_end text begun bs b taken (b == 10) e long
     (λ next. too_long text (begun ++ b ∷ []) bs taken next (omega (arith, long, length-append begun (b ∷ []))))
 
--- ---- a piece
-
 -- of the same records, something else holds
 held_so : (first next : ℕ) (bytes : List ℕ) (P Q : List (List ℕ) → Type 0) → AreHeld first bytes next P
     → ((taken : List (List ℕ)) → P taken → Q taken) → AreHeld first bytes next Q
@@ -122,7 +120,7 @@ pub nothing_taken : (piece : List ℕ) (out : Part) (lines : Lines) → length l
     → IsTaking piece piece out out lines lines
 nothing_taken piece out lines room = record {
   going = λ first read written is.
-      held_so first lines.number (written ++ out.filled) (IsNext read lines.begun.items false) (AreFirst (read ++ piece) piece lines.begun.items) is
+      held_so first lines.number (written ++ out.filled) (AreNext read lines.begun.items false) (AreFirst (read ++ piece) piece lines.begun.items) is
       (λ taken so. λ more. ap lines_of (append_assoc read piece more) ∙ so.1 (piece ++ more));
   room = room;
 }
@@ -179,33 +177,31 @@ line_taken piece rest next from to after old now mid new at so_far is inside beg
 -- the line that was begun is too long
 pub line_too_long : (piece rest line : List ℕ) (from to : Part) (old now : Lines) (at : ℕ) → IsTaking piece rest from to old now → IsLine rest at
     → line ≡ now.begun.items ++ take at rest → most_bytes < 12 + length line → (first : ℕ) (read written : List ℕ)
-    → IsGoing first read (written ++ from.filled) old → AreHeld first (written ++ to.filled) now.number (IsNext (read ++ piece) line true)
+    → IsGoing first read (written ++ from.filled) old → AreHeld first (written ++ to.filled) now.number (AreNext (read ++ piece) line true)
 line_too_long piece rest line from to old now at so_far is begun long first read written before =
-    held_so first now.number (written ++ to.filled) (AreFirst (read ++ piece) (drop at rest) line) (IsNext (read ++ piece) line true)
+    held_so first now.number (written ++ to.filled) (AreFirst (read ++ piece) (drop at rest) line) (AreNext (read ++ piece) line true)
     (line_begun piece rest line from to old now at so_far is begun first read written before)
     (λ taken so. λ more. too_long ((read ++ piece) ++ more) line (drop at rest ++ more) taken (so more) long)
 
 -- no line ends in what is left
 pub none_ended : (piece rest line : List ℕ) (from to : Part) (old now : Lines) (at : ℕ) → IsTaking piece rest from to old now → IsLine rest at
     → at ≡ length rest → line ≡ now.begun.items ++ take at rest → 12 + length line ≤ most_bytes → (first : ℕ) (read written : List ℕ)
-    → IsGoing first read (written ++ from.filled) old → AreHeld first (written ++ to.filled) now.number (IsNext (read ++ piece) line false)
+    → IsGoing first read (written ++ from.filled) old → AreHeld first (written ++ to.filled) now.number (AreNext (read ++ piece) line false)
 none_ended piece rest line from to old now at so_far is last begun fits first read written before =
-    held_so first now.number (written ++ to.filled) (AreFirst (read ++ piece) (drop at rest) line) (IsNext (read ++ piece) line false)
+    held_so first now.number (written ++ to.filled) (AreFirst (read ++ piece) (drop at rest) line) (AreNext (read ++ piece) line false)
     (line_begun piece rest line from to old now at so_far is begun first read written before)
     (λ taken so. (fits, subst (λ w. AreFirst (read ++ piece) w line taken) (nil_from_length (drop at rest) (omega (arith, last, length-drop at rest))) so))
-
--- ---- the end of the input
 
 -- no line was begun
 pub none_begun : (out : List ℕ) (lines : Lines) → lines.begun.items ≡ [] → IsFinished out out lines lines
 none_begun out lines none = λ first read written is.
-    held_so first lines.number (written ++ out) (IsNext read lines.begun.items false) (λ taken. IsLast read taken false) is
+    held_so first lines.number (written ++ out) (AreNext read lines.begun.items false) (λ taken. IsLast read taken false) is
     (λ taken so. ap lines_of (sym (append-nil read)) ∙ so.1 [] ∙ ap (λ w. taken ++ last_of w) none ∙ append-nil taken)
 
 -- one was
 pub last_held : (from to : Part) (old new : Lines) → 0 < length old.begun.items → IsEnded from to old new → IsFinished from.filled to.filled old new
 last_held from to old new some ended = λ first read written is.
-    held_more first written (IsNext read old.begun.items false) (λ taken. IsLast read taken false) from to old new is ended is.so.0
+    held_more first written (AreNext read old.begun.items false) (λ taken. IsLast read taken false) from to old new is ended is.so.0
     (ap lines_of (sym (append-nil read)) ∙ is.so.1 [] ∙ ap (λ ls. is.taken ++ ls) (last_some old.begun.items some))
 
 -- ---- a reader and a writer
@@ -229,7 +225,7 @@ nothing_read had held lines none = record {
     short = tt;
     put = refl;
     counted = omega arith;
-    so = subst (λ w. IsNext [] w false []) (sym none) (let fits : 12 ≤ most_bytes = omega arith in fits, λ more. refl);
+    so = subst (λ w. AreNext [] w false []) (sym none) (let fits : 12 ≤ most_bytes = omega arith in fits, λ more. refl);
   };
 }
 
@@ -265,7 +261,7 @@ pub long_sent : (h i j a b c : Option (List ℕ)) (piece out : List ℕ) (first 
 long_sent h i j a b c piece out first count now new is_long so_far took long takes sent sum =
     let read = so_far.read ++ piece in
     all_known h j read (λ text. IsAppended text first count true a c) (Consumes-trans h i j so_far.read piece so_far.took took)
-    (λ left some. appended a b c (read ++ left) so_far.written out first new.number count true (IsNext read new.begun.items true) so_far.wrote sent
+    (λ left some. appended a b c (read ++ left) so_far.written out first new.number count true (AreNext read new.begun.items true) so_far.wrote sent
     (subst (TakesLines piece [] out now new) long takes first so_far.read so_far.written so_far.going) (λ taken so. so left) sum)
 
 -- the reader has no more bytes
@@ -278,8 +274,6 @@ all_sent h i j a b c piece out first count now new so_far took none at finished 
     (appended a b c (read ++ piece) so_far.written out first new.number count false (λ taken. IsLast read taken false) so_far.wrote sent
     (finished first read so_far.written so_far.going) (λ taken so. ap lines_of (ap (λ w. read ++ w) none ∙ append-nil read) ∙ so) sum)
 
--- ---- bytes that are written in several writes
-
 -- bytes that are written after the first ones
 pub some_more : (a b c : Option (List ℕ)) (bytes : List ℕ) (at n next : ℕ) → (at ≤ length bytes) × Appends a b (take at bytes)
     → n ≤ length (take (length bytes - at) (drop at bytes)) → Appends b c (take n (take (length bytes - at) (drop at bytes))) → next ≡ at + n
@@ -289,8 +283,6 @@ some_more a b c bytes at n next (inside, p) few q sum =
     let both = Appends-trans a b c (take at bytes) (take n (drop at bytes)) p (subst (λ w. Appends b c (take n w)) (take_rest bytes at) q) in
     let whole : take next bytes ≡ take at bytes ++ take n (drop at bytes) = ap (λ k. take k bytes) sum ∙ take-add at n bytes in
     (omega (arith, sum, few, inside, long, length-drop at bytes), subst (Appends a c) (sym whole) both)
-
--- ---- what is left where it fails
 
 -- only some of what is put was written
 pub cut_held : (a b c : Option (List ℕ)) (first next : ℕ) (written out : List ℕ) (P : List (List ℕ) → Type 0) → Appends a b written
@@ -308,4 +300,4 @@ cut_held a b c first next written out P wrote is (n, some) = record {
 -- nothing more was written
 pub cut_there : (h i a b : Option (List ℕ)) (first : ℕ) (now : Lines) → IsAppending h i a b first now → IsCutShort first a b
 cut_there h i a b first now so_far =
-    cut_held a b b first now.number so_far.written [] (IsNext so_far.read now.begun.items false) so_far.wrote so_far.going (0, Appends-nil b)
+    cut_held a b b first now.number so_far.written [] (AreNext so_far.read now.begun.items false) so_far.wrote so_far.going (0, Appends-nil b)

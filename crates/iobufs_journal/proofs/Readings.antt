@@ -37,23 +37,22 @@ in_most most n h = grind (arith, nat_tests)
 
 -- ---- a frame, a torn one and a bad length exclude each other
 
-record BeginsFramed (bytes : List ℕ) (n : ℕ) : Type 0 where
-  at : IsSpelledAt bytes n
-  enough : length (spell n) + n ≤ length bytes
+abbrev BeginsFramed : List ℕ → ℕ → Type 0
+BeginsFramed bytes n = IsSpelledAt bytes n × (length (spell n) + n ≤ length bytes)
 
 framed_so : (bytes framed behind : List ℕ) → length framed < 2 ^ 64 → bytes ≡ bytes_written framed ++ behind → BeginsFramed bytes (length framed)
 framed_so bytes framed behind small is =
     let n = length framed in
-    let long = ap (λ (w : List ℕ). length w) is in record {
-      at = subst (λ (xs : List ℕ). IsSpelledAt xs n) (sym (is ∙ append_assoc (spell n) framed behind)) (spelled_before n (framed ++ behind) small);
-      enough = omega (arith, long, length-append (bytes_written framed) behind, length-append (spell n) framed);
-    }
+    let long = ap (λ (w : List ℕ). length w) is in (
+      subst (λ (xs : List ℕ). IsSpelledAt xs n) (sym (is ∙ append_assoc (spell n) framed behind)) (spelled_before n (framed ++ behind) small),
+      omega (arith, long, length-append (bytes_written framed) behind, length-append (spell n) framed),
+    )
 
 not_torn : (most n : ℕ) (bytes : List ℕ) → BeginsFramed bytes n → IsTornAt most bytes → ⊥
-not_torn most n bytes frame (inl opened) = opened.0 n frame.at
+not_torn most n bytes frame (inl opened) = opened.0 n frame.0
 not_torn most n bytes frame (inr (m, (at, inside), few)) =
-    let enough = frame.enough in
-    let same : length (spell m) + m ≡ length (spell n) + n = ap (λ k. length (spell k) + k) (spelled_as_one bytes m n at frame.at) in
+    let enough = frame.1 in
+    let same : length (spell m) + m ≡ length (spell n) + n = ap (λ k. length (spell k) + k) (spelled_as_one bytes m n at frame.0) in
     omega (arith, few, enough, same)
 
 not_bad : (most n : ℕ) (bytes : List ℕ) → IsSpelledAt bytes n → in_range (up_to most) n ≡ true → HasBadLength most bytes → ⊥
@@ -89,12 +88,12 @@ record_frame most number text body behind large short e =
 stands : (most number : ℕ) (text body behind : List ℕ) (end : JournalEnd) → most < 2 ^ 64 → 12 + length body ≤ most → text ≡ record_written number body ++ behind
     → HasNoRecord most number text end → ⊥
 stands most number text body behind Whole large short e none =
-    let enough = (record_frame most number text body behind large short e).enough in
+    let enough = (record_frame most number text body behind large short e).1 in
     omega (arith, enough, length-sealed number body, ap (λ (w : List ℕ). length w) none)
 stands most number text body behind Torn large short e (some, torn) =
     not_torn most (length (sealed number body)) text (record_frame most number text body behind large short e) torn
 stands most number text body behind Damaged large short e (some, inl bad) =
-    not_bad most (length (sealed number body)) text (record_frame most number text body behind large short e).at
+    not_bad most (length (sealed number body)) text (record_frame most number text body behind large short e).0
     (in_most most (length (sealed number body)) (omega (arith, length-sealed number body, short))) bad
 stands most number text body behind Damaged large short e (some, inr (framed, left, small, is, never)) =
     never body (one_front framed (sealed number body) left behind small (omega (arith, length-sealed number body, large, short)) (sym is ∙ e)).0
@@ -172,27 +171,18 @@ replayed most text found written end rest large short e is =
 -- ---- there is a reading
 
 -- a record is at the front, and what is after it; or none is
-record HasRecord (most number : ℕ) (bytes : List ℕ) : Type 0 where
-  body : List ℕ
-  behind : List ℕ
-  short : 12 + length body ≤ most
-  whole : bytes ≡ record_written number body ++ behind
-
-Front : ℕ → ℕ → List ℕ → Type 0
-Front most number bytes = HasRecord most number bytes ⊎ ((end : JournalEnd) × HasNoRecord most number bytes end)
+abbrev Front : ℕ → ℕ → List ℕ → Type 0
+Front most number bytes =
+    ((body : List ℕ) × (behind : List ℕ) × (12 + length body ≤ most) × (bytes ≡ record_written number body ++ behind))
+    ⊎ ((end : JournalEnd) × HasNoRecord most number bytes end)
 
 by_seal : (most number : ℕ) (bytes framed behind : List ℕ) (test : Bool) → 0 < length bytes → length framed < 2 ^ 64 → length framed ≤ most
     → bytes ≡ bytes_written framed ++ behind → bytes_eq framed (sealed number (drop 8 (take (length framed - 4) framed))) ≡ test → Front most number bytes
-unfolding Front
 by_seal most number bytes framed behind true some small least is e =
     let body = drop 8 (take (length framed - 4) framed) in
     let seal : framed ≡ sealed number body = (bytes_decides framed (sealed number body)).0 e in
-    inl (record {
-      body = body;
-      behind = behind;
-      short = omega (arith, length-sealed number body, ap (λ (w : List ℕ). length w) seal, least);
-      whole = is ∙ ap (λ w. bytes_written w ++ behind) seal;
-    })
+    let long = ap (λ (w : List ℕ). length w) seal in
+    inl (body, behind, omega (arith, length-sealed number body, long, least), is ∙ ap (λ w. bytes_written w ++ behind) seal)
 by_seal most number bytes framed behind false some small least is e =
     let never : (body : List ℕ) → framed ≡ sealed number body → ⊥ = λ body seal.
     let test = (bytes_decides framed (sealed number (drop 8 (take (length framed - 4) framed)))).1
@@ -202,7 +192,6 @@ by_seal most number bytes framed behind false some small least is e =
 
 by_length : (most number : ℕ) (bytes : List ℕ) (length_read : Result ℕ Error) → 0 < length bytes → IsLengthRead bytes (up_to most) length_read
     → Front most number bytes
-unfolding Front
 by_length most number bytes (Ok n) some (at, inside) = elim (less (length bytes) (length (spell n) + n)) [
   | inl few ↦ inr (Torn, (some, inr (n, (at, inside), few)))
   | inr enough ↦
@@ -226,7 +215,6 @@ by_length most number bytes (Err BadLayout) some none = absurd none
 by_length most number bytes (Err TooLong) some none = absurd none
 
 front : (most number : ℕ) (bytes : List ℕ) → Front most number bytes
-unfolding Front
 front most number [] = inr (Whole, refl)
 front most number (b ∷ bs) =
     let read = some_answer (b ∷ bs) (up_to most) in
@@ -235,64 +223,46 @@ front most number (b ∷ bs) =
 record_some : (number : ℕ) (body : List ℕ) → 0 < length (record_written number body)
 record_some number body = omega (arith, length-append (spell (length (sealed number body))) (sealed number body), length-sealed number body)
 
-record HasReading (most number : ℕ) (text : List ℕ) : Type 0 where
-  found : List (List ℕ)
-  end : JournalEnd
-  rest : List ℕ
-  is : IsJournal most number text found end rest
-
-reading : (most number fuel : ℕ) (text : List ℕ) → length text < fuel → HasReading most number text
-unfolding Front
+reading : (most number fuel : ℕ) (text : List ℕ) → length text < fuel
+    → (found : List (List ℕ)) × (end : JournalEnd) × (rest : List ℕ) × IsJournal most number text found end rest
 reading most number zero text enough = absurd (omega (arith, enough))
 reading most number (suc fuel) text enough = elim (front most number text) [
-  | inr (end, none) ↦ record { found = []; end = end; rest = text; is = none_first most number text end none }
-  | inl first ↦
-      let long = ap (λ (w : List ℕ). length w) first.whole in
-      let some = record_some number first.body in
-      let smaller : length first.behind < fuel = omega (arith, enough, long, some, length-append (record_written number first.body) first.behind) in
-      let others = reading most (suc number) fuel first.behind smaller in record {
-        found = first.body ∷ others.found;
-        end = others.end;
-        rest = others.rest;
-        is = behind_first most number text first.body first.behind others.rest others.found others.end first.short first.whole others.is;
-      }
+  | inr (end, none) ↦ ([], end, text, none_first most number text end none)
+  | inl (body, behind, short, whole) ↦
+      let long = ap (λ (w : List ℕ). length w) whole in
+      let some = record_some number body in
+      let smaller : length behind < fuel = omega (arith, enough, long, some, length-append (record_written number body) behind) in
+      let (found, end, rest, is) = reading most (suc number) fuel behind smaller in
+      (body ∷ found, end, rest, behind_first most number text body behind rest found end short whole is)
 ]
 
 -- bytes have one list of records, one end and one rest
 pub one_journal : (most : ℕ) → most < 2 ^ 64 → (text : List ℕ) → HasOneJournal most text
 one_journal most large text =
-    let all = reading most 0 (suc (length text)) text (omega arith) in record {
-      found = all.found;
-      end = all.end;
-      rest = all.rest;
-      is = all.is;
-      one = λ others stop left other. read_alike most 0 text all.found others all.end stop all.rest left large all.is other;
+    let (found, end, rest, is) = reading most 0 (suc (length text)) text (omega arith) in record {
+      found = found;
+      end = end;
+      rest = rest;
+      is = is;
+      one = λ others stop left other. read_alike most 0 text found others end stop rest left large is other;
     }
 
 -- ---- records that are cut
 
 -- bytes have these records, and aren't damaged after them
-record EndsUndamaged (most number : ℕ) (text : List ℕ) (found : List (List ℕ)) : Type 0 where
-  end : JournalEnd
-  rest : List ℕ
-  is : IsJournal most number text found end rest
-  never : end ≡ Damaged → ⊥
+abbrev EndsUndamaged : (most number : ℕ) (text : List ℕ) → List (List ℕ) → Type 0
+EndsUndamaged most number text found = (end : JournalEnd) × (rest : List ℕ) × IsJournal most number text found end rest × (end ≡ Damaged → ⊥)
 
 -- a record of which bytes are missing
 missing : (most number n : ℕ) (body : List ℕ) → most < 2 ^ 64 → 12 + length body ≤ most → n < length (record_written number body)
     → EndsUndamaged most number (take n (record_written number body)) []
-missing most number zero body large short few =
-    record { end = Whole; rest = []; is = none_first most number [] Whole refl; never = λ e. cc }
+missing most number zero body large short few = (Whole, [], none_first most number [] Whole refl, λ e. cc)
 missing most number (suc n) body large short few =
     let written = record_written number body in
     let torn = begun_open (up_to most) (sealed number body) (take (suc n) written) (drop (suc n) written)
     (omega (arith, length-sealed number body, large, short)) (in_most most (length (sealed number body)) (omega (arith, length-sealed number body, short)))
-    (sym (take-append-drop (suc n) written)) (omega (arith, length-drop (suc n) written, few)) in record {
-      end = Torn;
-      rest = take (suc n) written;
-      is = none_first most number (take (suc n) written) Torn (omega (arith, length-take (suc n) written, few), torn);
-      never = λ e. cc;
-    }
+    (sym (take-append-drop (suc n) written)) (omega (arith, length-drop (suc n) written, few)) in
+    (Torn, take (suc n) written, none_first most number (take (suc n) written) Torn (omega (arith, length-take (suc n) written, few), torn), λ e. cc)
 
 by_test : (most number n : ℕ) (body : List ℕ) (bodies : List (List ℕ)) (test : Bool) → most < 2 ^ 64 → 12 + length body ≤ most
     → nat_lt n (length (record_written number body)) ≡ test
@@ -304,24 +274,18 @@ by_test most number n body bodies true large short test later =
     let few : n < length (record_written number body) = grind (arith, nat_tests, test) in
     subst (λ w. EndsUndamaged most number w []) (sym (take-append-le n (record_written number body) (records_written (suc number) bodies) (omega (arith, few))))
     (missing most number n body large short few)
-by_test most number n body bodies false large short test later =
+by_test most number n body bodies false large short test (end, rest, is, never) =
     let written = record_written number body in
     let more = records_written (suc number) bodies in
     let there : n ≡ length written + (n - length written) = grind (arith, nat_tests, test) in
     let cut : take n (written ++ more) ≡ written ++ take (n - length written) more =
-    ap (λ k. take k (written ++ more)) there ∙ take-append-add written more (n - length written) in record {
-      end = later.end;
-      rest = later.rest;
-      is =
-          behind_first most number (take n (written ++ more)) body (take (n - length written) more) later.rest
-          (whole_of (suc number) (n - length written) bodies) later.end short cut later.is;
-      never = later.never;
-    }
+    ap (λ k. take k (written ++ more)) there ∙ take-append-add written more (n - length written) in
+    let kept = whole_of (suc number) (n - length written) bodies in
+    (end, rest, behind_first most number (take n (written ++ more)) body (take (n - length written) more) rest kept end short cut is, never)
 
 first_whole : (most number n : ℕ) (lines : List (List ℕ)) → most < 2 ^ 64 → AreShort most lines
     → EndsUndamaged most number (take n (records_written number lines)) (whole_of number n lines)
-first_whole most number n [] large short =
-    record { end = Whole; rest = take n []; is = none_first most number (take n []) Whole (take-nil n); never = λ e. cc }
+first_whole most number n [] large short = (Whole, take n [], none_first most number (take n []) Whole (take-nil n), λ e. cc)
 first_whole most number n (body ∷ bodies) large short =
     by_test most number n body bodies (nat_lt n (length (record_written number body))) large short.0 refl
     (first_whole most (suc number) (n - length (record_written number body)) bodies large short.1)
@@ -331,17 +295,17 @@ pub cut_short : (most n : ℕ) (found lines others : List (List ℕ)) (text rest
     → AreShort most lines → IsJournal most 0 (text ++ take n (records_written (length found) lines)) others end rest
     → (others ≡ found ++ whole_of (length found) n lines) × (end ≡ Damaged → ⊥)
 cut_short most n found lines others text rest end large was short is =
-    let later = first_whole most (length found) n lines large short in
+    let (stop, left, later, never) = first_whole most (length found) n lines large short in
     let kept = whole_of (length found) n lines in
     let front = records_written 0 found in
     let added = take n (records_written (length found) lines) in
     let from : 0 + length found ≡ length found = omega arith in
-    let one = read_alike most 0 (text ++ added) others (found ++ kept) end later.end rest later.rest large is (record {
+    let one = read_alike most 0 (text ++ added) others (found ++ kept) end stop rest left large is (record {
       whole =
-          ap (λ w. w ++ added) (was.whole ∙ append-nil front) ∙ ap (λ w. front ++ w) later.is.whole
-          ∙ sym (append_assoc front (records_written (length found) kept) later.rest)
-          ∙ ap (λ k. (front ++ records_written k kept) ++ later.rest) (sym from) ∙ ap (λ w. w ++ later.rest) (sym (written_on 0 found kept));
-      admitted = short_on most found kept was.admitted later.is.admitted;
-      ends = subst (λ k. HasNoRecord most k later.rest later.end)
-          (let z : length found + length kept ≡ 0 + length (found ++ kept) = omega (arith, length-append found kept) in z) later.is.ends;
-    }) in (one.same_records, λ e. later.never (sym one.same_end ∙ e))
+          ap (λ w. w ++ added) (was.whole ∙ append-nil front) ∙ ap (λ w. front ++ w) later.whole
+          ∙ sym (append_assoc front (records_written (length found) kept) left)
+          ∙ ap (λ k. (front ++ records_written k kept) ++ left) (sym from) ∙ ap (λ w. w ++ left) (sym (written_on 0 found kept));
+      admitted = short_on most found kept was.admitted later.admitted;
+      ends = subst (λ k. HasNoRecord most k left stop)
+          (let z : length found + length kept ≡ 0 + length (found ++ kept) = omega (arith, length-append found kept) in z) later.ends;
+    }) in (one.same_records, λ e. never (sym one.same_end ∙ e))

@@ -5,7 +5,7 @@
 --     most_bytes               how many bytes a record may have after its length
 --     HasLongLine, IsLast      a line is too long for a record; why no more lines were taken
 --     AreHeld                  bytes are records, and their bodies have a property
---     AreFirst, IsNext         these are the first lines, whatever follows, and one was begun; it may go on, or is too long
+--     AreFirst, AreNext         these are the first lines, whatever follows, and one was begun; it may go on, or is too long
 --     IsGoing                  the lines of the bytes so far are records, except one that was begun
 --     IsEnded, IsFinished      the line that was begun is put as a record; and at the end of the input, where there
 --                              may be none
@@ -66,13 +66,13 @@ abbrev pub AreFirst : (text left begun : List ℕ) → List (List ℕ) → Type 
 AreFirst text left begun taken = (more : List ℕ) → lines_of (text ++ more) ≡ taken ++ lines_from begun (left ++ more)
 
 -- all lines of a text but one that was begun, which may go on; or one is too long
-abbrev pub IsNext : (text begun : List ℕ) → Bool → List (List ℕ) → Type 0
-IsNext text begun true taken = (more : List ℕ) → HasLongLine (text ++ more) taken
-IsNext text begun false taken = (12 + length begun ≤ most_bytes) × AreFirst text [] begun taken
+abbrev pub AreNext : (text begun : List ℕ) → Bool → List (List ℕ) → Type 0
+AreNext text begun true taken = (more : List ℕ) → HasLongLine (text ++ more) taken
+AreNext text begun false taken = (12 + length begun ≤ most_bytes) × AreFirst text [] begun taken
 
 -- these bytes are the lines of what was read, except one that was begun
 abbrev pub IsGoing : ℕ → (read bytes : List ℕ) → Lines → Type 0
-IsGoing first read bytes lines = AreHeld first bytes lines.number (IsNext read lines.begun.items false)
+IsGoing first read bytes lines = AreHeld first bytes lines.number (AreNext read lines.begun.items false)
 
 -- the line that was begun is put as a record, and another begins
 pub record IsEnded (from to : Part) (old new : Lines) : Type 0 where
@@ -90,7 +90,7 @@ IsFinished from to old new =
 abbrev pub TakesLines : (piece from to : List ℕ) → Lines → Lines → Bool → Type 0
 TakesLines piece from to old new is_long =
     (first : ℕ) (read written : List ℕ) → IsGoing first read (written ++ from) old
-    → AreHeld first (written ++ to) new.number (IsNext (read ++ piece) new.begun.items is_long)
+    → AreHeld first (written ++ to) new.number (AreNext (read ++ piece) new.begun.items is_long)
 
 -- Lines of a text went to a writer as records, numbered from one on; so many, and all of them but where one is too long
 pub record IsAppended (text : List ℕ) (first count : ℕ) (is_long : Bool) (held holds : Option (List ℕ)) : Type 0 where

@@ -1,6 +1,6 @@
 // The commands, over any file. `ending` and `lines` decide; this does it.
 use crate::disk::Disk;
-use crate::ending::{Plan, planned};
+use crate::ending::{self, Plan, planned};
 use crate::failure::{Failure, named};
 use crate::journal::{Ending, JournalEnd};
 use crate::lines;
@@ -8,17 +8,15 @@ use crate::scan::print;
 use std::alloc::Global;
 use std::io::{self, Read, Take, Write};
 
-/// A journal's bytes, from its front. Those that are written later aren't read.
-pub fn front<D: Disk>(disk: &mut D) -> Result<Take<&mut D>, Failure> {
+// A journal's bytes, from its front. Those that are written later aren't read.
+fn front<D: Disk>(disk: &mut D) -> Result<Take<&mut D>, Failure> {
     let len = named("cannot measure it", disk.rewind())?;
     Ok(Read::by_ref(disk).take(len))
 }
 
 fn find<D: Disk>(disk: &mut D) -> Result<(), Failure> {
-    if named("cannot find it", disk.is_named())? {
-        return Ok(());
-    }
-    Err(Failure::Renamed)
+    let is_named = named("cannot find it", disk.is_named())?;
+    is_named.then_some(()).ok_or(Failure::Renamed)
 }
 
 // How a journal ends that no other program writes to.
@@ -85,6 +83,16 @@ pub fn replay<D: Disk, W: Write>(alloc: Global, disk: &mut D, to: &mut W) -> Res
         return Ok(0);
     }
     Err(Failure::NotWhole(ending))
+}
+
+/// Prints how a journal ends, and returns the status.
+pub fn check<D: Disk, W: Write>(
+    alloc: Global,
+    name: &str,
+    disk: &mut D,
+    to: &mut W,
+) -> Result<u8, Failure> {
+    ending::check(alloc, name, &mut front(disk)?, to)
 }
 
 /// Cuts off a journal's torn end, or a damaged one if that is forced, and prints how many bytes went.

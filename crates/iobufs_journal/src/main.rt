@@ -14,9 +14,7 @@ mod tests;
 
 use clap::error::ErrorKind;
 use clap::{ArgMatches, Command, arg};
-use commands::front;
 use disk::HostFile;
-use ending::check;
 use failure::{Failure, named};
 use std::alloc::{AllocError, Global};
 use std::env;
@@ -70,7 +68,8 @@ fn obey(
     let mut how = OpenOptions::new();
     how.read(true).write(is_repair).append(is_append);
     how.create(is_append).mode(0o600);
-    let opened = HostFile::open(rt, name, &how, is_repair || given.get_flag("sync"));
+    let (is_synced, is_forced) = (given.get_flag("sync"), given.get_flag("force"));
+    let opened = HostFile::open(rt, name, &how, is_repair || is_synced);
     let mut disk = named("cannot open it", opened)?;
     match command {
         "append" => commands::append(alloc, name, &mut disk, &mut rt.stdin(), &mut rt.stderr()),
@@ -78,11 +77,8 @@ fn obey(
             let mut to = named("cannot print", BufWriter::new(alloc, rt.stdout()))?;
             commands::replay(alloc, &mut disk, &mut to)
         }
-        "repair" => {
-            let is_forced = given.get_flag("force");
-            commands::repair(alloc, name, &mut disk, is_forced, &mut rt.stdout())
-        }
-        _ => check(alloc, name, &mut front(&mut disk)?, &mut rt.stdout()),
+        "repair" => commands::repair(alloc, name, &mut disk, is_forced, &mut rt.stdout()),
+        _ => commands::check(alloc, name, &mut disk, &mut rt.stdout()),
     }
 }
 

@@ -1,7 +1,6 @@
 // The commands on a disk in memory, of which each call fails, alone or with all after it.
 use crate::commands;
 use crate::disk::Disk;
-use crate::ending::check;
 use std::alloc::{AllocError, AllocGlobal, Global};
 use std::io::{self, ErrorKind, Read, Write};
 use std::ops::Range;
@@ -139,7 +138,7 @@ fn obey(alloc: Global, command: &str, disk: &mut Fake, said: &mut Vec<u8>) -> u8
         }
         "repair" => commands::repair(alloc, "it", disk, false, said),
         "replay" => commands::replay(alloc, disk, said),
-        _ => commands::front(disk).and_then(|mut text| check(alloc, "it", &mut text, said)),
+        _ => commands::check(alloc, "it", disk, said),
     };
     done.unwrap_or_else(|failure| failure.status())
 }
