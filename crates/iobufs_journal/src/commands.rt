@@ -21,9 +21,8 @@ fn find<D: Disk>(disk: &mut D) -> Result<(), Failure> {
 
 // How a journal ends that no other program writes to.
 fn claimed<D: Disk>(alloc: Global, disk: &mut D) -> Result<Ending, Failure> {
-    if !named("cannot lock it", disk.lock())? {
-        return Err(Failure::Locked);
-    }
+    let is_locked = named("cannot lock it", disk.lock())?;
+    is_locked.then_some(()).ok_or(Failure::Locked)?;
     find(disk)?;
     print(alloc, &mut front(disk)?, &mut io::sink())
 }
@@ -79,10 +78,8 @@ pub fn append<D: Disk, R: Read, W: Write>(
 pub fn replay<D: Disk, W: Write>(alloc: Global, disk: &mut D, to: &mut W) -> Result<u8, Failure> {
     let ending = print(alloc, &mut front(disk)?, to)?;
     named("cannot print", to.flush())?;
-    if ending.end == JournalEnd::Whole {
-        return Ok(0);
-    }
-    Err(Failure::NotWhole(ending))
+    let is_whole = ending.end == JournalEnd::Whole;
+    is_whole.then_some(0).ok_or(Failure::NotWhole(ending))
 }
 
 /// Prints how a journal ends, and returns the status.

@@ -71,12 +71,10 @@ fn obey(
     let (is_synced, is_forced) = (given.get_flag("sync"), given.get_flag("force"));
     let opened = HostFile::open(rt, name, &how, is_repair || is_synced);
     let mut disk = named("cannot open it", opened)?;
+    let mut printed = named("cannot print", BufWriter::new(alloc, rt.stdout()))?;
     match command {
         "append" => commands::append(alloc, name, &mut disk, &mut rt.stdin(), &mut rt.stderr()),
-        "replay" => {
-            let mut to = named("cannot print", BufWriter::new(alloc, rt.stdout()))?;
-            commands::replay(alloc, &mut disk, &mut to)
-        }
+        "replay" => commands::replay(alloc, &mut disk, &mut printed),
         "repair" => commands::repair(alloc, name, &mut disk, is_forced, &mut rt.stdout()),
         _ => commands::check(alloc, name, &mut disk, &mut rt.stdout()),
     }

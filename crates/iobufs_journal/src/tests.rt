@@ -24,6 +24,7 @@ fn whole_of(len: usize) -> (u64, usize, usize) {
     found
 }
 
+// A disk that keeps what is flushed. A write takes at most seven bytes.
 #[derive(Drop)]
 struct Fake {
     bytes: Vec<u8>,
