@@ -28,8 +28,8 @@ fn whole_of(len: usize) -> (u64, usize, usize) {
 #[derive(Drop)]
 struct Fake {
     bytes: Vec<u8>,
-    // How many bytes a crash leaves, at least.
-    synced: usize,
+    // How many bytes a crash leaves, at least and at most.
+    crash: (usize, usize),
     // Where the next read begins.
     at: usize,
     calls: u64,
@@ -38,14 +38,14 @@ struct Fake {
 }
 
 impl Fake {
-    fn new(alloc: Global, synced: usize, fails: Range<u64>) -> Result<Fake, AllocError> {
+    fn new(alloc: Global, len: usize, fails: Range<u64>) -> Result<Fake, AllocError> {
         let mut bytes = Vec::new(alloc);
         bytes.extend_from_slice(WHOLE)?;
-        bytes.truncate(synced);
-        let (at, calls) = (0, 0);
+        bytes.truncate(len);
+        let (crash, at, calls) = ((len, len), 0, 0);
         Ok(Fake {
             bytes,
-            synced,
+            crash,
             at,
             calls,
             fails,
@@ -75,12 +75,13 @@ impl Write for Fake {
         self.call()?;
         let n = buf.len().min(7);
         self.bytes.extend_from_slice(&buf[..n])?;
+        self.crash.1 = self.bytes.len();
         Ok(n)
     }
 
     fn flush(&mut self) -> io::Result<()> {
         self.call()?;
-        self.synced = self.bytes.len();
+        self.crash = (self.bytes.len(), self.bytes.len());
         Ok(())
     }
 }
@@ -103,7 +104,7 @@ impl Disk for Fake {
     fn cut(&mut self, len: u64) -> io::Result<()> {
         self.call()?;
         self.bytes.truncate(len as usize);
-        self.synced = self.synced.min(self.bytes.len());
+        self.crash.0 = self.crash.0.min(self.bytes.len());
         Ok(())
     }
 }
@@ -131,7 +132,7 @@ const JOBS: [Job; 9] = jobs! {
 
 // The input has the lines that the disk lacks, the last without its end.
 fn obey(alloc: Global, command: &str, disk: &mut Fake, said: &mut Vec<u8>) -> u8 {
-    let (_, _, lines) = whole_of(disk.synced);
+    let (_, _, lines) = whole_of(disk.crash.0);
     let done = match command {
         "append" => {
             let mut input = LINES.get(lines..19).unwrap_or_default();
@@ -167,9 +168,10 @@ fn assert_job(rt: &(impl Abort + AllocGlobal), job: &Job, fails: Range<u64>) -> 
     let (len, has_failed) = (disk.bytes.len(), disk.calls >= first);
     let is_so = if has_failed {
         let is_told = tells(rt.alloc(), command, had, len, &said)?;
-        done == 3 && whole_of(had).1 <= disk.synced && is_told
+        done == 3 && whole_of(had).1 <= disk.crash.0 && is_told
     } else {
-        (done, len, disk.synced) == (status, has, has) && said.as_slice() == says
+        (done, len, disk.crash.0, disk.crash.1) == (status, has, has, has)
+            && said.as_slice() == says
     };
     assert!(rt; is_so && WHOLE.starts_with(&disk.bytes), "{job:?} {first}");
     Ok(has_failed)
