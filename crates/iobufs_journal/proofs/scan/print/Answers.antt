@@ -1,4 +1,4 @@
-use Rattle.std.proofs.Common.{◌≡◌, ℕ, List, ap, arith, length, length-append, Err, ◌∙◌}
+use Rattle.std.proofs.Common.{ℕ, List, ap, arith, length, length-append, Err, ◌∙◌}
 use Rattle.iobufs_journal.specs.Journal.{record_written}
 use Rattle.iobufs_journal.proofs.ScanLaws.{ended_damaged, ended_there, more_read, one_printed}
 use Rattle.iobufs_journal.proofs.scan.print.Goals as goal
