@@ -27,13 +27,7 @@ found_short most number copy framed body is seal =
 pub none_at : (most number : ℕ) (text copy left framed : View) → copy ≡ text → IsViewRead (of_view copy) (up_to most) (Ok framed)
     → of_view left ≡ text_rest (of_view copy) (length (view_written framed)) → (IsSealed number framed.bytes → ⊥) → 0 < length text.bytes
     → HasNoRecord most number text.bytes Damaged
-none_at most number text copy left framed same is rest never some = (
-  some,
-  inr (
-    framed.bytes,
-    left.bytes,
-    (read_in_range (of_view copy) (up_to most) (Ok framed) is).0,
-    ap (λ (v : View). v.bytes) (sym same) ∙ read_and_left (of_view copy) (of_view left) (up_to most) (Ok framed) is rest,
-    λ body seal. never (is_sealed number framed.bytes body seal),
-  ),
-)
+none_at most number text copy left framed same is rest never some =
+    let whole = ap (λ (v : View). v.bytes) (sym same) ∙ read_and_left (of_view copy) (of_view left) (up_to most) (Ok framed) is rest in
+    let small = (read_in_range (of_view copy) (up_to most) (Ok framed) is).0 in
+    (some, inr (framed.bytes, left.bytes, small, whole, λ body seal. never (is_sealed number framed.bytes body seal)))

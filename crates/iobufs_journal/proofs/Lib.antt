@@ -1,5 +1,4 @@
 mod CrcLaws
-mod EndingLaws
 mod FrontLaws
 mod LineLaws
 mod Readings

@@ -1,11 +1,11 @@
 -- The laws of journals: a record is sealed by its bytes alone, and bytes of records are that journal and no other.
 --     IsSealed                               bytes are a sealed record, by their first eight and their last four
---     length-sealed, record_small,           how long a record is: 12 bytes more than its body, and at most 10 for
---     record_fits                            its length
+--     length-sealed, record_small            how long a record is: 12 bytes more than its body, and at most 10 for its
+--                                            length
 --     sealed_is, is_sealed, unsealed_body    such bytes are sealed, and the converse; their body is a slice of them
 --     stays_damaged                          what is damaged stays damaged, whatever follows
 --     short_on, written_on, written_more     records after each other are short, and numbered on
-use Rattle.std.specs.Prelude.{suc, [], ◌∷◌, ◌≡◌, ℕ, ◌+◌, ◌-◌, ◌^◌, ◌<◌, ◌≤◌, List, ◌++◌, length, take, drop}
+use Rattle.std.specs.Prelude.{suc, [], ◌∷◌, ◌≡◌, ℕ, ◌+◌, ◌-◌, ◌<◌, ◌≤◌, List, ◌++◌, length, take, drop}
 use Rattle.std.specs.Int.{w32, w64, to_be_bytes}
 use Rattle.std.proofs.Common.{arith, inl, inr, ap, sym, ◌∙◌, append_assoc, append-nil, length-append, length-take, take-append-drop}
 use Rattle.std.proofs.Math.Seq.{take-append_seam, drop-append_seam}
@@ -13,7 +13,7 @@ use Rattle.std.proofs.lemmas.List.{take-append-le}
 use Rattle.iobufs_core.proofs.CallerFacts.{bytes-view_between, length-bytes_written}
 use Rattle.iobufs_core.proofs.LengthFacts.{no_length_later, spelled_later, still_closed}
 use Rattle.iobufs_core.specs.View.{View, view_slice}
-use Rattle.iobufs_core.specs.Wire.{bytes_written, view_written}
+use Rattle.iobufs_core.specs.Wire.{bytes_written}
 use Rattle.iobufs_journal.specs.Crc.{crc32}
 use Rattle.iobufs_journal.specs.Journal.{AreShort, HasNoRecord, record_written, records_written, sealed, summed}
 use Rattle.iobufs_journal.specs.declared.journal.JournalEnd.TheVariants.{Damaged}
@@ -26,9 +26,6 @@ length-sealed number body =
 
 pub record_small : (number : ℕ) (body : List ℕ) → length (record_written number body) ≤ 22 + length body
 record_small number body = omega (arith, length-sealed number body, length-bytes_written (sealed number body))
-
-pub record_fits : (number : ℕ) (body : List ℕ) (view : View) → view.bytes ≡ sealed number body → length body < 2 ^ 62 → length (view_written view) < 2 ^ 63
-record_fits number body view is small = omega (arith, small, ap (λ (w : List ℕ). length w) is, length-sealed number body, length-bytes_written view.bytes)
 
 -- how a sealed record is told from other bytes
 pub record IsSealed (number : ℕ) (bytes : List ℕ) : Type 0 where

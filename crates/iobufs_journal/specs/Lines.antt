@@ -1,41 +1,41 @@
 -- Lines that become the records of a journal.
---     lines_of, with_first     the lines of some bytes; and with a byte more at the front
---     HasNoEnd, IsLine         no line ends in these bytes; the first line ends at this offset, or the bytes do
+--     lines_of, lines_from     the lines of some bytes; and those after a line that was begun
+--     last_of                  the last line, if it has a byte
+--     IsLine                   the first line ends at this offset, or the bytes do
 --     most_bytes               how many bytes a record may have after its length
 --     HasLongLine, IsLast      a line is too long for a record; why no more lines were taken
---     AreHeld                  these records were written, or are held
---     IsGoing, IsDone          the lines of the bytes so far are records, except one that was begun; those of all bytes
---     IsEnded, IsFinished      the line that was begun is held as a record; and at the end of the input, where there
+--     AreHeld                  bytes are records, and their bodies have a property
+--     AreFirst, AreNext         these are the first lines, whatever follows, and one was begun; it may go on, or is too long
+--     IsGoing                  the lines of the bytes so far are records, except one that was begun
+--     IsEnded, IsFinished      the line that was begun is put as a record; and at the end of the input, where there
 --                              may be none
---     TakesLines               the lines of a piece are held as records, or one is too long
+--     TakesLines               the lines of a piece are put as records, or one is too long
 --     IsAppended               these lines went to a writer as records, and why no more of them
 --     HasBegun, IsCutShort     a writer took some of the first of these bytes; of the bytes of some records
-use Rattle.std.specs.Prelude.{◌≡◌, ℕ, ◌+◌, ◌<◌, ◌≤◌, ◌==◌, if◌then◌else◌, Bool, true, false, Option, List, [], ◌∷◌, ◌++◌, length, take, drop}
+use Rattle.std.specs.Prelude.{◌≡◌, ℕ, ◌+◌, ◌<◌, ◌≤◌, ◌==◌, if◌then◌else◌, Bool, true, false, Option, List, [], ◌∷◌, ◌++◌, length, take, drop, slice_index}
 use Rattle.std.specs.Io.KnownBytes.{Appends}
-use Rattle.iobufs_core.specs.Part.{part_put}
+use Rattle.iobufs_core.specs.Part.{Part, part_put}
 use Rattle.iobufs_journal.specs.Journal.{AreShort, record_written, records_written}
 use Rattle.iobufs_journal.specs.declared.lines.Lines.{Lines}
 
--- a byte before the first line, or a line of its own
-abbrev pub with_first : ℕ → List (List ℕ) → List (List ℕ)
-with_first byte [] = (byte ∷ []) ∷ []
-with_first byte (line ∷ lines) = (byte ∷ line) ∷ lines
+-- the last line, if it has a byte
+abbrev pub last_of : List ℕ → List (List ℕ)
+last_of [] = []
+last_of (byte ∷ bytes) = (byte ∷ bytes) ∷ []
 
--- the lines of a text: a 10 ends each, which the last may lack
+-- the lines of a line that was begun and the bytes after it: a 10 ends each, which the last may lack
+abbrev pub lines_from : List ℕ → List ℕ → List (List ℕ)
+lines_from begun [] = last_of begun
+lines_from begun (byte ∷ bytes) = if byte == 10 then begun ∷ lines_from [] bytes else lines_from (begun ++ byte ∷ []) bytes
+
 abbrev pub lines_of : List ℕ → List (List ℕ)
-lines_of [] = []
-lines_of (byte ∷ bytes) = if byte == 10 then [] ∷ lines_of bytes else with_first byte (lines_of bytes)
-
--- no line ends in these bytes
-abbrev pub HasNoEnd : List ℕ → Type 0
-HasNoEnd [] = Unit {0}
-HasNoEnd (byte ∷ bytes) = ((byte == 10) ≡ false) × HasNoEnd bytes
+lines_of text = lines_from [] text
 
 -- no line ends before this offset; there one does, or the bytes do
 pub record IsLine (bytes : List ℕ) (at : ℕ) : Type 0 where
   pub inside : at ≤ length bytes
-  pub free : HasNoEnd (take at bytes)
-  pub whole : at < length bytes → bytes ≡ take at bytes ++ 10 ∷ drop (at + 1) bytes
+  pub free : (k : ℕ) → k < at → (slice_index bytes k == 10) ≡ true → ⊥
+  pub ends : at < length bytes → drop at bytes ≡ 10 ∷ drop (at + 1) bytes
 
 -- how many bytes a record may have after its length
 abbrev pub most_bytes : ℕ
@@ -53,41 +53,44 @@ abbrev pub IsLast : List ℕ → List (List ℕ) → Bool → Type 0
 IsLast text taken true = HasLongLine text taken
 IsLast text taken false = lines_of text ≡ taken
 
--- these records were written from a number on, and then those that are held
-pub record AreHeld (first : ℕ) (written : List ℕ) (lines : Lines) (taken : List (List ℕ)) : Type 0 where
+-- bytes are records from a number on, up to this one, and their bodies have P
+pub record AreHeld (first : ℕ) (bytes : List ℕ) (next : ℕ) (P : List (List ℕ) → Type 0) : Type 0 where
+  pub taken : List (List ℕ)
   pub short : AreShort most_bytes taken
-  pub put : written ++ lines.out.filled ≡ records_written first taken
-  pub counted : lines.number ≡ first + length taken
+  pub put : bytes ≡ records_written first taken
+  pub counted : next ≡ first + length taken
+  pub so : P taken
 
--- the lines of what was read are written or held, except one that was begun, whatever follows
-pub record IsGoing (first : ℕ) (read written : List ℕ) (lines : Lines) : Type 0 where
-  pub taken : List (List ℕ)
-  pub held : AreHeld first written lines taken
-  pub free : HasNoEnd lines.begun.items
-  pub fits : 12 + length lines.begun.items ≤ most_bytes
-  pub whole : (behind : List ℕ) → lines_of (read ++ behind) ≡ taken ++ lines_of (lines.begun.items ++ behind)
+-- the first lines of a text, after which these bytes are left after a line that was begun, whatever follows
+abbrev pub AreFirst : (text left begun : List ℕ) → List (List ℕ) → Type 0
+AreFirst text left begun taken = (more : List ℕ) → lines_of (text ++ more) ≡ taken ++ lines_from begun (left ++ more)
 
--- the lines of a text are written or held, as many as are taken
-pub record IsDone (first : ℕ) (text written : List ℕ) (lines : Lines) (is_long : Bool) : Type 0 where
-  pub taken : List (List ℕ)
-  pub held : AreHeld first written lines taken
-  pub last : IsLast text taken is_long
+-- all lines of a text but one that was begun, which may go on; or one is too long
+abbrev pub AreNext : (text begun : List ℕ) → Bool → List (List ℕ) → Type 0
+AreNext text begun true taken = (more : List ℕ) → HasLongLine (text ++ more) taken
+AreNext text begun false taken = (12 + length begun ≤ most_bytes) × AreFirst text [] begun taken
 
--- the line that was begun is held as a record, and another begins
-pub record IsEnded (old new : Lines) : Type 0 where
+-- these bytes are the lines of what was read, except one that was begun
+abbrev pub IsGoing : ℕ → (read bytes : List ℕ) → Lines → Type 0
+IsGoing first read bytes lines = AreHeld first bytes lines.number (AreNext read lines.begun.items false)
+
+-- the line that was begun is put as a record, and another begins
+pub record IsEnded (from to : Part) (old new : Lines) : Type 0 where
   pub fresh : new.begun.items ≡ []
-  pub put : new.out ≡ part_put old.out (record_written old.number old.begun.items)
+  pub put : to ≡ part_put from (record_written old.number old.begun.items)
   pub next : new.number ≡ old.number + 1
 
--- if the input ends, all its lines are held
-abbrev pub IsFinished : Lines → Lines → Type 0
-IsFinished old new = (first : ℕ) (read written : List ℕ) → IsGoing first read written old → IsDone first read written new false
+-- if the input ends, all its lines are put
+abbrev pub IsFinished : (from to : List ℕ) → Lines → Lines → Type 0
+IsFinished from to old new =
+    (first : ℕ) (read written : List ℕ) → IsGoing first read (written ++ from) old
+    → AreHeld first (written ++ to) new.number (λ taken. IsLast read taken false)
 
--- the lines of a piece are held after those before it; or one is too long, whatever follows
-abbrev pub TakesLines : List ℕ → Lines → Lines → Bool → Type 0
-TakesLines piece old new false = (first : ℕ) (read written : List ℕ) → IsGoing first read written old → IsGoing first (read ++ piece) written new
-TakesLines piece old new true =
-    (first : ℕ) (read written behind : List ℕ) → IsGoing first read written old → IsDone first (read ++ (piece ++ behind)) written new true
+-- the lines of a piece are put after those before it; or one is too long, whatever follows
+abbrev pub TakesLines : (piece from to : List ℕ) → Lines → Lines → Bool → Type 0
+TakesLines piece from to old new is_long =
+    (first : ℕ) (read written : List ℕ) → IsGoing first read (written ++ from) old
+    → AreHeld first (written ++ to) new.number (AreNext (read ++ piece) new.begun.items is_long)
 
 -- Lines of a text went to a writer as records, numbered from one on; so many, and all of them but where one is too long
 pub record IsAppended (text : List ℕ) (first count : ℕ) (is_long : Bool) (held holds : Option (List ℕ)) : Type 0 where

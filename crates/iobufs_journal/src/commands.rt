@@ -15,17 +15,14 @@ fn front<D: Disk>(disk: &mut D) -> Result<Take<&mut D>, Failure> {
 }
 
 fn find<D: Disk>(disk: &mut D) -> Result<(), Failure> {
-    if named("cannot find it", disk.is_named())? {
-        return Ok(());
-    }
-    Err(Failure::Renamed)
+    let is_named = named("cannot find it", disk.is_named())?;
+    is_named.then_some(()).ok_or(Failure::Renamed)
 }
 
 // How a journal ends that no other program writes to.
 fn claimed<D: Disk>(alloc: Global, disk: &mut D) -> Result<Ending, Failure> {
-    if !named("cannot lock it", disk.lock())? {
-        return Err(Failure::Locked);
-    }
+    let is_locked = named("cannot lock it", disk.lock())?;
+    is_locked.then_some(()).ok_or(Failure::Locked)?;
     find(disk)?;
     print(alloc, &mut front(disk)?, &mut io::sink())
 }
@@ -81,10 +78,8 @@ pub fn append<D: Disk, R: Read, W: Write>(
 pub fn replay<D: Disk, W: Write>(alloc: Global, disk: &mut D, to: &mut W) -> Result<u8, Failure> {
     let ending = print(alloc, &mut front(disk)?, to)?;
     named("cannot print", to.flush())?;
-    if ending.end == JournalEnd::Whole {
-        return Ok(0);
-    }
-    Err(Failure::NotWhole(ending))
+    let is_whole = ending.end == JournalEnd::Whole;
+    is_whole.then_some(0).ok_or(Failure::NotWhole(ending))
 }
 
 /// Prints how a journal ends, and returns the status.
@@ -111,9 +106,6 @@ pub fn repair<D: Disk, W: Write>(
         Plan::Cut => cut(disk, ending)?,
         Plan::Refuse => return Err(Failure::NotWhole(ending)),
     };
-    named(
-        "cannot print",
-        writeln!(to, "{name}: {gone} bytes were cut off"),
-    )?;
-    Ok(0)
+    let done = writeln!(to, "{name}: {gone} bytes were cut off");
+    named("cannot print", done).map(|_| 0)
 }

@@ -35,12 +35,6 @@ fn test_kind(found: &Metadata) -> io::Result<()> {
     Err(io::Error::new(ErrorKind::InvalidInput, "not a regular file"))
 }
 
-fn sync_folder(rt: &HostRuntime, name: &str) -> io::Result<()> {
-    let mut path = fs::canonicalize(rt, name)?;
-    path.pop();
-    File::open(rt, path.as_str())?.sync_all()
-}
-
 impl<'a> HostFile<'a> {
     /// Opens a regular file. If it is durable, its name is synced, and `flush` syncs its bytes.
     pub fn open(
@@ -58,7 +52,9 @@ impl<'a> HostFile<'a> {
         let file = how.open(rt, name)?;
         test_kind(&file.metadata()?)?;
         if is_durable {
-            sync_folder(rt, name)?;
+            let mut folder = fs::canonicalize(rt, name)?;
+            folder.pop();
+            File::open(rt, folder.as_str())?.sync_all()?;
         }
         Ok(HostFile {
             rt,

@@ -2,7 +2,7 @@
 ghost use Rattle.std.specs.Prelude.{◌≡◌, IfOk, IfSome};
 ghost use Rattle.iobufs_journal.specs.Ending.{IsChecked, plan_of, status_of};
 
-use crate::failure::Failure;
+use crate::failure::{Failure, named};
 use crate::journal::JournalEnd;
 use crate::scan::print;
 use std::alloc::Global;
@@ -51,8 +51,6 @@ pub fn check<R: Read, W: Write>(
     ensures { IfOk result (λ status. IfSome (R.remaining from.old) (λ text. IsChecked name.now text (W.contents to.old) (W.contents to.new) status)) }
 {
     let ending = print(alloc, from, &mut io::sink())?;
-    match writeln!(to, "{name}: {ending}") {
-        Ok(()) => Ok(status(ending.end)),
-        Err(error) => Err(Failure::Failed("cannot print", error)),
-    }
+    named("cannot print", writeln!(to, "{name}: {ending}"))?;
+    Ok(status(ending.end))
 }

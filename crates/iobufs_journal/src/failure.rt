@@ -1,4 +1,6 @@
 // Why a command doesn't do all.
+ghost use Rattle.std.specs.Prelude.{◌≡◌, IfOk, Ok};
+
 use crate::journal::Ending;
 use iobufs_core::codec::BufError;
 use std::alloc::AllocError;
@@ -23,18 +25,12 @@ pub enum Failure {
     /// This failed.
     #[error("{0}: {1}")]
     Failed(&'static str, io::Error),
-}
-
-impl From<AllocError> for Failure {
-    fn from(error: AllocError) -> Failure {
-        Failure::Failed("cannot go on", io::Error::from(error))
-    }
-}
-
-impl From<BufError> for Failure {
-    fn from(_error: BufError) -> Failure {
-        Failure::Failed("cannot go on", io::Error::from(ErrorKind::OutOfMemory))
-    }
+    /// An allocation failed.
+    #[error("cannot go on: out of memory")]
+    Memory(#[from] AllocError),
+    /// A buffer's allocation failed.
+    #[error("cannot go on: out of memory")]
+    Buffer(#[from] BufError),
 }
 
 impl Failure {
@@ -48,7 +44,9 @@ impl Failure {
 }
 
 /// Names what failed.
-pub fn named<T>(what: &'static str, done: io::Result<T>) -> Result<T, Failure> {
+pub fn named<T>(what: &'static str, done: io::Result<T>) -> Result<T, Failure>
+    ensures { IfOk result (λ value. done ≡ Ok value) }
+{
     done.map_err(|error| Failure::Failed(what, error))
 }
 

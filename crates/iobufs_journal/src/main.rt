@@ -9,6 +9,8 @@ mod failure;
 mod journal;
 mod lines;
 mod scan;
+#[cfg(test)]
+mod tests;
 
 use clap::error::ErrorKind;
 use clap::{ArgMatches, Command, arg};
@@ -38,11 +40,8 @@ fn words_of<'a>(alloc: Global, name: &'a str, about: &'a str) -> Result<Command<
 }
 
 fn words<'a>(alloc: Global) -> Result<Command<'a>, AllocError> {
-    let append = words_of(
-        alloc,
-        "append",
-        "Appends each line of the input as a record",
-    )?;
+    let about = "Appends each line of the input as a record";
+    let append = words_of(alloc, "append", about)?;
     let sync = arg!(in alloc; --sync "Syncs the lines of one read before the next read");
     let repair = words_of(alloc, "repair", "Cuts off a torn end")?;
     let force = arg!(in alloc; --force "Cuts off a damaged end too");
@@ -69,18 +68,14 @@ fn obey(
     let mut how = OpenOptions::new();
     how.read(true).write(is_repair).append(is_append);
     how.create(is_append).mode(0o600);
-    let opened = HostFile::open(rt, name, &how, is_repair || given.get_flag("sync"));
+    let (is_synced, is_forced) = (given.get_flag("sync"), given.get_flag("force"));
+    let opened = HostFile::open(rt, name, &how, is_repair || is_synced);
     let mut disk = named("cannot open it", opened)?;
+    let mut printed = named("cannot print", BufWriter::new(alloc, rt.stdout()))?;
     match command {
         "append" => commands::append(alloc, name, &mut disk, &mut rt.stdin(), &mut rt.stderr()),
-        "replay" => {
-            let mut to = named("cannot print", BufWriter::new(alloc, rt.stdout()))?;
-            commands::replay(alloc, &mut disk, &mut to)
-        }
-        "repair" => {
-            let is_forced = given.get_flag("force");
-            commands::repair(alloc, name, &mut disk, is_forced, &mut rt.stdout())
-        }
+        "replay" => commands::replay(alloc, &mut disk, &mut printed),
+        "repair" => commands::repair(alloc, name, &mut disk, is_forced, &mut rt.stdout()),
         _ => commands::check(alloc, name, &mut disk, &mut rt.stdout()),
     }
 }

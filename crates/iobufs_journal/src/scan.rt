@@ -1,10 +1,9 @@
 // A journal that is read from its front, piece by piece.
-ghost use Rattle.std.specs.Prelude.{◌≡◌, ◌+◌, ◌<◌, ◌≤◌, ◌++◌, [], ◌∷◌, length, take, IfErr, IfOk, IfSome, OnOk, vec_len};
+ghost use Rattle.std.specs.Prelude.{◌≡◌, ◌+◌, ◌<◌, ◌≤◌, ◌++◌, [], ◌∷◌, IfOk, IfSome, OnOk, vec_len};
 ghost use Rattle.std.specs.Io.KnownBytes.{Appends, Consumes, IsAtEnd};
-ghost use Rattle.iobufs_journal.specs.Journal.{HasNoRecord, record_written};
 ghost use Rattle.iobufs_journal.specs.Scan.{IsFilled, IsPrinted};
 
-use crate::failure::{Failure, too_large};
+use crate::failure::{Failure, named, too_large};
 use crate::journal::{Ending, JournalEnd, MOST, front_record};
 use iobufs_core::buf::IoBuf;
 use std::alloc::Global;
@@ -13,22 +12,11 @@ use std::io::{ErrorKind, Read, Write};
 // How many bytes are read at a time, at least.
 const PIECE: usize = 1 << 16;
 
-// An offset in a journal.
-#[derive(Drop)]
-struct Scan {
-    // The bytes that were read after it.
-    window: IoBuf,
-    // How many records are before it.
-    number: u64,
-    // How many bytes they take.
-    taken: u64,
-}
-
-/// Returns the number after one.
-pub fn next_number(number: u64) -> Result<u64, Failure>
-    ensures { IfOk result (λ next. next ≡ number + 1) }
+/// Adds to a number.
+pub fn added(number: u64, more: u64) -> Result<u64, Failure>
+    ensures { IfOk result (λ sum. sum ≡ number + more) }
 {
-    number.checked_add(1).ok_or_else(too_large)
+    number.checked_add(more).ok_or_else(too_large)
 }
 
 /// Reads at most `len` bytes by one read, and tries again if a signal interrupts it. `what` names it if it fails. Returns none
@@ -52,11 +40,8 @@ pub fn read_piece<R: Read>(
                 piece.truncate(n);
                 return Ok(piece);
             }
-            Err(error) => {
-                if error.kind() != ErrorKind::Interrupted {
-                    return Err(Failure::Failed(what, error));
-                }
-            }
+            Err(error) if error.kind() == ErrorKind::Interrupted => {}
+            Err(error) => return Err(Failure::Failed(what, error)),
         }
     }
     Err(too_large())
@@ -83,35 +68,8 @@ fn fill<R: Read>(alloc: Global, window: &mut IoBuf, from: &mut R) -> Result<bool
 fn print_line<W: Write>(body: &[u8], to: &mut W) -> Result<(), Failure>
     ensures { OnOk result (Appends (W.contents to.old) (W.contents to.new) (body.now ++ 10 ∷ [])) }
 {
-    if let Err(error) = to.write_all(body) {
-        return Err(Failure::Failed("cannot print", error));
-    }
-    match to.write_all(b"\n") {
-        Ok(()) => Ok(()),
-        Err(error) => Err(Failure::Failed("cannot print", error)),
-    }
-}
-
-impl Scan {
-    // One record goes, and this is left.
-    fn take(&mut self, rest: IoBuf) -> Result<(), Failure>
-        requires { length rest.bytes ≤ length self.old.window.bytes }
-        ensures { OnOk result ((self.new.window ≡ rest) × (self.new.number ≡ self.old.number + 1)
-            × (self.new.taken + length rest.bytes ≡ self.old.taken + length self.old.window.bytes)) }
-    {
-        let len = (self.window.len() - rest.len()) as u64;
-        self.number = next_number(self.number)?;
-        self.taken = self.taken.checked_add(len).ok_or_else(too_large)?;
-        self.window = rest;
-        Ok(())
-    }
-
-    fn ending(&self, end: JournalEnd) -> Ending
-        ensures { (result.found ≡ self.now.number) × (result.taken ≡ self.now.taken) × (result.end ≡ end) }
-    {
-        let (found, taken) = (self.number, self.taken);
-        Ending { found, taken, end }
-    }
+    named("cannot print", to.write_all(body))?;
+    named("cannot print", to.write_all(b"\n"))
 }
 
 /// Prints the records of a journal that is read from its front, a line each. Returns how it ends after them. At most a record
@@ -120,21 +78,22 @@ pub fn print<R: Read, W: Write>(alloc: Global, from: &mut R, to: &mut W) -> Resu
     ensures { IfOk result
         (λ ending. IfSome (R.remaining from.old) (λ text. IsPrinted text (W.contents to.old) (W.contents to.new) ending)) }
 {
-    let mut scan = Scan {
-        window: IoBuf::default(),
-        number: 0,
-        taken: 0,
-    };
+    let (mut window, mut found, mut taken) = (IoBuf::default(), 0u64, 0u64);
     for _ in 0..u64::MAX {
-        match front_record(alloc, &scan.window, scan.number, MOST)? {
-            Ok(found) => {
-                print_line(found.body.as_ref(), to)?;
-                scan.take(found.rest)?;
+        match front_record(alloc, &window, found, MOST)? {
+            Ok(first) => {
+                print_line(first.body.as_ref(), to)?;
+                taken = added(taken, (window.len() - first.rest.len()) as u64)?;
+                found = added(found, 1)?;
+                window = first.rest;
             }
-            Err(JournalEnd::Damaged) => return Ok(scan.ending(JournalEnd::Damaged)),
+            Err(JournalEnd::Damaged) => {
+                let end = JournalEnd::Damaged;
+                return Ok(Ending { found, taken, end });
+            }
             Err(end) => {
-                if !fill(alloc, &mut scan.window, from)? {
-                    return Ok(scan.ending(end));
+                if !fill(alloc, &mut window, from)? {
+                    return Ok(Ending { found, taken, end });
                 }
             }
         }

@@ -1,13 +1,10 @@
-use Rattle.std.proofs.Common.{length, refl, subst, sym, take, ◌≤◌}
 use Rattle.std.proofs.KnownBytes.{Appends-kept}
-use Rattle.std.specs.Io.KnownBytes.{Appends}
 use Rattle.iobufs_journal.proofs.LineLaws.{some_more}
 use Rattle.iobufs_journal.proofs.lines.put_all.Goals as goal
-use Rattle.iobufs_journal.proofs.lines.put_all.Goals.{in-Ok, in-Err+else-ne}
+use Rattle.iobufs_journal.proofs.lines.put_all.Goals.{in-Ok, in-Err}
 
 pub loop-preserved : goal.loop-preserved
 loop-preserved g c = elim c.match-write.branch [
-  | in-Ok w ↦ some_more _ _ _ c.args.bytes.now c.loop.at _ _ _ c.loop.invariant refl w.in-Ok.ensures.bound w.in-Ok.ensures.bytes w.at-is
-  | in-Err+else-ne w ↦ subst (λ k. (k ≤ length c.args.bytes.now) × Appends (g.W.Write.contents c.args.to.now) (g.W.Write.contents c.write.new.self)
-      (take k c.args.bytes.now)) (sym w.at-is) (c.loop.invariant.0, Appends-kept _ _ _ _ c.loop.invariant.1 w.in-Err.ensures.bytes)
+  | in-Ok w ↦ some_more _ _ _ c.args.bytes.now c.loop.at _ _ c.loop.invariant w.in-Ok.ensures.bound w.in-Ok.ensures.bytes w.at-is
+  | in-Err w ↦ rw w.at-is (c.loop.invariant.0, Appends-kept _ _ _ _ c.loop.invariant.1 w.in-Err.ensures.bytes)
 ]
