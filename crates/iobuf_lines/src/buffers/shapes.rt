@@ -81,19 +81,15 @@ pub fn fill(words: &mut Words<'_>) -> Result<(usize, u8, usize), LineError>
 }
 
 // A place that is included, `i3`, one that is excluded, `e3`, or none, `u`.
-fn bound(word: &str) -> Result<Bound<usize>, LineError>
+fn bound(word: &[u8]) -> Result<Bound<usize>, LineError>
     ensures ok { IfOk result (λ bound. bound_said word.now ≡ Some bound) }
     ensures err { IfErr result (λ error. (error ≡ LineError.NoCommand) × (bound_said word.now ≡ None)) }
 {
-    if word == "u" {
-        return Ok(Bound::Unbounded);
-    }
-    if let Some(place) = word.strip_prefix('i') {
-        return Ok(Bound::Included(number(place)?));
-    }
-    match word.strip_prefix('e') {
-        Some(place) => Ok(Bound::Excluded(number(place)?)),
-        None => Err(LineError::NoCommand),
+    match word {
+        b"u" => Ok(Bound::Unbounded),
+        [b'i', place @ ..] => Ok(Bound::Included(number(place)?)),
+        [b'e', place @ ..] => Ok(Bound::Excluded(number(place)?)),
+        _ => Err(LineError::NoCommand),
     }
 }
 
@@ -122,16 +118,14 @@ pub fn slice(words: &mut Words<'_>) -> Result<(usize, usize, Bound<usize>, Bound
 }
 
 // Bytes after an `i`, or the name of a view after a `p`.
-fn item(alloc: Global, word: &str) -> Result<Item, LineError>
+fn item(alloc: Global, word: &[u8]) -> Result<Item, LineError>
     ensures ok { IfOk result (λ item. item_of word.now ≡ Some (plain_item item)) }
     ensures err { IfErr result (λ error. (error ≡ LineError.Memory) ⊎ (item_of word.now ≡ None)) }
 {
-    if let Some(digits) = word.strip_prefix('i') {
-        return Ok(Item::Inline(bytes(alloc, digits)?));
-    }
-    match word.strip_prefix('p') {
-        Some(name) => Ok(Item::Push(number(name)?)),
-        None => Err(LineError::NoCommand),
+    match word {
+        [b'i', digits @ ..] => Ok(Item::Inline(bytes(alloc, digits)?)),
+        [b'p', name @ ..] => Ok(Item::Push(number(name)?)),
+        _ => Err(LineError::NoCommand),
     }
 }
 
