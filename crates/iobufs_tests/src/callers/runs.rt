@@ -63,7 +63,7 @@ const SESSION: [Row; 36] = [
 fn commands(alloc: Global, rows: &[Row]) -> Result<Vec<Cmd>, LineError> {
     let mut cmds = Vec::new(alloc);
     for (line, _) in rows.iter() {
-        cmds.push(command(alloc, line)?)?;
+        cmds.push(command(alloc, line.as_bytes())?)?;
     }
     Ok(cmds)
 }
