@@ -20,7 +20,7 @@ use Rattle.iobuf_lines.specs.declared.buffers.line.WithTwo.TheVariants as of_two
 use Rattle.iobuf_lines.specs.declared.buffers.line.WithThree.TheVariants as of_three
 use Rattle.iobuf_lines.specs.declared.buffers.line.WithBytes.TheVariants as of_bytes
 use Rattle.iobuf_lines.specs.declared.buffers.line.WithNumbers.TheVariants as of_numbers
-use Rattle.iobuf_lines.specs.Buffers.Shapes.{only_word, of_both, Three, three, four, one_number, two_numbers, three_numbers, four_numbers, lone_bytes_of, bytes_for_of, numbers_for_of, byte_and_one_of, fill_of, bounds_of, last_bound_of, bounds_for_of, bounds_for, slice_said, bound_said, item_of, items_of, items_for_of, build_of, letters, letters_of}
+use Rattle.iobuf_lines.specs.Buffers.Shapes.{only_word, of_both, Three, three, one_number, two_numbers, three_numbers, lone_bytes_of, bytes_for_of, numbers_for_of, byte_and_one_of, fill_of, decode_said, bounds_of, last_bound_of, bounds_for_of, bounds_for, slice_said, bound_said, item_of, items_of, items_for_of, build_of, letters, letters_of}
 use Rattle.iobuf_lines.specs.Buffers.Said.{acting_of, making_of, said_by, static_said, verb_of, command_by, command_of}
 use Rattle.iobuf_lines.specs.Buffers.Spelled.{SpelledWord, Verb as Named, Number, Byte, Digits, Spells, AreSpelled, written, bound_word, item_word, words_from, StandsAt, IsLineOf, first_letter, first_of, line_of_command, BoundFits, ItemsFit, CommandFits}
 use Rattle.iobuf_lines.proofs.Numerals.{number_is, number_back, bytes_are, bytes_back, lower_stays, same_word}
@@ -221,12 +221,6 @@ threes =
     number two (λ a b. refl) (λ a b. refl) (λ n. refl) refl
     (λ text texts. refl)
 
-fours : Shape four_numbers (λ n. Number n.first ∷ Number n.second ∷ Number n.third ∷ Number n.fourth ∷ [])
-fours =
-    led number_of Number three_numbers (λ n. Number n.first ∷ Number n.second ∷ Number n.third ∷ []) (λ first n. four first n.first n.second n.third)
-    (λ n. n.first) (λ n. three n.second n.third n.fourth) four_numbers
-    number threes (λ a b. refl) (λ a b. refl) (λ n. refl) refl (λ text texts. refl)
-
 lone_bytes : Shape lone_bytes_of (λ bytes. Digits bytes ∷ [])
 lone_bytes = lone bytes_of Digits lone_bytes_of digits refl (λ text texts. refl)
 
@@ -322,6 +316,12 @@ fill_is [] command e = cc e
 fill_is (text ∷ texts) command e =
     whole_is byte_and_one_of (λ n. Byte n.0 ∷ Number n.1 ∷ []) (λ target n. Fill target n.0 n.1) (codes "fill") byte_and_one (λ n b. tt) (λ n b. refl) text
     texts command e
+
+decode_is : (texts : List (List ℕ)) (command : Command) → decode_said texts ≡ Some command → Says command (codes "decode" ∷ texts)
+decode_is [] command e = cc e
+decode_is (text ∷ texts) command e =
+    whole_is three_numbers (λ n. Number n.first ∷ Number n.second ∷ Number n.third ∷ []) (λ src n. Decode src n.first n.second n.third) (codes "decode")
+    threes (λ n b. tt) (λ n b. refl) text texts command e
 
 slice_is : (texts : List (List ℕ)) (command : Command) → slice_said texts ≡ Some command → Says command (codes "slice" ∷ texts)
 slice_is [] command e = cc e
@@ -504,9 +504,7 @@ verb_says (verb.Two of_two.Coalesce) texts command e =
 verb_says verb.Build texts command e = build_is texts command e
 verb_says (verb.Two of_two.Encode) texts command e =
     said_is two_numbers (λ n. Number n.0 ∷ Number n.1 ∷ []) (λ n. Encode n.0 n.1) (codes "encode") two (λ n. tt) (λ n. refl) texts command e
-verb_says verb.Decode texts command e =
-    said_is four_numbers (λ n. Number n.first ∷ Number n.second ∷ Number n.third ∷ Number n.fourth ∷ []) (λ n. Decode n.first n.second n.third n.fourth)
-    (codes "decode") fours (λ n. tt) (λ n. refl) texts command e
+verb_says verb.Decode texts command e = decode_is texts command e
 verb_says (verb.One of_one.Drop) texts command e = said_is one_number (λ n. Number n ∷ []) Drop (codes "drop") one (λ n. tt) (λ n. refl) texts command e
 verb_says (verb.One of_one.Show) texts command e = said_is one_number (λ n. Number n ∷ []) Show (codes "show") one (λ n. tt) (λ n. refl) texts command e
 
@@ -580,8 +578,8 @@ texts_back (Build dst capacity items) first texts stands s =
 texts_back (Encode src dst) first texts stands s =
     said_back two_numbers (λ n. Number n.0 ∷ Number n.1 ∷ []) (λ n. Encode n.0 n.1) (codes "encode") two (λ texts. refl) texts (src, dst) s
 texts_back (Decode src dst lo hi) first texts stands s =
-    said_back four_numbers (λ n. Number n.first ∷ Number n.second ∷ Number n.third ∷ Number n.fourth ∷ []) (λ n. Decode n.first n.second n.third n.fourth)
-    (codes "decode") fours (λ texts. refl) texts (four src dst lo hi) s
+    whole_back three_numbers (λ n. Number n.first ∷ Number n.second ∷ Number n.third ∷ []) (λ src n. Decode src n.first n.second n.third) (codes "decode")
+    threes (λ text texts. refl) texts src (three dst lo hi) s
 texts_back (Drop target) first texts stands s = said_back one_number (λ n. Number n ∷ []) Drop (codes "drop") one (λ texts. refl) texts target s
 texts_back (Show target) first texts stands s = said_back one_number (λ n. Number n ∷ []) Show (codes "show") one (λ texts. refl) texts target s
 

@@ -22,8 +22,8 @@ use Rattle.iobuf_lines.specs.declared.buffers.line.WithBytes.{WithBytes}
 use Rattle.iobuf_lines.specs.declared.buffers.line.WithBytes.TheVariants as of_bytes
 use Rattle.iobuf_lines.specs.declared.buffers.line.WithNumbers.{WithNumbers}
 use Rattle.iobuf_lines.specs.declared.buffers.line.WithNumbers.TheVariants as of_numbers
-use Rattle.iobuf_lines.specs.Buffers.Commands.{Command, NewMut, Zeroed, Adopt, Static, FromBytes, Put, SetLen, Truncate, Clear, Overwrite, Freeze, Recover, Clone, Split, Advance, Take, Gather, GatherMut, Append, Prepend, Coalesce, Encode, Decode, Drop, Show}
-use Rattle.iobuf_lines.specs.Buffers.Shapes.{one_number, two_numbers, three_numbers, four_numbers, bytes_for_of, numbers_for_of, fill_of, slice_said, letters_of, build_of}
+use Rattle.iobuf_lines.specs.Buffers.Commands.{Command, NewMut, Zeroed, Adopt, Static, FromBytes, Put, SetLen, Truncate, Clear, Overwrite, Freeze, Recover, Clone, Split, Advance, Take, Gather, GatherMut, Append, Prepend, Coalesce, Encode, Drop, Show}
+use Rattle.iobuf_lines.specs.Buffers.Shapes.{one_number, two_numbers, three_numbers, bytes_for_of, numbers_for_of, fill_of, slice_said, letters_of, build_of, decode_said}
 
 -- the command of a word that puts something under a name
 abbrev pub making_of : List ℕ → Option Verb
@@ -120,7 +120,7 @@ said_by verb.Static words = static_said words
 said_by verb.Fill words = fill_of words
 said_by verb.Slice words = slice_said words
 said_by verb.Build words = build_of words
-said_by verb.Decode words = option_map (λ n. Decode n.first n.second n.third n.fourth) (four_numbers words)
+said_by verb.Decode words = decode_said words
 
 -- the command that words say
 abbrev pub command_by : List (List ℕ) → Option Command

@@ -1,12 +1,10 @@
 // The command that a line says.
 ghost use Rattle.std.specs.Prelude.{◌≡◌, ◌⊎◌, Some, None, IfOk, IfErr};
 ghost use Rattle.iobuf_lines.specs.Buffers.Commands.{plain};
-ghost use Rattle.iobuf_lines.specs.Buffers.Shapes.{fill_of, slice_said};
 ghost use Rattle.iobuf_lines.specs.Buffers.Said.{acting_of, command_of, making_of, said_by, static_said, verb_of};
 
-use crate::buffers::shapes::{build, bytes_for, fill, four, numbers_for, one, slice, three, two};
+use crate::buffers::shapes::{build, bytes_for, decode, fill, numbers_for, one, slice, three, two};
 use crate::words::{LineError, Words};
-use iobufs_core::codec::RangeCfg;
 use iobufs_run::command::Cmd;
 use std::alloc::Global;
 
@@ -162,10 +160,10 @@ fn said(alloc: Global, verb: Verb, words: &mut Words<'_>) -> Result<Cmd, LineErr
         Verb::Bytes(verb) => said_bytes(alloc, verb, words),
         Verb::Numbers(verb) => said_numbers(alloc, verb, words),
         Verb::Static => said_static(words),
-        Verb::Fill => said_fill(words),
-        Verb::Slice => said_slice(words),
+        Verb::Fill => fill(words),
+        Verb::Slice => slice(words),
         Verb::Build => build(alloc, words),
-        Verb::Decode => said_decode(words),
+        Verb::Decode => decode(words),
     }
 }
 
@@ -257,40 +255,6 @@ fn said_numbers(alloc: Global, verb: WithNumbers, words: &mut Words<'_>) -> Resu
         WithNumbers::Gather => Ok(Cmd::Gather { dst, sources }),
         WithNumbers::GatherMut => Ok(Cmd::GatherMut { dst, sources }),
     }
-}
-
-// A byte, several times.
-#[inline(never)]
-fn said_fill(words: &mut Words<'_>) -> Result<Cmd, LineError>
-    ensures ok { IfOk result (λ cmd. fill_of words.old ≡ Some (plain cmd)) }
-    ensures err { IfErr result (λ error. (error ≡ LineError.NoCommand) × (fill_of words.old ≡ None)) }
-{
-    let (target, byte, n) = fill(words)?;
-    Ok(Cmd::Fill { target, byte, n })
-}
-
-// A part of a view.
-#[inline(never)]
-fn said_slice(words: &mut Words<'_>) -> Result<Cmd, LineError>
-    ensures ok { IfOk result (λ cmd. slice_said words.old ≡ Some (plain cmd)) }
-    ensures err { IfErr result (λ error. (error ≡ LineError.NoCommand) × (slice_said words.old ≡ None)) }
-{
-    let (src, dst, lo, hi) = slice(words)?;
-    Ok(Cmd::Slice { src, dst, lo, hi })
-}
-
-// A view that is read, with limits for its length.
-#[inline(never)]
-fn said_decode(words: &mut Words<'_>) -> Result<Cmd, LineError>
-    ensures ok { IfOk result (λ cmd. said_by Verb.Decode words.old ≡ Some (plain cmd)) }
-    ensures err { IfErr result (λ error. (error ≡ LineError.NoCommand) × (said_by Verb.Decode words.old ≡ None)) }
-{
-    let (src, dst, lo, hi) = four(words)?;
-    Ok(Cmd::Decode {
-        src,
-        dst,
-        range: RangeCfg { lo, hi },
-    })
 }
 
 // A view of the letters from one place to another.
