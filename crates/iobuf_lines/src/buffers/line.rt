@@ -3,7 +3,7 @@ ghost use Rattle.std.specs.Prelude.{◌≡◌, ◌⊎◌, Some, None, IfOk, IfEr
 ghost use Rattle.iobuf_lines.specs.Buffers.Commands.{plain};
 ghost use Rattle.iobuf_lines.specs.Buffers.Said.{acting_of, command_of, making_of, said_by, static_said, verb_of};
 
-use crate::buffers::shapes::{build, bytes_for, decode, fill, numbers_for, one, slice, three, two};
+use crate::buffers::shapes::{build, decode, fill, one, slice, three, two};
 use crate::words::{LineError, Words};
 use iobufs_run::command::Cmd;
 use std::alloc::Global;
@@ -235,7 +235,9 @@ fn said_bytes(alloc: Global, verb: WithBytes, words: &mut Words<'_>) -> Result<C
     ensures ok { IfOk result (λ cmd. said_by (Verb.Bytes verb) words.old ≡ Some (plain cmd)) }
     ensures err { IfErr result (λ error. (error ≡ LineError.Memory) ⊎ (said_by (Verb.Bytes verb) words.old ≡ None)) }
 {
-    let (n, bytes) = bytes_for(alloc, words)?;
+    let n = words.number()?;
+    let bytes = words.bytes(alloc)?;
+    words.end()?;
     match verb {
         WithBytes::Adopt => Ok(Cmd::Adopt { dst: n, bytes }),
         WithBytes::Bytes => Ok(Cmd::FromBytes { dst: n, bytes }),
@@ -250,7 +252,8 @@ fn said_numbers(alloc: Global, verb: WithNumbers, words: &mut Words<'_>) -> Resu
     ensures ok { IfOk result (λ cmd. said_by (Verb.Numbers verb) words.old ≡ Some (plain cmd)) }
     ensures err { IfErr result (λ error. (error ≡ LineError.Memory) ⊎ (said_by (Verb.Numbers verb) words.old ≡ None)) }
 {
-    let (dst, sources) = numbers_for(alloc, words)?;
+    let dst = words.number()?;
+    let sources = words.numbers(alloc)?;
     match verb {
         WithNumbers::Gather => Ok(Cmd::Gather { dst, sources }),
         WithNumbers::GatherMut => Ok(Cmd::GatherMut { dst, sources }),

@@ -1,7 +1,7 @@
 // Words that follow one another to the end of a line.
 ghost use Rattle.std.specs.Prelude.{◌≡◌, ◌⊎◌, ℕ, List, ◌∷◌, map, Some, None, IfOk, IfErr};
 ghost use Rattle.iobuf_lines.specs.Buffers.Commands.{plain, plain_item};
-ghost use Rattle.iobuf_lines.specs.Buffers.Shapes.{bound_said, build_of, bytes_for_of, decode_said, fill_of, first_bound, item_of, items_of, numbers_for_of, one_number, slice_said, three, three_numbers, two_numbers};
+ghost use Rattle.iobuf_lines.specs.Buffers.Shapes.{bound_said, build_of, decode_said, fill_of, first_bound, item_of, items_of, one_number, slice_said, three, three_numbers, two_numbers};
 
 use crate::words::{LineError, Words, bytes, number};
 use iobufs_core::codec::RangeCfg;
@@ -52,27 +52,6 @@ pub fn decode(words: &mut Words<'_>) -> Result<Cmd, LineError>
         dst,
         range: RangeCfg { lo, hi },
     })
-}
-
-/// A number, and bytes.
-pub fn bytes_for(alloc: Global, words: &mut Words<'_>) -> Result<(usize, Vec<u8>), LineError>
-    ensures ok { IfOk result (λ n. bytes_for_of words.old ≡ Some (n.0, n.1.items)) }
-    ensures err { IfErr result (λ error. (error ≡ LineError.Memory) ⊎ (bytes_for_of words.old ≡ None)) }
-{
-    let a = words.number()?;
-    let bytes = words.bytes(alloc)?;
-    words.end()?;
-    Ok((a, bytes))
-}
-
-/// A number, and any number of numbers.
-pub fn numbers_for(alloc: Global, words: &mut Words<'_>) -> Result<(usize, Vec<usize>), LineError>
-    ensures ok { IfOk result (λ n. numbers_for_of words.old ≡ Some (n.0, n.1.items)) }
-    ensures err { IfErr result (λ error. (error ≡ LineError.Memory) ⊎ (numbers_for_of words.old ≡ None)) }
-{
-    let a = words.number()?;
-    let others = words.numbers(alloc)?;
-    Ok((a, others))
 }
 
 /// The command of a number, a byte and a number, `fill`.
