@@ -1,5 +1,5 @@
 -- How a session of either half ends, once its replies are sent off.
-use Rattle.std.proofs.Common.{◌≡◌, inl, inr, ℕ, Bool, true, List, [], ◌∷◌, replicate, Option, Some, None, Result, Ok, Err, refl, sym, subst, ◌∙◌, append-nil, IfSome}
+use Rattle.std.proofs.Common.{◌≡◌, inl, inr, ℕ, List, [], ◌∷◌, replicate, Option, Some, None, Result, Ok, Err, refl, sym, subst, ◌∙◌, append-nil, IfSome}
 use Rattle.std.specs.Io.KnownBytes.{Keeps}
 use Rattle.iobufs_run.specs.declared.table.Slot.TheVariants.{Free}
 use Rattle.iobuf.specs.Faults.{Halts}

@@ -1,5 +1,5 @@
 -- A session with the owner machine, line by line.
-use Rattle.std.proofs.Common.{◌≡◌, inl, inr, ℕ, ◌+◌, Bool, List, [], ◌∷◌, ◌++◌, length, take, drop, take-append-drop, map, flat_map, length-append, append-nil, append_assoc, true, false, Option, Some, None, Result, Ok, Err, refl, sym, ap, subst, ◌∙◌, arith, codes, IfSome, IsUtf8}
+use Rattle.std.proofs.Common.{◌≡◌, inl, inr, ℕ, ◌+◌, List, [], ◌∷◌, ◌++◌, length, take, drop, take-append-drop, map, flat_map, length-append, append-nil, append_assoc, true, false, Option, Some, None, Result, Ok, Err, refl, sym, ap, subst, ◌∙◌, arith, codes, IfSome}
 use Rattle.std.proofs.lemmas.List.{flat_map_more}
 use Rattle.std.specs.Io.KnownBytes.{Appends, Keeps}
 use Rattle.std.specs.Str.Lines.{lines}
@@ -7,16 +7,15 @@ use Rattle.iobufs_owner.specs.Promises.{Promises}
 use Rattle.iobufs_owner.specs.State.{Seen}
 use Rattle.iobuf_lines.proofs.Stepped.{answered_more, promised_after}
 use Rattle.iobuf_lines.specs.declared.owner.line.Ask.{Ask}
-use Rattle.iobuf_lines.specs.Owner.Said.{ask_of}
+use Rattle.iobuf_lines.specs.Owner.Said.{ask_of, setup_of}
 use Rattle.iobuf_lines.specs.Owner.Session.{StepsAnswered, AreAnswered, with_line_end}
-use Rattle.iobuf_lines.specs.declared.words.LineError.TheVariants.{NoCommand}
-use Rattle.iobuf.specs.Faults.{LineAt, ReadFails, Takes, most_lines}
+use Rattle.iobuf.specs.Faults.{IsStopAt, LineAt, ReadFails, Takes, most_lines}
 use Rattle.iobuf.specs.Lines.{TakesLine, line_text}
 use Rattle.iobuf.specs.MachineSession.{AnswersMachineLine, MakesMachine, ServesMachine}
 use Rattle.iobuf.specs.declared.fault.Obstacle.{Obstacle}
 use Rattle.iobuf.specs.declared.fault.Obstacle.TheVariants.{Reading, Writing, Memory, NotText, TooManyLines}
 use Rattle.iobuf.specs.declared.fault.Stop.{Stop}
-use Rattle.iobuf.specs.declared.fault.Stop.TheVariants.{BadCommand, CannotContinue}
+use Rattle.iobuf.specs.declared.fault.Stop.TheVariants.{CannotContinue}
 use Rattle.iobuf.proofs.Contents.{kept, line_more}
 
 -- lines are answered, of which the next has this number, and the machine is at m
@@ -117,33 +116,30 @@ no_line None told left next written line e takes keeps = tt
 first_at : (input before line : List ℕ) (left written : Option (List ℕ)) → ReadFirst input before line left written → LineAt input 0 line
 first_at input before line left written r = record { front = []; behind = lines r.rest; split = r.split; counts = refl }
 
--- a first line that is text and asks for no machine ends the session there, as line 1
-pub first_bad : (read told left written : Option (List ℕ)) (line : List ℕ) → ReadsFirst read told line left written → IsUtf8 line → MakesMachine line (Err NoCommand)
-    → Ended read told written (Err (BadCommand 1))
-first_bad (Some input) (Some before) left written line r is none = (
-  0,
-  refl,
-  inl (
-    refl,
-    record {
-      first = line;
-      others = lines r.rest;
-      split = r.split;
-      asks_for = none;
-      prints = r.written_is;
-    },
-  ),
-  (line, first_at input before line left written r, is),
-)
-first_bad (Some input) None left written line r is none = tt
-first_bad None told left written line r is none = tt
-
--- a first line that isn't text ends the session
-pub first_no_text : (read told left written : Option (List ℕ)) (line : List ℕ) → ReadsFirst read told line left written → (IsUtf8 line → ⊥)
-    → Ended read told written (Err (CannotContinue NotText))
-first_no_text (Some input) (Some before) left written line r bad = (0, inl (refl, r.written_is), line, first_at input before line left written r, bad)
-first_no_text (Some input) None left written line r bad = tt
-first_no_text None told left written line r bad = tt
+-- a first line that asks for no machine ends the session
+pub first_stops : (read told left written : Option (List ℕ)) (line : List ℕ) (stop : Stop) → ReadsFirst read told line left written → setup_of line ≡ None
+    → IsStopAt line 1 stop → Ended read told written (Err stop)
+first_stops (Some input) (Some before) left written line stop r none (inl (is, e)) =
+    subst (λ (s : Stop). ServesMachine input before written (Err s)) (sym e) (
+      0,
+      refl,
+      inl (
+        refl,
+        record {
+          first = line;
+          others = lines r.rest;
+          split = r.split;
+          asks_for = none;
+          prints = r.written_is;
+        },
+      ),
+      (line, first_at input before line left written r, is),
+    )
+first_stops (Some input) (Some before) left written line stop r none (inr (bad, e)) =
+    subst (λ (s : Stop). ServesMachine input before written (Err s)) (sym e)
+    (0, inl (refl, r.written_is), line, first_at input before line left written r, bad)
+first_stops (Some input) None left written line stop r none why = tt
+first_stops None told left written line stop r none why = tt
 
 -- so does a machine that can't be allocated
 pub first_no_memory : (read told left written : Option (List ℕ)) (line : List ℕ) → ReadsFirst read told line left written
@@ -336,28 +332,23 @@ all_answered (Some input) (Some before) left next written mid line number m g ta
 all_answered (Some input) None left next written mid line number m g takes keeps = tt
 all_answered None told left next written mid line number m g takes keeps = tt
 
-bad_at : (input before line : List ℕ) (left mid : Option (List ℕ)) (number : ℕ) (m : Seen)
-    → (r : Read input before line left mid number m) → IsUtf8 line → ask_of line ≡ None → ServesMachine input before mid (Err (BadCommand number))
-bad_at input before line left mid number m r is none =
+stopped_at : (input before line : List ℕ) (left mid : Option (List ℕ)) (number : ℕ) (m : Seen) (stop : Stop)
+    → (r : Read input before line left mid number m) → ask_of line ≡ None → IsStopAt line number stop → ServesMachine input before mid (Err stop)
+stopped_at input before line left mid number m stop r none (inl (is, e)) =
     let a = r.answered in
     let (b, same, texts) = rewritten input before (ask_of line ∷ map ask_of (lines r.rest)) (None ∷ map ask_of (lines r.rest)) mid mid r.count a
     (ap (λ o. o ∷ map ask_of (lines r.rest)) none) a.prints in
-    (r.count, r.number_is, inr (map ask_of (lines r.rest), b), (line, r.at, is))
+    subst (λ (s : Stop). ServesMachine input before mid (Err s)) (sym e) (r.count, r.number_is, inr (map ask_of (lines r.rest), b), (line, r.at, is))
+stopped_at input before line left mid number m stop r none (inr (bad, e)) =
+    subst (λ (s : Stop). ServesMachine input before mid (Err s)) (sym e)
+    (r.count, inr (ask_of line ∷ map ask_of (lines r.rest), r.answered), line, r.at, bad)
 
--- a line that is text and asks nothing ends the session there, by its number
-pub bad_line : (read told left mid : Option (List ℕ)) (line reply : List ℕ) (number : ℕ) (m after : Seen)
-    → Reads read told line left mid number m → IsUtf8 line → AnswersMachineLine line m after reply (Err NoCommand)
-    → Ended read told mid (Err (BadCommand number))
-bad_line (Some input) (Some before) left mid line reply number m after r is none = bad_at input before line left mid number m r is none
-bad_line (Some input) None left mid line reply number m after r is none = tt
-bad_line None told left mid line reply number m after r is none = tt
-
--- a line that isn't text ends the session
-pub no_text : (read told left mid : Option (List ℕ)) (line : List ℕ) (number : ℕ) (m : Seen)
-    → Reads read told line left mid number m → (IsUtf8 line → ⊥) → Ended read told mid (Err (CannotContinue NotText))
-no_text (Some input) (Some before) left mid line number m r bad = (r.count, inr (ask_of line ∷ map ask_of (lines r.rest), r.answered), line, r.at, bad)
-no_text (Some input) None left mid line number m r bad = tt
-no_text None told left mid line number m r bad = tt
+-- a line that asks nothing ends the session
+pub stops_at : (read told left mid : Option (List ℕ)) (line : List ℕ) (number : ℕ) (m : Seen) (stop : Stop)
+    → Reads read told line left mid number m → ask_of line ≡ None → IsStopAt line number stop → Ended read told mid (Err stop)
+stops_at (Some input) (Some before) left mid line number m stop r none why = stopped_at input before line left mid number m stop r none why
+stops_at (Some input) None left mid line number m stop r none why = tt
+stops_at None told left mid line number m stop r none why = tt
 
 -- want of memory for a line that was read ends the session
 pub no_memory : (read told left mid : Option (List ℕ)) (line : List ℕ) (number : ℕ) (m : Seen)

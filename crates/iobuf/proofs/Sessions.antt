@@ -1,5 +1,5 @@
 -- A session with named buffers, line by line.
-use Rattle.std.proofs.Common.{◌≡◌, ℕ, ◌+◌, arith, Bool, true, false, length-append, List, [], ◌∷◌, ◌++◌, length, take, drop, take-append-drop, map, flat_map, replicate, Option, Some, None, refl, sym, ap, subst, ◌∙◌, append-nil, append_assoc, IfSome, IsUtf8, Ok, Err, Result}
+use Rattle.std.proofs.Common.{◌≡◌, inl, inr, ℕ, ◌+◌, arith, true, false, length-append, List, [], ◌∷◌, ◌++◌, length, take, drop, take-append-drop, map, flat_map, replicate, Option, Some, None, refl, sym, ap, subst, ◌∙◌, append-nil, append_assoc, IfSome, Ok, Err, Result}
 use Rattle.std.specs.Io.KnownBytes.{Appends, Keeps}
 use Rattle.std.specs.Str.Lines.{lines}
 use Rattle.iobufs_run.specs.Run.{Step}
@@ -12,14 +12,13 @@ use Rattle.std.proofs.lemmas.List.{flat_map_more}
 use Rattle.iobuf_lines.specs.Buffers.Commands.{Command, plain}
 use Rattle.iobuf_lines.specs.Buffers.Printed.{reply_line}
 use Rattle.iobuf_lines.specs.Buffers.Said.{command_of}
-use Rattle.iobuf_lines.specs.declared.words.LineError.TheVariants.{NoCommand}
-use Rattle.iobuf.specs.Faults.{LineAt, ReadFails, Takes, most_lines}
+use Rattle.iobuf.specs.Faults.{IsStopAt, LineAt, ReadFails, Takes, most_lines}
 use Rattle.iobuf.specs.Lines.{TakesLine, line_text}
-use Rattle.iobuf.specs.Session.{Answered, AnswersLine, Serves, commands_of}
+use Rattle.iobuf.specs.Session.{Answered, CommandAnswered, Serves, commands_of}
 use Rattle.iobuf.specs.declared.fault.Obstacle.{Obstacle}
 use Rattle.iobuf.specs.declared.fault.Obstacle.TheVariants.{Reading, Writing, Memory, NotText, TooManyLines}
 use Rattle.iobuf.specs.declared.fault.Stop.{Stop}
-use Rattle.iobuf.specs.declared.fault.Stop.TheVariants.{BadCommand, CannotContinue}
+use Rattle.iobuf.specs.declared.fault.Stop.TheVariants.{CannotContinue}
 use Rattle.iobuf.proofs.Contents.{kept, line_more}
 
 -- some lines are answered, `left` is to be read, and the next line has this number
@@ -150,7 +149,7 @@ line_read (Some input) None left next written mid line number names g takes keep
 line_read None told left next written mid line number names g takes keeps = tt
 
 goes_on : (input before line reply : List ℕ) (left mid new : Option (List ℕ)) (number : ℕ) (names after : List Slot)
-    → Read input before line left mid number names → AnswersLine line names after reply (Ok tt) → Appends mid new reply
+    → Read input before line left mid number names → CommandAnswered line names after reply → Appends mid new reply
     → GoesOn input before left new (number + 1) after
 goes_on input before line reply left mid new number names after read a e = record {
   rest = read.rest;
@@ -168,7 +167,7 @@ goes_on input before line reply left mid new number names after read a e = recor
 
 -- a line that was read and says a command that is done and whose reply is written is one more answered line, with the names after it
 pub line_answered : (read told left mid new : Option (List ℕ)) (line reply : List ℕ) (number : ℕ) (names after : List Slot)
-    → Reads read told line left mid number names → AnswersLine line names after reply (Ok tt) → Appends mid new reply
+    → Reads read told line left mid number names → CommandAnswered line names after reply → Appends mid new reply
     → Going read told left new (number + 1) after
 line_answered (Some input) (Some before) left mid new line reply number names after read a e =
     goes_on input before line reply left mid new number names after read a e
@@ -195,31 +194,26 @@ all_answered (Some input) (Some before) left next written mid line number names 
 all_answered (Some input) None left next written mid line number names g takes keeps = tt
 all_answered None told left next written mid line number names g takes keeps = tt
 
--- the next line says no command
-pub bad_line : (read told left mid : Option (List ℕ)) (line reply : List ℕ) (number : ℕ) (names after : List Slot)
-    → Reads read told line left mid number names → IsUtf8 line → AnswersLine line names after reply (Err NoCommand)
-    → Ended read told mid (Err (BadCommand number))
-bad_line (Some input) (Some before) left mid line reply number names after read is none = (
-  read.count,
-  read.number_is,
-  (
-    names,
-    commands_of read.rest,
-    told_so input before (command_of line ∷ commands_of read.rest) (None ∷ commands_of read.rest) mid read.count names
-        (ap (λ o. o ∷ commands_of read.rest) none) read.answered,
-  ),
-  (line, read.at, is),
-)
-bad_line (Some input) None left mid line reply number names after read is none = tt
-bad_line None told left mid line reply number names after read is none = tt
-
--- the next line is no text
-pub no_text : (read told left mid : Option (List ℕ)) (line : List ℕ) (number : ℕ) (names : List Slot)
-    → Reads read told line left mid number names → (IsUtf8 line → ⊥) → Ended read told mid (Err (CannotContinue NotText))
-no_text (Some input) (Some before) left mid line number names read bad =
+-- the next line says no command, and ends the session
+pub stops_at : (read told left mid : Option (List ℕ)) (line : List ℕ) (number : ℕ) (names : List Slot) (stop : Stop)
+    → Reads read told line left mid number names → command_of line ≡ None → IsStopAt line number stop → Ended read told mid (Err stop)
+stops_at (Some input) (Some before) left mid line number names stop read none (inl (is, e)) =
+    subst (λ (s : Stop). Serves input before mid (Err s)) (sym e) (
+      read.count,
+      read.number_is,
+      (
+        names,
+        commands_of read.rest,
+        told_so input before (command_of line ∷ commands_of read.rest) (None ∷ commands_of read.rest) mid read.count names
+            (ap (λ o. o ∷ commands_of read.rest) none) read.answered,
+      ),
+      (line, read.at, is),
+    )
+stops_at (Some input) (Some before) left mid line number names stop read none (inr (bad, e)) =
+    subst (λ (s : Stop). Serves input before mid (Err s)) (sym e)
     (read.count, (names, command_of line ∷ commands_of read.rest, read.answered), line, read.at, bad)
-no_text (Some input) None left mid line number names read bad = tt
-no_text None told left mid line number names read bad = tt
+stops_at (Some input) None left mid line number names stop read none why = tt
+stops_at None told left mid line number names stop read none why = tt
 
 -- want of memory between a line and its reply
 pub no_memory : (read told left mid : Option (List ℕ)) (line : List ℕ) (number : ℕ) (names : List Slot)
@@ -265,7 +259,7 @@ not_read None told left written mid number names fault g why keeps = tt
 
 -- a reply can't be written, or only a front of it
 cut : (input before line reply : List ℕ) (left mid new : Option (List ℕ)) (number : ℕ) (names after : List Slot) (fault : Obstacle)
-    → Read input before line left mid number names → AnswersLine line names after reply (Ok tt) → Takes mid new reply (Err fault)
+    → Read input before line left mid number names → CommandAnswered line names after reply → Takes mid new reply (Err fault)
     → Serves input before new (Err (CannotContinue fault))
 cut input before line reply left mid new number names after Reading read a takes = elim takes [ ]
 cut input before line reply left mid new number names after Writing read a takes =
@@ -305,7 +299,7 @@ cut input before line reply left mid new number names after TooManyLines read a 
 
 -- where the reply to a line isn't taken whole, the session ends by this fault
 pub not_written : (read told left mid new : Option (List ℕ)) (line reply : List ℕ) (number : ℕ) (names after : List Slot) (fault : Obstacle)
-    → Reads read told line left mid number names → AnswersLine line names after reply (Ok tt) → Takes mid new reply (Err fault)
+    → Reads read told line left mid number names → CommandAnswered line names after reply → Takes mid new reply (Err fault)
     → Ended read told new (Err (CannotContinue fault))
 not_written (Some input) (Some before) left mid new line reply number names after fault read a takes =
     cut input before line reply left mid new number names after fault read a takes
@@ -317,10 +311,6 @@ pub no_table : (read told left : Option (List ℕ)) → left ≡ read → Ended 
 no_table (Some input) (Some before) left e = (0, (replicate 16 Free, commands_of input, none_answered input before))
 no_table (Some input) None left e = tt
 no_table None told left e = tt
-
-pub one_answered : (line text : List ℕ) (names after : List Slot) (c : Cmd) (r : Reply)
-    → command_of line ≡ Some (plain c) → Step names c r after → text ≡ reply_line r → AnswersLine line names after text (Ok tt)
-one_answered line text names after c r e step f = record { command = c; reply = r; says = e; step = step; prints = f }
 
 -- a line that was read, under another name
 pub reads_as : (read told left mid : Option (List ℕ)) (line text : List ℕ) (number : ℕ) (names : List Slot)

@@ -1,5 +1,5 @@
 -- Reading up to a line break takes the first line.
-use Rattle.std.proofs.Common.{◌≡◌, ℕ, zero, suc, ◌+◌, ◌<◌, Bool, true, false, eqb, List, [], ◌∷◌, ◌++◌, length, length-append, slice_index, take, drop, nat_lt, Option, Some, None, IfSome, refl, sym, ap, subst, ◌∙◌, arith}
+use Rattle.std.proofs.Common.{◌≡◌, ℕ, zero, suc, ◌+◌, ◌<◌, ◌≤◌, Bool, true, false, eqb, List, [], ◌∷◌, ◌++◌, length, length-append, slice_index, take, drop, nat_lt, Option, Some, None, IfSome, refl, sym, ap, subst, ◌∙◌, arith}
 use Rattle.std.specs.Prelude.{if◌then◌else◌}
 use Rattle.std.proofs.lemmas.Bool.Decides.{nat_tests}
 use Rattle.std.specs.Io.BufRead.{take_through, drop_through, DropsConsumable, DropsThrough}
@@ -8,6 +8,7 @@ use Rattle.std.specs.Str.Lines.{lines}
 use Rattle.memchr.specs.Find.{is_byte, IsFirstByte}
 use Rattle.iobuf.proofs.LineLaws.{lines_step}
 use Rattle.iobuf.specs.Lines.{TakesLine, line_text}
+use Rattle.iobuf.specs.Reading.{last_line, left_after}
 
 positive : (n : ℕ) → nat_lt 0 (suc n) ≡ true
 positive n = grind (arith, nat_tests)
@@ -58,7 +59,7 @@ buffer_first false buffer (Some behind) = (behind, refl)
 buffer_first false buffer None = tt
 
 -- the bytes of a buffer up to its first 10 and with it, which are then consumed, are the first line
-pub takes_found : (old new : Option (List ℕ)) (buffer line : List ℕ) (place : ℕ) → IfSome old (λ bytes. (behind : List ℕ) × (bytes ≡ buffer ++ behind))
+takes_found : (old new : Option (List ℕ)) (buffer line : List ℕ) (place : ℕ) → IfSome old (λ bytes. (behind : List ℕ) × (bytes ≡ buffer ++ behind))
     → IsFirstByte (is_byte 10) buffer (Some place) → line ≡ take (place + 1) buffer
     → DropsConsumable old new (Some (length buffer)) (place + 1) → TakesLine old new line true
 takes_found None new buffer line place known first taken drops = tt
@@ -73,3 +74,32 @@ takes_found (Some bytes) new buffer line place (behind, is) first taken drops =
       left_is = drops (let high = first.0.high in omega (arith, high)) ∙ ap (λ (l : List ℕ). Some l) rest;
       split = lines_step bytes some ∙ ap (λ (l : List ℕ). line_text l ∷ lines (drop_through 10 bytes)) through;
     }
+
+-- ---- a line that is left in the buffer until the next one is read
+
+-- a line that was left in the buffer is consumed first
+pub after_last : (standing len : ℕ) (old mid new : Option (List ℕ)) (line : List ℕ) (more : Bool) → standing ≤ len
+    → DropsConsumable old mid (Some len) standing → TakesLine mid new line more → TakesLine (left_after standing old) new line more
+after_last standing len None mid new line more low drops takes = tt
+after_last standing len (Some bytes) mid new line more low drops takes = subst (λ (o : Option (List ℕ)). TakesLine o new line more) (drops low) takes
+
+stands : (place : ℕ) (buffer copied : List ℕ) → last_line (place + 1) buffer copied ≡ take (place + 1) buffer
+stands place buffer copied = let some : nat_lt 0 (place + 1) ≡ true = grind (arith, nat_tests) in rw some refl
+
+-- the bytes of a buffer up to its first 10 and with it, which are left there, are the first line
+pub takes_standing : (known : Option (List ℕ)) (buffer copied : List ℕ) (place : ℕ) → IfSome known (λ bytes. (behind : List ℕ) × (bytes ≡ buffer ++ behind))
+    → IsFirstByte (is_byte 10) buffer (Some place) → TakesLine known (left_after (place + 1) known) (last_line (place + 1) buffer copied) true
+takes_standing None buffer copied place begins first = tt
+takes_standing (Some bytes) buffer copied place begins first =
+    takes_found (Some bytes) (Some (drop (place + 1) bytes)) buffer (last_line (place + 1) buffer copied) place begins first (stands place buffer copied)
+    (λ low. refl)
+
+none_standing : (known : Option (List ℕ)) → known ≡ left_after 0 known
+none_standing (Some bytes) = refl
+none_standing None = refl
+
+-- a line that was copied was taken whole
+pub takes_copied : (standing : ℕ) (old new : Option (List ℕ)) (buffer line : List ℕ) (more : Bool) → standing ≡ 0 → TakesLine old new line more
+    → TakesLine old (left_after standing new) (last_line standing buffer line) more
+takes_copied standing old new buffer line more none takes =
+    rw none (subst (λ (o : Option (List ℕ)). TakesLine old o line more) (none_standing new) takes)

@@ -1,6 +1,6 @@
 -- A writer that takes a text bit by bit.
 use Rattle.std.proofs.KnownBytes.{Appends-kept, Appends-nil, Appends-trans}
-use Rattle.std.proofs.Common.{◌≡◌, ℕ, List, [], ◌∷◌, ◌++◌, Option, Some, None, IfErr, Ok, Err, Result, refl, sym, ap, subst, ◌∙◌, append-nil, append_assoc, ◌-◌, length, take, drop, take-append-drop}
+use Rattle.std.proofs.Common.{◌≡◌, ℕ, List, [], ◌∷◌, ◌++◌, Option, IfErr, Ok, Err, Result, refl, sym, ap, subst, ◌∙◌, append-nil, append_assoc, ◌-◌, length, take, drop, take-append-drop}
 use Rattle.std.proofs.Math.Seq.{take-length}
 use Rattle.std.proofs.lemmas.List.{length-drop}
 use Rattle.std.specs.Io.KnownBytes.{Appends, Keeps}

@@ -3,15 +3,18 @@
 --     Takes                    what a writer has got of some bytes: all of them, a prefix if it failed, nothing if an
 --                              allocation failed
 --     LineAt, IsTextAt         a line of the input by its number, and that it is UTF-8
+--     IsStopAt                 why a session ends at a line that says nothing
 --     IsFrontOf                what is known to be written is a prefix of these bytes
 --     most_lines               the most lines that a session counts: a longer input can't be served to its end
 --     Halts                    where a session was when it met a fault: the lines answered, and what of their replies
 --                              is written
-use Rattle.std.specs.Prelude.{◌≡◌, ℕ, ◌-◌, ◌^◌, take, length, List, ◌∷◌, ◌++◌, Option, Some, Result, Ok, Err, IsUtf8, ⊤}
+use Rattle.std.specs.Prelude.{◌≡◌, ◌⊎◌, ℕ, ◌-◌, ◌^◌, take, length, List, ◌∷◌, ◌++◌, Option, Some, Result, Ok, Err, IsUtf8, ⊤}
 use Rattle.std.specs.Io.KnownBytes.{Appends, Keeps}
 use Rattle.std.specs.Str.Lines.{lines}
 use Rattle.iobuf.specs.declared.fault.Obstacle.{Obstacle}
 use Rattle.iobuf.specs.declared.fault.Obstacle.TheVariants.{Reading, Writing, Memory, NotText, TooManyLines}
+use Rattle.iobuf.specs.declared.fault.Stop.{Stop}
+use Rattle.iobuf.specs.declared.fault.Stop.TheVariants.{BadCommand, CannotContinue}
 
 -- reading a line can't find that it isn't text, or is one too many
 abbrev pub ReadFails : Obstacle → Type 0
@@ -40,6 +43,10 @@ pub record LineAt (input : List ℕ) (count : ℕ) (line : List ℕ) : Type 0 wh
 -- the line after `count` others is UTF-8
 abbrev pub IsTextAt : (input : List ℕ) → (count : ℕ) → Type 0
 IsTextAt input count = (line : List ℕ) × LineAt input count line × IsUtf8 line
+
+-- a session ends at the line of this number, which says nothing: it is no command if it is UTF-8, and else no text
+abbrev pub IsStopAt : (line : List ℕ) → (number : ℕ) → Stop → Type 0
+IsStopAt line number stop = (IsUtf8 line × (stop ≡ BadCommand number)) ⊎ ((IsUtf8 line → ⊥) × (stop ≡ CannotContinue NotText))
 
 -- the known contents of a writer are a prefix of these bytes
 pub record IsFrontOf (whole : List ℕ) (written : Option (List ℕ)) : Type 0 where

@@ -8,6 +8,7 @@
 --                                                 and by the program's status
 --     AnswersLine, CommandAnswered                what one line makes of the names, and the line that it prints
 use Rattle.std.specs.Prelude.{◌≡◌, ℕ, ◌+◌, length, List, [], ◌∷◌, ◌++◌, map, flat_map, replicate, Option, Some, None, Result, Ok, Err, ⊤}
+use Rattle.std.specs.Borrow.{Bor}
 use Rattle.std.specs.Str.Lines.{lines}
 use Rattle.iobufs_run.specs.Run.{Run, Step}
 use Rattle.iobufs_run.specs.declared.command.Cmd.{Cmd}
@@ -73,8 +74,8 @@ pub record CommandAnswered (line : List ℕ) (old new : List Slot) (text : List 
   pub step : Step old command reply new
   pub prints : text ≡ reply_line reply
 
--- one line: a command is answered by one step, and its reply is printed
-abbrev pub AnswersLine : List ℕ → List Slot → List Slot → List ℕ → Result (Unit {0}) LineError → Type 0
-AnswersLine line old new text (Ok done) = CommandAnswered line old new text
-AnswersLine line old new text (Err NoCommand) = command_of line ≡ None
-AnswersLine line old new text (Err Memory) = ⊤
+-- one line: a command is answered by one step, and the text is the line of its reply
+abbrev pub AnswersLine : List ℕ → List Slot → List Slot → Result (Bor (List ℕ)) LineError → Type 0
+AnswersLine line old new (Ok text) = CommandAnswered line old new text.now
+AnswersLine line old new (Err NoCommand) = command_of line ≡ None
+AnswersLine line old new (Err Memory) = ⊤

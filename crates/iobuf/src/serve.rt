@@ -1,9 +1,9 @@
 // A session of either half, over any reader and writers.
 ghost use Rattle.std.specs.Prelude.{◌≡◌, ◌≢◌, [], ◌∷◌, codes, map, true, false, Ok, Err, Some, None, IfErr, IfNone, IfSome, OnOk};
-ghost use Rattle.std.specs.Io.Buffered.{reader_remaining};
 ghost use Rattle.std.specs.Io.KnownBytes.{Appends};
 ghost use Rattle.iobuf.specs.Halves.{ServesHalf, half_word};
 ghost use Rattle.iobuf.specs.MachineSession.{HasMachineStatus, ServesMachine};
+ghost use Rattle.iobuf.specs.Reading.{input_left};
 ghost use Rattle.iobuf.specs.Session.{HasStatus, Serves};
 ghost use Rattle.iobuf.specs.Stops.{IsFlushed, IsStatus, stop_line};
 ghost use Rattle.iobuf.specs.declared.fault.Stop.TheVariants.{OtherWords};
@@ -33,7 +33,7 @@ fn serve_half<R: Read + Drop, W: Write>(
     input: &mut Input<R>,
     output: &mut Output<W>,
 ) -> Result<(), Stop>
-    ensures { IfSome (reader_remaining R.remaining input.old.reader) (λ read. IfSome (W.contents output.old.writer) (λ before.
+    ensures { IfSome (input_left R.remaining input.old) (λ read. IfSome (W.contents output.old.writer) (λ before.
         ServesHalf half read before (W.contents output.new.writer) result)) }
 {
     match half {

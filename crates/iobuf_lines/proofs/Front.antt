@@ -1,7 +1,9 @@
 -- The number before a line, digit by digit.
 use Rattle.std.proofs.Common.{◌≡◌, ◌≢◌, ◌⊎◌, inl, inr, ℕ, zero, suc, ◌+◌, ◌*◌, ◌^◌, ◌<◌, ◌≤◌, Bool, true, false, eqb, ne_eqb, nat_lt, ◌&&◌, List, [], ◌∷◌, ◌++◌, length, take, drop, get_or, Some, None, refl, sym, ap, subst, ◌∙◌, arith}
 use Rattle.std.specs.Prelude.{if◌then◌else◌}
+use Rattle.std.specs.List.{between}
 use Rattle.std.proofs.lemmas.Bool.Decides.{nat_tests}
+use Rattle.std.proofs.lemmas.List.{take_rest}
 use Rattle.std.proofs.lemmas.Int.Digits.{digits_more, digits_value_more, digits_value_push}
 use Rattle.std.proofs.lemmas.Str.Parse.{IsNumeralModel, digits_value-take-le, numerals_by_value, tells_all_ascii_digits}
 use Rattle.std.specs.Char.{digit_value}
@@ -35,7 +37,7 @@ digits_say word n some digits value low =
     grind (arith, nat_tests, all, value, some, low)
 
 -- a line is the bytes before an offset, the byte there, and the bytes after it
-cut_at : (line : List ℕ) (place : ℕ) → place < length line → line ≡ take place line ++ get_or line place 0 ∷ drop (place + 1) line
+pub cut_at : (line : List ℕ) (place : ℕ) → place < length line → line ≡ take place line ++ get_or line place 0 ∷ drop (place + 1) line
 cut_at [] place inside = absurd (omega arith)
 cut_at (b ∷ bs) zero inside = refl
 cut_at (b ∷ bs) (suc place) inside =
@@ -55,18 +57,20 @@ pub record Front (line rest : List ℕ) (n : ℕ) : Type 0 where
 
 -- a number before a space
 pub before_space : (line : List ℕ) (place n : ℕ) → place < length line → 0 < place → Shown line place n → get_or line place 0 ≡ 32
-    → Front line (drop (place + 1) line) n
+    → Front line (between (place + 1) (length line) line) n
 before_space line place n inside some s space =
     let word = take place line in
     let cut : line ≡ word ++ 32 ∷ drop (place + 1) line = subst (λ (b : ℕ). line ≡ word ++ b ∷ drop (place + 1) line) space (cut_at line place inside) in
     let long = length_take line place inside in
     record {
       word = word;
-      is = ap words_of cut ∙ next_word word (drop (place + 1) line) (spaceless_digits word s.digits);
+      is = ap words_of cut ∙ next_word word (drop (place + 1) line) (spaceless_digits word s.digits)
+          ∙ ap (λ (rest : List ℕ). word ∷ words_of rest) (sym (take_rest line (place + 1)));
       says = digits_say word n (omega (arith, long, some)) s.digits s.value s.low;
     }
 
-take_all : (line : List ℕ) → take (length line) line ≡ line
+-- all bytes of a line
+pub take_all : (line : List ℕ) → take (length line) line ≡ line
 take_all [] = refl
 take_all (b ∷ bs) = ap (λ l. b ∷ l) (take_all bs)
 
@@ -117,6 +121,11 @@ bad_number front c behind n value (inr over) =
     let most = digits_value-take-le 10 (front ++ c ∷ behind) (length (front ++ c ∷ [])) (omega arith) in
     let is = ap (digits_value 10) (seam front c behind) ∙ digits_value_push 10 front c in
     omega (arith, most, is, value, over, low))
+
+-- a word with a byte that is no digit, or whose digits say too much, says no number
+pub none_said : (word : List ℕ) (place n : ℕ) → place < length word → Shown word place n → Bad n (get_or word place 0) → number_of word ≡ None
+none_said word place n inside s bad =
+    ap number_of (cut_at word place inside) ∙ bad_number (take place word) (get_or word place 0) (drop (place + 1) word) n s.value bad
 
 record First (line : List ℕ) : Type 0 where
   word : List ℕ

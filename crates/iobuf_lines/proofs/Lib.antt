@@ -3,7 +3,6 @@ pub mod Held
 pub mod Hexes
 pub mod Many
 pub mod NextWord
-pub mod Numbers
 pub mod Numerals
 pub mod Replies
 pub mod Spelling

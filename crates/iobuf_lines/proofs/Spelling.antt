@@ -15,7 +15,12 @@ use Rattle.iobuf_lines.proofs.WordLaws.{AreSpaceless, spaceless, spaceless_decim
 use Rattle.iobuf_lines.specs.Buffers.Commands.{PlainItem, Inline, Push, Command, NewMut, Zeroed, Adopt, Static, FromBytes, Put, Fill, SetLen, Truncate, Clear, Overwrite, Freeze, Recover, Clone, Slice, Split, Advance, Take, Gather, GatherMut, Append, Prepend, Coalesce, Build, Encode, Decode, Drop, Show}
 use Rattle.iobuf_lines.specs.declared.buffers.line.Verb.{Verb}
 use Rattle.iobuf_lines.specs.declared.buffers.line.Verb.TheVariants as verb
-use Rattle.iobuf_lines.specs.Buffers.Shapes.{only_word, of_both, Three, three, four, one_number, two_numbers, three_numbers, four_numbers, lone_bytes_of, bytes_for_of, numbers_for_of, byte_and_one_of, fill_of, bounds_of, last_bound_of, bounds_for_of, bounds_for, slice_said, bound_said, item_of, items_of, items_for_of, build_of, letters, letters_of}
+use Rattle.iobuf_lines.specs.declared.buffers.line.WithOne.TheVariants as of_one
+use Rattle.iobuf_lines.specs.declared.buffers.line.WithTwo.TheVariants as of_two
+use Rattle.iobuf_lines.specs.declared.buffers.line.WithThree.TheVariants as of_three
+use Rattle.iobuf_lines.specs.declared.buffers.line.WithBytes.TheVariants as of_bytes
+use Rattle.iobuf_lines.specs.declared.buffers.line.WithNumbers.TheVariants as of_numbers
+use Rattle.iobuf_lines.specs.Buffers.Shapes.{only_word, of_both, Three, three, one_number, two_numbers, three_numbers, lone_bytes_of, bytes_for_of, numbers_for_of, byte_and_one_of, fill_of, decode_said, bounds_of, last_bound_of, bounds_for_of, bounds_for, slice_said, bound_said, item_of, items_of, items_for_of, build_of, letters, letters_of}
 use Rattle.iobuf_lines.specs.Buffers.Said.{acting_of, making_of, said_by, static_said, verb_of, command_by, command_of}
 use Rattle.iobuf_lines.specs.Buffers.Spelled.{SpelledWord, Verb as Named, Number, Byte, Digits, Spells, AreSpelled, written, bound_word, item_word, words_from, StandsAt, IsLineOf, first_letter, first_of, line_of_command, BoundFits, ItemsFit, CommandFits}
 use Rattle.iobuf_lines.proofs.Numerals.{number_is, number_back, bytes_are, bytes_back, lower_stays, same_word}
@@ -216,12 +221,6 @@ threes =
     number two (λ a b. refl) (λ a b. refl) (λ n. refl) refl
     (λ text texts. refl)
 
-fours : Shape four_numbers (λ n. Number n.first ∷ Number n.second ∷ Number n.third ∷ Number n.fourth ∷ [])
-fours =
-    led number_of Number three_numbers (λ n. Number n.first ∷ Number n.second ∷ Number n.third ∷ []) (λ first n. four first n.first n.second n.third)
-    (λ n. n.first) (λ n. three n.second n.third n.fourth) four_numbers
-    number threes (λ a b. refl) (λ a b. refl) (λ n. refl) refl (λ text texts. refl)
-
 lone_bytes : Shape lone_bytes_of (λ bytes. Digits bytes ∷ [])
 lone_bytes = lone bytes_of Digits lone_bytes_of digits refl (λ text texts. refl)
 
@@ -318,6 +317,12 @@ fill_is (text ∷ texts) command e =
     whole_is byte_and_one_of (λ n. Byte n.0 ∷ Number n.1 ∷ []) (λ target n. Fill target n.0 n.1) (codes "fill") byte_and_one (λ n b. tt) (λ n b. refl) text
     texts command e
 
+decode_is : (texts : List (List ℕ)) (command : Command) → decode_said texts ≡ Some command → Says command (codes "decode" ∷ texts)
+decode_is [] command e = cc e
+decode_is (text ∷ texts) command e =
+    whole_is three_numbers (λ n. Number n.first ∷ Number n.second ∷ Number n.third ∷ []) (λ src n. Decode src n.first n.second n.third) (codes "decode")
+    threes (λ n b. tt) (λ n b. refl) text texts command e
+
 slice_is : (texts : List (List ℕ)) (command : Command) → slice_said texts ≡ Some command → Says command (codes "slice" ∷ texts)
 slice_is [] command e = cc e
 slice_is (text ∷ texts) command e =
@@ -372,34 +377,34 @@ static_back first dst text (verb ∷ texts) stands s =
 
 -- the word of a verb
 abbrev verb_text : Verb → List ℕ
-verb_text verb.New = codes "new"
-verb_text verb.Zeroed = codes "zeroed"
-verb_text verb.Adopt = codes "adopt"
+verb_text (verb.Three of_three.New) = codes "new"
+verb_text (verb.Three of_three.Zeroed) = codes "zeroed"
+verb_text (verb.Bytes of_bytes.Adopt) = codes "adopt"
 verb_text verb.Static = codes "static"
-verb_text verb.Bytes = codes "bytes"
-verb_text verb.Put = codes "put"
+verb_text (verb.Bytes of_bytes.Bytes) = codes "bytes"
+verb_text (verb.Bytes of_bytes.Put) = codes "put"
 verb_text verb.Fill = codes "fill"
-verb_text verb.SetLen = codes "setlen"
-verb_text verb.Truncate = codes "truncate"
-verb_text verb.Clear = codes "clear"
-verb_text verb.Overwrite = codes "overwrite"
-verb_text verb.Freeze = codes "freeze"
-verb_text verb.Recover = codes "recover"
-verb_text verb.Clone = codes "clone"
+verb_text (verb.Two of_two.SetLen) = codes "setlen"
+verb_text (verb.Two of_two.Truncate) = codes "truncate"
+verb_text (verb.One of_one.Clear) = codes "clear"
+verb_text (verb.Bytes of_bytes.Overwrite) = codes "overwrite"
+verb_text (verb.Two of_two.Freeze) = codes "freeze"
+verb_text (verb.Two of_two.Recover) = codes "recover"
+verb_text (verb.Two of_two.Clone) = codes "clone"
 verb_text verb.Slice = codes "slice"
-verb_text verb.Split = codes "split"
-verb_text verb.Advance = codes "advance"
-verb_text verb.Take = codes "take"
-verb_text verb.Gather = codes "gather"
-verb_text verb.GatherMut = codes "gathermut"
-verb_text verb.Append = codes "append"
-verb_text verb.Prepend = codes "prepend"
-verb_text verb.Coalesce = codes "coalesce"
+verb_text (verb.Three of_three.Split) = codes "split"
+verb_text (verb.Two of_two.Advance) = codes "advance"
+verb_text (verb.Two of_two.Take) = codes "take"
+verb_text (verb.Numbers of_numbers.Gather) = codes "gather"
+verb_text (verb.Numbers of_numbers.GatherMut) = codes "gathermut"
+verb_text (verb.Two of_two.Append) = codes "append"
+verb_text (verb.Two of_two.Prepend) = codes "prepend"
+verb_text (verb.Two of_two.Coalesce) = codes "coalesce"
 verb_text verb.Build = codes "build"
-verb_text verb.Encode = codes "encode"
+verb_text (verb.Two of_two.Encode) = codes "encode"
 verb_text verb.Decode = codes "decode"
-verb_text verb.Drop = codes "drop"
-verb_text verb.Show = codes "show"
+verb_text (verb.One of_one.Drop) = codes "drop"
+verb_text (verb.One of_one.Show) = codes "show"
 
 verb_step : (word text : List ℕ) (here v : Verb) (others : Option Verb) (t : Bool) → bytes_eq word text ≡ t → text ≡ verb_text here
     → (others ≡ Some v → word ≡ verb_text v)
@@ -409,38 +414,38 @@ verb_step word text here v others false is same more e = more e
 
 making_is : (word : List ℕ) (v : Verb) → making_of word ≡ Some v → word ≡ verb_text v
 making_is word v e =
-    verb_step word (codes "new") verb.New v _ (bytes_eq word (codes "new")) refl refl (λ e.
-    verb_step word (codes "zeroed") verb.Zeroed v _ (bytes_eq word (codes "zeroed")) refl refl (λ e.
-    verb_step word (codes "adopt") verb.Adopt v _ (bytes_eq word (codes "adopt")) refl refl (λ e.
+    verb_step word (codes "new") (verb.Three of_three.New) v _ (bytes_eq word (codes "new")) refl refl (λ e.
+    verb_step word (codes "zeroed") (verb.Three of_three.Zeroed) v _ (bytes_eq word (codes "zeroed")) refl refl (λ e.
+    verb_step word (codes "adopt") (verb.Bytes of_bytes.Adopt) v _ (bytes_eq word (codes "adopt")) refl refl (λ e.
     verb_step word (codes "static") verb.Static v _ (bytes_eq word (codes "static")) refl refl (λ e.
-    verb_step word (codes "bytes") verb.Bytes v _ (bytes_eq word (codes "bytes")) refl refl (λ e.
-    verb_step word (codes "freeze") verb.Freeze v _ (bytes_eq word (codes "freeze")) refl refl (λ e.
-    verb_step word (codes "recover") verb.Recover v _ (bytes_eq word (codes "recover")) refl refl (λ e.
-    verb_step word (codes "clone") verb.Clone v _ (bytes_eq word (codes "clone")) refl refl (λ e.
+    verb_step word (codes "bytes") (verb.Bytes of_bytes.Bytes) v _ (bytes_eq word (codes "bytes")) refl refl (λ e.
+    verb_step word (codes "freeze") (verb.Two of_two.Freeze) v _ (bytes_eq word (codes "freeze")) refl refl (λ e.
+    verb_step word (codes "recover") (verb.Two of_two.Recover) v _ (bytes_eq word (codes "recover")) refl refl (λ e.
+    verb_step word (codes "clone") (verb.Two of_two.Clone) v _ (bytes_eq word (codes "clone")) refl refl (λ e.
     verb_step word (codes "slice") verb.Slice v _ (bytes_eq word (codes "slice")) refl refl (λ e.
-    verb_step word (codes "split") verb.Split v _ (bytes_eq word (codes "split")) refl refl (λ e.
-    verb_step word (codes "gather") verb.Gather v _ (bytes_eq word (codes "gather")) refl refl (λ e.
-    verb_step word (codes "gathermut") verb.GatherMut v _ (bytes_eq word (codes "gathermut")) refl refl (λ e.
-    verb_step word (codes "coalesce") verb.Coalesce v _ (bytes_eq word (codes "coalesce")) refl refl (λ e.
+    verb_step word (codes "split") (verb.Three of_three.Split) v _ (bytes_eq word (codes "split")) refl refl (λ e.
+    verb_step word (codes "gather") (verb.Numbers of_numbers.Gather) v _ (bytes_eq word (codes "gather")) refl refl (λ e.
+    verb_step word (codes "gathermut") (verb.Numbers of_numbers.GatherMut) v _ (bytes_eq word (codes "gathermut")) refl refl (λ e.
+    verb_step word (codes "coalesce") (verb.Two of_two.Coalesce) v _ (bytes_eq word (codes "coalesce")) refl refl (λ e.
     verb_step word (codes "build") verb.Build v _ (bytes_eq word (codes "build")) refl refl (λ e.
-    verb_step word (codes "encode") verb.Encode v _ (bytes_eq word (codes "encode")) refl refl (λ e.
+    verb_step word (codes "encode") (verb.Two of_two.Encode) v _ (bytes_eq word (codes "encode")) refl refl (λ e.
     verb_step word (codes "decode") verb.Decode v _ (bytes_eq word (codes "decode")) refl refl (λ e.
     cc e) e) e) e) e) e) e) e) e) e) e) e) e) e) e) e) e
 
 acting_is : (word : List ℕ) (v : Verb) → acting_of word ≡ Some v → word ≡ verb_text v
 acting_is word v e =
-    verb_step word (codes "put") verb.Put v _ (bytes_eq word (codes "put")) refl refl (λ e.
+    verb_step word (codes "put") (verb.Bytes of_bytes.Put) v _ (bytes_eq word (codes "put")) refl refl (λ e.
     verb_step word (codes "fill") verb.Fill v _ (bytes_eq word (codes "fill")) refl refl (λ e.
-    verb_step word (codes "setlen") verb.SetLen v _ (bytes_eq word (codes "setlen")) refl refl (λ e.
-    verb_step word (codes "truncate") verb.Truncate v _ (bytes_eq word (codes "truncate")) refl refl (λ e.
-    verb_step word (codes "clear") verb.Clear v _ (bytes_eq word (codes "clear")) refl refl (λ e.
-    verb_step word (codes "overwrite") verb.Overwrite v _ (bytes_eq word (codes "overwrite")) refl refl (λ e.
-    verb_step word (codes "advance") verb.Advance v _ (bytes_eq word (codes "advance")) refl refl (λ e.
-    verb_step word (codes "take") verb.Take v _ (bytes_eq word (codes "take")) refl refl (λ e.
-    verb_step word (codes "append") verb.Append v _ (bytes_eq word (codes "append")) refl refl (λ e.
-    verb_step word (codes "prepend") verb.Prepend v _ (bytes_eq word (codes "prepend")) refl refl (λ e.
-    verb_step word (codes "drop") verb.Drop v _ (bytes_eq word (codes "drop")) refl refl (λ e.
-    verb_step word (codes "show") verb.Show v _ (bytes_eq word (codes "show")) refl refl (λ e.
+    verb_step word (codes "setlen") (verb.Two of_two.SetLen) v _ (bytes_eq word (codes "setlen")) refl refl (λ e.
+    verb_step word (codes "truncate") (verb.Two of_two.Truncate) v _ (bytes_eq word (codes "truncate")) refl refl (λ e.
+    verb_step word (codes "clear") (verb.One of_one.Clear) v _ (bytes_eq word (codes "clear")) refl refl (λ e.
+    verb_step word (codes "overwrite") (verb.Bytes of_bytes.Overwrite) v _ (bytes_eq word (codes "overwrite")) refl refl (λ e.
+    verb_step word (codes "advance") (verb.Two of_two.Advance) v _ (bytes_eq word (codes "advance")) refl refl (λ e.
+    verb_step word (codes "take") (verb.Two of_two.Take) v _ (bytes_eq word (codes "take")) refl refl (λ e.
+    verb_step word (codes "append") (verb.Two of_two.Append) v _ (bytes_eq word (codes "append")) refl refl (λ e.
+    verb_step word (codes "prepend") (verb.Two of_two.Prepend) v _ (bytes_eq word (codes "prepend")) refl refl (λ e.
+    verb_step word (codes "drop") (verb.One of_one.Drop) v _ (bytes_eq word (codes "drop")) refl refl (λ e.
+    verb_step word (codes "show") (verb.One of_one.Show) v _ (bytes_eq word (codes "show")) refl refl (λ e.
     cc e) e) e) e) e) e) e) e) e) e) e) e) e
 
 either_is : (word : List ℕ) (v : Verb) (made : Option Verb) → making_of word ≡ made → option_or made (acting_of word) ≡ Some v → word ≡ verb_text v
@@ -451,59 +456,57 @@ verb_is : (word : List ℕ) (v : Verb) → verb_of word ≡ Some v → word ≡ 
 verb_is word v e = either_is word v (making_of word) refl e
 
 verb_says : (v : Verb) (texts : List (List ℕ)) (command : Command) → said_by v texts ≡ Some command → Says command (verb_text v ∷ texts)
-verb_says verb.New texts command e =
+verb_says (verb.Three of_three.New) texts command e =
     said_is three_numbers (λ n. Number n.first ∷ Number n.second ∷ Number n.third ∷ []) (λ n. NewMut n.first n.second n.third) (codes "new") threes (λ n. tt)
     (λ n. refl) texts command e
-verb_says verb.Zeroed texts command e =
+verb_says (verb.Three of_three.Zeroed) texts command e =
     said_is three_numbers (λ n. Number n.first ∷ Number n.second ∷ Number n.third ∷ []) (λ n. Zeroed n.first n.second n.third) (codes "zeroed") threes (λ n. tt)
     (λ n. refl) texts command e
-verb_says verb.Adopt texts command e =
+verb_says (verb.Bytes of_bytes.Adopt) texts command e =
     said_is bytes_for_of (λ n. Number n.0 ∷ Digits n.1 ∷ []) (λ n. Adopt n.0 n.1) (codes "adopt") bytes_for (λ n. tt) (λ n. refl) texts command e
 verb_says verb.Static texts command e = static_is texts command e
-verb_says verb.Bytes texts command e =
+verb_says (verb.Bytes of_bytes.Bytes) texts command e =
     said_is bytes_for_of (λ n. Number n.0 ∷ Digits n.1 ∷ []) (λ n. FromBytes n.0 n.1) (codes "bytes") bytes_for (λ n. tt) (λ n. refl) texts command e
-verb_says verb.Put texts command e =
+verb_says (verb.Bytes of_bytes.Put) texts command e =
     said_is bytes_for_of (λ n. Number n.0 ∷ Digits n.1 ∷ []) (λ n. Put n.0 n.1) (codes "put") bytes_for (λ n. tt) (λ n. refl) texts command e
 verb_says verb.Fill texts command e = fill_is texts command e
-verb_says verb.SetLen texts command e =
+verb_says (verb.Two of_two.SetLen) texts command e =
     said_is two_numbers (λ n. Number n.0 ∷ Number n.1 ∷ []) (λ n. SetLen n.0 n.1) (codes "setlen") two (λ n. tt) (λ n. refl) texts command e
-verb_says verb.Truncate texts command e =
+verb_says (verb.Two of_two.Truncate) texts command e =
     said_is two_numbers (λ n. Number n.0 ∷ Number n.1 ∷ []) (λ n. Truncate n.0 n.1) (codes "truncate") two (λ n. tt) (λ n. refl) texts command e
-verb_says verb.Clear texts command e = said_is one_number (λ n. Number n ∷ []) Clear (codes "clear") one (λ n. tt) (λ n. refl) texts command e
-verb_says verb.Overwrite texts command e =
+verb_says (verb.One of_one.Clear) texts command e = said_is one_number (λ n. Number n ∷ []) Clear (codes "clear") one (λ n. tt) (λ n. refl) texts command e
+verb_says (verb.Bytes of_bytes.Overwrite) texts command e =
     said_is bytes_for_of (λ n. Number n.0 ∷ Digits n.1 ∷ []) (λ n. Overwrite n.0 n.1) (codes "overwrite") bytes_for (λ n. tt) (λ n. refl) texts command e
-verb_says verb.Freeze texts command e =
+verb_says (verb.Two of_two.Freeze) texts command e =
     said_is two_numbers (λ n. Number n.0 ∷ Number n.1 ∷ []) (λ n. Freeze n.0 n.1) (codes "freeze") two (λ n. tt) (λ n. refl) texts command e
-verb_says verb.Recover texts command e =
+verb_says (verb.Two of_two.Recover) texts command e =
     said_is two_numbers (λ n. Number n.0 ∷ Number n.1 ∷ []) (λ n. Recover n.0 n.1) (codes "recover") two (λ n. tt) (λ n. refl) texts command e
-verb_says verb.Clone texts command e =
+verb_says (verb.Two of_two.Clone) texts command e =
     said_is two_numbers (λ n. Number n.0 ∷ Number n.1 ∷ []) (λ n. Clone n.0 n.1) (codes "clone") two (λ n. tt) (λ n. refl) texts command e
 verb_says verb.Slice texts command e = slice_is texts command e
-verb_says verb.Split texts command e =
+verb_says (verb.Three of_three.Split) texts command e =
     said_is three_numbers (λ n. Number n.first ∷ Number n.second ∷ Number n.third ∷ []) (λ n. Split n.first n.second n.third) (codes "split") threes (λ n. tt)
     (λ n. refl) texts command e
-verb_says verb.Advance texts command e =
+verb_says (verb.Two of_two.Advance) texts command e =
     said_is two_numbers (λ n. Number n.0 ∷ Number n.1 ∷ []) (λ n. Advance n.0 n.1) (codes "advance") two (λ n. tt) (λ n. refl) texts command e
-verb_says verb.Take texts command e =
+verb_says (verb.Two of_two.Take) texts command e =
     said_is two_numbers (λ n. Number n.0 ∷ Number n.1 ∷ []) (λ n. Take n.0 n.1) (codes "take") two (λ n. tt) (λ n. refl) texts command e
-verb_says verb.Gather texts command e =
+verb_says (verb.Numbers of_numbers.Gather) texts command e =
     said_is numbers_for_of (λ n. Number n.0 ∷ map Number n.1) (λ n. Gather n.0 n.1) (codes "gather") numbers_for (λ n. tt) (λ n. refl) texts command e
-verb_says verb.GatherMut texts command e =
+verb_says (verb.Numbers of_numbers.GatherMut) texts command e =
     said_is numbers_for_of (λ n. Number n.0 ∷ map Number n.1) (λ n. GatherMut n.0 n.1) (codes "gathermut") numbers_for (λ n. tt) (λ n. refl) texts command e
-verb_says verb.Append texts command e =
+verb_says (verb.Two of_two.Append) texts command e =
     said_is two_numbers (λ n. Number n.0 ∷ Number n.1 ∷ []) (λ n. Append n.0 n.1) (codes "append") two (λ n. tt) (λ n. refl) texts command e
-verb_says verb.Prepend texts command e =
+verb_says (verb.Two of_two.Prepend) texts command e =
     said_is two_numbers (λ n. Number n.0 ∷ Number n.1 ∷ []) (λ n. Prepend n.0 n.1) (codes "prepend") two (λ n. tt) (λ n. refl) texts command e
-verb_says verb.Coalesce texts command e =
+verb_says (verb.Two of_two.Coalesce) texts command e =
     said_is two_numbers (λ n. Number n.0 ∷ Number n.1 ∷ []) (λ n. Coalesce n.0 n.1) (codes "coalesce") two (λ n. tt) (λ n. refl) texts command e
 verb_says verb.Build texts command e = build_is texts command e
-verb_says verb.Encode texts command e =
+verb_says (verb.Two of_two.Encode) texts command e =
     said_is two_numbers (λ n. Number n.0 ∷ Number n.1 ∷ []) (λ n. Encode n.0 n.1) (codes "encode") two (λ n. tt) (λ n. refl) texts command e
-verb_says verb.Decode texts command e =
-    said_is four_numbers (λ n. Number n.first ∷ Number n.second ∷ Number n.third ∷ Number n.fourth ∷ []) (λ n. Decode n.first n.second n.third n.fourth)
-    (codes "decode") fours (λ n. tt) (λ n. refl) texts command e
-verb_says verb.Drop texts command e = said_is one_number (λ n. Number n ∷ []) Drop (codes "drop") one (λ n. tt) (λ n. refl) texts command e
-verb_says verb.Show texts command e = said_is one_number (λ n. Number n ∷ []) Show (codes "show") one (λ n. tt) (λ n. refl) texts command e
+verb_says verb.Decode texts command e = decode_is texts command e
+verb_says (verb.One of_one.Drop) texts command e = said_is one_number (λ n. Number n ∷ []) Drop (codes "drop") one (λ n. tt) (λ n. refl) texts command e
+verb_says (verb.One of_one.Show) texts command e = said_is one_number (λ n. Number n ∷ []) Show (codes "show") one (λ n. tt) (λ n. refl) texts command e
 
 says_by : (word : List ℕ) (texts : List (List ℕ)) (command : Command) (o : Option Verb) → verb_of word ≡ o
     → option_and_then (λ verb. said_by verb texts) o ≡ Some command → Says command (word ∷ texts)
@@ -575,8 +578,8 @@ texts_back (Build dst capacity items) first texts stands s =
 texts_back (Encode src dst) first texts stands s =
     said_back two_numbers (λ n. Number n.0 ∷ Number n.1 ∷ []) (λ n. Encode n.0 n.1) (codes "encode") two (λ texts. refl) texts (src, dst) s
 texts_back (Decode src dst lo hi) first texts stands s =
-    said_back four_numbers (λ n. Number n.first ∷ Number n.second ∷ Number n.third ∷ Number n.fourth ∷ []) (λ n. Decode n.first n.second n.third n.fourth)
-    (codes "decode") fours (λ texts. refl) texts (four src dst lo hi) s
+    whole_back three_numbers (λ n. Number n.first ∷ Number n.second ∷ Number n.third ∷ []) (λ src n. Decode src n.first n.second n.third) (codes "decode")
+    threes (λ text texts. refl) texts src (three dst lo hi) s
 texts_back (Drop target) first texts stands s = said_back one_number (λ n. Number n ∷ []) Drop (codes "drop") one (λ texts. refl) texts target s
 texts_back (Show target) first texts stands s = said_back one_number (λ n. Number n ∷ []) Show (codes "show") one (λ texts. refl) texts target s
 

@@ -43,7 +43,7 @@ impl<T: Drop> From<AllocFailed<T>> for LineError {
 /// The words of a line that are still to be read. Nothing is kept of them but where they begin.
 #[derive(Drop)]
 pub struct Words<'a> {
-    rest: Option<&'a str>,
+    rest: Option<&'a [u8]>,
 }
 
 impl<'a> Model for Words<'a> {
@@ -57,18 +57,18 @@ impl<'a> Model for Words<'a> {
 
 impl<'a> Words<'a> {
     /// All words of a line.
-    pub fn of(line: &'a str) -> Words<'a>
+    pub fn of(line: &'a [u8]) -> Words<'a>
         ensures { result ≡ words_of line.now }
     {
         Words { rest: Some(line) }
     }
 
     /// Takes the next word, if there is one.
-    pub fn next_word(&mut self) -> Option<&'a str>
+    pub fn next_word(&mut self) -> Option<&'a [u8]>
         ensures { MatchOption result ((self.old ≡ []) × (self.new ≡ [])) (λ word. self.old ≡ word.now ∷ self.new) }
     {
         let line = self.rest?;
-        match memchr(b' ', line.as_bytes()) {
+        match memchr(b' ', line) {
             Some(end) => {
                 self.rest = Some(&line[end + 1..]);
                 Some(&line[..end])
@@ -78,6 +78,22 @@ impl<'a> Words<'a> {
                 Some(line)
             }
         }
+    }
+
+    /// Takes the first word of a line. It is found byte by byte, since it is short.
+    #[inline(always)]
+    pub fn first_word(&mut self) -> Option<&'a [u8]>
+        ensures { MatchOption result ((self.old ≡ []) × (self.new ≡ [])) (λ word. self.old ≡ word.now ∷ self.new) }
+    {
+        let line = self.rest?;
+        for place in 0..line.len() {
+            if line[place] == b' ' {
+                self.rest = Some(&line[place + 1..]);
+                return Some(&line[..place]);
+            }
+        }
+        self.rest = None;
+        Some(line)
     }
 
     /// Takes the next word, which is a number.
@@ -121,8 +137,8 @@ impl<'a> Words<'a> {
         ensures err { IfErr result (λ error. (error ≡ LineError.Memory) ⊎ (numbers_of self.old ≡ None)) }
     {
         let mut all = Vec::new(alloc);
-        while let Some(word) = self.next_word() {
-            all.push(number(word)?)?;
+        while self.rest.is_some() {
+            all.push(self.number()?)?;
         }
         Ok(all)
     }
@@ -132,28 +148,27 @@ impl<'a> Words<'a> {
         ensures ok { IfOk result (λ _. self.old ≡ []) }
         ensures err { IfErr result (λ error. (error ≡ LineError.NoCommand) × (1 ≤ length self.old)) }
     {
-        match self.next_word() {
-            Some(_) => Err(LineError::NoCommand),
-            None => Ok(()),
+        if self.rest.is_some() {
+            return Err(LineError::NoCommand);
         }
+        Ok(())
     }
 }
 
 // The number before a line, up to its first space, and what follows that space, if there is one.
-fn front_number(line: &str) -> Result<(usize, Option<&str>), LineError>
+fn front_number(line: &[u8]) -> Result<(usize, Option<&[u8]>), LineError>
     ensures ok { IfOk result (λ n. (word : List ℕ) × (words_of line.now ≡ word ∷ words_left n.1) × (number_of word ≡ Some n.0)) }
     ensures err { IfErr result (λ error. (error ≡ LineError.NoCommand) × (first_number (words_of line.now) ≡ None)) }
 {
-    let bytes = line.as_bytes();
-    if bytes.is_empty() {
+    if line.is_empty() {
         return Err(LineError::NoCommand);
     }
     let mut n = 0;
-    for place in 0..bytes.len() {
-        if bytes[place] == b' ' && place > 0 {
+    for place in 0..line.len() {
+        if line[place] == b' ' && place > 0 {
             return Ok((n, Some(&line[place + 1..])));
         }
-        let Some(more) = with_digit(n, bytes[place]) else {
+        let Some(more) = with_digit(n, line[place]) else {
             return Err(LineError::NoCommand);
         };
         n = more;
@@ -173,22 +188,25 @@ fn with_digit(n: usize, digit: u8) -> Option<usize>
 }
 
 /// Decimal digits, up to the largest number.
-pub fn number(word: &str) -> Result<usize, LineError>
+pub fn number(word: &[u8]) -> Result<usize, LineError>
     ensures ok { IfOk result (λ n. number_of word.now ≡ Some n) }
     ensures err { IfErr result (λ error. (error ≡ LineError.NoCommand) × (number_of word.now ≡ None)) }
 {
-    let first = word.as_bytes().first().copied().unwrap_or(0);
-    if first == b'+' {
+    if word.is_empty() {
         return Err(LineError::NoCommand);
     }
-    match word.parse::<usize>() {
-        Ok(n) => Ok(n),
-        Err(_) => Err(LineError::NoCommand),
+    let mut value = 0;
+    for place in 0..word.len() {
+        let Some(more) = with_digit(value, word[place]) else {
+            return Err(LineError::NoCommand);
+        };
+        value = more;
     }
+    Ok(value)
 }
 
 /// A number of at most 255.
-pub fn byte(word: &str) -> Result<u8, LineError>
+pub fn byte(word: &[u8]) -> Result<u8, LineError>
     ensures ok { IfOk result (λ n. byte_of word.now ≡ Some n) }
     ensures err { IfErr result (λ error. (error ≡ LineError.NoCommand) × (byte_of word.now ≡ None)) }
 {
@@ -196,11 +214,11 @@ pub fn byte(word: &str) -> Result<u8, LineError>
 }
 
 /// An even number of hexadecimal digits, at least two, or a dash for no bytes.
-pub fn bytes(alloc: Global, word: &str) -> Result<Vec<u8>, LineError>
+pub fn bytes(alloc: Global, word: &[u8]) -> Result<Vec<u8>, LineError>
     ensures ok { IfOk result (λ bytes. bytes_of word.now ≡ Some bytes.items) }
     ensures err { IfErr result (λ error. (error ≡ LineError.Memory) ⊎ (bytes_of word.now ≡ None)) }
 {
-    if word == "-" {
+    if word == b"-".as_slice() {
         return Ok(Vec::new(alloc));
     }
     if word.is_empty() {

@@ -1,45 +1,48 @@
 // Named buffers, line by line.
-ghost use Rattle.std.specs.Prelude.{IfSome, OnOk, string_bytes};
-ghost use Rattle.std.specs.Io.Buffered.{reader_remaining};
-ghost use Rattle.iobuf_lines.specs.Buffers.Printed.{IsReplied};
+ghost use Rattle.std.specs.Prelude.{IfSome};
+ghost use Rattle.iobuf.specs.Reading.{input_left};
 ghost use Rattle.iobuf.specs.Session.{AnswersLine, Serves};
 
 use crate::fault::{Obstacle, Stop};
-use crate::input::{Input, text};
+use crate::input::{Input, stop_at, text};
 use crate::output::Output;
 use iobuf_lines::buffers::line::command;
 use iobuf_lines::buffers::reply::{push_line, push_shown};
 use iobuf_lines::words::LineError;
-use iobufs_run::command::Cmd;
+use iobufs_run::command::{Cmd, Reply};
 use iobufs_run::table::Table;
-use std::alloc::{AllocError, Global};
+use std::alloc::Global;
 use std::io::{Read, Write};
 
 // How many names there are.
 const NAMES: usize = 16;
 
-// Does a command, and puts the line of its reply after a text.
-fn push_answer(table: &mut Table, cmd: &Cmd, text: &mut String) -> Result<(), AllocError>
-    ensures { OnOk result (IsReplied table.old cmd.now table.new (string_bytes text.old) (string_bytes text.new)) }
-{
-    match cmd {
-        Cmd::Show { target } => push_shown(table, *target, text),
-        cmd => push_line(&table.apply(cmd), text),
-    }
-}
-
-// Answers one line, and prints its reply.
-fn answer(alloc: Global, table: &mut Table, line: &str, reply: &mut String) -> Result<(), LineError>
-    ensures { AnswersLine line.now table.old table.new (string_bytes reply.new) result }
+// Executes the command of a line, and returns the line of its reply. For `ok`, the most frequent reply, nothing is copied.
+fn answer<'r>(
+    alloc: Global,
+    table: &mut Table,
+    line: &[u8],
+    reply: &'r mut String,
+) -> Result<&'r [u8], LineError>
+    ensures { AnswersLine line.now table.old table.new result }
 {
     let cmd = match command(alloc, line) {
         Ok(cmd) => cmd,
         Err(error) => return Err(error),
     };
     reply.clear();
-    match push_answer(table, &cmd, reply) {
-        Ok(()) => Ok(()),
-        Err(_) => Err(LineError::Memory),
+    if let Cmd::Show { target } = &cmd {
+        return match push_shown(table, *target, reply) {
+            Ok(()) => Ok(reply.as_bytes()),
+            Err(_) => Err(LineError::Memory),
+        };
+    }
+    match table.apply(&cmd) {
+        Reply::Done => Ok(b"ok\n"),
+        other => match push_line(&other, reply) {
+            Ok(()) => Ok(reply.as_bytes()),
+            Err(_) => Err(LineError::Memory),
+        },
     }
 }
 
@@ -49,7 +52,7 @@ pub fn serve<R: Read + Drop, W: Write>(
     input: &mut Input<R>,
     output: &mut Output<W>,
 ) -> Result<(), Stop>
-    ensures { IfSome (reader_remaining R.remaining input.old.reader) (λ read. IfSome (W.contents output.old.writer) (λ before.
+    ensures { IfSome (input_left R.remaining input.old) (λ read. IfSome (W.contents output.old.writer) (λ before.
         Serves read before (W.contents output.new.writer) result)) }
 {
     let Ok(mut table) = Table::new(alloc, NAMES) else {
@@ -62,16 +65,13 @@ pub fn serve<R: Read + Drop, W: Write>(
             Ok(false) => return Ok(()),
             Err(fault) => return Err(Stop::CannotContinue(fault)),
         }
-        let line = match text(input.line()) {
-            Ok(line) => line,
-            Err(fault) => return Err(Stop::CannotContinue(fault)),
-        };
-        match answer(alloc, &mut table, line, &mut reply) {
-            Ok(()) => {}
-            Err(LineError::NoCommand) => return Err(Stop::BadCommand(number)),
+        let line = text(input.line());
+        let printed = match answer(alloc, &mut table, line, &mut reply) {
+            Ok(printed) => printed,
+            Err(LineError::NoCommand) => return Err(stop_at(line, number)),
             Err(LineError::Memory) => return Err(Stop::CannotContinue(Obstacle::Memory)),
-        }
-        if let Err(fault) = output.take(reply.as_bytes()) {
+        };
+        if let Err(fault) = output.take(printed) {
             return Err(Stop::CannotContinue(fault));
         }
     }

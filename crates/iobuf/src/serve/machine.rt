@@ -1,10 +1,10 @@
 // The owner machine, line by line.
 ghost use Rattle.std.specs.Prelude.{IfSome};
-ghost use Rattle.std.specs.Io.Buffered.{reader_remaining};
 ghost use Rattle.iobuf.specs.MachineSession.{AnswersMachineLine, MakesMachine, ServesMachine};
+ghost use Rattle.iobuf.specs.Reading.{input_left};
 
 use crate::fault::{Obstacle, Stop};
-use crate::input::{Input, text};
+use crate::input::{Input, stop_at, text};
 use crate::output::Output;
 use iobuf_lines::owner::line::{first_line, further_line};
 use iobuf_lines::owner::session;
@@ -19,7 +19,7 @@ pub fn serve<R: Read + Drop, W: Write>(
     input: &mut Input<R>,
     output: &mut Output<W>,
 ) -> Result<(), Stop>
-    ensures { IfSome (reader_remaining R.remaining input.old.reader) (λ read. IfSome (W.contents output.old.writer) (λ before.
+    ensures { IfSome (input_left R.remaining input.old) (λ read. IfSome (W.contents output.old.writer) (λ before.
         ServesMachine read before (W.contents output.new.writer) result)) }
 {
     match input.read_line(output) {
@@ -27,13 +27,10 @@ pub fn serve<R: Read + Drop, W: Write>(
         Ok(false) => return Ok(()),
         Err(fault) => return Err(Stop::CannotContinue(fault)),
     }
-    let first = match text(input.line()) {
-        Ok(first) => first,
-        Err(fault) => return Err(Stop::CannotContinue(fault)),
-    };
+    let first = text(input.line());
     let mut machine = match begin(alloc, first) {
         Ok(machine) => machine,
-        Err(LineError::NoCommand) => return Err(Stop::BadCommand(1)),
+        Err(LineError::NoCommand) => return Err(stop_at(first, 1)),
         Err(LineError::Memory) => return Err(Stop::CannotContinue(Obstacle::Memory)),
     };
     if let Err(fault) = output.take(b"ok\n") {
@@ -46,13 +43,10 @@ pub fn serve<R: Read + Drop, W: Write>(
             Ok(false) => return Ok(()),
             Err(fault) => return Err(Stop::CannotContinue(fault)),
         }
-        let line = match text(input.line()) {
-            Ok(line) => line,
-            Err(fault) => return Err(Stop::CannotContinue(fault)),
-        };
+        let line = text(input.line());
         match answer(&mut machine, line, &mut reply) {
             Ok(()) => {}
-            Err(LineError::NoCommand) => return Err(Stop::BadCommand(number)),
+            Err(LineError::NoCommand) => return Err(stop_at(line, number)),
             Err(LineError::Memory) => return Err(Stop::CannotContinue(Obstacle::Memory)),
         }
         if let Err(fault) = output.take(&reply) {
@@ -63,7 +57,7 @@ pub fn serve<R: Read + Drop, W: Write>(
 }
 
 // Makes the machine that the first line asks for.
-fn begin(alloc: Global, line: &str) -> Result<Machine, LineError>
+fn begin(alloc: Global, line: &[u8]) -> Result<Machine, LineError>
     ensures { MakesMachine line.now result }
 {
     let Ok(setup) = first_line(line) else {
@@ -76,7 +70,7 @@ fn begin(alloc: Global, line: &str) -> Result<Machine, LineError>
 }
 
 // Answers a line, and prints its answer.
-fn answer(machine: &mut Machine, line: &str, reply: &mut Vec<u8>) -> Result<(), LineError>
+fn answer(machine: &mut Machine, line: &[u8], reply: &mut Vec<u8>) -> Result<(), LineError>
     ensures { AnswersMachineLine line.now machine.old machine.new reply.new.items result }
 {
     let Ok(ask) = further_line(line) else {

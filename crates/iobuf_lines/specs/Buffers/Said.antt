@@ -4,51 +4,63 @@
 --     making_of, acting_of  what the first word asks for: to put something under a name, to act on what one holds;
 --     verb_of               either
 --     said_by, static_said    the command that the words after it say; of `static`, if they name a run of letters
+--     one_command, two_command, three_command,    the command of a verb and of what its words say
+--     bytes_command, numbers_command
 use Rattle.std.specs.Prelude.{ℕ, if◌then◌else◌, List, [], ◌∷◌, codes, Option, Some, None}
 use Rattle.std.specs.Option.{option_map, option_and_then, option_or}
 use Rattle.std.specs.Str.{bytes_eq}
 use Rattle.iobuf_lines.specs.Words.{words_of}
 use Rattle.iobuf_lines.specs.declared.buffers.line.Verb.{Verb}
 use Rattle.iobuf_lines.specs.declared.buffers.line.Verb.TheVariants as verb
-use Rattle.iobuf_lines.specs.Buffers.Commands.{Command, NewMut, Zeroed, Adopt, Static, FromBytes, Put, SetLen, Truncate, Clear, Overwrite, Freeze, Recover, Clone, Split, Advance, Take, Gather, GatherMut, Append, Prepend, Coalesce, Encode, Decode, Drop, Show}
-use Rattle.iobuf_lines.specs.Buffers.Shapes.{one_number, two_numbers, three_numbers, four_numbers, bytes_for_of, numbers_for_of, fill_of, slice_said, letters_of, build_of}
+use Rattle.iobuf_lines.specs.declared.buffers.line.WithOne.{WithOne}
+use Rattle.iobuf_lines.specs.declared.buffers.line.WithOne.TheVariants as of_one
+use Rattle.iobuf_lines.specs.declared.buffers.line.WithTwo.{WithTwo}
+use Rattle.iobuf_lines.specs.declared.buffers.line.WithTwo.TheVariants as of_two
+use Rattle.iobuf_lines.specs.declared.buffers.line.WithThree.{WithThree}
+use Rattle.iobuf_lines.specs.declared.buffers.line.WithThree.TheVariants as of_three
+use Rattle.iobuf_lines.specs.declared.buffers.line.WithBytes.{WithBytes}
+use Rattle.iobuf_lines.specs.declared.buffers.line.WithBytes.TheVariants as of_bytes
+use Rattle.iobuf_lines.specs.declared.buffers.line.WithNumbers.{WithNumbers}
+use Rattle.iobuf_lines.specs.declared.buffers.line.WithNumbers.TheVariants as of_numbers
+use Rattle.iobuf_lines.specs.Buffers.Commands.{Command, NewMut, Zeroed, Adopt, Static, FromBytes, Put, SetLen, Truncate, Clear, Overwrite, Freeze, Recover, Clone, Split, Advance, Take, Gather, GatherMut, Append, Prepend, Coalesce, Encode, Drop, Show}
+use Rattle.iobuf_lines.specs.Buffers.Shapes.{one_number, two_numbers, three_numbers, bytes_for_of, numbers_for_of, fill_of, slice_said, letters_of, build_of, decode_said}
 
 -- the command of a word that puts something under a name
 abbrev pub making_of : List ℕ → Option Verb
 making_of word =
-    if bytes_eq word (codes "new") then Some verb.New
-    else if bytes_eq word (codes "zeroed") then Some verb.Zeroed
-    else if bytes_eq word (codes "adopt") then Some verb.Adopt
+    if bytes_eq word (codes "new") then Some (verb.Three of_three.New)
+    else if bytes_eq word (codes "zeroed") then Some (verb.Three of_three.Zeroed)
+    else if bytes_eq word (codes "adopt") then Some (verb.Bytes of_bytes.Adopt)
     else if bytes_eq word (codes "static") then Some verb.Static
-    else if bytes_eq word (codes "bytes") then Some verb.Bytes
-    else if bytes_eq word (codes "freeze") then Some verb.Freeze
-    else if bytes_eq word (codes "recover") then Some verb.Recover
-    else if bytes_eq word (codes "clone") then Some verb.Clone
+    else if bytes_eq word (codes "bytes") then Some (verb.Bytes of_bytes.Bytes)
+    else if bytes_eq word (codes "freeze") then Some (verb.Two of_two.Freeze)
+    else if bytes_eq word (codes "recover") then Some (verb.Two of_two.Recover)
+    else if bytes_eq word (codes "clone") then Some (verb.Two of_two.Clone)
     else if bytes_eq word (codes "slice") then Some verb.Slice
-    else if bytes_eq word (codes "split") then Some verb.Split
-    else if bytes_eq word (codes "gather") then Some verb.Gather
-    else if bytes_eq word (codes "gathermut") then Some verb.GatherMut
-    else if bytes_eq word (codes "coalesce") then Some verb.Coalesce
+    else if bytes_eq word (codes "split") then Some (verb.Three of_three.Split)
+    else if bytes_eq word (codes "gather") then Some (verb.Numbers of_numbers.Gather)
+    else if bytes_eq word (codes "gathermut") then Some (verb.Numbers of_numbers.GatherMut)
+    else if bytes_eq word (codes "coalesce") then Some (verb.Two of_two.Coalesce)
     else if bytes_eq word (codes "build") then Some verb.Build
-    else if bytes_eq word (codes "encode") then Some verb.Encode
+    else if bytes_eq word (codes "encode") then Some (verb.Two of_two.Encode)
     else if bytes_eq word (codes "decode") then Some verb.Decode
     else None
 
 -- the command of a word that acts on the buffer of a name
 abbrev pub acting_of : List ℕ → Option Verb
 acting_of word =
-    if bytes_eq word (codes "put") then Some verb.Put
+    if bytes_eq word (codes "put") then Some (verb.Bytes of_bytes.Put)
     else if bytes_eq word (codes "fill") then Some verb.Fill
-    else if bytes_eq word (codes "setlen") then Some verb.SetLen
-    else if bytes_eq word (codes "truncate") then Some verb.Truncate
-    else if bytes_eq word (codes "clear") then Some verb.Clear
-    else if bytes_eq word (codes "overwrite") then Some verb.Overwrite
-    else if bytes_eq word (codes "advance") then Some verb.Advance
-    else if bytes_eq word (codes "take") then Some verb.Take
-    else if bytes_eq word (codes "append") then Some verb.Append
-    else if bytes_eq word (codes "prepend") then Some verb.Prepend
-    else if bytes_eq word (codes "drop") then Some verb.Drop
-    else if bytes_eq word (codes "show") then Some verb.Show
+    else if bytes_eq word (codes "setlen") then Some (verb.Two of_two.SetLen)
+    else if bytes_eq word (codes "truncate") then Some (verb.Two of_two.Truncate)
+    else if bytes_eq word (codes "clear") then Some (verb.One of_one.Clear)
+    else if bytes_eq word (codes "overwrite") then Some (verb.Bytes of_bytes.Overwrite)
+    else if bytes_eq word (codes "advance") then Some (verb.Two of_two.Advance)
+    else if bytes_eq word (codes "take") then Some (verb.Two of_two.Take)
+    else if bytes_eq word (codes "append") then Some (verb.Two of_two.Append)
+    else if bytes_eq word (codes "prepend") then Some (verb.Two of_two.Prepend)
+    else if bytes_eq word (codes "drop") then Some (verb.One of_one.Drop)
+    else if bytes_eq word (codes "show") then Some (verb.One of_one.Show)
     else None
 
 -- the command that a first word names
@@ -59,36 +71,56 @@ verb_of word = option_or (making_of word) (acting_of word)
 abbrev pub static_said : List (List ℕ) → Option Command
 static_said words = option_and_then (λ n. option_map (Static n.first) (letters_of n.second n.third)) (three_numbers words)
 
+-- the command of one number
+abbrev pub one_command : WithOne → ℕ → Command
+one_command of_one.Clear n = Clear n
+one_command of_one.Drop n = Drop n
+one_command of_one.Show n = Show n
+
+-- the command of two numbers
+abbrev pub two_command : WithTwo → ℕ → ℕ → Command
+two_command of_two.SetLen a b = SetLen a b
+two_command of_two.Truncate a b = Truncate a b
+two_command of_two.Freeze a b = Freeze a b
+two_command of_two.Recover a b = Recover a b
+two_command of_two.Clone a b = Clone a b
+two_command of_two.Advance a b = Advance a b
+two_command of_two.Take a b = Take a b
+two_command of_two.Append a b = Append a b
+two_command of_two.Prepend a b = Prepend a b
+two_command of_two.Coalesce a b = Coalesce a b
+two_command of_two.Encode a b = Encode a b
+
+-- the command of three numbers
+abbrev pub three_command : WithThree → ℕ → ℕ → ℕ → Command
+three_command of_three.New a b c = NewMut a b c
+three_command of_three.Zeroed a b c = Zeroed a b c
+three_command of_three.Split a b c = Split a b c
+
+-- the command of a number and bytes
+abbrev pub bytes_command : WithBytes → ℕ → List ℕ → Command
+bytes_command of_bytes.Adopt n bytes = Adopt n bytes
+bytes_command of_bytes.Bytes n bytes = FromBytes n bytes
+bytes_command of_bytes.Put n bytes = Put n bytes
+bytes_command of_bytes.Overwrite n bytes = Overwrite n bytes
+
+-- the command of a number and any number of numbers
+abbrev pub numbers_command : WithNumbers → ℕ → List ℕ → Command
+numbers_command of_numbers.Gather n others = Gather n others
+numbers_command of_numbers.GatherMut n others = GatherMut n others
+
 -- the command that the words after the first say
 abbrev pub said_by : Verb → List (List ℕ) → Option Command
-said_by verb.New words = option_map (λ n. NewMut n.first n.second n.third) (three_numbers words)
-said_by verb.Zeroed words = option_map (λ n. Zeroed n.first n.second n.third) (three_numbers words)
-said_by verb.Adopt words = option_map (λ n. Adopt n.0 n.1) (bytes_for_of words)
+said_by (verb.One v) words = option_map (one_command v) (one_number words)
+said_by (verb.Two v) words = option_map (λ n. two_command v n.0 n.1) (two_numbers words)
+said_by (verb.Three v) words = option_map (λ n. three_command v n.first n.second n.third) (three_numbers words)
+said_by (verb.Bytes v) words = option_map (λ n. bytes_command v n.0 n.1) (bytes_for_of words)
+said_by (verb.Numbers v) words = option_map (λ n. numbers_command v n.0 n.1) (numbers_for_of words)
 said_by verb.Static words = static_said words
-said_by verb.Bytes words = option_map (λ n. FromBytes n.0 n.1) (bytes_for_of words)
-said_by verb.Put words = option_map (λ n. Put n.0 n.1) (bytes_for_of words)
 said_by verb.Fill words = fill_of words
-said_by verb.SetLen words = option_map (λ n. SetLen n.0 n.1) (two_numbers words)
-said_by verb.Truncate words = option_map (λ n. Truncate n.0 n.1) (two_numbers words)
-said_by verb.Clear words = option_map Clear (one_number words)
-said_by verb.Overwrite words = option_map (λ n. Overwrite n.0 n.1) (bytes_for_of words)
-said_by verb.Freeze words = option_map (λ n. Freeze n.0 n.1) (two_numbers words)
-said_by verb.Recover words = option_map (λ n. Recover n.0 n.1) (two_numbers words)
-said_by verb.Clone words = option_map (λ n. Clone n.0 n.1) (two_numbers words)
 said_by verb.Slice words = slice_said words
-said_by verb.Split words = option_map (λ n. Split n.first n.second n.third) (three_numbers words)
-said_by verb.Advance words = option_map (λ n. Advance n.0 n.1) (two_numbers words)
-said_by verb.Take words = option_map (λ n. Take n.0 n.1) (two_numbers words)
-said_by verb.Gather words = option_map (λ n. Gather n.0 n.1) (numbers_for_of words)
-said_by verb.GatherMut words = option_map (λ n. GatherMut n.0 n.1) (numbers_for_of words)
-said_by verb.Append words = option_map (λ n. Append n.0 n.1) (two_numbers words)
-said_by verb.Prepend words = option_map (λ n. Prepend n.0 n.1) (two_numbers words)
-said_by verb.Coalesce words = option_map (λ n. Coalesce n.0 n.1) (two_numbers words)
 said_by verb.Build words = build_of words
-said_by verb.Encode words = option_map (λ n. Encode n.0 n.1) (two_numbers words)
-said_by verb.Decode words = option_map (λ n. Decode n.first n.second n.third n.fourth) (four_numbers words)
-said_by verb.Drop words = option_map Drop (one_number words)
-said_by verb.Show words = option_map Show (one_number words)
+said_by verb.Decode words = decode_said words
 
 -- the command that words say
 abbrev pub command_by : List (List ℕ) → Option Command

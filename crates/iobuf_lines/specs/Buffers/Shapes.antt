@@ -1,10 +1,11 @@
 -- The values that the words up to the end of a line say.
 --     only_word, of_both                       a last word; a value made of two words, if both say one
---     Three, three, Four, four             three numbers, and four
---     one_number, two_numbers, three_numbers, four_numbers    one to four words, each a number
+--     Three, three                         three numbers
+--     one_number, two_numbers, three_numbers    one to three words, each a number
 --     lone_bytes_of, bytes_for_of          bytes, and a number followed by bytes
 --     numbers_for_of                       a number followed by any number of numbers
 --     byte_and_one_of, fill_of             a byte and a number; after a name they say `fill`
+--     decode_said                          four numbers, which say `decode`
 --     bound_said, first_bound                the end of a range: `i3` with the offset, `e3` without it, `u` for none;
 --                                          and such a first word
 --     last_bound_of, bounds_of             one end, and both
@@ -19,7 +20,7 @@ use Rattle.std.specs.Prelude.{ℕ, ◌==◌, ◌&&◌, nat_le, if◌then◌else�
 use Rattle.std.specs.Option.{option_map}
 use Rattle.std.specs.Str.{bytes_eq}
 use Rattle.iobuf_lines.specs.Words.{both, byte_of, bytes_of, number_of, numbers_of, put_first}
-use Rattle.iobuf_lines.specs.Buffers.Commands.{PlainItem, Inline, Push, Command, Fill, Slice, Build}
+use Rattle.iobuf_lines.specs.Buffers.Commands.{PlainItem, Inline, Push, Command, Fill, Slice, Build, Decode}
 
 -- the value of a word, if no word follows it
 abbrev pub only_word : {A : Type 0} → Option A → List (List ℕ) → Option A
@@ -42,16 +43,6 @@ pub record Three : Type 0 where
 abbrev pub three : ℕ → ℕ → ℕ → Three
 three a b c = record { first = a; second = b; third = c }
 
--- four numbers
-pub record Four : Type 0 where
-  pub first : ℕ
-  pub second : ℕ
-  pub third : ℕ
-  pub fourth : ℕ
-
-abbrev pub four : ℕ → ℕ → ℕ → ℕ → Four
-four a b c d = record { first = a; second = b; third = c; fourth = d }
-
 -- so many numbers, and no word after them
 abbrev pub one_number : List (List ℕ) → Option ℕ
 one_number [] = None
@@ -64,10 +55,6 @@ two_numbers (a ∷ words) = both (number_of a) (one_number words)
 abbrev pub three_numbers : List (List ℕ) → Option Three
 three_numbers [] = None
 three_numbers (a ∷ words) = of_both (λ first n. three first n.0 n.1) (number_of a) (two_numbers words)
-
-abbrev pub four_numbers : List (List ℕ) → Option Four
-four_numbers [] = None
-four_numbers (a ∷ words) = of_both (λ first n. four first n.first n.second n.third) (number_of a) (three_numbers words)
 
 -- bytes, and no word after them
 abbrev pub lone_bytes_of : List (List ℕ) → Option (List ℕ)
@@ -93,6 +80,11 @@ byte_and_one_of (a ∷ words) = both (byte_of a) (one_number words)
 abbrev pub fill_of : List (List ℕ) → Option Command
 fill_of [] = None
 fill_of (a ∷ words) = of_both (λ target n. Fill target n.0 n.1) (number_of a) (byte_and_one_of words)
+
+-- four numbers
+abbrev pub decode_said : List (List ℕ) → Option Command
+decode_said [] = None
+decode_said (a ∷ words) = of_both (λ src n. Decode src n.first n.second n.third) (number_of a) (three_numbers words)
 
 -- a place that is included, `i3`, one that is excluded, `e3`, or none, `u`
 abbrev pub bound_said : List ℕ → Option (Bound ℕ)

@@ -3,55 +3,89 @@ ghost use Rattle.std.specs.Prelude.{◌≡◌, ◌⊎◌, Some, None, IfOk, IfEr
 ghost use Rattle.iobuf_lines.specs.Buffers.Commands.{plain};
 ghost use Rattle.iobuf_lines.specs.Buffers.Said.{acting_of, command_of, making_of, said_by, static_said, verb_of};
 
-use crate::buffers::shapes::{build, bytes_for, fill, four, numbers_for, one, slice, three, two};
+use crate::buffers::shapes::{build, decode, fill, one, slice, three, two};
 use crate::words::{LineError, Words};
-use iobufs_core::codec::RangeCfg;
 use iobufs_run::command::Cmd;
 use std::alloc::Global;
 
-// The command that the first word of a line names.
-#[derive(Clone, Copy, Debug, PartialEq, Eq)]
+// The command that the first word of a line names, by what is after it.
+#[derive(Clone, Copy)]
 enum Verb {
-    New,
-    Zeroed,
-    Adopt,
+    // One number.
+    One(WithOne),
+    // Two numbers.
+    Two(WithTwo),
+    // Three numbers.
+    Three(WithThree),
+    // A number and bytes.
+    Bytes(WithBytes),
+    // A number, and any number of numbers.
+    Numbers(WithNumbers),
     Static,
-    Bytes,
-    Put,
     Fill,
+    Slice,
+    Build,
+    Decode,
+}
+
+// A command of one number.
+#[derive(Clone, Copy)]
+enum WithOne {
+    Clear,
+    Drop,
+    Show,
+}
+
+// A command of two numbers.
+#[derive(Clone, Copy)]
+enum WithTwo {
     SetLen,
     Truncate,
-    Clear,
-    Overwrite,
     Freeze,
     Recover,
     Clone,
-    Slice,
-    Split,
     Advance,
     Take,
-    Gather,
-    GatherMut,
     Append,
     Prepend,
     Coalesce,
-    Build,
     Encode,
-    Decode,
-    Drop,
-    Show,
+}
+
+// A command of three numbers.
+#[derive(Clone, Copy)]
+enum WithThree {
+    New,
+    Zeroed,
+    Split,
+}
+
+// A command of a number and bytes.
+#[derive(Clone, Copy)]
+enum WithBytes {
+    Adopt,
+    Bytes,
+    Put,
+    Overwrite,
+}
+
+// A command of a number, and any number of numbers.
+#[derive(Clone, Copy)]
+enum WithNumbers {
+    Gather,
+    GatherMut,
 }
 
 // The bytes of which static views are made.
 const LETTERS: &[u8] = b"abcdefghijklmnopqrstuvwxyz";
 
 /// The command that a line says, if it says one. Its words are separated by one space each.
-pub fn command(alloc: Global, line: &str) -> Result<Cmd, LineError>
+pub fn command(alloc: Global, line: &[u8]) -> Result<Cmd, LineError>
     ensures ok { IfOk result (λ cmd. command_of line.now ≡ Some (plain cmd)) }
     ensures err { IfErr result (λ error. (error ≡ LineError.Memory) ⊎ (command_of line.now ≡ None)) }
 {
     let mut words = Words::of(line);
-    let Some(word) = words.next_word() else {
+    let Some(word) = words.first_word() else {
         return Err(LineError::NoCommand);
     };
     match verb_named(word) {
@@ -61,114 +95,174 @@ pub fn command(alloc: Global, line: &str) -> Result<Cmd, LineError>
 }
 
 // The command that the first word of a line names, if it names one.
-fn verb_named(word: &str) -> Option<Verb>
+fn verb_named(word: &[u8]) -> Option<Verb>
     ensures { result ≡ verb_of word.now }
 {
     making_named(word).or_else(|| acting_named(word))
 }
 
 // The command that a word names, if it is one that puts something under a name.
-fn making_named(word: &str) -> Option<Verb>
+fn making_named(word: &[u8]) -> Option<Verb>
     ensures { result ≡ making_of word.now }
 {
-    match word.as_bytes() {
-        b"new" => Some(Verb::New),
-        b"zeroed" => Some(Verb::Zeroed),
-        b"adopt" => Some(Verb::Adopt),
+    match word {
+        b"new" => Some(Verb::Three(WithThree::New)),
+        b"zeroed" => Some(Verb::Three(WithThree::Zeroed)),
+        b"adopt" => Some(Verb::Bytes(WithBytes::Adopt)),
         b"static" => Some(Verb::Static),
-        b"bytes" => Some(Verb::Bytes),
-        b"freeze" => Some(Verb::Freeze),
-        b"recover" => Some(Verb::Recover),
-        b"clone" => Some(Verb::Clone),
+        b"bytes" => Some(Verb::Bytes(WithBytes::Bytes)),
+        b"freeze" => Some(Verb::Two(WithTwo::Freeze)),
+        b"recover" => Some(Verb::Two(WithTwo::Recover)),
+        b"clone" => Some(Verb::Two(WithTwo::Clone)),
         b"slice" => Some(Verb::Slice),
-        b"split" => Some(Verb::Split),
-        b"gather" => Some(Verb::Gather),
-        b"gathermut" => Some(Verb::GatherMut),
-        b"coalesce" => Some(Verb::Coalesce),
+        b"split" => Some(Verb::Three(WithThree::Split)),
+        b"gather" => Some(Verb::Numbers(WithNumbers::Gather)),
+        b"gathermut" => Some(Verb::Numbers(WithNumbers::GatherMut)),
+        b"coalesce" => Some(Verb::Two(WithTwo::Coalesce)),
         b"build" => Some(Verb::Build),
-        b"encode" => Some(Verb::Encode),
+        b"encode" => Some(Verb::Two(WithTwo::Encode)),
         b"decode" => Some(Verb::Decode),
         _ => None,
     }
 }
 
 // The command that a word names, if it is one that acts on the buffer of a name.
-fn acting_named(word: &str) -> Option<Verb>
+fn acting_named(word: &[u8]) -> Option<Verb>
     ensures { result ≡ acting_of word.now }
 {
-    match word.as_bytes() {
-        b"put" => Some(Verb::Put),
+    match word {
+        b"put" => Some(Verb::Bytes(WithBytes::Put)),
         b"fill" => Some(Verb::Fill),
-        b"setlen" => Some(Verb::SetLen),
-        b"truncate" => Some(Verb::Truncate),
-        b"clear" => Some(Verb::Clear),
-        b"overwrite" => Some(Verb::Overwrite),
-        b"advance" => Some(Verb::Advance),
-        b"take" => Some(Verb::Take),
-        b"append" => Some(Verb::Append),
-        b"prepend" => Some(Verb::Prepend),
-        b"drop" => Some(Verb::Drop),
-        b"show" => Some(Verb::Show),
+        b"setlen" => Some(Verb::Two(WithTwo::SetLen)),
+        b"truncate" => Some(Verb::Two(WithTwo::Truncate)),
+        b"clear" => Some(Verb::One(WithOne::Clear)),
+        b"overwrite" => Some(Verb::Bytes(WithBytes::Overwrite)),
+        b"advance" => Some(Verb::Two(WithTwo::Advance)),
+        b"take" => Some(Verb::Two(WithTwo::Take)),
+        b"append" => Some(Verb::Two(WithTwo::Append)),
+        b"prepend" => Some(Verb::Two(WithTwo::Prepend)),
+        b"drop" => Some(Verb::One(WithOne::Drop)),
+        b"show" => Some(Verb::One(WithOne::Show)),
         _ => None,
     }
 }
 
-// The command of a line that asks for this, with these words after the first.
+// The command of a line with this verb, whose other words are these. Each shape is read by a function of its own, since a
+// function fills the locals of all its arms with zeros.
 fn said(alloc: Global, verb: Verb, words: &mut Words<'_>) -> Result<Cmd, LineError>
     ensures ok { IfOk result (λ cmd. said_by verb words.old ≡ Some (plain cmd)) }
     ensures err { IfErr result (λ error. (error ≡ LineError.Memory) ⊎ (said_by verb words.old ≡ None)) }
 {
     match verb {
-        Verb::New => three(words).map(|(dst, capacity, align)| Cmd::NewMut {
-            dst,
-            capacity,
-            align,
-        }),
-        Verb::Zeroed => three(words).map(|(dst, len, align)| Cmd::Zeroed { dst, len, align }),
-        Verb::Adopt => bytes_for(alloc, words).map(|(dst, bytes)| Cmd::Adopt { dst, bytes }),
-        Verb::Static => of_static(words),
-        Verb::Bytes => bytes_for(alloc, words).map(|(dst, bytes)| Cmd::FromBytes { dst, bytes }),
-        Verb::Put => bytes_for(alloc, words).map(|(target, bytes)| Cmd::Put { target, bytes }),
-        Verb::Fill => fill(words).map(|(target, byte, n)| Cmd::Fill { target, byte, n }),
-        Verb::SetLen => two(words).map(|(target, n)| Cmd::SetLen { target, n }),
-        Verb::Truncate => two(words).map(|(target, n)| Cmd::Truncate { target, n }),
-        Verb::Clear => one(words).map(|target| Cmd::Clear { target }),
-        Verb::Overwrite => bytes_for(alloc, words).map(|(target, bytes)| Cmd::Overwrite {
-            target,
-            bytes,
-        }),
-        Verb::Freeze => two(words).map(|(src, dst)| Cmd::Freeze { src, dst }),
-        Verb::Recover => two(words).map(|(src, dst)| Cmd::Recover { src, dst }),
-        Verb::Clone => two(words).map(|(src, dst)| Cmd::Clone { src, dst }),
-        Verb::Slice => slice(words).map(|(src, dst, lo, hi)| Cmd::Slice { src, dst, lo, hi }),
-        Verb::Split => three(words).map(|(src, dst, at)| Cmd::Split { src, dst, at }),
-        Verb::Advance => two(words).map(|(target, n)| Cmd::Advance { target, n }),
-        Verb::Take => two(words).map(|(target, n)| Cmd::Take { target, n }),
-        Verb::Gather => numbers_for(alloc, words).map(|(dst, sources)| Cmd::Gather {
-            dst,
-            sources,
-        }),
-        Verb::GatherMut => numbers_for(alloc, words).map(|(dst, sources)| Cmd::GatherMut {
-            dst,
-            sources,
-        }),
-        Verb::Append => two(words).map(|(target, src)| Cmd::Append { target, src }),
-        Verb::Prepend => two(words).map(|(target, src)| Cmd::Prepend { target, src }),
-        Verb::Coalesce => two(words).map(|(src, dst)| Cmd::Coalesce { src, dst }),
+        Verb::One(verb) => said_one(verb, words),
+        Verb::Two(verb) => said_two(verb, words),
+        Verb::Three(verb) => said_three(verb, words),
+        Verb::Bytes(verb) => said_bytes(alloc, verb, words),
+        Verb::Numbers(verb) => said_numbers(alloc, verb, words),
+        Verb::Static => said_static(words),
+        Verb::Fill => fill(words),
+        Verb::Slice => slice(words),
         Verb::Build => build(alloc, words),
-        Verb::Encode => two(words).map(|(src, dst)| Cmd::Encode { src, dst }),
-        Verb::Decode => four(words).map(|(src, dst, lo, hi)| Cmd::Decode {
-            src,
-            dst,
-            range: RangeCfg { lo, hi },
+        Verb::Decode => decode(words),
+    }
+}
+
+// A command of one number.
+#[inline(never)]
+fn said_one(verb: WithOne, words: &mut Words<'_>) -> Result<Cmd, LineError>
+    ensures ok { IfOk result (λ cmd. said_by (Verb.One verb) words.old ≡ Some (plain cmd)) }
+    ensures err { IfErr result (λ error. (error ≡ LineError.NoCommand) × (said_by (Verb.One verb) words.old ≡ None)) }
+{
+    let target = one(words)?;
+    match verb {
+        WithOne::Clear => Ok(Cmd::Clear { target }),
+        WithOne::Drop => Ok(Cmd::Drop { target }),
+        WithOne::Show => Ok(Cmd::Show { target }),
+    }
+}
+
+// A command of two numbers.
+#[inline(never)]
+fn said_two(verb: WithTwo, words: &mut Words<'_>) -> Result<Cmd, LineError>
+    ensures ok { IfOk result (λ cmd. said_by (Verb.Two verb) words.old ≡ Some (plain cmd)) }
+    ensures err { IfErr result (λ error. (error ≡ LineError.NoCommand) × (said_by (Verb.Two verb) words.old ≡ None)) }
+{
+    let (a, b) = two(words)?;
+    match verb {
+        WithTwo::SetLen => Ok(Cmd::SetLen { target: a, n: b }),
+        WithTwo::Truncate => Ok(Cmd::Truncate { target: a, n: b }),
+        WithTwo::Freeze => Ok(Cmd::Freeze { src: a, dst: b }),
+        WithTwo::Recover => Ok(Cmd::Recover { src: a, dst: b }),
+        WithTwo::Clone => Ok(Cmd::Clone { src: a, dst: b }),
+        WithTwo::Advance => Ok(Cmd::Advance { target: a, n: b }),
+        WithTwo::Take => Ok(Cmd::Take { target: a, n: b }),
+        WithTwo::Append => Ok(Cmd::Append { target: a, src: b }),
+        WithTwo::Prepend => Ok(Cmd::Prepend { target: a, src: b }),
+        WithTwo::Coalesce => Ok(Cmd::Coalesce { src: a, dst: b }),
+        WithTwo::Encode => Ok(Cmd::Encode { src: a, dst: b }),
+    }
+}
+
+// A command of three numbers.
+#[inline(never)]
+fn said_three(verb: WithThree, words: &mut Words<'_>) -> Result<Cmd, LineError>
+    ensures ok { IfOk result (λ cmd. said_by (Verb.Three verb) words.old ≡ Some (plain cmd)) }
+    ensures err { IfErr result (λ error. (error ≡ LineError.NoCommand) × (said_by (Verb.Three verb) words.old ≡ None)) }
+{
+    let (a, b, c) = three(words)?;
+    match verb {
+        WithThree::New => Ok(Cmd::NewMut {
+            dst: a,
+            capacity: b,
+            align: c,
         }),
-        Verb::Drop => one(words).map(|target| Cmd::Drop { target }),
-        Verb::Show => one(words).map(|target| Cmd::Show { target }),
+        WithThree::Zeroed => Ok(Cmd::Zeroed {
+            dst: a,
+            len: b,
+            align: c,
+        }),
+        WithThree::Split => Ok(Cmd::Split {
+            src: a,
+            dst: b,
+            at: c,
+        }),
+    }
+}
+
+// A command of a number and bytes.
+#[inline(never)]
+fn said_bytes(alloc: Global, verb: WithBytes, words: &mut Words<'_>) -> Result<Cmd, LineError>
+    ensures ok { IfOk result (λ cmd. said_by (Verb.Bytes verb) words.old ≡ Some (plain cmd)) }
+    ensures err { IfErr result (λ error. (error ≡ LineError.Memory) ⊎ (said_by (Verb.Bytes verb) words.old ≡ None)) }
+{
+    let n = words.number()?;
+    let bytes = words.bytes(alloc)?;
+    words.end()?;
+    match verb {
+        WithBytes::Adopt => Ok(Cmd::Adopt { dst: n, bytes }),
+        WithBytes::Bytes => Ok(Cmd::FromBytes { dst: n, bytes }),
+        WithBytes::Put => Ok(Cmd::Put { target: n, bytes }),
+        WithBytes::Overwrite => Ok(Cmd::Overwrite { target: n, bytes }),
+    }
+}
+
+// A command of a number, and any number of numbers.
+#[inline(never)]
+fn said_numbers(alloc: Global, verb: WithNumbers, words: &mut Words<'_>) -> Result<Cmd, LineError>
+    ensures ok { IfOk result (λ cmd. said_by (Verb.Numbers verb) words.old ≡ Some (plain cmd)) }
+    ensures err { IfErr result (λ error. (error ≡ LineError.Memory) ⊎ (said_by (Verb.Numbers verb) words.old ≡ None)) }
+{
+    let dst = words.number()?;
+    let sources = words.numbers(alloc)?;
+    match verb {
+        WithNumbers::Gather => Ok(Cmd::Gather { dst, sources }),
+        WithNumbers::GatherMut => Ok(Cmd::GatherMut { dst, sources }),
     }
 }
 
 // A view of the letters from one place to another.
-fn of_static(words: &mut Words<'_>) -> Result<Cmd, LineError>
+#[inline(never)]
+fn said_static(words: &mut Words<'_>) -> Result<Cmd, LineError>
     ensures ok { IfOk result (λ cmd. static_said words.old ≡ Some (plain cmd)) }
     ensures err { IfErr result (λ error. (error ≡ LineError.NoCommand) × (static_said words.old ≡ None)) }
 {

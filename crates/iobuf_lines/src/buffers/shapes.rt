@@ -1,9 +1,10 @@
 // Words that follow one another to the end of a line.
 ghost use Rattle.std.specs.Prelude.{◌≡◌, ◌⊎◌, ℕ, List, ◌∷◌, map, Some, None, IfOk, IfErr};
-ghost use Rattle.iobuf_lines.specs.Buffers.Commands.{plain, plain_item, Fill, Slice};
-ghost use Rattle.iobuf_lines.specs.Buffers.Shapes.{bound_said, build_of, bytes_for_of, fill_of, first_bound, four, four_numbers, item_of, items_of, numbers_for_of, one_number, slice_said, three, three_numbers, two_numbers};
+ghost use Rattle.iobuf_lines.specs.Buffers.Commands.{plain, plain_item};
+ghost use Rattle.iobuf_lines.specs.Buffers.Shapes.{bound_said, build_of, decode_said, fill_of, first_bound, item_of, items_of, one_number, slice_said, three, three_numbers, two_numbers};
 
 use crate::words::{LineError, Words, bytes, number};
+use iobufs_core::codec::RangeCfg;
 use iobufs_run::command::{Cmd, Item};
 use std::alloc::Global;
 use std::ops::Bound;
@@ -38,62 +39,43 @@ pub fn three(words: &mut Words<'_>) -> Result<(usize, usize, usize), LineError>
     Ok((a, b, c))
 }
 
-/// Four numbers, and no word after them.
-pub fn four(words: &mut Words<'_>) -> Result<(usize, usize, usize, usize), LineError>
-    ensures ok { IfOk result (λ n. four_numbers words.old ≡ Some (four n.0 n.1 n.2 n.3)) }
-    ensures err { IfErr result (λ error. (error ≡ LineError.NoCommand) × (four_numbers words.old ≡ None)) }
+/// The command of four numbers, `decode`.
+#[inline(never)]
+pub fn decode(words: &mut Words<'_>) -> Result<Cmd, LineError>
+    ensures ok { IfOk result (λ cmd. decode_said words.old ≡ Some (plain cmd)) }
+    ensures err { IfErr result (λ error. (error ≡ LineError.NoCommand) × (decode_said words.old ≡ None)) }
 {
-    let a = words.number()?;
-    let (b, c, d) = three(words)?;
-    Ok((a, b, c, d))
+    let src = words.number()?;
+    let (dst, lo, hi) = three(words)?;
+    Ok(Cmd::Decode {
+        src,
+        dst,
+        range: RangeCfg { lo, hi },
+    })
 }
 
-/// A number, and bytes.
-pub fn bytes_for(alloc: Global, words: &mut Words<'_>) -> Result<(usize, Vec<u8>), LineError>
-    ensures ok { IfOk result (λ n. bytes_for_of words.old ≡ Some (n.0, n.1.items)) }
-    ensures err { IfErr result (λ error. (error ≡ LineError.Memory) ⊎ (bytes_for_of words.old ≡ None)) }
-{
-    let a = words.number()?;
-    let bytes = words.bytes(alloc)?;
-    words.end()?;
-    Ok((a, bytes))
-}
-
-/// A number, and any number of numbers.
-pub fn numbers_for(alloc: Global, words: &mut Words<'_>) -> Result<(usize, Vec<usize>), LineError>
-    ensures ok { IfOk result (λ n. numbers_for_of words.old ≡ Some (n.0, n.1.items)) }
-    ensures err { IfErr result (λ error. (error ≡ LineError.Memory) ⊎ (numbers_for_of words.old ≡ None)) }
-{
-    let a = words.number()?;
-    let others = words.numbers(alloc)?;
-    Ok((a, others))
-}
-
-/// A number, a byte and a number.
-pub fn fill(words: &mut Words<'_>) -> Result<(usize, u8, usize), LineError>
-    ensures ok { IfOk result (λ n. fill_of words.old ≡ Some (Fill n.0 n.1 n.2)) }
+/// The command of a number, a byte and a number, `fill`.
+#[inline(never)]
+pub fn fill(words: &mut Words<'_>) -> Result<Cmd, LineError>
+    ensures ok { IfOk result (λ cmd. fill_of words.old ≡ Some (plain cmd)) }
     ensures err { IfErr result (λ error. (error ≡ LineError.NoCommand) × (fill_of words.old ≡ None)) }
 {
-    let a = words.number()?;
-    let value = words.byte()?;
+    let target = words.number()?;
+    let byte = words.byte()?;
     let n = one(words)?;
-    Ok((a, value, n))
+    Ok(Cmd::Fill { target, byte, n })
 }
 
 // A place that is included, `i3`, one that is excluded, `e3`, or none, `u`.
-fn bound(word: &str) -> Result<Bound<usize>, LineError>
+fn bound(word: &[u8]) -> Result<Bound<usize>, LineError>
     ensures ok { IfOk result (λ bound. bound_said word.now ≡ Some bound) }
     ensures err { IfErr result (λ error. (error ≡ LineError.NoCommand) × (bound_said word.now ≡ None)) }
 {
-    if word == "u" {
-        return Ok(Bound::Unbounded);
-    }
-    if let Some(place) = word.strip_prefix('i') {
-        return Ok(Bound::Included(number(place)?));
-    }
-    match word.strip_prefix('e') {
-        Some(place) => Ok(Bound::Excluded(number(place)?)),
-        None => Err(LineError::NoCommand),
+    match word {
+        b"u" => Ok(Bound::Unbounded),
+        [b'i', place @ ..] => Ok(Bound::Included(number(place)?)),
+        [b'e', place @ ..] => Ok(Bound::Excluded(number(place)?)),
+        _ => Err(LineError::NoCommand),
     }
 }
 
@@ -108,9 +90,10 @@ fn next_bound(words: &mut Words<'_>) -> Result<Bound<usize>, LineError>
     }
 }
 
-/// Two numbers and two bounds, and no word after them.
-pub fn slice(words: &mut Words<'_>) -> Result<(usize, usize, Bound<usize>, Bound<usize>), LineError>
-    ensures ok { IfOk result (λ n. slice_said words.old ≡ Some (Slice n.0 n.1 n.2 n.3)) }
+/// The command of two numbers and two bounds, `slice`.
+#[inline(never)]
+pub fn slice(words: &mut Words<'_>) -> Result<Cmd, LineError>
+    ensures ok { IfOk result (λ cmd. slice_said words.old ≡ Some (plain cmd)) }
     ensures err { IfErr result (λ error. (error ≡ LineError.NoCommand) × (slice_said words.old ≡ None)) }
 {
     let src = words.number()?;
@@ -118,20 +101,18 @@ pub fn slice(words: &mut Words<'_>) -> Result<(usize, usize, Bound<usize>, Bound
     let lo = next_bound(words)?;
     let hi = next_bound(words)?;
     words.end()?;
-    Ok((src, dst, lo, hi))
+    Ok(Cmd::Slice { src, dst, lo, hi })
 }
 
 // Bytes after an `i`, or the name of a view after a `p`.
-fn item(alloc: Global, word: &str) -> Result<Item, LineError>
+fn item(alloc: Global, word: &[u8]) -> Result<Item, LineError>
     ensures ok { IfOk result (λ item. item_of word.now ≡ Some (plain_item item)) }
     ensures err { IfErr result (λ error. (error ≡ LineError.Memory) ⊎ (item_of word.now ≡ None)) }
 {
-    if let Some(digits) = word.strip_prefix('i') {
-        return Ok(Item::Inline(bytes(alloc, digits)?));
-    }
-    match word.strip_prefix('p') {
-        Some(name) => Ok(Item::Push(number(name)?)),
-        None => Err(LineError::NoCommand),
+    match word {
+        [b'i', digits @ ..] => Ok(Item::Inline(bytes(alloc, digits)?)),
+        [b'p', name @ ..] => Ok(Item::Push(number(name)?)),
+        _ => Err(LineError::NoCommand),
     }
 }
 
@@ -147,7 +128,8 @@ fn items(alloc: Global, words: &mut Words<'_>) -> Result<Vec<Item>, LineError>
     Ok(items)
 }
 
-/// Two numbers, and any number of items.
+/// The command of two numbers and any number of items, `build`.
+#[inline(never)]
 pub fn build(alloc: Global, words: &mut Words<'_>) -> Result<Cmd, LineError>
     ensures ok { IfOk result (λ cmd. build_of words.old ≡ Some (plain cmd)) }
     ensures err { IfErr result (λ error. (error ≡ LineError.Memory) ⊎ (build_of words.old ≡ None)) }

@@ -37,14 +37,14 @@ pub enum Ask {
 }
 
 /// The machine of a first line: `machine PARTIES CEILING 64`, or `.. 32`.
-pub fn first_line(line: &str) -> Result<Setup, LineError>
+pub fn first_line(line: &[u8]) -> Result<Setup, LineError>
     ensures ok { IfOk result (λ setup. setup_of line.now ≡ Some setup) }
     ensures err { IfErr result (λ error. (error ≡ LineError.NoCommand) × (setup_of line.now ≡ None)) }
     ensures ceiling { IfOk result (λ setup. 0 < setup.ceiling) }
     ensures parties { IfOk result (λ setup. setup.parties ≤ 2 ^ 32) }
 {
     let mut words = Words::of(line);
-    let Some("machine") = words.next_word() else {
+    let Some(b"machine") = words.next_word() else {
         return Err(LineError::NoCommand);
     };
     let (parties, ceiling) = two(&mut words)?;
@@ -65,8 +65,8 @@ fn width(words: &mut Words) -> Result<bool, LineError>
     ensures err { IfErr result (λ error. (error ≡ LineError.NoCommand) × (width_of words.old ≡ None)) }
 {
     let is_wide = match words.next_word() {
-        Some("64") => true,
-        Some("32") => false,
+        Some(b"64") => true,
+        Some(b"32") => false,
         _ => return Err(LineError::NoCommand),
     };
     words.end()?;
@@ -74,7 +74,7 @@ fn width(words: &mut Words) -> Result<bool, LineError>
 }
 
 /// A step or a question. Memory is granted unless a step ends with the word `deny`.
-pub fn further_line(line: &str) -> Result<Ask, LineError>
+pub fn further_line(line: &[u8]) -> Result<Ask, LineError>
     ensures ok { IfOk result (λ ask. ask_of line.now ≡ Some ask) }
     ensures err { IfErr result (λ error. (error ≡ LineError.NoCommand) × (ask_of line.now ≡ None)) }
 {
@@ -82,19 +82,19 @@ pub fn further_line(line: &str) -> Result<Ask, LineError>
     let Some(first) = words.next_word() else {
         return Err(LineError::NoCommand);
     };
-    match first {
-        "handle" => Ok(Ask::Look(Question::Handle(last_number(&mut words)?))),
-        "record" => Ok(Ask::Look(Question::Record(last_number(&mut words)?))),
-        "freed" => {
-            words.end()?;
-            Ok(Ask::Look(Question::Freed))
-        }
-        party => {
-            let party = number(party)?;
-            let act = act(&mut words)?;
-            Ok(Ask::Take(Step { party, act }))
-        }
+    if first == b"handle".as_slice() {
+        return Ok(Ask::Look(Question::Handle(last_number(&mut words)?)));
     }
+    if first == b"record".as_slice() {
+        return Ok(Ask::Look(Question::Record(last_number(&mut words)?)));
+    }
+    if first == b"freed".as_slice() {
+        words.end()?;
+        return Ok(Ask::Look(Question::Freed));
+    }
+    let party = number(first)?;
+    let act = act(&mut words)?;
+    Ok(Ask::Take(Step { party, act }))
 }
 
 // The act of a thread: it goes on, or begins a call.
@@ -104,7 +104,7 @@ fn act(words: &mut Words) -> Result<Act, LineError>
 {
     match words.next_word() {
         None => Err(LineError::NoCommand),
-        Some("go") => Ok(Act::Go(grant(words)?)),
+        Some(b"go") => Ok(Act::Go(grant(words)?)),
         Some(verb) => {
             let call = call(verb, words)?;
             Ok(Act::Begin(call, grant(words)?))
@@ -119,7 +119,7 @@ fn grant(words: &mut Words) -> Result<bool, LineError>
 {
     match words.next_word() {
         None => Ok(true),
-        Some("deny") => {
+        Some(b"deny") => {
             words.end()?;
             Ok(false)
         }
@@ -128,54 +128,64 @@ fn grant(words: &mut Words) -> Result<bool, LineError>
 }
 
 // The call that a party begins.
-fn call(verb: &str, words: &mut Words) -> Result<Call, LineError>
+fn call(verb: &[u8], words: &mut Words) -> Result<Call, LineError>
     ensures ok { IfOk result (λ call. call_of verb.now words.old ≡ Some (call, words.new)) }
     ensures err { IfErr result (λ error. (error ≡ LineError.NoCommand) × (call_of verb.now words.old ≡ None)) }
 {
-    match verb {
-        "new" => {
-            let (base, size, align) = three(words)?;
-            Ok(Call::New(base as u64, size as u64, align as u64))
-        }
-        "external" => {
-            let (base, size) = two(words)?;
-            Ok(Call::External(base as u64, size as u64))
-        }
-        "static" => Ok(Call::Static(one(words)? as u64)),
-        "put" => {
-            let (h, n) = two(words)?;
-            Ok(Call::Put(h, n as u64))
-        }
-        "advance" => {
-            let (h, n) = two(words)?;
-            Ok(Call::Advance(h, n as u64))
-        }
-        "split" => {
-            let (h, at) = two(words)?;
-            Ok(Call::SplitTo(h, at as u64))
-        }
-        "slice" => {
-            let (h, lo, hi) = three(words)?;
-            Ok(Call::Slice(h, lo as u64, hi as u64))
-        }
-        verb => call_on(verb, words),
+    if verb == b"new".as_slice() {
+        let (base, size, align) = three(words)?;
+        return Ok(Call::New(base as u64, size as u64, align as u64));
     }
+    if verb == b"external".as_slice() {
+        let (base, size) = two(words)?;
+        return Ok(Call::External(base as u64, size as u64));
+    }
+    if verb == b"static".as_slice() {
+        return Ok(Call::Static(one(words)? as u64));
+    }
+    if verb == b"put".as_slice() {
+        let (h, n) = two(words)?;
+        return Ok(Call::Put(h, n as u64));
+    }
+    if verb == b"advance".as_slice() {
+        let (h, n) = two(words)?;
+        return Ok(Call::Advance(h, n as u64));
+    }
+    if verb == b"split".as_slice() {
+        let (h, at) = two(words)?;
+        return Ok(Call::SplitTo(h, at as u64));
+    }
+    if verb == b"slice".as_slice() {
+        let (h, lo, hi) = three(words)?;
+        return Ok(Call::Slice(h, lo as u64, hi as u64));
+    }
+    call_on(verb, words)
 }
 
 // A call that says a handle and nothing else.
-fn call_on(verb: &str, words: &mut Words) -> Result<Call, LineError>
+fn call_on(verb: &[u8], words: &mut Words) -> Result<Call, LineError>
     ensures ok { IfOk result (λ call. call_on_of verb.now words.old ≡ Some (call, words.new)) }
     ensures err { IfErr result (λ error. (error ≡ LineError.NoCommand) × (call_on_of verb.now words.old ≡ None)) }
 {
-    match verb {
-        "freeze" => Ok(Call::Freeze(one(words)?)),
-        "recover" => Ok(Call::TryIntoMut(one(words)?)),
-        "unique" => Ok(Call::IsUnique(one(words)?)),
-        "demote" => Ok(Call::Demote(one(words)?)),
-        "clone" => Ok(Call::Clone(one(words)?)),
-        "drop" => Ok(Call::Drop(one(words)?)),
-        _ => Err(LineError::NoCommand),
+    if verb == b"freeze".as_slice() {
+        return Ok(Call::Freeze(one(words)?));
     }
+    if verb == b"recover".as_slice() {
+        return Ok(Call::TryIntoMut(one(words)?));
+    }
+    if verb == b"unique".as_slice() {
+        return Ok(Call::IsUnique(one(words)?));
+    }
+    if verb == b"demote".as_slice() {
+        return Ok(Call::Demote(one(words)?));
+    }
+    if verb == b"clone".as_slice() {
+        return Ok(Call::Clone(one(words)?));
+    }
+    if verb == b"drop".as_slice() {
+        return Ok(Call::Drop(one(words)?));
+    }
+    Err(LineError::NoCommand)
 }
 
 // One number.

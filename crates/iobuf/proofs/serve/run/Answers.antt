@@ -1,5 +1,4 @@
-use Rattle.std.proofs.Common.{◌≡◌, Err, IfSome, List, ℕ, Option, subst, sym}
-use Rattle.std.specs.Io.Buffered.{reader_remaining}
+use Rattle.std.proofs.Common.{Err, IfSome, List, ℕ, Option, subst, sym}
 use Rattle.iobuf.specs.Halves.{ServesHalf}
 use Rattle.iobuf.specs.declared.fault.Obstacle.{Obstacle}
 use Rattle.iobuf.specs.declared.fault.Stop.TheVariants.{CannotContinue}

@@ -1,16 +1,22 @@
-use Rattle.std.proofs.Common.{refl, ap, ◌∙◌}
-use Rattle.std.specs.Prelude.{slice_get, unwrap_or}
-use Rattle.iobuf_lines.proofs.Numbers.{number_ok, number_err}
+use Rattle.std.proofs.Common.{◌≡◌, ◌<◌, ℕ, length, refl, subst, arith}
+use Rattle.std.proofs.lemmas.Bool.Decides.{nat_tests}
+use Rattle.iobuf_lines.proofs.Front.{Shown, at_end, none_said, one_more}
 use Rattle.iobuf_lines.proofs.words.number.Goals as goal
 
-pub returns-in-Ok-clause-ok : goal.returns-in-Ok-clause-ok
-returns-in-Ok-clause-ok c =
-    let first = c.unwrap_or-first.ensures ∙ ap (λ o. unwrap_or o 0)
-    (c.copied.ensures ∙ c.first.ensures.value ∙ ap (λ l. slice_get l 0) c.as_bytes.ensures.value) in
-    number_ok c.args.word.now c.in-Ok.n c.in-Ok.ensures.value.0 (λ e. c.if-first-eq43.false (first ∙ e))
+pub returns-in_default-clause-err : goal.returns-in_default-clause-err
+returns-in_default-clause-err c =
+    (refl, none_said c.args.word.now c.loop-place.place c.loop-place.value c.loop-place-test.true c.loop-place.invariant c.in_default.ensures)
 
-pub returns-in-Err-clause-err : goal.returns-in-Err-clause-err
-returns-in-Err-clause-err c =
-    let first = c.unwrap_or-first.ensures ∙ ap (λ o. unwrap_or o 0)
-    (c.copied.ensures ∙ c.first.ensures.value ∙ ap (λ l. slice_get l 0) c.as_bytes.ensures.value) in
-    (refl, number_err c.args.word.now c.in-Err.ensures.value.0 (λ e. c.if-first-eq43.false (first ∙ e)))
+pub loop-place-preserved : goal.loop-place-preserved
+loop-place-preserved c =
+    let more = c.in-Some.ensures in
+    one_more c.args.word.now c.loop-place.place c.loop-place.value c.in-Some.more c.loop-place-test.true c.loop-place.invariant more.0 more.1 more.2
+
+pub returns-clause-ok : goal.returns-clause-ok
+returns-clause-ok c =
+    let low = c.loop-place-test.false in
+    let high = c.loop-place.auto.place-end in
+    let all : c.loop-place.place ≡ length c.args.word.now = omega (arith, low, high) in
+    let full = c.if-is_empty.ensures in
+    let some : 0 < length c.args.word.now = grind (arith, nat_tests, full) in
+    (at_end c.args.word.now c.loop-place.value some (subst (λ (k : ℕ). Shown c.args.word.now k c.loop-place.value) all c.loop-place.invariant)).says

@@ -1,7 +1,7 @@
-use Rattle.std.specs.Io.Buffered.{reader_remaining}
+use Rattle.iobuf.specs.Reading.{input_left}
 use Rattle.iobuf.proofs.MachineLaws.{Going}
 use Rattle.iobuf.proofs.serve.machine.serve.Given as goal
 
 abbrev pub invariant-loop-number : goal.invariant-loop-number
 invariant-loop-number g l =
-    Going (reader_remaining g.R.Read.remaining l.fn.input.reader) (g.W.Write.contents l.fn.output.writer) (reader_remaining g.R.Read.remaining l.input.reader) (g.W.Write.contents l.output.writer) l.number l.machine
+    Going (input_left g.R.Read.remaining l.fn.input) (g.W.Write.contents l.fn.output.writer) (input_left g.R.Read.remaining l.input) (g.W.Write.contents l.output.writer) l.number l.machine
