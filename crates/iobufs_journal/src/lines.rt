@@ -115,9 +115,8 @@ pub fn append<R: Read, W: Write>(
         (λ done. IfSome (R.remaining from.old) (λ text. IsAppended text first done.0 done.1 (W.contents to.old) (W.contents to.new))) }
     ensures torn { OnErr result (IsCutShort first (W.contents to.old) (W.contents to.new)) }
 {
-    let begun = Vec::with_capacity(alloc, MOST_LINE + PIECE)?;
     let mut lines = Lines {
-        begun,
+        begun: Vec::with_capacity(alloc, MOST_LINE + PIECE)?,
         number: first,
     };
     for _ in 0..u64::MAX {
