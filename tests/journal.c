@@ -1,6 +1,6 @@
 // Loaded before the journal program: numbers its calls on regular files, on folders and on the input, and notes each by a
 // letter in the file that CALLS names: o opens, f finds or measures, l locks, k goes to the front, r reads, i reads the
-// input, w writes, c cuts, s syncs a file, d a folder. In the call with number AT the program ends (HOW=stop), or it and all
+// input, w writes, c cuts, s syncs a file, d the folder that FOLDER names (or the current one), D another. In the call with number AT the program ends (HOW=stop), or it and all
 // writes after it fail (HOW=fail). A write then puts half of its bytes. Before that call the file `it` grows (HOW=grow), or
 // is renamed (HOW=move).
 #define _GNU_SOURCE
@@ -71,4 +71,15 @@ ssize_t read(int file, void *bytes, size_t n) {
 int flock(int file, int how) { return is_hit('l') ? fails() : syscall(SYS_flock, file, how); }
 off_t lseek(int file, off_t at, int from) { return is_ours(file) && is_hit('k') ? fails() : syscall(SYS_lseek, file, at, from); }
 int ftruncate(int file, off_t size) { return is_hit('c') ? fails() : syscall(SYS_ftruncate, file, size); }
-int fsync(int file) { return is_hit(is_kind(file, S_IFDIR) ? 'd' : 's') ? fails() : syscall(SYS_fsync, file); }
+
+// Whether a folder is the one that FOLDER names, or else the current one.
+static int is_folder(int file) {
+    struct stat of, named;
+    const char *name = getenv("FOLDER");
+    return syscall(SYS_fstat, file, &of) == 0 && stat(name ? name : ".", &named) == 0 && of.st_ino == named.st_ino;
+}
+
+int fsync(int file) {
+    char letter = !is_kind(file, S_IFDIR) ? 's' : is_folder(file) ? 'd' : 'D';
+    return is_hit(letter) ? fails() : syscall(SYS_fsync, file);
+}
